@@ -1,0 +1,23 @@
+-- What one place of a screen shows.
+use Rattle.std.specs.Prelude.{◌≡◌, ℕ, Bool, true, false, Option, Some, None, ◌==◌}
+use Rattle.unicode_width.specs.Width.{char_width}
+
+-- the character takes one column
+abbrev pub IsNarrow : ℕ → Type 0
+IsNarrow ch = char_width false ch ≡ Some 1
+
+-- a character and its attribute, the value of a cell
+pub record Glyph : Type 0 where
+  pub ch : ℕ
+  pub attr : ℕ
+
+abbrev pub glyph : ℕ → ℕ → Glyph
+glyph ch attr = record { ch = ch; attr = attr }
+
+-- a space in black on black, as a new screen has it
+abbrev pub blank : Glyph
+blank = glyph 32 0
+
+-- the same character in a shadow
+abbrev pub shaded : Glyph → Glyph
+shaded under = glyph under.ch 8

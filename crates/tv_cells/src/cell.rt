@@ -1,0 +1,67 @@
+//! A character with its attribute.
+
+ghost use Rattle.std.specs.Prelude.{◌≡◌, ◌↔◌, IsSome, IfSome};
+ghost use Rattle.tv_cells.specs.Glyph.{IsNarrow, glyph, shaded};
+
+use std::marker::Model;
+use unicode_width::UnicodeWidthChar;
+
+/// One place of the screen: a character that takes one column, and its colours.
+///
+/// The attribute has the foreground in its low four bits and the background in the next three, as in Turbo Vision.
+#[derive(Clone, Copy, Debug, PartialEq, Eq)]
+pub struct Cell {
+    ch: char,
+    attr: u8,
+}
+
+impl Model for Cell {
+    ghost use Rattle.tv_cells.specs.Glyph.{Glyph, IsNarrow};
+
+    ghost Value = { Glyph };
+
+    ghost view = { λ c. record { ch = c.ch; attr = c.attr } };
+
+    ghost invariant = { λ c. IsNarrow c.ch };
+
+    ghost inverse = { λ v. record { ch = v.ch; attr = v.attr } };
+}
+
+impl Cell {
+    /// A cell, where the character takes exactly one column, as `unicode_width` counts them.
+    pub fn new(ch: char, attr: u8) -> Option<Cell>
+        ensures variant { IsSome result ↔ IsNarrow ch }
+        ensures value { IfSome result (λ cell. cell ≡ glyph ch attr) }
+    {
+        if ch.width() == Some(1) {
+            Some(Cell { ch, attr })
+        } else {
+            None
+        }
+    }
+
+    /// The character.
+    pub fn ch(self) -> char
+        ensures value { result ≡ self.ch }
+        ensures width { IsNarrow result }
+    {
+        self.ch
+    }
+
+    /// The attribute.
+    pub fn attr(self) -> u8
+        ensures { result ≡ self.attr }
+    {
+        self.attr
+    }
+
+    /// The same character in a shadow, which has attribute 08.
+    pub fn shaded(self) -> Cell
+        ensures { result ≡ shaded self }
+    {
+        Cell {
+            ch: self.ch,
+            attr: 0x08,
+        }
+    }
+}
