@@ -1,5 +1,5 @@
 -- What one place of a screen shows.
-use Rattle.std.specs.Prelude.{◌≡◌, ℕ, Bool, true, false, Option, Some, None, ◌==◌}
+use Rattle.std.specs.Prelude.{◌≡◌, ℕ, Bool, true, false, Option, Some, None, ◌==◌, if◌then◌else◌}
 use Rattle.unicode_width.specs.Width.{char_width}
 
 -- the character takes one column
@@ -21,3 +21,15 @@ blank = glyph 32 0
 -- the same character in a shadow
 abbrev pub shaded : Glyph → Glyph
 shaded under = glyph under.ch 8
+
+abbrev pub is_one : Option ℕ → Bool
+is_one None = false
+is_one (Some width) = width == 1
+
+-- whether the character takes one column
+abbrev pub is_narrow : ℕ → Bool
+is_narrow ch = is_one (char_width false ch)
+
+-- the character, or a space in place of one that doesn't take one column
+abbrev pub shown : ℕ → ℕ → Glyph
+shown ch attr = if is_narrow ch then glyph ch attr else glyph 32 attr

@@ -1,7 +1,7 @@
 //! A character with its attribute.
 
 ghost use Rattle.std.specs.Prelude.{◌≡◌, ◌↔◌, IsSome, IfSome};
-ghost use Rattle.tv_cells.specs.Glyph.{IsNarrow, glyph, shaded};
+ghost use Rattle.tv_cells.specs.Glyph.{IsNarrow, glyph, is_narrow, shaded, shown};
 
 use std::marker::Model;
 use unicode_width::UnicodeWidthChar;
@@ -27,7 +27,24 @@ impl Model for Cell {
     ghost inverse = { λ v. record { ch = v.ch; attr = v.attr } };
 }
 
+/// Whether the character takes exactly one column, as `unicode_width` counts them.
+pub fn is_narrow(ch: char) -> bool
+    ensures { result ≡ is_narrow ch }
+{
+    ch.width() == Some(1)
+}
+
 impl Cell {
+    /// The cell of a character, or of a space where the character doesn't take one column.
+    pub fn shown(ch: char, attr: u8) -> Cell
+        ensures { result ≡ shown ch attr }
+    {
+        match Cell::new(ch, attr) {
+            Some(cell) => cell,
+            None => Cell { ch: ' ', attr },
+        }
+    }
+
     /// A cell, where the character takes exactly one column, as `unicode_width` counts them.
     pub fn new(ch: char, attr: u8) -> Option<Cell>
         ensures variant { IsSome result ↔ IsNarrow ch }

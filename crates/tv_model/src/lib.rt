@@ -2,6 +2,7 @@
 #![tactic(auto)]
 
 mod desc;
+mod fault;
 mod log;
 mod node;
 mod record;
@@ -9,6 +10,7 @@ mod script;
 mod sequence;
 
 pub use desc::{Desc, Dialog, Effect, Menu, MenuItem, Rule, StatusItem, Window};
+pub use fault::{Fault, FaultKind};
 pub use log::LogLine;
 pub use node::{CommandSpec, Ends, Id, Kind, MarkedText, Node};
 pub use record::{Entry, Record, Value};

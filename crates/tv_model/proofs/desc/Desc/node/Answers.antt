@@ -1,7 +1,5 @@
-use Rattle.std.proofs.Common.{[], flat_map, ◌∙◌, ap, sym}
-use Rattle.std.proofs.lemmas.List.{append-nil}
-use Rattle.tv_model.specs.LogText.{all_nodes, window_nodes, dialog_nodes}
-use Rattle.tv_model.specs.Nodes.{node_of}
+use Rattle.std.proofs.Common.{flat_map}
+use Rattle.tv_model.specs.LogText.{window_nodes, dialog_nodes}
 use Rattle.tv_model.proofs.NodeLemmas.{found, missed, found_last, missed_last}
 use Rattle.tv_model.proofs.desc.Desc.node.Goals as goal
 
