@@ -1,0 +1,9 @@
+//! What the program does, as calls over bytes and writers.
+#![tactic(auto)]
+
+mod focus;
+mod log;
+mod run;
+
+pub use log::Log;
+pub use run::Run;
