@@ -1,1 +1,3 @@
+pub mod Narrow
 pub mod Rectangles
+pub mod Pictures

@@ -1,2 +1,3 @@
 pub mod Glyph
 pub mod Rectangle
+pub mod Picture

@@ -28,6 +28,9 @@ impl Model for Cell {
 }
 
 impl Cell {
+    /// A space in black on black.
+    pub const BLANK: Cell = Cell { ch: ' ', attr: 0 };
+
     /// A cell, where the character takes exactly one column, as `unicode_width` counts them.
     pub fn new(ch: char, attr: u8) -> Option<Cell>
         ensures variant { IsSome result ↔ IsNarrow ch }
