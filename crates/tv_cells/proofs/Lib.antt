@@ -1,3 +1,4 @@
 pub mod Narrow
 pub mod Rectangles
 pub mod Pictures
+pub mod Drawn

@@ -1,3 +1,4 @@
 pub mod Glyph
 pub mod Rectangle
 pub mod Picture
+pub mod Canvas

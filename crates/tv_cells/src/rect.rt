@@ -45,7 +45,7 @@ fn lesser(a: &i32, b: &i32) -> i32
 }
 
 // How far a coordinate is above another, or 0.
-fn gap(from: &i32, to: &i32) -> u32
+pub(crate) fn gap(from: &i32, to: &i32) -> u32
     ensures { result ≡ int_gap from.now to.now }
 {
     if *from < *to {

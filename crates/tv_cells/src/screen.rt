@@ -5,8 +5,9 @@ ghost use Rattle.tv_cells.specs.Glyph.{blank};
 ghost use Rattle.tv_cells.specs.Picture.{Picture, IsOn, IsPlace, IsScreenSize, Changes, cell_at, whole};
 ghost use Rattle.tv_cells.specs.Rectangle.{IsIn};
 
+use crate::canvas::Canvas;
 use crate::cell::Cell;
-use crate::rect::Point;
+use crate::rect::{Point, Rect};
 use std::alloc::{AllocError, Global};
 use std::marker::Model;
 use thiserror::Error;
@@ -85,6 +86,21 @@ impl Screen {
         ensures small { (10 ≤ result) × (result ≤ 60) }
     {
         self.height
+    }
+
+    /// The canvas of the whole screen, with the origin in its corner.
+    pub fn canvas(&self) -> Canvas
+        ensures { result ≡ record { clip = whole self.now; origin = record { x = pos 0; y = pos 0 } } }
+    {
+        let origin = Point { x: 0, y: 0 };
+        let end = Point {
+            x: self.width as i32,
+            y: self.height as i32,
+        };
+        Canvas {
+            clip: Rect { a: origin, b: end },
+            origin,
+        }
     }
 
     /// The cell at a point, where the point is on the screen.
