@@ -2,3 +2,5 @@ pub mod Narrow
 pub mod Rectangles
 pub mod Pictures
 pub mod Drawn
+pub mod Areas
+pub mod Covered

@@ -2,6 +2,8 @@
 use Rattle.std.specs.Prelude.{◌≡◌, ℕ, ℤ, pos, ◌+ℤ◌, ◌≤ℤ◌, ◌<ℤ◌}
 use Rattle.tv_cells.specs.declared.rect.Rect.{Rect}
 use Rattle.tv_cells.specs.declared.canvas.Canvas.{Canvas}
+use Rattle.std.specs.Int.{int_gap}
+use Rattle.tv_cells.specs.Glyph.{Glyph}
 use Rattle.tv_cells.specs.Rectangle.{IsIn, cut, shifted, shifted_point}
 
 -- a column and a row inside the clip, in a rectangle that is seen from the origin
@@ -32,3 +34,7 @@ sized width height = record { a = record { x = pos 0; y = pos 0 }; b = record { 
 pub record IsShadow (c : Canvas) (r : Rect) (column row : ℕ) : Type 0 where
   pub moved : Covers c (shifted r (record { x = pos 2; y = pos 1 })) column row
   pub free : IsIn (shifted r c.origin) (pos column) (pos row) → ⊥
+
+-- what a face shows in a column and a row of the screen, if its corner lies at the origin
+abbrev pub face_at : Canvas → (ℕ → ℕ → Glyph) → ℕ → ℕ → Glyph
+face_at c face column row = face (int_gap c.origin.x (pos column)) (int_gap c.origin.y (pos row))

@@ -88,8 +88,8 @@ fn place(from: &i32, to: &i32, length: u32, origin: &i32, distance: &i32) -> Opt
 }
 
 // The places on a line of this length that lie in two parts of the line: from the first on and before the second.
-fn visible(from: &i32, to: &i32, length: u32, start: &i64, end: &i64) -> (u32, u32)
-    ensures within { result.1 ≤ length }
+pub(crate) fn visible(from: &i32, to: &i32, length: u32, start: &i64, end: &i64) -> (u32, u32)
+    ensures within { (result.0 ≤ result.1) × (result.1 ≤ length) }
     ensures places { (p : ℕ) → p < length → ((result.0 ≤ p) × (p < result.1)) ↔ ((from.now ≤ℤ pos p) × (pos p <ℤ to.now) × (start.now ≤ℤ pos p) × (pos p <ℤ end.now)) }
 {
     let first = (*start).max(*from as i64).max(0);
@@ -102,7 +102,7 @@ fn visible(from: &i32, to: &i32, length: u32, start: &i64, end: &i64) -> (u32, u
 }
 
 // How far a place on a line lies from the origin, or 0 where it lies before it.
-fn distance(origin: &i32, place: u32) -> u32
+pub(crate) fn distance(origin: &i32, place: u32) -> u32
     requires { place < 2 ^ 31 }
     ensures { result ≡ int_gap origin.now (pos place) }
 {
