@@ -1,8 +1,9 @@
 -- Changes that go over an area of the screen row by row, and each row column by column.
-use Rattle.std.proofs.Common.{◌≡◌, ℕ, ◌+◌, ◌<◌, ◌≤◌, refl, sym, ap, ◌∙◌, arith, inl, inr, ◌⊎◌}
+use Rattle.std.proofs.Common.{◌≡◌, ℕ, ◌+◌, ◌<◌, ◌≤◌, refl, ap, ◌∙◌, arith, inl, inr, ◌⊎◌}
 use Rattle.std.proofs.lemmas.Bool.{cases_lt}
 use Rattle.tv_cells.specs.Glyph.{Glyph}
 use Rattle.tv_cells.specs.Picture.{Picture, IsOn, IsAlike, IsPlace, Changes, cell_at}
+use Rattle.tv_cells.proofs.Drawn.{changes_along}
 
 -- the columns from left to right of the rows from top to bottom
 abbrev pub IsInArea : ℕ → ℕ → ℕ → ℕ → ℕ → ℕ → Type 0
@@ -60,3 +61,10 @@ pub changes_step : (left right top this next : ℕ) (f : ℕ → ℕ → Glyph �
 changes_step left right top this next f cell old mid new le on is p q =
     changes_more (IsDone left right top this next) (IsDone left right top this (next + 1)) f next this cell old mid new
     (inr (le, omega arith, refl)) (done_fresh left right top this next) (done_grows left right top this next) (done_only left right top this next) on is p q
+
+-- a row that is done
+pub changes_row : {left right top this next : ℕ} {f : ℕ → ℕ → Glyph → Glyph} {old new : Picture} → top ≤ this → next ≡ right → Changes (IsDone left right top this next) f old new → Changes (IsInArea left right top (this + 1)) f old new
+changes_row {left = left} {right = right} {top = top} {this = this} {next = next} le e p = changes_along
+    (λ a b _ h. elim h [ inl i ↦ (i.0, i.1, i.2, omega arith) | inr i ↦ (i.0, omega arith, omega arith, omega arith) ])
+    (λ a b _ h. elim (dec b this) [ inl i ↦ inr (h.0, omega arith, i) | inr i ↦ inl (h.0, h.1, h.2, omega arith) ])
+    p

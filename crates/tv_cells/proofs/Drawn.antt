@@ -1,7 +1,7 @@
 -- How changes are put together.
-use Rattle.std.proofs.Common.{◌≡◌, ℕ, ℤ, pos, refl, sym, ◌∙◌, ap}
+use Rattle.std.proofs.Common.{◌≡◌, ℕ, ℤ, pos, refl, sym, ◌∙◌, ap, inl, inr, ◌⊎◌}
 use Rattle.tv_cells.specs.Glyph.{Glyph}
-use Rattle.tv_cells.specs.Picture.{Picture, IsOn, IsAlike, IsPlace, Changes, cell_at}
+use Rattle.tv_cells.specs.Picture.{Picture, IsOn, IsPlace, Changes}
 use Rattle.tv_cells.specs.Canvas.{IsAt}
 use Rattle.tv_cells.specs.declared.canvas.Canvas.{Canvas}
 
@@ -31,3 +31,20 @@ at_once {column = column} {row = row} {other = other} {below = below} h k =
 -- a cell that is set at such a place
 pub changes_at : {c : Canvas} {x y : ℤ} {column row : ℕ} {f : ℕ → ℕ → Glyph → Glyph} {old new : Picture} → IsAt c x y column row → Changes (IsPlace column row) f old new → Changes (IsAt c x y) f old new
 changes_at at p = changes_along (λ a b on same. rw (same.0, same.1) at) (λ a b on other. at_once at other) p
+
+pub on_new : {Region : ℕ → ℕ → Type 0} {f : ℕ → ℕ → Glyph → Glyph} {old new : Picture} {column row : ℕ} → Changes Region f old new → IsOn old column row → IsOn new column row
+on_new p on = record { across = rw p.size.width on.across; down = rw p.size.height on.down }
+
+-- two changes of regions that have no place in common
+pub changes_both : {Left Right Whole : ℕ → ℕ → Type 0} {f : ℕ → ℕ → Glyph → Glyph} {old mid new : Picture}
+    → ((column row : ℕ) → Left column row → Right column row → ⊥) → ((column row : ℕ) → Whole column row → Left column row ⊎ Right column row)
+    → ((column row : ℕ) → Left column row → Whole column row) → ((column row : ℕ) → Right column row → Whole column row)
+    → Changes Left f old mid → Changes Right f mid new → Changes Whole f old new
+changes_both {f = f} apart parts left right p q = record {
+  size = record { width = q.size.width ∙ p.size.width; height = q.size.height ∙ p.size.height };
+  inside = λ column row on here. elim (parts column row here) [
+    | inl h ↦ q.outside column row (on_new p on) (apart column row h) ∙ p.inside column row on h
+    | inr h ↦ q.inside column row (on_new p on) h ∙ ap (f column row) (p.outside column row on (λ k. apart column row k h))
+  ];
+  outside = λ column row on other. q.outside column row (on_new p on) (λ h. other (right column row h)) ∙ p.outside column row on (λ h. other (left column row h));
+}

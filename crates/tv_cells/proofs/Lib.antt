@@ -4,3 +4,5 @@ pub mod Pictures
 pub mod Drawn
 pub mod Areas
 pub mod Covered
+pub mod Shadows
+pub mod Layering

@@ -1,11 +1,11 @@
 -- A cell that is set changes its place alone.
-use Rattle.std.proofs.Common.{◌≡◌, ◌≢◌, ℕ, suc, ◌+◌, ◌*◌, ◌<◌, ◌≤◌, List, length, get_or, set, refl, sym, ap, ◌∙◌, arith, inl, inr}
+use Rattle.std.proofs.Common.{◌≡◌, ◌≢◌, ℕ, suc, ◌+◌, ◌*◌, ◌<◌, ◌≤◌, length, set, refl, sym, ap, ◌∙◌, arith, inl, inr}
 use Rattle.std.proofs.lemmas.Bool.{cases_lt}
 use Rattle.std.proofs.lemmas.List.{get_or-set_other, get_or-set_same}
 use Rattle.std.proofs.lemmas.Nat.{mul-add-lt}
 use Rattle.std.proofs.Math.Nat.{mul-le-mul_right}
 use Rattle.tv_cells.specs.Glyph.{Glyph, blank}
-use Rattle.tv_cells.specs.Picture.{Picture, IsOn, IsAlike, IsPlace, Changes, cell_at}
+use Rattle.tv_cells.specs.Picture.{Picture, IsOn, IsPlace, Changes, cell_at}
 
 -- two places in a grid are one index only if they are one place
 row_same : (w x y a b : ℕ) → x < w → a < w → y < b → y * w + x ≡ b * w + a → ⊥

@@ -1,5 +1,6 @@
 -- Where a canvas draws.
 use Rattle.std.specs.Prelude.{◌≡◌, ℕ, ℤ, pos, ◌+ℤ◌, ◌≤ℤ◌, ◌<ℤ◌}
+use Rattle.tv_cells.specs.declared.rect.Point.{Point}
 use Rattle.tv_cells.specs.declared.rect.Rect.{Rect}
 use Rattle.tv_cells.specs.declared.canvas.Canvas.{Canvas}
 use Rattle.std.specs.Int.{int_gap}
@@ -30,9 +31,13 @@ sub c r = record { clip = cut c.clip (shifted r c.origin); origin = shifted_poin
 abbrev pub sized : ℕ → ℕ → Rect
 sized width height = record { a = record { x = pos 0; y = pos 0 }; b = record { x = pos width; y = pos height } }
 
--- the shadow of a rectangle, which lies two columns to the right and one row down, without the rectangle itself
+-- two columns to the right and one row down, where a shadow lies
+abbrev pub aside : Point
+aside = record { x = pos 2; y = pos 1 }
+
+-- the moved rectangle without the rectangle itself
 pub record IsShadow (c : Canvas) (r : Rect) (column row : ℕ) : Type 0 where
-  pub moved : Covers c (shifted r (record { x = pos 2; y = pos 1 })) column row
+  pub moved : Covers c (shifted r aside) column row
   pub free : IsIn (shifted r c.origin) (pos column) (pos row) → ⊥
 
 -- what a face shows in a column and a row of the screen, if its corner lies at the origin

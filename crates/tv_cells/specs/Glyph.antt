@@ -1,5 +1,5 @@
 -- What one place of a screen shows.
-use Rattle.std.specs.Prelude.{◌≡◌, ℕ, Bool, true, false, Option, Some, None, ◌==◌}
+use Rattle.std.specs.Prelude.{◌≡◌, ℕ, false, Some}
 use Rattle.unicode_width.specs.Width.{char_width}
 
 -- the character takes one column

@@ -2,3 +2,4 @@ pub mod Glyph
 pub mod Rectangle
 pub mod Picture
 pub mod Canvas
+pub mod Layers

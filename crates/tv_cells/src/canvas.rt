@@ -5,10 +5,10 @@ ghost use Rattle.std.specs.Prelude.{◌^◌, ◌↔◌, ◌≡◌, ◌≤◌, �
 ghost use Rattle.tv_cells.specs.Glyph.{shaded};
 ghost use Rattle.tv_cells.specs.Rectangle.{IsPointNear, IsRectNear, IsNear};
 ghost use Rattle.tv_cells.specs.Picture.{Changes, IsOn};
-ghost use Rattle.tv_cells.specs.Canvas.{Covers, IsAlong, IsAt, sub};
+ghost use Rattle.tv_cells.specs.Canvas.{Covers, IsAlong, IsAt, IsShadow, sub};
 
 use crate::cell::Cell;
-use crate::rect::{Point, Rect, gap};
+use crate::rect::{Point, Rect, gap, greater};
 use crate::screen::Screen;
 use std::ops::Range;
 
@@ -44,6 +44,62 @@ impl Canvas {
         if let Some((column, row)) = self.find(screen, &x, &y) {
             screen.set(column, row, cell);
         }
+    }
+
+    /// Gives the cells of a rectangle that is seen from the origin attribute 08. Their characters stay.
+    pub fn shade(self, screen: &mut Screen, rect: Rect)
+        ensures { Changes (Covers self rect) (λ _ _ under. shaded under) screen.old screen.new }
+    {
+        let x = self.origin.x as i64;
+        let y = self.origin.y as i64;
+        let (left, right) = visible(
+            &self.clip.a.x,
+            &self.clip.b.x,
+            screen.width(),
+            &(rect.a.x as i64 + x),
+            &(rect.b.x as i64 + x),
+        );
+        let (top, bottom) = visible(
+            &self.clip.a.y,
+            &self.clip.b.y,
+            screen.height(),
+            &(rect.a.y as i64 + y),
+            &(rect.b.y as i64 + y),
+        );
+        for row in top..bottom {
+            for column in left..right {
+                let cell = screen.get(column, row).shaded();
+                screen.set(column, row, cell);
+            }
+        }
+    }
+
+    /// Shades what the shadow of a rectangle falls on, where the rectangle is seen from the origin.
+    pub fn shade_beside(self, screen: &mut Screen, rect: Rect)
+        requires { IsRectNear rect }
+        ensures { Changes (IsShadow self rect) (λ _ _ under. shaded under) screen.old screen.new }
+    {
+        let moved = rect.shift(Point { x: 2, y: 1 });
+        let edge = greater(&moved.a.x, &rect.b.x);
+        let right = Rect {
+            a: Point {
+                x: edge,
+                y: moved.a.y,
+            },
+            b: moved.b,
+        };
+        let below = Rect {
+            a: Point {
+                x: moved.a.x,
+                y: greater(&moved.a.y, &rect.b.y),
+            },
+            b: Point {
+                x: edge,
+                y: moved.b.y,
+            },
+        };
+        self.shade(screen, right);
+        self.shade(screen, below);
     }
 
     // The column and the row of a point that is seen from the origin, where it may change.

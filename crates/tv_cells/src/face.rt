@@ -23,9 +23,21 @@ pub fn paint<F: Face>(screen: &mut Screen, canvas: Canvas, width: u32, height: u
     ensures { Changes (Covers canvas (sized width height)) (λ column row _. face_at canvas (F.face face.now) column row) screen.old screen.new }
 {
     let start = canvas.origin.x as i64;
-    let (left, right) = visible(&canvas.clip.a.x, &canvas.clip.b.x, screen.width(), &start, &(start + width as i64));
+    let (left, right) = visible(
+        &canvas.clip.a.x,
+        &canvas.clip.b.x,
+        screen.width(),
+        &start,
+        &(start + width as i64),
+    );
     let start = canvas.origin.y as i64;
-    let (top, bottom) = visible(&canvas.clip.a.y, &canvas.clip.b.y, screen.height(), &start, &(start + height as i64));
+    let (top, bottom) = visible(
+        &canvas.clip.a.y,
+        &canvas.clip.b.y,
+        screen.height(),
+        &start,
+        &(start + height as i64),
+    );
     for row in top..bottom {
         let y = distance(&canvas.origin.y, row);
         for column in left..right {

@@ -32,7 +32,7 @@ fn is_between(from: &i32, at: &i32, to: &i32) -> bool
     *from <= *at && *at < *to
 }
 
-fn greater(a: &i32, b: &i32) -> i32
+pub(crate) fn greater(a: &i32, b: &i32) -> i32
     ensures { result ≡ int_max a.now b.now }
 {
     (*a).max(*b)

@@ -1,5 +1,3 @@
-use Rattle.std.proofs.Common.{◌≡◌, ℕ}
-use Rattle.tv_cells.specs.Glyph.{Glyph}
 use Rattle.tv_cells.specs.Picture.{Changes}
 use Rattle.tv_cells.specs.Canvas.{face_at}
 use Rattle.tv_cells.proofs.Areas.{IsInArea, IsDone}
