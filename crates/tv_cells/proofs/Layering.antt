@@ -5,7 +5,8 @@ use Rattle.std.specs.Int.Signed.{le_z, lt_z}
 use Rattle.tv_cells.specs.Glyph.{Glyph, shaded}
 use Rattle.tv_cells.specs.Rectangle.{IsIn, shifted}
 use Rattle.tv_cells.specs.Picture.{Picture, IsOn, Changes, cell_at}
-use Rattle.tv_cells.specs.Canvas.{Covers, IsShadow, face_at, sized, aside}
+use Rattle.tv_cells.specs.Canvas.{Covers, IsShadow, face_at, aside}
+use Rattle.tv_cells.specs.Rectangle.{sized}
 use Rattle.tv_cells.specs.Layers.{Layer, Painted, Shadow, Shows, is_in, covers, over}
 use Rattle.tv_cells.specs.declared.rect.Rect.{Rect}
 use Rattle.tv_cells.specs.declared.canvas.Canvas.{Canvas}

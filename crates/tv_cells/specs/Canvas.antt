@@ -5,7 +5,7 @@ use Rattle.tv_cells.specs.declared.rect.Rect.{Rect}
 use Rattle.tv_cells.specs.declared.canvas.Canvas.{Canvas}
 use Rattle.std.specs.Int.{int_gap}
 use Rattle.tv_cells.specs.Glyph.{Glyph}
-use Rattle.tv_cells.specs.Rectangle.{IsIn, cut, shifted, shifted_point}
+use Rattle.tv_cells.specs.Rectangle.{IsIn, cut, shifted, shifted_point, sized}
 
 -- a column and a row inside the clip, in a rectangle that is seen from the origin
 pub record Covers (c : Canvas) (r : Rect) (column row : ℕ) : Type 0 where
@@ -23,13 +23,13 @@ pub record IsAt (c : Canvas) (x y : ℤ) (column row : ℕ) : Type 0 where
   pub across : IsAlong c.clip.a.x c.clip.b.x c.origin.x x column
   pub down : IsAlong c.clip.a.y c.clip.b.y c.origin.y y row
 
+-- the whole of a screen of this size, with the origin in its corner
+abbrev pub whole : ℕ → ℕ → Canvas
+whole width height = record { clip = sized width height; origin = record { x = pos 0; y = pos 0 } }
+
 -- the clip cut by a rectangle that is seen from the origin, and the origin moved to its corner
 abbrev pub sub : Canvas → Rect → Canvas
 sub c r = record { clip = cut c.clip (shifted r c.origin); origin = shifted_point r.a c.origin }
-
--- as large as a face, at the origin
-abbrev pub sized : ℕ → ℕ → Rect
-sized width height = record { a = record { x = pos 0; y = pos 0 }; b = record { x = pos width; y = pos height } }
 
 -- two columns to the right and one row down, where a shadow lies
 abbrev pub aside : Point

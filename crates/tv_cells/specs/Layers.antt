@@ -4,7 +4,8 @@ use Rattle.std.specs.Int.Signed.{le_z, lt_z}
 use Rattle.tv_cells.specs.Glyph.{Glyph, blank, shaded}
 use Rattle.tv_cells.specs.Rectangle.{shifted}
 use Rattle.tv_cells.specs.Picture.{Picture, IsOn, cell_at}
-use Rattle.tv_cells.specs.Canvas.{face_at, sized, aside}
+use Rattle.tv_cells.specs.Canvas.{face_at, aside}
+use Rattle.tv_cells.specs.Rectangle.{sized}
 use Rattle.tv_cells.specs.declared.rect.Rect.{Rect}
 use Rattle.tv_cells.specs.declared.canvas.Canvas.{Canvas}
 

@@ -1,7 +1,6 @@
 -- What a screen shows, and how a drawing changes it.
-use Rattle.std.specs.Prelude.{◌≡◌, ℕ, ◌+◌, ◌*◌, ◌<◌, ◌≤◌, List, length, slice_index_or, pos}
+use Rattle.std.specs.Prelude.{◌≡◌, ℕ, ◌+◌, ◌*◌, ◌<◌, ◌≤◌, List, length, slice_index_or}
 use Rattle.tv_cells.specs.Glyph.{Glyph, blank}
-use Rattle.tv_cells.specs.declared.rect.Rect.{Rect}
 
 -- the cells, row by row
 pub record Picture : Type 0 where
@@ -27,10 +26,6 @@ cell_at p column row = slice_index_or p.cells (row * p.width + column) blank
 pub record IsOn (p : Picture) (column row : ℕ) : Type 0 where
   pub across : column < p.width
   pub down : row < p.height
-
--- all points of the screen
-abbrev pub whole : Picture → Rect
-whole p = record { a = record { x = pos 0; y = pos 0 }; b = record { x = pos p.width; y = pos p.height } }
 
 pub record IsAlike (old new : Picture) : Type 0 where
   pub width : new.width ≡ old.width

@@ -1,7 +1,7 @@
 //! A character with its attribute.
 
 ghost use Rattle.std.specs.Prelude.{◌≡◌, ◌↔◌, IsSome, IfSome};
-ghost use Rattle.tv_cells.specs.Glyph.{IsNarrow, glyph, shaded};
+ghost use Rattle.tv_cells.specs.Glyph.{IsNarrow, glyph, shaded, shown};
 
 use std::marker::Model;
 use unicode_width::UnicodeWidthChar;
@@ -28,9 +28,6 @@ impl Model for Cell {
 }
 
 impl Cell {
-    /// A space in black on black.
-    pub const BLANK: Cell = Cell { ch: ' ', attr: 0 };
-
     /// A cell, where the character takes exactly one column, as `unicode_width` counts them.
     pub fn new(ch: char, attr: u8) -> Option<Cell>
         ensures variant { IsSome result ↔ IsNarrow ch }
@@ -40,6 +37,24 @@ impl Cell {
             Some(Cell { ch, attr })
         } else {
             None
+        }
+    }
+
+    /// A space.
+    pub fn space(attr: u8) -> Cell
+        ensures { result ≡ glyph 32 attr }
+    {
+        Cell { ch: ' ', attr }
+    }
+
+    /// The cell of a character, or of a space in its place where the character doesn't take one column.
+    pub fn shown(ch: char, attr: u8) -> Cell
+        ensures { result ≡ shown ch attr }
+    {
+        if ch.width().unwrap_or(0) == 1 {
+            Cell { ch, attr }
+        } else {
+            Cell::space(attr)
         }
     }
 

@@ -3,7 +3,8 @@
 ghost use Rattle.std.specs.Prelude.{◌≡◌, ℕ};
 ghost use Rattle.tv_cells.specs.Glyph.{Glyph};
 ghost use Rattle.tv_cells.specs.Picture.{Changes};
-ghost use Rattle.tv_cells.specs.Canvas.{Covers, face_at, sized};
+ghost use Rattle.tv_cells.specs.Canvas.{Covers, face_at};
+ghost use Rattle.tv_cells.specs.Rectangle.{sized};
 
 use crate::canvas::{Canvas, distance, visible};
 use crate::cell::Cell;

@@ -1,9 +1,10 @@
 //! A screen of cells.
 
-ghost use Rattle.std.specs.Prelude.{◌≡◌, ◌≤◌, ◌<◌, ◌↔◌, ℕ, pos, IfOk, IfSome, IsSome, IsErrOf, ⊤};
-ghost use Rattle.tv_cells.specs.Glyph.{blank};
-ghost use Rattle.tv_cells.specs.Picture.{Picture, IsOn, IsPlace, IsScreenSize, Changes, cell_at, whole};
-ghost use Rattle.tv_cells.specs.Rectangle.{IsIn};
+ghost use Rattle.std.specs.Prelude.{◌≡◌, [], ◌≤◌, ◌<◌, ◌↔◌, ℕ, pos, IfOk, IfSome, IsSome, IsErrOf, ⊤};
+ghost use Rattle.tv_cells.specs.Layers.{Shows};
+ghost use Rattle.tv_cells.specs.Picture.{Picture, IsAlike, IsOn, IsPlace, IsScreenSize, Changes, cell_at};
+ghost use Rattle.tv_cells.specs.Rectangle.{IsIn, sized};
+ghost use Rattle.tv_cells.specs.Canvas.{whole};
 
 use crate::canvas::Canvas;
 use crate::cell::Cell;
@@ -58,13 +59,13 @@ impl Screen {
     /// `BadSize` outside 20 to 132 columns and 10 to 60 rows, else `NoMemory` where there is none for the cells.
     pub fn new(alloc: Global, width: u32, height: u32) -> Result<Screen, ScreenFault>
         ensures size { IfOk result (λ screen. (screen.width ≡ width) × (screen.height ≡ height)) }
-        ensures blank { IfOk result (λ screen. (column row : ℕ) → IsOn screen column row → cell_at screen column row ≡ blank) }
+        ensures blank { IfOk result (λ screen. Shows [] screen) }
         ensures bad { IsErrOf result ScreenFault.BadSize ↔ (IsScreenSize width height → ⊥) }
     {
         if !(20..=132).contains(&width) || !(10..=60).contains(&height) {
             return Err(ScreenFault::BadSize);
         }
-        let cells = vec![in alloc; Cell::BLANK; (width * height) as usize]?;
+        let cells = vec![in alloc; Cell::space(0); (width * height) as usize]?;
         Ok(Screen {
             width,
             height,
@@ -90,7 +91,7 @@ impl Screen {
 
     /// The canvas of the whole screen, with the origin in its corner.
     pub fn canvas(&self) -> Canvas
-        ensures { result ≡ record { clip = whole self.now; origin = record { x = pos 0; y = pos 0 } } }
+        ensures { result ≡ whole self.now.width self.now.height }
     {
         let origin = Point { x: 0, y: 0 };
         let end = Point {
@@ -105,7 +106,7 @@ impl Screen {
 
     /// The cell at a point, where the point is on the screen.
     pub fn at(&self, point: Point) -> Option<Cell>
-        ensures found { IsSome result ↔ IsIn (whole self.now) point.x point.y }
+        ensures found { IsSome result ↔ IsIn (sized self.now.width self.now.height) point.x point.y }
         ensures value { IfSome result (λ cell. (column row : ℕ) → point.x ≡ pos column → point.y ≡ pos row → cell ≡ cell_at self.now column row) }
     {
         let column = u32::try_from(point.x)
@@ -124,6 +125,14 @@ impl Screen {
         ensures { result ≡ cell_at self.now column row }
     {
         self.cells[(row * self.width + column) as usize]
+    }
+
+    /// Makes all cells spaces with attribute 00 again.
+    pub fn clear(&mut self)
+        ensures size { IsAlike self.old self.new }
+        ensures blank { Shows [] self.new }
+    {
+        self.cells.fill(Cell::space(0));
     }
 
     /// Sets the cell in a column and a row.

@@ -1,6 +1,6 @@
 use Rattle.std.proofs.Common.{arith}
 use Rattle.std.proofs.lemmas.Int.{ints}
-use Rattle.tv_cells.specs.Canvas.{sized}
+use Rattle.tv_cells.specs.Rectangle.{sized}
 use Rattle.tv_cells.proofs.Areas.{changes_step}
 use Rattle.tv_cells.proofs.Covered.{changes_covered}
 use Rattle.tv_cells.proofs.face.paint.Goals as goal
