@@ -1,2 +1,4 @@
+pub mod Drawing
 pub mod Lawful
+pub mod Pieces
 pub mod Thin
