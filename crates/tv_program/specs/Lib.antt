@@ -1,0 +1,3 @@
+pub mod Writer
+pub mod Device
+pub mod Pen

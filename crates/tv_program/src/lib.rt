@@ -1,0 +1,9 @@
+//! One dialog of texts and buttons, from bytes to bytes.
+#![tactic(auto)]
+
+mod device;
+mod pen;
+mod writer;
+
+pub use device::Device;
+pub use writer::{WriteFailed, Writer, write_all};
