@@ -1,2 +1,4 @@
-pub mod Writing
+pub mod Finding
+pub mod Marks
 pub mod Pens
+pub mod Writing

@@ -6,7 +6,11 @@ use Rattle.std.specs.List.{flat_map}
 use Rattle.tv_program.specs.declared.pen.Pen.{Pen}
 use Rattle.tv_program.specs.Writer.{Seen, Takes, Cuts}
 use Rattle.tv_program.specs.Pen.{Puts, PutsBy}
-use Rattle.tv_program.proofs.Writing.{Takes-then, Cuts-longer, Cuts-after}
+use Rattle.tv_program.proofs.Writing.{Takes-none, Takes-then, Cuts-longer, Cuts-after}
+
+PutsBy-none : (a : Seen) (s : Bool) → PutsBy a s a s []
+PutsBy-none a true = (refl, refl)
+PutsBy-none a false = Takes-none a
 
 PutsBy-then : (a b c : Seen) (s t u : Bool) (x y : List ℕ) → PutsBy a s b t x → PutsBy b t c u y → PutsBy a s c u (x ++ y)
 PutsBy-then a b c true true u x y p q = (q.0 ∙ p.0, q.1)
@@ -31,6 +35,9 @@ flat_map-take_more : {X : Type 0} (f : X → List ℕ) (xs : List X) (i : ℕ) (
 flat_map-take_more f xs i d lt = ap (flat_map f) (take_more xs i d lt) ∙ flat_map-append f (take i xs) (get_or xs i d ∷ []) ∙ ap (λ (t : List ℕ). flat_map f (take i xs) ++ t) (append-nil (f (get_or xs i d)))
 
 module _ {W : Type 0} {seen : W → Seen} where
+  pub Puts-none : {a : Pen W} → Puts seen a a []
+  Puts-none {a} = record { how = PutsBy-none (seen a.out.now) a.stopped; same = refl }
+
   pub Puts-then : {a b c : Pen W} {x y : List ℕ} → Puts seen a b x → Puts seen b c y → Puts seen a c (x ++ y)
   Puts-then {a} {b} {c} {x} {y} p q = record { how = PutsBy-then (seen a.out.now) (seen b.out.now) (seen c.out.now) a.stopped b.stopped c.stopped x y p.how q.how; same = q.same ∙ p.same }
 

@@ -2,6 +2,8 @@
 #![tactic(auto)]
 
 mod device;
+mod lines;
+mod names;
 mod pen;
 mod writer;
 
