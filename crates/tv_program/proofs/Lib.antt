@@ -1,4 +1,3 @@
-pub mod Finding
 pub mod Marks
 pub mod Pens
 pub mod Writing

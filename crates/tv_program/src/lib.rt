@@ -3,7 +3,6 @@
 
 mod device;
 mod lines;
-mod names;
 mod pen;
 mod writer;
 

@@ -2,14 +2,15 @@
 
 ghost use Rattle.std.specs.Prelude.{◌≡◌, ◌≤◌, ◌++◌, ◌∷◌, [], codes, decimal, flat_map};
 ghost use Rattle.tv_model.specs.declared.log.LogLine.TheVariants as lines;
-ghost use Rattle.tv_model.specs.LogText.{log_line, log_text, name_text, end_word, line_of, value_text, marks_text, is_marked, quoted_text, escaped};
+ghost use Rattle.tv_model.specs.LogText.{all_nodes, name_of_node, log_line, log_text, name_text, end_word, line_of, value_text, marks_text, is_marked, quoted_text, escaped};
+ghost use Rattle.tv_model.specs.Nodes.{node_of};
 ghost use Rattle.tv_program.specs.Pen.{Puts};
 
-use crate::names::name;
 use crate::pen::Pen;
 use crate::writer::Writer;
 use tv_event::Command;
 use tv_model::{Desc, Id, LogLine, Value};
+use tv_valid::Chars;
 
 /// Writes lines of the log.
 pub(crate) fn put_log<W: Writer>(pen: &mut Pen<W>, desc: &Desc, lines: &[LogLine])
@@ -42,6 +43,15 @@ fn put_name_line<W: Writer>(pen: &mut Pen<W>, desc: &Desc, word: &[u8], id: Id)
     pen.put(word);
     pen.put_chars(name(desc, id));
     pen.put(b"\n");
+}
+
+fn name(desc: &Desc, id: Id) -> &[char]
+    ensures { result.now ≡ name_of_node (node_of (all_nodes desc.now) id) }
+{
+    match desc.node(id) {
+        Some(node) => node.kind.name().map_or(&[], Chars::as_slice),
+        None => &[],
+    }
 }
 
 fn put_quit<W: Writer>(pen: &mut Pen<W>)
