@@ -1,3 +1,4 @@
 pub mod Marks
 pub mod Pens
+pub mod Ranges
 pub mod Writing

@@ -1,3 +1,4 @@
 pub mod Writer
 pub mod Device
 pub mod Pen
+pub mod ScreenText

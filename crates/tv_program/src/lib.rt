@@ -4,6 +4,7 @@
 mod device;
 mod lines;
 mod pen;
+mod shot;
 mod writer;
 
 pub use device::Device;
