@@ -1,2 +1,5 @@
 pub mod Glyph
 pub mod Rectangle
+pub mod Picture
+pub mod Canvas
+pub mod Layers

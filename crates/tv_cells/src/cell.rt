@@ -31,20 +31,10 @@ impl Model for Cell {
 pub fn is_narrow(ch: char) -> bool
     ensures { result ≡ is_narrow ch }
 {
-    ch.width() == Some(1)
+    ch.width().unwrap_or(0) == 1
 }
 
 impl Cell {
-    /// The cell of a character, or of a space where the character doesn't take one column.
-    pub fn shown(ch: char, attr: u8) -> Cell
-        ensures { result ≡ shown ch attr }
-    {
-        match Cell::new(ch, attr) {
-            Some(cell) => cell,
-            None => Cell { ch: ' ', attr },
-        }
-    }
-
     /// A cell, where the character takes exactly one column, as `unicode_width` counts them.
     pub fn new(ch: char, attr: u8) -> Option<Cell>
         ensures variant { IsSome result ↔ IsNarrow ch }
@@ -54,6 +44,24 @@ impl Cell {
             Some(Cell { ch, attr })
         } else {
             None
+        }
+    }
+
+    /// A space.
+    pub fn space(attr: u8) -> Cell
+        ensures { result ≡ glyph 32 attr }
+    {
+        Cell { ch: ' ', attr }
+    }
+
+    /// The cell of a character, or of a space in its place where the character doesn't take one column.
+    pub fn shown(ch: char, attr: u8) -> Cell
+        ensures { result ≡ shown ch attr }
+    {
+        if is_narrow(ch) {
+            Cell { ch, attr }
+        } else {
+            Cell::space(attr)
         }
     }
 

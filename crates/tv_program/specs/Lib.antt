@@ -1,4 +1,5 @@
-pub mod Writer
 pub mod Device
 pub mod Pen
+pub mod Run
 pub mod ScreenText
+pub mod Writer

@@ -1,11 +1,16 @@
-//! One dialog of texts and buttons, from bytes to bytes.
+//! What the program does, as calls over bytes and writers.
 #![tactic(auto)]
 
 mod device;
+mod focus;
 mod lines;
+mod log;
 mod pen;
+mod run;
 mod shot;
 mod writer;
 
 pub use device::Device;
+pub use log::Log;
+pub use run::Run;
 pub use writer::{WriteFailed, Writer, write_all};

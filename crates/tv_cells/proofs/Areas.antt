@@ -1,0 +1,70 @@
+-- Changes that go over an area of the screen row by row, and each row column by column.
+use Rattle.std.proofs.Common.{◌≡◌, ℕ, ◌+◌, ◌<◌, ◌≤◌, refl, ap, ◌∙◌, arith, inl, inr, ◌⊎◌}
+use Rattle.std.proofs.lemmas.Bool.{cases_lt}
+use Rattle.tv_cells.specs.Glyph.{Glyph}
+use Rattle.tv_cells.specs.Picture.{Picture, IsOn, IsAlike, IsPlace, Changes, cell_at}
+use Rattle.tv_cells.proofs.Drawn.{changes_along}
+
+-- the columns from left to right of the rows from top to bottom
+abbrev pub IsInArea : ℕ → ℕ → ℕ → ℕ → ℕ → ℕ → Type 0
+IsInArea left right top bottom column row = (left ≤ column) × (column < right) × (top ≤ row) × (row < bottom)
+
+-- the whole rows of it before this one, and the columns of this one before `next`
+abbrev pub IsDone : ℕ → ℕ → ℕ → ℕ → ℕ → ℕ → ℕ → Type 0
+IsDone left right top this next column row = IsInArea left right top this column row ⊎ ((left ≤ column) × (column < next) × (row ≡ this))
+
+dec : (m n : ℕ) → (m ≡ n) ⊎ (m ≡ n → ⊥)
+dec m n = elim (cases_lt m n) [
+  | inl lt ↦ inr (λ e. absurd (omega arith))
+  | inr le ↦ elim (cases_lt n m) [ inl gt ↦ inr (λ e. absurd (omega arith)) | inr ge ↦ inl (omega arith) ]
+]
+
+dec_place : (x y column row : ℕ) → IsPlace x y column row ⊎ (IsPlace x y column row → ⊥)
+dec_place x y column row = elim (dec column x) [
+  | inl e ↦ elim (dec row y) [ inl f ↦ inl (e, f) | inr f ↦ inr (λ s. f s.1) ]
+  | inr e ↦ inr (λ s. e s.0)
+]
+
+on_mid : {old mid : Picture} {column row : ℕ} → IsAlike old mid → IsOn old column row → IsOn mid column row
+on_mid e on = record { across = rw e.width on.across; down = rw e.height on.down }
+
+-- one place more
+pub changes_more : (Has More : ℕ → ℕ → Type 0) (f : ℕ → ℕ → Glyph → Glyph) (x y : ℕ) (cell : Glyph) (old mid new : Picture)
+    → More x y → (Has x y → ⊥) → ((a b : ℕ) → Has a b → More a b) → ((a b : ℕ) → More a b → (IsPlace x y a b → ⊥) → Has a b)
+    → IsOn old x y → cell ≡ f x y (cell_at mid x y) → Changes Has f old mid → Changes (IsPlace x y) (λ _ _ _. cell) mid new → Changes More f old new
+changes_more Has More f x y cell old mid new here fresh grows only place is p q = record {
+  size = record { width = q.size.width ∙ p.size.width; height = q.size.height ∙ p.size.height };
+  inside = λ column row on more. elim (dec_place x y column row) [
+    | inl e ↦ rw (e.0, e.1) (q.inside x y (on_mid p.size place) (refl, refl) ∙ is ∙ ap (f x y) (p.outside x y place fresh))
+    | inr e ↦ q.outside column row (on_mid p.size on) e ∙ p.inside column row on (only column row more e)
+  ];
+  outside = λ column row on other. q.outside column row (on_mid p.size on) (λ s. other (rw (s.0, s.1) here)) ∙ p.outside column row on (λ has. other (grows column row has));
+}
+
+module _ (left right top this next : ℕ) where
+  done_grows : (a b : ℕ) → IsDone left right top this next a b → IsDone left right top this (next + 1) a b
+  done_grows a b (inl h) = inl h
+  done_grows a b (inr h) = inr (h.0, omega arith, h.2)
+
+  done_only : (a b : ℕ) → IsDone left right top this (next + 1) a b → (IsPlace next this a b → ⊥) → IsDone left right top this next a b
+  done_only a b (inl h) other = inl h
+  done_only a b (inr h) other = let apart : a ≡ next → ⊥ = λ e. other (e, h.2) in inr (h.0, omega arith, h.2)
+
+  done_fresh : IsDone left right top this next next this → ⊥
+  done_fresh (inl h) = omega arith
+  done_fresh (inr h) = omega arith
+
+-- one column more of a row
+pub changes_step : (left right top this next : ℕ) (f : ℕ → ℕ → Glyph → Glyph) (cell : Glyph) (old mid new : Picture)
+    → left ≤ next → IsOn old next this → cell ≡ f next this (cell_at mid next this)
+    → Changes (IsDone left right top this next) f old mid → Changes (IsPlace next this) (λ _ _ _. cell) mid new → Changes (IsDone left right top this (next + 1)) f old new
+changes_step left right top this next f cell old mid new le on is p q =
+    changes_more (IsDone left right top this next) (IsDone left right top this (next + 1)) f next this cell old mid new
+    (inr (le, omega arith, refl)) (done_fresh left right top this next) (done_grows left right top this next) (done_only left right top this next) on is p q
+
+-- a row that is done
+pub changes_row : {left right top this next : ℕ} {f : ℕ → ℕ → Glyph → Glyph} {old new : Picture} → top ≤ this → next ≡ right → Changes (IsDone left right top this next) f old new → Changes (IsInArea left right top (this + 1)) f old new
+changes_row {left = left} {right = right} {top = top} {this = this} {next = next} le e p = changes_along
+    (λ a b _ h. elim h [ inl i ↦ (i.0, i.1, i.2, omega arith) | inr i ↦ (i.0, omega arith, omega arith, omega arith) ])
+    (λ a b _ h. elim (dec b this) [ inl i ↦ inr (h.0, omega arith, i) | inr i ↦ inl (h.0, h.1, h.2, omega arith) ])
+    p
