@@ -1,8 +1,9 @@
 -- Where a canvas draws.
-use Rattle.std.specs.Prelude.{◌≡◌, ℕ, ℤ, pos, ◌+ℤ◌, ◌≤ℤ◌, ◌<ℤ◌}
+use Rattle.std.specs.Prelude.{◌≤◌, ◌<◌, ◌≡◌, ℕ, ℤ, pos, ◌+ℤ◌, ◌≤ℤ◌, ◌<ℤ◌}
 use Rattle.tv_cells.specs.declared.rect.Point.{Point}
 use Rattle.tv_cells.specs.declared.rect.Rect.{Rect}
 use Rattle.tv_cells.specs.declared.canvas.Canvas.{Canvas}
+use Rattle.tv_cells.specs.declared.canvas.Area.{Area}
 use Rattle.std.specs.Int.{int_gap}
 use Rattle.tv_cells.specs.Glyph.{Glyph}
 use Rattle.tv_cells.specs.Rectangle.{IsIn, cut, shifted, shifted_point, sized}
@@ -30,6 +31,13 @@ whole width height = record { clip = sized width height; origin = record { x = p
 -- the clip cut by a rectangle that is seen from the origin, and the origin moved to its corner
 abbrev pub sub : Canvas → Rect → Canvas
 sub c r = record { clip = cut c.clip (shifted r c.origin); origin = shifted_point r.a c.origin }
+
+-- a column and a row of an area
+pub record IsInArea (area : Area) (column row : ℕ) : Type 0 where
+  pub left : area.left ≤ column
+  pub right : column < area.right
+  pub top : area.top ≤ row
+  pub bottom : row < area.bottom
 
 -- two columns to the right and one row down, where a shadow lies
 abbrev pub aside : Point

@@ -1,16 +1,15 @@
 //! A clip and an origin, through which cells are put.
 
-ghost use Rattle.std.specs.Int.{int_gap};
-ghost use Rattle.std.specs.Prelude.{◌^◌, ◌↔◌, ◌≡◌, ◌≤◌, ◌<◌, ◌≤ℤ◌, ◌<ℤ◌, ◌+ℤ◌, IfSome, IfNone, ℕ, pos};
+ghost use Rattle.std.specs.Prelude.{◌≡◌, ◌↔◌, ◌≤◌, ◌<◌, ◌≤ℤ◌, ◌<ℤ◌, IfSome, IfNone, ℕ, pos};
 ghost use Rattle.tv_cells.specs.Glyph.{shaded};
-ghost use Rattle.tv_cells.specs.Rectangle.{IsPointNear, IsRectNear, IsNear};
-ghost use Rattle.tv_cells.specs.Picture.{Changes, IsOn};
-ghost use Rattle.tv_cells.specs.Canvas.{Covers, IsAlong, IsAt, IsShadow, sub};
+ghost use Rattle.tv_cells.specs.Rectangle.{IsIn, IsPointNear, IsRectNear};
+ghost use Rattle.tv_cells.specs.Picture.{Changes, IsOn, IsScreenSize};
+ghost use Rattle.tv_cells.specs.Canvas.{Covers, IsAt, IsInArea, IsShadow, sub};
 
 use crate::cell::Cell;
-use crate::rect::{Point, Rect, gap, greater};
+use crate::line::{greater, place, visible};
+use crate::rect::{Point, Rect};
 use crate::screen::Screen;
-use std::ops::Range;
 
 /// Where cells are put: at places that are seen from an origin, and inside a clip.
 ///
@@ -21,6 +20,15 @@ pub struct Canvas {
     pub clip: Rect,
     /// The point of the screen from which places are seen.
     pub origin: Point,
+}
+
+/// Columns and rows of a screen, from the first on and before the second.
+#[derive(Clone, Copy)]
+pub(crate) struct Area {
+    pub(crate) left: u32,
+    pub(crate) right: u32,
+    pub(crate) top: u32,
+    pub(crate) bottom: u32,
 }
 
 impl Canvas {
@@ -52,22 +60,11 @@ impl Canvas {
     {
         let x = self.origin.x as i64;
         let y = self.origin.y as i64;
-        let (left, right) = visible(
-            &self.clip.a.x,
-            &self.clip.b.x,
-            screen.width(),
-            &(rect.a.x as i64 + x),
-            &(rect.b.x as i64 + x),
-        );
-        let (top, bottom) = visible(
-            &self.clip.a.y,
-            &self.clip.b.y,
-            screen.height(),
-            &(rect.a.y as i64 + y),
-            &(rect.b.y as i64 + y),
-        );
-        for row in top..bottom {
-            for column in left..right {
+        let start = (rect.a.x as i64 + x, rect.a.y as i64 + y);
+        let end = (rect.b.x as i64 + x, rect.b.y as i64 + y);
+        let area = self.area(screen, start, end);
+        for row in area.top..area.bottom {
+            for column in area.left..area.right {
                 let cell = screen.get(column, row).shaded();
                 screen.set(column, row, cell);
             }
@@ -75,7 +72,7 @@ impl Canvas {
     }
 
     /// Shades what the shadow of a rectangle falls on, where the rectangle is seen from the origin.
-    pub fn shade_beside(self, screen: &mut Screen, rect: Rect)
+    pub fn cast_shadow(self, screen: &mut Screen, rect: Rect)
         requires { IsRectNear rect }
         ensures { Changes (IsShadow self rect) (λ _ _ under. shaded under) screen.old screen.new }
     {
@@ -102,6 +99,24 @@ impl Canvas {
         self.shade(screen, below);
     }
 
+    // The columns and rows of the screen between two corners and inside the clip. The corners may lie too far away for a `Point`.
+    pub(crate) fn area(self, screen: &Screen, start: (i64, i64), end: (i64, i64)) -> Area
+        ensures across { (result.left ≤ result.right) × (result.right ≤ screen.now.width) }
+        ensures down { (result.top ≤ result.bottom) × (result.bottom ≤ screen.now.height) }
+        ensures small { IsScreenSize screen.now.width screen.now.height }
+        ensures places { (column row : ℕ) → IsOn screen.now column row → IsInArea result column row ↔ (IsIn self.clip (pos column) (pos row) × (start.0 ≤ℤ pos column) × (pos column <ℤ end.0) × (start.1 ≤ℤ pos row) × (pos row <ℤ end.1)) }
+    {
+        let clip = self.clip;
+        let (left, right) = visible(&clip.a.x, &clip.b.x, screen.width(), &start.0, &end.0);
+        let (top, bottom) = visible(&clip.a.y, &clip.b.y, screen.height(), &start.1, &end.1);
+        Area {
+            left,
+            right,
+            top,
+            bottom,
+        }
+    }
+
     // The column and the row of a point that is seen from the origin, where it may change.
     #[inline]
     fn find(self, screen: &Screen, x: &i32, y: &i32) -> Option<(u32, u32)>
@@ -124,43 +139,4 @@ impl Canvas {
         )?;
         Some((column, row))
     }
-}
-
-// The place on a line of this length that lies at a distance from the origin, inside a part of the line.
-fn place(from: &i32, to: &i32, length: u32, origin: &i32, distance: &i32) -> Option<u32>
-    ensures some { IfSome result (λ p. (p < length) × IsAlong from.now to.now origin.now distance.now p) }
-    ensures none { IfNone result ((p : ℕ) → p < length → IsAlong from.now to.now origin.now distance.now p → ⊥) }
-{
-    let at = *origin as i64 + *distance as i64;
-    if at < 0 || at < *from as i64 || at >= *to as i64 {
-        return None;
-    }
-    let place = at as u64;
-    if place < length as u64 {
-        Some(place as u32)
-    } else {
-        None
-    }
-}
-
-// The places on a line of this length that lie in two parts of the line: from the first on and before the second.
-pub(crate) fn visible(from: &i32, to: &i32, length: u32, start: &i64, end: &i64) -> (u32, u32)
-    ensures within { (result.0 ≤ result.1) × (result.1 ≤ length) }
-    ensures places { (p : ℕ) → p < length → ((result.0 ≤ p) × (p < result.1)) ↔ ((from.now ≤ℤ pos p) × (pos p <ℤ to.now) × (start.now ≤ℤ pos p) × (pos p <ℤ end.now)) }
-{
-    let first = (*start).max(*from as i64).max(0);
-    let last = (*end).min(*to as i64).min(length as i64);
-    if first < last {
-        (first as u32, last as u32)
-    } else {
-        (0, 0)
-    }
-}
-
-// How far a place on a line lies from the origin, or 0 where it lies before it.
-pub(crate) fn distance(origin: &i32, place: u32) -> u32
-    requires { place < 2 ^ 31 }
-    ensures { result ≡ int_gap origin.now (pos place) }
-{
-    gap(origin, &(place as i32))
 }

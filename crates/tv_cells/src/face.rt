@@ -6,8 +6,9 @@ ghost use Rattle.tv_cells.specs.Picture.{Changes};
 ghost use Rattle.tv_cells.specs.Canvas.{Covers, face_at};
 ghost use Rattle.tv_cells.specs.Rectangle.{sized};
 
-use crate::canvas::{Canvas, distance, visible};
+use crate::canvas::Canvas;
 use crate::cell::Cell;
+use crate::line::distance;
 use crate::screen::Screen;
 
 /// What a rectangle shows, cell by cell. Columns and rows count from its corner.
@@ -23,25 +24,12 @@ pub trait Face {
 pub fn paint<F: Face>(screen: &mut Screen, canvas: Canvas, width: u32, height: u32, face: &F)
     ensures { Changes (Covers canvas (sized width height)) (λ column row _. face_at canvas (F.face face.now) column row) screen.old screen.new }
 {
-    let start = canvas.origin.x as i64;
-    let (left, right) = visible(
-        &canvas.clip.a.x,
-        &canvas.clip.b.x,
-        screen.width(),
-        &start,
-        &(start + width as i64),
-    );
-    let start = canvas.origin.y as i64;
-    let (top, bottom) = visible(
-        &canvas.clip.a.y,
-        &canvas.clip.b.y,
-        screen.height(),
-        &start,
-        &(start + height as i64),
-    );
-    for row in top..bottom {
+    let start = (canvas.origin.x as i64, canvas.origin.y as i64);
+    let end = (start.0 + width as i64, start.1 + height as i64);
+    let area = canvas.area(screen, start, end);
+    for row in area.top..area.bottom {
         let y = distance(&canvas.origin.y, row);
-        for column in left..right {
+        for column in area.left..area.right {
             let cell = face.at(distance(&canvas.origin.x, column), y);
             screen.set(column, row, cell);
         }

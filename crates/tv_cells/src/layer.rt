@@ -21,5 +21,5 @@ pub fn lay_shadow(screen: &mut Screen, canvas: Canvas, rect: Rect)
     requires { IsRectNear rect }
     ensures { (layers : List Layer) → Shows layers screen.old → Shows (Shadow canvas rect ∷ layers) screen.new }
 {
-    canvas.shade_beside(screen, rect);
+    canvas.cast_shadow(screen, rect);
 }

@@ -1,8 +1,10 @@
 //! Points and rectangles.
 
 ghost use Rattle.std.specs.Prelude.{◌≡◌, ◌↔◌, IsTrue, ℤ, ◌≤ℤ◌, ◌<ℤ◌, ◌+ℤ◌};
-ghost use Rattle.std.specs.Int.{int_gap, int_max, int_min};
+ghost use Rattle.std.specs.Int.{int_gap};
 ghost use Rattle.tv_cells.specs.Rectangle.{IsIn, cut, IsPointNear, IsRectNear, shifted, shifted_point};
+
+use crate::line::{gap, greater, is_between, lesser};
 
 /// A point of the plane that the screen is a part of. Columns count to the right, rows down.
 #[derive(Clone, Copy, Debug, PartialEq, Eq)]
@@ -22,36 +24,6 @@ impl Point {
             x: self.x + by.x,
             y: self.y + by.y,
         }
-    }
-}
-
-// Whether a coordinate lies from one end on and before the other.
-fn is_between(from: &i32, at: &i32, to: &i32) -> bool
-    ensures { IsTrue result ↔ ((from.now ≤ℤ at.now) × (at.now <ℤ to.now)) }
-{
-    *from <= *at && *at < *to
-}
-
-pub(crate) fn greater(a: &i32, b: &i32) -> i32
-    ensures { result ≡ int_max a.now b.now }
-{
-    (*a).max(*b)
-}
-
-fn lesser(a: &i32, b: &i32) -> i32
-    ensures { result ≡ int_min a.now b.now }
-{
-    (*a).min(*b)
-}
-
-// How far a coordinate is above another, or 0.
-pub(crate) fn gap(from: &i32, to: &i32) -> u32
-    ensures { result ≡ int_gap from.now to.now }
-{
-    if *from < *to {
-        (*to as i64 - *from as i64) as u32
-    } else {
-        0
     }
 }
 

@@ -2,4 +2,4 @@ use Rattle.tv_cells.proofs.Layering.{shows_shaded}
 use Rattle.tv_cells.proofs.layer.lay_shadow.Goals as goal
 
 pub returns : goal.returns
-returns c = λ layers shows. shows_shaded c.args.canvas c.args.rect layers c.args.screen.now c.shade_beside.new.screen shows c.shade_beside.ensures
+returns c = λ layers shows. shows_shaded c.args.canvas c.args.rect layers c.args.screen.now c.cast_shadow.new.screen shows c.cast_shadow.ensures

@@ -3,7 +3,7 @@ use Rattle.std.proofs.lemmas.Int.{ints, clamps}
 use Rattle.tv_cells.specs.declared.rect.Rect.{Rect}
 use Rattle.tv_cells.proofs.Shadows.{changes_shadow}
 use Rattle.tv_cells.proofs.Rectangles.{point_is, rect_is}
-use Rattle.tv_cells.proofs.canvas.Canvas.shade_beside.Goals as goal
+use Rattle.tv_cells.proofs.canvas.Canvas.cast_shadow.Goals as goal
 
 pub returns : goal.returns
 returns c =

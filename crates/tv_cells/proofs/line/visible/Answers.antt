@@ -1,6 +1,6 @@
 use Rattle.std.proofs.Common.{arith}
 use Rattle.std.proofs.lemmas.Int.{ints, clamps}
-use Rattle.tv_cells.proofs.canvas.visible.Goals as goal
+use Rattle.tv_cells.proofs.line.visible.Goals as goal
 
 pub returns-then-first-last-clause-places : goal.returns-then-first-last-clause-places
 returns-then-first-last-clause-places c = λ p near. (
