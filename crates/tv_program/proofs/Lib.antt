@@ -1,6 +1,9 @@
 pub mod Lawful
 pub mod Marks
 pub mod Pens
+pub mod Performing
 pub mod Ranges
+pub mod Runs
+pub mod Screens
 pub mod Thin
 pub mod Writing

@@ -1,5 +1,6 @@
 pub mod Device
 pub mod Pen
+pub mod Performed
 pub mod Run
 pub mod ScreenText
 pub mod Writer

@@ -4,14 +4,13 @@ ghost use Rattle.std.specs.Prelude.{◌≡◌, ◌++◌, ◌<◌, codes, decimal
 ghost use Rattle.std.specs.List.{range_with_len};
 ghost use Rattle.tv_cells.specs.Picture.{cell_at};
 ghost use Rattle.tv_model.specs.LogText.{line_of};
+ghost use Rattle.tv_model.specs.Output.{hex_byte, hex_digit};
 ghost use Rattle.tv_program.specs.Pen.{Puts};
-ghost use Rattle.tv_program.specs.ScreenText.{aspect_word, cell_text, cells_text, hex_text, row_text, screen_text};
+ghost use Rattle.tv_program.specs.ScreenText.{aspect_word, cell_text, cells_text, row_text, screen_text};
 
 use crate::pen::Pen;
 use crate::writer::Writer;
 use tv_cells::{Cell, Screen};
-
-const HEX_DIGITS: &[u8; 16] = b"0123456789abcdef";
 
 /// What is shown of each cell.
 #[derive(Clone, Copy)]
@@ -77,10 +76,20 @@ fn put_cell<W: Writer>(pen: &mut Pen<W>, aspect: Aspect, cell: Cell)
     }
 }
 
+/// Writes the byte in two lower case hexadecimal digits.
 fn put_hex<W: Writer>(pen: &mut Pen<W>, byte: u8)
-    ensures { Puts W.seen pen.old pen.new (hex_text byte) }
+    ensures { Puts W.seen pen.old pen.new (hex_byte byte) }
 {
-    let high = HEX_DIGITS[usize::from(byte / 16)];
-    let low = HEX_DIGITS[usize::from(byte % 16)];
-    pen.put(&[high, low]);
+    pen.put(&[hex_digit(byte / 16), hex_digit(byte % 16)]);
+}
+
+fn hex_digit(value: u8) -> u8
+    requires { value < 16 }
+    ensures { result ≡ hex_digit value }
+{
+    if value < 10 {
+        b'0' + value
+    } else {
+        b'a' + (value - 10)
+    }
 }
