@@ -1,15 +1,14 @@
 -- The lines of a session's screen.
-use Rattle.std.proofs.Common.{◌≡◌, ℕ, zero, suc, ◌+◌, ◌<◌, ◌≤◌, List, [], ◌∷◌, ◌++◌, refl, sym, ap, ◌∙◌, arith, flat_map, map, decimal, codes, encode_utf8}
+use Rattle.std.proofs.Common.{◌≡◌, ℕ, zero, suc, ◌+◌, ◌<◌, ◌≤◌, List, ◌++◌, refl, sym, ap, ◌∙◌, arith, flat_map, map, decimal, codes, encode_utf8}
 use Rattle.std.proofs.lemmas.List.Folds.{flat_map-map}
 use Rattle.std.specs.List.{range_with_len}
-use Rattle.tv_cells.specs.Picture.{Picture, IsOn, cell_at}
+use Rattle.tv_cells.specs.Picture.{Picture, cell_at}
 use Rattle.tv_model.specs.LogText.{line_of, bytes_of}
 use Rattle.tv_model.specs.Output.{hex_byte, screen_cell, shot_row, colors_row, size_text, shot_text, colors_text}
 use Rattle.tv_model.specs.Session.{Session}
 use Rattle.tv_model.specs.State.{natural}
 use Rattle.tv_program.specs.Performed.{IsScreenOf}
 use Rattle.tv_program.specs.ScreenText.{cells_text, row_text, screen_text}
-use Rattle.tv_program.specs.declared.shot.Aspect.{Aspect}
 use Rattle.tv_program.specs.declared.shot.Aspect.TheVariants as aspects
 
 -- texts of numbers that are the same for each number of a row

@@ -1,5 +1,5 @@
 -- What a writer has taken, and what a call that writes a text leaves.
-use Rattle.std.specs.Prelude.{◌≡◌, ℕ, ◌<◌, ◌^◌, ◌+◌, ◌⊎◌, Bool, true, false, List, ◌++◌, length, Option}
+use Rattle.std.specs.Prelude.{◌≡◌, ℕ, ◌<◌, ◌^◌, ◌+◌, ◌⊎◌, List, ◌++◌, length, Option}
 use Rattle.std.specs.Io.KnownBytes.{Appends, Keeps}
 
 -- the bytes that a writer took, where they are known, and the count of its calls that failed or took nothing

@@ -78,7 +78,7 @@ fn put_end<W: Writer>(pen: &mut Pen<W>, desc: &Desc, id: Id, command: Command)
     pen.put(b"\n");
 }
 
-/// The word of a command that ends a dialog.
+// The word of a command that ends a dialog.
 fn end_word(command: Command) -> &'static [u8]
     ensures { result.now ≡ end_word command.0 }
 {
@@ -110,7 +110,7 @@ fn put_value<W: Writer>(pen: &mut Pen<W>, value: &Value)
     }
 }
 
-/// Writes a quoted text, in which `"` and `\` are escaped.
+// Writes a quoted text, in which `"` and `\` are escaped.
 fn put_quoted<W: Writer>(pen: &mut Pen<W>, text: &[char])
     ensures { Puts W.seen pen.old pen.new (quoted_text text.now) }
 {
@@ -137,7 +137,7 @@ fn put_escaped_char<W: Writer>(pen: &mut Pen<W>, ch: char)
     }
 }
 
-/// Writes the marked items in rising order, with a space between, or `-`.
+// Writes the marked items in rising order, with a space between, or `-`.
 fn put_marks<W: Writer>(pen: &mut Pen<W>, marks: u16)
     ensures { Puts W.seen pen.old pen.new (marks_text marks) }
 {

@@ -19,7 +19,11 @@ use tv_model::Item;
 /// # Errors
 ///
 /// The writer failed, or took nothing; the number is that of the items that were begun.
-pub fn perform<S: Stage, W: Writer>(stage: &mut S, script: &[Item], out: &mut W) -> Result<(), usize>
+pub fn perform<S: Stage, W: Writer>(
+    stage: &mut S,
+    script: &[Item],
+    out: &mut W,
+) -> Result<(), usize>
     ensures text { OnOk result (Takes (W.seen out.old) (W.seen out.new) (output (S.session stage.old) script.now)) }
     ensures state { OnOk result (S.session stage.new ≡ after (S.session stage.old) script.now) }
     ensures stops { IfErr result (λ begun. Stops (S.session stage.old) script.now begun (W.seen out.old) (W.seen out.new) (S.session stage.new)) }
@@ -31,7 +35,11 @@ pub fn perform<S: Stage, W: Writer>(stage: &mut S, script: &[Item], out: &mut W)
     put_script(&mut pen, stage, script)
 }
 
-fn put_script<S: Stage, W: Writer>(pen: &mut Pen<W>, stage: &mut S, script: &[Item]) -> Result<(), usize>
+fn put_script<S: Stage, W: Writer>(
+    pen: &mut Pen<W>,
+    stage: &mut S,
+    script: &[Item],
+) -> Result<(), usize>
     requires { pen.old.stopped ≡ false }
     ensures same { pen.new.out.ghost_name ≡ pen.old.out.ghost_name }
     ensures text { OnOk result (Takes (W.seen pen.old.out.now) (W.seen pen.new.out.now) (output (S.session stage.old) script.now)) }

@@ -76,7 +76,7 @@ fn put_cell<W: Writer>(pen: &mut Pen<W>, aspect: Aspect, cell: Cell)
     }
 }
 
-/// Writes the byte in two lower case hexadecimal digits.
+// Writes the byte in two lower case hexadecimal digits.
 fn put_hex<W: Writer>(pen: &mut Pen<W>, byte: u8)
     ensures { Puts W.seen pen.old pen.new (hex_byte byte) }
 {

@@ -12,6 +12,7 @@ use tv_model::{Desc, LogLine};
 /// A run of a description with its screen, on which a script is performed.
 pub trait Stage {
     ghost session: { Self → Session };
+
     ghost picture: { Self → Picture };
 
     /// The description.

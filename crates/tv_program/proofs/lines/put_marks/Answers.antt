@@ -14,15 +14,17 @@ loop-item-preserved g c =
     let item = c.loop-item.item in
     let some = c.loop-item.auto.item in
     elim c.if-is_marked.branch [
-      then-is_marked w ↦
-        let marked : is_marked marks item ≡ true = sym c.is_marked.ensures ∙ w.if-is_marked.true in
-        let text = Puts-then (Puts-then c.loop-item.invariant.0 (Puts-along c.loop-item.invariant.1 w.put.ensures)) w.put_number.ensures in
-        (rw w.pen-is (Puts-along (sym (joined-marked marks item some marked)) text),
-          ap (λ s. s.now) w.separator-is ∙ sym (separator-marked marks item some marked))
-    | else-is_marked w ↦
-        let unmarked : is_marked marks item ≡ false = sym c.is_marked.ensures ∙ w.if-is_marked.false in
-        (rw w.pen-is (Puts-along (sym (joined-unmarked marks item some unmarked)) c.loop-item.invariant.0),
-          ap (λ s. s.now) w.separator-is ∙ c.loop-item.invariant.1 ∙ sym (separator-unmarked marks item some unmarked))
+      | then-is_marked w ↦
+          let marked : is_marked marks item ≡ true = sym c.is_marked.ensures ∙ w.if-is_marked.true in
+          let text = Puts-then (Puts-then c.loop-item.invariant.0 (Puts-along c.loop-item.invariant.1 w.put.ensures)) w.put_number.ensures in (
+            rw w.pen-is (Puts-along (sym (joined-marked marks item some marked)) text),
+            ap (λ s. s.now) w.separator-is ∙ sym (separator-marked marks item some marked),
+          )
+      | else-is_marked w ↦
+          let unmarked : is_marked marks item ≡ false = sym c.is_marked.ensures ∙ w.if-is_marked.false in (
+            rw w.pen-is (Puts-along (sym (joined-unmarked marks item some unmarked)) c.loop-item.invariant.0),
+            ap (λ s. s.now) w.separator-is ∙ c.loop-item.invariant.1 ∙ sym (separator-unmarked marks item some unmarked),
+          )
     ]
 
 pub returns-then-is_empty : goal.returns-then-is_empty

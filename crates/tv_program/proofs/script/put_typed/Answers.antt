@@ -12,6 +12,7 @@ loop-ch-preserved g c =
     let i = c.loop-ch.ch-index in
     let x = c.ch-item.result in
     let lt = c.loop-ch-test.true in
-    let at = c.loop-ch.invariant.1 in
-    (typed_text s t cs i x lt at c.loop-ch.invariant.0 (Puts-along (ap (λ y. event_text t (typed_key y)) c.ch-item.is) c.put_event.ensures.text),
-      c.put_event.ensures.state ∙ ap (λ y. event_after t (typed_key y)) c.ch-item.is ∙ typed_state s t cs i x lt at)
+    let at = c.loop-ch.invariant.1 in (
+      typed_text s t cs i x lt at c.loop-ch.invariant.0 (Puts-along (ap (λ y. event_text t (typed_key y)) c.ch-item.is) c.put_event.ensures.text),
+      c.put_event.ensures.state ∙ ap (λ y. event_after t (typed_key y)) c.ch-item.is ∙ typed_state s t cs i x lt at,
+    )

@@ -9,4 +9,4 @@ pub loop-column-preserved : goal.loop-column-preserved
 loop-column-preserved g c =
     let text : ℕ → List ℕ = λ column. cell_text c.args.aspect (cell_at c.args.screen.now column c.args.row) in
     Puts-along (flat_map-range-more text c.loop-column.column)
-      (Puts-then c.loop-column.invariant (Puts-along (ap (cell_text c.args.aspect) c.get.ensures) c.put_cell.ensures))
+    (Puts-then c.loop-column.invariant (Puts-along (ap (cell_text c.args.aspect) c.get.ensures) c.put_cell.ensures))

@@ -1,5 +1,3 @@
-use Rattle.std.proofs.Common.{flat_map}
-use Rattle.std.specs.List.{range_with_len}
 use Rattle.tv_cells.specs.Picture.{cell_at}
 use Rattle.tv_program.specs.Pen.{Puts}
 use Rattle.tv_program.specs.ScreenText.{cells_text}

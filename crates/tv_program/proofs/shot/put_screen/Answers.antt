@@ -14,4 +14,4 @@ loop-row-preserved g c =
     let rows = row_text c.args.aspect screen.width (cell_at screen) in
     let row = c.loop-row.row in
     Puts-along (append_assoc size (flat_map rows (range_with_len 0 row)) (rows row) ∙ ap (λ t. size ++ t) (flat_map-range-more rows row))
-      (Puts-then c.loop-row.invariant c.put_row.ensures)
+    (Puts-then c.loop-row.invariant c.put_row.ensures)

@@ -10,5 +10,5 @@ use Rattle.tv_program.proofs.shot.put_screen.Given as goal
 abbrev pub invariant-loop-row : goal.invariant-loop-row
 invariant-loop-row g l =
     Puts g.W.Writer.seen l.fn.pen l.pen
-      (line_of (aspect_word l.aspect) (decimal l.screen.width ++ codes " " ++ decimal l.screen.height)
-        ++ flat_map (row_text l.aspect l.screen.width (cell_at l.screen)) (range_with_len 0 l.row))
+    (line_of (aspect_word l.aspect) (decimal l.screen.width ++ codes " " ++ decimal l.screen.height)
+    ++ flat_map (row_text l.aspect l.screen.width (cell_at l.screen)) (range_with_len 0 l.row))
