@@ -1,0 +1,13 @@
+//! The faults of a description.
+#![tactic(auto)]
+
+mod area;
+mod dialogs;
+mod ends;
+mod letters;
+mod limits;
+mod list;
+mod views;
+
+pub use area::Area;
+pub use list::faults;
