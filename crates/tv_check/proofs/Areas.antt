@@ -1,9 +1,8 @@
 -- Places as sets of points.
-use Rattle.std.proofs.Common.{◌≡◌, ◌↔◌, ◌⊎◌, inl, inr, IsTrue, Bool, true, false, not, ◌&&◌, ◌||◌, ℤ, pos, ◌+ℤ◌, ◌-ℤ◌, ◌≤ℤ◌, ◌<ℤ◌, int_le, int_lt, refl, sym, ap, ◌∙◌, arith, rules}
+use Rattle.std.proofs.Common.{◌≡◌, ◌↔◌, ◌⊎◌, inl, inr, IsTrue, Bool, true, false, not, ◌&&◌, ◌||◌, ℤ, pos, ◌-ℤ◌, ◌≤ℤ◌, ◌<ℤ◌, int_le, int_lt, sym, ap, ◌∙◌, arith}
 use Rattle.std.proofs.lemmas.Bool.{and_parts, and_from, cases_Bool}
 use Rattle.std.proofs.lemmas.Int.{ints, clamps}
 use Rattle.std.specs.Int.{int_max}
-use Rattle.tv_cells.specs.declared.rect.Point.{Point}
 use Rattle.tv_cells.specs.declared.rect.Rect.{Rect}
 use Rattle.tv_cells.specs.Rectangle.{IsIn}
 use Rattle.tv_model.specs.Faults.{has_points, is_within, overlap}
@@ -21,7 +20,7 @@ lt_says a b h = grind (arith, ints)
 le_holds : (a b : ℤ) → a ≤ℤ b → int_le a b ≡ true
 le_holds a b h = grind (arith, ints)
 
-le_says : (a b : ℤ) → int_le a b ≡ true → a ≤ℤ b
+pub le_says : (a b : ℤ) → int_le a b ≡ true → a ≤ℤ b
 le_says a b h = grind (arith, ints)
 
 -- four tests at once

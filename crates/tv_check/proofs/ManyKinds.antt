@@ -1,5 +1,5 @@
 -- A list that is found part by part.
-use Rattle.std.proofs.Common.{◌≡◌, ℕ, ◌+◌, ◌<◌, List, ◌∷◌, ◌++◌, length, get_or, suc, drop, flat_map, sym, ap, ◌∙◌, append_assoc, add-one, drop-cons}
+use Rattle.std.proofs.Common.{◌≡◌, ℕ, ◌+◌, ◌<◌, List, ◌∷◌, ◌++◌, length, get_or, drop, flat_map, sym, ap, ◌∙◌, append_assoc, add-one, drop-cons}
 
 -- the next part is found
 pub more_found : {K A : Type 0} (f : K → List A) (kinds : List K) (i : ℕ) (d : K) (found now all : List A) → i < length kinds

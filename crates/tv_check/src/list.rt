@@ -4,6 +4,7 @@ ghost use Rattle.std.specs.Prelude.{◌≡◌, [], ◌++◌, map, IfOk, OnOk};
 ghost use Rattle.std.specs.List.{list_any};
 ghost use Rattle.tv_model.specs.Faults.{dialog_lines, fault_at, faults_at, faults_of, head_lines, line_if, lines_where, start_lines, view_has};
 ghost use Rattle.tv_model.specs.Step.{is_named};
+ghost use Rattle.tv_check.specs.Usable.{IsUsable};
 
 use crate::dialogs::dialog_has;
 use crate::limits::is_lawful_screen;
@@ -92,7 +93,8 @@ fn add_kind(found: &mut Sequence<Fault>, kind: FaultKind, desc: &Desc) -> Result
 
 /// The faults of the description, by number and then by line.
 pub fn faults(alloc: Global, desc: &Desc) -> Result<Sequence<Fault>, AllocError>
-    ensures { IfOk result (λ list. list ≡ faults_of desc.now) }
+    ensures value { IfOk result (λ list. list ≡ faults_of desc.now) }
+    ensures sound { IfOk result (λ list. list ≡ [] → IsUsable desc.now) }
 {
     let mut found = Sequence::new(alloc);
     for kind in &KINDS {
