@@ -6,8 +6,9 @@ ghost use Rattle.tv_model.specs.Nodes.{is_control};
 ghost use Rattle.tv_model.specs.Faults.{dialog_has};
 
 use crate::area::Area;
+use crate::chars::has_wide;
 use crate::ends::ends_of;
-use crate::limits::{has_wide, is_lawful};
+use crate::limits::is_lawful;
 use tv_model::{Desc, Dialog, FaultKind, Node};
 
 // Whether one of the nodes is a control.

@@ -2,6 +2,7 @@
 #![tactic(auto)]
 
 mod area;
+mod chars;
 mod dialogs;
 mod ends;
 mod letters;

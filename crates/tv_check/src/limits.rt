@@ -1,12 +1,10 @@
-//! Numbers, sizes, lengths and characters within their limits.
+//! Numbers, sizes and lengths within their limits.
 
-ghost use Rattle.std.specs.Prelude.{◌≡◌, filter, not};
-ghost use Rattle.std.specs.List.{list_any};
-ghost use Rattle.tv_cells.specs.Glyph.{is_narrow};
-ghost use Rattle.tv_model.specs.Faults.{command_of, has_wide, is_between, is_lawful, is_lawful_corner, is_lawful_number, is_lawful_screen, is_lawful_size, is_line_end, least_height, least_width, text_of};
+ghost use Rattle.std.specs.Prelude.{◌≡◌};
+ghost use Rattle.tv_model.specs.Faults.{command_of, is_between, is_lawful, is_lawful_corner, is_lawful_number, is_lawful_screen, is_lawful_size, least_height, least_width};
 
 use crate::area::height;
-use tv_cells::is_narrow;
+use crate::chars::text_of;
 use tv_model::{CommandSpec, Desc, Kind, Node};
 
 // Whether the number is one of `least` to `greatest`.
@@ -34,18 +32,6 @@ fn least_height(kind: &Kind) -> i128
     match kind {
         Kind::Window { .. } | Kind::Dialog { .. } => 3,
         _ => 1,
-    }
-}
-
-// The characters of the declaration's text.
-fn text_of(kind: &Kind) -> &[char]
-    ensures { result.now ≡ text_of kind.now }
-{
-    match kind {
-        Kind::Dialog { title, .. } => title.as_slice(),
-        Kind::Text { text, .. } => text.as_slice(),
-        Kind::Button { text, .. } => text.text.as_slice(),
-        _ => &[],
     }
 }
 
@@ -90,36 +76,4 @@ pub fn is_lawful_screen(desc: &Desc) -> bool
     ensures { result ≡ is_lawful_screen desc.now }
 {
     is_between(&20, &132, &i128::from(desc.width)) && is_between(&10, &60, &i128::from(desc.height))
-}
-
-fn is_line_end(ch: char) -> bool
-    ensures { result ≡ is_line_end ch }
-{
-    ch == '\n'
-}
-
-// Whether a character of the text doesn't take one column.
-fn is_wide(text: &[char]) -> bool
-    ensures { result ≡ list_any (λ ch. not (is_narrow ch)) text.now }
-{
-    text.iter().any(|ch| !is_narrow(*ch))
-}
-
-// The same where a line end is no fault.
-fn is_wide_in_lines(text: &[char]) -> bool
-    ensures { result ≡ list_any (λ ch. not (is_narrow ch)) (filter (λ ch. not (is_line_end ch)) text.now) }
-{
-    text.iter()
-        .filter(|ch| !is_line_end(**ch))
-        .any(|ch| !is_narrow(*ch))
-}
-
-/// Whether the node shows a character that doesn't take one column.
-pub fn has_wide(node: &Node) -> bool
-    ensures { result ≡ has_wide node.now }
-{
-    match &node.kind {
-        Kind::Text { text, .. } => is_wide_in_lines(text.as_slice()),
-        kind => is_wide(text_of(kind)),
-    }
 }

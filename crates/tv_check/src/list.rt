@@ -13,6 +13,19 @@ use std::alloc::{AllocError, Global};
 use tv_model::{Desc, Dialog, Fault, FaultKind, Sequence};
 use tv_valid::Chars;
 
+// The faults, in the order of their numbers.
+const KINDS: [FaultKind; 9] = [
+    FaultKind::NameTwice,
+    FaultKind::OutsideOwner,
+    FaultKind::Overlap,
+    FaultKind::LetterTwice,
+    FaultKind::NothingToFocus,
+    FaultKind::MissingEnd,
+    FaultKind::WideCharacter,
+    FaultKind::OutsideLimits,
+    FaultKind::BadOpening,
+];
+
 // Adds the fault of the line if it is one.
 fn add_if(found: &mut Sequence<Fault>, is_fault: bool, kind: FaultKind, line: u32) -> Result<(), AllocError>
     ensures { OnOk result (found.new ≡ found.old ++ map (fault_at kind) (line_if is_fault line)) }
@@ -102,16 +115,3 @@ pub fn faults(alloc: Global, desc: &Desc) -> Result<Sequence<Fault>, AllocError>
     }
     Ok(found)
 }
-
-// The faults, in the order of their numbers.
-const KINDS: [FaultKind; 9] = [
-    FaultKind::NameTwice,
-    FaultKind::OutsideOwner,
-    FaultKind::Overlap,
-    FaultKind::LetterTwice,
-    FaultKind::NothingToFocus,
-    FaultKind::MissingEnd,
-    FaultKind::WideCharacter,
-    FaultKind::OutsideLimits,
-    FaultKind::BadOpening,
-];

@@ -6,9 +6,10 @@ ghost use Rattle.tv_model.specs.Faults.{overlap, overlaps_earlier, place_of_node
 ghost use Rattle.tv_model.specs.Nodes.{is_control};
 
 use crate::area::Area;
+use crate::chars::has_wide;
 use crate::ends::lacks_end;
 use crate::letters::{marks_again, names_again};
-use crate::limits::{has_wide, is_lawful};
+use crate::limits::is_lawful;
 use tv_model::{Dialog, FaultKind, Node};
 
 // Whether the node is a control that overlaps the place.

@@ -86,19 +86,19 @@ letters_of _ = []
 abbrev pub is_line_end : ℕ → Bool
 is_line_end ch = ch == 10
 
--- the characters of a declaration that have to take one column
-abbrev pub shown_chars : Kind → List ℕ
-shown_chars (kinds.Dialog name h title opens ends) = title
-shown_chars (kinds.Text h text) = filter (λ ch. not (is_line_end ch)) text
-shown_chars (kinds.Button name text command is_default grabs) = text.text
-shown_chars _ = []
-
 -- the characters of a declaration's text
 abbrev pub text_of : Kind → List ℕ
+text_of (kinds.Window name h number title) = title
 text_of (kinds.Dialog name h title opens ends) = title
 text_of (kinds.Text h text) = text
+text_of (kinds.Label text link) = text.text
 text_of (kinds.Button name text command is_default grabs) = text.text
 text_of _ = []
+
+-- those that have to take one column: all but the line ends of a static text
+abbrev pub shown_chars : Kind → List ℕ
+shown_chars (kinds.Text h text) = filter (λ ch. not (is_line_end ch)) text
+shown_chars kind = text_of kind
 
 abbrev pub command_of : Kind → Option CommandSpec
 command_of (kinds.Button name text command is_default grabs) = Some command
