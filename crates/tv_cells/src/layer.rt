@@ -2,6 +2,7 @@
 
 ghost use Rattle.std.specs.Prelude.{List, ◌∷◌};
 ghost use Rattle.tv_cells.specs.Rectangle.{IsRectNear};
+ghost use Rattle.tv_cells.specs.Picture.{IsAlike};
 ghost use Rattle.tv_cells.specs.Layers.{Layer, Painted, Shadow, Shows};
 
 use crate::canvas::Canvas;
@@ -11,7 +12,8 @@ use crate::screen::Screen;
 
 /// Draws a face over what the screen shows, with its corner at the canvas's origin.
 pub fn lay<F: Face>(screen: &mut Screen, canvas: Canvas, width: u32, height: u32, face: &F)
-    ensures { (layers : List Layer) → Shows layers screen.old → Shows (Painted canvas width height (F.face face.now) ∷ layers) screen.new }
+    ensures size { IsAlike screen.old screen.new }
+    ensures shows { (layers : List Layer) → Shows layers screen.old → Shows (Painted canvas width height (F.face face.now) ∷ layers) screen.new }
 {
     paint(screen, canvas, width, height, face);
 }
@@ -19,7 +21,8 @@ pub fn lay<F: Face>(screen: &mut Screen, canvas: Canvas, width: u32, height: u32
 /// Draws the shadow of a rectangle, which is seen from the canvas's origin, over what the screen shows.
 pub fn lay_shadow(screen: &mut Screen, canvas: Canvas, rect: Rect)
     requires { IsRectNear rect }
-    ensures { (layers : List Layer) → Shows layers screen.old → Shows (Shadow canvas rect ∷ layers) screen.new }
+    ensures size { IsAlike screen.old screen.new }
+    ensures shows { (layers : List Layer) → Shows layers screen.old → Shows (Shadow canvas rect ∷ layers) screen.new }
 {
     canvas.cast_shadow(screen, rect);
 }

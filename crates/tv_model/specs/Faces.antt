@@ -16,14 +16,14 @@ Row = ℕ → ℕ
 abbrev pub text_row : List ℕ → Row
 text_row text x = slice_index_or text x 32
 
--- a text over a row, from a column on
-abbrev pub over_row : ℕ → List ℕ → Row → Row
-over_row from text below x = if nat_le from x && nat_lt x (from + length text) then slice_index_or text (x - from) 32 else below x
+-- so many columns of a row over another row, from a column on
+abbrev pub over_row : ℕ → ℕ → Row → Row → Row
+over_row from count row below x = if nat_le from x && nat_lt x (from + count) then row (x - from) else below x
 
 -- ---- the desktop, the bar and the status line
 
 abbrev pub background : FaceOf
-background x y = glyph 46 0x71
+background x y = shown 46 0x71
 
 -- the menu bar without menus, and the status line without items
 abbrev pub empty_bar : FaceOf
@@ -41,11 +41,11 @@ cut_title w title = take (w - 12) title
 
 abbrev pub titled : ℕ → List ℕ → Row → Row
 titled w [] below = below
-titled w (ch ∷ chars) below = over_row ((w - length (ch ∷ chars) - 2) / 2) (32 ∷ (ch ∷ chars) ++ 32 ∷ []) below
+titled w (ch ∷ chars) below = over_row ((w - (length (ch ∷ chars) + 2)) / 2) (length (ch ∷ chars) + 2) (text_row (32 ∷ ch ∷ chars)) below
 
 -- the top row: the close mark in the columns 2 to 4, the title in the middle
 abbrev pub top_row : ℕ → List ℕ → Row
-top_row w title = over_row 2 (codes "[x]") (titled w (cut_title w title) (border w))
+top_row w title = over_row 2 3 (text_row (codes "[x]")) (titled w (cut_title w title) (border w))
 
 abbrev pub is_side : ℕ → ℕ → Bool
 is_side w x = (x == 0) || (x + 1 == w)
@@ -54,7 +54,7 @@ abbrev pub dialog_frame : ℕ → ℕ → List ℕ → FaceOf
 dialog_frame w h title x y =
     if y == 0 then shown (top_row w title x) 0x7f
     else if y + 1 == h then shown (border w x) 0x7f
-    else if is_side w x then glyph 124 0x7f
+    else if is_side w x then shown 124 0x7f
     else glyph 32 0x70
 
 -- ---- static texts
@@ -91,7 +91,7 @@ abbrev pub button_row : ℕ → List ℕ → Bool → Row
 button_row w text is_default_now x =
     if x == 0 then (if is_default_now then 60 else 91)
     else if x + 1 == w then (if is_default_now then 62 else 93)
-    else over_row (button_start w text) (button_text w text) (λ _. 32) x
+    else over_row (button_start w text) (length (button_text w text)) (text_row (button_text w text)) (λ _. 32) x
 
 -- whether the column shows the marked letter
 abbrev pub is_letter : ℕ → List ℕ → Option ℕ → ℕ → Bool

@@ -1,6 +1,7 @@
 -- Sound descriptions: each fault is a condition on the lists of declarations. A fault names a line of the canonical text.
 -- So far the conditions are those of descriptions of one dialog with static texts and buttons, without panes and rules.
-use Rattle.std.specs.Prelude.{◌≡◌, ℕ, Bool, true, false, not, ◌&&◌, ◌||◌, List, [], ◌∷◌, ◌++◌, map, filter, filter_map, flat_map, length, slice_get, Option, Some, None, option_to_list, option_and_then, option_map, ℤ, pos, neg_ℤ, ◌+ℤ◌, ◌-ℤ◌, int_le, int_lt, ◌-◌, ◌==◌, nat_le, if◌then◌else◌, bytes_eq}
+use Rattle.std.specs.Prelude.{◌≡◌, ℕ, Bool, true, false, not, ◌&&◌, ◌||◌, List, [], ◌∷◌, ◌++◌, map, filter, flat_map, length, slice_get, Option, Some, None, option_to_list, option_and_then, option_map, ℤ, pos, neg_ℤ, ◌+ℤ◌, ◌-ℤ◌, int_le, int_lt, ◌-◌, ◌==◌, nat_le, if◌then◌else◌, bytes_eq}
+use Rattle.std.specs.List.{list_any}
 use Rattle.tv_cells.specs.Glyph.{is_narrow}
 use Rattle.tv_cells.specs.declared.rect.Rect.{Rect}
 use Rattle.tv_model.specs.declared.node.Node.{Node}
@@ -19,18 +20,14 @@ use Rattle.tv_model.specs.Step.{ends_of, is_named}
 
 -- ---- words
 
-abbrev pub any : {A : Type 0} → (A → Bool) → List A → Bool
-any p [] = false
-any p (x ∷ xs) = p x || any p xs
-
 -- each item after some that were seen, with all those before it
 abbrev pub after_seen : {A : Type 0} → List A → List A → List (List A × A)
 after_seen seen [] = []
 after_seen seen (x ∷ xs) = (seen, x) ∷ after_seen (seen ++ x ∷ []) xs
 
--- the lines of the views that stand so to those before them
-abbrev pub lines_where : (List Node → Node → Bool) → List Node → List ℕ
-lines_where p views = map (λ pair. pair.1.id.0) (filter (λ pair. p pair.0 pair.1) (after_seen [] views))
+-- the lines of the views that stand so to those before them, where some were seen already
+abbrev pub lines_where : (List Node → Node → Bool) → List Node → List Node → List ℕ
+lines_where p seen views = map (λ pair. pair.1.id.0) (filter (λ pair. p pair.0 pair.1) (after_seen seen views))
 
 abbrev pub line_if : Bool → ℕ → List ℕ
 line_if b line = if b then line ∷ [] else []
@@ -84,26 +81,24 @@ letter_of marked = option_map upper (option_and_then (slice_get marked.text) mar
 abbrev pub letters_of : Kind → List ℕ
 letters_of (kinds.Label text link) = option_to_list (letter_of text)
 letters_of (kinds.Button name text command is_default grabs) = option_to_list (letter_of text)
-letters_of (kinds.CheckBoxes name items start) = filter_map letter_of items
-letters_of (kinds.RadioButtons name items start) = filter_map letter_of items
 letters_of _ = []
 
 abbrev pub is_line_end : ℕ → Bool
 is_line_end ch = ch == 10
 
--- the characters of a declaration that have to take one column
-abbrev pub shown_chars : Kind → List ℕ
-shown_chars (kinds.Dialog name h title opens ends) = title
-shown_chars (kinds.Text h text) = filter (λ ch. not (is_line_end ch)) text
-shown_chars (kinds.Button name text command is_default grabs) = text.text
-shown_chars _ = []
-
 -- the characters of a declaration's text
 abbrev pub text_of : Kind → List ℕ
+text_of (kinds.Window name h number title) = title
 text_of (kinds.Dialog name h title opens ends) = title
 text_of (kinds.Text h text) = text
+text_of (kinds.Label text link) = text.text
 text_of (kinds.Button name text command is_default grabs) = text.text
 text_of _ = []
+
+-- those that have to take one column: all but the line ends of a static text
+abbrev pub shown_chars : Kind → List ℕ
+shown_chars (kinds.Text h text) = filter (λ ch. not (is_line_end ch)) text
+shown_chars kind = text_of kind
 
 abbrev pub command_of : Kind → Option CommandSpec
 command_of (kinds.Button name text command is_default grabs) = Some command
@@ -117,24 +112,33 @@ is_lawful_number _ = true
 
 abbrev pub least_width : Kind → ℤ
 least_width (kinds.Dialog name h title opens ends) = pos 12
+least_width (kinds.Window name h number title) = pos 12
 least_width (kinds.Button name text command is_default grabs) = pos 4
+least_width (kinds.Input name spec start validates) = pos 3
+least_width (kinds.CheckBoxes name items start) = pos 5
+least_width (kinds.RadioButtons name items start) = pos 5
 least_width _ = pos 1
 
 abbrev pub least_height : Kind → ℤ
 least_height (kinds.Dialog name h title opens ends) = pos 3
+least_height (kinds.Window name h number title) = pos 3
 least_height _ = pos 1
 
--- within the limits: -132 to 132 for a corner, up to 132 columns and 60 rows, 120 characters, commands 100 to 255
+abbrev pub is_lawful_corner : Node → Bool
+is_lawful_corner node = is_between (neg_ℤ (pos 132)) (pos 132) node.x && is_between (neg_ℤ (pos 132)) (pos 132) node.y
+
+abbrev pub is_lawful_size : Node → Bool
+is_lawful_size node = is_between (least_width node.kind) (pos 132) node.w && is_between (least_height node.kind) (pos 60) (height_of node.kind)
+
+-- its corner and size, up to 120 characters, and a command from 100 to 255
 abbrev pub is_lawful : Node → Bool
 is_lawful node =
-    (is_between (neg_ℤ (pos 132)) (pos 132) node.x && is_between (neg_ℤ (pos 132)) (pos 132) node.y)
-    && ((is_between (least_width node.kind) (pos 132) node.w && is_between (least_height node.kind) (pos 60) (height_of node.kind))
-    && (nat_le (length (text_of node.kind)) 120 && is_lawful_number (command_of node.kind)))
+    (is_lawful_corner node && is_lawful_size node) && (nat_le (length (text_of node.kind)) 120 && is_lawful_number (command_of node.kind))
 
 abbrev pub is_lawful_screen : Desc → Bool
 is_lawful_screen d = is_between (pos 20) (pos 132) d.width && is_between (pos 10) (pos 60) d.height
 
--- ---- the faults of a dialog, each by its lines
+-- ---- the faults of a dialog and its views
 
 -- F1: a name given before in the dialog
 abbrev pub names_again : List Node → Node → Bool
@@ -142,16 +146,17 @@ names_again before node = named (name_of node.kind)
   where
     named : Option (List ℕ) → Bool
     named None = false
-    named (Some name) = any (λ other. is_option_named name (name_of other.kind)) before
+    named (Some name) = list_any (λ other. is_option_named name (name_of other.kind)) before
 
 -- F3: it overlaps an earlier view, and both are controls
 abbrev pub overlaps_earlier : List Node → Node → Bool
 overlaps_earlier before node =
-    is_control node.kind && any (λ other. is_control other.kind && overlap (place_of_node other) (place_of_node node)) before
+    is_control node.kind && list_any (λ other. is_control other.kind && overlap (place_of_node other) (place_of_node node)) before
 
--- F4: it marks a letter that was marked before
+-- F4: it marks a letter that was marked before, on an earlier line or on its own
 abbrev pub marks_again : List Node → Node → Bool
-marks_again before node = any (λ letter. any (λ other. any (λ given. given == letter) (letters_of other.kind)) before) (letters_of node.kind)
+marks_again before node =
+    list_any (λ pair. list_any (λ given. given == pair.1) pair.0) (after_seen (flat_map (λ other. letters_of other.kind) before) (letters_of node.kind))
 
 -- F10: a button of `ok`, `yes` or `no` that the dialog doesn't declare
 abbrev pub lacks_end : Dialog → Node → Bool
@@ -164,26 +169,31 @@ lacks_end d node = lacking (command_of node.kind)
     lacking _ = false
 
 abbrev pub has_wide : Node → Bool
-has_wide node = any (λ ch. not (is_narrow ch)) (shown_chars node.kind)
+has_wide node = list_any (λ ch. not (is_narrow ch)) (shown_chars node.kind)
 
--- the dialog's own line where it has the fault, and then its views' lines
-abbrev pub dialog_lines : FaultKind → Desc → Dialog → List ℕ
-dialog_lines faults.NameTwice d dialog = lines_where names_again dialog.views
-dialog_lines faults.OutsideOwner d dialog =
-    line_if (not (is_within (place_of_node dialog.node) (desktop d))) dialog.node.id.0
-    ++ lines_where (λ before node. not (is_within (place_of_node node) (interior dialog.node))) dialog.views
-dialog_lines faults.Overlap d dialog = lines_where overlaps_earlier dialog.views
-dialog_lines faults.LetterTwice d dialog = lines_where marks_again dialog.views
-dialog_lines faults.NothingToFocus d dialog = line_if (not (any (λ node. is_control node.kind) dialog.views)) dialog.node.id.0
-dialog_lines faults.MissingEnd d dialog =
-    line_if (not (ends_of dialog.node.kind).cancel) dialog.node.id.0 ++ lines_where (λ before node. lacks_end dialog node) dialog.views
-dialog_lines faults.WideCharacter d dialog =
-    line_if (has_wide dialog.node) dialog.node.id.0 ++ lines_where (λ before node. has_wide node) dialog.views
+-- whether the dialog's own line has the fault
+abbrev pub dialog_has : FaultKind → Desc → Dialog → Bool
+dialog_has faults.OutsideOwner d dialog = not (is_within (place_of_node dialog.node) (desktop d))
+dialog_has faults.NothingToFocus d dialog = not (list_any (λ node. is_control node.kind) dialog.views)
+dialog_has faults.MissingEnd d dialog = not (ends_of dialog.node.kind).cancel
+dialog_has faults.WideCharacter d dialog = has_wide dialog.node
+dialog_has faults.OutsideLimits d dialog = not (is_lawful dialog.node)
+dialog_has _ d dialog = false
+
+-- whether the line of a view has the fault, after the views before it
+abbrev pub view_has : FaultKind → Dialog → List Node → Node → Bool
+view_has faults.NameTwice dialog before node = names_again before node
+view_has faults.OutsideOwner dialog before node = not (is_within (place_of_node node) (interior dialog.node))
+view_has faults.Overlap dialog before node = overlaps_earlier before node
+view_has faults.LetterTwice dialog before node = marks_again before node
+view_has faults.MissingEnd dialog before node = lacks_end dialog node
+view_has faults.WideCharacter dialog before node = has_wide node
 -- the 65th view is the first that is too many
-dialog_lines faults.OutsideLimits d dialog =
-    line_if (not (is_lawful dialog.node)) dialog.node.id.0
-    ++ lines_where (λ before node. not (is_lawful node) || (length before == 64)) dialog.views
-dialog_lines _ d dialog = []
+view_has faults.OutsideLimits dialog before node = not (is_lawful node) || (length before == 64)
+view_has _ dialog before node = false
+
+abbrev pub dialog_lines : FaultKind → Desc → Dialog → List ℕ
+dialog_lines kind d dialog = line_if (dialog_has kind d dialog) dialog.node.id.0 ++ lines_where (view_has kind dialog) [] dialog.views
 
 -- F16: a `start` line, which is the third, that names no dialog
 abbrev pub start_lines : Desc → List ℕ
@@ -191,16 +201,23 @@ start_lines d = starting d.start
   where
     starting : Option (List ℕ) → List ℕ
     starting None = []
-    starting (Some name) = line_if (not (any (is_named name) d.dialogs)) 3
+    starting (Some name) = line_if (not (list_any (is_named name) d.dialogs)) 3
+
+-- the lines before the dialogs that have the fault. The screen's is the second
+abbrev pub head_lines : FaultKind → Desc → List ℕ
+head_lines faults.OutsideLimits d = line_if (not (is_lawful_screen d)) 2
+head_lines faults.BadOpening d = start_lines d
+head_lines _ d = []
 
 -- the lines that a fault names, in their order
 abbrev pub fault_lines : FaultKind → Desc → List ℕ
-fault_lines faults.OutsideLimits d = line_if (not (is_lawful_screen d)) 2 ++ flat_map (dialog_lines faults.OutsideLimits d) d.dialogs
-fault_lines faults.BadOpening d = start_lines d
-fault_lines kind d = flat_map (dialog_lines kind d) d.dialogs
+fault_lines kind d = head_lines kind d ++ flat_map (dialog_lines kind d) d.dialogs
+
+abbrev pub fault_at : FaultKind → ℕ → Fault
+fault_at kind line = record { kind = kind; line = line }
 
 abbrev pub faults_at : FaultKind → Desc → List Fault
-faults_at kind d = map (λ line. record { kind = kind; line = line }) (fault_lines kind d)
+faults_at kind d = map (fault_at kind) (fault_lines kind d)
 
 abbrev pub all_kinds : List FaultKind
 all_kinds =

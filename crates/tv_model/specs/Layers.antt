@@ -10,7 +10,7 @@ use Rattle.tv_model.specs.declared.node.Kind.{Kind}
 use Rattle.tv_model.specs.declared.node.Kind.TheVariants as kinds
 use Rattle.tv_model.specs.declared.desc.Desc.{Desc}
 use Rattle.tv_model.specs.declared.desc.Dialog.{Dialog}
-use Rattle.tv_model.specs.Nodes.{height_of, node_of}
+use Rattle.tv_model.specs.Nodes.{node_of}
 use Rattle.tv_model.specs.State.{State, OpenDialog, natural}
 use Rattle.tv_model.specs.Step.{is_button_node, is_default}
 use Rattle.tv_model.specs.Faults.{rect, desktop}
@@ -57,24 +57,24 @@ view_layers d dialog focus node = faces node.kind
         Painted place (natural node.w) 1 (button_face (natural node.w) text.text text.mark (look_of dialog.views focus node)) ∷ []
     faces _ = []
 
-abbrev pub title_of : Kind → List ℕ
-title_of (kinds.Dialog name h title opens ends) = title
-title_of _ = []
-
 abbrev pub frame_canvas : Desc → Dialog → Canvas
 frame_canvas d dialog = canvas_at (desktop d) dialog.node.x dialog.node.y
 
-abbrev pub frame_layer : Desc → Dialog → Layer
-frame_layer d dialog =
-    Painted (frame_canvas d dialog) (natural dialog.node.w) (natural (height_of dialog.node.kind))
-    (dialog_frame (natural dialog.node.w) (natural (height_of dialog.node.kind)) (title_of dialog.node.kind))
+-- a dialog's body, the frame with the interior, and its shadow
+abbrev pub body_layers : Desc → Dialog → List Layer
+body_layers d dialog = body dialog.node.kind
+  where
+    w : ℕ
+    w = natural dialog.node.w
 
-abbrev pub shadow_layer : Desc → Dialog → Layer
-shadow_layer d dialog = Shadow (frame_canvas d dialog) (sized (natural dialog.node.w) (natural (height_of dialog.node.kind)))
+    body : Kind → List Layer
+    body (kinds.Dialog name h title opens ends) =
+        Painted (frame_canvas d dialog) w (natural h) (dialog_frame w (natural h) title) ∷ Shadow (frame_canvas d dialog) (sized w (natural h)) ∷ []
+    body _ = []
 
 -- the open dialog: its views, the last on top, its body, its shadow
 abbrev pub dialog_layers : Desc → Dialog → Id → List Layer
-dialog_layers d dialog focus = reverse (flat_map (view_layers d dialog focus) dialog.views) ++ frame_layer d dialog ∷ shadow_layer d dialog ∷ []
+dialog_layers d dialog focus = flat_map (view_layers d dialog focus) (reverse dialog.views) ++ body_layers d dialog
 
 abbrev pub open_layers : Desc → Option OpenDialog → List Layer
 open_layers d None = []

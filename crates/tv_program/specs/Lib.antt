@@ -1,4 +1,5 @@
 pub mod Device
+pub mod Looks
 pub mod Pen
 pub mod Performed
 pub mod Run

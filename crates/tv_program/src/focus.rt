@@ -1,7 +1,7 @@
 //! Which control has the focus next.
 
 ghost use Rattle.std.specs.Prelude.{◌≡◌, find, position, option_copied};
-ghost use Rattle.tv_model.specs.Nodes.{has_id};
+ghost use Rattle.tv_model.specs.Nodes.{has_id, node_of};
 ghost use Rattle.tv_model.specs.Step.{is_free, is_free_at, first_free, last_free, place_of, before, after, next_free, previous_free, enter_target, is_default, is_button_node};
 
 use tv_model::{Id, Kind, Node, node_of};
@@ -80,7 +80,8 @@ pub(crate) fn previous_free(views: &[Node], focus: Id) -> Id
     last_free(before).or(last_free(after)).unwrap_or(focus)
 }
 
-fn is_default(node: &Node) -> bool
+/// Whether it is declared as the default button.
+pub(crate) fn is_default(node: &Node) -> bool
     ensures { result ≡ is_default node.now }
 {
     matches!(
@@ -90,6 +91,16 @@ fn is_default(node: &Node) -> bool
             ..
         }
     )
+}
+
+/// Whether the view of the id is a button.
+pub(crate) fn is_button_at(views: &[Node], id: Id) -> bool
+    ensures { result ≡ is_button_node (node_of views.now id) }
+{
+    match node_of(views, id) {
+        Some(node) => node.kind.is_button(),
+        None => false,
+    }
 }
 
 fn default_button(views: &[Node]) -> Option<&Node>

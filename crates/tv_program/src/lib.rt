@@ -2,6 +2,8 @@
 #![tactic(auto)]
 
 mod device;
+mod draw;
+mod faces;
 mod focus;
 mod lines;
 mod log;
