@@ -5,8 +5,8 @@ ghost use Rattle.std.specs.Io.KnownBytes.{Keeps};
 ghost use Rattle.tv_program.specs.Writer.{HasRisen};
 
 use crate::writer::{WriteFailed, Writer};
-use std::alloc::Global;
-use std::io::{self, BufWriter, Write};
+use std::alloc::{AllocError, Global};
+use std::io::{BufWriter, Write};
 
 /// A writer of `std`, to which the bytes go in large pieces. What is kept back is written by `flush`.
 #[derive(Drop)]
@@ -18,15 +18,18 @@ pub struct Device<W: Write + Drop> {
 impl<W: Write + Drop> Device<W> {
     ghost use Rattle.tv_program.specs.Device.{device_seen, kept_back};
 
-    /// Over the writer, with room for what is kept back. The only error is of memory; the writer is then dropped.
-    pub fn new(alloc: Global, writer: W) -> io::Result<Device<W>>
+    /// Over the writer, with room for what is kept back. Where there is no memory for it, the writer is dropped.
+    pub fn new(alloc: Global, writer: W) -> Result<Device<W>, AllocError>
         ensures taken { IfOk result (λ device. Keeps (W.contents writer) (device_seen W.contents device).taken) }
         ensures count { IfOk result (λ device. (device_seen W.contents device).failures ≡ 0) }
     {
-        Ok(Device {
-            writer: BufWriter::new(alloc, writer)?,
-            failures: 0,
-        })
+        match BufWriter::new(alloc, writer) {
+            Ok(writer) => Ok(Device {
+                writer,
+                failures: 0,
+            }),
+            Err(_) => Err(AllocError),
+        }
     }
 
     /// Writes what is kept back. An error counts as a failure.
