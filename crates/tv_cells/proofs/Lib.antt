@@ -6,3 +6,5 @@ pub mod Areas
 pub mod Covered
 pub mod Shadows
 pub mod Layering
+pub mod Tildes
+pub mod Marks

@@ -1,0 +1,128 @@
+//! Texts with at most one letter marked, which are written as `~A~mount`.
+
+ghost use Rattle.std.specs.Prelude.{◌≡◌, ◌≢◌, ◌<◌, ◌≤◌, ◌+◌, ◌++◌, [], ◌∷◌, length, chars, All, IsTrue, IfOk, IfErr, IfSome, IfNone, OnOk, OnErr, ℕ};
+ghost use Rattle.std.specs.Char.{is_ascii_alphanumeric};
+ghost use Rattle.tv_cells.specs.Glyph.{IsNarrow};
+ghost use Rattle.tv_cells.specs.HotText.{Hot, IsApart, IsHot, IsUnmarkable, Refuses, key_at, letter_at, spelled};
+
+use arrayvec::ArrayVec;
+use std::marker::Model;
+use thiserror::Error;
+
+use crate::cell::is_narrow;
+
+/// Why a text is refused. Where several hold, the first in this order is answered.
+#[derive(Clone, Copy, Debug, Drop, PartialEq, Eq, Error)]
+pub enum HotTextFault {
+    /// The first character that doesn't take one column, by its place among the characters, `~` counted.
+    #[error("the character at {0} does not take one column")]
+    BadWidth(usize),
+    #[error("`~` is used otherwise than once round a letter or a digit")]
+    BadMark,
+    #[error("more than 120 characters")]
+    TooLong,
+}
+
+/// A text of at most 120 characters, one of which may be marked: its letter.
+#[derive(Debug, Drop)]
+pub struct HotText {
+    text: ArrayVec<char, 120>,
+    place: Option<usize>,
+}
+
+impl Model for HotText {
+    ghost use Rattle.std.specs.Prelude.{length, ◌≤◌};
+    ghost use Rattle.tv_cells.specs.HotText.{Hot, IsHot};
+
+    ghost Value = { Hot };
+
+    ghost view = { λ t. record { text = t.text.items; place = t.place } };
+
+    ghost invariant = { λ t. IsHot (record { text = t.text.items; place = t.place }) × (length t.text.items ≤ 120) };
+}
+
+// The first character, and what follows it.
+fn next_char(text: &str) -> Option<(char, &str)>
+    ensures some { IfSome result (λ p. chars text.now ≡ p.0 ∷ chars p.1.now) }
+    ensures none { IfNone result (chars text.now ≡ []) }
+{
+    let mut chars = text.chars();
+    let first = chars.next()?;
+    Some((first, chars.as_str()))
+}
+
+// What stands before the first `~`, and what follows it.
+fn split_tilde(text: &str) -> Option<(&str, &str)>
+    ensures some { IfSome result (λ p. (chars text.now ≡ chars p.0.now ++ 126 ∷ chars p.1.now) × All (λ ch. ch ≢ 126) (chars p.0.now)) }
+    ensures none { IfNone result (All (λ ch. ch ≢ 126) (chars text.now)) }
+{
+    text.split_once('~')
+}
+
+// The place of the first character that doesn't take one column.
+fn first_wide(text: &str) -> Option<usize>
+    ensures some { IfSome result (λ place. Refuses (chars text.now) (HotTextFault.BadWidth place)) }
+    ensures none { IfNone result (All IsNarrow (chars text.now)) }
+{
+    let mut place = 0;
+    for ch in text.chars() {
+        if !is_narrow(ch) {
+            return Some(place);
+        }
+        place += 1;
+    }
+    None
+}
+
+// Appends a text, as far as there is room.
+fn push_all(items: &mut ArrayVec<char, 120>, text: &str) -> Result<(), HotTextFault>
+    ensures ok { OnOk result (items.new.items ≡ items.old.items ++ chars text.now) }
+    ensures fault { IfErr result (λ fault. (fault ≡ HotTextFault.TooLong) × (120 < length items.old.items + length (chars text.now))) }
+{
+    for ch in text.chars() {
+        push(items, ch)?;
+    }
+    Ok(())
+}
+
+fn push(items: &mut ArrayVec<char, 120>, ch: char) -> Result<(), HotTextFault>
+    ensures ok { OnOk result (items.new.items ≡ items.old.items ++ ch ∷ []) }
+    ensures fault { IfErr result (λ fault. (fault ≡ HotTextFault.TooLong) × (length items.old.items ≡ 120)) }
+{
+    if items.is_full() {
+        return Err(HotTextFault::TooLong);
+    }
+    items.push(ch);
+    Ok(())
+}
+
+// A text at its mark, if it has one.
+enum Parts<'a> {
+    Plain,
+    Marked {
+        before: &'a str,
+        letter: char,
+        after: &'a str,
+    },
+}
+
+// The parts of a text whose use of `~` is right.
+fn take_apart(text: &str) -> Option<Parts<'_>>
+    ensures some { IfSome result (λ parts. IsApart (chars text.now) parts) }
+    ensures none { IfNone result (IsUnmarkable (chars text.now)) }
+{
+    let Some((before, rest)) = split_tilde(text) else {
+        return Some(Parts::Plain);
+    };
+    let (letter, rest) = next_char(rest)?;
+    let (end, after) = next_char(rest)?;
+    if letter.is_ascii_alphanumeric() && end == '~' && split_tilde(after).is_none() {
+        Some(Parts::Marked {
+            before,
+            letter,
+            after,
+        })
+    } else {
+        None
+    }
+}
