@@ -8,3 +8,4 @@ pub mod Shadows
 pub mod Layering
 pub mod Tildes
 pub mod Marks
+pub mod Hots

@@ -1,10 +1,10 @@
 -- Which texts have a mark.
-use Rattle.std.proofs.Common.{◌≡◌, ◌≢◌, ℕ, Bool, List, [], ◌∷◌, ◌++◌, Option, Some, None, All, IfNone, IfSome, IsTrue, is_some, true, refl, sym, ◌∙◌}
+use Rattle.std.proofs.Common.{◌≡◌, ◌≢◌, ℕ, List, [], ◌∷◌, ◌++◌, Option, Some, None, All, IfNone, IfSome, IsTrue, is_some, true, refl, sym, ◌∙◌}
 use Rattle.std.specs.Char.{is_ascii_alphanumeric}
 use Rattle.std.specs.Str.{chars}
 use denote.Ref.{Bor}
 use Rattle.std.proofs.lemmas.List.Elements.{All-head, All-tail}
-use Rattle.tv_cells.specs.HotText.{IsAround, IsUnmarkable}
+use Rattle.tv_cells.specs.HotText.{IsUnmarkable}
 
 abbrev pub IsFree : List ℕ → Type 0
 IsFree = All (λ ch. ch ≢ 126)

@@ -43,6 +43,12 @@ Refuses text TooLong = All IsNarrow text × (hot : Hot) × IsHot hot × (spelled
 
 -- ---- the parts of a text
 
+abbrev pub hot_of : List ℕ → ℕ → List ℕ → Hot
+hot_of before letter after = record { text = before ++ letter ∷ after; place = Some (length before) }
+
+abbrev pub unmarked : List ℕ → Hot
+unmarked text = record { text = text; place = None }
+
 pub record IsAround (text before : List ℕ) (letter : ℕ) (after : List ℕ) : Type 0 where
   pub whole : text ≡ before ++ 126 ∷ letter ∷ 126 ∷ after
   pub sound : IsTrue (is_ascii_alphanumeric letter)

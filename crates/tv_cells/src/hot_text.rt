@@ -3,13 +3,12 @@
 ghost use Rattle.std.specs.Prelude.{◌≡◌, ◌≢◌, ◌<◌, ◌≤◌, ◌+◌, ◌++◌, [], ◌∷◌, length, chars, All, IsTrue, IfOk, IfErr, IfSome, IfNone, OnOk, OnErr, ℕ};
 ghost use Rattle.std.specs.Char.{is_ascii_alphanumeric};
 ghost use Rattle.tv_cells.specs.Glyph.{IsNarrow};
-ghost use Rattle.tv_cells.specs.HotText.{Hot, IsApart, IsHot, IsUnmarkable, Refuses, key_at, letter_at, spelled};
+ghost use Rattle.tv_cells.specs.HotText.{Hot, IsApart, IsHot, IsUnmarkable, Refuses, hot_of, key_at, spelled, unmarked};
 
+use crate::cell::is_narrow;
 use arrayvec::ArrayVec;
 use std::marker::Model;
 use thiserror::Error;
-
-use crate::cell::is_narrow;
 
 /// Why a text is refused. Where several hold, the first in this order is answered.
 #[derive(Clone, Copy, Debug, Drop, PartialEq, Eq, Error)]
@@ -39,6 +38,86 @@ impl Model for HotText {
     ghost view = { λ t. record { text = t.text.items; place = t.place } };
 
     ghost invariant = { λ t. IsHot (record { text = t.text.items; place = t.place }) × (length t.text.items ≤ 120) };
+}
+
+impl HotText {
+    /// Reads a text in which one letter may stand between two `~`.
+    ///
+    /// # Errors
+    ///
+    /// `BadWidth` for the first character that doesn't take one column, else `BadMark` for another use of `~`, else
+    /// `TooLong` for more than 120 characters, the two `~` not counted.
+    pub fn parse(text: &str) -> Result<HotText, HotTextFault>
+        ensures spelled { IfOk result (λ hot. spelled hot ≡ chars text.now) }
+        ensures sound { IfOk result (λ hot. IsHot hot × (length hot.text ≤ 120)) }
+        ensures fault { IfErr result (λ fault. Refuses (chars text.now) fault) }
+    {
+        if let Some(place) = first_wide(text) {
+            return Err(HotTextFault::BadWidth(place));
+        }
+        match take_apart(text) {
+            None => Err(HotTextFault::BadMark),
+            Some(Parts::Plain) => HotText::plain(text),
+            Some(
+                Parts::Marked {
+                    before,
+                    letter,
+                    after,
+                },
+            ) => HotText::marked(before, letter, after),
+        }
+    }
+
+    fn plain(text: &str) -> Result<HotText, HotTextFault>
+        requires { IsHot (unmarked (chars text.now)) }
+        ensures ok { IfOk result (λ hot. (hot ≡ unmarked (chars text.now)) × (length hot.text ≤ 120)) }
+        ensures fault { IfErr result (λ fault. (fault ≡ HotTextFault.TooLong) × (120 < length (chars text.now))) }
+    {
+        let mut items = ArrayVec::new();
+        push_all(&mut items, text)?;
+        Ok(HotText {
+            text: items,
+            place: None,
+        })
+    }
+
+    fn marked(before: &str, letter: char, after: &str) -> Result<HotText, HotTextFault>
+        requires { IsHot (hot_of (chars before.now) letter (chars after.now)) }
+        ensures ok { IfOk result (λ hot. (hot ≡ hot_of (chars before.now) letter (chars after.now)) × (length hot.text ≤ 120)) }
+        ensures fault { IfErr result (λ fault. (fault ≡ HotTextFault.TooLong) × (120 < length (chars before.now ++ letter ∷ chars after.now))) }
+    {
+        let mut items = ArrayVec::new();
+        push_all(&mut items, before)?;
+        let place = items.len();
+        push(&mut items, letter)?;
+        push_all(&mut items, after)?;
+        Ok(HotText {
+            text: items,
+            place: Some(place),
+        })
+    }
+
+    /// The characters, without the mark.
+    pub fn text(&self) -> &[char]
+        ensures { result.now ≡ self.now.text }
+    {
+        self.text.as_slice()
+    }
+
+    /// Where the marked letter stands among the characters.
+    pub fn place(&self) -> Option<usize>
+        ensures { result ≡ self.now.place }
+    {
+        self.place
+    }
+
+    /// The key of the marked letter: the letter in upper case, or the digit.
+    pub fn key(&self) -> Option<char>
+        ensures { result ≡ key_at self.now.text self.now.place }
+    {
+        let place = self.place?;
+        Some(self.text[place].to_ascii_uppercase())
+    }
 }
 
 // The first character, and what follows it.
@@ -76,6 +155,8 @@ fn first_wide(text: &str) -> Option<usize>
 
 // Appends a text, as far as there is room.
 fn push_all(items: &mut ArrayVec<char, 120>, text: &str) -> Result<(), HotTextFault>
+    requires { length items.old.items ≤ 120 }
+    ensures fits { OnOk result (length items.new.items ≤ 120) }
     ensures ok { OnOk result (items.new.items ≡ items.old.items ++ chars text.now) }
     ensures fault { IfErr result (λ fault. (fault ≡ HotTextFault.TooLong) × (120 < length items.old.items + length (chars text.now))) }
 {
@@ -86,6 +167,7 @@ fn push_all(items: &mut ArrayVec<char, 120>, text: &str) -> Result<(), HotTextFa
 }
 
 fn push(items: &mut ArrayVec<char, 120>, ch: char) -> Result<(), HotTextFault>
+    ensures fits { OnOk result (length items.new.items ≤ 120) }
     ensures ok { OnOk result (items.new.items ≡ items.old.items ++ ch ∷ []) }
     ensures fault { IfErr result (λ fault. (fault ≡ HotTextFault.TooLong) × (length items.old.items ≡ 120)) }
 {

@@ -1,4 +1,4 @@
-use Rattle.std.proofs.Common.{◌≡◌, sym, ◌∙◌}
+use Rattle.std.proofs.Common.{◌≡◌}
 use Rattle.std.specs.Str.{chars}
 use Rattle.tv_cells.proofs.Marks.{if_none, unmarkable, split_not_free}
 use Rattle.tv_cells.proofs.hot_text.take_apart.Goals as goal
@@ -21,8 +21,8 @@ returns-else-is_ascii_alphanumeric-clause-none c =
     let two = c.in_ok-end.ensures.some in
     unmarkable _ _ c.in-Some.ensures.some (λ l a sound free e. elim c.else-is_ascii_alphanumeric.branch [
       | else-is_ascii_alphanumeric-via-then-is_ascii_alphanumeric+then-end-eq126+else-is_none w ↦
-        let same : chars c.in_ok-end.after.now ≡ a = cc in
-        split_not_free _ _ w.if-is_none.ensures w.split_tilde-then-end-eq126.ensures.some (rw same free)
+          let same : chars c.in_ok-end.after.now ≡ a = cc in
+          split_not_free _ _ w.if-is_none.ensures w.split_tilde-then-end-eq126.ensures.some (rw same free)
       | else-is_ascii_alphanumeric-via-then-is_ascii_alphanumeric+else-end-eq126 w ↦ let same : c.in_ok-end.end ≡ 126 = cc in w.if-end-eq126.false same
       | else-is_ascii_alphanumeric-via-else-is_ascii_alphanumeric w ↦ let value = w.if-is_ascii_alphanumeric.ensures.value in let same : c.in_ok-letter.letter ≡ l = cc in absurd cc
     ])
