@@ -2,7 +2,7 @@
 use Rattle.std.proofs.Common.{◌≡◌, ◌≢◌, ℕ, suc, ◌+◌, ◌<◌, List, [], ◌∷◌, ◌++◌, length, take, drop, get_or, Option, Some, None, Result, Ok, Err, IfErr, All, refl, sym, ap, add-one, length-append, arith}
 use Rattle.std.proofs.lemmas.List.Elements.{All-nil, All-cons, All-head, All-tail, All-append, All-take, All-drop}
 use Rattle.tv_cells.specs.Glyph.{IsNarrow}
-use Rattle.tv_cells.specs.HotText.{Hot, IsHot, IsAround, IsUnmarkable, Refuses, hot_of, letter_at, spelled}
+use Rattle.tv_cells.specs.HotText.{Hot, IsHot, IsAround, IsUnmarkable, Refuses, hot_of, char_at, spelled}
 use Rattle.tv_cells.specs.declared.hot_text.HotTextFault.{HotTextFault}
 use Rattle.tv_cells.specs.declared.hot_text.HotTextFault.TheVariants.{BadMark, TooLong}
 
@@ -54,7 +54,7 @@ refuse_at text wild hot None e is spell =
     wild.not_plain (rw same at is.free)
 refuse_at text wild hot (Some place) e is spell =
     let letter = rw e at is.letter in
-    wild.not_marked (take place hot.text) (letter_at hot.text place) (drop (place + 1) hot.text) (record {
+    wild.not_marked (take place hot.text) (char_at hot.text place) (drop (place + 1) hot.text) (record {
       whole = sym (rw e at spell);
       sound = letter.1;
       free_before = All-take (λ ch. ch ≢ 126) place hot.text is.free;

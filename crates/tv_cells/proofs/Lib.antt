@@ -9,3 +9,4 @@ pub mod Layering
 pub mod Tildes
 pub mod Marks
 pub mod Hots
+pub mod Unique

@@ -18,7 +18,7 @@ not_free [] ys h = All-head (λ ch. ch ≢ 126) 126 ys h refl
 not_free (x ∷ xs) ys h = not_free xs ys (All-tail (λ ch. ch ≢ 126) x (xs ++ 126 ∷ ys) h)
 
 -- the first `~` is one place
-first_tilde : (xs zs ys ws : List ℕ) → IsFree xs → IsFree zs → xs ++ 126 ∷ ys ≡ zs ++ 126 ∷ ws → (xs ≡ zs) × (ys ≡ ws)
+pub first_tilde : (xs zs ys ws : List ℕ) → IsFree xs → IsFree zs → xs ++ 126 ∷ ys ≡ zs ++ 126 ∷ ws → (xs ≡ zs) × (ys ≡ ws)
 first_tilde [] [] ys ws h k e = (refl, cc)
 first_tilde [] (z ∷ zs) ys ws h k e = let same : z ≡ 126 = cc in absurd (All-head (λ ch. ch ≢ 126) z zs k same)
 first_tilde (x ∷ xs) [] ys ws h k e = let same : x ≡ 126 = cc in absurd (All-head (λ ch. ch ≢ 126) x xs h same)

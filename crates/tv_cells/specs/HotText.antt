@@ -13,31 +13,34 @@ pub record Hot : Type 0 where
   pub place : Option ℕ
 
 -- the character at a place
-abbrev pub letter_at : List ℕ → ℕ → ℕ
-letter_at text place = slice_index_or text place 0
+abbrev pub char_at : List ℕ → ℕ → ℕ
+char_at text place = slice_index_or text place 0
 
 -- how it is written, with the marked letter between two `~`, which is 126
 abbrev pub spelled_at : List ℕ → Option ℕ → List ℕ
 spelled_at text None = text
-spelled_at text (Some place) = take place text ++ 126 ∷ letter_at text place ∷ 126 ∷ drop (place + 1) text
+spelled_at text (Some place) = take place text ++ 126 ∷ char_at text place ∷ 126 ∷ drop (place + 1) text
 
 abbrev pub spelled : Hot → List ℕ
 spelled hot = spelled_at hot.text hot.place
 
--- the key that a marked letter names
-abbrev pub key_at : List ℕ → Option ℕ → Option ℕ
-key_at text None = None
-key_at text (Some place) = Some (to_ascii_uppercase (letter_at text place))
+-- the marked letter in upper case
+abbrev pub letter_at : List ℕ → Option ℕ → Option ℕ
+letter_at text None = None
+letter_at text (Some place) = Some (to_ascii_uppercase (char_at text place))
+
+abbrev pub letter_of : Hot → Option ℕ
+letter_of hot = letter_at hot.text hot.place
 
 -- there is no other `~`, and what is marked is a letter or a digit
 pub record IsHot (hot : Hot) : Type 0 where
   pub narrow : All IsNarrow hot.text
   pub free : All (λ ch. ch ≢ 126) hot.text
-  pub letter : IfSome hot.place (λ place. (place < length hot.text) × IsTrue (is_ascii_alphanumeric (letter_at hot.text place)))
+  pub letter : IfSome hot.place (λ place. (place < length hot.text) × IsTrue (is_ascii_alphanumeric (char_at hot.text place)))
 
 -- when a text is refused, the first that holds
 abbrev pub Refuses : List ℕ → HotTextFault → Type 0
-Refuses text (BadWidth place) = (place < length text) × All IsNarrow (take place text) × (IsNarrow (letter_at text place) → ⊥)
+Refuses text (BadWidth place) = (place < length text) × All IsNarrow (take place text) × (IsNarrow (char_at text place) → ⊥)
 Refuses text BadMark = All IsNarrow text × ((hot : Hot) → IsHot hot → spelled hot ≡ text → ⊥)
 Refuses text TooLong = All IsNarrow text × (hot : Hot) × IsHot hot × (spelled hot ≡ text) × (120 < length hot.text)
 

@@ -3,7 +3,7 @@
 ghost use Rattle.std.specs.Prelude.{◌≡◌, ◌≢◌, ◌<◌, ◌≤◌, ◌+◌, ◌++◌, [], ◌∷◌, length, chars, All, IsTrue, IfOk, IfErr, IfSome, IfNone, OnOk, OnErr, ℕ};
 ghost use Rattle.std.specs.Char.{is_ascii_alphanumeric};
 ghost use Rattle.tv_cells.specs.Glyph.{IsNarrow};
-ghost use Rattle.tv_cells.specs.HotText.{Hot, IsApart, IsHot, IsUnmarkable, Refuses, hot_of, key_at, spelled, unmarked};
+ghost use Rattle.tv_cells.specs.HotText.{Hot, IsApart, IsHot, IsUnmarkable, Refuses, hot_of, letter_of, spelled, unmarked};
 
 use crate::cell::is_narrow;
 use arrayvec::ArrayVec;
@@ -50,6 +50,7 @@ impl HotText {
     pub fn parse(text: &str) -> Result<HotText, HotTextFault>
         ensures spelled { IfOk result (λ hot. spelled hot ≡ chars text.now) }
         ensures sound { IfOk result (λ hot. IsHot hot × (length hot.text ≤ 120)) }
+        ensures only { (hot : Hot) → IsHot hot → length hot.text ≤ 120 → spelled hot ≡ chars text.now → result ≡ Ok hot }
         ensures fault { IfErr result (λ fault. Refuses (chars text.now) fault) }
     {
         if let Some(place) = first_wide(text) {
@@ -97,9 +98,21 @@ impl HotText {
         })
     }
 
+    /// The same text again.
+    pub fn copy(&self) -> HotText
+        ensures { result ≡ self.now }
+    {
+        HotText {
+            text: ArrayVec::try_from(self.text.as_slice()).unwrap(),
+            place: self.place,
+        }
+    }
+
     /// The characters, without the mark.
     pub fn text(&self) -> &[char]
-        ensures { result.now ≡ self.now.text }
+        ensures value { result.now ≡ self.now.text }
+        ensures sound { IsHot self.now }
+        ensures within { length result.now ≤ 120 }
     {
         self.text.as_slice()
     }
@@ -111,9 +124,9 @@ impl HotText {
         self.place
     }
 
-    /// The key of the marked letter: the letter in upper case, or the digit.
-    pub fn key(&self) -> Option<char>
-        ensures { result ≡ key_at self.now.text self.now.place }
+    /// The marked letter in upper case, or the marked digit.
+    pub fn letter(&self) -> Option<char>
+        ensures { result ≡ letter_of self.now }
     {
         let place = self.place?;
         Some(self.text[place].to_ascii_uppercase())
