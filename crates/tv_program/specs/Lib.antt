@@ -4,4 +4,5 @@ pub mod Pen
 pub mod Performed
 pub mod Run
 pub mod ScreenText
+pub mod ThinSession
 pub mod Writer

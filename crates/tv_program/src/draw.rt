@@ -61,8 +61,8 @@ fn look_of(views: &[Node], focus: Id, node: &Node) -> ButtonLook
     }
 }
 
-// A number of columns or rows.
-fn natural(number: &i32) -> u32
+/// A number of columns or rows, 0 below it.
+pub(crate) fn natural(number: &i32) -> u32
     ensures { result ≡ natural number.now }
 {
     if *number < 0 { 0 } else { *number as u32 }

@@ -10,6 +10,7 @@ mod log;
 mod pen;
 mod run;
 mod script;
+mod session;
 mod shot;
 mod stage;
 mod writer;
