@@ -7,5 +7,6 @@ pub mod Pieces
 pub mod Ranges
 pub mod Runs
 pub mod Screens
+pub mod Sessions
 pub mod Thin
 pub mod Writing
