@@ -1,4 +1,5 @@
 pub mod Areas
-pub mod MarkedLetters
 pub mod ManyKinds
+pub mod MarkedLetters
+pub mod Ordered
 pub mod Sound

@@ -12,9 +12,9 @@ any_in_all p f (x ∷ xs) = list_any-append p (f x) (flat_map f xs) ∙ ap (λ b
 
 -- a line of one letter
 pub marked_before : (letters : List ℕ) (letter : ℕ) (before : List Node) (result : Bool) → letter ∷ [] ≡ letters
-  → result ≡ list_any (λ node. list_any (λ other. other == letter) (letters_of node.kind)) before
-  → result ≡ list_any (λ pair. list_any (λ given. given == pair.1) pair.0) (after_seen (flat_map (λ other. letters_of other.kind) before) letters)
+    → result ≡ list_any (λ node. list_any (λ other. other == letter) (letters_of node.kind)) before
+    → result ≡ list_any (λ pair. list_any (λ given. given == pair.1) pair.0) (after_seen (flat_map (λ other. letters_of other.kind) before) letters)
 marked_before letters letter before result e r =
-  r ∙ sym (any_in_all (λ other. other == letter) (λ node. letters_of node.kind) before)
+    r ∙ sym (any_in_all (λ other. other == letter) (λ node. letters_of node.kind) before)
     ∙ sym (or-false _)
     ∙ ap (λ all. list_any (λ pair. list_any (λ given. given == pair.1) pair.0) (after_seen (flat_map (λ other. letters_of other.kind) before) all)) e

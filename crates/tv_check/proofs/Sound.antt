@@ -3,7 +3,9 @@ use Rattle.std.proofs.Common.{◌≡◌, ℕ, zero, suc, ◌<◌, ◌≤◌, ◌
 use Rattle.std.specs.List.{All, list_any}
 use Rattle.std.proofs.lemmas.Bool.{and_parts, not-false, leb-true, eqb-false, cases_lt, true≢false}
 use Rattle.std.proofs.lemmas.List.{append-nil, get_or-take, length-take-le}
-use Rattle.std.proofs.lemmas.List.Elements.{All-nil, All-cons}
+use Rattle.std.proofs.lemmas.List.Elements.{All-nil, All-cons, All-head, All-same}
+use Rattle.std.proofs.Math.Bool.{or-false}
+use Rattle.tv_model.specs.Thin.{IsThin}
 use Rattle.tv_cells.specs.Glyph.{is_narrow}
 use Rattle.tv_model.specs.declared.node.Node.{Node}
 use Rattle.tv_model.specs.declared.desc.Desc.{Desc}
@@ -45,7 +47,7 @@ kept_nil false x xs e = (refl, e)
 none_of : {A : Type 0} (p : A → Bool) (xs : List A) → list_any p xs ≡ false → All (λ x. p x ≡ false) xs
 none_of p [] e = All-nil (λ x. p x ≡ false)
 none_of p (x ∷ xs) e = let f : (p x ≡ false) × (list_any p xs ≡ false) = or_parts (p x) (list_any p xs) e in
-  All-cons (λ x. p x ≡ false) x xs f.0 (none_of p xs f.1)
+    All-cons (λ x. p x ≡ false) x xs f.0 (none_of p xs f.1)
   where
     or_parts : (a b : Bool) → (a || b) ≡ false → (a ≡ false) × (b ≡ false)
     or_parts true b e = absurd (true≢false e)
@@ -55,12 +57,12 @@ none_of p (x ∷ xs) e = let f : (p x ≡ false) × (list_any p xs ≡ false) = 
 
 -- no pair of an item and those before it passes
 where_none : {A : Type 0} (p : List A → A → Bool) (seen xs : List A) → filter (λ pair. p pair.0 pair.1) (after_seen seen xs) ≡ []
-  → (i : ℕ) (d : A) → i < length xs → p (seen ++ take i xs) (get_or xs i d) ≡ false
+    → (i : ℕ) (d : A) → i < length xs → p (seen ++ take i xs) (get_or xs i d) ≡ false
 where_none p seen [] e i d less = absurd (omega arith)
 where_none p seen (x ∷ xs) e zero d less =
-  ap (λ before. p before x) (append-nil seen) ∙ (kept_nil (p seen x) (seen, x) (filter (λ pair. p pair.0 pair.1) (after_seen (seen ++ x ∷ []) xs)) e).0
+    ap (λ before. p before x) (append-nil seen) ∙ (kept_nil (p seen x) (seen, x) (filter (λ pair. p pair.0 pair.1) (after_seen (seen ++ x ∷ []) xs)) e).0
 where_none p seen (x ∷ xs) e (suc i) d less =
-  ap (λ before. p before (get_or xs i d)) (sym (append_assoc seen (x ∷ []) (take i xs)))
+    ap (λ before. p before (get_or xs i d)) (sym (append_assoc seen (x ∷ []) (take i xs)))
     ∙ where_none p (seen ++ x ∷ []) xs (kept_nil (p seen x) (seen, x) (filter (λ pair. p pair.0 pair.1) (after_seen (seen ++ x ∷ []) xs)) e).1 i d (omega arith)
 
 module _ (d : Desc) (sound : IsSound d) where
@@ -90,23 +92,23 @@ lacks kind d dialog e = record {
 
 between_says : (least greatest n : ℤ) → is_between least greatest n ≡ true → IsBetween least greatest n
 between_says least greatest n e = let f : (int_le least n ≡ true) × (int_le n greatest ≡ true) = and_parts (int_le least n) (int_le n greatest) e in
-  (le_says least n f.0, le_says n greatest f.1)
+    (le_says least n f.0, le_says n greatest f.1)
 
 pub lawful_says : (node : Node) → is_lawful node ≡ true → IsLimited node
 lawful_says node e =
-  let f : ((is_lawful_corner node && is_lawful_size node) ≡ true) × ((nat_le (length (text_of node.kind)) 120 && is_lawful_number (command_of node.kind)) ≡ true) = and_parts _ _ e in
-  let g : (is_lawful_corner node ≡ true) × (is_lawful_size node ≡ true) = and_parts _ _ f.0 in
-  let k : (nat_le (length (text_of node.kind)) 120 ≡ true) × (is_lawful_number (command_of node.kind) ≡ true) = and_parts _ _ f.1 in
-  let corner : (is_between (neg_ℤ (pos 132)) (pos 132) node.x ≡ true) × (is_between (neg_ℤ (pos 132)) (pos 132) node.y ≡ true) = and_parts _ _ g.0 in
-  let size : (is_between (least_width node.kind) (pos 132) node.w ≡ true) × (is_between (least_height node.kind) (pos 60) (height_of node.kind) ≡ true) = and_parts _ _ g.1 in
-  record {
-    x = between_says (neg_ℤ (pos 132)) (pos 132) node.x corner.0;
-    y = between_says (neg_ℤ (pos 132)) (pos 132) node.y corner.1;
-    w = between_says (least_width node.kind) (pos 132) node.w size.0;
-    h = between_says (least_height node.kind) (pos 60) (height_of node.kind) size.1;
-    text = leb-true (length (text_of node.kind)) 120 k.0;
-    command = k.1;
-  }
+    let f : ((is_lawful_corner node && is_lawful_size node) ≡ true) × ((nat_le (length (text_of node.kind)) 120 && is_lawful_number (command_of node.kind)) ≡ true) = and_parts _ _ e in
+    let g : (is_lawful_corner node ≡ true) × (is_lawful_size node ≡ true) = and_parts _ _ f.0 in
+    let k : (nat_le (length (text_of node.kind)) 120 ≡ true) × (is_lawful_number (command_of node.kind) ≡ true) = and_parts _ _ f.1 in
+    let corner : (is_between (neg_ℤ (pos 132)) (pos 132) node.x ≡ true) × (is_between (neg_ℤ (pos 132)) (pos 132) node.y ≡ true) = and_parts _ _ g.0 in
+    let size : (is_between (least_width node.kind) (pos 132) node.w ≡ true) × (is_between (least_height node.kind) (pos 60) (height_of node.kind) ≡ true) = and_parts _ _ g.1 in
+    record {
+      x = between_says (neg_ℤ (pos 132)) (pos 132) node.x corner.0;
+      y = between_says (neg_ℤ (pos 132)) (pos 132) node.y corner.1;
+      w = between_says (least_width node.kind) (pos 132) node.w size.0;
+      h = between_says (least_height node.kind) (pos 60) (height_of node.kind) size.1;
+      text = leb-true (length (text_of node.kind)) 120 k.0;
+      command = k.1;
+    }
 
 -- ---- a sound description can be used
 
@@ -127,13 +129,13 @@ and_false false b e t = absurd (true≢false (sym t))
 
 apart_says : (dialog : Dialog) → ((i : ℕ) (node : Node) → i < length dialog.views → view_has faults.Overlap dialog (take i dialog.views) (get_or dialog.views i node) ≡ false) → AreApart dialog.views
 apart_says dialog none i j node less within first second =
-  let before : List Node = take j dialog.views in
-  let later : Node = get_or dialog.views j node in
-  let clear : list_any (λ other. is_control other.kind && overlap (place_of_node other) (place_of_node later)) before ≡ false = and_false _ _ (none j node within) second in
-  let short : i < length before = omega (arith, length-take-le j dialog.views) in
-  let same : get_or before i node ≡ get_or dialog.views i node = get_or-take j dialog.views i node less in
-  let free : (is_control (get_or before i node).kind && overlap (place_of_node (get_or before i node)) (place_of_node later)) ≡ false = none_of (λ other. is_control other.kind && overlap (place_of_node other) (place_of_node later)) before clear i node short in
-  and_false _ _ (ap (λ other. is_control other.kind && overlap (place_of_node other) (place_of_node later)) (sym same) ∙ free) first
+    let before : List Node = take j dialog.views in
+    let later : Node = get_or dialog.views j node in
+    let clear : list_any (λ other. is_control other.kind && overlap (place_of_node other) (place_of_node later)) before ≡ false = and_false _ _ (none j node within) second in
+    let short : i < length before = omega (arith, length-take-le j dialog.views) in
+    let same : get_or before i node ≡ get_or dialog.views i node = get_or-take j dialog.views i node less in
+    let free : (is_control (get_or before i node).kind && overlap (place_of_node (get_or before i node)) (place_of_node later)) ≡ false = none_of (λ other. is_control other.kind && overlap (place_of_node other) (place_of_node later)) before clear i node short in
+    and_false _ _ (ap (λ other. is_control other.kind && overlap (place_of_node other) (place_of_node later)) (sym same) ∙ free) first
 
 few_of : (views : List Node) (p : Node → Bool) → ((i : ℕ) (node : Node) → i < length views → (p (get_or views i node) || (length (take i views) == 64)) ≡ false) → length views ≤ 64
 few_of [] p none = omega arith
@@ -146,7 +148,7 @@ few_says : (dialog : Dialog) → ((i : ℕ) (node : Node) → i < length dialog.
 few_says dialog none = few_of dialog.views (λ node. not (is_lawful node)) none
 
 usable_dialog : (d : Desc) (dialog : Dialog) → Lacks faults.OutsideOwner d dialog → Lacks faults.Overlap d dialog → Lacks faults.NothingToFocus d dialog → Lacks faults.MissingEnd d dialog
-  → Lacks faults.WideCharacter d dialog → Lacks faults.OutsideLimits d dialog → IsUsableDialog d dialog
+    → Lacks faults.WideCharacter d dialog → Lacks faults.OutsideLimits d dialog → IsUsableDialog d dialog
 usable_dialog d dialog outside over focus end wide limits = record {
   nodes = All-cons IsLimited dialog.node dialog.views (lawful_says dialog.node (not-false (is_lawful dialog.node) limits.head)) (λ i node less. lawful_says (get_or dialog.views i node) (not-false (is_lawful (get_or dialog.views i node)) (or_left _ _ (limits.each i node less))));
   few = few_says dialog limits.each;
@@ -163,17 +165,28 @@ starts d none name e = not-false (list_any (is_named name) d.dialogs) (if_nil (n
 
 pub sound_says : (d : Desc) → IsSound d → IsUsable d
 sound_says d sound =
-  let screen : is_lawful_screen d ≡ true = not-false (is_lawful_screen d) (if_nil (not (is_lawful_screen d)) 2 (no_head d sound faults.OutsideLimits (no_lines d sound 7 (omega arith)))) in
-  let sides : (is_between (pos 20) (pos 132) d.width ≡ true) × (is_between (pos 10) (pos 60) d.height ≡ true) = and_parts _ _ screen in
-  record {
-    width = between_says (pos 20) (pos 132) d.width sides.0;
-    height = between_says (pos 10) (pos 60) d.height sides.1;
-    dialogs = λ i dialog less. usable_dialog d (get_or d.dialogs i dialog)
-      (lacks faults.OutsideOwner d (get_or d.dialogs i dialog) (no_dialog d sound faults.OutsideOwner (no_lines d sound 1 (omega arith)) i dialog less))
-      (lacks faults.Overlap d (get_or d.dialogs i dialog) (no_dialog d sound faults.Overlap (no_lines d sound 2 (omega arith)) i dialog less))
-      (lacks faults.NothingToFocus d (get_or d.dialogs i dialog) (no_dialog d sound faults.NothingToFocus (no_lines d sound 4 (omega arith)) i dialog less))
-      (lacks faults.MissingEnd d (get_or d.dialogs i dialog) (no_dialog d sound faults.MissingEnd (no_lines d sound 5 (omega arith)) i dialog less))
-      (lacks faults.WideCharacter d (get_or d.dialogs i dialog) (no_dialog d sound faults.WideCharacter (no_lines d sound 6 (omega arith)) i dialog less))
-      (lacks faults.OutsideLimits d (get_or d.dialogs i dialog) (no_dialog d sound faults.OutsideLimits (no_lines d sound 7 (omega arith)) i dialog less));
-    start = starts d (no_head d sound faults.BadOpening (no_lines d sound 8 (omega arith)));
-  }
+    let screen : is_lawful_screen d ≡ true = not-false (is_lawful_screen d) (if_nil (not (is_lawful_screen d)) 2 (no_head d sound faults.OutsideLimits (no_lines d sound 7 (omega arith)))) in
+    let sides : (is_between (pos 20) (pos 132) d.width ≡ true) × (is_between (pos 10) (pos 60) d.height ≡ true) = and_parts _ _ screen in
+    record {
+      width = between_says (pos 20) (pos 132) d.width sides.0;
+      height = between_says (pos 10) (pos 60) d.height sides.1;
+      dialogs = λ i dialog less. usable_dialog d (get_or d.dialogs i dialog)
+          (lacks faults.OutsideOwner d (get_or d.dialogs i dialog) (no_dialog d sound faults.OutsideOwner (no_lines d sound 1 (omega arith)) i dialog less))
+          (lacks faults.Overlap d (get_or d.dialogs i dialog) (no_dialog d sound faults.Overlap (no_lines d sound 2 (omega arith)) i dialog less))
+          (lacks faults.NothingToFocus d (get_or d.dialogs i dialog) (no_dialog d sound faults.NothingToFocus (no_lines d sound 4 (omega arith)) i dialog less))
+          (lacks faults.MissingEnd d (get_or d.dialogs i dialog) (no_dialog d sound faults.MissingEnd (no_lines d sound 5 (omega arith)) i dialog less))
+          (lacks faults.WideCharacter d (get_or d.dialogs i dialog) (no_dialog d sound faults.WideCharacter (no_lines d sound 6 (omega arith)) i dialog less))
+          (lacks faults.OutsideLimits d (get_or d.dialogs i dialog) (no_dialog d sound faults.OutsideLimits (no_lines d sound 7 (omega arith)) i dialog less));
+      start = starts d (no_head d sound faults.BadOpening (no_lines d sound 8 (omega arith)));
+    }
+
+-- ---- a description of one dialog
+
+pub only_dialog : (d : Desc) (dialog : Dialog) → d.dialogs ≡ dialog ∷ [] → IsUsable d → IsUsableDialog d dialog
+only_dialog d dialog only usable = All-head (IsUsableDialog d) dialog [] (All-same (IsUsableDialog d) (dialog ∷ []) d.dialogs (sym only) usable.dialogs)
+
+pub only_start : (d : Desc) (dialog : Dialog) → d.dialogs ≡ dialog ∷ [] → IsUsable d → (name : List ℕ) → d.start ≡ Some name → is_named name dialog ≡ true
+only_start d dialog only usable name starts = sym (or-false (is_named name dialog)) ∙ ap (list_any (is_named name)) (sym only) ∙ usable.start name starts
+
+pub sound_thin : (d : Desc) (thin : IsThin d) → IsSound d → IsUsableDialog d thin.dialog
+sound_thin d thin sound = only_dialog d thin.dialog thin.only (sound_says d sound)

@@ -29,8 +29,8 @@ IsNarrowNode node = All (λ ch. is_narrow ch ≡ true) (shown_chars node.kind)
 -- no two controls have a point in common
 abbrev pub AreApart : List Node → Type 0
 AreApart views = (i j : ℕ) (d : Node) → i < j → j < length views
-  → is_control (slice_index_or views i d).kind ≡ true → is_control (slice_index_or views j d).kind ≡ true
-  → overlap (place_of_node (slice_index_or views i d)) (place_of_node (slice_index_or views j d)) ≡ false
+    → is_control (slice_index_or views i d).kind ≡ true → is_control (slice_index_or views j d).kind ≡ true
+    → overlap (place_of_node (slice_index_or views i d)) (place_of_node (slice_index_or views j d)) ≡ false
 
 -- a dialog that can be shown, focused and cancelled
 pub record IsUsableDialog (d : Desc) (dialog : Dialog) : Type 0 where

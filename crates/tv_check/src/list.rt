@@ -4,6 +4,7 @@ ghost use Rattle.std.specs.Prelude.{◌≡◌, [], ◌++◌, map, IfOk, OnOk};
 ghost use Rattle.std.specs.List.{list_any};
 ghost use Rattle.tv_model.specs.Faults.{dialog_lines, fault_at, faults_at, faults_of, head_lines, line_if, lines_where, start_lines, view_has};
 ghost use Rattle.tv_model.specs.Step.{is_named};
+ghost use Rattle.tv_check.specs.Order.{AreInOrder, AreLinesRising};
 ghost use Rattle.tv_check.specs.Usable.{IsUsable};
 
 use crate::dialogs::dialog_has;
@@ -27,7 +28,12 @@ const KINDS: [FaultKind; 9] = [
 ];
 
 // Adds the fault of the line if it is one.
-fn add_if(found: &mut Sequence<Fault>, is_fault: bool, kind: FaultKind, line: u32) -> Result<(), AllocError>
+fn add_if(
+    found: &mut Sequence<Fault>,
+    is_fault: bool,
+    kind: FaultKind,
+    line: u32,
+) -> Result<(), AllocError>
     ensures { OnOk result (found.new ≡ found.old ++ map (fault_at kind) (line_if is_fault line)) }
 {
     if is_fault {
@@ -37,21 +43,40 @@ fn add_if(found: &mut Sequence<Fault>, is_fault: bool, kind: FaultKind, line: u3
 }
 
 // Adds the views of the dialog that have the fault.
-fn add_views(found: &mut Sequence<Fault>, kind: FaultKind, dialog: &Dialog) -> Result<(), AllocError>
+fn add_views(
+    found: &mut Sequence<Fault>,
+    kind: FaultKind,
+    dialog: &Dialog,
+) -> Result<(), AllocError>
     ensures { OnOk result (found.new ≡ found.old ++ map (fault_at kind) (lines_where (view_has kind dialog.now) [] dialog.now.views)) }
 {
     let views = dialog.views.as_slice();
     for (i, node) in views.iter().enumerate() {
-        add_if(found, view_has(kind, dialog, &views[..i], node), kind, node.id.0)?;
+        add_if(
+            found,
+            view_has(kind, dialog, &views[..i], node),
+            kind,
+            node.id.0,
+        )?;
     }
     Ok(())
 }
 
 // Adds the dialog and its views that have the fault.
-fn add_dialog(found: &mut Sequence<Fault>, kind: FaultKind, desc: &Desc, dialog: &Dialog) -> Result<(), AllocError>
+fn add_dialog(
+    found: &mut Sequence<Fault>,
+    kind: FaultKind,
+    desc: &Desc,
+    dialog: &Dialog,
+) -> Result<(), AllocError>
     ensures { OnOk result (found.new ≡ found.old ++ map (fault_at kind) (dialog_lines kind desc.now dialog.now)) }
 {
-    add_if(found, dialog_has(kind, desc, dialog), kind, dialog.node.id.0)?;
+    add_if(
+        found,
+        dialog_has(kind, desc, dialog),
+        kind,
+        dialog.node.id.0,
+    )?;
     add_views(found, kind, dialog)
 }
 
@@ -107,6 +132,7 @@ fn add_kind(found: &mut Sequence<Fault>, kind: FaultKind, desc: &Desc) -> Result
 /// The faults of the description, by number and then by line.
 pub fn faults(alloc: Global, desc: &Desc) -> Result<Sequence<Fault>, AllocError>
     ensures value { IfOk result (λ list. list ≡ faults_of desc.now) }
+    ensures order { AreLinesRising desc.now → IfOk result AreInOrder }
     ensures sound { IfOk result (λ list. list ≡ [] → IsUsable desc.now) }
 {
     let mut found = Sequence::new(alloc);

@@ -1,6 +1,8 @@
-use Rattle.std.proofs.Common.{◌≡◌, rules, sym, ◌∙◌}
+use Rattle.std.proofs.Common.{◌≡◌, rules, sym, subst, ◌∙◌}
 use Rattle.tv_model.specs.Faults.{all_kinds, faults_at, faults_of}
 use Rattle.tv_check.proofs.ManyKinds.{more_found}
+use Rattle.tv_check.specs.Order.{AreInOrder}
+use Rattle.tv_check.proofs.Ordered.{in_order}
 use Rattle.tv_check.proofs.Sound.{sound_says}
 use Rattle.tv_check.proofs.list.faults.Goals as goal
 
@@ -10,3 +12,6 @@ loop-kind-preserved c =
 
 pub returns-clause-sound : goal.returns-clause-sound
 returns-clause-sound c = let list : c.loop-kind.found ≡ faults_of c.args.desc.now = search rules in λ none. sound_says c.args.desc.now (sym list ∙ none)
+
+pub returns-clause-order : goal.returns-clause-order
+returns-clause-order c rising = let list : c.loop-kind.found ≡ faults_of c.args.desc.now = search rules in subst AreInOrder (sym list) (in_order c.args.desc.now rising)
