@@ -23,7 +23,7 @@ use Rattle.tv_program.specs.ThinSession.{state_over, state_in, IsStaged}
 abbrev fresh : Run
 fresh = record { focus = None; is_saved = false; log = [] }
 
-some_free_at : (view : Node) (views : List Node) (b : Bool) → (list_any (λ node. is_control node.kind) views ≡ true → IsSome (find is_free views)) → cond b true (list_any (λ node. is_control node.kind) views) ≡ true → IsSome (cond b (Some view) (find is_free views))
+some_free_at : (view : Node) (views : List Node) (b : Bool) → (list_any (λ node. is_control node.kind) views ≡ true → IsSome (find is_free views)) → (b || list_any (λ node. is_control node.kind) views) ≡ true → IsSome (cond b (Some view) (find is_free views))
 some_free_at view views true more e = refl
 some_free_at view views false more e = more e
 

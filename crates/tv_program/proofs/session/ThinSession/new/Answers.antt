@@ -1,4 +1,4 @@
-use Rattle.std.proofs.Common.{ap}
+use Rattle.std.proofs.Common.{ap, ◌∙◌}
 use Rattle.tv_model.specs.Session.{Session}
 use Rattle.tv_model.specs.State.{State}
 use Rattle.tv_program.proofs.Sessions.{screen_size, always_safe, started_is, safe_start}
@@ -12,7 +12,7 @@ returns-in_err-screen-clause-safe c = always_safe c.args.desc c.requires.thin.di
 
 pub invariant_of-result : goal.invariant_of-result
 invariant_of-result c =
-    let start = started_is c.args.desc c.only_dialog.result.now c.only_dialog.ensures c.requires.thin c.requires.sound c.start-run.result c.start-run.ensures.opened c.start-run.ensures.closed in
+    let start = started_is c.args.desc c.only_dialog.result.now c.only_dialog.ensures c.requires.thin c.requires.sound c.start-run.result (λ e. c.start-run.ensures.opened (c.is_some.ensures ∙ e)) (λ e. c.start-run.ensures.closed (c.is_some.ensures ∙ e)) in
     record {
       thin = c.requires.thin;
       sound = c.requires.sound;
@@ -22,7 +22,9 @@ invariant_of-result c =
     }
 
 pub returns-clause-start : goal.returns-clause-start
-returns-clause-start c = ?
+returns-clause-start c =
+    ap (λ (s : State). record { desc = c.args.desc; state = s })
+      (started_is c.args.desc c.only_dialog.result.now c.only_dialog.ensures c.requires.thin c.requires.sound c.start-run.result (λ e. c.start-run.ensures.opened (c.is_some.ensures ∙ e)) (λ e. c.start-run.ensures.closed (c.is_some.ensures ∙ e)))
 
 pub returns-clause-safe : goal.returns-clause-safe
 returns-clause-safe c = always_safe c.args.desc c.requires.thin.dialog c.requires.thin.only c.requires.thin c.requires.sound
