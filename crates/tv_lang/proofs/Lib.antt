@@ -1,0 +1,4 @@
+pub mod LineLemmas
+pub mod ScanLemmas
+pub mod WordLaws
+pub mod LineWords

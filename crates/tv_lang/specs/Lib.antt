@@ -1,0 +1,5 @@
+pub mod Words
+pub mod Lines
+pub mod LinesLeft
+pub mod Steps
+pub mod Scan
