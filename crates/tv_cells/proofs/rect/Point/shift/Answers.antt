@@ -1,0 +1,7 @@
+use Rattle.std.proofs.Common.{arith}
+use Rattle.std.proofs.lemmas.Int.{ints}
+use Rattle.tv_cells.proofs.Rectangles.{point_is}
+use Rattle.tv_cells.proofs.rect.Point.shift.Goals as goal
+
+pub returns : goal.returns
+returns c = point_is _ _ _ _ (omega (arith, ints)) (omega (arith, ints))

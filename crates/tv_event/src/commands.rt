@@ -1,0 +1,53 @@
+//! Sets of commands.
+
+ghost use Rattle.std.specs.Prelude.{◌≡◌, ◌↔◌, ◌≢◌, ℕ, ◌<◌, ◌^◌, IsTrue};
+ghost use Rattle.tv_event.specs.Commands.{Has};
+
+use crate::event::Command;
+use std::marker::Model;
+
+/// A set of commands, as the enabled ones. Contracts ask it which numbers it has.
+#[derive(Debug, Drop)]
+pub struct CommandSet {
+    has: [bool; 256],
+}
+
+impl Model for CommandSet {
+    ghost use Rattle.std.specs.Prelude.{Bool, List};
+
+    ghost Value = { List Bool };
+
+    ghost view = { λ s. s.has };
+}
+
+impl CommandSet {
+    /// Every command.
+    pub fn all() -> CommandSet
+        ensures { (number : ℕ) → number < 256 → Has result number }
+    {
+        CommandSet { has: [true; 256] }
+    }
+
+    /// Whether the command is in the set.
+    pub fn has(&self, command: Command) -> bool
+        ensures { IsTrue result ↔ Has self.now command.0 }
+    {
+        self.has[command.0 as usize]
+    }
+
+    /// Puts the command into the set.
+    pub fn enable(&mut self, command: Command)
+        ensures added { Has self.new command.0 }
+        ensures others { (other : ℕ) → other ≢ command.0 → (Has self.new other ↔ Has self.old other) }
+    {
+        self.has[command.0 as usize] = true;
+    }
+
+    /// Takes the command out of the set.
+    pub fn disable(&mut self, command: Command)
+        ensures removed { ¬ Has self.new command.0 }
+        ensures others { (other : ℕ) → other ≢ command.0 → (Has self.new other ↔ Has self.old other) }
+    {
+        self.has[command.0 as usize] = false;
+    }
+}

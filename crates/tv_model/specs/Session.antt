@@ -1,0 +1,21 @@
+-- A session: its description and its state.
+use Rattle.tv_event.specs.declared.event.Event.{Event}
+use Rattle.tv_model.specs.declared.desc.Desc.{Desc}
+use Rattle.tv_model.specs.State.{State}
+use Rattle.tv_model.specs.Step.{step, emptied, start}
+
+pub record Session : Type 0 where
+  pub desc : Desc
+  pub state : State
+
+-- before the first event
+abbrev pub started : Desc → Session
+started d = record { desc = d; state = start d }
+
+-- after one event
+abbrev pub stepped : Session → Event → Session
+stepped s e = record { desc = s.desc; state = step s.desc s.state e }
+
+-- its log was taken
+abbrev pub quiet : Session → Session
+quiet s = record { desc = s.desc; state = emptied s.state }

@@ -1,0 +1,216 @@
+-- The step of the flat machine, and its start.
+use Rattle.std.specs.Prelude.{ℕ, Bool, false, ◌&&◌, ◌||◌, List, [], ◌∷◌, ◌++◌, map, reverse, find, position, length, take, drop, replicate, slice_get, slice_set, Option, Some, None, option_map, unwrap_or, ◌+◌, ◌==◌, nat_le, if◌then◌else◌, bytes_eq}
+use Rattle.std.specs.Option.{option_or}
+use Rattle.tv_event.specs.declared.event.Event.{Event}
+use Rattle.tv_event.specs.declared.event.Event.TheVariants as events
+use Rattle.tv_event.specs.declared.event.Key.{Key}
+use Rattle.tv_event.specs.declared.event.Key.TheVariants as keys
+use Rattle.tv_model.specs.declared.node.Id.{Id}
+use Rattle.tv_model.specs.declared.node.Node.{Node}
+use Rattle.tv_model.specs.declared.node.Kind.{Kind}
+use Rattle.tv_model.specs.declared.node.Kind.TheVariants as kinds
+use Rattle.tv_model.specs.declared.node.Ends.{Ends}
+use Rattle.tv_model.specs.declared.node.CommandSpec.{CommandSpec}
+use Rattle.tv_model.specs.declared.node.CommandSpec.TheVariants as commands
+use Rattle.tv_model.specs.declared.desc.Desc.{Desc}
+use Rattle.tv_model.specs.declared.desc.Dialog.{Dialog}
+use Rattle.tv_model.specs.declared.record.Entry.{Entry}
+use Rattle.tv_model.specs.declared.log.LogLine.{LogLine}
+use Rattle.tv_model.specs.declared.log.LogLine.TheVariants as lines
+use Rattle.tv_model.specs.Nodes.{name_of, is_control, is_button, has_id, node_of}
+use Rattle.tv_model.specs.State.{State, OpenDialog, natural, declared_leaves, fields_of}
+
+-- ---- free controls
+
+-- free to focus: a control. No rule hides or disables one yet
+abbrev pub is_free : Node → Bool
+is_free node = is_control node.kind
+
+abbrev pub is_free_node : Option Node → Bool
+is_free_node None = false
+is_free_node (Some node) = is_free node
+
+-- whether the view of the id is free to focus
+abbrev pub is_free_at : List Node → Id → Bool
+is_free_at views i = is_free_node (node_of views i)
+
+abbrev pub first_free : List Node → Option Id
+first_free views = option_map (λ node. node.id) (find is_free views)
+
+abbrev pub last_free : List Node → Option Id
+last_free views = first_free (reverse views)
+
+-- the views before the one of the id, and those after it
+abbrev pub place_of : List Node → Id → ℕ
+place_of views i = unwrap_or (position (has_id i) views) (length views)
+
+abbrev pub before : List Node → Id → List Node
+before views i = take (place_of views i) views
+
+abbrev pub after : List Node → Id → List Node
+after views i = drop (place_of views i + 1) views
+
+-- the next free control after the focus, and the previous one before it, cyclically; the focus where it alone is free
+abbrev pub next_free : List Node → Id → Id
+next_free views focus = unwrap_or (option_or (first_free (after views focus)) (first_free (before views focus))) focus
+
+abbrev pub previous_free : List Node → Id → Id
+previous_free views focus = unwrap_or (option_or (last_free (before views focus)) (last_free (after views focus))) focus
+
+-- ---- the log and the open dialog
+
+abbrev pub emptied : State → State
+emptied s = record s { log = [] }
+
+abbrev pub logged : State → LogLine → State
+logged s line = record s { log = s.log ++ line ∷ [] }
+
+abbrev pub with_dialog : State → OpenDialog → State
+with_dialog s o = record s { dialog = Some o }
+
+-- a focus request: nothing for the focus itself or for what isn't free, else the focus moves
+abbrev pub request : Dialog → State → OpenDialog → Id → State
+request d s o to =
+    if to.0 == o.focus.0 then s else if is_free_at d.views to then logged (with_dialog s (record o { focus = to })) (lines.Focus to) else s
+
+-- ---- commands
+
+abbrev pub command_number : CommandSpec → ℕ
+command_number commands.Quit = 1
+command_number commands.Menu = 3
+command_number commands.Close = 4
+command_number commands.Next = 7
+command_number commands.Ok = 10
+command_number commands.Cancel = 11
+command_number commands.Yes = 12
+command_number commands.No = 13
+command_number (commands.Number n) = natural n
+
+abbrev pub no_ends : Ends
+no_ends = record { ok = false; cancel = false; yes = false; no = false }
+
+abbrev pub ends_of : Kind → Ends
+ends_of (kinds.Dialog name h title opens ends) = ends
+ends_of _ = no_ends
+
+-- whether the command is one of `ok`, `yes` and `no` that the dialog declares
+abbrev pub is_declared : Ends → ℕ → Bool
+is_declared ends number = ((number == 10) && ends.ok) || (((number == 12) && ends.yes) || ((number == 13) && ends.no))
+
+abbrev pub field_line : Entry → LogLine
+field_line entry = lines.Field entry.id entry.value
+
+-- the dialog ends: the command and the fields are logged, and unless it is `cancel` the record is saved
+abbrev pub ended : Dialog → State → OpenDialog → ℕ → State
+ended d s o number = record s {
+  dialog = None;
+  saved = if number == 11 then s.saved else slice_set s.saved o.place (Some (fields_of o.leaves));
+  log = s.log ++ lines.End d.node.id (record { 0 = number }) ∷ map field_line (fields_of o.leaves);
+}
+
+-- a command while a dialog is open: `close` is taken as `cancel`; without inputs every declared end is granted
+abbrev pub command : Dialog → State → OpenDialog → ℕ → State
+command d s o number =
+    if (number == 4) || (number == 11) then ended d s o 11
+    else if is_declared (ends_of d.node.kind) number then ended d s o number
+    else if nat_le 100 number then logged s (lines.Command number)
+    else s
+
+-- ---- keys
+
+-- a button is pressed: the press is logged, and then its command is handled
+abbrev pub press_node : Dialog → State → OpenDialog → Option Node → State
+press_node d s o None = s
+press_node d s o (Some node) = pressed node.kind
+  where
+    pressed : Kind → State
+    pressed (kinds.Button name text spec is_default grabs) = command d (logged s (lines.Press node.id)) o (command_number spec)
+    pressed _ = s
+
+abbrev pub press : Dialog → State → OpenDialog → Id → State
+press d s o i = press_node d s o (node_of d.views i)
+
+abbrev pub is_button_node : Option Node → Bool
+is_button_node None = false
+is_button_node (Some node) = is_button node.kind
+
+abbrev pub is_default : Node → Bool
+is_default node = declared node.kind
+  where
+    declared : Kind → Bool
+    declared (kinds.Button name text spec default grabs) = default
+    declared _ = false
+
+-- the Enter target: the focus if it is a button, else the declared default button
+abbrev pub enter_target : List Node → Id → Option Node
+enter_target views focus = if is_button_node (node_of views focus) then node_of views focus else find is_default views
+
+-- a key while a dialog is open. Of the characters a space presses a focused button
+abbrev pub key : Dialog → State → OpenDialog → Key → State
+key d s o keys.Tab = request d s o (next_free d.views o.focus)
+key d s o keys.ShiftTab = request d s o (previous_free d.views o.focus)
+key d s o keys.Esc = command d s o 11
+key d s o keys.Enter = press_node d s o (enter_target d.views o.focus)
+key d s o (keys.Char ch) = if ch == 32 then press d s o o.focus else s
+key d s o _ = s
+
+abbrev pub key_event : Dialog → State → OpenDialog → Event → State
+key_event d s o (events.Key k) = key d s o k
+key_event d s o _ = s
+
+-- ---- the step
+
+abbrev pub in_dialog : State → OpenDialog → Event → Option Dialog → State
+in_dialog s o e None = s
+in_dialog s o e (Some d) = key_event d s o e
+
+abbrev pub at_dialog : Desc → State → Event → Option OpenDialog → State
+at_dialog d s e None = s
+at_dialog d s e (Some o) = in_dialog s o e (slice_get d.dialogs o.place)
+
+-- one event: the log is emptied; nothing more once the run is over; without a dialog a key does nothing
+abbrev pub step : Desc → State → Event → State
+step d s e = if s.is_over then emptied s else at_dialog d (emptied s) e s.dialog
+
+-- ---- the start
+
+-- a dialog opens with its declared values, on its first free control
+abbrev pub open_dialog : Dialog → ℕ → State → State
+open_dialog d place s = record s {
+  dialog = Some (record { place = place; leaves = declared_leaves d.views; focus = first; held = None });
+  log = s.log ++ lines.Open d.node.id ∷ lines.Focus first ∷ [];
+}
+  where
+    first : Id
+    first = unwrap_or (first_free d.views) d.node.id
+
+-- no dialog is open, and the later windows stand in front
+abbrev pub closed : Desc → State
+closed d = record {
+  is_over = false;
+  windows = reverse (map (λ window. window.node.id) d.windows);
+  menu = None;
+  dialog = None;
+  saved = replicate (length d.dialogs) None;
+  overwriting = [];
+  log = [];
+}
+
+abbrev pub is_named : List ℕ → Dialog → Bool
+is_named name d = bytes_eq (unwrap_or (name_of d.node.kind) []) name
+
+abbrev pub open_at : Desc → Option ℕ → State
+open_at d None = closed d
+open_at d (Some place) = opened (slice_get d.dialogs place)
+  where
+    opened : Option Dialog → State
+    opened None = closed d
+    opened (Some dialog) = open_dialog dialog place (closed d)
+
+-- the state before the first event: the start dialog is open, and that is logged
+abbrev pub start : Desc → State
+start d = started d.start
+  where
+    started : Option (List ℕ) → State
+    started None = closed d
+    started (Some name) = open_at d (position (is_named name) d.dialogs)

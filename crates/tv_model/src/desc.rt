@@ -1,0 +1,84 @@
+//! A description: its screen, menus, status items, windows and dialogs.
+
+use crate::node::{CommandSpec, Id, MarkedText, Node};
+use crate::sequence::Sequence;
+use tv_event::Key;
+use tv_valid::Chars;
+
+/// What a description text says, whether it is sound or not. Each list is in the order of the text.
+#[derive(Debug, Drop)]
+pub struct Desc {
+    /// Columns of the screen.
+    pub width: i32,
+    /// Rows of the screen.
+    pub height: i32,
+    /// The name of the dialog that is open at the start.
+    pub start: Option<Chars>,
+    pub menus: Sequence<Menu>,
+    pub status: Sequence<StatusItem>,
+    pub windows: Sequence<Window>,
+    pub dialogs: Sequence<Dialog>,
+}
+
+/// A menu of the bar.
+#[derive(Debug, Drop)]
+pub struct Menu {
+    pub id: Id,
+    pub title: MarkedText,
+    pub items: Sequence<MenuItem>,
+}
+
+/// An item of a menu.
+#[derive(Debug, Drop)]
+pub struct MenuItem {
+    pub id: Id,
+    pub text: MarkedText,
+    pub command: CommandSpec,
+}
+
+/// An item of the status line: its key gives its command.
+#[derive(Debug, Drop)]
+pub struct StatusItem {
+    pub id: Id,
+    pub text: Chars,
+    pub key: Key,
+    pub command: CommandSpec,
+}
+
+/// A window with its static texts.
+#[derive(Debug, Drop)]
+pub struct Window {
+    /// Its own node, of the kind `Window`.
+    pub node: Node,
+    pub views: Sequence<Node>,
+}
+
+/// A dialog with its views and rules.
+#[derive(Debug, Drop)]
+pub struct Dialog {
+    /// Its own node, of the kind `Dialog`.
+    pub node: Node,
+    /// Its views, panes opened out: what stands in a pane comes after it.
+    pub views: Sequence<Node>,
+    pub rules: Sequence<Rule>,
+}
+
+/// What holds while an item of a cluster is marked.
+#[derive(Debug, Drop)]
+pub struct Rule {
+    pub id: Id,
+    pub effect: Effect,
+    /// The name of the check boxes or radio buttons.
+    pub cluster: Chars,
+    /// The item, counted from 1.
+    pub item: i32,
+}
+
+/// What a rule does.
+#[derive(Debug, Drop)]
+pub enum Effect {
+    /// The control or pane of this name is shown only where the rule holds.
+    Show(Chars),
+    /// The command is enabled only where the rule holds.
+    Enable(CommandSpec),
+}
