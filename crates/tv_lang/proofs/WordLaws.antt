@@ -12,7 +12,7 @@ use Rattle.tv_lang.specs.Words.{escaped, is_bare, Spaced}
 use Rattle.tv_lang.specs.Scan.{at, read_on}
 
 -- whether a character is this one
-is_or_not : (c d : ℕ) → (c ≡ d) ⊎ (c == d ≡ false)
+pub is_or_not : (c d : ℕ) → (c ≡ d) ⊎ (c == d ≡ false)
 is_or_not c d = elim (c == d) as (λ b. c == d ≡ b → (c ≡ d) ⊎ (c == d ≡ false)) [ true ↦ λ e. inl (eqb-true c d e) | false ↦ λ e. inr e ] refl
 
 -- what the characters after a mode say of the words that are still to come
@@ -91,30 +91,40 @@ module _ (cs : List ℕ) (later : (m : Mode) (ws all : List Word) → read_on (a
 
   one_more : (m : Mode) (c : ℕ) → is_control c ≡ false → read_on (at ws m) (c ∷ cs) ≡ Some all → Reads m (c ∷ cs) ws all
   one_more Between c k e = elim (is_or_not c 32) [
-      inl same ↦ rw same (between_space (rw same at e))
+    | inl same ↦ rw same (between_space (rw same at e))
     | inr a ↦ elim (is_or_not c 34) [
-        inl same ↦ rw same (between_quote (rw same at e))
-      | inr b ↦ between_other c a b (rw (a, b) at e) ] ]
+      | inl same ↦ rw same (between_quote (rw same at e))
+      | inr b ↦ between_other c a b (rw (a, b) at e)
+    ]
+  ]
   one_more (InBare t) c k e = elim (is_or_not c 32) [
-      inl same ↦ rw same (bare_space t (rw same at e))
+    | inl same ↦ rw same (bare_space t (rw same at e))
     | inr a ↦ elim (is_or_not c 34) [
-        inl same ↦ (let clash = rw same at e in absurd cc)
-      | inr b ↦ bare_other t c a b (rw (a, b) at e) ] ]
+      | inl same ↦ (let clash = rw same at e in absurd cc)
+      | inr b ↦ bare_other t c a b (rw (a, b) at e)
+    ]
+  ]
   one_more (InQuoted t) c k e = elim (is_or_not c 34) [
-      inl same ↦ rw same (quoted_quote t (rw same at e))
+    | inl same ↦ rw same (quoted_quote t (rw same at e))
     | inr a ↦ elim (is_or_not c 92) [
-        inl same ↦ rw same (later (InEscape t) ws all (rw same at e))
-      | inr b ↦ quoted_other t c a b (no_line_end c k) (rw (a, b) at e) ] ]
+      | inl same ↦ rw same (later (InEscape t) ws all (rw same at e))
+      | inr b ↦ quoted_other t c a b (no_line_end c k) (rw (a, b) at e)
+    ]
+  ]
   one_more (InEscape t) c k e = elim (is_or_not c 34) [
-      inl same ↦ rw same (escape t 34 34 refl (rw same at e))
+    | inl same ↦ rw same (escape t 34 34 refl (rw same at e))
     | inr a ↦ elim (is_or_not c 92) [
-        inl same ↦ rw same (escape t 92 92 refl (rw same at e))
+      | inl same ↦ rw same (escape t 92 92 refl (rw same at e))
       | inr b ↦ elim (is_or_not c 110) [
-          inl same ↦ rw same (escape t 110 10 refl (rw same at e))
-        | inr d ↦ (let clash = rw (a, b, d) at e in absurd cc) ] ] ]
+        | inl same ↦ rw same (escape t 110 10 refl (rw same at e))
+        | inr d ↦ (let clash = rw (a, b, d) at e in absurd cc)
+      ]
+    ]
+  ]
   one_more Closed c k e = elim (is_or_not c 32) [
-      inl same ↦ rw same (later Between ws all (rw same at e))
-    | inr a ↦ (let clash = rw a at e in absurd cc) ]
+    | inl same ↦ rw same (later Between ws all (rw same at e))
+    | inr a ↦ (let clash = rw a at e in absurd cc)
+  ]
 
 reads : (cs : List ℕ) → Clean cs → (m : Mode) (ws all : List Word) → read_on (at ws m) cs ≡ Some all → Reads m cs ws all
 reads [] clean Between ws all e = ([], (let same : ws ≡ all = cc in sym same ∙ sym (append-nil ws)), (1, refl))
@@ -163,12 +173,15 @@ Escape cs meant after = (c : ℕ) × (escaped meant ≡ 92 ∷ c ∷ []) × (cs 
 
 stands_as : (c : ℕ) (cs : List ℕ) (x : ℕ) (after : List ℕ) → c ∷ cs ≡ escaped x ++ after → ((c ≡ 92) × Escape cs x after) ⊎ ((c ≡ x) × Between_quotes c cs after)
 stands_as c cs x after e = elim (is_or_not x 34) [
-    inl same ↦ (let f = rw same at e in inl ((cc f), (34, rw same refl, (cc f), inl (refl, same))))
+  | inl same ↦ (let f = rw same at e in inl ((cc f), (34, rw same refl, (cc f), inl (refl, same))))
   | inr a ↦ elim (is_or_not x 92) [
-      inl same ↦ (let f = rw same at e in inl ((cc f), (92, rw same refl, (cc f), inr (inl (refl, same)))))
+    | inl same ↦ (let f = rw same at e in inl ((cc f), (92, rw same refl, (cc f), inr (inl (refl, same)))))
     | inr b ↦ elim (is_or_not x 10) [
-        inl same ↦ (let f = rw same at e in inl ((cc f), (110, rw same refl, (cc f), inr (inr (refl, same)))))
-      | inr d ↦ (let f = rw (a, b, d) at e in let same : c ≡ x = cc f in inr (same, (rw same a, rw same b, (cc f)))) ] ] ]
+      | inl same ↦ (let f = rw same at e in inl ((cc f), (110, rw same refl, (cc f), inr (inr (refl, same)))))
+      | inr d ↦ (let f = rw (a, b, d) at e in let same : c ≡ x = cc f in inr (same, (rw same a, rw same b, (cc f))))
+    ]
+  ]
+]
 
 module _ (cs : List ℕ) (later : (m : Mode) (ws more : List Word) → Left m cs more → read_on (at ws m) cs ≡ Some (ws ++ more)) (ws : List Word) (c : ℕ) where
   -- the character belongs to the text between quotes, or begins an escape
@@ -178,8 +191,9 @@ module _ (cs : List ℕ) (later : (m : Mode) (ws more : List Word) → Left m cs
       let after : cs ≡ rest = cc f in
       rw (first, e, append-nil) (later Closed (ws ++ Quoted t ∷ []) vs (rw after sp) ∙ ap (λ x. Some x) (append_assoc ws (Quoted t ∷ []) vs))
   in_quotes t more (x ∷ u, rest, vs, e, f, sp) = elim (stands_as c cs x (flat_map escaped u ++ (34 ∷ rest)) (f ∙ append_assoc (escaped x) (flat_map escaped u) (34 ∷ rest))) [
-      inl h ↦ (let first : c ≡ 92 = h.0 in rw first (later (InEscape t) ws more (x ∷ u, rest, vs, e, (rw first at f), sp)))
-    | inr h ↦ (let same : c ≡ x = h.0 in rw (h.1.0, h.1.1) (later (InQuoted (t ++ c ∷ [])) ws more (u, rest, vs, e ∙ ap (λ y. Quoted y ∷ vs) (ap (λ y. t ++ y ∷ u) (sym same) ∙ sym (append_assoc t (c ∷ []) u)), h.1.2, sp))) ]
+    | inl h ↦ (let first : c ≡ 92 = h.0 in rw first (later (InEscape t) ws more (x ∷ u, rest, vs, e, (rw first at f), sp)))
+    | inr h ↦ (let same : c ≡ x = h.0 in rw (h.1.0, h.1.1) (later (InQuoted (t ++ c ∷ [])) ws more (u, rest, vs, e ∙ ap (λ y. Quoted y ∷ vs) (ap (λ y. t ++ y ∷ u) (sym same) ∙ sym (append_assoc t (c ∷ []) u)), h.1.2, sp)))
+  ]
 
   meant_by : (t : List ℕ) (more : List Word) (x : ℕ) (u rest : List ℕ) (vs : List Word) → more ≡ Quoted (t ++ x ∷ u) ∷ vs → cs ≡ flat_map escaped u ++ (34 ∷ rest) → Spaced rest vs → read_on (at ws (InQuoted (t ++ x ∷ []))) cs ≡ Some (ws ++ more)
   meant_by t more x u rest vs e f sp = later (InQuoted (t ++ x ∷ [])) ws more (u, rest, vs, e ∙ ap (λ y. Quoted y ∷ vs) (sym (append_assoc t (x ∷ []) u)), f, sp)
@@ -188,15 +202,18 @@ module _ (cs : List ℕ) (later : (m : Mode) (ws more : List Word) → Left m cs
   escaped_by : (b : ℕ) → b == 34 ≡ false → b ≡ 92 → (t : List ℕ) (more : List Word) (u rest : List ℕ) (vs : List Word) → more ≡ Quoted (t ++ u) ∷ vs → b ∷ c ∷ cs ≡ flat_map escaped u ++ (34 ∷ rest) → Spaced rest vs → read_on (at ws (InEscape t)) (c ∷ cs) ≡ Some (ws ++ more)
   escaped_by b other is t more [] rest vs e f sp = absurd (eqb-false b 34 other (cc f))
   escaped_by b other is t more (x ∷ u) rest vs e f sp = elim (stands_as b (c ∷ cs) x (flat_map escaped u ++ (34 ∷ rest)) (f ∙ append_assoc (escaped x) (flat_map escaped u) (34 ∷ rest))) [
-      inl h ↦ (let stands = h.1 in
+    | inl h ↦ (let stands = h.1 in
         let first : c ≡ stands.0 = cc stands.2 in
         let after : cs ≡ flat_map escaped u ++ (34 ∷ rest) = cc stands.2 in
         elim stands.3 [
-          inl is ↦ (let d : c ≡ 34 = first ∙ is.0 in rw d (meant_by t more 34 u rest vs (rw is.1 at e) after sp))
-        | inr others ↦ elim others [
-            inl is ↦ (let d : c ≡ 92 = first ∙ is.0 in rw d (meant_by t more 92 u rest vs (rw is.1 at e) after sp))
-          | inr is ↦ (let d : c ≡ 110 = first ∙ is.0 in rw d (meant_by t more 10 u rest vs (rw is.1 at e) after sp)) ] ])
-    | inr h ↦ absurd (eqb-false b 92 h.1.1 is) ]
+          | inl is ↦ (let d : c ≡ 34 = first ∙ is.0 in rw d (meant_by t more 34 u rest vs (rw is.1 at e) after sp))
+          | inr others ↦ elim others [
+            | inl is ↦ (let d : c ≡ 92 = first ∙ is.0 in rw d (meant_by t more 92 u rest vs (rw is.1 at e) after sp))
+            | inr is ↦ (let d : c ≡ 110 = first ∙ is.0 in rw d (meant_by t more 10 u rest vs (rw is.1 at e) after sp))
+          ]
+        ])
+    | inr h ↦ absurd (eqb-false b 92 h.1.1 is)
+  ]
 
   in_escape : (t : List ℕ) (more : List Word) → Left (InEscape t) (c ∷ cs) more → read_on (at ws (InEscape t)) (c ∷ cs) ≡ Some (ws ++ more)
   in_escape t more (u, rest, vs, e, f, sp) = escaped_by 92 refl refl t more u rest vs e f sp
@@ -255,8 +272,9 @@ ends_between (v ∷ vs) (suc n, rest, e, is, sp) = absurd (cc e)
 escape_ends : (b : ℕ) → b == 34 ≡ false → b ≡ 92 → (u rest : List ℕ) → b ∷ [] ≡ flat_map escaped u ++ (34 ∷ rest) → ⊥
 escape_ends b other is [] rest f = eqb-false b 34 other (cc f)
 escape_ends b other is (x ∷ u) rest f = elim (stands_as b [] x (flat_map escaped u ++ (34 ∷ rest)) (f ∙ append_assoc (escaped x) (flat_map escaped u) (34 ∷ rest))) [
-    inl h ↦ cc h.1.2
-  | inr h ↦ eqb-false b 92 h.1.1 is ]
+  | inl h ↦ cc h.1.2
+  | inr h ↦ eqb-false b 92 h.1.1 is
+]
 
 bare_ends : (u rest : List ℕ) → [] ≡ u ++ rest → (u ≡ []) × (rest ≡ [])
 bare_ends [] rest e = (refl, sym e)

@@ -1,10 +1,17 @@
 //! The language of descriptions and scripts: lines, their words, and what they spell.
 #![tactic(auto)]
 
+mod command;
 mod lines;
+mod marked;
+mod node;
+mod number;
+mod progress;
 mod scan;
 mod word;
+mod words;
 
 pub use lines::Lines;
 pub use scan::words_of;
-pub use word::{Word, Words};
+pub use word::Word;
+pub use words::Words;

@@ -7,7 +7,8 @@ ghost use Rattle.tv_lang.specs.declared.word.Word.{Word as SeenWord};
 ghost use Rattle.tv_lang.specs.Scan.{at, finished, read_on, take_char};
 ghost use Rattle.tv_lang.specs.Words.{is_comment, SpellsWords};
 
-use crate::word::{Word, Words};
+use crate::word::Word;
+use crate::words::Words;
 use std::alloc::{AllocError, Global};
 use tv_valid::Chars;
 

@@ -1,9 +1,13 @@
-//! Words of a line.
+//! A word of a line, and what it says in a declaration.
 
-ghost use Rattle.std.specs.Prelude.{◌≡◌, [], ◌∷◌, ◌++◌, OnOk, OnErr};
+ghost use Rattle.std.specs.Prelude.{◌≡◌};
+ghost use Rattle.std.specs.List.{list_all};
+ghost use Rattle.std.specs.Option.{option_copied};
+ghost use Rattle.std.specs.Str.{bytes_eq};
+ghost use Rattle.tv_lang.specs.Names.{is_name, is_name_char};
+ghost use Rattle.tv_lang.specs.Fields.{is_bare_word, number_in, name_in, text_in};
 
-use std::alloc::{AllocError, Global};
-use std::marker::Model;
+use crate::number::number;
 use tv_valid::Chars;
 
 /// A word of a line.
@@ -15,52 +19,77 @@ pub enum Word {
     Quoted(Chars),
 }
 
-/// Words in order. Contracts see the list.
-#[derive(Debug, Drop)]
-pub struct Words {
-    words: Vec<Word>,
-}
-
-impl Model for Words {
-    ghost use Rattle.std.specs.Prelude.{List};
-    ghost use Rattle.tv_lang.specs.declared.word.Word.{Word};
-
-    ghost Value = { List Word };
-
-    ghost view = { λ w. w.words.items };
-}
-
-impl Words {
-    /// No words. Takes no memory.
-    pub fn new(alloc: Global) -> Words
-        ensures { result ≡ [] }
+impl Word {
+    /// Whether this is the bare word of these ASCII characters.
+    pub fn is(&self, keyword: &[u8]) -> bool
+        ensures { result ≡ is_bare_word self.now keyword.now }
     {
-        Words {
-            words: Vec::new(alloc),
+        match self {
+            Word::Bare(text) => is_same(text.as_slice(), keyword),
+            Word::Quoted(_) => false,
         }
     }
 
-    /// Adds a word at the end.
-    pub fn push(&mut self, word: Word) -> Result<(), AllocError>
-        ensures ok { OnOk result (self.new ≡ self.old ++ word ∷ []) }
-        ensures err { OnErr result (self.new ≡ self.old) }
+    /// The number that a bare word is the decimal text of, where it is one of an `i32`.
+    pub fn number(&self) -> Option<i32>
+        ensures { result ≡ number_in self.now }
     {
-        self.words.push(word)?;
-        Ok(())
+        match self {
+            Word::Bare(text) => number(text.as_slice()),
+            Word::Quoted(_) => None,
+        }
     }
 
-    /// The words.
-    pub fn as_slice(&self) -> &[Word]
-        ensures { result.now ≡ self.now }
+    /// The characters of a bare word that can be a name.
+    pub fn name(&self) -> Option<&Chars>
+        ensures { name_in self.now ≡ option_copied result }
     {
-        &self.words
+        match self {
+            Word::Bare(text) if is_name(text.as_slice()) => Some(text),
+            _ => None,
+        }
     }
 
-    /// The words as a vector, which takes no memory.
-    pub fn into_vec(self) -> Vec<Word>
-        ensures { result.items ≡ self }
+    /// The text between the quotes of a quoted word.
+    pub fn text(&self) -> Option<&Chars>
+        ensures { text_in self.now ≡ option_copied result }
     {
-        let Words { words } = self;
-        words
+        match self {
+            Word::Bare(_) => None,
+            Word::Quoted(text) => Some(text),
+        }
     }
+}
+
+fn is_same(chars: &[char], ascii: &[u8]) -> bool
+    ensures { result ≡ bytes_eq chars.now ascii.now }
+{
+    chars.len() == ascii.len()
+        && chars
+            .iter()
+            .zip(ascii)
+            .all(|(ch, byte)| *ch == char::from(*byte))
+}
+
+fn is_name(text: &[char]) -> bool
+    ensures { result ≡ is_name text.now }
+{
+    match text {
+        [first, rest @ ..] => first.is_ascii_lowercase()
+            && rest.len() < 20
+            && can_continue_name(rest),
+        [] => false,
+    }
+}
+
+fn can_continue_name(rest: &[char]) -> bool
+    ensures { result ≡ list_all is_name_char rest.now }
+{
+    rest.iter().all(|ch| is_name_char(*ch))
+}
+
+fn is_name_char(ch: char) -> bool
+    ensures { result ≡ is_name_char ch }
+{
+    ch.is_ascii_lowercase() || ch.is_ascii_digit() || ch == '-'
 }
