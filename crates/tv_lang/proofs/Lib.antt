@@ -6,3 +6,4 @@ pub mod NumberLaws
 pub mod FieldLaws
 pub mod MarkLaws
 pub mod NodeLaws
+pub mod StageLaws

@@ -153,7 +153,7 @@ dialog_read i (k ∷ m ∷ x ∷ y ∷ w ∷ h ∷ t ∷ b ∷ es) n e = dialog_
 abbrev of_kind : Id → ℕ → ℤ → ℤ → ℤ → Kind → Node
 of_kind i depth x y w kind = record { id = i; depth = depth; x = x; y = y; w = w; kind = kind }
 
-abbrev on_line : ℕ → Id
+abbrev pub on_line : ℕ → Id
 on_line line = record { 0 = line }
 
 place_again : (x y w : ℤ) → IsNumber x → IsNumber y → IsNumber w → place_in (number_word x) (number_word y) (number_word w) ≡ Some (record { x = x; y = y; w = w })
