@@ -1,15 +1,13 @@
 -- Reading a marked text gives just the text that is spelled so.
-use Rattle.std.proofs.Common.{◌≡◌, ℕ, zero, suc, ◌+◌, ◌-◌, ◌<◌, ◌≤◌, ◌==◌, nat_lt, Bool, true, false, not, ◌&&◌, ◌||◌, cond, List, [], ◌∷◌, ◌++◌, length, get_or, take, drop, Option, Some, None, refl, sym, ap, ◌∙◌, add-one, add_comm, arith, length-take, length-append, drop-cons}
+use Rattle.std.proofs.Common.{◌≡◌, ℕ, ◌+◌, ◌<◌, ◌≤◌, ◌==◌, nat_lt, Bool, true, false, not, ◌&&◌, ◌||◌, cond, List, [], ◌∷◌, ◌++◌, length, take, drop, Option, Some, None, refl, sym, ap, ◌∙◌, add-one, arith, length-take, length-append, drop-cons}
 use Rattle.std.specs.Prelude.{position, slice_index}
-use Rattle.std.specs.List.{list_any, position_or_len, prefix_len}
+use Rattle.std.specs.List.{list_any, position_or_len}
 use Rattle.std.specs.Char.{is_ascii_alphanumeric}
 use Rattle.std.proofs.lemmas.List.{take-append-drop}
 use Rattle.std.proofs.lemmas.Bool.{eqb-true}
 use Rattle.std.proofs.lemmas.Bool.Decides.{nat_tests}
 use Rattle.std.proofs.Math.Seq.{take-append_seam, drop-append-add, get_or-append_seam}
 use Rattle.tv_model.specs.declared.node.MarkedText.{MarkedText}
-use Rattle.tv_lang.specs.declared.word.Word.{Word}
-use Rattle.tv_lang.specs.declared.word.Word.TheVariants.{Bare, Quoted}
 use Rattle.tv_lang.specs.Marks.{is_tilde, end_of_mark, marked_at, marked_from, marked_in}
 use Rattle.tv_lang.specs.Spelling.{with_mark, IsMarked}
 
@@ -130,8 +128,9 @@ marked_made front after m (Some r) eo none e =
     let same : m ≡ record { text = front ++ (r.0 ∷ r.1); mark = Some (length front) } = cc in
     let letter : is_ascii_alphanumeric (slice_index (front ++ (r.0 ∷ r.1)) (length front)) ≡ true = rw (get_or-append_seam front r.0 r.1 0) h.1 in
     rw same (
-        spelled_mark front r.0 r.1 ∙ ap (λ x. front ++ (126 ∷ x)) (sym h.0),
-        (none_within front r.0 r.1 none (not_tilde r.0 h.1) h.2, (omega (arith, length-append front (r.0 ∷ r.1)), letter)))
+      spelled_mark front r.0 r.1 ∙ ap (λ x. front ++ (126 ∷ x)) (sym h.0),
+      (none_within front r.0 r.1 none (not_tilde r.0 h.1) h.2, (omega (arith, length-append front (r.0 ∷ r.1)), letter)),
+    )
 
 marked_found : (cs : List ℕ) (m : MarkedText) (o : Option ℕ) → position is_tilde cs ≡ o → marked_from o cs ≡ Some m → Reads cs m
 marked_found cs m None eo e =

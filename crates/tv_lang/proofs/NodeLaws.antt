@@ -1,5 +1,5 @@
 -- Reading the line of a dialog or a view gives just the node that is spelled so.
-use Rattle.std.proofs.Common.{◌≡◌, ℕ, ◌+◌, ◌==◌, Bool, true, false, not, ◌&&◌, cond, List, [], ◌∷◌, ◌++◌, Option, Some, None, refl, sym, ap, ◌∙◌, subst}
+use Rattle.std.proofs.Common.{◌≡◌, ℕ, Bool, true, false, ◌&&◌, cond, List, [], ◌∷◌, Option, Some, None, refl, sym, ap, ◌∙◌, subst}
 use Rattle.std.specs.Prelude.{ℤ, codes, option_and_then}
 use Rattle.tv_model.specs.declared.node.CommandSpec.{CommandSpec}
 use Rattle.tv_model.specs.declared.node.Ends.{Ends}
@@ -15,7 +15,7 @@ use Rattle.tv_lang.specs.Fields.{is_bare_word, number_in, name_in, text_in}
 use Rattle.tv_lang.specs.Commands.{command_in, ends_in}
 use Rattle.tv_lang.specs.Marks.{marked_in}
 use Rattle.tv_lang.specs.NodeLines.{place_from, place_in, node_at, mark_in, text_from, text_in_fields, button_from, button_in_fields, view_in, dialog_from, dialog_in}
-use Rattle.tv_lang.specs.Spelling.{number_word, command_word, ends_words, marked_word, kind_words, node_words, IsNumber, IsName, IsMarked, IsCommand, IsPlaced, IsViewKind, IsDialogKind}
+use Rattle.tv_lang.specs.Spelling.{number_word, marked_word, kind_words, node_words, IsNumber, IsMarked, IsPlaced, IsViewKind, IsDialogKind}
 use Rattle.tv_lang.proofs.FieldLaws.{word_is, number_word_read, read_number_word, name_read, read_name, text_read, command_read, read_command, ends_read, read_ends}
 use Rattle.tv_lang.proofs.MarkLaws.{marked_read, read_marked}
 

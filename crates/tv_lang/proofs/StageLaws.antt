@@ -12,19 +12,18 @@ use Rattle.tv_model.specs.declared.desc.Dialog.{Dialog}
 use Rattle.tv_model.specs.declared.desc.Menu.{Menu}
 use Rattle.tv_model.specs.declared.desc.StatusItem.{StatusItem}
 use Rattle.tv_model.specs.declared.desc.Window.{Window}
-use Rattle.tv_model.specs.declared.desc.Rule.{Rule}
 use Rattle.tv_lang.specs.declared.word.Word.{Word}
-use Rattle.tv_lang.specs.declared.word.Word.TheVariants.{Bare, Quoted}
+use Rattle.tv_lang.specs.declared.word.Word.TheVariants.{Bare}
 use Rattle.tv_lang.specs.declared.progress.Progress.{Progress}
 use Rattle.tv_lang.specs.declared.progress.Stage.{Stage}
 use Rattle.tv_lang.specs.declared.progress.Stage.TheVariants as stages
 use Rattle.tv_lang.specs.Steps.{steps}
 use Rattle.tv_lang.specs.Fields.{is_bare_word, number_in, name_in}
 use Rattle.tv_lang.specs.NodeLines.{view_in, dialog_in}
-use Rattle.tv_lang.specs.Stages.{fresh, version_taken, screen_from, screen_taken, started, opened, dialog_taken, start_taken, with_view, is_end, view_taken, taken_at, progress, taken, finished}
-use Rattle.tv_lang.specs.Spelling.{number_word, node_words, kind_words, end_line, dialog_lines, start_lines, word_lines, IsNumber, IsName, IsPlaced, IsViewKind, IsDialogKind, AreViews, IsDialog, AreDialogs, IsDescription}
+use Rattle.tv_lang.specs.Stages.{fresh, screen_from, started, opened, dialog_taken, start_taken, with_view, is_end, progress, taken, finished}
+use Rattle.tv_lang.specs.Spelling.{number_word, node_words, kind_words, end_line, dialog_lines, start_lines, word_lines, IsNumber, IsName, IsViewKind, IsDialogKind, AreViews, IsDialog, IsDescription}
 use Rattle.tv_lang.proofs.FieldLaws.{word_is, number_word_read, read_number_word, name_read, read_name}
-use Rattle.tv_lang.proofs.NodeLaws.{on_line, IsViewOf, IsDialogOf, view_read, dialog_read, read_view, read_dialog}
+use Rattle.tv_lang.proofs.NodeLaws.{on_line, view_read, dialog_read, read_view, read_dialog}
 
 -- the description that the declarations give
 abbrev pub given : Progress → List (List Word) → Option Desc

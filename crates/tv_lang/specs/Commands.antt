@@ -1,5 +1,5 @@
 -- Reading the commands that words name.
-use Rattle.std.specs.Prelude.{ℕ, ℤ, List, [], ◌∷◌, Bool, true, false, Option, Some, None, codes, if◌then◌else◌}
+use Rattle.std.specs.Prelude.{ℕ, ℤ, List, [], ◌∷◌, Bool, false, Option, Some, None, codes, if◌then◌else◌}
 use Rattle.tv_model.specs.declared.node.CommandSpec.{CommandSpec}
 use Rattle.tv_model.specs.declared.node.CommandSpec.TheVariants as commands
 use Rattle.tv_model.specs.declared.node.Ends.{Ends}

@@ -4,6 +4,7 @@ pub mod Lines
 pub mod LinesLeft
 pub mod Steps
 pub mod Scan
+pub mod LineWords
 pub mod Names
 pub mod Numbers
 pub mod Fields
@@ -11,3 +12,6 @@ pub mod Commands
 pub mod Marks
 pub mod NodeLines
 pub mod Stages
+pub mod Texts
+pub mod Faults
+pub mod Reading

@@ -1,5 +1,5 @@
 -- Reading a text of which one letter may be marked.
-use Rattle.std.specs.Prelude.{ℕ, List, [], ◌∷◌, ◌++◌, take, drop, Bool, true, false, not, ◌&&◌, Option, Some, None, position, ◌+◌, ◌==◌, if◌then◌else◌}
+use Rattle.std.specs.Prelude.{ℕ, List, [], ◌∷◌, ◌++◌, take, drop, Bool, not, ◌&&◌, Option, Some, None, position, ◌+◌, ◌==◌, if◌then◌else◌}
 use Rattle.std.specs.List.{list_any}
 use Rattle.std.specs.Char.{is_ascii_alphanumeric}
 use Rattle.tv_model.specs.declared.node.MarkedText.{MarkedText}

@@ -1,5 +1,5 @@
 -- Reading the lines that declare dialogs and views.
-use Rattle.std.specs.Prelude.{ℕ, ℤ, List, [], ◌∷◌, Bool, true, false, ◌&&◌, Option, Some, None, option_and_then, codes, if◌then◌else◌}
+use Rattle.std.specs.Prelude.{ℕ, ℤ, List, [], ◌∷◌, false, ◌&&◌, Option, Some, None, option_and_then, codes, if◌then◌else◌}
 use Rattle.tv_model.specs.declared.node.CommandSpec.{CommandSpec}
 use Rattle.tv_model.specs.declared.node.Ends.{Ends}
 use Rattle.tv_model.specs.declared.node.MarkedText.{MarkedText}

@@ -1,5 +1,5 @@
 -- How a description is spelled: the words of each of its declarations.
-use Rattle.std.specs.Prelude.{◌≡◌, ℕ, ◌+◌, ◌<◌, ℤ, List, [], ◌∷◌, ◌++◌, map, flat_map, length, take, drop, slice_index, Bool, true, false, Option, Some, None, IfSome, IsTrue, FitsSigned, codes, if◌then◌else◌}
+use Rattle.std.specs.Prelude.{◌≡◌, ℕ, ◌+◌, ◌<◌, ℤ, List, [], ◌∷◌, ◌++◌, map, flat_map, length, take, drop, slice_index, Bool, false, Option, Some, None, IfSome, IsTrue, FitsSigned, codes, if◌then◌else◌}
 use Rattle.std.specs.List.{list_any}
 use Rattle.std.specs.Fmt.{signed_decimal}
 use Rattle.std.specs.Char.{is_ascii_alphanumeric}

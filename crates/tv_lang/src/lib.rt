@@ -2,6 +2,7 @@
 #![tactic(auto)]
 
 mod command;
+mod description;
 mod lines;
 mod marked;
 mod node;
@@ -11,6 +12,7 @@ mod scan;
 mod word;
 mod words;
 
+pub use description::{LangFault, parse};
 pub use lines::Lines;
 pub use scan::words_of;
 pub use word::Word;

@@ -1,4 +1,4 @@
--- The words of a line of bytes, as a function, and that it gives just what the line spells.
+-- The words of a line of bytes are just those that it spells.
 use Rattle.std.proofs.Common.{◌≡◌, ℕ, Bool, true, false, List, [], ◌∷◌, Option, Some, None, IsUtf8, chars, refl, sym, ◌∙◌, ap}
 use Rattle.std.specs.Prelude.{IfSome, MatchBool}
 use Rattle.std.specs.List.{list_any}
@@ -9,17 +9,8 @@ use Rattle.tv_lang.specs.declared.word.Word.{Word}
 use Rattle.tv_lang.specs.declared.scan.Mode.TheVariants.{Between}
 use Rattle.tv_lang.specs.Words.{is_comment, Spaced, SpellsWords}
 use Rattle.tv_lang.specs.Scan.{at, read_on}
+use Rattle.tv_lang.specs.LineWords.{line_words_if, line_words}
 use Rattle.tv_lang.proofs.WordLaws.{read_spelled, spelled_read}
-
-abbrev pub line_words_if : Bool → Bool → Bool → List ℕ → Option (List Word)
-line_words_if false unclean comment cs = None
-line_words_if true true comment cs = None
-line_words_if true false true cs = Some []
-line_words_if true false false cs = read_on (at [] Between) cs
-
--- the words of a line of bytes, or none where it is faulty
-abbrev pub line_words : List ℕ → Option (List Word)
-line_words line = line_words_if (is_utf8 line) (list_any is_control (chars line)) (is_comment (chars line)) (chars line)
 
 spelled_if : (u n k : Bool) (line : List ℕ) (ws : List Word) → is_utf8 line ≡ u → list_any is_control (chars line) ≡ n → is_comment (chars line) ≡ k → line_words_if u n k (chars line) ≡ Some ws → SpellsWords line ws
 spelled_if false n k line ws eu en ek e = absurd cc
