@@ -1,1 +1,12 @@
+pub mod Narrow
 pub mod Rectangles
+pub mod Pictures
+pub mod Drawn
+pub mod Areas
+pub mod Covered
+pub mod Shadows
+pub mod Layering
+pub mod Tildes
+pub mod Marks
+pub mod Hots
+pub mod Unique

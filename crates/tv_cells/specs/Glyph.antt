@@ -1,10 +1,14 @@
 -- What one place of a screen shows.
-use Rattle.std.specs.Prelude.{◌≡◌, ℕ, Bool, true, false, Option, Some, None, ◌==◌}
+use Rattle.std.specs.Prelude.{Bool, if◌then◌else◌, ◌==◌, unwrap_or, ◌≡◌, ℕ, false, Some}
 use Rattle.unicode_width.specs.Width.{char_width}
 
 -- the character takes one column
 abbrev pub IsNarrow : ℕ → Type 0
 IsNarrow ch = char_width false ch ≡ Some 1
+
+-- the same as a test
+abbrev pub is_narrow : ℕ → Bool
+is_narrow ch = unwrap_or (char_width false ch) 0 == 1
 
 -- a character and its attribute, the value of a cell
 pub record Glyph : Type 0 where
@@ -13,6 +17,10 @@ pub record Glyph : Type 0 where
 
 abbrev pub glyph : ℕ → ℕ → Glyph
 glyph ch attr = record { ch = ch; attr = attr }
+
+-- the character where it takes one column, else a space
+abbrev pub shown : ℕ → ℕ → Glyph
+shown ch attr = glyph (if is_narrow ch then ch else 32) attr
 
 -- a space in black on black, as a new screen has it
 abbrev pub blank : Glyph

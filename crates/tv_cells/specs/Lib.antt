@@ -1,2 +1,6 @@
 pub mod Glyph
 pub mod Rectangle
+pub mod Picture
+pub mod Canvas
+pub mod Layers
+pub mod HotText

@@ -1,5 +1,5 @@
 -- Points and rectangles. A rectangle is the set of its points.
-use Rattle.std.specs.Prelude.{ℤ, pos, neg_ℤ, ◌+ℤ◌, ◌≤ℤ◌, ◌<ℤ◌}
+use Rattle.std.specs.Prelude.{ℕ, ℤ, pos, neg_ℤ, ◌+ℤ◌, ◌≤ℤ◌, ◌<ℤ◌}
 use Rattle.std.specs.Int.{int_max, int_min}
 use Rattle.tv_cells.specs.declared.rect.Point.{Point}
 use Rattle.tv_cells.specs.declared.rect.Rect.{Rect}
@@ -10,6 +10,10 @@ pub record IsIn (r : Rect) (x y : ℤ) : Type 0 where
   pub before_right : x <ℤ r.b.x
   pub after_top : r.a.y ≤ℤ y
   pub before_bottom : y <ℤ r.b.y
+
+-- from the origin on, of a width and a height
+abbrev pub sized : ℕ → ℕ → Rect
+sized width height = record { a = record { x = pos 0; y = pos 0 }; b = record { x = pos width; y = pos height } }
 
 -- a coordinate that sums of coordinates may be made of
 pub record IsNear (z : ℤ) : Type 0 where

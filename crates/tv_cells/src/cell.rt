@@ -1,7 +1,7 @@
 //! A character with its attribute.
 
-ghost use Rattle.std.specs.Prelude.{◌≡◌, ◌↔◌, IsSome, IfSome};
-ghost use Rattle.tv_cells.specs.Glyph.{IsNarrow, glyph, shaded};
+ghost use Rattle.std.specs.Prelude.{◌≡◌, ◌↔◌, IsSome, IfSome, IsTrue};
+ghost use Rattle.tv_cells.specs.Glyph.{IsNarrow, glyph, is_narrow, shaded, shown};
 
 use std::marker::Model;
 use unicode_width::UnicodeWidthChar;
@@ -27,16 +27,42 @@ impl Model for Cell {
     ghost inverse = { λ v. record { ch = v.ch; attr = v.attr } };
 }
 
+/// Whether the character takes exactly one column.
+pub fn is_narrow(ch: char) -> bool
+    ensures fact { IsTrue result ↔ IsNarrow ch }
+    ensures test { result ≡ is_narrow ch }
+{
+    ch.width() == Some(1)
+}
+
 impl Cell {
     /// A cell, where the character takes exactly one column, as `unicode_width` counts them.
     pub fn new(ch: char, attr: u8) -> Option<Cell>
         ensures variant { IsSome result ↔ IsNarrow ch }
         ensures value { IfSome result (λ cell. cell ≡ glyph ch attr) }
     {
-        if ch.width() == Some(1) {
+        if is_narrow(ch) {
             Some(Cell { ch, attr })
         } else {
             None
+        }
+    }
+
+    /// A space.
+    pub fn space(attr: u8) -> Cell
+        ensures { result ≡ glyph 32 attr }
+    {
+        Cell { ch: ' ', attr }
+    }
+
+    /// The cell of a character, or of a space in its place where the character doesn't take one column.
+    pub fn shown(ch: char, attr: u8) -> Cell
+        ensures { result ≡ shown ch attr }
+    {
+        if is_narrow(ch) {
+            Cell { ch, attr }
+        } else {
+            Cell::space(attr)
         }
     }
 

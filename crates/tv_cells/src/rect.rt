@@ -1,8 +1,10 @@
 //! Points and rectangles.
 
 ghost use Rattle.std.specs.Prelude.{◌≡◌, ◌↔◌, IsTrue, ℤ, ◌≤ℤ◌, ◌<ℤ◌, ◌+ℤ◌};
-ghost use Rattle.std.specs.Int.{int_gap, int_max, int_min};
+ghost use Rattle.std.specs.Int.{int_gap};
 ghost use Rattle.tv_cells.specs.Rectangle.{IsIn, cut, IsPointNear, IsRectNear, shifted, shifted_point};
+
+use crate::line::{gap, greater, is_between, lesser};
 
 /// A point of the plane that the screen is a part of. Columns count to the right, rows down.
 #[derive(Clone, Copy, Debug, PartialEq, Eq)]
@@ -13,45 +15,15 @@ pub struct Point {
 
 impl Point {
     /// The point moved by the coordinates of another.
-    pub fn shift(&self, by: &Point) -> Point
+    pub fn shift(&self, by: Point) -> Point
         requires point { IsPointNear self.now }
-        requires by { IsPointNear by.now }
-        ensures { result ≡ shifted_point self.now by.now }
+        requires by { IsPointNear by }
+        ensures { result ≡ shifted_point self.now by }
     {
         Point {
             x: self.x + by.x,
             y: self.y + by.y,
         }
-    }
-}
-
-// Whether a coordinate lies from one end on and before the other.
-fn is_between(from: &i32, at: &i32, to: &i32) -> bool
-    ensures { IsTrue result ↔ ((from.now ≤ℤ at.now) × (at.now <ℤ to.now)) }
-{
-    *from <= *at && *at < *to
-}
-
-fn greater(a: &i32, b: &i32) -> i32
-    ensures { result ≡ int_max a.now b.now }
-{
-    (*a).max(*b)
-}
-
-fn lesser(a: &i32, b: &i32) -> i32
-    ensures { result ≡ int_min a.now b.now }
-{
-    (*a).min(*b)
-}
-
-// How far a coordinate is above another, or 0.
-fn gap(from: &i32, to: &i32) -> u32
-    ensures { result ≡ int_gap from.now to.now }
-{
-    if *from < *to {
-        (*to as i64 - *from as i64) as u32
-    } else {
-        0
     }
 }
 
@@ -66,16 +38,16 @@ pub struct Rect {
 
 impl Rect {
     /// Whether the point lies in the rectangle.
-    pub fn contains(&self, point: &Point) -> bool
-        ensures { IsTrue result ↔ IsIn self.now point.now.x point.now.y }
+    pub fn contains(&self, point: Point) -> bool
+        ensures { IsTrue result ↔ IsIn self.now point.x point.y }
     {
         is_between(&self.a.x, &point.x, &self.b.x) && is_between(&self.a.y, &point.y, &self.b.y)
     }
 
     /// The points of both rectangles.
-    pub fn intersect(&self, other: &Rect) -> Rect
-        ensures corners { result ≡ cut self.now other.now }
-        ensures points { (x y : ℤ) → IsIn result x y ↔ (IsIn self.now x y × IsIn other.now x y) }
+    pub fn intersect(&self, other: Rect) -> Rect
+        ensures corners { result ≡ cut self.now other }
+        ensures points { (x y : ℤ) → IsIn result x y ↔ (IsIn self.now x y × IsIn other x y) }
     {
         Rect {
             a: Point {
@@ -90,11 +62,11 @@ impl Rect {
     }
 
     /// The rectangle moved by the coordinates of a point.
-    pub fn shift(&self, by: &Point) -> Rect
+    pub fn shift(&self, by: Point) -> Rect
         requires rect { IsRectNear self.now }
-        requires by { IsPointNear by.now }
-        ensures corners { result ≡ shifted self.now by.now }
-        ensures points { (x y : ℤ) → IsIn result (x +ℤ by.now.x) (y +ℤ by.now.y) ↔ IsIn self.now x y }
+        requires by { IsPointNear by }
+        ensures corners { result ≡ shifted self.now by }
+        ensures points { (x y : ℤ) → IsIn result (x +ℤ by.x) (y +ℤ by.y) ↔ IsIn self.now x y }
     {
         Rect {
             a: self.a.shift(by),

@@ -1,1 +1,3 @@
+pub mod NodeLemmas
 pub mod RecordLemmas
+pub mod Safe

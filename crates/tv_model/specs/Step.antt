@@ -199,18 +199,18 @@ closed d = record {
 abbrev pub is_named : List ℕ → Dialog → Bool
 is_named name d = bytes_eq (unwrap_or (name_of d.node.kind) []) name
 
+abbrev pub open_found : Desc → ℕ → Option Dialog → State
+open_found d place None = closed d
+open_found d place (Some dialog) = open_dialog dialog place (closed d)
+
 abbrev pub open_at : Desc → Option ℕ → State
 open_at d None = closed d
-open_at d (Some place) = opened (slice_get d.dialogs place)
-  where
-    opened : Option Dialog → State
-    opened None = closed d
-    opened (Some dialog) = open_dialog dialog place (closed d)
+open_at d (Some place) = open_found d place (slice_get d.dialogs place)
+
+abbrev pub start_from : Desc → Option (List ℕ) → State
+start_from d None = closed d
+start_from d (Some name) = open_at d (position (is_named name) d.dialogs)
 
 -- the state before the first event: the start dialog is open, and that is logged
 abbrev pub start : Desc → State
-start d = started d.start
-  where
-    started : Option (List ℕ) → State
-    started None = closed d
-    started (Some name) = open_at d (position (is_named name) d.dialogs)
+start d = start_from d d.start

@@ -1,5 +1,9 @@
 //! A description: its screen, menus, status items, windows and dialogs.
 
+ghost use Rattle.std.specs.Prelude.{◌≡◌, ◌∷◌, option_copied};
+ghost use Rattle.tv_model.specs.LogText.{all_nodes, window_nodes, dialog_nodes};
+ghost use Rattle.tv_model.specs.Nodes.{node_of};
+
 use crate::node::{CommandSpec, Id, MarkedText, Node};
 use crate::sequence::Sequence;
 use tv_event::Key;
@@ -18,6 +22,58 @@ pub struct Desc {
     pub status: Sequence<StatusItem>,
     pub windows: Sequence<Window>,
     pub dialogs: Sequence<Dialog>,
+}
+
+impl Desc {
+    /// The node of the id: a window, a dialog or a view of one.
+    pub fn node(&self, id: Id) -> Option<&Node>
+        ensures { option_copied result ≡ node_of (all_nodes self.now) id }
+    {
+        for window in self.windows.as_slice() {
+            if let Some(node) = window.node(id) {
+                return Some(node);
+            }
+        }
+        for dialog in self.dialogs.as_slice() {
+            if let Some(node) = dialog.node(id) {
+                return Some(node);
+            }
+        }
+        None
+    }
+}
+
+impl Window {
+    /// The node of the id: the window itself or a text of it.
+    pub fn node(&self, id: Id) -> Option<&Node>
+        ensures { option_copied result ≡ node_of (window_nodes self.now) id }
+    {
+        if self.node.id == id {
+            Some(&self.node)
+        } else {
+            node_of(self.views.as_slice(), id)
+        }
+    }
+}
+
+impl Dialog {
+    /// The node of the id: the dialog itself or a view of it.
+    pub fn node(&self, id: Id) -> Option<&Node>
+        ensures { option_copied result ≡ node_of (dialog_nodes self.now) id }
+    {
+        if self.node.id == id {
+            Some(&self.node)
+        } else {
+            node_of(self.views.as_slice(), id)
+        }
+    }
+}
+
+/// The first of the nodes that has the id.
+pub fn node_of(nodes: &[Node], id: Id) -> Option<&Node>
+    ensures { option_copied result ≡ node_of nodes.now id }
+{
+    nodes.iter().find(|node| node.id == id)
 }
 
 /// A menu of the bar.

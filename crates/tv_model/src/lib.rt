@@ -2,13 +2,15 @@
 #![tactic(auto)]
 
 mod desc;
+mod fault;
 mod log;
 mod node;
 mod record;
 mod script;
 mod sequence;
 
-pub use desc::{Desc, Dialog, Effect, Menu, MenuItem, Rule, StatusItem, Window};
+pub use desc::{Desc, Dialog, Effect, Menu, MenuItem, Rule, StatusItem, Window, node_of};
+pub use fault::{Fault, FaultKind};
 pub use log::LogLine;
 pub use node::{CommandSpec, Ends, Id, Kind, MarkedText, Node};
 pub use record::{Entry, Record, Value};

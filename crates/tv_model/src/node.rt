@@ -1,5 +1,8 @@
 //! Windows, dialogs and what stands in them.
 
+ghost use Rattle.std.specs.Prelude.{◌≡◌, option_map, option_copied, IfSome, IsSome, ◌↔◌, Some, None};
+ghost use Rattle.tv_model.specs.Nodes.{name_of, is_control, is_button, is_pane};
+
 use crate::sequence::Sequence;
 use tv_valid::{Chars, InputSpec};
 
@@ -113,6 +116,46 @@ pub enum Kind {
         name: Chars,
         h: i32,
     },
+}
+
+impl Kind {
+    /// The name that the declaration gives; static texts and labels have none.
+    pub fn name(&self) -> Option<&Chars>
+        ensures { option_copied result ≡ name_of self.now }
+    {
+        match self {
+            Kind::Window { name, .. }
+            | Kind::Dialog { name, .. }
+            | Kind::Button { name, .. }
+            | Kind::Input { name, .. }
+            | Kind::CheckBoxes { name, .. }
+            | Kind::RadioButtons { name, .. }
+            | Kind::List { name, .. }
+            | Kind::Pane { name, .. } => Some(name),
+            Kind::Text { .. } | Kind::Label { .. } => None,
+        }
+    }
+
+    /// Whether it can have the focus by its kind: a button, an input, a cluster or a list.
+    pub fn is_control(&self) -> bool
+        ensures { result ≡ is_control self.now }
+    {
+        matches!(
+            self,
+            Kind::Button { .. }
+                | Kind::Input { .. }
+                | Kind::CheckBoxes { .. }
+                | Kind::RadioButtons { .. }
+                | Kind::List { .. }
+        )
+    }
+
+    /// Whether it is a button.
+    pub fn is_button(&self) -> bool
+        ensures { result ≡ is_button self.now }
+    {
+        matches!(self, Kind::Button { .. })
+    }
 }
 
 /// The commands by which a dialog may end.

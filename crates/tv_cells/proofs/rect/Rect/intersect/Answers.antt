@@ -7,4 +7,4 @@ pub returns-clause-corners : goal.returns-clause-corners
 returns-clause-corners c = rect_is _ _ _ _ (point_is _ _ _ _ (omega (arith, ints)) (omega (arith, ints))) (point_is _ _ _ _ (omega (arith, ints)) (omega (arith, ints)))
 
 pub returns-clause-points : goal.returns-clause-points
-returns-clause-points c = in_cut_is _ c.args.self.now c.args.other.now (returns-clause-corners c)
+returns-clause-points c = in_cut_is _ c.args.self.now c.args.other (returns-clause-corners c)

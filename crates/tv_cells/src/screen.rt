@@ -1,0 +1,147 @@
+//! A screen of cells.
+
+ghost use Rattle.std.specs.Prelude.{◌≡◌, [], ◌≤◌, ◌<◌, ◌↔◌, ℕ, pos, IfOk, IfSome, IsSome, IsErrOf, ⊤};
+ghost use Rattle.tv_cells.specs.Layers.{Shows};
+ghost use Rattle.tv_cells.specs.Picture.{Picture, IsAlike, IsOn, IsPlace, IsScreenSize, Changes, cell_at};
+ghost use Rattle.tv_cells.specs.Rectangle.{IsIn, sized};
+ghost use Rattle.tv_cells.specs.Canvas.{whole};
+
+use crate::canvas::Canvas;
+use crate::cell::Cell;
+use crate::rect::{Point, Rect};
+use std::alloc::{AllocError, Global};
+use std::marker::Model;
+use thiserror::Error;
+
+/// Why there is no screen.
+#[derive(Clone, Copy, Debug, Drop, PartialEq, Eq, Error)]
+pub enum ScreenFault {
+    #[error("no memory")]
+    NoMemory,
+    #[error("a screen has 20 to 132 columns and 10 to 60 rows")]
+    BadSize,
+}
+
+impl From<AllocError> for ScreenFault {
+    ghost use Rattle.std.specs.Prelude.{◌≡◌};
+    ghost use Rattle.tv_cells.specs.declared.screen.ScreenFault.TheVariants.{NoMemory};
+
+    ghost from_gives = { λ _ fault. fault ≡ NoMemory };
+
+    fn from(_error: AllocError) -> ScreenFault {
+        ScreenFault::NoMemory
+    }
+}
+
+/// The cells of a text screen. Columns count from the left and rows from the top, from 0.
+#[derive(Debug, Drop)]
+pub struct Screen {
+    width: u32,
+    height: u32,
+    cells: Vec<Cell>,
+}
+
+impl Model for Screen {
+    ghost use Rattle.tv_cells.specs.Picture.{Picture, IsPicture};
+
+    ghost Value = { Picture };
+
+    ghost view = { λ s. record { width = s.width; height = s.height; cells = s.cells.items } };
+
+    ghost invariant = { λ s. IsPicture s.width s.height s.cells.items };
+}
+
+impl Screen {
+    /// A blank screen, all spaces with attribute 00.
+    ///
+    /// # Errors
+    ///
+    /// `BadSize` outside 20 to 132 columns and 10 to 60 rows, else `NoMemory` where there is none for the cells.
+    pub fn new(alloc: Global, width: u32, height: u32) -> Result<Screen, ScreenFault>
+        ensures size { IfOk result (λ screen. (screen.width ≡ width) × (screen.height ≡ height)) }
+        ensures blank { IfOk result (λ screen. Shows [] screen) }
+        ensures bad { IsErrOf result ScreenFault.BadSize ↔ (IsScreenSize width height → ⊥) }
+    {
+        if !(20..=132).contains(&width) || !(10..=60).contains(&height) {
+            return Err(ScreenFault::BadSize);
+        }
+        let cells = vec![in alloc; Cell::space(0); (width * height) as usize]?;
+        Ok(Screen {
+            width,
+            height,
+            cells,
+        })
+    }
+
+    /// The number of columns.
+    pub fn width(&self) -> u32
+        ensures is { result ≡ self.now.width }
+        ensures small { (20 ≤ result) × (result ≤ 132) }
+    {
+        self.width
+    }
+
+    /// The number of rows.
+    pub fn height(&self) -> u32
+        ensures is { result ≡ self.now.height }
+        ensures small { (10 ≤ result) × (result ≤ 60) }
+    {
+        self.height
+    }
+
+    /// The canvas of the whole screen, with the origin in its corner.
+    pub fn canvas(&self) -> Canvas
+        ensures { result ≡ whole self.now.width self.now.height }
+    {
+        let origin = Point { x: 0, y: 0 };
+        let end = Point {
+            x: self.width as i32,
+            y: self.height as i32,
+        };
+        Canvas {
+            clip: Rect { a: origin, b: end },
+            origin,
+        }
+    }
+
+    /// The cell at a point, where the point is on the screen.
+    pub fn at(&self, point: Point) -> Option<Cell>
+        ensures found { IsSome result ↔ IsIn (sized self.now.width self.now.height) point.x point.y }
+        ensures value { IfSome result (λ cell. (column row : ℕ) → point.x ≡ pos column → point.y ≡ pos row → cell ≡ cell_at self.now column row) }
+    {
+        let column = u32::try_from(point.x)
+            .ok()
+            .filter(|column| *column < self.width)?;
+        let row = u32::try_from(point.y)
+            .ok()
+            .filter(|row| *row < self.height)?;
+        Some(self.get(column, row))
+    }
+
+    /// The cell in a column and a row.
+    #[inline]
+    pub fn get(&self, column: u32, row: u32) -> Cell
+        requires { IsOn self.now column row }
+        ensures { result ≡ cell_at self.now column row }
+    {
+        self.cells[(row * self.width + column) as usize]
+    }
+
+    /// Makes all cells spaces with attribute 00 again.
+    pub fn clear(&mut self)
+        ensures size { IsAlike self.old self.new }
+        ensures blank { Shows [] self.new }
+    {
+        self.cells.fill(Cell::space(0));
+    }
+
+    /// Sets the cell in a column and a row.
+    #[inline]
+    pub(crate) fn set(&mut self, column: u32, row: u32, cell: Cell)
+        requires { IsOn self.old column row }
+        ensures { Changes (IsPlace column row) (λ _ _ _. cell) self.old self.new }
+    {
+        let index = (row * self.width + column) as usize;
+        self.cells[index] = cell;
+    }
+}

@@ -1,0 +1,4 @@
+pub mod Areas
+pub mod MarkedLetters
+pub mod ManyKinds
+pub mod Sound

@@ -1,0 +1,50 @@
+-- What a description without faults has.
+use Rattle.std.specs.Prelude.{◌≡◌, ℕ, ◌<◌, ◌≤◌, true, false, List, length, slice_index_or, All, Some, ℤ, pos, neg_ℤ, ◌≤ℤ◌}
+use Rattle.std.specs.List.{list_any}
+use Rattle.tv_cells.specs.Glyph.{is_narrow}
+use Rattle.tv_model.specs.declared.node.Node.{Node}
+use Rattle.tv_model.specs.declared.desc.Desc.{Desc}
+use Rattle.tv_model.specs.declared.desc.Dialog.{Dialog}
+use Rattle.tv_model.specs.Nodes.{height_of, is_control}
+use Rattle.tv_model.specs.Step.{ends_of, is_named}
+use Rattle.tv_model.specs.LogText.{dialog_nodes}
+use Rattle.tv_model.specs.Faults.{command_of, desktop, interior, is_lawful_number, is_within, least_height, least_width, overlap, place_of_node, shown_chars, text_of}
+
+abbrev pub IsBetween : ℤ → ℤ → ℤ → Type 0
+IsBetween least greatest n = (least ≤ℤ n) × (n ≤ℤ greatest)
+
+-- a node within the limits
+pub record IsLimited (node : Node) : Type 0 where
+  pub x : IsBetween (neg_ℤ (pos 132)) (pos 132) node.x
+  pub y : IsBetween (neg_ℤ (pos 132)) (pos 132) node.y
+  pub w : IsBetween (least_width node.kind) (pos 132) node.w
+  pub h : IsBetween (least_height node.kind) (pos 60) (height_of node.kind)
+  pub text : length (text_of node.kind) ≤ 120
+  pub command : is_lawful_number (command_of node.kind) ≡ true
+
+-- all that it shows takes one column a character
+abbrev pub IsNarrowNode : Node → Type 0
+IsNarrowNode node = All (λ ch. is_narrow ch ≡ true) (shown_chars node.kind)
+
+-- no two controls have a point in common
+abbrev pub AreApart : List Node → Type 0
+AreApart views = (i j : ℕ) (d : Node) → i < j → j < length views
+  → is_control (slice_index_or views i d).kind ≡ true → is_control (slice_index_or views j d).kind ≡ true
+  → overlap (place_of_node (slice_index_or views i d)) (place_of_node (slice_index_or views j d)) ≡ false
+
+-- a dialog that can be shown, focused and cancelled
+pub record IsUsableDialog (d : Desc) (dialog : Dialog) : Type 0 where
+  pub nodes : All IsLimited (dialog_nodes dialog)
+  pub few : length dialog.views ≤ 64
+  pub narrow : All IsNarrowNode (dialog_nodes dialog)
+  pub within : is_within (place_of_node dialog.node) (desktop d) ≡ true
+  pub inside : All (λ node. is_within (place_of_node node) (interior dialog.node) ≡ true) dialog.views
+  pub apart : AreApart dialog.views
+  pub control : list_any (λ node. is_control node.kind) dialog.views ≡ true
+  pub cancel : (ends_of dialog.node.kind).cancel ≡ true
+
+pub record IsUsable (d : Desc) : Type 0 where
+  pub width : IsBetween (pos 20) (pos 132) d.width
+  pub height : IsBetween (pos 10) (pos 60) d.height
+  pub dialogs : All (IsUsableDialog d) d.dialogs
+  pub start : (name : List ℕ) → d.start ≡ Some name → list_any (is_named name) d.dialogs ≡ true

@@ -1,0 +1,44 @@
+-- Descriptions of one dialog with static texts and buttons.
+use Rattle.std.specs.Prelude.{◌≡◌, ℕ, List, ◌+◌, false, [], ◌∷◌, None, All}
+use Rattle.tv_model.specs.declared.node.Node.{Node}
+use Rattle.tv_model.specs.declared.node.Kind.{Kind}
+use Rattle.tv_model.specs.declared.node.Kind.TheVariants as kinds
+use Rattle.tv_model.specs.declared.desc.Desc.{Desc}
+use Rattle.tv_model.specs.declared.desc.Dialog.{Dialog}
+
+-- a static text, or a button that is neither the default nor grabs the focus
+abbrev pub IsThinKind : Kind → Type 0
+IsThinKind (kinds.Text h text) = Unit {0}
+IsThinKind (kinds.Button name text command is_default grabs) = (is_default ≡ false) × (grabs ≡ false)
+IsThinKind _ = ⊥
+
+-- such a view directly in its dialog
+pub record IsThinView (node : Node) : Type 0 where
+  pub depth : node.depth ≡ 0
+  pub kind : IsThinKind node.kind
+
+-- a dialog that no command opens
+abbrev pub IsThinHead : Kind → Type 0
+IsThinHead (kinds.Dialog name h title opens ends) = opens ≡ None
+IsThinHead _ = ⊥
+
+-- the views stand on consecutive lines, from this one on
+abbrev pub AreOnLines : ℕ → List Node → Type 0
+AreOnLines line [] = Unit {0}
+AreOnLines line (view ∷ views) = (view.id.0 ≡ line) × AreOnLines (line + 1) views
+
+pub record IsThinDialog (d : Dialog) : Type 0 where
+  pub depth : d.node.depth ≡ 0
+  pub head : IsThinHead d.node.kind
+  pub views : All IsThinView d.views
+  pub lines : AreOnLines (d.node.id.0 + 1) d.views
+  pub rules : d.rules ≡ []
+
+-- nothing but a screen, perhaps a start, and one such dialog
+pub record IsThin (d : Desc) : Type 0 where
+  pub menus : d.menus ≡ []
+  pub status : d.status ≡ []
+  pub windows : d.windows ≡ []
+  pub dialog : Dialog
+  pub only : d.dialogs ≡ dialog ∷ []
+  pub thin : IsThinDialog dialog

@@ -1,0 +1,11 @@
+pub mod Drawing
+pub mod Lawful
+pub mod Marks
+pub mod Pens
+pub mod Performing
+pub mod Pieces
+pub mod Ranges
+pub mod Runs
+pub mod Screens
+pub mod Thin
+pub mod Writing

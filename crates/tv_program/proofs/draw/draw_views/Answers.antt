@@ -1,0 +1,15 @@
+use Rattle.std.proofs.Common.{subst}
+use Rattle.tv_cells.specs.Layers.{Shows}
+use Rattle.tv_model.specs.Layers.{view_layers}
+use Rattle.tv_program.proofs.Drawing.{alike_then, layers-more}
+use Rattle.tv_program.proofs.draw.draw_views.Goals as goal
+
+pub loop-node-preserved : goal.loop-node-preserved
+loop-node-preserved c =
+    let f = view_layers c.args.desc.now c.args.dialog.now c.args.focus in (
+      alike_then c.loop-node.invariant.0 c.draw_view.ensures.size,
+      λ layers shows.
+          subst (λ drawn. Shows drawn c.draw_view.new.screen)
+          (layers-more f c.as_slice-node-items.result.now c.loop-node.node-index c.node-item.result layers c.loop-node-test.true c.node-item.is)
+          (c.draw_view.ensures.shows _ (c.loop-node.invariant.1 layers shows)),
+    )

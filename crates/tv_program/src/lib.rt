@@ -1,0 +1,22 @@
+//! What the program does, as calls over bytes and writers.
+#![tactic(auto)]
+
+mod device;
+mod draw;
+mod faces;
+mod focus;
+mod lines;
+mod log;
+mod pen;
+mod run;
+mod script;
+mod shot;
+mod stage;
+mod writer;
+
+pub use device::Device;
+pub use log::Log;
+pub use run::Run;
+pub use script::perform;
+pub use stage::Stage;
+pub use writer::{WriteFailed, Writer, write_all};
