@@ -1,0 +1,12 @@
+pub mod LineLemmas
+pub mod ScanLemmas
+pub mod WordLaws
+pub mod LineLaws
+pub mod NumberLaws
+pub mod FieldLaws
+pub mod MarkLaws
+pub mod NodeLaws
+pub mod StageLaws
+pub mod LineSteps
+pub mod TextLaws
+pub mod ReadingLaws

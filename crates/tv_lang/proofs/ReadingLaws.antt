@@ -1,0 +1,343 @@
+-- What reading gives is what the grammar says.
+use Rattle.std.proofs.Common.{◌≡◌, ◌≢◌, ℕ, suc, ◌+◌, ◌<◌, ◌≤◌, ◌==◌, Bool, true, false, ◌&&◌, not, cond, List, [], ◌∷◌, ◌++◌, length, take, Option, Some, None, Result, Ok, Err, refl, sym, ap, ◌∙◌, add-one, arith}
+use Rattle.std.specs.Prelude.{ℤ, pos, negsuc, codes, option_and_then, IfOk, IfErr}
+use Rattle.std.specs.Option.{option_map}
+use Rattle.std.specs.List.{AllByRecursion}
+use Rattle.std.proofs.lemmas.List.{take_all}
+use Rattle.std.proofs.lemmas.Bool.{eqb-true}
+use Rattle.tv_model.specs.declared.node.Node.{Node}
+use Rattle.tv_model.specs.declared.node.Id.{Id}
+use Rattle.tv_model.specs.declared.desc.Desc.{Desc}
+use Rattle.tv_model.specs.declared.desc.Dialog.{Dialog}
+use Rattle.tv_lang.specs.declared.description.LangFault.{LangFault}
+use Rattle.tv_lang.specs.declared.description.LangFault.TheVariants.{NoMemory, Syntax, TooLong, Version}
+use Rattle.tv_lang.specs.declared.word.Word.{Word}
+use Rattle.tv_lang.specs.declared.word.Word.TheVariants.{Bare}
+use Rattle.tv_lang.specs.declared.progress.Progress.{Progress}
+use Rattle.tv_lang.specs.declared.progress.Stage.{Stage}
+use Rattle.tv_lang.specs.declared.progress.Stage.TheVariants as stages
+use Rattle.tv_lang.specs.Steps.{steps}
+use Rattle.tv_lang.specs.Lines.{lines_of}
+use Rattle.tv_lang.specs.Words.{SpellsWords}
+use Rattle.tv_lang.specs.LineWords.{line_words}
+use Rattle.tv_lang.specs.Fields.{is_bare_word, number_in, name_in}
+use Rattle.tv_lang.specs.Stages.{fresh, is_other, other_version, is_other_version, version_taken, screen_taken, screen_from, started, opened, dialog_taken, start_taken, with_view, is_end, taken_at, progress, taken, finished}
+use Rattle.tv_lang.specs.NodeLines.{dialog_in, view_in}
+use Rattle.tv_lang.specs.Spelling.{number_word, IsNumber}
+use Rattle.tv_lang.specs.Texts.{Spells}
+use Rattle.tv_lang.specs.Faults.{IsFirstFault, IsOtherVersion, Refuses, Gives}
+use Rattle.tv_lang.specs.Reading.{LineStep, Next, Faulty, OfOtherVersion, step_from, step_if, words_step, line_step, Reading, Value, Fault, Other, at_end, reading, reading_of, StopsAt}
+use Rattle.tv_lang.proofs.FieldLaws.{word_is, number_word_read, read_number_word}
+use Rattle.tv_lang.proofs.LineLaws.{line_spelled, spelled_line}
+use Rattle.tv_lang.proofs.TextLaws.{words_taken, line_taken, lines_spelled, spelled_lines, begins_taken, taken_begins}
+
+-- reading on after a line
+abbrev went : ℕ → List (List ℕ) → LineStep → Reading
+went n ls step = elim step as (λ _. Reading) [ Next q ↦ reading (n + 1) q ls | Faulty ↦ Fault n | OfOtherVersion ↦ Other ]
+
+-- a line `tvd` of another version is no step
+is_one : is_other (Some (pos 1)) ≡ false
+is_one = refl
+
+abbrev to_screen : Desc → Option (Stage × Desc)
+to_screen d = Some (stages.Screen, d)
+
+version_clash : (d : Desc) (k v : Word) (a b c : Bool) → is_bare_word k (codes "tvd") ≡ a → is_other (number_in v) ≡ b → is_bare_word v (codes "1") ≡ c → (a && b) ≡ true → cond (a && c) (to_screen d) None ≡ None
+version_clash d k v true true true ea eb ec e =
+    let one = rw (word_is v (codes "1") ec) at eb in
+    absurd cc
+version_clash d k v true true false ea eb ec e = refl
+version_clash d k v true false c ea eb ec e = absurd cc
+version_clash d k v false b c ea eb ec e = refl
+
+other_stops : (d : Desc) (ws : List Word) → other_version ws ≡ true → version_taken d ws ≡ None
+other_stops d [] e = absurd cc
+other_stops d (a ∷ []) e = absurd cc
+other_stops d (k ∷ v ∷ []) e = version_clash d k v (is_bare_word k (codes "tvd")) (is_other (number_in v)) (is_bare_word v (codes "1")) refl refl refl e
+other_stops d (a ∷ b ∷ c ∷ ds) e = absurd cc
+
+stops_of_other : (next : ℕ) (stage : Stage) (d : Desc) (ws : List Word) → is_other_version (record { next = next; stage = stage; desc = d }) ws ≡ true → taken (record { next = next; stage = stage; desc = d }) ws ≡ None
+stops_of_other next stages.Version d ws e = rw (other_stops d ws e) refl
+stops_of_other next stages.Screen d ws e = absurd cc
+stops_of_other next stages.Start d ws e = absurd cc
+stops_of_other next stages.Dialog d ws e = absurd cc
+stops_of_other next (stages.Views dialog) d ws e = absurd cc
+stops_of_other next stages.Done d ws e = absurd cc
+
+-- what a line does, and whether the machine goes on
+abbrev Does : LineStep → Option Progress → Type 0
+Does (Next q) o = o ≡ Some q
+Does Faulty o = o ≡ None
+Does OfOtherVersion o = o ≡ None
+
+from_does : (o : Option Progress) → Does (step_from o) o
+from_does None = refl
+from_does (Some q) = refl
+
+if_does : (b : Bool) (o : Option Progress) → (b ≡ true → o ≡ None) → Does (step_if b o) o
+if_does true o stops = stops refl
+if_does false o stops = from_does o
+
+words_do : (p : Progress) (o : Option (List Word)) → Does (words_step p o) (words_taken p o)
+words_do p None = refl
+words_do p (Some []) = refl
+words_do p (Some (w ∷ ws)) = if_does (is_other_version p (w ∷ ws)) (taken p (w ∷ ws)) (stops_of_other p.next p.stage p.desc (w ∷ ws))
+
+line_does : (p : Progress) (l : List ℕ) → Does (line_step p l) (line_taken p l)
+line_does p l = words_do p (line_words l)
+
+abbrev given_from : Progress → List (List ℕ) → Option Desc
+given_from p lines = option_and_then finished (steps line_taken p lines)
+
+-- ---- a description is given
+
+end_value : (n : ℕ) (o : Option Desc) (d : Desc) → at_end n o ≡ Value d → o ≡ Some d
+end_value n None d e = absurd cc
+end_value n (Some f) d e = cc
+
+after_value : (n : ℕ) (p : Progress) (l : List ℕ) (ls : List (List ℕ)) (d : Desc) (step : LineStep) → Does step (line_taken p l) → ((m : ℕ) (q : Progress) → reading m q ls ≡ Value d → given_from q ls ≡ Some d) → went n ls step ≡ Value d → given_from p (l ∷ ls) ≡ Some d
+after_value n p l ls d (Next q) does later e = rw does (later (n + 1) q e)
+after_value n p l ls d Faulty does later e = absurd cc
+after_value n p l ls d OfOtherVersion does later e = absurd cc
+
+reading_gives : (lines : List (List ℕ)) (n : ℕ) (p : Progress) (d : Desc) → reading n p lines ≡ Value d → given_from p lines ≡ Some d
+reading_gives [] n p d e = end_value n (finished p) d e
+reading_gives (l ∷ ls) n p d e = after_value n p l ls d (line_step p l) (line_does p l) (λ m q. reading_gives ls m q d) e
+
+value_after : (n : ℕ) (p : Progress) (l : List ℕ) (ls : List (List ℕ)) (d : Desc) (step : LineStep) → Does step (line_taken p l) → ((m : ℕ) (q : Progress) → given_from q ls ≡ Some d → reading m q ls ≡ Value d) → given_from p (l ∷ ls) ≡ Some d → went n ls step ≡ Value d
+value_after n p l ls d (Next q) does later e = later (n + 1) q (rw does at e)
+value_after n p l ls d Faulty does later e = let clash = rw does at e in absurd cc
+value_after n p l ls d OfOtherVersion does later e = let clash = rw does at e in absurd cc
+
+gives_reading : (lines : List (List ℕ)) (n : ℕ) (p : Progress) (d : Desc) → given_from p lines ≡ Some d → reading n p lines ≡ Value d
+gives_reading [] n p d e = ap (at_end n) e
+gives_reading (l ∷ ls) n p d e = value_after n p l ls d (line_step p l) (line_does p l) (λ m q. gives_reading ls m q d) e
+
+pub read_spelled : (text : List ℕ) (d : Desc) → reading_of text ≡ Value d → Spells text d
+read_spelled text d e = lines_spelled (lines_of text) d (reading_gives (lines_of text) 1 fresh d e)
+
+pub spelled_read : (text : List ℕ) (d : Desc) → Spells text d → reading_of text ≡ Value d
+spelled_read text d h = gives_reading (lines_of text) 1 fresh d (spelled_lines (lines_of text) d h)
+
+-- ---- the first faulty line
+
+pub record Stops (p : Progress) (lines : List (List ℕ)) (n line : ℕ) : Type 0 where
+  before : ℕ
+  number : line ≡ n + before
+  within : before ≤ length lines
+  further : Progress
+  goes : steps line_taken p (take before lines) ≡ Some further
+  stops : before < length lines → steps line_taken p (take (before + 1) lines) ≡ None
+  ends : before ≡ length lines → finished further ≡ None
+
+end_fault : (n line : ℕ) (o : Option Desc) → at_end n o ≡ Fault line → (o ≡ None) × (line ≡ n)
+end_fault n line None e = (refl, cc)
+end_fault n line (Some d) e = absurd cc
+
+after_fault : (n line : ℕ) (p : Progress) (l : List ℕ) (ls : List (List ℕ)) (step : LineStep) → Does step (line_taken p l) → ((m : ℕ) (q : Progress) → reading m q ls ≡ Fault line → Stops q ls m line) → went n ls step ≡ Fault line → Stops p (l ∷ ls) n line
+after_fault n line p l ls (Next q) does later e =
+    let r = later (n + 1) q e in
+    record {
+      before = suc r.before;
+      number = omega (arith, r.number);
+      within = omega (arith, r.within);
+      further = r.further;
+      goes = rw does r.goes;
+      stops = λ h. rw (add-one, does) (rw add-one at (r.stops (omega arith)));
+      ends = λ h. r.ends (omega arith);
+    }
+after_fault n line p l ls Faulty does later e =
+    record { before = 0; number = (let same : n ≡ line = cc in omega arith); within = omega arith; further = p; goes = refl; stops = λ h. rw does refl; ends = λ h. absurd (omega arith) }
+after_fault n line p l ls OfOtherVersion does later e = absurd cc
+
+reading_stops : (lines : List (List ℕ)) (n line : ℕ) (p : Progress) → reading n p lines ≡ Fault line → Stops p lines n line
+reading_stops [] n line p e =
+    let r = end_fault n line (finished p) e in
+    record { before = 0; number = omega (arith, r.1); within = omega arith; further = p; goes = refl; stops = λ h. absurd (omega arith); ends = λ h. r.0 }
+reading_stops (l ∷ ls) n line p e = after_fault n line p l ls (line_step p l) (line_does p l) (λ m q. reading_stops ls m line q) e
+
+pub first_fault : (lines : List (List ℕ)) (line : ℕ) → reading 1 fresh lines ≡ Fault line → IsFirstFault lines line
+first_fault lines line e =
+    let r = reading_stops lines 1 line fresh e in
+    let number : line ≡ r.before + 1 = omega (arith, r.number) in
+    record {
+      before = r.before;
+      number = number;
+      within = r.within;
+      begins = taken_begins (take r.before lines) r.further r.goes;
+      stops = λ h b. (let t = begins_taken (take line lines) b in let s : steps line_taken fresh (take line lines) ≡ None = rw number (r.stops h) in let clash : None ≡ Some t.0 = sym s ∙ t.1 in absurd cc);
+      missing = λ h d spelled. (
+          let whole : take r.before lines ≡ lines = take_all r.before lines (omega arith) in
+          let goes = rw whole at r.goes in
+          let given : finished r.further ≡ Some d = sym (ap (option_and_then finished) goes) ∙ spelled_lines lines d spelled in
+          let clash : None ≡ Some d = sym (r.ends h) ∙ given in
+          absurd cc);
+    }
+
+-- ---- another version
+
+abbrev NotFirst : Stage → Type 0
+NotFirst stages.Version = ⊥
+NotFirst _ = Unit {0}
+
+abbrev Moves : Option (Stage × Desc) → Type 0
+Moves None = Unit {0}
+Moves (Some t) = NotFirst t.0
+
+moves_if : (b : Bool) (x y : Option (Stage × Desc)) → Moves x → Moves y → Moves (cond b x y)
+moves_if true x y hx hy = hx
+moves_if false x y hx hy = hy
+
+screen_moves : (d : Desc) (ow oh : Option ℤ) → Moves (screen_from d ow oh)
+screen_moves d None oh = tt
+screen_moves d (Some w) None = tt
+screen_moves d (Some w) (Some h) = tt
+
+opened_moves : (d : Desc) (o : Option Node) → Moves (opened d o)
+opened_moves d None = tt
+opened_moves d (Some n) = tt
+
+started_moves : (d : Desc) (o : Option (List ℕ)) → Moves (started d o)
+started_moves d None = tt
+started_moves d (Some name) = tt
+
+view_moves : (d : Desc) (dialog : Dialog) (o : Option Node) → Moves (with_view d dialog o)
+view_moves d dialog None = tt
+view_moves d dialog (Some n) = tt
+
+version_moves : (d : Desc) (ws : List Word) → Moves (version_taken d ws)
+version_moves d [] = tt
+version_moves d (a ∷ []) = tt
+version_moves d (k ∷ v ∷ []) = moves_if (is_bare_word k (codes "tvd") && is_bare_word v (codes "1")) (to_screen d) None tt tt
+version_moves d (a ∷ b ∷ c ∷ ds) = tt
+
+screen_line_moves : (d : Desc) (ws : List Word) → Moves (screen_taken d ws)
+screen_line_moves d [] = tt
+screen_line_moves d (a ∷ []) = tt
+screen_line_moves d (a ∷ b ∷ []) = tt
+screen_line_moves d (k ∷ w ∷ h ∷ []) = moves_if (is_bare_word k (codes "screen")) (screen_from d (number_in w) (number_in h)) None (screen_moves d (number_in w) (number_in h)) tt
+screen_line_moves d (a ∷ b ∷ c ∷ e ∷ fs) = tt
+
+start_moves : (i : Id) (d : Desc) (ws : List Word) → Moves (start_taken i d ws)
+start_moves i d [] = opened_moves d (dialog_in i [])
+start_moves i d (a ∷ []) = opened_moves d (dialog_in i (a ∷ []))
+start_moves i d (k ∷ m ∷ []) = moves_if (is_bare_word k (codes "start")) (started d (name_in m)) (dialog_taken i d (k ∷ m ∷ [])) (started_moves d (name_in m)) (opened_moves d (dialog_in i (k ∷ m ∷ [])))
+start_moves i d (a ∷ b ∷ c ∷ ds) = opened_moves d (dialog_in i (a ∷ b ∷ c ∷ ds))
+
+moves : (stage : Stage) (i : Id) (d : Desc) (ws : List Word) → Moves (taken_at stage i d ws)
+moves stages.Version i d ws = version_moves d ws
+moves stages.Screen i d ws = screen_line_moves d ws
+moves stages.Start i d ws = start_moves i d ws
+moves stages.Dialog i d ws = opened_moves d (dialog_in i ws)
+moves (stages.Views dialog) i d ws = moves_if (is_end ws) _ (with_view d dialog (view_in i ws)) tt (view_moves d dialog (view_in i ws))
+moves stages.Done i d ws = tt
+
+never_at_end : (n : ℕ) (o : Option Desc) → at_end n o ≡ Other → ⊥
+never_at_end n None e = cc
+never_at_end n (Some d) e = cc
+
+not_other : (next : ℕ) (stage : Stage) (d : Desc) (ws : List Word) → NotFirst stage → is_other_version (record { next = next; stage = stage; desc = d }) ws ≡ false
+not_other next stages.Version d ws h = absurd h
+not_other next stages.Screen d ws h = refl
+not_other next stages.Start d ws h = refl
+not_other next stages.Dialog d ws h = refl
+not_other next (stages.Views dialog) d ws h = refl
+not_other next stages.Done d ws h = refl
+
+never_after : (n line : ℕ) (ls : List (List ℕ)) (o : Option (Stage × Desc)) → Moves o → ((q : Progress) → NotFirst q.stage → reading (n + 1) q ls ≡ Other → ⊥) → went n ls (step_from (option_map (progress line) o)) ≡ Other → ⊥
+never_after n line ls None h later e = cc
+never_after n line ls (Some t) h later e = later (progress line t) h e
+
+never_by : (n : ℕ) (p : Progress) (ls : List (List ℕ)) (o : Option (List Word)) → NotFirst p.stage → ((q : Progress) → NotFirst q.stage → reading (n + 1) q ls ≡ Other → ⊥) → went n ls (words_step p o) ≡ Other → ⊥
+never_by n p ls None h later e = cc
+never_by n p ls (Some []) h later e = later p h e
+never_by n p ls (Some (w ∷ ws)) h later e =
+    never_after n (p.next + 1) ls (taken_at p.stage (record { 0 = p.next }) p.desc (w ∷ ws)) (moves p.stage (record { 0 = p.next }) p.desc (w ∷ ws)) later (rw (not_other p.next p.stage p.desc (w ∷ ws) h) at e)
+
+never_other : (lines : List (List ℕ)) (n : ℕ) (p : Progress) → NotFirst p.stage → reading n p lines ≡ Other → ⊥
+never_other [] n p h e = never_at_end n (finished p) e
+never_other (l ∷ ls) n p h e = never_by n p ls (line_words l) h (λ q. never_other ls (n + 1) q) e
+
+-- the words of a first declaration of another version
+number_is_other : (o : Option ℤ) → is_other o ≡ true → (n : ℤ) × (o ≡ Some n) × (n ≢ pos 1)
+number_is_other None e = absurd cc
+number_is_other (Some (pos k)) e = (pos k, refl, λ same. (let one : k ≡ 1 = cc in let clash = rw one at e in absurd cc))
+number_is_other (Some (negsuc k)) e = (negsuc k, refl, λ same. absurd cc)
+
+and_true : (a b : Bool) → (a && b) ≡ true → (a ≡ true) × (b ≡ true)
+and_true true b e = (refl, e)
+and_true false b e = absurd cc
+
+abbrev OtherWords : List Word → Type 0
+OtherWords ws = (n : ℤ) × (ws ≡ Bare (codes "tvd") ∷ number_word n ∷ []) × IsNumber n × (n ≢ pos 1)
+
+other_words : (ws : List Word) → other_version ws ≡ true → OtherWords ws
+other_words [] e = absurd cc
+other_words (a ∷ []) e = absurd cc
+other_words (k ∷ v ∷ []) e =
+    let both = and_true (is_bare_word k (codes "tvd")) (is_other (number_in v)) e in
+    let n = number_is_other (number_in v) both.1 in
+    let word = number_word_read v n.0 n.1 in
+    let version : k ≡ Bare (codes "tvd") = word_is k (codes "tvd") both.0 in
+    (n.0, ap (λ x. x ∷ v ∷ []) version ∙ ap (λ x. Bare (codes "tvd") ∷ x ∷ []) word.0, word.1, n.2)
+other_words (a ∷ b ∷ c ∷ ds) e = absurd cc
+
+abbrev first : ℕ → Desc → Progress
+first next d = record { next = next; stage = stages.Version; desc = d }
+
+other_here : (l : List ℕ) (ls : List (List ℕ)) (ws : List Word) → SpellsWords l ws → OtherWords ws → IsOtherVersion (l ∷ ls)
+other_here l ls ws spells h = record { before = []; line = l; after = ls; number = h.0; parts = refl; skipped = tt; words = rw (← h.1) spells; fits = h.2; other = h.3 }
+
+other_later : (l : List ℕ) (ls : List (List ℕ)) → SpellsWords l [] → IsOtherVersion ls → IsOtherVersion (l ∷ ls)
+other_later l ls spells h = record { before = l ∷ h.before; line = h.line; after = h.after; number = h.number; parts = ap (λ x. l ∷ x) h.parts; skipped = (spells, h.skipped); words = h.words; fits = h.fits; other = h.other }
+
+other_if : (n next : ℕ) (d : Desc) (l : List ℕ) (ls : List (List ℕ)) (w : Word) (ws : List Word) (b : Bool) → line_words l ≡ Some (w ∷ ws) → other_version (w ∷ ws) ≡ b → went n ls (step_if b (taken (first next d) (w ∷ ws))) ≡ Other → IsOtherVersion (l ∷ ls)
+other_if n next d l ls w ws true el eb e = other_here l ls (w ∷ ws) (line_spelled l (w ∷ ws) el) (other_words (w ∷ ws) eb)
+other_if n next d l ls w ws false el eb e = absurd (never_after n (next + 1) ls (version_taken d (w ∷ ws)) (version_moves d (w ∷ ws)) (λ q. never_other ls (n + 1) q) e)
+
+other_by : (n next : ℕ) (d : Desc) (l : List ℕ) (ls : List (List ℕ)) (o : Option (List Word)) → line_words l ≡ o → (reading (n + 1) (first next d) ls ≡ Other → IsOtherVersion ls) → went n ls (words_step (first next d) o) ≡ Other → IsOtherVersion (l ∷ ls)
+other_by n next d l ls None el later e = absurd cc
+other_by n next d l ls (Some []) el later e = other_later l ls (line_spelled l [] el) (later e)
+other_by n next d l ls (Some (w ∷ ws)) el later e = other_if n next d l ls w ws (other_version (w ∷ ws)) el refl e
+
+reading_other : (lines : List (List ℕ)) (n next : ℕ) (d : Desc) → reading n (first next d) lines ≡ Other → IsOtherVersion lines
+reading_other [] n next d e = absurd cc
+reading_other (l ∷ ls) n next d e = other_by n next d l ls (line_words l) refl (reading_other ls (n + 1) next d) e
+
+other_if_not : (b : Bool) (k : ℕ) → k == 1 ≡ b → pos k ≢ pos 1 → not b ≡ true
+other_if_not true k e h = absurd (h (ap pos (eqb-true k 1 e)))
+other_if_not false k e h = refl
+
+other_number : (n : ℤ) → n ≢ pos 1 → is_other (Some n) ≡ true
+other_number (pos k) h = other_if_not (k == 1) k refl h
+other_number (negsuc k) h = refl
+
+other_read : (before : List (List ℕ)) (n : ℕ) (line : List ℕ) (after : List (List ℕ)) (number : ℤ) → AllByRecursion (λ l. SpellsWords l []) before → SpellsWords line (Bare (codes "tvd") ∷ number_word number ∷ []) → IsNumber number → number ≢ pos 1 → reading n fresh (before ++ (line ∷ after)) ≡ Other
+other_read [] n line after number skipped words fits other =
+    let ws : List Word = Bare (codes "tvd") ∷ number_word number ∷ [] in
+    let is : is_other (number_in (number_word number)) ≡ true = ap is_other (read_number_word number fits) ∙ other_number number other in
+    ap (λ o. went n after (words_step fresh o)) (spelled_line line ws words) ∙ ap (λ b. went n after (step_if b (taken fresh ws))) is
+other_read (l ∷ before) n line after number skipped words fits other =
+    ap (λ o. went n (before ++ (line ∷ after)) (words_step fresh o)) (spelled_line l [] skipped.0) ∙ other_read before (n + 1) line after number skipped.1 words fits other
+
+pub other_reads : (lines : List (List ℕ)) → IsOtherVersion lines → reading 1 fresh lines ≡ Other
+other_reads lines h = rw h.parts (other_read h.before 1 h.line h.after h.number h.skipped h.words h.fits h.other)
+
+-- ---- the answers of `parse`
+
+pub refused : (text : List ℕ) (fault : LangFault) → StopsAt fault (reading_of text) → Refuses text fault
+refused text NoMemory h = tt
+refused text (Syntax line) h = (first_fault (lines_of text) line h, λ other. (let clash : Fault line ≡ Other = sym h ∙ other_reads (lines_of text) other in absurd cc))
+refused text TooLong h = absurd h
+refused text Version h = reading_other (lines_of text) 1 1 fresh.desc h
+
+pub all_refused : (r : Result Desc LangFault) (text : List ℕ) → IfErr r (λ fault. StopsAt fault (reading_of text)) → IfErr r (λ fault. Refuses text fault)
+all_refused (Ok d) text h = tt
+all_refused (Err fault) text h = refused text fault h
+
+pub gives : (r : Result Desc LangFault) (text : List ℕ) (d : Desc) → IfOk r (λ found. reading_of text ≡ Value found) → IfErr r (λ fault. StopsAt fault (reading_of text)) → Spells text d → Gives r d
+gives (Ok found) text d ok err spelled = let same : Value found ≡ Value d = sym ok ∙ spelled_read text d spelled in cc
+gives (Err NoMemory) text d ok err spelled = tt
+gives (Err (Syntax line)) text d ok err spelled = let clash : Fault line ≡ Value d = sym err ∙ spelled_read text d spelled in absurd cc
+gives (Err TooLong) text d ok err spelled = err
+gives (Err Version) text d ok err spelled = let clash : Other ≡ Value d = sym err ∙ spelled_read text d spelled in absurd cc

@@ -1,0 +1,7 @@
+use Rattle.std.proofs.Common.{◌≡◌, drop}
+use Rattle.tv_lang.specs.Steps.{steps}
+use Rattle.tv_lang.specs.Numbers.{add_digit, digits_in}
+use Rattle.tv_lang.proofs.number.digits.Given as goal
+
+abbrev pub invariant-loop-ch : goal.invariant-loop-ch
+invariant-loop-ch l = steps add_digit l.number (drop l.ch-index l.text) ≡ digits_in l.text

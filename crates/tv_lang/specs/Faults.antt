@@ -1,0 +1,46 @@
+-- Why a text is refused.
+use Rattle.std.specs.Prelude.{◌≡◌, ◌≢◌, ℕ, ◌+◌, ◌<◌, ◌≤◌, ℤ, pos, List, [], ◌∷◌, ◌++◌, length, take, Result, Ok, Err, codes}
+use Rattle.std.specs.List.{AllByRecursion}
+use Rattle.tv_model.specs.declared.desc.Desc.{Desc}
+use Rattle.tv_lang.specs.declared.description.LangFault.{LangFault}
+use Rattle.tv_lang.specs.declared.description.LangFault.TheVariants.{NoMemory, Syntax, TooLong, Version}
+use Rattle.tv_lang.specs.declared.word.Word.TheVariants.{Bare}
+use Rattle.tv_lang.specs.Lines.{lines_of}
+use Rattle.tv_lang.specs.Words.{SpellsWords}
+use Rattle.tv_lang.specs.Spelling.{number_word, IsNumber}
+use Rattle.tv_lang.specs.Texts.{SpellsLines, Begins}
+
+-- the first faulty line: those before it begin a description, and with it they don't; a line that is missing counts as one
+pub record IsFirstFault (lines : List (List ℕ)) (line : ℕ) : Type 0 where
+  pub before : ℕ
+  pub number : line ≡ before + 1
+  pub within : before ≤ length lines
+  pub begins : Begins (take before lines)
+  pub stops : before < length lines → Begins (take line lines) → ⊥
+  pub missing : before ≡ length lines → (d : Desc) → SpellsLines lines d → ⊥
+
+-- the first declaration is a whole line `tvd` with another number than 1
+pub record IsOtherVersion (lines : List (List ℕ)) : Type 0 where
+  pub before : List (List ℕ)
+  pub line : List ℕ
+  pub after : List (List ℕ)
+  pub number : ℤ
+  pub parts : lines ≡ before ++ line ∷ after
+  pub skipped : AllByRecursion (λ l. SpellsWords l []) before
+  pub words : SpellsWords line (Bare (codes "tvd") ∷ number_word number ∷ [])
+  pub fits : IsNumber number
+  pub other : number ≢ pos 1
+
+abbrev pub Refuses : List ℕ → LangFault → Type 0
+Refuses text NoMemory = Unit {0}
+Refuses text (Syntax line) = IsFirstFault (lines_of text) line × ¬ IsOtherVersion (lines_of text)
+Refuses text TooLong = 262144 < length text
+Refuses text Version = IsOtherVersion (lines_of text)
+
+-- the description was read, unless memory ran out
+abbrev pub Gives : Result Desc LangFault → Desc → Type 0
+Gives (Ok found) d = found ≡ d
+Gives (Err NoMemory) d = Unit {0}
+Gives (Err (Syntax line)) d = ⊥
+Gives (Err TooLong) d = ⊥
+Gives (Err Version) d = ⊥

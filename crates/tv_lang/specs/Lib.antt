@@ -1,0 +1,17 @@
+pub mod Words
+pub mod Spelling
+pub mod Lines
+pub mod LinesLeft
+pub mod Steps
+pub mod Scan
+pub mod LineWords
+pub mod Names
+pub mod Numbers
+pub mod Fields
+pub mod Commands
+pub mod Marks
+pub mod NodeLines
+pub mod Stages
+pub mod Texts
+pub mod Faults
+pub mod Reading

@@ -1,0 +1,19 @@
+-- The words of a line of bytes, as a function.
+use Rattle.std.specs.Prelude.{ℕ, Bool, true, false, List, [], Option, Some, None, chars}
+use Rattle.std.specs.List.{list_any}
+use Rattle.std.specs.Char.{is_control}
+use Rattle.std.specs.Str.{is_utf8}
+use Rattle.tv_lang.specs.declared.word.Word.{Word}
+use Rattle.tv_lang.specs.declared.scan.Mode.TheVariants.{Between}
+use Rattle.tv_lang.specs.Words.{is_comment}
+use Rattle.tv_lang.specs.Scan.{at, read_on}
+
+abbrev pub line_words_if : Bool → Bool → Bool → List ℕ → Option (List Word)
+line_words_if false unclean comment cs = None
+line_words_if true true comment cs = None
+line_words_if true false true cs = Some []
+line_words_if true false false cs = read_on (at [] Between) cs
+
+-- the words of a line of bytes, or none where it is faulty
+abbrev pub line_words : List ℕ → Option (List Word)
+line_words line = line_words_if (is_utf8 line) (list_any is_control (chars line)) (is_comment (chars line)) (chars line)
