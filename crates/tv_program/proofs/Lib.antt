@@ -1,3 +1,4 @@
+pub mod Descriptions
 pub mod Drawing
 pub mod Lawful
 pub mod Marks

@@ -13,11 +13,13 @@ mod script;
 mod session;
 mod shot;
 mod stage;
+//pub mod thin;
 mod writer;
 
 pub use device::Device;
 pub use log::Log;
 pub use run::Run;
 pub use script::perform;
+pub use session::ThinSession;
 pub use stage::Stage;
 pub use writer::{WriteFailed, Writer, write_all};
