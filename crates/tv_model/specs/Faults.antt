@@ -231,3 +231,24 @@ faults_of d = flat_map (λ kind. faults_at kind d) all_kinds
 -- a sound description has none
 abbrev pub IsSound : Desc → Type 0
 IsSound d = faults_of d ≡ []
+
+-- ---- how faults are told
+
+abbrev pub fault_number : FaultKind → ℕ
+fault_number faults.NameTwice = 1
+fault_number faults.OutsideOwner = 2
+fault_number faults.Overlap = 3
+fault_number faults.LetterTwice = 4
+fault_number faults.StatusKey = 5
+fault_number faults.LabelLink = 6
+fault_number faults.UnknownInRule = 7
+fault_number faults.ShowsItself = 8
+fault_number faults.NothingToFocus = 9
+fault_number faults.MissingEnd = 10
+fault_number faults.SecondDefault = 11
+fault_number faults.EmptyDomain = 12
+fault_number faults.BadStart = 13
+fault_number faults.WideCharacter = 14
+fault_number faults.OutsideLimits = 15
+fault_number faults.BadOpening = 16
+fault_number faults.MenuLetter = 17

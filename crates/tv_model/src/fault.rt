@@ -1,5 +1,8 @@
 //! What a description may do wrong.
 
+ghost use Rattle.std.specs.Prelude.{◌≡◌};
+ghost use Rattle.tv_model.specs.Faults.{fault_number};
+
 /// A fault of a description that is spelled right, with the line of the canonical text that it names.
 #[derive(Clone, Copy, Debug, PartialEq, Eq)]
 pub struct Fault {
@@ -44,4 +47,31 @@ pub enum FaultKind {
     BadOpening,
     /// F17: a letter or number of menus and windows that was given before.
     MenuLetter,
+}
+
+impl FaultKind {
+    /// The number by which the fault is told, 1 to 17.
+    pub fn number(self) -> u8
+        ensures { result ≡ fault_number self }
+    {
+        match self {
+            FaultKind::NameTwice => 1,
+            FaultKind::OutsideOwner => 2,
+            FaultKind::Overlap => 3,
+            FaultKind::LetterTwice => 4,
+            FaultKind::StatusKey => 5,
+            FaultKind::LabelLink => 6,
+            FaultKind::UnknownInRule => 7,
+            FaultKind::ShowsItself => 8,
+            FaultKind::NothingToFocus => 9,
+            FaultKind::MissingEnd => 10,
+            FaultKind::SecondDefault => 11,
+            FaultKind::EmptyDomain => 12,
+            FaultKind::BadStart => 13,
+            FaultKind::WideCharacter => 14,
+            FaultKind::OutsideLimits => 15,
+            FaultKind::BadOpening => 16,
+            FaultKind::MenuLetter => 17,
+        }
+    }
 }
