@@ -9,4 +9,6 @@ pub mod NodeLaws
 pub mod StageLaws
 pub mod LineSteps
 pub mod TextLaws
+pub mod DescriptionTexts
 pub mod ReadingLaws
+pub mod ScriptLaws

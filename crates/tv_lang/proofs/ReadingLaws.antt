@@ -19,17 +19,17 @@ use Rattle.tv_lang.specs.declared.progress.Stage.TheVariants as stages
 use Rattle.tv_lang.specs.Steps.{steps}
 use Rattle.tv_lang.specs.Lines.{lines_of}
 use Rattle.tv_lang.specs.Words.{SpellsWords}
-use Rattle.tv_lang.specs.LineWords.{line_words}
+use Rattle.tv_lang.specs.LineWords.{line_words, words_taken}
 use Rattle.tv_lang.specs.Fields.{is_bare_word, number_in, name_in}
 use Rattle.tv_lang.specs.Stages.{fresh, is_other, other_version, is_other_version, version_taken, screen_taken, screen_from, started, opened, dialog_taken, start_taken, with_view, is_end, taken_at, progress, taken, finished}
 use Rattle.tv_lang.specs.NodeLines.{dialog_in, view_in}
-use Rattle.tv_lang.specs.Spelling.{number_word, IsNumber}
-use Rattle.tv_lang.specs.Texts.{Spells}
-use Rattle.tv_lang.specs.Faults.{IsFirstFault, IsOtherVersion, Refuses, Gives}
+use Rattle.tv_lang.specs.Spelling.{number_word, word_lines, IsNumber, IsDescription}
+use Rattle.tv_lang.specs.Texts.{IsFirstFault}
+use Rattle.tv_lang.specs.Faults.{Spells, IsOtherVersion, Refuses, Gives}
 use Rattle.tv_lang.specs.Reading.{LineStep, Next, Faulty, OfOtherVersion, step_from, step_if, words_step, line_step, Reading, Value, Fault, Other, at_end, reading, reading_of, StopsAt}
 use Rattle.tv_lang.proofs.FieldLaws.{word_is, number_word_read, read_number_word}
 use Rattle.tv_lang.proofs.LineLaws.{line_spelled, spelled_line}
-use Rattle.tv_lang.proofs.TextLaws.{words_taken, line_taken, lines_spelled, spelled_lines, begins_taken, taken_begins}
+use Rattle.tv_lang.proofs.DescriptionTexts.{taken_line, lines_spelled, spelled_lines, begins_taken, taken_begins}
 
 -- reading on after a line
 abbrev went : ℕ → List (List ℕ) → LineStep → Reading
@@ -78,16 +78,16 @@ if_does : (b : Bool) (o : Option Progress) → (b ≡ true → o ≡ None) → D
 if_does true o stops = stops refl
 if_does false o stops = from_does o
 
-words_do : (p : Progress) (o : Option (List Word)) → Does (words_step p o) (words_taken p o)
+words_do : (p : Progress) (o : Option (List Word)) → Does (words_step p o) (words_taken taken p o)
 words_do p None = refl
 words_do p (Some []) = refl
 words_do p (Some (w ∷ ws)) = if_does (is_other_version p (w ∷ ws)) (taken p (w ∷ ws)) (stops_of_other p.next p.stage p.desc (w ∷ ws))
 
-line_does : (p : Progress) (l : List ℕ) → Does (line_step p l) (line_taken p l)
+line_does : (p : Progress) (l : List ℕ) → Does (line_step p l) (taken_line p l)
 line_does p l = words_do p (line_words l)
 
 abbrev given_from : Progress → List (List ℕ) → Option Desc
-given_from p lines = option_and_then finished (steps line_taken p lines)
+given_from p lines = option_and_then finished (steps taken_line p lines)
 
 -- ---- a description is given
 
@@ -95,7 +95,7 @@ end_value : (n : ℕ) (o : Option Desc) (d : Desc) → at_end n o ≡ Value d �
 end_value n None d e = absurd cc
 end_value n (Some f) d e = cc
 
-after_value : (n : ℕ) (p : Progress) (l : List ℕ) (ls : List (List ℕ)) (d : Desc) (step : LineStep) → Does step (line_taken p l) → ((m : ℕ) (q : Progress) → reading m q ls ≡ Value d → given_from q ls ≡ Some d) → went n ls step ≡ Value d → given_from p (l ∷ ls) ≡ Some d
+after_value : (n : ℕ) (p : Progress) (l : List ℕ) (ls : List (List ℕ)) (d : Desc) (step : LineStep) → Does step (taken_line p l) → ((m : ℕ) (q : Progress) → reading m q ls ≡ Value d → given_from q ls ≡ Some d) → went n ls step ≡ Value d → given_from p (l ∷ ls) ≡ Some d
 after_value n p l ls d (Next q) does later e = rw does (later (n + 1) q e)
 after_value n p l ls d Faulty does later e = absurd cc
 after_value n p l ls d OfOtherVersion does later e = absurd cc
@@ -104,7 +104,7 @@ reading_gives : (lines : List (List ℕ)) (n : ℕ) (p : Progress) (d : Desc) �
 reading_gives [] n p d e = end_value n (finished p) d e
 reading_gives (l ∷ ls) n p d e = after_value n p l ls d (line_step p l) (line_does p l) (λ m q. reading_gives ls m q d) e
 
-value_after : (n : ℕ) (p : Progress) (l : List ℕ) (ls : List (List ℕ)) (d : Desc) (step : LineStep) → Does step (line_taken p l) → ((m : ℕ) (q : Progress) → given_from q ls ≡ Some d → reading m q ls ≡ Value d) → given_from p (l ∷ ls) ≡ Some d → went n ls step ≡ Value d
+value_after : (n : ℕ) (p : Progress) (l : List ℕ) (ls : List (List ℕ)) (d : Desc) (step : LineStep) → Does step (taken_line p l) → ((m : ℕ) (q : Progress) → given_from q ls ≡ Some d → reading m q ls ≡ Value d) → given_from p (l ∷ ls) ≡ Some d → went n ls step ≡ Value d
 value_after n p l ls d (Next q) does later e = later (n + 1) q (rw does at e)
 value_after n p l ls d Faulty does later e = let clash = rw does at e in absurd cc
 value_after n p l ls d OfOtherVersion does later e = let clash = rw does at e in absurd cc
@@ -126,15 +126,15 @@ pub record Stops (p : Progress) (lines : List (List ℕ)) (n line : ℕ) : Type 
   number : line ≡ n + before
   within : before ≤ length lines
   further : Progress
-  goes : steps line_taken p (take before lines) ≡ Some further
-  stops : before < length lines → steps line_taken p (take (before + 1) lines) ≡ None
+  goes : steps taken_line p (take before lines) ≡ Some further
+  stops : before < length lines → steps taken_line p (take (before + 1) lines) ≡ None
   ends : before ≡ length lines → finished further ≡ None
 
 end_fault : (n line : ℕ) (o : Option Desc) → at_end n o ≡ Fault line → (o ≡ None) × (line ≡ n)
 end_fault n line None e = (refl, cc)
 end_fault n line (Some d) e = absurd cc
 
-after_fault : (n line : ℕ) (p : Progress) (l : List ℕ) (ls : List (List ℕ)) (step : LineStep) → Does step (line_taken p l) → ((m : ℕ) (q : Progress) → reading m q ls ≡ Fault line → Stops q ls m line) → went n ls step ≡ Fault line → Stops p (l ∷ ls) n line
+after_fault : (n line : ℕ) (p : Progress) (l : List ℕ) (ls : List (List ℕ)) (step : LineStep) → Does step (taken_line p l) → ((m : ℕ) (q : Progress) → reading m q ls ≡ Fault line → Stops q ls m line) → went n ls step ≡ Fault line → Stops p (l ∷ ls) n line
 after_fault n line p l ls (Next q) does later e =
     let r = later (n + 1) q e in
     record {
@@ -156,7 +156,7 @@ reading_stops [] n line p e =
     record { before = 0; number = omega (arith, r.1); within = omega arith; further = p; goes = refl; stops = λ h. absurd (omega arith); ends = λ h. r.0 }
 reading_stops (l ∷ ls) n line p e = after_fault n line p l ls (line_step p l) (line_does p l) (λ m q. reading_stops ls m line q) e
 
-pub first_fault : (lines : List (List ℕ)) (line : ℕ) → reading 1 fresh lines ≡ Fault line → IsFirstFault lines line
+pub first_fault : (lines : List (List ℕ)) (line : ℕ) → reading 1 fresh lines ≡ Fault line → IsFirstFault word_lines IsDescription lines line
 first_fault lines line e =
     let r = reading_stops lines 1 line fresh e in
     let number : line ≡ r.before + 1 = omega (arith, r.number) in
@@ -165,7 +165,7 @@ first_fault lines line e =
       number = number;
       within = r.within;
       begins = taken_begins (take r.before lines) r.further r.goes;
-      stops = λ h b. (let t = begins_taken (take line lines) b in let s : steps line_taken fresh (take line lines) ≡ None = rw number (r.stops h) in let clash : None ≡ Some t.0 = sym s ∙ t.1 in absurd cc);
+      stops = λ h b. (let t = begins_taken (take line lines) b in let s : steps taken_line fresh (take line lines) ≡ None = rw number (r.stops h) in let clash : None ≡ Some t.0 = sym s ∙ t.1 in absurd cc);
       missing = λ h d spelled. (
           let whole : take r.before lines ≡ lines = take_all r.before lines (omega arith) in
           let goes = rw whole at r.goes in

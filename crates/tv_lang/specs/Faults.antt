@@ -1,5 +1,5 @@
--- Why a text is refused.
-use Rattle.std.specs.Prelude.{◌≡◌, ◌≢◌, ℕ, ◌+◌, ◌<◌, ◌≤◌, ℤ, pos, List, [], ◌∷◌, ◌++◌, length, take, Result, Ok, Err, codes}
+-- The descriptions that texts spell, and why a text is refused.
+use Rattle.std.specs.Prelude.{◌≡◌, ◌≢◌, ℕ, ◌<◌, ℤ, pos, List, [], ◌∷◌, ◌++◌, length, Result, Ok, Err, codes}
 use Rattle.std.specs.List.{AllByRecursion}
 use Rattle.tv_model.specs.declared.desc.Desc.{Desc}
 use Rattle.tv_lang.specs.declared.description.LangFault.{LangFault}
@@ -7,17 +7,20 @@ use Rattle.tv_lang.specs.declared.description.LangFault.TheVariants.{NoMemory, S
 use Rattle.tv_lang.specs.declared.word.Word.TheVariants.{Bare}
 use Rattle.tv_lang.specs.Lines.{lines_of}
 use Rattle.tv_lang.specs.Words.{SpellsWords}
-use Rattle.tv_lang.specs.Spelling.{number_word, IsNumber}
-use Rattle.tv_lang.specs.Texts.{SpellsLines, Begins}
+use Rattle.tv_lang.specs.Spelling.{number_word, word_lines, IsNumber, IsDescription}
+use Rattle.tv_lang.specs.Texts.{SpellsBy, BeginsBy, IsFirstFault}
 
--- the first faulty line: those before it begin a description, and with it they don't; a line that is missing counts as one
-pub record IsFirstFault (lines : List (List ℕ)) (line : ℕ) : Type 0 where
-  pub before : ℕ
-  pub number : line ≡ before + 1
-  pub within : before ≤ length lines
-  pub begins : Begins (take before lines)
-  pub stops : before < length lines → Begins (take line lines) → ⊥
-  pub missing : before ≡ length lines → (d : Desc) → SpellsLines lines d → ⊥
+-- the lines spell the description
+abbrev pub SpellsLines : List (List ℕ) → Desc → Type 0
+SpellsLines lines d = SpellsBy word_lines IsDescription lines d
+
+-- the text spells the description
+abbrev pub Spells : List ℕ → Desc → Type 0
+Spells text d = SpellsLines (lines_of text) d
+
+-- the lines begin a text that spells a description
+abbrev pub Begins : List (List ℕ) → Type 0
+Begins lines = BeginsBy word_lines IsDescription lines
 
 -- the first declaration is a whole line `tvd` with another number than 1
 pub record IsOtherVersion (lines : List (List ℕ)) : Type 0 where
@@ -33,7 +36,7 @@ pub record IsOtherVersion (lines : List (List ℕ)) : Type 0 where
 
 abbrev pub Refuses : List ℕ → LangFault → Type 0
 Refuses text NoMemory = Unit {0}
-Refuses text (Syntax line) = IsFirstFault (lines_of text) line × ¬ IsOtherVersion (lines_of text)
+Refuses text (Syntax line) = IsFirstFault word_lines IsDescription (lines_of text) line × ¬ IsOtherVersion (lines_of text)
 Refuses text TooLong = 262144 < length text
 Refuses text Version = IsOtherVersion (lines_of text)
 

@@ -15,3 +15,6 @@ pub mod Stages
 pub mod Texts
 pub mod Faults
 pub mod Reading
+pub mod Scripts
+pub mod Items
+pub mod ScriptReading

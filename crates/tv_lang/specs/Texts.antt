@@ -1,10 +1,7 @@
--- The descriptions that texts spell.
-use Rattle.std.specs.Prelude.{◌≡◌, ℕ, List, [], ◌∷◌, ◌++◌}
-use Rattle.tv_model.specs.declared.desc.Desc.{Desc}
+-- Texts that spell a value, whose declarations are lists of words.
+use Rattle.std.specs.Prelude.{◌≡◌, ℕ, ◌+◌, ◌<◌, ◌≤◌, List, [], ◌∷◌, ◌++◌, length, take}
 use Rattle.tv_lang.specs.declared.word.Word.{Word}
-use Rattle.tv_lang.specs.Lines.{lines_of}
 use Rattle.tv_lang.specs.Words.{SpellsWords}
-use Rattle.tv_lang.specs.Spelling.{word_lines, IsDescription}
 
 -- each line spells the words beside it
 abbrev pub EachSpells : List (List ℕ) → List (List Word) → Type 0
@@ -18,17 +15,22 @@ declarations [] = []
 declarations ([] ∷ wss) = declarations wss
 declarations ((w ∷ ws) ∷ wss) = (w ∷ ws) ∷ declarations wss
 
--- the lines spell the description
-pub record SpellsLines (lines : List (List ℕ)) (d : Desc) : Type 0 where
+-- the lines spell the value, one that can be spelled, by the words of its declarations
+pub record SpellsBy {V : Type 0} (spelling : V → List (List Word)) (CanBeSpelled : V → Type 0) (lines : List (List ℕ)) (v : V) : Type 0 where
   pub words : List (List Word)
   pub each : EachSpells lines words
-  pub declared : declarations words ≡ word_lines d
-  pub described : IsDescription d
+  pub declared : declarations words ≡ spelling v
+  pub can : CanBeSpelled v
 
--- the text spells the description
-abbrev pub Spells : List ℕ → Desc → Type 0
-Spells text d = SpellsLines (lines_of text) d
+-- some lines after these make a text that spells a value
+abbrev pub BeginsBy : {V : Type 0} → (V → List (List Word)) → (V → Type 0) → List (List ℕ) → Type 0
+BeginsBy {V} spelling CanBeSpelled lines = (more : List (List ℕ)) × (v : V) × SpellsBy spelling CanBeSpelled (lines ++ more) v
 
--- some lines after these make a text that spells a description
-abbrev pub Begins : List (List ℕ) → Type 0
-Begins lines = (more : List (List ℕ)) × (d : Desc) × SpellsLines (lines ++ more) d
+-- the first faulty line: those before it begin a text of the grammar, and with it they don't; a line that is missing counts as one
+pub record IsFirstFault {V : Type 0} (spelling : V → List (List Word)) (CanBeSpelled : V → Type 0) (lines : List (List ℕ)) (line : ℕ) : Type 0 where
+  pub before : ℕ
+  pub number : line ≡ before + 1
+  pub within : before ≤ length lines
+  pub begins : BeginsBy spelling CanBeSpelled (take before lines)
+  pub stops : before < length lines → BeginsBy spelling CanBeSpelled (take line lines) → ⊥
+  pub missing : before ≡ length lines → (v : V) → SpellsBy spelling CanBeSpelled lines v → ⊥

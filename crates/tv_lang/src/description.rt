@@ -2,10 +2,9 @@
 
 ghost use Rattle.std.specs.Prelude.{◌≡◌, ◌↔◌, ◌+◌, ◌<◌, ◌≤◌, ◌^◌, length, IfOk, IfErr, Err};
 ghost use Rattle.tv_model.specs.declared.desc.Desc.{Desc as SeenDesc};
-ghost use Rattle.tv_lang.specs.Faults.{Refuses, Gives};
+ghost use Rattle.tv_lang.specs.Faults.{Refuses, Gives, Spells};
 ghost use Rattle.tv_lang.specs.Lines.{lines_of};
 ghost use Rattle.tv_lang.specs.Reading.{line_step, Next, RefusesLine, reading_of, Value, StopsAt};
-ghost use Rattle.tv_lang.specs.Texts.{Spells};
 
 use crate::lines::Lines;
 use crate::progress::Progress;
