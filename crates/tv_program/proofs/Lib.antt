@@ -2,6 +2,7 @@ pub mod Descriptions
 pub mod Drawing
 pub mod Lawful
 pub mod Marks
+pub mod Outputs
 pub mod Pens
 pub mod Performing
 pub mod Pieces
@@ -9,5 +10,6 @@ pub mod Ranges
 pub mod Runs
 pub mod Screens
 pub mod Sessions
-pub mod Thin
+pub mod ThinDialogs
+pub mod ThinRuns
 pub mod Writing

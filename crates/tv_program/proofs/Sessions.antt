@@ -82,7 +82,7 @@ module _ (d : Desc) (dialog : Dialog) (only : d.dialogs ≡ dialog ∷ []) where
     closed_is = rw (thin.windows, only) refl
 
     started_from : (o : Option (List ℕ)) → d.start ≡ o → (r : Run)
-      → (is_some o ≡ true → state_of dialog r ≡ open_dialog dialog 0 (state_of dialog fresh)) → (is_some o ≡ false → r ≡ fresh) → state_of dialog r ≡ start_from d o
+        → (is_some o ≡ true → state_of dialog r ≡ open_dialog dialog 0 (state_of dialog fresh)) → (is_some o ≡ false → r ≡ fresh) → state_of dialog r ≡ start_from d o
     started_from None e r opens shuts = ap (state_of dialog) (shuts refl) ∙ closed_is
     started_from (Some name) e r opens shuts =
         let named : is_named name dialog ≡ true = only_start d dialog only (sound_says d sound) name e in

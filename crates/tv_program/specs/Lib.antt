@@ -2,7 +2,9 @@ pub mod Device
 pub mod Looks
 pub mod Pen
 pub mod Performed
+pub mod Report
 pub mod Run
 pub mod ScreenText
+pub mod ThinRun
 pub mod ThinSession
 pub mod Writer

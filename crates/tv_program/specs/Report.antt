@@ -6,7 +6,7 @@ use Rattle.tv_model.specs.declared.fault.Fault.{Fault}
 use Rattle.tv_model.specs.Faults.{fault_number}
 use Rattle.tv_model.specs.LogText.{line_of}
 use Rattle.tv_program.specs.declared.thin.RunFault.{RunFault}
-use Rattle.tv_program.specs.declared.thin.RunFault.TheVariants.{NoMemory, Lang, Faults, Script, Write}
+use Rattle.tv_program.specs.declared.thin.RunFault.TheVariants.{NoMemory, Lang, Faults, Script, ScriptTooLong, Write}
 use Rattle.tv_program.specs.Writer.{Seen, Takes, Cuts}
 
 -- the text was taken, or a proper prefix of it because the writer failed
@@ -37,6 +37,7 @@ err_text name NoMemory = line_of (codes "tvdlg: ") (codes "no memory")
 err_text name (Lang fault) = lang_message name fault
 err_text name (Faults list) = []
 err_text name (Script line) = syntax_message name line
+err_text name ScriptTooLong = line_of (codes "tvdlg: ") (name ++ codes ": too long")
 err_text name Write = line_of (codes "tvdlg: ") (codes "cannot write")
 
 -- 1 for a text that is not right, 3 for memory and devices
@@ -49,4 +50,5 @@ status_of NoMemory = 3
 status_of (Lang fault) = lang_status fault
 status_of (Faults list) = 1
 status_of (Script line) = 1
+status_of ScriptTooLong = 1
 status_of Write = 3

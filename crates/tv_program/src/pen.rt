@@ -42,6 +42,14 @@ impl<'a, W: Writer> Pen<'a, W> {
         self.put(ch.encode_utf8(&mut buffer).as_bytes());
     }
 
+    /// Writes the place in decimal digits.
+    pub(crate) fn put_place(&mut self, place: usize)
+        ensures { Puts W.seen self.old self.new (decimal place) }
+    {
+        let mut buffer = Buffer::new();
+        self.put(buffer.format(place).as_bytes());
+    }
+
     /// Writes the number in decimal digits.
     pub(crate) fn put_number(&mut self, number: u32)
         ensures { Puts W.seen self.old self.new (decimal number) }

@@ -102,7 +102,12 @@ impl Stage for ThinSession {
     }
 
     fn paint(&mut self) {
-        draw(&mut self.screen, &self.desc, only_dialog(&self.desc), self.run.focus);
+        draw(
+            &mut self.screen,
+            &self.desc,
+            only_dialog(&self.desc),
+            self.run.focus,
+        );
     }
 
     fn screen(&self) -> &Screen {

@@ -2,9 +2,10 @@
 
 ghost use Rattle.std.specs.Prelude.{◌≡◌, IfOk, IfErr};
 ghost use Rattle.tv_lang.specs.Scripts.{Spells as SpellsScript};
-ghost use Rattle.tv_lang.specs.Texts.{Spells};
+ghost use Rattle.tv_lang.specs.Faults.{Spells};
+ghost use Rattle.tv_model.specs.Output.{output};
 ghost use Rattle.tv_model.specs.Thin.{IsThin};
-ghost use Rattle.tv_program.specs.ThinRun.{IsNoScript, IsSoundText, RefusesDesc, RunsTo};
+ghost use Rattle.tv_program.specs.ThinRun.{IsNoScript, IsSoundText, Plays, RefusesDesc, RunsTo};
 
 use crate::script::perform;
 use crate::session::ThinSession;
@@ -13,6 +14,9 @@ use std::alloc::{AllocError, Global};
 use tv_check::faults;
 use tv_lang::{LangFault, ScriptFault, parse, parse_script};
 use tv_model::{Desc, Fault, Item, Sequence};
+
+/// The most bytes of a script.
+const LONGEST_SCRIPT: usize = 1_048_576;
 
 /// Why a run didn't come to its end.
 #[derive(Debug, Drop)]
@@ -24,6 +28,8 @@ pub enum RunFault {
     Faults(Sequence<Fault>),
     /// The first faulty line of the script.
     Script(usize),
+    /// The script has more than 1,048,576 bytes.
+    ScriptTooLong,
     /// The writer failed, or took nothing.
     Write,
 }
@@ -43,13 +49,25 @@ impl From<AllocError> for RunFault {
 ///
 /// The description is one dialog of static texts and buttons. It is read first, then its faults are looked for, then
 /// the script is read; nothing is written before all three have passed.
-pub fn run<W: Writer>(alloc: Global, desc: &[u8], script: &[u8], out: &mut W) -> Result<(), RunFault>
+pub fn run<W: Writer>(
+    alloc: Global,
+    desc: &[u8],
+    script: &[u8],
+    out: &mut W,
+) -> Result<(), RunFault>
     ensures { RunsTo desc.now script.now (W.seen out.old) (W.seen out.new) result }
 {
     let desc = read_sound(alloc, desc)?;
     let items = read_script(alloc, script)?;
     let mut session = ThinSession::new(alloc, desc)?;
-    match perform(&mut session, items.as_slice(), out) {
+    play(&mut session, items.as_slice(), out)
+}
+
+// Performs a script on a session.
+fn play<W: Writer>(session: &mut ThinSession, script: &[Item], out: &mut W) -> Result<(), RunFault>
+    ensures { Plays (W.seen out.old) (W.seen out.new) (output session.old.session script.now) result }
+{
+    match perform(session, script, out) {
         Ok(()) => Ok(()),
         Err(_) => Err(RunFault::Write),
     }
@@ -86,6 +104,9 @@ fn read_script(alloc: Global, text: &[u8]) -> Result<Sequence<Item>, RunFault>
     ensures spelled { IfOk result (λ items. SpellsScript text.now items) }
     ensures fault { IfErr result (λ fault. IsNoScript text.now fault) }
 {
+    if text.len() > LONGEST_SCRIPT {
+        return Err(RunFault::ScriptTooLong);
+    }
     match parse_script(alloc, text) {
         Ok(items) => Ok(items),
         Err(ScriptFault::NoMemory) => Err(RunFault::NoMemory),

@@ -1,5 +1,5 @@
 use Rattle.std.proofs.Common.{◌==◌, refl}
-use Rattle.tv_program.proofs.Thin.{no_fields, saved-ended}
+use Rattle.tv_program.proofs.ThinDialogs.{no_fields, saved-ended}
 use Rattle.tv_program.proofs.run.Run.end.Goals as goal
 
 pub returns : goal.returns

@@ -24,7 +24,7 @@ invariant_of-result c =
 pub returns-clause-start : goal.returns-clause-start
 returns-clause-start c =
     ap (λ (s : State). record { desc = c.args.desc; state = s })
-      (started_is c.args.desc c.only_dialog.result.now c.only_dialog.ensures c.requires.thin c.requires.sound c.start-run.result (λ e. c.start-run.ensures.opened (c.is_some.ensures ∙ e)) (λ e. c.start-run.ensures.closed (c.is_some.ensures ∙ e)))
+    (started_is c.args.desc c.only_dialog.result.now c.only_dialog.ensures c.requires.thin c.requires.sound c.start-run.result (λ e. c.start-run.ensures.opened (c.is_some.ensures ∙ e)) (λ e. c.start-run.ensures.closed (c.is_some.ensures ∙ e)))
 
 pub returns-clause-safe : goal.returns-clause-safe
 returns-clause-safe c = always_safe c.args.desc c.requires.thin.dialog c.requires.thin.only c.requires.thin c.requires.sound

@@ -37,7 +37,8 @@ fn status(fault: &RunFault) -> u8
 {
     match fault {
         RunFault::NoMemory | RunFault::Lang(LangFault::NoMemory) | RunFault::Write => 3,
-        RunFault::Lang(_) | RunFault::Faults(_) | RunFault::Script(_) => 1,
+        RunFault::Lang(_) | RunFault::Faults(_) | RunFault::Script(_) | RunFault::ScriptTooLong =>
+            1,
     }
 }
 
@@ -61,7 +62,7 @@ fn put_fault<W: Writer>(pen: &mut Pen<W>, fault: &Fault)
     ensures { Puts W.seen pen.old pen.new (fault_line fault.now) }
 {
     pen.put(b"F");
-    pen.put_number(fault.kind.number().into());
+    pen.put_number(u32::from(fault.kind.number()));
     pen.put(b" line ");
     pen.put_number(fault.line);
     pen.put(b"\n");
@@ -75,6 +76,7 @@ fn put_message<W: Writer>(pen: &mut Pen<W>, name: &[u8], fault: &RunFault)
         RunFault::Lang(fault) => put_lang(pen, name, *fault),
         RunFault::Faults(_) => {}
         RunFault::Script(line) => put_syntax(pen, name, *line),
+        RunFault::ScriptTooLong => put_named(pen, name, b": too long"),
         RunFault::Write => put_plain(pen, b"cannot write"),
     }
 }

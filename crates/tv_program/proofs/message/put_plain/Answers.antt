@@ -1,0 +1,7 @@
+use Rattle.tv_model.specs.LogText.{line_of}
+use Rattle.tv_program.proofs.Pens.{Puts-then}
+use Rattle.tv_program.proofs.message.put_plain.Goals as goal
+
+pub returns : goal.returns
+unfolding line_of
+returns g c = Puts-then (Puts-then c.put.ensures c.put-2.ensures) c.put-3.ensures
