@@ -6,3 +6,7 @@ pub mod Areas
 pub mod Covered
 pub mod Shadows
 pub mod Layering
+pub mod Tildes
+pub mod Marks
+pub mod Hots
+pub mod Unique

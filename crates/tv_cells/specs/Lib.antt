@@ -3,3 +3,4 @@ pub mod Rectangle
 pub mod Picture
 pub mod Canvas
 pub mod Layers
+pub mod HotText

@@ -1,6 +1,6 @@
 //! A character with its attribute.
 
-ghost use Rattle.std.specs.Prelude.{◌≡◌, ◌↔◌, IsSome, IfSome};
+ghost use Rattle.std.specs.Prelude.{◌≡◌, ◌↔◌, IsSome, IfSome, IsTrue};
 ghost use Rattle.tv_cells.specs.Glyph.{IsNarrow, glyph, is_narrow, shaded, shown};
 
 use std::marker::Model;
@@ -27,11 +27,12 @@ impl Model for Cell {
     ghost inverse = { λ v. record { ch = v.ch; attr = v.attr } };
 }
 
-/// Whether the character takes exactly one column, as `unicode_width` counts them.
+/// Whether the character takes exactly one column.
 pub fn is_narrow(ch: char) -> bool
-    ensures { result ≡ is_narrow ch }
+    ensures fact { IsTrue result ↔ IsNarrow ch }
+    ensures test { result ≡ is_narrow ch }
 {
-    ch.width().unwrap_or(0) == 1
+    ch.width() == Some(1)
 }
 
 impl Cell {
@@ -40,7 +41,7 @@ impl Cell {
         ensures variant { IsSome result ↔ IsNarrow ch }
         ensures value { IfSome result (λ cell. cell ≡ glyph ch attr) }
     {
-        if ch.width() == Some(1) {
+        if is_narrow(ch) {
             Some(Cell { ch, attr })
         } else {
             None

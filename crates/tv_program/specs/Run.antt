@@ -1,14 +1,15 @@
 -- The state of the flat machine, as a run over one dialog of texts and buttons keeps it.
-use Rattle.std.specs.Prelude.{◌≡◌, Bool, true, false, List, [], ◌∷◌, Option, Some, None, option_map, if◌then◌else◌, All}
+use Rattle.std.specs.Prelude.{◌≡◌, Bool, true, false, List, [], ◌∷◌, Option, Some, None, option_map, if◌then◌else◌, All, pos}
 use Rattle.tv_model.specs.declared.node.Id.{Id}
 use Rattle.tv_model.specs.declared.node.Node.{Node}
+use Rattle.tv_model.specs.declared.desc.Desc.{Desc}
 use Rattle.tv_model.specs.declared.desc.Dialog.{Dialog}
 use Rattle.tv_model.specs.Record.{Entries}
 use Rattle.tv_model.specs.State.{State, OpenDialog, declared_leaves}
 use Rattle.tv_event.specs.declared.event.Event.{Event}
 use Rattle.tv_model.specs.Step.{emptied, key_event}
 use Rattle.tv_model.specs.Thin.{IsThinDialog}
-use Rattle.tv_model.specs.Faults.{is_lawful}
+use Rattle.tv_check.specs.Usable.{IsBetween, IsLimited}
 use Rattle.tv_program.specs.declared.run.Run.{Run}
 
 -- the dialog while it is open
@@ -38,4 +39,9 @@ stepped d s (Some focus) e = key_event d (emptied s) (opened d focus) e
 -- a thin dialog whose numbers are within their limits
 pub record IsReady (d : Dialog) : Type 0 where
   pub thin : IsThinDialog d
-  pub lawful : All (λ node. is_lawful node ≡ true) d.views
+  pub limited : All IsLimited d.views
+
+-- a screen of a size within the limits
+pub record IsScreenSize (d : Desc) : Type 0 where
+  pub width : IsBetween (pos 20) (pos 132) d.width
+  pub height : IsBetween (pos 10) (pos 60) d.height

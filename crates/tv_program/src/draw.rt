@@ -1,16 +1,17 @@
 //! The screen of a run, drawn from the back to the front.
 
-ghost use Rattle.std.specs.Prelude.{◌≡◌, ◌+ℤ◌, ◌-ℤ◌, ◌∷◌, ◌++◌, [], List, true, pos, ◌≤◌, Some, None, reverse, flat_map};
+ghost use Rattle.std.specs.Prelude.{◌≡◌, All, ◌+ℤ◌, ◌-ℤ◌, ◌∷◌, ◌++◌, [], List, true, pos, ◌≤◌, Some, None, reverse, flat_map};
 ghost use Rattle.tv_cells.specs.Rectangle.{IsNear, IsRectNear, sized};
 ghost use Rattle.tv_cells.specs.Layers.{Layer, Painted, Shows};
-ghost use Rattle.tv_model.specs.Faults.{desktop, is_lawful, is_lawful_screen};
+ghost use Rattle.tv_model.specs.Faults.{desktop};
 ghost use Rattle.tv_model.specs.Layers.{canvas_at, bar_layer, status_layer, background_layer, view_layers, body_layers, frame_canvas, dialog_layers, is_default_now, look_of, whole_screen};
 ghost use Rattle.tv_model.specs.State.{natural};
 ghost use Rattle.tv_model.specs.Faces.{empty_bar};
 ghost use Rattle.tv_program.specs.Looks.{look_of as seen_look};
-ghost use Rattle.std.specs.List.{AllPass};
 ghost use Rattle.tv_cells.specs.Picture.{IsAlike};
 ghost use Rattle.tv_program.specs.Looks.{focused_layers};
+ghost use Rattle.tv_check.specs.Usable.{IsLimited};
+ghost use Rattle.tv_program.specs.Run.{IsScreenSize};
 
 use crate::faces::{Background, ButtonFace, ButtonLook, DialogFrame, EmptyBar, StaticText};
 use crate::focus::{is_button_at, is_default};
@@ -19,7 +20,7 @@ use tv_model::{Desc, Dialog, Id, Kind, Node};
 
 // The rows between the menu bar and the status line.
 fn desktop(desc: &Desc) -> Rect
-    requires { is_lawful_screen desc.now ≡ true }
+    requires { IsScreenSize desc.now }
     ensures { result ≡ desktop desc.now }
 {
     Rect {
@@ -77,9 +78,9 @@ fn sum(a: &i32, b: &i32) -> i32
 
 // Where a view is drawn: clipped to the desktop, with its corner as the origin.
 fn view_canvas(desc: &Desc, dialog: &Dialog, node: &Node) -> Canvas
-    requires screen { is_lawful_screen desc.now ≡ true }
-    requires dialog { is_lawful dialog.now.node ≡ true }
-    requires view { is_lawful node.now ≡ true }
+    requires screen { IsScreenSize desc.now }
+    requires dialog { IsLimited dialog.now.node }
+    requires view { IsLimited node.now }
     ensures { result ≡ canvas_at (desktop desc.now) (dialog.now.node.x +ℤ node.now.x) (dialog.now.node.y +ℤ node.now.y) }
 {
     Canvas {
@@ -92,9 +93,9 @@ fn view_canvas(desc: &Desc, dialog: &Dialog, node: &Node) -> Canvas
 }
 
 fn draw_view(screen: &mut Screen, desc: &Desc, dialog: &Dialog, focus: Id, node: &Node)
-    requires screen { is_lawful_screen desc.now ≡ true }
-    requires dialog { is_lawful dialog.now.node ≡ true }
-    requires view { is_lawful node.now ≡ true }
+    requires screen { IsScreenSize desc.now }
+    requires dialog { IsLimited dialog.now.node }
+    requires view { IsLimited node.now }
     ensures size { IsAlike screen.old screen.new }
     ensures shows { (layers : List Layer) → Shows layers screen.old → Shows (view_layers desc.now dialog.now focus node.now ++ layers) screen.new }
 {
@@ -126,9 +127,9 @@ fn draw_view(screen: &mut Screen, desc: &Desc, dialog: &Dialog, focus: Id, node:
 }
 
 fn draw_views(screen: &mut Screen, desc: &Desc, dialog: &Dialog, focus: Id)
-    requires screen { is_lawful_screen desc.now ≡ true }
-    requires dialog { is_lawful dialog.now.node ≡ true }
-    requires views { AllPass is_lawful dialog.now.views }
+    requires screen { IsScreenSize desc.now }
+    requires dialog { IsLimited dialog.now.node }
+    requires views { All IsLimited dialog.now.views }
     ensures size { IsAlike screen.old screen.new }
     ensures shows { (layers : List Layer) → Shows layers screen.old → Shows (flat_map (view_layers desc.now dialog.now focus) (reverse dialog.now.views) ++ layers) screen.new }
 {
@@ -138,7 +139,7 @@ fn draw_views(screen: &mut Screen, desc: &Desc, dialog: &Dialog, focus: Id)
 }
 
 fn frame_canvas(desc: &Desc, dialog: &Dialog) -> Canvas
-    requires { is_lawful_screen desc.now ≡ true }
+    requires { IsScreenSize desc.now }
     ensures { result ≡ frame_canvas desc.now dialog.now }
 {
     Canvas {
@@ -167,8 +168,8 @@ fn sized(width: u32, height: u32) -> Rect
 }
 
 fn draw_body(screen: &mut Screen, desc: &Desc, dialog: &Dialog)
-    requires screen { is_lawful_screen desc.now ≡ true }
-    requires dialog { is_lawful dialog.now.node ≡ true }
+    requires screen { IsScreenSize desc.now }
+    requires dialog { IsLimited dialog.now.node }
     ensures size { IsAlike screen.old screen.new }
     ensures shows { (layers : List Layer) → Shows layers screen.old → Shows (body_layers desc.now dialog.now ++ layers) screen.new }
 {
@@ -187,9 +188,9 @@ fn draw_body(screen: &mut Screen, desc: &Desc, dialog: &Dialog)
 }
 
 fn draw_dialog(screen: &mut Screen, desc: &Desc, dialog: &Dialog, focus: Id)
-    requires screen { is_lawful_screen desc.now ≡ true }
-    requires dialog { is_lawful dialog.now.node ≡ true }
-    requires views { AllPass is_lawful dialog.now.views }
+    requires screen { IsScreenSize desc.now }
+    requires dialog { IsLimited dialog.now.node }
+    requires views { All IsLimited dialog.now.views }
     ensures size { IsAlike screen.old screen.new }
     ensures shows { (layers : List Layer) → Shows layers screen.old → Shows (dialog_layers desc.now dialog.now focus ++ layers) screen.new }
 {
@@ -207,7 +208,7 @@ fn bar_canvas(desc: &Desc, row: &i32) -> Canvas
 }
 
 fn draw_background(screen: &mut Screen, desc: &Desc)
-    requires { is_lawful_screen desc.now ≡ true }
+    requires { IsScreenSize desc.now }
     ensures size { IsAlike screen.old screen.new }
     ensures shows { Shows (background_layer desc.now ∷ []) screen.new }
 {
@@ -226,9 +227,9 @@ fn draw_background(screen: &mut Screen, desc: &Desc)
 }
 
 fn draw_open(screen: &mut Screen, desc: &Desc, dialog: &Dialog, focus: Option<Id>)
-    requires screen { is_lawful_screen desc.now ≡ true }
-    requires dialog { is_lawful dialog.now.node ≡ true }
-    requires views { AllPass is_lawful dialog.now.views }
+    requires screen { IsScreenSize desc.now }
+    requires dialog { IsLimited dialog.now.node }
+    requires views { All IsLimited dialog.now.views }
     ensures size { IsAlike screen.old screen.new }
     ensures shows { (layers : List Layer) → Shows layers screen.old → Shows (focused_layers desc.now dialog.now focus ++ layers) screen.new }
 {
@@ -254,7 +255,7 @@ fn draw_bar(screen: &mut Screen, desc: &Desc, row: &i32)
 }
 
 fn last_row(desc: &Desc) -> i32
-    requires { is_lawful_screen desc.now ≡ true }
+    requires { IsScreenSize desc.now }
     ensures { result ≡ (desc.now.height -ℤ pos 1) }
 {
     desc.height - 1
@@ -262,9 +263,9 @@ fn last_row(desc: &Desc) -> i32
 
 /// Draws the whole screen: the desktop, the open dialog with its shadow, and the rows of the menu bar and the status line.
 pub(crate) fn draw(screen: &mut Screen, desc: &Desc, dialog: &Dialog, focus: Option<Id>)
-    requires screen { is_lawful_screen desc.now ≡ true }
-    requires dialog { is_lawful dialog.now.node ≡ true }
-    requires views { AllPass is_lawful dialog.now.views }
+    requires screen { IsScreenSize desc.now }
+    requires dialog { IsLimited dialog.now.node }
+    requires views { All IsLimited dialog.now.views }
     ensures size { IsAlike screen.old screen.new }
     ensures shows { Shows (bar_layer desc.now ∷ status_layer desc.now ∷ (focused_layers desc.now dialog.now focus ++ background_layer desc.now ∷ [])) screen.new }
 {

@@ -3,7 +3,8 @@
 ghost use Rattle.std.specs.Prelude.{◌≡◌, ◌<◌, ◌≤◌, ◌+◌, [], ◌∷◌, ◌++◌, length, true, false, Some, None, option_copied, if◌then◌else◌};
 ghost use Rattle.tv_model.specs.Step.{logged, emptied, request, command, command_number, press_node, press, key, key_event, ended, is_declared, ends_of, open_dialog, enter_target};
 ghost use Rattle.tv_model.specs.Nodes.{node_of};
-ghost use Rattle.tv_model.specs.Faults.{is_lawful, is_lawful_number};
+ghost use Rattle.tv_model.specs.Faults.{is_lawful_number};
+ghost use Rattle.tv_check.specs.Usable.{IsLimited};
 ghost use Rattle.tv_program.specs.Run.{state_of, opened, stepped, IsReady};
 
 use crate::focus::{enter_target, first_free, is_free_at, next_free, previous_free};
@@ -122,7 +123,7 @@ impl Run {
     fn press_node(&mut self, dialog: &Dialog, focus: Id, node: &Node)
         requires room { length self.old.log < 3 }
         requires ready { IsReady dialog.now }
-        requires lawful { is_lawful node.now ≡ true }
+        requires limited { IsLimited node.now }
         ensures { state_of dialog.now self.new ≡ press_node dialog.now (state_of dialog.now self.old) (opened dialog.now focus) (Some node.now) }
     {
         if let Kind::Button { command, .. } = &node.kind {
