@@ -1,10 +1,10 @@
 -- Where a canvas draws.
 use Rattle.std.specs.Prelude.{◌≤◌, ◌<◌, ◌≡◌, ℕ, ℤ, pos, ◌+ℤ◌, ◌≤ℤ◌, ◌<ℤ◌}
+use Rattle.std.specs.Int.{int_gap}
 use Rattle.tv_cells.specs.declared.rect.Point.{Point}
 use Rattle.tv_cells.specs.declared.rect.Rect.{Rect}
-use Rattle.tv_cells.specs.declared.canvas.Canvas.{Canvas}
 use Rattle.tv_cells.specs.declared.canvas.Area.{Area}
-use Rattle.std.specs.Int.{int_gap}
+use Rattle.tv_cells.specs.declared.canvas.Canvas.{Canvas}
 use Rattle.tv_cells.specs.Glyph.{Glyph}
 use Rattle.tv_cells.specs.Rectangle.{IsIn, cut, shifted, shifted_point, sized}
 
@@ -43,7 +43,7 @@ pub record IsInArea (area : Area) (column row : ℕ) : Type 0 where
 abbrev pub aside : Point
 aside = record { x = pos 2; y = pos 1 }
 
--- the moved rectangle without the rectangle itself
+-- the shadow of a rectangle: the moved rectangle without the rectangle itself
 pub record IsShadow (c : Canvas) (r : Rect) (column row : ℕ) : Type 0 where
   pub moved : Covers c (shifted r aside) column row
   pub free : IsIn (shifted r c.origin) (pos column) (pos row) → ⊥

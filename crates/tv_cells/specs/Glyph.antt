@@ -15,6 +15,7 @@ pub record Glyph : Type 0 where
   pub ch : ℕ
   pub attr : ℕ
 
+-- a glyph from its parts
 abbrev pub glyph : ℕ → ℕ → Glyph
 glyph ch attr = record { ch = ch; attr = attr }
 

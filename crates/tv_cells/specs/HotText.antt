@@ -44,14 +44,16 @@ Refuses text (BadWidth place) = (place < length text) × All IsNarrow (take plac
 Refuses text BadMark = All IsNarrow text × ((hot : Hot) → IsHot hot → spelled hot ≡ text → ⊥)
 Refuses text TooLong = All IsNarrow text × (hot : Hot) × IsHot hot × (spelled hot ≡ text) × (120 < length hot.text)
 
--- ---- the parts of a text
+-- ---- how a text is taken apart
 
+-- a text whose marked letter stands between two others, and one without a mark
 abbrev pub hot_of : List ℕ → ℕ → List ℕ → Hot
 hot_of before letter after = record { text = before ++ letter ∷ after; place = Some (length before) }
 
 abbrev pub unmarked : List ℕ → Hot
 unmarked text = record { text = text; place = None }
 
+-- two `~` round a letter or a digit, and no other
 pub record IsAround (text before : List ℕ) (letter : ℕ) (after : List ℕ) : Type 0 where
   pub whole : text ≡ before ++ 126 ∷ letter ∷ 126 ∷ after
   pub sound : IsTrue (is_ascii_alphanumeric letter)
@@ -63,6 +65,7 @@ pub record IsUnmarkable (text : List ℕ) : Type 0 where
   pub not_plain : All (λ ch. ch ≢ 126) text → ⊥
   pub not_marked : (before : List ℕ) (letter : ℕ) (after : List ℕ) → IsAround text before letter after → ⊥
 
+-- the parts of a text
 abbrev pub IsApart : List ℕ → Parts → Type 0
 IsApart text Plain = All (λ ch. ch ≢ 126) text
 IsApart text (Marked before letter after) = IsAround text (chars before.now) letter (chars after.now)

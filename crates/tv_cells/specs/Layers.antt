@@ -2,10 +2,9 @@
 use Rattle.std.specs.Prelude.{◌≡◌, ℕ, ℤ, pos, Bool, not, ◌&&◌, List, [], ◌∷◌, if◌then◌else◌}
 use Rattle.std.specs.Int.Signed.{le_z, lt_z}
 use Rattle.tv_cells.specs.Glyph.{Glyph, blank, shaded}
-use Rattle.tv_cells.specs.Rectangle.{shifted}
 use Rattle.tv_cells.specs.Picture.{Picture, IsOn, cell_at}
 use Rattle.tv_cells.specs.Canvas.{face_at, aside}
-use Rattle.tv_cells.specs.Rectangle.{sized}
+use Rattle.tv_cells.specs.Rectangle.{shifted, sized}
 use Rattle.tv_cells.specs.declared.rect.Rect.{Rect}
 use Rattle.tv_cells.specs.declared.canvas.Canvas.{Canvas}
 
@@ -31,5 +30,6 @@ abbrev pub cell_of : List Layer → ℕ → ℕ → Glyph
 cell_of [] column row = blank
 cell_of (layer ∷ layers) column row = over layer column row (cell_of layers column row)
 
+-- each cell of the picture is that of the layers
 pub record Shows (layers : List Layer) (p : Picture) : Type 0 where
   pub each : (column row : ℕ) → IsOn p column row → cell_at p column row ≡ cell_of layers column row

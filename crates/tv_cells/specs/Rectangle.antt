@@ -20,6 +20,7 @@ pub record IsNear (z : ℤ) : Type 0 where
   pub low : neg_ℤ (pos 100000) ≤ℤ z
   pub high : z ≤ℤ pos 100000
 
+-- a point, and a rectangle, of such coordinates
 pub record IsPointNear (p : Point) : Type 0 where
   pub x : IsNear p.x
   pub y : IsNear p.y
