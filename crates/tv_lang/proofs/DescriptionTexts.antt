@@ -10,9 +10,9 @@ use Rattle.tv_lang.specs.declared.word.Word.TheVariants.{Bare, Quoted}
 use Rattle.tv_lang.specs.declared.progress.Progress.{Progress}
 use Rattle.tv_lang.specs.declared.progress.Stage.{Stage}
 use Rattle.tv_lang.specs.declared.progress.Stage.TheVariants as stages
-use Rattle.tv_lang.specs.Steps.{steps}
-use Rattle.tv_lang.specs.LineWords.{line_words, line_taken}
-use Rattle.tv_lang.specs.Stages.{fresh, taken, finished}
+use Rattle.tv_lang.specs.Reading.Steps.{steps}
+use Rattle.tv_lang.specs.Reading.LineWords.{line_words, line_taken}
+use Rattle.tv_lang.specs.Reading.Stages.{fresh, taken, finished}
 use Rattle.tv_lang.specs.Spelling.{word_lines, IsDescription}
 use Rattle.tv_lang.specs.Faults.{SpellsLines, Begins}
 use Rattle.tv_lang.proofs.TextLaws as texts

@@ -9,8 +9,9 @@ use Rattle.tv_model.specs.declared.node.Ends.{Ends}
 use Rattle.tv_lang.specs.declared.word.Word.{Word}
 use Rattle.tv_lang.specs.declared.word.Word.TheVariants.{Bare, Quoted}
 use Rattle.tv_lang.specs.Names.{is_name}
-use Rattle.tv_lang.specs.Fields.{is_bare_word, number_in, name_in, text_in}
-use Rattle.tv_lang.specs.Commands.{named_command, numbered_command, command_in, is_next, after_next, at_end, ends_in}
+use Rattle.tv_lang.specs.Fields.{is_bare_word, name_in, text_in}
+use Rattle.tv_lang.specs.Reading.Numbers.{number_in}
+use Rattle.tv_lang.specs.Reading.Commands.{named_command, numbered_command, command_in, is_next, after_next, at_end, ends_in}
 use Rattle.tv_lang.specs.Spelling.{number_word, command_word, word_if, ends_words, IsNumber, IsName, IsCommand}
 use Rattle.tv_lang.proofs.NumberLaws.{number_read, read_number}
 

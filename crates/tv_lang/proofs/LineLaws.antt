@@ -8,8 +8,8 @@ use Rattle.std.proofs.lemmas.Str.{IsUtf8-from_is_utf8, is_utf8-from_IsUtf8}
 use Rattle.tv_lang.specs.declared.word.Word.{Word}
 use Rattle.tv_lang.specs.declared.scan.Mode.TheVariants.{Between}
 use Rattle.tv_lang.specs.Words.{is_comment, Spaced, SpellsWords}
-use Rattle.tv_lang.specs.Scan.{at, read_on}
-use Rattle.tv_lang.specs.LineWords.{line_words_if, line_words}
+use Rattle.tv_lang.specs.Reading.Scan.{at, read_on}
+use Rattle.tv_lang.specs.Reading.LineWords.{line_words_if, line_words}
 use Rattle.tv_lang.proofs.WordLaws.{read_spelled, spelled_read}
 
 spelled_if : (u n k : Bool) (line : List ℕ) (ws : List Word) → is_utf8 line ≡ u → list_any is_control (chars line) ≡ n → is_comment (chars line) ≡ k → line_words_if u n k (chars line) ≡ Some ws → SpellsWords line ws

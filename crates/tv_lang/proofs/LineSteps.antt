@@ -9,8 +9,8 @@ use Rattle.tv_lang.specs.Words.{SpellsWords}
 use Rattle.tv_lang.specs.declared.progress.Stage.{Stage}
 use Rattle.tv_model.specs.declared.desc.Desc.{Desc}
 use Rattle.std.specs.Option.{option_map}
-use Rattle.tv_lang.specs.Stages.{is_other_version, progress, taken_at, taken}
-use Rattle.tv_lang.specs.Reading.{Next, Faulty, OfOtherVersion, step_from, step_if, words_step, line_step}
+use Rattle.tv_lang.specs.Reading.Stages.{is_other_version, progress, taken_at, taken}
+use Rattle.tv_lang.specs.Reading.Descriptions.{Next, Faulty, OfOtherVersion, step_from, step_if, words_step, line_step}
 use Rattle.tv_lang.proofs.LineLaws.{found_words}
 
 module _ (p : Progress) (line : List ℕ) (found : Option (List Word)) (spelled : IfSome found (λ ws. SpellsWords line ws)) (only : (ws : List Word) → SpellsWords line ws → found ≡ Some ws) where

@@ -11,10 +11,11 @@ use Rattle.tv_model.specs.declared.node.Kind.TheVariants as kinds
 use Rattle.tv_lang.specs.declared.node.Place.{Place}
 use Rattle.tv_lang.specs.declared.word.Word.{Word}
 use Rattle.tv_lang.specs.declared.word.Word.TheVariants.{Bare, Quoted}
-use Rattle.tv_lang.specs.Fields.{is_bare_word, number_in, name_in, text_in}
-use Rattle.tv_lang.specs.Commands.{command_in, ends_in}
-use Rattle.tv_lang.specs.Marks.{marked_in}
-use Rattle.tv_lang.specs.NodeLines.{place_from, place_in, node_at, mark_in, text_from, text_in_fields, button_from, button_in_fields, view_in, dialog_from, dialog_in}
+use Rattle.tv_lang.specs.Fields.{is_bare_word, name_in, text_in}
+use Rattle.tv_lang.specs.Reading.Numbers.{number_in}
+use Rattle.tv_lang.specs.Reading.Commands.{command_in, ends_in}
+use Rattle.tv_lang.specs.Reading.Marks.{marked_in}
+use Rattle.tv_lang.specs.Reading.NodeLines.{place_from, place_in, node_at, mark_in, text_from, text_in_fields, button_from, button_in_fields, view_in, dialog_from, dialog_in}
 use Rattle.tv_lang.specs.Spelling.{number_word, marked_word, kind_words, node_words, IsNumber, IsMarked, IsPlaced, IsViewKind, IsDialogKind}
 use Rattle.tv_lang.proofs.FieldLaws.{word_is, number_word_read, read_number_word, name_read, read_name, text_read, command_read, read_command, ends_read, read_ends}
 use Rattle.tv_lang.proofs.MarkLaws.{marked_read, read_marked}

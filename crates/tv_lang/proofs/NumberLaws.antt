@@ -9,8 +9,8 @@ use Rattle.std.proofs.lemmas.Bool.{eqb-true, eqb-false}
 use Rattle.std.proofs.lemmas.Bool.Decides.{nat_tests}
 use Rattle.std.proofs.lemmas.Str.Parse.{IsNumeralModel, numerals_by_value, tells_digits}
 use Rattle.std.proofs.lemmas.Fmt.{decimal_digit, decimal_nonempty, first_decimal, digits_decimal, digits_value-decimal, decimal-digits_value}
-use Rattle.tv_lang.specs.Steps.{steps}
-use Rattle.tv_lang.specs.Numbers.{add_digit, digits_in, magnitude, minus, negative, positive, zero_only, number_of}
+use Rattle.tv_lang.specs.Reading.Steps.{steps}
+use Rattle.tv_lang.specs.Reading.Numbers.{add_digit, digits_in, magnitude, minus, negative, positive, zero_only, number_of}
 
 abbrev ReadsDigits : ℕ → List ℕ → ℕ → Type 0
 ReadsDigits n cs v = AllDigits 10 cs × (v ≡ digits_value_after 10 n cs)

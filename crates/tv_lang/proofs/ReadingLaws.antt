@@ -16,17 +16,18 @@ use Rattle.tv_lang.specs.declared.word.Word.TheVariants.{Bare}
 use Rattle.tv_lang.specs.declared.progress.Progress.{Progress}
 use Rattle.tv_lang.specs.declared.progress.Stage.{Stage}
 use Rattle.tv_lang.specs.declared.progress.Stage.TheVariants as stages
-use Rattle.tv_lang.specs.Steps.{steps}
+use Rattle.tv_lang.specs.Reading.Steps.{steps}
 use Rattle.tv_lang.specs.Lines.{lines_of}
 use Rattle.tv_lang.specs.Words.{SpellsWords}
-use Rattle.tv_lang.specs.LineWords.{line_words, words_taken}
-use Rattle.tv_lang.specs.Fields.{is_bare_word, number_in, name_in}
-use Rattle.tv_lang.specs.Stages.{fresh, is_other, other_version, is_other_version, version_taken, screen_taken, screen_from, started, opened, dialog_taken, start_taken, with_view, is_end, taken_at, progress, taken, finished}
-use Rattle.tv_lang.specs.NodeLines.{dialog_in, view_in}
+use Rattle.tv_lang.specs.Reading.LineWords.{line_words, words_taken}
+use Rattle.tv_lang.specs.Fields.{is_bare_word, name_in}
+use Rattle.tv_lang.specs.Reading.Numbers.{number_in}
+use Rattle.tv_lang.specs.Reading.Stages.{fresh, is_other, other_version, is_other_version, version_taken, screen_taken, screen_from, started, opened, dialog_taken, start_taken, with_view, is_end, taken_at, progress, taken, finished}
+use Rattle.tv_lang.specs.Reading.NodeLines.{dialog_in, view_in}
 use Rattle.tv_lang.specs.Spelling.{number_word, word_lines, IsNumber, IsDescription}
 use Rattle.tv_lang.specs.Texts.{IsFirstFault}
 use Rattle.tv_lang.specs.Faults.{Spells, IsOtherVersion, Refuses, Gives}
-use Rattle.tv_lang.specs.Reading.{LineStep, Next, Faulty, OfOtherVersion, step_from, step_if, words_step, line_step, Reading, Value, Fault, Other, at_end, reading, reading_of, StopsAt}
+use Rattle.tv_lang.specs.Reading.Descriptions.{LineStep, Next, Faulty, OfOtherVersion, step_from, step_if, words_step, line_step, Reading, Value, Fault, Other, at_end, reading, reading_of, StopsAt}
 use Rattle.tv_lang.proofs.FieldLaws.{word_is, number_word_read, read_number_word}
 use Rattle.tv_lang.proofs.LineLaws.{line_spelled, spelled_line}
 use Rattle.tv_lang.proofs.DescriptionTexts.{taken_line, lines_spelled, spelled_lines, begins_taken, taken_begins}

@@ -5,7 +5,7 @@ use Rattle.std.proofs.lemmas.List.{nil_from_length}
 use Rattle.std.proofs.lemmas.Str.{chars_past_char, IsUtf8-past_char, chars-nil}
 use Rattle.tv_lang.specs.declared.word.Word.{Word}
 use Rattle.tv_lang.specs.declared.scan.Scanner.{Scanner}
-use Rattle.tv_lang.specs.Scan.{take_char, finished, read_on}
+use Rattle.tv_lang.specs.Reading.Scan.{take_char, finished, read_on}
 
 -- the scanner takes the character
 pub read_more : (s t : Scanner) (bs rest : List ℕ) (c : ℕ) (all : Option (List Word)) → IsUtf8 bs → bs ≡ encode_utf8 c ++ rest → take_char s c ≡ Some t → read_on s (chars bs) ≡ all → IsUtf8 rest × (read_on t (chars rest) ≡ all)

@@ -14,15 +14,15 @@ use Rattle.tv_lang.specs.declared.script.ScriptFault.{ScriptFault}
 use Rattle.tv_lang.specs.declared.script.ScriptFault.TheVariants.{NoMemory, Syntax}
 use Rattle.tv_lang.specs.declared.word.Word.{Word}
 use Rattle.tv_lang.specs.declared.word.Word.TheVariants.{Bare, Quoted}
-use Rattle.tv_lang.specs.Steps.{steps}
+use Rattle.tv_lang.specs.Reading.Steps.{steps}
 use Rattle.tv_lang.specs.Lines.{lines_of}
 use Rattle.tv_lang.specs.Words.{SpellsWords}
-use Rattle.tv_lang.specs.LineWords.{words_taken, line_taken}
+use Rattle.tv_lang.specs.Reading.LineWords.{words_taken, line_taken}
 use Rattle.tv_lang.specs.Fields.{is_bare_word, text_in}
 use Rattle.tv_lang.specs.Texts.{SpellsBy, BeginsBy, IsFirstFault}
 use Rattle.tv_lang.specs.Scripts.{key_name, IsScriptKey, is_space, item_words, IsScriptItem, script_lines, IsScript, Spells, Refuses, Gives}
-use Rattle.tv_lang.specs.Items.{key_in, key_item, typed, typed_in, item_in, with_item, taken}
-use Rattle.tv_lang.specs.ScriptReading.{Reading, Value, Fault, reading, reading_of, StopsAt}
+use Rattle.tv_lang.specs.Reading.Items.{key_in, key_item, typed, typed_in, item_in, with_item, taken}
+use Rattle.tv_lang.specs.Reading.Scripts.{Reading, Value, Fault, reading, reading_of, StopsAt}
 use Rattle.tv_lang.proofs.FieldLaws.{word_is, text_read}
 use Rattle.tv_lang.proofs.LineLaws.{found_words}
 use Rattle.tv_lang.proofs.TextLaws as texts

@@ -17,10 +17,11 @@ use Rattle.tv_lang.specs.declared.word.Word.TheVariants.{Bare}
 use Rattle.tv_lang.specs.declared.progress.Progress.{Progress}
 use Rattle.tv_lang.specs.declared.progress.Stage.{Stage}
 use Rattle.tv_lang.specs.declared.progress.Stage.TheVariants as stages
-use Rattle.tv_lang.specs.Steps.{steps}
-use Rattle.tv_lang.specs.Fields.{is_bare_word, number_in, name_in}
-use Rattle.tv_lang.specs.NodeLines.{view_in, dialog_in}
-use Rattle.tv_lang.specs.Stages.{fresh, screen_from, started, opened, dialog_taken, start_taken, with_view, is_end, progress, taken, finished}
+use Rattle.tv_lang.specs.Reading.Steps.{steps}
+use Rattle.tv_lang.specs.Fields.{is_bare_word, name_in}
+use Rattle.tv_lang.specs.Reading.Numbers.{number_in}
+use Rattle.tv_lang.specs.Reading.NodeLines.{view_in, dialog_in}
+use Rattle.tv_lang.specs.Reading.Stages.{fresh, screen_from, started, opened, dialog_taken, start_taken, with_view, is_end, progress, taken, finished}
 use Rattle.tv_lang.specs.Spelling.{number_word, node_words, kind_words, end_line, dialog_lines, start_lines, word_lines, IsNumber, IsName, IsViewKind, IsDialogKind, AreViews, IsDialog, IsDescription}
 use Rattle.tv_lang.proofs.FieldLaws.{word_is, number_word_read, read_number_word, name_read, read_name}
 use Rattle.tv_lang.proofs.NodeLaws.{on_line, view_read, dialog_read, read_view, read_dialog}

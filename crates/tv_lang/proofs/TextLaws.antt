@@ -3,8 +3,8 @@ use Rattle.std.proofs.Common.{◌≡◌, ℕ, List, [], ◌∷◌, ◌++◌, Opt
 use Rattle.std.specs.Prelude.{option_and_then}
 use Rattle.std.specs.Option.{option_map}
 use Rattle.tv_lang.specs.declared.word.Word.{Word}
-use Rattle.tv_lang.specs.Steps.{steps}
-use Rattle.tv_lang.specs.LineWords.{line_words, words_taken, line_taken}
+use Rattle.tv_lang.specs.Reading.Steps.{steps}
+use Rattle.tv_lang.specs.Reading.LineWords.{line_words, words_taken, line_taken}
 use Rattle.tv_lang.specs.Texts.{EachSpells, declarations, SpellsBy, BeginsBy}
 use Rattle.tv_lang.proofs.LineLaws.{line_spelled, spelled_line}
 

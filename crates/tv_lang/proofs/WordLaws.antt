@@ -9,7 +9,7 @@ use Rattle.tv_lang.specs.declared.word.Word.TheVariants.{Bare, Quoted}
 use Rattle.tv_lang.specs.declared.scan.Mode.{Mode}
 use Rattle.tv_lang.specs.declared.scan.Mode.TheVariants.{Between, InBare, InQuoted, InEscape, Closed}
 use Rattle.tv_lang.specs.Words.{escaped, is_bare, Spaced}
-use Rattle.tv_lang.specs.Scan.{at, read_on}
+use Rattle.tv_lang.specs.Reading.Scan.{at, read_on}
 
 -- whether a character is this one
 pub is_or_not : (c d : ℕ) → (c ≡ d) ⊎ (c == d ≡ false)

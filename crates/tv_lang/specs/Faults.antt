@@ -34,6 +34,7 @@ pub record IsOtherVersion (lines : List (List ℕ)) : Type 0 where
   pub fits : IsNumber number
   pub other : number ≢ pos 1
 
+-- what each refusal says of the text
 abbrev pub Refuses : List ℕ → LangFault → Type 0
 Refuses text NoMemory = Unit {0}
 Refuses text (Syntax line) = IsFirstFault word_lines IsDescription (lines_of text) line × ¬ IsOtherVersion (lines_of text)

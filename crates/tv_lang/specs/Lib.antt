@@ -1,20 +1,11 @@
-pub mod Words
-pub mod Spelling
+-- What texts spell, in the words of the public contracts; how they are read is in Reading.
 pub mod Lines
 pub mod LinesLeft
-pub mod Steps
-pub mod Scan
-pub mod LineWords
+pub mod Words
 pub mod Names
-pub mod Numbers
 pub mod Fields
-pub mod Commands
-pub mod Marks
-pub mod NodeLines
-pub mod Stages
+pub mod Spelling
 pub mod Texts
 pub mod Faults
-pub mod Reading
 pub mod Scripts
-pub mod Items
-pub mod ScriptReading
+pub mod Reading

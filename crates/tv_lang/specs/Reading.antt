@@ -1,62 +1,13 @@
--- Reading a description, line by line.
-use Rattle.std.specs.Prelude.{◌≡◌, ℕ, ◌+◌, List, [], ◌∷◌, Bool, true, false, Option, Some, None}
-use Rattle.tv_model.specs.declared.desc.Desc.{Desc}
-use Rattle.tv_lang.specs.declared.description.LangFault.{LangFault}
-use Rattle.tv_lang.specs.declared.description.LangFault.TheVariants.{NoMemory, Syntax, TooLong, Version}
-use Rattle.tv_lang.specs.declared.word.Word.{Word}
-use Rattle.tv_lang.specs.declared.progress.Progress.{Progress}
-use Rattle.tv_lang.specs.Lines.{lines_of}
-use Rattle.tv_lang.specs.LineWords.{line_words}
-use Rattle.tv_lang.specs.Stages.{fresh, is_other_version, taken, finished}
-
--- what a line does
-pub data LineStep : Type 0 where
-  Next : (further : Progress) → LineStep
-  Faulty : LineStep
-  OfOtherVersion : LineStep
-
-abbrev pub step_from : Option Progress → LineStep
-step_from None = Faulty
-step_from (Some further) = Next further
-
-abbrev pub step_if : Bool → Option Progress → LineStep
-step_if true further = OfOtherVersion
-step_if false further = step_from further
-
-abbrev pub words_step : Progress → Option (List Word) → LineStep
-words_step p None = Faulty
-words_step p (Some []) = Next p
-words_step p (Some (w ∷ ws)) = step_if (is_other_version p (w ∷ ws)) (taken p (w ∷ ws))
-
-abbrev pub line_step : Progress → List ℕ → LineStep
-line_step p line = words_step p (line_words line)
-
--- what reading gives: the description, the number of the first faulty line, or that the version is another
-pub data Reading : Type 0 where
-  Value : (desc : Desc) → Reading
-  Fault : (line : ℕ) → Reading
-  Other : Reading
-
-abbrev pub at_end : ℕ → Option Desc → Reading
-at_end n None = Fault n
-at_end n (Some d) = Value d
-
--- reading on, from the line n
-abbrev pub reading : ℕ → Progress → List (List ℕ) → Reading
-reading n p [] = at_end n (finished p)
-reading n p (l ∷ ls) = elim (line_step p l) as (λ _. Reading) [ Next q ↦ reading (n + 1) q ls | Faulty ↦ Fault n | OfOtherVersion ↦ Other ]
-
-abbrev pub reading_of : List ℕ → Reading
-reading_of text = reading 1 fresh (lines_of text)
-
-abbrev pub RefusesLine : LangFault → ℕ → LineStep → Type 0
-RefusesLine NoMemory n step = Unit {0}
-RefusesLine (Syntax line) n step = (line ≡ n) × (step ≡ Faulty)
-RefusesLine TooLong n step = ⊥
-RefusesLine Version n step = step ≡ OfOtherVersion
-
-abbrev pub StopsAt : LangFault → Reading → Type 0
-StopsAt NoMemory r = Unit {0}
-StopsAt (Syntax line) r = r ≡ Fault line
-StopsAt TooLong r = ⊥
-StopsAt Version r = r ≡ Other
+-- How texts are read, step by step. Private functions are held to these definitions, and the laws in proofs/ show that
+-- they give what the public contracts say.
+pub mod Steps
+pub mod Scan
+pub mod LineWords
+pub mod Numbers
+pub mod Commands
+pub mod Marks
+pub mod NodeLines
+pub mod Stages
+pub mod Descriptions
+pub mod Items
+pub mod Scripts

@@ -30,6 +30,7 @@ IsScriptKey keys.Enter = Unit {0}
 IsScriptKey keys.Esc = Unit {0}
 IsScriptKey _ = ⊥
 
+-- the words of an event's line
 abbrev pub event_words : Event → List Word
 event_words (events.Key key) = Bare (codes "key") ∷ Bare (key_name key) ∷ []
 event_words _ = []
@@ -41,10 +42,12 @@ item_words (items.Type text) = Bare (codes "type") ∷ Quoted text ∷ []
 item_words items.Shot = Bare (codes "shot") ∷ []
 item_words items.Colors = Bare (codes "colors") ∷ []
 
+-- one of these keys
 abbrev pub IsScriptEvent : Event → Type 0
 IsScriptEvent (events.Key key) = IsScriptKey key
 IsScriptEvent _ = ⊥
 
+-- a space
 abbrev pub is_space : ℕ → Bool
 is_space c = c == 32
 
@@ -55,9 +58,11 @@ IsScriptItem (items.Type text) = IsTrue (list_all is_space text)
 IsScriptItem items.Shot = Unit {0}
 IsScriptItem items.Colors = Unit {0}
 
+-- the words of each line
 abbrev pub script_lines : List Item → List (List Word)
 script_lines script = map item_words script
 
+-- a script of such items
 abbrev pub IsScript : List Item → Type 0
 IsScript script = AllByRecursion IsScriptItem script
 
@@ -65,6 +70,7 @@ IsScript script = AllByRecursion IsScriptItem script
 abbrev pub Spells : List ℕ → List Item → Type 0
 Spells text script = SpellsBy script_lines IsScript (lines_of text) script
 
+-- what each refusal says of the text
 abbrev pub Refuses : List ℕ → ScriptFault → Type 0
 Refuses text NoMemory = Unit {0}
 Refuses text (Syntax line) = IsFirstFault script_lines IsScript (lines_of text) line

@@ -1,5 +1,5 @@
 -- How a description is spelled: the words of each of its declarations.
-use Rattle.std.specs.Prelude.{◌≡◌, ℕ, ◌+◌, ◌<◌, ℤ, List, [], ◌∷◌, ◌++◌, map, flat_map, length, take, drop, slice_index, Bool, false, Option, Some, None, IfSome, IsTrue, FitsSigned, codes, if◌then◌else◌}
+use Rattle.std.specs.Prelude.{◌≡◌, ℕ, ◌+◌, ◌<◌, ℤ, List, [], ◌∷◌, ◌++◌, map, flat_map, length, take, drop, slice_index, Bool, false, Option, Some, None, ◌==◌, IfSome, IsTrue, FitsSigned, codes, if◌then◌else◌}
 use Rattle.std.specs.List.{list_any}
 use Rattle.std.specs.Fmt.{signed_decimal}
 use Rattle.std.specs.Char.{is_ascii_alphanumeric}
@@ -15,12 +15,13 @@ use Rattle.tv_model.specs.declared.desc.Desc.{Desc}
 use Rattle.tv_model.specs.declared.desc.Dialog.{Dialog}
 use Rattle.tv_lang.specs.declared.word.Word.{Word}
 use Rattle.tv_lang.specs.declared.word.Word.TheVariants.{Bare, Quoted}
-use Rattle.tv_lang.specs.Marks.{is_tilde}
 use Rattle.tv_lang.specs.Names.{is_name}
 
+-- a number stands in decimal
 abbrev pub number_word : ℤ → Word
 number_word n = Bare (signed_decimal n)
 
+-- the word of a command
 abbrev pub command_word : CommandSpec → Word
 command_word commands.Quit = Bare (codes "quit")
 command_word commands.Menu = Bare (codes "menu")
@@ -36,14 +37,20 @@ command_word (commands.Number n) = number_word n
 abbrev pub word_if : Bool → List ℕ → List Word
 word_if wanted keyword = if wanted then Bare keyword ∷ [] else []
 
+-- the end commands, in this order
 abbrev pub ends_words : Ends → List Word
 ends_words e = word_if e.ok (codes "ok") ++ (word_if e.cancel (codes "cancel") ++ (word_if e.yes (codes "yes") ++ word_if e.no (codes "no")))
+
+-- the character `~`
+abbrev pub is_tilde : ℕ → Bool
+is_tilde c = c == 126
 
 -- a text with `~` at both sides of the marked letter
 abbrev pub with_mark : Option ℕ → List ℕ → List ℕ
 with_mark None text = text
 with_mark (Some place) text = take place text ++ (126 ∷ slice_index text place ∷ 126 ∷ drop (place + 1) text)
 
+-- the word of a text that may be marked
 abbrev pub marked_word : MarkedText → Word
 marked_word m = Quoted (with_mark m.mark m.text)
 
@@ -58,12 +65,15 @@ kind_words _ x y w = []
 abbrev pub node_words : Node → List Word
 node_words n = kind_words n.kind (number_word n.x) (number_word n.y) (number_word n.w)
 
+-- the line that ends a dialog
 abbrev pub end_line : List Word
 end_line = Bare (codes "end") ∷ []
 
+-- a dialog's own line, those of its views, and the end
 abbrev pub dialog_lines : Dialog → List (List Word)
 dialog_lines d = node_words d.node ∷ (map node_words d.views ++ end_line ∷ [])
 
+-- the line of the dialog that is open at the start, where there is one
 abbrev pub start_lines : Option (List ℕ) → List (List Word)
 start_lines None = []
 start_lines (Some name) = (Bare (codes "start") ∷ Bare name ∷ []) ∷ []
@@ -74,9 +84,11 @@ word_lines d = (Bare (codes "tvd") ∷ Bare (codes "1") ∷ []) ∷ (Bare (codes
 
 -- ---- what can be spelled
 
+-- a number of 32 bits with a sign
 abbrev pub IsNumber : ℤ → Type 0
 IsNumber n = FitsSigned w32 n
 
+-- a name as Names has it
 abbrev pub IsName : List ℕ → Type 0
 IsName text = IsTrue (is_name text)
 
@@ -84,6 +96,7 @@ IsName text = IsTrue (is_name text)
 abbrev pub IsMarked : MarkedText → Type 0
 IsMarked m = (list_any is_tilde m.text ≡ false) × IfSome m.mark (λ place. (place < length m.text) × IsTrue (is_ascii_alphanumeric (slice_index m.text place)))
 
+-- a command, whose number may be any
 abbrev pub IsCommand : CommandSpec → Type 0
 IsCommand (commands.Number n) = IsNumber n
 IsCommand _ = Unit {0}
@@ -96,11 +109,13 @@ pub record IsPlaced (line : ℕ) (n : Node) : Type 0 where
   pub y : IsNumber n.y
   pub w : IsNumber n.w
 
+-- a static text, or a button that is neither the default nor grabs the focus
 abbrev pub IsViewKind : Kind → Type 0
 IsViewKind (kinds.Text h text) = IsNumber h
 IsViewKind (kinds.Button name text command is_default grabs) = IsName name × IsMarked text × IsCommand command × (is_default ≡ false) × (grabs ≡ false)
 IsViewKind _ = ⊥
 
+-- a dialog that no command opens
 abbrev pub IsDialogKind : Kind → Type 0
 IsDialogKind (kinds.Dialog name h title opens ends) = IsName name × IsNumber h × (opens ≡ None)
 IsDialogKind _ = ⊥
@@ -110,9 +125,11 @@ abbrev pub AreViews : ℕ → List Node → Type 0
 AreViews line [] = Unit {0}
 AreViews line (v ∷ vs) = IsPlaced line v × IsViewKind v.kind × AreViews (line + 1) vs
 
+-- a dialog from this line on, without rules
 abbrev pub IsDialog : ℕ → Dialog → Type 0
 IsDialog line d = IsPlaced line d.node × IsDialogKind d.node.kind × AreViews (line + 1) d.views × (d.rules ≡ [])
 
+-- just one dialog, from this line on
 abbrev pub AreDialogs : ℕ → List Dialog → Type 0
 AreDialogs line (d ∷ []) = IsDialog line d
 AreDialogs line _ = ⊥

@@ -1,7 +1,7 @@
 //! Commands as words.
 
 ghost use Rattle.std.specs.Prelude.{◌≡◌};
-ghost use Rattle.tv_lang.specs.Commands.{command_in, named_command, ends_in, is_next, after_next};
+ghost use Rattle.tv_lang.specs.Reading.Commands.{command_in, named_command, ends_in, is_next, after_next};
 
 use crate::word::Word;
 use tv_model::{CommandSpec, Ends};

@@ -4,7 +4,7 @@ ghost use Rattle.std.specs.Prelude.{◌≡◌, ◌↔◌, ◌+◌, ◌<◌, ◌�
 ghost use Rattle.tv_model.specs.declared.desc.Desc.{Desc as SeenDesc};
 ghost use Rattle.tv_lang.specs.Faults.{Refuses, Gives, Spells};
 ghost use Rattle.tv_lang.specs.Lines.{lines_of};
-ghost use Rattle.tv_lang.specs.Reading.{line_step, Next, RefusesLine, reading_of, Value, StopsAt};
+ghost use Rattle.tv_lang.specs.Reading.Descriptions.{line_step, Next, RefusesLine, reading_of, Value, StopsAt};
 
 use crate::lines::Lines;
 use crate::progress::Progress;
@@ -79,11 +79,10 @@ fn take_line(
     ensures next { IfOk result (λ further. further.next ≤ progress.next + 1) }
     ensures fault { IfErr result (λ fault. RefusesLine fault number (line_step progress line.now)) }
 {
-    let Some(words) = words_of(alloc, line)? else {
+    let Some(list) = words_of(alloc, line)? else {
         return Err(LangFault::Syntax(number));
     };
-    let words = words.into_vec();
-    let words = words.as_slice();
+    let words = list.as_slice();
     if words.is_empty() {
         return Ok(progress);
     }

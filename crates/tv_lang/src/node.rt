@@ -1,9 +1,9 @@
 //! Declarations of dialogs and views.
 
 ghost use Rattle.std.specs.Prelude.{◌≡◌, IfOk, Some};
-ghost use Rattle.tv_lang.specs.Commands.{command_in};
+ghost use Rattle.tv_lang.specs.Reading.Commands.{command_in};
 ghost use Rattle.tv_lang.specs.Fields.{name_in};
-ghost use Rattle.tv_lang.specs.NodeLines.{button_from, node_at, place_in, text_in_fields, button_in_fields, view_in, dialog_in, mark_in};
+ghost use Rattle.tv_lang.specs.Reading.NodeLines.{button_from, node_at, place_in, text_in_fields, button_in_fields, view_in, dialog_in, mark_in};
 
 use crate::command::{command, ends};
 use crate::marked::marked;

@@ -1,7 +1,7 @@
 //! Numbers in decimal.
 
 ghost use Rattle.std.specs.Prelude.{◌≡◌};
-ghost use Rattle.tv_lang.specs.Numbers.{add_digit, digits_in, magnitude, negative, positive, number_of};
+ghost use Rattle.tv_lang.specs.Reading.Numbers.{add_digit, digits_in, magnitude, negative, positive, number_of};
 
 // The number with one digit more, where it stays below 2^32.
 fn add_digit(number: u32, ch: char) -> Option<u32>

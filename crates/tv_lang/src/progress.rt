@@ -1,7 +1,7 @@
 //! How far a description is read, declaration by declaration.
 
 ghost use Rattle.std.specs.Prelude.{◌≡◌, ◌+◌, ◌<◌, ◌^◌, IfOk};
-ghost use Rattle.tv_lang.specs.Stages.{fresh, screen_taken, start_taken, dialog_taken, view_taken, is_other, version_taken, taken, finished, is_other_version};
+ghost use Rattle.tv_lang.specs.Reading.Stages.{fresh, screen_taken, start_taken, dialog_taken, view_taken, is_other, version_taken, taken, finished, is_other_version};
 
 use crate::node;
 use crate::word::Word;

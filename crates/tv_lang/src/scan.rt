@@ -4,7 +4,7 @@ ghost use Rattle.std.specs.Prelude.{◌≡◌, List, [], ◌∷◌, ◌++◌, ch
 ghost use Rattle.std.specs.List.{list_any};
 ghost use Rattle.std.specs.Char.{is_control};
 ghost use Rattle.tv_lang.specs.declared.word.Word.{Word as SeenWord};
-ghost use Rattle.tv_lang.specs.Scan.{at, finished, read_on, take_char};
+ghost use Rattle.tv_lang.specs.Reading.Scan.{at, finished, read_on, take_char};
 ghost use Rattle.tv_lang.specs.Words.{is_comment, SpellsWords};
 
 use crate::word::Word;
@@ -35,10 +35,7 @@ impl Scanner {
     fn new(alloc: Global) -> Scanner
         ensures { result ≡ at [] Mode.Between }
     {
-        Scanner {
-            words: Words::new(alloc),
-            mode: Mode::Between,
-        }
+        at(Words::new(alloc), Mode::Between)
     }
 
     // Adds the character to the text, or gives `None` where it can't stand there.
@@ -47,47 +44,16 @@ impl Scanner {
     {
         let Scanner { words, mode } = self;
         match (mode, ch) {
-            (Mode::Between, ' ') => Ok(Some(Scanner {
-                words,
-                mode: Mode::Between,
-            })),
-            (Mode::Between, '"') => Ok(Some(Scanner {
-                words,
-                mode: Mode::InQuoted(Chars::new(alloc)),
-            })),
-            (Mode::Between, _) => {
-                let text = with(Chars::new(alloc), ch)?;
-                Ok(Some(Scanner {
-                    words,
-                    mode: Mode::InBare(text),
-                }))
-            }
+            (Mode::Between | Mode::Closed, ' ') => Ok(Some(at(words, Mode::Between))),
+            (Mode::Between, '"') => Ok(Some(at(words, Mode::InQuoted(Chars::new(alloc))))),
+            (Mode::Between, _) => Ok(Some(at(words, Mode::InBare(with(Chars::new(alloc), ch)?)))),
             (Mode::InBare(text), ' ') => end_word(words, Word::Bare(text), Mode::Between),
             (Mode::InBare(_), '"') => Ok(None),
-            (Mode::InBare(text), _) => {
-                let text = with(text, ch)?;
-                Ok(Some(Scanner {
-                    words,
-                    mode: Mode::InBare(text),
-                }))
-            }
+            (Mode::InBare(text), _) => Ok(Some(at(words, Mode::InBare(with(text, ch)?)))),
             (Mode::InQuoted(text), '"') => end_word(words, Word::Quoted(text), Mode::Closed),
-            (Mode::InQuoted(text), '\\') => Ok(Some(Scanner {
-                words,
-                mode: Mode::InEscape(text),
-            })),
-            (Mode::InQuoted(text), _) => {
-                let text = with(text, ch)?;
-                Ok(Some(Scanner {
-                    words,
-                    mode: Mode::InQuoted(text),
-                }))
-            }
+            (Mode::InQuoted(text), '\\') => Ok(Some(at(words, Mode::InEscape(text)))),
+            (Mode::InQuoted(text), _) => Ok(Some(at(words, Mode::InQuoted(with(text, ch)?)))),
             (Mode::InEscape(text), _) => unescape(words, text, ch),
-            (Mode::Closed, ' ') => Ok(Some(Scanner {
-                words,
-                mode: Mode::Between,
-            })),
             (Mode::Closed, _) => Ok(None),
         }
     }
@@ -108,6 +74,12 @@ impl Scanner {
     }
 }
 
+fn at(words: Words, mode: Mode) -> Scanner
+    ensures { result ≡ at words mode }
+{
+    Scanner { words, mode }
+}
+
 fn with(mut text: Chars, ch: char) -> Result<Chars, AllocError>
     ensures { IfOk result (λ longer. longer ≡ text ++ ch ∷ []) }
 {
@@ -119,7 +91,7 @@ fn end_word(mut words: Words, word: Word, mode: Mode) -> Result<Option<Scanner>,
     ensures { IfOk result (λ next. next ≡ Some (at (words ++ word ∷ []) mode)) }
 {
     words.push(word)?;
-    Ok(Some(Scanner { words, mode }))
+    Ok(Some(at(words, mode)))
 }
 
 fn unescape(words: Words, text: Chars, ch: char) -> Result<Option<Scanner>, AllocError>
@@ -131,11 +103,7 @@ fn unescape(words: Words, text: Chars, ch: char) -> Result<Option<Scanner>, Allo
         'n' => '\n',
         _ => return Ok(None),
     };
-    let text = with(text, meant)?;
-    Ok(Some(Scanner {
-        words,
-        mode: Mode::InQuoted(text),
-    }))
+    Ok(Some(at(words, Mode::InQuoted(with(text, meant)?))))
 }
 
 fn first_visible(text: &str) -> Option<char>

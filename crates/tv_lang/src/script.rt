@@ -3,9 +3,9 @@
 ghost use Rattle.std.specs.Prelude.{◌≡◌, List, IfOk, IfErr, Some};
 ghost use Rattle.std.specs.List.{list_all};
 ghost use Rattle.tv_model.specs.declared.script.Item.{Item as SeenItem};
-ghost use Rattle.tv_lang.specs.LineWords.{line_taken};
-ghost use Rattle.tv_lang.specs.Items.{item_in, key_in, screen_item_in, typed_in, taken};
-ghost use Rattle.tv_lang.specs.ScriptReading.{reading_of, RefusesLine, StopsAt, Value};
+ghost use Rattle.tv_lang.specs.Reading.LineWords.{line_taken};
+ghost use Rattle.tv_lang.specs.Reading.Items.{item_in, key_in, screen_item_in, typed_in, taken};
+ghost use Rattle.tv_lang.specs.Reading.Scripts.{reading_of, RefusesLine, StopsAt, Value};
 ghost use Rattle.tv_lang.specs.Scripts.{Gives, is_space, Refuses, Spells};
 
 use crate::lines::Lines;
@@ -69,11 +69,10 @@ fn take_line(
     ensures value { IfOk result (λ further. line_taken taken items line.now ≡ Some further) }
     ensures fault { IfErr result (λ fault. RefusesLine fault number (line_taken taken items line.now)) }
 {
-    let Some(words) = words_of(alloc, line)? else {
+    let Some(list) = words_of(alloc, line)? else {
         return Err(ScriptFault::Syntax(number));
     };
-    let words = words.into_vec();
-    let words = words.as_slice();
+    let words = list.as_slice();
     if words.is_empty() {
         return Ok(items);
     }

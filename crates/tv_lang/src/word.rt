@@ -5,7 +5,8 @@ ghost use Rattle.std.specs.List.{list_all};
 ghost use Rattle.std.specs.Option.{option_copied};
 ghost use Rattle.std.specs.Str.{bytes_eq};
 ghost use Rattle.tv_lang.specs.Names.{is_name, is_name_char};
-ghost use Rattle.tv_lang.specs.Fields.{is_bare_word, number_in, name_in, text_in};
+ghost use Rattle.tv_lang.specs.Fields.{is_bare_word, name_in, text_in};
+ghost use Rattle.tv_lang.specs.Reading.Numbers.{number_in};
 
 use crate::number::number;
 use tv_valid::Chars;
@@ -31,7 +32,7 @@ impl Word {
     }
 
     /// The number that a bare word is the decimal text of, where it is one of an `i32`.
-    pub fn number(&self) -> Option<i32>
+    pub(crate) fn number(&self) -> Option<i32>
         ensures { result ≡ number_in self.now }
     {
         match self {

@@ -1,6 +1,6 @@
 use Rattle.std.proofs.Common.{◌≡◌, ◌+◌, ◌≤◌, length}
 use Rattle.tv_lang.specs.LinesLeft.{lines_left}
-use Rattle.tv_lang.specs.Reading.{reading, reading_of}
+use Rattle.tv_lang.specs.Reading.Descriptions.{reading, reading_of}
 use Rattle.tv_lang.proofs.description.read_lines.Given as goal
 
 abbrev pub invariant-loop-line : goal.invariant-loop-line

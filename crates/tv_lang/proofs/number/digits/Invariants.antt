@@ -1,6 +1,6 @@
 use Rattle.std.proofs.Common.{◌≡◌, drop}
-use Rattle.tv_lang.specs.Steps.{steps}
-use Rattle.tv_lang.specs.Numbers.{add_digit, digits_in}
+use Rattle.tv_lang.specs.Reading.Steps.{steps}
+use Rattle.tv_lang.specs.Reading.Numbers.{add_digit, digits_in}
 use Rattle.tv_lang.proofs.number.digits.Given as goal
 
 abbrev pub invariant-loop-ch : goal.invariant-loop-ch

@@ -1,7 +1,7 @@
 use Rattle.std.proofs.Common.{◌≡◌, [], sym, ◌∙◌, chars}
 use Rattle.std.proofs.lemmas.Result.{IfOk-weaker}
 use Rattle.tv_lang.specs.declared.scan.Mode.TheVariants.{Between}
-use Rattle.tv_lang.specs.Scan.{at, finished, read_on, take_char}
+use Rattle.tv_lang.specs.Reading.Scan.{at, finished, read_on, take_char}
 use Rattle.tv_lang.proofs.ScanLemmas.{read_more, read_stop, read_end}
 use Rattle.tv_lang.proofs.scan.scan.Goals as goal
 

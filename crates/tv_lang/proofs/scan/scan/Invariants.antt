@@ -1,6 +1,6 @@
 use Rattle.std.proofs.Common.{◌≡◌, [], chars, IsUtf8}
 use Rattle.tv_lang.specs.declared.scan.Mode.TheVariants.{Between}
-use Rattle.tv_lang.specs.Scan.{at, read_on}
+use Rattle.tv_lang.specs.Reading.Scan.{at, read_on}
 use Rattle.tv_lang.proofs.scan.scan.Given as goal
 
 abbrev pub invariant-loop-ch : goal.invariant-loop-ch

@@ -4,7 +4,7 @@ use Rattle.std.proofs.lemmas.Result.{IfOk-weaker}
 use Rattle.tv_lang.specs.declared.word.Word.{Word}
 use Rattle.tv_lang.specs.declared.scan.Mode.TheVariants.{Between}
 use Rattle.tv_lang.specs.Words.{SpellsWords}
-use Rattle.tv_lang.specs.Scan.{at, read_on}
+use Rattle.tv_lang.specs.Reading.Scan.{at, read_on}
 use Rattle.tv_lang.proofs.LineLaws.{scanned_spelled, scanned_only}
 use Rattle.tv_lang.proofs.scan.words_of.Goals as goal
 

@@ -1,7 +1,7 @@
 use Rattle.std.proofs.Common.{◌≡◌}
 use Rattle.std.proofs.lemmas.Result.{IfOk-weaker}
 use Rattle.tv_lang.specs.Scripts.{Spells}
-use Rattle.tv_lang.specs.ScriptReading.{reading_of, Value}
+use Rattle.tv_lang.specs.Reading.Scripts.{reading_of, Value}
 use Rattle.tv_lang.proofs.ScriptLaws.{read_spelled, all_refused, gives}
 use Rattle.tv_lang.proofs.script.parse_script.Goals as goal
 

@@ -1,6 +1,6 @@
 use Rattle.std.proofs.Common.{◌≡◌, ◌+◌, ◌≤◌, length}
 use Rattle.tv_lang.specs.LinesLeft.{lines_left}
-use Rattle.tv_lang.specs.ScriptReading.{reading, reading_of}
+use Rattle.tv_lang.specs.Reading.Scripts.{reading, reading_of}
 use Rattle.tv_lang.proofs.script.read_items.Given as goal
 
 abbrev pub invariant-loop-line : goal.invariant-loop-line

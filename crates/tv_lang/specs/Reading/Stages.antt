@@ -9,8 +9,9 @@ use Rattle.tv_lang.specs.declared.word.Word.{Word}
 use Rattle.tv_lang.specs.declared.progress.Progress.{Progress}
 use Rattle.tv_lang.specs.declared.progress.Stage.{Stage}
 use Rattle.tv_lang.specs.declared.progress.Stage.TheVariants as stages
-use Rattle.tv_lang.specs.Fields.{is_bare_word, number_in, name_in}
-use Rattle.tv_lang.specs.NodeLines.{dialog_in, view_in}
+use Rattle.tv_lang.specs.Fields.{is_bare_word, name_in}
+use Rattle.tv_lang.specs.Reading.Numbers.{number_in}
+use Rattle.tv_lang.specs.Reading.NodeLines.{dialog_in, view_in}
 
 abbrev pub fresh : Progress
 fresh = record { next = 1; stage = stages.Version; desc = record { width = pos 0; height = pos 0; start = None; menus = []; status = []; windows = []; dialogs = [] } }

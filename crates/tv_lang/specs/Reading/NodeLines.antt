@@ -9,9 +9,10 @@ use Rattle.tv_model.specs.declared.node.Kind.{Kind}
 use Rattle.tv_model.specs.declared.node.Kind.TheVariants as kinds
 use Rattle.tv_lang.specs.declared.node.Place.{Place}
 use Rattle.tv_lang.specs.declared.word.Word.{Word}
-use Rattle.tv_lang.specs.Fields.{is_bare_word, number_in, name_in, text_in}
-use Rattle.tv_lang.specs.Commands.{command_in, ends_in}
-use Rattle.tv_lang.specs.Marks.{marked_in}
+use Rattle.tv_lang.specs.Fields.{is_bare_word, name_in, text_in}
+use Rattle.tv_lang.specs.Reading.Numbers.{number_in}
+use Rattle.tv_lang.specs.Reading.Commands.{command_in, ends_in}
+use Rattle.tv_lang.specs.Reading.Marks.{marked_in}
 
 abbrev pub place_from : Option ℤ → Option ℤ → Option ℤ → Option Place
 place_from None y w = None

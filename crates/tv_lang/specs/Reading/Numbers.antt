@@ -1,7 +1,9 @@
 -- Reading a number digit by digit.
 use Rattle.std.specs.Prelude.{ℕ, zero, suc, ◌+◌, ◌*◌, ◌^◌, ℤ, pos, negsuc, List, [], ◌∷◌, ◌&&◌, nat_lt, nat_le, Option, Some, None, option_and_then, ◌==◌, if◌then◌else◌}
 use Rattle.std.specs.Char.{digit_value}
-use Rattle.tv_lang.specs.Steps.{steps}
+use Rattle.tv_lang.specs.declared.word.Word.{Word}
+use Rattle.tv_lang.specs.declared.word.Word.TheVariants.{Bare, Quoted}
+use Rattle.tv_lang.specs.Reading.Steps.{steps}
 
 -- one digit more, where the number stays below 2 ^ 32
 abbrev pub add_digit : ℕ → ℕ → Option ℕ
@@ -33,3 +35,7 @@ zero_only (c ∷ cs) = None
 abbrev pub number_of : List ℕ → Option ℤ
 number_of [] = None
 number_of (c ∷ cs) = if c == 45 then option_and_then negative (magnitude cs) else if c == 48 then zero_only cs else option_and_then positive (magnitude (c ∷ cs))
+
+abbrev pub number_in : Word → Option ℤ
+number_in (Bare text) = number_of text
+number_in (Quoted text) = None

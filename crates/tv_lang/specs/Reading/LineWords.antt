@@ -6,7 +6,7 @@ use Rattle.std.specs.Str.{is_utf8}
 use Rattle.tv_lang.specs.declared.word.Word.{Word}
 use Rattle.tv_lang.specs.declared.scan.Mode.TheVariants.{Between}
 use Rattle.tv_lang.specs.Words.{is_comment}
-use Rattle.tv_lang.specs.Scan.{at, read_on}
+use Rattle.tv_lang.specs.Reading.Scan.{at, read_on}
 
 abbrev pub line_words_if : Bool → Bool → Bool → List ℕ → Option (List Word)
 line_words_if false unclean comment cs = None

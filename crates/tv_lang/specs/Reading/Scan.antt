@@ -5,7 +5,7 @@ use Rattle.tv_lang.specs.declared.word.Word.TheVariants.{Bare, Quoted}
 use Rattle.tv_lang.specs.declared.scan.Mode.{Mode}
 use Rattle.tv_lang.specs.declared.scan.Mode.TheVariants.{Between, InBare, InQuoted, InEscape, Closed}
 use Rattle.tv_lang.specs.declared.scan.Scanner.{Scanner}
-use Rattle.tv_lang.specs.Steps.{steps}
+use Rattle.tv_lang.specs.Reading.Steps.{steps}
 
 abbrev pub at : List Word → Mode → Scanner
 at words mode = record { words = words; mode = mode }

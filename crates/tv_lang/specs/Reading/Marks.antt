@@ -1,11 +1,9 @@
 -- Reading a text of which one letter may be marked.
-use Rattle.std.specs.Prelude.{ℕ, List, [], ◌∷◌, ◌++◌, take, drop, Bool, not, ◌&&◌, Option, Some, None, position, ◌+◌, ◌==◌, if◌then◌else◌}
+use Rattle.std.specs.Prelude.{ℕ, List, [], ◌∷◌, ◌++◌, take, drop, not, ◌&&◌, Option, Some, None, position, ◌+◌, ◌==◌, if◌then◌else◌}
 use Rattle.std.specs.List.{list_any}
 use Rattle.std.specs.Char.{is_ascii_alphanumeric}
 use Rattle.tv_model.specs.declared.node.MarkedText.{MarkedText}
-
-abbrev pub is_tilde : ℕ → Bool
-is_tilde c = c == 126
+use Rattle.tv_lang.specs.Spelling.{is_tilde}
 
 -- what follows a first `~`: the marked letter, and what stands after the second `~`
 abbrev pub end_of_mark : List ℕ → Option (ℕ × List ℕ)

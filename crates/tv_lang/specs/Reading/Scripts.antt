@@ -4,8 +4,8 @@ use Rattle.tv_model.specs.declared.script.Item.{Item}
 use Rattle.tv_lang.specs.declared.script.ScriptFault.{ScriptFault}
 use Rattle.tv_lang.specs.declared.script.ScriptFault.TheVariants.{NoMemory, Syntax}
 use Rattle.tv_lang.specs.Lines.{lines_of}
-use Rattle.tv_lang.specs.LineWords.{line_taken}
-use Rattle.tv_lang.specs.Items.{taken}
+use Rattle.tv_lang.specs.Reading.LineWords.{line_taken}
+use Rattle.tv_lang.specs.Reading.Items.{taken}
 
 -- what reading gives: the script, or the number of the first faulty line
 pub data Reading : Type 0 where

@@ -4,7 +4,8 @@ use Rattle.tv_model.specs.declared.node.CommandSpec.{CommandSpec}
 use Rattle.tv_model.specs.declared.node.CommandSpec.TheVariants as commands
 use Rattle.tv_model.specs.declared.node.Ends.{Ends}
 use Rattle.tv_lang.specs.declared.word.Word.{Word}
-use Rattle.tv_lang.specs.Fields.{is_bare_word, number_in}
+use Rattle.tv_lang.specs.Fields.{is_bare_word}
+use Rattle.tv_lang.specs.Reading.Numbers.{number_in}
 
 abbrev pub named_command : Word → Option CommandSpec
 named_command w =
