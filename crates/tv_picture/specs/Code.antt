@@ -3,14 +3,14 @@ use Rattle.std.specs.Prelude.{◌≡◌, refl, ℕ, ◌+◌, ◌-◌, List, [], 
 use Rattle.std.specs.Option.{option_and_then}
 use Rattle.std.proofs.Common.{ap, ◌∙◌}
 use Rattle.tv_picture.specs.declared.code.Op.{Op}
-use Rattle.tv_picture.specs.declared.code.Op.TheVariants.{Empty, One, Next, Either, Optional, Group, Many, Times}
-use Rattle.tv_picture.specs.Pattern.{Pattern, empty, one, next, either, optional, group, many, times}
+use Rattle.tv_picture.specs.declared.code.Op.TheVariants.{Empty, One, Sequence, Either, Optional, Group, Many, Times}
+use Rattle.tv_picture.specs.Pattern.{Pattern, empty, one, sequence, either, optional, group, many, times}
 
 -- what an operation leaves of the stack of patterns
 abbrev pub step : List Pattern → Op → List Pattern
 step ps Empty = empty ∷ ps
 step ps (One mark) = one mark ∷ ps
-step (b ∷ a ∷ ps) Next = next a b ∷ ps
+step (b ∷ a ∷ ps) Sequence = sequence a b ∷ ps
 step (b ∷ a ∷ ps) Either = either a b ∷ ps
 step (a ∷ ps) Optional = optional a ∷ ps
 step (a ∷ ps) Group = group a ∷ ps
@@ -33,7 +33,7 @@ pattern_of code = top (run [] code)
 abbrev pub code_of : Pattern → List Op
 code_of empty = Empty ∷ []
 code_of (one mark) = One mark ∷ []
-code_of (next a b) = code_of a ++ code_of b ++ Next ∷ []
+code_of (sequence a b) = code_of a ++ code_of b ++ Sequence ∷ []
 code_of (either a b) = code_of a ++ code_of b ++ Either ∷ []
 code_of (optional a) = code_of a ++ Optional ∷ []
 code_of (group a) = code_of a ++ Group ∷ []
@@ -44,7 +44,7 @@ code_of (times n a) = code_of a ++ Times n ∷ []
 abbrev pub height : ℕ → Op → Option ℕ
 height h Empty = if nat_lt h 20 then Some (h + 1) else None
 height h (One mark) = if nat_lt h 20 then Some (h + 1) else None
-height h Next = if nat_lt 1 h then Some (h - 1) else None
+height h Sequence = if nat_lt 1 h then Some (h - 1) else None
 height h Either = if nat_lt 1 h then Some (h - 1) else None
 height h Optional = if nat_lt 0 h then Some h else None
 height h Group = if nat_lt 0 h then Some h else None
@@ -66,7 +66,7 @@ after xs ys ps qs e = run-append xs ys ps ∙ ap (λ stack. run stack ys) e
 pub run-code_of : (p : Pattern) (ps : List Pattern) → run ps (code_of p) ≡ p ∷ ps
 run-code_of empty ps = refl
 run-code_of (one mark) ps = refl
-run-code_of (next a b) ps = after (code_of a ++ code_of b) (Next ∷ []) ps (b ∷ a ∷ ps) (after (code_of a) (code_of b) ps (a ∷ ps) (run-code_of a ps) ∙ run-code_of b (a ∷ ps))
+run-code_of (sequence a b) ps = after (code_of a ++ code_of b) (Sequence ∷ []) ps (b ∷ a ∷ ps) (after (code_of a) (code_of b) ps (a ∷ ps) (run-code_of a ps) ∙ run-code_of b (a ∷ ps))
 run-code_of (either a b) ps = after (code_of a ++ code_of b) (Either ∷ []) ps (b ∷ a ∷ ps) (after (code_of a) (code_of b) ps (a ∷ ps) (run-code_of a ps) ∙ run-code_of b (a ∷ ps))
 run-code_of (optional a) ps = after (code_of a) (Optional ∷ []) ps (a ∷ ps) (run-code_of a ps)
 run-code_of (group a) ps = after (code_of a) (Group ∷ []) ps (a ∷ ps) (run-code_of a ps)

@@ -1,3 +1,4 @@
 pub mod Pattern
 pub mod Spelling
 pub mod Code
+pub mod Table

@@ -9,7 +9,7 @@ use Rattle.tv_picture.specs.declared.code.Mark.TheVariants.{Digit, Letter, Capit
 pub data Pattern : Type 0 where
   empty : Pattern
   one : Mark → Pattern
-  next : Pattern → Pattern → Pattern
+  sequence : Pattern → Pattern → Pattern
   either : Pattern → Pattern → Pattern
   optional : Pattern → Pattern
   group : Pattern → Pattern
@@ -39,7 +39,7 @@ Allows (Quoted d) c = c ≡ d
 abbrev pub Member : Pattern → List ℕ → Type 0
 Member empty text = text ≡ []
 Member (one mark) text = (c : ℕ) × Allows mark c × (text ≡ c ∷ [])
-Member (next a b) text = (u : List ℕ) × (v : List ℕ) × Member a u × Member b v × (text ≡ u ++ v)
+Member (sequence a b) text = (u : List ℕ) × (v : List ℕ) × Member a u × Member b v × (text ≡ u ++ v)
 Member (either a b) text = Member a text ⊎ Member b text
 Member (optional a) text = (text ≡ []) ⊎ Member a text
 Member (group a) text = Member a text

@@ -2,7 +2,7 @@
 use Rattle.std.specs.Prelude.{◌≡◌, ℕ, ◌+◌, ◌/◌, ◌%◌, ◌≤◌, ◌<◌, ◌⊎◌, ◌++◌, List, [], ◌∷◌, length, max, Bool, true, false, if◌then◌else◌, nat_lt, Contains, codes}
 use Rattle.tv_picture.specs.declared.code.Mark.{Mark}
 use Rattle.tv_picture.specs.declared.code.Mark.TheVariants.{Digit, Letter, Capital, Any, NotLower, Literal, Quoted}
-use Rattle.tv_picture.specs.Pattern.{Pattern, empty, one, next, either, optional, group, many, times, IsDigit}
+use Rattle.tv_picture.specs.Pattern.{Pattern, empty, one, sequence, either, optional, group, many, times, IsDigit}
 
 abbrev pub mark_text : Mark → List ℕ
 mark_text Digit = codes "#"
@@ -20,7 +20,7 @@ count_text n = if nat_lt n 10 then (48 + n) ∷ [] else (if nat_lt n 100 then (4
 abbrev pub spelled : Pattern → List ℕ
 spelled empty = []
 spelled (one mark) = mark_text mark
-spelled (next a b) = spelled a ++ spelled b
+spelled (sequence a b) = spelled a ++ spelled b
 spelled (either a b) = spelled a ++ codes "," ++ spelled b
 spelled (optional a) = codes "[" ++ spelled a ++ codes "]"
 spelled (group a) = codes "{" ++ spelled a ++ codes "}"
@@ -35,7 +35,7 @@ IsPlain c = ¬ (Contains (codes "#?&@!;*[]{},") c)
 abbrev pub rank : Pattern → ℕ
 rank empty = 2
 rank (one mark) = 0
-rank (next a b) = 2
+rank (sequence a b) = 2
 rank (either a b) = 3
 rank (optional a) = 0
 rank (group a) = 0
@@ -51,7 +51,7 @@ IsBase a = rank a ≡ 0
 abbrev pub depth : Pattern → ℕ
 depth empty = 0
 depth (one mark) = 0
-depth (next a b) = max (depth a) (depth b)
+depth (sequence a b) = max (depth a) (depth b)
 depth (either a b) = max (depth a) (depth b)
 depth (optional a) = depth a + 1
 depth (group a) = depth a + 1
@@ -66,7 +66,7 @@ IsMark _ = Unit {0}
 abbrev pub IsGrammatical : Pattern → Type 0
 IsGrammatical empty = Unit {0}
 IsGrammatical (one mark) = IsMark mark
-IsGrammatical (next a b) = IsGrammatical a × IsGrammatical b × (rank a ≡ 2) × (rank b ≤ 1)
+IsGrammatical (sequence a b) = IsGrammatical a × IsGrammatical b × (rank a ≡ 2) × (rank b ≤ 1)
 IsGrammatical (either a b) = IsGrammatical a × IsGrammatical b × (2 ≤ rank a) × (rank b ≡ 2)
 IsGrammatical (optional a) = IsGrammatical a × (2 ≤ rank a)
 IsGrammatical (group a) = IsGrammatical a × (2 ≤ rank a)

@@ -1,5 +1,11 @@
 //! A picture as code for a machine with a stack.
 
+ghost use Rattle.std.specs.Prelude.{◌↔◌, IsTrue};
+ghost use Rattle.tv_picture.specs.Pattern.{Allows};
+ghost use Rattle.tv_picture.specs.Table.{Names};
+
+use crate::row::Next;
+
 /// What one character of a text may be.
 #[derive(Clone, Copy, Debug, PartialEq, Eq)]
 pub enum Mark {
@@ -19,6 +25,32 @@ pub enum Mark {
     Quoted(char),
 }
 
+impl Mark {
+    /// Whether it stands for the character.
+    pub fn allows(self, ch: char) -> bool
+        ensures { IsTrue result ↔ Allows self ch }
+    {
+        match self {
+            Mark::Digit => ch.is_ascii_digit(),
+            Mark::Letter => ch.is_ascii_alphabetic(),
+            Mark::Capital => ch.is_ascii_uppercase(),
+            Mark::Any => true,
+            Mark::NotLower => !ch.is_ascii_lowercase(),
+            Mark::Literal(own) | Mark::Quoted(own) => ch == own,
+        }
+    }
+
+    /// The characters that it stands for.
+    pub fn next(self) -> Next
+        ensures { Names (Allows self) result }
+    {
+        match self {
+            Mark::Literal(own) | Mark::Quoted(own) => Next::Only(own),
+            _ => Next::Several,
+        }
+    }
+}
+
 /// An operation over a stack of patterns. The parts of a pattern come before what joins them.
 #[derive(Clone, Copy, Debug, PartialEq, Eq)]
 pub enum Op {
@@ -27,7 +59,7 @@ pub enum Op {
     /// Puts one character on the stack.
     One(Mark),
     /// Joins the two on top, one after the other.
-    Next,
+    Sequence,
     /// Joins the two on top as alternatives.
     Either,
     /// Makes the one on top optional.

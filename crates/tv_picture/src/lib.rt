@@ -2,6 +2,9 @@
 #![tactic(auto)]
 
 mod code;
+mod places;
+mod row;
+mod table;
 mod picture;
 
 pub use picture::Picture;
