@@ -1,3 +1,4 @@
 pub mod BitLemmas
 pub mod Language
 pub mod Rows
+pub mod Stacks

@@ -1,8 +1,9 @@
 -- Rows and tables of a pattern from those of its parts.
-use Rattle.std.proofs.Common.{suc, zero, ◌≡◌, ◌≢◌, ◌⊎◌, inl, inr, ◌↔◌, ℕ, ◌+◌, ◌-◌, ◌<◌, ◌≤◌, List, [], ◌∷◌, ◌++◌, length, drop, arith, refl, ◌∙◌, sym, ap, subst, append_assoc, append-nil, length-append, length-drop, Bool, true, false, ◌==◌, cond, get_or}
+use Rattle.std.proofs.Common.{suc, zero, ◌≡◌, ◌≢◌, ◌⊎◌, inl, inr, ◌↔◌, ℕ, ◌+◌, ◌-◌, ◌*◌, ◌<◌, ◌≤◌, List, [], ◌∷◌, ◌++◌, length, drop, arith, refl, ◌∙◌, sym, ap, subst, append_assoc, append-nil, length-append, length-drop, Bool, true, false, ◌==◌, cond, get_or}
 use Rattle.std.specs.Char.{IsScalar}
 use Rattle.std.proofs.lemmas.List.{get_or-set_same, get_or-set_other}
 use Rattle.std.proofs.Math.ListN.{set}
+use Rattle.std.proofs.Math.Seq.{drop-cons, drop-length}
 use Rattle.std.proofs.lemmas.Bool.Decides.{eqb_tells}
 use Rattle.std.proofs.lemmas.List.Elements.{All-nil}
 use Rattle.tv_picture.specs.declared.code.Mark.{Mark}
@@ -370,3 +371,56 @@ rows_before a text table from start stop row fits next_to h here = record { at =
 
 pub covers_rows : (a : Pattern) (text : List ℕ) (table : Table) (stop : ℕ) → length text < stop → IsRows a text table 0 stop → Covers a text table
 covers_rows a text table stop enough h = record { at = λ from within. h.at from (omega arith) (omega arith) within }
+
+pub allowed_ends : (m : Mark) (x place : ℕ) (places : Places) → Allows m x → ((k : ℕ) → Has places k ↔ (k ≡ place + 1)) → (k : ℕ) → Has places k ↔ (Allows m x × (k ≡ place + 1))
+allowed_ends m x place places allows ends k = ((λ h. (allows, (ends k).0 h)), (λ h. (ends k).1 h.1))
+
+pub barred_ends : (m : Mark) (x place : ℕ) → (Allows m x → ⊥) → (k : ℕ) → Has blank_ends k ↔ (Allows m x × (k ≡ place + 1))
+barred_ends m x place barred k = ((λ h. absurd (no_place k h)), (λ h. absurd (barred h.0)))
+
+pub row_one_at : (m : Mark) (text : List ℕ) (place x : ℕ) (result : Row) → place < length text → x ≡ get_or text place x → ((k : ℕ) → Has result.ends k ↔ (Allows m x × (k ≡ place + 1))) → result.next ≡ Nothing → IsRow (one m) (drop place text) place result
+row_one_at m text place x result within is ends follow =
+    let cut : drop place text ≡ x ∷ drop (suc place) text = drop-cons text place x within ∙ ap (λ y. y ∷ drop (suc place) text) (sym is) in
+    subst (λ (r : List ℕ). IsRow (one m) r place result) (sym cut) (row_one m x (drop (suc place) text) place result ends follow)
+
+pub row_one_last : (m : Mark) (text : List ℕ) (result : Row) → ((k : ℕ) → Has result.ends k → ⊥) → Names (Allows m) result.next → IsRow (one m) (drop (length text) text) (length text) result
+row_one_last m text result ends names =
+    subst (λ (r : List ℕ). IsRow (one m) r (length text) result) (sym (drop-length text)) (row_one_end m (length text) result ends names)
+
+-- ---- counts
+
+pub Covers_add : (i j : ℕ) (a : Pattern) (text : List ℕ) (table : Table) → Covers (sequence (times i a) (times j a)) text table → Covers (times (i + j) a) text table
+Covers_add i j a text table h = Covers_same (sequence (times i a) (times j a)) (times (i + j) a) text table (times-add i j a) h
+
+pub Covers_zero : (a : Pattern) (text : List ℕ) (table : Table) → Covers empty text table → Covers (times 0 a) text table
+Covers_zero a text table h = Covers_same empty (times 0 a) text table (times_zero a) h
+
+pub Covers_one : (a : Pattern) (text : List ℕ) (table : Table) → Covers a text table → Covers (times 1 a) text table
+Covers_one a text table h = Covers_same a (times 1 a) text table (times_one a) h
+
+-- so many repetitions in one table, and so many in another
+abbrev pub Powers : Table → Table → Table → ℕ → ℕ → ℕ → Type 0
+Powers base table power len i j = (a : Pattern) (text : List ℕ) → length text ≡ len → Covers a text base → Covers (times i a) text table × Covers (times j a) text power
+
+abbrev pub Joins : Table → Table → ℕ → Table → Type 0
+Joins A B len T = (a b : Pattern) (text : List ℕ) → length text ≡ len → Covers a text A → Covers b text B → Covers (sequence a b) text T
+
+pub powers_added : (base table power result : Table) (len i j : ℕ) → Joins table power len result → Powers base table power len i j → Powers base result power len (i + j) j
+powers_added base table power result len i j joins h a text same ca =
+    (Covers_add i j a text result (joins (times i a) (times j a) text same (h a text same ca).0 (h a text same ca).1), (h a text same ca).1)
+
+pub powers_squared : (base table power result : Table) (len i j : ℕ) → Joins power power len result → Powers base table power len i j → Powers base table result len i (j + j)
+powers_squared base table power result len i j joins h a text same ca =
+    ((h a text same ca).0, Covers_add j j a text result (joins (times j a) (times j a) text same (h a text same ca).1 (h a text same ca).1))
+
+pub odd_half : (i j h left n : ℕ) → left ≡ h + h + 1 → i + j * left ≡ n → (i + j) + (j + j) * h ≡ n
+odd_half i j h left n e f = let g : i + j * (h + h + 1) ≡ n = subst (λ (x : ℕ). i + j * x ≡ n) e f in omega arith
+
+pub even_half : (i j h left n : ℕ) → left ≡ h + h → i + j * left ≡ n → i + (j + j) * h ≡ n
+even_half i j h left n e f = let g : i + j * (h + h) ≡ n = subst (λ (x : ℕ). i + j * x ≡ n) e f in omega arith
+
+pub last_one : (i j left n : ℕ) → left ≡ 1 → i + j * left ≡ n → (i + j) + j * 0 ≡ n
+last_one i j left n e f = let g : i + j * 1 ≡ n = subst (λ (x : ℕ). i + j * x ≡ n) e f in omega arith
+
+pub none_left : (i j left n : ℕ) → left ≡ 0 → i + j * left ≡ n → i ≡ n
+none_left i j left n e f = let g : i + j * 0 ≡ n = subst (λ (x : ℕ). i + j * x ≡ n) e f in omega arith

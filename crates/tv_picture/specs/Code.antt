@@ -41,19 +41,19 @@ code_of (many a) = code_of a ++ Many ∷ []
 code_of (times n a) = code_of a ++ Times n ∷ []
 
 -- the height of the stack after an operation, where it has the parts and there is room
-abbrev pub height : ℕ → Op → Option ℕ
-height h Empty = if nat_lt h 20 then Some (h + 1) else None
-height h (One mark) = if nat_lt h 20 then Some (h + 1) else None
-height h Sequence = if nat_lt 1 h then Some (h - 1) else None
-height h Either = if nat_lt 1 h then Some (h - 1) else None
-height h Optional = if nat_lt 0 h then Some h else None
-height h Group = if nat_lt 0 h then Some h else None
-height h Many = if nat_lt 0 h then Some h else None
-height h (Times n) = if nat_lt 0 h then Some h else None
+abbrev pub height_after : ℕ → Op → Option ℕ
+height_after h Empty = if nat_lt h 20 then Some (h + 1) else None
+height_after h (One mark) = if nat_lt h 20 then Some (h + 1) else None
+height_after h Sequence = if nat_lt 1 h then Some (h - 1) else None
+height_after h Either = if nat_lt 1 h then Some (h - 1) else None
+height_after h Optional = if nat_lt 0 h then Some h else None
+height_after h Group = if nat_lt 0 h then Some h else None
+height_after h Many = if nat_lt 0 h then Some h else None
+height_after h (Times n) = if nat_lt 0 h then Some h else None
 
 abbrev pub height_from : ℕ → List Op → Option ℕ
 height_from h [] = Some h
-height_from h (op ∷ ops) = option_and_then (λ k. height_from k ops) (height h op)
+height_from h (op ∷ ops) = option_and_then (λ k. height_from k ops) (height_after h op)
 
 -- a pattern's code stands for it
 run-append : (xs ys : List Op) (ps : List Pattern) → run ps (xs ++ ys) ≡ run (run ps xs) ys

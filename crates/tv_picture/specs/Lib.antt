@@ -2,3 +2,4 @@ pub mod Pattern
 pub mod Spelling
 pub mod Code
 pub mod Table
+pub mod Machine

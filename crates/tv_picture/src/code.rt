@@ -6,6 +6,9 @@ ghost use Rattle.tv_picture.specs.Table.{Names};
 
 use crate::row::Next;
 
+/// The most patterns that stand on the stack at once.
+pub const HEIGHT: usize = 20;
+
 /// What one character of a text may be.
 #[derive(Clone, Copy, Debug, PartialEq, Eq)]
 pub enum Mark {

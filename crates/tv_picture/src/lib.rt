@@ -3,6 +3,7 @@
 
 mod code;
 mod places;
+mod reading;
 mod row;
 mod table;
 mod picture;

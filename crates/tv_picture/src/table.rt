@@ -28,7 +28,10 @@ impl Table {
     {
         let mut table = Table::BLANK;
         for place in 0..PLACES {
-            table.rows[place].ends = Places::only(place);
+            table.rows[place] = Row {
+                ends: Places::only(place),
+                next: Next::Nothing,
+            };
         }
         table
     }
@@ -40,11 +43,19 @@ impl Table {
     {
         let mut table = Table::BLANK;
         for (place, ch) in text.iter().enumerate() {
-            if mark.allows(*ch) {
-                table.rows[place].ends = Places::only(place + 1);
-            }
+            table.rows[place] = Row {
+                ends: if mark.allows(*ch) {
+                    Places::only(place + 1)
+                } else {
+                    Places::NONE
+                },
+                next: Next::Nothing,
+            };
         }
-        table.rows[text.len()].next = mark.next();
+        table.rows[text.len()] = Row {
+            ends: Places::NONE,
+            next: mark.next(),
+        };
         table
     }
 
