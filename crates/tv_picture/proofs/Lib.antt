@@ -2,3 +2,5 @@ pub mod BitLemmas
 pub mod Language
 pub mod Rows
 pub mod Stacks
+pub mod Statuses
+pub mod LengthLemmas

@@ -58,3 +58,22 @@ stands_last R xs h ps code high e s d =
     let bottom : h - 1 ≡ 0 = omega arith in
     let same : t.0 ≡ pattern_of code = ap top (sym t.2 ∙ e) in
     subst (λ p. R p (get_or xs 0 d)) same (subst (λ (j : ℕ). R t.0 (get_or xs j d)) bottom (t.3 d))
+
+-- what joins two, and what is made of one
+pub made_of_two : {X : Type 0} (R : Pattern → X → Type 0) (xs : List X) (h : ℕ) (x d : X) (ps : List Pattern) (op : Op) (f : Pattern → Pattern → Pattern) → 2 ≤ h → Stands R xs h ps → ((a b : Pattern) (qs : List Pattern) → step (b ∷ a ∷ qs) op ≡ f a b ∷ qs) → ((a b : Pattern) → R a (get_or xs (h - 2) d) → R b (get_or xs (h - 1) d) → R (f a b) x) → Made R xs (h - 2) x (step ps op)
+made_of_two R xs h x d ps op f high s steps makes =
+    let t = two_up R xs h ps high s in
+    let e : step ps op ≡ f t.0 t.1 ∷ t.2 = ap (λ qs. step qs op) t.3 ∙ steps t.0 t.1 t.2 in
+    subst (Made R xs (h - 2) x) (sym e) (makes t.0 t.1 (t.4 d) (t.5 d), t.6)
+
+pub made_of_one : {X : Type 0} (R : Pattern → X → Type 0) (xs : List X) (h : ℕ) (x d : X) (ps : List Pattern) (op : Op) (f : Pattern → Pattern) → 1 ≤ h → Stands R xs h ps → ((a : Pattern) (qs : List Pattern) → step (a ∷ qs) op ≡ f a ∷ qs) → ((a : Pattern) → R a (get_or xs (h - 1) d) → R (f a) x) → Made R xs (h - 1) x (step ps op)
+made_of_one R xs h x d ps op f high s steps makes =
+    let t = one_up R xs h ps high s in
+    let e : step ps op ≡ f t.0 ∷ t.1 = ap (λ qs. step qs op) t.2 ∙ steps t.0 t.1 in
+    subst (Made R xs (h - 1) x) (sym e) (makes t.0 (t.3 d), t.4)
+
+pub either_two : (h : ℕ) → IsSome (height_after h Either) → 2 ≤ h
+either_two h s = grind (arith, nat_tests)
+
+pub times_one_up : (h n : ℕ) → IsSome (height_after h (Times n)) → 1 ≤ h
+times_one_up h n s = grind (arith, nat_tests)

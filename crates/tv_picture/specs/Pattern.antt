@@ -5,6 +5,8 @@ use Rattle.std.specs.List.{concat}
 use Rattle.tv_cells.specs.Glyph.{IsNarrow}
 use Rattle.tv_picture.specs.declared.code.Mark.{Mark}
 use Rattle.tv_picture.specs.declared.code.Mark.TheVariants.{Digit, Letter, Capital, Any, NotLower, Literal, Quoted}
+use Rattle.tv_picture.specs.declared.picture.Status.{Status}
+use Rattle.tv_picture.specs.declared.picture.Status.TheVariants.{Complete, Viable, Error}
 
 pub data Pattern : Type 0 where
   empty : Pattern
@@ -53,6 +55,12 @@ Begins p text = (more : List ℕ) × Member p (text ++ more)
 -- a prefix of a member, and not itself one
 abbrev pub IsViable : Pattern → List ℕ → Type 0
 IsViable p text = Begins p text × ¬ (Member p text)
+
+-- what a text is to a pattern
+abbrev pub IsStatus : Pattern → List ℕ → Status → Type 0
+IsStatus p text Complete = Member p text
+IsStatus p text Viable = IsViable p text
+IsStatus p text Error = ¬ (Begins p text)
 
 -- the only character after which the viable text is viable or complete, where there is room for it
 pub record IsNextLiteral (p : Pattern) (text : List ℕ) (c : ℕ) : Type 0 where

@@ -5,7 +5,8 @@ mod code;
 mod places;
 mod reading;
 mod row;
+mod shortest;
 mod table;
 mod picture;
 
-pub use picture::Picture;
+pub use picture::{Picture, Status};

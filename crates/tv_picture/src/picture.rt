@@ -1,7 +1,26 @@
 //! A parsed picture.
 
+ghost use Rattle.std.specs.Prelude.{◌≡◌, ◌≤◌, ℕ, length, IfSome, IfNone};
+ghost use Rattle.tv_picture.specs.Pattern.{IsStatus, IsNextLiteral, IsShortest};
+ghost use Rattle.tv_picture.specs.Table.{Covers};
+
 use crate::code::Op;
+use crate::reading::read;
+use crate::row::Next;
+use crate::shortest::shortest;
+use crate::table::Table;
 use std::marker::Model;
+
+/// What a text is to a picture.
+#[derive(Clone, Copy, Debug, PartialEq, Eq)]
+pub enum Status {
+    /// The text is right as it stands.
+    Complete,
+    /// More has to be typed after it.
+    Viable,
+    /// Nothing typed after it makes it right.
+    Error,
+}
 
 /// A picture, which says what texts are right. Contracts see its pattern.
 #[derive(Debug, Drop)]
@@ -24,4 +43,54 @@ impl Model for Picture {
     ghost view = { λ p. pattern_of p.code.items };
 
     ghost invariant = { λ p. height_from 0 p.code.items ≡ Some 1 };
+}
+
+impl Picture {
+    /// Where the picture's members stand in the text.
+    fn table(&self, text: &[char]) -> Table
+        requires { length text.now ≤ 120 }
+        ensures { Covers self.now text.now result }
+    {
+        read(&self.code, text)
+    }
+
+    /// What the text is to the picture. Takes no memory, and a time that the square of the text's length and the length
+    /// of the picture bound.
+    pub fn status(&self, text: &[char]) -> Status
+        requires { length text.now ≤ 120 }
+        ensures { IsStatus self.now text.now result }
+    {
+        let row = self.table(text).rows[0];
+        if row.ends.has(text.len()) {
+            return Status::Complete;
+        }
+        match row.next {
+            Next::Nothing => Status::Error,
+            _ => Status::Viable,
+        }
+    }
+
+    /// The only character with which the text can go on, where it has to.
+    pub fn next_literal(&self, text: &[char]) -> Option<char>
+        requires { length text.now ≤ 120 }
+        ensures some { IfSome result (λ c. IsNextLiteral self.now text.now c) }
+        ensures none { IfNone result ((c : ℕ) → IsNextLiteral self.now text.now c → ⊥) }
+    {
+        let row = self.table(text).rows[0];
+        if text.len() == 120 || row.ends.has(text.len()) {
+            return None;
+        }
+        match row.next {
+            Next::Only(ch) => Some(ch),
+            _ => None,
+        }
+    }
+
+    /// The length of the shortest right text whose characters all take one column, or 121 where none has 120
+    /// characters or fewer.
+    pub fn shortest(&self) -> u32
+        ensures { IsShortest self.now result }
+    {
+        shortest(&self.code)
+    }
 }
