@@ -4,3 +4,4 @@ pub mod Rows
 pub mod Stacks
 pub mod Statuses
 pub mod LengthLemmas
+pub mod ParsingLemmas

@@ -56,7 +56,7 @@ height_from h [] = Some h
 height_from h (op ∷ ops) = option_and_then (λ k. height_from k ops) (height_after h op)
 
 -- a pattern's code stands for it
-run-append : (xs ys : List Op) (ps : List Pattern) → run ps (xs ++ ys) ≡ run (run ps xs) ys
+pub run-append : (xs ys : List Op) (ps : List Pattern) → run ps (xs ++ ys) ≡ run (run ps xs) ys
 run-append [] ys ps = refl
 run-append (x ∷ xs) ys ps = run-append xs ys (step ps x)
 

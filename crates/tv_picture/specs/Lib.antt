@@ -3,3 +3,4 @@ pub mod Spelling
 pub mod Code
 pub mod Table
 pub mod Machine
+pub mod Parsing

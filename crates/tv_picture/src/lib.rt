@@ -7,6 +7,7 @@ mod reading;
 mod row;
 mod shortest;
 mod table;
+mod parser;
 mod picture;
 
 pub use picture::{Picture, Status};
