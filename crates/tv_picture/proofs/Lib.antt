@@ -5,3 +5,5 @@ pub mod Stacks
 pub mod Statuses
 pub mod LengthLemmas
 pub mod ParsingLemmas
+pub mod Grammar
+pub mod Soundness
