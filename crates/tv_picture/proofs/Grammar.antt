@@ -225,7 +225,7 @@ base_bracketed b p q a opens closes high inner x s h os c r deep =
     goes_on (state (x ∷ s) h os c r false) ((p ∷ []) ++ spelled a) (q ∷ []) (pending a (x ∷ s)) (sequence x (repeated r (bracketed b a)) ∷ s) (frame ∷ os) os (is_either a) c middle
         (λ k. let e = closing b a x s k os c r high in (e.0, ap (option_and_then (λ t. text_steps t [])) (closes (state (pending a (x ∷ s)) k (frame ∷ os) (is_either a) Once false) refl ∙ e.1)))
 
-unquoted_step : (r : Reading) (c : ℕ) → r.quoted ≡ false → text_step r c ≡ plain_step r c
+pub unquoted_step : (r : Reading) (c : ℕ) → r.quoted ≡ false → text_step r c ≡ plain_step r c
 unquoted_step r c e = skip r.quoted (Some (with_mark r (Quoted c))) (plain_step r c) e
 
 base_optional : (a : Pattern) → 2 ≤ rank a → Choice a → Base (optional a)
