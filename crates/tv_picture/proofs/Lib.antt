@@ -7,3 +7,4 @@ pub mod LengthLemmas
 pub mod ParsingLemmas
 pub mod Grammar
 pub mod Soundness
+pub mod Parsed

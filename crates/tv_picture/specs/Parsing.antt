@@ -1,5 +1,5 @@
 -- What has been read of a picture's text, and what each character adds to it.
-use Rattle.std.specs.Prelude.{◌≡◌, ℕ, ◌+◌, ◌-◌, ◌*◌, List, [], ◌∷◌, length, reverse, Option, Some, None, Bool, true, false, if◌then◌else◌, nat_lt, nat_le, ◌==◌, ◌&&◌}
+use Rattle.std.specs.Prelude.{◌≡◌, ℕ, ◌+◌, ◌-◌, ◌*◌, List, [], ◌∷◌, length, reverse, Option, Some, None, Bool, true, false, if◌then◌else◌, nat_lt, nat_le, ◌==◌, ◌&&◌, not}
 use Rattle.std.specs.Option.{option_and_then}
 use Rattle.tv_picture.specs.declared.code.Mark.{Mark}
 use Rattle.tv_picture.specs.declared.code.Mark.TheVariants.{Digit, Letter, Capital, Any, NotLower, Literal, Quoted}
@@ -60,6 +60,10 @@ is_once _ = false
 -- the alternatives so far as one pattern
 abbrev pub merged : Bool → Built → Built
 merged choice b = if choice then with_op b op.Either else b
+
+abbrev pub is_empty_list : List Open → Bool
+is_empty_list [] = true
+is_empty_list (o ∷ os) = false
 
 abbrev pub opened : Reading → Bracket → Option Reading
 opened r b = if nat_lt (length r.brackets) 8 then Some (record { built = with_op r.built op.Empty; brackets = (record { bracket = b; repeat = r.repeat; choice = r.choice }) ∷ r.brackets; choice = false; repeat = Once; quoted = false }) else None
@@ -127,3 +131,7 @@ tall choice (o ∷ os) = (if choice then 2 else 1) + tall o.choice os
 abbrev pub Took : Option Reading → Bool → Reading → Type 0
 Took next true after = next ≡ Some after
 Took next false after = next ≡ None
+
+-- nothing is waited for
+abbrev pub is_closed : Reading → Bool
+is_closed r = is_empty_list r.brackets && is_once r.repeat && not r.quoted

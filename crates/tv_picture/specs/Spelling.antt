@@ -1,8 +1,10 @@
 -- How pictures are written.
-use Rattle.std.specs.Prelude.{◌≡◌, ℕ, ◌+◌, ◌/◌, ◌%◌, ◌≤◌, ◌<◌, ◌⊎◌, ◌++◌, List, [], ◌∷◌, length, max, Bool, true, false, if◌then◌else◌, nat_lt, Contains, codes}
+use Rattle.std.specs.Prelude.{◌≡◌, ℕ, ◌+◌, ◌/◌, ◌%◌, ◌≤◌, ◌<◌, ◌⊎◌, ◌++◌, List, [], ◌∷◌, length, max, Bool, true, false, if◌then◌else◌, nat_lt, Contains, codes, take}
 use Rattle.tv_picture.specs.declared.code.Mark.{Mark}
 use Rattle.tv_picture.specs.declared.code.Mark.TheVariants.{Digit, Letter, Capital, Any, NotLower, Literal, Quoted}
 use Rattle.tv_picture.specs.Pattern.{Pattern, empty, one, sequence, either, optional, group, many, times, IsDigit}
+use Rattle.tv_picture.specs.declared.fault.PictureFault.{PictureFault}
+use Rattle.tv_picture.specs.declared.fault.PictureFault.TheVariants.{NoMemory, Syntax}
 
 abbrev pub mark_text : Mark → List ℕ
 mark_text Digit = codes "#"
@@ -80,3 +82,14 @@ IsPicture p = IsGrammatical p × (2 ≤ rank p) × (depth p ≤ 8)
 -- some picture begins with the text
 abbrev pub BeginsPicture : List ℕ → Type 0
 BeginsPicture text = (p : Pattern) × (more : List ℕ) × IsPicture p × (spelled p ≡ text ++ more)
+
+-- a picture begins with so many characters of the text and with no more, and the text is no picture
+pub record IsFirstFault (text : List ℕ) (place : ℕ) : Type 0 where
+  pub within : place ≤ length text
+  pub begins : BeginsPicture (take place text)
+  pub longest : (k : ℕ) → k ≤ length text → BeginsPicture (take k text) → k ≤ place
+  pub refused : (p : Pattern) → IsPicture p → spelled p ≡ text → ⊥
+
+abbrev pub Refuses : List ℕ → PictureFault → Type 0
+Refuses text NoMemory = Unit {0}
+Refuses text (Syntax place) = IsFirstFault text place

@@ -2,6 +2,7 @@
 #![tactic(auto)]
 
 mod code;
+mod fault;
 mod places;
 mod reading;
 mod row;
@@ -10,4 +11,5 @@ mod table;
 mod parser;
 mod picture;
 
+pub use fault::PictureFault;
 pub use picture::{Picture, Status};

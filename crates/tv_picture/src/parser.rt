@@ -1,7 +1,7 @@
 //! A picture read from its text.
 
-ghost use Rattle.std.specs.Prelude.{◌≡◌, ◌+◌, ◌≤◌, ◌<◌, ℕ, Some, IfOk, OnOk};
-ghost use Rattle.tv_picture.specs.Parsing.{reading, start, with_mark, finished, merged, opened, closed, divided, starred, counted_as, text_step, built_by, with_op, Took};
+ghost use Rattle.std.specs.Prelude.{◌≡◌, ◌+◌, ◌≤◌, ◌<◌, ℕ, Some, IfOk, OnOk, MatchOption, true, false};
+ghost use Rattle.tv_picture.specs.Parsing.{reading, start, with_mark, finished, merged, opened, closed, divided, starred, counted_as, text_step, built_by, with_op, is_closed, Took};
 
 use crate::code::{Mark, Op};
 use arrayvec::ArrayVec;
@@ -214,5 +214,17 @@ impl Parser {
             '0'..='9' => self.digit((u32::from(ch) - 48) as u8),
             _ => self.mark(Mark::Literal(ch)),
         }
+    }
+
+    /// The whole picture's code, or `None` where something is still waited for.
+    pub fn into_code(mut self) -> Result<Option<Vec<Op>>, AllocError>
+        ensures { IfOk result (λ code. MatchOption code (is_closed (reading self) ≡ false) (λ v. (is_closed (reading self) ≡ true) × (built_by v.items ≡ merged self.choice (built_by self.code.items)))) }
+    {
+        if !self.brackets.is_empty() || self.repeat != Repeat::Once || self.quoted {
+            return Ok(None);
+        }
+        self.merge()?;
+        let Parser { code, .. } = self;
+        Ok(Some(code))
     }
 }

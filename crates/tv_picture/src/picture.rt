@@ -1,14 +1,18 @@
 //! A parsed picture.
 
-ghost use Rattle.std.specs.Prelude.{◌≡◌, ◌≤◌, ℕ, length, IfSome, IfNone};
-ghost use Rattle.tv_picture.specs.Pattern.{IsStatus, IsNextLiteral, IsShortest};
+ghost use Rattle.std.specs.Prelude.{◌≡◌, ◌≤◌, ℕ, length, chars, IfSome, IfNone, IfOk, IfErr, MatchResult};
+ghost use Rattle.tv_picture.specs.Pattern.{Pattern, IsStatus, IsNextLiteral, IsShortest};
+ghost use Rattle.tv_picture.specs.Spelling.{spelled, IsPicture, Refuses};
 ghost use Rattle.tv_picture.specs.Table.{Covers};
 
 use crate::code::Op;
+use crate::fault::PictureFault;
+use crate::parser::Parser;
 use crate::reading::read;
 use crate::row::Next;
 use crate::shortest::shortest;
 use crate::table::Table;
+use std::alloc::Global;
 use std::marker::Model;
 
 /// What a text is to a picture.
@@ -46,6 +50,35 @@ impl Model for Picture {
 }
 
 impl Picture {
+    /// Reads a picture.
+    pub fn parse(alloc: Global, text: &str) -> Result<Picture, PictureFault>
+        ensures ok { IfOk result (λ p. IsPicture p × (spelled p ≡ chars text.now)) }
+        ensures err { IfErr result (λ fault. Refuses (chars text.now) fault) }
+        ensures only { (p : Pattern) → IsPicture p → spelled p ≡ chars text.now → MatchResult result (λ q. q ≡ p) (λ fault. fault ≡ PictureFault.NoMemory) }
+    {
+        let chars: Vec<char> = text.chars().collect(alloc)?;
+        Picture::from_chars(alloc, &chars)
+    }
+
+    /// Reads a picture from its characters.
+    pub fn from_chars(alloc: Global, text: &[char]) -> Result<Picture, PictureFault>
+        ensures ok { IfOk result (λ p. IsPicture p × (spelled p ≡ text.now)) }
+        ensures err { IfErr result (λ fault. Refuses text.now fault) }
+        ensures only { (p : Pattern) → IsPicture p → spelled p ≡ text.now → MatchResult result (λ q. q ≡ p) (λ fault. fault ≡ PictureFault.NoMemory) }
+    {
+        let mut parser = Parser::new(alloc)?;
+        for (place, ch) in text.iter().enumerate() {
+            let took = parser.take(*ch)?;
+            if !took {
+                return Err(PictureFault::Syntax(place));
+            }
+        }
+        match parser.into_code()? {
+            Some(code) => Ok(Picture { code }),
+            None => Err(PictureFault::Syntax(text.len())),
+        }
+    }
+
     /// Where the picture's members stand in the text.
     fn table(&self, text: &[char]) -> Table
         requires { length text.now ≤ 120 }

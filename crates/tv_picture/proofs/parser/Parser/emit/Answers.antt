@@ -1,7 +1,6 @@
 use Rattle.std.proofs.Common.{◌∙◌, ap}
 use Rattle.tv_picture.specs.Parsing.{built_by}
 use Rattle.tv_picture.proofs.ParsingLemmas.{built_push}
-use Rattle.tv_picture.proofs.Soundness.{line_text}
 use Rattle.tv_picture.proofs.parser.Parser.emit.Goals as goal
 
 pub returns-clause-built : goal.returns-clause-built
