@@ -12,7 +12,7 @@ use crate::reading::read;
 use crate::row::Next;
 use crate::shortest::shortest;
 use crate::table::Table;
-use std::alloc::Global;
+use std::alloc::{AllocError, Global};
 use std::marker::Model;
 
 /// What a text is to a picture.
@@ -49,6 +49,12 @@ impl Model for Picture {
     ghost invariant = { λ p. height_from 0 p.code.items ≡ Some 1 };
 }
 
+fn characters(alloc: Global, text: &str) -> Result<Vec<char>, AllocError>
+    ensures { IfOk result (λ v. v.items ≡ chars text.now) }
+{
+    text.chars().collect(alloc)
+}
+
 impl Picture {
     /// Reads a picture.
     pub fn parse(alloc: Global, text: &str) -> Result<Picture, PictureFault>
@@ -56,8 +62,8 @@ impl Picture {
         ensures err { IfErr result (λ fault. Refuses (chars text.now) fault) }
         ensures only { (p : Pattern) → IsPicture p → spelled p ≡ chars text.now → MatchResult result (λ q. q ≡ p) (λ fault. fault ≡ PictureFault.NoMemory) }
     {
-        let chars: Vec<char> = text.chars().collect(alloc)?;
-        Picture::from_chars(alloc, &chars)
+        let text = characters(alloc, text)?;
+        Picture::from_chars(alloc, &text)
     }
 
     /// Reads a picture from its characters.
