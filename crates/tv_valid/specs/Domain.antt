@@ -3,6 +3,8 @@ use Rattle.std.specs.Prelude.{◌≡◌, ℕ, ◌+◌, ◌-◌, ◌*◌, ◌^◌
 use Rattle.tv_cells.specs.Glyph.{IsNarrow}
 use Rattle.tv_picture.specs.Pattern.{Pattern, Member, Begins, IsNextLiteral, IsDigit}
 use Rattle.tv_picture.specs.Spelling.{IsPicture, spelled, IsFirstFault}
+use Rattle.tv_picture.specs.declared.fault.PictureFault.{PictureFault}
+use Rattle.tv_picture.specs.declared.fault.PictureFault.TheVariants as pictures
 use Rattle.tv_valid.specs.declared.input.InputSpec.{InputSpec}
 use Rattle.tv_valid.specs.declared.input.DomainSpec.{DomainSpec}
 use Rattle.tv_valid.specs.declared.input.DomainSpec.TheVariants as asked
@@ -72,8 +74,24 @@ pub record IsDomain (spec : InputSpec) (d : Domain) : Type 0 where
   pub fill : d.fill ≡ spec.fill
   pub kind : IsKind spec.domain d.kind
 
+abbrev pub HasText : Domain → Type 0
+HasText d = (text : List ℕ) × InDomain d text
+
+-- a number of the range is written by so many narrow characters
+abbrev pub HasNumber : ℤ → ℤ → ℕ → Type 0
+HasNumber least greatest room = (text : List ℕ) × InRange least greatest text × (length text ≤ room) × All IsNarrow text
+
+abbrev pub picture_fault : PictureFault → DomainFault
+picture_fault pictures.NoMemory = NoMemory
+picture_fault (pictures.Syntax place) = BadPicture place
+
+abbrev pub RefusesKind : DomainSpec → DomainFault → Type 0
+RefusesKind spec NoMemory = Unit {0}
+RefusesKind spec (BadPicture place) = (text : List ℕ) × (spec ≡ asked.Picture text) × IsFirstFault text place
+RefusesKind spec Empty = ⊥
+
 -- why there is no domain: its picture is wrong, or it is right and no text lies in the domain
 abbrev pub Refuses : InputSpec → DomainFault → Type 0
 Refuses spec NoMemory = Unit {0}
 Refuses spec (BadPicture place) = (text : List ℕ) × (spec.domain ≡ asked.Picture text) × IsFirstFault text place
-Refuses spec Empty = ((d : Domain) × IsDomain spec d) × ((d : Domain) (text : List ℕ) → IsDomain spec d → InDomain d text → ⊥)
+Refuses spec Empty = ((d : Domain) × IsDomain spec d) × ((d : Domain) → IsDomain spec d → HasText d → ⊥)

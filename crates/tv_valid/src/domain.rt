@@ -1,7 +1,7 @@
 //! The texts that an input takes.
 
-ghost use Rattle.std.specs.Prelude.{◌≡◌, ◌↔◌, ◌≤◌, ◌≤ℤ◌, pos, length, All, Contains, IsTrue, IfOk, IfErr};
-ghost use Rattle.tv_valid.specs.Domain.{IsDomain, InDomain, IsViableText, InKind, MayBecome, Fits, Refuses};
+ghost use Rattle.std.specs.Prelude.{◌≡◌, ◌↔◌, ◌≤◌, ◌≤ℤ◌, pos, ℕ, length, All, Contains, IsTrue, IfSome, IfNone, IfOk, IfErr};
+ghost use Rattle.tv_valid.specs.Domain.{IsDomain, IsKind, RefusesKind, HasText, InDomain, IsViableText, InKind, MayBecome, Fits, Refuses};
 
 use crate::chars::Chars;
 use crate::input::{DomainSpec, InputSpec};
@@ -34,6 +34,20 @@ pub enum DomainFault {
     Empty,
 }
 
+impl From<PictureFault> for DomainFault {
+    ghost use Rattle.std.specs.Prelude.{◌≡◌};
+    ghost use Rattle.tv_valid.specs.Domain.{picture_fault};
+
+    ghost from_gives = { λ fault e. e ≡ picture_fault fault };
+
+    fn from(fault: PictureFault) -> DomainFault {
+        match fault {
+            PictureFault::NoMemory => DomainFault::NoMemory,
+            PictureFault::Syntax(place) => DomainFault::BadPicture(place),
+        }
+    }
+}
+
 impl From<AllocError> for DomainFault {
     ghost use Rattle.std.specs.Prelude.{◌≡◌};
     ghost use Rattle.tv_valid.specs.declared.domain.DomainFault.TheVariants.{NoMemory};
@@ -54,7 +68,61 @@ pub struct Domain {
     fill: bool,
 }
 
+impl Kind {
+    /// Reads the picture, and copies what else the description has.
+    fn new(alloc: Global, spec: &DomainSpec) -> Result<Kind, DomainFault>
+        ensures ok { IfOk result (λ kind. IsKind spec.now kind) }
+        ensures only { IfOk result (λ kind. (other : Kind) → IsKind spec.now other → other ≡ kind) }
+        ensures err { IfErr result (λ fault. RefusesKind spec.now fault) }
+    {
+        Ok(match spec {
+            DomainSpec::Any => Kind::Any,
+            DomainSpec::Filter(set) => Kind::Filter(Chars::from_slice(alloc, set.as_slice())?),
+            DomainSpec::Range { least, greatest } => Kind::Range {
+                least: *least,
+                greatest: *greatest,
+            },
+            DomainSpec::Picture(text) => Kind::Picture(Picture::from_chars(alloc, text.as_slice())?),
+        })
+    }
+}
+
 impl Domain {
+    /// Reads the picture, and refuses a domain in which no text lies.
+    pub fn new(alloc: Global, spec: &InputSpec) -> Result<Domain, DomainFault>
+        ensures ok { IfOk result (λ domain. IsDomain spec.now domain × HasText domain) }
+        ensures err { IfErr result (λ fault. Refuses spec.now fault) }
+    {
+        let domain = Domain {
+            max: spec.max,
+            kind: Kind::new(alloc, &spec.domain)?,
+            optional: spec.optional,
+            fill: spec.fill,
+        };
+        if domain.has_text() {
+            Ok(domain)
+        } else {
+            Err(DomainFault::Empty)
+        }
+    }
+
+    /// Whether any text lies in the domain.
+    fn has_text(&self) -> bool
+        ensures { IsTrue result ↔ HasText self.now }
+    {
+        let room = match room(&self.max) {
+            Some(room) => room,
+            None => return false,
+        };
+        if self.optional {
+            return true;
+        }
+        match &self.kind {
+            Kind::Any | Kind::Filter(_) => true,
+            Kind::Range { least, greatest } => range::has_text(least, greatest, room),
+            Kind::Picture(picture) => picture.shortest() as usize <= room,
+        }
+    }
     /// Whether the text lies in the domain.
     pub fn accepts(&self, text: &Text) -> bool
         ensures { IsTrue result ↔ InDomain self.now text.now }
@@ -108,8 +176,12 @@ impl Domain {
 fn is_over(set: &Chars, text: &[char]) -> bool
     ensures { IsTrue result ↔ All (Contains set.now) text.now }
 {
-    let set = set.as_slice();
-    text.iter().all(|ch| is_in(set, *ch))
+    for ch in text {
+        if !is_in(set.as_slice(), *ch) {
+            return false;
+        }
+    }
+    true
 }
 
 fn is_in(set: &[char], ch: char) -> bool
@@ -123,4 +195,19 @@ fn is_within(len: usize, max: &i32) -> bool
     ensures { IsTrue result ↔ (pos len ≤ℤ max.now) }
 {
     len as i64 <= i64::from(*max)
+}
+
+/// How many characters the text may have, or `None` where not even none.
+fn room(max: &i32) -> Option<usize>
+    ensures some { IfSome result (λ room. (room ≤ 120) × ((n : ℕ) → (n ≤ room) ↔ ((n ≤ 120) × (pos n ≤ℤ max.now)))) }
+    ensures none { IfNone result ((n : ℕ) → pos n ≤ℤ max.now → ⊥) }
+{
+    let max = *max;
+    if max < 0 {
+        None
+    } else if max > 120 {
+        Some(120)
+    } else {
+        Some(max as usize)
+    }
 }

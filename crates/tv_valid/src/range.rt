@@ -1,7 +1,7 @@
 //! Texts of whole numbers between two bounds.
 
-ghost use Rattle.std.specs.Prelude.{◌≡◌, ◌↔◌, ◌+◌, ◌^◌, ◌≤◌, ◌<◌, ◌≤ℤ◌, ◌<ℤ◌, min, ℕ, List, length, pos, neg_ℤ, IsTrue, IfSome, IfNone};
-ghost use Rattle.tv_valid.specs.Domain.{whole, IsDigits, IsBetween, InRange, IsRangeChar};
+ghost use Rattle.std.specs.Prelude.{◌≡◌, ◌↔◌, ◌+◌, ◌^◌, ◌≤◌, ◌<◌, ◌≤ℤ◌, ◌<ℤ◌, min, ℕ, List, length, pos, neg_ℤ, unsigned_abs, IsTrue, IfSome, IfNone};
+ghost use Rattle.tv_valid.specs.Domain.{whole, IsDigits, IsBetween, InRange, IsRangeChar, HasNumber};
 
 /// What a sum of digits is bounded by: more than any bound of a range.
 const LARGE: u64 = 10_000_000_000;
@@ -88,4 +88,39 @@ pub fn is_range_char(least: &i32, ch: char) -> bool
     ensures { IsTrue result ↔ IsRangeChar least.now ch }
 {
     ch == '+' || ch.is_ascii_digit() || (ch == '-' && *least < 0)
+}
+
+/// Whether so many digits can write the number.
+fn has_digits(number: u64, digits: usize) -> bool
+    requires { digits ≤ 120 }
+    ensures { IsTrue result ↔ (number < 10 ^ digits) }
+{
+    let mut left = number;
+    for _ in 0..digits {
+        left /= 10;
+    }
+    left == 0
+}
+
+fn size(number: &i32) -> u64
+    ensures { result ≡ unsigned_abs number.now }
+{
+    u64::from(number.unsigned_abs())
+}
+
+/// Whether a text of so many characters is a number's in the range.
+pub fn has_text(least: &i32, greatest: &i32, room: usize) -> bool
+    requires { room ≤ 120 }
+    ensures { IsTrue result ↔ HasNumber least.now greatest.now room }
+{
+    if *least > *greatest || room == 0 {
+        return false;
+    }
+    if *least > 0 {
+        return has_digits(size(least), room);
+    }
+    if *greatest < 0 {
+        return has_digits(size(greatest), room - 1);
+    }
+    true
 }
