@@ -1,5 +1,5 @@
 -- What an input asks of its text.
-use Rattle.std.specs.Prelude.{◌≡◌, ℕ, ◌+◌, ◌-◌, ◌*◌, ◌^◌, ◌≤◌, ◌<◌, ◌⊎◌, ◌++◌, List, [], ◌∷◌, length, take, insert, slice_index_or, All, Contains, Bool, true, false, if◌then◌else◌, nat_le, ◌&&◌, IsTrue, ℤ, pos, neg_ℤ, ◌≤ℤ◌, ◌<ℤ◌}
+use Rattle.std.specs.Prelude.{◌≡◌, ℕ, ◌+◌, ◌-◌, ◌*◌, ◌^◌, ◌≤◌, ◌<◌, ◌⊎◌, ◌++◌, List, [], ◌∷◌, length, take, insert, slice_index_or, All, Contains, Bool, true, false, if◌then◌else◌, nat_le, ◌&&◌, ◌==◌, IsTrue, ℤ, pos, neg_ℤ, ◌≤ℤ◌, ◌<ℤ◌}
 use Rattle.tv_cells.specs.Glyph.{IsNarrow}
 use Rattle.tv_picture.specs.Pattern.{Pattern, Member, Begins, IsNextLiteral, IsDigit}
 use Rattle.tv_picture.specs.Spelling.{IsPicture, spelled, IsFirstFault}
@@ -95,3 +95,33 @@ abbrev pub Refuses : InputSpec → DomainFault → Type 0
 Refuses spec NoMemory = Unit {0}
 Refuses spec (BadPicture place) = (text : List ℕ) × (spec.domain ≡ asked.Picture text) × IsFirstFault text place
 Refuses spec Empty = ((d : Domain) × IsDomain spec d) × ((d : Domain) → IsDomain spec d → HasText d → ⊥)
+
+-- ---- typing
+
+-- an ASCII letter in its other case, and any other character itself
+abbrev pub other_case : ℕ → ℕ
+other_case c = if nat_le 65 c && nat_le c 90 then c + 32 else (if nat_le 97 c && nat_le c 122 then c - 32 else c)
+
+abbrev pub IsPictureKind : Kind → Type 0
+IsPictureKind (Picture p) = Unit {0}
+IsPictureKind _ = ⊥
+
+-- the character that is typed: as it is, or for a picture in its other case where that alone is viable
+abbrev pub IsChosen : Domain → List ℕ → ℕ → ℕ → ℕ → Type 0
+IsChosen d text at ch c = IsViableText d (insert text at c) × ((c ≡ ch) ⊎ (IsPictureKind d.kind × (c ≡ other_case ch) × ¬ (IsViableText d (insert text at ch))))
+
+-- the text with the literals that must follow it, as far as there is room
+pub record IsFilledTo (max : ℤ) (p : Pattern) (text out : List ℕ) : Type 0 where
+  pub more : List ℕ
+  pub grown : out ≡ text ++ more
+  pub literals : (k : ℕ) (c : ℕ) → k < length more → IsNextLiteral p (text ++ take k more) (slice_index_or more k c) × (pos (length text + k) <ℤ max)
+  pub full : (c : ℕ) → pos (length out) <ℤ max → IsNextLiteral p out c → ⊥
+
+-- with `fill`, what is typed at the end of a picture's text is filled up
+abbrev pub IsCompleted : Domain → Kind → Bool → List ℕ → List ℕ → Type 0
+IsCompleted d (Picture p) true text out = IsFilledTo d.max p text out
+IsCompleted d _ _ text out = out ≡ text
+
+-- the text after a character was typed
+abbrev pub IsTyped : Domain → List ℕ → ℕ → ℕ → List ℕ → Type 0
+IsTyped d text at ch out = (c : ℕ) × IsChosen d text at ch c × IsCompleted d d.kind (d.fill && (at == length text)) (insert text at c) out

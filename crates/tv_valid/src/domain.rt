@@ -1,7 +1,7 @@
 //! The texts that an input takes.
 
-ghost use Rattle.std.specs.Prelude.{◌≡◌, ◌↔◌, ◌≤◌, ◌≤ℤ◌, pos, ℕ, length, All, Contains, IsTrue, IfSome, IfNone, IfOk, IfErr};
-ghost use Rattle.tv_valid.specs.Domain.{IsDomain, IsKind, RefusesKind, HasText, InDomain, IsViableText, InKind, MayBecome, Fits, Refuses};
+ghost use Rattle.std.specs.Prelude.{◌≡◌, ◌↔◌, ◌<◌, ◌≤◌, ◌≤ℤ◌, ◌<ℤ◌, pos, insert, ℕ, length, All, Contains, IsTrue, IfSome, IfNone, IfOk, IfErr};
+ghost use Rattle.tv_valid.specs.Domain.{IsDomain, IsKind, RefusesKind, HasText, InDomain, IsViableText, IsTyped, IsChosen, IsFilledTo, other_case, InKind, MayBecome, Fits, Refuses};
 
 use crate::chars::Chars;
 use crate::input::{DomainSpec, InputSpec};
@@ -139,6 +139,51 @@ impl Domain {
         self.fits(chars) && self.may_become(chars)
     }
 
+    /// The text after the character was typed before the one at the place, or `None` where that isn't viable.
+    ///
+    /// For a picture a letter is tried in its other case too; and where the input fills up, the literals that must
+    /// follow what was typed at the end are there as well.
+    pub fn typed(&self, text: &Text, at: usize, ch: char) -> Option<Text>
+        requires { at ≤ length text.now }
+        ensures some { IfSome result (λ out. IsTyped self.now text.now at ch out) }
+        ensures none { IfNone result ((c : ℕ) → IsChosen self.now text.now at ch c → ⊥) }
+    {
+        if text.is_full() {
+            return None;
+        }
+        let typed = self.chosen(text, at, ch)?;
+        match &self.kind {
+            Kind::Picture(picture) if self.fill && at == text.len() => Some(filled(picture, &self.max, typed)),
+            _ => Some(typed),
+        }
+    }
+
+    fn inserted(&self, text: &Text, at: usize, ch: char) -> Option<Text>
+        requires in_bounds { at ≤ length text.now }
+        requires room { length text.now < 120 }
+        ensures some { IfSome result (λ out. (out ≡ insert text.now at ch) × IsViableText self.now (insert text.now at ch)) }
+        ensures none { IfNone result (IsViableText self.now (insert text.now at ch) → ⊥) }
+    {
+        let mut typed = text.copy();
+        typed.insert(at, ch);
+        if self.viable(&typed) { Some(typed) } else { None }
+    }
+
+    fn chosen(&self, text: &Text, at: usize, ch: char) -> Option<Text>
+        requires in_bounds { at ≤ length text.now }
+        requires room { length text.now < 120 }
+        ensures some { IfSome result (λ out. (c : ℕ) × IsChosen self.now text.now at ch c × (out ≡ insert text.now at c)) }
+        ensures none { IfNone result ((c : ℕ) → IsChosen self.now text.now at ch c → ⊥) }
+    {
+        if let Some(typed) = self.inserted(text, at, ch) {
+            return Some(typed);
+        }
+        match &self.kind {
+            Kind::Picture(_) => self.inserted(text, at, in_other_case(ch)),
+            _ => None,
+        }
+    }
+
     /// Whether the text is short enough, and each character takes one column.
     fn fits(&self, text: &[char]) -> bool
         requires { length text.now ≤ 120 }
@@ -210,4 +255,40 @@ fn room(max: &i32) -> Option<usize>
     } else {
         Some(max as usize)
     }
+}
+
+fn in_other_case(ch: char) -> char
+    ensures { result ≡ other_case ch }
+{
+    if ch.is_ascii_uppercase() {
+        ch.to_ascii_lowercase()
+    } else if ch.is_ascii_lowercase() {
+        ch.to_ascii_uppercase()
+    } else {
+        ch
+    }
+}
+
+/// The text with the literals that must follow it, as long as there is room.
+fn filled(picture: &Picture, max: &i32, text: Text) -> Text
+    ensures { IsFilledTo max.now picture.now text result }
+{
+    let mut text = text;
+    for _ in 0..Text::CAPACITY {
+        if !is_under(text.len(), max) {
+            return text;
+        }
+        match picture.next_literal(text.as_slice()) {
+            Some(ch) => text.push(ch),
+            None => return text,
+        }
+    }
+    text
+}
+
+fn is_under(len: usize, max: &i32) -> bool
+    requires { len ≤ 120 }
+    ensures { IsTrue result ↔ (pos len <ℤ max.now) }
+{
+    (len as i64) < i64::from(*max)
 }
