@@ -1,7 +1,9 @@
 -- The bits of a union.
-use Rattle.std.proofs.Common.{suc, zero, ◌≡◌, ◌≢◌, ◌⊎◌, inl, inr, ◌↔◌, ℕ, ◌+◌, ◌*◌, ◌^◌, ◌<◌, max, bit_and, bit_or, arith, refl, ◌∙◌, sym, ap}
+use Rattle.std.proofs.Common.{suc, zero, ◌≡◌, ◌≢◌, ◌⊎◌, inl, inr, ◌↔◌, ℕ, ◌+◌, ◌*◌, ◌/◌, ◌^◌, ◌<◌, ◌≤◌, max, bit_and, bit_or, arith, refl, ◌∙◌, sym, ap}
 use Rattle.std.specs.Int.{IsBitSet, bit_at}
-use Rattle.std.proofs.lemmas.Nat.Bits.{and_pow, bit_at-lt, bit_at_or}
+use Rattle.std.proofs.lemmas.Nat.Bits.{and_pow, bit_at-lt, bit_at_or, bit_at_above}
+use Rattle.std.proofs.lemmas.Nat.{pow_pos}
+use Rattle.std.proofs.Math.Nat.{div-lt_iff_lt-mul}
 
 -- a product by 0 or 1 that isn't 0
 one_of : (b m p : ℕ) → b < 2 → m ≡ b * p → m ≢ 0 → b ≡ 1
@@ -32,3 +34,13 @@ union_bits m n k = (
     joined : IsBitSet m k ⊎ IsBitSet n k → bit_at (bit_or m n) k ≡ 1
     joined (inl h) = let a = bit_is_one m k h in let b = bit_at-lt n k in let e = bit_at_or m n k in omega arith
     joined (inr h) = let b = bit_is_one n k h in let a = bit_at-lt m k in let e = bit_at_or m n k in omega arith
+
+-- nothing is left of a number whose bits are all below k
+pub none_above : (n k i : ℕ) → n / 2 ^ k ≡ 0 → k ≤ i → IsBitSet n i → ⊥
+none_above n k i e h set =
+    let power : 0 < 2 ^ k = pow_pos k in
+    let low : n / 2 ^ k < 1 = omega arith in
+    let small : n < 1 * 2 ^ k = (div-lt_iff_lt-mul power).0 low in
+    let zero_bit = bit_at_above n k i (omega arith) h in
+    let one_bit = bit_is_one n i set in
+    omega arith

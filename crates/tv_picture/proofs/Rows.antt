@@ -100,6 +100,12 @@ gathers_skip places table start stop first row not_here g = record {
         below_last : (r : ℕ) → r < stop + 1 → Has places r → r < stop
         below_last r below has = let apart : r ≢ stop = λ e. not_here (subst (Has places) e has) in omega arith
 
+pub gathers_rest : (more stop : ℕ) (places : Places) (table : Table) (start : ℕ) (first row : Row) → ((k : ℕ) → stop ≤ k → Has places k → ⊥) → Gathers places table start stop first row → Gathers places table start (stop + more) first row
+gathers_rest zero stop places table start first row none g = subst (λ (n : ℕ). Gathers places table start n first row) (omega arith) g
+gathers_rest (suc more) stop places table start first row none g =
+    subst (λ (n : ℕ). Gathers places table start n first row) (omega arith)
+        (gathers_rest more (stop + 1) places table start first row (λ k above. none k (omega arith)) (gathers_skip places table start stop first row (none stop (omega arith)) g))
+
 pub gathers_more : (places : Places) (table : Table) (start stop : ℕ) (first row result : Row) → start ≤ stop → Has places stop → ((k : ℕ) → Has result.ends k ↔ (Has row.ends k ⊎ Has (row_at table stop).ends k)) → result.next ≡ joined row.next (row_at table stop).next → Gathers places table start stop first row → Gathers places table start (stop + 1) first result
 gathers_more places table start stop first row result order has ends follow g = record {
     ends = λ k. ((λ h. wider k ((ends k).0 h)), (λ h. (ends k).1 (narrower k h)));
@@ -183,33 +189,33 @@ at_through a b text from r c (u, v, m, e, er) f =
 
 -- ---- the row of a sequence
 
-pub row_sequence : (a b : Pattern) (text : List ℕ) (A B : Table) (from : ℕ) (first result : Row) → from ≤ length text → Covers a text A → Covers b text B → ((k : ℕ) → Has first.ends k → ⊥) → first.next ≡ (row_at A from).next → Gathers (row_at A from).ends B 0 (length text + 1) first result → IsRow (sequence a b) (drop from text) from result
+pub row_sequence : (a b : Pattern) (text : List ℕ) (A B : Table) (from : ℕ) (first result : Row) → from ≤ length text → Covers a text A → Covers b text B → ((k : ℕ) → Has first.ends k → ⊥) → first.next ≡ (row_at A from).next → Gathers (row_at A from).ends B from (length text + 1) first result → IsRow (sequence a b) (drop from text) from result
 row_sequence a b text A B from first result within ca cb none follow g = record {
     ends = λ to. ((λ h. spans_met a b text from to (met to ((g.ends to).0 h))), (λ s. (g.ends to).1 (inr (parted to (spans_parted a b text from to within s)))));
-    next = Names_same (λ c. Follows a (drop from text) c ⊎ FollowsFrom (row_at A from).ends b text 0 (length text + 1) c) (Follows (sequence a b) (drop from text)) result.next forth back
+    next = Names_same (λ c. Follows a (drop from text) c ⊎ FollowsFrom (row_at A from).ends b text from (length text + 1) c) (Follows (sequence a b) (drop from text)) result.next forth back
         (g.next a b text from (subst (Names (Follows a (drop from text))) (sym follow) (ca.at from within).next) (λ r above below has. (cb.at r (omega arith)).next))
 }
     where
-    met : (to : ℕ) → Has first.ends to ⊎ AnyRow (row_at A from).ends B 0 (length text + 1) to → Meets a b text from to
+    met : (to : ℕ) → Has first.ends to ⊎ AnyRow (row_at A from).ends B from (length text + 1) to → Meets a b text from to
     met to (inl h) = absurd (none to h)
     met to (inr (r, above, below, at, ends)) =
         let s = ((ca.at from within).ends r).0 at in
         (r, omega arith, omega arith, s, ((cb.at r (omega arith)).ends to).0 ends)
 
-    parted : (to : ℕ) → Meets a b text from to → AnyRow (row_at A from).ends B 0 (length text + 1) to
-    parted to (r, above, below, s, s') = (r, omega arith, omega arith, ((ca.at from within).ends r).1 s, ((cb.at r below).ends to).1 s')
+    parted : (to : ℕ) → Meets a b text from to → AnyRow (row_at A from).ends B from (length text + 1) to
+    parted to (r, above, below, s, s') = (r, above, omega arith, ((ca.at from within).ends r).1 s, ((cb.at r below).ends to).1 s')
 
-    forth : (c : ℕ) → Follows a (drop from text) c ⊎ FollowsFrom (row_at A from).ends b text 0 (length text + 1) c → Follows (sequence a b) (drop from text) c
+    forth : (c : ℕ) → Follows a (drop from text) c ⊎ FollowsFrom (row_at A from).ends b text from (length text + 1) c → Follows (sequence a b) (drop from text) c
     forth c (inl f) = next_of_left a b (drop from text) c f
     forth c (inr (r, above, below, has, f)) = next_of_right a b (drop from text) c (at_through a b text from r c (((ca.at from within).ends r).0 has) f)
 
-    held : (c : ℕ) → Through a b (drop from text) c → FollowsFrom (row_at A from).ends b text 0 (length text + 1) c
-    held c t = let p = through_at a b text from c within t in (p.0, omega arith, (let h : p.0 ≤ length text = p.1 in omega arith), ((ca.at from within).ends p.0).1 p.2, p.3)
+    held : (c : ℕ) → Through a b (drop from text) c → FollowsFrom (row_at A from).ends b text from (length text + 1) c
+    held c t = let p = through_at a b text from c within t in (p.0, (let e = p.2.4 in omega arith), (let h : p.0 ≤ length text = p.1 in omega arith), ((ca.at from within).ends p.0).1 p.2, p.3)
 
-    back : (c : ℕ) → Follows (sequence a b) (drop from text) c → Follows a (drop from text) c ⊎ FollowsFrom (row_at A from).ends b text 0 (length text + 1) c
+    back : (c : ℕ) → Follows (sequence a b) (drop from text) c → Follows a (drop from text) c ⊎ FollowsFrom (row_at A from).ends b text from (length text + 1) c
     back c f = cases (follows_next a b (drop from text) c f)
         where
-        cases : Follows a (drop from text) c ⊎ Through a b (drop from text) c → Follows a (drop from text) c ⊎ FollowsFrom (row_at A from).ends b text 0 (length text + 1) c
+        cases : Follows a (drop from text) c ⊎ Through a b (drop from text) c → Follows a (drop from text) c ⊎ FollowsFrom (row_at A from).ends b text from (length text + 1) c
         cases (inl h) = inl h
         cases (inr h) = inr (held c h)
 

@@ -1,6 +1,6 @@
 //! Sets of places of a text.
 
-ghost use Rattle.std.specs.Prelude.{◌≡◌, ◌↔◌, ◌<◌, ◌⊎◌, ℕ, IsTrue};
+ghost use Rattle.std.specs.Prelude.{◌≡◌, ◌↔◌, ◌<◌, ◌≤◌, ◌⊎◌, ℕ, IsTrue};
 ghost use Rattle.tv_picture.specs.Table.{Has};
 
 /// A set of places, each below 128.
@@ -33,5 +33,13 @@ impl Places {
         Places {
             bits: self.bits | other.bits,
         }
+    }
+
+    /// Whether each place of the set is below this one.
+    pub fn is_below(self, place: usize) -> bool
+        requires { place < 128 }
+        ensures { IsTrue result → (k : ℕ) → place ≤ k → Has self k → ⊥ }
+    {
+        self.bits >> place == 0
     }
 }

@@ -71,7 +71,7 @@ impl Table {
                 ends: Places::NONE,
                 next: row.next,
             };
-            table.rows[from] = other.gather(row.ends, 0, len + 1, first);
+            table.rows[from] = other.gather(row.ends, from, len + 1, first);
         }
         table
     }
@@ -84,6 +84,9 @@ impl Table {
     {
         let mut row = first;
         for place in start..stop {
+            if places.is_below(place) {
+                return row;
+            }
             if places.has(place) {
                 row = row.join(self.rows[place]);
             }

@@ -11,3 +11,6 @@ pub use chars::Chars;
 pub use domain::{Domain, DomainFault};
 pub use input::{DomainSpec, InputSpec};
 pub use text::Text;
+
+#[cfg(test)]
+mod tests;

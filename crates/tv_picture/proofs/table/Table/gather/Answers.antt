@@ -1,6 +1,6 @@
-use Rattle.std.proofs.Common.{ℕ, ◌<◌, ◌≡◌, length, ◌+◌, arith, subst, sym, true, false}
+use Rattle.std.proofs.Common.{ℕ, ◌<◌, ◌≡◌, length, ◌+◌, ◌-◌, arith, subst, sym, true, false}
 use Rattle.tv_picture.specs.Table.{Gathers}
-use Rattle.tv_picture.proofs.Rows.{gathers_none, gathers_skip, gathers_more}
+use Rattle.tv_picture.proofs.Rows.{gathers_none, gathers_skip, gathers_more, gathers_rest}
 use Rattle.tv_picture.proofs.table.Table.gather.Goals as goal
 use Rattle.tv_picture.proofs.table.Table.gather.Goals.{then-has, else-has}
 
@@ -19,3 +19,8 @@ pub returns : goal.returns
 returns c =
     let end : c.loop-place.place ≡ c.args.stop = omega arith in
     subst (λ (k : ℕ). Gathers c.args.places c.args.self.now c.args.start k c.args.first c.loop-place.row) end c.loop-place.invariant
+
+pub returns-then-is_below : goal.returns-then-is_below
+returns-then-is_below c =
+    subst (λ (k : ℕ). Gathers c.args.places c.args.self.now c.args.start k c.args.first c.loop-place.row) (omega arith)
+        (gathers_rest (c.args.stop - c.loop-place.place) c.loop-place.place c.args.places c.args.self.now c.args.start c.args.first c.loop-place.row (c.is_below.ensures c.if-is_below.true) c.loop-place.invariant)

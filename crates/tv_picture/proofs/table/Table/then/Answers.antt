@@ -12,7 +12,7 @@ loop-from-preserved c =
     (length-set c.loop-from.table.rows c.loop-from.from c.gather.result ∙ c.loop-from.invariant.0,
         λ a b text few ca cb. rows_more (sequence a b) text c.loop-from.table 0 c.loop-from.from c.gather.result (omega arith) (c.loop-from.invariant.1 a b text few ca cb)
             (λ within. row_sequence a b text c.args.self.now c.args.other.now c.loop-from.from (record { ends = record { bits = 0 }; next = (row_at c.args.self.now c.loop-from.from).next }) c.gather.result within ca cb (λ k. no_place k) refl
-                (subst (λ (n : ℕ). Gathers (row_at c.args.self.now c.loop-from.from).ends c.args.other.now 0 (n + 1) (record { ends = record { bits = 0 }; next = (row_at c.args.self.now c.loop-from.from).next }) c.gather.result) (sym few) c.gather.ensures)))
+                (subst (λ (n : ℕ). Gathers (row_at c.args.self.now c.loop-from.from).ends c.args.other.now c.loop-from.from (n + 1) (record { ends = record { bits = 0 }; next = (row_at c.args.self.now c.loop-from.from).next }) c.gather.result) (sym few) c.gather.ensures)))
 
 pub returns : goal.returns
 returns c = λ a b text few ca cb. covers_rows (sequence a b) text c.loop-from.table c.loop-from.from (omega arith) (c.loop-from.invariant.1 a b text few ca cb)
