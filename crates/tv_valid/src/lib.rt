@@ -2,9 +2,15 @@
 #![tactic(auto)]
 
 mod chars;
+mod domain;
 mod input;
+mod range;
 mod text;
 
 pub use chars::Chars;
+pub use domain::{Domain, DomainFault};
 pub use input::{DomainSpec, InputSpec};
 pub use text::Text;
+
+#[cfg(test)]
+mod tests;

@@ -1,0 +1,46 @@
+-- The bits of a union.
+use Rattle.std.proofs.Common.{suc, zero, ◌≡◌, ◌≢◌, ◌⊎◌, inl, inr, ◌↔◌, ℕ, ◌+◌, ◌*◌, ◌/◌, ◌^◌, ◌<◌, ◌≤◌, max, bit_and, bit_or, arith, refl, ◌∙◌, sym, ap}
+use Rattle.std.specs.Int.{IsBitSet, bit_at}
+use Rattle.std.proofs.lemmas.Nat.Bits.{and_pow, bit_at-lt, bit_at_or, bit_at_above}
+use Rattle.std.proofs.lemmas.Nat.{pow_pos}
+use Rattle.std.proofs.Math.Nat.{div-lt_iff_lt-mul}
+
+-- a product by 0 or 1 that isn't 0
+one_of : (b m p : ℕ) → b < 2 → m ≡ b * p → m ≢ 0 → b ≡ 1
+one_of zero m p h e n = absurd (n (omega arith))
+one_of (suc zero) m p h e n = refl
+one_of (suc (suc b)) m p h e n = absurd (omega arith)
+
+pub bit_is_one : (n k : ℕ) → IsBitSet n k → bit_at n k ≡ 1
+bit_is_one n k h = one_of (bit_at n k) (bit_and n (2 ^ k)) (2 ^ k) (bit_at-lt n k) (and_pow n k) h
+
+pub bit_is_set : (n k : ℕ) → bit_at n k ≡ 1 → IsBitSet n k
+bit_is_set n k h = λ z. absurd (grind (arith, and_pow n k, h, z))
+
+larger : (a b : ℕ) → a < 2 → max a b ≡ 1 → (a ≡ 1) ⊎ (b ≡ 1)
+larger zero b h e = inr (omega arith)
+larger (suc zero) b h e = inl refl
+larger (suc (suc a)) b h e = absurd (omega arith)
+
+pub union_bits : (m n k : ℕ) → IsBitSet (bit_or m n) k ↔ (IsBitSet m k ⊎ IsBitSet n k)
+union_bits m n k = (
+    (λ h. sides (larger (bit_at m k) (bit_at n k) (bit_at-lt m k) (sym (bit_at_or m n k) ∙ bit_is_one (bit_or m n) k h))),
+    (λ h. bit_is_set (bit_or m n) k (joined h)))
+    where
+    sides : (bit_at m k ≡ 1) ⊎ (bit_at n k ≡ 1) → IsBitSet m k ⊎ IsBitSet n k
+    sides (inl e) = inl (bit_is_set m k e)
+    sides (inr e) = inr (bit_is_set n k e)
+
+    joined : IsBitSet m k ⊎ IsBitSet n k → bit_at (bit_or m n) k ≡ 1
+    joined (inl h) = let a = bit_is_one m k h in let b = bit_at-lt n k in let e = bit_at_or m n k in omega arith
+    joined (inr h) = let b = bit_is_one n k h in let a = bit_at-lt m k in let e = bit_at_or m n k in omega arith
+
+-- nothing is left of a number whose bits are all below k
+pub none_above : (n k i : ℕ) → n / 2 ^ k ≡ 0 → k ≤ i → IsBitSet n i → ⊥
+none_above n k i e h set =
+    let power : 0 < 2 ^ k = pow_pos k in
+    let low : n / 2 ^ k < 1 = omega arith in
+    let small : n < 1 * 2 ^ k = (div-lt_iff_lt-mul power).0 low in
+    let zero_bit = bit_at_above n k i (omega arith) h in
+    let one_bit = bit_is_one n i set in
+    omega arith

@@ -1,0 +1,10 @@
+pub mod BitLemmas
+pub mod Language
+pub mod Rows
+pub mod Stacks
+pub mod Statuses
+pub mod LengthLemmas
+pub mod ParsingLemmas
+pub mod Grammar
+pub mod Soundness
+pub mod Parsed

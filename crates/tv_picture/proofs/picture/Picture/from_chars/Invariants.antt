@@ -1,0 +1,7 @@
+use Rattle.std.proofs.Common.{◌≡◌, ℕ, List, take}
+use Rattle.std.specs.Prelude.{Some}
+use Rattle.tv_picture.specs.Parsing.{reading, text_steps, start}
+use Rattle.tv_picture.proofs.picture.Picture.from_chars.Given as goal
+
+abbrev pub invariant-loop-place : goal.invariant-loop-place
+invariant-loop-place l = text_steps start (take l.place l.text) ≡ Some (reading l.parser)

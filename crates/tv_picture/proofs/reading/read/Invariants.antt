@@ -1,0 +1,10 @@
+use Rattle.std.proofs.Common.{◌≡◌, ◌≤◌, ℕ, List, [], drop}
+use Rattle.std.specs.Prelude.{Some}
+use Rattle.tv_picture.specs.Pattern.{Pattern}
+use Rattle.tv_picture.specs.Code.{run, height_from}
+use Rattle.tv_picture.specs.Machine.{Stands}
+use Rattle.tv_picture.specs.Table.{Covers}
+use Rattle.tv_picture.proofs.reading.read.Given as goal
+
+abbrev pub invariant-loop-op : goal.invariant-loop-op
+invariant-loop-op l = (height_from l.stack.height (drop l.op-index l.code) ≡ Some 1) × ((ps : List Pattern) × (run ps (drop l.op-index l.code) ≡ run [] l.code) × Stands (λ p t. Covers p l.text t) l.stack.tables l.stack.height ps)

@@ -1,0 +1,13 @@
+-- What stands on the stack of the machine that runs a pattern's code.
+use Rattle.std.specs.Prelude.{◌≡◌, ℕ, ◌+◌, List, [], ◌∷◌, slice_index_or}
+use Rattle.tv_picture.specs.Pattern.{Pattern}
+
+-- below the height stands something for each pattern, the first pattern's on top
+abbrev pub Stands : {X : Type 0} → (Pattern → X → Type 0) → List X → ℕ → List Pattern → Type 0
+Stands R xs height [] = height ≡ 0
+Stands {X} R xs height (p ∷ ps) = (below : ℕ) × (height ≡ below + 1) × ((d : X) → R p (slice_index_or xs below d)) × Stands R xs below ps
+
+-- the first pattern is what was made for the place, and the others stand below it
+abbrev pub Made : {X : Type 0} → (Pattern → X → Type 0) → List X → ℕ → X → List Pattern → Type 0
+Made R xs place x [] = ⊥
+Made R xs place x (p ∷ ps) = R p x × Stands R xs place ps

@@ -1,0 +1,15 @@
+//! Pictures: small patterns that say what may be typed into an input.
+#![tactic(auto)]
+
+mod code;
+mod fault;
+mod places;
+mod reading;
+mod row;
+mod shortest;
+mod table;
+mod parser;
+mod picture;
+
+pub use fault::PictureFault;
+pub use picture::{Picture, Status};

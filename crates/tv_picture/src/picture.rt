@@ -1,0 +1,135 @@
+//! A parsed picture.
+
+ghost use Rattle.std.specs.Prelude.{◌≡◌, ◌≤◌, ℕ, length, chars, IfSome, IfNone, IfOk, IfErr, MatchResult};
+ghost use Rattle.tv_picture.specs.Pattern.{Pattern, IsStatus, IsNextLiteral, IsShortest};
+ghost use Rattle.tv_picture.specs.Spelling.{spelled, IsPicture, Refuses};
+ghost use Rattle.tv_picture.specs.Table.{Covers};
+
+use crate::code::Op;
+use crate::fault::PictureFault;
+use crate::parser::Parser;
+use crate::reading::read;
+use crate::row::Next;
+use crate::shortest::shortest;
+use crate::table::Table;
+use std::alloc::{AllocError, Global};
+use std::marker::Model;
+
+/// What a text is to a picture.
+#[derive(Clone, Copy, Debug, PartialEq, Eq)]
+pub enum Status {
+    /// The text is right as it stands.
+    Complete,
+    /// More has to be typed after it.
+    Viable,
+    /// Nothing typed after it makes it right.
+    Error,
+}
+
+/// A picture, which says what texts are right. Contracts see its pattern.
+#[derive(Debug, Drop)]
+pub struct Picture {
+    code: Vec<Op>,
+}
+
+impl Model for Picture {
+    ghost use Rattle.std.specs.Prelude.{◌≡◌, Some};
+    ghost use Rattle.std.specs.Coded.{code_by, coded_list};
+    ghost use Rattle.tv_picture.specs.contracts.code.Op as op;
+    ghost use Rattle.tv_picture.specs.Pattern.{Pattern};
+    ghost use Rattle.tv_picture.specs.Code.{pattern_of, code_of, height_from};
+    ghost use Rattle.tv_picture.specs.Code.{pattern_of-code_of};
+
+    ghost Value = { Pattern };
+
+    ghost coded = { code_by _ (coded_list op.the_row.coded) code_of pattern_of pattern_of-code_of };
+
+    ghost view = { λ p. pattern_of p.code.items };
+
+    ghost invariant = { λ p. height_from 0 p.code.items ≡ Some 1 };
+}
+
+fn characters(alloc: Global, text: &str) -> Result<Vec<char>, AllocError>
+    ensures { IfOk result (λ v. v.items ≡ chars text.now) }
+{
+    text.chars().collect(alloc)
+}
+
+impl Picture {
+    /// Reads a picture.
+    pub fn parse(alloc: Global, text: &str) -> Result<Picture, PictureFault>
+        ensures ok { IfOk result (λ p. IsPicture p × (spelled p ≡ chars text.now)) }
+        ensures err { IfErr result (λ fault. Refuses (chars text.now) fault) }
+        ensures only { (p : Pattern) → IsPicture p → spelled p ≡ chars text.now → MatchResult result (λ q. q ≡ p) (λ fault. fault ≡ PictureFault.NoMemory) }
+    {
+        let text = characters(alloc, text)?;
+        Picture::from_chars(alloc, &text)
+    }
+
+    /// Reads a picture from its characters.
+    pub fn from_chars(alloc: Global, text: &[char]) -> Result<Picture, PictureFault>
+        ensures ok { IfOk result (λ p. IsPicture p × (spelled p ≡ text.now)) }
+        ensures err { IfErr result (λ fault. Refuses text.now fault) }
+        ensures only { (p : Pattern) → IsPicture p → spelled p ≡ text.now → MatchResult result (λ q. q ≡ p) (λ fault. fault ≡ PictureFault.NoMemory) }
+    {
+        let mut parser = Parser::new(alloc)?;
+        for (place, ch) in text.iter().enumerate() {
+            let took = parser.take(*ch)?;
+            if !took {
+                return Err(PictureFault::Syntax(place));
+            }
+        }
+        match parser.into_code()? {
+            Some(code) => Ok(Picture { code }),
+            None => Err(PictureFault::Syntax(text.len())),
+        }
+    }
+
+    /// Where the picture's members stand in the text.
+    fn table(&self, text: &[char]) -> Table
+        requires { length text.now ≤ 120 }
+        ensures { Covers self.now text.now result }
+    {
+        read(&self.code, text)
+    }
+
+    /// What the text is to the picture. Takes no memory, and a time that the square of the text's length and the length
+    /// of the picture bound.
+    pub fn status(&self, text: &[char]) -> Status
+        requires { length text.now ≤ 120 }
+        ensures { IsStatus self.now text.now result }
+    {
+        let row = self.table(text).rows[0];
+        if row.ends.has(text.len()) {
+            return Status::Complete;
+        }
+        match row.next {
+            Next::Nothing => Status::Error,
+            _ => Status::Viable,
+        }
+    }
+
+    /// The only character with which the text can go on, where it has to.
+    pub fn next_literal(&self, text: &[char]) -> Option<char>
+        requires { length text.now ≤ 120 }
+        ensures some { IfSome result (λ c. IsNextLiteral self.now text.now c) }
+        ensures none { IfNone result ((c : ℕ) → IsNextLiteral self.now text.now c → ⊥) }
+    {
+        let row = self.table(text).rows[0];
+        if text.len() == 120 || row.ends.has(text.len()) {
+            return None;
+        }
+        match row.next {
+            Next::Only(ch) => Some(ch),
+            _ => None,
+        }
+    }
+
+    /// The length of the shortest right text whose characters all take one column, or 121 where none has 120
+    /// characters or fewer.
+    pub fn shortest(&self) -> u32
+        ensures { IsShortest self.now result }
+    {
+        shortest(&self.code)
+    }
+}

@@ -1,0 +1,45 @@
+//! Sets of places of a text.
+
+ghost use Rattle.std.specs.Prelude.{◌≡◌, ◌↔◌, ◌<◌, ◌≤◌, ◌⊎◌, ℕ, IsTrue};
+ghost use Rattle.tv_picture.specs.Table.{Has};
+
+/// A set of places, each below 128.
+#[derive(Clone, Copy)]
+pub struct Places {
+    pub bits: u128,
+}
+
+impl Places {
+    pub const NONE: Places = Places { bits: 0 };
+
+    /// This place alone.
+    pub fn only(place: usize) -> Places
+        requires { place < 128 }
+        ensures { (k : ℕ) → Has result k ↔ (k ≡ place) }
+    {
+        Places { bits: 1 << place }
+    }
+
+    pub fn has(self, place: usize) -> bool
+        requires { place < 128 }
+        ensures { IsTrue result ↔ Has self place }
+    {
+        self.bits & (1 << place) != 0
+    }
+
+    pub fn union(self, other: Places) -> Places
+        ensures { (k : ℕ) → Has result k ↔ (Has self k ⊎ Has other k) }
+    {
+        Places {
+            bits: self.bits | other.bits,
+        }
+    }
+
+    /// Whether each place of the set is below this one.
+    pub fn is_below(self, place: usize) -> bool
+        requires { place < 128 }
+        ensures { IsTrue result → (k : ℕ) → place ≤ k → Has self k → ⊥ }
+    {
+        self.bits >> place == 0
+    }
+}

@@ -1,0 +1,52 @@
+//! What is known of a pattern from one place of a text on.
+
+ghost use Rattle.std.specs.Prelude.{◌≡◌, ◌↔◌, ◌⊎◌, ℕ};
+ghost use Rattle.tv_picture.specs.Table.{Has, joined};
+
+use crate::places::Places;
+
+/// The characters that may follow a text.
+#[derive(Clone, Copy)]
+pub enum Next {
+    Nothing,
+    Only(char),
+    Several,
+}
+
+impl Next {
+    /// The characters of either.
+    pub fn join(self, other: Next) -> Next
+        ensures { result ≡ joined self other }
+    {
+        match (self, other) {
+            (Next::Nothing, next) | (next, Next::Nothing) => next,
+            (Next::Only(a), Next::Only(b)) if a == b => Next::Only(a),
+            _ => Next::Several,
+        }
+    }
+}
+
+/// From one place on: where a member can end, and what may follow the end of the text inside one.
+#[derive(Clone, Copy)]
+pub struct Row {
+    pub ends: Places,
+    pub next: Next,
+}
+
+impl Row {
+    pub const NONE: Row = Row {
+        ends: Places::NONE,
+        next: Next::Nothing,
+    };
+
+    /// What either row has.
+    pub fn join(self, other: Row) -> Row
+        ensures ends { (k : ℕ) → Has result.ends k ↔ (Has self.ends k ⊎ Has other.ends k) }
+        ensures next { result.next ≡ joined self.next other.next }
+    {
+        Row {
+            ends: self.ends.union(other.ends),
+            next: self.next.join(other.next),
+        }
+    }
+}
