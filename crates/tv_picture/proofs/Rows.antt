@@ -430,3 +430,19 @@ last_one i j left n e f = let g : i + j * 1 ≡ n = subst (λ (x : ℕ). i + j *
 
 pub none_left : (i j left n : ℕ) → left ≡ 0 → i + j * left ≡ n → i ≡ n
 none_left i j left n e f = let g : i + j * 0 ≡ n = subst (λ (x : ℕ). i + j * x ≡ n) e f in omega arith
+
+-- a power that is its own square stands for each multiple of its count
+pub powers_repeated : (m : ℕ) (base table power : Table) (len i j : ℕ) → Joins power power len power → Powers base table power len i j → Powers base table power len i (j + j * m)
+powers_repeated zero base table power len i j joins h a text same ca = let one = h a text same ca in (one.0, subst (λ (n : ℕ). Covers (times n a) text power) (omega arith) one.1)
+powers_repeated (suc m) base table power len i j joins h a text same ca =
+    let rest = powers_repeated m base table power len i j joins h a text same ca in
+    let one = h a text same ca in
+    let e : j + (j + j * m) ≡ j + j * suc m = grind arith in
+    (one.0, subst (λ (n : ℕ). Covers (times n a) text power) e (Covers_add j (j + j * m) a text power (joins (times j a) (times (j + j * m) a) text same one.1 rest.1)))
+
+pub all_at_once : (i j h n : ℕ) → 1 ≤ h → i + (j + j) * h ≡ n → i + (j + j * (h + h - 1)) ≡ n
+all_at_once i j h n some e = apart h some e
+    where
+    apart : (k : ℕ) → 1 ≤ k → i + (j + j) * k ≡ n → i + (j + j * (k + k - 1)) ≡ n
+    apart zero low f = absurd (omega arith)
+    apart (suc k) low f = let g : suc k + suc k - 1 ≡ k + k + 1 = omega arith in ap (λ (x : ℕ). i + (j + j * x)) g ∙ grind (arith, f)
