@@ -1,5 +1,5 @@
 -- The bits of a union.
-use Rattle.std.proofs.Common.{suc, zero, ◌≡◌, ◌≢◌, ◌⊎◌, inl, inr, ◌↔◌, ℕ, ◌+◌, ◌*◌, ◌/◌, ◌^◌, ◌<◌, ◌≤◌, max, bit_and, bit_or, arith, refl, ◌∙◌, sym, ap}
+use Rattle.std.proofs.Common.{suc, zero, ◌≡◌, ◌≢◌, ◌⊎◌, inl, inr, ◌↔◌, ℕ, ◌*◌, ◌/◌, ◌^◌, ◌<◌, ◌≤◌, max, bit_and, bit_or, arith, refl, ◌∙◌, sym}
 use Rattle.std.specs.Int.{IsBitSet, bit_at}
 use Rattle.std.proofs.lemmas.Nat.Bits.{and_pow, bit_at-lt, bit_at_or, bit_at_above}
 use Rattle.std.proofs.lemmas.Nat.{pow_pos}
@@ -24,9 +24,10 @@ larger (suc (suc a)) b h e = absurd (omega arith)
 
 pub union_bits : (m n k : ℕ) → IsBitSet (bit_or m n) k ↔ (IsBitSet m k ⊎ IsBitSet n k)
 union_bits m n k = (
-    (λ h. sides (larger (bit_at m k) (bit_at n k) (bit_at-lt m k) (sym (bit_at_or m n k) ∙ bit_is_one (bit_or m n) k h))),
-    (λ h. bit_is_set (bit_or m n) k (joined h)))
-    where
+  (λ h. sides (larger (bit_at m k) (bit_at n k) (bit_at-lt m k) (sym (bit_at_or m n k) ∙ bit_is_one (bit_or m n) k h))),
+  (λ h. bit_is_set (bit_or m n) k (joined h)),
+)
+  where
     sides : (bit_at m k ≡ 1) ⊎ (bit_at n k ≡ 1) → IsBitSet m k ⊎ IsBitSet n k
     sides (inl e) = inl (bit_is_set m k e)
     sides (inr e) = inr (bit_is_set n k e)

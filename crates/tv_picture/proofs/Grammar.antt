@@ -1,6 +1,6 @@
 -- The parser takes each picture's text, and has its pattern at the end.
-use Rattle.std.proofs.Common.{suc, zero, inl, inr, ◌≡◌, ◌≢◌, ◌⊎◌, ◌+◌, ◌-◌, ◌*◌, ◌/◌, ◌%◌, ◌≤◌, ◌<◌, ℕ, List, [], ◌∷◌, ◌++◌, length, max, arith, refl, sym, ◌∙◌, ap, subst, append_assoc, Bool, true, false, cond, ◌==◌, ◌&&◌, nat_lt, nat_le, get_or, ⊎_elim}
-use Rattle.std.specs.Prelude.{Option, Some, None, codes, Contains}
+use Rattle.std.proofs.Common.{inl, inr, ◌≡◌, ◌≢◌, ◌⊎◌, ◌+◌, ◌-◌, ◌*◌, ◌/◌, ◌%◌, ◌≤◌, ◌<◌, ℕ, List, [], ◌∷◌, ◌++◌, length, arith, refl, sym, ◌∙◌, ap, subst, Bool, true, false, cond, ◌==◌, ◌&&◌, nat_lt, nat_le, get_or}
+use Rattle.std.specs.Prelude.{Option, Some, None, codes}
 use Rattle.std.specs.Option.{option_and_then}
 use Rattle.std.proofs.lemmas.Bool.Decides.{eqb_tells, nat_tests}
 use Rattle.tv_picture.specs.declared.code.Mark.{Mark}
@@ -11,8 +11,8 @@ use Rattle.tv_picture.specs.declared.parser.Repeat.{Repeat}
 use Rattle.tv_picture.specs.declared.parser.Repeat.TheVariants.{Once, Many, Times}
 use Rattle.tv_picture.specs.declared.parser.Open.{Open}
 use Rattle.tv_picture.specs.Pattern.{Pattern, empty, one, sequence, either, optional, group, many, times, IsDigit}
-use Rattle.tv_picture.specs.Spelling.{mark_text, count_text, spelled, IsPlain, rank, depth, IsBase, IsMark, IsGrammatical, IsPicture}
-use Rattle.tv_picture.specs.Parsing.{Built, Reading, finished, with_mark, is_once, opened, closed, divided, starred, counted_as, quoted_next, plain_step, text_step, text_steps, start}
+use Rattle.tv_picture.specs.Spelling.{count_text, spelled, IsPlain, rank, depth, IsBase, IsMark, IsGrammatical, IsPicture}
+use Rattle.tv_picture.specs.Parsing.{Reading, finished, with_mark, opened, closed, counted_as, plain_step, text_step, text_steps, start}
 
 abbrev pub state : List Pattern → Option ℕ → List Open → Bool → Repeat → Bool → Reading
 state s h os c r q = record { built = record { stack = s; height = h }; brackets = os; choice = c; repeat = r; quoted = q }
@@ -29,7 +29,7 @@ Goes r text s os c = (h : Option ℕ) × (text_steps r text ≡ Some (state s h 
 pub steps-append : (r : Reading) (x y : List ℕ) → text_steps r (x ++ y) ≡ option_and_then (λ s. text_steps s y) (text_steps r x)
 steps-append r [] y = refl
 steps-append r (c ∷ x) y = later (text_step r c) (λ s. steps-append s x y)
-    where
+  where
     later : (o : Option Reading) → ((s : Reading) → text_steps s (x ++ y) ≡ option_and_then (λ t. text_steps t y) (text_steps s x)) → option_and_then (λ s. text_steps s (x ++ y)) o ≡ option_and_then (λ t. text_steps t y) (option_and_then (λ s. text_steps s x) o)
     later None rest = refl
     later (Some s) rest = rest s
@@ -56,7 +56,7 @@ marked m x s h os c r q = finished_as (one m) x s (option_and_then (λ k. Rattle
 
 apart : (c n : ℕ) → c ≢ n → (c == n) ≡ false
 apart c n h = told (eqb_tells c n)
-    where
+  where
     told : ((c == n) ≡ true) × (c ≡ n) ⊎ ((c == n) ≡ false) × (c ≢ n) → (c == n) ≡ false
     told (inl e) = absurd (h e.1)
     told (inr e) = e.0
@@ -94,7 +94,7 @@ is_digit c = grind (arith, nat_tests)
 
 pub digit_step : (r : Reading) (d : ℕ) → d < 10 → plain_step r (48 + d) ≡ counted_as r d r.repeat
 digit_step r d h = literal_step r (48 + d) (digit_none d h) ∙ told (is_digit (48 + d))
-    where
+  where
     told : ((nat_le 48 (48 + d) && nat_le (48 + d) 57) ≡ true) × IsDigit (48 + d) ⊎ ((nat_le 48 (48 + d) && nat_le (48 + d) 57) ≡ false) × (IsDigit (48 + d) → ⊥) → cond (nat_le 48 (48 + d) && nat_le (48 + d) 57) (counted_as r (48 + d - 48) r.repeat) (Some (with_mark r (Literal (48 + d)))) ≡ counted_as r d r.repeat
     told (inl e) = ap (λ t. cond t (counted_as r (48 + d - 48) r.repeat) (Some (with_mark r (Literal (48 + d))))) e.0 ∙ ap (λ (n : ℕ). counted_as r n r.repeat) (omega arith)
     told (inr e) = absurd (e.1 (omega arith, omega arith))
@@ -119,7 +119,7 @@ next_digit s h os c n d m low e high = one_step (state s h os c (Times n) false)
 
 count_goes : (s : List Pattern) (h : Option ℕ) (os : List Open) (c : Bool) (n : ℕ) → 1 ≤ n → n ≤ 120 → text_steps (state s h os c Many false) (count_text n) ≡ Some (state s h os c (Times n) false)
 count_goes s h os c n low high = cases (tens 10) (tens 100)
-    where
+  where
     tens : (k : ℕ) → ((nat_lt n k) ≡ true) × (n < k) ⊎ ((nat_lt n k) ≡ false) × (k ≤ n)
     tens k = grind (arith, nat_tests)
 
@@ -127,11 +127,11 @@ count_goes s h os c n low high = cases (tens 10) (tens 100)
     cases (inl (e, small)) _ = subst (λ (b : Bool). text_steps (state s h os c Many false) (cond b ((48 + n) ∷ []) (cond (nat_lt n 100) ((48 + n / 10) ∷ (48 + n % 10) ∷ []) ((48 + n / 100) ∷ (48 + n / 10 % 10) ∷ (48 + n % 10) ∷ []))) ≡ Some (state s h os c (Times n) false)) (sym e) (first_digit s h os c n (omega arith) small)
     cases (inr (e, big)) (inl (f, small)) = subst (λ (b : Bool). text_steps (state s h os c Many false) (cond b ((48 + n) ∷ []) (cond (nat_lt n 100) ((48 + n / 10) ∷ (48 + n % 10) ∷ []) ((48 + n / 100) ∷ (48 + n / 10 % 10) ∷ (48 + n % 10) ∷ []))) ≡ Some (state s h os c (Times n) false)) (sym e)
         (subst (λ (b : Bool). text_steps (state s h os c Many false) (cond b ((48 + n / 10) ∷ (48 + n % 10) ∷ []) ((48 + n / 100) ∷ (48 + n / 10 % 10) ∷ (48 + n % 10) ∷ [])) ≡ Some (state s h os c (Times n) false)) (sym f)
-            (steps_then (state s h os c Many false) (state s h os c (Times (n / 10)) false) ((48 + n / 10) ∷ []) ((48 + n % 10) ∷ []) (Some (state s h os c (Times n) false)) (first_digit s h os c (n / 10) (omega arith) (omega arith)) (next_digit s h os c (n / 10) (n % 10) n (omega arith) (omega arith) high)))
+        (steps_then (state s h os c Many false) (state s h os c (Times (n / 10)) false) ((48 + n / 10) ∷ []) ((48 + n % 10) ∷ []) (Some (state s h os c (Times n) false)) (first_digit s h os c (n / 10) (omega arith) (omega arith)) (next_digit s h os c (n / 10) (n % 10) n (omega arith) (omega arith) high)))
     cases (inr (e, big)) (inr (f, huge)) = subst (λ (b : Bool). text_steps (state s h os c Many false) (cond b ((48 + n) ∷ []) (cond (nat_lt n 100) ((48 + n / 10) ∷ (48 + n % 10) ∷ []) ((48 + n / 100) ∷ (48 + n / 10 % 10) ∷ (48 + n % 10) ∷ []))) ≡ Some (state s h os c (Times n) false)) (sym e)
         (subst (λ (b : Bool). text_steps (state s h os c Many false) (cond b ((48 + n / 10) ∷ (48 + n % 10) ∷ []) ((48 + n / 100) ∷ (48 + n / 10 % 10) ∷ (48 + n % 10) ∷ [])) ≡ Some (state s h os c (Times n) false)) (sym f)
-            (steps_then (state s h os c Many false) (state s h os c (Times (n / 100)) false) ((48 + n / 100) ∷ []) ((48 + n / 10 % 10) ∷ (48 + n % 10) ∷ []) (Some (state s h os c (Times n) false)) (first_digit s h os c (n / 100) (omega arith) (omega arith))
-                (steps_then (state s h os c (Times (n / 100)) false) (state s h os c (Times (n / 10)) false) ((48 + n / 10 % 10) ∷ []) ((48 + n % 10) ∷ []) (Some (state s h os c (Times n) false)) (next_digit s h os c (n / 100) (n / 10 % 10) (n / 10) (omega arith) (omega arith) (omega arith)) (next_digit s h os c (n / 10) (n % 10) n (omega arith) (omega arith) high))))
+        (steps_then (state s h os c Many false) (state s h os c (Times (n / 100)) false) ((48 + n / 100) ∷ []) ((48 + n / 10 % 10) ∷ (48 + n % 10) ∷ []) (Some (state s h os c (Times n) false)) (first_digit s h os c (n / 100) (omega arith) (omega arith))
+        (steps_then (state s h os c (Times (n / 100)) false) (state s h os c (Times (n / 10)) false) ((48 + n / 10 % 10) ∷ []) ((48 + n % 10) ∷ []) (Some (state s h os c (Times n) false)) (next_digit s h os c (n / 100) (n / 10 % 10) (n / 10) (omega arith) (omega arith) (omega arith)) (next_digit s h os c (n / 10) (n % 10) n (omega arith) (omega arith) high))))
 
 -- ---- what each part of a picture leads to
 
@@ -170,7 +170,7 @@ base_mark Any plain x s h os c r deep b = let f = marked Any x s h os c r false 
 base_mark NotLower plain x s h os c r deep b = let f = marked NotLower x s h os c r false in (f.0, ap Some f.1)
 base_mark (Quoted d) plain x s h os c r deep b = let f = marked (Quoted d) x s h os c r true in (f.0, ap Some f.1)
 base_mark (Literal d) plain x s h os c r deep b = cases (is_digit d) b
-    where
+  where
     go : plain_step (state (x ∷ s) h os c r false) d ≡ Some (with_mark (state (x ∷ s) h os c r false) (Literal d)) → Goes (state (x ∷ s) h os c r false) (d ∷ []) (sequence x (repeated r (one (Literal d))) ∷ s) os c
     go e = let f = marked (Literal d) x s h os c r false in (f.0, one_step (state (x ∷ s) h os c r false) (with_mark (state (x ∷ s) h os c r false) (Literal d)) d refl e ∙ ap Some f.1)
 
@@ -188,7 +188,7 @@ element_of_base a b x s h os c deep = b x s h os c Once deep (inl refl)
 choice_of_line : (a : Pattern) → ((s : List Pattern) → pending a s ≡ a ∷ s) → is_either a ≡ false → Line a → Choice a
 choice_of_line a p f l s h os deep =
     subst (λ (b : Bool). Goes (state (empty ∷ s) h os false Once false) (spelled a) (pending a s) os b) (sym f)
-        (subst (λ ps. Goes (state (empty ∷ s) h os false Once false) (spelled a) ps os false) (sym (p s)) (l s h os false deep))
+    (subst (λ ps. Goes (state (empty ∷ s) h os false Once false) (spelled a) ps os false) (sym (p s)) (l s h os false deep))
 
 -- ---- brackets
 
@@ -220,10 +220,10 @@ base_bracketed b p q a opens closes high inner x s h os c r deep =
     let o = opening b (x ∷ s) h os c r (omega arith) in
     let frame : Open = record { bracket = b; repeat = r; choice = c } in
     let first : text_steps (state (x ∷ s) h os c r false) (p ∷ []) ≡ Some (state (empty ∷ x ∷ s) o.0 (frame ∷ os) false Once false) =
-        ap (option_and_then (λ t. text_steps t [])) (opens (state (x ∷ s) h os c r false) refl ∙ o.1) in
+    ap (option_and_then (λ t. text_steps t [])) (opens (state (x ∷ s) h os c r false) refl ∙ o.1) in
     let middle = goes_then (state (x ∷ s) h os c r false) (state (empty ∷ x ∷ s) o.0 (frame ∷ os) false Once false) (p ∷ []) (spelled a) (pending a (x ∷ s)) (frame ∷ os) (is_either a) first (inner (x ∷ s) o.0 (frame ∷ os) (omega arith)) in
     goes_on (state (x ∷ s) h os c r false) ((p ∷ []) ++ spelled a) (q ∷ []) (pending a (x ∷ s)) (sequence x (repeated r (bracketed b a)) ∷ s) (frame ∷ os) os (is_either a) c middle
-        (λ k. let e = closing b a x s k os c r high in (e.0, ap (option_and_then (λ t. text_steps t [])) (closes (state (pending a (x ∷ s)) k (frame ∷ os) (is_either a) Once false) refl ∙ e.1)))
+    (λ k. let e = closing b a x s k os c r high in (e.0, ap (option_and_then (λ t. text_steps t [])) (closes (state (pending a (x ∷ s)) k (frame ∷ os) (is_either a) Once false) refl ∙ e.1)))
 
 pub unquoted_step : (r : Reading) (c : ℕ) → r.quoted ≡ false → text_step r c ≡ plain_step r c
 unquoted_step r c e = skip r.quoted (Some (with_mark r (Quoted c))) (plain_step r c) e
@@ -289,18 +289,18 @@ line_empty s h os c deep = (h, refl)
 
 base_claims : (a : Pattern) → rank a ≡ 0 → Base a → Claims a
 base_claims a zero_rank b = record {
-    base = λ _. b;
-    element = λ _. element_of_base a b;
-    line = λ e. absurd (omega arith);
-    choice = λ e. absurd (omega arith)
+  base = λ _. b;
+  element = λ _. element_of_base a b;
+  line = λ e. absurd (omega arith);
+  choice = λ e. absurd (omega arith);
 }
 
 element_claims : (a : Pattern) → rank a ≡ 1 → Element a → Claims a
 element_claims a one_rank e = record {
-    base = λ z. absurd (omega arith);
-    element = λ _. e;
-    line = λ z. absurd (omega arith);
-    choice = λ z. absurd (omega arith)
+  base = λ z. absurd (omega arith);
+  element = λ _. e;
+  line = λ z. absurd (omega arith);
+  choice = λ z. absurd (omega arith);
 }
 
 complete : (a : Pattern) → IsGrammatical a → Claims a

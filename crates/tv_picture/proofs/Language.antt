@@ -1,16 +1,15 @@
 -- Laws of the picture language: members of a pattern from those of its parts, and what may follow a text.
-use Rattle.std.proofs.Common.{suc, zero, ◌≡◌, ◌≢◌, ◌⊎◌, inl, inr, ◌↔◌, ℕ, ◌+◌, ◌-◌, ◌<◌, ◌≤◌, List, [], ◌∷◌, ◌++◌, length, take, drop, arith, refl, ◌∙◌, sym, ap, subst, append_assoc, append-nil, length-append, length-drop, replicate}
+use Rattle.std.proofs.Common.{◌≡◌, ◌≢◌, ◌⊎◌, inl, inr, ◌↔◌, ℕ, ◌+◌, ◌≤◌, List, [], ◌∷◌, ◌++◌, length, take, drop, arith, refl, ◌∙◌, sym, ap, subst, append_assoc, append-nil, length-append, length-drop, replicate}
 use Rattle.std.proofs.lemmas.List.{length-replicate}
 use Rattle.std.specs.List.{concat, All}
-use Rattle.std.specs.Char.{IsScalar}
 use Rattle.std.proofs.lemmas.List.{take-append-drop, drop-drop, length-take}
 use Rattle.std.proofs.lemmas.List.Folds.{concat-append}
 use Rattle.std.proofs.lemmas.List.Elements.{All-nil, All-cons, All-head, All-tail, All-append, All-take, All-drop, All-replicate}
 use Rattle.std.proofs.Math.Seq.{drop-append_seam}
 use Rattle.tv_picture.specs.declared.code.Mark.{Mark}
 use Rattle.tv_picture.specs.declared.code.Mark.TheVariants.{Digit, Letter, Capital, Any, NotLower, Literal, Quoted}
-use Rattle.tv_picture.specs.Pattern.{Pattern, empty, one, sequence, either, optional, group, many, times, Allows, Member, Begins}
-use Rattle.tv_picture.specs.Table.{Spans, Follows}
+use Rattle.tv_picture.specs.Pattern.{Pattern, empty, one, sequence, either, optional, group, many, times, Allows, Member}
+use Rattle.tv_picture.specs.Table.{Follows}
 
 -- ---- each pattern has a member
 
@@ -147,7 +146,7 @@ no_end (x ∷ rest) c more e = cc
 
 follows_many_of : (a : Pattern) (rest : List ℕ) (c : ℕ) (more : List ℕ) → (Member (many a) ((rest ++ c ∷ []) ++ more) → ((rest ++ c ∷ []) ++ more ≡ []) ⊎ Parted a ((rest ++ c ∷ []) ++ more)) → Member (many a) ((rest ++ c ∷ []) ++ more) → Follows a rest c ⊎ ThroughMany a rest c
 follows_many_of a rest c more parted m = cases (parted m)
-    where
+  where
     cases : ((rest ++ c ∷ []) ++ more ≡ []) ⊎ Parted a ((rest ++ c ∷ []) ++ more) → Follows a rest c ⊎ ThroughMany a rest c
     cases (inl e) = absurd (no_end rest c more e)
     cases (inr (x, u, v, ma, mv, e)) = from_cut_many a rest c more x u v ma mv (cut rest (c ∷ more) (x ∷ u) v (sym (regrouped rest c more) ∙ e))
@@ -166,14 +165,14 @@ many_of_later a rest c (u, v, ma, e, (more, mb)) =
 
 pub times_zero : (a : Pattern) (t : List ℕ) → Member empty t ↔ Member (times 0 a) t
 times_zero a t = ((λ e. ([], refl, All-nil (Member a), e)), (λ m. none m.0 m.1 m.3))
-    where
+  where
     none : (pieces : List (List ℕ)) → length pieces ≡ 0 → t ≡ concat pieces → t ≡ []
     none [] l e = e
     none (p ∷ ps) l e = absurd (omega arith)
 
 pub times_one : (a : Pattern) (t : List ℕ) → Member a t ↔ Member (times 1 a) t
 times_one a t = ((λ m. (t ∷ [], refl, All-cons (Member a) t [] m (All-nil (Member a)), sym (append-nil t))), (λ m. single m.0 m.1 m.2 m.3))
-    where
+  where
     single : (pieces : List (List ℕ)) → length pieces ≡ 1 → All (Member a) pieces → t ≡ concat pieces → Member a t
     single [] l all e = absurd (omega arith)
     single (p ∷ []) l all e = subst (Member a) (sym (e ∙ append-nil p)) (All-head (Member a) p [] all)
@@ -184,11 +183,13 @@ times_joined i j a t u w (ps, lp, ap', ep) (qs, lq, aq, eq) e =
     (ps ++ qs, omega (arith, length-append ps qs), All-append (Member a) ps qs ap' aq, (e ∙ ap (λ x. x ++ w) ep ∙ ap (λ x. concat ps ++ x) eq ∙ sym (concat-append ps qs)))
 
 times_parted : (i j : ℕ) (a : Pattern) (t : List ℕ) → Member (times (i + j) a) t → Member (sequence (times i a) (times j a)) t
-times_parted i j a t (ps, l, all, e) =
-    (concat (take i ps), concat (drop i ps),
-        (take i ps, omega (arith, length-take i ps), All-take (Member a) i ps all, refl),
-        (drop i ps, omega (arith, length-drop i ps), All-drop (Member a) i ps all, refl),
-        e ∙ ap concat (sym (take-append-drop i ps)) ∙ concat-append (take i ps) (drop i ps))
+times_parted i j a t (ps, l, all, e) = (
+  concat (take i ps),
+  concat (drop i ps),
+  (take i ps, omega (arith, length-take i ps), All-take (Member a) i ps all, refl),
+  (drop i ps, omega (arith, length-drop i ps), All-drop (Member a) i ps all, refl),
+  e ∙ ap concat (sym (take-append-drop i ps)) ∙ concat-append (take i ps) (drop i ps),
+)
 
 pub times-add : (i j : ℕ) (a : Pattern) (t : List ℕ) → Member (sequence (times i a) (times j a)) t ↔ Member (times (i + j) a) t
 times-add i j a t = ((λ m. times_joined i j a t m.0 m.1 m.2 m.3 m.4), times_parted i j a t)

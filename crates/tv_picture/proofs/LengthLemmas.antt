@@ -1,5 +1,5 @@
 -- The shortest members of a pattern from those of its parts.
-use Rattle.std.proofs.Common.{suc, zero, inl, inr, ◌≡◌, ◌≢◌, ◌⊎◌, ◌↔◌, ◌+◌, ◌-◌, ◌*◌, ◌≤◌, ◌<◌, ℕ, List, [], ◌∷◌, ◌++◌, length, min, arith, refl, sym, ◌∙◌, ap, subst, append-nil, length-append, replicate, ⊎_elim}
+use Rattle.std.proofs.Common.{suc, zero, inl, inr, ◌≡◌, ◌≢◌, ◌⊎◌, ◌↔◌, ◌+◌, ◌*◌, ◌≤◌, ℕ, List, [], ◌∷◌, ◌++◌, length, min, arith, refl, sym, ◌∙◌, ap, subst, length-append, replicate, ⊎_elim}
 use Rattle.std.specs.List.{concat, All}
 use Rattle.std.specs.Prelude.{Option, Some, None, true}
 use Rattle.std.specs.Option.{option_eq}
@@ -11,7 +11,7 @@ use Rattle.tv_cells.specs.Glyph.{IsNarrow}
 use Rattle.unicode_width.specs.Width.{char_width}
 use Rattle.tv_picture.specs.declared.code.Mark.{Mark}
 use Rattle.tv_picture.specs.declared.code.Mark.TheVariants.{Digit, Letter, Capital, Any, NotLower, Literal, Quoted}
-use Rattle.tv_picture.specs.Pattern.{Pattern, empty, one, sequence, either, optional, group, many, times, Allows, Member, IsNarrowMember, IsShortest}
+use Rattle.tv_picture.specs.Pattern.{Pattern, one, sequence, either, optional, group, many, times, Allows, Member, IsNarrowMember, IsShortest}
 use Rattle.tv_picture.proofs.Language.{sample, sample_allowed}
 
 all_left : (u v : List ℕ) → All IsNarrow (u ++ v) → All IsNarrow u
@@ -33,9 +33,9 @@ shortest_many a = shortest_none (many a) ([], All-nil (Member a), refl)
 
 pub shortest_one : (m : Mark) (c : ℕ) → Allows m c → IsNarrow c → IsShortest (one m) 1
 shortest_one m c allows narrow = record {
-    bound = omega arith;
-    least = λ t h. omega (arith, ap length h.0.2);
-    reached = λ h. (c ∷ [], ((c, allows, refl), All-cons IsNarrow c [] narrow (All-nil IsNarrow)), refl)
+  bound = omega arith;
+  least = λ t h. omega (arith, ap length h.0.2);
+  reached = λ h. (c ∷ [], ((c, allows, refl), All-cons IsNarrow c [] narrow (All-nil IsNarrow)), refl);
 }
 
 sample_narrow : (m : Mark) → ((c : ℕ) → m ≢ Literal c) → ((c : ℕ) → m ≢ Quoted c) → IsNarrow (sample m)
@@ -53,16 +53,16 @@ shortest_class m l q = shortest_one m (sample m) (sample_allowed m) (sample_narr
 
 pub shortest_wide : (m : Mark) (d : ℕ) → ((c : ℕ) → Allows m c → c ≡ d) → (IsNarrow d → ⊥) → IsShortest (one m) 121
 shortest_wide m d only wide = record {
-    bound = omega arith;
-    least = λ t h. absurd (wide (subst IsNarrow (only h.0.0 h.0.1) (All-head IsNarrow h.0.0 [] (subst (All IsNarrow) h.0.2 h.1))));
-    reached = λ h. absurd (omega arith)
+  bound = omega arith;
+  least = λ t h. absurd (wide (subst IsNarrow (only h.0.0 h.0.1) (All-head IsNarrow h.0.0 [] (subst (All IsNarrow) h.0.2 h.1))));
+  reached = λ h. absurd (omega arith);
 }
 
 pub shortest_same : (p q : Pattern) (n : ℕ) → ((t : List ℕ) → Member p t ↔ Member q t) → IsShortest p n → IsShortest q n
 shortest_same p q n same h = record {
-    bound = h.bound;
-    least = λ t m. h.least t ((same t).1 m.0, m.1);
-    reached = λ few. let r = h.reached few in (r.0, ((same r.0).0 r.1.0, r.1.1), r.2)
+  bound = h.bound;
+  least = λ t m. h.least t ((same t).1 m.0, m.1);
+  reached = λ few. let r = h.reached few in (r.0, ((same r.0).0 r.1.0, r.1.1), r.2);
 }
 
 pub shortest_group : (a : Pattern) (n : ℕ) → IsShortest a n → IsShortest (group a) n
@@ -70,7 +70,7 @@ shortest_group a n h = shortest_same a (group a) n (λ t. ((λ m. m), (λ m. m))
 
 pub shortest_sequence : (a b : Pattern) (m n : ℕ) → IsShortest a m → IsShortest b n → IsShortest (sequence a b) (min (m + n) 121)
 shortest_sequence a b m n ha hb = record { bound = omega arith; least = least; reached = reached }
-    where
+  where
     least : (t : List ℕ) → IsNarrowMember (sequence a b) t → min (m + n) 121 ≤ length t
     least t ((u, v, mu, mv, e), narrow) =
         let all = subst (All IsNarrow) e narrow in
@@ -86,7 +86,7 @@ shortest_sequence a b m n ha hb = record { bound = omega arith; least = least; r
 
 pub shortest_either : (a b : Pattern) (m n : ℕ) → IsShortest a m → IsShortest b n → IsShortest (either a b) (min m n)
 shortest_either a b m n ha hb = record { bound = (let h = ha.bound in omega arith); least = least; reached = λ few. reached few (order m n) }
-    where
+  where
     least : (t : List ℕ) → IsNarrowMember (either a b) t → min m n ≤ length t
     least t (inl h, narrow) = let l : m ≤ length t = ha.least t (h, narrow) in omega arith
     least t (inr h, narrow) = let l : n ≤ length t = hb.least t (h, narrow) in omega arith
@@ -117,7 +117,7 @@ copies_length (suc n) t = let rest = copies_length n t in grind (arith, length-a
 
 pub shortest_times : (a : Pattern) (n m : ℕ) → IsShortest a m → IsShortest (times n a) (min (n * m) 121)
 shortest_times a n m h = record { bound = omega arith; least = least; reached = reached n }
-    where
+  where
     least : (t : List ℕ) → IsNarrowMember (times n a) t → min (n * m) 121 ≤ length t
     least t ((pieces, l, all, e), narrow) =
         let bound : length pieces * m ≤ length (concat pieces) = pieces_least a m h pieces all (subst (All IsNarrow) e narrow) in

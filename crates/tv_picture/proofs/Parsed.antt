@@ -1,8 +1,8 @@
 -- What the parser answers: the one picture that the text spells, or the first place that no picture has.
-use Rattle.std.proofs.Common.{suc, zero, inl, inr, ◌≡◌, ◌≢◌, ◌⊎◌, ◌+◌, ◌-◌, ◌≤◌, ◌<◌, ℕ, List, [], ◌∷◌, ◌++◌, length, take, drop, arith, refl, sym, ◌∙◌, ap, subst, append_assoc, append-nil, Bool, true, false, ◌&&◌, not, get_or}
+use Rattle.std.proofs.Common.{inl, inr, ◌≡◌, ◌⊎◌, ◌+◌, ◌-◌, ◌≤◌, ◌<◌, ℕ, List, [], ◌∷◌, ◌++◌, length, take, drop, arith, refl, sym, ◌∙◌, ap, subst, append_assoc, Bool, true, false, ◌&&◌, not, get_or}
 use Rattle.std.specs.Prelude.{Option, Some, None}
 use Rattle.std.specs.Option.{option_and_then}
-use Rattle.std.proofs.Math.Seq.{take-add, take-suc}
+use Rattle.std.proofs.Math.Seq.{take-add}
 use Rattle.std.proofs.lemmas.List.{take_all, take_more, take-append-drop}
 use Rattle.tv_picture.specs.declared.code.Op.{Op}
 use Rattle.tv_picture.specs.declared.parser.Repeat.{Repeat}
@@ -13,7 +13,7 @@ use Rattle.tv_picture.specs.Code.{pattern_of, height_from, top}
 use Rattle.tv_picture.specs.Spelling.{spelled, rank, IsPicture, BeginsPicture, IsFirstFault}
 use Rattle.tv_picture.specs.Parsing.{Built, Reading, built_by, merged, is_empty_list, is_once, is_closed, text_step, text_steps, start}
 use Rattle.tv_picture.proofs.Grammar.{state, is_either, pending, steps-append, steps_then, picture_goes}
-use Rattle.tv_picture.proofs.Soundness.{Spells, steps_spell, start_fine, Closes, closes, ends}
+use Rattle.tv_picture.proofs.Soundness.{Spells, steps_spell, start_fine, closes, ends}
 
 -- ---- a reading that waits for nothing
 
@@ -28,8 +28,8 @@ closed_state : (r : Reading) → is_closed r ≡ true → r ≡ state r.built.st
 closed_state r e =
     let p = closed_parts r.built r.brackets r.choice r.repeat r.quoted e in
     ap (λ os. state r.built.stack r.built.height os r.choice r.repeat r.quoted) p.0
-        ∙ ap (λ t. state r.built.stack r.built.height [] r.choice t r.quoted) p.1
-        ∙ ap (λ q. state r.built.stack r.built.height [] r.choice Once q) p.2
+    ∙ ap (λ t. state r.built.stack r.built.height [] r.choice t r.quoted) p.1
+    ∙ ap (λ q. state r.built.stack r.built.height [] r.choice Once q) p.2
 
 merged_pending : (p : Pattern) (h : Option ℕ) → 2 ≤ rank p → (merged (is_either p) (record { stack = pending p []; height = h })).stack ≡ p ∷ []
 merged_pending empty h high = refl
@@ -60,13 +60,13 @@ parsed text r code e done b =
     let whole : built_by code ≡ record { stack = cl.whole ∷ []; height = Some 1 } = b ∙ cl.built in
     let is : pattern_of code ≡ cl.whole = ap (λ (x : Built). top x.stack) whole in
     record {
-        picture = subst IsPicture (sym is) cl.picture;
-        spelling = ap spelled is ∙ cl.spelling;
-        height = ap (λ (x : Built). x.height) whole;
-        only = λ p pic sp'.
-            let g = picture_goes p pic in
-            let reads : r ≡ state (pending p []) g.0 [] (is_either p) Once false = some_is r (state (pending p []) g.0 [] (is_either p) Once false) (sym e ∙ ap (text_steps start) (sym sp') ∙ g.1) in
-            ap (λ (x : Built). top x.stack) (b ∙ ap (λ (x : Reading). merged x.choice x.built) reads) ∙ ap top (merged_pending p g.0 pic.1)
+      picture = subst IsPicture (sym is) cl.picture;
+      spelling = ap spelled is ∙ cl.spelling;
+      height = ap (λ (x : Built). x.height) whole;
+      only = λ p pic sp'.
+          let g = picture_goes p pic in
+          let reads : r ≡ state (pending p []) g.0 [] (is_either p) Once false = some_is r (state (pending p []) g.0 [] (is_either p) Once false) (sym e ∙ ap (text_steps start) (sym sp') ∙ g.1) in
+          ap (λ (x : Built). top x.stack) (b ∙ ap (λ (x : Reading). merged x.choice x.built) reads) ∙ ap top (merged_pending p g.0 pic.1);
     }
 
 -- ---- a text that isn't
@@ -90,7 +90,7 @@ one_more : (text : List ℕ) (i c : ℕ) (r : Reading) (next : Option Reading) �
 one_more text i c r next within is e f =
     let grown : take (i + 1) text ≡ take i text ++ c ∷ [] = take_more text i c within ∙ ap (λ (x : ℕ). take i text ++ x ∷ []) (sym is) in
     ap (text_steps start) grown ∙ steps_then start r (take i text) (c ∷ []) next e (ap (option_and_then (λ s. text_steps s [])) f ∙ single next)
-    where
+  where
     single : (o : Option Reading) → option_and_then (λ s. Some s) o ≡ o
     single None = refl
     single (Some s) = refl
@@ -100,12 +100,12 @@ takes_more text i c r s within is e f = one_more text i c r (Some s) within is e
 
 pub refuses_at : (text : List ℕ) (i c : ℕ) (r : Reading) → i < length text → c ≡ get_or text i c → text_steps start (take i text) ≡ Some r → text_step r c ≡ None → IsFirstFault text i
 refuses_at text i c r within is e f = record {
-    within = omega arith;
-    begins = alive (take i text) r e;
-    longest = λ k in_text b. shorter k (apart k) b;
-    refused = λ p pic sp. dead (take (i + 1) text) (drop (i + 1) text) p stuck pic (sp ∙ sym (take-append-drop (i + 1) text))
+  within = omega arith;
+  begins = alive (take i text) r e;
+  longest = λ k in_text b. shorter k (apart k) b;
+  refused = λ p pic sp. dead (take (i + 1) text) (drop (i + 1) text) p stuck pic (sp ∙ sym (take-append-drop (i + 1) text));
 }
-    where
+  where
     stuck : text_steps start (take (i + 1) text) ≡ None
     stuck = one_more text i c r None within is e f
 
@@ -120,12 +120,12 @@ refuses_at text i c r within is e f = record {
 
 pub refuses_end : (text : List ℕ) (r : Reading) → text_steps start text ≡ Some r → is_closed r ≡ false → IsFirstFault text (length text)
 refuses_end text r e waits = record {
-    within = omega arith;
-    begins = subst BeginsPicture (sym (take_all (length text) text (omega arith))) (alive text r e);
-    longest = λ k within b. within;
-    refused = λ p pic sp.
-        let g = picture_goes p pic in
-        let reads : r ≡ state (pending p []) g.0 [] (is_either p) Once false = some_is r (state (pending p []) g.0 [] (is_either p) Once false) (sym e ∙ ap (text_steps start) (sym sp) ∙ g.1) in
-        let closed : is_closed r ≡ true = ap is_closed reads in
-        cc
+  within = omega arith;
+  begins = subst BeginsPicture (sym (take_all (length text) text (omega arith))) (alive text r e);
+  longest = λ k within b. within;
+  refused = λ p pic sp.
+      let g = picture_goes p pic in
+      let reads : r ≡ state (pending p []) g.0 [] (is_either p) Once false = some_is r (state (pending p []) g.0 [] (is_either p) Once false) (sym e ∙ ap (text_steps start) (sym sp) ∙ g.1) in
+      let closed : is_closed r ≡ true = ap is_closed reads in
+      cc;
 }

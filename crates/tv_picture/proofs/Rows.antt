@@ -1,6 +1,5 @@
 -- Rows and tables of a pattern from those of its parts.
-use Rattle.std.proofs.Common.{suc, zero, ◌≡◌, ◌≢◌, ◌⊎◌, inl, inr, ◌↔◌, ℕ, ◌+◌, ◌-◌, ◌*◌, ◌<◌, ◌≤◌, List, [], ◌∷◌, ◌++◌, length, drop, arith, refl, ◌∙◌, sym, ap, subst, append_assoc, append-nil, length-append, length-drop, Bool, true, false, ◌==◌, cond, get_or}
-use Rattle.std.specs.Char.{IsScalar}
+use Rattle.std.proofs.Common.{suc, zero, ◌≡◌, ◌≢◌, ◌⊎◌, inl, inr, ◌↔◌, ℕ, ◌+◌, ◌-◌, ◌*◌, ◌<◌, ◌≤◌, List, [], ◌∷◌, ◌++◌, length, drop, arith, refl, ◌∙◌, sym, ap, subst, append_assoc, length-append, Bool, true, false, ◌==◌, cond, get_or}
 use Rattle.std.proofs.lemmas.List.{get_or-set_same, get_or-set_other}
 use Rattle.std.proofs.Math.ListN.{set}
 use Rattle.std.proofs.Math.Seq.{drop-cons, drop-length}
@@ -12,13 +11,13 @@ use Rattle.tv_picture.specs.declared.row.Next.{Next}
 use Rattle.tv_picture.specs.declared.row.Next.TheVariants.{Nothing, Only, Several}
 use Rattle.tv_picture.specs.declared.row.Row.{Row}
 use Rattle.tv_picture.specs.declared.table.Table.{Table}
-use Rattle.tv_picture.specs.Pattern.{Pattern, empty, one, sequence, either, optional, group, many, times, Allows, Member, Begins}
+use Rattle.tv_picture.specs.Pattern.{Pattern, empty, one, sequence, either, optional, many, times, Allows, Member}
 use Rattle.tv_picture.specs.Table.{Has, Names, joined, Spans, Follows, IsRow, Covers, FollowsFrom, Gathers, row_at, no_row}
-use Rattle.tv_picture.proofs.Language.{has_member, Through, follows_next, next_of_left, next_of_right, many_cons, many_one, many_parted, Parted, ThroughMany, follows_many, many_of_first, many_of_later, times_zero, times_one, times-add, drop_past, end_within, no_end}
+use Rattle.tv_picture.proofs.Language.{Through, follows_next, next_of_left, next_of_right, many_cons, many_parted, Parted, ThroughMany, follows_many, many_of_first, many_of_later, times_zero, times_one, times-add, drop_past, end_within, no_end}
 
 dec : (m n : ℕ) → (m ≡ n) ⊎ (m ≢ n)
 dec m n = told (eqb_tells m n)
-    where
+  where
     told : ((m == n) ≡ true) × (m ≡ n) ⊎ ((m == n) ≡ false) × (m ≢ n) → (m ≡ n) ⊎ (m ≢ n)
     told (inl h) = inl h.1
     told (inr h) = inr h.1
@@ -32,7 +31,7 @@ Names_same P Q Several to from h = (h.0, h.1, to h.0 h.2, to h.1 h.3, h.4)
 
 two_names : (P Q : ℕ → Type 0) (x y : ℕ) → Names P (Only x) → Names Q (Only y) → ((x == y) ≡ true) × (x ≡ y) ⊎ ((x == y) ≡ false) × (x ≢ y) → Names (λ c. P c ⊎ Q c) (joined (Only x) (Only y))
 two_names P Q x y h k (inl (e, same)) = subst (λ (b : Bool). Names (λ c. P c ⊎ Q c) (cond b (Only x) Several)) (sym e) (inl h.0, one)
-    where
+  where
     one : (d : ℕ) → P d ⊎ Q d → d ≡ x
     one d (inl p) = h.1 d p
     one d (inr q) = k.1 d q ∙ sym same
@@ -40,12 +39,12 @@ two_names P Q x y h k (inr (e, other)) = subst (λ (b : Bool). Names (λ c. P c 
 
 pub Names_joined : (P Q : ℕ → Type 0) (m n : Next) → Names P m → Names Q n → Names (λ c. P c ⊎ Q c) (joined m n)
 Names_joined P Q Nothing n h k = Names_same Q (λ c. P c ⊎ Q c) n (λ c q. inr q) back k
-    where
+  where
     back : (c : ℕ) → P c ⊎ Q c → Q c
     back c (inl p) = absurd (h c p)
     back c (inr q) = q
 Names_joined P Q (Only x) Nothing h k = (inl h.0, one)
-    where
+  where
     one : (d : ℕ) → P d ⊎ Q d → d ≡ x
     one d (inl p) = h.1 d p
     one d (inr q) = absurd (k d q)
@@ -60,10 +59,10 @@ AnyRow places table start stop k = (r : ℕ) × (start ≤ r) × (r < stop) × H
 
 pub gathers_none : (places : Places) (table : Table) (start : ℕ) (first : Row) → Gathers places table start start first first
 gathers_none places table start first = record {
-    ends = λ k. (inl, ends_back k);
-    next = λ a b text from names each. Names_same (Follows a (drop from text)) (λ c. Follows a (drop from text) c ⊎ FollowsFrom places b text start start c) first.next (λ c f. inl f) (back a b text from) names
+  ends = λ k. (inl, ends_back k);
+  next = λ a b text from names each. Names_same (Follows a (drop from text)) (λ c. Follows a (drop from text) c ⊎ FollowsFrom places b text start start c) first.next (λ c f. inl f) (back a b text from) names;
 }
-    where
+  where
     ends_back : (k : ℕ) → Has first.ends k ⊎ AnyRow places table start start k → Has first.ends k
     ends_back k (inl h) = h
     ends_back k (inr (r, above, below, _, _)) = absurd (omega arith)
@@ -74,10 +73,10 @@ gathers_none places table start first = record {
 
 pub gathers_skip : (places : Places) (table : Table) (start stop : ℕ) (first row : Row) → (Has places stop → ⊥) → Gathers places table start stop first row → Gathers places table start (stop + 1) first row
 gathers_skip places table start stop first row not_here g = record {
-    ends = λ k. ((λ h. wider k ((g.ends k).0 h)), (λ h. (g.ends k).1 (narrower k h)));
-    next = λ a b text from names each. Names_same (λ c. Follows a (drop from text) c ⊎ FollowsFrom places b text start stop c) (λ c. Follows a (drop from text) c ⊎ FollowsFrom places b text start (stop + 1) c) row.next (more a b text from) (fewer a b text from) (g.next a b text from names (λ r above below has. each r above (omega arith) has))
+  ends = λ k. ((λ h. wider k ((g.ends k).0 h)), (λ h. (g.ends k).1 (narrower k h)));
+  next = λ a b text from names each. Names_same (λ c. Follows a (drop from text) c ⊎ FollowsFrom places b text start stop c) (λ c. Follows a (drop from text) c ⊎ FollowsFrom places b text start (stop + 1) c) row.next (more a b text from) (fewer a b text from) (g.next a b text from names (λ r above below has. each r above (omega arith) has));
 }
-    where
+  where
     wider : (k : ℕ) → Has first.ends k ⊎ AnyRow places table start stop k → Has first.ends k ⊎ AnyRow places table start (stop + 1) k
     wider k (inl h) = inl h
     wider k (inr (r, above, below, has, ends)) = inr (r, above, omega arith, has, ends)
@@ -85,7 +84,7 @@ gathers_skip places table start stop first row not_here g = record {
     narrower : (k : ℕ) → Has first.ends k ⊎ AnyRow places table start (stop + 1) k → Has first.ends k ⊎ AnyRow places table start stop k
     narrower k (inl h) = inl h
     narrower k (inr (r, above, below, has, ends)) = inr (r, above, below_last r below has, has, ends)
-        where
+      where
         below_last : (r : ℕ) → r < stop + 1 → Has places r → r < stop
         below_last r below has = let apart : r ≢ stop = λ e. not_here (subst (Has places) e has) in omega arith
 
@@ -96,7 +95,7 @@ gathers_skip places table start stop first row not_here g = record {
     fewer : (a b : Pattern) (text : List ℕ) (from c : ℕ) → Follows a (drop from text) c ⊎ FollowsFrom places b text start (stop + 1) c → Follows a (drop from text) c ⊎ FollowsFrom places b text start stop c
     fewer a b text from c (inl f) = inl f
     fewer a b text from c (inr (r, above, below, has, f)) = inr (r, above, below_last r below has, has, f)
-        where
+      where
         below_last : (r : ℕ) → r < stop + 1 → Has places r → r < stop
         below_last r below has = let apart : r ≢ stop = λ e. not_here (subst (Has places) e has) in omega arith
 
@@ -104,22 +103,22 @@ pub gathers_rest : (more stop : ℕ) (places : Places) (table : Table) (start : 
 gathers_rest zero stop places table start first row none g = subst (λ (n : ℕ). Gathers places table start n first row) (omega arith) g
 gathers_rest (suc more) stop places table start first row none g =
     subst (λ (n : ℕ). Gathers places table start n first row) (omega arith)
-        (gathers_rest more (stop + 1) places table start first row (λ k above. none k (omega arith)) (gathers_skip places table start stop first row (none stop (omega arith)) g))
+    (gathers_rest more (stop + 1) places table start first row (λ k above. none k (omega arith)) (gathers_skip places table start stop first row (none stop (omega arith)) g))
 
 pub gathers_more : (places : Places) (table : Table) (start stop : ℕ) (first row result : Row) → start ≤ stop → Has places stop → ((k : ℕ) → Has result.ends k ↔ (Has row.ends k ⊎ Has (row_at table stop).ends k)) → result.next ≡ joined row.next (row_at table stop).next → Gathers places table start stop first row → Gathers places table start (stop + 1) first result
 gathers_more places table start stop first row result order has ends follow g = record {
-    ends = λ k. ((λ h. wider k ((ends k).0 h)), (λ h. (ends k).1 (narrower k h)));
-    next = λ a b text from names each.
-        Names_same (λ c. (Follows a (drop from text) c ⊎ FollowsFrom places b text start stop c) ⊎ Follows b (drop stop text) c) (λ c. Follows a (drop from text) c ⊎ FollowsFrom places b text start (stop + 1) c) result.next (more a b text from) (fewer a b text from)
-        (subst (Names (λ c. (Follows a (drop from text) c ⊎ FollowsFrom places b text start stop c) ⊎ Follows b (drop stop text) c)) (sym follow)
-            (Names_joined (λ c. Follows a (drop from text) c ⊎ FollowsFrom places b text start stop c) (Follows b (drop stop text)) row.next (row_at table stop).next
-                (g.next a b text from names (λ r above below has. each r above (omega arith) has))
-                (each stop order (omega arith) has)))
+  ends = λ k. ((λ h. wider k ((ends k).0 h)), (λ h. (ends k).1 (narrower k h)));
+  next = λ a b text from names each.
+      Names_same (λ c. (Follows a (drop from text) c ⊎ FollowsFrom places b text start stop c) ⊎ Follows b (drop stop text) c) (λ c. Follows a (drop from text) c ⊎ FollowsFrom places b text start (stop + 1) c) result.next (more a b text from) (fewer a b text from)
+      (subst (Names (λ c. (Follows a (drop from text) c ⊎ FollowsFrom places b text start stop c) ⊎ Follows b (drop stop text) c)) (sym follow)
+      (Names_joined (λ c. Follows a (drop from text) c ⊎ FollowsFrom places b text start stop c) (Follows b (drop stop text)) row.next (row_at table stop).next
+      (g.next a b text from names (λ r above below has. each r above (omega arith) has))
+      (each stop order (omega arith) has)));
 }
-    where
+  where
     wider : (k : ℕ) → Has row.ends k ⊎ Has (row_at table stop).ends k → Has first.ends k ⊎ AnyRow places table start (stop + 1) k
     wider k (inl h) = grown ((g.ends k).0 h)
-        where
+      where
         grown : Has first.ends k ⊎ AnyRow places table start stop k → Has first.ends k ⊎ AnyRow places table start (stop + 1) k
         grown (inl f) = inl f
         grown (inr (r, above, below, at, ends)) = inr (r, above, omega arith, at, ends)
@@ -141,14 +140,16 @@ gathers_more places table start stop first row result order has ends follow g = 
 -- ---- tables
 
 pub Covers_same : (a b : Pattern) (text : List ℕ) (table : Table) → ((t : List ℕ) → Member a t ↔ Member b t) → Covers a text table → Covers b text table
-Covers_same a b text table same h = record { at = λ from within. record {
+Covers_same a b text table same h = record {
+  at = λ from within. record {
     ends = λ to. ((λ has. forth from to (((h.at from within).ends to).0 has)), (λ s. ((h.at from within).ends to).1 (back from to s)));
     next = Names_same (Follows a (drop from text)) (Follows b (drop from text)) (row_at table from).next
         (λ c f. (f.0, (same ((drop from text ++ c ∷ []) ++ f.0)).0 f.1))
         (λ c f. (f.0, (same ((drop from text ++ c ∷ []) ++ f.0)).1 f.1))
-        (h.at from within).next
-} }
-    where
+        (h.at from within).next;
+  };
+}
+  where
     forth : (from to : ℕ) → Spans a (drop from text) from to → Spans b (drop from text) from to
     forth from to (u, v, m, e, eto) = (u, v, (same u).0 m, e, eto)
 
@@ -161,10 +162,13 @@ Meets a b text from to = (r : ℕ) × (from ≤ r) × (r ≤ length text) × Spa
 
 pub spans_parted : (a b : Pattern) (text : List ℕ) (from to : ℕ) → from ≤ length text → Spans (sequence a b) (drop from text) from to → Meets a b text from to
 spans_parted a b text from to within (w, v, (u, u', m, m', ew), e, eto) =
-    let whole : drop from text ≡ u ++ (u' ++ v) = e ∙ ap (λ x. x ++ v) ew ∙ append_assoc u u' v in
-    (from + length u, omega arith, end_within text from u (u' ++ v) within whole,
-        (u, u' ++ v, m, whole, refl),
-        (u', v, m', drop_past text from u (u' ++ v) whole, omega (arith, ap length ew, length-append u u')))
+    let whole : drop from text ≡ u ++ (u' ++ v) = e ∙ ap (λ x. x ++ v) ew ∙ append_assoc u u' v in (
+      from + length u,
+      omega arith,
+      end_within text from u (u' ++ v) within whole,
+      (u, u' ++ v, m, whole, refl),
+      (u', v, m', drop_past text from u (u' ++ v) whole, omega (arith, ap length ew, length-append u u')),
+    )
 
 pub spans_met : (a b : Pattern) (text : List ℕ) (from to : ℕ) → Meets a b text from to → Spans (sequence a b) (drop from text) from to
 spans_met a b text from to (r, above, below, (u, v, m, e, er), (u', v', m', e', eto)) =
@@ -191,11 +195,11 @@ at_through a b text from r c (u, v, m, e, er) f =
 
 pub row_sequence : (a b : Pattern) (text : List ℕ) (A B : Table) (from : ℕ) (first result : Row) → from ≤ length text → Covers a text A → Covers b text B → ((k : ℕ) → Has first.ends k → ⊥) → first.next ≡ (row_at A from).next → Gathers (row_at A from).ends B from (length text + 1) first result → IsRow (sequence a b) (drop from text) from result
 row_sequence a b text A B from first result within ca cb none follow g = record {
-    ends = λ to. ((λ h. spans_met a b text from to (met to ((g.ends to).0 h))), (λ s. (g.ends to).1 (inr (parted to (spans_parted a b text from to within s)))));
-    next = Names_same (λ c. Follows a (drop from text) c ⊎ FollowsFrom (row_at A from).ends b text from (length text + 1) c) (Follows (sequence a b) (drop from text)) result.next forth back
-        (g.next a b text from (subst (Names (Follows a (drop from text))) (sym follow) (ca.at from within).next) (λ r above below has. (cb.at r (omega arith)).next))
+  ends = λ to. ((λ h. spans_met a b text from to (met to ((g.ends to).0 h))), (λ s. (g.ends to).1 (inr (parted to (spans_parted a b text from to within s)))));
+  next = Names_same (λ c. Follows a (drop from text) c ⊎ FollowsFrom (row_at A from).ends b text from (length text + 1) c) (Follows (sequence a b) (drop from text)) result.next forth back
+      (g.next a b text from (subst (Names (Follows a (drop from text))) (sym follow) (ca.at from within).next) (λ r above below has. (cb.at r (omega arith)).next));
 }
-    where
+  where
     met : (to : ℕ) → Has first.ends to ⊎ AnyRow (row_at A from).ends B from (length text + 1) to → Meets a b text from to
     met to (inl h) = absurd (none to h)
     met to (inr (r, above, below, at, ends)) =
@@ -214,7 +218,7 @@ row_sequence a b text A B from first result within ca cb none follow g = record 
 
     back : (c : ℕ) → Follows (sequence a b) (drop from text) c → Follows a (drop from text) c ⊎ FollowsFrom (row_at A from).ends b text from (length text + 1) c
     back c f = cases (follows_next a b (drop from text) c f)
-        where
+      where
         cases : Follows a (drop from text) c ⊎ Through a b (drop from text) c → Follows a (drop from text) c ⊎ FollowsFrom (row_at A from).ends b text from (length text + 1) c
         cases (inl h) = inl h
         cases (inr h) = inr (held c h)
@@ -223,15 +227,15 @@ row_sequence a b text A B from first result within ca cb none follow g = record 
 
 pub row_many : (a : Pattern) (text : List ℕ) (A T : Table) (from : ℕ) (first result : Row) → from ≤ length text → Covers a text A → ((p : ℕ) → from < p → p ≤ length text → IsRow (many a) (drop p text) p (row_at T p)) → ((k : ℕ) → Has first.ends k ↔ (k ≡ from)) → first.next ≡ (row_at A from).next → Gathers (row_at A from).ends T (from + 1) (length text + 1) first result → IsRow (many a) (drop from text) from result
 row_many a text A T from first result within ca later own follow g = record {
-    ends = λ to. ((λ h. met to ((g.ends to).0 h)), (λ s. (g.ends to).1 (parted to s)));
-    next = Names_same (λ c. Follows a (drop from text) c ⊎ FollowsFrom (row_at A from).ends (many a) text (from + 1) (length text + 1) c) (Follows (many a) (drop from text)) result.next forth back
-        (g.next a (many a) text from (subst (Names (Follows a (drop from text))) (sym follow) (ca.at from within).next) (λ r above below has. (later r (omega arith) (omega arith)).next))
+  ends = λ to. ((λ h. met to ((g.ends to).0 h)), (λ s. (g.ends to).1 (parted to s)));
+  next = Names_same (λ c. Follows a (drop from text) c ⊎ FollowsFrom (row_at A from).ends (many a) text (from + 1) (length text + 1) c) (Follows (many a) (drop from text)) result.next forth back
+      (g.next a (many a) text from (subst (Names (Follows a (drop from text))) (sym follow) (ca.at from within).next) (λ r above below has. (later r (omega arith) (omega arith)).next));
 }
-    where
+  where
     met : (to : ℕ) → Has first.ends to ⊎ AnyRow (row_at A from).ends T (from + 1) (length text + 1) to → Spans (many a) (drop from text) from to
     met to (inl h) = ([], drop from text, ([], All-nil (Member a), refl), refl, (let e : to ≡ from = (own to).0 h in omega arith))
     met to (inr (r, above, below, at, ends)) = joined_up (((ca.at from within).ends r).0 at) (((later r (omega arith) (omega arith)).ends to).0 ends)
-        where
+      where
         joined_up : Spans a (drop from text) from r → Spans (many a) (drop r text) r to → Spans (many a) (drop from text) from to
         joined_up (u, v, m, e, er) (u', v', m', e', eto) =
             let past : drop r text ≡ v = ap (λ (k : ℕ). drop k text) er ∙ drop_past text from u v e in
@@ -240,14 +244,19 @@ row_many a text A T from first result within ca later own follow g = record {
 
     parted : (to : ℕ) → Spans (many a) (drop from text) from to → Has first.ends to ⊎ AnyRow (row_at A from).ends T (from + 1) (length text + 1) to
     parted to (w, v, m, e, eto) = cases (many_parted a w m)
-        where
+      where
         cases : (w ≡ []) ⊎ Parted a w → Has first.ends to ⊎ AnyRow (row_at A from).ends T (from + 1) (length text + 1) to
         cases (inl none) = inl ((own to).1 (omega (arith, ap length none)))
         cases (inr (x, u, u', m', mv, ew)) =
             let whole : drop from text ≡ (x ∷ u) ++ (u' ++ v) = e ∙ ap (λ y. y ++ v) ew ∙ append_assoc (x ∷ u) u' v in
             let inside : from + length (x ∷ u) ≤ length text = end_within text from (x ∷ u) (u' ++ v) within whole in
-            inr (from + length (x ∷ u), omega arith, omega arith, ((ca.at from within).ends (from + length (x ∷ u))).1 (x ∷ u, u' ++ v, m', whole, refl),
-                ((later (from + length (x ∷ u)) (omega arith) inside).ends to).1 (u', v, mv, drop_past text from (x ∷ u) (u' ++ v) whole, omega (arith, ap length ew, length-append (x ∷ u) u')))
+            inr (
+              from + length (x ∷ u),
+              omega arith,
+              omega arith,
+              ((ca.at from within).ends (from + length (x ∷ u))).1 (x ∷ u, u' ++ v, m', whole, refl),
+              ((later (from + length (x ∷ u)) (omega arith) inside).ends to).1 (u', v, mv, drop_past text from (x ∷ u) (u' ++ v) whole, omega (arith, ap length ew, length-append (x ∷ u) u')),
+            )
 
     forth : (c : ℕ) → Follows a (drop from text) c ⊎ FollowsFrom (row_at A from).ends (many a) text (from + 1) (length text + 1) c → Follows (many a) (drop from text) c
     forth c (inl f) = many_of_first a (drop from text) c f
@@ -260,7 +269,7 @@ row_many a text A T from first result within ca later own follow g = record {
 
     back : (c : ℕ) → Follows (many a) (drop from text) c → Follows a (drop from text) c ⊎ FollowsFrom (row_at A from).ends (many a) text (from + 1) (length text + 1) c
     back c f = cases (follows_many a (drop from text) c f)
-        where
+      where
         cases : Follows a (drop from text) c ⊎ ThroughMany a (drop from text) c → Follows a (drop from text) c ⊎ FollowsFrom (row_at A from).ends (many a) text (from + 1) (length text + 1) c
         cases (inl h) = inl h
         cases (inr h) = inr (held c h)
@@ -269,10 +278,10 @@ row_many a text A T from first result within ca later own follow g = record {
 
 pub row_either : (a b : Pattern) (rest : List ℕ) (from : ℕ) (p q result : Row) → IsRow a rest from p → IsRow b rest from q → ((k : ℕ) → Has result.ends k ↔ (Has p.ends k ⊎ Has q.ends k)) → result.next ≡ joined p.next q.next → IsRow (either a b) rest from result
 row_either a b rest from p q result hp hq ends follow = record {
-    ends = λ to. ((λ h. forth to ((ends to).0 h)), (λ s. (ends to).1 (back to s)));
-    next = Names_same (λ c. Follows a rest c ⊎ Follows b rest c) (Follows (either a b) rest) result.next wide narrow (subst (Names (λ c. Follows a rest c ⊎ Follows b rest c)) (sym follow) (Names_joined (Follows a rest) (Follows b rest) p.next q.next hp.next hq.next))
+  ends = λ to. ((λ h. forth to ((ends to).0 h)), (λ s. (ends to).1 (back to s)));
+  next = Names_same (λ c. Follows a rest c ⊎ Follows b rest c) (Follows (either a b) rest) result.next wide narrow (subst (Names (λ c. Follows a rest c ⊎ Follows b rest c)) (sym follow) (Names_joined (Follows a rest) (Follows b rest) p.next q.next hp.next hq.next));
 }
-    where
+  where
     forth : (to : ℕ) → Has p.ends to ⊎ Has q.ends to → Spans (either a b) rest from to
     forth to (inl h) = let s = (hp.ends to).0 h in (s.0, s.1, inl s.2, s.3, s.4)
     forth to (inr h) = let s = (hq.ends to).0 h in (s.0, s.1, inr s.2, s.3, s.4)
@@ -292,19 +301,19 @@ row_either a b rest from p q result hp hq ends follow = record {
 -- the row that stays where it is
 pub row_empty : (rest : List ℕ) (from : ℕ) (result : Row) → ((k : ℕ) → Has result.ends k ↔ (k ≡ from)) → result.next ≡ Nothing → IsRow empty rest from result
 row_empty rest from result ends follow = record {
-    ends = λ to. ((λ h. let e : to ≡ from = (ends to).0 h in ([], rest, refl, refl, omega arith)), (λ s. (ends to).1 (back to s)));
-    next = subst (Names (Follows empty rest)) (sym follow) (λ c f. no_end rest c f.0 f.1)
+  ends = λ to. ((λ h. let e : to ≡ from = (ends to).0 h in ([], rest, refl, refl, omega arith)), (λ s. (ends to).1 (back to s)));
+  next = subst (Names (Follows empty rest)) (sym follow) (λ c f. no_end rest c f.0 f.1);
 }
-    where
+  where
     back : (to : ℕ) → Spans empty rest from to → to ≡ from
     back to (u, v, m, e, eto) = omega (arith, ap length m)
 
 pub row_optional : (a : Pattern) (rest : List ℕ) (from : ℕ) (p result : Row) → IsRow a rest from p → IsRow (either a empty) rest from result → IsRow (optional a) rest from result
 row_optional a rest from p result hp h = record {
-    ends = λ to. ((λ has. forth to ((h.ends to).0 has)), (λ s. (h.ends to).1 (back to s)));
-    next = Names_same (Follows (either a empty) rest) (Follows (optional a) rest) result.next wide narrow h.next
+  ends = λ to. ((λ has. forth to ((h.ends to).0 has)), (λ s. (h.ends to).1 (back to s)));
+  next = Names_same (Follows (either a empty) rest) (Follows (optional a) rest) result.next wide narrow h.next;
 }
-    where
+  where
     forth : (to : ℕ) → Spans (either a empty) rest from to → Spans (optional a) rest from to
     forth to (u, v, inl m, e, eto) = (u, v, inr m, e, eto)
     forth to (u, v, inr m, e, eto) = (u, v, inl m, e, eto)
@@ -329,10 +338,10 @@ one_follows m (x ∷ y ∷ rest) c (more, (d, allows, e)) = absurd (omega (arith
 -- before the end: the next character, where it is allowed
 pub row_one : (m : Mark) (x : ℕ) (rest : List ℕ) (from : ℕ) (result : Row) → ((k : ℕ) → Has result.ends k ↔ (Allows m x × (k ≡ from + 1))) → result.next ≡ Nothing → IsRow (one m) (x ∷ rest) from result
 row_one m x rest from result ends follow = record {
-    ends = λ to. ((λ h. forth to ((ends to).0 h)), (λ s. (ends to).1 (back to s)));
-    next = subst (Names (Follows (one m) (x ∷ rest))) (sym follow) (λ c f. absurd (no_cons (one_follows m (x ∷ rest) c f).0))
+  ends = λ to. ((λ h. forth to ((ends to).0 h)), (λ s. (ends to).1 (back to s)));
+  next = subst (Names (Follows (one m) (x ∷ rest))) (sym follow) (λ c f. absurd (no_cons (one_follows m (x ∷ rest) c f).0));
 }
-    where
+  where
     no_cons : x ∷ rest ≡ [] → ⊥
     no_cons e = cc
 
@@ -348,10 +357,10 @@ row_one m x rest from result ends follow = record {
 -- at the end: nothing yet
 pub row_one_end : (m : Mark) (from : ℕ) (result : Row) → ((k : ℕ) → Has result.ends k → ⊥) → Names (Allows m) result.next → IsRow (one m) [] from result
 row_one_end m from result ends names = record {
-    ends = λ to. ((λ h. absurd (ends to h)), (λ s. absurd (back to s)));
-    next = Names_same (Allows m) (Follows (one m) []) result.next (λ c allows. ([], (c, allows, refl))) (λ c f. (one_follows m [] c f).1) names
+  ends = λ to. ((λ h. absurd (ends to h)), (λ s. absurd (back to s)));
+  next = Names_same (Allows m) (Follows (one m) []) result.next (λ c allows. ([], (c, allows, refl))) (λ c f. (one_follows m [] c f).1) names;
 }
-    where
+  where
     back : (to : ℕ) → Spans (one m) [] from to → ⊥
     back to (u, v, (c, allows, eu), e, eto) = omega (arith, ap length eu, ap length e, length-append u v)
 
@@ -364,16 +373,20 @@ pub rows_none : (a : Pattern) (text : List ℕ) (table : Table) (k : ℕ) → Is
 rows_none a text table k = record { at = λ p above below within. absurd (omega arith) }
 
 pub rows_more : (a : Pattern) (text : List ℕ) (table : Table) (from stop : ℕ) (row : Row) → stop < length table.rows → IsRows a text table from stop → (stop ≤ length text → IsRow a (drop stop text) stop row) → IsRows a text (record { rows = set table.rows stop row }) from (stop + 1)
-rows_more a text table from stop row fits h here = record { at = λ p above below within. elim (dec p stop) [
-    inl e ↦ subst (λ (q : ℕ). IsRow a (drop q text) q (get_or (set table.rows stop row) q no_row)) (sym e) (subst (IsRow a (drop stop text) stop) (sym (get_or-set_same table.rows stop row no_row fits)) (here (omega arith)))
-  | inr n ↦ subst (IsRow a (drop p text) p) (sym (get_or-set_other table.rows stop p row no_row n)) (h.at p above (omega arith) within)
-] }
+rows_more a text table from stop row fits h here = record {
+  at = λ p above below within. elim (dec p stop) [
+    | inl e ↦ subst (λ (q : ℕ). IsRow a (drop q text) q (get_or (set table.rows stop row) q no_row)) (sym e) (subst (IsRow a (drop stop text) stop) (sym (get_or-set_same table.rows stop row no_row fits)) (here (omega arith)))
+    | inr n ↦ subst (IsRow a (drop p text) p) (sym (get_or-set_other table.rows stop p row no_row n)) (h.at p above (omega arith) within)
+  ];
+}
 
 pub rows_before : (a : Pattern) (text : List ℕ) (table : Table) (from start stop : ℕ) (row : Row) → from < length table.rows → start ≡ from + 1 → IsRows a text table start stop → IsRow a (drop from text) from row → IsRows a text (record { rows = set table.rows from row }) from stop
-rows_before a text table from start stop row fits next_to h here = record { at = λ p above below within. elim (dec p from) [
-    inl e ↦ subst (λ (q : ℕ). IsRow a (drop q text) q (get_or (set table.rows from row) q no_row)) (sym e) (subst (IsRow a (drop from text) from) (sym (get_or-set_same table.rows from row no_row fits)) here)
-  | inr n ↦ subst (IsRow a (drop p text) p) (sym (get_or-set_other table.rows from p row no_row n)) (h.at p (omega arith) below within)
-] }
+rows_before a text table from start stop row fits next_to h here = record {
+  at = λ p above below within. elim (dec p from) [
+    | inl e ↦ subst (λ (q : ℕ). IsRow a (drop q text) q (get_or (set table.rows from row) q no_row)) (sym e) (subst (IsRow a (drop from text) from) (sym (get_or-set_same table.rows from row no_row fits)) here)
+    | inr n ↦ subst (IsRow a (drop p text) p) (sym (get_or-set_other table.rows from p row no_row n)) (h.at p (omega arith) below within)
+  ];
+}
 
 pub covers_rows : (a : Pattern) (text : List ℕ) (table : Table) (stop : ℕ) → length text < stop → IsRows a text table 0 stop → Covers a text table
 covers_rows a text table stop enough h = record { at = λ from within. h.at from (omega arith) (omega arith) within }
@@ -430,3 +443,19 @@ last_one i j left n e f = let g : i + j * 1 ≡ n = subst (λ (x : ℕ). i + j *
 
 pub none_left : (i j left n : ℕ) → left ≡ 0 → i + j * left ≡ n → i ≡ n
 none_left i j left n e f = let g : i + j * 0 ≡ n = subst (λ (x : ℕ). i + j * x ≡ n) e f in omega arith
+
+-- a power that is its own square stands for each multiple of its count
+pub powers_repeated : (m : ℕ) (base table power : Table) (len i j : ℕ) → Joins power power len power → Powers base table power len i j → Powers base table power len i (j + j * m)
+powers_repeated zero base table power len i j joins h a text same ca = let one = h a text same ca in (one.0, subst (λ (n : ℕ). Covers (times n a) text power) (omega arith) one.1)
+powers_repeated (suc m) base table power len i j joins h a text same ca =
+    let rest = powers_repeated m base table power len i j joins h a text same ca in
+    let one = h a text same ca in
+    let e : j + (j + j * m) ≡ j + j * suc m = grind arith in
+    (one.0, subst (λ (n : ℕ). Covers (times n a) text power) e (Covers_add j (j + j * m) a text power (joins (times j a) (times (j + j * m) a) text same one.1 rest.1)))
+
+pub all_at_once : (i j h n : ℕ) → 1 ≤ h → i + (j + j) * h ≡ n → i + (j + j * (h + h - 1)) ≡ n
+all_at_once i j h n some e = apart h some e
+  where
+    apart : (k : ℕ) → 1 ≤ k → i + (j + j) * k ≡ n → i + (j + j * (k + k - 1)) ≡ n
+    apart zero low f = absurd (omega arith)
+    apart (suc k) low f = let g : suc k + suc k - 1 ≡ k + k + 1 = omega arith in ap (λ (x : ℕ). i + (j + j * x)) g ∙ grind (arith, f)

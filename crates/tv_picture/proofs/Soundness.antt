@@ -1,6 +1,6 @@
 -- What the parser has read spells what stands on its stack.
-use Rattle.std.proofs.Common.{suc, zero, inl, inr, ◌≡◌, ◌≢◌, ◌⊎◌, ◌+◌, ◌-◌, ◌*◌, ◌/◌, ◌%◌, ◌≤◌, ◌<◌, ℕ, List, [], ◌∷◌, ◌++◌, length, max, arith, refl, sym, ◌∙◌, ap, subst, append_assoc, append-nil, Bool, true, false, cond, ◌==◌, ◌&&◌, nat_lt, nat_le, get_or}
-use Rattle.std.specs.Prelude.{Option, Some, None, codes, Contains}
+use Rattle.std.proofs.Common.{suc, zero, inl, inr, ◌≡◌, ◌⊎◌, ◌+◌, ◌-◌, ◌*◌, ◌/◌, ◌%◌, ◌≤◌, ◌<◌, ℕ, List, [], ◌∷◌, ◌++◌, length, arith, refl, sym, ◌∙◌, ap, subst, append_assoc, append-nil, Bool, true, false, cond, ◌==◌, ◌&&◌, nat_lt, nat_le, get_or}
+use Rattle.std.specs.Prelude.{Option, Some, None, codes}
 use Rattle.std.specs.Option.{option_and_then}
 use Rattle.std.proofs.lemmas.Bool.{eqb-true, eq-eqb}
 use Rattle.std.proofs.lemmas.Bool.Decides.{nat_tests}
@@ -12,11 +12,11 @@ use Rattle.tv_picture.specs.declared.parser.Bracket.TheVariants.{Square, Curly}
 use Rattle.tv_picture.specs.declared.parser.Repeat.{Repeat}
 use Rattle.tv_picture.specs.declared.parser.Repeat.TheVariants.{Once, Many, Times}
 use Rattle.tv_picture.specs.declared.parser.Open.{Open}
-use Rattle.tv_picture.specs.Pattern.{Pattern, empty, one, sequence, either, optional, group, many, times, IsDigit}
+use Rattle.tv_picture.specs.Pattern.{Pattern, one, either, optional, group, many, times, IsDigit}
 use Rattle.tv_picture.specs.Code.{step, height_after}
 use Rattle.tv_picture.specs.Spelling.{mark_text, count_text, spelled, IsPlain, rank, depth, IsBase, IsMark, IsGrammatical, IsPicture}
 use Rattle.tv_picture.specs.Parsing.{Built, Reading, finished, with_mark, is_once, is_same, merged, with_op, opened, closed, closed_as, divided, starred, counted_as, quoted_next, plain_step, text_step, text_steps, start, tall}
-use Rattle.tv_picture.proofs.Grammar.{state, repeated, held, below, at_most, is_digit, bracketed, skip, IsNone, unquoted_step}
+use Rattle.tv_picture.proofs.Grammar.{state, repeated, held, below, is_digit, bracketed, skip, IsNone, unquoted_step}
 
 abbrev Built' : List Pattern → Option ℕ → Built
 Built' s h = record { stack = s; height = h }
@@ -95,9 +95,9 @@ line_added k false (q ∷ s) a l g low deep = let d = l.2 in record { line = ((l
 line_added k true [] a l g low deep = absurd l
 line_added k true (q ∷ []) a l g low deep = absurd l
 line_added k true (q ∷ p ∷ s) a l g low deep = let d = l.2 in record {
-    line = ((l.0, g, l.1, low), refl, omega arith, l.3, l.4, l.5);
-    spelling = sym (append_assoc (spelled p ++ codes ",") (spelled q) (spelled a));
-    rest = refl
+  line = ((l.0, g, l.1, low), refl, omega arith, l.3, l.4, l.5);
+  spelling = sym (append_assoc (spelled p ++ codes ",") (spelled q) (spelled a));
+  rest = refl;
 }
 
 -- ---- repeated parts
@@ -119,7 +119,7 @@ repeated_grammatical (Times m) a (g, z, inr b) n = ((g, b, n.0, n.1), omega arit
 
 finished_state : (a : Pattern) (s : List Pattern) (h : ℕ) (os : List Open) (c : Bool) (r : Repeat) (q : Bool) → 1 ≤ h → finished (state (a ∷ s) (Some (h + 1)) os c r q) ≡ state (step (repeated r a ∷ s) op.Sequence) (Some h) os c Once false
 finished_state a s h os c r q high = cases r
-    where
+  where
     joined : height_after (h + 1) op.Sequence ≡ Some h
     joined = held (nat_lt 1 (h + 1)) (Some (h + 1 - 1)) None (below 1 (h + 1) (omega arith)) ∙ ap Some (omega arith)
 
@@ -152,17 +152,17 @@ tall_low true (o ∷ os) = let h = tall_low o.choice os in omega arith
 finish_spells : (a : Pattern) (s : List Pattern) (os : List Open) (c : Bool) (r : Repeat) (q : Bool) → IsLine (length os) c s → IsBefore os (beneath c s) → length os ≤ 8 → IsRepeat r → IsPart r a → depth a + length os ≤ 8 → Spells (finished (state (a ∷ s) (Some (tall c os + 1)) os c r q)) (((before os (beneath c s) ++ line_text c s) ++ repeat_text r) ++ spelled a)
 finish_spells a s os c r q line rest few n part deep =
     subst (λ (t : Reading). Spells t (((before os (beneath c s) ++ line_text c s) ++ repeat_text r) ++ spelled a)) (sym (finished_state a s (tall c os) os c r q (tall_high c os)))
-        (let g = repeated_grammatical r a part n in
-        let low : rank (repeated r a) ≤ 1 = g.1 in
-        let shallow : depth (repeated r a) + length os ≤ 8 = (let e = g.2 in omega arith) in
-        let adds = line_added (length os) c s (repeated r a) line g.0 low shallow in
-        record {
-            fine = record { line = adds.line; before = subst (IsBefore os) (sym adds.rest) rest; repeat = tt; few = few; height = refl };
-            spelling = append-nil _ ∙ append-nil _ ∙ ap (λ t. before os t ++ line_text c (step (repeated r a ∷ s) op.Sequence)) adds.rest
-                ∙ ap (λ t. before os (beneath c s) ++ t) (adds.spelling ∙ ap (λ t. line_text c s ++ t) g.3)
-                ∙ sym (append_assoc (before os (beneath c s)) (line_text c s) (repeat_text r ++ spelled a))
-                ∙ sym (append_assoc (before os (beneath c s) ++ line_text c s) (repeat_text r) (spelled a))
-        })
+    (let g = repeated_grammatical r a part n in
+    let low : rank (repeated r a) ≤ 1 = g.1 in
+    let shallow : depth (repeated r a) + length os ≤ 8 = (let e = g.2 in omega arith) in
+    let adds = line_added (length os) c s (repeated r a) line g.0 low shallow in
+    record {
+      fine = record { line = adds.line; before = subst (IsBefore os) (sym adds.rest) rest; repeat = tt; few = few; height = refl };
+      spelling = append-nil _ ∙ append-nil _ ∙ ap (λ t. before os t ++ line_text c (step (repeated r a ∷ s) op.Sequence)) adds.rest
+          ∙ ap (λ t. before os (beneath c s) ++ t) (adds.spelling ∙ ap (λ t. line_text c s ++ t) g.3)
+          ∙ sym (append_assoc (before os (beneath c s)) (line_text c s) (repeat_text r ++ spelled a))
+          ∙ sym (append_assoc (before os (beneath c s) ++ line_text c s) (repeat_text r) (spelled a));
+    })
 
 -- ---- each character
 
@@ -176,7 +176,7 @@ pushed r f o e = ap (option_and_then (λ h. cond (nat_lt h 20) (Some (h + 1)) No
 mark_spells : (r : Reading) (m : Mark) → IsFine r → IsMark m → (r.repeat ≡ Once) ⊎ IsBase (one m) → Spells (with_mark r m) (body r ++ mark_text m)
 mark_spells r m f plain base =
     subst (λ k. Spells (finished (state (one m ∷ r.built.stack) k r.brackets r.choice r.repeat r.quoted)) (body r ++ mark_text m)) (sym (pushed r f None f.height))
-        (finish_spells (one m) r.built.stack r.brackets r.choice r.repeat r.quoted f.line f.before f.few f.repeat (plain, refl, base) (let few = f.few in omega arith))
+    (finish_spells (one m) r.built.stack r.brackets r.choice r.repeat r.quoted f.line f.before f.few f.repeat (plain, refl, base) (let few = f.few in omega arith))
 
 unquoted_text : (r : Reading) → r.quoted ≡ false → written r ≡ body r
 unquoted_text r e = ap (λ q. body r ++ quote_text q) e ∙ append-nil (body r)
@@ -199,13 +199,13 @@ mark_step r s m c f unquoted plain base text e = some_same (with_mark r m) s r (
 quoted_step : (r s : Reading) (c : ℕ) → IsFine r → r.quoted ≡ true → Some (with_mark r (Quoted c)) ≡ Some s → Spells s (written r ++ c ∷ [])
 quoted_step r s c f quoted e = some_same (with_mark r (Quoted c)) s r (written r ++ c ∷ []) e
     (subst (Spells (with_mark r (Quoted c))) (sym (append_assoc (body r) (codes ";") (c ∷ [])) ∙ ap (λ q. (body r ++ quote_text q) ++ c ∷ []) (sym quoted))
-        (mark_spells r (Quoted c) f tt (inr refl)))
+    (mark_spells r (Quoted c) f tt (inr refl)))
 
 -- `;`
 quote_step : (r s : Reading) → IsFine r → r.quoted ≡ false → Some (quoted_next r) ≡ Some s → Spells s (written r ++ 59 ∷ [])
 quote_step r s f unquoted e = some_same (quoted_next r) s r (written r ++ 59 ∷ []) e (record {
-    fine = record { line = f.line; before = f.before; repeat = f.repeat; few = f.few; height = f.height };
-    spelling = ap (λ t. t ++ 59 ∷ []) (sym (unquoted_text r unquoted))
+  fine = record { line = f.line; before = f.before; repeat = f.repeat; few = f.few; height = f.height };
+  spelling = ap (λ t. t ++ 59 ∷ []) (sym (unquoted_text r unquoted));
 })
 
 -- a test that has to hold
@@ -220,8 +220,8 @@ no_step s e = cc
 star_step : (r s : Reading) → IsFine r → r.quoted ≡ false → starred r ≡ Some s → Spells s (written r ++ 42 ∷ [])
 star_step r s f unquoted e = chosen (is_once r.repeat) (Some (record { built = r.built; brackets = r.brackets; choice = r.choice; repeat = Many; quoted = false })) None s e
     (λ once e'. some_same (record { built = r.built; brackets = r.brackets; choice = r.choice; repeat = Many; quoted = false }) s r (written r ++ 42 ∷ []) e' (record {
-        fine = record { line = f.line; before = f.before; repeat = tt; few = f.few; height = f.height };
-        spelling = append-nil _ ∙ ap (λ t. t ++ 42 ∷ []) (sym (unquoted_text r unquoted ∙ ap (λ t. (before r.brackets (beneath r.choice r.built.stack) ++ line_text r.choice r.built.stack) ++ repeat_text t) (is_once_true r.repeat once) ∙ append-nil _))
+      fine = record { line = f.line; before = f.before; repeat = tt; few = f.few; height = f.height };
+      spelling = append-nil _ ∙ ap (λ t. t ++ 42 ∷ []) (sym (unquoted_text r unquoted ∙ ap (λ t. (before r.brackets (beneath r.choice r.built.stack) ++ line_text r.choice r.built.stack) ++ repeat_text t) (is_once_true r.repeat once) ∙ append-nil _));
     }))
     (λ _ e'. no_step s e')
 
@@ -263,26 +263,26 @@ counting r t = record { built = r.built; brackets = r.brackets; choice = r.choic
 
 counting_spells : (r : Reading) (t : Repeat) (c : ℕ) → IsFine r → r.quoted ≡ false → IsRepeat t → repeat_text t ≡ repeat_text r.repeat ++ c ∷ [] → Spells (counting r t) (written r ++ c ∷ [])
 counting_spells r t c f unquoted n e = record {
-    fine = record { line = f.line; before = f.before; repeat = n; few = f.few; height = f.height };
-    spelling = append-nil _ ∙ ap (λ x. (before r.brackets (beneath r.choice r.built.stack) ++ line_text r.choice r.built.stack) ++ x) e
-        ∙ sym (append_assoc (before r.brackets (beneath r.choice r.built.stack) ++ line_text r.choice r.built.stack) (repeat_text r.repeat) (c ∷ []))
-        ∙ ap (λ x. x ++ c ∷ []) (sym (unquoted_text r unquoted))
+  fine = record { line = f.line; before = f.before; repeat = n; few = f.few; height = f.height };
+  spelling = append-nil _ ∙ ap (λ x. (before r.brackets (beneath r.choice r.built.stack) ++ line_text r.choice r.built.stack) ++ x) e
+      ∙ sym (append_assoc (before r.brackets (beneath r.choice r.built.stack) ++ line_text r.choice r.built.stack) (repeat_text r.repeat) (c ∷ []))
+      ∙ ap (λ x. x ++ c ∷ []) (sym (unquoted_text r unquoted));
 }
 
 digit_spells : (r s : Reading) (t : Repeat) (d : ℕ) → IsFine r → r.quoted ≡ false → r.repeat ≡ t → d < 10 → IsPlain (48 + d) → counted_as r d t ≡ Some s → Spells s (written r ++ (48 + d) ∷ [])
 digit_spells r s Once d f unquoted same small plain e = mark_step r s (Literal (48 + d)) (48 + d) f unquoted plain (inl same) refl e
 digit_spells r s Many d f unquoted same small plain e = chosen (nat_lt 0 d) (Some (counting r (Times d))) None s e
     (λ t e'. some_same (counting r (Times d)) s r (written r ++ (48 + d) ∷ []) e'
-        (let high : 0 < d = below_true 0 d t in
-        counting_spells r (Times d) (48 + d) f unquoted (omega arith, omega arith) (ap (λ x. codes "*" ++ x) (count_one d small) ∙ ap (λ x. repeat_text x ++ (48 + d) ∷ []) (sym same))))
+    (let high : 0 < d = below_true 0 d t in
+    counting_spells r (Times d) (48 + d) f unquoted (omega arith, omega arith) (ap (λ x. codes "*" ++ x) (count_one d small) ∙ ap (λ x. repeat_text x ++ (48 + d) ∷ []) (sym same))))
     (λ _ e'. no_step s e')
 digit_spells r s (Times n) d f unquoted same small plain e = chosen (nat_le (n * 10 + d) 120) (Some (counting r (Times (n * 10 + d)))) None s e
     (λ t e'. some_same (counting r (Times (n * 10 + d))) s r (written r ++ (48 + d) ∷ []) e'
-        (let high : n * 10 + d ≤ 120 = at_most_true (n * 10 + d) 120 t in
-        let low : (1 ≤ n) × (n ≤ 120) = subst IsRepeat same f.repeat in
-        counting_spells r (Times (n * 10 + d)) (48 + d) f unquoted (let l = low.0 in omega arith, high)
-            (ap (λ x. codes "*" ++ x) (count_more n d (n * 10 + d) low.0 small refl high (apart_ten n))
-                ∙ sym (append_assoc (codes "*") (count_text n) ((48 + d) ∷ [])) ∙ ap (λ x. repeat_text x ++ (48 + d) ∷ []) (sym same))))
+    (let high : n * 10 + d ≤ 120 = at_most_true (n * 10 + d) 120 t in
+    let low : (1 ≤ n) × (n ≤ 120) = subst IsRepeat same f.repeat in
+    counting_spells r (Times (n * 10 + d)) (48 + d) f unquoted (let l = low.0 in omega arith, high)
+    (ap (λ x. codes "*" ++ x) (count_more n d (n * 10 + d) low.0 small refl high (apart_ten n))
+    ∙ sym (append_assoc (codes "*") (count_text n) ((48 + d) ∷ [])) ∙ ap (λ x. repeat_text x ++ (48 + d) ∷ []) (sym same))))
     (λ _ e'. no_step s e')
 
 -- ---- brackets and commas
@@ -293,10 +293,10 @@ opening r b = record { built = with_op r.built op.Empty; brackets = (record { br
 open_step : (r s : Reading) (b : Bracket) (c : ℕ) → IsFine r → r.quoted ≡ false → open_text b ≡ c ∷ [] → opened r b ≡ Some s → Spells s (written r ++ c ∷ [])
 open_step r s b c f unquoted text e = chosen (nat_lt (length r.brackets) 8) (Some (opening r b)) None s e
     (λ t e'. some_same (opening r b) s r (written r ++ c ∷ []) e'
-        (let few : length r.brackets < 8 = below_true (length r.brackets) 8 t in record {
-            fine = record { line = (tt, refl, omega arith); before = (f.line, f.repeat, f.before); repeat = tt; few = omega arith; height = pushed r f None f.height ∙ ap Some (omega arith) };
-            spelling = append-nil _ ∙ append-nil _ ∙ append-nil _ ∙ ap (λ x. body r ++ x) text ∙ ap (λ x. x ++ c ∷ []) (sym (unquoted_text r unquoted))
-        }))
+    (let few : length r.brackets < 8 = below_true (length r.brackets) 8 t in record {
+      fine = record { line = (tt, refl, omega arith); before = (f.line, f.repeat, f.before); repeat = tt; few = omega arith; height = pushed r f None f.height ∙ ap Some (omega arith) };
+      spelling = append-nil _ ∙ append-nil _ ∙ append-nil _ ∙ ap (λ x. body r ++ x) text ∙ ap (λ x. x ++ c ∷ []) (sym (unquoted_text r unquoted));
+    }))
     (λ _ e'. no_step s e')
 
 -- the alternatives of a line as one pattern
@@ -313,15 +313,21 @@ merge k false [] h t l e = absurd l
 merge k true [] h t l e = absurd l
 merge k true (q ∷ []) h t l e = absurd l
 merge k false (q ∷ s) h t l e = let high = l.1 in record {
-    whole = q;
-    built = ap (λ (x : Option ℕ). Built' (q ∷ s) x) (e ∙ ap Some (omega arith));
-    spelling = refl; grammatical = l.0; high = omega arith; deep = l.2
+  whole = q;
+  built = ap (λ (x : Option ℕ). Built' (q ∷ s) x) (e ∙ ap Some (omega arith));
+  spelling = refl;
+  grammatical = l.0;
+  high = omega arith;
+  deep = l.2;
 }
 merge k true (q ∷ p ∷ s) h t l e = let shallow = l.2 in let shallow' = l.5 in record {
-    whole = either p q;
-    built = ap (λ (x : Option ℕ). Built' (either p q ∷ s) (option_and_then (λ j. height_after j op.Either) x)) e
-        ∙ ap (λ (x : Option ℕ). Built' (either p q ∷ s) x) (held (nat_lt 1 (2 + t)) (Some (2 + t - 1)) None (below 1 (2 + t) (omega arith)) ∙ ap Some (omega arith));
-    spelling = refl; grammatical = (l.3, l.0, l.4, l.1); high = omega arith; deep = omega arith
+  whole = either p q;
+  built = ap (λ (x : Option ℕ). Built' (either p q ∷ s) (option_and_then (λ j. height_after j op.Either) x)) e
+      ∙ ap (λ (x : Option ℕ). Built' (either p q ∷ s) x) (held (nat_lt 1 (2 + t)) (Some (2 + t - 1)) None (below 1 (2 + t) (omega arith)) ∙ ap Some (omega arith));
+  spelling = refl;
+  grammatical = (l.3, l.0, l.4, l.1);
+  high = omega arith;
+  deep = omega arith;
 }
 
 abbrev rest_tall : List Open → ℕ
@@ -345,17 +351,17 @@ divided_spells r f unquoted once =
     let few = f.few in
     let low = rest_low r.brackets in
     subst (λ b. Spells (record { built = with_op b op.Empty; brackets = r.brackets; choice = true; repeat = Once; quoted = false }) (written r ++ 44 ∷ [])) (sym m.built) (record {
-        fine = record {
-            line = (tt, refl, omega arith, m.grammatical, m.high, m.deep);
-            before = f.before;
-            repeat = tt;
-            few = f.few;
-            height = held (nat_lt (rest_tall r.brackets + 1) 20) (Some (rest_tall r.brackets + 1 + 1)) None (below (rest_tall r.brackets + 1) 20 (omega arith)) ∙ ap Some (let e = tall_parts true r.brackets in omega arith)
-        };
-        spelling = append-nil _ ∙ append-nil _ ∙ ap (λ x. before r.brackets (beneath r.choice r.built.stack) ++ x) (append-nil _)
-            ∙ ap (λ x. before r.brackets (beneath r.choice r.built.stack) ++ (x ++ codes ",")) (sym m.spelling)
-            ∙ sym (append_assoc (before r.brackets (beneath r.choice r.built.stack)) (line_text r.choice r.built.stack) (codes ","))
-            ∙ ap (λ x. x ++ codes ",") (sym (unquoted_text r unquoted ∙ ap (λ t. (before r.brackets (beneath r.choice r.built.stack) ++ line_text r.choice r.built.stack) ++ repeat_text t) once ∙ append-nil _))
+      fine = record {
+        line = (tt, refl, omega arith, m.grammatical, m.high, m.deep);
+        before = f.before;
+        repeat = tt;
+        few = f.few;
+        height = held (nat_lt (rest_tall r.brackets + 1) 20) (Some (rest_tall r.brackets + 1 + 1)) None (below (rest_tall r.brackets + 1) 20 (omega arith)) ∙ ap Some (let e = tall_parts true r.brackets in omega arith);
+      };
+      spelling = append-nil _ ∙ append-nil _ ∙ ap (λ x. before r.brackets (beneath r.choice r.built.stack) ++ x) (append-nil _)
+          ∙ ap (λ x. before r.brackets (beneath r.choice r.built.stack) ++ (x ++ codes ",")) (sym m.spelling)
+          ∙ sym (append_assoc (before r.brackets (beneath r.choice r.built.stack)) (line_text r.choice r.built.stack) (codes ","))
+          ∙ ap (λ x. x ++ codes ",") (sym (unquoted_text r unquoted ∙ ap (λ t. (before r.brackets (beneath r.choice r.built.stack) ++ line_text r.choice r.built.stack) ++ repeat_text t) once ∙ append-nil _));
     })
 
 divide_step : (r s : Reading) → IsFine r → r.quoted ≡ false → divided r ≡ Some s → Spells s (written r ++ 44 ∷ [])
@@ -397,13 +403,13 @@ closed_spells b s h o os c f same =
     let deep = m.deep in
     let e = bracketed_depth b m.whole in
     subst (λ x. Spells (closing b x os o) (written (state s h (o ∷ os) c Once false) ++ close_text b)) (sym m.built)
-        (subst (λ x. Spells (finished (record { built = x; brackets = os; choice = o.choice; repeat = o.repeat; quoted = false })) (written (state s h (o ∷ os) c Once false) ++ close_text b)) (sym (bracketed_built b m.whole (beneath c s) (tall o.choice os)))
-            (subst (Spells (finished (state (bracketed b m.whole ∷ beneath c s) (Some (tall o.choice os + 1)) os o.choice o.repeat false)))
-                (bracketed_text b m.whole ((before os (beneath o.choice (beneath c s)) ++ line_text o.choice (beneath c s)) ++ repeat_text o.repeat)
-                    ∙ ap (λ x. ((((before os (beneath o.choice (beneath c s)) ++ line_text o.choice (beneath c s)) ++ repeat_text o.repeat) ++ open_text x) ++ spelled m.whole) ++ close_text b) (sym same)
-                    ∙ ap (λ x. (before (o ∷ os) (beneath c s) ++ x) ++ close_text b) (sym m.spelling)
-                    ∙ ap (λ x. x ++ close_text b) (sym (append-nil _ ∙ append-nil _)))
-                (finish_spells (bracketed b m.whole) (beneath c s) os o.choice o.repeat false f.before.0 f.before.2 (omega arith) f.before.1 (bracketed_part b m.whole o.repeat m.grammatical m.high) (omega arith))))
+    (subst (λ x. Spells (finished (record { built = x; brackets = os; choice = o.choice; repeat = o.repeat; quoted = false })) (written (state s h (o ∷ os) c Once false) ++ close_text b)) (sym (bracketed_built b m.whole (beneath c s) (tall o.choice os)))
+    (subst (Spells (finished (state (bracketed b m.whole ∷ beneath c s) (Some (tall o.choice os + 1)) os o.choice o.repeat false)))
+    (bracketed_text b m.whole ((before os (beneath o.choice (beneath c s)) ++ line_text o.choice (beneath c s)) ++ repeat_text o.repeat)
+    ∙ ap (λ x. ((((before os (beneath o.choice (beneath c s)) ++ line_text o.choice (beneath c s)) ++ repeat_text o.repeat) ++ open_text x) ++ spelled m.whole) ++ close_text b) (sym same)
+    ∙ ap (λ x. (before (o ∷ os) (beneath c s) ++ x) ++ close_text b) (sym m.spelling)
+    ∙ ap (λ x. x ++ close_text b) (sym (append-nil _ ∙ append-nil _)))
+    (finish_spells (bracketed b m.whole) (beneath c s) os o.choice o.repeat false f.before.0 f.before.2 (omega arith) f.before.1 (bracketed_part b m.whole o.repeat m.grammatical m.high) (omega arith))))
 
 same_bracket : (b d : Bracket) → is_same b d ≡ true → d ≡ b
 same_bracket Square Square e = refl
@@ -423,19 +429,19 @@ close_parts : (b : Bracket) (t : List Pattern) (h : Option ℕ) (os : List Open)
 close_parts b t h [] c r s f e = no_choice (is_once r) s e
 close_parts b t h (o ∷ os) c r s f e = chosen (is_once r) (closed_as (state t h (o ∷ os) c r false) b (o ∷ os)) None s e
     (λ once e'. chosen (is_same b o.bracket) (Some (finished (record { built = with_op (merged c (Built' t h)) (Rattle.tv_picture.specs.Parsing.bracket_op b); brackets = os; choice = o.choice; repeat = o.repeat; quoted = false }))) None s e'
-        (λ same e''.
-            let is : r ≡ Once = is_once_true r once in
-            some_same (finished (record { built = with_op (merged c (Built' t h)) (Rattle.tv_picture.specs.Parsing.bracket_op b); brackets = os; choice = o.choice; repeat = o.repeat; quoted = false })) s s (written (state t h (o ∷ os) c r false) ++ close_text b) e''
-                (subst (λ x. Spells (finished (record { built = x; brackets = os; choice = o.choice; repeat = o.repeat; quoted = false })) (written (state t h (o ∷ os) c r false) ++ close_text b)) (closed_op b (merged c (Built' t h)))
-                    (subst (λ x. Spells (closing b (merged c (Built' t h)) os o) (written (state t h (o ∷ os) c x false) ++ close_text b)) (sym is)
-                        (closed_spells b t h o os c (subst (λ x. IsFine (state t h (o ∷ os) c x false)) is f) (same_bracket b o.bracket same)))))
-        (λ _ e''. no_step s e''))
+    (λ same e''.
+    let is : r ≡ Once = is_once_true r once in
+    some_same (finished (record { built = with_op (merged c (Built' t h)) (Rattle.tv_picture.specs.Parsing.bracket_op b); brackets = os; choice = o.choice; repeat = o.repeat; quoted = false })) s s (written (state t h (o ∷ os) c r false) ++ close_text b) e''
+    (subst (λ x. Spells (finished (record { built = x; brackets = os; choice = o.choice; repeat = o.repeat; quoted = false })) (written (state t h (o ∷ os) c r false) ++ close_text b)) (closed_op b (merged c (Built' t h)))
+    (subst (λ x. Spells (closing b (merged c (Built' t h)) os o) (written (state t h (o ∷ os) c x false) ++ close_text b)) (sym is)
+    (closed_spells b t h o os c (subst (λ x. IsFine (state t h (o ∷ os) c x false)) is f) (same_bracket b o.bracket same)))))
+    (λ _ e''. no_step s e''))
     (λ _ e'. no_step s e')
 
 close_step : (r s : Reading) (b : Bracket) → IsFine r → r.quoted ≡ false → closed r b ≡ Some s → Spells s (written r ++ close_text b)
 close_step r s b f unquoted e =
     subst (λ q. Spells s (written (state r.built.stack r.built.height r.brackets r.choice r.repeat q) ++ close_text b)) (sym unquoted)
-        (close_parts b r.built.stack r.built.height r.brackets r.choice r.repeat s (record { line = f.line; before = f.before; repeat = f.repeat; few = f.few; height = f.height }) e)
+    (close_parts b r.built.stack r.built.height r.brackets r.choice r.repeat s (record { line = f.line; before = f.before; repeat = f.repeat; few = f.few; height = f.height }) e)
 
 -- ---- any character
 
@@ -468,7 +474,7 @@ last_spells r s c f u n e (inl (t, digit)) =
     let same : 48 + (c - 48) ≡ c = (let low = digit.0 in omega arith) in
     let small : c - 48 < 10 = (let low = digit.0 in let high = digit.1 in omega arith) in
     subst (λ (x : ℕ). Spells s (written r ++ x ∷ [])) same
-        (digit_spells r s r.repeat (c - 48) f u refl small (subst IsPlain (sym same) (is_plain c n)) (sym (held (nat_le 48 c && nat_le c 57) (counted_as r (c - 48) r.repeat) (Some (with_mark r (Literal c))) t) ∙ e))
+    (digit_spells r s r.repeat (c - 48) f u refl small (subst IsPlain (sym same) (is_plain c n)) (sym (held (nat_le 48 c && nat_le c 57) (counted_as r (c - 48) r.repeat) (Some (with_mark r (Literal c))) t) ∙ e))
 last_spells r s c f u n e (inr (t, barred)) =
     mark_step r s (Literal c) c f u (is_plain c n) (inr barred) refl (sym (skip (nat_le 48 c && nat_le c 57) (counted_as r (c - 48) r.repeat) (Some (with_mark r (Literal c))) t) ∙ e)
 
@@ -494,7 +500,7 @@ step_spells r s c f e = chosen r.quoted _ _ s e (λ t e'. quoted_step r s c f t 
 pub steps_spell : (text : List ℕ) (r s : Reading) → IsFine r → text_steps r text ≡ Some s → Spells s (written r ++ text)
 steps_spell [] r s f e = some_same r s r (written r ++ []) e (record { fine = f; spelling = sym (append-nil (written r)) })
 steps_spell (c ∷ text) r s f e = later (text_step r c) refl e (λ t g e'. steps_spell text t s g e')
-    where
+  where
     later : (o : Option Reading) → text_step r c ≡ o → option_and_then (λ t. text_steps t text) o ≡ Some s → ((t : Reading) → IsFine t → text_steps t text ≡ Some s → Spells s (written t ++ text)) → Spells s (written r ++ c ∷ text)
     later None is e' rest = no_step s e'
     later (Some t) is e' rest =
@@ -519,10 +525,10 @@ closes s h c text sp =
     let m = merge 0 c s h 0 f.line (f.height ∙ ap Some (tall_parts c [])) in
     let deep = m.deep in
     record {
-        whole = m.whole;
-        built = m.built ∙ ap (λ t. Built' (m.whole ∷ t) (Some (0 + 1))) f.before ∙ ap (λ (k : ℕ). Built' (m.whole ∷ []) (Some k)) (omega arith);
-        picture = (m.grammatical, m.high, omega arith);
-        spelling = sym m.spelling ∙ sym (append-nil _ ∙ append-nil _) ∙ sp.spelling
+      whole = m.whole;
+      built = m.built ∙ ap (λ t. Built' (m.whole ∷ t) (Some (0 + 1))) f.before ∙ ap (λ (k : ℕ). Built' (m.whole ∷ []) (Some k)) (omega arith);
+      picture = (m.grammatical, m.high, omega arith);
+      spelling = sym m.spelling ∙ sym (append-nil _ ∙ append-nil _) ∙ sp.spelling;
     }
 
 -- ---- each reading can be completed
@@ -558,7 +564,7 @@ ends_unquoted b os c (Times n) = ends_after _ (with_mark (record { built = b; br
 
 pub ends : (r : Reading) → Ends r
 ends r = cases r.quoted refl
-    where
+  where
     cases : (q : Bool) → r.quoted ≡ q → Ends r
     cases true e = ends_after r (with_mark r (Quoted 97)) 97 (held r.quoted (Some (with_mark r (Quoted 97))) (plain_step r 97) e) (ends_brackets r.brackets _ r.choice)
     cases false e = subst (λ q. Ends (record { built = r.built; brackets = r.brackets; choice = r.choice; repeat = r.repeat; quoted = q })) (sym e) (ends_unquoted r.built r.brackets r.choice r.repeat)

@@ -1,11 +1,11 @@
 -- What an operation leaves on the stack.
-use Rattle.std.proofs.Common.{suc, zero, inl, inr, ◌≡◌, ◌≢◌, ◌⊎◌, ◌+◌, ◌-◌, ◌≤◌, ◌<◌, ℕ, List, [], ◌∷◌, length, get_or, arith, refl, sym, ◌∙◌, ap, subst}
+use Rattle.std.proofs.Common.{◌≡◌, ◌≢◌, ◌+◌, ◌-◌, ◌≤◌, ◌<◌, ℕ, List, [], ◌∷◌, length, get_or, arith, refl, sym, ◌∙◌, ap, subst}
 use Rattle.std.specs.Prelude.{Some, IsSome}
 use Rattle.std.proofs.Math.ListN.{set}
 use Rattle.std.proofs.lemmas.List.{get_or-set_same, get_or-set_other}
 use Rattle.std.proofs.lemmas.Bool.Decides.{nat_tests}
 use Rattle.tv_picture.specs.declared.code.Op.{Op}
-use Rattle.tv_picture.specs.declared.code.Op.TheVariants.{Empty, One, Sequence, Either, Optional, Group, Many, Times}
+use Rattle.tv_picture.specs.declared.code.Op.TheVariants.{Sequence, Either, Times}
 use Rattle.tv_picture.specs.Pattern.{Pattern}
 use Rattle.tv_picture.specs.Code.{step, run, top, pattern_of, height_after, height_from}
 use Rattle.tv_picture.specs.Machine.{Stands, Made}
@@ -18,7 +18,7 @@ stands_kept R xs h place x (p ∷ ps) below (k, e, here, rest) =
 pub stands_put : {X : Type 0} (R : Pattern → X → Type 0) (xs : List X) (place : ℕ) (x : X) (p : Pattern) (ps out : List Pattern) → place < length xs → Stands R xs place ps → R p x → out ≡ p ∷ ps → Stands R (set xs place x) (place + 1) out
 stands_put R xs place x p ps out within rest here e =
     subst (Stands R (set xs place x) (place + 1)) (sym e)
-        (place, refl, (λ d. subst (R p) (sym (get_or-set_same xs place x d within)) here), stands_kept R xs place place x ps (omega arith) rest)
+    (place, refl, (λ d. subst (R p) (sym (get_or-set_same xs place x d within)) here), stands_kept R xs place place x ps (omega arith) rest)
 
 -- the top of a stack that isn't empty
 abbrev pub OneUp : {X : Type 0} → (Pattern → X → Type 0) → List X → ℕ → List Pattern → Type 0

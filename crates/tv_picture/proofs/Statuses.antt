@@ -1,11 +1,10 @@
 -- What the first row of a table says of the whole text.
-use Rattle.std.proofs.Common.{suc, zero, inl, inr, ◌≡◌, ◌≢◌, ◌⊎◌, ◌↔◌, ◌+◌, ◌≤◌, ◌<◌, ℕ, List, [], ◌∷◌, ◌++◌, length, drop, arith, refl, sym, ◌∙◌, ap, subst, append-nil, append_assoc, length-append}
+use Rattle.std.proofs.Common.{inl, inr, ◌≡◌, ◌≢◌, ◌⊎◌, ◌+◌, ◌<◌, ℕ, List, [], ◌∷◌, ◌++◌, length, arith, refl, sym, ◌∙◌, ap, subst, append-nil, append_assoc, length-append}
 use Rattle.tv_picture.specs.declared.row.Next.{Next}
 use Rattle.tv_picture.specs.declared.row.Next.TheVariants.{Nothing, Only, Several}
 use Rattle.tv_picture.specs.declared.row.Row.{Row}
-use Rattle.tv_picture.specs.declared.table.Table.{Table}
 use Rattle.tv_picture.specs.Pattern.{Pattern, Member, Begins, IsViable, IsNextLiteral}
-use Rattle.tv_picture.specs.Table.{Has, Names, Spans, Follows, IsRow, Covers, row_at}
+use Rattle.tv_picture.specs.Table.{Has, Names, Spans, Follows, IsRow}
 
 empty_when_long : (u v : List ℕ) (n : ℕ) → n ≡ length (u ++ v) → n ≡ 0 + length u → v ≡ []
 empty_when_long u [] n e f = refl
@@ -13,7 +12,7 @@ empty_when_long u (x ∷ v) n e f = absurd (omega (arith, length-append u (x ∷
 
 pub ended : (p : Pattern) (t : List ℕ) (row : Row) → IsRow p t 0 row → Has row.ends (length t) → Member p t
 ended p t row h has = whole ((h.ends (length t)).0 has)
-    where
+  where
     whole : Spans p t 0 (length t) → Member p t
     whole (u, v, m, e, n) =
         let none : v ≡ [] = empty_when_long u v (length t) (ap length e) n in
@@ -32,7 +31,7 @@ follows_begins p t c (more, m) = (c ∷ more, subst (Member p) (append_assoc t (
 
 pub is_error : (p : Pattern) (t : List ℕ) (row : Row) → IsRow p t 0 row → (Has row.ends (length t) → ⊥) → row.next ≡ Nothing → Begins p t → ⊥
 is_error p t row h unended none b = cases (begins_cases p t b)
-    where
+  where
     cases : Member p t ⊎ ((c : ℕ) × Follows p t c) → ⊥
     cases (inl m) = unended (ends_member p t row h m)
     cases (inr f) = subst (Names (Follows p t)) none h.next f.0 f.1
@@ -47,10 +46,10 @@ is_viable p t row h unended some = (some_begin p t row.next h.next some, λ m. u
 
 pub is_next : (p : Pattern) (t : List ℕ) (row : Row) (c : ℕ) → IsRow p t 0 row → (Has row.ends (length t) → ⊥) → length t < 120 → row.next ≡ Only c → IsNextLiteral p t c
 is_next p t row c h unended few only = let names = subst (Names (Follows p t)) only h.next in record {
-    viable = (follows_begins p t c names.0, λ m. unended (ends_member p t row h m));
-    room = few;
-    fits = names.0;
-    only = names.1
+  viable = (follows_begins p t c names.0, λ m. unended (ends_member p t row h m));
+  room = few;
+  fits = names.0;
+  only = names.1;
 }
 
 no_next_of : (p : Pattern) (t : List ℕ) (n : Next) (c : ℕ) → Names (Follows p t) n → ((x : ℕ) → n ≢ Only x) → IsNextLiteral p t c → ⊥

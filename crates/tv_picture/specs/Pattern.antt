@@ -1,5 +1,5 @@
 -- The picture language: what a picture allows, apart from how it is written.
-use Rattle.std.specs.Prelude.{◌≡◌, ◌≢◌, ℕ, ◌≤◌, ◌<◌, ◌⊎◌, ◌++◌, List, [], ◌∷◌, length, All}
+use Rattle.std.specs.Prelude.{◌≡◌, ℕ, ◌≤◌, ◌<◌, ◌⊎◌, ◌++◌, List, [], ◌∷◌, length, All}
 use Rattle.std.specs.Char.{IsScalar}
 use Rattle.std.specs.List.{concat}
 use Rattle.tv_cells.specs.Glyph.{IsNarrow}

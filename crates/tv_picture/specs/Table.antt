@@ -55,7 +55,7 @@ FollowsFrom places b text start stop c = (r : ℕ) × (start ≤ r) × (r < stop
 pub record Gathers (places : Places) (table : Table) (start stop : ℕ) (first result : Row) : Type 0 where
   pub ends : (k : ℕ) → Has result.ends k ↔ (Has first.ends k ⊎ ((r : ℕ) × (start ≤ r) × (r < stop) × Has places r × Has (row_at table r).ends k))
   pub next :
-    (a b : Pattern) (text : List ℕ) (from : ℕ) →
-    Names (Follows a (drop from text)) first.next →
-    ((r : ℕ) → start ≤ r → r < stop → Has places r → Names (Follows b (drop r text)) (row_at table r).next) →
-    Names (λ c. Follows a (drop from text) c ⊎ FollowsFrom places b text start stop c) result.next
+      (a b : Pattern) (text : List ℕ) (from : ℕ) →
+      Names (Follows a (drop from text)) first.next →
+      ((r : ℕ) → start ≤ r → r < stop → Has places r → Names (Follows b (drop r text)) (row_at table r).next) →
+      Names (λ c. Follows a (drop from text) c ⊎ FollowsFrom places b text start stop c) result.next

@@ -3,13 +3,13 @@
 
 mod code;
 mod fault;
+mod parser;
+mod picture;
 mod places;
 mod reading;
 mod row;
 mod shortest;
 mod table;
-mod parser;
-mod picture;
 
 pub use fault::PictureFault;
 pub use picture::{Picture, Status};

@@ -4,7 +4,7 @@ ghost use Rattle.std.specs.Prelude.{◌≡◌, ◌↔◌, ◌<◌, ◌≤◌, �
 ghost use Rattle.tv_picture.specs.Table.{Has};
 
 /// A set of places, each below 128.
-#[derive(Clone, Copy)]
+#[derive(Clone, Copy, PartialEq, Eq)]
 pub struct Places {
     pub bits: u128,
 }
@@ -20,6 +20,7 @@ impl Places {
         Places { bits: 1 << place }
     }
 
+    #[inline(always)]
     pub fn has(self, place: usize) -> bool
         requires { place < 128 }
         ensures { IsTrue result ↔ Has self place }
@@ -27,6 +28,7 @@ impl Places {
         self.bits & (1 << place) != 0
     }
 
+    #[inline(always)]
     pub fn union(self, other: Places) -> Places
         ensures { (k : ℕ) → Has result k ↔ (Has self k ⊎ Has other k) }
     {
@@ -36,6 +38,7 @@ impl Places {
     }
 
     /// Whether each place of the set is below this one.
+    #[inline(always)]
     pub fn is_below(self, place: usize) -> bool
         requires { place < 128 }
         ensures { IsTrue result → (k : ℕ) → place ≤ k → Has self k → ⊥ }

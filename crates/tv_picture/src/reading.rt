@@ -31,8 +31,14 @@ impl Stack {
         match op {
             Op::Empty => (height, Table::empty()),
             Op::One(mark) => (height, Table::one(mark, text)),
-            Op::Sequence => (height - 2, self.tables[height - 2].then(&self.tables[height - 1], len)),
-            Op::Either => (height - 2, self.tables[height - 2].or(&self.tables[height - 1])),
+            Op::Sequence => (
+                height - 2,
+                self.tables[height - 2].then(&self.tables[height - 1], len),
+            ),
+            Op::Either => (
+                height - 2,
+                self.tables[height - 2].or(&self.tables[height - 1]),
+            ),
             Op::Optional => (height - 1, self.tables[height - 1].optional()),
             Op::Group => (height - 1, self.tables[height - 1]),
             Op::Many => (height - 1, self.tables[height - 1].many(len)),

@@ -6,7 +6,7 @@ ghost use Rattle.tv_picture.specs.Table.{Has, joined};
 use crate::places::Places;
 
 /// The characters that may follow a text.
-#[derive(Clone, Copy)]
+#[derive(Clone, Copy, PartialEq, Eq)]
 pub enum Next {
     Nothing,
     Only(char),
@@ -15,6 +15,7 @@ pub enum Next {
 
 impl Next {
     /// The characters of either.
+    #[inline(always)]
     pub fn join(self, other: Next) -> Next
         ensures { result ≡ joined self other }
     {
@@ -27,7 +28,7 @@ impl Next {
 }
 
 /// From one place on: where a member can end, and what may follow the end of the text inside one.
-#[derive(Clone, Copy)]
+#[derive(Clone, Copy, PartialEq, Eq)]
 pub struct Row {
     pub ends: Places,
     pub next: Next,
@@ -40,6 +41,7 @@ impl Row {
     };
 
     /// What either row has.
+    #[inline(always)]
     pub fn join(self, other: Row) -> Row
         ensures ends { (k : ℕ) → Has result.ends k ↔ (Has self.ends k ⊎ Has other.ends k) }
         ensures next { result.next ≡ joined self.next other.next }

@@ -31,8 +31,14 @@ impl Lengths {
         match op {
             Op::Empty => (height, 0),
             Op::One(mark) => (height, of_mark(mark)),
-            Op::Sequence => (height - 2, sum(self.lengths[height - 2], self.lengths[height - 1])),
-            Op::Either => (height - 2, self.lengths[height - 2].min(self.lengths[height - 1])),
+            Op::Sequence => (
+                height - 2,
+                sum(self.lengths[height - 2], self.lengths[height - 1]),
+            ),
+            Op::Either => (
+                height - 2,
+                self.lengths[height - 2].min(self.lengths[height - 1]),
+            ),
             Op::Group => (height - 1, self.lengths[height - 1]),
             Op::Optional | Op::Many => (height - 1, 0),
             Op::Times(count) => (height - 1, product(count, self.lengths[height - 1])),
@@ -54,13 +60,7 @@ fn of_mark(mark: Mark) -> u32
     ensures { IsShortest (one mark) result }
 {
     match mark {
-        Mark::Literal(ch) | Mark::Quoted(ch) => {
-            if ch.width() == Some(1) {
-                1
-            } else {
-                LONG
-            }
-        }
+        Mark::Literal(ch) | Mark::Quoted(ch) => { if ch.width() == Some(1) { 1 } else { LONG } }
         _ => 1,
     }
 }

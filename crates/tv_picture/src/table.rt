@@ -12,7 +12,7 @@ use crate::row::{Next, Row};
 const PLACES: usize = 121;
 
 /// A row for each place of a text of at most 120 characters.
-#[derive(Clone, Copy)]
+#[derive(Clone, Copy, PartialEq, Eq)]
 pub struct Table {
     pub rows: [Row; PLACES],
 }
@@ -138,6 +138,12 @@ impl Table {
         table
     }
 
+    fn is(&self, other: &Table) -> bool
+        ensures { IsTrue result → self.now ≡ other.now }
+    {
+        self == other
+    }
+
     /// The table of a repetition so many times, by squaring.
     pub fn times(&self, count: u8, len: usize) -> Table
         requires { len ≤ 120 }
@@ -152,7 +158,11 @@ impl Table {
             }
             left /= 2;
             if left > 0 {
-                power = power.then(&power, len);
+                let square = power.then(&power, len);
+                if square.is(&power) {
+                    return table.then(&power, len);
+                }
+                power = square;
             }
         }
         table

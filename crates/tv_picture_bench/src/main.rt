@@ -29,11 +29,11 @@ static CASES: [Case; 14] = [
     Case { before: "", piece: "*99[@]", count: 20, after: "", ch: 'a' },
     Case { before: "", piece: "*99{*@}", count: 17, after: "", ch: 'a' },
     Case { before: "", piece: "*120{*120{*120[#]}}", count: 6, after: "", ch: '1' },
-    Case { before: "*120{*120{*120{*120{*120{*120{*120{*120{", piece: "[@]", count: 22, after: "}}}}}}}}", ch: 'a' },
+    Case { before: "*120{*120{*120{*120{*120{*120{*120{", piece: "[@]", count: 25, after: "}}}}}}}", ch: 'a' },
     Case { before: "*120{*120{*120{*120{*120{*120{*120{*120{", piece: "#", count: 1, after: "}}}}}}}}", ch: '1' },
     Case { before: "*{*{*{*{*{*{*{*{a}b,a}b,a}b,a}b,a}b,a}b,a}b,a}", piece: "*[a]", count: 18, after: "", ch: 'a' },
     Case { before: "*[*[*[*[*[*[*[*[", piece: "*@", count: 48, after: "]]]]]]]]", ch: 'a' },
-    Case { before: "", piece: "*127{*@}", count: 1, after: "", ch: 'a' },
+    Case { before: "", piece: "*120{*@}", count: 15, after: "", ch: 'a' },
 ];
 
 fn written(alloc: Global, case: &Case) -> Result<String, AllocError> {

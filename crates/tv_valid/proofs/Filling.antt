@@ -1,5 +1,5 @@
 -- One literal more.
-use Rattle.std.proofs.Common.{suc, zero, inl, inr, ◌≡◌, ◌≢◌, ◌⊎◌, ◌+◌, ◌<◌, ◌≤◌, ℕ, List, [], ◌∷◌, ◌++◌, length, take, get_or, arith, refl, sym, ◌∙◌, ap, subst, append_assoc, append-nil, length-append}
+use Rattle.std.proofs.Common.{suc, zero, inl, inr, ◌≡◌, ◌⊎◌, ◌+◌, ◌<◌, ◌≤◌, ℕ, List, [], ◌∷◌, ◌++◌, length, take, get_or, arith, refl, sym, ◌∙◌, ap, subst, length-append}
 use Rattle.std.specs.Prelude.{pos, ◌<ℤ◌, ℤ}
 use Rattle.tv_picture.specs.Pattern.{Pattern, IsNextLiteral}
 

@@ -1,5 +1,5 @@
 -- Digits read from the left, and numbers cut off where they are large.
-use Rattle.std.proofs.Common.{suc, zero, inl, inr, ◌≡◌, ◌≢◌, ◌⊎◌, ◌↔◌, ◌+◌, ◌-◌, ◌*◌, ◌/◌, ◌%◌, ◌^◌, ◌≤◌, ◌<◌, ℕ, List, [], ◌∷◌, ◌++◌, length, take, min, arith, refl, sym, ◌∙◌, ap, subst, length-append, ⊎_elim}
+use Rattle.std.proofs.Common.{suc, zero, inl, inr, ◌≡◌, ◌⊎◌, ◌↔◌, ◌+◌, ◌-◌, ◌*◌, ◌/◌, ◌%◌, ◌^◌, ◌≤◌, ◌<◌, ℕ, List, [], ◌∷◌, ◌++◌, length, min, arith, refl, sym, ◌∙◌, ap, subst, length-append}
 use Rattle.std.specs.Prelude.{pos, neg_ℤ, ◌≤ℤ◌, ◌<ℤ◌, ℤ, unsigned_abs}
 use Rattle.std.specs.List.{All}
 use Rattle.std.proofs.lemmas.Int.{ints}
@@ -10,7 +10,7 @@ use Rattle.tv_cells.specs.Glyph.{IsNarrow}
 use Rattle.unicode_width.specs.Width.{char_width}
 use Rattle.std.proofs.Math.Numerals.{add-one}
 use Rattle.tv_picture.specs.Pattern.{IsDigit}
-use Rattle.tv_valid.specs.Domain.{whole, IsDigits, IsBetween, InRange, HasNumber}
+use Rattle.tv_valid.specs.Domain.{whole, HasNumber}
 
 pub whole-push : (cs : List ℕ) (c : ℕ) → whole (cs ++ c ∷ []) ≡ whole cs * 10 + (c - 48)
 whole-push [] c = omega arith

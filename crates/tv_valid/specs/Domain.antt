@@ -1,5 +1,5 @@
 -- What an input asks of its text.
-use Rattle.std.specs.Prelude.{◌≡◌, ℕ, ◌+◌, ◌-◌, ◌*◌, ◌^◌, ◌≤◌, ◌<◌, ◌⊎◌, ◌++◌, List, [], ◌∷◌, length, take, insert, slice_index_or, All, Contains, Bool, true, false, if◌then◌else◌, nat_le, ◌&&◌, ◌==◌, IsTrue, ℤ, pos, neg_ℤ, ◌≤ℤ◌, ◌<ℤ◌}
+use Rattle.std.specs.Prelude.{◌≡◌, ℕ, ◌+◌, ◌-◌, ◌*◌, ◌^◌, ◌≤◌, ◌<◌, ◌⊎◌, ◌++◌, List, [], ◌∷◌, length, take, insert, slice_index_or, All, Contains, Bool, true, if◌then◌else◌, nat_le, ◌&&◌, ◌==◌, IsTrue, ℤ, pos, neg_ℤ, ◌≤ℤ◌, ◌<ℤ◌}
 use Rattle.tv_cells.specs.Glyph.{IsNarrow}
 use Rattle.tv_picture.specs.Pattern.{Pattern, Member, Begins, IsNextLiteral, IsDigit}
 use Rattle.tv_picture.specs.Spelling.{IsPicture, spelled, IsFirstFault}

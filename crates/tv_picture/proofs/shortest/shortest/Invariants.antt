@@ -1,4 +1,4 @@
-use Rattle.std.proofs.Common.{◌≡◌, ◌≤◌, ℕ, List, [], drop}
+use Rattle.std.proofs.Common.{◌≡◌, List, [], drop}
 use Rattle.std.specs.Prelude.{Some}
 use Rattle.tv_picture.specs.Pattern.{Pattern, IsShortest}
 use Rattle.tv_picture.specs.Code.{run, height_from}

@@ -1,5 +1,5 @@
-use Rattle.std.proofs.Common.{◌≡◌, ◌↔◌, ◌+◌, ◌-◌, ◌^◌, ◌<◌, ◌≤◌, ℕ, arith, refl, sym, ◌∙◌, ap, subst}
-use Rattle.std.specs.Prelude.{ℤ, pos, neg_ℤ, ◌≤ℤ◌, ◌<ℤ◌, unsigned_abs, IsTrue}
+use Rattle.std.proofs.Common.{◌↔◌, ◌-◌, ◌^◌, ◌<◌, ◌≤◌, ℕ, arith, refl, sym, subst}
+use Rattle.std.specs.Prelude.{ℤ, pos, neg_ℤ, ◌≤ℤ◌, ◌<ℤ◌, unsigned_abs}
 use Rattle.std.proofs.lemmas.Int.{ints}
 use Rattle.tv_valid.specs.Domain.{HasNumber}
 use Rattle.tv_valid.proofs.Numbers.{number_positive, number_negative, number_zero, abs_pos, abs_neg}

@@ -1,5 +1,5 @@
-use Rattle.std.proofs.Common.{◌≡◌, ◌<◌, ◌≤◌, ℕ, List, length, take, true, false, arith, subst, sym, ap, ◌∙◌}
-use Rattle.std.specs.Prelude.{Some, None, MatchOption}
+use Rattle.std.proofs.Common.{◌≡◌, length, take, true, false, arith, subst, sym, ap, ◌∙◌}
+use Rattle.std.specs.Prelude.{MatchOption}
 use Rattle.std.proofs.lemmas.List.{take_all}
 use Rattle.tv_picture.specs.Parsing.{reading, text_step, text_steps, start, Took, is_closed, built_by, merged}
 use Rattle.tv_picture.specs.Spelling.{IsFirstFault}
@@ -9,17 +9,16 @@ use Rattle.tv_picture.proofs.picture.Picture.from_chars.Goals as goal
 pub loop-place-preserved : goal.loop-place-preserved
 loop-place-preserved c =
     takes_more c.args.text.now c.loop-place.place c.index-text-place.result (reading c.loop-place.parser) (reading c.take.new.self) (omega arith) c.index-text-place.is c.loop-place.invariant
-        (subst (λ b. Took (text_step (reading c.loop-place.parser) c.index-text-place.result) b (reading c.take.new.self)) c.if-not-took.false (c.in_ok-took.ensures {u = tt}))
-
+    (subst (λ b. Took (text_step (reading c.loop-place.parser) c.index-text-place.result) b (reading c.take.new.self)) c.if-not-took.false (c.in_ok-took.ensures {u = tt}))
 
 pub returns-then-not-took-clause-err : goal.returns-then-not-took-clause-err
 returns-then-not-took-clause-err c =
     refuses_at c.args.text.now c.loop-place.place c.index-text-place.result (reading c.loop-place.parser) (omega arith) c.index-text-place.is c.loop-place.invariant
-        (subst (λ b. Took (text_step (reading c.loop-place.parser) c.index-text-place.result) b (reading c.take.new.self)) c.if-not-took.true (c.in_ok-took.ensures {u = tt}))
+    (subst (λ b. Took (text_step (reading c.loop-place.parser) c.index-text-place.result) b (reading c.take.new.self)) c.if-not-took.true (c.in_ok-took.ensures {u = tt}))
 
 pub returns-then-not-took-clause-only : goal.returns-then-not-took-clause-only
 returns-then-not-took-clause-only c = λ p pic sp. absurd ((refuses_at c.args.text.now c.loop-place.place c.index-text-place.result (reading c.loop-place.parser) (omega arith) c.index-text-place.is c.loop-place.invariant
-        (subst (λ b. Took (text_step (reading c.loop-place.parser) c.index-text-place.result) b (reading c.take.new.self)) c.if-not-took.true (c.in_ok-took.ensures {u = tt}))).refused p pic sp)
+    (subst (λ b. Took (text_step (reading c.loop-place.parser) c.index-text-place.result) b (reading c.take.new.self)) c.if-not-took.true (c.in_ok-took.ensures {u = tt}))).refused p pic sp)
 
 in_some : (c : goal.In-Some) → Parsed c.args.text.now c.in-Some.code.items
 in_some c =

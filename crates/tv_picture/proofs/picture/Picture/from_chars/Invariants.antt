@@ -1,4 +1,4 @@
-use Rattle.std.proofs.Common.{◌≡◌, ℕ, List, take}
+use Rattle.std.proofs.Common.{◌≡◌, take}
 use Rattle.std.specs.Prelude.{Some}
 use Rattle.tv_picture.specs.Parsing.{reading, text_steps, start}
 use Rattle.tv_picture.proofs.picture.Picture.from_chars.Given as goal

@@ -1,4 +1,4 @@
-use Rattle.std.proofs.Common.{ℕ, ◌≡◌, ◌≤◌, ◌/◌, ◌^◌}
+use Rattle.std.proofs.Common.{◌/◌, ◌^◌}
 use Rattle.std.proofs.lemmas.Bool.{eqb-true}
 use Rattle.tv_picture.proofs.BitLemmas.{none_above}
 use Rattle.tv_picture.proofs.places.Places.is_below.Goals as goal

@@ -1,4 +1,4 @@
-use Rattle.std.proofs.Common.{ℕ, List, ◌≡◌, length, arith}
+use Rattle.std.proofs.Common.{arith}
 use Rattle.tv_picture.specs.Pattern.{IsShortest}
 use Rattle.tv_picture.specs.Code.{step}
 use Rattle.tv_picture.proofs.Stacks.{stands_made}

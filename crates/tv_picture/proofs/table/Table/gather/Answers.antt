@@ -1,4 +1,4 @@
-use Rattle.std.proofs.Common.{ℕ, ◌<◌, ◌≡◌, length, ◌+◌, ◌-◌, arith, subst, sym, true, false}
+use Rattle.std.proofs.Common.{ℕ, ◌≡◌, ◌+◌, ◌-◌, arith, subst, sym, true, false}
 use Rattle.tv_picture.specs.Table.{Gathers}
 use Rattle.tv_picture.proofs.Rows.{gathers_none, gathers_skip, gathers_more, gathers_rest}
 use Rattle.tv_picture.proofs.table.Table.gather.Goals as goal
@@ -9,10 +9,10 @@ loop-place-init c = gathers_none c.args.places c.args.self.now c.args.start c.ar
 
 pub loop-place-preserved : goal.loop-place-preserved
 loop-place-preserved c = elim c.if-has.branch [
-    then-has w ↦ subst (Gathers c.args.places c.args.self.now c.args.start (c.loop-place.place + 1) c.args.first) (sym w.row-is)
-        (gathers_more c.args.places c.args.self.now c.args.start c.loop-place.place c.args.first c.loop-place.row w.join-row.result c.loop-place.auto.place (c.has.ensures.0 w.if-has.true) w.join-row.ensures.ends w.join-row.ensures.next c.loop-place.invariant)
+  | then-has w ↦ subst (Gathers c.args.places c.args.self.now c.args.start (c.loop-place.place + 1) c.args.first) (sym w.row-is)
+      (gathers_more c.args.places c.args.self.now c.args.start c.loop-place.place c.args.first c.loop-place.row w.join-row.result c.loop-place.auto.place (c.has.ensures.0 w.if-has.true) w.join-row.ensures.ends w.join-row.ensures.next c.loop-place.invariant)
   | else-has w ↦ subst (Gathers c.args.places c.args.self.now c.args.start (c.loop-place.place + 1) c.args.first) (sym w.row-is)
-        (gathers_skip c.args.places c.args.self.now c.args.start c.loop-place.place c.args.first c.loop-place.row (λ has. let yes : c.has.result ≡ true = c.has.ensures.1 has in let no : c.has.result ≡ false = w.if-has.false in cc) c.loop-place.invariant)
+      (gathers_skip c.args.places c.args.self.now c.args.start c.loop-place.place c.args.first c.loop-place.row (λ has. let yes : c.has.result ≡ true = c.has.ensures.1 has in let no : c.has.result ≡ false = w.if-has.false in cc) c.loop-place.invariant)
 ]
 
 pub returns : goal.returns
@@ -23,4 +23,4 @@ returns c =
 pub returns-then-is_below : goal.returns-then-is_below
 returns-then-is_below c =
     subst (λ (k : ℕ). Gathers c.args.places c.args.self.now c.args.start k c.args.first c.loop-place.row) (omega arith)
-        (gathers_rest (c.args.stop - c.loop-place.place) c.loop-place.place c.args.places c.args.self.now c.args.start c.args.first c.loop-place.row (c.is_below.ensures c.if-is_below.true) c.loop-place.invariant)
+    (gathers_rest (c.args.stop - c.loop-place.place) c.loop-place.place c.args.places c.args.self.now c.args.start c.args.first c.loop-place.row (c.is_below.ensures c.if-is_below.true) c.loop-place.invariant)

@@ -1,5 +1,5 @@
-use Rattle.std.proofs.Common.{◌≡◌, ◌↔◌, ◌+◌, ◌*◌, ◌≤◌, ◌<◌, ℕ, List, length}
-use Rattle.tv_picture.specs.Pattern.{Pattern, empty, one, sequence, either, optional, many, times}
+use Rattle.std.proofs.Common.{◌≡◌, ◌+◌, ℕ, List, length}
+use Rattle.tv_picture.specs.Pattern.{Pattern, many}
 use Rattle.tv_picture.specs.Table.{Covers}
 use Rattle.tv_picture.proofs.Rows.{IsRows}
 use Rattle.tv_picture.proofs.table.Table.many.Given as goal

@@ -1,6 +1,5 @@
-use Rattle.std.proofs.Common.{◌≡◌, ◌↔◌, ◌+◌, ◌*◌, ◌≤◌, ◌<◌, ℕ, List, length}
-use Rattle.tv_picture.specs.Pattern.{Pattern, empty, one, sequence, either, optional, many, times}
-use Rattle.tv_picture.specs.Table.{Covers}
+use Rattle.std.proofs.Common.{◌≡◌, length}
+use Rattle.tv_picture.specs.Pattern.{one}
 use Rattle.tv_picture.proofs.Rows.{IsRows}
 use Rattle.tv_picture.proofs.table.Table.one.Given as goal
 

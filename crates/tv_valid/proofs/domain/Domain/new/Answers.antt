@@ -4,7 +4,7 @@ use Rattle.std.proofs.Common.{to_z, of_z, w32, arith}
 use Rattle.std.proofs.lemmas.Int.{ints}
 use Rattle.tv_valid.specs.declared.domain.Domain.{Domain}
 use Rattle.tv_valid.specs.declared.domain.Kind.{Kind}
-use Rattle.tv_valid.specs.Domain.{IsDomain, HasText}
+use Rattle.tv_valid.specs.Domain.{HasText}
 use Rattle.tv_valid.proofs.domain.Domain.new.Goals as goal
 
 abbrev with : Domain → ℤ → Kind → Bool → Bool → Domain
