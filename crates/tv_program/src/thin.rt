@@ -1,8 +1,9 @@
 //! One dialog of static texts and buttons, from bytes to bytes.
 
-ghost use Rattle.std.specs.Prelude.{◌≡◌, IfOk, IfErr};
+ghost use Rattle.std.specs.Prelude.{◌≡◌, IfOk, IfErr, List, ℕ};
 ghost use Rattle.tv_lang.specs.Scripts.{Spells as SpellsScript};
 ghost use Rattle.tv_lang.specs.Faults.{Spells};
+ghost use Rattle.tv_model.specs.Faults.{IsSound};
 ghost use Rattle.tv_model.specs.Output.{output};
 ghost use Rattle.tv_model.specs.Thin.{IsThin};
 ghost use Rattle.tv_program.specs.ThinRun.{IsNoScript, IsSoundText, Plays, RefusesDesc, RunsTo};
@@ -58,6 +59,22 @@ pub fn run<W: Writer>(
     ensures { RunsTo desc.now script.now (W.seen out.old) (W.seen out.new) result }
 {
     let desc = read_sound(alloc, desc)?;
+    run_script(alloc, desc, script, out)
+}
+
+/// Runs a script on a description that was read by `read_sound`, and writes its output.
+///
+/// So a caller can look for the script once its description has passed. The run is that of `run` on both texts.
+pub fn run_script<W: Writer>(
+    alloc: Global,
+    desc: Desc,
+    script: &[u8],
+    out: &mut W,
+) -> Result<(), RunFault>
+    requires thin { IsThin desc }
+    requires sound { IsSound desc }
+    ensures { (text : List ℕ) → IsSoundText text desc → RunsTo text script.now (W.seen out.old) (W.seen out.new) result }
+{
     let items = read_script(alloc, script)?;
     let mut session = ThinSession::new(alloc, desc)?;
     play(&mut session, items.as_slice(), out)
@@ -73,8 +90,8 @@ fn play<W: Writer>(session: &mut ThinSession, script: &[Item], out: &mut W) -> R
     }
 }
 
-// The description that a text spells, where it has no faults.
-fn read_sound(alloc: Global, text: &[u8]) -> Result<Desc, RunFault>
+/// The description that a text spells, where it has no faults; the error is a fault of either kind, or of memory.
+pub fn read_sound(alloc: Global, text: &[u8]) -> Result<Desc, RunFault>
     ensures sound { IfOk result (λ desc. IsSoundText text.now desc) }
     ensures thin { IfOk result (λ desc. IsThin desc) }
     ensures fault { IfErr result (λ fault. RefusesDesc text.now fault) }

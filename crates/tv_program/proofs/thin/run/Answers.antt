@@ -1,14 +1,4 @@
-use Rattle.tv_program.proofs.ThinRuns.{runs_to}
 use Rattle.tv_program.proofs.thin.run.Goals as goal
 
 pub returns : goal.returns
-returns g c =
-    runs_to c.args.desc.now c.args.script.now (g.W.Writer.seen c.args.out.now) (g.W.Writer.seen c.play.new.out)
-    (record {
-      desc = c.in_ok-desc.desc;
-      items = c.in_ok-items.items;
-      described = c.in_ok-desc.ensures.sound;
-      scripted = c.in_ok-items.ensures.spelled;
-      safe = c.in_ok-session.ensures.safe;
-    })
-    c.in_ok-session.session.session c.as_slice.result.now c.play.result c.in_ok-session.ensures.start c.as_slice.ensures c.play.ensures
+returns g c = c.run_script.ensures c.args.desc.now c.in_ok-desc.ensures.sound

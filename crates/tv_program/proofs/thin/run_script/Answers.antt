@@ -1,0 +1,14 @@
+use Rattle.tv_program.proofs.ThinRuns.{runs_to}
+use Rattle.tv_program.proofs.thin.run_script.Goals as goal
+
+pub returns : goal.returns
+returns g c text described =
+    runs_to text c.args.script.now (g.W.Writer.seen c.args.out.now) (g.W.Writer.seen c.play.new.out)
+    (record {
+      desc = c.args.desc;
+      items = c.in_ok-items.items;
+      described = described;
+      scripted = c.in_ok-items.ensures.spelled;
+      safe = c.in_ok-session.ensures.safe;
+    })
+    c.in_ok-session.session.session c.as_slice.result.now c.play.result c.in_ok-session.ensures.start c.as_slice.ensures c.play.ensures
