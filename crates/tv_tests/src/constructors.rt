@@ -17,20 +17,13 @@ fn screens(rt: HostRuntime) -> Result<(), Fail> {
         let screen = Screen::new(alloc, width, height)?;
         assert_eq!(rt; (screen.width(), screen.height()), (width, height));
         let blank = Cell::new(' ', 0);
-        for y in 0..height {
-            for x in 0..width {
-                let point = Point {
-                    x: x as i32,
-                    y: y as i32,
-                };
-                assert_eq!(rt; screen.at(point), blank, "{x} {y}");
+        for y in 0..screen.height() as i32 {
+            for x in 0..screen.width() as i32 {
+                assert_eq!(rt; screen.at(Point { x, y }), blank, "{x} {y}");
             }
         }
-        let outside = Point {
-            x: width as i32,
-            y: 0,
-        };
-        assert_eq!(rt; screen.at(outside), None);
+        let x = screen.width() as i32;
+        assert_eq!(rt; screen.at(Point { x, y: 0 }), None);
     }
     for (width, height) in [(19, 10), (20, 9), (133, 10), (20, 61), (0, 0)] {
         let fault = Screen::new(alloc, width, height).err();

@@ -25,7 +25,7 @@ const LINES: [&str; 5] = [
 // Why a description isn't read whose line of this number is another, if it isn't.
 fn refusal(alloc: Global, number: usize, line: &str) -> Result<Option<LangFault>, Fail> {
     let mut lines = LINES;
-    if let Some(place) = lines.get_mut(number - 1) {
+    if let Some(place) = lines.get_mut(number.saturating_sub(1)) {
         *place = line;
     }
     let text = described(alloc, lines)?;
