@@ -26,17 +26,20 @@ take_whole (x ∷ more) = ap (λ t. x ∷ t) (take_whole more)
 
 pub literals_more : (max : ℤ) (p : Pattern) (text more : List ℕ) (ch : ℕ) → Literals max p text more → IsNextLiteral p (text ++ more) ch → pos (length text + length more) <ℤ max → Literals max p text (more ++ ch ∷ [])
 literals_more max p text more ch all last under k c within = cases (parts k (omega (arith, length-append more (ch ∷ []))))
-    where
+  where
     parts : (j : ℕ) → j < length more + 1 → (j < length more) ⊎ (j ≡ length more)
     parts j h = grind arith
 
     cases : (k < length more) ⊎ (k ≡ length more) → IsNextLiteral p (text ++ take k (more ++ ch ∷ [])) (get_or (more ++ ch ∷ []) k c) × (pos (length text + k) <ℤ max)
     cases (inl h) =
-        let old = all k c h in
-        (subst (λ (x : ℕ). IsNextLiteral p (text ++ take k (more ++ ch ∷ [])) x) (sym (pushed_get more ch k c h))
-            (subst (λ t. IsNextLiteral p (text ++ t) (get_or more k c)) (sym (pushed_take more ch k (omega arith))) old.0), old.1)
-    cases (inr e) =
-        (subst (λ (j : ℕ). IsNextLiteral p (text ++ take j (more ++ ch ∷ [])) (get_or (more ++ ch ∷ []) j c)) (sym e)
-            (subst (λ (x : ℕ). IsNextLiteral p (text ++ take (length more) (more ++ ch ∷ [])) x) (sym (pushed_last more ch c))
-                (subst (λ t. IsNextLiteral p (text ++ t) ch) (sym (pushed_take more ch (length more) (omega arith) ∙ take_whole more)) last)),
-            subst (λ (j : ℕ). pos (length text + j) <ℤ max) (sym e) under)
+        let old = all k c h in (
+          subst (λ (x : ℕ). IsNextLiteral p (text ++ take k (more ++ ch ∷ [])) x) (sym (pushed_get more ch k c h))
+              (subst (λ t. IsNextLiteral p (text ++ t) (get_or more k c)) (sym (pushed_take more ch k (omega arith))) old.0),
+          old.1,
+        )
+    cases (inr e) = (
+      subst (λ (j : ℕ). IsNextLiteral p (text ++ take j (more ++ ch ∷ [])) (get_or (more ++ ch ∷ []) j c)) (sym e)
+          (subst (λ (x : ℕ). IsNextLiteral p (text ++ take (length more) (more ++ ch ∷ [])) x) (sym (pushed_last more ch c))
+          (subst (λ t. IsNextLiteral p (text ++ t) ch) (sym (pushed_take more ch (length more) (omega arith) ∙ take_whole more)) last)),
+      subst (λ (j : ℕ). pos (length text + j) <ℤ max) (sym e) under,
+    )

@@ -34,8 +34,9 @@ ten_power k = let h : 1 ≤ 10 ^ k = one-le-pow k 10 (omega arith) in omega arit
 
 pub cut_none : (n k : ℕ) → (n / 10 ^ k ≡ 0) ↔ (n < 10 ^ k)
 cut_none n k = (
-    (λ e. let h : n / 10 ^ k < 1 = omega arith in let g : n < 1 * 10 ^ k = (div-lt_iff_lt-mul (ten_power k)).0 h in omega arith),
-    (λ h. let g : n < 1 * 10 ^ k = omega arith in let f : n / 10 ^ k < 1 = (div-lt_iff_lt-mul (ten_power k)).1 g in omega arith))
+  (λ e. let h : n / 10 ^ k < 1 = omega arith in let g : n < 1 * 10 ^ k = (div-lt_iff_lt-mul (ten_power k)).0 h in omega arith),
+  (λ h. let g : n < 1 * 10 ^ k = omega arith in let f : n / 10 ^ k < 1 = (div-lt_iff_lt-mul (ten_power k)).1 g in omega arith),
+)
 
 pub whole_small : (cs : List ℕ) → All IsDigit cs → whole cs < 10 ^ length cs
 whole_small [] all = omega arith
@@ -76,13 +77,13 @@ signed_length text cs (inr e) = omega (arith, ap length e)
 
 pub number_positive : (m room : ℕ) (greatest : ℤ) → 1 ≤ m → pos m ≤ℤ greatest → (m < 10 ^ room) ↔ HasNumber (pos m) greatest room
 number_positive m room greatest low high = (made, needed)
-    where
+  where
     made : m < 10 ^ room → HasNumber (pos m) greatest room
     made h =
         let d = digits_of room m h in
         let some : 1 ≤ length d.0 = filled d.0 d.3 in
         (d.0, (d.0, (some, d.2), inl (inl refl, (subst (λ (n : ℕ). pos m ≤ℤ pos n) (sym d.3) (omega (arith, ints)), subst (λ (n : ℕ). pos n ≤ℤ greatest) (sym d.3) high))), omega (arith, d.1), narrow_digits d.0 d.2)
-        where
+      where
         filled : (cs : List ℕ) → whole cs ≡ m → 1 ≤ length cs
         filled [] e = absurd (omega arith)
         filled (c ∷ cs) e = omega arith
@@ -99,13 +100,13 @@ number_positive m room greatest low high = (made, needed)
 
 pub number_negative : (m room : ℕ) (least : ℤ) → 1 ≤ m → 1 ≤ room → least ≤ℤ neg_ℤ (pos m) → (m < 10 ^ (room - 1)) ↔ HasNumber least (neg_ℤ (pos m)) room
 number_negative m room least low some high = (made, needed)
-    where
+  where
     made : m < 10 ^ (room - 1) → HasNumber least (neg_ℤ (pos m)) room
     made h =
         let d = digits_of (room - 1) m h in
         let some : 1 ≤ length d.0 = filled d.0 d.3 in
         (45 ∷ d.0, (d.0, (some, d.2), inr (refl, (omega (arith, ints)), (subst (λ (n : ℕ). least ≤ℤ neg_ℤ (pos n)) (sym d.3) high, subst (λ (n : ℕ). neg_ℤ (pos n) ≤ℤ neg_ℤ (pos m)) (sym d.3) (omega (arith, ints))))), omega (arith, d.1), All-cons IsNarrow 45 d.0 (narrow_ascii 45 (omega arith) (omega arith)) (narrow_digits d.0 d.2))
-        where
+      where
         filled : (cs : List ℕ) → whole cs ≡ m → 1 ≤ length cs
         filled [] e = absurd (omega arith)
         filled (c ∷ cs) e = omega arith

@@ -82,7 +82,10 @@ impl Kind {
                 least: *least,
                 greatest: *greatest,
             },
-            DomainSpec::Picture(text) => Kind::Picture(Picture::from_chars(alloc, text.as_slice())?),
+            DomainSpec::Picture(text) => Kind::Picture(Picture::from_chars(
+                alloc,
+                text.as_slice(),
+            )?),
         })
     }
 }
@@ -153,7 +156,9 @@ impl Domain {
         }
         let typed = self.chosen(text, at, ch)?;
         match &self.kind {
-            Kind::Picture(picture) if self.fill && at == text.len() => Some(filled(picture, &self.max, typed)),
+            Kind::Picture(picture) if self.fill && at == text.len() => Some(filled(
+                picture, &self.max, typed,
+            )),
             _ => Some(typed),
         }
     }
@@ -166,7 +171,11 @@ impl Domain {
     {
         let mut typed = text.copy();
         typed.insert(at, ch);
-        if self.viable(&typed) { Some(typed) } else { None }
+        if self.viable(&typed) {
+            Some(typed)
+        } else {
+            None
+        }
     }
 
     fn chosen(&self, text: &Text, at: usize, ch: char) -> Option<Text>

@@ -67,7 +67,9 @@ fn negative_in_range(least: &i32, greatest: &i32, digits: &[char]) -> bool
     ensures { IsTrue result ↔ (IsDigits digits.now × (least.now <ℤ pos 0) × IsBetween least.now (neg_ℤ (pos (whole digits.now))) greatest.now) }
 {
     match magnitude(digits) {
-        Some(sum) => *least < 0 && is_negative_at_least(least, sum) && is_negative_at_most(sum, greatest),
+        Some(sum) => *least < 0
+            && is_negative_at_least(least, sum)
+            && is_negative_at_most(sum, greatest),
         None => false,
     }
 }

@@ -53,7 +53,10 @@ fn picture_answers(rt: HostRuntime) {
         ("[ab]a", "ab", Status::Viable),
         ("[ab]a", "b", Status::Error),
     ] {
-        assert!(rt; status_of(alloc, picture, text) == Some(want), "{picture} {text}");
+        assert!(rt;
+            status_of(alloc, picture, text) == Some(want),
+            "{picture} {text}"
+        );
     }
     for (picture, text, want) in [
         ("##/##", "1", None),
@@ -102,7 +105,13 @@ fn refused_pictures(rt: HostRuntime) {
     }
 }
 
-fn domain(alloc: Global, max: i32, domain: DomainSpec, optional: bool, fill: bool) -> Result<Domain, DomainFault> {
+fn domain(
+    alloc: Global,
+    max: i32,
+    domain: DomainSpec,
+    optional: bool,
+    fill: bool,
+) -> Result<Domain, DomainFault> {
     Domain::new(
         alloc,
         &InputSpec {
@@ -125,7 +134,17 @@ fn text(alloc: Global, text: &str) -> Option<Text> {
 #[test]
 fn range_texts(rt: HostRuntime) {
     let alloc = rt.alloc();
-    let range = domain(alloc, 120, DomainSpec::Range { least: -5, greatest: 5 }, false, false).expect(&rt, "a domain");
+    let range = domain(
+        alloc,
+        120,
+        DomainSpec::Range {
+            least: -5,
+            greatest: 5,
+        },
+        false,
+        false,
+    )
+    .expect(&rt, "a domain");
     for (written, accepted, viable) in [
         ("-005", true, true),
         ("-0", true, true),
@@ -142,14 +161,34 @@ fn range_texts(rt: HostRuntime) {
     long[119] = '5';
     let long = Text::from_chars(&long).expect(&rt, "short");
     assert!(rt; range.accepts(&long));
-    let optional = domain(alloc, 120, DomainSpec::Range { least: -5, greatest: 5 }, true, false).expect(&rt, "a domain");
+    let optional = domain(
+        alloc,
+        120,
+        DomainSpec::Range {
+            least: -5,
+            greatest: 5,
+        },
+        true,
+        false,
+    )
+    .expect(&rt, "a domain");
     assert!(rt; optional.accepts(&Text::new()));
 }
 
 #[test]
 fn refused_domains(rt: HostRuntime) {
     let alloc = rt.alloc();
-    let none = domain(alloc, 2, DomainSpec::Range { least: 100, greatest: 200 }, false, false).err();
+    let none = domain(
+        alloc,
+        2,
+        DomainSpec::Range {
+            least: 100,
+            greatest: 200,
+        },
+        false,
+        false,
+    )
+    .err();
     assert!(rt; none == Some(DomainFault::Empty));
     let none = domain(alloc, -1, DomainSpec::Any, true, false).err();
     assert!(rt; none == Some(DomainFault::Empty));

@@ -9,6 +9,7 @@ loop-preserved c = ap (λ (n : ℕ). n / 10) c.loop.invariant ∙ cut_more c.arg
 pub returns : goal.returns
 returns c =
     let end : c.loop.counter ≡ c.args.digits = omega arith in
-    let left : c.loop.left ≡ c.args.number / 10 ^ c.args.digits = c.loop.invariant ∙ ap (λ (k : ℕ). c.args.number / 10 ^ k) end in
-    ((λ e. (cut_none c.args.number c.args.digits).0 (sym left ∙ eqb-true c.loop.left 0 e)),
-        (λ h. eq-eqb c.loop.left 0 (left ∙ (cut_none c.args.number c.args.digits).1 h)))
+    let left : c.loop.left ≡ c.args.number / 10 ^ c.args.digits = c.loop.invariant ∙ ap (λ (k : ℕ). c.args.number / 10 ^ k) end in (
+      (λ e. (cut_none c.args.number c.args.digits).0 (sym left ∙ eqb-true c.loop.left 0 e)),
+      (λ h. eq-eqb c.loop.left 0 (left ∙ (cut_none c.args.number c.args.digits).1 h)),
+    )

@@ -12,10 +12,11 @@ loop-ch-preserved c =
     let ch : ℕ = c.ch-item.result in
     let digit : IsDigit ch = c.if-not-is_ascii_digit.ensures.cases in
     let grown = take_more c.args.digits.now i ch (omega arith) in
-    let read : c.from-in-loop-ch.result ≡ get_or c.args.digits.now i ch - 48 = c.from-in-loop-ch.ensures ∙ ap (λ (n : ℕ). n - 48) (c.from.ensures ∙ c.ch-item.is) in
-    (c.min-sum.ensures
-        ∙ ap (λ (s : ℕ). min (s * 10 + c.from-in-loop-ch.result) 10000000000) c.loop-ch.invariant.0
-        ∙ cut_off (whole (take i c.args.digits.now)) c.from-in-loop-ch.result
-        ∙ ap (λ (d : ℕ). min (whole (take i c.args.digits.now) * 10 + d) 10000000000) read
-        ∙ ap (λ (n : ℕ). min n 10000000000) (sym (ap whole grown ∙ whole-push (take i c.args.digits.now) (get_or c.args.digits.now i ch))),
-        All-more IsDigit c.args.digits.now i ch (omega arith) c.loop-ch.invariant.1 (subst IsDigit c.ch-item.is digit))
+    let read : c.from-in-loop-ch.result ≡ get_or c.args.digits.now i ch - 48 = c.from-in-loop-ch.ensures ∙ ap (λ (n : ℕ). n - 48) (c.from.ensures ∙ c.ch-item.is) in (
+      c.min-sum.ensures
+          ∙ ap (λ (s : ℕ). min (s * 10 + c.from-in-loop-ch.result) 10000000000) c.loop-ch.invariant.0
+          ∙ cut_off (whole (take i c.args.digits.now)) c.from-in-loop-ch.result
+          ∙ ap (λ (d : ℕ). min (whole (take i c.args.digits.now) * 10 + d) 10000000000) read
+          ∙ ap (λ (n : ℕ). min n 10000000000) (sym (ap whole grown ∙ whole-push (take i c.args.digits.now) (get_or c.args.digits.now i ch))),
+      All-more IsDigit c.args.digits.now i ch (omega arith) c.loop-ch.invariant.1 (subst IsDigit c.ch-item.is digit),
+    )

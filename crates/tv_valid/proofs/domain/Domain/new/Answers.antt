@@ -14,14 +14,15 @@ pub returns-else-has_text-clause-err : goal.returns-else-has_text-clause-err
 returns-else-has_text-clause-err c =
     let max : ℤ = to_z w32 (of_z w32 c.args.spec.now.max) in
     let same_max : max ≡ c.args.spec.now.max = omega (arith, ints) in
-    let made : Domain = record { max = max; kind = c.in_ok-new.field-0; optional = c.args.spec.now.optional; fill = c.args.spec.now.fill } in
-    ((made, record { max = same_max; optional = refl; fill = refl; kind = c.in_ok-new.ensures.ok }),
-        λ d is t.
-            let same : d ≡ made =
-                ap (λ (m : ℤ). with d m d.kind d.optional d.fill) (is.max ∙ sym same_max)
-                    ∙ ap (λ (k : Kind). with d max k d.optional d.fill) (c.in_ok-new.ensures.only d.kind is.kind)
-                    ∙ ap (λ (o : Bool). with d max c.in_ok-new.field-0 o d.fill) is.optional
-                    ∙ ap (λ (f : Bool). with d max c.in_ok-new.field-0 c.args.spec.now.optional f) is.fill in
-            let yes : c.has_text.result ≡ true = c.has_text.ensures.1 (subst HasText same t) in
-            let no : c.has_text.result ≡ false = c.if-has_text.false in
-            cc)
+    let made : Domain = record { max = max; kind = c.in_ok-new.field-0; optional = c.args.spec.now.optional; fill = c.args.spec.now.fill } in (
+      (made, record { max = same_max; optional = refl; fill = refl; kind = c.in_ok-new.ensures.ok }),
+      λ d is t.
+          let same : d ≡ made =
+          ap (λ (m : ℤ). with d m d.kind d.optional d.fill) (is.max ∙ sym same_max)
+          ∙ ap (λ (k : Kind). with d max k d.optional d.fill) (c.in_ok-new.ensures.only d.kind is.kind)
+          ∙ ap (λ (o : Bool). with d max c.in_ok-new.field-0 o d.fill) is.optional
+          ∙ ap (λ (f : Bool). with d max c.in_ok-new.field-0 c.args.spec.now.optional f) is.fill in
+          let yes : c.has_text.result ≡ true = c.has_text.ensures.1 (subst HasText same t) in
+          let no : c.has_text.result ≡ false = c.if-has_text.false in
+          cc,
+    )
