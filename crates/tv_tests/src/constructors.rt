@@ -2,8 +2,9 @@
 
 use crate::samples::CANCEL;
 use bitflags::Flags;
+use std::process::Abort;
 use std::test::Fail;
-use tv_cells::{Canvas, Cell, HotText, HotTextFault, Point, Rect, Screen, ScreenFault};
+use tv_cells::{Cell, HotText, HotTextFault, Point, Screen, ScreenFault};
 use tv_check::faults;
 use tv_event::{Command, CommandSet, Event, Key, Mask, Options, State};
 use tv_lang::parse;
@@ -28,36 +29,6 @@ fn screens(rt: HostRuntime) -> Result<(), Fail> {
     for (width, height) in [(19, 10), (20, 9), (133, 10), (20, 61), (0, 0)] {
         let fault = Screen::new(alloc, width, height).err();
         assert_eq!(rt; fault, Some(ScreenFault::BadSize), "{width} {height}");
-    }
-    Ok(())
-}
-
-#[test]
-fn canvases(rt: HostRuntime) -> Result<(), Fail> {
-    let mut screen = Screen::new(rt.alloc(), 20, 10)?;
-    let inner = Rect {
-        a: Point { x: 2, y: 3 },
-        b: Point { x: 6, y: 5 },
-    };
-    let canvas: Canvas = screen.canvas().sub(inner);
-    let cell = Cell::new('a', 7).ok_or("a is narrow")?;
-    for (x, y) in [(0, 0), (3, 1), (4, 0), (0, 2), (-1, 0)] {
-        canvas.put(&mut screen, x, y, cell);
-    }
-    let dark = Rect {
-        a: Point { x: 3, y: 1 },
-        b: Point { x: 9, y: 9 },
-    };
-    canvas.shade(&mut screen, dark);
-    for (x, y, ch, attr) in [
-        (2, 3, 'a', 7),
-        (5, 4, 'a', 8),
-        (6, 3, ' ', 0),
-        (2, 5, ' ', 0),
-        (1, 3, ' ', 0),
-        (6, 4, ' ', 0),
-    ] {
-        assert_eq!(rt; screen.at(Point { x, y }), Cell::new(ch, attr), "{x} {y}");
     }
     Ok(())
 }
@@ -129,7 +100,7 @@ fn sets_of_commands(rt: HostRuntime) {
 }
 
 #[test]
-fn flags(rt: HostRuntime) {
+fn bits_of_flags(rt: HostRuntime) {
     for (bits, wanted) in [
         (Mask::of_view().bits(), 0x0111),
         (Mask::of_group().bits(), 0x0317),
@@ -168,19 +139,25 @@ fn masks_of_events(rt: HostRuntime) {
     }
 }
 
+// Gives a field its value, where there is room.
+fn put(rt: &impl Abort, record: &mut Record, id: Id, value: Value) {
+    assert!(rt; record.len() < 64);
+    record.put(id, value);
+}
+
 #[test]
 fn records(rt: HostRuntime) -> Result<(), Fail> {
     let mut record = Record::new();
     assert!(rt; record.value(Id(4)).is_none());
-    record.put(Id(4), Value::Marks(5));
-    record.put(Id(7), Value::Item(2));
-    record.put(Id(4), Value::Marks(6));
+    put(&rt, &mut record, Id(4), Value::Marks(5));
+    put(&rt, &mut record, Id(7), Value::Item(2));
+    put(&rt, &mut record, Id(4), Value::Marks(6));
     assert_eq!(rt; record.len(), 2);
     assert!(rt; matches!(record.value(Id(4)), Some(Value::Marks(6))));
     assert!(rt; matches!(record.value(Id(7)), Some(Value::Item(2))));
     assert!(rt; record.value(Id(5)).is_none());
     let text = Text::from_chars(&['a', 'b']).ok_or("two characters fit")?;
-    record.put(Id(7), Value::Text(text));
+    put(&rt, &mut record, Id(7), Value::Text(text));
     let Some(Value::Text(text)) = record.value(Id(7)) else {
         return Err("no text".into());
     };
