@@ -8,7 +8,7 @@ use std::time::Instant;
 use tv_picture::Picture;
 
 /// How often each answer is asked for.
-const ROUNDS: u32 = 20;
+const ROUNDS: u32 = 100;
 
 /// A picture as a piece that is written many times, and the character of the text.
 struct Case {
