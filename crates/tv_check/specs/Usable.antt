@@ -1,5 +1,5 @@
 -- What a description without faults has.
-use Rattle.std.specs.Prelude.{◌≡◌, ℕ, ◌<◌, ◌≤◌, true, false, List, length, slice_index_or, All, Some, ℤ, pos, neg_ℤ, ◌≤ℤ◌}
+use Rattle.std.specs.Prelude.{◌≡◌, ℕ, ◌≤◌, true, false, List, [], length, All, Some, ℤ, pos, neg_ℤ, ◌≤ℤ◌}
 use Rattle.std.specs.List.{list_any}
 use Rattle.tv_cells.specs.Glyph.{is_narrow}
 use Rattle.tv_model.specs.declared.node.Node.{Node}
@@ -8,7 +8,10 @@ use Rattle.tv_model.specs.declared.desc.Dialog.{Dialog}
 use Rattle.tv_model.specs.Nodes.{height_of, is_control}
 use Rattle.tv_model.specs.Step.{ends_of, is_named}
 use Rattle.tv_model.specs.LogText.{dialog_nodes}
-use Rattle.tv_model.specs.Faults.{command_of, desktop, interior, is_lawful_number, is_within, least_height, least_width, overlap, place_of_node, shown_chars, text_of}
+use Rattle.tv_model.specs.Faults.Lines.{after_seen}
+use Rattle.tv_model.specs.Faults.Places.{desktop, is_within, overlaps_earlier, owner_of, place_of_node, room_in}
+use Rattle.tv_model.specs.Faults.Texts.{shown_texts, texts_of}
+use Rattle.tv_model.specs.Faults.Limits.{command_of, is_lawful_number, least_height, least_width}
 
 abbrev pub IsBetween : ℤ → ℤ → ℤ → Type 0
 IsBetween least greatest n = (least ≤ℤ n) × (n ≤ℤ greatest)
@@ -19,18 +22,20 @@ pub record IsLimited (node : Node) : Type 0 where
   pub y : IsBetween (neg_ℤ (pos 132)) (pos 132) node.y
   pub w : IsBetween (least_width node.kind) (pos 132) node.w
   pub h : IsBetween (least_height node.kind) (pos 60) (height_of node.kind)
-  pub text : length (text_of node.kind) ≤ 120
+  pub texts : All (λ text. length text ≤ 120) (texts_of node.kind)
   pub command : is_lawful_number (command_of node.kind) ≡ true
 
 -- all that it shows takes one column a character
 abbrev pub IsNarrowNode : Node → Type 0
-IsNarrowNode node = All (λ ch. is_narrow ch ≡ true) (shown_chars node.kind)
+IsNarrowNode node = All (All (λ ch. is_narrow ch ≡ true)) (shown_texts node.kind)
 
--- no two controls have a point in common
+-- each view lies in the pane in which it stands, or inside the frame
+abbrev pub AreInside : Node → List Node → Type 0
+AreInside frame views = All (λ pair. is_within (place_of_node pair.1) (room_in frame (owner_of pair.0 pair.1)) ≡ true) (after_seen [] views)
+
+-- no two views of one owner have a point in common that may not
 abbrev pub AreApart : List Node → Type 0
-AreApart views = (i j : ℕ) (d : Node) → i < j → j < length views
-    → is_control (slice_index_or views i d).kind ≡ true → is_control (slice_index_or views j d).kind ≡ true
-    → overlap (place_of_node (slice_index_or views i d)) (place_of_node (slice_index_or views j d)) ≡ false
+AreApart views = All (λ pair. overlaps_earlier pair.0 pair.1 ≡ false) (after_seen [] views)
 
 -- a dialog that can be shown, focused and cancelled
 pub record IsUsableDialog (d : Desc) (dialog : Dialog) : Type 0 where
@@ -38,7 +43,7 @@ pub record IsUsableDialog (d : Desc) (dialog : Dialog) : Type 0 where
   pub few : length dialog.views ≤ 64
   pub narrow : All IsNarrowNode (dialog_nodes dialog)
   pub within : is_within (place_of_node dialog.node) (desktop d) ≡ true
-  pub inside : All (λ node. is_within (place_of_node node) (interior dialog.node) ≡ true) dialog.views
+  pub inside : AreInside dialog.node dialog.views
   pub apart : AreApart dialog.views
   pub control : list_any (λ node. is_control node.kind) dialog.views ≡ true
   pub cancel : (ends_of dialog.node.kind).cancel ≡ true

@@ -3,7 +3,7 @@
 ghost use Rattle.std.specs.Prelude.{◌≡◌, ◌↔◌, IsTrue, ℤ, int_le, int_lt, ◌≤ℤ◌, ◌<ℤ◌, pos, neg_ℤ, ◌&&◌};
 ghost use Rattle.tv_cells.specs.Rectangle.{IsIn};
 ghost use Rattle.tv_model.specs.Nodes.{height_of};
-ghost use Rattle.tv_model.specs.Faults.{desktop, has_points, interior, is_within, overlap, place_of_node};
+ghost use Rattle.tv_model.specs.Faults.Places.{desktop, has_points, interior, is_within, overlap, place_of_node, whole_area};
 
 use std::marker::Model;
 use tv_model::{Desc, Kind, Node};
@@ -84,6 +84,18 @@ impl Area {
             top: 1,
             right: i128::from(node.w) - 1,
             bottom: height(&node.kind) - 1,
+        }
+    }
+
+    /// All of a pane, as its views see it.
+    pub fn whole(node: &Node) -> Area
+        ensures { result ≡ whole_area node.now }
+    {
+        Area {
+            left: 0,
+            top: 0,
+            right: i128::from(node.w),
+            bottom: height(&node.kind),
         }
     }
 

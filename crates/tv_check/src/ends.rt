@@ -1,13 +1,20 @@
-//! The ends of a dialog.
+//! Ends of a dialog, its default button, and commands that open it.
 
-ghost use Rattle.std.specs.Prelude.{◌≡◌};
-ghost use Rattle.tv_model.specs.Faults.{lacks_end};
-ghost use Rattle.tv_model.specs.Step.{ends_of};
+ghost use Rattle.std.specs.Prelude.{◌≡◌, not};
+ghost use Rattle.std.specs.List.{list_any};
+ghost use Rattle.tv_model.specs.Step.{ends_of, is_default, is_named};
+ghost use Rattle.tv_model.specs.Faults.Names.{gives_name};
+ghost use Rattle.tv_model.specs.Faults.Rules.{is_item};
+ghost use Rattle.tv_model.specs.Faults.Starts.{is_option_number, is_second_default, lacks_cancel, lacks_end, means_dialog, opening_of, opens_badly, starts_nowhere, starts_outside};
 
-use tv_model::{CommandSpec, Dialog, Ends, Kind, Node};
+use crate::limits::is_between;
+use crate::names::gives_name;
+use crate::rules::is_item;
+use tv_model::{CommandSpec, Desc, Dialog, Ends, Kind, Node, Window};
+use tv_valid::Chars;
 
-/// The ends that the declaration of a dialog gives.
-pub fn ends_of(kind: &Kind) -> Ends
+// The ends that the declaration of a dialog gives.
+fn ends_of(kind: &Kind) -> Ends
     ensures { result ≡ ends_of kind.now }
 {
     match kind {
@@ -21,11 +28,18 @@ pub fn ends_of(kind: &Kind) -> Ends
     }
 }
 
-/// Whether the node is a button of an end that the dialog doesn't declare.
-pub fn lacks_end(dialog: &Dialog, node: &Node) -> bool
-    ensures { result ≡ lacks_end dialog.now node.now }
+/// Whether the dialog doesn't declare `cancel`.
+pub fn lacks_cancel(dialog: &Dialog) -> bool
+    ensures { result ≡ lacks_cancel dialog.now }
 {
-    let ends = ends_of(&dialog.node.kind);
+    !ends_of(&dialog.node.kind).cancel
+}
+
+/// Whether the node is a button of an end that its dialog doesn't declare.
+pub fn lacks_end(frame: &Node, node: &Node) -> bool
+    ensures { result ≡ lacks_end frame.now node.now }
+{
+    let ends = ends_of(&frame.kind);
     match &node.kind {
         Kind::Button { command, .. } => match command {
             CommandSpec::Ok => !ends.ok,
@@ -34,5 +48,122 @@ pub fn lacks_end(dialog: &Dialog, node: &Node) -> bool
             _ => false,
         },
         _ => false,
+    }
+}
+
+fn is_default(node: &Node) -> bool
+    ensures { result ≡ is_default node.now }
+{
+    matches!(
+        node.kind,
+        Kind::Button {
+            is_default: true,
+            ..
+        }
+    )
+}
+
+fn has_default(nodes: &[Node]) -> bool
+    ensures { result ≡ list_any is_default nodes.now }
+{
+    nodes.iter().any(|node| is_default(node))
+}
+
+/// Whether it is a default button after another one.
+pub fn is_second_default(before: &[Node], node: &Node) -> bool
+    ensures { result ≡ is_second_default before.now node.now }
+{
+    is_default(node) && has_default(before)
+}
+
+fn starts_among(start: &[i32], count: usize) -> bool
+    ensures { result ≡ list_any (λ item. not (is_item item count)) start.now }
+{
+    start.iter().any(|item| !is_item(item, count))
+}
+
+/// Whether the declaration starts with an item that there isn't.
+pub fn starts_outside(kind: &Kind) -> bool
+    ensures { result ≡ starts_outside kind.now }
+{
+    match kind {
+        Kind::CheckBoxes { items, start, .. } => {
+            starts_among(start.as_slice(), items.as_slice().len())
+        }
+        Kind::RadioButtons { items, start, .. } => !is_item(start, items.as_slice().len()),
+        Kind::List { items, start, .. } => !is_item(start, items.as_slice().len()),
+        _ => false,
+    }
+}
+
+// The command that opens the dialog.
+fn opening_of(kind: &Kind) -> Option<i32>
+    ensures { result ≡ opening_of kind.now }
+{
+    match kind {
+        Kind::Dialog { opens, .. } => *opens,
+        _ => None,
+    }
+}
+
+// Whether the dialog is opened by the number.
+fn opens_by(number: i32, dialog: &Dialog) -> bool
+    ensures { result ≡ is_option_number number (opening_of dialog.now.node.kind) }
+{
+    match opening_of(&dialog.node.kind) {
+        Some(other) => other == number,
+        None => false,
+    }
+}
+
+fn is_opened_by(number: i32, dialogs: &[Dialog]) -> bool
+    ensures { result ≡ list_any (λ other. is_option_number number (opening_of other.node.kind)) dialogs.now }
+{
+    dialogs.iter().any(|dialog| opens_by(number, dialog))
+}
+
+/// Whether the dialog's opening command is outside 100 to 255, or opens one before it.
+pub fn opens_badly(before: &[Dialog], dialog: &Dialog) -> bool
+    ensures { result ≡ opens_badly before.now dialog.now }
+{
+    match opening_of(&dialog.node.kind) {
+        Some(number) => {
+            !is_between(&100, &255, &i128::from(number)) || is_opened_by(number, before)
+        }
+        None => false,
+    }
+}
+
+// Whether the dialog has the name.
+fn is_named(name: &Chars, dialog: &Dialog) -> bool
+    ensures { result ≡ is_named name.now dialog.now }
+{
+    match dialog.node.kind.name() {
+        Some(given) => given.is(name),
+        None => name.as_slice().is_empty(),
+    }
+}
+
+fn has_window(name: &Chars, windows: &[Window]) -> bool
+    ensures { result ≡ list_any (λ window. gives_name name.now window.node) windows.now }
+{
+    windows.iter().any(|window| gives_name(name, &window.node))
+}
+
+fn has_dialog(name: &Chars, dialogs: &[Dialog]) -> bool
+    ensures { result ≡ list_any (is_named name.now) dialogs.now }
+{
+    dialogs.iter().any(|dialog| is_named(name, dialog))
+}
+
+/// Whether the description names a start that isn't one of its dialogs.
+pub fn starts_nowhere(desc: &Desc) -> bool
+    ensures { result ≡ starts_nowhere desc.now }
+{
+    match &desc.start {
+        Some(name) => {
+            has_window(name, desc.windows.as_slice()) || !has_dialog(name, desc.dialogs.as_slice())
+        }
+        None => false,
     }
 }

@@ -1,39 +1,11 @@
-//! Names and letters that are given once.
+//! Letters that are marked.
 
-ghost use Rattle.std.specs.Prelude.{◌≡◌, option_to_list, ◌==◌};
+ghost use Rattle.std.specs.Prelude.{◌≡◌, ◌∷◌, ◌||◌};
 ghost use Rattle.std.specs.List.{list_any};
-ghost use Rattle.tv_model.specs.Nodes.{name_of};
-ghost use Rattle.tv_model.specs.Faults.{is_option_named, letter_of, letters_of, marks_again, names_again, upper};
+ghost use Rattle.tv_model.specs.Faults.Letters.{item_again, letter_of, marked_of, marks, marks_again, shares_letter, titled_again};
 
-use tv_model::{Kind, MarkedText, Node};
-use tv_valid::Chars;
-
-// Whether the node gives the name.
-fn is_named(name: &Chars, node: &Node) -> bool
-    ensures { result ≡ is_option_named name.now (name_of node.now.kind) }
-{
-    match node.kind.name() {
-        Some(other) => other.is(name),
-        None => false,
-    }
-}
-
-// Whether one of the nodes gives the name.
-fn is_given(name: &Chars, nodes: &[Node]) -> bool
-    ensures { result ≡ list_any (λ other. is_option_named name.now (name_of other.kind)) nodes.now }
-{
-    nodes.iter().any(|other| is_named(name, other))
-}
-
-/// Whether the node gives a name that was given before.
-pub fn names_again(before: &[Node], node: &Node) -> bool
-    ensures { result ≡ names_again before.now node.now }
-{
-    match node.kind.name() {
-        Some(name) => is_given(name, before),
-        None => false,
-    }
-}
+use std::slice;
+use tv_model::{Kind, MarkedText, Menu, MenuItem, Node};
 
 // The letter that the text marks, in upper case.
 fn letter_of(marked: &MarkedText) -> Option<char>
@@ -43,36 +15,80 @@ fn letter_of(marked: &MarkedText) -> Option<char>
     Some(letter.to_ascii_uppercase())
 }
 
-// The letter that the declaration marks.
-fn letter(kind: &Kind) -> Option<char>
-    ensures { option_to_list result ≡ letters_of kind.now }
+/// The texts of the declaration in which a letter may be marked.
+pub fn marked_of(kind: &Kind) -> &[MarkedText]
+    ensures { result.now ≡ marked_of kind.now }
 {
     match kind {
-        Kind::Label { text, .. } | Kind::Button { text, .. } => letter_of(text),
-        _ => None,
+        Kind::Label { text, .. } | Kind::Button { text, .. } => slice::from_ref(text),
+        Kind::CheckBoxes { items, .. } | Kind::RadioButtons { items, .. } => items.as_slice(),
+        _ => &[],
     }
 }
 
-// Whether the node marks the letter.
-fn is_marked(given: char, node: &Node) -> bool
-    ensures { result ≡ list_any (λ other. other == given) (letters_of node.now.kind) }
+/// Whether the text marks the letter.
+pub fn marks(letter: char, text: &MarkedText) -> bool
+    ensures { result ≡ marks letter text.now }
 {
-    letter(&node.kind) == Some(given)
+    match letter_of(text) {
+        Some(other) => other == letter,
+        None => false,
+    }
 }
 
-// Whether one of the nodes marks the letter.
-fn is_marked_by(given: char, nodes: &[Node]) -> bool
-    ensures { result ≡ list_any (λ node. list_any (λ other. other == given) (letters_of node.kind)) nodes.now }
+// Whether both mark a letter, and the same one.
+fn shares_letter(text: &MarkedText, other: &MarkedText) -> bool
+    ensures { result ≡ shares_letter text.now other.now }
 {
-    nodes.iter().any(|node| is_marked(given, node))
+    match letter_of(text) {
+        Some(letter) => marks(letter, other),
+        None => false,
+    }
 }
 
-/// Whether the node marks a letter that was marked before, in either case.
+// Whether one of the texts marks the same letter.
+fn is_marked_in(texts: &[MarkedText], text: &MarkedText) -> bool
+    ensures { result ≡ list_any (shares_letter text.now) texts.now }
+{
+    texts.iter().any(|other| shares_letter(text, other))
+}
+
+// Whether one of the views marks the same letter.
+fn is_marked_by(views: &[Node], text: &MarkedText) -> bool
+    ensures { result ≡ list_any (λ other. list_any (shares_letter text.now) (marked_of other.kind)) views.now }
+{
+    views
+        .iter()
+        .any(|other| is_marked_in(marked_of(&other.kind), text))
+}
+
+/// Whether the view marks a letter that was marked before, on an earlier line or on its own.
 pub fn marks_again(before: &[Node], node: &Node) -> bool
     ensures { result ≡ marks_again before.now node.now }
 {
-    match letter(&node.kind) {
-        Some(given) => is_marked_by(given, before),
-        None => false,
+    let texts = marked_of(&node.kind);
+    for (i, text) in texts.iter().enumerate() {
+        if is_marked_by(before, text) || is_marked_in(&texts[..i], text) {
+            return true;
+        }
     }
+    false
+}
+
+/// Whether the menu's title marks the letter of one before it.
+pub fn titled_again(before: &[Menu], menu: &Menu) -> bool
+    ensures { result ≡ titled_again before.now menu.now }
+{
+    before
+        .iter()
+        .any(|other| shares_letter(&menu.title, &other.title))
+}
+
+/// Whether the item marks the letter of one before it in its menu.
+pub fn item_again(before: &[MenuItem], item: &MenuItem) -> bool
+    ensures { result ≡ item_again before.now item.now }
+{
+    before
+        .iter()
+        .any(|other| shares_letter(&item.text, &other.text))
 }

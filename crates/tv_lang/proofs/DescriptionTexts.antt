@@ -1,22 +1,25 @@
 -- A text is read as a description just where it spells it.
-use Rattle.std.proofs.Common.{◌≡◌, ℕ, ◌+◌, false, List, [], ◌∷◌, ◌++◌, Option, Some, None, refl, ap, ◌∙◌}
+use Rattle.std.proofs.Common.{◌≡◌, ℕ, suc, zero, ◌+◌, ◌-◌, ◌==◌, Bool, true, false, List, [], ◌∷◌, ◌++◌, length, replicate, Option, Some, None, refl, ap, ◌∙◌, arith, length-append}
 use Rattle.std.specs.Prelude.{pos, codes, option_and_then}
 use Rattle.std.specs.Str.{is_utf8, chars}
+use Rattle.std.proofs.lemmas.Bool.{eqb-true}
 use lib.Utf8.{encode}
+use Rattle.tv_model.specs.declared.node.Node.{Node}
+use Rattle.tv_model.specs.declared.node.CommandSpec.TheVariants as commands
 use Rattle.tv_model.specs.declared.desc.Desc.{Desc}
-use Rattle.tv_model.specs.declared.desc.Dialog.{Dialog}
-use Rattle.tv_model.specs.declared.node.Kind.TheVariants as kinds
+use Rattle.tv_model.specs.declared.desc.MenuItem.{MenuItem}
 use Rattle.tv_lang.specs.declared.word.Word.TheVariants.{Bare, Quoted}
 use Rattle.tv_lang.specs.declared.progress.Progress.{Progress}
-use Rattle.tv_lang.specs.declared.progress.Stage.{Stage}
-use Rattle.tv_lang.specs.declared.progress.Stage.TheVariants as stages
+use Rattle.tv_lang.specs.declared.stage.Stage.{Stage}
+use Rattle.tv_lang.specs.declared.stage.Stage.TheVariants as stages
 use Rattle.tv_lang.specs.Reading.Steps.{steps}
 use Rattle.tv_lang.specs.Reading.LineWords.{line_words, line_taken}
 use Rattle.tv_lang.specs.Reading.Stages.{fresh, taken, finished}
 use Rattle.tv_lang.specs.Spelling.{word_lines, IsDescription}
 use Rattle.tv_lang.specs.Faults.{SpellsLines, Begins}
 use Rattle.tv_lang.proofs.TextLaws as texts
-use Rattle.tv_lang.proofs.StageLaws.{given_spelled, spelled_given}
+use Rattle.tv_lang.proofs.GivenLaws.{at, given_spelled}
+use Rattle.tv_lang.proofs.ReachLaws.{spelled_given}
 
 -- the machine over lines, which passes over lines without words
 abbrev pub taken_line : Progress → List ℕ → Option Progress
@@ -38,30 +41,25 @@ pub begins_taken : (lines : List (List ℕ)) → Begins lines → (p : Progress)
 begins_taken = texts.begins_taken taken fresh finished word_lines IsDescription given_spelled spelled_given
 
 -- lines that end a description at each stage
-abbrev last_lines : List (List ℕ)
-last_lines = codes "end" ∷ []
-
-abbrev dialog_and_last : List (List ℕ)
-dialog_and_last = codes "dialog a 1 1 1 1 \"\" ends" ∷ last_lines
-
-abbrev screen_and_last : List (List ℕ)
-screen_and_last = codes "screen 1 1" ∷ dialog_and_last
+abbrev end_line : List ℕ
+end_line = codes "end"
 
 abbrev rest_of : Stage → List (List ℕ)
-rest_of stages.Version = codes "tvd 1" ∷ screen_and_last
-rest_of stages.Screen = screen_and_last
-rest_of stages.Start = dialog_and_last
-rest_of stages.Dialog = dialog_and_last
-rest_of (stages.Views dialog) = last_lines
-rest_of stages.Done = []
+rest_of stages.Version = codes "tvd 1" ∷ codes "screen 1 1" ∷ []
+rest_of stages.Screen = codes "screen 1 1" ∷ []
+rest_of stages.Between = []
+rest_of (stages.InMenu menu) = codes "item \"\" quit" ∷ end_line ∷ []
+rest_of (stages.InWindow window) = end_line ∷ []
+rest_of (stages.InViews node views panes) = replicate panes end_line ++ end_line ∷ []
+rest_of (stages.InRules dialog) = end_line ∷ []
 
-end_words : line_words (codes "end") ≡ Some (Bare (codes "end") ∷ [])
+end_words : line_words end_line ≡ Some (Bare (codes "end") ∷ [])
 unfolding is_utf8 chars encode
 end_words = refl
 
-dialog_words : line_words (codes "dialog a 1 1 1 1 \"\" ends") ≡ Some (Bare (codes "dialog") ∷ Bare (codes "a") ∷ Bare (codes "1") ∷ Bare (codes "1") ∷ Bare (codes "1") ∷ Bare (codes "1") ∷ Quoted [] ∷ Bare (codes "ends") ∷ [])
+item_words : line_words (codes "item \"\" quit") ≡ Some (Bare (codes "item") ∷ Quoted [] ∷ Bare (codes "quit") ∷ [])
 unfolding is_utf8 chars encode
-dialog_words = refl
+item_words = refl
 
 screen_words : line_words (codes "screen 1 1") ≡ Some (Bare (codes "screen") ∷ Bare (codes "1") ∷ Bare (codes "1") ∷ [])
 unfolding is_utf8 chars encode
@@ -71,23 +69,36 @@ version_words : line_words (codes "tvd 1") ≡ Some (Bare (codes "tvd") ∷ Bare
 unfolding is_utf8 chars encode
 version_words = refl
 
-abbrev Completes : Progress → Type 0
-Completes p = (d : Desc) × (option_and_then finished (steps taken_line p (rest_of p.stage)) ≡ Some d)
+abbrev Completes : Progress → List (List ℕ) → Type 0
+Completes p lines = (d : Desc) × (option_and_then finished (steps taken_line p lines) ≡ Some d)
 
--- the dialog of those lines, on this line
-abbrev small_dialog : ℕ → Dialog
-small_dialog line = record { node = record { id = record { 0 = line }; depth = 0; x = pos 1; y = pos 1; w = pos 1; kind = kinds.Dialog (codes "a") (pos 1) [] None (record { ok = false; cancel = false; yes = false; no = false }) }; views = []; rules = [] }
+empty_if : {A : Type 0} (xs : List A) (x : A) (b : Bool) → (length (xs ++ x ∷ []) == 0) ≡ b → (length (xs ++ x ∷ []) == 0) ≡ false
+empty_if xs x true e = let none : length (xs ++ x ∷ []) ≡ 0 = eqb-true (length (xs ++ x ∷ [])) 0 e in absurd (omega (arith, none, length-append xs (x ∷ [])))
+empty_if xs x false e = e
 
-abbrev ended_by : Desc → Dialog → Desc
-ended_by d dialog = record d { dialogs = d.dialogs ++ dialog ∷ [] }
+open_if : (n k : ℕ) (b : Bool) → n == 0 ≡ b → n ≡ suc k → n == 0 ≡ false
+open_if n k true eb e = absurd (omega (arith, eqb-true n 0 eb, e))
+open_if n k false eb e = eb
 
-complete : (next : ℕ) (stage : Stage) (d : Desc) → Completes (record { next = next; stage = stage; desc = d })
-complete next stages.Version d = (ended_by (record d { width = pos 1; height = pos 1 }) (small_dialog (next + 1 + 1)), rw (version_words, screen_words, dialog_words, end_words) refl)
-complete next stages.Screen d = (ended_by (record d { width = pos 1; height = pos 1 }) (small_dialog (next + 1)), rw (screen_words, dialog_words, end_words) refl)
-complete next stages.Start d = (ended_by d (small_dialog next), rw (dialog_words, end_words) refl)
-complete next stages.Dialog d = (ended_by d (small_dialog next), rw (dialog_words, end_words) refl)
-complete next (stages.Views dialog) d = (ended_by d dialog, rw end_words refl)
-complete next stages.Done d = (d, refl)
+views_complete : (k next : ℕ) (node : Node) (views : List Node) (panes : ℕ) (d : Desc) → panes ≡ k → Completes (at next (stages.InViews node views panes) d) (replicate k end_line ++ end_line ∷ [])
+views_complete zero next node views panes d e = (record d { dialogs = d.dialogs ++ record { node = node; views = views; rules = [] } ∷ [] }, rw (e, end_words) refl)
+views_complete (suc k) next node views panes d e =
+    let less : panes - 1 ≡ k = omega (arith, e) in
+    let h = views_complete k (next + 1) node views (panes - 1) d less in
+    (h.0, rw (end_words, open_if panes k (panes == 0) refl e) h.1)
+
+-- an item without a text
+abbrev small_item : ℕ → MenuItem
+small_item line = record { id = record { 0 = line }; text = record { text = []; mark = None }; command = commands.Quit }
+
+complete : (next : ℕ) (stage : Stage) (d : Desc) → Completes (at next stage d) (rest_of stage)
+complete next stages.Version d = (record d { width = pos 1; height = pos 1 }, rw (version_words, screen_words) refl)
+complete next stages.Screen d = (record d { width = pos 1; height = pos 1 }, rw screen_words refl)
+complete next stages.Between d = (d, refl)
+complete next (stages.InMenu menu) d = (record d { menus = d.menus ++ record menu { items = menu.items ++ small_item next ∷ [] } ∷ [] }, rw (item_words, end_words, empty_if menu.items (small_item next) (length (menu.items ++ small_item next ∷ []) == 0) refl) refl)
+complete next (stages.InWindow window) d = (record d { windows = d.windows ++ window ∷ [] }, rw end_words refl)
+complete next (stages.InViews node views panes) d = views_complete panes next node views panes d refl
+complete next (stages.InRules dialog) d = (record d { dialogs = d.dialogs ++ dialog ∷ [] }, rw end_words refl)
 
 -- lines along which the machine goes begin a description
 pub taken_begins : (lines : List (List ℕ)) (p : Progress) → steps taken_line fresh lines ≡ Some p → Begins lines

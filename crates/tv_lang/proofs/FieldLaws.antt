@@ -11,8 +11,8 @@ use Rattle.tv_lang.specs.declared.word.Word.TheVariants.{Bare, Quoted}
 use Rattle.tv_lang.specs.Names.{is_name}
 use Rattle.tv_lang.specs.Fields.{is_bare_word, name_in, text_in}
 use Rattle.tv_lang.specs.Reading.Numbers.{number_in}
-use Rattle.tv_lang.specs.Reading.Commands.{named_command, numbered_command, command_in, is_next, after_next, at_end, ends_in}
-use Rattle.tv_lang.specs.Spelling.{number_word, command_word, word_if, ends_words, IsNumber, IsName, IsCommand}
+use Rattle.tv_lang.specs.Reading.Commands.{named_command, numbered_command, command_in, is_next, after_next, at_end, ends_in, button_options_in}
+use Rattle.tv_lang.specs.Spelling.Terms.{number_word, command_word, word_if, ends_words, IsNumber, IsName, IsCommand}
 use Rattle.tv_lang.proofs.NumberLaws.{number_read, read_number}
 
 -- a keyword
@@ -84,11 +84,11 @@ next_if : (keyword : List ℕ) (w : Word) (ws : List Word) (b : Bool) → is_bar
 next_if keyword w ws true e = ap (λ x. x ∷ ws) (word_is w keyword e)
 next_if keyword w ws false e = refl
 
-next_word : (keyword : List ℕ) (ws : List Word) → ws ≡ word_if (is_next keyword ws) keyword ++ after_next keyword ws
+pub next_word : (keyword : List ℕ) (ws : List Word) → ws ≡ word_if (is_next keyword ws) keyword ++ after_next keyword ws
 next_word keyword [] = refl
 next_word keyword (w ∷ ws) = next_if keyword w ws (is_bare_word w keyword) refl
 
-nothing_more : (ws : List Word) (found ends : Ends) → at_end ws found ≡ Some ends → (ws ≡ []) × (found ≡ ends)
+pub nothing_more : {A : Type 0} (ws : List Word) (found ends : A) → at_end ws found ≡ Some ends → (ws ≡ []) × (found ≡ ends)
 nothing_more [] found ends e = (refl, cc)
 nothing_more (w ∷ ws) found ends e = absurd cc
 
@@ -129,3 +129,21 @@ read_ends_of false false false false = refl
 
 pub read_ends : (ends : Ends) → ends_in (ends_words ends) ≡ Some ends
 read_ends ends = read_ends_of ends.ok ends.cancel ends.yes ends.no
+
+-- the options of a button
+pub button_options_read : (ws : List Word) (options : Bool × Bool) → button_options_in ws ≡ Some options → ws ≡ word_if options.0 (codes "default") ++ word_if options.1 (codes "grab")
+button_options_read ws options e =
+    let is_default = is_next (codes "default") ws in
+    let after_default = after_next (codes "default") ws in
+    let grabs = is_next (codes "grab") after_default in
+    let last = nothing_more (after_next (codes "grab") after_default) (is_default, grabs) options e in
+    next_word (codes "default") ws
+    ∙ ap (λ x. word_if is_default (codes "default") ++ x) (next_word (codes "grab") after_default
+    ∙ ap (λ x. word_if grabs (codes "grab") ++ x) last.0 ∙ append-nil (word_if grabs (codes "grab")))
+    ∙ ap (λ o. word_if o.0 (codes "default") ++ word_if o.1 (codes "grab")) last.1
+
+pub read_button_options : (is_default grabs : Bool) → button_options_in (word_if is_default (codes "default") ++ word_if grabs (codes "grab")) ≡ Some (is_default, grabs)
+read_button_options true true = refl
+read_button_options true false = refl
+read_button_options false true = refl
+read_button_options false false = refl

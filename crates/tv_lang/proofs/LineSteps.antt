@@ -1,15 +1,16 @@
 -- What a line does, by the answers of the functions that read it.
 use Rattle.std.proofs.Common.{◌≡◌, ℕ, ◌≤◌, ◌+◌, ◌==◌, Bool, true, false, cond, List, [], ◌∷◌, length, Option, Some, None, refl, sym, ap, ◌∙◌, arith}
-use Rattle.std.specs.Prelude.{IfSome}
+use Rattle.std.specs.Prelude.{IfSome, option_and_then}
 use Rattle.std.proofs.lemmas.Bool.{eqb-true}
 use Rattle.tv_lang.specs.declared.word.Word.{Word}
 use Rattle.tv_lang.specs.declared.progress.Progress.{Progress}
 use Rattle.tv_lang.specs.Lines.{lines_of, onto_first}
 use Rattle.tv_lang.specs.Words.{SpellsWords}
-use Rattle.tv_lang.specs.declared.progress.Stage.{Stage}
+use Rattle.tv_lang.specs.declared.stage.Stage.{Stage}
 use Rattle.tv_model.specs.declared.desc.Desc.{Desc}
 use Rattle.std.specs.Option.{option_map}
-use Rattle.tv_lang.specs.Reading.Stages.{is_other_version, progress, taken_at, taken}
+use Rattle.tv_lang.specs.Reading.Stages.{is_other_version, progress, position, taken_at, taken}
+use Rattle.tv_lang.specs.Reading.Declarations.{declaration_in}
 use Rattle.tv_lang.specs.Reading.Descriptions.{Next, Faulty, OfOtherVersion, step_from, step_if, words_step, line_step}
 use Rattle.tv_lang.proofs.LineLaws.{found_words}
 
@@ -54,7 +55,7 @@ next_of line (Some t) q e = let same : progress line t ≡ q = cc in ap (λ x. x
 
 -- the next declaration stands on the next line
 pub next_taken : (p : Progress) (ws : List Word) (q : Progress) → taken p ws ≡ Some q → q.next ≡ p.next + 1
-next_taken p ws q e = next_of (p.next + 1) (taken_at p.stage (record { 0 = p.next }) p.desc ws) q e
+next_taken p ws q e = next_of (p.next + 1) (option_and_then (taken_at p.stage p.desc) (declaration_in (position p) ws)) q e
 
 -- a text has no more lines than bytes
 pub lines_le : (cs : List ℕ) → length (lines_of cs) ≤ length cs

@@ -9,7 +9,7 @@ use Rattle.std.proofs.lemmas.Bool.Decides.{nat_tests}
 use Rattle.std.proofs.Math.Seq.{take-append_seam, drop-append-add, get_or-append_seam}
 use Rattle.tv_model.specs.declared.node.MarkedText.{MarkedText}
 use Rattle.tv_lang.specs.Reading.Marks.{end_of_mark, marked_at, marked_from, marked_in}
-use Rattle.tv_lang.specs.Spelling.{is_tilde, with_mark, IsMarked}
+use Rattle.tv_lang.specs.Spelling.Terms.{is_tilde, with_mark, IsMarked}
 
 abbrev place_of : List ℕ → ℕ
 place_of cs = position_or_len is_tilde cs

@@ -1,34 +1,38 @@
 -- What reading gives is what the grammar says.
-use Rattle.std.proofs.Common.{◌≡◌, ◌≢◌, ℕ, suc, ◌+◌, ◌<◌, ◌≤◌, ◌==◌, Bool, true, false, ◌&&◌, not, cond, List, [], ◌∷◌, ◌++◌, length, take, Option, Some, None, Result, Ok, Err, refl, sym, ap, ◌∙◌, add-one, arith}
+use Rattle.std.proofs.Common.{◌≡◌, ◌≢◌, ℕ, suc, ◌+◌, ◌<◌, ◌≤◌, ◌==◌, Bool, true, false, not, cond, List, [], ◌∷◌, ◌++◌, length, take, Option, Some, None, Result, Ok, Err, refl, sym, ap, ◌∙◌, subst, add-one, arith}
 use Rattle.std.specs.Prelude.{ℤ, pos, negsuc, codes, option_and_then, IfOk, IfErr}
-use Rattle.std.specs.Option.{option_map}
 use Rattle.std.specs.List.{AllByRecursion}
 use Rattle.std.proofs.lemmas.List.{take_all}
 use Rattle.std.proofs.lemmas.Bool.{eqb-true}
-use Rattle.tv_model.specs.declared.node.Node.{Node}
-use Rattle.tv_model.specs.declared.node.Id.{Id}
 use Rattle.tv_model.specs.declared.desc.Desc.{Desc}
-use Rattle.tv_model.specs.declared.desc.Dialog.{Dialog}
 use Rattle.tv_lang.specs.declared.description.LangFault.{LangFault}
 use Rattle.tv_lang.specs.declared.description.LangFault.TheVariants.{NoMemory, Syntax, TooLong, Version}
 use Rattle.tv_lang.specs.declared.word.Word.{Word}
 use Rattle.tv_lang.specs.declared.word.Word.TheVariants.{Bare}
 use Rattle.tv_lang.specs.declared.progress.Progress.{Progress}
-use Rattle.tv_lang.specs.declared.progress.Stage.{Stage}
-use Rattle.tv_lang.specs.declared.progress.Stage.TheVariants as stages
+use Rattle.tv_lang.specs.declared.stage.Stage.{Stage}
+use Rattle.tv_lang.specs.declared.stage.Stage.TheVariants as stages
+use Rattle.tv_lang.specs.declared.declaration.Declaration.{Declaration}
+use Rattle.tv_lang.specs.declared.declaration.Declaration.TheVariants as declared
+use Rattle.tv_lang.specs.declared.place.Position.{Position}
 use Rattle.tv_lang.specs.Reading.Steps.{steps}
 use Rattle.tv_lang.specs.Lines.{lines_of}
 use Rattle.tv_lang.specs.Words.{SpellsWords}
 use Rattle.tv_lang.specs.Reading.LineWords.{line_words, words_taken}
-use Rattle.tv_lang.specs.Fields.{is_bare_word, name_in}
+use Rattle.tv_lang.specs.Fields.{is_bare_word}
 use Rattle.tv_lang.specs.Reading.Numbers.{number_in}
-use Rattle.tv_lang.specs.Reading.Stages.{fresh, is_other, other_version, is_other_version, version_taken, screen_taken, screen_from, started, opened, dialog_taken, start_taken, with_view, is_end, taken_at, progress, taken, finished}
-use Rattle.tv_lang.specs.Reading.NodeLines.{dialog_in, view_in}
-use Rattle.tv_lang.specs.Spelling.{number_word, word_lines, IsNumber, IsDescription}
+use Rattle.tv_lang.specs.Reading.Declarations.{declaration_in}
+use Rattle.tv_lang.specs.Reading.Stages.{fresh, is_other, other_version, is_other_version, taken_at, position, progress, taken, finished}
+use Rattle.tv_lang.specs.Spelling.{word_lines, IsDescription}
+use Rattle.tv_lang.specs.Spelling.Terms.{number_word, IsNumber}
 use Rattle.tv_lang.specs.Texts.{IsFirstFault}
 use Rattle.tv_lang.specs.Faults.{Spells, IsOtherVersion, Refuses, Gives}
 use Rattle.tv_lang.specs.Reading.Descriptions.{LineStep, Next, Faulty, OfOtherVersion, step_from, step_if, words_step, line_step, Reading, Value, Fault, Other, at_end, reading, reading_of, StopsAt}
 use Rattle.tv_lang.proofs.FieldLaws.{word_is, number_word_read, read_number_word}
+use Rattle.tv_lang.proofs.OptionLaws.{map_some, then_some}
+use Rattle.tv_lang.proofs.PlaceLaws.{on_line}
+use Rattle.tv_lang.proofs.DeclarationLaws.{declaration_read}
+use Rattle.tv_lang.proofs.StageLaws.{both, so_far, Sound, goes}
 use Rattle.tv_lang.proofs.LineLaws.{line_spelled, spelled_line}
 use Rattle.tv_lang.proofs.DescriptionTexts.{taken_line, lines_spelled, spelled_lines, begins_taken, taken_begins}
 
@@ -36,34 +40,30 @@ use Rattle.tv_lang.proofs.DescriptionTexts.{taken_line, lines_spelled, spelled_l
 abbrev went : ℕ → List (List ℕ) → LineStep → Reading
 went n ls step = elim step as (λ _. Reading) [ Next q ↦ reading (n + 1) q ls | Faulty ↦ Fault n | OfOtherVersion ↦ Other ]
 
--- a line `tvd` of another version is no step
+-- a line `tvd` of another version is no declaration
 is_one : is_other (Some (pos 1)) ≡ false
 is_one = refl
 
-abbrev to_screen : Desc → Option (Stage × Desc)
-to_screen d = Some (stages.Screen, d)
+version_clash : (v : Word) (b : Bool) → is_bare_word v (codes "1") ≡ b → is_other (number_in v) ≡ true → cond b (Some declared.Version) None ≡ None
+version_clash v true eb e = let one = rw (word_is v (codes "1") eb) at e in absurd cc
+version_clash v false eb e = refl
 
-version_clash : (d : Desc) (k v : Word) (a b c : Bool) → is_bare_word k (codes "tvd") ≡ a → is_other (number_in v) ≡ b → is_bare_word v (codes "1") ≡ c → (a && b) ≡ true → cond (a && c) (to_screen d) None ≡ None
-version_clash d k v true true true ea eb ec e =
-    let one = rw (word_is v (codes "1") ec) at eb in
-    absurd cc
-version_clash d k v true true false ea eb ec e = refl
-version_clash d k v true false c ea eb ec e = absurd cc
-version_clash d k v false b c ea eb ec e = refl
-
-other_stops : (d : Desc) (ws : List Word) → other_version ws ≡ true → version_taken d ws ≡ None
-other_stops d [] e = absurd cc
-other_stops d (a ∷ []) e = absurd cc
-other_stops d (k ∷ v ∷ []) e = version_clash d k v (is_bare_word k (codes "tvd")) (is_other (number_in v)) (is_bare_word v (codes "1")) refl refl refl e
-other_stops d (a ∷ b ∷ c ∷ ds) e = absurd cc
+other_stops : (here : Position) (ws : List Word) → other_version ws ≡ true → declaration_in here ws ≡ None
+other_stops here [] e = absurd cc
+other_stops here (a ∷ []) e = absurd cc
+other_stops here (k ∷ v ∷ []) e =
+    let h = both (is_bare_word k (codes "tvd")) (is_other (number_in v)) e in
+    ap (λ w. declaration_in here (w ∷ v ∷ [])) (word_is k (codes "tvd") h.0) ∙ version_clash v (is_bare_word v (codes "1")) refl h.1
+other_stops here (a ∷ b ∷ c ∷ ds) e = absurd cc
 
 stops_of_other : (next : ℕ) (stage : Stage) (d : Desc) (ws : List Word) → is_other_version (record { next = next; stage = stage; desc = d }) ws ≡ true → taken (record { next = next; stage = stage; desc = d }) ws ≡ None
-stops_of_other next stages.Version d ws e = rw (other_stops d ws e) refl
+stops_of_other next stages.Version d ws e = rw (other_stops (on_line next 0) ws e) refl
 stops_of_other next stages.Screen d ws e = absurd cc
-stops_of_other next stages.Start d ws e = absurd cc
-stops_of_other next stages.Dialog d ws e = absurd cc
-stops_of_other next (stages.Views dialog) d ws e = absurd cc
-stops_of_other next stages.Done d ws e = absurd cc
+stops_of_other next stages.Between d ws e = absurd cc
+stops_of_other next (stages.InMenu menu) d ws e = absurd cc
+stops_of_other next (stages.InWindow window) d ws e = absurd cc
+stops_of_other next (stages.InViews node views panes) d ws e = absurd cc
+stops_of_other next (stages.InRules dialog) d ws e = absurd cc
 
 -- what a line does, and whether the machine goes on
 abbrev Does : LineStep → Option Progress → Type 0
@@ -181,57 +181,29 @@ abbrev NotFirst : Stage → Type 0
 NotFirst stages.Version = ⊥
 NotFirst _ = Unit {0}
 
-abbrev Moves : Option (Stage × Desc) → Type 0
-Moves None = Unit {0}
-Moves (Some t) = NotFirst t.0
+not_nothing : (xs : List Declaration) (x : Declaration) → [] ≡ xs ++ x ∷ [] → ⊥
+not_nothing [] x e = absurd cc
+not_nothing (y ∷ ys) x e = absurd cc
 
-moves_if : (b : Bool) (x y : Option (Stage × Desc)) → Moves x → Moves y → Moves (cond b x y)
-moves_if true x y hx hy = hx
-moves_if false x y hx hy = hy
+not_first : (stage : Stage) (d : Desc) (xs : List Declaration) (x : Declaration) → so_far stage d ≡ xs ++ x ∷ [] → NotFirst stage
+not_first stages.Version d xs x e = not_nothing xs x e
+not_first stages.Screen d xs x e = tt
+not_first stages.Between d xs x e = tt
+not_first (stages.InMenu menu) d xs x e = tt
+not_first (stages.InWindow window) d xs x e = tt
+not_first (stages.InViews node views panes) d xs x e = tt
+not_first (stages.InRules dialog) d xs x e = tt
 
-screen_moves : (d : Desc) (ow oh : Option ℤ) → Moves (screen_from d ow oh)
-screen_moves d None oh = tt
-screen_moves d (Some w) None = tt
-screen_moves d (Some w) (Some h) = tt
+-- a stage after the first, as it is reached
+abbrev Further : Progress → Type 0
+Further p = NotFirst p.stage × Sound p.stage p.desc
 
-opened_moves : (d : Desc) (o : Option Node) → Moves (opened d o)
-opened_moves d None = tt
-opened_moves d (Some n) = tt
-
-started_moves : (d : Desc) (o : Option (List ℕ)) → Moves (started d o)
-started_moves d None = tt
-started_moves d (Some name) = tt
-
-view_moves : (d : Desc) (dialog : Dialog) (o : Option Node) → Moves (with_view d dialog o)
-view_moves d dialog None = tt
-view_moves d dialog (Some n) = tt
-
-version_moves : (d : Desc) (ws : List Word) → Moves (version_taken d ws)
-version_moves d [] = tt
-version_moves d (a ∷ []) = tt
-version_moves d (k ∷ v ∷ []) = moves_if (is_bare_word k (codes "tvd") && is_bare_word v (codes "1")) (to_screen d) None tt tt
-version_moves d (a ∷ b ∷ c ∷ ds) = tt
-
-screen_line_moves : (d : Desc) (ws : List Word) → Moves (screen_taken d ws)
-screen_line_moves d [] = tt
-screen_line_moves d (a ∷ []) = tt
-screen_line_moves d (a ∷ b ∷ []) = tt
-screen_line_moves d (k ∷ w ∷ h ∷ []) = moves_if (is_bare_word k (codes "screen")) (screen_from d (number_in w) (number_in h)) None (screen_moves d (number_in w) (number_in h)) tt
-screen_line_moves d (a ∷ b ∷ c ∷ e ∷ fs) = tt
-
-start_moves : (i : Id) (d : Desc) (ws : List Word) → Moves (start_taken i d ws)
-start_moves i d [] = opened_moves d (dialog_in i [])
-start_moves i d (a ∷ []) = opened_moves d (dialog_in i (a ∷ []))
-start_moves i d (k ∷ m ∷ []) = moves_if (is_bare_word k (codes "start")) (started d (name_in m)) (dialog_taken i d (k ∷ m ∷ [])) (started_moves d (name_in m)) (opened_moves d (dialog_in i (k ∷ m ∷ [])))
-start_moves i d (a ∷ b ∷ c ∷ ds) = opened_moves d (dialog_in i (a ∷ b ∷ c ∷ ds))
-
-moves : (stage : Stage) (i : Id) (d : Desc) (ws : List Word) → Moves (taken_at stage i d ws)
-moves stages.Version i d ws = version_moves d ws
-moves stages.Screen i d ws = screen_line_moves d ws
-moves stages.Start i d ws = start_moves i d ws
-moves stages.Dialog i d ws = opened_moves d (dialog_in i ws)
-moves (stages.Views dialog) i d ws = moves_if (is_end ws) _ (with_view d dialog (view_in i ws)) tt (view_moves d dialog (view_in i ws))
-moves stages.Done i d ws = tt
+moves : (p : Progress) (ws : List Word) (q : Progress) → taken p ws ≡ Some q → Sound p.stage p.desc → Further q
+moves p ws q e s =
+    let m = map_some (progress (p.next + 1)) (option_and_then (taken_at p.stage p.desc) (declaration_in (position p) ws)) q e in
+    let t = then_some (taken_at p.stage p.desc) (declaration_in (position p) ws) m.0 m.1 in
+    let went = goes p.stage p.desc t.0 m.0 t.2 s (declaration_read (position p) ws t.0 t.1).inside in
+    subst Further m.2 (not_first m.0.0 m.0.1 (so_far p.stage p.desc) t.0 went.1, went.0)
 
 never_at_end : (n : ℕ) (o : Option Desc) → at_end n o ≡ Other → ⊥
 never_at_end n None e = cc
@@ -240,22 +212,23 @@ never_at_end n (Some d) e = cc
 not_other : (next : ℕ) (stage : Stage) (d : Desc) (ws : List Word) → NotFirst stage → is_other_version (record { next = next; stage = stage; desc = d }) ws ≡ false
 not_other next stages.Version d ws h = absurd h
 not_other next stages.Screen d ws h = refl
-not_other next stages.Start d ws h = refl
-not_other next stages.Dialog d ws h = refl
-not_other next (stages.Views dialog) d ws h = refl
-not_other next stages.Done d ws h = refl
+not_other next stages.Between d ws h = refl
+not_other next (stages.InMenu menu) d ws h = refl
+not_other next (stages.InWindow window) d ws h = refl
+not_other next (stages.InViews node views panes) d ws h = refl
+not_other next (stages.InRules dialog) d ws h = refl
 
-never_after : (n line : ℕ) (ls : List (List ℕ)) (o : Option (Stage × Desc)) → Moves o → ((q : Progress) → NotFirst q.stage → reading (n + 1) q ls ≡ Other → ⊥) → went n ls (step_from (option_map (progress line) o)) ≡ Other → ⊥
-never_after n line ls None h later e = cc
-never_after n line ls (Some t) h later e = later (progress line t) h e
+never_after : (n : ℕ) (ls : List (List ℕ)) (o : Option Progress) → ((q : Progress) → o ≡ Some q → reading (n + 1) q ls ≡ Other → ⊥) → went n ls (step_from o) ≡ Other → ⊥
+never_after n ls None later e = cc
+never_after n ls (Some q) later e = later q refl e
 
-never_by : (n : ℕ) (p : Progress) (ls : List (List ℕ)) (o : Option (List Word)) → NotFirst p.stage → ((q : Progress) → NotFirst q.stage → reading (n + 1) q ls ≡ Other → ⊥) → went n ls (words_step p o) ≡ Other → ⊥
+never_by : (n : ℕ) (p : Progress) (ls : List (List ℕ)) (o : Option (List Word)) → Further p → ((q : Progress) → Further q → reading (n + 1) q ls ≡ Other → ⊥) → went n ls (words_step p o) ≡ Other → ⊥
 never_by n p ls None h later e = cc
 never_by n p ls (Some []) h later e = later p h e
 never_by n p ls (Some (w ∷ ws)) h later e =
-    never_after n (p.next + 1) ls (taken_at p.stage (record { 0 = p.next }) p.desc (w ∷ ws)) (moves p.stage (record { 0 = p.next }) p.desc (w ∷ ws)) later (rw (not_other p.next p.stage p.desc (w ∷ ws) h) at e)
+    never_after n ls (taken p (w ∷ ws)) (λ q eq. later q (moves p (w ∷ ws) q eq h.1)) (rw (not_other p.next p.stage p.desc (w ∷ ws) h.0) at e)
 
-never_other : (lines : List (List ℕ)) (n : ℕ) (p : Progress) → NotFirst p.stage → reading n p lines ≡ Other → ⊥
+never_other : (lines : List (List ℕ)) (n : ℕ) (p : Progress) → Further p → reading n p lines ≡ Other → ⊥
 never_other [] n p h e = never_at_end n (finished p) e
 never_other (l ∷ ls) n p h e = never_by n p ls (line_words l) h (λ q. never_other ls (n + 1) q) e
 
@@ -265,10 +238,6 @@ number_is_other None e = absurd cc
 number_is_other (Some (pos k)) e = (pos k, refl, λ same. (let one : k ≡ 1 = cc in let clash = rw one at e in absurd cc))
 number_is_other (Some (negsuc k)) e = (negsuc k, refl, λ same. absurd cc)
 
-and_true : (a b : Bool) → (a && b) ≡ true → (a ≡ true) × (b ≡ true)
-and_true true b e = (refl, e)
-and_true false b e = absurd cc
-
 abbrev OtherWords : List Word → Type 0
 OtherWords ws = (n : ℤ) × (ws ≡ Bare (codes "tvd") ∷ number_word n ∷ []) × IsNumber n × (n ≢ pos 1)
 
@@ -276,15 +245,15 @@ other_words : (ws : List Word) → other_version ws ≡ true → OtherWords ws
 other_words [] e = absurd cc
 other_words (a ∷ []) e = absurd cc
 other_words (k ∷ v ∷ []) e =
-    let both = and_true (is_bare_word k (codes "tvd")) (is_other (number_in v)) e in
-    let n = number_is_other (number_in v) both.1 in
+    let h = both (is_bare_word k (codes "tvd")) (is_other (number_in v)) e in
+    let n = number_is_other (number_in v) h.1 in
     let word = number_word_read v n.0 n.1 in
-    let version : k ≡ Bare (codes "tvd") = word_is k (codes "tvd") both.0 in
+    let version : k ≡ Bare (codes "tvd") = word_is k (codes "tvd") h.0 in
     (n.0, ap (λ x. x ∷ v ∷ []) version ∙ ap (λ x. Bare (codes "tvd") ∷ x ∷ []) word.0, word.1, n.2)
 other_words (a ∷ b ∷ c ∷ ds) e = absurd cc
 
-abbrev first : ℕ → Desc → Progress
-first next d = record { next = next; stage = stages.Version; desc = d }
+abbrev first : ℕ → Progress
+first next = record { next = next; stage = stages.Version; desc = fresh.desc }
 
 other_here : (l : List ℕ) (ls : List (List ℕ)) (ws : List Word) → SpellsWords l ws → OtherWords ws → IsOtherVersion (l ∷ ls)
 other_here l ls ws spells h = record { before = []; line = l; after = ls; number = h.0; parts = refl; skipped = tt; words = rw (← h.1) spells; fits = h.2; other = h.3 }
@@ -292,18 +261,18 @@ other_here l ls ws spells h = record { before = []; line = l; after = ls; number
 other_later : (l : List ℕ) (ls : List (List ℕ)) → SpellsWords l [] → IsOtherVersion ls → IsOtherVersion (l ∷ ls)
 other_later l ls spells h = record { before = l ∷ h.before; line = h.line; after = h.after; number = h.number; parts = ap (λ x. l ∷ x) h.parts; skipped = (spells, h.skipped); words = h.words; fits = h.fits; other = h.other }
 
-other_if : (n next : ℕ) (d : Desc) (l : List ℕ) (ls : List (List ℕ)) (w : Word) (ws : List Word) (b : Bool) → line_words l ≡ Some (w ∷ ws) → other_version (w ∷ ws) ≡ b → went n ls (step_if b (taken (first next d) (w ∷ ws))) ≡ Other → IsOtherVersion (l ∷ ls)
-other_if n next d l ls w ws true el eb e = other_here l ls (w ∷ ws) (line_spelled l (w ∷ ws) el) (other_words (w ∷ ws) eb)
-other_if n next d l ls w ws false el eb e = absurd (never_after n (next + 1) ls (version_taken d (w ∷ ws)) (version_moves d (w ∷ ws)) (λ q. never_other ls (n + 1) q) e)
+other_if : (n next : ℕ) (l : List ℕ) (ls : List (List ℕ)) (w : Word) (ws : List Word) (b : Bool) → line_words l ≡ Some (w ∷ ws) → other_version (w ∷ ws) ≡ b → went n ls (step_if b (taken (first next) (w ∷ ws))) ≡ Other → IsOtherVersion (l ∷ ls)
+other_if n next l ls w ws true el eb e = other_here l ls (w ∷ ws) (line_spelled l (w ∷ ws) el) (other_words (w ∷ ws) eb)
+other_if n next l ls w ws false el eb e = absurd (never_after n ls (taken (first next) (w ∷ ws)) (λ q eq. never_other ls (n + 1) q (moves (first next) (w ∷ ws) q eq refl)) e)
 
-other_by : (n next : ℕ) (d : Desc) (l : List ℕ) (ls : List (List ℕ)) (o : Option (List Word)) → line_words l ≡ o → (reading (n + 1) (first next d) ls ≡ Other → IsOtherVersion ls) → went n ls (words_step (first next d) o) ≡ Other → IsOtherVersion (l ∷ ls)
-other_by n next d l ls None el later e = absurd cc
-other_by n next d l ls (Some []) el later e = other_later l ls (line_spelled l [] el) (later e)
-other_by n next d l ls (Some (w ∷ ws)) el later e = other_if n next d l ls w ws (other_version (w ∷ ws)) el refl e
+other_by : (n next : ℕ) (l : List ℕ) (ls : List (List ℕ)) (o : Option (List Word)) → line_words l ≡ o → (reading (n + 1) (first next) ls ≡ Other → IsOtherVersion ls) → went n ls (words_step (first next) o) ≡ Other → IsOtherVersion (l ∷ ls)
+other_by n next l ls None el later e = absurd cc
+other_by n next l ls (Some []) el later e = other_later l ls (line_spelled l [] el) (later e)
+other_by n next l ls (Some (w ∷ ws)) el later e = other_if n next l ls w ws (other_version (w ∷ ws)) el refl e
 
-reading_other : (lines : List (List ℕ)) (n next : ℕ) (d : Desc) → reading n (first next d) lines ≡ Other → IsOtherVersion lines
-reading_other [] n next d e = absurd cc
-reading_other (l ∷ ls) n next d e = other_by n next d l ls (line_words l) refl (reading_other ls (n + 1) next d) e
+reading_other : (lines : List (List ℕ)) (n next : ℕ) → reading n (first next) lines ≡ Other → IsOtherVersion lines
+reading_other [] n next e = absurd cc
+reading_other (l ∷ ls) n next e = other_by n next l ls (line_words l) refl (reading_other ls (n + 1) next) e
 
 other_if_not : (b : Bool) (k : ℕ) → k == 1 ≡ b → pos k ≢ pos 1 → not b ≡ true
 other_if_not true k e h = absurd (h (ap pos (eqb-true k 1 e)))
@@ -330,7 +299,7 @@ pub refused : (text : List ℕ) (fault : LangFault) → StopsAt fault (reading_o
 refused text NoMemory h = tt
 refused text (Syntax line) h = (first_fault (lines_of text) line h, λ other. (let clash : Fault line ≡ Other = sym h ∙ other_reads (lines_of text) other in absurd cc))
 refused text TooLong h = absurd h
-refused text Version h = reading_other (lines_of text) 1 1 fresh.desc h
+refused text Version h = reading_other (lines_of text) 1 1 h
 
 pub all_refused : (r : Result Desc LangFault) (text : List ℕ) → IfErr r (λ fault. StopsAt fault (reading_of text)) → IfErr r (λ fault. Refuses text fault)
 all_refused (Ok d) text h = tt

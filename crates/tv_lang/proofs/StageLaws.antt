@@ -1,240 +1,417 @@
--- Reading declarations gives just the description that is spelled so.
-use Rattle.std.proofs.Common.{◌≡◌, ℕ, ◌+◌, Bool, true, false, ◌&&◌, cond, List, [], ◌∷◌, ◌++◌, length, Option, Some, None, refl, sym, ap, ◌∙◌, append_assoc, subst}
-use Rattle.std.specs.Prelude.{ℤ, codes, map, flat_map, option_and_then, IfSome}
+-- What is declared so far, at each stage, and what a further declaration adds to it.
+use Rattle.std.proofs.Common.{◌≡◌, ◌≢◌, ℕ, ◌+◌, ◌-◌, ◌<◌, ◌≤◌, ◌==◌, nat_lt, Bool, true, false, ◌&&◌, cond, List, [], ◌∷◌, ◌++◌, length, Option, Some, None, refl, sym, ap, ◌∙◌, append_assoc, subst, arith}
+use Rattle.std.specs.Prelude.{map, flat_map, is_none, IsTrue}
 use Rattle.std.specs.Option.{option_map}
-use Rattle.std.proofs.lemmas.List.{append-nil}
-use Rattle.tv_model.specs.declared.node.Id.{Id}
+use Rattle.std.specs.List.{AllByRecursion}
+use Rattle.std.proofs.lemmas.List.{append-nil, map-append}
+use Rattle.std.proofs.lemmas.Grind.{flat_map-append, replicate_next}
+use Rattle.std.proofs.lemmas.Bool.{eqb-true}
+use Rattle.std.proofs.lemmas.Bool.Decides.{nat_tests}
 use Rattle.tv_model.specs.declared.node.Node.{Node}
-use Rattle.tv_model.specs.declared.node.Kind.{Kind}
-use Rattle.tv_model.specs.declared.node.Kind.TheVariants as kinds
 use Rattle.tv_model.specs.declared.desc.Desc.{Desc}
 use Rattle.tv_model.specs.declared.desc.Dialog.{Dialog}
 use Rattle.tv_model.specs.declared.desc.Menu.{Menu}
+use Rattle.tv_model.specs.declared.desc.Rule.{Rule}
 use Rattle.tv_model.specs.declared.desc.StatusItem.{StatusItem}
 use Rattle.tv_model.specs.declared.desc.Window.{Window}
-use Rattle.tv_lang.specs.declared.word.Word.{Word}
-use Rattle.tv_lang.specs.declared.word.Word.TheVariants.{Bare}
-use Rattle.tv_lang.specs.declared.progress.Progress.{Progress}
-use Rattle.tv_lang.specs.declared.progress.Stage.{Stage}
-use Rattle.tv_lang.specs.declared.progress.Stage.TheVariants as stages
-use Rattle.tv_lang.specs.Reading.Steps.{steps}
-use Rattle.tv_lang.specs.Fields.{is_bare_word, name_in}
-use Rattle.tv_lang.specs.Reading.Numbers.{number_in}
-use Rattle.tv_lang.specs.Reading.NodeLines.{view_in, dialog_in}
-use Rattle.tv_lang.specs.Reading.Stages.{fresh, screen_from, started, opened, dialog_taken, start_taken, with_view, is_end, progress, taken, finished}
-use Rattle.tv_lang.specs.Spelling.{number_word, node_words, kind_words, end_line, dialog_lines, start_lines, word_lines, IsNumber, IsName, IsViewKind, IsDialogKind, AreViews, IsDialog, IsDescription}
-use Rattle.tv_lang.proofs.FieldLaws.{word_is, number_word_read, read_number_word, name_read, read_name}
-use Rattle.tv_lang.proofs.NodeLaws.{on_line, view_read, dialog_read, read_view, read_dialog}
+use Rattle.tv_model.specs.Nodes.{is_pane}
+use Rattle.tv_lang.specs.declared.declaration.Declaration.{Declaration}
+use Rattle.tv_lang.specs.declared.declaration.Declaration.TheVariants as declared
+use Rattle.tv_lang.specs.declared.stage.Stage.{Stage}
+use Rattle.tv_lang.specs.declared.stage.Stage.TheVariants as stages
+use Rattle.tv_lang.specs.Reading.Stages.{no_dialogs, no_windows, no_status, no_menus, version_taken, screen_taken, part_taken, menu_taken, window_taken, panes_after, views_taken, rules_taken, taken_at, fresh, open_panes}
+use Rattle.tv_lang.specs.Spelling.{start_declarations, menu_declarations, window_declarations, ends_of_panes, open_after, view_declarations, dialog_declarations, declarations_of, is_window, is_dialog, is_text, is_view, HasItems, IsWindowText, IsWindow, AreViews, IsDialog}
+use Rattle.tv_lang.proofs.DeclarationLaws.{IsInside}
 
--- the description that the declarations give
-abbrev pub given : Progress → List (List Word) → Option Desc
-given p wss = option_and_then finished (steps taken p wss)
+-- ---- lists
 
--- after this declaration
-abbrev went : ℕ → Option (Stage × Desc) → List (List Word) → Option Desc
-went line o wss = option_and_then finished (option_and_then (λ t. steps taken t wss) (option_map (progress (line + 1)) o))
+pub no_items : {A : Type 0} (xs : List A) → (length xs == 0) ≡ true → xs ≡ []
+no_items [] e = refl
+no_items (x ∷ xs) e = absurd (omega (arith, eqb-true (length (x ∷ xs)) 0 e))
 
-abbrev at : ℕ → Stage → Desc → Progress
-at line stage d = record { next = line; stage = stage; desc = d }
+some_items_if : {A : Type 0} (xs : List A) (b : Bool) → (length xs == 0) ≡ b → b ≡ false → xs ≢ []
+some_items_if xs b eb e none = absurd (cc (eb, e, ap (λ l. length l == 0) none))
 
-abbrev with_views : Dialog → List Node → Dialog
-with_views dialog more = record dialog { views = dialog.views ++ more }
+pub both : (a b : Bool) → (a && b) ≡ true → (a ≡ true) × (b ≡ true)
+both true b e = (refl, e)
+both false b e = absurd cc
 
-abbrev with_dialog : Desc → Dialog → Desc
-with_dialog d dialog = record d { dialogs = d.dialogs ++ dialog ∷ [] }
+all_end : {A : Type 0} (P : A → Type 0) (xs : List A) (x : A) → AllByRecursion P xs → P x → AllByRecursion P (xs ++ x ∷ [])
+all_end P [] x are is = (is, tt)
+all_end P (y ∷ ys) x are is = (are.0, all_end P ys x are.1 is)
 
-same_cons : {A : Type 0} (a b : A) (xs ys : List A) → a ≡ b → xs ≡ ys → a ∷ xs ≡ b ∷ ys
-same_cons a b xs ys e f = rw (e, f) refl
+-- one more at the end of a body
+onto : {A : Type 0} (before : List A) (head : A) (longer body : List A) (x : A) → longer ≡ body ++ x ∷ [] → before ++ (head ∷ longer) ≡ (before ++ (head ∷ body)) ++ x ∷ []
+onto before head longer body x e = ap (λ l. before ++ (head ∷ l)) e ∙ sym (append_assoc before (head ∷ body) (x ∷ []))
 
--- ---- what is read is spelled so
+flat_end : {A B : Type 0} (f : A → List B) (xs : List A) (x : A) → flat_map f (xs ++ x ∷ []) ≡ flat_map f xs ++ f x
+flat_end f xs x = flat_map-append f xs (x ∷ []) ∙ ap (λ l. flat_map f xs ++ l) (append-nil (f x))
 
-done_tells : (wss : List (List Word)) (line : ℕ) (d v : Desc) → given (at line stages.Done d) wss ≡ Some v → (v ≡ d) × (wss ≡ [])
-done_tells [] line d v e = (cc, refl)
-done_tells (ws ∷ wss) line d v e = absurd cc
+-- ---- the parts of a description, one after the other
 
--- the views that are still to come
-abbrev Views : ℕ → Dialog → Desc → List (List Word) → Desc → Type 0
-Views line dialog d wss v = (more : List Node) × (v ≡ with_dialog d (with_views dialog more)) × (wss ≡ map node_words more ++ end_line ∷ []) × AreViews line more
+abbrev parts : List Declaration → List Declaration → List Declaration → List Declaration → List Declaration → List Declaration
+parts a b c w d = a ++ (b ++ (c ++ (w ++ d)))
 
-end_is : (ws : List Word) → is_end ws ≡ true → ws ≡ end_line
-end_is [] e = absurd cc
-end_is (w ∷ []) e = ap (λ x. x ∷ []) (word_is w (codes "end") e)
-end_is (w ∷ x ∷ ys) e = absurd cc
+parts_end : (a b c w d x : List Declaration) → parts a b c w (d ++ x) ≡ parts a b c w d ++ x
+parts_end a b c w d x =
+    ap (λ z. a ++ z) (ap (λ z. b ++ z) (ap (λ z. c ++ z) (sym (append_assoc w d x)) ∙ sym (append_assoc c (w ++ d) x)) ∙ sym (append_assoc b (c ++ (w ++ d)) x)) ∙ sym (append_assoc a (b ++ (c ++ (w ++ d))) x)
 
-view_step : (line : ℕ) (dialog : Dialog) (d v : Desc) (ws : List Word) (wss : List (List Word)) (b : Bool) (o : Option Node) → is_end ws ≡ b → view_in (on_line line) ws ≡ o → ((next : ℕ) (further : Dialog) → given (at next (stages.Views further) d) wss ≡ Some v → Views next further d wss v) → went line (cond b (Some (stages.Done, with_dialog d dialog)) (with_view d dialog o)) wss ≡ Some v → Views line dialog d (ws ∷ wss) v
-view_step line dialog d v ws wss true o eb eo later e =
-    let t = done_tells wss (line + 1) (with_dialog d dialog) v e in
-    let whole : dialog ≡ with_views dialog [] = ap (λ x. record dialog { views = x }) (sym (append-nil dialog.views)) in
-    ([], t.0 ∙ ap (with_dialog d) whole, rw (end_is ws eb, t.1) refl, tt)
-view_step line dialog d v ws wss false None eb eo later e = absurd cc
-view_step line dialog d v ws wss false (Some n) eb eo later e =
-    let is = view_read (on_line line) ws n eo in
-    let t = later (line + 1) (with_views dialog (n ∷ [])) e in
-    let same : with_views (with_views dialog (n ∷ [])) t.0 ≡ with_views dialog (n ∷ t.0) = ap (λ x. record dialog { views = x }) (append_assoc dialog.views (n ∷ []) t.0) in
-    (n ∷ t.0, t.1 ∙ ap (with_dialog d) same, rw (t.2, is.2) refl, (is.0, is.1, t.3))
+abbrev whole : Desc → List Declaration → List Declaration
+whole d l = declared.Version ∷ declared.Screen d.width d.height ∷ l
 
-views_tell : (wss : List (List Word)) (line : ℕ) (dialog : Dialog) (d v : Desc) → given (at line (stages.Views dialog) d) wss ≡ Some v → Views line dialog d wss v
-views_tell [] line dialog d v e = absurd cc
-views_tell (ws ∷ wss) line dialog d v e = view_step line dialog d v ws wss (is_end ws) (view_in (on_line line) ws) refl refl (λ next further. views_tell wss next further d v) e
+abbrev starts : Desc → List Declaration
+starts d = start_declarations d.start
 
--- the dialog that is still to come
-abbrev ADialog : ℕ → Desc → List (List Word) → Desc → Type 0
-ADialog line d wss v = (dialog : Dialog) × (v ≡ with_dialog d dialog) × (wss ≡ dialog_lines dialog) × IsDialog line dialog
+abbrev menus_of : Desc → List Declaration
+menus_of d = flat_map menu_declarations d.menus
 
-dialog_step : (line : ℕ) (d v : Desc) (ws : List Word) (wss : List (List Word)) (o : Option Node) → dialog_in (on_line line) ws ≡ o → went line (opened d o) wss ≡ Some v → ADialog line d (ws ∷ wss) v
-dialog_step line d v ws wss None eo e = absurd cc
-dialog_step line d v ws wss (Some n) eo e =
-    let is = dialog_read (on_line line) ws n eo in
-    let empty : Dialog = record { node = n; views = []; rules = [] } in
-    let t = views_tell wss (line + 1) empty d v e in
-    (with_views empty t.0, t.1, same_cons ws (node_words n) wss _ (sym is.2) t.2, (is.0, is.1, t.3, refl))
+abbrev status_of : Desc → List Declaration
+status_of d = map (λ item. declared.Status item) d.status
 
-dialog_tells : (ws : List Word) (wss : List (List Word)) (line : ℕ) (d v : Desc) → went line (dialog_taken (on_line line) d ws) wss ≡ Some v → ADialog line d (ws ∷ wss) v
-dialog_tells ws wss line d v e = dialog_step line d v ws wss (dialog_in (on_line line) ws) refl e
+abbrev windows_of : Desc → List Declaration
+windows_of d = flat_map window_declarations d.windows
 
-dialog_first : (wss : List (List Word)) (line : ℕ) (d v : Desc) → given (at line stages.Dialog d) wss ≡ Some v → ADialog line d wss v
-dialog_first [] line d v e = absurd cc
-dialog_first (ws ∷ wss) line d v e = dialog_tells ws wss line d v e
+abbrev dialogs_of : Desc → List Declaration
+dialogs_of d = flat_map dialog_declarations d.dialogs
 
--- a description without dialogs
-abbrev sized : ℤ → ℤ → Option (List ℕ) → Desc
-sized width height start = record { width = width; height = height; start = start; menus = []; status = []; windows = []; dialogs = [] }
+dialog_added : (d : Desc) (x : Dialog) → declarations_of (record d { dialogs = d.dialogs ++ x ∷ [] }) ≡ declarations_of d ++ dialog_declarations x
+dialog_added d x =
+    ap (λ l. whole d (parts (starts d) (menus_of d) (status_of d) (windows_of d) l)) (flat_end dialog_declarations d.dialogs x)
+    ∙ ap (whole d) (parts_end (starts d) (menus_of d) (status_of d) (windows_of d) (dialogs_of d) (dialog_declarations x))
 
-abbrev Started : ℤ → ℤ → List (List Word) → Desc → Type 0
-Started width height wss v = (start : Option (List ℕ)) × (dialog : Dialog) × (v ≡ with_dialog (sized width height start) dialog) × (wss ≡ start_lines start ++ dialog_lines dialog) × IfSome start IsName × IsDialog (3 + length (start_lines start)) dialog
+window_added : (d : Desc) (x : Window) → d.dialogs ≡ [] → declarations_of (record d { windows = d.windows ++ x ∷ [] }) ≡ declarations_of d ++ window_declarations x
+window_added d x e =
+    rw (e, flat_end window_declarations d.windows x)
+    (ap (λ z. whole d (starts d ++ (menus_of d ++ (status_of d ++ z)))) (append-nil (windows_of d ++ window_declarations x))
+    ∙ ap (whole d) (parts_end (starts d) (menus_of d) (status_of d) (windows_of d) [] (window_declarations x)))
 
-unstarted : (width height : ℤ) (ws : List Word) (wss : List (List Word)) (v : Desc) → went 3 (dialog_taken (on_line 3) (sized width height None) ws) wss ≡ Some v → Started width height (ws ∷ wss) v
-unstarted width height ws wss v e =
-    let t = dialog_tells ws wss 3 (sized width height None) v e in
-    (None, t.0, t.1, t.2, tt, t.3)
+status_added : (d : Desc) (x : StatusItem) → d.windows ≡ [] → d.dialogs ≡ [] → declarations_of (record d { status = d.status ++ x ∷ [] }) ≡ declarations_of d ++ declared.Status x ∷ []
+status_added d x ew e =
+    rw (ew, e, map-append (λ item. declared.Status item) d.status (x ∷ []))
+    (ap (λ z. whole d (starts d ++ (menus_of d ++ z))) (append-nil (status_of d ++ declared.Status x ∷ []))
+    ∙ ap (whole d) (parts_end (starts d) (menus_of d) (status_of d) [] [] (declared.Status x ∷ [])))
 
-start_named : (width height : ℤ) (k m : Word) (wss : List (List Word)) (v : Desc) (o : Option (List ℕ)) → is_bare_word k (codes "start") ≡ true → name_in m ≡ o → went 3 (started (sized width height None) o) wss ≡ Some v → Started width height ((k ∷ m ∷ []) ∷ wss) v
-start_named width height k m wss v None ek eo e = absurd cc
-start_named width height k m wss v (Some name) ek eo e =
-    let named = name_read m name eo in
-    let t = dialog_first wss 4 (sized width height (Some name)) v e in
-    (Some name, t.0, t.1, same_cons _ _ wss _ (same_cons k _ _ _ (word_is k (codes "start") ek) (ap (λ x. x ∷ []) named.0)) t.2, named.1, t.3)
+menu_added : (d : Desc) (x : Menu) → d.status ≡ [] → d.windows ≡ [] → d.dialogs ≡ [] → declarations_of (record d { menus = d.menus ++ x ∷ [] }) ≡ declarations_of d ++ menu_declarations x
+menu_added d x es ew e =
+    rw (es, ew, e, flat_end menu_declarations d.menus x)
+    (ap (λ z. whole d (starts d ++ z)) (append-nil (menus_of d ++ menu_declarations x))
+    ∙ ap (whole d) (parts_end (starts d) (menus_of d) [] [] [] (menu_declarations x)))
 
-start_if : (width height : ℤ) (k m : Word) (wss : List (List Word)) (v : Desc) (b : Bool) → is_bare_word k (codes "start") ≡ b → went 3 (cond b (started (sized width height None) (name_in m)) (dialog_taken (on_line 3) (sized width height None) (k ∷ m ∷ []))) wss ≡ Some v → Started width height ((k ∷ m ∷ []) ∷ wss) v
-start_if width height k m wss v true eb e = start_named width height k m wss v (name_in m) eb refl e
-start_if width height k m wss v false eb e = unstarted width height (k ∷ m ∷ []) wss v e
+start_added : (d : Desc) (name : List ℕ) → d.start ≡ None → d.menus ≡ [] → d.status ≡ [] → d.windows ≡ [] → d.dialogs ≡ [] → declarations_of (record d { start = Some name }) ≡ declarations_of d ++ declared.Start name ∷ []
+start_added d name en em es ew e = rw (en, em, es, ew, e) refl
 
-start_tells : (wss : List (List Word)) (width height : ℤ) (v : Desc) → given (at 3 stages.Start (sized width height None)) wss ≡ Some v → Started width height wss v
-start_tells [] width height v e = absurd cc
-start_tells ([] ∷ wss) width height v e = unstarted width height [] wss v e
-start_tells ((a ∷ []) ∷ wss) width height v e = unstarted width height (a ∷ []) wss v e
-start_tells ((a ∷ b ∷ []) ∷ wss) width height v e = start_if width height a b wss v (is_bare_word a (codes "start")) refl e
-start_tells ((a ∷ b ∷ c ∷ ds) ∷ wss) width height v e = unstarted width height (a ∷ b ∷ c ∷ ds) wss v e
+pub status_none : (d : Desc) → no_status d ≡ true → (d.status ≡ []) × (d.windows ≡ []) × (d.dialogs ≡ [])
+status_none d e =
+    let a = both (length d.status == 0) (no_windows d) e in
+    let b = both (length d.windows == 0) (no_dialogs d) a.1 in
+    (no_items d.status a.0, no_items d.windows b.0, no_items d.dialogs b.1)
 
--- the screen line and what follows it
-abbrev Sized : List (List Word) → Desc → Type 0
-Sized wss v = (width : ℤ) × (height : ℤ) × (rest : List (List Word)) × (wss ≡ (Bare (codes "screen") ∷ number_word width ∷ number_word height ∷ []) ∷ rest) × IsNumber width × IsNumber height × Started width height rest v
+windows_none : (d : Desc) → no_windows d ≡ true → (d.windows ≡ []) × (d.dialogs ≡ [])
+windows_none d e = let b = both (length d.windows == 0) (no_dialogs d) e in (no_items d.windows b.0, no_items d.dialogs b.1)
 
-screen_made : (k a b : Word) (wss : List (List Word)) (v : Desc) (ow oh : Option ℤ) → is_bare_word k (codes "screen") ≡ true → number_in a ≡ ow → number_in b ≡ oh → went 2 (screen_from fresh.desc ow oh) wss ≡ Some v → Sized ((k ∷ a ∷ b ∷ []) ∷ wss) v
-screen_made k a b wss v None oh ek ea eb e = absurd cc
-screen_made k a b wss v (Some width) None ek ea eb e = absurd cc
-screen_made k a b wss v (Some width) (Some height) ek ea eb e =
-    let rw_a = number_word_read a width ea in
-    let rw_b = number_word_read b height eb in
-    (width, height, wss, rw (word_is k (codes "screen") ek, rw_a.0, rw_b.0) refl, rw_a.1, rw_b.1, start_tells wss width height v e)
+-- ---- views, and the panes that they open and end
 
-screen_if : (k a b : Word) (wss : List (List Word)) (v : Desc) (q : Bool) → is_bare_word k (codes "screen") ≡ q → went 2 (cond q (screen_from fresh.desc (number_in a) (number_in b)) None) wss ≡ Some v → Sized ((k ∷ a ∷ b ∷ []) ∷ wss) v
-screen_if k a b wss v true eq e = screen_made k a b wss v (number_in a) (number_in b) eq refl refl e
-screen_if k a b wss v false eq e = absurd cc
+abbrev pub views_so_far : ℕ → List Node → List Declaration
+views_so_far panes [] = []
+views_so_far panes (n ∷ ns) = ends_of_panes panes n.depth ++ (declared.Node n ∷ views_so_far (open_after n) ns)
 
-screen_tells : (wss : List (List Word)) (v : Desc) → given (at 2 stages.Screen fresh.desc) wss ≡ Some v → Sized wss v
-screen_tells [] v e = absurd cc
-screen_tells ([] ∷ wss) v e = absurd cc
-screen_tells ((a ∷ []) ∷ wss) v e = absurd cc
-screen_tells ((a ∷ b ∷ []) ∷ wss) v e = absurd cc
-screen_tells ((k ∷ a ∷ b ∷ []) ∷ wss) v e = screen_if k a b wss v (is_bare_word k (codes "screen")) refl e
-screen_tells ((a ∷ b ∷ c ∷ d ∷ es) ∷ wss) v e = absurd cc
+-- the panes that are open after the last view
+abbrev pub last_panes : ℕ → List Node → ℕ
+last_panes panes [] = panes
+last_panes panes (n ∷ ns) = last_panes (open_after n) ns
 
-abbrev version_words : List Word
-version_words = Bare (codes "tvd") ∷ Bare (codes "1") ∷ []
+all_views : (panes : ℕ) (ns : List Node) → view_declarations panes ns ≡ views_so_far panes ns ++ ends_of_panes (last_panes panes ns) 0
+all_views panes [] = refl
+all_views panes (n ∷ ns) =
+    ap (λ l. ends_of_panes panes n.depth ++ (declared.Node n ∷ l)) (all_views (open_after n) ns)
+    ∙ sym (append_assoc (ends_of_panes panes n.depth) (declared.Node n ∷ views_so_far (open_after n) ns) (ends_of_panes (last_panes (open_after n) ns) 0))
 
-version_if : (k a : Word) (wss : List (List Word)) (v : Desc) (q r : Bool) → is_bare_word k (codes "tvd") ≡ q → is_bare_word a (codes "1") ≡ r → went 1 (cond (q && r) (Some (stages.Screen, fresh.desc)) None) wss ≡ Some v → (k ∷ a ∷ [] ≡ version_words) × Sized wss v
-version_if k a wss v true true eq er e = (rw (word_is k (codes "tvd") eq, word_is a (codes "1") er) refl, screen_tells wss v e)
-version_if k a wss v true false eq er e = absurd cc
-version_if k a wss v false r eq er e = absurd cc
+views_more : (panes : ℕ) (ns : List Node) (v : Node) → views_so_far panes (ns ++ v ∷ []) ≡ views_so_far panes ns ++ (ends_of_panes (last_panes panes ns) v.depth ++ declared.Node v ∷ [])
+views_more panes [] v = refl
+views_more panes (n ∷ ns) v =
+    ap (λ l. ends_of_panes panes n.depth ++ (declared.Node n ∷ l)) (views_more (open_after n) ns v)
+    ∙ sym (append_assoc (ends_of_panes panes n.depth) (declared.Node n ∷ views_so_far (open_after n) ns) (ends_of_panes (last_panes (open_after n) ns) v.depth ++ declared.Node v ∷ []))
 
-version_tells : (wss : List (List Word)) (v : Desc) → given fresh wss ≡ Some v → (rest : List (List Word)) × (wss ≡ version_words ∷ rest) × Sized rest v
-version_tells [] v e = absurd cc
-version_tells ([] ∷ wss) v e = absurd cc
-version_tells ((a ∷ []) ∷ wss) v e = absurd cc
-version_tells ((k ∷ a ∷ []) ∷ wss) v e = let t = version_if k a wss v (is_bare_word k (codes "tvd")) (is_bare_word a (codes "1")) refl refl e in (wss, ap (λ x. x ∷ wss) t.0, t.1)
-version_tells ((a ∷ b ∷ c ∷ ds) ∷ wss) v e = absurd cc
+last_more : (panes : ℕ) (ns : List Node) (v : Node) → last_panes panes (ns ++ v ∷ []) ≡ open_after v
+last_more panes [] v = refl
+last_more panes (n ∷ ns) v = last_more (open_after n) ns v
 
-described : (width height : ℤ) (start : Option (List ℕ)) (dialog : Dialog) → IsNumber width → IsNumber height → IfSome start IsName → IsDialog (3 + length (start_lines start)) dialog → IsDescription (with_dialog (sized width height start) dialog)
-described width height start dialog w h s d = record { width = w; height = h; start = s; menus = refl; status = refl; windows = refl; dialogs = d }
+no_ends : (k : ℕ) → ends_of_panes k k ≡ []
+no_ends k = let none : k - k ≡ 0 = omega arith in rw none refl
 
--- what is read is spelled so
-pub given_spelled : (wss : List (List Word)) (v : Desc) → given fresh wss ≡ Some v → (wss ≡ word_lines v) × IsDescription v
-given_spelled wss v e =
-    let t = version_tells wss v e in
-    let s = t.2 in
-    let r = s.6 in
-    let dialogs : dialog_lines r.1 ≡ flat_map dialog_lines (r.1 ∷ []) = sym (append-nil (dialog_lines r.1)) in
-    let after : s.2 ≡ start_lines r.0 ++ flat_map dialog_lines (r.1 ∷ []) = r.3 ∙ ap (λ x. start_lines r.0 ++ x) dialogs in
-    let lines : wss ≡ word_lines (with_dialog (sized s.0 s.1 r.0) r.1) = t.1 ∙ ap (λ x. version_words ∷ x) (s.3 ∙ ap (λ x. (Bare (codes "screen") ∷ number_word s.0 ∷ number_word s.1 ∷ []) ∷ x) after) in
-    subst (λ x. (wss ≡ word_lines x) × IsDescription x) (sym r.2) (lines, described s.0 s.1 r.0 r.1 s.4 s.5 r.4 r.5)
+one_end : (k panes : ℕ) → 0 < panes → panes ≤ k → ends_of_panes k (panes - 1) ≡ ends_of_panes k panes ++ declared.End ∷ []
+one_end k panes some within =
+    let more : k - (panes - 1) ≡ (k - panes) + 1 = omega (arith, some, within) in
+    rw more (replicate_next (k - panes) declared.End)
 
--- ---- what is spelled so is read
+views_end : (panes : ℕ) (ns : List Node) (v : Node) → AreViews panes ns → IsTrue (is_view v.kind) → v.depth ≤ last_panes panes ns → open_after v ≤ 16 → AreViews panes (ns ++ v ∷ [])
+views_end panes [] v are is within few = (is, within, few, tt)
+views_end panes (n ∷ ns) v (a, b, c, are) is within few = (a, b, c, views_end (open_after n) ns v are is within few)
 
--- a view's line ends no dialog
-not_end : (kind : Kind) (x y w : Word) → IsViewKind kind → is_end (kind_words kind x y w) ≡ false
-not_end (kinds.Text h text) x y w is = refl
-not_end (kinds.Button name text command is_default grabs) x y w is = refl
-not_end (kinds.Window name h number title) x y w is = absurd is
-not_end (kinds.Dialog name h title opens ends) x y w is = absurd is
-not_end (kinds.Label text link) x y w is = absurd is
-not_end (kinds.Input name spec start validates) x y w is = absurd is
-not_end (kinds.CheckBoxes name items start) x y w is = absurd is
-not_end (kinds.RadioButtons name items start) x y w is = absurd is
-not_end (kinds.List name h items start) x y w is = absurd is
-not_end (kinds.Pane name h) x y w is = absurd is
+-- the lines of the views, with one more
+with_view : (ns : List Node) (v : Node) → views_so_far 0 (ns ++ v ∷ []) ++ ends_of_panes (last_panes 0 (ns ++ v ∷ [])) (open_after v) ≡ (views_so_far 0 ns ++ ends_of_panes (last_panes 0 ns) v.depth) ++ declared.Node v ∷ []
+with_view ns v =
+    ap (λ k. views_so_far 0 (ns ++ v ∷ []) ++ ends_of_panes k (open_after v)) (last_more 0 ns v)
+    ∙ ap (λ l. views_so_far 0 (ns ++ v ∷ []) ++ l) (no_ends (open_after v))
+    ∙ append-nil (views_so_far 0 (ns ++ v ∷ []))
+    ∙ views_more 0 ns v
+    ∙ sym (append_assoc (views_so_far 0 ns) (ends_of_panes (last_panes 0 ns) v.depth) (declared.Node v ∷ []))
 
--- a dialog's line is none of `start`
-not_start : (kind : Kind) (x y w : Word) (i : Id) (d : Desc) → IsDialogKind kind → start_taken i d (kind_words kind x y w) ≡ dialog_taken i d (kind_words kind x y w)
-not_start (kinds.Dialog name h title opens ends) x y w i d is = refl
-not_start (kinds.Text h text) x y w i d is = absurd is
-not_start (kinds.Button name text command is_default grabs) x y w i d is = absurd is
-not_start (kinds.Window name h number title) x y w i d is = absurd is
-not_start (kinds.Label text link) x y w i d is = absurd is
-not_start (kinds.Input name spec start validates) x y w i d is = absurd is
-not_start (kinds.CheckBoxes name items start) x y w i d is = absurd is
-not_start (kinds.RadioButtons name items start) x y w i d is = absurd is
-not_start (kinds.List name h items start) x y w i d is = absurd is
-not_start (kinds.Pane name h) x y w i d is = absurd is
+-- ---- stages
 
-views_given : (vs : List Node) (line : ℕ) (dialog : Dialog) (d : Desc) → AreViews line vs → given (at line (stages.Views dialog) d) (map node_words vs ++ end_line ∷ []) ≡ Some (with_dialog d (with_views dialog vs))
-views_given [] line dialog d are = ap (λ x. Some (with_dialog d (record dialog { views = x }))) (sym (append-nil dialog.views))
-views_given (v ∷ vs) line dialog d are =
-    rw (not_end v.kind (number_word v.x) (number_word v.y) (number_word v.w) are.1, read_view line v are.0 are.1)
-    (views_given vs (line + 1) (with_views dialog (v ∷ [])) d are.2 ∙ ap (λ x. Some (with_dialog d (record dialog { views = x }))) (append_assoc dialog.views (v ∷ []) vs))
+-- what is declared up to a stage
+abbrev pub so_far : Stage → Desc → List Declaration
+so_far stages.Version d = []
+so_far stages.Screen d = declared.Version ∷ []
+so_far stages.Between d = declarations_of d
+so_far (stages.InMenu menu) d = declarations_of d ++ (declared.Menu menu.id menu.title ∷ map (λ item. declared.Item item) menu.items)
+so_far (stages.InWindow window) d = declarations_of d ++ (declared.Node window.node ∷ map (λ view. declared.Node view) window.views)
+so_far (stages.InViews node views panes) d = declarations_of d ++ (declared.Node node ∷ (views_so_far 0 views ++ ends_of_panes (last_panes 0 views) panes))
+so_far (stages.InRules dialog) d = declarations_of d ++ (declared.Node dialog.node ∷ (view_declarations 0 dialog.views ++ map (λ rule. declared.Rule rule) dialog.rules))
 
-dialog_given : (line : ℕ) (dialog : Dialog) (d : Desc) → IsDialog line dialog → went line (dialog_taken (on_line line) d (node_words dialog.node)) (map node_words dialog.views ++ end_line ∷ []) ≡ Some (with_dialog d dialog)
-dialog_given line dialog d (placed, kind, are, no_rules) =
-    let empty : Dialog = record { node = dialog.node; views = []; rules = [] } in
-    rw (read_dialog line dialog.node placed kind)
-    (views_given dialog.views (line + 1) empty d are ∙ ap (λ x. Some (with_dialog d (record dialog { rules = x }))) (sym no_rules))
+pub record HasParts (d : Desc) : Type 0 where
+  pub menus : AllByRecursion HasItems d.menus
+  pub windows : AllByRecursion IsWindow d.windows
+  pub dialogs : AllByRecursion IsDialog d.dialogs
 
-start_given : (start : Option (List ℕ)) (width height : ℤ) (dialog : Dialog) → IfSome start IsName → IsDialog (3 + length (start_lines start)) dialog → given (at 3 stages.Start (sized width height None)) (start_lines start ++ dialog_lines dialog) ≡ Some (with_dialog (sized width height start) dialog)
-start_given None width height dialog named is =
-    rw (not_start dialog.node.kind (number_word dialog.node.x) (number_word dialog.node.y) (number_word dialog.node.w) (on_line 3) (sized width height None) is.1)
-    (dialog_given 3 dialog (sized width height None) is)
-start_given (Some name) width height dialog named is = rw (read_name name named) (dialog_given 4 dialog (sized width height (Some name)) is)
+abbrev nothing : Desc
+nothing = fresh.desc
 
-version_given : (width height : ℤ) (start : Option (List ℕ)) (dialog : Dialog) → IsNumber width → IsNumber height → IfSome start IsName → IsDialog (3 + length (start_lines start)) dialog → given fresh (word_lines (with_dialog (sized width height start) dialog)) ≡ Some (with_dialog (sized width height start) dialog)
-version_given width height start dialog w h named is =
-    rw (append-nil (dialog_lines dialog), read_number_word width w, read_number_word height h) (start_given start width height dialog named is)
+-- what holds at each stage
+abbrev pub Sound : Stage → Desc → Type 0
+Sound stages.Version d = d ≡ nothing
+Sound stages.Screen d = d ≡ nothing
+Sound stages.Between d = HasParts d
+Sound (stages.InMenu menu) d = HasParts d × (no_status d ≡ true)
+Sound (stages.InWindow window) d = HasParts d × (no_dialogs d ≡ true) × IsWindow window
+Sound (stages.InViews node views panes) d = HasParts d × (node.depth ≡ 0) × IsTrue (is_dialog node.kind) × AreViews 0 views × (panes ≤ last_panes 0 views)
+Sound (stages.InRules dialog) d = HasParts d × IsDialog dialog
 
-bare : (width height : ℤ) (start : Option (List ℕ)) (menus : List Menu) (status : List StatusItem) (windows : List Window) (dialogs : List Dialog) → IsDescription (record { width = width; height = height; start = start; menus = menus; status = status; windows = windows; dialogs = dialogs }) → given fresh (word_lines (record { width = width; height = height; start = start; menus = menus; status = status; windows = windows; dialogs = dialogs })) ≡ Some (record { width = width; height = height; start = start; menus = menus; status = status; windows = windows; dialogs = dialogs })
-bare width height start menus status windows [] is = absurd is.dialogs
-bare width height start menus status windows (dialog ∷ []) is =
-    rw (is.menus, is.status, is.windows) (version_given width height start dialog is.width is.height is.start is.dialogs)
-bare width height start menus status windows (dialog ∷ other ∷ dialogs) is = absurd is.dialogs
+-- a declaration leads soundly to this stage, and is declared there
+abbrev pub Goes : Stage → Desc → Declaration → Stage × Desc → Type 0
+Goes stage d declaration r = Sound r.0 r.1 × (so_far r.0 r.1 ≡ so_far stage d ++ declaration ∷ [])
 
--- what is spelled so is read
-pub spelled_given : (v : Desc) → IsDescription v → given fresh (word_lines v) ≡ Some v
-spelled_given v is = bare v.width v.height v.start v.menus v.status v.windows v.dialogs is
+goes_same : (stage : Stage) (d : Desc) (x : Declaration) (p r : Stage × Desc) → Some p ≡ Some r → Goes stage d x p → Goes stage d x r
+goes_same stage d x p r e g = let same : p ≡ r = cc in subst (Goes stage d x) same g
+
+version_step : (d : Desc) (x : Declaration) (r : Stage × Desc) → version_taken d x ≡ Some r → d ≡ nothing → Goes stages.Version d x r
+version_step d declared.Version r e s = goes_same stages.Version d declared.Version (stages.Screen, d) r e (s, refl)
+version_step d (declared.Screen a b) r e s = absurd cc
+version_step d (declared.Start a) r e s = absurd cc
+version_step d (declared.Menu a b) r e s = absurd cc
+version_step d (declared.Item a) r e s = absurd cc
+version_step d (declared.Status a) r e s = absurd cc
+version_step d (declared.Node a) r e s = absurd cc
+version_step d (declared.Rule a) r e s = absurd cc
+version_step d declared.End r e s = absurd cc
+
+screen_step : (d : Desc) (x : Declaration) (r : Stage × Desc) → screen_taken d x ≡ Some r → d ≡ nothing → Goes stages.Screen d x r
+screen_step d declared.Version r e s = absurd cc
+screen_step d (declared.Screen w h) r e s =
+    goes_same stages.Screen d (declared.Screen w h) (stages.Between, record d { width = w; height = h }) r e
+    (subst (λ n. Goes stages.Screen n (declared.Screen w h) (stages.Between, record n { width = w; height = h })) (sym s) (record { menus = tt; windows = tt; dialogs = tt }, refl))
+screen_step d (declared.Start a) r e s = absurd cc
+screen_step d (declared.Menu a b) r e s = absurd cc
+screen_step d (declared.Item a) r e s = absurd cc
+screen_step d (declared.Status a) r e s = absurd cc
+screen_step d (declared.Node a) r e s = absurd cc
+screen_step d (declared.Rule a) r e s = absurd cc
+screen_step d declared.End r e s = absurd cc
+
+none_there : {A : Type 0} (o : Option A) → is_none o ≡ true → o ≡ None
+none_there None e = refl
+none_there (Some a) e = absurd cc
+
+start_if : (d : Desc) (name : List ℕ) (r : Stage × Desc) (b : Bool) → (is_none d.start && no_menus d) ≡ b → cond b (Some (stages.Between, record d { start = Some name })) None ≡ Some r → HasParts d → Goes stages.Between d (declared.Start name) r
+start_if d name r true eb e s =
+    let a = both (is_none d.start) (no_menus d) eb in
+    let m = both (length d.menus == 0) (no_status d) a.1 in
+    let n = status_none d m.1 in
+    goes_same stages.Between d (declared.Start name) (stages.Between, record d { start = Some name }) r e
+    (record { menus = s.menus; windows = s.windows; dialogs = s.dialogs }, start_added d name (none_there d.start a.0) (no_items d.menus m.0) n.0 n.1 n.2)
+start_if d name r false eb e s = absurd cc
+
+menu_if : (d : Desc) (menu : Menu) (r : Stage × Desc) (b : Bool) → no_status d ≡ b → menu.items ≡ [] → cond b (Some (stages.InMenu menu, d)) None ≡ Some r → HasParts d → Goes stages.Between d (declared.Menu menu.id menu.title) r
+menu_if d menu r true eb none e s = goes_same stages.Between d (declared.Menu menu.id menu.title) (stages.InMenu menu, d) r e ((s, eb), rw none refl)
+menu_if d menu r false eb none e s = absurd cc
+
+status_if : (d : Desc) (item : StatusItem) (r : Stage × Desc) (b : Bool) → no_windows d ≡ b → cond b (Some (stages.Between, record d { status = d.status ++ item ∷ [] })) None ≡ Some r → HasParts d → Goes stages.Between d (declared.Status item) r
+status_if d item r true eb e s =
+    let n = windows_none d eb in
+    goes_same stages.Between d (declared.Status item) (stages.Between, record d { status = d.status ++ item ∷ [] }) r e
+    (record { menus = s.menus; windows = s.windows; dialogs = s.dialogs }, status_added d item n.0 n.1)
+status_if d item r false eb e s = absurd cc
+
+node_if : (d : Desc) (node : Node) (r : Stage × Desc) (a b c : Bool) → is_window node.kind ≡ a → no_dialogs d ≡ b → is_dialog node.kind ≡ c → cond a (cond b (Some (stages.InWindow (record { node = node; views = [] }), d)) None) (cond c (Some (stages.InViews node [] 0, d)) None) ≡ Some r → HasParts d → node.depth ≡ 0 → Goes stages.Between d (declared.Node node) r
+node_if d node r true true c ea eb ec e s inside =
+    goes_same stages.Between d (declared.Node node) (stages.InWindow (record { node = node; views = [] }), d) r e
+    ((s, eb, record { depth = inside; kind = ea; views = tt }), refl)
+node_if d node r true false c ea eb ec e s inside = absurd cc
+node_if d node r false b true ea eb ec e s inside =
+    goes_same stages.Between d (declared.Node node) (stages.InViews node [] 0, d) r e
+    ((s, inside, ec, tt, omega arith), refl)
+node_if d node r false b false ea eb ec e s inside = absurd cc
+
+part_step : (d : Desc) (x : Declaration) (r : Stage × Desc) → part_taken d x ≡ Some r → HasParts d → IsInside 0 x → Goes stages.Between d x r
+part_step d declared.Version r e s inside = absurd cc
+part_step d (declared.Screen a b) r e s inside = absurd cc
+part_step d (declared.Start name) r e s inside = start_if d name r (is_none d.start && no_menus d) refl e s
+part_step d (declared.Menu i title) r e s inside = menu_if d (record { id = i; title = title; items = [] }) r (no_status d) refl refl e s
+part_step d (declared.Item a) r e s inside = absurd cc
+part_step d (declared.Status item) r e s inside = status_if d item r (no_windows d) refl e s
+part_step d (declared.Node node) r e s inside = node_if d node r (is_window node.kind) (no_dialogs d) (is_dialog node.kind) refl refl refl e s inside
+part_step d (declared.Rule a) r e s inside = absurd cc
+part_step d declared.End r e s inside = absurd cc
+
+menu_end_if : (d : Desc) (menu : Menu) (r : Stage × Desc) (b : Bool) → (length menu.items == 0) ≡ b → cond b None (Some (stages.Between, record d { menus = d.menus ++ menu ∷ [] })) ≡ Some r → HasParts d → no_status d ≡ true → Goes (stages.InMenu menu) d declared.End r
+menu_end_if d menu r true eb e s none = absurd cc
+menu_end_if d menu r false eb e s none =
+    let n = status_none d none in
+    let body = map (λ item. declared.Item item) menu.items in
+    goes_same (stages.InMenu menu) d declared.End (stages.Between, record d { menus = d.menus ++ menu ∷ [] }) r e (
+      record { menus = all_end HasItems d.menus menu s.menus (some_items_if menu.items false eb refl); windows = s.windows; dialogs = s.dialogs },
+      menu_added d menu n.0 n.1 n.2 ∙ onto (declarations_of d) (declared.Menu menu.id menu.title) (body ++ declared.End ∷ []) body declared.End refl,
+    )
+
+menu_step : (d : Desc) (menu : Menu) (x : Declaration) (r : Stage × Desc) → menu_taken d menu x ≡ Some r → HasParts d → no_status d ≡ true → Goes (stages.InMenu menu) d x r
+menu_step d menu declared.Version r e s none = absurd cc
+menu_step d menu (declared.Screen a b) r e s none = absurd cc
+menu_step d menu (declared.Start a) r e s none = absurd cc
+menu_step d menu (declared.Menu a b) r e s none = absurd cc
+menu_step d menu (declared.Item item) r e s none =
+    goes_same (stages.InMenu menu) d (declared.Item item) (stages.InMenu (record menu { items = menu.items ++ item ∷ [] }), d) r e
+    ((s, none), onto (declarations_of d) (declared.Menu menu.id menu.title) (map (λ item. declared.Item item) (menu.items ++ item ∷ [])) (map (λ item. declared.Item item) menu.items) (declared.Item item) (map-append (λ item. declared.Item item) menu.items (item ∷ [])))
+menu_step d menu (declared.Status a) r e s none = absurd cc
+menu_step d menu (declared.Node a) r e s none = absurd cc
+menu_step d menu (declared.Rule a) r e s none = absurd cc
+menu_step d menu declared.End r e s none = menu_end_if d menu r (length menu.items == 0) refl e s none
+
+text_if : (d : Desc) (window : Window) (view : Node) (r : Stage × Desc) (b : Bool) → is_text view.kind ≡ b → cond b (Some (stages.InWindow (record window { views = window.views ++ view ∷ [] }), d)) None ≡ Some r → HasParts d → no_dialogs d ≡ true → IsWindow window → view.depth ≡ 0 → Goes (stages.InWindow window) d (declared.Node view) r
+text_if d window view r true eb e s none is inside =
+    goes_same (stages.InWindow window) d (declared.Node view) (stages.InWindow (record window { views = window.views ++ view ∷ [] }), d) r e (
+      (s, none, record { depth = is.depth; kind = is.kind; views = all_end IsWindowText window.views view is.views (record { depth = inside; kind = eb }) }),
+      onto (declarations_of d) (declared.Node window.node) (map (λ view. declared.Node view) (window.views ++ view ∷ [])) (map (λ view. declared.Node view) window.views) (declared.Node view) (map-append (λ view. declared.Node view) window.views (view ∷ [])),
+    )
+text_if d window view r false eb e s none is inside = absurd cc
+
+window_step : (d : Desc) (window : Window) (x : Declaration) (r : Stage × Desc) → window_taken d window x ≡ Some r → HasParts d → no_dialogs d ≡ true → IsWindow window → IsInside 0 x → Goes (stages.InWindow window) d x r
+window_step d window declared.Version r e s none is inside = absurd cc
+window_step d window (declared.Screen a b) r e s none is inside = absurd cc
+window_step d window (declared.Start a) r e s none is inside = absurd cc
+window_step d window (declared.Menu a b) r e s none is inside = absurd cc
+window_step d window (declared.Item a) r e s none is inside = absurd cc
+window_step d window (declared.Status a) r e s none is inside = absurd cc
+window_step d window (declared.Node view) r e s none is inside = text_if d window view r (is_text view.kind) refl e s none is inside
+window_step d window (declared.Rule a) r e s none is inside = absurd cc
+window_step d window declared.End r e s none is inside =
+    let body = map (λ view. declared.Node view) window.views in
+    goes_same (stages.InWindow window) d declared.End (stages.Between, record d { windows = d.windows ++ window ∷ [] }) r e (
+      record { menus = s.menus; windows = all_end IsWindow d.windows window s.windows is; dialogs = s.dialogs },
+      window_added d window (no_items d.dialogs none) ∙ onto (declarations_of d) (declared.Node window.node) (body ++ declared.End ∷ []) body declared.End refl,
+    )
+
+-- a dialog that is ended
+dialog_ended : (stage : Stage) (d : Desc) (dialog : Dialog) (body : List Declaration) → so_far stage d ≡ declarations_of d ++ (declared.Node dialog.node ∷ body) → view_declarations 0 dialog.views ++ map (λ rule. declared.Rule rule) dialog.rules ≡ body → HasParts d → IsDialog dialog → Goes stage d declared.End (stages.Between, record d { dialogs = d.dialogs ++ dialog ∷ [] })
+dialog_ended stage d dialog body before eb s is =
+    let lines : view_declarations 0 dialog.views ++ (map (λ rule. declared.Rule rule) dialog.rules ++ declared.End ∷ []) ≡ body ++ declared.End ∷ [] = sym (append_assoc (view_declarations 0 dialog.views) (map (λ rule. declared.Rule rule) dialog.rules) (declared.End ∷ [])) ∙ ap (λ l. l ++ declared.End ∷ []) eb in (
+      record { menus = s.menus; windows = s.windows; dialogs = all_end IsDialog d.dialogs dialog s.dialogs is },
+      dialog_added d dialog ∙ onto (declarations_of d) (declared.Node dialog.node) (view_declarations 0 dialog.views ++ (map (λ rule. declared.Rule rule) dialog.rules ++ declared.End ∷ [])) body declared.End lines ∙ ap (λ l. l ++ declared.End ∷ []) (sym before),
+    )
+
+-- the panes that are open after a view
+panes_if : (panes : ℕ) (v : Node) (more : ℕ) (a b : Bool) → is_pane v.kind ≡ a → nat_lt panes 16 ≡ b → cond a (cond b (Some (panes + 1)) None) (Some panes) ≡ Some more → v.depth ≡ panes → panes ≤ 16 → (more ≡ open_after v) × (open_after v ≤ 16)
+panes_if panes v more true true ea eb e inside few =
+    let same : panes + 1 ≡ more = cc in
+    let after : open_after v ≡ panes + 1 = rw (ea, inside) refl in
+    (sym same ∙ sym after, rw after (grind (arith, nat_tests)))
+panes_if panes v more true false ea eb e inside few = absurd cc
+panes_if panes v more false b ea eb e inside few =
+    let same : panes ≡ more = cc in
+    let after : open_after v ≡ panes = rw (ea, inside) refl in
+    (sym same ∙ sym after, rw after few)
+
+last_few : (panes : ℕ) (ns : List Node) → panes ≤ 16 → AreViews panes ns → last_panes panes ns ≤ 16
+last_few panes [] few are = few
+last_few panes (n ∷ ns) few (a, b, c, are) = last_few (open_after n) ns c are
+
+view_if : (d : Desc) (node : Node) (views : List Node) (panes : ℕ) (v : Node) (r : Stage × Desc) (b : Bool) (o : Option ℕ) → is_view v.kind ≡ b → panes_after panes v ≡ o → cond b (option_map (λ more. (stages.InViews node (views ++ v ∷ []) more, d)) o) None ≡ Some r → Sound (stages.InViews node views panes) d → v.depth ≡ panes → Goes (stages.InViews node views panes) d (declared.Node v) r
+view_if d node views panes v r true (Some more) eb eo e (s, flat, kind, are, within) inside =
+    let few : panes ≤ 16 = omega (arith, within, last_few 0 views (omega arith) are) in
+    let after = panes_if panes v more (is_pane v.kind) (nat_lt panes 16) refl refl eo inside few in
+    let below : v.depth ≤ last_panes 0 views = rw inside within in
+    let last : more ≤ last_panes 0 (views ++ v ∷ []) = rw (last_more 0 views v, after.0) (omega arith) in
+    let lines : views_so_far 0 (views ++ v ∷ []) ++ ends_of_panes (last_panes 0 (views ++ v ∷ [])) more ≡ (views_so_far 0 views ++ ends_of_panes (last_panes 0 views) panes) ++ declared.Node v ∷ [] = rw (after.0, ← inside) (with_view views v) in
+    goes_same (stages.InViews node views panes) d (declared.Node v) (stages.InViews node (views ++ v ∷ []) more, d) r e (
+      (s, flat, kind, views_end 0 views v are eb below after.1, last),
+      onto (declarations_of d) (declared.Node node) (views_so_far 0 (views ++ v ∷ []) ++ ends_of_panes (last_panes 0 (views ++ v ∷ [])) more) (views_so_far 0 views ++ ends_of_panes (last_panes 0 views) panes) (declared.Node v) lines,
+    )
+view_if d node views panes v r true None eb eo e s inside = absurd cc
+view_if d node views panes v r false o eb eo e s inside = absurd cc
+
+-- the views of a dialog whose panes have all ended
+views_ended : (views : List Node) (panes : ℕ) → panes ≡ 0 → view_declarations 0 views ≡ views_so_far 0 views ++ ends_of_panes (last_panes 0 views) panes
+views_ended views panes none = all_views 0 views ∙ ap (λ k. views_so_far 0 views ++ ends_of_panes (last_panes 0 views) k) (sym none)
+
+rule_if : (d : Desc) (node : Node) (views : List Node) (panes : ℕ) (rule : Rule) (r : Stage × Desc) (b : Bool) → panes == 0 ≡ b → cond b (Some (stages.InRules (record { node = node; views = views; rules = rule ∷ [] }), d)) None ≡ Some r → Sound (stages.InViews node views panes) d → Goes (stages.InViews node views panes) d (declared.Rule rule) r
+rule_if d node views panes rule r true eb e (s, flat, kind, are, within) =
+    goes_same (stages.InViews node views panes) d (declared.Rule rule) (stages.InRules (record { node = node; views = views; rules = rule ∷ [] }), d) r e (
+      (s, record { depth = flat; kind = kind; views = are }),
+      onto (declarations_of d) (declared.Node node) (view_declarations 0 views ++ declared.Rule rule ∷ []) (views_so_far 0 views ++ ends_of_panes (last_panes 0 views) panes) (declared.Rule rule) (ap (λ l. l ++ declared.Rule rule ∷ []) (views_ended views panes (eqb-true panes 0 eb))),
+    )
+rule_if d node views panes rule r false eb e s = absurd cc
+
+above : (n : ℕ) → n == 0 ≡ false → 0 < n
+above n e = grind (arith, nat_tests)
+
+end_if : (d : Desc) (node : Node) (views : List Node) (panes : ℕ) (r : Stage × Desc) (b : Bool) → panes == 0 ≡ b → cond b (Some (stages.Between, record d { dialogs = d.dialogs ++ record { node = node; views = views; rules = [] } ∷ [] })) (Some (stages.InViews node views (panes - 1), d)) ≡ Some r → Sound (stages.InViews node views panes) d → Goes (stages.InViews node views panes) d declared.End r
+end_if d node views panes r true eb e (s, flat, kind, are, within) =
+    let dialog : Dialog = record { node = node; views = views; rules = [] } in
+    goes_same (stages.InViews node views panes) d declared.End (stages.Between, record d { dialogs = d.dialogs ++ dialog ∷ [] }) r e
+    (dialog_ended (stages.InViews node views panes) d dialog (views_so_far 0 views ++ ends_of_panes (last_panes 0 views) panes) refl (append-nil (view_declarations 0 views) ∙ views_ended views panes (eqb-true panes 0 eb)) s (record { depth = flat; kind = kind; views = are }))
+end_if d node views panes r false eb e (s, flat, kind, are, within) =
+    let lines : views_so_far 0 views ++ ends_of_panes (last_panes 0 views) (panes - 1) ≡ (views_so_far 0 views ++ ends_of_panes (last_panes 0 views) panes) ++ declared.End ∷ [] = ap (λ l. views_so_far 0 views ++ l) (one_end (last_panes 0 views) panes (above panes eb) within) ∙ sym (append_assoc (views_so_far 0 views) (ends_of_panes (last_panes 0 views) panes) (declared.End ∷ [])) in
+    goes_same (stages.InViews node views panes) d declared.End (stages.InViews node views (panes - 1), d) r e (
+      (s, flat, kind, are, omega (arith, within)),
+      onto (declarations_of d) (declared.Node node) (views_so_far 0 views ++ ends_of_panes (last_panes 0 views) (panes - 1)) (views_so_far 0 views ++ ends_of_panes (last_panes 0 views) panes) declared.End lines,
+    )
+
+views_step : (d : Desc) (node : Node) (views : List Node) (panes : ℕ) (x : Declaration) (r : Stage × Desc) → views_taken d node views panes x ≡ Some r → Sound (stages.InViews node views panes) d → IsInside panes x → Goes (stages.InViews node views panes) d x r
+views_step d node views panes declared.Version r e s inside = absurd cc
+views_step d node views panes (declared.Screen a b) r e s inside = absurd cc
+views_step d node views panes (declared.Start a) r e s inside = absurd cc
+views_step d node views panes (declared.Menu a b) r e s inside = absurd cc
+views_step d node views panes (declared.Item a) r e s inside = absurd cc
+views_step d node views panes (declared.Status a) r e s inside = absurd cc
+views_step d node views panes (declared.Node v) r e s inside = view_if d node views panes v r (is_view v.kind) (panes_after panes v) refl refl e s inside
+views_step d node views panes (declared.Rule rule) r e s inside = rule_if d node views panes rule r (panes == 0) refl e s
+views_step d node views panes declared.End r e s inside = end_if d node views panes r (panes == 0) refl e s
+
+rules_step : (d : Desc) (dialog : Dialog) (x : Declaration) (r : Stage × Desc) → rules_taken d dialog x ≡ Some r → HasParts d → IsDialog dialog → Goes (stages.InRules dialog) d x r
+rules_step d dialog declared.Version r e s is = absurd cc
+rules_step d dialog (declared.Screen a b) r e s is = absurd cc
+rules_step d dialog (declared.Start a) r e s is = absurd cc
+rules_step d dialog (declared.Menu a b) r e s is = absurd cc
+rules_step d dialog (declared.Item a) r e s is = absurd cc
+rules_step d dialog (declared.Status a) r e s is = absurd cc
+rules_step d dialog (declared.Node a) r e s is = absurd cc
+rules_step d dialog (declared.Rule rule) r e s is =
+    let before = view_declarations 0 dialog.views in
+    let rules = map (λ rule. declared.Rule rule) dialog.rules in
+    let lines : before ++ map (λ rule. declared.Rule rule) (dialog.rules ++ rule ∷ []) ≡ (before ++ rules) ++ declared.Rule rule ∷ [] = ap (λ l. before ++ l) (map-append (λ rule. declared.Rule rule) dialog.rules (rule ∷ [])) ∙ sym (append_assoc before rules (declared.Rule rule ∷ [])) in
+    goes_same (stages.InRules dialog) d (declared.Rule rule) (stages.InRules (record dialog { rules = dialog.rules ++ rule ∷ [] }), d) r e (
+      (s, record { depth = is.depth; kind = is.kind; views = is.views }),
+      onto (declarations_of d) (declared.Node dialog.node) (before ++ map (λ rule. declared.Rule rule) (dialog.rules ++ rule ∷ [])) (before ++ rules) (declared.Rule rule) lines,
+    )
+rules_step d dialog declared.End r e s is =
+    goes_same (stages.InRules dialog) d declared.End (stages.Between, record d { dialogs = d.dialogs ++ dialog ∷ [] }) r e
+    (dialog_ended (stages.InRules dialog) d dialog (view_declarations 0 dialog.views ++ map (λ rule. declared.Rule rule) dialog.rules) refl refl s is)
+
+-- a declaration more
+pub goes : (stage : Stage) (d : Desc) (x : Declaration) (r : Stage × Desc) → taken_at stage d x ≡ Some r → Sound stage d → IsInside (open_panes stage) x → Goes stage d x r
+goes stages.Version d x r e s inside = version_step d x r e s
+goes stages.Screen d x r e s inside = screen_step d x r e s
+goes stages.Between d x r e s inside = part_step d x r e s inside
+goes (stages.InMenu menu) d x r e s inside = menu_step d menu x r e s.0 s.1
+goes (stages.InWindow window) d x r e s inside = window_step d window x r e s.0 s.1 s.2 inside
+goes (stages.InViews node views panes) d x r e s inside = views_step d node views panes x r e s inside
+goes (stages.InRules dialog) d x r e s inside = rules_step d dialog x r e s.0 s.1

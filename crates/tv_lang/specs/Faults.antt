@@ -7,7 +7,8 @@ use Rattle.tv_lang.specs.declared.description.LangFault.TheVariants.{NoMemory, S
 use Rattle.tv_lang.specs.declared.word.Word.TheVariants.{Bare}
 use Rattle.tv_lang.specs.Lines.{lines_of}
 use Rattle.tv_lang.specs.Words.{SpellsWords}
-use Rattle.tv_lang.specs.Spelling.{number_word, word_lines, IsNumber, IsDescription}
+use Rattle.tv_lang.specs.Spelling.{word_lines, IsDescription}
+use Rattle.tv_lang.specs.Spelling.Terms.{number_word, IsNumber}
 use Rattle.tv_lang.specs.Texts.{SpellsBy, BeginsBy, IsFirstFault}
 
 -- the lines spell the description

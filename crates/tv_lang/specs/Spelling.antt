@@ -1,145 +1,117 @@
--- How a description is spelled: the words of each of its declarations.
-use Rattle.std.specs.Prelude.{◌≡◌, ℕ, ◌+◌, ◌<◌, ℤ, List, [], ◌∷◌, ◌++◌, map, flat_map, length, take, drop, slice_index, Bool, false, Option, Some, None, ◌==◌, IfSome, IsTrue, FitsSigned, codes, if◌then◌else◌}
-use Rattle.std.specs.List.{list_any}
-use Rattle.std.specs.Fmt.{signed_decimal}
-use Rattle.std.specs.Char.{is_ascii_alphanumeric}
-use Rattle.std.specs.Int.{w32}
-use Rattle.tv_model.specs.declared.node.CommandSpec.{CommandSpec}
-use Rattle.tv_model.specs.declared.node.CommandSpec.TheVariants as commands
-use Rattle.tv_model.specs.declared.node.Ends.{Ends}
-use Rattle.tv_model.specs.declared.node.MarkedText.{MarkedText}
+-- How a description is spelled: its declarations, and the words of each.
+use Rattle.std.specs.Prelude.{◌≡◌, ◌≢◌, ℕ, ◌+◌, ◌-◌, ◌≤◌, Bool, true, false, not, ◌||◌, List, [], ◌∷◌, ◌++◌, map, flat_map, replicate, Option, Some, None, IsTrue, if◌then◌else◌}
+use Rattle.std.specs.List.{AllByRecursion}
 use Rattle.tv_model.specs.declared.node.Node.{Node}
 use Rattle.tv_model.specs.declared.node.Kind.{Kind}
 use Rattle.tv_model.specs.declared.node.Kind.TheVariants as kinds
 use Rattle.tv_model.specs.declared.desc.Desc.{Desc}
 use Rattle.tv_model.specs.declared.desc.Dialog.{Dialog}
+use Rattle.tv_model.specs.declared.desc.Menu.{Menu}
+use Rattle.tv_model.specs.declared.desc.MenuItem.{MenuItem}
+use Rattle.tv_model.specs.declared.desc.Rule.{Rule}
+use Rattle.tv_model.specs.declared.desc.StatusItem.{StatusItem}
+use Rattle.tv_model.specs.declared.desc.Window.{Window}
+use Rattle.tv_model.specs.Nodes.{is_pane}
 use Rattle.tv_lang.specs.declared.word.Word.{Word}
-use Rattle.tv_lang.specs.declared.word.Word.TheVariants.{Bare, Quoted}
-use Rattle.tv_lang.specs.Names.{is_name}
-
--- a number stands in decimal
-abbrev pub number_word : ℤ → Word
-number_word n = Bare (signed_decimal n)
-
--- the word of a command
-abbrev pub command_word : CommandSpec → Word
-command_word commands.Quit = Bare (codes "quit")
-command_word commands.Menu = Bare (codes "menu")
-command_word commands.Close = Bare (codes "close")
-command_word commands.Next = Bare (codes "next")
-command_word commands.Ok = Bare (codes "ok")
-command_word commands.Cancel = Bare (codes "cancel")
-command_word commands.Yes = Bare (codes "yes")
-command_word commands.No = Bare (codes "no")
-command_word (commands.Number n) = number_word n
-
--- the keyword, where it is wanted
-abbrev pub word_if : Bool → List ℕ → List Word
-word_if wanted keyword = if wanted then Bare keyword ∷ [] else []
-
--- the end commands, in this order
-abbrev pub ends_words : Ends → List Word
-ends_words e = word_if e.ok (codes "ok") ++ (word_if e.cancel (codes "cancel") ++ (word_if e.yes (codes "yes") ++ word_if e.no (codes "no")))
-
--- the character `~`
-abbrev pub is_tilde : ℕ → Bool
-is_tilde c = c == 126
-
--- a text with `~` at both sides of the marked letter
-abbrev pub with_mark : Option ℕ → List ℕ → List ℕ
-with_mark None text = text
-with_mark (Some place) text = take place text ++ (126 ∷ slice_index text place ∷ 126 ∷ drop (place + 1) text)
-
--- the word of a text that may be marked
-abbrev pub marked_word : MarkedText → Word
-marked_word m = Quoted (with_mark m.mark m.text)
-
--- the words that declare a node of the kind, at the column and row and with the width
-abbrev pub kind_words : Kind → Word → Word → Word → List Word
-kind_words (kinds.Dialog name h title opens ends) x y w = Bare (codes "dialog") ∷ Bare name ∷ x ∷ y ∷ w ∷ number_word h ∷ Quoted title ∷ Bare (codes "ends") ∷ ends_words ends
-kind_words (kinds.Text h text) x y w = Bare (codes "text") ∷ x ∷ y ∷ w ∷ number_word h ∷ Quoted text ∷ []
-kind_words (kinds.Button name text command is_default grabs) x y w = Bare (codes "button") ∷ Bare name ∷ x ∷ y ∷ w ∷ marked_word text ∷ command_word command ∷ []
-kind_words _ x y w = []
-
--- the words of the line that declares the node
-abbrev pub node_words : Node → List Word
-node_words n = kind_words n.kind (number_word n.x) (number_word n.y) (number_word n.w)
-
--- the line that ends a dialog
-abbrev pub end_line : List Word
-end_line = Bare (codes "end") ∷ []
-
--- a dialog's own line, those of its views, and the end
-abbrev pub dialog_lines : Dialog → List (List Word)
-dialog_lines d = node_words d.node ∷ (map node_words d.views ++ end_line ∷ [])
+use Rattle.tv_lang.specs.declared.declaration.Declaration.{Declaration}
+use Rattle.tv_lang.specs.declared.declaration.Declaration.TheVariants as declared
+use Rattle.tv_lang.specs.Spelling.Declarations.{declaration_words, AreDeclarations}
+pub mod Terms
+pub mod Keys
+pub mod Nodes
+pub mod Declarations
 
 -- the line of the dialog that is open at the start, where there is one
-abbrev pub start_lines : Option (List ℕ) → List (List Word)
-start_lines None = []
-start_lines (Some name) = (Bare (codes "start") ∷ Bare name ∷ []) ∷ []
+abbrev pub start_declarations : Option (List ℕ) → List Declaration
+start_declarations None = []
+start_declarations (Some name) = declared.Start name ∷ []
+
+-- a menu's own line, those of its items, and the end
+abbrev pub menu_declarations : Menu → List Declaration
+menu_declarations m = declared.Menu m.id m.title ∷ (map (λ item. declared.Item item) m.items ++ declared.End ∷ [])
+
+-- a window's own line, those of its texts, and the end
+abbrev pub window_declarations : Window → List Declaration
+window_declarations w = declared.Node w.node ∷ (map (λ view. declared.Node view) w.views ++ declared.End ∷ [])
+
+-- the ends of the panes that are open, until only so many are
+abbrev pub ends_of_panes : (panes depth : ℕ) → List Declaration
+ends_of_panes panes depth = replicate (panes - depth) declared.End
+
+-- the panes that are open after the node's line
+abbrev pub open_after : Node → ℕ
+open_after n = if is_pane n.kind then n.depth + 1 else n.depth
+
+-- the lines of views, from where so many panes are open: before each the panes end that aren't around it, and all in the end
+abbrev pub view_declarations : ℕ → List Node → List Declaration
+view_declarations panes [] = ends_of_panes panes 0
+view_declarations panes (n ∷ ns) = ends_of_panes panes n.depth ++ (declared.Node n ∷ view_declarations (open_after n) ns)
+
+-- a dialog's own line, those of its views and of its rules, and the end
+abbrev pub dialog_declarations : Dialog → List Declaration
+dialog_declarations d = declared.Node d.node ∷ (view_declarations 0 d.views ++ (map (λ rule. declared.Rule rule) d.rules ++ declared.End ∷ []))
+
+-- the declarations of a description, each on a line
+abbrev pub declarations_of : Desc → List Declaration
+declarations_of d =
+    declared.Version ∷ declared.Screen d.width d.height ∷ (start_declarations d.start
+    ++ (flat_map menu_declarations d.menus
+    ++ (map (λ item. declared.Status item) d.status
+    ++ (flat_map window_declarations d.windows
+    ++ flat_map dialog_declarations d.dialogs))))
 
 -- the words of each declaration
 abbrev pub word_lines : Desc → List (List Word)
-word_lines d = (Bare (codes "tvd") ∷ Bare (codes "1") ∷ []) ∷ (Bare (codes "screen") ∷ number_word d.width ∷ number_word d.height ∷ []) ∷ (start_lines d.start ++ flat_map dialog_lines d.dialogs)
+word_lines d = map declaration_words (declarations_of d)
 
 -- ---- what can be spelled
 
--- a number of 32 bits with a sign
-abbrev pub IsNumber : ℤ → Type 0
-IsNumber n = FitsSigned w32 n
+abbrev pub is_window : Kind → Bool
+is_window (kinds.Window name h number title) = true
+is_window _ = false
 
--- a name as Names has it
-abbrev pub IsName : List ℕ → Type 0
-IsName text = IsTrue (is_name text)
+abbrev pub is_dialog : Kind → Bool
+is_dialog (kinds.Dialog name h title opens ends) = true
+is_dialog _ = false
 
--- no `~` in the text, and the mark is at a letter or digit of it
-abbrev pub IsMarked : MarkedText → Type 0
-IsMarked m = (list_any is_tilde m.text ≡ false) × IfSome m.mark (λ place. (place < length m.text) × IsTrue (is_ascii_alphanumeric (slice_index m.text place)))
+abbrev pub is_text : Kind → Bool
+is_text (kinds.Text h text) = true
+is_text _ = false
 
--- a command, whose number may be any
-abbrev pub IsCommand : CommandSpec → Type 0
-IsCommand (commands.Number n) = IsNumber n
-IsCommand _ = Unit {0}
+-- anything that can stand in a dialog
+abbrev pub is_view : Kind → Bool
+is_view kind = not (is_window kind || is_dialog kind)
 
--- the node stands on this line of the canonical text, in no pane
-pub record IsPlaced (line : ℕ) (n : Node) : Type 0 where
-  pub id : n.id.0 ≡ line
+-- a menu has an item
+abbrev pub HasItems : Menu → Type 0
+HasItems m = m.items ≢ []
+
+-- a static text in no pane
+pub record IsWindowText (n : Node) : Type 0 where
   pub depth : n.depth ≡ 0
-  pub x : IsNumber n.x
-  pub y : IsNumber n.y
-  pub w : IsNumber n.w
+  pub kind : IsTrue (is_text n.kind)
 
--- a static text, or a button that is neither the default nor grabs the focus
-abbrev pub IsViewKind : Kind → Type 0
-IsViewKind (kinds.Text h text) = IsNumber h
-IsViewKind (kinds.Button name text command is_default grabs) = IsName name × IsMarked text × IsCommand command × (is_default ≡ false) × (grabs ≡ false)
-IsViewKind _ = ⊥
+-- a window, with nothing but static texts
+pub record IsWindow (w : Window) : Type 0 where
+  pub depth : w.node.depth ≡ 0
+  pub kind : IsTrue (is_window w.node.kind)
+  pub views : AllByRecursion IsWindowText w.views
 
--- a dialog that no command opens
-abbrev pub IsDialogKind : Kind → Type 0
-IsDialogKind (kinds.Dialog name h title opens ends) = IsName name × IsNumber h × (opens ≡ None)
-IsDialogKind _ = ⊥
-
--- views on consecutive lines
+-- views each of which stands in some of the panes that are open before it; at most 16 are
 abbrev pub AreViews : ℕ → List Node → Type 0
-AreViews line [] = Unit {0}
-AreViews line (v ∷ vs) = IsPlaced line v × IsViewKind v.kind × AreViews (line + 1) vs
+AreViews panes [] = Unit {0}
+AreViews panes (n ∷ ns) = IsTrue (is_view n.kind) × (n.depth ≤ panes) × (open_after n ≤ 16) × AreViews (open_after n) ns
 
--- a dialog from this line on, without rules
-abbrev pub IsDialog : ℕ → Dialog → Type 0
-IsDialog line d = IsPlaced line d.node × IsDialogKind d.node.kind × AreViews (line + 1) d.views × (d.rules ≡ [])
+-- a dialog with such views
+pub record IsDialog (d : Dialog) : Type 0 where
+  pub depth : d.node.depth ≡ 0
+  pub kind : IsTrue (is_dialog d.node.kind)
+  pub views : AreViews 0 d.views
 
--- just one dialog, from this line on
-abbrev pub AreDialogs : ℕ → List Dialog → Type 0
-AreDialogs line (d ∷ []) = IsDialog line d
-AreDialogs line _ = ⊥
-
--- a description of one dialog with texts and buttons, whose nodes have the lines of the canonical text as their numbers
+-- a description that a text can spell: each declaration can be spelled and has its line as its number, and each part has
+-- what can stand in it
 pub record IsDescription (d : Desc) : Type 0 where
-  pub width : IsNumber d.width
-  pub height : IsNumber d.height
-  pub start : IfSome d.start IsName
-  pub menus : d.menus ≡ []
-  pub status : d.status ≡ []
-  pub windows : d.windows ≡ []
-  pub dialogs : AreDialogs (3 + length (start_lines d.start)) d.dialogs
+  pub declarations : AreDeclarations 1 (declarations_of d)
+  pub menus : AllByRecursion HasItems d.menus
+  pub windows : AllByRecursion IsWindow d.windows
+  pub dialogs : AllByRecursion IsDialog d.dialogs

@@ -1,7 +1,7 @@
 //! Commands as words.
 
 ghost use Rattle.std.specs.Prelude.{◌≡◌};
-ghost use Rattle.tv_lang.specs.Reading.Commands.{command_in, named_command, ends_in, is_next, after_next};
+ghost use Rattle.tv_lang.specs.Reading.Commands.{command_in, named_command, ends_in, is_next, after_next, button_options_in};
 
 use crate::word::Word;
 use tv_model::{CommandSpec, Ends};
@@ -56,8 +56,17 @@ pub fn ends(words: &[Word]) -> Option<Ends>
     })
 }
 
-// Whether the keyword comes first, and the words after it.
-fn skip<'a>(words: &'a [Word], keyword: &[u8]) -> (bool, &'a [Word])
+/// Whether a button is the default, and whether it grabs the focus.
+pub fn button_options(words: &[Word]) -> Option<(bool, bool)>
+    ensures { result ≡ button_options_in words.now }
+{
+    let (is_default, words) = skip(words, b"default");
+    let (grabs, words) = skip(words, b"grab");
+    words.is_empty().then_some((is_default, grabs))
+}
+
+/// Whether the keyword comes first, and the words after it.
+pub fn skip<'a>(words: &'a [Word], keyword: &[u8]) -> (bool, &'a [Word])
     ensures found { result.0 ≡ is_next keyword.now words.now }
     ensures rest { result.1.now ≡ after_next keyword.now words.now }
 {

@@ -4,7 +4,7 @@ ghost use Rattle.std.specs.Prelude.{◌≡◌, ◌<◌, IfOk, IfSome, length, po
 ghost use Rattle.std.specs.Option.{option_map};
 ghost use Rattle.std.specs.Char.{is_ascii_alphanumeric};
 ghost use Rattle.std.specs.List.{list_any};
-ghost use Rattle.tv_lang.specs.Spelling.{is_tilde};
+ghost use Rattle.tv_lang.specs.Spelling.Terms.{is_tilde};
 ghost use Rattle.tv_lang.specs.Reading.Marks.{end_of_mark, marked_in};
 
 use std::alloc::{AllocError, Global};

@@ -1,25 +1,15 @@
-//! How far a description is read, declaration by declaration.
+//! How far a description is read, line by line.
 
 ghost use Rattle.std.specs.Prelude.{◌≡◌, ◌+◌, ◌<◌, ◌^◌, IfOk};
-ghost use Rattle.tv_lang.specs.Reading.Stages.{fresh, screen_taken, start_taken, dialog_taken, view_taken, is_other, version_taken, taken, finished, is_other_version};
+ghost use Rattle.std.specs.Option.{option_map};
+ghost use Rattle.tv_lang.specs.Reading.Stages.{finished, fresh, progress, taken_at, is_other, is_other_version, taken};
 
-use crate::node;
+use crate::declaration::{Declaration, declared};
+use crate::place::Position;
+use crate::stage::Stage;
 use crate::word::Word;
 use std::alloc::{AllocError, Global};
-use tv_model::{Desc, Dialog, Id, Sequence};
-
-// Which declarations may come next.
-#[derive(Drop)]
-enum Stage {
-    Version,
-    Screen,
-    // The start line or a dialog.
-    Start,
-    Dialog,
-    // The views of this dialog.
-    Views(Dialog),
-    Done,
-}
+use tv_model::{Desc, Id, Sequence};
 
 /// A description that is read up to some declaration.
 #[derive(Drop)]
@@ -61,36 +51,56 @@ impl Progress {
         }
     }
 
-    /// Goes on by the declaration, or gives `None` where it can't come here.
+    /// Goes on by the declaration that the words are, or gives `None` where it can't come here.
     pub fn take(self, alloc: Global, words: &[Word]) -> Result<Option<Progress>, AllocError>
         requires { self.next + 1 < 2 ^ 32 }
         ensures { IfOk result (λ further. further ≡ taken self words.now) }
     {
-        let Progress { next, stage, desc } = self;
-        let id = Id(next);
-        let further = match stage {
-            Stage::Version => version(desc, words),
-            Stage::Screen => screen(desc, words),
-            Stage::Start => start_or_dialog(alloc, id, desc, words)?,
-            Stage::Dialog => dialog(alloc, id, desc, words)?,
-            Stage::Views(dialog) => view_or_end(alloc, id, desc, dialog, words)?,
-            Stage::Done => None,
+        let at = Position {
+            id: Id(self.next),
+            depth: self.stage.open_panes(),
         };
-        Ok(further.map(|(stage, desc)| Progress {
-            next: next + 1,
-            stage,
-            desc,
-        }))
+        match declared(alloc, at, words)? {
+            Some(declaration) => self.go(alloc, declaration),
+            None => Ok(None),
+        }
+    }
+
+    // Goes on by the declaration, which stands on the next line.
+    fn go(self, alloc: Global, declaration: Declaration) -> Result<Option<Progress>, AllocError>
+        requires { self.next + 1 < 2 ^ 32 }
+        ensures { IfOk result (λ further. further ≡ option_map (progress (self.next + 1)) (taken_at self.stage self.desc declaration)) }
+    {
+        let Progress { next, stage, desc } = self;
+        let further = stage.take(alloc, desc, declaration)?;
+        Ok(with_next(next + 1, further))
+    }
+
+    fn into_desc(self) -> Desc
+        ensures { result ≡ self.desc }
+    {
+        self.desc
     }
 
     /// The description, where it is read to its end.
     pub fn finish(self) -> Option<Desc>
         ensures { result ≡ finished self }
     {
-        match self.stage {
-            Stage::Done => Some(self.desc),
-            _ => None,
+        if self.stage.is_between() {
+            Some(self.into_desc())
+        } else {
+            None
         }
+    }
+}
+
+// The progress after a declaration, with this line to come next.
+fn with_next(next: u32, further: Option<(Stage, Desc)>) -> Option<Progress>
+    ensures { result ≡ option_map (progress next) further }
+{
+    match further {
+        Some((stage, desc)) => Some(Progress { next, stage, desc }),
+        None => None,
     }
 }
 
@@ -98,87 +108,4 @@ fn is_other(version: Option<i32>) -> bool
     ensures { result ≡ is_other version }
 {
     version.is_some_and(|number| number != 1)
-}
-
-fn version(desc: Desc, words: &[Word]) -> Option<(Stage, Desc)>
-    ensures { result ≡ version_taken desc words.now }
-{
-    match words {
-        [keyword, version] if keyword.is(b"tvd") && version.is(b"1") => Some((Stage::Screen, desc)),
-        _ => None,
-    }
-}
-
-fn screen(mut desc: Desc, words: &[Word]) -> Option<(Stage, Desc)>
-    ensures { result ≡ screen_taken desc words.now }
-{
-    match words {
-        [keyword, width, height] if keyword.is(b"screen") => {
-            desc.width = width.number()?;
-            desc.height = height.number()?;
-            Some((Stage::Start, desc))
-        }
-        _ => None,
-    }
-}
-
-fn start_or_dialog(
-    alloc: Global,
-    id: Id,
-    mut desc: Desc,
-    words: &[Word],
-) -> Result<Option<(Stage, Desc)>, AllocError>
-    ensures { IfOk result (λ further. further ≡ start_taken id desc words.now) }
-{
-    match words {
-        [keyword, name] if keyword.is(b"start") => {
-            let Some(name) = name.name() else {
-                return Ok(None);
-            };
-            desc.start = Some(node::copy(alloc, name)?);
-            Ok(Some((Stage::Dialog, desc)))
-        }
-        _ => dialog(alloc, id, desc, words),
-    }
-}
-
-fn dialog(
-    alloc: Global,
-    id: Id,
-    desc: Desc,
-    words: &[Word],
-) -> Result<Option<(Stage, Desc)>, AllocError>
-    ensures { IfOk result (λ further. further ≡ dialog_taken id desc words.now) }
-{
-    let Some(node) = node::dialog(alloc, id, words)? else {
-        return Ok(None);
-    };
-    let dialog = Dialog {
-        node,
-        views: Sequence::new(alloc),
-        rules: Sequence::new(alloc),
-    };
-    Ok(Some((Stage::Views(dialog), desc)))
-}
-
-fn view_or_end(
-    alloc: Global,
-    id: Id,
-    mut desc: Desc,
-    mut dialog: Dialog,
-    words: &[Word],
-) -> Result<Option<(Stage, Desc)>, AllocError>
-    ensures { IfOk result (λ further. further ≡ view_taken id desc dialog words.now) }
-{
-    if let [keyword] = words
-        && keyword.is(b"end")
-    {
-        desc.dialogs.push(dialog)?;
-        return Ok(Some((Stage::Done, desc)));
-    }
-    let Some(view) = node::view(alloc, id, words)? else {
-        return Ok(None);
-    };
-    dialog.views.push(view)?;
-    Ok(Some((Stage::Views(dialog), desc)))
 }

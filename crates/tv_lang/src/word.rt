@@ -32,7 +32,7 @@ impl Word {
     }
 
     /// The number that a bare word is the decimal text of, where it is one of an `i32`.
-    pub(crate) fn number(&self) -> Option<i32>
+    pub fn number(&self) -> Option<i32>
         ensures { result ≡ number_in self.now }
     {
         match self {

@@ -1,6 +1,16 @@
 -- What fills the rectangle of each layer, by columns and rows from its corner.
 use Rattle.std.specs.Prelude.{ℕ, Bool, true, false, not, ◌&&◌, ◌||◌, List, [], ◌∷◌, ◌++◌, length, take, min, Option, Some, None, slice_index_or, ◌+◌, ◌-◌, ◌/◌, ◌==◌, nat_le, nat_lt, if◌then◌else◌, codes}
 use Rattle.tv_cells.specs.Glyph.{Glyph, glyph, shown}
+use Rattle.tv_palette.specs.Attributes.{attribute_of}
+use Rattle.tv_palette.specs.declared.role.Owner.{Owner}
+use Rattle.tv_palette.specs.declared.role.Owner.TheVariants as owners
+use Rattle.tv_palette.specs.declared.role.Role.{Role}
+use Rattle.tv_palette.specs.declared.role.Role.TheVariants as roles
+use Rattle.tv_palette.specs.declared.role.BarRole.TheVariants as bar
+use Rattle.tv_palette.specs.declared.role.FrameRole.{FrameRole}
+use Rattle.tv_palette.specs.declared.role.FrameRole.TheVariants as frame
+use Rattle.tv_palette.specs.declared.role.ButtonRole.{ButtonRole}
+use Rattle.tv_palette.specs.declared.role.ButtonRole.TheVariants as button
 
 -- a cell for each column and row
 abbrev pub FaceOf : Type 0
@@ -23,19 +33,41 @@ over_row from count row below x = if nat_le from x && nat_lt x (from + count) th
 -- ---- the desktop, the bar and the status line
 
 abbrev pub background : FaceOf
-background x y = shown 46 0x71
+background x y = shown 46 (attribute_of roles.Background)
 
 -- the menu bar without menus, and the status line without items
 abbrev pub empty_bar : FaceOf
-empty_bar x y = glyph 32 0x70
+empty_bar x y = glyph 32 (attribute_of (roles.Bar bar.Normal))
 
--- ---- the frame of a dialog, which is active
+-- ---- frames
 
--- a corner at both ends, and `=` between
-abbrev pub border : ℕ → Row
-border w x = if (x == 0) || (x + 1 == w) then 43 else 61
+-- how a frame stands: its number, or 0 for none, and the attributes of its edge and of what it surrounds
+pub record FrameLook : Type 0 where
+  pub number : ℕ
+  pub is_active : Bool
+  pub edge : ℕ
+  pub inside : ℕ
 
--- the title, cut so that the close mark stays free, with a space at both sides; nothing for an empty one
+abbrev pub frame_role : Bool → FrameRole
+frame_role is_active = if is_active then frame.Active else frame.Passive
+
+-- the frame of a window or a dialog, in the colours of its roles
+abbrev pub frame_look : (Role → ℕ) → Owner → ℕ → Bool → FrameLook
+frame_look colour owner number is_active = record {
+  number = number;
+  is_active = is_active;
+  edge = colour (roles.Frame owner (frame_role is_active));
+  inside = colour (roles.Frame owner frame.Body);
+}
+
+abbrev pub is_side : ℕ → ℕ → Bool
+is_side w x = (x == 0) || (x + 1 == w)
+
+-- a corner at both ends, and between them `=` if the frame is active, else `-`
+abbrev pub border : Bool → ℕ → Row
+border is_active w x = if is_side w x then 43 else if is_active then 61 else 45
+
+-- the title, cut so that the close mark and the number stay free, with a space at both sides; nothing for an empty one
 abbrev pub cut_title : ℕ → List ℕ → List ℕ
 cut_title w title = take (w - 12) title
 
@@ -43,19 +75,23 @@ abbrev pub titled : ℕ → List ℕ → Row → Row
 titled w [] below = below
 titled w (ch ∷ chars) below = over_row ((w - (length (ch ∷ chars) + 2)) / 2) (length (ch ∷ chars) + 2) (text_row (32 ∷ ch ∷ chars)) below
 
--- the top row: the close mark in the columns 2 to 4, the title in the middle
-abbrev pub top_row : ℕ → List ℕ → Row
-top_row w title = over_row 2 3 (text_row (codes "[x]")) (titled w (cut_title w title) (border w))
+-- the digit of a number in the fourth column from the end
+abbrev pub numbered : ℕ → ℕ → Row → Row
+numbered w number below x = if not (number == 0) && (x + 4 == w) then 48 + number else below x
 
-abbrev pub is_side : ℕ → ℕ → Bool
-is_side w x = (x == 0) || (x + 1 == w)
+-- the close mark of an active frame in the columns 2 to 4
+abbrev pub closed : Bool → Row → Row
+closed is_active below = if is_active then over_row 2 3 (text_row (codes "[x]")) below else below
 
-abbrev pub dialog_frame : ℕ → ℕ → List ℕ → FaceOf
-dialog_frame w h title x y =
-    if y == 0 then shown (top_row w title x) 0x7f
-    else if y + 1 == h then shown (border w x) 0x7f
-    else if is_side w x then shown 124 0x7f
-    else glyph 32 0x70
+abbrev pub top_row : ℕ → List ℕ → FrameLook → Row
+top_row w title look = closed look.is_active (numbered w look.number (titled w (cut_title w title) (border look.is_active w)))
+
+abbrev pub frame_face : ℕ → ℕ → List ℕ → FrameLook → FaceOf
+frame_face w h title look x y =
+    if y == 0 then shown (top_row w title look x) look.edge
+    else if y + 1 == h then shown (border look.is_active w x) look.edge
+    else if is_side w x then shown 124 look.edge
+    else glyph 32 look.inside
 
 -- ---- static texts
 
@@ -68,9 +104,13 @@ abbrev pub pieces_of : List ℕ → List (List ℕ)
 pieces_of [] = [] ∷ []
 pieces_of (ch ∷ chars) = if ch == 10 then [] ∷ pieces_of chars else onto_first ch (pieces_of chars)
 
--- a piece a row, in a dialog
-abbrev pub static_text : List ℕ → FaceOf
-static_text text x y = shown (text_row (slice_index_or (pieces_of text) y []) x) 0x70
+-- a piece a row
+abbrev pub text_face : List ℕ → ℕ → FaceOf
+text_face text attr x y = shown (text_row (slice_index_or (pieces_of text) y []) x) attr
+
+-- in a window or a dialog
+abbrev pub static_text : Owner → List ℕ → FaceOf
+static_text owner text = text_face text (attribute_of (roles.StaticText owner))
 
 -- ---- buttons
 
@@ -98,13 +138,20 @@ abbrev pub is_letter : ℕ → List ℕ → Option ℕ → ℕ → Bool
 is_letter w text None x = false
 is_letter w text (Some mark) x = nat_lt mark (length (button_text w text)) && (x == button_start w text + mark)
 
+abbrev pub button_role : ButtonLook → Bool → ButtonRole
+button_role look letter =
+    if look.is_disabled then button.Disabled
+    else if letter then button.Letter
+    else if look.is_focused then button.Focused
+    else if look.is_default_now then button.Default
+    else button.Normal
+
 abbrev pub button_attr : ButtonLook → Bool → ℕ
-button_attr look letter =
-    if look.is_disabled then 0x78
-    else if letter then 0x2e
-    else if look.is_focused then 0x2f
-    else if look.is_default_now then 0x2b
-    else 0x20
+button_attr look letter = attribute_of (roles.Button (button_role look letter))
+
+-- one attribute for the marked letter, and one for the rest
+abbrev pub button_cells : ℕ → List ℕ → Option ℕ → Bool → ℕ → ℕ → FaceOf
+button_cells w text mark is_default_now letter rest x y = shown (button_row w text is_default_now x) (if is_letter w text mark x then letter else rest)
 
 abbrev pub button_face : ℕ → List ℕ → Option ℕ → ButtonLook → FaceOf
-button_face w text mark look x y = shown (button_row w text look.is_default_now x) (button_attr look (is_letter w text mark x))
+button_face w text mark look = button_cells w text mark look.is_default_now (button_attr look true) (button_attr look false)

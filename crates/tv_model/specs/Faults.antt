@@ -1,217 +1,136 @@
 -- Sound descriptions: each fault is a condition on the lists of declarations. A fault names a line of the canonical text.
--- So far the conditions are those of descriptions of one dialog with static texts and buttons, without panes and rules.
-use Rattle.std.specs.Prelude.{◌≡◌, ℕ, Bool, true, false, not, ◌&&◌, ◌||◌, List, [], ◌∷◌, ◌++◌, map, filter, flat_map, length, slice_get, Option, Some, None, option_to_list, option_and_then, option_map, ℤ, pos, neg_ℤ, ◌+ℤ◌, ◌-ℤ◌, int_le, int_lt, ◌-◌, ◌==◌, nat_le, if◌then◌else◌, bytes_eq}
+use Rattle.std.specs.Prelude.{◌≡◌, ℕ, Bool, true, false, not, ◌||◌, List, [], ◌∷◌, ◌++◌, map, flat_map, Option, Some, None}
 use Rattle.std.specs.List.{list_any}
-use Rattle.tv_cells.specs.Glyph.{is_narrow}
-use Rattle.tv_cells.specs.declared.rect.Rect.{Rect}
 use Rattle.tv_model.specs.declared.node.Node.{Node}
-use Rattle.tv_model.specs.declared.node.Kind.{Kind}
-use Rattle.tv_model.specs.declared.node.Kind.TheVariants as kinds
-use Rattle.tv_model.specs.declared.node.CommandSpec.{CommandSpec}
-use Rattle.tv_model.specs.declared.node.CommandSpec.TheVariants as commands
-use Rattle.tv_model.specs.declared.node.MarkedText.{MarkedText}
 use Rattle.tv_model.specs.declared.desc.Desc.{Desc}
+use Rattle.tv_model.specs.declared.desc.Menu.{Menu}
+use Rattle.tv_model.specs.declared.desc.MenuItem.{MenuItem}
+use Rattle.tv_model.specs.declared.desc.StatusItem.{StatusItem}
+use Rattle.tv_model.specs.declared.desc.Window.{Window}
 use Rattle.tv_model.specs.declared.desc.Dialog.{Dialog}
+use Rattle.tv_model.specs.declared.desc.Rule.{Rule}
 use Rattle.tv_model.specs.declared.fault.Fault.{Fault}
 use Rattle.tv_model.specs.declared.fault.FaultKind.{FaultKind}
 use Rattle.tv_model.specs.declared.fault.FaultKind.TheVariants as faults
-use Rattle.tv_model.specs.Nodes.{name_of, height_of, is_control}
-use Rattle.tv_model.specs.Step.{ends_of, is_named}
+pub mod Lines
+pub mod Names
+pub mod Places
+pub mod Letters
+pub mod Rules
+pub mod Texts
+pub mod Limits
+pub mod Starts
+pub mod Domains
+pub use Rattle.tv_model.specs.Faults.Lines.{after_seen, lines_where, line_if}
+pub use Rattle.tv_model.specs.Faults.Names.{links_nothing, names_again, window_named_again, dialog_named_again}
+pub use Rattle.tv_model.specs.Faults.Places.{rect, desktop, interior, is_within, overlap, place_of_node, is_off_desktop, is_outside, overlaps_earlier}
+pub use Rattle.tv_model.specs.Faults.Letters.{has_bad_key, item_again, letter_of, marks_again, numbered_again, rules_cancel, titled_again}
+pub use Rattle.tv_model.specs.Faults.Rules.{has_nothing_to_focus, names_unknown, shows_itself}
+pub use Rattle.tv_model.specs.Faults.Texts.{has_wide, is_wide_text, shown_texts, texts_of}
+pub use Rattle.tv_model.specs.Faults.Limits.{command_of, dialog_outside_limits, is_lawful, is_lawful_number, is_lawful_screen, item_outside_limits, least_height, least_width, menu_outside_limits, rule_outside_limits, status_outside_limits, view_outside_limits, window_outside_limits}
+pub use Rattle.tv_model.specs.Faults.Domains.{has_no_text, starts_badly}
+pub use Rattle.tv_model.specs.Faults.Starts.{is_second_default, lacks_cancel, lacks_end, opens_badly, starts_nowhere}
 
--- ---- words
+-- ---- the faults of each kind of line
 
--- each item after some that were seen, with all those before it
-abbrev pub after_seen : {A : Type 0} → List A → List A → List (List A × A)
-after_seen seen [] = []
-after_seen seen (x ∷ xs) = (seen, x) ∷ after_seen (seen ++ x ∷ []) xs
-
--- the lines of the views that stand so to those before them, where some were seen already
-abbrev pub lines_where : (List Node → Node → Bool) → List Node → List Node → List ℕ
-lines_where p seen views = map (λ pair. pair.1.id.0) (filter (λ pair. p pair.0 pair.1) (after_seen seen views))
-
-abbrev pub line_if : Bool → ℕ → List ℕ
-line_if b line = if b then line ∷ [] else []
-
-abbrev pub is_between : ℤ → ℤ → ℤ → Bool
-is_between least greatest n = int_le least n && int_le n greatest
-
--- ---- rectangles, as sets of points
-
-abbrev pub rect : ℤ → ℤ → ℤ → ℤ → Rect
-rect x y w h = record { a = record { x = x; y = y }; b = record { x = x +ℤ w; y = y +ℤ h } }
-
--- a view's rectangle, seen from its owner
-abbrev pub place_of_node : Node → Rect
-place_of_node node = rect node.x node.y node.w (height_of node.kind)
-
--- a dialog without its frame
-abbrev pub interior : Node → Rect
-interior node = rect (pos 1) (pos 1) (node.w -ℤ pos 2) (height_of node.kind -ℤ pos 2)
-
--- the screen without its first and last row
-abbrev pub desktop : Desc → Rect
-desktop d = rect (pos 0) (pos 1) d.width (d.height -ℤ pos 2)
-
-abbrev pub has_points : Rect → Bool
-has_points r = int_lt r.a.x r.b.x && int_lt r.a.y r.b.y
-
--- every point of the first lies in the second
-abbrev pub is_within : Rect → Rect → Bool
-is_within r s = not (has_points r) || ((int_le s.a.x r.a.x && int_le r.b.x s.b.x) && (int_le s.a.y r.a.y && int_le r.b.y s.b.y))
-
--- some point lies in both
-abbrev pub overlap : Rect → Rect → Bool
-overlap r s = (has_points r && has_points s) && ((int_lt r.a.x s.b.x && int_lt s.a.x r.b.x) && (int_lt r.a.y s.b.y && int_lt s.a.y r.b.y))
-
--- ---- what declarations hold
-
-abbrev pub is_option_named : List ℕ → Option (List ℕ) → Bool
-is_option_named name None = false
-is_option_named name (Some other) = bytes_eq other name
-
--- an ASCII letter in upper case
-abbrev pub upper : ℕ → ℕ
-upper ch = if nat_le 97 ch && nat_le ch 122 then ch - 32 else ch
-
--- the letter that a text marks, in upper case
-abbrev pub letter_of : MarkedText → Option ℕ
-letter_of marked = option_map upper (option_and_then (slice_get marked.text) marked.mark)
-
--- the letters that a declaration marks
-abbrev pub letters_of : Kind → List ℕ
-letters_of (kinds.Label text link) = option_to_list (letter_of text)
-letters_of (kinds.Button name text command is_default grabs) = option_to_list (letter_of text)
-letters_of _ = []
-
-abbrev pub is_line_end : ℕ → Bool
-is_line_end ch = ch == 10
-
--- the characters of a declaration's text
-abbrev pub text_of : Kind → List ℕ
-text_of (kinds.Window name h number title) = title
-text_of (kinds.Dialog name h title opens ends) = title
-text_of (kinds.Text h text) = text
-text_of (kinds.Label text link) = text.text
-text_of (kinds.Button name text command is_default grabs) = text.text
-text_of _ = []
-
--- those that have to take one column: all but the line ends of a static text
-abbrev pub shown_chars : Kind → List ℕ
-shown_chars (kinds.Text h text) = filter (λ ch. not (is_line_end ch)) text
-shown_chars kind = text_of kind
-
-abbrev pub command_of : Kind → Option CommandSpec
-command_of (kinds.Button name text command is_default grabs) = Some command
-command_of _ = None
-
--- ---- the limits
-
-abbrev pub is_lawful_number : Option CommandSpec → Bool
-is_lawful_number (Some (commands.Number n)) = is_between (pos 100) (pos 255) n
-is_lawful_number _ = true
-
-abbrev pub least_width : Kind → ℤ
-least_width (kinds.Dialog name h title opens ends) = pos 12
-least_width (kinds.Window name h number title) = pos 12
-least_width (kinds.Button name text command is_default grabs) = pos 4
-least_width (kinds.Input name spec start validates) = pos 3
-least_width (kinds.CheckBoxes name items start) = pos 5
-least_width (kinds.RadioButtons name items start) = pos 5
-least_width _ = pos 1
-
-abbrev pub least_height : Kind → ℤ
-least_height (kinds.Dialog name h title opens ends) = pos 3
-least_height (kinds.Window name h number title) = pos 3
-least_height _ = pos 1
-
-abbrev pub is_lawful_corner : Node → Bool
-is_lawful_corner node = is_between (neg_ℤ (pos 132)) (pos 132) node.x && is_between (neg_ℤ (pos 132)) (pos 132) node.y
-
-abbrev pub is_lawful_size : Node → Bool
-is_lawful_size node = is_between (least_width node.kind) (pos 132) node.w && is_between (least_height node.kind) (pos 60) (height_of node.kind)
-
--- its corner and size, up to 120 characters, and a command from 100 to 255
-abbrev pub is_lawful : Node → Bool
-is_lawful node =
-    (is_lawful_corner node && is_lawful_size node) && (nat_le (length (text_of node.kind)) 120 && is_lawful_number (command_of node.kind))
-
-abbrev pub is_lawful_screen : Desc → Bool
-is_lawful_screen d = is_between (pos 20) (pos 132) d.width && is_between (pos 10) (pos 60) d.height
-
--- ---- the faults of a dialog and its views
-
--- F1: a name given before in the dialog
-abbrev pub names_again : List Node → Node → Bool
-names_again before node = named (name_of node.kind)
-  where
-    named : Option (List ℕ) → Bool
-    named None = false
-    named (Some name) = list_any (λ other. is_option_named name (name_of other.kind)) before
-
--- F3: it overlaps an earlier view, and both are controls
-abbrev pub overlaps_earlier : List Node → Node → Bool
-overlaps_earlier before node =
-    is_control node.kind && list_any (λ other. is_control other.kind && overlap (place_of_node other) (place_of_node node)) before
-
--- F4: it marks a letter that was marked before, on an earlier line or on its own
-abbrev pub marks_again : List Node → Node → Bool
-marks_again before node =
-    list_any (λ pair. list_any (λ given. given == pair.1) pair.0) (after_seen (flat_map (λ other. letters_of other.kind) before) (letters_of node.kind))
-
--- F10: a button of `ok`, `yes` or `no` that the dialog doesn't declare
-abbrev pub lacks_end : Dialog → Node → Bool
-lacks_end d node = lacking (command_of node.kind)
-  where
-    lacking : Option CommandSpec → Bool
-    lacking (Some commands.Ok) = not (ends_of d.node.kind).ok
-    lacking (Some commands.Yes) = not (ends_of d.node.kind).yes
-    lacking (Some commands.No) = not (ends_of d.node.kind).no
-    lacking _ = false
-
-abbrev pub has_wide : Node → Bool
-has_wide node = list_any (λ ch. not (is_narrow ch)) (shown_chars node.kind)
-
--- whether the dialog's own line has the fault
-abbrev pub dialog_has : FaultKind → Desc → Dialog → Bool
-dialog_has faults.OutsideOwner d dialog = not (is_within (place_of_node dialog.node) (desktop d))
-dialog_has faults.NothingToFocus d dialog = not (list_any (λ node. is_control node.kind) dialog.views)
-dialog_has faults.MissingEnd d dialog = not (ends_of dialog.node.kind).cancel
-dialog_has faults.WideCharacter d dialog = has_wide dialog.node
-dialog_has faults.OutsideLimits d dialog = not (is_lawful dialog.node)
-dialog_has _ d dialog = false
-
--- whether the line of a view has the fault, after the views before it
-abbrev pub view_has : FaultKind → Dialog → List Node → Node → Bool
-view_has faults.NameTwice dialog before node = names_again before node
-view_has faults.OutsideOwner dialog before node = not (is_within (place_of_node node) (interior dialog.node))
-view_has faults.Overlap dialog before node = overlaps_earlier before node
-view_has faults.LetterTwice dialog before node = marks_again before node
-view_has faults.MissingEnd dialog before node = lacks_end dialog node
-view_has faults.WideCharacter dialog before node = has_wide node
--- the 65th view is the first that is too many
-view_has faults.OutsideLimits dialog before node = not (is_lawful node) || (length before == 64)
-view_has _ dialog before node = false
-
-abbrev pub dialog_lines : FaultKind → Desc → Dialog → List ℕ
-dialog_lines kind d dialog = line_if (dialog_has kind d dialog) dialog.node.id.0 ++ lines_where (view_has kind dialog) [] dialog.views
-
--- F16: a `start` line, which is the third, that names no dialog
-abbrev pub start_lines : Desc → List ℕ
-start_lines d = starting d.start
-  where
-    starting : Option (List ℕ) → List ℕ
-    starting None = []
-    starting (Some name) = line_if (not (list_any (is_named name) d.dialogs)) 3
-
--- the lines before the dialogs that have the fault. The screen's is the second
+-- the screen, which is the second line, and the `start`, which is the third
 abbrev pub head_lines : FaultKind → Desc → List ℕ
 head_lines faults.OutsideLimits d = line_if (not (is_lawful_screen d)) 2
-head_lines faults.BadOpening d = start_lines d
+head_lines faults.BadOpening d = line_if (starts_nowhere d) 3
 head_lines _ d = []
 
--- the lines that a fault names, in their order
+-- a menu, after those before it
+abbrev pub menu_has : FaultKind → List Menu → Menu → Bool
+menu_has faults.WideCharacter before menu = is_wide_text menu.title.text
+menu_has faults.OutsideLimits before menu = menu_outside_limits before menu
+menu_has faults.MenuLetter before menu = titled_again before menu
+menu_has _ before menu = false
+
+-- an item of a menu
+abbrev pub item_has : FaultKind → List MenuItem → MenuItem → Bool
+item_has faults.WideCharacter before item = is_wide_text item.text.text
+item_has faults.OutsideLimits before item = item_outside_limits before item
+item_has faults.MenuLetter before item = item_again before item
+item_has _ before item = false
+
+-- a status item
+abbrev pub status_has : FaultKind → Desc → List StatusItem → StatusItem → Bool
+status_has faults.StatusKey d before item = has_bad_key d before item
+status_has faults.WideCharacter d before item = is_wide_text item.text
+status_has faults.OutsideLimits d before item = status_outside_limits before item
+status_has _ d before item = false
+
+-- a window
+abbrev pub window_has : FaultKind → List Window → Window → Bool
+window_has faults.NameTwice before window = window_named_again before window
+window_has faults.WideCharacter before window = has_wide window.node
+window_has faults.OutsideLimits before window = window_outside_limits before window
+window_has faults.MenuLetter before window = numbered_again before window
+window_has _ before window = false
+
+-- a dialog
+abbrev pub dialog_has : FaultKind → Desc → List Dialog → Dialog → Bool
+dialog_has faults.NameTwice d before dialog = dialog_named_again d before dialog
+dialog_has faults.OutsideOwner d before dialog = is_off_desktop d dialog
+dialog_has faults.NothingToFocus d before dialog = has_nothing_to_focus dialog
+dialog_has faults.MissingEnd d before dialog = lacks_cancel dialog
+dialog_has faults.WideCharacter d before dialog = has_wide dialog.node
+dialog_has faults.OutsideLimits d before dialog = dialog_outside_limits before dialog
+dialog_has faults.BadOpening d before dialog = opens_badly before dialog
+dialog_has _ d before dialog = false
+
+-- a view of a window or dialog, its frame, among all its views
+abbrev pub view_has : FaultKind → Node → List Node → List Node → Node → Bool
+view_has faults.NameTwice frame views before node = names_again before node
+view_has faults.OutsideOwner frame views before node = is_outside frame before node
+view_has faults.Overlap frame views before node = overlaps_earlier before node
+view_has faults.LetterTwice frame views before node = marks_again before node
+view_has faults.LabelLink frame views before node = links_nothing views node
+view_has faults.MissingEnd frame views before node = lacks_end frame node
+view_has faults.SecondDefault frame views before node = is_second_default before node
+view_has faults.EmptyDomain frame views before node = has_no_text node.kind
+view_has faults.BadStart frame views before node = starts_badly node.kind
+view_has faults.WideCharacter frame views before node = has_wide node
+view_has faults.OutsideLimits frame views before node = view_outside_limits before node
+view_has _ frame views before node = false
+
+-- a rule of a dialog
+abbrev pub rule_has : FaultKind → List Node → List Rule → Rule → Bool
+rule_has faults.UnknownInRule views before rule = names_unknown views rule
+rule_has faults.ShowsItself views before rule = shows_itself views rule
+rule_has faults.OutsideLimits views before rule = rule_outside_limits before rule
+rule_has faults.MenuLetter views before rule = rules_cancel rule
+rule_has _ views before rule = false
+
+-- ---- the lines that a fault names, in their order
+
+abbrev pub menu_lines : FaultKind → List Menu → Menu → List ℕ
+menu_lines kind before menu = line_if (menu_has kind before menu) menu.id.0 ++ lines_where (λ item. item.id.0) (item_has kind) [] menu.items
+
+abbrev pub status_lines : FaultKind → Desc → List ℕ
+status_lines kind d = lines_where (λ item. item.id.0) (status_has kind d) [] d.status
+
+abbrev pub view_lines : FaultKind → Node → List Node → List ℕ
+view_lines kind frame views = lines_where (λ node. node.id.0) (view_has kind frame views) [] views
+
+abbrev pub window_lines : FaultKind → List Window → Window → List ℕ
+window_lines kind before window = line_if (window_has kind before window) window.node.id.0 ++ view_lines kind window.node window.views
+
+abbrev pub rule_lines : FaultKind → Dialog → List ℕ
+rule_lines kind dialog = lines_where (λ rule. rule.id.0) (rule_has kind dialog.views) [] dialog.rules
+
+abbrev pub dialog_lines : FaultKind → Desc → List Dialog → Dialog → List ℕ
+dialog_lines kind d before dialog = line_if (dialog_has kind d before dialog) dialog.node.id.0 ++ (view_lines kind dialog.node dialog.views ++ rule_lines kind dialog)
+
 abbrev pub fault_lines : FaultKind → Desc → List ℕ
-fault_lines kind d = head_lines kind d ++ flat_map (dialog_lines kind d) d.dialogs
+fault_lines kind d =
+    head_lines kind d
+    ++ (flat_map (λ pair. menu_lines kind pair.0 pair.1) (after_seen [] d.menus)
+    ++ (status_lines kind d
+    ++ (flat_map (λ pair. window_lines kind pair.0 pair.1) (after_seen [] d.windows)
+    ++ flat_map (λ pair. dialog_lines kind d pair.0 pair.1) (after_seen [] d.dialogs))))
+
+-- ---- all faults
 
 abbrev pub fault_at : FaultKind → ℕ → Fault
 fault_at kind line = record { kind = kind; line = line }
@@ -221,8 +140,9 @@ faults_at kind d = map (fault_at kind) (fault_lines kind d)
 
 abbrev pub all_kinds : List FaultKind
 all_kinds =
-    faults.NameTwice ∷ faults.OutsideOwner ∷ faults.Overlap ∷ faults.LetterTwice ∷ faults.NothingToFocus ∷ faults.MissingEnd
-    ∷ faults.WideCharacter ∷ faults.OutsideLimits ∷ faults.BadOpening ∷ []
+    faults.NameTwice ∷ faults.OutsideOwner ∷ faults.Overlap ∷ faults.LetterTwice ∷ faults.StatusKey ∷ faults.LabelLink
+    ∷ faults.UnknownInRule ∷ faults.ShowsItself ∷ faults.NothingToFocus ∷ faults.MissingEnd ∷ faults.SecondDefault
+    ∷ faults.EmptyDomain ∷ faults.BadStart ∷ faults.WideCharacter ∷ faults.OutsideLimits ∷ faults.BadOpening ∷ faults.MenuLetter ∷ []
 
 -- all faults, by number, then by line
 abbrev pub faults_of : Desc → List Fault

@@ -1,29 +1,24 @@
 -- What a script writes.
-use Rattle.std.specs.Prelude.{ℕ, List, [], ◌∷◌, ◌++◌, map, flat_map, codes, decimal, ◌+◌, ◌/◌, ◌%◌, nat_lt, if◌then◌else◌}
+use Rattle.std.specs.Prelude.{ℕ, List, [], ◌∷◌, ◌++◌, map, flat_map, codes, decimal, encode_utf8, ◌+◌, ◌/◌, ◌%◌, nat_lt, if◌then◌else◌}
 use Rattle.std.specs.List.{range_with_len}
 use Rattle.tv_cells.specs.Glyph.{Glyph}
 use Rattle.tv_cells.specs.Layers.{cell_of}
 use Rattle.tv_event.specs.declared.event.Event.{Event}
 use Rattle.tv_event.specs.declared.event.Event.TheVariants as events
 use Rattle.tv_event.specs.declared.event.Key.TheVariants as keys
-use Rattle.tv_model.specs.declared.desc.Desc.{Desc}
 use Rattle.tv_model.specs.declared.script.Item.{Item}
 use Rattle.tv_model.specs.declared.script.Item.TheVariants as items
 use Rattle.tv_model.specs.State.{State, natural}
 use Rattle.tv_model.specs.Step.{step}
 use Rattle.tv_model.specs.Session.{Session, stepped, quiet}
 use Rattle.tv_model.specs.Layers.{layers_of}
-use Rattle.tv_model.specs.LogText.{bytes_of, log_text, line_of}
+use Rattle.tv_model.specs.LogText.{log_text, line_of}
 
 -- ---- the screen
 
 -- the cell of the screen in a column and a row
 abbrev pub screen_cell : Session → ℕ → ℕ → Glyph
 screen_cell s column row = cell_of (layers_of s.desc s.state) column row
-
--- a row of the screen, between colons
-abbrev pub shot_row : Session → ℕ → List ℕ
-shot_row s row = line_of (codes ":") (bytes_of (map (λ column. (screen_cell s column row).ch) (range_with_len 0 (natural s.desc.width))) ++ codes ":")
 
 abbrev pub hex_digit : ℕ → ℕ
 hex_digit n = if nat_lt n 10 then 48 + n else 87 + n
@@ -32,18 +27,30 @@ hex_digit n = if nat_lt n 10 then 48 + n else 87 + n
 abbrev pub hex_byte : ℕ → List ℕ
 hex_byte n = hex_digit (n / 16) ∷ hex_digit (n % 16) ∷ []
 
-abbrev pub colors_row : Session → ℕ → List ℕ
-colors_row s row = line_of (codes ":") (flat_map (λ column. hex_byte (screen_cell s column row).attr) (range_with_len 0 (natural s.desc.width)) ++ codes ":")
+-- the cells of a row, each by its text
+abbrev pub cells_text : (Glyph → List ℕ) → ℕ → (ℕ → ℕ → Glyph) → ℕ → List ℕ
+cells_text cell width at row = flat_map (λ column. cell (at column row)) (range_with_len 0 width)
 
--- the columns and rows of the screen
-abbrev pub size_text : Desc → List ℕ
-size_text d = decimal (natural d.width) ++ codes " " ++ decimal (natural d.height)
+-- a row between colons
+abbrev pub row_text : (Glyph → List ℕ) → ℕ → (ℕ → ℕ → Glyph) → ℕ → List ℕ
+row_text cell width at row = line_of (codes ":") (cells_text cell width at row ++ codes ":")
 
+-- a line with a word and the columns and rows of a screen, and then its rows
+abbrev pub screen_text : List ℕ → (Glyph → List ℕ) → ℕ → ℕ → (ℕ → ℕ → Glyph) → List ℕ
+screen_text word cell width height at =
+    line_of word (decimal width ++ codes " " ++ decimal height) ++ flat_map (row_text cell width at) (range_with_len 0 height)
+
+-- the screen of a session
+abbrev pub session_text : List ℕ → (Glyph → List ℕ) → Session → List ℕ
+session_text word cell s = screen_text word cell (natural s.desc.width) (natural s.desc.height) (screen_cell s)
+
+-- its characters
 abbrev pub shot_text : Session → List ℕ
-shot_text s = line_of (codes "shot ") (size_text s.desc) ++ flat_map (shot_row s) (range_with_len 0 (natural s.desc.height))
+shot_text s = session_text (codes "shot ") (λ cell. encode_utf8 cell.ch) s
 
+-- its attributes
 abbrev pub colors_text : Session → List ℕ
-colors_text s = line_of (codes "colors ") (size_text s.desc) ++ flat_map (colors_row s) (range_with_len 0 (natural s.desc.height))
+colors_text s = session_text (codes "colors ") (λ cell. hex_byte cell.attr) s
 
 -- ---- runs of a machine
 

@@ -1,8 +1,8 @@
 -- The bits of a union.
-use Rattle.std.proofs.Common.{suc, zero, ◌≡◌, ◌≢◌, ◌⊎◌, inl, inr, ◌↔◌, ℕ, ◌*◌, ◌/◌, ◌^◌, ◌<◌, ◌≤◌, max, bit_and, bit_or, arith, refl, ◌∙◌, sym}
+use Rattle.std.proofs.Common.{suc, zero, ◌≡◌, ◌≢◌, ◌⊎◌, inl, inr, ◌↔◌, ℕ, ◌+◌, ◌*◌, ◌/◌, ◌%◌, ◌^◌, ◌<◌, ◌≤◌, max, bit_and, bit_or, arith, refl, ◌∙◌, sym, ap}
 use Rattle.std.specs.Int.{IsBitSet, bit_at}
-use Rattle.std.proofs.lemmas.Nat.Bits.{and_pow, bit_at-lt, bit_at_or, bit_at_above}
-use Rattle.std.proofs.lemmas.Nat.{pow_pos}
+use Rattle.std.proofs.lemmas.Nat.Bits.{and_pow, bit_at-lt, bit_at-zero, bit_at_or, bit_at_above, same_from_bits}
+use Rattle.std.proofs.lemmas.Nat.{pow_pos, shr-shr}
 use Rattle.std.proofs.Math.Nat.{div-lt_iff_lt-mul}
 
 -- a product by 0 or 1 that isn't 0
@@ -45,3 +45,15 @@ none_above n k i e h set =
     let zero_bit = bit_at_above n k i (omega arith) h in
     let one_bit = bit_is_one n i set in
     omega arith
+
+not_one : (b : ℕ) → b < 2 → b ≢ 1 → b ≡ 0
+not_one zero h n = refl
+not_one (suc zero) h n = absurd (n refl)
+not_one (suc (suc b)) h n = absurd (omega arith)
+
+-- and the other way round
+pub none_left : (n k : ℕ) → ((i : ℕ) → k ≤ i → IsBitSet n i → ⊥) → n / 2 ^ k ≡ 0
+none_left n k never = same_from_bits (n / 2 ^ k) 0 (λ i. ap (λ x. x % 2) (shr-shr n k i) ∙ unset (k + i) (omega arith) ∙ sym (bit_at-zero i))
+  where
+    unset : (i : ℕ) → k ≤ i → bit_at n i ≡ 0
+    unset i above = not_one (bit_at n i) (bit_at-lt n i) (λ e. never i above (bit_is_set n i e))

@@ -6,5 +6,7 @@ pub mod Statuses
 pub mod LengthLemmas
 pub mod ParsingLemmas
 pub mod Grammar
+pub mod Spelled
 pub mod Soundness
 pub mod Parsed
+pub mod Laws

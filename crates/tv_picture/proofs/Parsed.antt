@@ -13,7 +13,8 @@ use Rattle.tv_picture.specs.Code.{pattern_of, height_from, top}
 use Rattle.tv_picture.specs.Spelling.{spelled, rank, IsPicture, BeginsPicture, IsFirstFault}
 use Rattle.tv_picture.specs.Parsing.{Built, Reading, built_by, merged, is_empty_list, is_once, is_closed, text_step, text_steps, start}
 use Rattle.tv_picture.proofs.Grammar.{state, is_either, pending, steps-append, steps_then, picture_goes}
-use Rattle.tv_picture.proofs.Soundness.{Spells, steps_spell, start_fine, closes, ends}
+use Rattle.tv_picture.proofs.Soundness.{steps_spell, start_fine, closes, ends}
+use Rattle.tv_picture.proofs.Spelled.{Spells}
 
 -- ---- a reading that waits for nothing
 
@@ -24,14 +25,14 @@ closed_parts b [] c Many q e = cc
 closed_parts b [] c (Times n) q e = cc
 closed_parts b (o ∷ os) c r q e = cc
 
-closed_state : (r : Reading) → is_closed r ≡ true → r ≡ state r.built.stack r.built.height [] r.choice Once false
+pub closed_state : (r : Reading) → is_closed r ≡ true → r ≡ state r.built.stack r.built.height [] r.choice Once false
 closed_state r e =
     let p = closed_parts r.built r.brackets r.choice r.repeat r.quoted e in
     ap (λ os. state r.built.stack r.built.height os r.choice r.repeat r.quoted) p.0
     ∙ ap (λ t. state r.built.stack r.built.height [] r.choice t r.quoted) p.1
     ∙ ap (λ q. state r.built.stack r.built.height [] r.choice Once q) p.2
 
-merged_pending : (p : Pattern) (h : Option ℕ) → 2 ≤ rank p → (merged (is_either p) (record { stack = pending p []; height = h })).stack ≡ p ∷ []
+pub merged_pending : (p : Pattern) (h : Option ℕ) → 2 ≤ rank p → (merged (is_either p) (record { stack = pending p []; height = h })).stack ≡ p ∷ []
 merged_pending empty h high = refl
 merged_pending (sequence a b) h high = refl
 merged_pending (either a b) h high = refl

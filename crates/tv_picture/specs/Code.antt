@@ -18,10 +18,12 @@ step (a ∷ ps) Many = many a ∷ ps
 step (a ∷ ps) (Times n) = times n a ∷ ps
 step ps _ = ps
 
+-- what code leaves of the stack of patterns
 abbrev pub run : List Pattern → List Op → List Pattern
 run ps [] = ps
 run ps (op ∷ ops) = run (step ps op) ops
 
+-- the pattern on top of the stack
 abbrev pub top : List Pattern → Pattern
 top [] = empty
 top (p ∷ ps) = p
@@ -30,6 +32,7 @@ top (p ∷ ps) = p
 abbrev pub pattern_of : List Op → Pattern
 pattern_of code = top (run [] code)
 
+-- a pattern's code
 abbrev pub code_of : Pattern → List Op
 code_of empty = Empty ∷ []
 code_of (one mark) = One mark ∷ []
@@ -51,6 +54,7 @@ height_after h Group = if nat_lt 0 h then Some h else None
 height_after h Many = if nat_lt 0 h then Some h else None
 height_after h (Times n) = if nat_lt 0 h then Some h else None
 
+-- the height of the stack after code, where each operation finds its parts and room
 abbrev pub height_from : ℕ → List Op → Option ℕ
 height_from h [] = Some h
 height_from h (op ∷ ops) = option_and_then (λ k. height_from k ops) (height_after h op)

@@ -19,9 +19,11 @@ pub record Built : Type 0 where
   pub stack : List Pattern
   pub height : Option ℕ
 
+-- what code leaves
 abbrev pub built_by : List Op → Built
 built_by code = record { stack = run [] code; height = height_from 0 code }
 
+-- and after one operation more
 abbrev pub with_op : Built → Op → Built
 with_op b op = record { stack = step b.stack op; height = option_and_then (λ h. height_after h op) b.height }
 
@@ -34,14 +36,17 @@ pub record Reading : Type 0 where
   pub repeat : Repeat
   pub quoted : Bool
 
+-- where the parser stands
 abbrev pub reading : Parser → Reading
 reading p = record { built = built_by p.code.items; brackets = reverse p.brackets.items; choice = p.choice; repeat = p.repeat; quoted = p.quoted }
 
+-- the part on top is repeated so often
 abbrev pub repeat_step : Built → Repeat → Built
 repeat_step b Once = b
 repeat_step b Many = with_op b op.Many
 repeat_step b (Times n) = with_op b (op.Times n)
 
+-- what brackets do to the part inside
 abbrev pub bracket_op : Bracket → Op
 bracket_op bracket.Square = op.Optional
 bracket_op bracket.Curly = op.Group
@@ -50,9 +55,11 @@ bracket_op bracket.Curly = op.Group
 abbrev pub finished : Reading → Reading
 finished r = record { built = with_op (repeat_step r.built r.repeat) op.Sequence; brackets = r.brackets; choice = r.choice; repeat = Once; quoted = false }
 
+-- one character of a text is a part
 abbrev pub with_mark : Reading → Mark → Reading
 with_mark r mark = finished (record { built = with_op r.built (op.One mark); brackets = r.brackets; choice = r.choice; repeat = r.repeat; quoted = r.quoted })
 
+-- the next part is not repeated
 abbrev pub is_once : Repeat → Bool
 is_once Once = true
 is_once _ = false
@@ -61,36 +68,45 @@ is_once _ = false
 abbrev pub merged : Bool → Built → Built
 merged choice b = if choice then with_op b op.Either else b
 
+-- no bracket is open
 abbrev pub is_empty_list : List Open → Bool
 is_empty_list [] = true
 is_empty_list (o ∷ os) = false
 
+-- a bracket opens, where fewer than 8 are open
 abbrev pub opened : Reading → Bracket → Option Reading
 opened r b = if nat_lt (length r.brackets) 8 then Some (record { built = with_op r.built op.Empty; brackets = (record { bracket = b; repeat = r.repeat; choice = r.choice }) ∷ r.brackets; choice = false; repeat = Once; quoted = false }) else None
 
+-- the brackets are of one kind
 abbrev pub is_same : Bracket → Bracket → Bool
 is_same bracket.Square bracket.Square = true
 is_same bracket.Curly bracket.Curly = true
 is_same _ _ = false
 
+-- a bracket closes the innermost one, where that is of its kind
 abbrev pub closed_as : Reading → Bracket → List Open → Option Reading
 closed_as r b [] = None
 closed_as r b (o ∷ os) = if is_same b o.bracket then Some (finished (record { built = with_op (merged r.choice r.built) (bracket_op b); brackets = os; choice = o.choice; repeat = o.repeat; quoted = false })) else None
 
+-- and where no part is waited for
 abbrev pub closed : Reading → Bracket → Option Reading
 closed r b = if is_once r.repeat then closed_as r b r.brackets else None
 
+-- a comma ends an alternative
 abbrev pub divided : Reading → Option Reading
 divided r = if is_once r.repeat then Some (record { built = with_op (merged r.choice r.built) op.Empty; brackets = r.brackets; choice = true; repeat = Once; quoted = false }) else None
 
+-- a `*` waits for its part or its count
 abbrev pub starred : Reading → Option Reading
 starred r = if is_once r.repeat then Some (record { built = r.built; brackets = r.brackets; choice = r.choice; repeat = Many; quoted = false }) else None
 
+-- a digit stands for itself, or counts after `*`, up to 120
 abbrev pub counted_as : Reading → ℕ → Repeat → Option Reading
 counted_as r d Once = Some (with_mark r (Literal (48 + d)))
 counted_as r d Many = if nat_lt 0 d then Some (record { built = r.built; brackets = r.brackets; choice = r.choice; repeat = Times d; quoted = false }) else None
 counted_as r d (Times n) = if nat_le (n * 10 + d) 120 then Some (record { built = r.built; brackets = r.brackets; choice = r.choice; repeat = Times (n * 10 + d); quoted = false }) else None
 
+-- after `;` any character stands for itself
 abbrev pub quoted_next : Reading → Reading
 quoted_next r = record { built = r.built; brackets = r.brackets; choice = r.choice; repeat = r.repeat; quoted = true }
 
@@ -112,13 +128,16 @@ plain_step r c =
     else if nat_le 48 c && nat_le c 57 then counted_as r (c - 48) r.repeat
     else Some (with_mark r (Literal c))
 
+-- what a character adds
 abbrev pub text_step : Reading → ℕ → Option Reading
 text_step r c = if r.quoted then Some (with_mark r (Quoted c)) else plain_step r c
 
+-- what characters add, one after the other
 abbrev pub text_steps : Reading → List ℕ → Option Reading
 text_steps r [] = Some r
 text_steps r (c ∷ cs) = option_and_then (λ s. text_steps s cs) (text_step r c)
 
+-- nothing read
 abbrev pub start : Reading
 start = record { built = built_by (op.Empty ∷ []); brackets = []; choice = false; repeat = Once; quoted = false }
 

@@ -8,6 +8,7 @@ use Rattle.tv_picture.specs.declared.code.Mark.TheVariants.{Digit, Letter, Capit
 use Rattle.tv_picture.specs.declared.picture.Status.{Status}
 use Rattle.tv_picture.specs.declared.picture.Status.TheVariants.{Complete, Viable, Error}
 
+-- a picture read: nothing, one character, one part after the other, either part, a part in brackets, in braces, repeated
 pub data Pattern : Type 0 where
   empty : Pattern
   one : Mark → Pattern
@@ -18,12 +19,15 @@ pub data Pattern : Type 0 where
   many : Pattern → Pattern
   times : ℕ → Pattern → Pattern
 
+-- `A` to `Z`
 abbrev pub IsCapital : ℕ → Type 0
 IsCapital c = (65 ≤ c) × (c ≤ 90)
 
+-- `a` to `z`
 abbrev pub IsLower : ℕ → Type 0
 IsLower c = (97 ≤ c) × (c ≤ 122)
 
+-- `0` to `9`
 abbrev pub IsDigit : ℕ → Type 0
 IsDigit c = (48 ≤ c) × (c ≤ 57)
 

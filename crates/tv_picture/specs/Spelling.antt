@@ -6,6 +6,7 @@ use Rattle.tv_picture.specs.Pattern.{Pattern, empty, one, sequence, either, opti
 use Rattle.tv_picture.specs.declared.fault.PictureFault.{PictureFault}
 use Rattle.tv_picture.specs.declared.fault.PictureFault.TheVariants.{NoMemory, Syntax}
 
+-- how one character of a text is written in a picture
 abbrev pub mark_text : Mark → List ℕ
 mark_text Digit = codes "#"
 mark_text Letter = codes "?"
@@ -19,6 +20,7 @@ mark_text (Quoted c) = codes ";" ++ c ∷ []
 abbrev pub count_text : ℕ → List ℕ
 count_text n = if nat_lt n 10 then (48 + n) ∷ [] else (if nat_lt n 100 then (48 + n / 10) ∷ (48 + n % 10) ∷ [] else (48 + n / 100) ∷ (48 + n / 10 % 10) ∷ (48 + n % 10) ∷ [])
 
+-- the picture as it is written
 abbrev pub spelled : Pattern → List ℕ
 spelled empty = []
 spelled (one mark) = mark_text mark
@@ -60,6 +62,7 @@ depth (group a) = depth a + 1
 depth (many a) = depth a
 depth (times n a) = depth a
 
+-- a literal is none of the characters with a meaning of their own
 abbrev pub IsMark : Mark → Type 0
 IsMark (Literal c) = IsPlain c
 IsMark _ = Unit {0}
@@ -90,6 +93,7 @@ pub record IsFirstFault (text : List ℕ) (place : ℕ) : Type 0 where
   pub longest : (k : ℕ) → k ≤ length text → BeginsPicture (take k text) → k ≤ place
   pub refused : (p : Pattern) → IsPicture p → spelled p ≡ text → ⊥
 
+-- why a text is refused: no memory, or where it stops being the beginning of a picture
 abbrev pub Refuses : List ℕ → PictureFault → Type 0
 Refuses text NoMemory = Unit {0}
 Refuses text (Syntax place) = IsFirstFault text place

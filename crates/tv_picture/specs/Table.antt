@@ -8,6 +8,7 @@ use Rattle.tv_picture.specs.declared.row.Row.{Row}
 use Rattle.tv_picture.specs.declared.table.Table.{Table}
 use Rattle.tv_picture.specs.Pattern.{Pattern, Member, Begins}
 
+-- the place is in the set
 abbrev pub Has : Places → ℕ → Type 0
 Has places k = IsBitSet places.bits k
 
@@ -17,6 +18,7 @@ Names P Nothing = (c : ℕ) → P c → ⊥
 Names P (Only c) = P c × ((d : ℕ) → P d → d ≡ c)
 Names P Several = (c : ℕ) × (d : ℕ) × P c × P d × (c ≢ d)
 
+-- the characters of either
 abbrev pub joined : Next → Next → Next
 joined Nothing b = b
 joined (Only c) Nothing = Only c
@@ -37,9 +39,11 @@ pub record IsRow (a : Pattern) (rest : List ℕ) (from : ℕ) (row : Row) : Type
   pub ends : (to : ℕ) → Has row.ends to ↔ Spans a rest from to
   pub next : Names (Follows a rest) row.next
 
+-- the row of a place outside the text
 abbrev pub no_row : Row
 no_row = record { ends = record { bits = 0 }; next = Nothing }
 
+-- a place's row
 abbrev pub row_at : Table → ℕ → Row
 row_at table place = slice_index_or table.rows place no_row
 

@@ -1,7 +1,7 @@
 //! A parsed picture.
 
-ghost use Rattle.std.specs.Prelude.{◌≡◌, ◌≤◌, ℕ, length, chars, IfSome, IfNone, IfOk, IfErr, MatchResult};
-ghost use Rattle.tv_picture.specs.Pattern.{Pattern, IsStatus, IsNextLiteral, IsShortest};
+ghost use Rattle.std.specs.Prelude.{◌≡◌, ◌≢◌, ◌≤◌, ◌++◌, ℕ, List, [], length, take, chars, Contains, IfSome, IfNone, IfOk, IfErr, MatchResult};
+ghost use Rattle.tv_picture.specs.Pattern.{Pattern, Member, Begins, IsStatus, IsNextLiteral, IsShortest};
 ghost use Rattle.tv_picture.specs.Spelling.{spelled, IsPicture, Refuses};
 ghost use Rattle.tv_picture.specs.Table.{Covers};
 
@@ -93,11 +93,15 @@ impl Picture {
         read(&self.code, text)
     }
 
-    /// What the text is to the picture. Takes no memory, and a time that the square of the text's length and the length
-    /// of the picture bound.
+    /// What the text is to the picture. A viable text can be completed by typing on, and a text that is no error is typed
+    /// through viable and complete ones alone.
+    ///
+    /// Takes no memory, and a time that the square of the text's length and the length of the picture bound.
     pub fn status(&self, text: &[char]) -> Status
         requires { length text.now ≤ 120 }
-        ensures { IsStatus self.now text.now result }
+        ensures status { IsStatus self.now text.now result }
+        ensures completed { result ≡ Status.Viable → (more : List ℕ) × (more ≢ []) × Member self.now (text.now ++ more) }
+        ensures beginnings { result ≢ Status.Error → (k : ℕ) → Begins self.now (take k text.now) }
     {
         let row = self.table(text).rows[0];
         if row.ends.has(text.len()) {
@@ -109,11 +113,12 @@ impl Picture {
         }
     }
 
-    /// The only character with which the text can go on, where it has to.
+    /// The only character with which the text can go on, where it has to. It stands in the picture.
     pub fn next_literal(&self, text: &[char]) -> Option<char>
         requires { length text.now ≤ 120 }
         ensures some { IfSome result (λ c. IsNextLiteral self.now text.now c) }
         ensures none { IfNone result ((c : ℕ) → IsNextLiteral self.now text.now c → ⊥) }
+        ensures literal { IfSome result (λ c. Contains (spelled self.now) c) }
     {
         let row = self.table(text).rows[0];
         if text.len() == 120 || row.ends.has(text.len()) {

@@ -41,7 +41,7 @@ impl Places {
     #[inline(always)]
     pub fn is_below(self, place: usize) -> bool
         requires { place < 128 }
-        ensures { IsTrue result → (k : ℕ) → place ≤ k → Has self k → ⊥ }
+        ensures { IsTrue result ↔ ((k : ℕ) → place ≤ k → Has self k → ⊥) }
     {
         self.bits >> place == 0
     }

@@ -1,7 +1,7 @@
 -- One layer more, over those that were drawn.
 use Rattle.std.proofs.Common.{◌≡◌, ℕ, ◌+◌, ◌<◌, List, [], ◌∷◌, ◌++◌, length, get_or, take, reverse, flat_map, refl, sym, ap, ◌∙◌, append_assoc}
 use Rattle.std.proofs.lemmas.List.{take_more, reverse-append}
-use Rattle.tv_cells.specs.Layers.{Layer, Shows}
+use Rattle.tv_cells.specs.Layers.{Layer}
 use Rattle.tv_cells.specs.Picture.{Picture, IsAlike}
 
 pub alike_then : {a b c : Picture} → IsAlike a b → IsAlike b c → IsAlike a c

@@ -1,6 +1,6 @@
 -- What is found among limited views is limited.
-use Rattle.std.proofs.Common.{◌≡◌, ℕ, zero, suc, ◌<◌, Bool, true, false, cond, List, [], ◌∷◌, length, Option, Some, None, find, refl, sym, ap, ◌∙◌, arith, All}
-use Rattle.std.specs.Prelude.{neg_ℤ, pos, ◌≤ℤ◌, ℤ}
+use Rattle.std.proofs.Common.{◌≡◌, suc, Bool, true, false, cond, List, [], ◌∷◌, Option, Some, find, arith, All}
+use Rattle.std.specs.Prelude.{neg_ℤ, pos, ℤ}
 use Rattle.std.proofs.lemmas.Int.{ints}
 use Rattle.tv_cells.specs.Rectangle.{IsNear}
 use Rattle.tv_check.specs.Usable.{IsBetween, IsLimited}

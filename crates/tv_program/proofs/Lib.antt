@@ -1,15 +1,6 @@
-pub mod Descriptions
+pub mod Checks
 pub mod Drawing
 pub mod Lawful
-pub mod Marks
-pub mod Outputs
-pub mod Pens
-pub mod Performing
-pub mod Pieces
-pub mod Ranges
-pub mod Runs
-pub mod Screens
 pub mod Sessions
 pub mod ThinDialogs
 pub mod ThinRuns
-pub mod Writing

@@ -1,5 +1,5 @@
 -- A session over a thin and sound description.
-use Rattle.std.proofs.Common.{◌≡◌, ℕ, zero, suc, ◌+◌, ◌<◌, Bool, true, false, cond, ◌||◌, List, [], ◌∷◌, length, find, position, slice_get, Option, Some, None, option_map, is_some, refl, sym, ap, ◌∙◌, arith, All, IsSome, subst}
+use Rattle.std.proofs.Common.{◌≡◌, ℕ, zero, suc, ◌+◌, Bool, true, false, cond, ◌||◌, List, [], ◌∷◌, find, slice_get, Option, Some, None, option_map, is_some, refl, sym, ap, ◌∙◌, arith, All, IsSome, subst}
 use Rattle.std.specs.List.{list_any}
 use Rattle.tv_event.specs.declared.event.Event.{Event}
 use Rattle.tv_model.specs.declared.node.Id.{Id}
@@ -8,16 +8,16 @@ use Rattle.tv_model.specs.declared.desc.Desc.{Desc}
 use Rattle.tv_model.specs.declared.desc.Dialog.{Dialog}
 use Rattle.tv_model.specs.Nodes.{is_control}
 use Rattle.tv_model.specs.State.{State}
-use Rattle.tv_model.specs.Step.{emptied, at_dialog, step, is_free, ends_of, is_named, closed, open_dialog, open_at, start_from, start}
+use Rattle.tv_model.specs.Step.{emptied, at_dialog, step, is_free, ends_of, is_named, closed, open_dialog, start_from, start}
 use Rattle.tv_model.specs.Faults.{IsSound}
 use Rattle.tv_model.specs.Thin.{IsThin, IsThinDialog}
 use Rattle.tv_model.specs.Safe.{IsSafe, IsAlwaysSafe}
 use Rattle.tv_model.proofs.Safe.{start_safe, step_safe, states_safe}
-use Rattle.tv_check.specs.Usable.{IsLimited, IsUsable, IsUsableDialog}
+use Rattle.tv_check.specs.Usable.{IsLimited, IsUsableDialog}
 use Rattle.tv_check.proofs.Sound.{sound_says, only_dialog, only_start}
 use Rattle.tv_program.specs.declared.run.Run.{Run}
 use Rattle.tv_program.specs.Run.{opened, state_of, stepped, IsReady, IsScreenSize}
-use Rattle.tv_program.specs.ThinSession.{state_over, state_in, IsStaged}
+use Rattle.tv_program.specs.ThinSession.{state_over, state_in}
 
 -- a run before its start
 abbrev fresh : Run

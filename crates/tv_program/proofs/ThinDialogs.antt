@@ -1,5 +1,5 @@
 -- Thin dialogs have no fields.
-use Rattle.std.proofs.Common.{◌≡◌, ℕ, Bool, true, false, not, List, [], ◌∷◌, Option, Some, None, map, filter, filter_map, option_map, refl, sym, ap, ◌∙◌, All, zero, suc, ◌<◌, length, arith, ◌||◌, cond, slice_set}
+use Rattle.std.proofs.Common.{◌≡◌, Bool, true, false, not, List, [], ◌∷◌, Some, None, refl, ap, All, suc, arith, ◌||◌, cond, slice_set}
 use Rattle.tv_model.specs.declared.node.Node.{Node}
 use Rattle.tv_model.specs.declared.node.Kind.{Kind}
 use Rattle.tv_model.specs.declared.node.Kind.TheVariants as kinds

@@ -1,10 +1,8 @@
-pub mod Device
+pub mod CheckRun
 pub mod Looks
-pub mod Pen
-pub mod Performed
+pub mod Reading
 pub mod Report
 pub mod Run
-pub mod ScreenText
 pub mod ThinRun
 pub mod ThinSession
-pub mod Writer
+pub mod Written

@@ -1,13 +1,17 @@
--- What is told of a run that didn't come to its end.
-use Rattle.std.specs.Prelude.{ℕ, List, [], ◌∷◌, ◌++◌, ◌⊎◌, flat_map, codes, decimal}
+-- What is told of a call that didn't come to its end.
+use Rattle.std.specs.Prelude.{ℕ, List, [], ◌++◌, ◌⊎◌, flat_map, codes, decimal, encode_utf8}
+use Rattle.tv_check.specs.declared.acceptance.Refusal.{Refusal}
+use Rattle.tv_check.specs.declared.acceptance.Refusal.TheVariants as refusals
+use Rattle.tv_check.specs.declared.certificate_text.CertificateFault.{CertificateFault}
+use Rattle.tv_check.specs.declared.certificate_text.CertificateFault.TheVariants as certificates
 use Rattle.tv_lang.specs.declared.description.LangFault.{LangFault}
 use Rattle.tv_lang.specs.declared.description.LangFault.TheVariants as lang
 use Rattle.tv_model.specs.declared.fault.Fault.{Fault}
 use Rattle.tv_model.specs.Faults.{fault_number}
 use Rattle.tv_model.specs.LogText.{line_of}
-use Rattle.tv_program.specs.declared.thin.RunFault.{RunFault}
-use Rattle.tv_program.specs.declared.thin.RunFault.TheVariants.{NoMemory, Lang, Faults, Script, ScriptTooLong, Write}
-use Rattle.tv_program.specs.Writer.{Seen, Takes, Cuts}
+use Rattle.tv_program.specs.declared.fault.RunFault.{RunFault}
+use Rattle.tv_program.specs.declared.fault.RunFault.TheVariants.{NoMemory, Lang, Faults, Script, ScriptTooLong, Write, Read, Cert, Refused, NotYet}
+use Rattle.tv_script.specs.Writer.{Seen, Takes, Cuts}
 
 -- the text was taken, or a proper prefix of it because the writer failed
 abbrev pub IsOffered : Seen → Seen → List ℕ → Type 0
@@ -17,9 +21,17 @@ IsOffered old new text = Takes old new text ⊎ Cuts old new text
 abbrev pub fault_line : Fault → List ℕ
 fault_line fault = line_of (codes "F") (decimal (fault_number fault.kind) ++ codes " line " ++ decimal fault.line)
 
--- the faults go to standard output
+-- a refusal by its reason
+abbrev pub refusal_text : Refusal → List ℕ
+refusal_text refusals.NoMemory = []
+refusal_text (refusals.Faulty fault) = codes "refused " ++ fault_line fault
+refusal_text (refusals.TabOrder place) = line_of (codes "refused tab ") (decimal place)
+refusal_text (refusals.Owner letter) = line_of (codes "refused key ") (encode_utf8 letter)
+
+-- faults and refusals go to standard output
 abbrev pub out_text : RunFault → List ℕ
 out_text (Faults list) = flat_map fault_line list
+out_text (Refused refusal) = refusal_text refusal
 out_text _ = []
 
 abbrev pub syntax_message : List ℕ → ℕ → List ℕ
@@ -31,6 +43,11 @@ lang_message name (lang.Syntax line) = syntax_message name line
 lang_message name lang.TooLong = line_of (codes "tvdlg: ") (name ++ codes ": too long")
 lang_message name lang.Version = line_of (codes "tvdlg: ") (name ++ codes ": unknown version")
 
+abbrev pub cert_message : List ℕ → CertificateFault → List ℕ
+cert_message name certificates.NoMemory = line_of (codes "tvdlg: ") (codes "no memory")
+cert_message name (certificates.Syntax line) = syntax_message name line
+cert_message name certificates.TooLong = line_of (codes "tvdlg: ") (name ++ codes ": too long")
+
 -- the message on standard error, with the bytes of the file's name
 abbrev pub err_text : List ℕ → RunFault → List ℕ
 err_text name NoMemory = line_of (codes "tvdlg: ") (codes "no memory")
@@ -38,6 +55,11 @@ err_text name (Lang fault) = lang_message name fault
 err_text name (Faults list) = []
 err_text name (Script line) = syntax_message name line
 err_text name ScriptTooLong = line_of (codes "tvdlg: ") (name ++ codes ": too long")
+err_text name (Cert fault) = cert_message name fault
+err_text name (Refused refusals.NoMemory) = line_of (codes "tvdlg: ") (codes "no memory")
+err_text name (Refused refusal) = []
+err_text name NotYet = line_of (codes "tvdlg: ") (name ++ codes ": not yet")
+err_text name Read = line_of (codes "tvdlg: ") (codes "cannot read " ++ name)
 err_text name Write = line_of (codes "tvdlg: ") (codes "cannot write")
 
 -- 1 for a text that is not right, 3 for memory and devices
@@ -45,10 +67,22 @@ abbrev pub lang_status : LangFault → ℕ
 lang_status lang.NoMemory = 3
 lang_status _ = 1
 
+abbrev pub cert_status : CertificateFault → ℕ
+cert_status certificates.NoMemory = 3
+cert_status _ = 1
+
+abbrev pub refusal_status : Refusal → ℕ
+refusal_status refusals.NoMemory = 3
+refusal_status _ = 1
+
 abbrev pub status_of : RunFault → ℕ
 status_of NoMemory = 3
 status_of (Lang fault) = lang_status fault
 status_of (Faults list) = 1
 status_of (Script line) = 1
 status_of ScriptTooLong = 1
+status_of (Cert fault) = cert_status fault
+status_of (Refused refusal) = refusal_status refusal
+status_of NotYet = 1
+status_of Read = 3
 status_of Write = 3

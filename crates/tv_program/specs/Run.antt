@@ -1,7 +1,6 @@
 -- The state of the flat machine, as a run over one dialog of texts and buttons keeps it.
-use Rattle.std.specs.Prelude.{◌≡◌, Bool, true, false, List, [], ◌∷◌, Option, Some, None, option_map, if◌then◌else◌, All, pos}
+use Rattle.std.specs.Prelude.{Bool, false, [], ◌∷◌, Option, Some, None, option_map, if◌then◌else◌, All, pos}
 use Rattle.tv_model.specs.declared.node.Id.{Id}
-use Rattle.tv_model.specs.declared.node.Node.{Node}
 use Rattle.tv_model.specs.declared.desc.Desc.{Desc}
 use Rattle.tv_model.specs.declared.desc.Dialog.{Dialog}
 use Rattle.tv_model.specs.Record.{Entries}

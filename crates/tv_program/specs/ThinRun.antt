@@ -1,24 +1,18 @@
 -- What a run of a thin description and script comes to.
-use Rattle.std.specs.Prelude.{◌≡◌, ◌≢◌, ◌<◌, ◌≤◌, ℕ, List, [], length, Result, Ok, Err}
-use Rattle.tv_lang.specs.declared.description.LangFault.TheVariants as lang
+use Rattle.std.specs.Prelude.{◌≡◌, ◌<◌, ◌≤◌, ℕ, List, length, Result, Ok, Err}
 use Rattle.tv_lang.specs.declared.script.ScriptFault.TheVariants as scripts
-use Rattle.tv_lang.specs.Faults.{Refuses}
 use Rattle.tv_lang.specs.Scripts.{Spells as SpellsScript, Refuses as RefusesScript}
 use Rattle.tv_lang.specs.Faults.{Spells}
 use Rattle.tv_model.specs.declared.desc.Desc.{Desc}
 use Rattle.tv_model.specs.declared.script.Item.{Item}
-use Rattle.tv_model.specs.Faults.{IsSound, faults_of}
 use Rattle.tv_model.specs.Output.{output}
 use Rattle.tv_model.specs.Safe.{IsAlwaysSafe}
 use Rattle.tv_model.specs.Session.{started}
-use Rattle.tv_program.specs.declared.thin.RunFault.{RunFault}
-use Rattle.tv_program.specs.declared.thin.RunFault.TheVariants.{NoMemory, Lang, Faults, Script, ScriptTooLong, Write}
-use Rattle.tv_program.specs.Writer.{Seen, Takes, Cuts}
-
--- the text spells the description, and it is sound
-pub record IsSoundText (text : List ℕ) (d : Desc) : Type 0 where
-  pub spelled : Spells text d
-  pub sound : IsSound d
+use Rattle.tv_model.specs.Thin.{IsThin}
+use Rattle.tv_program.specs.declared.fault.RunFault.{RunFault}
+use Rattle.tv_program.specs.declared.fault.RunFault.TheVariants.{NoMemory, Lang, Faults, Script, ScriptTooLong, Write, Read, Cert, Refused, NotYet}
+use Rattle.tv_program.specs.Reading.{IsFaulty, IsNoDescription, IsSoundText}
+use Rattle.tv_script.specs.Writer.{Seen, Takes, Cuts}
 
 -- the texts spell a sound description and a script; every run of the description is safe
 pub record Runs (text script : List ℕ) : Type 0 where
@@ -28,11 +22,12 @@ pub record Runs (text script : List ℕ) : Type 0 where
   pub scripted : SpellsScript script items
   pub safe : IsAlwaysSafe desc
 
--- why a description is not run
+-- why a description is not run: by its text, since it isn't thin, or by its faults
 abbrev pub RefusesDesc : List ℕ → RunFault → Type 0
 RefusesDesc text NoMemory = Unit {0}
-RefusesDesc text (Lang fault) = Refuses text fault × (fault ≢ lang.NoMemory)
-RefusesDesc text (Faults list) = (d : Desc) × Spells text d × (list ≡ faults_of d) × (list ≢ [])
+RefusesDesc text (Lang fault) = IsNoDescription text (Lang fault)
+RefusesDesc text NotYet = (d : Desc) × Spells text d × (IsThin d → ⊥)
+RefusesDesc text (Faults list) = (d : Desc) × Spells text d × IsThin d × IsFaulty d (Faults list)
 RefusesDesc text _ = ⊥
 
 -- why a script is not run
@@ -42,12 +37,6 @@ IsNoScript text (Script line) = (length text ≤ 1048576) × RefusesScript text 
 IsNoScript text ScriptTooLong = 1048576 < length text
 IsNoScript text _ = ⊥
 
--- a text was written whole, or the writer failed and took a proper prefix
-abbrev pub Plays : {T : Type 0} → Seen → Seen → List ℕ → Result T RunFault → Type 0
-Plays old new text (Ok _) = Takes old new text
-Plays old new text (Err Write) = Cuts old new text
-Plays old new text (Err _) = ⊥
-
 -- With Ok the whole output of the script was written. A fault of a text comes before anything is written, that of the
 -- description first. A writer that fails has taken a proper prefix of the output.
 abbrev pub RunsTo : {T : Type 0} → List ℕ → List ℕ → Seen → Seen → Result T RunFault → Type 0
@@ -55,6 +44,10 @@ RunsTo text script old new (Ok _) = (r : Runs text script) × Takes old new (out
 RunsTo text script old new (Err NoMemory) = new ≡ old
 RunsTo text script old new (Err (Lang fault)) = RefusesDesc text (Lang fault) × (new ≡ old)
 RunsTo text script old new (Err (Faults list)) = RefusesDesc text (Faults list) × (new ≡ old)
+RunsTo text script old new (Err NotYet) = RefusesDesc text NotYet × (new ≡ old)
 RunsTo text script old new (Err (Script line)) = (d : Desc) × IsSoundText text d × IsNoScript script (Script line) × (new ≡ old)
 RunsTo text script old new (Err ScriptTooLong) = (d : Desc) × IsSoundText text d × IsNoScript script ScriptTooLong × (new ≡ old)
+RunsTo text script old new (Err Read) = ⊥
+RunsTo text script old new (Err (Cert fault)) = ⊥
+RunsTo text script old new (Err (Refused refusal)) = ⊥
 RunsTo text script old new (Err Write) = (r : Runs text script) × Cuts old new (output (started r.desc) r.items)

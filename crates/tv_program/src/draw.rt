@@ -7,16 +7,17 @@ ghost use Rattle.tv_model.specs.Faults.{desktop};
 ghost use Rattle.tv_model.specs.Layers.{canvas_at, bar_layer, status_layer, background_layer, view_layers, body_layers, frame_canvas, dialog_layers, is_default_now, look_of, whole_screen};
 ghost use Rattle.tv_model.specs.State.{natural};
 ghost use Rattle.tv_model.specs.Faces.{empty_bar};
-ghost use Rattle.tv_program.specs.Looks.{look_of as seen_look};
+ghost use Rattle.tv_faces.specs.Looks.{button_look_of};
 ghost use Rattle.tv_cells.specs.Picture.{IsAlike};
 ghost use Rattle.tv_program.specs.Looks.{focused_layers};
 ghost use Rattle.tv_check.specs.Usable.{IsLimited};
 ghost use Rattle.tv_program.specs.Run.{IsScreenSize};
 
-use crate::faces::{Background, ButtonFace, ButtonLook, DialogFrame, EmptyBar, StaticText};
 use crate::focus::{is_button_at, is_default};
 use tv_cells::{Canvas, Point, Rect, Screen, lay, lay_shadow};
+use tv_faces::{Background, ButtonFace, ButtonLook, EmptyBar, Frame, FrameLook, TextFace};
 use tv_model::{Desc, Dialog, Id, Kind, Node};
+use tv_palette::{Chain, Owner, Role};
 
 // The rows between the menu bar and the status line.
 fn desktop(desc: &Desc) -> Rect
@@ -46,7 +47,7 @@ fn whole_screen(desc: &Desc) -> Rect
 
 // How a button stands.
 fn look_of(views: &[Node], focus: Id, node: &Node) -> ButtonLook
-    ensures { seen_look result ≡ look_of views.now focus node.now }
+    ensures { button_look_of result ≡ look_of views.now focus node.now }
 {
     let is_focused = node.id == focus;
     let is_default_now = if is_button_at(views, focus) {
@@ -100,10 +101,12 @@ fn draw_view(screen: &mut Screen, desc: &Desc, dialog: &Dialog, focus: Id, node:
     ensures shows { (layers : List Layer) → Shows layers screen.old → Shows (view_layers desc.now dialog.now focus node.now ++ layers) screen.new }
 {
     let width = natural(&node.w);
+    let chain = Chain::of_dialog();
     match &node.kind {
         Kind::Text { h, text } => {
-            let face = StaticText {
+            let face = TextFace {
                 text: text.as_slice(),
+                attr: Role::StaticText(Owner::Dialog).attr(&chain),
             };
             lay(
                 screen,
@@ -114,11 +117,14 @@ fn draw_view(screen: &mut Screen, desc: &Desc, dialog: &Dialog, focus: Id, node:
             );
         }
         Kind::Button { text, .. } => {
+            let look = look_of(dialog.views.as_slice(), focus, node);
             let face = ButtonFace {
                 width,
                 text: text.text.as_slice(),
                 mark: text.mark,
-                look: look_of(dialog.views.as_slice(), focus, node),
+                is_default_now: look.is_default_now,
+                letter: look.attr(&chain, true),
+                rest: look.attr(&chain, false),
             };
             lay(screen, view_canvas(desc, dialog, node), width, 1, &face);
         }
@@ -177,10 +183,11 @@ fn draw_body(screen: &mut Screen, desc: &Desc, dialog: &Dialog)
         let canvas = frame_canvas(desc, dialog);
         let width = natural(&dialog.node.w);
         let height = natural(h);
-        let face = DialogFrame {
+        let face = Frame {
             width,
             height,
             title: title.as_slice(),
+            look: FrameLook::new(&Chain::of_dialog(), Owner::Dialog, 0, true),
         };
         lay_shadow(screen, canvas, sized(width, height));
         lay(screen, canvas, width, height, &face);

@@ -1,27 +1,23 @@
 //! What the program does, as calls over bytes and writers.
 #![tactic(auto)]
 
-mod device;
+mod checking;
 mod draw;
-mod faces;
+mod fault;
 mod focus;
-mod lines;
 mod log;
 mod message;
-mod pen;
+mod reading;
 mod run;
-mod script;
 mod session;
-mod shot;
-mod stage;
+mod shape;
 pub mod thin;
-mod writer;
 
-pub use device::Device;
+pub use checking::{accept_files, accept_text, check};
+pub use fault::RunFault;
 pub use log::Log;
 pub use message::report;
+pub use reading::{look_for_faults, read_desc};
 pub use run::Run;
-pub use script::perform;
 pub use session::ThinSession;
-pub use stage::Stage;
-pub use writer::{WriteFailed, Writer, write_all};
+pub use shape::is_thin;

@@ -1,17 +1,17 @@
-//! What is told of a run that didn't come to its end.
+//! What is told of a call that didn't come to its end.
 
-ghost use Rattle.std.specs.Prelude.{◌≡◌, ◌++◌, ◌∷◌, [], codes, flat_map, decimal};
+ghost use Rattle.std.specs.Prelude.{◌≡◌, ◌++◌, ◌∷◌, [], codes, flat_map, decimal, encode_utf8};
 ghost use Rattle.tv_model.specs.LogText.{line_of};
-ghost use Rattle.tv_program.specs.Pen.{Puts};
-ghost use Rattle.tv_program.specs.Report.{IsOffered, fault_line, lang_message, lang_status, out_text, err_text, status_of, syntax_message};
+ghost use Rattle.tv_script.specs.Pen.{Puts};
+ghost use Rattle.tv_program.specs.Report.{IsOffered, cert_message, fault_line, lang_message, lang_status, out_text, err_text, refusal_text, status_of, syntax_message};
 
-use crate::pen::Pen;
-use crate::thin::RunFault;
-use crate::writer::Writer;
+use crate::fault::RunFault;
+use tv_check::{CertificateFault, Refusal};
 use tv_lang::LangFault;
 use tv_model::Fault;
+use tv_script::{Pen, Writer};
 
-/// Tells why a run didn't come to its end: faults on `out`, a message on `err`. Answers the program's status.
+/// Tells why a call didn't come to its end: faults and refusals on `out`, a message on `err`. Answers the program's status.
 ///
 /// `name` is that of the file that the fault is in. Where a writer fails, what it took is a prefix.
 pub fn report<W: Writer, E: Writer>(fault: &RunFault, name: &str, out: &mut W, err: &mut E) -> u8
@@ -23,7 +23,7 @@ pub fn report<W: Writer, E: Writer>(fault: &RunFault, name: &str, out: &mut W, e
         out,
         stopped: false,
     };
-    put_faults(&mut out, fault);
+    put_result(&mut out, fault);
     let mut err = Pen {
         out: err,
         stopped: false,
@@ -36,18 +36,64 @@ fn status(fault: &RunFault) -> u8
     ensures { result ≡ status_of fault.now }
 {
     match fault {
-        RunFault::NoMemory | RunFault::Lang(LangFault::NoMemory) | RunFault::Write => 3,
-        RunFault::Lang(_) | RunFault::Faults(_) | RunFault::Script(_) | RunFault::ScriptTooLong =>
-            1,
+        RunFault::NoMemory
+        | RunFault::Lang(LangFault::NoMemory)
+        | RunFault::Cert(CertificateFault::NoMemory)
+        | RunFault::Refused(Refusal::NoMemory)
+        | RunFault::Write
+        | RunFault::Read => 3,
+        RunFault::Lang(_)
+        | RunFault::Faults(_)
+        | RunFault::Script(_)
+        | RunFault::ScriptTooLong
+        | RunFault::Cert(_)
+        | RunFault::Refused(_)
+        | RunFault::NotYet => 1,
     }
 }
 
-fn put_faults<W: Writer>(pen: &mut Pen<W>, fault: &RunFault)
+fn put_result<W: Writer>(pen: &mut Pen<W>, fault: &RunFault)
     ensures { Puts W.seen pen.old pen.new (out_text fault.now) }
 {
-    if let RunFault::Faults(list) = fault {
-        put_list(pen, list.as_slice());
+    match fault {
+        RunFault::Faults(list) => put_list(pen, list.as_slice()),
+        RunFault::Refused(refusal) => put_refusal(pen, refusal),
+        _ => {}
     }
+}
+
+fn put_refusal<W: Writer>(pen: &mut Pen<W>, refusal: &Refusal)
+    ensures { Puts W.seen pen.old pen.new (refusal_text refusal.now) }
+{
+    match refusal {
+        Refusal::NoMemory => {}
+        Refusal::Faulty(fault) => put_first(pen, fault),
+        Refusal::TabOrder(place) => put_tab(pen, *place),
+        Refusal::Owner(letter) => put_key(pen, *letter),
+    }
+}
+
+fn put_first<W: Writer>(pen: &mut Pen<W>, fault: &Fault)
+    ensures { Puts W.seen pen.old pen.new (codes "refused " ++ fault_line fault.now) }
+{
+    pen.put(b"refused ");
+    put_fault(pen, fault);
+}
+
+fn put_tab<W: Writer>(pen: &mut Pen<W>, place: usize)
+    ensures { Puts W.seen pen.old pen.new (line_of (codes "refused tab ") (decimal place)) }
+{
+    pen.put(b"refused tab ");
+    pen.put_place(place);
+    pen.put(b"\n");
+}
+
+fn put_key<W: Writer>(pen: &mut Pen<W>, letter: char)
+    ensures { Puts W.seen pen.old pen.new (line_of (codes "refused key ") (encode_utf8 letter)) }
+{
+    pen.put(b"refused key ");
+    pen.put_char(letter);
+    pen.put(b"\n");
 }
 
 fn put_list<W: Writer>(pen: &mut Pen<W>, list: &[Fault])
@@ -75,8 +121,13 @@ fn put_message<W: Writer>(pen: &mut Pen<W>, name: &[u8], fault: &RunFault)
         RunFault::NoMemory => put_plain(pen, b"no memory"),
         RunFault::Lang(fault) => put_lang(pen, name, *fault),
         RunFault::Faults(_) => {}
+        RunFault::Cert(fault) => put_cert(pen, name, *fault),
+        RunFault::Refused(Refusal::NoMemory) => put_plain(pen, b"no memory"),
+        RunFault::Refused(_) => {}
         RunFault::Script(line) => put_syntax(pen, name, *line),
         RunFault::ScriptTooLong => put_named(pen, name, b": too long"),
+        RunFault::NotYet => put_named(pen, name, b": not yet"),
+        RunFault::Read => put_named(pen, b"cannot read ", name),
         RunFault::Write => put_plain(pen, b"cannot write"),
     }
 }
@@ -89,6 +140,16 @@ fn put_lang<W: Writer>(pen: &mut Pen<W>, name: &[u8], fault: LangFault)
         LangFault::Syntax(line) => put_syntax(pen, name, line),
         LangFault::TooLong => put_named(pen, name, b": too long"),
         LangFault::Version => put_named(pen, name, b": unknown version"),
+    }
+}
+
+fn put_cert<W: Writer>(pen: &mut Pen<W>, name: &[u8], fault: CertificateFault)
+    ensures { Puts W.seen pen.old pen.new (cert_message name.now fault) }
+{
+    match fault {
+        CertificateFault::NoMemory => put_plain(pen, b"no memory"),
+        CertificateFault::Syntax(line) => put_syntax(pen, name, line),
+        CertificateFault::TooLong => put_named(pen, name, b": too long"),
     }
 }
 

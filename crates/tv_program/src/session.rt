@@ -10,12 +10,12 @@ ghost use Rattle.tv_program.specs.Run.{IsScreenSize};
 
 use crate::draw::{draw, natural};
 use crate::run::Run;
-use crate::stage::Stage;
 use std::alloc::{AllocError, Global};
 use std::marker::Model;
 use tv_cells::{Screen, ScreenFault};
 use tv_event::Event;
 use tv_model::{Desc, Dialog, Id, LogLine};
+use tv_script::Stage;
 
 /// A run over a thin description, with the screen on which it is drawn. Contracts see the flat machine's session.
 #[derive(Drop)]

@@ -2,49 +2,24 @@
 
 ghost use Rattle.std.specs.Prelude.{◌≡◌, IfOk, IfErr, List, ℕ};
 ghost use Rattle.tv_lang.specs.Scripts.{Spells as SpellsScript};
-ghost use Rattle.tv_lang.specs.Faults.{Spells};
 ghost use Rattle.tv_model.specs.Faults.{IsSound};
 ghost use Rattle.tv_model.specs.Output.{output};
 ghost use Rattle.tv_model.specs.Thin.{IsThin};
-ghost use Rattle.tv_program.specs.ThinRun.{IsNoScript, IsSoundText, Plays, RefusesDesc, RunsTo};
+ghost use Rattle.tv_program.specs.Reading.{IsSoundText};
+ghost use Rattle.tv_program.specs.ThinRun.{IsNoScript, RefusesDesc, RunsTo};
+ghost use Rattle.tv_program.specs.Written.{Writes};
 
-use crate::script::perform;
+use crate::fault::RunFault;
+use crate::reading::{look_for_faults, read_desc};
 use crate::session::ThinSession;
-use crate::writer::Writer;
-use std::alloc::{AllocError, Global};
-use tv_check::faults;
-use tv_lang::{LangFault, ScriptFault, parse, parse_script};
-use tv_model::{Desc, Fault, Item, Sequence};
+use crate::shape::is_thin;
+use std::alloc::Global;
+use tv_lang::{ScriptFault, parse_script};
+use tv_model::{Desc, Item, Sequence};
+use tv_script::{Writer, perform};
 
 /// The most bytes of a script.
 const LONGEST_SCRIPT: usize = 1_048_576;
-
-/// Why a run didn't come to its end.
-#[derive(Debug, Drop)]
-pub enum RunFault {
-    NoMemory,
-    /// The description is not spelled right.
-    Lang(LangFault),
-    /// The faults of a description that is spelled right, by number and then by line.
-    Faults(Sequence<Fault>),
-    /// The first faulty line of the script.
-    Script(usize),
-    /// The script has more than 1,048,576 bytes.
-    ScriptTooLong,
-    /// The writer failed, or took nothing.
-    Write,
-}
-
-impl From<AllocError> for RunFault {
-    ghost use Rattle.std.specs.Prelude.{◌≡◌};
-    ghost use Rattle.tv_program.specs.declared.thin.RunFault.TheVariants.{NoMemory};
-
-    ghost from_gives = { λ _ fault. fault ≡ NoMemory };
-
-    fn from(_error: AllocError) -> RunFault {
-        RunFault::NoMemory
-    }
-}
 
 /// Runs a script on a description, and writes its output: the log and the screens that it asks for.
 ///
@@ -75,14 +50,17 @@ pub fn run_script<W: Writer>(
     requires sound { IsSound desc }
     ensures { (text : List ℕ) → IsSoundText text desc → RunsTo text script.now (W.seen out.old) (W.seen out.new) result }
 {
-    let items = read_script(alloc, script)?;
+    let items = match read_script(alloc, script) {
+        Ok(items) => items,
+        Err(fault) => return Err(fault),
+    };
     let mut session = ThinSession::new(alloc, desc)?;
     play(&mut session, items.as_slice(), out)
 }
 
 // Performs a script on a session.
 fn play<W: Writer>(session: &mut ThinSession, script: &[Item], out: &mut W) -> Result<(), RunFault>
-    ensures { Plays (W.seen out.old) (W.seen out.new) (output session.old.session script.now) result }
+    ensures { Writes (W.seen out.old) (W.seen out.new) (output session.old.session script.now) result }
 {
     match perform(session, script, out) {
         Ok(()) => Ok(()),
@@ -90,30 +68,21 @@ fn play<W: Writer>(session: &mut ThinSession, script: &[Item], out: &mut W) -> R
     }
 }
 
-/// The description that a text spells, where it has no faults; the error is a fault of either kind, or of memory.
+/// The description that a text spells, where it is one dialog of static texts and buttons without faults.
+///
+/// The errors are those of the text, then `NotYet` for another description, then its faults.
 pub fn read_sound(alloc: Global, text: &[u8]) -> Result<Desc, RunFault>
     ensures sound { IfOk result (λ desc. IsSoundText text.now desc) }
     ensures thin { IfOk result (λ desc. IsThin desc) }
     ensures fault { IfErr result (λ fault. RefusesDesc text.now fault) }
 {
     let desc = read_desc(alloc, text)?;
-    let list = faults(alloc, &desc)?;
-    if list.as_slice().is_empty() {
-        Ok(desc)
-    } else {
-        Err(RunFault::Faults(list))
+    if !is_thin(&desc) {
+        return Err(RunFault::NotYet);
     }
-}
-
-fn read_desc(alloc: Global, text: &[u8]) -> Result<Desc, RunFault>
-    ensures spelled { IfOk result (λ desc. Spells text.now desc) }
-    ensures thin { IfOk result (λ desc. IsThin desc) }
-    ensures fault { IfErr result (λ fault. RefusesDesc text.now fault) }
-{
-    match parse(alloc, text) {
-        Ok(desc) => Ok(desc),
-        Err(LangFault::NoMemory) => Err(RunFault::NoMemory),
-        Err(fault) => Err(RunFault::Lang(fault)),
+    match look_for_faults(alloc, &desc) {
+        Ok(()) => Ok(desc),
+        Err(fault) => Err(fault),
     }
 }
 

@@ -2,9 +2,25 @@
 #![tactic(auto)]
 
 #[cfg(test)]
+mod broken_descriptions;
+#[cfg(test)]
 mod constructors;
 #[cfg(test)]
+mod count_edges;
+#[cfg(test)]
+mod declared_edges;
+#[cfg(test)]
+mod descriptions;
+#[cfg(test)]
+mod documented_faults;
+#[cfg(test)]
 mod each_fault;
+#[cfg(test)]
+mod edited_descriptions;
+#[cfg(test)]
+mod fault_edges;
+#[cfg(test)]
+mod input_edges;
 #[cfg(test)]
 mod memory;
 #[cfg(test)]
@@ -14,6 +30,10 @@ mod runs;
 #[cfg(test)]
 mod samples;
 #[cfg(test)]
+mod tables;
+#[cfg(test)]
 mod texts;
+#[cfg(test)]
+mod view_edges;
 #[cfg(test)]
 mod writers;

@@ -2,7 +2,8 @@
 
 use crate::samples::CANCEL;
 use crate::writers::Memory;
-use tv_program::thin::{RunFault, run};
+use tv_program::RunFault;
+use tv_program::thin::run;
 
 // It passes whichever allocation is refused, so it can be run with each of them refused in turn.
 #[test]

@@ -5,9 +5,10 @@ use crate::writers::{Idle, Memory};
 use std::alloc::Global;
 use std::process::Abort;
 use std::test::Fail;
+use tv_check::CertificateFault;
 use tv_lang::LangFault;
-use tv_program::report;
-use tv_program::thin::{RunFault, run};
+use tv_program::thin::run;
+use tv_program::{RunFault, report};
 
 // Sees to it that a fault has this message and status, and that nothing is told elsewhere.
 fn expect_report(
@@ -43,6 +44,15 @@ fn reports_on_texts(rt: HostRuntime) -> Result<(), Fail> {
         ),
         (RunFault::Script(100), "tvdlg: NAME: syntax at line 100\n"),
         (RunFault::ScriptTooLong, "tvdlg: NAME: too long\n"),
+        (
+            RunFault::Cert(CertificateFault::Syntax(7)),
+            "tvdlg: NAME: syntax at line 7\n",
+        ),
+        (
+            RunFault::Cert(CertificateFault::TooLong),
+            "tvdlg: NAME: too long\n",
+        ),
+        (RunFault::NotYet, "tvdlg: NAME: not yet\n"),
     ] {
         expect_report(&rt, rt.alloc(), &fault, message, 1)?;
     }
@@ -54,6 +64,7 @@ fn reports_on_memory_and_devices(rt: HostRuntime) -> Result<(), Fail> {
     for (fault, message) in [
         (RunFault::Lang(LangFault::NoMemory), "tvdlg: no memory\n"),
         (RunFault::NoMemory, "tvdlg: no memory\n"),
+        (RunFault::Read, "tvdlg: cannot read NAME\n"),
         (RunFault::Write, "tvdlg: cannot write\n"),
     ] {
         expect_report(&rt, rt.alloc(), &fault, message, 3)?;

@@ -5,8 +5,8 @@ use crate::writers::{Idle, Memory};
 use std::alloc::{AllocError, Global};
 use std::process::Abort;
 use std::test::Fail;
-use tv_program::report;
-use tv_program::thin::{RunFault, run};
+use tv_program::thin::run;
+use tv_program::{RunFault, report};
 
 const TWO_BUTTONS: &str = r#"tvd 1
 screen 20 10

@@ -6,7 +6,8 @@ use std::alloc::Global;
 use std::test::Fail;
 use tv_lang::{LangFault, ScriptFault, parse, parse_script};
 use tv_model::{Desc, Kind, Node};
-use tv_program::thin::{RunFault, run};
+use tv_program::RunFault;
+use tv_program::thin::run;
 
 // The description of one dialog, by its five lines before the last.
 fn described(alloc: Global, lines: [&str; 5]) -> Result<String, Fail> {
@@ -83,7 +84,6 @@ fn refused_lines(rt: HostRuntime) -> Result<(), Fail> {
         (4, r#"dialog a 2 2 14 4 "\q" ends cancel"#),
         (4, r#"dialog a 2 2 14 4 "Q" ends cancel ok"#),
         (4, r#"dialog a 2 2 14 4 "Q" ends cancel cancel"#),
-        (4, r#"dialog a 2 2 14 4 "Q" opens 100 ends cancel"#),
         (4, r#"dialog "a" 2 2 14 4 "Q" ends cancel"#),
     ] {
         let fault = refusal(rt.alloc(), number, line)?;
@@ -99,15 +99,12 @@ fn refused_views(rt: HostRuntime) -> Result<(), Fail> {
         (r#"button c 2 1 10 "~AB~" cancel"#, 5),
         (r#"button c 2 1 10 "~A~~B~" cancel"#, 5),
         (r#"button c 2 1 10 "~-~" cancel"#, 5),
-        (r#"button c 2 1 10 "C" cancel default"#, 5),
-        (r#"button c 2 1 10 "C" cancel grab"#, 5),
         (r#"button c 2 1 10 "C" stop"#, 5),
         (r#"button c 2 1 10 "C""#, 5),
         (r#"button c 2 1 10 1 "C" cancel"#, 5),
-        (r#"label 2 1 10 "C" c"#, 5),
         (r#"text 1 1 5 "C""#, 5),
         (r#"text 1 1 5 1 C"#, 5),
-        (r#"pane p 1 1 5 1"#, 5),
+        (r#"pane p 1 1 5 1"#, 7),
         ("end\nend", 6),
         ("end\ntext 1 1 5 1 \"C\"", 6),
         ("end x", 5),
@@ -133,7 +130,10 @@ fn texts_that_are_read(rt: HostRuntime) -> Result<(), Fail> {
             4,
             "dialog end 2 2 14 4 \"Q\" ends cancel\n\n   \n  # a comment",
         ),
+        (4, r#"dialog a 2 2 14 4 "Q" opens 100 ends cancel"#),
         (5, r#"text 1 1 5 1 "a~b~~c""#),
+        (5, r#"label 2 1 10 "C" c"#),
+        (5, r#"button c 2 1 10 "C" cancel default grab"#),
         (5, r#"button when 2 1 10 "~9~" 2147483647"#),
         (5, ""),
     ] {

@@ -1,7 +1,12 @@
 -- One literal more.
 use Rattle.std.proofs.Common.{suc, zero, inl, inr, ◌≡◌, ◌⊎◌, ◌+◌, ◌<◌, ◌≤◌, ℕ, List, [], ◌∷◌, ◌++◌, length, take, get_or, arith, refl, sym, ◌∙◌, ap, subst, length-append}
-use Rattle.std.specs.Prelude.{pos, ◌<ℤ◌, ℤ}
-use Rattle.tv_picture.specs.Pattern.{Pattern, IsNextLiteral}
+use Rattle.std.specs.Prelude.{pos, ◌<ℤ◌, ◌≤ℤ◌, ℤ, All, Contains}
+use Rattle.std.proofs.lemmas.Int.{ints}
+use Rattle.std.proofs.lemmas.List.Elements.{All-contains, All-push}
+use Rattle.tv_cells.specs.Glyph.{IsNarrow}
+use Rattle.tv_picture.specs.Pattern.{Pattern, Begins, IsNextLiteral}
+use Rattle.tv_picture.specs.Spelling.{spelled}
+use Rattle.tv_valid.specs.Domain.{FitsIn}
 
 abbrev pub Literals : ℤ → Pattern → List ℕ → List ℕ → Type 0
 Literals max p text more = (k : ℕ) (c : ℕ) → k < length more → IsNextLiteral p (text ++ take k more) (get_or more k c) × (pos (length text + k) <ℤ max)
@@ -43,3 +48,14 @@ literals_more max p text more ch all last under k c within = cases (parts k (ome
           (subst (λ t. IsNextLiteral p (text ++ t) ch) (sym (pushed_take more ch (length more) (omega arith) ∙ take_whole more)) last)),
       subst (λ (j : ℕ). pos (length text + j) <ℤ max) (sym e) under,
     )
+
+-- ---- what is filled up stays viable
+
+under_next : (max : ℤ) (n m : ℕ) → pos n <ℤ max → m ≡ n + 1 → pos m ≤ℤ max
+under_next max n m h e = omega (arith, ints)
+
+pub viable_more : (max : ℤ) (p : Pattern) (text : List ℕ) (ch : ℕ) → All IsNarrow (spelled p) → FitsIn max text → pos (length text) <ℤ max → IsNextLiteral p text ch → Contains (spelled p) ch → FitsIn max (text ++ ch ∷ []) × Begins p (text ++ ch ∷ [])
+viable_more max p text ch narrow (few, least, each) under next stands = (
+  (under_next max (length text) (length (text ++ ch ∷ [])) under (length-append text (ch ∷ [])), omega (arith, length-append text (ch ∷ []), next.room), All-push IsNarrow text ch each (All-contains IsNarrow (spelled p) ch narrow stands)),
+  next.fits,
+)

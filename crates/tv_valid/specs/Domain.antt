@@ -19,9 +19,11 @@ abbrev pub whole : List ℕ → ℕ
 whole [] = 0
 whole (c ∷ cs) = (c - 48) * 10 ^ length cs + whole cs
 
+-- one or more digits
 abbrev pub IsDigits : List ℕ → Type 0
 IsDigits cs = (1 ≤ length cs) × All IsDigit cs
 
+-- the number lies between the two, either of them included
 abbrev pub IsBetween : ℤ → ℤ → ℤ → Type 0
 IsBetween least z greatest = (least ≤ℤ z) × (z ≤ℤ greatest)
 
@@ -47,9 +49,13 @@ MayBecome (Filter set) text = All (Contains set) text
 MayBecome (Range least greatest) text = All (IsRangeChar least) text
 MayBecome (Picture p) text = Begins p text
 
--- at most as many characters as the input takes, each of one column
+-- at most so many characters, and never more than 120, each of one column
+abbrev pub FitsIn : ℤ → List ℕ → Type 0
+FitsIn max text = (pos (length text) ≤ℤ max) × (length text ≤ 120) × All IsNarrow text
+
+-- the text has room in the input
 abbrev pub Fits : Domain → List ℕ → Type 0
-Fits d text = (pos (length text) ≤ℤ d.max) × (length text ≤ 120) × All IsNarrow text
+Fits d text = FitsIn d.max text
 
 -- a text of the domain
 abbrev pub InDomain : Domain → List ℕ → Type 0
@@ -74,6 +80,7 @@ pub record IsDomain (spec : InputSpec) (d : Domain) : Type 0 where
   pub fill : d.fill ≡ spec.fill
   pub kind : IsKind spec.domain d.kind
 
+-- some text lies in the domain
 abbrev pub HasText : Domain → Type 0
 HasText d = (text : List ℕ) × InDomain d text
 
@@ -81,10 +88,12 @@ HasText d = (text : List ℕ) × InDomain d text
 abbrev pub HasNumber : ℤ → ℤ → ℕ → Type 0
 HasNumber least greatest room = (text : List ℕ) × InRange least greatest text × (length text ≤ room) × All IsNarrow text
 
+-- the picture's fault as the domain's
 abbrev pub picture_fault : PictureFault → DomainFault
 picture_fault pictures.NoMemory = NoMemory
 picture_fault (pictures.Syntax place) = BadPicture place
 
+-- why there is no kind: no memory, or a wrong picture
 abbrev pub RefusesKind : DomainSpec → DomainFault → Type 0
 RefusesKind spec NoMemory = Unit {0}
 RefusesKind spec (BadPicture place) = (text : List ℕ) × (spec ≡ asked.Picture text) × IsFirstFault text place
@@ -98,10 +107,16 @@ Refuses spec Empty = ((d : Domain) × IsDomain spec d) × ((d : Domain) → IsDo
 
 -- ---- typing
 
+-- a picture is written in characters of one column
+abbrev pub IsNarrowKind : Kind → Type 0
+IsNarrowKind (Picture p) = All IsNarrow (spelled p)
+IsNarrowKind _ = Unit {0}
+
 -- an ASCII letter in its other case, and any other character itself
 abbrev pub other_case : ℕ → ℕ
 other_case c = if nat_le 65 c && nat_le c 90 then c + 32 else (if nat_le 97 c && nat_le c 122 then c - 32 else c)
 
+-- the domain is a picture
 abbrev pub IsPictureKind : Kind → Type 0
 IsPictureKind (Picture p) = Unit {0}
 IsPictureKind _ = ⊥

@@ -1,7 +1,10 @@
 //! The texts that an input takes.
 
-ghost use Rattle.std.specs.Prelude.{◌≡◌, ◌↔◌, ◌<◌, ◌≤◌, ◌≤ℤ◌, ◌<ℤ◌, pos, insert, ℕ, length, All, Contains, IsTrue, IfSome, IfNone, IfOk, IfErr};
-ghost use Rattle.tv_valid.specs.Domain.{IsDomain, IsKind, RefusesKind, HasText, InDomain, IsViableText, IsTyped, IsChosen, IsFilledTo, other_case, InKind, MayBecome, Fits, Refuses};
+ghost use Rattle.std.specs.Prelude.{◌≡◌, ◌↔◌, ◌<◌, ◌≤◌, ◌≤ℤ◌, ◌<ℤ◌, pos, insert, take, ℕ, length, All, Contains, IsTrue, IfSome, IfNone, IfOk, IfErr};
+ghost use Rattle.tv_valid.specs.Domain.{IsDomain, IsKind, RefusesKind, HasText, InDomain, IsViableText, IsTyped, IsChosen, IsFilledTo, other_case, InKind, MayBecome, Fits, FitsIn, IsNarrowKind, Refuses};
+ghost use Rattle.tv_cells.specs.Glyph.{IsNarrow};
+ghost use Rattle.tv_picture.specs.Pattern.{Begins};
+ghost use Rattle.tv_picture.specs.Spelling.{spelled};
 
 use crate::chars::Chars;
 use crate::input::{DomainSpec, InputSpec};
@@ -126,17 +129,22 @@ impl Domain {
             Kind::Picture(picture) => picture.shortest() as usize <= room,
         }
     }
-    /// Whether the text lies in the domain.
+
+    /// Whether the text lies in the domain. A text that does can be typed from the left, through viable texts alone.
     pub fn accepts(&self, text: &Text) -> bool
-        ensures { IsTrue result ↔ InDomain self.now text.now }
+        ensures accepted { IsTrue result ↔ InDomain self.now text.now }
+        ensures beginnings { IsTrue result → (k : ℕ) → IsViableText self.now (take k text.now) }
     {
         let chars = text.as_slice();
         self.fits(chars) && (self.is_complete(chars) || (self.optional && chars.is_empty()))
     }
 
-    /// Whether the text may stand in the input while it is typed.
+    /// Whether the text may stand in the input while it is typed. What may stand there can be taken back from its end.
+    ///
+    /// It needn't be the beginning of a text of the domain: a picture's may need more than the input's length.
     pub fn viable(&self, text: &Text) -> bool
-        ensures { IsTrue result ↔ IsViableText self.now text.now }
+        ensures viable { IsTrue result ↔ IsViableText self.now text.now }
+        ensures beginnings { IsTrue result → (k : ℕ) → IsViableText self.now (take k text.now) }
     {
         let chars = text.as_slice();
         self.fits(chars) && self.may_become(chars)
@@ -149,6 +157,7 @@ impl Domain {
     pub fn typed(&self, text: &Text, at: usize, ch: char) -> Option<Text>
         requires { at ≤ length text.now }
         ensures some { IfSome result (λ out. IsTyped self.now text.now at ch out) }
+        ensures viable { IfSome result (λ out. IsNarrowKind self.now.kind → IsViableText self.now out) }
         ensures none { IfNone result ((c : ℕ) → IsChosen self.now text.now at ch c → ⊥) }
     {
         if text.is_full() {
@@ -280,7 +289,8 @@ fn in_other_case(ch: char) -> char
 
 /// The text with the literals that must follow it, as long as there is room.
 fn filled(picture: &Picture, max: &i32, text: Text) -> Text
-    ensures { IsFilledTo max.now picture.now text result }
+    ensures filled { IsFilledTo max.now picture.now text result }
+    ensures viable { All IsNarrow (spelled picture.now) → FitsIn max.now text → Begins picture.now text → FitsIn max.now result × Begins picture.now result }
 {
     let mut text = text;
     for _ in 0..Text::CAPACITY {

@@ -13,4 +13,6 @@ pub use input::{DomainSpec, InputSpec};
 pub use text::Text;
 
 #[cfg(test)]
+mod plain;
+#[cfg(test)]
 mod tests;

@@ -44,14 +44,6 @@ fn picture_answers(rt: HostRuntime) {
         ("*[a]", "aaa", Status::Complete),
         ("a,", "", Status::Complete),
         ("a,", "a", Status::Complete),
-        ("*3#[-*2&]", "123", Status::Complete),
-        ("*3#[-*2&]", "123-A", Status::Viable),
-        ("*3#[-*2&]", "12A", Status::Error),
-        ("[ab]a", "a", Status::Complete),
-        ("[ab]a", "aba", Status::Complete),
-        ("[ab]a", "", Status::Viable),
-        ("[ab]a", "ab", Status::Viable),
-        ("[ab]a", "b", Status::Error),
     ] {
         assert!(rt;
             status_of(alloc, picture, text) == Some(want),
@@ -69,14 +61,38 @@ fn picture_answers(rt: HostRuntime) {
     ] {
         assert!(rt; next_of(alloc, picture, text) == want, "{picture} {text}");
     }
-    for (picture, want) in [
-        ("##/##", 5),
-        ("*2{ab}", 4),
-        ("*[a]", 0),
-        ("*3#[-*2&]", 3),
-        ("*2{*120#}", 121),
-    ] {
+    for (picture, want) in [("##/##", 5), ("*2{ab}", 4), ("*[a]", 0), ("*2{*120#}", 121)] {
         assert!(rt; shortest_of(alloc, picture) == Some(want), "{picture}");
+    }
+}
+
+#[test]
+fn picture_letters_refused(rt: HostRuntime) {
+    let alloc = rt.alloc();
+    let picture = "*3#[-*2&]";
+    for (text, want) in [
+        ("123", Status::Complete),
+        ("123-A", Status::Viable),
+        ("12A", Status::Error),
+    ] {
+        assert!(rt; status_of(alloc, picture, text) == Some(want), "{text}");
+    }
+    assert!(rt; shortest_of(alloc, picture) == Some(3));
+}
+
+#[test]
+fn picture_not_greedy(rt: HostRuntime) {
+    for (text, want) in [
+        ("a", Status::Complete),
+        ("aba", Status::Complete),
+        ("", Status::Viable),
+        ("ab", Status::Viable),
+        ("b", Status::Error),
+    ] {
+        assert!(rt;
+            status_of(rt.alloc(), "[ab]a", text) == Some(want),
+            "{text}"
+        );
     }
 }
 
@@ -89,7 +105,7 @@ fn many_digits(rt: HostRuntime) {
 }
 
 #[test]
-fn refused_pictures(rt: HostRuntime) {
+fn refused_texts(rt: HostRuntime) {
     for (picture, want) in [
         ("[a", 2),
         ("*0#", 1),
@@ -176,7 +192,7 @@ fn range_texts(rt: HostRuntime) {
 }
 
 #[test]
-fn refused_domains(rt: HostRuntime) {
+fn constructors(rt: HostRuntime) {
     let alloc = rt.alloc();
     let none = domain(
         alloc,

@@ -1,26 +1,60 @@
 //! The command line.
 
-use crate::play::Paths;
+use crate::task::Task;
 use clap::error::ErrorKind;
 use clap::{Arg, ArgAction, ArgMatches, Command, Error};
 use std::alloc::{AllocError, Global};
 
-/// What the command line asks for.
-#[derive(Clone, Copy, Debug, PartialEq, Eq)]
-pub enum Task<'a> {
-    Run(Paths<'a>),
+/// What is told below the help of the program and of each subcommand.
+const STATUSES: &str = "Statuses: 0 done; 1 faults, a refusal or a bad text; 2 usage; \
+    3 a file, a stream or memory failed. Messages go to standard error, all else to standard output.";
+
+fn path<'a>(alloc: Global, name: &'a str, help: &'a str) -> Arg<'a> {
+    Arg::new(alloc, name)
+        .required(true)
+        .action(ArgAction::Set)
+        .help(help)
 }
 
-fn path<'a>(alloc: Global, name: &'a str) -> Arg<'a> {
-    Arg::new(alloc, name).required(true).action(ArgAction::Set)
+fn description<'a>(alloc: Global) -> Arg<'a> {
+    path(alloc, "FILE", "A description of windows and dialogs")
+}
+
+fn subcommand<'a>(alloc: Global, name: &'a str, about: &'a str) -> Result<Command<'a>, AllocError> {
+    Command::new(alloc, name)
+        .about(about)
+        .after_help(STATUSES)
+        .arg(description(alloc))
 }
 
 fn command<'a>(alloc: Global) -> Result<Command<'a>, AllocError> {
-    let run = Command::new(alloc, "run")
-        .arg(path(alloc, "FILE"))?
-        .arg(path(alloc, "SCRIPT"))?;
+    let check = subcommand(
+        alloc,
+        "check",
+        "Prints the faults of a description, a line for each, or its certificate where it has none",
+    )?;
+    let accept = subcommand(
+        alloc,
+        "accept",
+        "Prints `accepted` where the certificate is that of the description, else the first reason to refuse them",
+    )?
+    .arg(path(alloc, "CERT", "A certificate, as `check` prints it"))?;
+    let run = subcommand(
+        alloc,
+        "run",
+        "Performs a script of keys and pictures on a description, and prints what happens",
+    )?
+    .arg(path(
+        alloc,
+        "SCRIPT",
+        "A script, with an event or a picture on each line",
+    ))?;
     Command::new(alloc, "tvdlg")
+        .about("Checks descriptions of text-mode dialogs, and runs them on scripts")
+        .after_help(STATUSES)
         .subcommand_required(true)
+        .subcommand(check)?
+        .subcommand(accept)?
         .subcommand(run)
 }
 
@@ -43,11 +77,17 @@ fn no_task(alloc: Global) -> Result<Error, AllocError> {
 }
 
 fn named_task<'a>(name: &str, found: &ArgMatches<'a>) -> Option<Task<'a>> {
+    let file = found.get_str("FILE")?;
     match name {
-        "run" => Some(Task::Run(Paths {
-            description: found.get_str("FILE")?,
+        "check" => Some(Task::Check { file }),
+        "accept" => Some(Task::Accept {
+            file,
+            certificate: found.get_str("CERT")?,
+        }),
+        "run" => Some(Task::Run {
+            file,
             script: found.get_str("SCRIPT")?,
-        })),
+        }),
         _ => None,
     }
 }

@@ -1,18 +1,20 @@
-//! Runs text-mode dialogs: a description of their screen, and a script of keys and pictures.
+//! Checks descriptions of text-mode dialogs, and runs them on scripts of keys and pictures.
 #![tactic(auto)]
 
 mod arguments;
+mod files;
 mod input;
-mod play;
+mod task;
 
-use arguments::{Task, parse};
+use arguments::parse;
 use clap::Error;
 use clap::error::ErrorKind;
-use play::{OUTSIDE, Paths, run_files};
+use files::{OUTSIDE, perform};
 use std::process::ExitCode;
 use std::rt::{Env, Files};
 use std::{env, io};
-use tv_program::Device;
+use task::Task;
+use tv_script::Device;
 
 /// The status after a faulty command line, and after help.
 const USAGE: u8 = 2;
@@ -31,14 +33,14 @@ fn run<R: Files + Env + AllocGlobal + Print + Eprint, E: io::Write + Drop>(rt: &
         return no_memory(rt);
     };
     match parse(rt.alloc(), words.as_slice()) {
-        Ok(Task::Run(paths)) => run_on_streams(rt, paths, err),
+        Ok(task) => on_streams(rt, task, err),
         Err(error) => tell_usage(rt, error),
     }
 }
 
-fn run_on_streams<R: Files + AllocGlobal + Print + Eprint, E: io::Write + Drop>(
+fn on_streams<R: Files + AllocGlobal + Print + Eprint, E: io::Write + Drop>(
     rt: &R,
-    paths: Paths<'_>,
+    task: Task<'_>,
     err: E,
 ) -> u8 {
     let Ok(mut out) = Device::new(rt.alloc(), io::writer(rt)) else {
@@ -47,7 +49,7 @@ fn run_on_streams<R: Files + AllocGlobal + Print + Eprint, E: io::Write + Drop>(
     let Ok(mut err) = Device::new(rt.alloc(), err) else {
         return no_memory(rt);
     };
-    run_files(rt, rt.alloc(), paths, &mut out, &mut err)
+    perform(rt, rt.alloc(), task, &mut out, &mut err)
 }
 
 fn tell_usage<R: Eprint>(rt: &R, error: Error) -> u8 {

@@ -36,9 +36,10 @@ abbrev pub after_next : List ℕ → List Word → List Word
 after_next keyword [] = []
 after_next keyword (w ∷ ws) = if is_bare_word w keyword then ws else w ∷ ws
 
-abbrev pub at_end : List Word → Ends → Option Ends
-at_end [] ends = Some ends
-at_end (w ∷ ws) ends = None
+-- the value, where no words are left
+abbrev pub at_end : {A : Type 0} → List Word → A → Option A
+at_end [] value = Some value
+at_end (w ∷ ws) value = None
 
 abbrev pub ends_in : List Word → Option Ends
 ends_in ws =
@@ -46,3 +47,7 @@ ends_in ws =
     let after_cancel = after_next (codes "cancel") after_ok in
     let after_yes = after_next (codes "yes") after_cancel in
     at_end (after_next (codes "no") after_yes) (record { ok = is_next (codes "ok") ws; cancel = is_next (codes "cancel") after_ok; yes = is_next (codes "yes") after_cancel; no = is_next (codes "no") after_yes })
+
+-- whether the button is the default, and whether it grabs the focus
+abbrev pub button_options_in : List Word → Option (Bool × Bool)
+button_options_in ws = let after_default = after_next (codes "default") ws in at_end (after_next (codes "grab") after_default) (is_next (codes "default") ws, is_next (codes "grab") after_default)

@@ -3,7 +3,7 @@ use Rattle.std.specs.Prelude.{ℕ, List, [], ◌∷◌, ◌++◌, take, drop, no
 use Rattle.std.specs.List.{list_any}
 use Rattle.std.specs.Char.{is_ascii_alphanumeric}
 use Rattle.tv_model.specs.declared.node.MarkedText.{MarkedText}
-use Rattle.tv_lang.specs.Spelling.{is_tilde}
+use Rattle.tv_lang.specs.Spelling.Terms.{is_tilde}
 
 -- what follows a first `~`: the marked letter, and what stands after the second `~`
 abbrev pub end_of_mark : List ℕ → Option (ℕ × List ℕ)

@@ -1,17 +1,106 @@
 -- Reading a description, declaration by declaration.
-use Rattle.std.specs.Prelude.{ℕ, ◌+◌, ℤ, pos, negsuc, List, [], ◌∷◌, ◌++◌, Bool, true, false, not, ◌&&◌, Option, Some, None, codes, ◌==◌, if◌then◌else◌}
+use Rattle.std.specs.Prelude.{ℕ, ◌+◌, ◌-◌, ℤ, pos, negsuc, List, [], ◌∷◌, ◌++◌, length, nat_lt, Bool, true, false, not, ◌&&◌, Option, Some, None, is_none, option_and_then, codes, ◌==◌, if◌then◌else◌}
 use Rattle.std.specs.Option.{option_map}
-use Rattle.tv_model.specs.declared.node.Id.{Id}
 use Rattle.tv_model.specs.declared.node.Node.{Node}
 use Rattle.tv_model.specs.declared.desc.Desc.{Desc}
 use Rattle.tv_model.specs.declared.desc.Dialog.{Dialog}
+use Rattle.tv_model.specs.declared.desc.Menu.{Menu}
+use Rattle.tv_model.specs.declared.desc.Window.{Window}
+use Rattle.tv_model.specs.Nodes.{is_pane}
+use Rattle.tv_lang.specs.declared.declaration.Declaration.{Declaration}
+use Rattle.tv_lang.specs.declared.declaration.Declaration.TheVariants as declared
+use Rattle.tv_lang.specs.declared.place.Position.{Position}
 use Rattle.tv_lang.specs.declared.word.Word.{Word}
 use Rattle.tv_lang.specs.declared.progress.Progress.{Progress}
-use Rattle.tv_lang.specs.declared.progress.Stage.{Stage}
-use Rattle.tv_lang.specs.declared.progress.Stage.TheVariants as stages
-use Rattle.tv_lang.specs.Fields.{is_bare_word, name_in}
+use Rattle.tv_lang.specs.declared.stage.Stage.{Stage}
+use Rattle.tv_lang.specs.declared.stage.Stage.TheVariants as stages
+use Rattle.tv_lang.specs.Fields.{is_bare_word}
+use Rattle.tv_lang.specs.Spelling.{is_window, is_dialog, is_text, is_view}
 use Rattle.tv_lang.specs.Reading.Numbers.{number_in}
-use Rattle.tv_lang.specs.Reading.NodeLines.{dialog_in, view_in}
+use Rattle.tv_lang.specs.Reading.Declarations.{declaration_in}
+
+-- ---- which parts a description has not
+
+abbrev pub no_dialogs : Desc → Bool
+no_dialogs d = length d.dialogs == 0
+
+-- nothing that comes after status items
+abbrev pub no_windows : Desc → Bool
+no_windows d = length d.windows == 0 && no_dialogs d
+
+-- nothing that comes after menus
+abbrev pub no_status : Desc → Bool
+no_status d = length d.status == 0 && no_windows d
+
+-- nothing that comes after the start line
+abbrev pub no_menus : Desc → Bool
+no_menus d = length d.menus == 0 && no_status d
+
+-- ---- what each stage takes
+
+abbrev pub version_taken : Desc → Declaration → Option (Stage × Desc)
+version_taken d declared.Version = Some (stages.Screen, d)
+version_taken d _ = None
+
+abbrev pub screen_taken : Desc → Declaration → Option (Stage × Desc)
+screen_taken d (declared.Screen width height) = Some (stages.Between, record d { width = width; height = height })
+screen_taken d _ = None
+
+abbrev pub node_opened : Desc → Node → Option (Stage × Desc)
+node_opened d node =
+    if is_window node.kind then (if no_dialogs d then Some (stages.InWindow (record { node = node; views = [] }), d) else None)
+    else if is_dialog node.kind then Some (stages.InViews node [] 0, d)
+    else None
+
+abbrev pub part_taken : Desc → Declaration → Option (Stage × Desc)
+part_taken d (declared.Start name) = if is_none d.start && no_menus d then Some (stages.Between, record d { start = Some name }) else None
+part_taken d (declared.Menu i title) = if no_status d then Some (stages.InMenu (record { id = i; title = title; items = [] }), d) else None
+part_taken d (declared.Status item) = if no_windows d then Some (stages.Between, record d { status = d.status ++ item ∷ [] }) else None
+part_taken d (declared.Node node) = node_opened d node
+part_taken d _ = None
+
+abbrev pub menu_taken : Desc → Menu → Declaration → Option (Stage × Desc)
+menu_taken d menu (declared.Item item) = Some (stages.InMenu (record menu { items = menu.items ++ item ∷ [] }), d)
+menu_taken d menu declared.End = if length menu.items == 0 then None else Some (stages.Between, record d { menus = d.menus ++ menu ∷ [] })
+menu_taken d menu _ = None
+
+abbrev pub window_taken : Desc → Window → Declaration → Option (Stage × Desc)
+window_taken d window (declared.Node view) = if is_text view.kind then Some (stages.InWindow (record window { views = window.views ++ view ∷ [] }), d) else None
+window_taken d window declared.End = Some (stages.Between, record d { windows = d.windows ++ window ∷ [] })
+window_taken d window _ = None
+
+-- the panes that are open after a view, where so many are before it
+abbrev pub panes_after : ℕ → Node → Option ℕ
+panes_after panes view = if is_pane view.kind then (if nat_lt panes 16 then Some (panes + 1) else None) else Some panes
+
+abbrev pub view_taken : Desc → Node → List Node → ℕ → Node → Option (Stage × Desc)
+view_taken d node views panes view = if is_view view.kind then option_map (λ more. (stages.InViews node (views ++ view ∷ []) more, d)) (panes_after panes view) else None
+
+abbrev pub with_dialog : Desc → Dialog → Option (Stage × Desc)
+with_dialog d dialog = Some (stages.Between, record d { dialogs = d.dialogs ++ dialog ∷ [] })
+
+abbrev pub views_taken : Desc → Node → List Node → ℕ → Declaration → Option (Stage × Desc)
+views_taken d node views panes (declared.Node view) = view_taken d node views panes view
+views_taken d node views panes (declared.Rule rule) = if panes == 0 then Some (stages.InRules (record { node = node; views = views; rules = rule ∷ [] }), d) else None
+views_taken d node views panes declared.End = if panes == 0 then with_dialog d (record { node = node; views = views; rules = [] }) else Some (stages.InViews node views (panes - 1), d)
+views_taken d node views panes _ = None
+
+abbrev pub rules_taken : Desc → Dialog → Declaration → Option (Stage × Desc)
+rules_taken d dialog (declared.Rule rule) = Some (stages.InRules (record dialog { rules = dialog.rules ++ rule ∷ [] }), d)
+rules_taken d dialog declared.End = with_dialog d dialog
+rules_taken d dialog _ = None
+
+-- one declaration more
+abbrev pub taken_at : Stage → Desc → Declaration → Option (Stage × Desc)
+taken_at stages.Version d declaration = version_taken d declaration
+taken_at stages.Screen d declaration = screen_taken d declaration
+taken_at stages.Between d declaration = part_taken d declaration
+taken_at (stages.InMenu menu) d declaration = menu_taken d menu declaration
+taken_at (stages.InWindow window) d declaration = window_taken d window declaration
+taken_at (stages.InViews node views panes) d declaration = views_taken d node views panes declaration
+taken_at (stages.InRules dialog) d declaration = rules_taken d dialog declaration
+
+-- ---- a description, line by line
 
 abbrev pub fresh : Progress
 fresh = record { next = 1; stage = stages.Version; desc = record { width = pos 0; height = pos 0; start = None; menus = []; status = []; windows = []; dialogs = [] } }
@@ -28,63 +117,24 @@ other_version _ = false
 abbrev pub is_other_version : Progress → List Word → Bool
 is_other_version p ws = elim p.stage as (λ _. Bool) [ stages.Version ↦ other_version ws | _ ↦ false ]
 
-abbrev pub version_taken : Desc → List Word → Option (Stage × Desc)
-version_taken d (keyword ∷ version ∷ []) = if is_bare_word keyword (codes "tvd") && is_bare_word version (codes "1") then Some (stages.Screen, d) else None
-version_taken d _ = None
+-- the panes that are open
+abbrev pub open_panes : Stage → ℕ
+open_panes (stages.InViews node views panes) = panes
+open_panes _ = 0
 
-abbrev pub screen_from : Desc → Option ℤ → Option ℤ → Option (Stage × Desc)
-screen_from d None height = None
-screen_from d (Some width) None = None
-screen_from d (Some width) (Some height) = Some (stages.Start, record d { width = width; height = height })
-
-abbrev pub screen_taken : Desc → List Word → Option (Stage × Desc)
-screen_taken d (keyword ∷ width ∷ height ∷ []) = if is_bare_word keyword (codes "screen") then screen_from d (number_in width) (number_in height) else None
-screen_taken d _ = None
-
-abbrev pub started : Desc → Option (List ℕ) → Option (Stage × Desc)
-started d None = None
-started d (Some name) = Some (stages.Dialog, record d { start = Some name })
-
-abbrev pub opened : Desc → Option Node → Option (Stage × Desc)
-opened d None = None
-opened d (Some node) = Some (stages.Views (record { node = node; views = []; rules = [] }), d)
-
-abbrev pub dialog_taken : Id → Desc → List Word → Option (Stage × Desc)
-dialog_taken i d ws = opened d (dialog_in i ws)
-
-abbrev pub start_taken : Id → Desc → List Word → Option (Stage × Desc)
-start_taken i d (keyword ∷ name ∷ []) = if is_bare_word keyword (codes "start") then started d (name_in name) else dialog_taken i d (keyword ∷ name ∷ [])
-start_taken i d ws = dialog_taken i d ws
-
-abbrev pub with_view : Desc → Dialog → Option Node → Option (Stage × Desc)
-with_view d dialog None = None
-with_view d dialog (Some view) = Some (stages.Views (record dialog { views = dialog.views ++ view ∷ [] }), d)
-
-abbrev pub is_end : List Word → Bool
-is_end (keyword ∷ []) = is_bare_word keyword (codes "end")
-is_end _ = false
-
-abbrev pub view_taken : Id → Desc → Dialog → List Word → Option (Stage × Desc)
-view_taken i d dialog ws = if is_end ws then Some (stages.Done, record d { dialogs = d.dialogs ++ dialog ∷ [] }) else with_view d dialog (view_in i ws)
-
-abbrev pub taken_at : Stage → Id → Desc → List Word → Option (Stage × Desc)
-taken_at stages.Version i d ws = version_taken d ws
-taken_at stages.Screen i d ws = screen_taken d ws
-taken_at stages.Start i d ws = start_taken i d ws
-taken_at stages.Dialog i d ws = dialog_taken i d ws
-taken_at (stages.Views dialog) i d ws = view_taken i d dialog ws
-taken_at stages.Done i d ws = None
+abbrev pub position : Progress → Position
+position p = record { id = record { 0 = p.next }; depth = open_panes p.stage }
 
 abbrev pub progress : ℕ → Stage × Desc → Progress
 progress next p = record { next = next; stage = p.0; desc = p.1 }
 
--- one declaration more
+-- one line more
 abbrev pub taken : Progress → List Word → Option Progress
-taken p ws = option_map (progress (p.next + 1)) (taken_at p.stage (record { 0 = p.next }) p.desc ws)
+taken p ws = option_map (progress (p.next + 1)) (option_and_then (taken_at p.stage p.desc) (declaration_in (position p) ws))
 
-abbrev pub finished_at : Stage → Desc → Option Desc
-finished_at stages.Done d = Some d
-finished_at _ d = None
+abbrev pub is_between : Stage → Bool
+is_between stages.Between = true
+is_between _ = false
 
 abbrev pub finished : Progress → Option Desc
-finished p = finished_at p.stage p.desc
+finished p = if is_between p.stage then Some p.desc else None

@@ -1,7 +1,8 @@
 use Rattle.std.proofs.Common.{◌≡◌, ◌+◌, ℕ, List, [], ◌∷◌, ◌++◌, length, arith, sym, ◌∙◌, ap, subst, append_assoc, length-append}
 use Rattle.std.specs.Prelude.{pos, ◌<ℤ◌}
-use Rattle.tv_picture.specs.Pattern.{IsNextLiteral}
-use Rattle.tv_valid.proofs.Filling.{literals_more}
+use Rattle.tv_picture.specs.Pattern.{Begins, IsNextLiteral}
+use Rattle.tv_valid.specs.Domain.{FitsIn}
+use Rattle.tv_valid.proofs.Filling.{literals_more, viable_more}
 use Rattle.tv_valid.proofs.domain.filled.Goals as goal
 
 pub loop-preserved : goal.loop-preserved
@@ -16,10 +17,13 @@ loop-preserved c =
       literals_more c.args.max.now c.args.picture.now c.args.text more c.in-Some.ch c.loop.invariant.3
           (subst (λ t. IsNextLiteral c.args.picture.now t c.in-Some.ch) (c.as_slice.ensures.value ∙ grown) c.in-Some.ensures.some)
           (subst (λ (n : ℕ). pos n <ℤ c.args.max.now) size (c.is_under.ensures.0 c.if-not-is_under.false)),
+      λ narrow fits begins. subst (λ t. FitsIn c.args.max.now t × Begins c.args.picture.now t) (sym c.push.ensures) (viable_more c.args.max.now c.args.picture.now c.loop.text c.in-Some.ch narrow (c.loop.invariant.4 narrow fits begins).0
+          (subst (λ (n : ℕ). pos n <ℤ c.args.max.now) c.len.ensures.value (c.is_under.ensures.0 c.if-not-is_under.false))
+          (subst (λ t. IsNextLiteral c.args.picture.now t c.in-Some.ch) c.as_slice.ensures.value c.in-Some.ensures.some) c.in-Some.ensures.literal),
     )
 
-pub returns-in-None : goal.returns-in-None
-returns-in-None c = record {
+pub returns-in-None-clause-filled : goal.returns-in-None-clause-filled
+returns-in-None-clause-filled c = record {
   more = c.loop.invariant.0;
   grown = c.loop.invariant.1;
   literals = c.loop.invariant.3;

@@ -23,4 +23,4 @@ returns c =
 pub returns-then-is_below : goal.returns-then-is_below
 returns-then-is_below c =
     subst (λ (k : ℕ). Gathers c.args.places c.args.self.now c.args.start k c.args.first c.loop-place.row) (omega arith)
-    (gathers_rest (c.args.stop - c.loop-place.place) c.loop-place.place c.args.places c.args.self.now c.args.start c.args.first c.loop-place.row (c.is_below.ensures c.if-is_below.true) c.loop-place.invariant)
+    (gathers_rest (c.args.stop - c.loop-place.place) c.loop-place.place c.args.places c.args.self.now c.args.start c.args.first c.loop-place.row (c.is_below.ensures.0 c.if-is_below.true) c.loop-place.invariant)

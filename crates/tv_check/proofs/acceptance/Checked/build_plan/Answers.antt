@@ -1,0 +1,11 @@
+use Rattle.std.proofs.Common.{◌≡◌, filter_map, map, ap, ◌∙◌}
+use Rattle.std.proofs.lemmas.Result.{IfOk-weaker}
+use Rattle.tv_model.specs.LogText.{all_nodes}
+use Rattle.tv_check.specs.Plan.{lent_step, node_in, plan_of}
+use Rattle.tv_check.proofs.Planning.{plan_names}
+use Rattle.tv_check.proofs.acceptance.Checked.build_plan.Goals as goal
+
+pub returns-clause-nodes : goal.returns-clause-nodes
+returns-clause-nodes c =
+    IfOk-weaker c.plan_of.result (λ plan. map lent_step plan.items ≡ plan_of c.desc.result.now) (λ plan. filter_map node_in (map lent_step plan.items) ≡ all_nodes c.args.self.now)
+    (λ plan same. ap (filter_map node_in) same ∙ plan_names c.desc.result.now ∙ ap all_nodes c.desc.ensures.value) c.plan_of.ensures

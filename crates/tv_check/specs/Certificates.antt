@@ -1,0 +1,60 @@
+-- Certificates, and which of them are sound for a description.
+use Rattle.std.specs.Prelude.{◌≡◌, ◌≢◌, ℕ, ◌==◌, List, map, filter, flat_map, filter_map, option_map, option_to_list, All, AllPairs, bytes_eq}
+use Rattle.tv_model.specs.declared.desc.Desc.{Desc}
+use Rattle.tv_model.specs.declared.desc.Dialog.{Dialog}
+use Rattle.tv_model.specs.Owners.{Owner, owner_of}
+use Rattle.tv_model.specs.Certificates.{dialog_name, letters, tab_order, tabs_of}
+use Rattle.tv_check.specs.declared.certificate.Block.{Block}
+use Rattle.tv_check.specs.declared.certificate.KeyLine.{KeyLine}
+
+-- ---- what a certificate tells
+
+-- the control that a key line names
+abbrev pub owner_named : KeyLine → Owner
+owner_named line = record { name = line.owner; item = line.item }
+
+-- its tab lines, each beside the name of its dialog, all blocks as one list
+abbrev pub tab_lines : List Block → List (List ℕ × List ℕ)
+tab_lines blocks = flat_map (λ block. map (λ name. (block.dialog, name)) block.tabs) blocks
+
+-- the key lines of a dialog, in all blocks of its name
+abbrev pub key_lines : List Block → List ℕ → List KeyLine
+key_lines blocks dialog = flat_map (λ block. block.keys) (filter (λ block. bytes_eq block.dialog dialog) blocks)
+
+-- the owners that some key lines give to a letter
+abbrev pub owners_in : List KeyLine → ℕ → List Owner
+owners_in lines letter = map owner_named (filter (λ line. line.letter == letter) lines)
+
+-- ---- sound certificates
+
+-- among the key lines of a dialog, the letter has just the one of its owner, or none where it has no owner
+abbrev pub NamesOwner : List KeyLine → Dialog → ℕ → Type 0
+NamesOwner lines dialog letter = owners_in lines letter ≡ option_to_list (owner_of dialog letter)
+
+abbrev pub NamesOwners : List Block → Dialog → Type 0
+NamesOwners blocks dialog = All (NamesOwner (key_lines blocks (dialog_name dialog)) dialog) letters
+
+-- the tab lines are the order of Tab, and each letter of each dialog has its owner. A dialog's lines may stand in several blocks
+pub record IsSoundCertificate (d : Desc) (blocks : List Block) : Type 0 where
+  pub tabs : tab_lines blocks ≡ tab_order d
+  pub owners : All (NamesOwners blocks) d.dialogs
+
+-- no two dialogs have a name in common, as in each sound description that a text spells
+abbrev pub HaveOwnNames : Desc → Type 0
+HaveOwnNames d = AllPairs (λ dialog other. dialog_name dialog ≢ dialog_name other) d.dialogs
+
+-- ---- the certificate that is made of a description
+
+abbrev pub key_line : ℕ → Owner → KeyLine
+key_line letter owner = record { letter = letter; owner = owner.name; item = owner.item }
+
+-- a key line for each letter that has an owner, in the order of the letters
+abbrev pub keys_of : Dialog → List KeyLine
+keys_of dialog = filter_map (λ letter. option_map (key_line letter) (owner_of dialog letter)) letters
+
+abbrev pub block_of : Dialog → Block
+block_of dialog = record { dialog = dialog_name dialog; tabs = tabs_of dialog; keys = keys_of dialog }
+
+-- one block for each dialog, in description order
+abbrev pub certificate_of : Desc → List Block
+certificate_of d = map block_of d.dialogs

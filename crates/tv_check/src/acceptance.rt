@@ -1,0 +1,111 @@
+//! Descriptions that were checked, with their certificates.
+
+ghost use Rattle.std.specs.Prelude.{◌≡◌, IfOk, IfErr};
+ghost use Rattle.tv_model.specs.Faults.{IsSound};
+ghost use Rattle.tv_check.specs.Certificates.{IsSoundCertificate};
+ghost use Rattle.tv_check.specs.Refusals.{Accepts, Refuses};
+
+use crate::acceptance_owners::first_owner;
+use crate::acceptance_tabs::first_tab;
+use crate::certificate::{Block, Certificate};
+use crate::certification::first_fault;
+use std::alloc::{AllocError, Global};
+use std::marker::Model;
+use thiserror::Error;
+use tv_model::{Desc, Fault};
+
+/// Why a description or its certificate is refused.
+#[derive(Clone, Copy, Debug, PartialEq, Eq, Error)]
+pub enum Refusal {
+    #[error("out of memory")]
+    NoMemory,
+    /// The description isn't sound: its first fault, by number and then by line.
+    #[error("the description has a fault")]
+    Faulty(Fault),
+    /// The first place, counted from 1, at which the tab lines aren't the order of Tab.
+    #[error("tab line {0} is not in the order of Tab")]
+    TabOrder(usize),
+    /// The least letter, in the first dialog that differs, whose key lines don't name its owner.
+    #[error("the letter {0} has another owner")]
+    Owner(char),
+}
+
+impl From<AllocError> for Refusal {
+    ghost use Rattle.std.specs.Prelude.{◌≡◌};
+    ghost use Rattle.tv_check.specs.declared.acceptance.Refusal.TheVariants.{NoMemory};
+
+    ghost from_gives = { λ _ e. e ≡ NoMemory };
+
+    fn from(_error: AllocError) -> Refusal {
+        Refusal::NoMemory
+    }
+}
+
+/// A sound description. It can be had from `accept` alone.
+#[derive(Debug, Drop)]
+pub struct Checked {
+    desc: Desc,
+}
+
+impl Model for Checked {
+    ghost use Rattle.tv_model.specs.declared.desc.Desc.{Desc};
+    ghost use Rattle.tv_model.specs.Faults.{IsSound};
+
+    ghost Value = { Desc };
+
+    ghost view = { λ c. c.desc };
+
+    ghost invariant = { λ c. IsSound c.desc };
+}
+
+impl Checked {
+    /// The description that was accepted.
+    pub fn desc(&self) -> &Desc
+        ensures value { result.now ≡ self.now }
+        ensures sound { IsSound result.now }
+    {
+        &self.desc
+    }
+}
+
+// The first reason to refuse a sound description's certificate: the order of Tab, then the letters.
+fn compare(alloc: Global, desc: &Desc, blocks: &[Block]) -> Result<(), Refusal>
+    ensures yes { IfOk result (λ _. IsSoundCertificate desc.now blocks.now) }
+    ensures no { IsSound desc.now → IfErr result (Refuses desc.now blocks.now) }
+{
+    if let Some(place) = first_tab(alloc, desc, blocks)? {
+        return Err(Refusal::TabOrder(place));
+    }
+    match first_owner(alloc, desc, blocks)? {
+        Some(letter) => Err(Refusal::Owner(letter)),
+        None => Ok(()),
+    }
+}
+
+// The first reason to refuse the description with its certificate.
+fn look(alloc: Global, desc: &Desc, certificate: &Certificate) -> Result<(), Refusal>
+    ensures yes { IfOk result (λ _. IsSound desc.now × IsSoundCertificate desc.now certificate.now) }
+    ensures no { IfErr result (Refuses desc.now certificate.now) }
+{
+    match first_fault(alloc, desc)? {
+        Some(fault) => Err(Refusal::Faulty(fault)),
+        None => compare(alloc, desc, certificate.blocks()),
+    }
+}
+
+/// Says yes exactly where the description is sound and the certificate is sound for it. Else the description comes back
+/// unchanged, with the first reason.
+pub fn accept(
+    alloc: Global,
+    desc: Desc,
+    certificate: &Certificate,
+) -> Result<Checked, (Refusal, Desc)>
+    ensures yes { IfOk result (λ checked. (checked ≡ desc) × IsSound desc × IsSoundCertificate desc certificate.now) }
+    ensures no { IfErr result (λ refused. Refuses desc certificate.now refused.0 × (refused.1 ≡ desc)) }
+    ensures only { IsSound desc → IsSoundCertificate desc certificate.now → Accepts result }
+{
+    match look(alloc, &desc, certificate) {
+        Ok(()) => Ok(Checked { desc }),
+        Err(refusal) => Err((refusal, desc)),
+    }
+}

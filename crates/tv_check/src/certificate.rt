@@ -1,0 +1,52 @@
+//! Certificates: what a maker of a description may rely on at the keyboard.
+
+ghost use Rattle.std.specs.Prelude.{◌≡◌};
+
+use std::marker::Model;
+use tv_model::Sequence;
+use tv_valid::Chars;
+
+/// The order of Tab in each dialog, and the control on which each shortcut letter acts.
+#[derive(Debug, Drop)]
+pub struct Certificate {
+    pub(crate) blocks: Sequence<Block>,
+}
+
+impl Model for Certificate {
+    ghost use Rattle.std.specs.Prelude.{List};
+    ghost use Rattle.tv_check.specs.declared.certificate.Block.{Block};
+
+    ghost Value = { List Block };
+
+    ghost view = { λ c. c.blocks };
+}
+
+/// Lines of one dialog. A dialog may have several blocks.
+#[derive(Debug, Drop)]
+pub struct Block {
+    /// The name of the dialog.
+    pub dialog: Chars,
+    /// The names of controls.
+    pub tabs: Sequence<Chars>,
+    pub keys: Sequence<KeyLine>,
+}
+
+/// A shortcut letter, and what it acts on.
+#[derive(Debug, Drop)]
+pub struct KeyLine {
+    /// `0` to `9` or `A` to `Z`.
+    pub letter: char,
+    /// The name of a control.
+    pub owner: Chars,
+    /// The item, counted from 1, where an item of a cluster marks the letter. It is wide enough for the place of any.
+    pub item: Option<i128>,
+}
+
+impl Certificate {
+    /// The blocks, in the order of the text.
+    pub fn blocks(&self) -> &[Block]
+        ensures { result.now ≡ self.now }
+    {
+        self.blocks.as_slice()
+    }
+}

@@ -1,0 +1,145 @@
+//! The certificate that is made of a sound description.
+
+ghost use Rattle.std.specs.Prelude.{◌≡◌, ◌∷◌, [], List, IfOk, IfErr, MatchOption, option_copied};
+ghost use Rattle.tv_model.specs.Certificates.{control_name, dialog_name, tabs_of};
+ghost use Rattle.tv_model.specs.Faults.{IsSound};
+ghost use Rattle.tv_model.specs.declared.fault.Fault.{Fault as SeenFault};
+ghost use Rattle.tv_check.specs.Certificates.{HaveOwnNames, IsSoundCertificate, block_of, certificate_of, key_line, keys_of};
+ghost use Rattle.tv_check.specs.Lent.{lent_owner};
+ghost use Rattle.tv_check.specs.Refusals.{IsFirstFault, RefusesToCertify};
+
+use crate::certificate::{Block, Certificate, KeyLine};
+use crate::certificate_owner::{Owner, letters, owner_of};
+use crate::list::faults;
+use std::alloc::{AllocError, Global};
+use thiserror::Error;
+use tv_model::{Desc, Dialog, Fault, Kind, Sequence};
+use tv_valid::Chars;
+
+/// Why no certificate is made.
+#[derive(Clone, Copy, Debug, PartialEq, Eq, Error)]
+pub enum CertifyFault {
+    #[error("out of memory")]
+    NoMemory,
+    /// The description isn't sound: its first fault, by number and then by line.
+    #[error("the description has a fault")]
+    Faulty(Fault),
+}
+
+impl From<AllocError> for CertifyFault {
+    ghost use Rattle.std.specs.Prelude.{◌≡◌};
+    ghost use Rattle.tv_check.specs.declared.certification.CertifyFault.TheVariants.{NoMemory};
+
+    ghost from_gives = { λ _ e. e ≡ NoMemory };
+
+    fn from(_error: AllocError) -> CertifyFault {
+        CertifyFault::NoMemory
+    }
+}
+
+/// A text with the same characters.
+pub fn copy(alloc: Global, text: &Chars) -> Result<Chars, AllocError>
+    ensures { IfOk result (λ copy. copy ≡ text.now) }
+{
+    Chars::from_slice(alloc, text.as_slice())
+}
+
+/// The name of the dialog.
+pub fn dialog_name(dialog: &Dialog) -> &[char]
+    ensures { result.now ≡ dialog_name dialog.now }
+{
+    match dialog.node.kind.name() {
+        Some(name) => name.as_slice(),
+        None => &[],
+    }
+}
+
+/// The name of a control.
+pub fn control_name(kind: &Kind) -> Option<&Chars>
+    ensures { option_copied result ≡ control_name kind.now }
+{
+    if kind.is_control() { kind.name() } else { None }
+}
+
+fn tabs_of(alloc: Global, dialog: &Dialog) -> Result<Sequence<Chars>, AllocError>
+    ensures { IfOk result (λ tabs. tabs ≡ tabs_of dialog.now) }
+{
+    let mut tabs = Sequence::new(alloc);
+    for node in dialog.views.as_slice() {
+        if let Some(name) = control_name(&node.kind) {
+            tabs.push(copy(alloc, name)?)?;
+        }
+    }
+    Ok(tabs)
+}
+
+fn key_line(alloc: Global, letter: char, owner: &Owner) -> Result<KeyLine, AllocError>
+    ensures { IfOk result (λ line. line ≡ key_line letter (lent_owner owner.now)) }
+{
+    Ok(KeyLine {
+        letter,
+        owner: copy(alloc, owner.name)?,
+        item: owner.item,
+    })
+}
+
+fn keys_of(alloc: Global, dialog: &Dialog) -> Result<Sequence<KeyLine>, AllocError>
+    ensures { IfOk result (λ keys. keys ≡ keys_of dialog.now) }
+{
+    let mut keys = Sequence::new(alloc);
+    for letter in letters() {
+        if let Some(owner) = owner_of(dialog, *letter) {
+            keys.push(key_line(alloc, *letter, &owner)?)?;
+        }
+    }
+    Ok(keys)
+}
+
+fn block_of(alloc: Global, dialog: &Dialog) -> Result<Block, AllocError>
+    ensures { IfOk result (λ block. block ≡ block_of dialog.now) }
+{
+    Ok(Block {
+        dialog: Chars::from_slice(alloc, dialog_name(dialog))?,
+        tabs: tabs_of(alloc, dialog)?,
+        keys: keys_of(alloc, dialog)?,
+    })
+}
+
+fn certificate_of(alloc: Global, desc: &Desc) -> Result<Certificate, AllocError>
+    ensures { IfOk result (λ certificate. certificate ≡ certificate_of desc.now) }
+{
+    let mut blocks = Sequence::new(alloc);
+    for dialog in desc.dialogs.as_slice() {
+        blocks.push(block_of(alloc, dialog)?)?;
+    }
+    Ok(Certificate { blocks })
+}
+
+/// The first fault of the description, by number and then by line.
+pub fn first_fault(alloc: Global, desc: &Desc) -> Result<Option<Fault>, AllocError>
+    ensures { IfOk result (λ fault. MatchOption fault (IsSound desc.now) (IsFirstFault desc.now)) }
+{
+    let found = faults(alloc, desc)?;
+    Ok(first_of(found.as_slice()))
+}
+
+fn first_of(found: &[Fault]) -> Option<Fault>
+    ensures { MatchOption result (found.now ≡ []) (λ fault. (others : List SeenFault) × (found.now ≡ fault ∷ others)) }
+{
+    match found {
+        [first, ..] => Some(*first),
+        [] => None,
+    }
+}
+
+/// The certificate of a sound description: a block for each dialog, in description order.
+pub fn certify(alloc: Global, desc: &Desc) -> Result<Certificate, CertifyFault>
+    ensures value { IfOk result (λ certificate. certificate ≡ certificate_of desc.now) }
+    ensures sound { IfOk result (λ certificate. IsSound desc.now × (HaveOwnNames desc.now → IsSoundCertificate desc.now certificate)) }
+    ensures fault { IfErr result (RefusesToCertify desc.now) }
+{
+    match first_fault(alloc, desc)? {
+        Some(fault) => Err(CertifyFault::Faulty(fault)),
+        None => Ok(certificate_of(alloc, desc)?),
+    }
+}

@@ -1,0 +1,193 @@
+//! Static texts.
+
+ghost use Rattle.std.specs.Prelude.{◌≡◌, ◌↔◌, ◌+ℤ◌, IfOk, IsErrOf, false};
+ghost use Rattle.tv_model.specs.Faults.{place_of_node, rect};
+ghost use Rattle.tv_model.specs.Meaning.{IsSmall, IsSmallRect, Leaf, fresh};
+ghost use Rattle.tv_model.specs.State.{natural};
+ghost use Rattle.tv_controls.specs.StaticText.{is_text};
+
+use crate::fault::ControlFault;
+use bitflags::Flags;
+use std::alloc::Global;
+use std::marker::Model;
+use tv_cells::{Canvas, Point, Rect, Screen, lay};
+use tv_event::{Event, Options, Phase, State};
+use tv_faces::TextFace;
+use tv_model::{Id, Kind, Node, Record};
+use tv_palette::Role;
+use tv_valid::Chars;
+use tv_view::{Env, Reaction, Rules, View};
+
+/// A text that stands in a window or a dialog, a piece between line ends in each row.
+#[derive(Drop)]
+pub struct StaticText {
+    id: Id,
+    depth: u8,
+    x: i32,
+    y: i32,
+    w: i32,
+    h: i32,
+    text: Chars,
+    is_shown: bool,
+}
+
+impl Model for StaticText {
+    ghost use Rattle.tv_model.specs.Faults.{rect};
+    ghost use Rattle.tv_model.specs.Meaning.{IsSmallRect, Leaf};
+    ghost use Rattle.tv_controls.specs.StaticText.{text_leaf};
+
+    ghost Value = { Leaf };
+
+    ghost view = { λ s. text_leaf (record { id = s.id; depth = s.depth; x = s.x; y = s.y; w = s.w; h = s.h; text = s.text; is_shown = s.is_shown }) };
+
+    ghost invariant = { λ s. IsSmallRect (rect s.x s.y s.w s.h) };
+}
+
+fn sum(a: &i32, b: &i32) -> i32
+    requires { IsSmall (a.now +ℤ b.now) }
+    ensures { result ≡ a.now +ℤ b.now }
+{
+    *a + *b
+}
+
+// The rectangle of a corner, a width and a height.
+fn rect_at(x: &i32, y: &i32, w: &i32, h: &i32) -> Rect
+    requires { IsSmallRect (rect x.now y.now w.now h.now) }
+    ensures { result ≡ rect x.now y.now w.now h.now }
+{
+    Rect {
+        a: Point { x: *x, y: *y },
+        b: Point {
+            x: sum(x, w),
+            y: sum(y, h),
+        },
+    }
+}
+
+// A number of columns or rows, 0 below it.
+fn natural(number: &i32) -> u32
+    ensures { result ≡ natural number.now }
+{
+    if *number < 0 { 0 } else { *number as u32 }
+}
+
+impl StaticText {
+    /// The static text of a node whose rectangle lies within -300 to 300, as those of descriptions do.
+    ///
+    /// # Errors
+    ///
+    /// `WrongKind` for any other node, `NoMemory` where there is none for the text.
+    pub fn new(alloc: Global, node: &Node) -> Result<StaticText, ControlFault>
+        requires { IsSmallRect (place_of_node node.now) }
+        ensures made { IfOk result (λ view. view ≡ fresh node.now) }
+        ensures wrong { IsErrOf result ControlFault.WrongKind ↔ (is_text node.now.kind ≡ false) }
+    {
+        match &node.kind {
+            Kind::Text { h, text } => Ok(StaticText {
+                id: node.id,
+                depth: node.depth,
+                x: node.x,
+                y: node.y,
+                w: node.w,
+                h: *h,
+                text: Chars::from_slice(alloc, text.as_slice())?,
+                is_shown: true,
+            }),
+            _ => Err(ControlFault::WrongKind),
+        }
+    }
+}
+
+#[tactic(auto, unfolding(tv_view::specs::Reactions::answer, tv_view::specs::Effects::Handled, tv_view::specs::Calls::focused_to, tv_view::specs::Calls::item_pressed, tv_view::specs::Calls::IsInvalid, tv_view::specs::Calls::gathered, tv_view::specs::Calls::set_from, tv_view::specs::Calls::applied, tv_view::specs::Drawing::leaf_layers))]
+impl View for StaticText {
+    ghost meaning = { λ text. text };
+
+    fn id(&self) -> Id {
+        self.id
+    }
+
+    fn bounds(&self) -> Rect {
+        rect_at(&self.x, &self.y, &self.w, &self.h)
+    }
+
+    fn state(&self) -> State {
+        if self.is_shown {
+            State::VISIBLE
+        } else {
+            State::empty()
+        }
+    }
+
+    fn options(&self) -> Options {
+        let _kind = &self.text;
+        Options::empty()
+    }
+
+    fn handle(&mut self, _event: &Event, _phase: Phase, _env: &Env) -> Reaction {
+        let _text = &self.text;
+        Reaction::Pass
+    }
+
+    fn draw(&self, screen: &mut Screen, canvas: Canvas, env: &Env) {
+        if !self.is_shown {
+            return;
+        }
+        let bounds = rect_at(&self.x, &self.y, &self.w, &self.h);
+        let face = TextFace {
+            text: self.text.as_slice(),
+            attr: Role::StaticText(env.owner).attr(env.chain),
+        };
+        lay(
+            screen,
+            canvas.sub(bounds),
+            natural(&self.w),
+            natural(&self.h),
+            &face,
+        );
+    }
+
+    fn focus_to(&mut self, _id: Id) -> bool {
+        let _text = &self.text;
+        false
+    }
+
+    fn press_item(&mut self, _id: Id, _item: u8) {
+        let _text = &self.text;
+    }
+
+    fn held(&self) -> bool {
+        let _text = &self.text;
+        false
+    }
+
+    fn first_invalid(&self) -> Option<Id> {
+        let _text = &self.text;
+        None
+    }
+
+    fn get(&self, _values: &mut Record) {
+        let _text = &self.text;
+    }
+
+    fn set(&mut self, _values: &Record) {
+        let _text = &self.text;
+    }
+
+    fn apply(&mut self, rules: &Rules) {
+        self.is_shown = rules.shows(self.id);
+    }
+
+    fn is_fresh(&self, node: &Node) -> bool {
+        let is_text = match &node.kind {
+            Kind::Text { h, text } => *h == self.h && text.is(&self.text),
+            _ => false,
+        };
+        is_text
+            && self.is_shown
+            && node.id == self.id
+            && node.depth == self.depth
+            && node.x == self.x
+            && node.y == self.y
+            && node.w == self.w
+    }
+}

@@ -1,0 +1,18 @@
+-- How the code's faces name what the definitions of faces speak of.
+use Rattle.std.specs.Prelude.{◌≡◌, ℕ, List, [], ◌∷◌, Option, Some, None}
+use Rattle.tv_faces.specs.declared.look.ButtonLook.{ButtonLook as SeenButton}
+use Rattle.tv_faces.specs.declared.look.FrameLook.{FrameLook as SeenFrame}
+use Rattle.tv_model.specs.Faces.{ButtonLook, FrameLook, pieces_of}
+
+-- how a button stands
+abbrev pub button_look_of : SeenButton → ButtonLook
+button_look_of look = record { is_focused = look.is_focused; is_default_now = look.is_default_now; is_disabled = look.is_disabled }
+
+-- how a frame stands
+abbrev pub frame_look_of : SeenFrame → FrameLook
+frame_look_of look = record { number = look.number; is_active = look.is_active; edge = look.edge; inside = look.inside }
+
+-- the first piece of a text, and what follows its line end
+abbrev pub Splits : List ℕ → List ℕ → Option (List ℕ) → Type 0
+Splits text first (Some rest) = pieces_of text ≡ first ∷ pieces_of rest
+Splits text first None = pieces_of text ≡ first ∷ []

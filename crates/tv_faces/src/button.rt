@@ -1,0 +1,117 @@
+//! Buttons.
+
+ghost use Rattle.std.specs.Prelude.{◌≡◌, ◌<◌, ◌+◌, ◌-◌, ◌/◌, ◌^◌, length};
+ghost use Rattle.tv_palette.specs.Chain.{coloured};
+ghost use Rattle.tv_palette.specs.Palettes.{colour_in, owners_of_part};
+ghost use Rattle.tv_palette.specs.declared.role.Owner.TheVariants.{Dialog};
+ghost use Rattle.tv_palette.specs.declared.role.Role.TheVariants.{Button};
+ghost use Rattle.tv_model.specs.Faces.{button_attr, button_role, button_text, button_start, button_row, is_letter};
+ghost use Rattle.tv_faces.specs.Looks.{button_look_of};
+
+use crate::look::ButtonLook;
+use crate::row::text_char;
+use tv_cells::{Cell, Face};
+use tv_palette::{ButtonRole, Chain, Role};
+
+impl ButtonLook {
+    /// The attribute of the marked letter, or of the rest, to which the chain of the dialog leads.
+    pub fn attr(self, chain: &Chain, is_letter: bool) -> u8
+        ensures chain { result ≡ colour_in chain.now (Button (button_role (button_look_of self) is_letter)) }
+        ensures table { coloured chain.now ≡ owners_of_part Dialog → result ≡ button_attr (button_look_of self) is_letter }
+    {
+        Role::Button(self.role(is_letter)).attr(chain)
+    }
+
+    fn role(self, is_letter: bool) -> ButtonRole
+        ensures { result ≡ button_role (button_look_of self) is_letter }
+    {
+        if self.is_disabled {
+            ButtonRole::Disabled
+        } else if is_letter {
+            ButtonRole::Letter
+        } else if self.is_focused {
+            ButtonRole::Focused
+        } else if self.is_default_now {
+            ButtonRole::Default
+        } else {
+            ButtonRole::Normal
+        }
+    }
+}
+
+/// A button of a dialog.
+#[derive(Clone, Copy)]
+pub struct ButtonFace<'a> {
+    pub width: u32,
+    pub text: &'a [char],
+    pub mark: Option<usize>,
+    pub is_default_now: bool,
+    /// The attribute of the marked letter.
+    pub letter: u8,
+    /// The attribute of all other cells.
+    pub rest: u8,
+}
+
+fn cut(width: usize, text: &[char]) -> &[char]
+    ensures { result.now ≡ button_text width text.now }
+{
+    let count = text.len().min(width.saturating_sub(2));
+    &text[..count]
+}
+
+fn button_start(width: usize, cut: &[char]) -> usize
+    requires { width < 2 ^ 32 }
+    ensures value { result ≡ 1 + (width - 2 - length cut.now) / 2 }
+    ensures small { result < 2 ^ 32 }
+{
+    1 + width.saturating_sub(2).saturating_sub(cut.len()) / 2
+}
+
+fn is_letter(width: usize, text: &[char], mark: Option<usize>, x: usize) -> bool
+    requires { width < 2 ^ 32 }
+    ensures { result ≡ is_letter width text.now mark x }
+{
+    let shown = cut(width, text);
+    match mark {
+        Some(mark) => mark < shown.len() && x == button_start(width, shown) + mark,
+        None => false,
+    }
+}
+
+fn button_char(width: usize, text: &[char], is_default_now: bool, x: usize) -> char
+    requires column { x < 2 ^ 32 }
+    requires width { width < 2 ^ 32 }
+    ensures { result ≡ button_row width text.now is_default_now x }
+{
+    if x == 0 {
+        return if is_default_now { '<' } else { '[' };
+    }
+    if x + 1 == width {
+        return if is_default_now { '>' } else { ']' };
+    }
+    let shown = cut(width, text);
+    let start = button_start(width, shown);
+    if start <= x && x < start + shown.len() {
+        text_char(shown, x - start)
+    } else {
+        ' '
+    }
+}
+
+impl Face for ButtonFace<'_> {
+    ghost use Rattle.tv_model.specs.Faces.{button_cells};
+
+    ghost face = { λ f. button_cells f.width f.text.now f.mark f.is_default_now f.letter f.rest };
+
+    fn at(&self, x: u32, y: u32) -> Cell {
+        let _row = y;
+        let width = self.width as usize;
+        let x = x as usize;
+        let attr = if is_letter(width, self.text, self.mark, x) {
+            self.letter
+        } else {
+            self.rest
+        };
+        Cell::shown(button_char(width, self.text, self.is_default_now, x), attr)
+    }
+}

@@ -1,0 +1,128 @@
+//! Frames of windows and dialogs.
+
+ghost use Rattle.std.specs.Prelude.{◌≡◌, ◌≤◌, ◌<◌, ◌^◌};
+ghost use Rattle.tv_palette.specs.Attributes.{attribute_of};
+ghost use Rattle.tv_palette.specs.Chain.{coloured};
+ghost use Rattle.tv_palette.specs.Palettes.{colour_in, owners_of_part};
+ghost use Rattle.tv_model.specs.Faces.{border, frame_look, frame_role, is_side, titled, top_row};
+ghost use Rattle.tv_faces.specs.Looks.{frame_look_of};
+
+use crate::look::FrameLook;
+use crate::row::char_after_space;
+use tv_cells::{Cell, Face};
+use tv_palette::{Chain, FrameRole, Owner, Role};
+
+fn role(is_active: bool) -> FrameRole
+    ensures { result ≡ frame_role is_active }
+{
+    if is_active {
+        FrameRole::Active
+    } else {
+        FrameRole::Passive
+    }
+}
+
+impl FrameLook {
+    /// How a frame of this number stands, 0 for none, with the attributes to which the chain of what it surrounds leads.
+    pub fn new(chain: &Chain, owner: Owner, number: u8, is_active: bool) -> FrameLook
+        requires digit { number ≤ 9 }
+        ensures chain { frame_look_of result ≡ frame_look (colour_in chain.now) owner number is_active }
+        ensures table { coloured chain.now ≡ owners_of_part owner → frame_look_of result ≡ frame_look attribute_of owner number is_active }
+    {
+        FrameLook {
+            number,
+            is_active,
+            edge: Role::Frame(owner, role(is_active)).attr(chain),
+            inside: Role::Frame(owner, FrameRole::Body).attr(chain),
+        }
+    }
+}
+
+/// The frame of a window or a dialog, with the space that it surrounds.
+#[derive(Clone, Copy)]
+pub struct Frame<'a> {
+    pub width: u32,
+    pub height: u32,
+    pub title: &'a [char],
+    pub look: FrameLook,
+}
+
+fn is_side(width: usize, x: usize) -> bool
+    requires { x < 2 ^ 32 }
+    ensures { result ≡ is_side width x }
+{
+    x == 0 || x + 1 == width
+}
+
+fn border(width: usize, is_active: bool, x: usize) -> char
+    requires { x < 2 ^ 32 }
+    ensures { result ≡ border is_active width x }
+{
+    if is_side(width, x) {
+        '+'
+    } else if is_active {
+        '='
+    } else {
+        '-'
+    }
+}
+
+// The title with a space at both sides, in the middle of the border.
+fn titled(width: usize, title: &[char], is_active: bool, x: usize) -> char
+    requires column { x < 2 ^ 32 }
+    requires width { width < 2 ^ 32 }
+    ensures { result ≡ titled width title.now (border is_active width) x }
+{
+    let below = border(width, is_active, x);
+    if title.is_empty() {
+        return below;
+    }
+    let count = title.len() + 2;
+    let from = width.saturating_sub(count) / 2;
+    if from <= x && x < from + count {
+        char_after_space(title, x - from)
+    } else {
+        below
+    }
+}
+
+fn top_row(width: usize, title: &[char], look: FrameLook, x: usize) -> char
+    requires column { x < 2 ^ 32 }
+    requires width { width < 2 ^ 32 }
+    ensures { result ≡ top_row width title.now (frame_look_of look) x }
+{
+    match x {
+        2 if look.is_active => '[',
+        3 if look.is_active => 'x',
+        4 if look.is_active => ']',
+        _ if look.number != 0 && x + 4 == width => (b'0' + look.number) as char,
+        _ => {
+            let count = title.len().min(width.saturating_sub(12));
+            titled(width, &title[..count], look.is_active, x)
+        }
+    }
+}
+
+impl Face for Frame<'_> {
+    ghost use Rattle.tv_model.specs.Faces.{frame_face};
+    ghost use Rattle.tv_faces.specs.Looks.{frame_look_of};
+
+    ghost face = { λ f. frame_face f.width f.height f.title.now (frame_look_of f.look) };
+
+    fn at(&self, x: u32, y: u32) -> Cell {
+        let width = self.width as usize;
+        let height = self.height as usize;
+        let x = x as usize;
+        let y = y as usize;
+        let look = self.look;
+        if y == 0 {
+            Cell::shown(top_row(width, self.title, look, x), look.edge)
+        } else if y + 1 == height {
+            Cell::shown(border(width, look.is_active, x), look.edge)
+        } else if is_side(width, x) {
+            Cell::shown('|', look.edge)
+        } else {
+            Cell::space(look.inside)
+        }
+    }
+}

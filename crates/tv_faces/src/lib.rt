@@ -1,0 +1,15 @@
+//! What each kind of view paints, cell by cell.
+#![tactic(auto)]
+
+mod background;
+mod button;
+mod frame;
+mod look;
+mod row;
+mod static_text;
+
+pub use background::{Background, EmptyBar};
+pub use button::ButtonFace;
+pub use frame::Frame;
+pub use look::{ButtonLook, FrameLook};
+pub use static_text::TextFace;

@@ -1,0 +1,4 @@
+pub mod Currents
+pub mod Drawn
+pub mod Followed
+pub mod Openings

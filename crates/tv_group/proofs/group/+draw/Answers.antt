@@ -1,0 +1,35 @@
+use Rattle.std.proofs.Common.{arith, ◌<◌, ◌≤◌, length, ap, sym, ◌∙◌}
+use Rattle.tv_cells.specs.Canvas.{sub}
+use Rattle.tv_group.proofs.Openings.{item_at}
+use Rattle.tv_group.proofs.Drawn.{drawn-none, drawn-next, drawn-whole, drawn-far, drawn-leaf, drawn-pane}
+use Rattle.tv_group.proofs.group.+draw.Goals as goal
+
+pub GroupOf::draw-returns-then-not-is_near : goal.GroupOf::draw-returns-then-not-is_near
+GroupOf::draw-returns-then-not-is_near g t c =
+    drawn-far g.V.View.meaning c.args.env.now c.args.canvas c.args.self.now c.sub-inner.result c.args.screen.now
+    (c.sub-inner.ensures ∙ ap (sub c.args.canvas) c.rect.ensures.is) (sym c.is_near.ensures ∙ c.if-not-is_near.true)
+
+pub GroupOf::draw-loop-member-init : goal.GroupOf::draw-loop-member-init
+GroupOf::draw-loop-member-init g t c = drawn-none g.V.View.meaning c.args.env.now c.sub-inner.result c.args.self.now.current c.args.self.now.members.items c.args.screen.now
+
+pub GroupOf::draw-loop-member-preserved : goal.GroupOf::draw-loop-member-preserved
+GroupOf::draw-loop-member-preserved g t c =
+    let s = c.args.self.now in let p = c.loop-member in let at = c.deref-member-items in
+    let h : p.member-index < length s.members.items = omega (arith, ap length at.ensures.value) in
+    drawn-next g.V.View.meaning c.args.env.now c.sub-inner.result s.current p.member-index s.members.items c.member-item.result c.args.screen.now p.screen c.draw.new.screen h
+    (item_at p.member-index at.result.now s.members.items c.member-item.result at.ensures.value c.member-item.is) p.invariant c.draw.ensures
+
+pub GroupOf::draw-returns : goal.GroupOf::draw-returns
+GroupOf::draw-returns g t c =
+    let s = c.args.self.now in let p = c.loop-member in let at = c.deref-member-items in
+    let h : length s.members.items ≤ p.member-index = omega (arith, ap length at.ensures.value) in
+    drawn-whole g.V.View.meaning c.args.env.now c.args.canvas s p.member-index c.sub-inner.result c.args.screen.now p.screen
+    (c.sub-inner.ensures ∙ ap (sub c.args.canvas) c.rect.ensures.is) (sym c.is_near.ensures ∙ c.if-not-is_near.false) h p.invariant
+
+pub MemberOf::draw-returns-in-Leaf : goal.MemberOf::draw-returns-in-Leaf
+MemberOf::draw-returns-in-Leaf g t c =
+    drawn-leaf g.V.View.meaning c.args.env.now c.args.canvas c.args.self.now c.in-Leaf.view c.args.screen.now c.draw.new.screen c.in-Leaf.is c.draw.ensures
+
+pub MemberOf::draw-returns-in-Pane : goal.MemberOf::draw-returns-in-Pane
+MemberOf::draw-returns-in-Pane g t c =
+    drawn-pane g.V.View.meaning c.args.env.now c.args.canvas c.args.self.now c.in-Pane.group c.args.screen.now c.draw-in-Pane.new.screen c.in-Pane.is c.draw-in-Pane.ensures

@@ -1,0 +1,3 @@
+pub mod Current
+pub mod Opened
+pub mod Outline

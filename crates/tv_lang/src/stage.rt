@@ -1,0 +1,344 @@
+//! Which declarations may come next.
+
+ghost use Rattle.std.specs.Prelude.{◌≡◌, ◌≤◌, IfOk, None, Some};
+ghost use Rattle.tv_model.specs.Nodes.{is_pane};
+ghost use Rattle.tv_lang.specs.Spelling.{is_dialog, is_text, is_view, is_window};
+ghost use Rattle.tv_lang.specs.Reading.Stages.{is_between, menu_taken, no_dialogs, no_menus, no_status, no_windows, node_opened, open_panes, panes_after, part_taken, rules_taken, screen_taken, taken_at, version_taken, view_taken, views_taken, window_taken, with_dialog};
+
+use crate::declaration::Declaration;
+use crate::held::Held;
+use std::alloc::{AllocError, Global};
+use tv_model::{Desc, Dialog, Kind, Menu, Node, Sequence, Window};
+
+/// What may come next in a description.
+#[derive(Drop)]
+pub enum Stage {
+    /// The version.
+    Version,
+    /// The screen.
+    Screen,
+    /// The start line, a menu, a status item, a window or a dialog, or the end of the text.
+    Between,
+    /// The items of this menu.
+    InMenu(Held<Menu>),
+    /// The texts of this window.
+    InWindow(Held<Window>),
+    /// The views of the dialog of this node, after those that are there and inside so many panes; or its rules.
+    InViews {
+        node: Held<Node>,
+        views: Sequence<Node>,
+        panes: u8,
+    },
+    /// The rules of this dialog.
+    InRules(Held<Dialog>),
+}
+
+// The stage after a declaration, and the description so far.
+type Further = Option<(Stage, Desc)>;
+
+impl Stage {
+    /// How many panes are open.
+    pub fn open_panes(&self) -> u8
+        ensures { result ≡ open_panes self.now }
+    {
+        match self {
+            Stage::InViews { panes, .. } => *panes,
+            _ => 0,
+        }
+    }
+
+    /// Whether the text may end here.
+    pub fn is_between(&self) -> bool
+        ensures { result ≡ is_between self.now }
+    {
+        matches!(self, Stage::Between)
+    }
+
+    /// Goes on by the declaration, or gives `None` where it can't come here.
+    pub fn take(
+        self,
+        alloc: Global,
+        desc: Desc,
+        declaration: Declaration,
+    ) -> Result<Further, AllocError>
+        ensures { IfOk result (λ further. further ≡ taken_at self desc declaration) }
+    {
+        match self {
+            Stage::Version => Ok(version(desc, declaration)),
+            Stage::Screen => Ok(screen(desc, declaration)),
+            Stage::Between => part(alloc, desc, declaration),
+            Stage::InMenu(menu) => in_menu(alloc, desc, menu.into_inner(), declaration),
+            Stage::InWindow(window) => in_window(alloc, desc, window.into_inner(), declaration),
+            Stage::InViews { node, views, panes } => in_views(
+                alloc,
+                desc,
+                node,
+                views,
+                panes,
+                declaration,
+            ),
+            Stage::InRules(dialog) => in_rules(alloc, desc, dialog.into_inner(), declaration),
+        }
+    }
+}
+
+fn version(desc: Desc, declaration: Declaration) -> Further
+    ensures { result ≡ version_taken desc declaration }
+{
+    match declaration {
+        Declaration::Version => Some((Stage::Screen, desc)),
+        _ => None,
+    }
+}
+
+fn screen(mut desc: Desc, declaration: Declaration) -> Further
+    ensures { result ≡ screen_taken desc declaration }
+{
+    match declaration {
+        Declaration::Screen { width, height } => {
+            desc.width = width;
+            desc.height = height;
+            Some((Stage::Between, desc))
+        }
+        _ => None,
+    }
+}
+
+fn no_dialogs(desc: &Desc) -> bool
+    ensures { result ≡ no_dialogs desc.now }
+{
+    desc.dialogs.as_slice().is_empty()
+}
+
+fn no_windows(desc: &Desc) -> bool
+    ensures { result ≡ no_windows desc.now }
+{
+    desc.windows.as_slice().is_empty() && no_dialogs(desc)
+}
+
+fn no_status(desc: &Desc) -> bool
+    ensures { result ≡ no_status desc.now }
+{
+    desc.status.as_slice().is_empty() && no_windows(desc)
+}
+
+fn no_menus(desc: &Desc) -> bool
+    ensures { result ≡ no_menus desc.now }
+{
+    desc.menus.as_slice().is_empty() && no_status(desc)
+}
+
+// The parts come in this order.
+fn part(alloc: Global, mut desc: Desc, declaration: Declaration) -> Result<Further, AllocError>
+    ensures { IfOk result (λ further. further ≡ part_taken desc declaration) }
+{
+    match declaration {
+        Declaration::Start(name) if desc.start.is_none() && no_menus(&desc) => {
+            desc.start = Some(name);
+            Ok(Some((Stage::Between, desc)))
+        }
+        Declaration::Menu { id, title } if no_status(&desc) => {
+            let items = Sequence::new(alloc);
+            let menu = Held::new(alloc, Menu { id, title, items })?;
+            Ok(Some((Stage::InMenu(menu), desc)))
+        }
+        Declaration::Status(item) if no_windows(&desc) => {
+            desc.status.push(item)?;
+            Ok(Some((Stage::Between, desc)))
+        }
+        Declaration::Node(node) => opened(alloc, desc, node),
+        _ => Ok(None),
+    }
+}
+
+fn opened(alloc: Global, desc: Desc, node: Node) -> Result<Further, AllocError>
+    ensures { IfOk result (λ further. further ≡ node_opened desc node) }
+{
+    let views = Sequence::new(alloc);
+    if is_window(&node.kind) {
+        if !no_dialogs(&desc) {
+            return Ok(None);
+        }
+        let window = Held::new(alloc, Window { node, views })?;
+        Ok(Some((Stage::InWindow(window), desc)))
+    } else if is_dialog(&node.kind) {
+        let node = Held::new(alloc, node)?;
+        Ok(Some((
+            Stage::InViews {
+                node,
+                views,
+                panes: 0,
+            },
+            desc,
+        )))
+    } else {
+        Ok(None)
+    }
+}
+
+fn in_menu(
+    alloc: Global,
+    mut desc: Desc,
+    mut menu: Menu,
+    declaration: Declaration,
+) -> Result<Further, AllocError>
+    ensures { IfOk result (λ further. further ≡ menu_taken desc menu declaration) }
+{
+    match declaration {
+        Declaration::Item(item) => {
+            menu.items.push(item)?;
+            Ok(Some((Stage::InMenu(Held::new(alloc, menu)?), desc)))
+        }
+        Declaration::End => {
+            if menu.items.as_slice().is_empty() {
+                return Ok(None);
+            }
+            desc.menus.push(menu)?;
+            Ok(Some((Stage::Between, desc)))
+        }
+        _ => Ok(None),
+    }
+}
+
+fn in_window(
+    alloc: Global,
+    mut desc: Desc,
+    mut window: Window,
+    declaration: Declaration,
+) -> Result<Further, AllocError>
+    ensures { IfOk result (λ further. further ≡ window_taken desc window declaration) }
+{
+    match declaration {
+        Declaration::Node(view) => {
+            if !is_text(&view.kind) {
+                return Ok(None);
+            }
+            window.views.push(view)?;
+            Ok(Some((Stage::InWindow(Held::new(alloc, window)?), desc)))
+        }
+        Declaration::End => {
+            desc.windows.push(window)?;
+            Ok(Some((Stage::Between, desc)))
+        }
+        _ => Ok(None),
+    }
+}
+
+fn in_views(
+    alloc: Global,
+    desc: Desc,
+    node: Held<Node>,
+    views: Sequence<Node>,
+    panes: u8,
+    declaration: Declaration,
+) -> Result<Further, AllocError>
+    ensures { IfOk result (λ further. further ≡ views_taken desc node views panes declaration) }
+{
+    match declaration {
+        Declaration::Node(view) => with_view(desc, node, views, panes, view),
+        Declaration::End if panes > 0 => {
+            let panes = panes - 1;
+            Ok(Some((Stage::InViews { node, views, panes }, desc)))
+        }
+        Declaration::End => {
+            let rules = Sequence::new(alloc);
+            let node = node.into_inner();
+            with_dialog(desc, Dialog { node, views, rules })
+        }
+        Declaration::Rule(rule) if panes == 0 => {
+            let mut rules = Sequence::new(alloc);
+            rules.push(rule)?;
+            let node = node.into_inner();
+            let dialog = Held::new(alloc, Dialog { node, views, rules })?;
+            Ok(Some((Stage::InRules(dialog), desc)))
+        }
+        _ => Ok(None),
+    }
+}
+
+fn with_view(
+    desc: Desc,
+    node: Held<Node>,
+    mut views: Sequence<Node>,
+    panes: u8,
+    view: Node,
+) -> Result<Further, AllocError>
+    ensures { IfOk result (λ further. further ≡ view_taken desc node views panes view) }
+{
+    if !is_view(&view.kind) {
+        return Ok(None);
+    }
+    let Some(panes) = panes_after(panes, &view) else {
+        return Ok(None);
+    };
+    views.push(view)?;
+    Ok(Some((Stage::InViews { node, views, panes }, desc)))
+}
+
+// The panes that are open after a view. There may be 16 at most.
+fn panes_after(panes: u8, view: &Node) -> Option<u8>
+    ensures { result ≡ panes_after panes view.now }
+{
+    if !is_pane(&view.kind) {
+        Some(panes)
+    } else if panes < 16 {
+        Some(panes + 1)
+    } else {
+        None
+    }
+}
+
+fn in_rules(
+    alloc: Global,
+    desc: Desc,
+    mut dialog: Dialog,
+    declaration: Declaration,
+) -> Result<Further, AllocError>
+    ensures { IfOk result (λ further. further ≡ rules_taken desc dialog declaration) }
+{
+    match declaration {
+        Declaration::Rule(rule) => {
+            dialog.rules.push(rule)?;
+            Ok(Some((Stage::InRules(Held::new(alloc, dialog)?), desc)))
+        }
+        Declaration::End => with_dialog(desc, dialog),
+        _ => Ok(None),
+    }
+}
+
+fn with_dialog(mut desc: Desc, dialog: Dialog) -> Result<Further, AllocError>
+    ensures { IfOk result (λ further. further ≡ with_dialog desc dialog) }
+{
+    desc.dialogs.push(dialog)?;
+    Ok(Some((Stage::Between, desc)))
+}
+
+fn is_window(kind: &Kind) -> bool
+    ensures { result ≡ is_window kind.now }
+{
+    matches!(kind, Kind::Window { .. })
+}
+
+fn is_dialog(kind: &Kind) -> bool
+    ensures { result ≡ is_dialog kind.now }
+{
+    matches!(kind, Kind::Dialog { .. })
+}
+
+fn is_text(kind: &Kind) -> bool
+    ensures { result ≡ is_text kind.now }
+{
+    matches!(kind, Kind::Text { .. })
+}
+
+fn is_pane(kind: &Kind) -> bool
+    ensures { result ≡ is_pane kind.now }
+{
+    matches!(kind, Kind::Pane { .. })
+}
+
+fn is_view(kind: &Kind) -> bool
+    ensures { result ≡ is_view kind.now }
+{
+    !is_window(kind) && !is_dialog(kind)
+}

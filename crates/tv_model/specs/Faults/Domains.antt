@@ -1,0 +1,44 @@
+-- Inputs whose domain has no text, and texts that can't stand in an input.
+use Rattle.std.specs.Prelude.{ℕ, Bool, true, false, not, ◌&&◌, ◌||◌, List}
+use Rattle.tv_valid.specs.declared.input.InputSpec.{InputSpec}
+use Rattle.tv_valid.specs.declared.domain.Domain.{Domain}
+use Rattle.tv_valid.specs.Domain.{HasText, IsDomain, IsViableText}
+use Rattle.tv_valid.proofs.DecidedDomains.{dec_asked, dec_viable}
+use Rattle.tv_valid.proofs.DecidedTexts.{dec_has_text}
+use Rattle.tv_model.specs.declared.node.Kind.{Kind}
+use Rattle.tv_model.specs.declared.node.Kind.TheVariants as kinds
+use Rattle.tv_model.specs.Faults.Starts.{starts_outside}
+
+-- whether what was decided holds
+abbrev pub is_so : {P : Type 0} → Dec P → Bool
+is_so (yes p) = true
+is_so (no f) = false
+
+-- some text lies in the domain that the input asks for. A bad picture asks for none
+abbrev pub HasAnyText : InputSpec → Type 0
+HasAnyText spec = (d : Domain) × IsDomain spec d × HasText d
+
+-- the text may stand in the input while it is typed
+abbrev pub MayStand : List ℕ → InputSpec → Type 0
+MayStand text spec = (d : Domain) × IsDomain spec d × IsViableText d text
+
+-- both can be decided
+abbrev pub any_text : (spec : InputSpec) → Dec (HasAnyText spec)
+any_text spec = dec_asked HasText dec_has_text spec
+
+abbrev pub may_stand : (text : List ℕ) (spec : InputSpec) → Dec (MayStand text spec)
+may_stand text spec = dec_asked (λ d. IsViableText d text) (λ d. dec_viable d text) spec
+
+-- F12: an input with a bad picture, or whose domain has no member of at most MAX characters
+abbrev pub has_no_text : Kind → Bool
+has_no_text (kinds.Input name spec start validates) = not (is_so (any_text spec))
+has_no_text _ = false
+
+-- F13: an input whose start text isn't viable, where it has a domain
+abbrev pub starts_unviable : Kind → Bool
+starts_unviable (kinds.Input name spec start validates) = is_so (any_text spec) && not (is_so (may_stand start spec))
+starts_unviable _ = false
+
+-- F13: a start text that isn't viable, or a start item that there isn't
+abbrev pub starts_badly : Kind → Bool
+starts_badly kind = starts_outside kind || starts_unviable kind

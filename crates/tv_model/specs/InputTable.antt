@@ -1,0 +1,105 @@
+-- The keys and the mouse of an input line.
+use Rattle.std.specs.Prelude.{◌≡◌, ◌⊎◌, ℕ, Bool, true, false, not, ◌&&◌, ◌||◌, List, [], length, remove, min, ◌+◌, ◌-◌, ◌==◌, nat_lt, if◌then◌else◌}
+use Rattle.tv_event.specs.declared.event.Key.{Key}
+use Rattle.tv_event.specs.declared.event.Key.TheVariants as keys
+use Rattle.tv_valid.specs.declared.domain.Domain.{Domain}
+use Rattle.tv_valid.specs.Domain.{IsViableText, IsTyped}
+
+-- the text, the place of the cursor, whether the whole text is selected, and whether typing overwrites
+pub record Edit : Type 0 where
+  pub text : List ℕ
+  pub cursor : ℕ
+  pub is_whole : Bool
+  pub overwrites : Bool
+
+-- the keys of the table; it passes all others on
+abbrev pub is_edit_key : Key → Bool
+is_edit_key keys.Left = true
+is_edit_key keys.Right = true
+is_edit_key keys.Home = true
+is_edit_key keys.End = true
+is_edit_key keys.Insert = true
+is_edit_key keys.Backspace = true
+is_edit_key keys.Delete = true
+-- Y
+is_edit_key (keys.Ctrl letter) = letter == 89
+is_edit_key (keys.Char ch) = true
+is_edit_key _ = false
+
+-- the cursor at a place, and nothing selected
+abbrev pub at_place : ℕ → Edit → Edit
+at_place place e = record e { cursor = place; is_whole = false }
+
+-- another text, with the cursor at a place and nothing selected
+abbrev pub with_text : List ℕ → ℕ → Edit → Edit
+with_text text place e = record e { text = text; cursor = place; is_whole = false }
+
+-- the character before the cursor goes, if there is one
+abbrev pub backspaced : Edit → Edit
+backspaced e = if e.cursor == 0 then at_place 0 e else with_text (remove e.text (e.cursor - 1)) (e.cursor - 1) e
+
+-- the whole text goes where it is selected, else the character at the cursor, if there is one
+abbrev pub deleted : Edit → Edit
+deleted e =
+    if e.is_whole then with_text [] 0 e
+    else if nat_lt e.cursor (length e.text) then with_text (remove e.text e.cursor) e.cursor e
+    else at_place e.cursor e
+
+-- an edit is made, unless its text isn't viable: then nothing changes
+abbrev pub Becomes : Domain → Edit → Edit → Edit → Type 0
+Becomes d edit e after =
+    (IsViableText d edit.text × (after ≡ edit)) ⊎ ((IsViableText d edit.text → ⊥) × (after ≡ e))
+
+-- what a typed character is put into, at the cursor: nothing where the whole text is selected, and where it overwrites
+-- the text without the character at the cursor
+abbrev pub opened_up : Edit → Edit
+opened_up e =
+    if e.is_whole then with_text [] 0 e
+    else if e.overwrites && nat_lt e.cursor (length e.text) then with_text (remove e.text e.cursor) e.cursor e
+    else e
+
+-- where the cursor stands after a character: after it, or at the end of what it was filled up to
+abbrev pub place_after : Edit → List ℕ → ℕ
+place_after e out = if e.cursor == length e.text then length out else e.cursor + 1
+
+-- a character is typed, and what it makes of the text is viable
+abbrev pub Takes : Domain → ℕ → Edit → List ℕ → Type 0
+Takes d ch e out = IsTyped d (opened_up e).text (opened_up e).cursor ch out
+
+-- it is typed, or refused, and then nothing changes
+abbrev pub Typed : Domain → ℕ → Edit → Edit → Type 0
+Typed d ch e after =
+    ((out : List ℕ) × Takes d ch e out × (after ≡ with_text out (place_after (opened_up e) out) e))
+    ⊎ (((out : List ℕ) → Takes d ch e out → ⊥) × (after ≡ e))
+
+-- Ctrl-Y empties the text
+abbrev pub ctrl_edit : ℕ → Edit → Edit
+ctrl_edit letter e = if letter == 89 then with_text [] 0 e else e
+
+-- what a key makes of an input
+abbrev pub Edited : Domain → Key → Edit → Edit → Type 0
+Edited d keys.Left e after = after ≡ at_place (e.cursor - 1) e
+Edited d keys.Right e after = after ≡ at_place (min (e.cursor + 1) (length e.text)) e
+Edited d keys.Home e after = after ≡ at_place 0 e
+Edited d keys.End e after = after ≡ at_place (length e.text) e
+Edited d keys.Insert e after = after ≡ record e { is_whole = false; overwrites = not e.overwrites }
+Edited d keys.Backspace e after = Becomes d (backspaced e) e after
+Edited d keys.Delete e after = Becomes d (deleted e) e after
+Edited d (keys.Ctrl letter) e after = Becomes d (ctrl_edit letter e) e after
+Edited d (keys.Char ch) e after = Typed d ch e after
+Edited d _ e after = after ≡ e
+
+-- the first place of the text that is shown, in an input of this width
+abbrev pub first_shown : ℕ → ℕ → ℕ
+first_shown width cursor = cursor - (width - 3)
+
+-- a mouse down on a column, where this place is the first shown
+abbrev pub clicked : ℕ → ℕ → Edit → Edit
+clicked first column e = at_place (min (first + column - 1) (length e.text)) e
+
+-- the focus comes: the whole text is selected, if there is one, with the cursor at its end. It goes: nothing is selected
+abbrev pub entered : Edit → Edit
+entered e = record e { cursor = length e.text; is_whole = nat_lt 0 (length e.text) }
+
+abbrev pub left : Edit → Edit
+left e = record e { cursor = 0; is_whole = false }

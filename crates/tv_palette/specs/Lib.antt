@@ -1,0 +1,4 @@
+pub mod Attributes
+pub mod Chain
+pub mod Entries
+pub mod Palettes

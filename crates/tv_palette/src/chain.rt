@@ -1,0 +1,93 @@
+//! The palettes from a view to the application.
+
+ghost use Rattle.std.specs.Prelude.{◌≡◌, ◌≤◌, ◌<◌, [], ◌∷◌, length, map, IsTrue, ◌↔◌};
+ghost use Rattle.tv_palette.specs.Chain.{attr_of};
+ghost use Rattle.tv_palette.specs.Entries.{entries_of};
+ghost use Rattle.tv_palette.specs.Palettes.{application, window, dialog};
+
+use crate::palette::Palette;
+use arrayvec::ArrayVec;
+use std::marker::Model;
+
+/// The palettes from a view's own to the application's, at most 16. Contracts see the list of their entries.
+#[derive(Debug, Drop)]
+pub struct Chain {
+    palettes: ArrayVec<Palette, 16>,
+}
+
+impl Model for Chain {
+    ghost use Rattle.std.specs.Prelude.{ℕ, List, length, ◌≤◌};
+    ghost use Rattle.tv_palette.specs.Entries.{entries_of};
+
+    ghost Value = { List (List ℕ) };
+
+    ghost view = { λ c. entries_of c.palettes.items };
+
+    ghost invariant = { λ c. length c.palettes.items ≤ 16 };
+}
+
+impl Chain {
+    /// No palettes: each number is its own attribute.
+    pub fn new() -> Chain
+        ensures { result ≡ [] }
+    {
+        Chain {
+            palettes: ArrayVec::new(),
+        }
+    }
+
+    /// The chain of what a window owns.
+    pub fn of_window() -> Chain
+        ensures { result ≡ window ∷ application ∷ [] }
+    {
+        Chain::new()
+            .extended(Palette::application())
+            .extended(Palette::window())
+    }
+
+    /// The chain of what a dialog owns.
+    pub fn of_dialog() -> Chain
+        ensures { result ≡ dialog ∷ application ∷ [] }
+    {
+        Chain::new()
+            .extended(Palette::application())
+            .extended(Palette::dialog())
+    }
+
+    /// Whether there are 16 palettes, and so no room for another.
+    pub fn is_full(&self) -> bool
+        ensures { IsTrue result ↔ (16 ≤ length self.now) }
+    {
+        self.palettes.is_full()
+    }
+
+    /// The chain of a view with this palette, which the last view of the chain owns.
+    pub fn extended(&self, own: Palette) -> Chain
+        requires { length self.now < 16 }
+        ensures { result ≡ own.entries.now ∷ self.now }
+    {
+        let mut palettes = ArrayVec::new();
+        palettes.push(own);
+        palettes
+            .try_extend_from_slice(self.palettes.as_slice())
+            .unwrap();
+        Chain { palettes }
+    }
+
+    /// The attribute of a view's number: what it becomes from palette to palette.
+    pub fn attr(&self, index: u8) -> u8
+        ensures { result ≡ attr_of self.now index }
+    {
+        look_up(self.palettes.as_slice(), index)
+    }
+}
+
+fn look_up(palettes: &[Palette], index: u8) -> u8
+    ensures { result ≡ attr_of (entries_of palettes.now) index }
+{
+    let mut number = index;
+    for palette in palettes {
+        number = palette.entry(number);
+    }
+    number
+}

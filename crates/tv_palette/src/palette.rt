@@ -1,0 +1,86 @@
+//! Palettes.
+
+ghost use Rattle.std.specs.Prelude.{◌≡◌, ◌≤◌, length, []};
+ghost use Rattle.tv_palette.specs.Chain.{entry};
+ghost use Rattle.tv_palette.specs.Palettes.{application, window, dialog};
+
+/// How a view's own numbers of its colours become its owner's, or, for the application, become attributes.
+///
+/// Numbers count the entries from 1. A view without a palette has the empty one, which passes each number on.
+#[derive(Clone, Copy, Debug)]
+pub struct Palette {
+    entries: &'static [u8],
+    ghost small: { length entries.now ≤ 32 },
+}
+
+impl Palette {
+    /// The palette with these entries.
+    pub fn new(entries: &'static [u8]) -> Palette
+        requires { length entries.now ≤ 32 }
+        ensures { result.entries.now ≡ entries.now }
+    {
+        Palette { entries }
+    }
+
+    /// The palette of a view that has none, as of a group.
+    pub fn empty() -> Palette
+        ensures { result.entries.now ≡ [] }
+    {
+        Palette { entries: &[] }
+    }
+
+    /// The attributes that all other palettes lead to.
+    pub fn application() -> Palette
+        ensures { result.entries.now ≡ application }
+    {
+        Palette {
+            entries: &[
+                0x71, 0x70, 0x74, 0x20, 0x24, 0x17, 0x1f, 0x1e, 0x7f, 0x70, 0x70, 0x7f, 0x7e, 0x20,
+                0x2b, 0x2f, 0x78, 0x2e, 0x30, 0x3f, 0x3e, 0x1f, 0x2f, 0x1a, 0x4f, 0x30, 0x2f, 0x3e,
+                0x78,
+            ],
+        }
+    }
+
+    /// What a window's frame and texts are looked up in.
+    pub fn window() -> Palette
+        ensures { result.entries.now ≡ window }
+    {
+        Palette {
+            entries: &[6, 7, 8],
+        }
+    }
+
+    /// What a dialog's frame, texts and controls are looked up in.
+    pub fn dialog() -> Palette
+        ensures { result.entries.now ≡ dialog }
+    {
+        Palette {
+            entries: &[
+                9, 10, 11, 12, 13, 14, 15, 16, 17, 18, 19, 20, 21, 22, 23, 24, 25, 26, 27, 28,
+            ],
+        }
+    }
+
+    /// What the number becomes: the entry that it counts to, and 0 where the palette lacks it.
+    pub fn entry(self, index: u8) -> u8
+        ensures { result ≡ entry self.entries.now index }
+    {
+        if self.entries.is_empty() {
+            return index;
+        }
+        if index == 0 {
+            return 0;
+        }
+        match self.entries.get(index as usize - 1) {
+            Some(entry) => *entry,
+            None => 0,
+        }
+    }
+}
+
+impl Default for Palette {
+    fn default() -> Palette {
+        Palette::empty()
+    }
+}

@@ -1,7 +1,0 @@
-use Rattle.std.proofs.Common.{take}
-use Rattle.tv_model.specs.LogText.{log_text}
-use Rattle.tv_program.specs.Pen.{Puts}
-use Rattle.tv_program.proofs.lines.put_log.Given as goal
-
-abbrev pub invariant-loop-line : goal.invariant-loop-line
-invariant-loop-line g l = Puts g.W.Writer.seen l.fn.pen l.pen (log_text l.desc (take l.line-index l.lines))

@@ -1,6 +1,0 @@
-use Rattle.tv_model.specs.LogText.{line_of}
-use Rattle.tv_program.proofs.lines.put_quit.Goals as goal
-
-pub returns : goal.returns
-unfolding line_of
-returns g c = c.put.ensures

@@ -1,5 +1,0 @@
-use Rattle.tv_program.proofs.Pens.{Puts-then}
-use Rattle.tv_program.proofs.lines.put_quoted.Goals as goal
-
-pub returns : goal.returns
-returns g c = Puts-then c.put.ensures (Puts-then c.put_escaped.ensures c.put-2.ensures)

@@ -1,0 +1,5 @@
+use Rattle.tv_script.proofs.Pens.{Puts-then}
+use Rattle.tv_program.proofs.message.put_first.Goals as goal
+
+pub returns : goal.returns
+returns g c = Puts-then c.put.ensures c.put_fault.ensures

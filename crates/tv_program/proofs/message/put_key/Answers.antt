@@ -1,0 +1,7 @@
+use Rattle.tv_model.specs.LogText.{line_of}
+use Rattle.tv_script.proofs.Pens.{Puts-then}
+use Rattle.tv_program.proofs.message.put_key.Goals as goal
+
+pub returns : goal.returns
+unfolding line_of
+returns g c = Puts-then c.put.ensures (Puts-then c.put_char.ensures c.put-2.ensures)

@@ -1,0 +1,16 @@
+use Rattle.std.proofs.Common.{ap, ◌∙◌}
+use Rattle.tv_cells.specs.Picture.{cell_at}
+use Rattle.tv_model.specs.Output.{screen_text, shot_text}
+use Rattle.tv_script.specs.ScreenText.{aspect_word, cell_text}
+use Rattle.tv_script.specs.declared.shot.Aspect.TheVariants.{Characters}
+use Rattle.tv_script.proofs.Pens.{Puts-along}
+use Rattle.tv_script.proofs.Screens.{session_text-is}
+use Rattle.tv_script.proofs.script.put_shot.Goals as goal
+
+pub returns-clause-text : goal.returns-clause-text
+returns-clause-text g c =
+    let painted = c.paint.new.self in
+    let word = aspect_word Characters in
+    let cell = cell_text Characters in
+    let text = ap (λ p. screen_text word cell p.width p.height (cell_at p)) c.screen.ensures ∙ session_text-is (g.S.Stage.session painted) (g.S.Stage.picture painted) c.paint.ensures.shown word cell in
+    Puts-along (text ∙ ap shot_text c.paint.ensures.same) c.put_screen.ensures

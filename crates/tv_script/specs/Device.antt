@@ -1,0 +1,13 @@
+-- What a device took, and what it keeps back.
+use Rattle.std.specs.Prelude.{ℕ, List, Option}
+use Rattle.std.specs.Io.Buffered.{writer_buffer, writer_contents}
+use Rattle.tv_script.specs.declared.device.Device.{Device}
+use Rattle.tv_script.specs.Writer.{Seen}
+
+-- the device as a writer: what it keeps back counts as taken
+abbrev pub device_seen : {W : Type 0} → (W → Option (List ℕ)) → Device W → Seen
+device_seen contents d = record { taken = writer_contents contents d.writer; failures = d.failures }
+
+-- the bytes that are not yet written
+abbrev pub kept_back : {W : Type 0} → Device W → List ℕ
+kept_back d = writer_buffer d.writer

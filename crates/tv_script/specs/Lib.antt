@@ -1,0 +1,5 @@
+pub mod Device
+pub mod Pen
+pub mod Performed
+pub mod ScreenText
+pub mod Writer

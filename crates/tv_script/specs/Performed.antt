@@ -1,0 +1,24 @@
+-- What a script leaves, and what a failed writer leaves of one.
+use Rattle.std.specs.Prelude.{◌≡◌, ℕ, ◌+◌, ◌≤◌, List, ◌++◌, length, take}
+use Rattle.tv_cells.specs.Layers.{Shows}
+use Rattle.tv_cells.specs.Picture.{Picture}
+use Rattle.tv_model.specs.declared.script.Item.{Item}
+use Rattle.tv_model.specs.Layers.{layers_of}
+use Rattle.tv_model.specs.Output.{output, after}
+use Rattle.tv_model.specs.Session.{Session}
+use Rattle.tv_model.specs.State.{natural}
+use Rattle.tv_script.specs.Writer.{Seen, Cuts}
+
+-- the picture is the session's screen
+pub record IsScreenOf (s : Session) (p : Picture) : Type 0 where
+  pub width : p.width ≡ natural s.desc.width
+  pub height : p.height ≡ natural s.desc.height
+  pub cells : Shows (layers_of s.desc s.state) p
+
+-- the writer failed after so many items were begun: a proper prefix of their text was taken, with that of those before
+-- the last one whole, and the session stands after their events
+pub record Stops (s : Session) (script : List Item) (begun : ℕ) (old new : Seen) (left : Session) : Type 0 where
+  pub few : begun ≤ length script
+  pub cut : Cuts old new (output s (take begun script))
+  pub whole : (k : ℕ) → begun ≡ k + 1 → (more : List ℕ) × (cut.front ≡ output s (take k script) ++ more)
+  pub state : left ≡ after s (take begun script)

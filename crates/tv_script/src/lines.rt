@@ -1,0 +1,162 @@
+//! The lines of the log, written.
+
+ghost use Rattle.std.specs.Prelude.{◌≡◌, ◌≤◌, ◌++◌, ◌∷◌, [], codes, decimal, flat_map};
+ghost use Rattle.tv_model.specs.declared.log.LogLine.TheVariants as lines;
+ghost use Rattle.tv_model.specs.LogText.{all_nodes, name_of_node, log_line, log_text, name_text, end_word, line_of, value_text, marks_text, is_marked, quoted_text, escaped};
+ghost use Rattle.tv_model.specs.Nodes.{node_of};
+ghost use Rattle.tv_script.specs.Pen.{Puts};
+
+use crate::pen::Pen;
+use crate::writer::Writer;
+use tv_event::Command;
+use tv_model::{Desc, Id, LogLine, Value};
+use tv_valid::Chars;
+
+/// Writes lines of the log.
+pub(crate) fn put_log<W: Writer>(pen: &mut Pen<W>, desc: &Desc, lines: &[LogLine])
+    ensures { Puts W.seen pen.old pen.new (log_text desc.now lines.now) }
+{
+    for line in lines {
+        put_line(pen, desc, line);
+    }
+}
+
+fn put_line<W: Writer>(pen: &mut Pen<W>, desc: &Desc, line: &LogLine)
+    ensures { Puts W.seen pen.old pen.new (log_line desc.now line.now) }
+{
+    match line {
+        LogLine::Open(id) => put_name_line(pen, desc, b"open ", *id),
+        LogLine::Focus(id) => put_name_line(pen, desc, b"focus ", *id),
+        LogLine::Press(id) => put_name_line(pen, desc, b"press ", *id),
+        LogLine::Invalid(id) => put_name_line(pen, desc, b"invalid ", *id),
+        LogLine::Close(id) => put_name_line(pen, desc, b"close ", *id),
+        LogLine::Quit => put_quit(pen),
+        LogLine::Command(number) => put_command(pen, *number),
+        LogLine::End(id, command) => put_end(pen, desc, *id, *command),
+        LogLine::Field(id, value) => put_field(pen, desc, *id, value),
+    }
+}
+
+fn put_name_line<W: Writer>(pen: &mut Pen<W>, desc: &Desc, word: &[u8], id: Id)
+    ensures { Puts W.seen pen.old pen.new (line_of word.now (name_text desc.now id)) }
+{
+    pen.put(word);
+    pen.put_chars(name(desc, id));
+    pen.put(b"\n");
+}
+
+fn name(desc: &Desc, id: Id) -> &[char]
+    ensures { result.now ≡ name_of_node (node_of (all_nodes desc.now) id) }
+{
+    match desc.node(id) {
+        Some(node) => node.kind.name().map_or(&[], Chars::as_slice),
+        None => &[],
+    }
+}
+
+fn put_quit<W: Writer>(pen: &mut Pen<W>)
+    ensures { Puts W.seen pen.old pen.new (line_of (codes "quit") []) }
+{
+    pen.put(b"quit\n");
+}
+
+fn put_command<W: Writer>(pen: &mut Pen<W>, number: u8)
+    ensures { Puts W.seen pen.old pen.new (line_of (codes "command ") (decimal number)) }
+{
+    pen.put(b"command ");
+    pen.put_number(u32::from(number));
+    pen.put(b"\n");
+}
+
+fn put_end<W: Writer>(pen: &mut Pen<W>, desc: &Desc, id: Id, command: Command)
+    ensures { Puts W.seen pen.old pen.new (log_line desc.now (lines.End id command)) }
+{
+    pen.put(b"end ");
+    pen.put_chars(name(desc, id));
+    pen.put(b" ");
+    pen.put(end_word(command));
+    pen.put(b"\n");
+}
+
+// The word of a command that ends a dialog.
+fn end_word(command: Command) -> &'static [u8]
+    ensures { result.now ≡ end_word command.0 }
+{
+    match command {
+        Command::OK => b"ok",
+        Command::CANCEL => b"cancel",
+        Command::YES => b"yes",
+        _ => b"no",
+    }
+}
+
+fn put_field<W: Writer>(pen: &mut Pen<W>, desc: &Desc, id: Id, value: &Value)
+    ensures { Puts W.seen pen.old pen.new (log_line desc.now (lines.Field id value.now)) }
+{
+    pen.put(b"field ");
+    pen.put_chars(name(desc, id));
+    pen.put(b" ");
+    put_value(pen, value);
+    pen.put(b"\n");
+}
+
+fn put_value<W: Writer>(pen: &mut Pen<W>, value: &Value)
+    ensures { Puts W.seen pen.old pen.new (value_text value.now) }
+{
+    match value {
+        Value::Text(text) => put_quoted(pen, text.as_slice()),
+        Value::Marks(marks) => put_marks(pen, *marks),
+        Value::Item(item) => pen.put_number(u32::from(*item)),
+    }
+}
+
+// Writes a quoted text, in which `"` and `\` are escaped.
+fn put_quoted<W: Writer>(pen: &mut Pen<W>, text: &[char])
+    ensures { Puts W.seen pen.old pen.new (quoted_text text.now) }
+{
+    pen.put(b"\"");
+    put_escaped(pen, text);
+    pen.put(b"\"");
+}
+
+fn put_escaped<W: Writer>(pen: &mut Pen<W>, text: &[char])
+    ensures { Puts W.seen pen.old pen.new (flat_map escaped text.now) }
+{
+    for ch in text {
+        put_escaped_char(pen, *ch);
+    }
+}
+
+fn put_escaped_char<W: Writer>(pen: &mut Pen<W>, ch: char)
+    ensures { Puts W.seen pen.old pen.new (escaped ch) }
+{
+    match ch {
+        '"' => pen.put(b"\\\""),
+        '\\' => pen.put(b"\\\\"),
+        _ => pen.put_char(ch),
+    }
+}
+
+// Writes the marked items in rising order, with a space between, or `-`.
+fn put_marks<W: Writer>(pen: &mut Pen<W>, marks: u16)
+    ensures { Puts W.seen pen.old pen.new (marks_text marks) }
+{
+    let mut separator: &[u8] = b"";
+    for item in 1..17 {
+        if is_marked(marks, item) {
+            pen.put(separator);
+            pen.put_number(item);
+            separator = b" ";
+        }
+    }
+    if separator.is_empty() {
+        pen.put(b"-");
+    }
+}
+
+fn is_marked(marks: u16, item: u32) -> bool
+    requires { (1 ≤ item) × (item ≤ 16) }
+    ensures { result ≡ is_marked marks item }
+{
+    (marks >> (item - 1)) % 2 == 1
+}

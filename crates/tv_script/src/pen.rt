@@ -1,0 +1,60 @@
+//! A pen writes texts one after another, and nothing more once its writer failed.
+
+ghost use Rattle.std.specs.Prelude.{◌≡◌, ◌∷◌, [], decimal, encode_utf8};
+ghost use Rattle.tv_model.specs.LogText.{bytes_of};
+ghost use Rattle.tv_script.specs.Pen.{Puts};
+
+use crate::writer::{Writer, write_all};
+use itoa::Buffer;
+
+/// A writer, and whether it failed.
+#[derive(Drop)]
+pub struct Pen<'a, W: Writer> {
+    pub out: &'a mut W,
+    pub stopped: bool,
+}
+
+impl<'a, W: Writer> Pen<'a, W> {
+    /// Writes the bytes, unless the writer failed before.
+    pub fn put(&mut self, bytes: &[u8])
+        ensures { Puts W.seen self.old self.new bytes.now }
+    {
+        if !self.stopped {
+            let out = &mut *self.out;
+            self.stopped = write_all(out, bytes).is_err();
+        }
+    }
+
+    /// Writes the characters in UTF-8.
+    pub fn put_chars(&mut self, chars: &[char])
+        ensures { Puts W.seen self.old self.new (bytes_of chars.now) }
+    {
+        for ch in chars {
+            self.put_char(*ch);
+        }
+    }
+
+    /// Writes the character in UTF-8.
+    pub fn put_char(&mut self, ch: char)
+        ensures { Puts W.seen self.old self.new (encode_utf8 ch) }
+    {
+        let mut buffer = [0u8; 4];
+        self.put(ch.encode_utf8(&mut buffer).as_bytes());
+    }
+
+    /// Writes the place in decimal digits.
+    pub fn put_place(&mut self, place: usize)
+        ensures { Puts W.seen self.old self.new (decimal place) }
+    {
+        let mut buffer = Buffer::new();
+        self.put(buffer.format(place).as_bytes());
+    }
+
+    /// Writes the number in decimal digits.
+    pub fn put_number(&mut self, number: u32)
+        ensures { Puts W.seen self.old self.new (decimal number) }
+    {
+        let mut buffer = Buffer::new();
+        self.put(buffer.format(number).as_bytes());
+    }
+}

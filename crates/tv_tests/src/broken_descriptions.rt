@@ -1,0 +1,289 @@
+//! Texts that are no descriptions: lines that break the grammar, and a description that is cut or spoiled.
+
+use crate::descriptions::{DIALOG, HEAD, ORDER};
+use crate::tables::{expect_finding, expect_findings, findings};
+use std::test::Fail;
+use tv_lang::{LangFault, parse};
+
+// Lines of views and rules. Only the last row is read: keywords may be names.
+const VIEWS: &str = r#"label 1 2 8 "~AB~" c
+=> syntax at line 5
+label 1 2 8 "a~b" c
+=> syntax at line 5
+label 1 2 8 c
+=> syntax at line 5
+label 1 2 8 "x"
+=> syntax at line 5
+label 1 2 8 "x" 5
+=> syntax at line 5
+label 1 2 8 1 "x" c
+=> syntax at line 5
+button e 1 2 8 "" cancel grab default
+=> syntax at line 5
+button e 1 2 8 "" cancel default default
+=> syntax at line 5
+button e 1 2 8 "" default
+=> syntax at line 5
+button e 1 2 8 "" stop
+=> syntax at line 5
+input i 1 2 8 any ""
+=> syntax at line 5
+input i 1 2 8 4 any
+=> syntax at line 5
+input i 1 2 8 4 digits ""
+=> syntax at line 5
+input i 1 2 8 4 filter abc ""
+=> syntax at line 5
+input i 1 2 8 4 range 1 ""
+=> syntax at line 5
+input i 1 2 8 4 range 01 5 ""
+=> syntax at line 5
+input i 1 2 8 4 range 1 2147483648 ""
+=> syntax at line 5
+input i 1 2 8 4 range 1 5 5 ""
+=> syntax at line 5
+input i 1 2 8 4 picture ""
+=> syntax at line 5
+input i 1 2 8 4 any "" optional validate
+=> syntax at line 5
+input i 1 2 8 4 any "" fill optional
+=> syntax at line 5
+input i 1 2 8 4 any "" validate validate
+=> syntax at line 5
+checks k 1 2 8
+=> syntax at line 5
+checks k 1 2 8 start 1
+=> syntax at line 5
+checks k 1 2 8 "a" start
+=> syntax at line 5
+checks k 1 2 8 "a" "b" start 2 1
+=> syntax at line 5
+checks k 1 2 8 "a" "b" start 1 1
+=> syntax at line 5
+checks k 1 2 8 "a" start "1"
+=> syntax at line 5
+checks k 1 2 8 "a" start 1 "b"
+=> syntax at line 5
+checks k 1 2 8 "a~" "b"
+=> syntax at line 5
+radios r 1 2 8 "a"
+=> syntax at line 5
+radios r 1 2 8 start 1
+=> syntax at line 5
+radios r 1 2 8 "a" start
+=> syntax at line 5
+radios r 1 2 8 "a" "b" start 1 2
+=> syntax at line 5
+list l 1 2 8 "a" start 1
+=> syntax at line 5
+list l 1 2 8 1 start 1
+=> syntax at line 5
+list l 1 2 8 1 "a"
+=> syntax at line 5
+list l 1 2 8 1 "a" start 1 2
+=> syntax at line 5
+pane p 1 2 8
+=> syntax at line 5
+pane p 1 2 8 1 1
+=> syntax at line 5
+pane 1 2 8 1
+=> syntax at line 5
+show c when c
+=> syntax at line 5
+show when c 1
+=> syntax at line 5
+show c c 1
+=> syntax at line 5
+show "c" when c 1
+=> syntax at line 5
+enable when c 1
+=> syntax at line 5
+enable stop when c 1
+=> syntax at line 5
+enable ok when c "1"
+=> syntax at line 5
+show c when c 1 ok
+=> syntax at line 5
+frame 1 2 8 1
+=> syntax at line 5
+pane p 1 2 8 1
+=> syntax at line 7
+pane p 1 2 8 1
+show c when c 1
+=> syntax at line 6
+show c when c 1
+button e 1 2 8 "" cancel
+=> syntax at line 6
+end
+button e 1 2 8 "" cancel
+=> syntax at line 6
+show when when end 1
+=> F7 line 5
+"#;
+
+#[test]
+fn refused_views_and_rules(rt: HostRuntime) -> Result<(), Fail> {
+    expect_findings(&rt, rt.alloc(), DIALOG, VIEWS, "end\n")
+}
+
+// Menus, status items, windows, dialogs, and their order.
+const DECLARATIONS: &str = r#"menu a
+=> syntax at line 3
+menu ""x
+=> syntax at line 3
+menu "" ""
+=> syntax at line 3
+menu "~AB~"
+=> syntax at line 3
+item "" 100
+=> syntax at line 3
+status "" Foo quit
+=> syntax at line 3
+status "" F0 quit
+=> syntax at line 3
+status "" F13 quit
+=> syntax at line 3
+status "" f1 quit
+=> syntax at line 3
+status "" Alt-a quit
+=> syntax at line 3
+status "" Alt-10 quit
+=> syntax at line 3
+status "" Ctrl-1 quit
+=> syntax at line 3
+status "" Ctrl-Up quit
+=> syntax at line 3
+status "" Shift-F1 quit
+=> syntax at line 3
+status "" "F1" quit
+=> syntax at line 3
+status F1 quit
+=> syntax at line 3
+status "" F1
+=> syntax at line 3
+status "" F1 stop
+=> syntax at line 3
+window w 1 1 12 3 ""
+=> syntax at line 3
+window w 1 1 12 3 0
+=> syntax at line 3
+window w 1 1 12 3 0 "" ends cancel
+=> syntax at line 3
+window "w" 1 1 12 3 0 ""
+=> syntax at line 3
+dialog d 1 1 12 3 ""
+=> syntax at line 3
+dialog d 1 1 12 3 "" opens ends cancel
+=> syntax at line 3
+dialog d 1 1 12 3 "" ends cancel opens 100
+=> syntax at line 3
+dialog d 1 1 12 3 "" ends cancel ok
+=> syntax at line 3
+dialog d 1 1 12 3 "" ends quit
+=> syntax at line 3
+end
+=> syntax at line 3
+tvd 1
+=> syntax at line 3
+screen 40 14
+=> syntax at line 3
+text 1 1 4 1 ""
+=> syntax at line 3
+menu ""
+end
+=> syntax at line 4
+menu ""
+menu ""
+=> syntax at line 4
+menu ""
+item ""
+=> syntax at line 4
+menu ""
+item "" stop
+=> syntax at line 4
+menu ""
+item "" 100
+=> syntax at line 5
+status "" F1 100
+menu ""
+=> syntax at line 4
+window w 1 1 12 3 0 ""
+end
+status "" F1 100
+=> syntax at line 5
+window w 1 1 12 3 0 ""
+button c 1 1 8 "" cancel
+=> syntax at line 4
+window w 1 1 12 3 0 ""
+label 1 1 8 "" c
+=> syntax at line 4
+window w 1 1 12 3 0 ""
+pane p 1 1 8 1
+=> syntax at line 4
+window w 1 1 12 3 0 ""
+text 1 1 8 1 ""
+=> syntax at line 5
+dialog d 2 2 14 4 "" ends cancel
+button c 1 1 8 "" cancel
+end
+window w 1 1 12 3 0 ""
+=> syntax at line 6
+start d
+start d
+=> syntax at line 4
+status "" F1 100
+start d
+=> syntax at line 4
+"#;
+
+#[test]
+fn refused_declarations(rt: HostRuntime) -> Result<(), Fail> {
+    expect_findings(&rt, rt.alloc(), HEAD, DECLARATIONS, "")
+}
+
+#[test]
+fn cut_descriptions(rt: HostRuntime) -> Result<(), Fail> {
+    let alloc = rt.alloc();
+    for (end, wanted) in [
+        ("start", "sound"),
+        ("dialog", "F16 line 3"),
+        ("enable", "syntax at line 17"),
+    ] {
+        let (begun, _) = ORDER.split_once(end).ok_or("no such word")?;
+        expect_finding(&rt, alloc, begun, wanted)?;
+    }
+    let open = ORDER.strip_suffix("end\n").ok_or("no last line")?;
+    expect_finding(&rt, alloc, open, "syntax at line 18")?;
+    let unended = ORDER.strip_suffix("\n").ok_or("no last line end")?;
+    expect_finding(&rt, alloc, unended, "sound")?;
+    expect_finding(&rt, alloc, "tvd 7", "unknown version")
+}
+
+#[test]
+fn spoiled_lines(rt: HostRuntime) -> Result<(), Fail> {
+    let alloc = rt.alloc();
+    let (before, after) = ORDER.split_once("checks").ok_or("no check boxes")?;
+    for byte in [0xff, b'\t'] {
+        let mut text = Vec::new(alloc);
+        text.extend_from_slice(before.as_bytes())?;
+        text.push(byte)?;
+        text.extend_from_slice(b"checks")?;
+        text.extend_from_slice(after.as_bytes())?;
+        let found = findings(alloc, text.as_slice())?;
+        assert_eq!(rt; found.as_str(), "syntax at line 9", "after {byte}");
+    }
+    Ok(())
+}
+
+#[test]
+fn nested_panes(rt: HostRuntime) -> Result<(), Fail> {
+    let alloc = rt.alloc();
+    for (panes, wanted) in [(16, None), (17, Some(LangFault::Syntax(21)))] {
+        let begins = "pane p 0 0 1 1\n".repeat(alloc, panes)?;
+        let ends = "end\n".repeat(alloc, panes)?;
+        let text = format!(in alloc; "{DIALOG}{begins}{ends}end\n")?;
+        let fault = parse(alloc, text.as_bytes()).err();
+        assert_eq!(rt; fault, wanted, "{panes} panes");
+    }
+    Ok(())
+}

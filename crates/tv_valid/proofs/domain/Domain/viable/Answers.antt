@@ -1,0 +1,8 @@
+use Rattle.std.proofs.Common.{subst}
+use Rattle.tv_valid.specs.Domain.{IsViableText}
+use Rattle.tv_valid.proofs.Beginnings.{viable_take}
+use Rattle.tv_valid.proofs.domain.Domain.viable.Goals as goal
+
+pub returns-then-fits-clause-beginnings : goal.returns-then-fits-clause-beginnings
+returns-then-fits-clause-beginnings c holds k =
+    viable_take c.args.self.now c.args.text.now k (subst (IsViableText c.args.self.now) c.as_slice-chars.ensures.value (c.fits.ensures.0 c.if-fits.true, c.may_become.ensures.0 holds))

@@ -1,0 +1,148 @@
+//! The contract of a view.
+
+ghost use Rattle.std.specs.Prelude.{◌≡◌, ◌↔◌, IsTrue, IsSome, IfSome};
+ghost use Rattle.tv_cells.specs.Rectangle.{IsPointNear};
+ghost use Rattle.tv_model.specs.Meaning.{Leaf, IsSmallRect, bounds_of, fresh, holds};
+ghost use Rattle.tv_view.specs.Calls.{Fits, HasRoom, IsInvalid, applied, focused_to, gathered, item_pressed, option_bits, set_from, state_bits, takes_focus};
+ghost use Rattle.tv_view.specs.Drawing.{Lays, leaf_layers};
+ghost use Rattle.tv_view.specs.Effects.{Handled};
+ghost use Rattle.tv_view.specs.Reactions.{answer};
+
+use crate::env::{Env, Rules};
+use crate::reaction::Reaction;
+use tv_cells::{Canvas, Rect, Screen};
+use tv_event::{Event, Options, Phase, State};
+use tv_model::{Id, Node, Record};
+
+/// A control, a label or a static text.
+///
+/// What a view is stands in its meaning, a leaf: the node of its declaration, and how it stands. Each call is told by
+/// it, by the node's kind, so that a view type of any crate may stand in for the toolkit's own if it meets these clauses.
+/// Points and rectangles are seen from the corner of what the view stands in.
+pub trait View: Drop {
+    ghost meaning: { Self → Leaf };
+
+    /// The line of its declaration.
+    fn id(&self) -> Id
+        ensures { result ≡ (meaning self.now).node.id };
+
+    /// Its rectangle, seen from the corner of what it stands in.
+    fn bounds(&self) -> Rect
+        ensures is { result ≡ bounds_of (meaning self.now) }
+        ensures small { IsSmallRect result };
+
+    /// Its flags as it stands: visible, selected and focused, disabled.
+    fn state(&self) -> State
+        ensures { result.0 ≡ state_bits (meaning self.now) };
+
+    /// What it asks of its owner, which its kind decides.
+    fn options(&self) -> Options
+        ensures { result.0 ≡ option_bits (meaning self.now).node.kind };
+
+    /// Handles an event in a phase. Its owner hands it only what it is to get: a mouse down where it is the topmost
+    /// visible view, moves and ups while it holds the mouse, and keys and commands while it is shown and enabled.
+    fn handle(&mut self, event: &Event, phase: Phase, env: &Env) -> Reaction
+        ensures reaction { result ≡ answer event.now phase env.now (meaning self.old) }
+        ensures after { Handled event.now phase env.now (meaning self.old) (meaning self.new) };
+
+    /// Draws its face in its rectangle, which is seen from the canvas's origin; nothing while it is hidden.
+    fn draw(&self, screen: &mut Screen, canvas: Canvas, env: &Env)
+        requires { IsPointNear canvas.origin }
+        ensures { Lays (leaf_layers env.now canvas (meaning self.now)) screen.old screen.new };
+
+    /// The focus moves to the control of the id. Whether that is this one; if it isn't, it loses the focus.
+    fn focus_to(&mut self, id: Id) -> bool
+        ensures found { result ≡ takes_focus id (meaning self.old) }
+        ensures moved { meaning self.new ≡ focused_to id (meaning self.old) };
+
+    /// Selects and presses an item, from 1, where it is the cluster of the id and has the item.
+    fn press_item(&mut self, id: Id, item: u8)
+        ensures { meaning self.new ≡ item_pressed id item (meaning self.old) };
+
+    /// Whether it holds the mouse.
+    fn held(&self) -> bool
+        ensures { result ≡ holds (meaning self.now) };
+
+    /// Its id, where it is an input whose text lies outside its domain.
+    fn first_invalid(&self) -> Option<Id>
+        ensures variant { IsSome result ↔ IsInvalid (meaning self.now) }
+        ensures value { IfSome result (λ id. id ≡ (meaning self.now).node.id) };
+
+    /// Puts its value into the record, where it is a field.
+    fn get(&self, values: &mut Record)
+        requires { HasRoom (meaning self.now) values.old }
+        ensures { values.new ≡ gathered (meaning self.now) values.old };
+
+    /// Opens it with its value of the record: it has no focus and holds no mouse.
+    fn set(&mut self, values: &Record)
+        requires { Fits values.now (meaning self.old) }
+        ensures { meaning self.new ≡ set_from values.now (meaning self.old) };
+
+    /// Shows or hides, enables or disables it.
+    fn apply(&mut self, rules: &Rules)
+        ensures { meaning self.new ≡ applied rules.now (meaning self.old) };
+
+    /// Whether it stands as the node declares it, before any event.
+    fn is_fresh(&self, node: &Node) -> bool
+        ensures { IsTrue result ↔ (meaning self.now ≡ fresh node.now) };
+}
+
+impl View for Box<dyn View> {
+    ghost meaning = { λ b. (View-box b).meaning b.value };
+
+    fn id(&self) -> Id {
+        (**self).id()
+    }
+
+    fn bounds(&self) -> Rect {
+        (**self).bounds()
+    }
+
+    fn state(&self) -> State {
+        (**self).state()
+    }
+
+    fn options(&self) -> Options {
+        (**self).options()
+    }
+
+    fn handle(&mut self, event: &Event, phase: Phase, env: &Env) -> Reaction {
+        (**self).handle(event, phase, env)
+    }
+
+    fn draw(&self, screen: &mut Screen, canvas: Canvas, env: &Env) {
+        (**self).draw(screen, canvas, env)
+    }
+
+    fn focus_to(&mut self, id: Id) -> bool {
+        (**self).focus_to(id)
+    }
+
+    fn press_item(&mut self, id: Id, item: u8) {
+        (**self).press_item(id, item)
+    }
+
+    fn held(&self) -> bool {
+        (**self).held()
+    }
+
+    fn first_invalid(&self) -> Option<Id> {
+        (**self).first_invalid()
+    }
+
+    fn get(&self, values: &mut Record) {
+        (**self).get(values)
+    }
+
+    fn set(&mut self, values: &Record) {
+        (**self).set(values)
+    }
+
+    fn apply(&mut self, rules: &Rules) {
+        (**self).apply(rules)
+    }
+
+    fn is_fresh(&self, node: &Node) -> bool {
+        (**self).is_fresh(node)
+    }
+}

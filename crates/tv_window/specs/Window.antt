@@ -1,0 +1,44 @@
+-- What a window shows.
+use Rattle.std.specs.Prelude.{◌≡◌, false, List, Some, [], ◌∷◌, ◌++◌}
+use Rattle.tv_cells.specs.Canvas.{sub}
+use Rattle.tv_cells.specs.Layers.{Layer, Painted, Shadow}
+use Rattle.tv_cells.specs.declared.canvas.Canvas.{Canvas}
+use Rattle.tv_group.specs.Opened.{opened}
+use Rattle.tv_group.specs.Outline.{IsFreshBody}
+use Rattle.tv_group.specs.declared.group.GroupOf.{GroupOf}
+use Rattle.tv_model.specs.Faces.{frame_face, frame_look}
+use Rattle.tv_model.specs.Meaning.{Leaf}
+use Rattle.tv_model.specs.declared.node.Node.{Node}
+use Rattle.tv_model.specs.State.{natural}
+use Rattle.tv_palette.specs.Palettes.{colour_in}
+use Rattle.tv_palette.specs.declared.role.Owner.TheVariants as owners
+use Rattle.tv_view.specs.Drawing.{leaves_layers}
+use Rattle.tv_view.specs.declared.env.Env.{Env}
+use Rattle.tv_window.specs.Head.{WindowHead, declared_head, bounds_of}
+use Rattle.tv_window.specs.declared.window.WindowOf.{WindowOf}
+
+abbrev pub head_of : {V : Type 0} → WindowOf V → WindowHead
+head_of window = window.head
+
+abbrev pub body_of : {V : Type 0} → WindowOf V → GroupOf V
+body_of window = window.body
+
+-- the window of a node, with these views in its body, as it is before any event
+pub record IsFreshWindow {V : Type 0} (look : V → Leaf) (node : Node) (views : List Node) (window : WindowOf V) : Type 0 where
+  pub head : Some (head_of window) ≡ declared_head node
+  pub body : IsFreshBody look node views (body_of window)
+
+-- the frame with what it surrounds, in the window's rectangle
+abbrev pub frame_layer : Env → Canvas → WindowHead → Layer
+frame_layer env c head = Painted (sub c (bounds_of head)) (natural head.w) (natural head.h)
+    (frame_face (natural head.w) (natural head.h) head.title (frame_look (colour_in env.chain.now) owners.Window (natural head.number) env.is_active))
+
+-- the leaves of the body in the window's rectangle, the last on top, and the frame below them
+abbrev pub window_layers : {V : Type 0} → (V → Leaf) → Env → Canvas → WindowOf V → List Layer
+window_layers look env c window = leaves_layers env (sub c (bounds_of window.head)) (opened look window.body) ++ frame_layer env c window.head ∷ []
+
+-- windows from the front, each with its shadow below it; none behind the front one is active
+abbrev pub stack_layers : {V : Type 0} → (V → Leaf) → Env → Canvas → List (WindowOf V) → List Layer
+stack_layers look env c [] = []
+stack_layers look env c (front ∷ behind) =
+    window_layers look env c front ++ Shadow c (bounds_of front.head) ∷ stack_layers look (record env { is_active = false }) c behind

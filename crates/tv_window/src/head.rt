@@ -1,0 +1,145 @@
+//! What a window keeps of its node.
+
+ghost use Rattle.std.specs.Prelude.{◌≡◌, ◌↔◌, ◌+ℤ◌, IfSome, IsTrue, Some};
+ghost use Rattle.tv_cells.specs.Rectangle.{IsRectNear};
+ghost use Rattle.tv_model.specs.Faces.{frame_look};
+ghost use Rattle.tv_model.specs.Faults.{rect};
+ghost use Rattle.tv_faces.specs.Looks.{frame_look_of};
+ghost use Rattle.tv_model.specs.Meaning.{IsSmall, IsSmallRect};
+ghost use Rattle.tv_model.specs.State.{natural};
+ghost use Rattle.tv_palette.specs.Palettes.{colour_in};
+ghost use Rattle.tv_palette.specs.declared.role.Owner.TheVariants.{Window};
+ghost use Rattle.tv_window.specs.Head.{IsLimited, declared_head, bounds_of};
+
+use std::marker::Model;
+use tv_cells::{Point, Rect};
+use tv_faces::{Frame, FrameLook};
+use tv_model::{Id, Kind, Node};
+use tv_palette::Owner;
+use tv_valid::Text;
+use tv_view::Env;
+
+/// A window's node without its name.
+#[derive(Drop)]
+pub(crate) struct Head {
+    id: Id,
+    x: i32,
+    y: i32,
+    w: i32,
+    h: i32,
+    number: i32,
+    title: Text,
+}
+
+impl Model for Head {
+    ghost use Rattle.tv_window.specs.Head.{WindowHead, IsLimited};
+
+    ghost Value = { WindowHead };
+
+    ghost view = { λ s. record { id = s.id; x = s.x; y = s.y; w = s.w; h = s.h; number = s.number; title = s.title } };
+
+    ghost invariant = { λ s. IsLimited (record { id = s.id; x = s.x; y = s.y; w = s.w; h = s.h; number = s.number; title = s.title }) };
+}
+
+// A number of columns or rows, 0 below it.
+fn natural(number: &i32) -> u32
+    ensures { result ≡ natural number.now }
+{
+    if *number < 0 { 0 } else { *number as u32 }
+}
+
+fn sum(a: &i32, b: &i32) -> i32
+    requires { IsSmall (a.now +ℤ b.now) }
+    ensures { result ≡ a.now +ℤ b.now }
+{
+    *a + *b
+}
+
+// The rectangle of a corner, a width and a height.
+fn rect_at(x: &i32, y: &i32, w: &i32, h: &i32) -> Rect
+    requires { IsSmallRect (rect x.now y.now w.now h.now) }
+    ensures { result ≡ rect x.now y.now w.now h.now }
+{
+    Rect {
+        a: Point { x: *x, y: *y },
+        b: Point {
+            x: sum(x, w),
+            y: sum(y, h),
+        },
+    }
+}
+
+impl Head {
+    /// That of a window's node, and none of another's.
+    pub(crate) fn of(node: &Node) -> Option<Head>
+        requires { IfSome (declared_head node.now) IsLimited }
+        ensures { result ≡ declared_head node.now }
+    {
+        match &node.kind {
+            Kind::Window {
+                h,
+                number,
+                title,
+                ..
+            } => Some(Head {
+                id: node.id,
+                x: node.x,
+                y: node.y,
+                w: node.w,
+                h: *h,
+                number: *number,
+                title: Text::from_chars(title.as_slice())?,
+            }),
+            _ => None,
+        }
+    }
+
+    /// Whether it is that of the node.
+    pub(crate) fn is_of(&self, node: &Node) -> bool
+        ensures { IsTrue result ↔ (Some self.now ≡ declared_head node.now) }
+    {
+        match &node.kind {
+            Kind::Window {
+                h,
+                number,
+                title,
+                ..
+            } => {
+                self.id == node.id
+                    && self.is_at(&node.x, &node.y, &node.w, h)
+                    && self.number == *number
+                    && self.title.as_slice() == title.as_slice()
+            }
+            _ => false,
+        }
+    }
+
+    fn is_at(&self, x: &i32, y: &i32, w: &i32, h: &i32) -> bool
+        ensures { IsTrue result ↔ ((self.now.x ≡ x.now) × (self.now.y ≡ y.now) × (self.now.w ≡ w.now) × (self.now.h ≡ h.now)) }
+    {
+        self.x == *x && self.y == *y && self.w == *w && self.h == *h
+    }
+
+    pub(crate) fn bounds(&self) -> Rect
+        ensures is { result ≡ bounds_of self.now }
+        ensures small { IsSmallRect result }
+        ensures near { IsRectNear result }
+    {
+        rect_at(&self.x, &self.y, &self.w, &self.h)
+    }
+
+    /// The face of the frame, in the colours that the window's views are lent.
+    pub(crate) fn frame(&self, env: &Env) -> Frame<'_>
+        ensures width { result.width ≡ natural self.now.w }
+        ensures height { result.height ≡ natural self.now.h }
+        ensures title { result.title.now ≡ self.now.title }
+        ensures look { frame_look_of result.look ≡ frame_look (colour_in env.now.chain.now) Window (natural self.now.number) env.now.is_active }
+    {
+        Frame {
+            width: natural(&self.w),
+            height: natural(&self.h),
+            title: self.title.as_slice(),
+            look: FrameLook::new(env.chain, Owner::Window, self.number as u8, env.is_active),
+        }
+    }
+}

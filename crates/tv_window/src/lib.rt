@@ -1,0 +1,10 @@
+//! Windows: frames round groups of views, one over the other.
+#![tactic(auto)]
+
+mod head;
+mod stack;
+mod window;
+
+pub use stack::draw_stack;
+pub use tv_faces::Frame;
+pub use window::{Window, WindowOf, WrongKind};

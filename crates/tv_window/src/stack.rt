@@ -1,0 +1,26 @@
+//! Windows one over the other.
+
+ghost use Rattle.tv_model.specs.Meaning.{IsSmall};
+ghost use Rattle.tv_view.specs.Drawing.{Lays};
+ghost use Rattle.tv_window.specs.Window.{stack_layers};
+
+use crate::window::WindowOf;
+use tv_cells::{Canvas, Screen, lay_shadow};
+use tv_view::{Env, View};
+
+/// Draws windows, the front one first in the list, each over its shadow and that over all windows behind it. None but the
+/// front one is drawn as active, and it only where the environment says so.
+pub fn draw_stack<V: View>(windows: &[WindowOf<V>], screen: &mut Screen, canvas: Canvas, env: &Env)
+    requires { IsSmall canvas.origin.x × IsSmall canvas.origin.y }
+    ensures { Lays (stack_layers V.meaning env.now canvas windows.now) screen.old screen.new }
+{
+    if let Some((front, behind)) = windows.split_first() {
+        let passive = Env {
+            is_active: false,
+            ..*env
+        };
+        draw_stack(behind, screen, canvas, &passive);
+        lay_shadow(screen, canvas, front.bounds());
+        front.draw(screen, canvas, env);
+    }
+}

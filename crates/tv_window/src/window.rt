@@ -1,0 +1,81 @@
+//! Windows.
+
+ghost use Rattle.std.specs.Prelude.{◌≡◌, ◌↔◌, IfOk, IfErr, IfSome, IsErr, IsTrue, Some, None};
+ghost use Rattle.tv_cells.specs.Rectangle.{IsRectNear};
+ghost use Rattle.tv_model.specs.Meaning.{IsSmall, IsSmallRect};
+ghost use Rattle.tv_view.specs.Drawing.{Lays};
+ghost use Rattle.tv_window.specs.Head.{IsLimited, declared_head, bounds_of};
+ghost use Rattle.tv_window.specs.Window.{IsFreshWindow, body_of, head_of, window_layers};
+
+use crate::head::Head;
+use tv_cells::{Canvas, Rect, Screen, lay};
+use tv_group::GroupOf;
+use tv_model::Node;
+use tv_view::{Env, View};
+
+/// A frame with a number and a title, and the group of views that it surrounds.
+///
+/// It is generic in its views, as a group is; the toolkit's own has boxed ones.
+#[derive(Drop)]
+pub struct WindowOf<V> {
+    pub(crate) head: Head,
+    pub(crate) body: GroupOf<V>,
+}
+
+/// A window whose views are boxed.
+pub type Window = WindowOf<Box<dyn View>>;
+
+/// The node isn't a window's.
+#[derive(Clone, Copy, Debug, PartialEq, Eq)]
+pub struct WrongKind;
+
+impl<V> WindowOf<V> {
+    /// The window of a node round a body, whose bounds are to be 0 0 and the node's width and height. The title has at
+    /// most 120 characters, the number one digit, and the rectangle lies within -300 to 300, as those of sound descriptions do.
+    ///
+    /// # Errors
+    ///
+    /// `WrongKind`, with the body, for another node.
+    pub fn new(node: &Node, body: GroupOf<V>) -> Result<WindowOf<V>, (WrongKind, GroupOf<V>)>
+        requires { IfSome (declared_head node.now) IsLimited }
+        ensures made { IfOk result (λ window. (Some (head_of window) ≡ declared_head node.now) × (body_of window ≡ body)) }
+        ensures wrong { IsErr result ↔ (declared_head node.now ≡ None) }
+        ensures back { IfErr result (λ e. e.1 ≡ body) }
+    {
+        match Head::of(node) {
+            Some(head) => Ok(WindowOf { head, body }),
+            None => Err((WrongKind, body)),
+        }
+    }
+
+    /// Its rectangle on the screen.
+    pub fn bounds(&self) -> Rect
+        ensures is { result ≡ bounds_of (head_of self.now) }
+        ensures small { IsSmallRect result }
+        ensures near { IsRectNear result }
+    {
+        self.head.bounds()
+    }
+}
+
+impl<V: View> WindowOf<V> {
+    /// Whether it stands as the window's node and those of its views declare it, panes opened out, before any event. Its
+    /// name isn't looked at: a window keeps none.
+    pub fn is_fresh(&self, node: &Node, views: &[Node]) -> bool
+        ensures { IsTrue result ↔ IsFreshWindow V.meaning node.now views.now self.now }
+    {
+        self.head.is_of(node) && self.body.is_fresh(node, views)
+    }
+
+    /// Draws the frame, the space in it, and the views on top, all seen from the canvas's origin. The environment is what
+    /// the window's views are lent. The shadow isn't drawn: `draw_stack` does that.
+    pub fn draw(&self, screen: &mut Screen, canvas: Canvas, env: &Env)
+        requires { IsSmall canvas.origin.x × IsSmall canvas.origin.y }
+        ensures { Lays (window_layers V.meaning env.now canvas self.now) screen.old screen.new }
+    {
+        let inner = canvas.sub(self.head.bounds());
+        let frame = self.head.frame(env);
+        lay(screen, inner, frame.width, frame.height, &frame);
+        self.body.draw(screen, inner, env);
+    }
+}

@@ -1,0 +1,154 @@
+//! What the program does with files: each subcommand, from paths to a status.
+
+ghost use Rattle.std.specs.Prelude.{◌≡◌, [], OnOk};
+ghost use Rattle.tv_script.specs.Device.{kept_back};
+
+use crate::input::{ReadFault, read_file};
+use crate::task::Task;
+use std::alloc::Global;
+use std::io::Write;
+use std::rt::Files;
+use tv_program::thin::{read_sound, run_script};
+use tv_program::{RunFault, accept_text, check, read_desc, report};
+use tv_script::Device;
+
+/// The status after all was done.
+pub const DONE: u8 = 0;
+
+/// The status where a file or a stream failed, or memory was refused.
+pub const OUTSIDE: u8 = 3;
+
+/// The most bytes of a description or a certificate.
+const LONGEST_DESCRIPTION: u32 = 262_144;
+
+/// The most bytes of a script.
+const LONGEST_SCRIPT: u32 = 1_048_576;
+
+/// A fault, and the path of the file that it is told of.
+#[derive(Debug, Drop)]
+struct Failure<'a> {
+    fault: RunFault,
+    path: &'a str,
+}
+
+/// Does what the command line asks for. Results go to `out`, messages to `err`; the answer is the status.
+pub fn perform<R: Files, W: Write + Drop, E: Write + Drop>(
+    rt: &R,
+    alloc: Global,
+    task: Task<'_>,
+    out: &mut Device<W>,
+    err: &mut Device<E>,
+) -> u8 {
+    let answer = match task {
+        Task::Check { file } => check_file(rt, alloc, file, out),
+        Task::Accept { file, certificate } => accept_file(rt, alloc, file, certificate, out),
+        Task::Run { file, script } => run_file(rt, alloc, file, script, out),
+    };
+    let status = match answer {
+        Ok(()) => DONE,
+        Err(failure) => tell(&failure, out, err),
+    };
+    let _ = err.flush();
+    status
+}
+
+fn check_file<'a, R: Files, W: Write + Drop>(
+    rt: &R,
+    alloc: Global,
+    file: &'a str,
+    out: &mut Device<W>,
+) -> Result<(), Failure<'a>>
+    ensures written { OnOk result (kept_back out.new ≡ []) }
+{
+    let text = read(rt, alloc, file, LONGEST_DESCRIPTION)?;
+    told_of(file, check(alloc, text.as_slice(), out))?;
+    flush(file, out)
+}
+
+// The certificate is looked for only once the description is read.
+fn accept_file<'a, R: Files, W: Write + Drop>(
+    rt: &R,
+    alloc: Global,
+    file: &'a str,
+    certificate: &'a str,
+    out: &mut Device<W>,
+) -> Result<(), Failure<'a>>
+    ensures written { OnOk result (kept_back out.new ≡ []) }
+{
+    let text = read(rt, alloc, file, LONGEST_DESCRIPTION)?;
+    let desc = told_of(file, read_desc(alloc, text.as_slice()))?;
+    let text = read(rt, alloc, certificate, LONGEST_DESCRIPTION)?;
+    told_of(certificate, accept_text(alloc, desc, text.as_slice(), out))?;
+    flush(file, out)
+}
+
+// The script is looked for only once the description has passed.
+fn run_file<'a, R: Files, W: Write + Drop>(
+    rt: &R,
+    alloc: Global,
+    file: &'a str,
+    script: &'a str,
+    out: &mut Device<W>,
+) -> Result<(), Failure<'a>>
+    ensures written { OnOk result (kept_back out.new ≡ []) }
+{
+    let text = read(rt, alloc, file, LONGEST_DESCRIPTION)?;
+    let desc = match read_sound(alloc, text.as_slice()) {
+        Ok(desc) => desc,
+        Err(fault) => return Err(Failure { fault, path: file }),
+    };
+    let text = read(rt, alloc, script, LONGEST_SCRIPT)?;
+    told_of(script, run_script(alloc, desc, text.as_slice(), out))?;
+    flush(file, out)
+}
+
+fn told_of<'a, T: Drop>(path: &'a str, answer: Result<T, RunFault>) -> Result<T, Failure<'a>> {
+    match answer {
+        Ok(value) => Ok(value),
+        Err(fault) => Err(Failure { fault, path }),
+    }
+}
+
+fn read<'a, R: Files>(
+    rt: &R,
+    alloc: Global,
+    path: &'a str,
+    limit: u32,
+) -> Result<Vec<u8>, Failure<'a>> {
+    let bytes = match read_file(rt, alloc, path, limit) {
+        Ok(bytes) => Ok(bytes),
+        Err(ReadFault::NoMemory) => Err(RunFault::NoMemory),
+        Err(ReadFault::Read) => Err(RunFault::Read),
+    };
+    told_of(path, bytes)
+}
+
+fn flush<'a, W: Write + Drop>(path: &'a str, out: &mut Device<W>) -> Result<(), Failure<'a>>
+    ensures written { OnOk result (kept_back out.new ≡ []) }
+{
+    match out.flush() {
+        Ok(()) => Ok(()),
+        Err(_) => Err(Failure {
+            fault: RunFault::Write,
+            path,
+        }),
+    }
+}
+
+// Faults and refusals that can't be written are a failure of the output.
+fn tell<W: Write + Drop, E: Write + Drop>(
+    failure: &Failure<'_>,
+    out: &mut Device<W>,
+    err: &mut Device<E>,
+) -> u8 {
+    let status = report(&failure.fault, failure.path, out, err);
+    match failure.fault {
+        RunFault::Faults(_) | RunFault::Refused(_) if out.flush().is_err() => report(
+            &RunFault::Write,
+            failure.path,
+            out,
+            err,
+        ),
+        _ => status,
+    }
+}
