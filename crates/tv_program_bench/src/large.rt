@@ -6,7 +6,7 @@ use std::alloc::Global;
 
 /// A sound description with as much of everything as the limits allow.
 pub fn lawful(alloc: Global) -> Result<String> {
-    let mut text = String::from_str(alloc, "tvd 1\nscreen 132 60\nstart d0\n")?;
+    let mut text = String::from_str(alloc, "tvd 1\nscreen 132 60\nstart d100\n")?;
     for menu in 0u32..8 {
         add_menu(alloc, &mut text, menu)?;
     }
@@ -14,11 +14,11 @@ pub fn lawful(alloc: Global) -> Result<String> {
         let line = format!(in alloc; "status \"go\" F{} {}\n", 1 + item, 100 + item)?;
         text.push_str(&line)?;
     }
-    for window in 0u32..9 {
-        add_window(alloc, &mut text, window)?;
+    for number in 1u32..10 {
+        add_window(alloc, &mut text, number)?;
     }
-    for dialog in 0u32..16 {
-        add_dialog(alloc, &mut text, dialog)?;
+    for command in 100u32..116 {
+        add_dialog(alloc, &mut text, command)?;
     }
     Ok(text)
 }
@@ -35,8 +35,8 @@ fn add_menu(alloc: Global, text: &mut String, menu: u32) -> Result<()> {
     Ok(())
 }
 
-fn add_window(alloc: Global, text: &mut String, window: u32) -> Result<()> {
-    let line = format!(in alloc; "window w{window} 0 0 132 60 {} \"a window\"\n", 1 + window)?;
+fn add_window(alloc: Global, text: &mut String, number: u32) -> Result<()> {
+    let line = format!(in alloc; "window w{number} 0 0 132 60 {number} \"a window\"\n")?;
     text.push_str(&line)?;
     let views = "text 1 1 9 1 \"a text\"\n".repeat(alloc, 64)?;
     text.push_str(&views)?;
@@ -44,10 +44,9 @@ fn add_window(alloc: Global, text: &mut String, window: u32) -> Result<()> {
     Ok(())
 }
 
-fn add_dialog(alloc: Global, text: &mut String, dialog: u32) -> Result<()> {
+fn add_dialog(alloc: Global, text: &mut String, command: u32) -> Result<()> {
     let line = format!(in alloc;
-        "dialog d{dialog} 0 1 132 58 \"a dialog\" opens {} ends ok cancel\n",
-        100 + dialog
+        "dialog d{command} 0 1 132 58 \"a dialog\" opens {command} ends ok cancel\n"
     )?;
     text.push_str(&line)?;
     add_views(alloc, text)?;
