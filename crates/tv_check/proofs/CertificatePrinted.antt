@@ -1,6 +1,5 @@
 -- The text of a block, piece by piece.
 use Rattle.std.proofs.Common.{◌≡◌, ℕ, List, [], ◌∷◌, ◌++◌, map, flat_map, refl, sym, ap, ◌∙◌, append_assoc, subst}
-use Rattle.std.specs.Prelude.{codes}
 use Rattle.std.proofs.lemmas.List.{append-nil}
 use Rattle.tv_lang.specs.declared.word.Word.{Word}
 use Rattle.tv_lang.specs.Lines.{lines_of}

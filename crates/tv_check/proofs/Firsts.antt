@@ -1,15 +1,14 @@
 -- The first place at which something fails to hold.
-use Rattle.std.proofs.Common.{◌≡◌, ℕ, zero, suc, ◌+◌, ◌<◌, ◌≤◌, List, [], ◌∷◌, ◌++◌, length, get_or, take, drop, Option, Some, None, refl, sym, ap, ◌∙◌, add-one, drop-cons, subst, arith}
-use Rattle.std.specs.Prelude.{All, slice_get, Result, Err}
+use Rattle.std.proofs.Common.{◌≡◌, ℕ, zero, suc, ◌+◌, ◌<◌, ◌≤◌, List, [], ◌∷◌, ◌++◌, length, get_or, take, drop, refl, sym, ap, ◌∙◌, add-one, drop-cons, subst, arith}
+use Rattle.std.specs.Prelude.{All, slice_get, Err}
 use Rattle.std.proofs.lemmas.List.{take-append-drop, take_all}
 use Rattle.std.proofs.lemmas.List.Elements.{All-contains, All-more, Contains-append_right, Contains-get_or}
 use Rattle.tv_model.specs.declared.desc.Desc.{Desc}
-use Rattle.tv_model.specs.Faults.{IsSound, faults_of}
-use Rattle.tv_model.specs.Certificates.{letters, tab_order}
+use Rattle.tv_model.specs.Faults.{IsSound}
 use Rattle.tv_check.specs.declared.certificate.Block.{Block}
 use Rattle.tv_check.specs.declared.acceptance.Refusal.{Refusal}
 use Rattle.tv_check.specs.declared.acceptance.Refusal.TheVariants as refusals
-use Rattle.tv_check.specs.Certificates.{IsSoundCertificate, NamesOwner, NamesOwners, key_lines, tab_lines}
+use Rattle.tv_check.specs.Certificates.{IsSoundCertificate, NamesOwners}
 use Rattle.tv_check.specs.Refusals.{Accepts, IsFirstWithout, Refuses}
 
 -- a loop over a list stops at its first item without P

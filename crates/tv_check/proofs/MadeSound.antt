@@ -1,17 +1,21 @@
 -- The certificate that is made of a description is sound for it.
-use Rattle.std.proofs.Common.{◌≡◌, ◌≢◌, ℕ, suc, ◌<◌, ◌==◌, Bool, true, false, not, ◌&&◌, cond, List, [], ◌∷◌, ◌++◌, map, filter, flat_map, filter_map, length, get_or, Option, Some, None, option_map, refl, sym, ap, ◌∙◌, eq-eqb, subst, arith}
-use Rattle.std.specs.Prelude.{All, AllPairs, bytes_eq, option_to_list}
-use Rattle.std.specs.List.{AllByRecursion, list_all, cons_option}
+use Rattle.std.proofs.Common.{◌≡◌, ◌≢◌, ℕ, ◌==◌, Bool, true, false, not, ◌&&◌, ◌||◌, List, [], ◌∷◌, ◌++◌, map, flat_map, filter_map, Option, Some, None, option_map, refl, sym, ap, ◌∙◌, append_assoc, eq-eqb, subst}
+use Rattle.std.specs.Prelude.{All, bytes_eq, is_some, option_to_list, unwrap_or}
+use Rattle.std.specs.List.{AllByRecursion, list_all, list_any, cons_option}
+use Rattle.std.proofs.lemmas.Bool.{true≢false}
 use Rattle.std.proofs.lemmas.List.{append-nil}
-use Rattle.std.proofs.lemmas.List.Elements.{All-from_recursion, All-weaker}
+use Rattle.std.proofs.lemmas.List.Elements.{All-from_recursion, All-head, All-tail, All-weaker}
 use Rattle.std.proofs.lemmas.Slice.Eq.{bytes_eq-Decides}
+use Rattle.tv_model.specs.declared.node.Node.{Node}
 use Rattle.tv_model.specs.declared.desc.Desc.{Desc}
 use Rattle.tv_model.specs.declared.desc.Dialog.{Dialog}
+use Rattle.tv_model.specs.Nodes.{name_of}
 use Rattle.tv_model.specs.Owners.{Owner, owner_of}
-use Rattle.tv_model.specs.Certificates.{dialog_name, letters, tab_order, tabs_of}
-use Rattle.tv_check.specs.declared.certificate.Block.{Block}
+use Rattle.tv_model.specs.Certificates.{dialog_name, letters, tabs_of}
+use Rattle.tv_model.specs.Faults.Lines.{after_seen}
+use Rattle.tv_model.specs.Faults.Names.{is_option_named, shares_name}
 use Rattle.tv_check.specs.declared.certificate.KeyLine.{KeyLine}
-use Rattle.tv_check.specs.Certificates.{HaveOwnNames, IsSoundCertificate, NamesOwner, NamesOwners, block_of, certificate_of, key_line, key_lines, keys_of, owners_in, tab_lines}
+use Rattle.tv_check.specs.Certificates.{IsSoundCertificate, NamesOwner, NamesOwners, block_of, certificate_of, key_line, key_lines, keys_of, owners_in, tab_lines}
 
 -- no two items are alike
 abbrev is_apart : {A : Type 0} → (A → A → Bool) → List A → Bool
@@ -35,6 +39,14 @@ all_differ same x (y ∷ ys) e =
     let here = parts (not (same x y) && not (same y x)) (list_all (λ z. not (same x z) && not (same z x)) ys) e in
     let each = parts (not (same x y)) (not (same y x)) here.0 in
     ((false_of (same x y) each.0, false_of (same y x) each.1), all_differ same x ys here.1)
+
+or_left : (a b : Bool) → (a || b) ≡ false → a ≡ false
+or_left true b e = e
+or_left false b e = refl
+
+or_right : (a b : Bool) → (a || b) ≡ false → b ≡ false
+or_right true b e = absurd cc
+or_right false b e = e
 
 -- from two facts of each item a third
 both : {A : Type 0} (P Q R : A → Type 0) → ((x : A) → P x → Q x → R x) → (xs : List A) → AllByRecursion P xs → AllByRecursion Q xs → AllByRecursion R xs
@@ -122,16 +134,57 @@ differ_of a b false e h = refl
 apart_of : (a b : List ℕ) → a ≢ b → (not (bytes_eq a b) && not (bytes_eq b a)) ≡ true
 apart_of a b h = rw (differ_of a b (bytes_eq a b) refl h, differ_of b a (bytes_eq b a) refl (λ e. h (sym e))) refl
 
-all_apart : (d : Dialog) (ds : List Dialog) → ((j : ℕ) (x : Dialog) → j < length ds → dialog_name d ≢ dialog_name (get_or ds j x)) → list_all (λ y. not (named_alike d y) && not (named_alike y d)) ds ≡ true
-all_apart d [] h = refl
-all_apart d (e ∷ ds) h = rw (apart_of (dialog_name d) (dialog_name e) (h 0 e (omega arith))) (all_apart d ds (λ j x less. h (suc j) x (omega arith)))
+-- ---- names of dialogs
 
-own_names : (ds : List Dialog) → AllPairs (λ dialog other. dialog_name dialog ≢ dialog_name other) ds → is_apart named_alike ds ≡ true
-own_names [] h = refl
-own_names (d ∷ ds) h = rw (all_apart d ds (λ j x less. h 0 (suc j) x (omega arith) (omega arith))) (own_names ds (λ i j x less within. h (suc i) (suc j) x (omega arith) (omega arith)))
+-- a dialog that gives its name
+abbrev IsNamed : Dialog → Type 0
+IsNamed dialog = is_some (name_of dialog.node.kind) ≡ true
 
-pub made_sound : (d : Desc) → HaveOwnNames d → IsSoundCertificate d (certificate_of d)
-made_sound d own = record {
+-- what the first option names, the second names too
+abbrev shares : Option (List ℕ) → Option (List ℕ) → Bool
+shares None p = false
+shares (Some name) p = is_option_named name p
+
+shared : (o p : Option (List ℕ)) → is_some o ≡ true → is_some p ≡ true → unwrap_or o [] ≡ unwrap_or p [] → shares o p ≡ true
+shared None p some other e = absurd cc
+shared (Some name) None some other e = absurd cc
+shared (Some name) (Some given) some other e = (bytes_eq-Decides given name).1 (sym e)
+
+same_share : (y x : Node) → shares (name_of y.kind) (name_of x.kind) ≡ shares_name y x
+same_share y x = by (name_of y.kind) refl
+  where
+    by : (o : Option (List ℕ)) → name_of y.kind ≡ o → shares (name_of y.kind) (name_of x.kind) ≡ shares_name y x
+    by None e = rw e refl
+    by (Some name) e = rw e refl
+
+names_differ : (x y : Dialog) → IsNamed x → IsNamed y → shares_name y.node x.node ≡ false → dialog_name x ≢ dialog_name y
+names_differ x y nx ny e same = absurd (true≢false (sym (shared (name_of y.node.kind) (name_of x.node.kind) ny nx (sym same)) ∙ same_share y.node x.node ∙ e))
+
+-- among many, this one doesn't pass
+not_this : (p : Dialog → Bool) (a b : List Dialog) (x : Dialog) → list_any p (a ++ x ∷ b) ≡ false → p x ≡ false
+not_this p [] b x e = or_left (p x) (list_any p b) e
+not_this p (y ∷ a) b x e = not_this p a b x (or_right (p y) (list_any p (a ++ x ∷ b)) e)
+
+abbrev IsNewName : List Dialog × Dialog → Type 0
+IsNewName pair = list_any (λ other. shares_name pair.1.node other.node) pair.0 ≡ false
+
+-- no dialog after these has the name of this one
+later_differ : (x : Dialog) (a b ds : List Dialog) → IsNamed x → AllByRecursion IsNamed ds → All IsNewName (after_seen (a ++ x ∷ b) ds) → list_all (λ y. not (named_alike x y) && not (named_alike y x)) ds ≡ true
+later_differ x a b [] nx named new = refl
+later_differ x a b (y ∷ ds) nx named new =
+    let here = not_this (λ other. shares_name y.node other.node) a b x (All-head IsNewName (a ++ x ∷ b, y) (after_seen ((a ++ x ∷ b) ++ y ∷ []) ds) new) in
+    let rest = All-tail IsNewName (a ++ x ∷ b, y) (after_seen ((a ++ x ∷ b) ++ y ∷ []) ds) new in
+    let moved = subst (λ seen. All IsNewName (after_seen seen ds)) (append_assoc a (x ∷ b) (y ∷ [])) rest in
+    rw (apart_of (dialog_name x) (dialog_name y) (names_differ x y nx named.0 here), later_differ x a (b ++ y ∷ []) ds nx named.1 moved) refl
+
+names_apart : (seen ds : List Dialog) → AllByRecursion IsNamed ds → All IsNewName (after_seen seen ds) → is_apart named_alike ds ≡ true
+names_apart seen [] named new = refl
+names_apart seen (x ∷ ds) named new =
+    let rest = All-tail IsNewName (seen, x) (after_seen (seen ++ x ∷ []) ds) new in
+    rw (later_differ x seen [] ds named.0 named.1 rest, names_apart (seen ++ x ∷ []) ds named.1 rest) refl
+
+pub made_sound : (d : Desc) → AllByRecursion IsNamed d.dialogs → All IsNewName (after_seen [] d.dialogs) → IsSoundCertificate d (certificate_of d)
+made_sound d named new = record {
   tabs = tabs_made d.dialogs;
-  owners = All-weaker (HasKeys d.dialogs) (NamesOwners (certificate_of d)) (λ dialog keys. owners_made d.dialogs dialog keys) d.dialogs (All-from_recursion (HasKeys d.dialogs) d.dialogs (each_block d.dialogs (own_names d.dialogs own)));
+  owners = All-weaker (HasKeys d.dialogs) (NamesOwners (certificate_of d)) (λ dialog keys. owners_made d.dialogs dialog keys) d.dialogs (All-from_recursion (HasKeys d.dialogs) d.dialogs (each_block d.dialogs (names_apart [] d.dialogs named new)));
 }

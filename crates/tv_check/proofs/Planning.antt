@@ -1,5 +1,5 @@
 -- A plan of building names each node once, in order.
-use Rattle.std.proofs.Common.{◌≡◌, ℕ, zero, suc, ◌+◌, ◌-◌, min, Bool, true, false, cond, List, [], ◌∷◌, ◌++◌, append_assoc, map, flat_map, filter_map, replicate, Option, Some, refl, sym, ap, ◌∙◌}
+use Rattle.std.proofs.Common.{◌≡◌, ℕ, zero, suc, ◌+◌, ◌-◌, min, Bool, true, false, cond, List, [], ◌∷◌, ◌++◌, append_assoc, map, flat_map, filter_map, replicate, Some, refl, ap, ◌∙◌}
 use Rattle.std.proofs.lemmas.List.{append-nil, map-append}
 use Rattle.tv_check.specs.declared.plan.BuildStep.{BuildStep}
 use Rattle.tv_check.specs.declared.plan.BuildStep.TheVariants as steps

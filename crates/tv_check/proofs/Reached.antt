@@ -1,5 +1,5 @@
 -- What rules reach, found once and asked of each view.
-use Rattle.std.proofs.Common.{◌≡◌, ℕ, Bool, false, not, ◌&&◌, ◌||◌, ◌==◌, List, [], ◌∷◌, map, Option, Some, None, refl, sym, ap, ◌∙◌}
+use Rattle.std.proofs.Common.{◌≡◌, not, ◌&&◌, ◌||◌, ◌==◌, List, [], ◌∷◌, map, Option, Some, None, refl, ap, ◌∙◌}
 use Rattle.std.specs.List.{list_any}
 use Rattle.tv_model.specs.declared.node.Id.{Id}
 use Rattle.tv_model.specs.declared.node.Node.{Node}
@@ -7,7 +7,7 @@ use Rattle.tv_model.specs.declared.desc.Dialog.{Dialog}
 use Rattle.tv_model.specs.declared.desc.Rule.{Rule}
 use Rattle.tv_model.specs.declared.desc.Effect.{Effect}
 use Rattle.tv_model.specs.declared.desc.Effect.TheVariants as effects
-use Rattle.tv_model.specs.Nodes.{has_id, is_control}
+use Rattle.tv_model.specs.Nodes.{is_control}
 use Rattle.tv_model.specs.Faults.Names.{meant}
 use Rattle.tv_model.specs.Faults.Places.{panes_around}
 use Rattle.tv_model.specs.Faults.Rules.{is_always_free, option_stands_over, reaches}

@@ -1,8 +1,7 @@
 -- What follows from the want of each fault.
-use Rattle.std.proofs.Common.{◌≡◌, ℕ, zero, suc, ◌+◌, ◌<◌, ◌≤◌, ◌==◌, inl, inr, Bool, true, false, not, ◌&&◌, ◌||◌, cond, List, [], ◌∷◌, ◌++◌, length, get_or, take, map, filter, flat_map, Some, ℤ, pos, neg_ℤ, int_le, nat_le, refl, sym, ap, ◌∙◌, append_assoc, arith}
+use Rattle.std.proofs.Common.{◌≡◌, ℕ, suc, ◌+◌, ◌<◌, ◌≤◌, ◌==◌, inl, inr, Bool, true, false, not, ◌&&◌, ◌||◌, cond, List, [], ◌∷◌, ◌++◌, length, get_or, map, filter, flat_map, Some, ℤ, pos, neg_ℤ, int_le, nat_le, refl, sym, ap, ◌∙◌, arith}
 use Rattle.std.specs.List.{All, list_any}
 use Rattle.std.proofs.lemmas.Bool.{and_parts, not-false, leb-true, eqb-false, cases_lt, true≢false}
-use Rattle.std.proofs.lemmas.List.{append-nil, get_or-take, length-take-le}
 use Rattle.std.proofs.lemmas.List.Elements.{All-nil, All-cons, All-head, All-tail, All-same}
 use Rattle.std.proofs.Math.Bool.{or-false}
 use Rattle.tv_model.specs.Thin.{IsThin}
@@ -15,12 +14,11 @@ use Rattle.tv_model.specs.declared.fault.FaultKind.TheVariants as faults
 use Rattle.tv_model.specs.Nodes.{height_of, is_control}
 use Rattle.tv_model.specs.Step.{ends_of, is_named}
 use Rattle.tv_model.specs.Faults.Limits.{is_between, is_lawful_amount, is_lawful_corner, is_lawful_count, is_lawful_size, is_too_long}
-use Rattle.tv_model.specs.Faults.Places.{owner_of, room_in}
 use Rattle.tv_model.specs.Faults.Rules.{is_always_free}
 use Rattle.tv_model.specs.Faults.Starts.{means_dialog}
 use Rattle.tv_model.specs.Faults.Names.{gives_name}
-use Rattle.tv_model.specs.Faults.{IsSound, after_seen, all_kinds, command_of, desktop, dialog_has, dialog_lines, fault_at, fault_lines, faults_at, has_wide, head_lines, is_lawful, is_lawful_number, is_lawful_screen, is_wide_text, is_within, least_height, least_width, line_if, lines_where, menu_lines, overlaps_earlier, place_of_node, rule_lines, shown_texts, status_lines, texts_of, view_has, view_lines, window_lines}
-use Rattle.tv_check.specs.Usable.{AreApart, AreInside, IsBetween, IsLimited, IsNarrowNode, IsUsable, IsUsableDialog}
+use Rattle.tv_model.specs.Faults.{IsSound, after_seen, all_kinds, command_of, desktop, dialog_has, dialog_lines, dialog_named_again, fault_at, fault_lines, faults_at, has_wide, head_lines, is_lawful, is_lawful_number, is_lawful_screen, is_wide_text, is_within, least_height, least_width, line_if, menu_lines, place_of_node, rule_lines, shown_texts, status_lines, texts_of, view_has, view_lines, window_lines}
+use Rattle.tv_check.specs.Usable.{IsBetween, IsLimited, IsNarrowNode, IsUsable, IsUsableDialog}
 use Rattle.tv_check.proofs.Areas.{le_says}
 
 -- ---- lists without items
@@ -216,6 +214,25 @@ sound_says d sound =
           (lacks faults.OutsideLimits d here.0 here.1 (no_dialog d sound faults.OutsideLimits (no_lines d sound 14 (omega arith)) i pair less)));
       start = starts d (no_head d sound faults.BadOpening (no_lines d sound 15 (omega arith)));
     }
+
+-- no dialog has a name that was given before
+pub new_names : (d : Desc) → IsSound d → All (λ pair. dialog_named_again d pair.0 pair.1 ≡ false) (after_seen [] d.dialogs)
+new_names d sound i pair less =
+    let here : List Dialog × Dialog = get_or (after_seen [] d.dialogs) i pair in
+    (lacks faults.NameTwice d here.0 here.1 (no_dialog d sound faults.NameTwice (no_lines d sound 0 (omega arith)) i pair less)).head
+
+-- no cluster or list has too many items
+pub lawful_counts : (d : Desc) → IsSound d → All (λ dialog. All (λ view. is_lawful_count view.kind ≡ true) dialog.views) d.dialogs
+lawful_counts d sound = each_after (λ dialog. All (λ view. is_lawful_count view.kind ≡ true) dialog.views) [] d.dialogs (λ i pair less.
+    let here : List Dialog × Dialog = get_or (after_seen [] d.dialogs) i pair in
+    let limits : Lacks faults.OutsideLimits d here.0 here.1 = lacks faults.OutsideLimits d here.0 here.1 (no_dialog d sound faults.OutsideLimits (no_lines d sound 14 (omega arith)) i pair less) in
+    each_after (λ view. is_lawful_count view.kind ≡ true) [] here.1.views (λ k view below. count_says (get_or (after_seen [] here.1.views) k view).1 (not-false (is_lawful (get_or (after_seen [] here.1.views) k view).1) (or_left _ _ (limits.each k view below)))))
+  where
+    count_says : (node : Node) → is_lawful node ≡ true → is_lawful_count node.kind ≡ true
+    count_says node e =
+        let f : (((is_lawful_corner node && is_lawful_size node) && (is_lawful_count node.kind && is_lawful_amount node.kind)) ≡ true) × ((is_lawful_number (command_of node.kind) && not (list_any is_too_long (texts_of node.kind))) ≡ true) = and_parts _ _ e in
+        let o : ((is_lawful_corner node && is_lawful_size node) ≡ true) × ((is_lawful_count node.kind && is_lawful_amount node.kind) ≡ true) = and_parts _ _ f.0 in
+        (and_parts (is_lawful_count node.kind) (is_lawful_amount node.kind) o.1).0
 
 -- ---- a description of one dialog
 

@@ -5,7 +5,7 @@ use Rattle.tv_valid.specs.declared.input.InputSpec.{InputSpec}
 use Rattle.tv_valid.specs.declared.domain.Domain.{Domain}
 use Rattle.tv_valid.specs.Domain.{HasText, IsDomain, IsViableText}
 use Rattle.tv_valid.proofs.DecidedDomains.{only_domain}
-use Rattle.tv_model.specs.Faults.Domains.{HasAnyText, MayStand, any_text, is_so, may_stand}
+use Rattle.tv_model.specs.Faults.Domains.{MayStand, any_text, is_so, may_stand}
 
 so_true : {P : Type 0} (d : Dec P) → P → is_so d ≡ true
 so_true (yes p) h = refl

@@ -74,6 +74,10 @@ IsCertificate blocks = AllByRecursion IsBlock blocks
 abbrev pub Spells : List ℕ → List Block → Type 0
 Spells text blocks = SpellsBy certificate_lines IsCertificate (lines_of text) blocks
 
+-- some text spells the certificate
+abbrev pub IsSpelledCertificate : List Block → Type 0
+IsSpelledCertificate blocks = (text : List ℕ) × Spells text blocks
+
 -- what each refusal says of the text
 abbrev pub RefusesText : List ℕ → CertificateFault → Type 0
 RefusesText text NoMemory = Unit {0}

@@ -1,5 +1,5 @@
 -- Certificates, and which of them are sound for a description.
-use Rattle.std.specs.Prelude.{◌≡◌, ◌≢◌, ℕ, ◌==◌, List, map, filter, flat_map, filter_map, option_map, option_to_list, All, AllPairs, bytes_eq}
+use Rattle.std.specs.Prelude.{◌≡◌, ℕ, ◌==◌, List, map, filter, flat_map, filter_map, option_map, option_to_list, All, bytes_eq}
 use Rattle.tv_model.specs.declared.desc.Desc.{Desc}
 use Rattle.tv_model.specs.declared.desc.Dialog.{Dialog}
 use Rattle.tv_model.specs.Owners.{Owner, owner_of}
@@ -38,10 +38,6 @@ NamesOwners blocks dialog = All (NamesOwner (key_lines blocks (dialog_name dialo
 pub record IsSoundCertificate (d : Desc) (blocks : List Block) : Type 0 where
   pub tabs : tab_lines blocks ≡ tab_order d
   pub owners : All (NamesOwners blocks) d.dialogs
-
--- no two dialogs have a name in common, as in each sound description that a text spells
-abbrev pub HaveOwnNames : Desc → Type 0
-HaveOwnNames d = AllPairs (λ dialog other. dialog_name dialog ≢ dialog_name other) d.dialogs
 
 -- ---- the certificate that is made of a description
 

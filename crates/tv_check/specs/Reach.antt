@@ -1,5 +1,5 @@
 -- What a rule reaches, found once for all views.
-use Rattle.std.specs.Prelude.{◌≡◌, Bool, false, List, Option, Some, None, ◌==◌}
+use Rattle.std.specs.Prelude.{Bool, false, List, Option, Some, None, ◌==◌}
 use Rattle.std.specs.List.{list_any}
 use Rattle.tv_model.specs.declared.node.Id.{Id}
 use Rattle.tv_model.specs.declared.node.Node.{Node}

@@ -4,8 +4,10 @@ ghost use Rattle.std.specs.Prelude.{◌≡◌, ◌∷◌, [], List, IfOk, IfErr,
 ghost use Rattle.tv_model.specs.Certificates.{control_name, dialog_name, tabs_of};
 ghost use Rattle.tv_model.specs.Faults.{IsSound};
 ghost use Rattle.tv_model.specs.declared.fault.Fault.{Fault as SeenFault};
-ghost use Rattle.tv_check.specs.Certificates.{HaveOwnNames, IsSoundCertificate, block_of, certificate_of, key_line, keys_of};
+ghost use Rattle.tv_check.specs.Certificates.{IsSoundCertificate, block_of, certificate_of, key_line, keys_of};
+ghost use Rattle.tv_check.specs.CertificateTexts.{IsSpelledCertificate};
 ghost use Rattle.tv_check.specs.Lent.{lent_owner};
+ghost use Rattle.tv_lang.specs.CanonicalDescription.{CanBeSpelled};
 ghost use Rattle.tv_check.specs.Refusals.{IsFirstFault, RefusesToCertify};
 
 use crate::certificate::{Block, Certificate, KeyLine};
@@ -135,7 +137,8 @@ fn first_of(found: &[Fault]) -> Option<Fault>
 /// The certificate of a sound description: a block for each dialog, in description order.
 pub fn certify(alloc: Global, desc: &Desc) -> Result<Certificate, CertifyFault>
     ensures value { IfOk result (λ certificate. certificate ≡ certificate_of desc.now) }
-    ensures sound { IfOk result (λ certificate. IsSound desc.now × (HaveOwnNames desc.now → IsSoundCertificate desc.now certificate)) }
+    ensures sound { IfOk result (λ certificate. IsSound desc.now × (CanBeSpelled desc.now → IsSoundCertificate desc.now certificate)) }
+    ensures spelled { IfOk result (λ certificate. CanBeSpelled desc.now → IsSpelledCertificate certificate) }
     ensures fault { IfErr result (RefusesToCertify desc.now) }
 {
     match first_fault(alloc, desc)? {

@@ -1,4 +1,4 @@
-use Rattle.std.proofs.Common.{◌≡◌, false, true, map, rules, arith}
+use Rattle.std.proofs.Common.{◌≡◌, false, map, rules, arith}
 use Rattle.std.proofs.lemmas.Bool.{iff_false}
 use Rattle.tv_model.specs.Certificates.{letters}
 use Rattle.tv_check.specs.Certificates.{NamesOwner}

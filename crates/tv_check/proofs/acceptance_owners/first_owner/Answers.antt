@@ -1,4 +1,4 @@
-use Rattle.std.proofs.Common.{◌≡◌, All, map, rules, arith, subst, ◌∙◌}
+use Rattle.std.proofs.Common.{◌≡◌, All, map, rules, arith, subst}
 use Rattle.tv_model.specs.Certificates.{dialog_name, letters}
 use Rattle.tv_check.specs.Certificates.{NamesOwner, NamesOwners, key_lines}
 use Rattle.tv_check.specs.Refusals.{IsFirstWithout}

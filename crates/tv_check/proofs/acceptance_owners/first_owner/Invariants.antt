@@ -1,4 +1,4 @@
-use Rattle.std.proofs.Common.{◌≡◌, All, take}
+use Rattle.std.proofs.Common.{All, take}
 use Rattle.tv_check.specs.Certificates.{NamesOwners}
 use Rattle.tv_check.proofs.acceptance_owners.first_owner.Given as goal
 

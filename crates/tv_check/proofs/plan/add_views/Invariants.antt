@@ -1,4 +1,4 @@
-use Rattle.std.proofs.Common.{◌≡◌, ◌+◌, ◌≤◌, ◌++◌, map, drop}
+use Rattle.std.proofs.Common.{◌≡◌, ◌≤◌, ◌++◌, map, drop}
 use Rattle.tv_check.specs.Plan.{lent_step, views_plan}
 use Rattle.tv_check.proofs.plan.add_views.Given as goal
 
