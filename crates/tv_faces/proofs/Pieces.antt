@@ -37,4 +37,3 @@ first_piece text end e =
     let same : s.0 ≡ end = omega (arith, s.1) in
     let is : pieces_of text ≡ take end text ∷ pieces_of (drop (suc end) text) = rw same at s.3 in
     rw add-one is
-

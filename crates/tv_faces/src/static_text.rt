@@ -8,6 +8,7 @@ ghost use Rattle.tv_cells.specs.Rectangle.{sized};
 ghost use Rattle.tv_model.specs.Faces.{text_face};
 ghost use Rattle.tv_faces.specs.Looks.{Splits, canvas_below, pieces_left};
 
+use crate::place::sum;
 use crate::row::text_char;
 use tv_cells::{Canvas, Cell, Face, Point, Screen, paint};
 
@@ -65,20 +66,13 @@ fn next_piece(left: Option<&[char]>) -> (&[char], Option<&[char]>)
     }
 }
 
-fn sum(a: &i32, b: &i32) -> i32
-    requires low { pos 0 ≤ℤ b.now }
-    requires high { (a.now +ℤ b.now) <ℤ pos (2 ^ 31) }
-    ensures { result ≡ a.now +ℤ b.now }
-{
-    *a + *b
-}
-
 // A row of a canvas, so many below its first.
 fn row_below(first: &i32, row: u32) -> i32
     requires first { first.now ≤ℤ pos (2 ^ 30) }
     requires row { row < 2 ^ 30 }
     ensures { result ≡ first.now +ℤ pos row }
 {
+    let _first = *first;
     sum(first, &(row as i32))
 }
 

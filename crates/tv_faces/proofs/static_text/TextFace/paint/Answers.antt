@@ -16,9 +16,10 @@ loop-row-preserved c =
     let attr = c.args.self.now.attr in
     let piece = c.next_piece.result.0.now in
     let row = c.loop-row.row in
-    let width = c.args.width in
-    (row_painted c.args.canvas width row text piece attr c.args.screen.now c.loop-row.screen c.paint.new.screen
-    (c.next_piece.ensures.first ∙ (ap (λ t. slice_index_or t 0 []) c.loop-row.invariant.1 ∙ piece_at row (pieces_of text)))
-    c.loop-row.invariant.0
-    (subst (λ canvas. Changes (Covers canvas (sized width 1)) (piece_on canvas piece attr) c.loop-row.screen c.paint.new.screen) c.row_canvas.ensures c.paint.ensures),
-    left_after row (pieces_of text) (pieces_left (option_copied c.loop-row.left)) (pieces_left (option_copied c.next_piece.result.1)) c.loop-row.invariant.1 c.next_piece.ensures.after)
+    let width = c.args.width in (
+      row_painted c.args.canvas width row text piece attr c.args.screen.now c.loop-row.screen c.paint.new.screen
+          (c.next_piece.ensures.first ∙ (ap (λ t. slice_index_or t 0 []) c.loop-row.invariant.1 ∙ piece_at row (pieces_of text)))
+          c.loop-row.invariant.0
+          (subst (λ canvas. Changes (Covers canvas (sized width 1)) (piece_on canvas piece attr) c.loop-row.screen c.paint.new.screen) c.row_canvas.ensures c.paint.ensures),
+      left_after row (pieces_of text) (pieces_left (option_copied c.loop-row.left)) (pieces_left (option_copied c.next_piece.result.1)) c.loop-row.invariant.1 c.next_piece.ensures.after,
+    )
