@@ -1,12 +1,12 @@
 -- Layers that show the same over whatever is below them.
-use Rattle.std.proofs.Common.{◌≡◌, ℕ, ℤ, pos, negsuc, ◌+ℤ◌, ◌-ℤ◌, ◌≤ℤ◌, ◌<ℤ◌, Bool, true, false, not, ◌&&◌, List, [], ◌∷◌, ◌++◌, refl, sym, ap, ◌∙◌, arith, subst}
+use Rattle.std.proofs.Common.{◌≡◌, ℕ, ℤ, pos, negsuc, ◌+ℤ◌, ◌≤ℤ◌, ◌<ℤ◌, Bool, true, false, not, ◌&&◌, List, [], ◌∷◌, ◌++◌, refl, sym, ap, ◌∙◌, arith}
 use Rattle.std.specs.Prelude.{if◌then◌else◌}
 use Rattle.std.proofs.lemmas.Int.{ints}
 use Rattle.tv_cells.specs.Glyph.{Glyph, shaded}
 use Rattle.tv_cells.specs.Canvas.{Covers, aside, face_at, sub}
-use Rattle.tv_cells.specs.Layers.{Layer, Painted, Shadow, Shows, cell_of, covers, is_in, over}
+use Rattle.tv_cells.specs.Layers.{Layer, Painted, Shadow, cell_of, covers, is_in, over}
 use Rattle.tv_cells.specs.Picture.{Picture}
-use Rattle.tv_cells.specs.Rectangle.{IsIn, cut, shifted, sized}
+use Rattle.tv_cells.specs.Rectangle.{IsIn, shifted, sized}
 use Rattle.tv_cells.specs.declared.rect.Point.{Point}
 use Rattle.tv_cells.specs.declared.rect.Rect.{Rect}
 use Rattle.tv_cells.specs.declared.canvas.Canvas.{Canvas}

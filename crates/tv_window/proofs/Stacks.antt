@@ -1,10 +1,9 @@
 -- Declared windows, one over the other.
-use Rattle.std.proofs.Common.{◌≡◌, ℕ, ℤ, pos, neg_ℤ, ◌+ℤ◌, ◌-ℤ◌, ◌≤ℤ◌, Bool, true, false, ◌&&◌, All, List, [], ◌∷◌, ◌++◌, flat_map, length, reverse, Option, Some, None, refl, sym, ap, ◌∙◌, arith, subst, append_assoc}
+use Rattle.std.proofs.Common.{◌≡◌, ℕ, ℤ, pos, neg_ℤ, ◌-ℤ◌, ◌≤ℤ◌, Bool, true, false, ◌&&◌, All, List, [], ◌∷◌, ◌++◌, flat_map, length, reverse, Some, None, refl, sym, ap, ◌∙◌, arith, subst, append_assoc}
 use Rattle.std.proofs.lemmas.Int.{ints}
 use Rattle.std.proofs.lemmas.List.Elements.{All-head, All-tail, All-cons, All-nil}
 use Rattle.std.specs.Int.Signed.{le_z}
 use Rattle.tv_cells.specs.Canvas.{sub}
-use Rattle.tv_cells.specs.Glyph.{Glyph}
 use Rattle.tv_cells.specs.Layers.{Layer, Painted, Shadow, Shows}
 use Rattle.tv_cells.specs.Picture.{Picture, IsAlike}
 use Rattle.tv_cells.specs.Rectangle.{sized}
@@ -13,7 +12,7 @@ use Rattle.tv_cells.specs.declared.rect.Rect.{Rect}
 use Rattle.tv_cells.specs.declared.canvas.Canvas.{Canvas}
 use Rattle.tv_model.specs.Faces.{FaceOf, FrameLook, frame_face, frame_look}
 use Rattle.tv_model.specs.Faults.{interior, rect}
-use Rattle.tv_model.specs.Layers.{window_of, window_view_layers}
+use Rattle.tv_model.specs.Layers.{window_view_layers}
 use Rattle.tv_model.specs.Layers.{stack_layers as declared_layers, window_layers as declared_window}
 use Rattle.tv_model.specs.Meaning.{Leaf, IsSmall, IsSmallRect}
 use Rattle.tv_model.specs.Nodes.{height_of, is_pane}
@@ -33,7 +32,7 @@ use Rattle.tv_view.proofs.Laying.{lays_none, lays_then}
 use Rattle.tv_group.specs.Opened.{opened}
 use Rattle.tv_group.specs.Outline.{IsFreshBody}
 use Rattle.tv_group.proofs.FreshLeaves.{IsLeafNode, fresh_layers, group_drawn}
-use Rattle.tv_window.specs.DeclaredWindows.{AreDeclared, IsDeclared, IsOfWindow, IsTextInside, desktop_canvas}
+use Rattle.tv_window.specs.DeclaredWindows.{AreDeclared, IsOfWindow, IsTextInside, desktop_canvas}
 use Rattle.tv_window.specs.Head.{WindowHead, bounds_of, declared_head}
 use Rattle.tv_window.specs.Window.{body_of, frame_layer, head_of, window_layers}
 use Rattle.tv_window.specs.declared.window.WindowOf.{WindowOf}

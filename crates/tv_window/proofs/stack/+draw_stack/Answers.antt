@@ -1,4 +1,3 @@
-use Rattle.std.proofs.Common.{◌≡◌}
 use Rattle.tv_window.proofs.Stacks.{none_declared, stack_drawn}
 use Rattle.tv_window.proofs.stack.+draw_stack.Goals as goal
 
