@@ -36,24 +36,24 @@ not_both true true p q e h = absurd cc
 not_both true false p q e h = q refl h.1
 not_both false b p q e h = p refl h.0
 
-is_in_true : (r : Rect) (x y : ℤ) → is_in r x y ≡ true → IsIn r x y
+pub is_in_true : (r : Rect) (x y : ℤ) → is_in r x y ≡ true → IsIn r x y
 is_in_true r x y e =
     let h = both (le_z r.a.x x && lt_z x r.b.x) (le_z r.a.y y && lt_z y r.b.y)
     (both _ _ (le_true r.a.x x) (lt_true x r.b.x)) (both _ _ (le_true r.a.y y) (lt_true y r.b.y)) e in
     record { after_left = h.0.0; before_right = h.0.1; after_top = h.1.0; before_bottom = h.1.1 }
 
-is_in_false : (r : Rect) (x y : ℤ) → is_in r x y ≡ false → IsIn r x y → ⊥
+pub is_in_false : (r : Rect) (x y : ℤ) → is_in r x y ≡ false → IsIn r x y → ⊥
 is_in_false r x y e i =
     not_both (le_z r.a.x x && lt_z x r.b.x) (le_z r.a.y y && lt_z y r.b.y)
     (not_both _ _ (le_false r.a.x x) (lt_false x r.b.x)) (not_both _ _ (le_false r.a.y y) (lt_false y r.b.y)) e
     ((i.after_left, i.before_right), (i.after_top, i.before_bottom))
 
-covers_true : (c : Canvas) (r : Rect) (column row : ℕ) → covers c r column row ≡ true → Covers c r column row
+pub covers_true : (c : Canvas) (r : Rect) (column row : ℕ) → covers c r column row ≡ true → Covers c r column row
 covers_true c r column row e =
     let h = both (is_in c.clip (pos column) (pos row)) (is_in (shifted r c.origin) (pos column) (pos row)) (is_in_true c.clip (pos column) (pos row)) (is_in_true (shifted r c.origin) (pos column) (pos row)) e in
     record { clip = h.0; rect = h.1 }
 
-covers_false : (c : Canvas) (r : Rect) (column row : ℕ) → covers c r column row ≡ false → Covers c r column row → ⊥
+pub covers_false : (c : Canvas) (r : Rect) (column row : ℕ) → covers c r column row ≡ false → Covers c r column row → ⊥
 covers_false c r column row e i =
     not_both (is_in c.clip (pos column) (pos row)) (is_in (shifted r c.origin) (pos column) (pos row)) (is_in_false c.clip (pos column) (pos row)) (is_in_false (shifted r c.origin) (pos column) (pos row)) e (i.clip, i.rect)
 

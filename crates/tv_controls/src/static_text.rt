@@ -1,18 +1,17 @@
 //! Static texts.
 
-ghost use Rattle.std.specs.Prelude.{◌≡◌, ◌↔◌, ◌+ℤ◌, IfOk, IsErrOf, false};
-ghost use Rattle.tv_model.specs.Faults.{place_of_node, rect};
-ghost use Rattle.tv_model.specs.Meaning.{IsSmall, IsSmallRect, Leaf, fresh};
-ghost use Rattle.tv_model.specs.State.{natural};
+ghost use Rattle.std.specs.Prelude.{◌≡◌, ◌↔◌, IfOk, IsErrOf, false};
+ghost use Rattle.tv_model.specs.Faults.{place_of_node};
+ghost use Rattle.tv_model.specs.Meaning.{IsSmallRect, fresh};
 ghost use Rattle.tv_controls.specs.StaticText.{is_text};
 
 use crate::fault::ControlFault;
 use bitflags::Flags;
 use std::alloc::Global;
 use std::marker::Model;
-use tv_cells::{Canvas, Point, Rect, Screen, lay};
+use tv_cells::{Canvas, Rect, Screen};
 use tv_event::{Event, Options, Phase, State};
-use tv_faces::TextFace;
+use tv_faces::{TextFace, natural, rect_at};
 use tv_model::{Id, Kind, Node, Record};
 use tv_palette::Role;
 use tv_valid::Chars;
@@ -41,34 +40,6 @@ impl Model for StaticText {
     ghost view = { λ s. text_leaf (record { id = s.id; depth = s.depth; x = s.x; y = s.y; w = s.w; h = s.h; text = s.text; is_shown = s.is_shown }) };
 
     ghost invariant = { λ s. IsSmallRect (rect s.x s.y s.w s.h) };
-}
-
-fn sum(a: &i32, b: &i32) -> i32
-    requires { IsSmall (a.now +ℤ b.now) }
-    ensures { result ≡ a.now +ℤ b.now }
-{
-    *a + *b
-}
-
-// The rectangle of a corner, a width and a height.
-fn rect_at(x: &i32, y: &i32, w: &i32, h: &i32) -> Rect
-    requires { IsSmallRect (rect x.now y.now w.now h.now) }
-    ensures { result ≡ rect x.now y.now w.now h.now }
-{
-    Rect {
-        a: Point { x: *x, y: *y },
-        b: Point {
-            x: sum(x, w),
-            y: sum(y, h),
-        },
-    }
-}
-
-// A number of columns or rows, 0 below it.
-fn natural(number: &i32) -> u32
-    ensures { result ≡ natural number.now }
-{
-    if *number < 0 { 0 } else { *number as u32 }
 }
 
 impl StaticText {
@@ -137,12 +108,11 @@ impl View for StaticText {
             text: self.text.as_slice(),
             attr: Role::StaticText(env.owner).attr(env.chain),
         };
-        lay(
+        face.lay(
             screen,
             canvas.sub(bounds),
             natural(&self.w),
             natural(&self.h),
-            &face,
         );
     }
 

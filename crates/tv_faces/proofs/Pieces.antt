@@ -37,34 +37,3 @@ first_piece text end e =
     let same : s.0 ≡ end = omega (arith, s.1) in
     let is : pieces_of text ≡ take end text ∷ pieces_of (drop (suc end) text) = rw same at s.3 in
     rw add-one is
-
--- the search for a piece goes on after a line end
-pub next_piece : (whole first rest text : List ℕ) (row at : ℕ) → at < row → pieces_of text ≡ first ∷ pieces_of rest → whole ≡ slice_index_or (pieces_of text) (row - at) [] → whole ≡ slice_index_or (pieces_of rest) (row - (at + 1)) []
-next_piece whole first rest text row at less split found =
-    let next : row - at ≡ suc (row - (at + 1)) = omega arith in
-    let here : whole ≡ slice_index_or (first ∷ pieces_of rest) (suc (row - (at + 1))) [] = rw (split, next) at found in
-    here
-
-pub past_last : (whole first text : List ℕ) (row at : ℕ) → at < row → pieces_of text ≡ first ∷ [] → whole ≡ slice_index_or (pieces_of text) (row - at) [] → [] ≡ whole
-past_last whole first text row at less split found =
-    let next : row - at ≡ suc (row - (at + 1)) = omega arith in
-    let here : whole ≡ slice_index_or (first ∷ []) (suc (row - (at + 1))) [] = rw (split, next) at found in
-    sym here
-
-pub here_piece : (text first : List ℕ) (o : Option (List ℕ)) → Splits text first o → slice_index_or (pieces_of text) 0 [] ≡ first
-here_piece text first (Some rest) s = rw s refl
-here_piece text first None s = rw s refl
-
-pub last_here : (whole text first : List ℕ) (o : Option (List ℕ)) (row at : ℕ) → row ≤ at → Splits text first o → whole ≡ slice_index_or (pieces_of text) (row - at) [] → first ≡ whole
-last_here whole text first o row at le s found =
-    let none : row - at ≡ 0 = omega arith in
-    let here : whole ≡ slice_index_or (pieces_of text) 0 [] = rw none at found in
-    sym (here ∙ here_piece text first o s)
-
-pub split_some : (text first rest : List ℕ) (o : Option (List ℕ)) → Splits text first o → o ≡ Some rest → pieces_of text ≡ first ∷ pieces_of rest
-split_some text first rest (Some other) s e = let same : other ≡ rest = cc in s ∙ ap (λ t. first ∷ pieces_of t) same
-split_some text first rest None s e = absurd cc
-
-pub split_none : (text first : List ℕ) (o : Option (List ℕ)) → Splits text first o → o ≡ None → pieces_of text ≡ first ∷ []
-split_none text first (Some other) s e = absurd cc
-split_none text first None s e = s

@@ -1,5 +1,6 @@
 -- How the code's faces name what the definitions of faces speak of.
-use Rattle.std.specs.Prelude.{◌≡◌, ℕ, List, [], ◌∷◌, Option, Some, None}
+use Rattle.std.specs.Prelude.{◌≡◌, ℕ, List, [], ◌∷◌, Option, Some, None, pos, ◌+ℤ◌}
+use Rattle.tv_cells.specs.declared.canvas.Canvas.{Canvas}
 use Rattle.tv_faces.specs.declared.look.ButtonLook.{ButtonLook as SeenButton}
 use Rattle.tv_faces.specs.declared.look.FrameLook.{FrameLook as SeenFrame}
 use Rattle.tv_model.specs.Faces.{ButtonLook, FrameLook, pieces_of}
@@ -12,7 +13,15 @@ button_look_of look = record { is_focused = look.is_focused; is_default_now = lo
 abbrev pub frame_look_of : SeenFrame → FrameLook
 frame_look_of look = record { number = look.number; is_active = look.is_active; edge = look.edge; inside = look.inside }
 
+-- the pieces of what is left of a text, if anything is
+abbrev pub pieces_left : Option (List ℕ) → List (List ℕ)
+pieces_left None = []
+pieces_left (Some text) = pieces_of text
+
 -- the first piece of a text, and what follows its line end
 abbrev pub Splits : List ℕ → List ℕ → Option (List ℕ) → Type 0
-Splits text first (Some rest) = pieces_of text ≡ first ∷ pieces_of rest
-Splits text first None = pieces_of text ≡ first ∷ []
+Splits text first left = pieces_of text ≡ first ∷ pieces_left left
+
+-- the canvas with its origin so many rows below
+abbrev pub canvas_below : Canvas → ℕ → Canvas
+canvas_below c row = record { clip = c.clip; origin = record { x = c.origin.x; y = c.origin.y +ℤ pos row } }

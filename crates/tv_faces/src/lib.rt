@@ -5,6 +5,7 @@ mod background;
 mod button;
 mod frame;
 mod look;
+mod place;
 mod row;
 mod static_text;
 
@@ -12,4 +13,5 @@ pub use background::{Background, EmptyBar};
 pub use button::ButtonFace;
 pub use frame::Frame;
 pub use look::{ButtonLook, FrameLook};
+pub use place::{natural, rect_at};
 pub use static_text::TextFace;

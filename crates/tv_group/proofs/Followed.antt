@@ -63,7 +63,7 @@ one-follows x (n ∷ ns) rest p = (n, ap (λ t. n ∷ t) p.1, p.0)
 -- ---- the equations of outlines
 
 module _ {V : Type 0} (look : V → Leaf) where
-  outline-members : (g : GroupOf V) (depth : ℕ) → outline look g depth ≡ outlined depth (PaneAt g.bounds) ∷ members_outline look g (depth + 1)
+  pub outline-members : (g : GroupOf V) (depth : ℕ) → outline look g depth ≡ outlined depth (PaneAt g.bounds) ∷ members_outline look g (depth + 1)
   unfolding outline outline_member
   outline-members g depth = ap (λ f. f depth) (fold_out-GroupOf V Outline Outline (part_step look) whole_step g)
 

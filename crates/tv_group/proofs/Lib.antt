@@ -1,4 +1,5 @@
 pub mod Currents
 pub mod Drawn
 pub mod Followed
+pub mod FreshLeaves
 pub mod Openings

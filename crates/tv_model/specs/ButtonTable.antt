@@ -1,21 +1,13 @@
 -- Letters, and the keys of a button.
-use Rattle.std.specs.Prelude.{ℕ, Bool, false, List, [], ◌∷◌, Option, Some, None, option_map, position, ◌+◌, ◌==◌}
+use Rattle.std.specs.Prelude.{ℕ, Bool, false, List, Option, option_map, position, ◌+◌, ◌==◌}
 use Rattle.tv_event.specs.declared.event.Key.{Key}
 use Rattle.tv_event.specs.declared.event.Key.TheVariants as keys
 use Rattle.tv_model.specs.declared.node.MarkedText.{MarkedText}
-use Rattle.tv_model.specs.Faults.Letters.{letter_of, upper}
+use Rattle.tv_model.specs.Faults.Letters.{marks, upper}
 
--- whether the text marks the letter, in either case
-abbrev pub is_letter : Option ℕ → ℕ → Bool
-is_letter None ch = false
-is_letter (Some letter) ch = letter == upper ch
-
-abbrev pub marks : MarkedText → ℕ → Bool
-marks text ch = is_letter (letter_of text) ch
-
--- the first item that marks the letter, from 1
+-- the first item that marks the letter, in either case, from 1
 abbrev pub item_marking : List MarkedText → ℕ → Option ℕ
-item_marking items ch = option_map (λ place. place + 1) (position (λ text. marks text ch) items)
+item_marking items ch = option_map (λ place. place + 1) (position (marks (upper ch)) items)
 
 -- a space presses the button that has the focus
 abbrev pub is_press : Key → Bool

@@ -1,7 +1,6 @@
 -- What a view means: its leaves, one after the other.
-use Rattle.std.specs.Prelude.{◌≡◌, ℕ, Bool, true, false, List, [], ◌∷◌, map, filter, filter_map, option_map, Option, Some, None, ℤ, pos, neg_ℤ, ◌+ℤ◌, ◌≤ℤ◌, if◌then◌else◌}
+use Rattle.std.specs.Prelude.{◌≡◌, ℕ, Bool, true, false, List, [], ◌∷◌, map, Option, Some, None, ℤ, pos, neg_ℤ, ◌+ℤ◌, ◌≤ℤ◌, if◌then◌else◌}
 use Rattle.std.specs.List.{list_any}
-use Rattle.tv_cells.specs.Rectangle.{shifted}
 use Rattle.tv_cells.specs.declared.rect.Rect.{Rect}
 use Rattle.tv_model.specs.declared.node.Id.{Id}
 use Rattle.tv_model.specs.declared.node.Node.{Node}
@@ -80,18 +79,7 @@ unmarked x = record x { is_current = false }
 abbrev pub kept : Bool → List Placed → List Placed
 kept b xs = if b then xs else map unmarked xs
 
--- the rectangle of a leaf, seen from the corner of the outermost group's owner
-abbrev pub moved_out : List Rect → Rect → Rect
-moved_out [] r = r
-moved_out (bounds ∷ around) r = shifted (moved_out around r) bounds.a
-
-abbrev pub rect_of : Placed → Rect
-rect_of x = moved_out x.around (bounds_of x.leaf)
-
--- the current leaf, and the one that holds the mouse
-abbrev pub current_of : List Placed → List Leaf
-current_of xs = map (λ x. x.leaf) (filter (λ x. x.is_current) xs)
-
+-- whether the current members lead to a leaf
 abbrev pub has_current : List Placed → Bool
 has_current xs = list_any (λ x. x.is_current) xs
 

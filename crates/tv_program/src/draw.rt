@@ -15,7 +15,7 @@ ghost use Rattle.tv_program.specs.Run.{IsScreenSize};
 
 use crate::focus::{is_button_at, is_default};
 use tv_cells::{Canvas, Point, Rect, Screen, lay, lay_shadow};
-use tv_faces::{Background, ButtonFace, ButtonLook, EmptyBar, Frame, FrameLook, TextFace};
+use tv_faces::{Background, ButtonFace, ButtonLook, EmptyBar, Frame, FrameLook, TextFace, natural};
 use tv_model::{Desc, Dialog, Id, Kind, Node};
 use tv_palette::{Chain, Owner, Role};
 
@@ -62,13 +62,6 @@ fn look_of(views: &[Node], focus: Id, node: &Node) -> ButtonLook
     }
 }
 
-/// A number of columns or rows, 0 below it.
-pub(crate) fn natural(number: &i32) -> u32
-    ensures { result ≡ natural number.now }
-{
-    if *number < 0 { 0 } else { *number as u32 }
-}
-
 fn sum(a: &i32, b: &i32) -> i32
     requires first { IsNear a.now }
     requires second { IsNear b.now }
@@ -108,13 +101,7 @@ fn draw_view(screen: &mut Screen, desc: &Desc, dialog: &Dialog, focus: Id, node:
                 text: text.as_slice(),
                 attr: Role::StaticText(Owner::Dialog).attr(&chain),
             };
-            lay(
-                screen,
-                view_canvas(desc, dialog, node),
-                width,
-                natural(h),
-                &face,
-            );
+            face.lay(screen, view_canvas(desc, dialog, node), width, natural(h));
         }
         Kind::Button { text, .. } => {
             let look = look_of(dialog.views.as_slice(), focus, node);

@@ -8,12 +8,13 @@ ghost use Rattle.tv_model.specs.State.{natural};
 ghost use Rattle.tv_model.specs.Thin.{IsThin};
 ghost use Rattle.tv_program.specs.Run.{IsScreenSize};
 
-use crate::draw::{draw, natural};
+use crate::draw::draw;
 use crate::run::Run;
 use std::alloc::{AllocError, Global};
 use std::marker::Model;
 use tv_cells::{Screen, ScreenFault};
 use tv_event::Event;
+use tv_faces::natural;
 use tv_model::{Desc, Dialog, Id, LogLine};
 use tv_script::Stage;
 

@@ -16,7 +16,8 @@ use Rattle.tv_model.specs.declared.node.CommandSpec.{CommandSpec}
 use Rattle.tv_model.specs.declared.node.MarkedText.{MarkedText}
 use Rattle.tv_model.specs.State.{natural}
 use Rattle.tv_model.specs.Step.{command_number}
-use Rattle.tv_model.specs.ButtonTable.{marks, item_marking, is_press}
+use Rattle.tv_model.specs.ButtonTable.{item_marking, is_press}
+use Rattle.tv_model.specs.Faults.Letters.{marks, upper}
 use Rattle.tv_model.specs.ClusterTable.{ClusterKind, Boxes, Radios, ClusterKey, Passed, cluster_key, may_change}
 use Rattle.tv_model.specs.ListTable.{asked_item}
 use Rattle.tv_model.specs.InputTable.{is_edit_key}
@@ -35,9 +36,10 @@ called phases.Pre (keys.Alt ch) = Some ch
 called phases.Post (keys.Char ch) = Some ch
 called _ _ = None
 
+-- the text marks that letter, in either case
 abbrev pub calls : MarkedText → Option ℕ → Bool
 calls text None = false
-calls text (Some ch) = marks text ch
+calls text (Some ch) = marks (upper ch) text
 
 abbrev pub called_item : List MarkedText → Option ℕ → Option ℕ
 called_item items None = None

@@ -1,1 +1,4 @@
+pub mod Flat
+pub mod Same
 pub mod Shown
+pub mod Stacks

@@ -1,5 +1,5 @@
 -- What is drawn after something else.
-use Rattle.std.proofs.Common.{◌≡◌, ◌∙◌, ℕ, ℤ, refl, ap, ◌+ℤ◌, List, [], ◌∷◌, ◌++◌, arith, subst, sym, append_assoc}
+use Rattle.std.proofs.Common.{◌≡◌, ◌∙◌, ℕ, ℤ, ap, ◌+ℤ◌, List, [], ◌∷◌, ◌++◌, arith, subst, sym, append_assoc}
 use Rattle.std.proofs.lemmas.Int.{ints}
 use Rattle.tv_cells.specs.Canvas.{sub}
 use Rattle.tv_cells.specs.Layers.{Layer, Painted, Shows}

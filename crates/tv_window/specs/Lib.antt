@@ -1,2 +1,3 @@
+pub mod DeclaredWindows
 pub mod Head
 pub mod Window

@@ -1,19 +1,18 @@
 //! What a window keeps of its node.
 
-ghost use Rattle.std.specs.Prelude.{◌≡◌, ◌↔◌, ◌+ℤ◌, IfSome, IsTrue, Some};
+ghost use Rattle.std.specs.Prelude.{◌≡◌, ◌↔◌, IfSome, IsTrue, Some};
 ghost use Rattle.tv_cells.specs.Rectangle.{IsRectNear};
 ghost use Rattle.tv_model.specs.Faces.{frame_look};
-ghost use Rattle.tv_model.specs.Faults.{rect};
 ghost use Rattle.tv_faces.specs.Looks.{frame_look_of};
-ghost use Rattle.tv_model.specs.Meaning.{IsSmall, IsSmallRect};
+ghost use Rattle.tv_model.specs.Meaning.{IsSmallRect};
 ghost use Rattle.tv_model.specs.State.{natural};
 ghost use Rattle.tv_palette.specs.Palettes.{colour_in};
 ghost use Rattle.tv_palette.specs.declared.role.Owner.TheVariants.{Window};
 ghost use Rattle.tv_window.specs.Head.{IsLimited, declared_head, bounds_of};
 
 use std::marker::Model;
-use tv_cells::{Point, Rect};
-use tv_faces::{Frame, FrameLook};
+use tv_cells::Rect;
+use tv_faces::{Frame, FrameLook, natural, rect_at};
 use tv_model::{Id, Kind, Node};
 use tv_palette::Owner;
 use tv_valid::Text;
@@ -39,34 +38,6 @@ impl Model for Head {
     ghost view = { λ s. record { id = s.id; x = s.x; y = s.y; w = s.w; h = s.h; number = s.number; title = s.title } };
 
     ghost invariant = { λ s. IsLimited (record { id = s.id; x = s.x; y = s.y; w = s.w; h = s.h; number = s.number; title = s.title }) };
-}
-
-// A number of columns or rows, 0 below it.
-fn natural(number: &i32) -> u32
-    ensures { result ≡ natural number.now }
-{
-    if *number < 0 { 0 } else { *number as u32 }
-}
-
-fn sum(a: &i32, b: &i32) -> i32
-    requires { IsSmall (a.now +ℤ b.now) }
-    ensures { result ≡ a.now +ℤ b.now }
-{
-    *a + *b
-}
-
-// The rectangle of a corner, a width and a height.
-fn rect_at(x: &i32, y: &i32, w: &i32, h: &i32) -> Rect
-    requires { IsSmallRect (rect x.now y.now w.now h.now) }
-    ensures { result ≡ rect x.now y.now w.now h.now }
-{
-    Rect {
-        a: Point { x: *x, y: *y },
-        b: Point {
-            x: sum(x, w),
-            y: sum(y, h),
-        },
-    }
 }
 
 impl Head {

@@ -1,7 +1,12 @@
 //! Windows one over the other.
 
+ghost use Rattle.std.specs.Prelude.{◌≡◌, List};
+ghost use Rattle.tv_model.specs.Layers.{stack_layers as declared_layers};
 ghost use Rattle.tv_model.specs.Meaning.{IsSmall};
+ghost use Rattle.tv_model.specs.declared.desc.Desc.{Desc};
+ghost use Rattle.tv_model.specs.declared.node.Id.{Id};
 ghost use Rattle.tv_view.specs.Drawing.{Lays};
+ghost use Rattle.tv_window.specs.DeclaredWindows.{AreDeclared, IsOfWindow, desktop_canvas};
 ghost use Rattle.tv_window.specs.Window.{stack_layers};
 
 use crate::window::WindowOf;
@@ -10,9 +15,13 @@ use tv_view::{Env, View};
 
 /// Draws windows, the front one first in the list, each over its shadow and that over all windows behind it. None but the
 /// front one is drawn as active, and it only where the environment says so.
+///
+/// Windows as a description declares them, drawn on its desktop, show what the description's own layers show.
 pub fn draw_stack<V: View>(windows: &[WindowOf<V>], screen: &mut Screen, canvas: Canvas, env: &Env)
     requires { IsSmall canvas.origin.x × IsSmall canvas.origin.y }
-    ensures { Lays (stack_layers V.meaning env.now canvas windows.now) screen.old screen.new }
+    ensures layers { Lays (stack_layers V.meaning env.now canvas windows.now) screen.old screen.new }
+    ensures declared { (d : Desc) (ids : List Id) → AreDeclared V.meaning d ids windows.now → IsOfWindow env.now → canvas ≡ desktop_canvas d
+        → Lays (declared_layers d env.now.is_active ids) screen.old screen.new }
 {
     if let Some((front, behind)) = windows.split_first() {
         let passive = Env {

@@ -12,12 +12,12 @@ use tv_cells::{Canvas, Point, Rect, Screen, lay};
 use tv_controls::StaticText;
 use tv_event::CommandSet;
 use tv_faces::{Background, EmptyBar};
-use tv_group::{Group, Member};
+use tv_group::{GroupOf, MemberOf};
 use tv_model::{Id, Kind, Node};
 use tv_palette::{Chain, Owner};
 use tv_valid::Chars;
 use tv_view::Env;
-use tv_window::{Window, draw_stack};
+use tv_window::{WindowOf, draw_stack};
 
 /// How often the screen is painted.
 const ROUNDS: u32 = 200;
@@ -25,8 +25,8 @@ const ROUNDS: u32 = 200;
 /// The columns and rows of the screen.
 const SCREEN: Point = Point { x: 132, y: 60 };
 
-// A boxed text over a whole row of a window.
-fn text(alloc: Global, row: u8) -> Result<Member>
+// A text over a whole row of a window.
+fn text(alloc: Global, row: u8) -> Result<MemberOf<StaticText>>
     requires { row ≤ 100 }
 {
     let text = "x".repeat(alloc, 78)?;
@@ -41,12 +41,11 @@ fn text(alloc: Global, row: u8) -> Result<Member>
             text: Chars::from_vec(text.chars().collect(alloc)?),
         },
     };
-    let view = StaticText::new(alloc, &node)?;
-    Ok(Member::Leaf(Box::new(alloc, view)?))
+    Ok(MemberOf::Leaf(StaticText::new(alloc, &node)?))
 }
 
 // One in each row that the frame surrounds.
-fn texts(alloc: Global) -> Result<Vec<Member>> {
+fn texts(alloc: Global) -> Result<Vec<MemberOf<StaticText>>> {
     let mut texts = Vec::new(alloc);
     for row in 1..39 {
         texts.push(text(alloc, row)?)?;
@@ -76,7 +75,7 @@ fn window_node(alloc: Global, x: i32, y: i32, number: i32) -> Node
 }
 
 // The window of a number, with a text in each row. None where a constructor refuses what it is given.
-fn window(alloc: Global, number: u8) -> Result<Option<Window>>
+fn window(alloc: Global, number: u8) -> Result<Option<WindowOf<StaticText>>>
     requires { number ≤ 9 }
 {
     let number = i32::from(number);
@@ -86,14 +85,14 @@ fn window(alloc: Global, number: u8) -> Result<Option<Window>>
         a: Point { x: 0, y: 0 },
         b: Point { x: 80, y: 40 },
     };
-    let Ok(body) = Group::new(bounds, members) else {
+    let Ok(body) = GroupOf::new(bounds, members) else {
         return Ok(None);
     };
-    Ok(Window::new(&node, body).ok())
+    Ok(WindowOf::new(&node, body).ok())
 }
 
 // The front window first.
-fn windows(alloc: Global) -> Result<Vec<Window>> {
+fn windows(alloc: Global) -> Result<Vec<WindowOf<StaticText>>> {
     let mut windows = Vec::new(alloc);
     for behind in 0u8..9 {
         if let Some(window) = window(alloc, 9 - behind)? {
@@ -114,7 +113,7 @@ fn rows(origin: i32, from: i32, to: i32) -> Canvas {
     }
 }
 
-fn paint(screen: &mut Screen, windows: &[Window], env: &Env) {
+fn paint(screen: &mut Screen, windows: &[WindowOf<StaticText>], env: &Env) {
     let desktop = Canvas {
         clip: Rect {
             a: Point { x: 0, y: 1 },

@@ -1,0 +1,37 @@
+//! The rectangles that declarations give.
+
+ghost use Rattle.std.specs.Prelude.{◌≡◌, ◌<◌, ◌^◌, ◌+ℤ◌, ◌≤ℤ◌, ◌<ℤ◌, neg_ℤ, pos};
+ghost use Rattle.tv_model.specs.Faults.{rect};
+ghost use Rattle.tv_model.specs.Meaning.{IsSmallRect};
+ghost use Rattle.tv_model.specs.State.{natural};
+
+use tv_cells::{Point, Rect};
+
+/// A number of columns or rows, 0 below it.
+pub fn natural(number: &i32) -> u32
+    ensures { result ≡ natural number.now }
+{
+    if *number < 0 { 0 } else { *number as u32 }
+}
+
+pub(crate) fn sum(a: &i32, b: &i32) -> i32
+    requires low { neg_ℤ (pos (2 ^ 31)) ≤ℤ (a.now +ℤ b.now) }
+    requires high { (a.now +ℤ b.now) <ℤ pos (2 ^ 31) }
+    ensures { result ≡ a.now +ℤ b.now }
+{
+    *a + *b
+}
+
+/// The rectangle of a corner, a width and a height.
+pub fn rect_at(x: &i32, y: &i32, w: &i32, h: &i32) -> Rect
+    requires { IsSmallRect (rect x.now y.now w.now h.now) }
+    ensures { result ≡ rect x.now y.now w.now h.now }
+{
+    Rect {
+        a: Point { x: *x, y: *y },
+        b: Point {
+            x: sum(x, w),
+            y: sum(y, h),
+        },
+    }
+}

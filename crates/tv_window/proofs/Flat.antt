@@ -1,0 +1,168 @@
+-- A declared window shows what the flat machine's layers show.
+use Rattle.std.proofs.Common.{◌≡◌, ℕ, ℤ, pos, ◌+ℤ◌, ◌-ℤ◌, Bool, All, List, [], ◌∷◌, ◌++◌, flat_map, reverse, refl, sym, ap, ◌∙◌, arith, subst}
+use Rattle.std.proofs.lemmas.Grind.{flat_map-append}
+use Rattle.std.proofs.lemmas.Int.{ints}
+use Rattle.std.proofs.lemmas.List.{reverse-append}
+use Rattle.std.proofs.lemmas.List.Elements.{All-head, All-tail}
+use Rattle.tv_cells.specs.Canvas.{Covers, aside, sub}
+use Rattle.tv_cells.specs.Glyph.{Glyph}
+use Rattle.tv_cells.specs.Layers.{Layer, Painted, Shadow}
+use Rattle.tv_cells.specs.Rectangle.{IsIn, cut, shifted, sized}
+use Rattle.tv_cells.specs.declared.rect.Rect.{Rect}
+use Rattle.tv_cells.specs.declared.canvas.Canvas.{Canvas}
+use Rattle.tv_cells.proofs.Rectangles.{in_cut, point_is}
+use Rattle.tv_model.specs.Faces.{frame_look, frame_role, static_text}
+use Rattle.tv_model.specs.Faults.{desktop, interior, place_of_node, rect}
+use Rattle.tv_model.specs.Layers.{canvas_at, window_view_layers}
+use Rattle.tv_model.specs.Meaning.{fresh}
+use Rattle.tv_model.specs.State.{natural}
+use Rattle.tv_model.specs.declared.desc.Desc.{Desc}
+use Rattle.tv_model.specs.declared.desc.Window.{Window}
+use Rattle.tv_model.specs.declared.node.Node.{Node}
+use Rattle.tv_model.specs.declared.node.Kind.TheVariants as kinds
+use Rattle.tv_palette.proofs.Colours.{leads_through}
+use Rattle.tv_palette.specs.Attributes.{attribute_of}
+use Rattle.tv_palette.specs.Palettes.{colour_in}
+use Rattle.tv_palette.specs.declared.role.Owner.TheVariants as owners
+use Rattle.tv_palette.specs.declared.role.Role.TheVariants as roles
+use Rattle.tv_palette.specs.declared.role.FrameRole.TheVariants as frame
+use Rattle.tv_view.specs.declared.env.Env.{Env}
+use Rattle.tv_view.specs.Drawing.{leaf_layers}
+use Rattle.tv_view.specs.LeafFaces.{static_text_face}
+use Rattle.tv_group.proofs.FreshLeaves.{fresh_layers}
+use Rattle.tv_window.specs.DeclaredWindows.{IsOfWindow, IsTextInside, desktop_canvas}
+use Rattle.tv_window.proofs.Same.{IsSame, covers_sub, painted_same, resized, same_append, same_refl, shadow_same, sub_covers, unsized}
+
+module _ (d : Desc) (x y w h : ℤ) where
+  abbrev pub bounds : Rect
+  bounds = rect x y w h
+
+  abbrev pub corner : Canvas
+  corner = canvas_at (desktop d) x y
+
+  -- the canvas of the window, and of the body that fills it
+  abbrev pub inner : Canvas
+  inner = sub (desktop_canvas d) bounds
+
+  abbrev pub body : Canvas
+  body = sub inner (rect (pos 0) (pos 0) w h)
+
+  -- ---- the frame and the shadow
+
+  pub frame_same : (face other : ℕ → ℕ → Glyph) → face ≡ other → IsSame (Painted inner (natural w) (natural h) face ∷ []) (Painted corner (natural w) (natural h) other ∷ [])
+  frame_same face other same =
+      painted_same inner corner (natural w) (natural h) face other
+      (point_is (x +ℤ pos 0) (y +ℤ pos 0) x y (omega (arith, ints)) (omega (arith, ints))) same
+      (λ column row i.
+      let c = covers_sub (desktop_canvas d) x y w h column row i in
+      record { clip = c.clip; rect = resized x y w h (desktop_canvas d).origin corner.origin (omega (arith, ints)) (omega (arith, ints)) (pos column) (pos row) c.rect })
+      (λ column row i. sub_covers (desktop_canvas d) x y w h column row
+      (record { clip = i.clip; rect = unsized x y w h (desktop_canvas d).origin corner.origin (omega (arith, ints)) (omega (arith, ints)) (pos column) (pos row) i.rect }))
+
+  pub shadows_same : IsSame (Shadow (desktop_canvas d) bounds ∷ []) (Shadow corner (sized (natural w) (natural h)) ∷ [])
+  shadows_same =
+      shadow_same (desktop_canvas d) corner bounds (sized (natural w) (natural h))
+      (λ column row i. record { clip = i.clip; rect = aside_in column row (resized_at (pos column -ℤ pos 2) (pos row -ℤ pos 1) (back_from column row i.rect)) })
+      (λ column row i. record { clip = i.clip; rect = aside_out column row (unsized_at (pos column -ℤ pos 2) (pos row -ℤ pos 1) (back_sized column row i.rect)) })
+      (λ column row i. resized_at (pos column) (pos row) i)
+      (λ column row i. unsized_at (pos column) (pos row) i)
+    where
+      resized_at : (p q : ℤ) → IsIn (shifted bounds (desktop_canvas d).origin) p q → IsIn (shifted (sized (natural w) (natural h)) corner.origin) p q
+      resized_at p q i = resized x y w h (desktop_canvas d).origin corner.origin (omega (arith, ints)) (omega (arith, ints)) p q i
+
+      unsized_at : (p q : ℤ) → IsIn (shifted (sized (natural w) (natural h)) corner.origin) p q → IsIn (shifted bounds (desktop_canvas d).origin) p q
+      unsized_at p q i = unsized x y w h (desktop_canvas d).origin corner.origin (omega (arith, ints)) (omega (arith, ints)) p q i
+
+      back_from : (column row : ℕ) → IsIn (shifted (shifted bounds aside) (desktop_canvas d).origin) (pos column) (pos row) → IsIn (shifted bounds (desktop_canvas d).origin) (pos column -ℤ pos 2) (pos row -ℤ pos 1)
+      back_from column row i = record { after_left = omega (arith, ints, i.after_left); before_right = omega (arith, ints, i.before_right); after_top = omega (arith, ints, i.after_top); before_bottom = omega (arith, ints, i.before_bottom) }
+
+      aside_out : (column row : ℕ) → IsIn (shifted bounds (desktop_canvas d).origin) (pos column -ℤ pos 2) (pos row -ℤ pos 1) → IsIn (shifted (shifted bounds aside) (desktop_canvas d).origin) (pos column) (pos row)
+      aside_out column row i = record { after_left = omega (arith, ints, i.after_left); before_right = omega (arith, ints, i.before_right); after_top = omega (arith, ints, i.after_top); before_bottom = omega (arith, ints, i.before_bottom) }
+
+      back_sized : (column row : ℕ) → IsIn (shifted (shifted (sized (natural w) (natural h)) aside) corner.origin) (pos column) (pos row) → IsIn (shifted (sized (natural w) (natural h)) corner.origin) (pos column -ℤ pos 2) (pos row -ℤ pos 1)
+      back_sized column row i = record { after_left = omega (arith, ints, i.after_left); before_right = omega (arith, ints, i.before_right); after_top = omega (arith, ints, i.after_top); before_bottom = omega (arith, ints, i.before_bottom) }
+
+      aside_in : (column row : ℕ) → IsIn (shifted (sized (natural w) (natural h)) corner.origin) (pos column -ℤ pos 2) (pos row -ℤ pos 1) → IsIn (shifted (shifted (sized (natural w) (natural h)) aside) corner.origin) (pos column) (pos row)
+      aside_in column row i = record { after_left = omega (arith, ints, i.after_left); before_right = omega (arith, ints, i.before_right); after_top = omega (arith, ints, i.after_top); before_bottom = omega (arith, ints, i.before_bottom) }
+
+  -- ---- a static text inside the frame
+
+  module _ (nx ny nw nh : ℤ) (inside : (p q : ℤ) → IsIn (rect nx ny nw nh) p q → IsIn (rect (pos 1) (pos 1) (w -ℤ pos 2) (h -ℤ pos 2)) p q) where
+    abbrev pub leaf : Canvas
+    leaf = canvas_at (desktop d) (x +ℤ nx) (y +ℤ ny)
+
+    text_to : (column row : ℕ) → Covers (sub body (rect nx ny nw nh)) (sized (natural nw) (natural nh)) column row → Covers leaf (sized (natural nw) (natural nh)) column row
+    text_to column row i =
+        let c = covers_sub body nx ny nw nh column row i in
+        let outer = (in_cut (cut (desktop d) (shifted bounds (desktop_canvas d).origin)) (shifted (rect (pos 0) (pos 0) w h) inner.origin) (pos column) (pos row)).0 c.clip in
+        record {
+          clip = ((in_cut (desktop d) (shifted bounds (desktop_canvas d).origin) (pos column) (pos row)).0 outer.0).0;
+          rect = resized nx ny nw nh body.origin leaf.origin (omega (arith, ints)) (omega (arith, ints)) (pos column) (pos row) c.rect;
+        }
+
+    text_back : (column row : ℕ) → Covers leaf (sized (natural nw) (natural nh)) column row → Covers (sub body (rect nx ny nw nh)) (sized (natural nw) (natural nh)) column row
+    text_back column row i =
+        let at = unsized nx ny nw nh body.origin leaf.origin (omega (arith, ints)) (omega (arith, ints)) (pos column) (pos row) i.rect in
+        let within = inside (pos column -ℤ x) (pos row -ℤ y) (record { after_left = omega (arith, ints, at.after_left); before_right = omega (arith, ints, at.before_right); after_top = omega (arith, ints, at.after_top); before_bottom = omega (arith, ints, at.before_bottom) }) in
+        sub_covers body nx ny nw nh column row (record {
+          clip = (in_cut (cut (desktop d) (shifted bounds (desktop_canvas d).origin)) (shifted (rect (pos 0) (pos 0) w h) inner.origin) (pos column) (pos row)).1 (
+            (in_cut (desktop d) (shifted bounds (desktop_canvas d).origin) (pos column) (pos row)).1 (
+              i.clip,
+              record { after_left = omega (arith, ints, within.after_left); before_right = omega (arith, ints, within.before_right); after_top = omega (arith, ints, within.after_top); before_bottom = omega (arith, ints, within.before_bottom) },
+            ),
+            record { after_left = omega (arith, ints, within.after_left); before_right = omega (arith, ints, within.before_right); after_top = omega (arith, ints, within.after_top); before_bottom = omega (arith, ints, within.before_bottom) },
+          );
+          rect = at;
+        })
+
+    pub text_same : (face other : ℕ → ℕ → Glyph) → face ≡ other → IsSame (Painted (sub body (rect nx ny nw nh)) (natural nw) (natural nh) face ∷ []) (Painted leaf (natural nw) (natural nh) other ∷ [])
+    text_same face other same =
+        painted_same (sub body (rect nx ny nw nh)) leaf (natural nw) (natural nh) face other
+        (point_is (nx +ℤ (pos 0 +ℤ (x +ℤ pos 0))) (ny +ℤ (pos 0 +ℤ (y +ℤ pos 0))) (x +ℤ nx) (y +ℤ ny) (omega (arith, ints)) (omega (arith, ints))) same text_to text_back
+
+-- ---- the views of a declared window
+
+text_face_same : (env : Env) → IsOfWindow env → (text : List ℕ) → static_text_face env text ≡ static_text owners.Window text
+text_face_same env lent text = rw (lent.owner, leads_through (roles.StaticText owners.Window) env.chain.now lent.chain) refl
+
+pub look_same : (env : Env) → IsOfWindow env → (number : ℕ) (is_active : Bool) → frame_look (colour_in env.chain.now) owners.Window number is_active ≡ frame_look attribute_of owners.Window number is_active
+look_same env lent number is_active =
+    rw (leads_through (roles.Frame owners.Window (frame_role is_active)) env.chain.now lent.chain, leads_through (roles.Frame owners.Window frame.Body) env.chain.now lent.chain) refl
+
+module _ (env : Env) (lent : IsOfWindow env) (d : Desc) (window : Window) (h : ℤ) (tall : interior window.node ≡ rect (pos 1) (pos 1) (window.node.w -ℤ pos 2) (h -ℤ pos 2)) where
+  abbrev pub body_of_window : Canvas
+  body_of_window = body d window.node.x window.node.y window.node.w h
+
+  view_drawn : (n : Node) (height : ℤ) (text : List ℕ) → n.kind ≡ kinds.Text height text
+      → leaf_layers env body_of_window (fresh n) ≡ Painted (sub body_of_window (rect n.x n.y n.w height)) (natural n.w) (natural height) (static_text_face env text) ∷ []
+  unfolding leaf_layers
+  view_drawn n height text kind = rw kind refl
+
+  view_declared : (n : Node) (height : ℤ) (text : List ℕ) → n.kind ≡ kinds.Text height text
+      → window_view_layers d window n ≡ Painted (canvas_at (desktop d) (window.node.x +ℤ n.x) (window.node.y +ℤ n.y)) (natural n.w) (natural height) (static_text owners.Window text) ∷ []
+  view_declared n height text kind = rw kind refl
+
+  place_is : (n : Node) (height : ℤ) (text : List ℕ) → n.kind ≡ kinds.Text height text → place_of_node n ≡ rect n.x n.y n.w height
+  place_is n height text kind = rw kind refl
+
+  view_same : (n : Node) → IsTextInside window.node n → IsSame (leaf_layers env body_of_window (fresh n)) (window_view_layers d window n)
+  view_same n is =
+      let within : (p q : ℤ) → IsIn (rect n.x n.y n.w is.height) p q → IsIn (rect (pos 1) (pos 1) (window.node.w -ℤ pos 2) (h -ℤ pos 2)) p q = λ p q i. subst (λ r. IsIn r p q) tall (is.inside p q (subst (λ r. IsIn r p q) (sym (place_is n is.height is.text is.kind)) i)) in
+      rw (view_drawn n is.height is.text is.kind, view_declared n is.height is.text is.kind)
+      (text_same d window.node.x window.node.y window.node.w h n.x n.y n.w is.height within (static_text_face env is.text) (static_text owners.Window is.text) (text_face_same env lent is.text))
+
+  views_step : (n : Node) (ns : List Node) → flat_map (window_view_layers d window) (reverse (n ∷ ns)) ≡ flat_map (window_view_layers d window) (reverse ns) ++ window_view_layers d window n
+  views_step n ns =
+      ap (flat_map (window_view_layers d window)) (reverse-append (n ∷ []) ns)
+      ∙ (flat_map-append (window_view_layers d window) (reverse ns) (n ∷ []) ∙ ap (λ t. flat_map (window_view_layers d window) (reverse ns) ++ t) (append_nil (window_view_layers d window n)))
+    where
+      append_nil : (xs : List Layer) → xs ++ [] ≡ xs
+      append_nil [] = refl
+      append_nil (x ∷ xs) = ap (λ t. x ∷ t) (append_nil xs)
+
+  pub views_same : (ns : List Node) → All (IsTextInside window.node) ns → IsSame (fresh_layers env body_of_window ns) (flat_map (window_view_layers d window) (reverse ns))
+  views_same [] texts = same_refl []
+  views_same (n ∷ ns) texts =
+      rw (views_step n ns)
+      (same_append (fresh_layers env body_of_window ns) (flat_map (window_view_layers d window) (reverse ns)) (leaf_layers env body_of_window (fresh n)) (window_view_layers d window n)
+      (views_same ns (All-tail (IsTextInside window.node) n ns texts)) (view_same n (All-head (IsTextInside window.node) n ns texts)))

@@ -1,0 +1,184 @@
+-- Declared windows, one over the other.
+use Rattle.std.proofs.Common.{◌≡◌, ℕ, ℤ, pos, neg_ℤ, ◌-ℤ◌, ◌≤ℤ◌, Bool, true, false, ◌&&◌, All, List, [], ◌∷◌, ◌++◌, flat_map, length, reverse, Some, None, refl, sym, ap, ◌∙◌, arith, subst, append_assoc}
+use Rattle.std.proofs.lemmas.Int.{ints}
+use Rattle.std.proofs.lemmas.List.Elements.{All-head, All-tail, All-cons, All-nil}
+use Rattle.std.specs.Int.Signed.{le_z}
+use Rattle.tv_cells.specs.Canvas.{sub}
+use Rattle.tv_cells.specs.Layers.{Layer, Painted, Shadow, Shows}
+use Rattle.tv_cells.specs.Picture.{Picture, IsAlike}
+use Rattle.tv_cells.specs.Rectangle.{sized}
+use Rattle.tv_cells.specs.declared.rect.Point.{Point}
+use Rattle.tv_cells.specs.declared.rect.Rect.{Rect}
+use Rattle.tv_cells.specs.declared.canvas.Canvas.{Canvas}
+use Rattle.tv_model.specs.Faces.{FaceOf, FrameLook, frame_face, frame_look}
+use Rattle.tv_model.specs.Faults.{interior, rect}
+use Rattle.tv_model.specs.Layers.{window_view_layers}
+use Rattle.tv_model.specs.Layers.{stack_layers as declared_layers, window_layers as declared_window}
+use Rattle.tv_model.specs.Meaning.{Leaf, IsSmall, IsSmallRect}
+use Rattle.tv_model.specs.Nodes.{height_of, is_pane}
+use Rattle.tv_model.specs.State.{natural}
+use Rattle.tv_model.specs.declared.desc.Desc.{Desc}
+use Rattle.tv_model.specs.declared.desc.Window.{Window}
+use Rattle.tv_model.specs.declared.node.Id.{Id}
+use Rattle.tv_model.specs.declared.node.Node.{Node}
+use Rattle.tv_model.specs.declared.node.Kind.{Kind}
+use Rattle.tv_model.specs.declared.node.Kind.TheVariants as kinds
+use Rattle.tv_palette.specs.Attributes.{attribute_of}
+use Rattle.tv_palette.specs.Palettes.{colour_in}
+use Rattle.tv_palette.specs.declared.role.Owner.TheVariants as owners
+use Rattle.tv_view.specs.declared.env.Env.{Env}
+use Rattle.tv_view.specs.Drawing.{Lays, is_near, leaves_layers}
+use Rattle.tv_view.proofs.Laying.{lays_none, lays_then}
+use Rattle.tv_group.specs.Opened.{opened}
+use Rattle.tv_group.specs.Outline.{IsFreshBody}
+use Rattle.tv_group.proofs.FreshLeaves.{IsLeafNode, fresh_layers, group_drawn}
+use Rattle.tv_window.specs.DeclaredWindows.{AreDeclared, IsOfWindow, IsTextInside, desktop_canvas}
+use Rattle.tv_window.specs.Head.{WindowHead, bounds_of, declared_head}
+use Rattle.tv_window.specs.Window.{body_of, frame_layer, head_of, window_layers}
+use Rattle.tv_window.specs.declared.window.WindowOf.{WindowOf}
+use Rattle.tv_window.proofs.Flat.{body, corner, frame_same, inner, look_same, shadows_same, views_same}
+use Rattle.tv_window.proofs.Same.{IsSame, lays_same, same_append}
+
+-- ---- what a head says of its node
+
+pub record IsHead (node : Node) (head : WindowHead) : Type 0 where
+  pub name : List ℕ
+  pub h : ℤ
+  pub number : ℤ
+  pub title : List ℕ
+  pub kind : node.kind ≡ kinds.Window name h number title
+  pub is : head ≡ record { id = node.id; x = node.x; y = node.y; w = node.w; h = h; number = number; title = title }
+
+some_is : {A : Type 0} (a b : A) → Some a ≡ Some b → a ≡ b
+some_is a b e = cc
+
+head_is : (node : Node) (head : WindowHead) → Some head ≡ declared_head node → IsHead node head
+head_is node head same = by_kind node.kind refl
+  where
+    by_kind : (k : Kind) → node.kind ≡ k → IsHead node head
+    by_kind (kinds.Window name h number title) e = record { name = name; h = h; number = number; title = title; kind = e; is = some_is head _ (rw e at same) }
+    by_kind (kinds.Dialog name h title opens ends) e = absurd (let f : Some head ≡ None = rw e at same in cc)
+    by_kind (kinds.Text h text) e = absurd (let f : Some head ≡ None = rw e at same in cc)
+    by_kind (kinds.Label text link) e = absurd (let f : Some head ≡ None = rw e at same in cc)
+    by_kind (kinds.Button name text command is_default grabs) e = absurd (let f : Some head ≡ None = rw e at same in cc)
+    by_kind (kinds.Input name spec start validates) e = absurd (let f : Some head ≡ None = rw e at same in cc)
+    by_kind (kinds.CheckBoxes name items start) e = absurd (let f : Some head ≡ None = rw e at same in cc)
+    by_kind (kinds.RadioButtons name items start) e = absurd (let f : Some head ≡ None = rw e at same in cc)
+    by_kind (kinds.List name h items start) e = absurd (let f : Some head ≡ None = rw e at same in cc)
+    by_kind (kinds.Pane name h) e = absurd (let f : Some head ≡ None = rw e at same in cc)
+
+-- ---- small origins are near
+
+le_holds : (a b : ℤ) → a ≤ℤ b → le_z a b ≡ true
+le_holds a b h = grind (arith, ints)
+
+near_axis : (z o : ℤ) → IsSmall z → o ≡ z → (le_z (neg_ℤ (pos 100000)) o && le_z o (pos 100000)) ≡ true
+near_axis z o small e = rw (le_holds (neg_ℤ (pos 100000)) o (omega (arith, ints, small.low, e)), le_holds o (pos 100000) (omega (arith, ints, small.high, e))) refl
+
+near_point : (x y : ℤ) (o : Point) → IsSmall x → IsSmall y → o.x ≡ x → o.y ≡ y → is_near o ≡ true
+near_point x y o sx sy ex ey = rw (near_axis x o.x sx ex, near_axis y o.y sy ey) refl
+
+-- ---- texts are no panes
+
+leaf_nodes : (owner : Node) (nodes : List Node) → All (IsTextInside owner) nodes → All IsLeafNode nodes
+leaf_nodes owner [] texts = All-nil IsLeafNode
+leaf_nodes owner (n ∷ ns) texts =
+    let text = All-head (IsTextInside owner) n ns texts in
+    let leaf : is_pane n.kind ≡ false = rw text.kind refl in
+    All-cons IsLeafNode n ns leaf (leaf_nodes owner ns (All-tail (IsTextInside owner) n ns texts))
+
+-- ---- one window
+
+module _ {V : Type 0} (look : V → Leaf) (env : Env) (lent : IsOfWindow env) (d : Desc) where
+  abbrev pub shadow_of : WindowOf V → Layer
+  shadow_of window = Shadow (desktop_canvas d) (bounds_of (head_of window))
+
+  leaves_drawn : (owner : Node) (views : List Node) (h : ℤ) (window : WindowOf V) → IsFreshBody look owner views (body_of window) → height_of owner.kind ≡ h
+      → bounds_of (head_of window) ≡ rect owner.x owner.y owner.w h → IsSmallRect (bounds_of (head_of window)) → All (IsTextInside owner) views
+      → leaves_layers env (sub (desktop_canvas d) (bounds_of (head_of window))) (opened look (body_of window)) ≡ fresh_layers env (body d owner.x owner.y owner.w h) views
+  leaves_drawn owner views h window fresh tall is small texts =
+      let whole : (body_of window).bounds ≡ rect (pos 0) (pos 0) owner.w h = sym fresh.bounds ∙ ap (λ k. rect (pos 0) (pos 0) owner.w k) tall in
+      let place : sub (sub (desktop_canvas d) (bounds_of (head_of window))) (body_of window).bounds ≡ body d owner.x owner.y owner.w h =
+      ap (λ r. sub (sub (desktop_canvas d) r) (body_of window).bounds) is ∙ ap (λ r. sub (sub (desktop_canvas d) (rect owner.x owner.y owner.w h)) r) whole in
+      let narrow : IsSmallRect (rect owner.x owner.y owner.w h) = subst IsSmallRect is small in
+      let near : is_near (sub (sub (desktop_canvas d) (bounds_of (head_of window))) (body_of window).bounds).origin ≡ true =
+      ap (λ c. is_near c.origin) place
+      ∙ near_point owner.x owner.y (body d owner.x owner.y owner.w h).origin narrow.left narrow.top (omega (arith, ints)) (omega (arith, ints)) in
+      group_drawn look env (sub (desktop_canvas d) (bounds_of (head_of window))) (body_of window) views (leaf_nodes owner views texts) near fresh.parts
+      ∙ ap (λ c. fresh_layers env c views) place
+
+  module _ (window : WindowOf V) (declared : Window) (is : IsHead declared.node (head_of window)) (fresh : IsFreshBody look declared.node declared.views (body_of window))
+      (texts : All (IsTextInside declared.node) declared.views) (small : IsSmallRect (bounds_of (head_of window))) where
+    abbrev x : ℤ
+    x = declared.node.x
+
+    abbrev y : ℤ
+    y = declared.node.y
+
+    abbrev w : ℤ
+    w = declared.node.w
+
+    tall : height_of declared.node.kind ≡ is.h
+    tall = rw is.kind refl
+
+    placed : bounds_of (head_of window) ≡ rect x y w is.h
+    placed = ap bounds_of is.is
+
+    abbrev face_in : FrameLook → FaceOf
+    face_in frame = frame_face (natural w) (natural is.h) is.title frame
+
+    abbrev views : List Layer
+    views = flat_map (window_view_layers d declared) (reverse declared.views)
+
+    drawn : window_layers look env (desktop_canvas d) window ++ shadow_of window ∷ []
+        ≡ (fresh_layers env (body d x y w is.h) declared.views
+        ++ Painted (inner d x y w is.h) (natural w) (natural is.h) (face_in (frame_look (colour_in env.chain.now) owners.Window (natural is.number) env.is_active)) ∷ [])
+        ++ Shadow (desktop_canvas d) (rect x y w is.h) ∷ []
+    drawn =
+        ap (λ t. (t ++ frame_layer env (desktop_canvas d) (head_of window) ∷ []) ++ shadow_of window ∷ []) (leaves_drawn declared.node declared.views is.h window fresh tall placed small texts)
+        ∙ ap (λ head. (fresh_layers env (body d x y w is.h) declared.views ++ frame_layer env (desktop_canvas d) head ∷ []) ++ Shadow (desktop_canvas d) (bounds_of head) ∷ []) is.is
+
+    shown : (a : Bool) → declared_window d a declared
+        ≡ views ++ (Painted (corner d x y w is.h) (natural w) (natural is.h) (face_in (frame_look attribute_of owners.Window (natural is.number) a)) ∷ Shadow (corner d x y w is.h) (sized (natural w) (natural is.h)) ∷ [])
+    shown a = rw is.kind refl
+
+    pub window_same : IsSame (window_layers look env (desktop_canvas d) window ++ shadow_of window ∷ []) (declared_window d env.is_active declared)
+    window_same =
+        let seen = frame_look (colour_in env.chain.now) owners.Window (natural is.number) env.is_active in
+        let told = frame_look attribute_of owners.Window (natural is.number) env.is_active in
+        let inside : interior declared.node ≡ rect (pos 1) (pos 1) (w -ℤ pos 2) (is.h -ℤ pos 2) = ap (λ k. rect (pos 1) (pos 1) (w -ℤ pos 2) (k -ℤ pos 2)) tall in
+        let framed = frame_same d x y w is.h (face_in seen) (face_in told) (ap face_in (look_same env lent (natural is.number) env.is_active)) in
+        let text = views_same env lent d declared is.h inside declared.views texts in
+        rw (drawn, shown env.is_active, ← append_assoc views (Painted (corner d x y w is.h) (natural w) (natural is.h) (face_in told) ∷ []) (Shadow (corner d x y w is.h) (sized (natural w) (natural is.h)) ∷ []))
+        (same_append _ _ _ _ (same_append _ _ _ _ text framed) (shadows_same d x y w is.h))
+
+  -- ---- one over the other
+
+  pub none_declared : (ids : List Id) (windows : List (WindowOf V)) (p : Picture) → length windows ≡ 0 → AreDeclared look d ids windows → Lays (declared_layers d env.is_active ids) p p
+  none_declared [] [] p e are = lays_none p
+  none_declared (i ∷ ids) [] p e are = absurd are
+  none_declared ids (window ∷ windows) p e are = absurd cc
+
+  stack_declared : (ids : List Id) (front : WindowOf V) (behind : List (WindowOf V)) (old mid after new : Picture) → AreDeclared look d ids (front ∷ behind)
+      → IsSmallRect (bounds_of (head_of front))
+      → ((rest : List Id) → AreDeclared look d rest behind → Lays (declared_layers d false rest) old mid)
+      → Lays (shadow_of front ∷ []) mid after → Lays (window_layers look env (desktop_canvas d) front) after new
+      → Lays (declared_layers d env.is_active ids) old new
+  stack_declared [] front behind old mid after new are small below shadow here = absurd are
+  stack_declared (i ∷ ids) front behind old mid after new are small below shadow here =
+      let one = are.0 in
+      let window = lays_same _ _ mid new (window_same front one.declared (head_is one.declared.node (head_of front) one.fresh.head) one.fresh.body one.texts small)
+      (lays_then (shadow_of front ∷ []) (window_layers look env (desktop_canvas d) front) mid after new shadow here) in
+      rw one.named (lays_then (declared_layers d false ids) (declared_window d env.is_active one.declared) old mid new (below ids are.1) window)
+
+  -- as they were drawn through a canvas, with the shadow of a rectangle
+  pub stack_drawn : (ids : List Id) (windows : List (WindowOf V)) (front : WindowOf V) (behind : List (WindowOf V)) (c : Canvas) (r : Rect) (old mid after new : Picture)
+      → windows ≡ front ∷ behind → c ≡ desktop_canvas d → r ≡ bounds_of (head_of front) → IsSmallRect r → AreDeclared look d ids windows
+      → ((rest : List Id) → AreDeclared look d rest behind → Lays (declared_layers d false rest) old mid)
+      → IsAlike mid after → ((layers : List Layer) → Shows layers mid → Shows (Shadow c r ∷ layers) after)
+      → Lays (window_layers look env c front) after new
+      → Lays (declared_layers d env.is_active ids) old new
+  stack_drawn ids windows front behind c r old mid after new split seen bounds small are below size shows here =
+      stack_declared ids front behind old mid after new (subst (AreDeclared look d ids) split are) (subst IsSmallRect bounds small) below
+      (record { size = size; shows = λ layers shown. subst (λ s. Shows (Shadow (desktop_canvas d) s ∷ layers) after) bounds (subst (λ k. Shows (Shadow k r ∷ layers) after) seen (shows layers shown)) })
+      (subst (λ k. Lays (window_layers look env k front) after new) seen here)
