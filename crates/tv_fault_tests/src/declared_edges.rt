@@ -1,8 +1,8 @@
 //! Windows, dialogs, menus and status items just outside and just inside of what their faults ask for.
 
-use crate::descriptions::HEAD;
-use crate::tables::expect_findings;
 use std::test::Fail;
+use tv_test_support::descriptions::HEAD;
+use tv_test_support::expect_findings;
 
 // What stands before the status items, up to the fifth line.
 const MENU: &str = r#"tvd 1
@@ -52,7 +52,8 @@ window v 1 1 20 5 0 ""
 end
 window v 1 1 20 5 0 ""
 end
-=> F1 line 5, F1 line 7
+=> F1 line 5
+=> F1 line 7
 start d
 dialog d 2 2 36 11 "" ends cancel
 button c 1 1 10 "~C~" cancel default
@@ -73,7 +74,8 @@ end
 dialog d 2 2 36 11 "" ends cancel
 button c 1 1 10 "~C~" cancel default
 end
-=> F1 line 6, F16 line 3
+=> F1 line 6
+=> F16 line 3
 dialog d 2 2 36 11 "" opens 100 ends cancel
 button c 1 1 10 "~C~" cancel default
 end
@@ -114,7 +116,8 @@ end
 dialog e 2 2 36 11 "" opens 7 ends cancel
 button c 1 1 10 "~C~" cancel default
 end
-=> F16 line 3, F16 line 6
+=> F16 line 3
+=> F16 line 6
 window v 1 1 20 5 1 ""
 end
 window w 1 1 20 5 2 ""
@@ -139,7 +142,8 @@ window v 1 1 20 5 10 ""
 end
 window w 1 1 20 5 10 ""
 end
-=> F15 line 3, F15 line 5
+=> F15 line 3
+=> F15 line 5
 window v 1 1 20 5 -1 ""
 end
 => F15 line 3
@@ -186,7 +190,7 @@ end
 
 #[test]
 fn declarations(rt: HostRuntime) -> Result<(), Fail> {
-    expect_findings(&rt, rt.alloc(), HEAD, DECLARED, "")
+    expect_findings(rt.alloc(), HEAD, DECLARED, "")
 }
 
 // Keys of status items.
@@ -248,12 +252,13 @@ status "" F1 menu
 => F5 line 7
 status "" Alt-C quit
 status "" Alt-C quit
-=> F5 line 6, F5 line 7
+=> F5 line 6
+=> F5 line 7
 "#;
 
 #[test]
 fn status_keys(rt: HostRuntime) -> Result<(), Fail> {
-    expect_findings(&rt, rt.alloc(), MENU, STATUS, REST)
+    expect_findings(rt.alloc(), MENU, STATUS, REST)
 }
 
 // Windows may lie off the screen, their texts not outside of them.
@@ -304,12 +309,13 @@ end
 window w 1 1 0 0 1 ""
 text 1 1 1 1 ""
 end
-=> F2 line 4, F15 line 3
+=> F2 line 4
+=> F15 line 3
 "#;
 
 #[test]
 fn windows(rt: HostRuntime) -> Result<(), Fail> {
-    expect_findings(&rt, rt.alloc(), HEAD, WINDOWS, "")
+    expect_findings(rt.alloc(), HEAD, WINDOWS, "")
 }
 
 // Characters of one column, and others.
@@ -334,7 +340,7 @@ end
 
 #[test]
 fn characters(rt: HostRuntime) -> Result<(), Fail> {
-    expect_findings(&rt, rt.alloc(), HEAD, CHARACTERS, "")
+    expect_findings(rt.alloc(), HEAD, CHARACTERS, "")
 }
 
 // Numbers of commands.
@@ -347,13 +353,15 @@ menu ""
 item "" 99
 item "" 256
 end
-=> F15 line 4, F15 line 5
+=> F15 line 4
+=> F15 line 5
 status "" F1 100
 status "" F2 255
 => sound
 status "" F1 99
 status "" F2 256
-=> F15 line 3, F15 line 4
+=> F15 line 3
+=> F15 line 4
 dialog d 2 2 36 11 "" ends cancel
 button c 1 1 10 "~C~" cancel default
 checks k 1 2 8 "a"
@@ -367,18 +375,20 @@ checks k 1 2 8 "a"
 enable 99 when k 1
 enable -1 when k 1
 end
-=> F15 line 6, F15 line 7
+=> F15 line 6
+=> F15 line 7
 dialog d 2 2 36 11 "" ends cancel
 button c 1 1 10 "~C~" cancel default
 button e 1 2 8 "" 99
 button f 1 3 8 "" 256
 end
-=> F15 line 5, F15 line 6
+=> F15 line 5
+=> F15 line 6
 "#;
 
 #[test]
 fn commands(rt: HostRuntime) -> Result<(), Fail> {
-    expect_findings(&rt, rt.alloc(), HEAD, COMMANDS, "")
+    expect_findings(rt.alloc(), HEAD, COMMANDS, "")
 }
 
 // Texts of 120 characters and of 121.
@@ -421,5 +431,5 @@ end
 
 #[test]
 fn lengths(rt: HostRuntime) -> Result<(), Fail> {
-    expect_findings(&rt, rt.alloc(), HEAD, LENGTHS, "")
+    expect_findings(rt.alloc(), HEAD, LENGTHS, "")
 }

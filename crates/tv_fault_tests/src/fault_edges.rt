@@ -1,8 +1,8 @@
 //! Dialogs just outside and just inside of what the faults of names, letters, labels, rules, focus and ends ask for.
 
-use crate::descriptions::DIALOG;
-use crate::tables::expect_findings;
 use std::test::Fail;
+use tv_test_support::descriptions::DIALOG;
+use tv_test_support::expect_findings;
 
 // A dialog without views, up to the third line.
 const BARE: &str = r#"tvd 1
@@ -41,12 +41,13 @@ end
 => F1 line 6
 checks c 1 2 8 "a"
 list c 1 3 8 1 "a" start 1
-=> F1 line 5, F1 line 6
+=> F1 line 5
+=> F1 line 6
 "#;
 
 #[test]
 fn names_in_dialogs(rt: HostRuntime) -> Result<(), Fail> {
-    expect_findings(&rt, rt.alloc(), DIALOG, NAMES, "end\n")
+    expect_findings(rt.alloc(), DIALOG, NAMES, "end\n")
 }
 
 // Marked letters. `~` marks nothing in static texts and lists.
@@ -84,7 +85,7 @@ end
 
 #[test]
 fn letters(rt: HostRuntime) -> Result<(), Fail> {
-    expect_findings(&rt, rt.alloc(), DIALOG, LETTERS, "end\n")
+    expect_findings(rt.alloc(), DIALOG, LETTERS, "end\n")
 }
 
 // Links of labels, before and behind the control.
@@ -112,7 +113,7 @@ list l 1 4 8 1 "a" start 1
 
 #[test]
 fn labels(rt: HostRuntime) -> Result<(), Fail> {
-    expect_findings(&rt, rt.alloc(), DIALOG, LABELS, "end\n")
+    expect_findings(rt.alloc(), DIALOG, LABELS, "end\n")
 }
 
 // Rules over what is and isn't there, and over their own cluster.
@@ -153,7 +154,8 @@ show r when r 1
 show p when r 1
 => F8 line 9
 show k when k 3
-=> F7 line 9, F8 line 9
+=> F7 line 9
+=> F8 line 9
 show c when k 1
 show p when k 3
 => F7 line 10
@@ -161,7 +163,7 @@ show p when k 3
 
 #[test]
 fn rules(rt: HostRuntime) -> Result<(), Fail> {
-    expect_findings(&rt, rt.alloc(), CLUSTERS, RULES, "end\n")
+    expect_findings(rt.alloc(), CLUSTERS, RULES, "end\n")
 }
 
 // Dialogs whose rules reach all controls, or all but one.
@@ -178,19 +180,24 @@ end
 => sound
 button e 1 1 8 "" 101
 enable 101 when z 1
-=> F7 line 5, F9 line 3
+=> F7 line 5
+=> F9 line 3
 button e 1 1 8 "" 101
 enable 102 when z 1
 => F7 line 5
 button e 1 1 8 "" cancel
 show e when z 1
-=> F7 line 5, F9 line 3
+=> F7 line 5
+=> F9 line 3
 button e 1 1 8 "" close
 enable close when z 1
-=> F7 line 5, F9 line 3, F17 line 5
+=> F7 line 5
+=> F9 line 3
+=> F17 line 5
 button e 1 1 8 "" cancel
 enable close when z 1
-=> F7 line 5, F17 line 5
+=> F7 line 5
+=> F17 line 5
 checks k 1 1 8 "a"
 radios r 1 2 8 "a" start 1
 show k when r 1
@@ -222,7 +229,7 @@ show j when k 1
 
 #[test]
 fn controls_to_focus(rt: HostRuntime) -> Result<(), Fail> {
-    expect_findings(&rt, rt.alloc(), BARE, FOCUS, "end\n")
+    expect_findings(rt.alloc(), BARE, FOCUS, "end\n")
 }
 
 // Buttons of ends, and default buttons.
@@ -245,7 +252,8 @@ button f 1 3 8 "" ok default grab
 button e 1 2 8 "" cancel default
 button f 1 3 8 "" ok default
 button g 1 4 8 "" ok default
-=> F11 line 6, F11 line 7
+=> F11 line 6
+=> F11 line 7
 button e 1 2 8 "" cancel default
 pane p 1 3 8 1
 button f 0 0 8 "" ok default
@@ -255,5 +263,5 @@ end
 
 #[test]
 fn ends_and_defaults(rt: HostRuntime) -> Result<(), Fail> {
-    expect_findings(&rt, rt.alloc(), DIALOG, ENDS, "end\n")
+    expect_findings(rt.alloc(), DIALOG, ENDS, "end\n")
 }

@@ -1,0 +1,11 @@
+//! What the crates of tests share: descriptions, tables of texts and what is found in them, writers in memory.
+#![tactic(auto)]
+
+pub mod descriptions;
+mod findings;
+mod tables;
+mod writers;
+
+pub use findings::{Findings, expect_edits, expect_finding, expect_findings};
+pub use tables::{Question, expect_answer, expect_answers, push_line};
+pub use writers::{Idle, Memory};
