@@ -7,6 +7,7 @@ use tv_program::thin::run;
 use tv_test_support::{Findings, Memory, Question, expect_answers};
 
 // What a run without items comes to: `sound`, or the faults that the program tells of.
+#[derive(Clone, Copy)]
 struct Running;
 
 impl Question for Running {

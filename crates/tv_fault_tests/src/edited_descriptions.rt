@@ -2,7 +2,7 @@
 
 use std::test::Fail;
 use tv_test_support::descriptions::{CANCEL, CLOSED, COLOUR, MENUS, ORDER, SHARED_LETTER, WINDOWS};
-use tv_test_support::{expect_edits, expect_finding};
+use tv_test_support::{Findings, expect_edits, expect_finding};
 
 // A name given twice, a label of a pane, an item that isn't there, a range of four digits in three characters, an opening
 // command that is too small.
@@ -84,10 +84,10 @@ fn sound_descriptions(rt: HostRuntime) -> Result<(), Fail> {
 #[test]
 fn one_fault_each(rt: HostRuntime) -> Result<(), Fail> {
     let alloc = rt.alloc();
-    expect_edits(alloc, ORDER, ORDER_EDITS)?;
-    expect_edits(alloc, CANCEL, CANCEL_EDITS)?;
-    expect_edits(alloc, COLOUR, COLOUR_EDITS)?;
-    expect_edits(alloc, MENUS, MENU_EDITS)
+    expect_edits(&Findings, alloc, ORDER, ORDER_EDITS)?;
+    expect_edits(&Findings, alloc, CANCEL, CANCEL_EDITS)?;
+    expect_edits(&Findings, alloc, COLOUR, COLOUR_EDITS)?;
+    expect_edits(&Findings, alloc, MENUS, MENU_EDITS)
 }
 
 // Letters are compared over the whole dialog, and not among the views of one pane.
@@ -98,11 +98,11 @@ fn letter_shared_in_panes(rt: HostRuntime) -> Result<(), Fail> {
 
 #[test]
 fn status_key_on_shortcut(rt: HostRuntime) -> Result<(), Fail> {
-    expect_edits(rt.alloc(), CANCEL, STATUS_KEY)
+    expect_edits(&Findings, rt.alloc(), CANCEL, STATUS_KEY)
 }
 
 // `ORDER` itself shows a pane beside its check boxes, and is sound.
 #[test]
 fn rule_shows_itself(rt: HostRuntime) -> Result<(), Fail> {
-    expect_edits(rt.alloc(), ORDER, SHOWN_BY_ITSELF)
+    expect_edits(&Findings, rt.alloc(), ORDER, SHOWN_BY_ITSELF)
 }

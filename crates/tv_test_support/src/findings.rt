@@ -1,10 +1,10 @@
 //! What the parser and the checker find in a description.
 
-use crate::tables::{Question, expect_answer, expect_answers, push_line};
+use crate::tables::{Question, expect_answer, expect_answers};
 use std::alloc::Global;
 use std::test::Fail;
 use tv_check::faults;
-use tv_lang::{LangFault, Lines, parse};
+use tv_lang::{LangFault, parse};
 use tv_model::Desc;
 
 /// What is found in a description: `sound`, its faults in their order, as `F1 line 5`, or why it can't be read.
@@ -45,30 +45,4 @@ pub fn expect_finding(alloc: Global, text: &str, wanted: &str) -> Result<(), Fai
 /// Fails where in some description of a table something else is found than its row says.
 pub fn expect_findings(alloc: Global, before: &str, table: &str, after: &str) -> Result<(), Fail> {
     expect_answers(&Findings, alloc, before, table, after)
-}
-
-/// Fails where after some edit of a description something else is found than its row says.
-///
-/// An edit takes out the lines after `- `, where they stand first, and puts the lines after `+ ` in their place.
-pub fn expect_edits(alloc: Global, description: &str, table: &str) -> Result<(), Fail> {
-    let mut old = String::new(alloc);
-    let mut new = String::new(alloc);
-    for line in Lines::new(table.as_bytes()) {
-        let line = str::from_utf8(line)?;
-        if let Some(line) = line.strip_prefix("- ") {
-            push_line(&mut old, line)?;
-        } else if let Some(line) = line.strip_prefix("+ ") {
-            push_line(&mut new, line)?;
-        } else {
-            let wanted = line.strip_prefix("=> ").ok_or("no line of an edit")?;
-            let (before, after) = description
-                .split_once(old.as_str())
-                .ok_or("nothing to edit")?;
-            let edited = format!(in alloc; "{before}{new}{after}")?;
-            expect_finding(alloc, &edited, wanted)?;
-            old.clear();
-            new.clear();
-        }
-    }
-    Ok(())
 }

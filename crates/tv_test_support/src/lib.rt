@@ -6,6 +6,6 @@ mod findings;
 mod tables;
 mod writers;
 
-pub use findings::{Findings, expect_edits, expect_finding, expect_findings};
-pub use tables::{Question, expect_answer, expect_answers, push_line};
+pub use findings::{Findings, expect_finding, expect_findings};
+pub use tables::{Question, expect_answer, expect_answers, expect_edits, push_line};
 pub use writers::{Idle, Memory};

@@ -93,3 +93,34 @@ fn judge<Q: Question>(
     let whole = format!(in alloc; "{before}{}{after}", row.text)?;
     expect_answer(question, alloc, &whole, &row.wanted)
 }
+
+/// Fails where after some edit of a text another answer is given than its row says.
+///
+/// An edit takes out the lines after `- `, where they stand first, and puts the lines after `+ ` in their place. One line
+/// after `=> ` ends it.
+pub fn expect_edits<Q: Question>(
+    question: &Q,
+    alloc: Global,
+    text: &str,
+    table: &str,
+) -> Result<(), Fail> {
+    let mut old = String::new(alloc);
+    let mut new = String::new(alloc);
+    for line in Lines::new(table.as_bytes()) {
+        let line = str::from_utf8(line)?;
+        if let Some(line) = line.strip_prefix("- ") {
+            push_line(&mut old, line)?;
+        } else if let Some(line) = line.strip_prefix("+ ") {
+            push_line(&mut new, line)?;
+        } else {
+            let wanted = line.strip_prefix("=> ").ok_or("no line of an edit")?;
+            let (before, after) = text.split_once(old.as_str()).ok_or("nothing to edit")?;
+            let edited = format!(in alloc; "{before}{new}{after}")?;
+            let wanted = format!(in alloc; "{wanted}\n")?;
+            expect_answer(question, alloc, &edited, &wanted)?;
+            old.clear();
+            new.clear();
+        }
+    }
+    Ok(())
+}

@@ -10,6 +10,7 @@ use tv_test_support::descriptions::{CANCEL, WITHOUT_CANCEL};
 use tv_test_support::{Findings, Memory, Question, expect_answers};
 
 // Whether a text is read as a description.
+#[derive(Clone, Copy)]
 struct Reading;
 
 impl Question for Reading {
@@ -314,6 +315,7 @@ end
 }
 
 // What a run of a script comes to, where the reader of scripts says the same.
+#[derive(Clone, Copy)]
 struct Scripts;
 
 impl Question for Scripts {
