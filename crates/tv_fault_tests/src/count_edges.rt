@@ -137,6 +137,19 @@ checks k 1 2 8"#,
 }
 
 #[test]
+fn items_of_radio_buttons(rt: HostRuntime) -> Result<(), Fail> {
+    let things = Things {
+        before: r#"tvd 1
+screen 40 30
+dialog d 2 2 36 26 "" ends cancel
+radios r 1 2 8"#,
+        each: (" \"a", "\""),
+        after: " start 1\nend\n",
+    };
+    expect_most(rt.alloc(), things, 16, "F15 line 4")
+}
+
+#[test]
 fn items_of_lists(rt: HostRuntime) -> Result<(), Fail> {
     let things = Things {
         before: r#"tvd 1

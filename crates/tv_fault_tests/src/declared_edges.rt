@@ -228,6 +228,18 @@ status "" Home quit
 => F5 line 6
 status "" PgDn quit
 => F5 line 6
+status "" Down quit
+=> F5 line 6
+status "" Left quit
+=> F5 line 6
+status "" Right quit
+=> F5 line 6
+status "" End quit
+=> F5 line 6
+status "" PgUp quit
+=> F5 line 6
+status "" Ctrl-PgDn quit
+=> F5 line 6
 status "" Ctrl-PgUp quit
 => F5 line 6
 status "" Backspace quit
@@ -259,6 +271,43 @@ status "" Alt-C quit
 #[test]
 fn status_keys(rt: HostRuntime) -> Result<(), Fail> {
     expect_findings(rt.alloc(), MENU, STATUS, REST)
+}
+
+// What stands behind other status items: shortcuts of a label, of items, of a hidden button, and of a second dialog.
+const SHORTCUTS: &str = r#"dialog d 2 2 36 11 "" ends cancel
+label 1 1 4 "~a~" c
+checks k 1 2 8 "x" "~B~"
+radios r 1 4 8 "~0~" start 1
+button c 1 6 10 "" cancel
+button e 1 7 10 "~H~" 120
+show e when k 1
+end
+dialog f 2 2 36 11 "" ends cancel
+button c 1 1 10 "~z~" cancel
+end
+"#;
+
+// Keys that are such a shortcut, and others.
+const SHORTCUT_KEYS: &str = r#"status "" Alt-A quit
+=> F5 line 3
+status "" Alt-B quit
+=> F5 line 3
+status "" Alt-0 quit
+=> F5 line 3
+status "" Alt-H quit
+=> F5 line 3
+status "" Alt-Z quit
+=> F5 line 3
+status "" Alt-X quit
+status "" Alt-1 quit
+status "" Ctrl-A quit
+status "" Ctrl-Z quit
+=> sound
+"#;
+
+#[test]
+fn shortcut_keys(rt: HostRuntime) -> Result<(), Fail> {
+    expect_findings(rt.alloc(), HEAD, SHORTCUT_KEYS, SHORTCUTS)
 }
 
 // Windows may lie off the screen, their texts not outside of them.
@@ -294,6 +343,9 @@ end
 window w 132 -133 12 3 0 ""
 end
 => F15 line 3
+window w 132 133 12 3 0 ""
+end
+=> F15 line 3
 window w 1 1 133 60 1 ""
 end
 => F15 line 3
@@ -316,6 +368,51 @@ end
 #[test]
 fn windows(rt: HostRuntime) -> Result<(), Fail> {
     expect_findings(rt.alloc(), HEAD, WINDOWS, "")
+}
+
+// The largest screen.
+const LARGEST_SCREEN: &str = "tvd 1\nscreen 132 60\n";
+
+// Dialogs as large as the desktop and larger, in its last corner and beyond it.
+const DIALOGS: &str = r#"dialog d 0 1 132 58 "" ends cancel
+=> sound
+dialog d 0 1 133 58 "" ends cancel
+=> F2 line 3
+=> F15 line 3
+dialog d 0 1 132 59 "" ends cancel
+=> F2 line 3
+dialog d 0 1 132 60 "" ends cancel
+=> F2 line 3
+dialog d 0 1 132 61 "" ends cancel
+=> F2 line 3
+=> F15 line 3
+dialog d 120 56 12 3 "" ends cancel
+=> sound
+dialog d 121 56 12 3 "" ends cancel
+=> F2 line 3
+dialog d 120 57 12 3 "" ends cancel
+=> F2 line 3
+dialog d 132 1 12 3 "" ends cancel
+=> F2 line 3
+dialog d 133 1 12 3 "" ends cancel
+=> F2 line 3
+=> F15 line 3
+dialog d 1 132 12 3 "" ends cancel
+=> F2 line 3
+dialog d 1 133 12 3 "" ends cancel
+=> F2 line 3
+=> F15 line 3
+dialog d 1 -132 12 3 "" ends cancel
+=> F2 line 3
+dialog d 1 -133 12 3 "" ends cancel
+=> F2 line 3
+=> F15 line 3
+"#;
+
+#[test]
+fn dialogs(rt: HostRuntime) -> Result<(), Fail> {
+    let rest = "button c 1 1 4 \"\" cancel\nend\n";
+    expect_findings(rt.alloc(), LARGEST_SCREEN, DIALOGS, rest)
 }
 
 // Characters of one column, and others.

@@ -206,6 +206,10 @@ screen 133 10
 => F15 line 2
 screen 20 61
 => F15 line 2
+screen 19 9
+=> F15 line 2
+screen 133 61
+=> F15 line 2
 screen 20 10
 start b
 => F16 line 3

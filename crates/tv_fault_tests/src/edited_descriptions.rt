@@ -1,6 +1,8 @@
 //! Sound descriptions, and edits of them that have one fault each.
 
 use std::test::Fail;
+use tv_check::faults;
+use tv_lang::parse;
 use tv_test_support::descriptions::{CANCEL, CLOSED, COLOUR, MENUS, ORDER, SHARED_LETTER, WINDOWS};
 use tv_test_support::{Findings, expect_edits, expect_finding};
 
@@ -105,4 +107,18 @@ fn status_key_on_shortcut(rt: HostRuntime) -> Result<(), Fail> {
 #[test]
 fn rule_shows_itself(rt: HostRuntime) -> Result<(), Fail> {
     expect_edits(&Findings, rt.alloc(), ORDER, SHOWN_BY_ITSELF)
+}
+
+// No contract says that memory is there, so a body of `faults` that always answers that it isn't could be proved. It
+// fails here.
+#[test]
+fn faults_always_no_memory(rt: HostRuntime) -> Result<(), Fail> {
+    let alloc = rt.alloc();
+    let desc = parse(alloc, SHARED_LETTER.as_bytes())?;
+    let found = faults(alloc, &desc)?;
+    let [fault] = found.as_slice() else {
+        return Err(Fail::new("one fault is wanted"));
+    };
+    assert_eq!(rt; (fault.kind.number(), fault.line), (4, 8));
+    Ok(())
 }

@@ -109,6 +109,29 @@ label 0 0 8 "" l
 end
 list l 1 4 8 1 "a" start 1
 => sound
+label 1 2 8 "" k
+label 1 3 8 "" r
+label 1 4 8 "" i
+checks k 1 5 8 "a"
+radios r 1 6 8 "a" start 1
+input i 1 7 8 4 any ""
+=> sound
+label 1 2 8 "" e
+end
+dialog f 2 2 36 11 "" ends cancel
+button e 1 1 8 "" cancel
+=> F6 line 5
+label 1 2 8 "" e
+pane e 1 3 8 1
+end
+button e 1 4 8 "" cancel
+=> F1 line 8
+=> F6 line 5
+label 1 2 8 "" e
+button e 1 3 8 "" cancel
+pane e 1 4 8 1
+end
+=> F1 line 7
 "#;
 
 #[test]
@@ -164,6 +187,90 @@ show p when k 3
 #[test]
 fn rules(rt: HostRuntime) -> Result<(), Fail> {
     expect_findings(rt.alloc(), CLUSTERS, RULES, "end\n")
+}
+
+// Rules over panes in panes, over what another dialog has, and over names that are given twice, which mean the first.
+const FAR_RULES: &str = r#"button c 1 8 8 "" cancel
+pane p 1 1 8 1
+pane q 0 0 8 1
+checks k 0 0 8 "a"
+end
+end
+show p when k 1
+=> F8 line 10
+button c 1 8 8 "" cancel
+pane p 1 1 8 1
+pane q 0 0 8 1
+checks k 0 0 8 "a"
+end
+end
+show q when k 1
+=> F8 line 10
+button c 1 8 8 "" cancel
+pane p 1 1 8 1
+pane q 0 0 8 1
+checks k 0 0 8 "a"
+end
+end
+show c when k 1
+=> sound
+button c 1 1 8 "" cancel
+checks k 1 2 8 "a"
+end
+dialog f 2 2 36 11 "" ends cancel
+button e 1 1 8 "" cancel
+checks j 1 2 8 "a"
+show c when j 1
+=> F7 line 10
+button c 1 1 8 "" cancel
+checks k 1 2 8 "a"
+end
+dialog f 2 2 36 11 "" ends cancel
+button e 1 1 8 "" cancel
+checks j 1 2 8 "a"
+show e when k 1
+=> F7 line 10
+button c 1 1 8 "" cancel
+button k 1 2 8 "" cancel
+checks k 1 3 8 "a"
+show c when k 1
+=> F1 line 6
+=> F7 line 7
+button c 1 1 8 "" cancel
+checks k 1 2 8 "a"
+button k 1 3 8 "" cancel
+show c when k 1
+=> F1 line 6
+button c 1 1 8 "" cancel
+checks k 1 2 8 "a"
+pane k 1 3 8 1
+end
+show k when k 1
+=> F1 line 6
+=> F8 line 8
+pane p 1 1 8 1
+checks k 0 0 8 "a"
+end
+pane p 1 2 8 1
+checks j 0 0 8 "a"
+end
+show p when j 1
+=> F1 line 7
+pane p 1 1 8 1
+checks k 0 0 8 "a"
+end
+pane p 1 2 8 1
+checks j 0 0 8 "a"
+end
+show p when j 1
+show j when k 1
+=> F1 line 7
+=> F9 line 3
+"#;
+
+#[test]
+fn far_rules(rt: HostRuntime) -> Result<(), Fail> {
+    expect_findings(rt.alloc(), BARE, FAR_RULES, "end\n")
 }
 
 // Dialogs whose rules reach all controls, or all but one.
@@ -232,8 +339,13 @@ fn controls_to_focus(rt: HostRuntime) -> Result<(), Fail> {
     expect_findings(rt.alloc(), BARE, FOCUS, "end\n")
 }
 
-// Buttons of ends, and default buttons.
+// Buttons of ends, in another dialog too, and default buttons.
 const ENDS: &str = r#"button e 1 2 8 "" ok
+end
+dialog f 2 2 36 11 "" ends cancel
+button e 1 1 8 "" ok
+=> F10 line 8
+button e 1 2 8 "" ok
 => sound
 button e 1 2 8 "" yes
 => F10 line 5

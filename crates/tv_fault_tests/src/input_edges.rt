@@ -87,6 +87,34 @@ const DOMAINS: &str = r###"4 range 1000 2000 ""
 0 range 1 2 ""
 => F12 line 5
 => F15 line 5
+0 range 1 2 "" optional
+=> F15 line 5
+-1 range 1 2 "" optional
+=> F12 line 5
+=> F15 line 5
+0 filter "a" ""
+=> F15 line 5
+-1 filter "a" ""
+=> F12 line 5
+=> F15 line 5
+0 picture "[a]" ""
+=> F15 line 5
+0 picture "a" ""
+=> F12 line 5
+=> F15 line 5
+8 picture "[[[[[[[[;[]]]]]]]]" ""
+=> sound
+8 picture "{{{{[[[[{a}]]]]}}}}" ""
+=> F12 line 5
+120 picture "*120{*120{*120{[a]}}}" ""
+=> sound
+120 picture "xxxxxxxxxxxxxxxxxxxxxxxxxxxxxxxxxxxxxxxxxxxxxxxxxxxxxxxxxxxxxxxxxxxxxxxxxxxxxxxxxxxxxxxxxxxxxxxxxxxxxxxxxxxxxxxxxxxxxxxx" ""
+=> sound
+120 picture "xxxxxxxxxxxxxxxxxxxxxxxxxxxxxxxxxxxxxxxxxxxxxxxxxxxxxxxxxxxxxxxxxxxxxxxxxxxxxxxxxxxxxxxxxxxxxxxxxxxxxxxxxxxxxxxxxxxxxxxxx" ""
+=> F12 line 5
+=> F15 line 5
+120 picture "[xxxxxxxxxxxxxxxxxxxxxxxxxxxxxxxxxxxxxxxxxxxxxxxxxxxxxxxxxxxxxxxxxxxxxxxxxxxxxxxxxxxxxxxxxxxxxxxxxxxxxxxxxxxxxxxxxxxxxxxxx]" ""
+=> F15 line 5
 "###;
 
 #[test]
@@ -134,6 +162,17 @@ const FIRST_TEXTS: &str = r###"4 range -5 5 "-999"
 8 any "漢"
 => F13 line 5
 => F14 line 5
+4 range 5 -1 "5" optional
+=> sound
+4 range 5 -1 "-" optional
+=> F13 line 5
+4 range -1 5 "-+-"
+=> sound
+8 any "a\n"
+=> F13 line 5
+=> F14 line 5
+8 picture "]" "a" optional
+=> F12 line 5
 "###;
 
 #[test]

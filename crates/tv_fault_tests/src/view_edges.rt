@@ -256,6 +256,97 @@ fn sizes(rt: HostRuntime) -> Result<(), Fail> {
     expect_findings(rt.alloc(), DIALOG, SIZES, "end\n")
 }
 
+// The greatest sizes and the farthest places, and those past them. What is so large can't be within a dialog.
+const LARGEST: &str = r#"text 1 2 132 1 ""
+=> F2 line 5
+text 1 2 133 1 ""
+=> F2 line 5
+=> F15 line 5
+label 1 2 132 "" c
+=> F2 line 5
+label 1 2 133 "" c
+=> F2 line 5
+=> F15 line 5
+button e 1 2 132 "" cancel
+=> F2 line 5
+button e 1 2 133 "" cancel
+=> F2 line 5
+=> F15 line 5
+input i 1 2 132 4 any ""
+=> F2 line 5
+input i 1 2 133 4 any ""
+=> F2 line 5
+=> F15 line 5
+checks k 1 2 132 "a"
+=> F2 line 5
+checks k 1 2 133 "a"
+=> F2 line 5
+=> F15 line 5
+radios r 1 2 132 "a" start 1
+=> F2 line 5
+radios r 1 2 133 "a" start 1
+=> F2 line 5
+=> F15 line 5
+list l 1 2 132 1 "a" start 1
+=> F2 line 5
+list l 1 2 133 1 "a" start 1
+=> F2 line 5
+=> F15 line 5
+pane p 1 2 132 1
+end
+=> F2 line 5
+pane p 1 2 133 1
+end
+=> F2 line 5
+=> F15 line 5
+text 1 2 1 60 ""
+=> F2 line 5
+text 1 2 1 61 ""
+=> F2 line 5
+=> F15 line 5
+list l 1 2 1 60 "a" start 1
+=> F2 line 5
+list l 1 2 1 61 "a" start 1
+=> F2 line 5
+=> F15 line 5
+pane p 1 2 1 60
+end
+=> F2 line 5
+pane p 1 2 1 61
+end
+=> F2 line 5
+=> F15 line 5
+text 132 2 1 1 ""
+=> F2 line 5
+text -132 2 1 1 ""
+=> F2 line 5
+text 133 2 1 1 ""
+=> F2 line 5
+=> F15 line 5
+text -133 2 1 1 ""
+=> F2 line 5
+=> F15 line 5
+text 1 132 1 1 ""
+=> F2 line 5
+text 1 -132 1 1 ""
+=> F2 line 5
+text 1 133 1 1 ""
+=> F2 line 5
+=> F15 line 5
+text 1 -133 1 1 ""
+=> F2 line 5
+=> F15 line 5
+text 1 2 1 1 ""
+=> sound
+text 1 2 1 0 ""
+=> F15 line 5
+"#;
+
+#[test]
+fn largest_sizes(rt: HostRuntime) -> Result<(), Fail> {
+    expect_findings(rt.alloc(), DIALOG, LARGEST, "end\n")
+}
+
 // Four panes around one another, and five: each chain has a line of its own.
 const NESTED: &str = "pane p 1 2 8 1
 pane p1 0 0 8 1
