@@ -1,11 +1,13 @@
 //! What `accept` answers, and what it hands back.
 
-use crate::certificates::{CANCEL_CERTIFICATE, COLOUR_CERTIFICATE, NO_BLOCKS, ORDER_CERTIFICATE};
 use std::alloc::Global;
 use std::test::Fail;
 use tv_check::{Certificate, CertificateFault, Refusal, accept};
 use tv_lang::{parse, print};
 use tv_model::Desc;
+use tv_test_support::certificates::{
+    CANCEL_CERTIFICATE, COLOUR_CERTIFICATE, NO_BLOCKS, ORDER_CERTIFICATE,
+};
 use tv_test_support::descriptions::{CANCEL, CLOSED, COLOUR, MENUS, ORDER, SHARED_LETTER, WINDOWS};
 use tv_test_support::{Question, expect_answer, expect_answers};
 

@@ -1,8 +1,8 @@
 //! The certificate of the order form, edited: what is refused, and what says the same in another way.
 
 use crate::acceptance::Accepting;
-use crate::certificates::{CANCEL_CERTIFICATE, NO_BLOCKS, ORDER_CERTIFICATE};
 use std::test::Fail;
+use tv_test_support::certificates::{CANCEL_CERTIFICATE, NO_BLOCKS, ORDER_CERTIFICATE};
 use tv_test_support::descriptions::ORDER;
 use tv_test_support::{expect_answer, expect_edits};
 

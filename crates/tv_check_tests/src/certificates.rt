@@ -4,50 +4,11 @@ use std::alloc::Global;
 use std::test::Fail;
 use tv_check::{Certificate, CertificateFault, CertifyFault, certify};
 use tv_lang::parse;
+use tv_test_support::certificates::{
+    CANCEL_CERTIFICATE, COLOUR_CERTIFICATE, NO_BLOCKS, ORDER_CERTIFICATE,
+};
 use tv_test_support::descriptions::{CANCEL, CLOSED, COLOUR, MENUS, ORDER, SHARED_LETTER, WINDOWS};
 use tv_test_support::{Question, expect_answer, expect_answers};
-
-/// The certificate of the description with one button.
-pub const CANCEL_CERTIFICATE: &str = "tvcert 1
-dialog a
-tab c
-key C c
-end
-";
-
-/// The certificate of the order form.
-pub const ORDER_CERTIFICATE: &str = "tvcert 1
-dialog b
-tab amount
-tab opts
-tab qty
-tab ok
-tab no
-tab log
-key A amount
-key C no
-key G opts 1
-key L log
-key N opts 2
-key O ok
-end
-";
-
-/// The certificate of the radio buttons.
-pub const COLOUR_CERTIFICATE: &str = "tvcert 1
-dialog d
-tab r
-tab y
-tab n
-key B r 2
-key C n
-key R r 1
-key Y y
-end
-";
-
-/// The certificate of a description without dialogs.
-pub const NO_BLOCKS: &str = "tvcert 1\n";
 
 /// The certificate of a description, or its first fault.
 #[derive(Clone, Copy)]

@@ -3,12 +3,13 @@
 //! The texts are those of the files. The ones that other tests use too stand in `tv_test_support`.
 
 use crate::acceptance::Accepting;
-use crate::certificates::{
-    CANCEL_CERTIFICATE, COLOUR_CERTIFICATE, Certifying, NO_BLOCKS, ORDER_CERTIFICATE,
-};
+use crate::certificates::Certifying;
 use crate::printing::expect_canonical;
 use std::alloc::Global;
 use std::test::Fail;
+use tv_test_support::certificates::{
+    CANCEL_CERTIFICATE, COLOUR_CERTIFICATE, NO_BLOCKS, ORDER_CERTIFICATE,
+};
 use tv_test_support::descriptions::{CANCEL, COLOUR, MENUS, ORDER, WINDOWS};
 use tv_test_support::{expect_answer, expect_finding};
 

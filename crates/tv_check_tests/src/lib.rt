@@ -1,4 +1,4 @@
-//! Tests of canonical texts, certificates, acceptance, plans, and of what the program checks and accepts.
+//! Tests of descriptions that are read and printed, and of certificates, acceptance and plans.
 #![tactic(auto)]
 
 #[cfg(test)]
@@ -6,9 +6,9 @@ mod acceptance;
 #[cfg(test)]
 mod broken_certificates;
 #[cfg(test)]
-mod certificates;
+mod broken_descriptions;
 #[cfg(test)]
-mod checks;
+mod certificates;
 #[cfg(test)]
 mod examples;
 #[cfg(test)]

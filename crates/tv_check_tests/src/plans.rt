@@ -1,11 +1,11 @@
 //! The order in which views are made.
 
-use crate::certificates::ORDER_CERTIFICATE;
 use std::alloc::{AllocError, Global};
 use std::test::Fail;
 use tv_check::{BuildStep, Certificate, accept, certify};
 use tv_lang::parse;
 use tv_model::Node;
+use tv_test_support::certificates::ORDER_CERTIFICATE;
 use tv_test_support::descriptions::{MENUS, ORDER, WINDOWS};
 use tv_test_support::{Question, expect_answer, push_line};
 

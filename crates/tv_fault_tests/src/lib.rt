@@ -8,8 +8,6 @@ mod declared_edges;
 #[cfg(test)]
 mod documented_faults;
 #[cfg(test)]
-mod each_fault;
-#[cfg(test)]
 mod edited_descriptions;
 #[cfg(test)]
 mod fault_edges;

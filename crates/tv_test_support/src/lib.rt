@@ -1,6 +1,7 @@
 //! What the crates of tests share: descriptions, tables of texts and what is found in them, writers in memory.
 #![tactic(auto)]
 
+pub mod certificates;
 pub mod descriptions;
 mod findings;
 mod tables;

@@ -1,10 +1,12 @@
-//! Tests of the languages and of whole runs, from bytes to bytes.
+//! Tests of what the program does, from bytes to bytes, and of the parts that it stands on.
 #![tactic(auto)]
 
 #[cfg(test)]
-mod broken_descriptions;
+mod checks;
 #[cfg(test)]
 mod constructors;
+#[cfg(test)]
+mod each_fault;
 #[cfg(test)]
 mod memory;
 #[cfg(test)]

@@ -1,10 +1,10 @@
 //! What the program checks, accepts and doesn't run yet, from the bytes of its files to what it prints and its status.
 
-use crate::certificates::{CANCEL_CERTIFICATE, NO_BLOCKS, ORDER_CERTIFICATE};
 use std::alloc::Global;
 use std::test::Fail;
 use tv_program::thin::run;
 use tv_program::{RunFault, accept_files, accept_text, check, read_desc, report};
+use tv_test_support::certificates::{CANCEL_CERTIFICATE, NO_BLOCKS, ORDER_CERTIFICATE};
 use tv_test_support::descriptions::{CANCEL, COLOUR, MENUS, ORDER, SHARED_LETTER, WINDOWS};
 use tv_test_support::{Idle, Memory, Question, expect_answer, expect_answers};
 
