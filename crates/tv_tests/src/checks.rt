@@ -298,13 +298,13 @@ fn descriptions_not_run_yet(rt: HostRuntime) -> Result<(), Fail> {
 fn writers_that_fail(rt: HostRuntime) -> Result<(), Fail> {
     let alloc = rt.alloc();
     let certificate = CANCEL_CERTIFICATE.as_bytes();
-    for room in [0, 1, 8, 35] {
+    for room in 0..certificate.len() {
         let mut out = Memory::new(alloc, room, 5)?;
         let answer = check(alloc, CANCEL.as_bytes(), &mut out);
         assert!(rt; matches!(answer, Err(RunFault::Write)), "{answer:?}");
-        assert_eq!(rt; out.taken(), &certificate[..room]);
+        assert_eq!(rt; out.taken(), &certificate[..room], "at {room}");
     }
-    let mut out = Memory::new(alloc, 36, 5)?;
+    let mut out = Memory::new(alloc, certificate.len(), 5)?;
     assert!(rt; check(alloc, CANCEL.as_bytes(), &mut out).is_ok());
     assert_eq!(rt; out.taken(), certificate);
     Ok(())
