@@ -1,6 +1,5 @@
 //! What is made by the libraries' constructors.
 
-use crate::samples::CANCEL;
 use bitflags::Flags;
 use std::process::Abort;
 use std::test::Fail;
@@ -9,6 +8,7 @@ use tv_check::faults;
 use tv_event::{Command, CommandSet, Event, Key, Mask, Options, State};
 use tv_lang::parse;
 use tv_model::{Id, Record, Value};
+use tv_test_support::descriptions::CANCEL;
 use tv_valid::Text;
 
 #[test]

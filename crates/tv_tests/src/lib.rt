@@ -1,26 +1,12 @@
-//! Tests of the libraries together, from bytes to bytes.
+//! Tests of what the program does, from bytes to bytes, and of the parts that it stands on.
 #![tactic(auto)]
 
 #[cfg(test)]
-mod broken_descriptions;
+mod checks;
 #[cfg(test)]
 mod constructors;
 #[cfg(test)]
-mod count_edges;
-#[cfg(test)]
-mod declared_edges;
-#[cfg(test)]
-mod descriptions;
-#[cfg(test)]
-mod documented_faults;
-#[cfg(test)]
 mod each_fault;
-#[cfg(test)]
-mod edited_descriptions;
-#[cfg(test)]
-mod fault_edges;
-#[cfg(test)]
-mod input_edges;
 #[cfg(test)]
 mod memory;
 #[cfg(test)]
@@ -28,12 +14,4 @@ mod reports;
 #[cfg(test)]
 mod runs;
 #[cfg(test)]
-mod samples;
-#[cfg(test)]
-mod tables;
-#[cfg(test)]
 mod texts;
-#[cfg(test)]
-mod view_edges;
-#[cfg(test)]
-mod writers;

@@ -1,9 +1,9 @@
 //! Allocations that are refused.
 
-use crate::samples::CANCEL;
-use crate::writers::Memory;
 use tv_program::RunFault;
 use tv_program::thin::run;
+use tv_test_support::Memory;
+use tv_test_support::descriptions::CANCEL;
 
 // It passes whichever allocation is refused, so it can be run with each of them refused in turn.
 #[test]

@@ -1,7 +1,5 @@
 //! What is told of a run that didn't come to its end.
 
-use crate::samples::WITHOUT_CANCEL;
-use crate::writers::{Idle, Memory};
 use std::alloc::Global;
 use std::process::Abort;
 use std::test::Fail;
@@ -9,6 +7,8 @@ use tv_check::CertificateFault;
 use tv_lang::LangFault;
 use tv_program::thin::run;
 use tv_program::{RunFault, report};
+use tv_test_support::descriptions::WITHOUT_CANCEL;
+use tv_test_support::{Idle, Memory};
 
 // Sees to it that a fault has this message and status, and that nothing is told elsewhere.
 fn expect_report(

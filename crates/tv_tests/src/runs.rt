@@ -1,12 +1,12 @@
 //! Whole runs, from the bytes of a description and a script to those of the output.
 
-use crate::samples::{CANCEL, CLOSED, SHOWN, WITHOUT_CANCEL};
-use crate::writers::{Idle, Memory};
 use std::alloc::{AllocError, Global};
 use std::process::Abort;
 use std::test::Fail;
 use tv_program::thin::run;
 use tv_program::{RunFault, report};
+use tv_test_support::descriptions::{CANCEL, CLOSED, WITHOUT_CANCEL};
+use tv_test_support::{Idle, Memory};
 
 const TWO_BUTTONS: &str = r#"tvd 1
 screen 20 10
@@ -28,6 +28,23 @@ command 120
 focus c
 press c
 end a cancel
+";
+
+// What `shot` writes at the start of the dialog, with the log before it.
+const SHOWN: &str = "\
+open a
+focus c
+shot 20 10
+:                    :
+:....................:
+:..+=[x] Q =====+....:
+:..| < Cancel > |....:
+:..|            |....:
+:..+============+....:
+:....................:
+:....................:
+:....................:
+:                    :
 ";
 
 // A screen without menus and windows, while no dialog is open.

@@ -1,145 +1,231 @@
 //! Texts that are descriptions and scripts, and such as are refused.
 
-use crate::samples::{CANCEL, WITHOUT_CANCEL};
-use crate::writers::Memory;
 use std::alloc::Global;
 use std::test::Fail;
 use tv_lang::{LangFault, ScriptFault, parse, parse_script};
 use tv_model::{Desc, Kind, Node};
 use tv_program::RunFault;
 use tv_program::thin::run;
+use tv_test_support::descriptions::{CANCEL, WITHOUT_CANCEL};
+use tv_test_support::{Findings, Memory, Question, expect_answers};
 
-// The description of one dialog, by its five lines before the last.
-fn described(alloc: Global, lines: [&str; 5]) -> Result<String, Fail> {
-    let [version, screen, start, dialog, view] = lines;
-    Ok(format!(in alloc; "{version}\n{screen}\n{start}\n{dialog}\n{view}\nend\n")?)
-}
+// Whether a text is read as a description.
+#[derive(Clone, Copy)]
+struct Reading;
 
-const LINES: [&str; 5] = [
-    "tvd 1",
-    "screen 20 10",
-    "start a",
-    r#"dialog a 2 2 14 4 "Q" ends cancel"#,
-    r#"button c 2 1 10 "~C~ancel" cancel"#,
-];
-
-// Why a description isn't read whose line of this number is another, if it isn't.
-fn refusal(alloc: Global, number: usize, line: &str) -> Result<Option<LangFault>, Fail> {
-    let mut lines = LINES;
-    if let Some(place) = lines.get_mut(number.saturating_sub(1)) {
-        *place = line;
+impl Question for Reading {
+    fn answer(&self, alloc: Global, text: &[u8]) -> Result<String, Fail> {
+        match parse(alloc, text) {
+            Ok(_) => Ok(format!(in alloc; "read\n")?),
+            Err(_) => Findings.answer(alloc, text),
+        }
     }
-    let text = described(alloc, lines)?;
-    Ok(parse(alloc, text.as_bytes()).err())
 }
 
+// Texts that aren't UTF-8, and such without a last line end.
 #[test]
-fn refused_texts(rt: HostRuntime) {
-    const TABLE: [(&[u8], LangFault); 19] = [
+fn refused_bytes(rt: HostRuntime) {
+    const TABLE: [(&[u8], LangFault); 5] = [
         (b"", LangFault::Syntax(1)),
-        (b"\n\n", LangFault::Syntax(3)),
         (b"tvd 1", LangFault::Syntax(2)),
-        (b"tvd 1\n", LangFault::Syntax(2)),
-        (b"tvd 1\nscreen 40\n", LangFault::Syntax(2)),
-        (b"tvd 3\n", LangFault::Version),
         (b"tvd 2", LangFault::Version),
         (b"tvd 0\n\xff", LangFault::Version),
-        (b"# a comment\n\n tvd  -1 \n", LangFault::Version),
-        (b"tvd 01\n", LangFault::Syntax(1)),
-        (b"tvd -0\n", LangFault::Syntax(1)),
-        (b"tvd 2147483648\n", LangFault::Syntax(1)),
-        (b"tvd 2 x\n", LangFault::Syntax(1)),
-        (b"tvd\n", LangFault::Syntax(1)),
-        (b"\"tvd\" 1\n", LangFault::Syntax(1)),
-        (b"\xef\xbb\xbftvd 1\n", LangFault::Syntax(1)),
         (b"#\xff\ntvd 3\n", LangFault::Syntax(1)),
-        (b"tvd 1\n#\t\n", LangFault::Syntax(2)),
-        (b"tvd 1\n\t\n", LangFault::Syntax(2)),
     ];
     for (text, fault) in TABLE {
         assert_eq!(rt; parse(rt.alloc(), text).err(), Some(fault), "{text:?}");
     }
 }
 
-#[test]
-fn refused_lines(rt: HostRuntime) -> Result<(), Fail> {
-    for (number, line) in [
-        (2, "screen 20 010"),
-        (2, "screen +20 10"),
-        (2, "screen -0 10"),
-        (2, "screen 2147483648 10"),
-        (2, "screen 20 -2147483649"),
-        (2, "screen 20 \"10\""),
-        (2, "screen 20 10 1"),
-        (2, "screen 20\t10"),
-        (3, "start \"a\""),
-        (3, "start A"),
-        (3, "start 1"),
-        (3, "start abcdefghijklmnopqrstu"),
-        (3, "# \u{7f}"),
-        (3, "# \u{9f}"),
-        (4, r#"dialog a 2 2 14 4 Q ends cancel"#),
-        (4, r#"dialog a 2 2 14 4 "Q ends cancel"#),
-        (4, r#"dialog a 2 2 14 4 "Q"ends cancel"#),
-        (4, r#"dialog a 2 2 14 4 "\q" ends cancel"#),
-        (4, r#"dialog a 2 2 14 4 "Q" ends cancel ok"#),
-        (4, r#"dialog a 2 2 14 4 "Q" ends cancel cancel"#),
-        (4, r#"dialog "a" 2 2 14 4 "Q" ends cancel"#),
-    ] {
-        let fault = refusal(rt.alloc(), number, line)?;
-        assert_eq!(rt; fault, Some(LangFault::Syntax(number)), "{line}");
-    }
-    Ok(())
-}
+const BEGINNINGS: &str = "
+
+=> syntax at line 3
+tvd 1
+=> syntax at line 2
+tvd 1
+screen 40
+=> syntax at line 2
+tvd 3
+=> unknown version
+# a comment
+
+ tvd  -1\u{20}
+=> unknown version
+tvd 01
+=> syntax at line 1
+tvd -0
+=> syntax at line 1
+tvd 2147483648
+=> syntax at line 1
+tvd 2 x
+=> syntax at line 1
+tvd
+=> syntax at line 1
+\"tvd\" 1
+=> syntax at line 1
+\u{feff}tvd 1
+=> syntax at line 1
+tvd 1
+#\t
+=> syntax at line 2
+tvd 1
+\t
+=> syntax at line 2
+";
 
 #[test]
-fn refused_views(rt: HostRuntime) -> Result<(), Fail> {
-    for (line, number) in [
-        (r#"button c 2 1 10 "a~b" cancel"#, 5),
-        (r#"button c 2 1 10 "~AB~" cancel"#, 5),
-        (r#"button c 2 1 10 "~A~~B~" cancel"#, 5),
-        (r#"button c 2 1 10 "~-~" cancel"#, 5),
-        (r#"button c 2 1 10 "C" stop"#, 5),
-        (r#"button c 2 1 10 "C""#, 5),
-        (r#"button c 2 1 10 1 "C" cancel"#, 5),
-        (r#"text 1 1 5 "C""#, 5),
-        (r#"text 1 1 5 1 C"#, 5),
-        (r#"pane p 1 1 5 1"#, 7),
-        ("end\nend", 6),
-        ("end\ntext 1 1 5 1 \"C\"", 6),
-        ("end x", 5),
-    ] {
-        let fault = refusal(rt.alloc(), 5, line)?;
-        assert_eq!(rt; fault, Some(LangFault::Syntax(number)), "{line}");
-    }
-    Ok(())
+fn refused_texts(rt: HostRuntime) -> Result<(), Fail> {
+    expect_answers(&Reading, rt.alloc(), "", BEGINNINGS, "")
 }
 
+// What follows the screen.
+const REST: &str = r#"start a
+dialog a 2 2 14 4 "Q" ends cancel
+button c 2 1 10 "~C~ancel" cancel
+end
+"#;
+
+const SCREENS: &str = "screen 20 010
+=> syntax at line 2
+screen +20 10
+=> syntax at line 2
+screen -0 10
+=> syntax at line 2
+screen 2147483648 10
+=> syntax at line 2
+screen 20 -2147483649
+=> syntax at line 2
+screen 20 \"10\"
+=> syntax at line 2
+screen 20 10 1
+=> syntax at line 2
+screen 20\t10
+=> syntax at line 2
+screen -2147483648 2147483647
+=> read
+  screen   20    10 \u{20}
+=> read
+# a comment \u{1f600} \"\\
+screen 20 10
+=> read
+";
+
 #[test]
-fn texts_that_are_read(rt: HostRuntime) -> Result<(), Fail> {
-    for (number, line) in [
-        (2, "screen -2147483648 2147483647"),
-        (2, "  screen   20    10  "),
-        (2, "# a comment \u{1f600} \"\\\nscreen 20 10"),
-        (3, ""),
-        (3, "start abcdefghijklmnopqrst"),
-        (3, "start a-1-"),
-        (4, r#"dialog a 2 2 14 4 "" ends"#),
-        (4, r#"dialog a 2 2 14 4 "Q" ends ok cancel yes no"#),
-        (
-            4,
-            "dialog end 2 2 14 4 \"Q\" ends cancel\n\n   \n  # a comment",
-        ),
-        (4, r#"dialog a 2 2 14 4 "Q" opens 100 ends cancel"#),
-        (5, r#"text 1 1 5 1 "a~b~~c""#),
-        (5, r#"label 2 1 10 "C" c"#),
-        (5, r#"button c 2 1 10 "C" cancel default grab"#),
-        (5, r#"button when 2 1 10 "~9~" 2147483647"#),
-        (5, ""),
-    ] {
-        assert_eq!(rt; refusal(rt.alloc(), number, line)?, None, "{line}");
-    }
-    Ok(())
+fn screens(rt: HostRuntime) -> Result<(), Fail> {
+    expect_answers(&Reading, rt.alloc(), "tvd 1\n", SCREENS, REST)
+}
+
+const STARTS: &str = "start \"a\"
+=> syntax at line 3
+start A
+=> syntax at line 3
+start 1
+=> syntax at line 3
+start abcdefghijklmnopqrstu
+=> syntax at line 3
+# \u{7f}
+=> syntax at line 3
+# \u{9f}
+=> syntax at line 3
+
+=> read
+start abcdefghijklmnopqrst
+=> read
+start a-1-
+=> read
+";
+
+// A dialog without views.
+const BARE: &str = "dialog a 2 2 14 4 \"Q\" ends cancel\nend\n";
+
+#[test]
+fn starts(rt: HostRuntime) -> Result<(), Fail> {
+    expect_answers(&Reading, rt.alloc(), "tvd 1\nscreen 20 10\n", STARTS, BARE)
+}
+
+const DIALOGS: &str = r#"dialog a 2 2 14 4 Q ends cancel
+=> syntax at line 4
+dialog a 2 2 14 4 "Q ends cancel
+=> syntax at line 4
+dialog a 2 2 14 4 "Q"ends cancel
+=> syntax at line 4
+dialog a 2 2 14 4 "\q" ends cancel
+=> syntax at line 4
+dialog a 2 2 14 4 "Q" ends cancel ok
+=> syntax at line 4
+dialog a 2 2 14 4 "Q" ends cancel cancel
+=> syntax at line 4
+dialog "a" 2 2 14 4 "Q" ends cancel
+=> syntax at line 4
+dialog a 2 2 14 4 "" ends
+=> read
+dialog a 2 2 14 4 "Q" ends ok cancel yes no
+=> read
+dialog end 2 2 14 4 "Q" ends cancel
+
+   
+  # a comment
+=> read
+dialog a 2 2 14 4 "Q" opens 100 ends cancel
+=> read
+"#;
+
+#[test]
+fn dialogs(rt: HostRuntime) -> Result<(), Fail> {
+    let before = "tvd 1\nscreen 20 10\nstart a\n";
+    expect_answers(&Reading, rt.alloc(), before, DIALOGS, "end\n")
+}
+
+// A dialog up to its views, which begin on the fifth line.
+const DIALOG: &str = r#"tvd 1
+screen 20 10
+start a
+dialog a 2 2 14 4 "Q" ends cancel
+"#;
+
+const VIEWS: &str = r#"button c 2 1 10 "a~b" cancel
+=> syntax at line 5
+button c 2 1 10 "~AB~" cancel
+=> syntax at line 5
+button c 2 1 10 "~A~~B~" cancel
+=> syntax at line 5
+button c 2 1 10 "~-~" cancel
+=> syntax at line 5
+button c 2 1 10 "C" stop
+=> syntax at line 5
+button c 2 1 10 "C"
+=> syntax at line 5
+button c 2 1 10 1 "C" cancel
+=> syntax at line 5
+text 1 1 5 "C"
+=> syntax at line 5
+text 1 1 5 1 C
+=> syntax at line 5
+pane p 1 1 5 1
+=> syntax at line 7
+end
+end
+=> syntax at line 6
+end
+text 1 1 5 1 "C"
+=> syntax at line 6
+end x
+=> syntax at line 5
+text 1 1 5 1 "a~b~~c"
+=> read
+label 2 1 10 "C" c
+=> read
+button c 2 1 10 "C" cancel default grab
+=> read
+button when 2 1 10 "~9~" 2147483647
+=> read
+
+=> read
+"#;
+
+#[test]
+fn views(rt: HostRuntime) -> Result<(), Fail> {
+    expect_answers(&Reading, rt.alloc(), DIALOG, VIEWS, "end\n")
 }
 
 #[test]
@@ -196,17 +282,13 @@ fn ids_are_canonical_lines(rt: HostRuntime) -> Result<(), Fail> {
 #[test]
 fn what_is_read(rt: HostRuntime) -> Result<(), Fail> {
     let alloc = rt.alloc();
-    let dialog = r#"dialog a -3 2 14 4 "Q\"\\\n" ends ok no"#;
-    let text = described(
-        alloc,
-        [
-            "tvd 1",
-            "screen -2147483648 2147483647",
-            "",
-            dialog,
-            LINES[4],
-        ],
-    )?;
+    let text = r#"tvd 1
+screen -2147483648 2147483647
+
+dialog a -3 2 14 4 "Q\"\\\n" ends ok no
+button c 2 1 10 "~C~ancel" cancel
+end
+"#;
     let desc = parse(alloc, text.as_bytes())?;
     assert_eq!(rt; (desc.width, desc.height), (-2147483648, 2147483647));
     assert!(rt; desc.start.is_none());
@@ -232,39 +314,70 @@ fn what_is_read(rt: HostRuntime) -> Result<(), Fail> {
     Ok(())
 }
 
+// What a run of a script comes to, where the reader of scripts says the same.
+#[derive(Clone, Copy)]
+struct Scripts;
+
+impl Question for Scripts {
+    fn answer(&self, alloc: Global, text: &[u8]) -> Result<String, Fail> {
+        let mut out = Memory::ample(alloc)?;
+        let answer = run(alloc, CANCEL.as_bytes(), text, &mut out);
+        let read = parse_script(alloc, text);
+        match (answer, read) {
+            (Ok(()), Ok(_)) => Ok(format!(in alloc; "performed\n")?),
+            (Err(RunFault::Script(line)), Err(ScriptFault::Syntax(found)))
+                if line == found && out.taken().is_empty() => {
+                Ok(format!(in alloc; "syntax at line {line}\n")?)
+            }
+            _ => Err(Fail::new("the run and the reader differ")),
+        }
+    }
+}
+
+const SCRIPTS: &str = "key Foo
+=> syntax at line 1
+type \"a\"
+=> syntax at line 1
+type \" a\"
+=> syntax at line 1
+type \"\\n\"
+=> syntax at line 1
+type \"\u{20}
+=> syntax at line 1
+type\u{20}
+=> syntax at line 1
+down 1 1
+=> syntax at line 1
+key tab
+=> syntax at line 1
+key \"Tab\"
+=> syntax at line 1
+key Up
+=> syntax at line 1
+shot 1
+=> syntax at line 1
+key Tab shot
+=> syntax at line 1
+key Tab
+
+# a comment
+key Foo
+key Bar
+=> syntax at line 4
+shot
+\tshot
+=> syntax at line 2
+key Tab
+
+  # a comment
+type \"\"
+  shot
+=> performed
+";
+
 #[test]
 fn refused_scripts(rt: HostRuntime) -> Result<(), Fail> {
-    let alloc = rt.alloc();
-    for (script, line) in [
-        ("key Foo", 1),
-        ("type \"a\"", 1),
-        ("type \" a\"", 1),
-        ("type \"\\n\"", 1),
-        ("type \" ", 1),
-        ("type ", 1),
-        ("down 1 1", 1),
-        ("key tab", 1),
-        ("key \"Tab\"", 1),
-        ("key Up", 1),
-        ("shot 1", 1),
-        ("key Tab shot", 1),
-        ("key Tab\n\n# a comment\nkey Foo\nkey Bar", 4),
-        ("shot\n\tshot", 2),
-    ] {
-        let mut out = Memory::ample(alloc)?;
-        let answer = run(alloc, CANCEL.as_bytes(), script.as_bytes(), &mut out);
-        assert!(rt;
-            matches!(answer, Err(RunFault::Script(found)) if found == line),
-            "{answer:?} of {script}"
-        );
-        assert_eq!(rt; out.taken().len(), 0, "{script}");
-        assert_eq!(rt;
-            parse_script(alloc, script.as_bytes()).err(),
-            Some(ScriptFault::Syntax(line)),
-            "{script}"
-        );
-    }
-    Ok(())
+    expect_answers(&Scripts, rt.alloc(), "", SCRIPTS, "")
 }
 
 #[test]

@@ -1,7 +1,7 @@
 //! The descriptions of docs/FAULTS.md: for each fault one that has it alone, and the same mended.
 
-use crate::tables::expect_findings;
 use std::test::Fail;
+use tv_test_support::expect_findings;
 
 // F1 to F9.
 const NAMES_TO_FOCUS: &str = r#"tvd 1
@@ -288,6 +288,6 @@ end
 #[test]
 fn documented_faults(rt: HostRuntime) -> Result<(), Fail> {
     let alloc = rt.alloc();
-    expect_findings(&rt, alloc, "", NAMES_TO_FOCUS, "")?;
-    expect_findings(&rt, alloc, "", ENDS_TO_MENUS, "")
+    expect_findings(alloc, "", NAMES_TO_FOCUS, "")?;
+    expect_findings(alloc, "", ENDS_TO_MENUS, "")
 }

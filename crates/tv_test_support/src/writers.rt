@@ -28,6 +28,7 @@ impl Memory {
         Memory::new(alloc, 4096, 4096)
     }
 
+    /// The bytes that it took.
     pub fn taken(&self) -> &[u8] {
         self.taken.as_slice()
     }
@@ -52,6 +53,7 @@ impl Writer for Memory {
 /// A writer that takes nothing and doesn't call it a failure.
 #[derive(Drop)]
 pub struct Idle {
+    /// How often it was called.
     pub calls: u64,
 }
 

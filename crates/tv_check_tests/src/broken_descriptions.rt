@@ -1,9 +1,9 @@
 //! Texts that are no descriptions: lines that break the grammar, and a description that is cut or spoiled.
 
-use crate::descriptions::{DIALOG, HEAD, ORDER};
-use crate::tables::{expect_finding, expect_findings, findings};
 use std::test::Fail;
 use tv_lang::{LangFault, parse};
+use tv_test_support::descriptions::{DIALOG, HEAD, ORDER};
+use tv_test_support::{Findings, Question, expect_finding, expect_findings};
 
 // Lines of views and rules. Only the last row is read: keywords may be names.
 const VIEWS: &str = r#"label 1 2 8 "~AB~" c
@@ -123,7 +123,7 @@ show when when end 1
 
 #[test]
 fn refused_views_and_rules(rt: HostRuntime) -> Result<(), Fail> {
-    expect_findings(&rt, rt.alloc(), DIALOG, VIEWS, "end\n")
+    expect_findings(rt.alloc(), DIALOG, VIEWS, "end\n")
 }
 
 // Menus, status items, windows, dialogs, and their order.
@@ -238,7 +238,7 @@ start d
 
 #[test]
 fn refused_declarations(rt: HostRuntime) -> Result<(), Fail> {
-    expect_findings(&rt, rt.alloc(), HEAD, DECLARATIONS, "")
+    expect_findings(rt.alloc(), HEAD, DECLARATIONS, "")
 }
 
 #[test]
@@ -250,13 +250,13 @@ fn cut_descriptions(rt: HostRuntime) -> Result<(), Fail> {
         ("enable", "syntax at line 17"),
     ] {
         let (begun, _) = ORDER.split_once(end).ok_or("no such word")?;
-        expect_finding(&rt, alloc, begun, wanted)?;
+        expect_finding(alloc, begun, wanted)?;
     }
     let open = ORDER.strip_suffix("end\n").ok_or("no last line")?;
-    expect_finding(&rt, alloc, open, "syntax at line 18")?;
+    expect_finding(alloc, open, "syntax at line 18")?;
     let unended = ORDER.strip_suffix("\n").ok_or("no last line end")?;
-    expect_finding(&rt, alloc, unended, "sound")?;
-    expect_finding(&rt, alloc, "tvd 7", "unknown version")
+    expect_finding(alloc, unended, "sound")?;
+    expect_finding(alloc, "tvd 7", "unknown version")
 }
 
 #[test]
@@ -269,8 +269,8 @@ fn spoiled_lines(rt: HostRuntime) -> Result<(), Fail> {
         text.push(byte)?;
         text.extend_from_slice(b"checks")?;
         text.extend_from_slice(after.as_bytes())?;
-        let found = findings(alloc, text.as_slice())?;
-        assert_eq!(rt; found.as_str(), "syntax at line 9", "after {byte}");
+        let found = Findings.answer(alloc, text.as_slice())?;
+        assert_eq!(rt; found.as_str(), "syntax at line 9\n", "after {byte}");
     }
     Ok(())
 }

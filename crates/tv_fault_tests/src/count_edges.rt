@@ -1,9 +1,8 @@
 //! As many things as there may be, and more: the first that is too many is named.
 
-use crate::tables::expect_finding;
 use std::alloc::Global;
-use std::process::Abort;
 use std::test::Fail;
+use tv_test_support::expect_finding;
 
 // A description of like things. Each of them is made of two texts with its number, from 1, between them.
 #[derive(Clone, Copy)]
@@ -14,13 +13,7 @@ struct Things<'a> {
 }
 
 // Sees to it that there may be so many things and no more.
-fn expect_most(
-    rt: &impl Abort,
-    alloc: Global,
-    things: Things<'_>,
-    most: usize,
-    too_many: &str,
-) -> Result<(), Fail> {
+fn expect_most(alloc: Global, things: Things<'_>, most: usize, too_many: &str) -> Result<(), Fail> {
     for (more, wanted) in [(0, "sound"), (1, too_many), (2, too_many)] {
         let mut text = String::new(alloc);
         text.push_str(things.before)?;
@@ -30,7 +23,7 @@ fn expect_most(
             text.push_str(&piece)?;
         }
         text.push_str(things.after)?;
-        expect_finding(rt, alloc, &text, wanted)?;
+        expect_finding(alloc, &text, wanted)?;
     }
     Ok(())
 }
@@ -42,7 +35,7 @@ fn menus(rt: HostRuntime) -> Result<(), Fail> {
         each: ("menu \"m", "\"\nitem \"\" 100\nend\n"),
         after: "",
     };
-    expect_most(&rt, rt.alloc(), things, 8, "F15 line 27")
+    expect_most(rt.alloc(), things, 8, "F15 line 27")
 }
 
 #[test]
@@ -52,7 +45,7 @@ fn menu_items(rt: HostRuntime) -> Result<(), Fail> {
         each: ("item \"i", "\" 100\n"),
         after: "end\n",
     };
-    expect_most(&rt, rt.alloc(), things, 16, "F15 line 20")
+    expect_most(rt.alloc(), things, 16, "F15 line 20")
 }
 
 #[test]
@@ -62,7 +55,7 @@ fn status_items(rt: HostRuntime) -> Result<(), Fail> {
         each: ("status \"\" F", " 100\n"),
         after: "",
     };
-    expect_most(&rt, rt.alloc(), things, 8, "F15 line 11")
+    expect_most(rt.alloc(), things, 8, "F15 line 11")
 }
 
 #[test]
@@ -72,7 +65,7 @@ fn windows(rt: HostRuntime) -> Result<(), Fail> {
         each: ("window w", " 1 1 12 3 0 \"\"\nend\n"),
         after: "",
     };
-    expect_most(&rt, rt.alloc(), things, 9, "F15 line 21")
+    expect_most(rt.alloc(), things, 9, "F15 line 21")
 }
 
 #[test]
@@ -82,7 +75,7 @@ fn views_of_windows(rt: HostRuntime) -> Result<(), Fail> {
         each: ("text 1 1 4 1 \"t", "\"\n"),
         after: "end\n",
     };
-    expect_most(&rt, rt.alloc(), things, 64, "F15 line 68")
+    expect_most(rt.alloc(), things, 64, "F15 line 68")
 }
 
 #[test]
@@ -95,7 +88,7 @@ fn dialogs(rt: HostRuntime) -> Result<(), Fail> {
         ),
         after: "",
     };
-    expect_most(&rt, rt.alloc(), things, 16, "F15 line 51")
+    expect_most(rt.alloc(), things, 16, "F15 line 51")
 }
 
 // The button before them counts, and the pane that they are in.
@@ -111,7 +104,7 @@ pane p 1 2 8 1
         each: ("label 0 0 4 \"l", "\" c\n"),
         after: "end\nend\n",
     };
-    expect_most(&rt, rt.alloc(), things, 62, "F15 line 68")
+    expect_most(rt.alloc(), things, 62, "F15 line 68")
 }
 
 // The number of each rule stands in a comment, which is no line of the canonical text.
@@ -127,7 +120,7 @@ checks k 1 2 8 "a"
         each: ("#", "\nenable 100 when k 1\n"),
         after: "end\n",
     };
-    expect_most(&rt, rt.alloc(), things, 64, "F15 line 70")
+    expect_most(rt.alloc(), things, 64, "F15 line 70")
 }
 
 #[test]
@@ -140,7 +133,20 @@ checks k 1 2 8"#,
         each: (" \"a", "\""),
         after: "\nend\n",
     };
-    expect_most(&rt, rt.alloc(), things, 16, "F15 line 4")
+    expect_most(rt.alloc(), things, 16, "F15 line 4")
+}
+
+#[test]
+fn items_of_radio_buttons(rt: HostRuntime) -> Result<(), Fail> {
+    let things = Things {
+        before: r#"tvd 1
+screen 40 30
+dialog d 2 2 36 26 "" ends cancel
+radios r 1 2 8"#,
+        each: (" \"a", "\""),
+        after: " start 1\nend\n",
+    };
+    expect_most(rt.alloc(), things, 16, "F15 line 4")
 }
 
 #[test]
@@ -153,5 +159,5 @@ list l 1 2 8 3"#,
         each: (" \"a", "\""),
         after: " start 1\nend\n",
     };
-    expect_most(&rt, rt.alloc(), things, 100, "F15 line 4")
+    expect_most(rt.alloc(), things, 100, "F15 line 4")
 }

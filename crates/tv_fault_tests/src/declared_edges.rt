@@ -1,8 +1,8 @@
 //! Windows, dialogs, menus and status items just outside and just inside of what their faults ask for.
 
-use crate::descriptions::HEAD;
-use crate::tables::expect_findings;
 use std::test::Fail;
+use tv_test_support::descriptions::HEAD;
+use tv_test_support::expect_findings;
 
 // What stands before the status items, up to the fifth line.
 const MENU: &str = r#"tvd 1
@@ -52,7 +52,8 @@ window v 1 1 20 5 0 ""
 end
 window v 1 1 20 5 0 ""
 end
-=> F1 line 5, F1 line 7
+=> F1 line 5
+=> F1 line 7
 start d
 dialog d 2 2 36 11 "" ends cancel
 button c 1 1 10 "~C~" cancel default
@@ -73,7 +74,8 @@ end
 dialog d 2 2 36 11 "" ends cancel
 button c 1 1 10 "~C~" cancel default
 end
-=> F1 line 6, F16 line 3
+=> F1 line 6
+=> F16 line 3
 dialog d 2 2 36 11 "" opens 100 ends cancel
 button c 1 1 10 "~C~" cancel default
 end
@@ -114,7 +116,8 @@ end
 dialog e 2 2 36 11 "" opens 7 ends cancel
 button c 1 1 10 "~C~" cancel default
 end
-=> F16 line 3, F16 line 6
+=> F16 line 3
+=> F16 line 6
 window v 1 1 20 5 1 ""
 end
 window w 1 1 20 5 2 ""
@@ -139,7 +142,8 @@ window v 1 1 20 5 10 ""
 end
 window w 1 1 20 5 10 ""
 end
-=> F15 line 3, F15 line 5
+=> F15 line 3
+=> F15 line 5
 window v 1 1 20 5 -1 ""
 end
 => F15 line 3
@@ -186,7 +190,7 @@ end
 
 #[test]
 fn declarations(rt: HostRuntime) -> Result<(), Fail> {
-    expect_findings(&rt, rt.alloc(), HEAD, DECLARED, "")
+    expect_findings(rt.alloc(), HEAD, DECLARED, "")
 }
 
 // Keys of status items.
@@ -224,6 +228,18 @@ status "" Home quit
 => F5 line 6
 status "" PgDn quit
 => F5 line 6
+status "" Down quit
+=> F5 line 6
+status "" Left quit
+=> F5 line 6
+status "" Right quit
+=> F5 line 6
+status "" End quit
+=> F5 line 6
+status "" PgUp quit
+=> F5 line 6
+status "" Ctrl-PgDn quit
+=> F5 line 6
 status "" Ctrl-PgUp quit
 => F5 line 6
 status "" Backspace quit
@@ -248,12 +264,50 @@ status "" F1 menu
 => F5 line 7
 status "" Alt-C quit
 status "" Alt-C quit
-=> F5 line 6, F5 line 7
+=> F5 line 6
+=> F5 line 7
 "#;
 
 #[test]
 fn status_keys(rt: HostRuntime) -> Result<(), Fail> {
-    expect_findings(&rt, rt.alloc(), MENU, STATUS, REST)
+    expect_findings(rt.alloc(), MENU, STATUS, REST)
+}
+
+// What stands behind other status items: shortcuts of a label, of items, of a hidden button, and of a second dialog.
+const SHORTCUTS: &str = r#"dialog d 2 2 36 11 "" ends cancel
+label 1 1 4 "~a~" c
+checks k 1 2 8 "x" "~B~"
+radios r 1 4 8 "~0~" start 1
+button c 1 6 10 "" cancel
+button e 1 7 10 "~H~" 120
+show e when k 1
+end
+dialog f 2 2 36 11 "" ends cancel
+button c 1 1 10 "~z~" cancel
+end
+"#;
+
+// Keys that are such a shortcut, and others.
+const SHORTCUT_KEYS: &str = r#"status "" Alt-A quit
+=> F5 line 3
+status "" Alt-B quit
+=> F5 line 3
+status "" Alt-0 quit
+=> F5 line 3
+status "" Alt-H quit
+=> F5 line 3
+status "" Alt-Z quit
+=> F5 line 3
+status "" Alt-X quit
+status "" Alt-1 quit
+status "" Ctrl-A quit
+status "" Ctrl-Z quit
+=> sound
+"#;
+
+#[test]
+fn shortcut_keys(rt: HostRuntime) -> Result<(), Fail> {
+    expect_findings(rt.alloc(), HEAD, SHORTCUT_KEYS, SHORTCUTS)
 }
 
 // Windows may lie off the screen, their texts not outside of them.
@@ -289,6 +343,9 @@ end
 window w 132 -133 12 3 0 ""
 end
 => F15 line 3
+window w 132 133 12 3 0 ""
+end
+=> F15 line 3
 window w 1 1 133 60 1 ""
 end
 => F15 line 3
@@ -304,12 +361,58 @@ end
 window w 1 1 0 0 1 ""
 text 1 1 1 1 ""
 end
-=> F2 line 4, F15 line 3
+=> F2 line 4
+=> F15 line 3
 "#;
 
 #[test]
 fn windows(rt: HostRuntime) -> Result<(), Fail> {
-    expect_findings(&rt, rt.alloc(), HEAD, WINDOWS, "")
+    expect_findings(rt.alloc(), HEAD, WINDOWS, "")
+}
+
+// The largest screen.
+const LARGEST_SCREEN: &str = "tvd 1\nscreen 132 60\n";
+
+// Dialogs as large as the desktop and larger, in its last corner and beyond it.
+const DIALOGS: &str = r#"dialog d 0 1 132 58 "" ends cancel
+=> sound
+dialog d 0 1 133 58 "" ends cancel
+=> F2 line 3
+=> F15 line 3
+dialog d 0 1 132 59 "" ends cancel
+=> F2 line 3
+dialog d 0 1 132 60 "" ends cancel
+=> F2 line 3
+dialog d 0 1 132 61 "" ends cancel
+=> F2 line 3
+=> F15 line 3
+dialog d 120 56 12 3 "" ends cancel
+=> sound
+dialog d 121 56 12 3 "" ends cancel
+=> F2 line 3
+dialog d 120 57 12 3 "" ends cancel
+=> F2 line 3
+dialog d 132 1 12 3 "" ends cancel
+=> F2 line 3
+dialog d 133 1 12 3 "" ends cancel
+=> F2 line 3
+=> F15 line 3
+dialog d 1 132 12 3 "" ends cancel
+=> F2 line 3
+dialog d 1 133 12 3 "" ends cancel
+=> F2 line 3
+=> F15 line 3
+dialog d 1 -132 12 3 "" ends cancel
+=> F2 line 3
+dialog d 1 -133 12 3 "" ends cancel
+=> F2 line 3
+=> F15 line 3
+"#;
+
+#[test]
+fn dialogs(rt: HostRuntime) -> Result<(), Fail> {
+    let rest = "button c 1 1 4 \"\" cancel\nend\n";
+    expect_findings(rt.alloc(), LARGEST_SCREEN, DIALOGS, rest)
 }
 
 // Characters of one column, and others.
@@ -334,7 +437,7 @@ end
 
 #[test]
 fn characters(rt: HostRuntime) -> Result<(), Fail> {
-    expect_findings(&rt, rt.alloc(), HEAD, CHARACTERS, "")
+    expect_findings(rt.alloc(), HEAD, CHARACTERS, "")
 }
 
 // Numbers of commands.
@@ -347,13 +450,15 @@ menu ""
 item "" 99
 item "" 256
 end
-=> F15 line 4, F15 line 5
+=> F15 line 4
+=> F15 line 5
 status "" F1 100
 status "" F2 255
 => sound
 status "" F1 99
 status "" F2 256
-=> F15 line 3, F15 line 4
+=> F15 line 3
+=> F15 line 4
 dialog d 2 2 36 11 "" ends cancel
 button c 1 1 10 "~C~" cancel default
 checks k 1 2 8 "a"
@@ -367,18 +472,20 @@ checks k 1 2 8 "a"
 enable 99 when k 1
 enable -1 when k 1
 end
-=> F15 line 6, F15 line 7
+=> F15 line 6
+=> F15 line 7
 dialog d 2 2 36 11 "" ends cancel
 button c 1 1 10 "~C~" cancel default
 button e 1 2 8 "" 99
 button f 1 3 8 "" 256
 end
-=> F15 line 5, F15 line 6
+=> F15 line 5
+=> F15 line 6
 "#;
 
 #[test]
 fn commands(rt: HostRuntime) -> Result<(), Fail> {
-    expect_findings(&rt, rt.alloc(), HEAD, COMMANDS, "")
+    expect_findings(rt.alloc(), HEAD, COMMANDS, "")
 }
 
 // Texts of 120 characters and of 121.
@@ -421,5 +528,5 @@ end
 
 #[test]
 fn lengths(rt: HostRuntime) -> Result<(), Fail> {
-    expect_findings(&rt, rt.alloc(), HEAD, LENGTHS, "")
+    expect_findings(rt.alloc(), HEAD, LENGTHS, "")
 }

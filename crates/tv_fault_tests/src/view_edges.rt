@@ -1,9 +1,9 @@
 //! Views just outside and just inside of what the faults of places, overlaps, first items, characters and sizes ask
 //! for.
 
-use crate::descriptions::DIALOG;
-use crate::tables::expect_findings;
 use std::test::Fail;
+use tv_test_support::descriptions::DIALOG;
+use tv_test_support::expect_findings;
 
 // Views within their owner and outside of it.
 const PLACES: &str = r#"pane p 1 2 34 8
@@ -43,11 +43,13 @@ end
 pane p 1 2 0 1
 text 0 0 1 1 ""
 end
-=> F2 line 6, F15 line 5
+=> F2 line 6
+=> F15 line 5
 pane p 1 2 0 1
 text 0 0 0 1 ""
 end
-=> F15 line 5, F15 line 6
+=> F15 line 5
+=> F15 line 6
 checks k 1 8 10 "a" "b"
 => sound
 checks k 1 9 10 "a" "b"
@@ -61,7 +63,8 @@ label 30 2 6 "abc" c
 input i 1 9 34 4 any ""
 => sound
 input i 2147483647 9 34 4 any ""
-=> F2 line 5, F15 line 5
+=> F2 line 5
+=> F15 line 5
 list l 33 8 2 2 "a" start 1
 => sound
 list l 34 8 2 2 "a" start 1
@@ -70,7 +73,7 @@ list l 34 8 2 2 "a" start 1
 
 #[test]
 fn places(rt: HostRuntime) -> Result<(), Fail> {
-    expect_findings(&rt, rt.alloc(), DIALOG, PLACES, "end\n")
+    expect_findings(rt.alloc(), DIALOG, PLACES, "end\n")
 }
 
 // Views that touch and views that overlap.
@@ -129,7 +132,7 @@ text 1 2 8 1 ""
 
 #[test]
 fn overlaps(rt: HostRuntime) -> Result<(), Fail> {
-    expect_findings(&rt, rt.alloc(), DIALOG, OVERLAPS, "end\n")
+    expect_findings(rt.alloc(), DIALOG, OVERLAPS, "end\n")
 }
 
 // First items that are there, and others.
@@ -157,7 +160,7 @@ list l 1 2 8 2 "a" "b" start 0
 
 #[test]
 fn first_items(rt: HostRuntime) -> Result<(), Fail> {
-    expect_findings(&rt, rt.alloc(), DIALOG, FIRST_ITEMS, "end\n")
+    expect_findings(rt.alloc(), DIALOG, FIRST_ITEMS, "end\n")
 }
 
 // Characters of one column, and others.
@@ -191,7 +194,7 @@ input i 1 2 8 4 picture "[漢]" ""
 
 #[test]
 fn characters(rt: HostRuntime) -> Result<(), Fail> {
-    expect_findings(&rt, rt.alloc(), DIALOG, CHARACTERS, "end\n")
+    expect_findings(rt.alloc(), DIALOG, CHARACTERS, "end\n")
 }
 
 // Widths and heights.
@@ -200,15 +203,18 @@ const SIZES: &str = r#"label 1 2 1 "" c
 label 1 2 0 "" c
 => F15 line 5
 label -133 2 4 "" c
-=> F2 line 5, F15 line 5
+=> F2 line 5
+=> F15 line 5
 label 1 133 4 "" c
-=> F2 line 5, F15 line 5
+=> F2 line 5
+=> F15 line 5
 button e 1 2 4 "" cancel
 => sound
 button e 1 2 3 "" cancel
 => F15 line 5
 button e 1 2 133 "" cancel
-=> F2 line 5, F15 line 5
+=> F2 line 5
+=> F15 line 5
 input i 1 2 3 4 any ""
 => sound
 input i 1 2 2 4 any ""
@@ -238,14 +244,107 @@ end
 => F15 line 5
 pane p 1 2 1 61
 end
-=> F2 line 5, F15 line 5
+=> F2 line 5
+=> F15 line 5
 label 200 200 200 "" c
-=> F2 line 5, F15 line 5
+=> F2 line 5
+=> F15 line 5
 "#;
 
 #[test]
 fn sizes(rt: HostRuntime) -> Result<(), Fail> {
-    expect_findings(&rt, rt.alloc(), DIALOG, SIZES, "end\n")
+    expect_findings(rt.alloc(), DIALOG, SIZES, "end\n")
+}
+
+// The greatest sizes and the farthest places, and those past them. What is so large can't be within a dialog.
+const LARGEST: &str = r#"text 1 2 132 1 ""
+=> F2 line 5
+text 1 2 133 1 ""
+=> F2 line 5
+=> F15 line 5
+label 1 2 132 "" c
+=> F2 line 5
+label 1 2 133 "" c
+=> F2 line 5
+=> F15 line 5
+button e 1 2 132 "" cancel
+=> F2 line 5
+button e 1 2 133 "" cancel
+=> F2 line 5
+=> F15 line 5
+input i 1 2 132 4 any ""
+=> F2 line 5
+input i 1 2 133 4 any ""
+=> F2 line 5
+=> F15 line 5
+checks k 1 2 132 "a"
+=> F2 line 5
+checks k 1 2 133 "a"
+=> F2 line 5
+=> F15 line 5
+radios r 1 2 132 "a" start 1
+=> F2 line 5
+radios r 1 2 133 "a" start 1
+=> F2 line 5
+=> F15 line 5
+list l 1 2 132 1 "a" start 1
+=> F2 line 5
+list l 1 2 133 1 "a" start 1
+=> F2 line 5
+=> F15 line 5
+pane p 1 2 132 1
+end
+=> F2 line 5
+pane p 1 2 133 1
+end
+=> F2 line 5
+=> F15 line 5
+text 1 2 1 60 ""
+=> F2 line 5
+text 1 2 1 61 ""
+=> F2 line 5
+=> F15 line 5
+list l 1 2 1 60 "a" start 1
+=> F2 line 5
+list l 1 2 1 61 "a" start 1
+=> F2 line 5
+=> F15 line 5
+pane p 1 2 1 60
+end
+=> F2 line 5
+pane p 1 2 1 61
+end
+=> F2 line 5
+=> F15 line 5
+text 132 2 1 1 ""
+=> F2 line 5
+text -132 2 1 1 ""
+=> F2 line 5
+text 133 2 1 1 ""
+=> F2 line 5
+=> F15 line 5
+text -133 2 1 1 ""
+=> F2 line 5
+=> F15 line 5
+text 1 132 1 1 ""
+=> F2 line 5
+text 1 -132 1 1 ""
+=> F2 line 5
+text 1 133 1 1 ""
+=> F2 line 5
+=> F15 line 5
+text 1 -133 1 1 ""
+=> F2 line 5
+=> F15 line 5
+text 1 2 1 1 ""
+=> sound
+text 1 2 1 0 ""
+=> F15 line 5
+"#;
+
+#[test]
+fn largest_sizes(rt: HostRuntime) -> Result<(), Fail> {
+    expect_findings(rt.alloc(), DIALOG, LARGEST, "end\n")
 }
 
 // Four panes around one another, and five: each chain has a line of its own.
@@ -302,12 +401,13 @@ end
 end
 end
 end
-=> F15 line 9, F15 line 19
+=> F15 line 9
+=> F15 line 19
 ";
 
 #[test]
 fn nested_panes(rt: HostRuntime) -> Result<(), Fail> {
-    expect_findings(&rt, rt.alloc(), DIALOG, NESTED, "end\n")
+    expect_findings(rt.alloc(), DIALOG, NESTED, "end\n")
 }
 
 // Texts of 120 characters and of 121. A line end and an escaped quote are one character each, the `~` of a mark none.
@@ -351,10 +451,11 @@ input i 1 2 8 9 picture "[xxxxxxxxxxxxxxxxxxxxxxxxxxxxxxxxxxxxxxxxxxxxxxxxxxxxxx
 input i 1 2 8 120 any "xxxxxxxxxxxxxxxxxxxxxxxxxxxxxxxxxxxxxxxxxxxxxxxxxxxxxxxxxxxxxxxxxxxxxxxxxxxxxxxxxxxxxxxxxxxxxxxxxxxxxxxxxxxxxxxxxxxxxxxx"
 => sound
 input i 1 2 8 120 any "xxxxxxxxxxxxxxxxxxxxxxxxxxxxxxxxxxxxxxxxxxxxxxxxxxxxxxxxxxxxxxxxxxxxxxxxxxxxxxxxxxxxxxxxxxxxxxxxxxxxxxxxxxxxxxxxxxxxxxxxx"
-=> F13 line 5, F15 line 5
+=> F13 line 5
+=> F15 line 5
 "#;
 
 #[test]
 fn lengths(rt: HostRuntime) -> Result<(), Fail> {
-    expect_findings(&rt, rt.alloc(), DIALOG, LENGTHS, "end\n")
+    expect_findings(rt.alloc(), DIALOG, LENGTHS, "end\n")
 }

@@ -1,9 +1,10 @@
 //! Sound descriptions, and edits of them that have one fault each.
 
-use crate::descriptions::{COLOUR, MENUS, ORDER, SHARED_LETTER, WINDOWS};
-use crate::samples::{CANCEL, CLOSED};
-use crate::tables::{expect_edits, expect_finding};
 use std::test::Fail;
+use tv_check::faults;
+use tv_lang::parse;
+use tv_test_support::descriptions::{CANCEL, CLOSED, COLOUR, MENUS, ORDER, SHARED_LETTER, WINDOWS};
+use tv_test_support::{Findings, expect_edits, expect_finding};
 
 // A name given twice, a label of a pane, an item that isn't there, a range of four digits in three characters, an opening
 // command that is too small.
@@ -77,7 +78,7 @@ const SHOWN_BY_ITSELF: &str = "- show more when opts 2
 #[test]
 fn sound_descriptions(rt: HostRuntime) -> Result<(), Fail> {
     for text in [CANCEL, CLOSED, ORDER, COLOUR, WINDOWS, MENUS] {
-        expect_finding(&rt, rt.alloc(), text, "sound")?;
+        expect_finding(rt.alloc(), text, "sound")?;
     }
     Ok(())
 }
@@ -85,25 +86,39 @@ fn sound_descriptions(rt: HostRuntime) -> Result<(), Fail> {
 #[test]
 fn one_fault_each(rt: HostRuntime) -> Result<(), Fail> {
     let alloc = rt.alloc();
-    expect_edits(&rt, alloc, ORDER, ORDER_EDITS)?;
-    expect_edits(&rt, alloc, CANCEL, CANCEL_EDITS)?;
-    expect_edits(&rt, alloc, COLOUR, COLOUR_EDITS)?;
-    expect_edits(&rt, alloc, MENUS, MENU_EDITS)
+    expect_edits(&Findings, alloc, ORDER, ORDER_EDITS)?;
+    expect_edits(&Findings, alloc, CANCEL, CANCEL_EDITS)?;
+    expect_edits(&Findings, alloc, COLOUR, COLOUR_EDITS)?;
+    expect_edits(&Findings, alloc, MENUS, MENU_EDITS)
 }
 
 // Letters are compared over the whole dialog, and not among the views of one pane.
 #[test]
 fn letter_shared_in_panes(rt: HostRuntime) -> Result<(), Fail> {
-    expect_finding(&rt, rt.alloc(), SHARED_LETTER, "F4 line 8")
+    expect_finding(rt.alloc(), SHARED_LETTER, "F4 line 8")
 }
 
 #[test]
 fn status_key_on_shortcut(rt: HostRuntime) -> Result<(), Fail> {
-    expect_edits(&rt, rt.alloc(), CANCEL, STATUS_KEY)
+    expect_edits(&Findings, rt.alloc(), CANCEL, STATUS_KEY)
 }
 
 // `ORDER` itself shows a pane beside its check boxes, and is sound.
 #[test]
 fn rule_shows_itself(rt: HostRuntime) -> Result<(), Fail> {
-    expect_edits(&rt, rt.alloc(), ORDER, SHOWN_BY_ITSELF)
+    expect_edits(&Findings, rt.alloc(), ORDER, SHOWN_BY_ITSELF)
+}
+
+// No contract says that memory is there, so a body of `faults` that always answers that it isn't could be proved. It
+// fails here.
+#[test]
+fn faults_always_no_memory(rt: HostRuntime) -> Result<(), Fail> {
+    let alloc = rt.alloc();
+    let desc = parse(alloc, SHARED_LETTER.as_bytes())?;
+    let found = faults(alloc, &desc)?;
+    let [fault] = found.as_slice() else {
+        return Err(Fail::new("one fault is wanted"));
+    };
+    assert_eq!(rt; (fault.kind.number(), fault.line), (4, 8));
+    Ok(())
 }

@@ -1,7 +1,7 @@
 //! Inputs just outside and just inside of what the faults of domains and first texts ask for.
 
-use crate::tables::expect_findings;
 use std::test::Fail;
+use tv_test_support::expect_findings;
 
 // A dialog with a button, and the beginning of an input, which is the fifth line.
 const INPUT: &str = r#"tvd 1
@@ -64,7 +64,8 @@ const DOMAINS: &str = r###"4 range 1000 2000 ""
 1 picture "{ab,abc}" ""
 => F12 line 5
 4 picture "漢" ""
-=> F12 line 5, F14 line 5
+=> F12 line 5
+=> F14 line 5
 4 picture "{漢,a}" ""
 => F14 line 5
 1 any ""
@@ -72,9 +73,11 @@ const DOMAINS: &str = r###"4 range 1000 2000 ""
 0 any ""
 => F15 line 5
 -1 any ""
-=> F12 line 5, F15 line 5
+=> F12 line 5
+=> F15 line 5
 -1 any "" optional
-=> F12 line 5, F15 line 5
+=> F12 line 5
+=> F15 line 5
 4 filter "" ""
 => sound
 120 any ""
@@ -82,12 +85,41 @@ const DOMAINS: &str = r###"4 range 1000 2000 ""
 121 any ""
 => F15 line 5
 0 range 1 2 ""
-=> F12 line 5, F15 line 5
+=> F12 line 5
+=> F15 line 5
+0 range 1 2 "" optional
+=> F15 line 5
+-1 range 1 2 "" optional
+=> F12 line 5
+=> F15 line 5
+0 filter "a" ""
+=> F15 line 5
+-1 filter "a" ""
+=> F12 line 5
+=> F15 line 5
+0 picture "[a]" ""
+=> F15 line 5
+0 picture "a" ""
+=> F12 line 5
+=> F15 line 5
+8 picture "[[[[[[[[;[]]]]]]]]" ""
+=> sound
+8 picture "{{{{[[[[{a}]]]]}}}}" ""
+=> F12 line 5
+120 picture "*120{*120{*120{[a]}}}" ""
+=> sound
+120 picture "xxxxxxxxxxxxxxxxxxxxxxxxxxxxxxxxxxxxxxxxxxxxxxxxxxxxxxxxxxxxxxxxxxxxxxxxxxxxxxxxxxxxxxxxxxxxxxxxxxxxxxxxxxxxxxxxxxxxxxxx" ""
+=> sound
+120 picture "xxxxxxxxxxxxxxxxxxxxxxxxxxxxxxxxxxxxxxxxxxxxxxxxxxxxxxxxxxxxxxxxxxxxxxxxxxxxxxxxxxxxxxxxxxxxxxxxxxxxxxxxxxxxxxxxxxxxxxxxx" ""
+=> F12 line 5
+=> F15 line 5
+120 picture "[xxxxxxxxxxxxxxxxxxxxxxxxxxxxxxxxxxxxxxxxxxxxxxxxxxxxxxxxxxxxxxxxxxxxxxxxxxxxxxxxxxxxxxxxxxxxxxxxxxxxxxxxxxxxxxxxxxxxxxxxx]" ""
+=> F15 line 5
 "###;
 
 #[test]
 fn domains(rt: HostRuntime) -> Result<(), Fail> {
-    expect_findings(&rt, rt.alloc(), INPUT, DOMAINS, "end\n")
+    expect_findings(rt.alloc(), INPUT, DOMAINS, "end\n")
 }
 
 // First texts that could be typed, and others.
@@ -128,10 +160,22 @@ const FIRST_TEXTS: &str = r###"4 range -5 5 "-999"
 8 picture "*3#[-*2&]" "123-a"
 => F13 line 5
 8 any "漢"
-=> F13 line 5, F14 line 5
+=> F13 line 5
+=> F14 line 5
+4 range 5 -1 "5" optional
+=> sound
+4 range 5 -1 "-" optional
+=> F13 line 5
+4 range -1 5 "-+-"
+=> sound
+8 any "a\n"
+=> F13 line 5
+=> F14 line 5
+8 picture "]" "a" optional
+=> F12 line 5
 "###;
 
 #[test]
 fn first_texts(rt: HostRuntime) -> Result<(), Fail> {
-    expect_findings(&rt, rt.alloc(), INPUT, FIRST_TEXTS, "end\n")
+    expect_findings(rt.alloc(), INPUT, FIRST_TEXTS, "end\n")
 }

@@ -1,8 +1,8 @@
 //! Dialogs just outside and just inside of what the faults of names, letters, labels, rules, focus and ends ask for.
 
-use crate::descriptions::DIALOG;
-use crate::tables::expect_findings;
 use std::test::Fail;
+use tv_test_support::descriptions::DIALOG;
+use tv_test_support::expect_findings;
 
 // A dialog without views, up to the third line.
 const BARE: &str = r#"tvd 1
@@ -41,12 +41,13 @@ end
 => F1 line 6
 checks c 1 2 8 "a"
 list c 1 3 8 1 "a" start 1
-=> F1 line 5, F1 line 6
+=> F1 line 5
+=> F1 line 6
 "#;
 
 #[test]
 fn names_in_dialogs(rt: HostRuntime) -> Result<(), Fail> {
-    expect_findings(&rt, rt.alloc(), DIALOG, NAMES, "end\n")
+    expect_findings(rt.alloc(), DIALOG, NAMES, "end\n")
 }
 
 // Marked letters. `~` marks nothing in static texts and lists.
@@ -84,7 +85,7 @@ end
 
 #[test]
 fn letters(rt: HostRuntime) -> Result<(), Fail> {
-    expect_findings(&rt, rt.alloc(), DIALOG, LETTERS, "end\n")
+    expect_findings(rt.alloc(), DIALOG, LETTERS, "end\n")
 }
 
 // Links of labels, before and behind the control.
@@ -108,11 +109,34 @@ label 0 0 8 "" l
 end
 list l 1 4 8 1 "a" start 1
 => sound
+label 1 2 8 "" k
+label 1 3 8 "" r
+label 1 4 8 "" i
+checks k 1 5 8 "a"
+radios r 1 6 8 "a" start 1
+input i 1 7 8 4 any ""
+=> sound
+label 1 2 8 "" e
+end
+dialog f 2 2 36 11 "" ends cancel
+button e 1 1 8 "" cancel
+=> F6 line 5
+label 1 2 8 "" e
+pane e 1 3 8 1
+end
+button e 1 4 8 "" cancel
+=> F1 line 8
+=> F6 line 5
+label 1 2 8 "" e
+button e 1 3 8 "" cancel
+pane e 1 4 8 1
+end
+=> F1 line 7
 "#;
 
 #[test]
 fn labels(rt: HostRuntime) -> Result<(), Fail> {
-    expect_findings(&rt, rt.alloc(), DIALOG, LABELS, "end\n")
+    expect_findings(rt.alloc(), DIALOG, LABELS, "end\n")
 }
 
 // Rules over what is and isn't there, and over their own cluster.
@@ -153,7 +177,8 @@ show r when r 1
 show p when r 1
 => F8 line 9
 show k when k 3
-=> F7 line 9, F8 line 9
+=> F7 line 9
+=> F8 line 9
 show c when k 1
 show p when k 3
 => F7 line 10
@@ -161,7 +186,91 @@ show p when k 3
 
 #[test]
 fn rules(rt: HostRuntime) -> Result<(), Fail> {
-    expect_findings(&rt, rt.alloc(), CLUSTERS, RULES, "end\n")
+    expect_findings(rt.alloc(), CLUSTERS, RULES, "end\n")
+}
+
+// Rules over panes in panes, over what another dialog has, and over names that are given twice, which mean the first.
+const FAR_RULES: &str = r#"button c 1 8 8 "" cancel
+pane p 1 1 8 1
+pane q 0 0 8 1
+checks k 0 0 8 "a"
+end
+end
+show p when k 1
+=> F8 line 10
+button c 1 8 8 "" cancel
+pane p 1 1 8 1
+pane q 0 0 8 1
+checks k 0 0 8 "a"
+end
+end
+show q when k 1
+=> F8 line 10
+button c 1 8 8 "" cancel
+pane p 1 1 8 1
+pane q 0 0 8 1
+checks k 0 0 8 "a"
+end
+end
+show c when k 1
+=> sound
+button c 1 1 8 "" cancel
+checks k 1 2 8 "a"
+end
+dialog f 2 2 36 11 "" ends cancel
+button e 1 1 8 "" cancel
+checks j 1 2 8 "a"
+show c when j 1
+=> F7 line 10
+button c 1 1 8 "" cancel
+checks k 1 2 8 "a"
+end
+dialog f 2 2 36 11 "" ends cancel
+button e 1 1 8 "" cancel
+checks j 1 2 8 "a"
+show e when k 1
+=> F7 line 10
+button c 1 1 8 "" cancel
+button k 1 2 8 "" cancel
+checks k 1 3 8 "a"
+show c when k 1
+=> F1 line 6
+=> F7 line 7
+button c 1 1 8 "" cancel
+checks k 1 2 8 "a"
+button k 1 3 8 "" cancel
+show c when k 1
+=> F1 line 6
+button c 1 1 8 "" cancel
+checks k 1 2 8 "a"
+pane k 1 3 8 1
+end
+show k when k 1
+=> F1 line 6
+=> F8 line 8
+pane p 1 1 8 1
+checks k 0 0 8 "a"
+end
+pane p 1 2 8 1
+checks j 0 0 8 "a"
+end
+show p when j 1
+=> F1 line 7
+pane p 1 1 8 1
+checks k 0 0 8 "a"
+end
+pane p 1 2 8 1
+checks j 0 0 8 "a"
+end
+show p when j 1
+show j when k 1
+=> F1 line 7
+=> F9 line 3
+"#;
+
+#[test]
+fn far_rules(rt: HostRuntime) -> Result<(), Fail> {
+    expect_findings(rt.alloc(), BARE, FAR_RULES, "end\n")
 }
 
 // Dialogs whose rules reach all controls, or all but one.
@@ -178,19 +287,24 @@ end
 => sound
 button e 1 1 8 "" 101
 enable 101 when z 1
-=> F7 line 5, F9 line 3
+=> F7 line 5
+=> F9 line 3
 button e 1 1 8 "" 101
 enable 102 when z 1
 => F7 line 5
 button e 1 1 8 "" cancel
 show e when z 1
-=> F7 line 5, F9 line 3
+=> F7 line 5
+=> F9 line 3
 button e 1 1 8 "" close
 enable close when z 1
-=> F7 line 5, F9 line 3, F17 line 5
+=> F7 line 5
+=> F9 line 3
+=> F17 line 5
 button e 1 1 8 "" cancel
 enable close when z 1
-=> F7 line 5, F17 line 5
+=> F7 line 5
+=> F17 line 5
 checks k 1 1 8 "a"
 radios r 1 2 8 "a" start 1
 show k when r 1
@@ -222,11 +336,16 @@ show j when k 1
 
 #[test]
 fn controls_to_focus(rt: HostRuntime) -> Result<(), Fail> {
-    expect_findings(&rt, rt.alloc(), BARE, FOCUS, "end\n")
+    expect_findings(rt.alloc(), BARE, FOCUS, "end\n")
 }
 
-// Buttons of ends, and default buttons.
+// Buttons of ends, in another dialog too, and default buttons.
 const ENDS: &str = r#"button e 1 2 8 "" ok
+end
+dialog f 2 2 36 11 "" ends cancel
+button e 1 1 8 "" ok
+=> F10 line 8
+button e 1 2 8 "" ok
 => sound
 button e 1 2 8 "" yes
 => F10 line 5
@@ -245,7 +364,8 @@ button f 1 3 8 "" ok default grab
 button e 1 2 8 "" cancel default
 button f 1 3 8 "" ok default
 button g 1 4 8 "" ok default
-=> F11 line 6, F11 line 7
+=> F11 line 6
+=> F11 line 7
 button e 1 2 8 "" cancel default
 pane p 1 3 8 1
 button f 0 0 8 "" ok default
@@ -255,5 +375,5 @@ end
 
 #[test]
 fn ends_and_defaults(rt: HostRuntime) -> Result<(), Fail> {
-    expect_findings(&rt, rt.alloc(), DIALOG, ENDS, "end\n")
+    expect_findings(rt.alloc(), DIALOG, ENDS, "end\n")
 }

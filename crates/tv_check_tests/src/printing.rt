@@ -1,0 +1,134 @@
+//! Canonical texts: that of a text with comments, spaces and empty lines, and that of a canonical text, which is itself.
+
+use std::alloc::Global;
+use std::test::Fail;
+use tv_lang::{parse, print};
+use tv_test_support::descriptions::{CANCEL, CLOSED, COLOUR, MENUS, ORDER, SHARED_LETTER, WINDOWS};
+use tv_test_support::{Question, expect_answer, expect_answers};
+
+/// The canonical text of what a text spells.
+#[derive(Clone, Copy)]
+pub struct Printing;
+
+impl Question for Printing {
+    fn answer(&self, alloc: Global, text: &[u8]) -> Result<String, Fail> {
+        let printed = print_of(alloc, text)?;
+        let again = print_of(alloc, printed.as_bytes())?;
+        if again.as_str() != printed.as_str() {
+            return Err(Fail::new("the canonical text spells something else"));
+        }
+        Ok(printed)
+    }
+}
+
+fn print_of(alloc: Global, text: &[u8]) -> Result<String, Fail> {
+    let desc = parse(alloc, text)?;
+    Ok(print(alloc, &desc)?)
+}
+
+/// Fails where a text isn't its own canonical text.
+pub fn expect_canonical(alloc: Global, text: &str) -> Result<(), Fail> {
+    expect_answer(&Printing, alloc, text, text)
+}
+
+#[test]
+fn canonical_texts(rt: HostRuntime) -> Result<(), Fail> {
+    for text in [CANCEL, CLOSED, ORDER, COLOUR, WINDOWS, MENUS, SHARED_LETTER] {
+        expect_canonical(rt.alloc(), text)?;
+    }
+    Ok(())
+}
+
+#[test]
+fn last_line_end(rt: HostRuntime) -> Result<(), Fail> {
+    let text = CANCEL.strip_suffix("\n").ok_or("no last line end")?;
+    expect_answer(&Printing, rt.alloc(), text, CANCEL)
+}
+
+// Comments, spaces and empty lines say nothing.
+const SPACES: &str = r#"# what a dialog needs
+
+  tvd   1
+   # "its screen\
+screen 20    10   
+
+start   a
+dialog a 2  2 14 4 "Q  q"   ends   cancel
+    button c 2 1 10 "~C~ancel"    cancel
+    # the end
+end
+   
+# "
+=> tvd 1
+=> screen 20 10
+=> start a
+=> dialog a 2 2 14 4 "Q  q" ends cancel
+=> button c 2 1 10 "~C~ancel" cancel
+=> end
+tvd 1
+
+screen -2147483648 2147483647
+=> tvd 1
+=> screen -2147483648 2147483647
+"#;
+
+#[test]
+fn spaces_and_comments(rt: HostRuntime) -> Result<(), Fail> {
+    expect_answers(&Printing, rt.alloc(), "", SPACES, "")
+}
+
+// Descriptions of all lines there are, faulty ones among them: what is spelled is printed.
+const ALL_LINES: &str = r###"tvd 1
+screen 40 14
+start nowhere
+menu "~f~ile"
+item "\"N~E~w\"\\" 101
+item "" quit
+end
+menu "a\nb"
+item "~9~" -5
+end
+status "~F1~ \"Help\"" F1 menu
+status "" Shift-Tab next
+status "\\" Ctrl-PgUp close
+status "é" Alt-0 ok
+status "漢" Ctrl-Y cancel
+status "x" Alt-X yes
+status "y" F12 no
+window w -3 0 12 3 0 "\\\"\n"
+text 1 1 4 1 "~not a mark~"
+end
+window w 1 1 0 -1 10 ""
+end
+dialog d 1 1 30 10 "" opens 7 ends
+end
+dialog d 1 1 30 10 "" ends ok cancel yes no
+text 1 1 4 1 "a\nb\\n\"c\""
+label 1 1 4 "~a~" when
+button start 1 1 4 "~0~" 2147483647 default grab
+button end 1 1 4 "" cancel grab
+input i 1 1 4 9 any "" validate optional fill
+input j 1 1 4 9 filter "\"\\~" "\n" optional
+input k 1 1 4 9 range -5 5 "1" fill
+input l 1 1 4 9 picture "##/##" "1" validate fill
+checks m 1 1 4 "~A~" "b" start 1 2 30
+checks n 1 1 4 ""
+radios o 1 1 4 "a" "~b~" start 0
+list p 1 1 4 2 "~a~" "" "\"" start -1
+pane q 1 1 4 1
+pane r 1 1 4 1
+button s 1 1 4 "" 100
+end
+text 1 1 1 1 ""
+end
+show r when m 1
+show q when when -7
+enable quit when o 2
+enable -1 when o 0
+end
+"###;
+
+#[test]
+fn all_lines(rt: HostRuntime) -> Result<(), Fail> {
+    expect_canonical(rt.alloc(), ALL_LINES)
+}

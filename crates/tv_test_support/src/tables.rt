@@ -1,0 +1,126 @@
+//! Tables of texts, and what is answered about each.
+//!
+//! A table is a text. The lines of a row are those of the text that it asks about; then come lines after `=> `, which are
+//! the lines of the answer.
+
+use std::alloc::{AllocError, Global};
+use std::test::Fail;
+use tv_lang::Lines;
+
+/// What a table asks about the texts of its rows.
+pub trait Question {
+    /// The answer, each line with its line end.
+    fn answer(&self, alloc: Global, text: &[u8]) -> Result<String, Fail>;
+}
+
+/// Adds a line to a text.
+pub fn push_line(text: &mut String, line: &str) -> Result<(), AllocError> {
+    text.push_str(line)?;
+    text.push_str("\n")
+}
+
+/// Fails where another answer is given about a text than the wanted one.
+pub fn expect_answer<Q: Question>(
+    question: &Q,
+    alloc: Global,
+    text: &str,
+    wanted: &str,
+) -> Result<(), Fail> {
+    let found = question.answer(alloc, text.as_bytes())?;
+    if found.as_str() == wanted {
+        return Ok(());
+    }
+    Err(Fail::new(format_args!("answered:\n{found}wanted:\n{wanted}about:\n{text}")))
+}
+
+// A row of a table, as far as it is read.
+#[derive(Drop)]
+struct Row {
+    text: String,
+    wanted: String,
+}
+
+impl Row {
+    fn new(alloc: Global) -> Row {
+        Row {
+            text: String::new(alloc),
+            wanted: String::new(alloc),
+        }
+    }
+
+    // Whether lines of the answer were read.
+    fn is_answered(&self) -> bool {
+        !self.wanted.is_empty()
+    }
+}
+
+/// Fails where about some text of a table another answer is given than its row says.
+///
+/// The lines of a row stand between two texts that all of them share.
+pub fn expect_answers<Q: Question>(
+    question: &Q,
+    alloc: Global,
+    before: &str,
+    table: &str,
+    after: &str,
+) -> Result<(), Fail> {
+    let mut row = Row::new(alloc);
+    for line in Lines::new(table.as_bytes()) {
+        let line = str::from_utf8(line)?;
+        if let Some(wanted) = line.strip_prefix("=> ") {
+            push_line(&mut row.wanted, wanted)?;
+        } else {
+            if row.is_answered() {
+                judge(question, alloc, before, &row, after)?;
+                row = Row::new(alloc);
+            }
+            push_line(&mut row.text, line)?;
+        }
+    }
+    if !row.is_answered() {
+        return Err(Fail::new("the table's last row has no answer"));
+    }
+    judge(question, alloc, before, &row, after)
+}
+
+fn judge<Q: Question>(
+    question: &Q,
+    alloc: Global,
+    before: &str,
+    row: &Row,
+    after: &str,
+) -> Result<(), Fail> {
+    let whole = format!(in alloc; "{before}{}{after}", row.text)?;
+    expect_answer(question, alloc, &whole, &row.wanted)
+}
+
+/// Fails where after some edit of a text another answer is given than its row says.
+///
+/// An edit takes out the lines after `- `, where they stand first, and puts the lines after `+ ` in their place. One line
+/// after `=> ` ends it.
+pub fn expect_edits<Q: Question>(
+    question: &Q,
+    alloc: Global,
+    text: &str,
+    table: &str,
+) -> Result<(), Fail> {
+    let mut old = String::new(alloc);
+    let mut new = String::new(alloc);
+    for line in Lines::new(table.as_bytes()) {
+        let line = str::from_utf8(line)?;
+        if let Some(line) = line.strip_prefix("- ") {
+            push_line(&mut old, line)?;
+        } else if let Some(line) = line.strip_prefix("+ ") {
+            push_line(&mut new, line)?;
+        } else {
+            let wanted = line.strip_prefix("=> ").ok_or("no line of an edit")?;
+            let (before, after) = text.split_once(old.as_str()).ok_or("nothing to edit")?;
+            let edited = format!(in alloc; "{before}{new}{after}")?;
+            let wanted = format!(in alloc; "{wanted}\n")?;
+            expect_answer(question, alloc, &edited, &wanted)?;
+            old.clear();
+            new.clear();
+        }
+    }
+    Ok(())
+}
