@@ -5,4 +5,13 @@ mod plain;
 mod tree;
 
 pub use plain::{begins, is_member};
-pub use tree::{Mark, Tree};
+pub use tree::{Mark, Tree, spell};
+
+#[cfg(test)]
+mod answers;
+#[cfg(test)]
+mod grammar;
+#[cfg(test)]
+mod reading;
+#[cfg(test)]
+mod texts;

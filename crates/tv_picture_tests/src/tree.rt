@@ -1,8 +1,11 @@
 //! Pictures as trees.
 
-ghost use Rattle.std.specs.Prelude.{◌≡◌, ◌↔◌, IsTrue, IfOk, OnOk, ◌++◌};
+ghost use Rattle.std.specs.Prelude.{◌≡◌, ◌↔◌, ◌++◌, [], ◌∷◌, IsTrue, OnOk};
 ghost use Rattle.tv_picture.specs.Pattern.{Allows};
-ghost use Rattle.tv_picture_tests.specs.Trees.{mark_of};
+ghost use Rattle.tv_picture.specs.Spelling.{spelled, mark_text, count_text};
+ghost use Rattle.tv_picture_tests.specs.Trees.{mark_of, pattern_of};
+
+use std::alloc::AllocError;
 
 /// What one character of a text may be.
 #[derive(Clone, Copy, Debug, PartialEq, Eq)]
@@ -17,7 +20,7 @@ pub enum Mark {
 }
 
 /// A picture by its parts.
-#[derive(Drop)]
+#[derive(Clone, Drop)]
 pub enum Tree {
     Empty,
     One(Mark),
@@ -43,4 +46,78 @@ impl Mark {
             Mark::Literal(own) | Mark::Quoted(own) => ch == own,
         }
     }
+}
+
+/// Writes the picture after the text.
+pub fn spell(tree: &Tree, text: &mut Vec<char>) -> Result<(), AllocError>
+    ensures { OnOk result (text.new.items ≡ text.old.items ++ spelled (pattern_of tree.now)) }
+{
+    match tree {
+        Tree::Empty => Ok(()),
+        Tree::One(mark) => spell_mark(*mark, text),
+        Tree::Sequence(first, second) => {
+            spell(first, text)?;
+            spell(second, text)
+        }
+        Tree::Either(first, second) => {
+            spell(first, text)?;
+            text.push(',')?;
+            spell(second, text)
+        }
+        Tree::Optional(part) => {
+            text.push('[')?;
+            spell(part, text)?;
+            put(']', text)
+        }
+        Tree::Group(part) => {
+            text.push('{')?;
+            spell(part, text)?;
+            put('}', text)
+        }
+        Tree::Many(part) => {
+            text.push('*')?;
+            spell(part, text)
+        }
+        Tree::Times(count, part) => {
+            text.push('*')?;
+            spell_count(*count, text)?;
+            spell(part, text)
+        }
+    }
+}
+
+fn put(ch: char, text: &mut Vec<char>) -> Result<(), AllocError>
+    ensures { OnOk result (text.new.items ≡ text.old.items ++ ch ∷ []) }
+{
+    text.push(ch)?;
+    Ok(())
+}
+
+fn spell_mark(mark: Mark, text: &mut Vec<char>) -> Result<(), AllocError>
+    ensures { OnOk result (text.new.items ≡ text.old.items ++ mark_text (mark_of mark)) }
+{
+    match mark {
+        Mark::Digit => put('#', text),
+        Mark::Letter => put('?', text),
+        Mark::Capital => put('&', text),
+        Mark::Any => put('@', text),
+        Mark::NotLower => put('!', text),
+        Mark::Literal(own) => put(own, text),
+        Mark::Quoted(own) => {
+            text.push(';')?;
+            put(own, text)
+        }
+    }
+}
+
+fn spell_count(count: u8, text: &mut Vec<char>) -> Result<(), AllocError>
+    ensures { OnOk result (text.new.items ≡ text.old.items ++ count_text count) }
+{
+    if count >= 100 {
+        text.push(char::from(48 + count / 100))?;
+    }
+    if count >= 10 {
+        text.push(char::from(48 + count / 10 % 10))?;
+    }
+    put(char::from(48 + count % 10), text)
 }
