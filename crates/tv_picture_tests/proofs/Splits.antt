@@ -1,6 +1,6 @@
 -- Where a text is divided among the parts of a picture.
 use Rattle.std.proofs.Common.{◌≡◌, ◌↔◌, IsTrue, Bool, true, false, ◌⊎◌, inl, inr, ℕ, ◌+◌, ◌≤◌, ◌<◌, List, [], ◌∷◌, ◌++◌, length, take, drop, arith, refl, ◌∙◌, sym, ap, subst, append_assoc, append-nil, length-append, length-drop, ◌-◌, ◌==◌}
-use Rattle.std.specs.List.{concat, All}
+use Rattle.std.specs.List.{concat}
 use Rattle.std.proofs.lemmas.List.{take-append-drop}
 use Rattle.std.proofs.lemmas.List.Elements.{All-nil, All-head, All-tail, All-cons}
 use Rattle.std.proofs.lemmas.Bool.{eqb-true, eq-eqb}

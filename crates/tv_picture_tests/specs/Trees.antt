@@ -1,5 +1,4 @@
 -- The picture that a tree stands for.
-use Rattle.std.specs.Prelude.{ℕ}
 use Rattle.tv_picture.specs.Pattern.{Pattern, empty, one, sequence, either, optional, group, many, times}
 use Rattle.tv_picture.specs.declared.code.Mark.{Mark as Meant}
 use Rattle.tv_picture.specs.declared.code.Mark.TheVariants as meant

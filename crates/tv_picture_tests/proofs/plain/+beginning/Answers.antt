@@ -1,5 +1,5 @@
-use Rattle.std.proofs.Common.{◌≡◌, ◌↔◌, subst, ◌⊎◌, inl, inr, ℕ, ◌+◌, ◌-◌, ◌<◌, length, arith, IsTrue, []}
-use Rattle.tv_picture.specs.Pattern.{Member, Begins, empty, one, optional, sequence, many, times}
+use Rattle.std.proofs.Common.{◌≡◌, ◌↔◌, subst, ◌⊎◌, inl, inr, ◌-◌, arith, IsTrue, []}
+use Rattle.tv_picture.specs.Pattern.{Member, Begins, empty, one, sequence, many, times}
 use Rattle.tv_picture_tests.specs.Trees.{mark_of, pattern_of}
 use Rattle.tv_picture_tests.proofs.Splits.{the_other, is_none, right_yes, begins_nothing, empty_begun, one_begun, member_begins, optional_begun, begun_optional, sequence_begun, begun_first, begun_later, many_begun, begun_many, begun_many_later, times_begun, begun_times, times_none_begun}
 use Rattle.tv_picture_tests.proofs.plain.+beginning.Goals as goal

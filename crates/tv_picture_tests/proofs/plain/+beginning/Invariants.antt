@@ -1,4 +1,4 @@
-use Rattle.std.proofs.Common.{ℕ, ◌+◌, ◌-◌, length}
+use Rattle.std.proofs.Common.{◌+◌, ◌-◌, length}
 use Rattle.tv_picture.specs.Pattern.{Member, Begins, many, times}
 use Rattle.tv_picture_tests.specs.Trees.{pattern_of}
 use Rattle.tv_picture_tests.proofs.Weights.{weight}

@@ -1,4 +1,4 @@
-use Rattle.std.proofs.Common.{◌≡◌, ℕ, ◌+◌, ◌-◌, ◌<◌, length, arith, []}
+use Rattle.std.proofs.Common.{◌≡◌, ◌-◌, arith, []}
 use Rattle.tv_picture.specs.Pattern.{Member, sequence, many, times}
 use Rattle.tv_picture_tests.specs.Trees.{pattern_of}
 use Rattle.tv_picture_tests.proofs.Splits.{none_left, is_none, nothing_many, the_other, right_yes, right_no, sequence_divided, many_divided, divided_many, divided_sequence, times_sequence, sequence_times}
