@@ -13,6 +13,4 @@ pub use input::{DomainSpec, InputSpec};
 pub use text::Text;
 
 #[cfg(test)]
-mod plain;
-#[cfg(test)]
 mod tests;

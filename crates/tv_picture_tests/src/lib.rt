@@ -1,0 +1,17 @@
+//! The picture language as a plain slow program, and the library compared with it over short pictures.
+#![tactic(auto)]
+
+mod plain;
+mod tree;
+
+pub use plain::{begins, is_member};
+pub use tree::{Mark, Tree, spell};
+
+#[cfg(test)]
+mod answers;
+#[cfg(test)]
+mod grammar;
+#[cfg(test)]
+mod reading;
+#[cfg(test)]
+mod texts;
