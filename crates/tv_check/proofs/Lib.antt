@@ -1,14 +1,7 @@
-pub mod Areas
 pub mod CertificateLaws
 pub mod CertificatePrinted
 pub mod CertificateRead
 pub mod CertificateWords
 pub mod Firsts
-pub mod Lists
 pub mod MadeSound
-pub mod ManyKinds
-pub mod Ordered
 pub mod Planning
-pub mod Reached
-pub mod Sound
-pub mod Unviable
