@@ -12,7 +12,7 @@ ghost use Rattle.tv_check.specs.Refusals.{IsFirstFault, RefusesToCertify};
 
 use crate::certificate::{Block, Certificate, KeyLine};
 use crate::certificate_owner::{Owner, letters, owner_of};
-use crate::list::faults;
+use tv_faults::faults;
 use std::alloc::{AllocError, Global};
 use thiserror::Error;
 use tv_model::{Desc, Dialog, Fault, Kind, Sequence};
