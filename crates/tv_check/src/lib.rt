@@ -16,5 +16,5 @@ pub use acceptance::{Checked, Refusal, accept};
 pub use certificate::{Block, Certificate, KeyLine};
 pub use certificate_text::CertificateFault;
 pub use certification::{CertifyFault, certify};
-pub use tv_faults::faults;
 pub use plan::BuildStep;
+pub use tv_faults::faults;
