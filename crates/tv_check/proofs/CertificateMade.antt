@@ -16,11 +16,11 @@ use Rattle.tv_lang.specs.Canonical.{canonical_text}
 use Rattle.tv_lang.specs.Spelling.{is_dialog}
 use Rattle.tv_check.specs.Certificates.{IsSoundCertificate, certificate_of}
 use Rattle.tv_check.specs.CertificateTexts.{IsSpelledCertificate, certificate_lines}
-use Rattle.tv_check.specs.Usable.{IsUsableDialog}
+use Rattle.tv_faults.specs.Usable.{IsUsableDialog}
 use Rattle.tv_check.proofs.CertificateSpelled.{canonical_spelled}
 use Rattle.tv_check.proofs.MadeSound.{made_sound}
 use Rattle.tv_check.proofs.MadeSpelled.{IsReady, certificate_spelled}
-use Rattle.tv_check.proofs.Sound.{lawful_counts, new_names, sound_says}
+use Rattle.tv_faults.proofs.Sound.{lawful_counts, new_names, sound_says}
 use Rattle.tv_check.proofs.SpelledDialogs.{IsSpelledDialog, dialogs_spelled}
 
 gives_some : (kind : Kind) → IsTrue (is_dialog kind) → is_some (name_of kind) ≡ true

@@ -1,4 +1,3 @@
-pub mod Areas
 pub mod CertificateLaws
 pub mod CertificateMade
 pub mod CertificatePrinted
@@ -6,13 +5,7 @@ pub mod CertificateRead
 pub mod CertificateSpelled
 pub mod CertificateWords
 pub mod Firsts
-pub mod Lists
 pub mod MadeSound
 pub mod MadeSpelled
-pub mod ManyKinds
-pub mod Ordered
 pub mod Planning
-pub mod Reached
-pub mod Sound
 pub mod SpelledDialogs
-pub mod Unviable

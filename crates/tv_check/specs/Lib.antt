@@ -2,8 +2,5 @@ pub mod CertificateReading
 pub mod CertificateTexts
 pub mod Certificates
 pub mod Lent
-pub mod Order
 pub mod Plan
-pub mod Reach
 pub mod Refusals
-pub mod Usable

@@ -8,7 +8,7 @@ ghost use Rattle.tv_model.specs.Faults.Letters.{marks};
 ghost use Rattle.tv_model.specs.Owners.{item_at, marker_of, owner_by, owner_of};
 
 use crate::certificate::KeyLine;
-use crate::letters::marks;
+use tv_faults::marks;
 use tv_model::{Dialog, Kind, MarkedText, Node};
 use tv_valid::Chars;
 

@@ -12,9 +12,9 @@ ghost use Rattle.tv_check.specs.Refusals.{IsFirstFault, RefusesToCertify};
 
 use crate::certificate::{Block, Certificate, KeyLine};
 use crate::certificate_owner::{Owner, letters, owner_of};
-use crate::list::faults;
 use std::alloc::{AllocError, Global};
 use thiserror::Error;
+use tv_faults::faults;
 use tv_model::{Desc, Dialog, Fault, Kind, Sequence};
 use tv_valid::Chars;
 

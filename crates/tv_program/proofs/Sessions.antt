@@ -13,8 +13,8 @@ use Rattle.tv_model.specs.Faults.{IsSound}
 use Rattle.tv_model.specs.Thin.{IsThin, IsThinDialog}
 use Rattle.tv_model.specs.Safe.{IsSafe, IsAlwaysSafe}
 use Rattle.tv_model.proofs.Safe.{start_safe, step_safe, states_safe}
-use Rattle.tv_check.specs.Usable.{IsLimited, IsUsableDialog}
-use Rattle.tv_check.proofs.Sound.{sound_says, only_dialog, only_start}
+use Rattle.tv_faults.specs.Usable.{IsLimited, IsUsableDialog}
+use Rattle.tv_faults.proofs.Sound.{sound_says, only_dialog, only_start}
 use Rattle.tv_program.specs.declared.run.Run.{Run}
 use Rattle.tv_program.specs.Run.{opened, state_of, stepped, IsReady, IsScreenSize}
 use Rattle.tv_program.specs.ThinSession.{state_over, state_in}

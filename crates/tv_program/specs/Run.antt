@@ -8,7 +8,7 @@ use Rattle.tv_model.specs.State.{State, OpenDialog, declared_leaves}
 use Rattle.tv_event.specs.declared.event.Event.{Event}
 use Rattle.tv_model.specs.Step.{emptied, key_event}
 use Rattle.tv_model.specs.Thin.{IsThinDialog}
-use Rattle.tv_check.specs.Usable.{IsBetween, IsLimited}
+use Rattle.tv_faults.specs.Usable.{IsBetween, IsLimited}
 use Rattle.tv_program.specs.declared.run.Run.{Run}
 
 -- the dialog while it is open

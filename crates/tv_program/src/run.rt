@@ -4,7 +4,7 @@ ghost use Rattle.std.specs.Prelude.{◌≡◌, ◌<◌, ◌≤◌, ◌+◌, [], 
 ghost use Rattle.tv_model.specs.Step.{logged, emptied, request, command, command_number, press_node, press, key, key_event, ended, is_declared, ends_of, open_dialog, enter_target};
 ghost use Rattle.tv_model.specs.Nodes.{node_of};
 ghost use Rattle.tv_model.specs.Faults.{is_lawful_number};
-ghost use Rattle.tv_check.specs.Usable.{IsLimited};
+ghost use Rattle.tv_faults.specs.Usable.{IsLimited};
 ghost use Rattle.tv_program.specs.Run.{state_of, opened, stepped, IsReady};
 
 use crate::focus::{enter_target, first_free, is_free_at, next_free, previous_free};

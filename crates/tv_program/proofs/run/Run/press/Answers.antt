@@ -1,5 +1,5 @@
 use Rattle.std.proofs.Common.{ap, ◌∙◌}
-use Rattle.tv_check.specs.Usable.{IsLimited}
+use Rattle.tv_faults.specs.Usable.{IsLimited}
 use Rattle.tv_model.specs.Nodes.{has_id, node_of}
 use Rattle.tv_program.proofs.Lawful.{found_holds}
 use Rattle.tv_program.proofs.run.Run.press.Goals as goal

@@ -1,0 +1,20 @@
+//! The faults that no description of dialogs should have.
+#![tactic(auto)]
+
+mod area;
+mod conditions;
+mod domains;
+mod ends;
+mod focus;
+mod keys;
+mod letters;
+mod limits;
+mod list;
+mod names;
+mod places;
+mod rules;
+mod texts;
+
+pub use area::Area;
+pub use letters::marks;
+pub use list::faults;

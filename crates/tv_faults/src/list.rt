@@ -1,0 +1,253 @@
+//! The list of all faults.
+
+ghost use Rattle.std.specs.Prelude.{◌≡◌, [], ◌++◌, map, flat_map, IfOk, OnOk};
+ghost use Rattle.tv_model.specs.Faults.{after_seen, dialog_lines, fault_at, faults_at, faults_of, head_lines, item_has, line_if, lines_where, menu_lines, rule_lines, status_lines, view_lines, window_lines};
+ghost use Rattle.tv_faults.specs.Order.{AreInOrder, AreLinesRising};
+ghost use Rattle.tv_faults.specs.Usable.{IsUsable};
+
+use crate::conditions::{
+    dialog_has, item_has, menu_has, rule_has, status_has, view_has, window_has,
+};
+use crate::ends::starts_nowhere;
+use crate::limits::is_lawful_screen;
+use std::alloc::{AllocError, Global};
+use tv_model::{Desc, Dialog, Fault, FaultKind, Menu, Node, Sequence, Window};
+
+// The faults, in the order of their numbers.
+const KINDS: [FaultKind; 17] = [
+    FaultKind::NameTwice,
+    FaultKind::OutsideOwner,
+    FaultKind::Overlap,
+    FaultKind::LetterTwice,
+    FaultKind::StatusKey,
+    FaultKind::LabelLink,
+    FaultKind::UnknownInRule,
+    FaultKind::ShowsItself,
+    FaultKind::NothingToFocus,
+    FaultKind::MissingEnd,
+    FaultKind::SecondDefault,
+    FaultKind::EmptyDomain,
+    FaultKind::BadStart,
+    FaultKind::WideCharacter,
+    FaultKind::OutsideLimits,
+    FaultKind::BadOpening,
+    FaultKind::MenuLetter,
+];
+
+// Adds the fault of the line if it is one.
+fn add_if(
+    found: &mut Sequence<Fault>,
+    is_fault: bool,
+    kind: FaultKind,
+    line: u32,
+) -> Result<(), AllocError>
+    ensures { OnOk result (found.new ≡ found.old ++ map (fault_at kind) (line_if is_fault line)) }
+{
+    if is_fault {
+        found.push(Fault { kind, line })?;
+    }
+    Ok(())
+}
+
+// Adds the lines before the menus that have the fault.
+fn add_head(found: &mut Sequence<Fault>, kind: FaultKind, desc: &Desc) -> Result<(), AllocError>
+    ensures { OnOk result (found.new ≡ found.old ++ map (fault_at kind) (head_lines kind desc.now)) }
+{
+    match kind {
+        FaultKind::OutsideLimits => add_if(found, !is_lawful_screen(desc), kind, 2),
+        FaultKind::BadOpening => add_if(found, starts_nowhere(desc), kind, 3),
+        _ => Ok(()),
+    }
+}
+
+// Adds the items of the menu that have the fault.
+fn add_items(found: &mut Sequence<Fault>, kind: FaultKind, menu: &Menu) -> Result<(), AllocError>
+    ensures { OnOk result (found.new ≡ found.old ++ map (fault_at kind) (lines_where (λ item. item.id.0) (item_has kind) [] menu.now.items)) }
+{
+    let items = menu.items.as_slice();
+    for (i, item) in items.iter().enumerate() {
+        add_if(found, item_has(kind, &items[..i], item), kind, item.id.0)?;
+    }
+    Ok(())
+}
+
+// Adds the menu and its items that have the fault.
+fn add_menu(
+    found: &mut Sequence<Fault>,
+    kind: FaultKind,
+    before: &[Menu],
+    menu: &Menu,
+) -> Result<(), AllocError>
+    ensures { OnOk result (found.new ≡ found.old ++ map (fault_at kind) (menu_lines kind before.now menu.now)) }
+{
+    add_if(found, menu_has(kind, before, menu), kind, menu.id.0)?;
+    add_items(found, kind, menu)
+}
+
+// Adds the status items that have the fault.
+fn add_status(found: &mut Sequence<Fault>, kind: FaultKind, desc: &Desc) -> Result<(), AllocError>
+    ensures { OnOk result (found.new ≡ found.old ++ map (fault_at kind) (status_lines kind desc.now)) }
+{
+    let items = desc.status.as_slice();
+    for (i, item) in items.iter().enumerate() {
+        add_if(
+            found,
+            status_has(kind, desc, &items[..i], item),
+            kind,
+            item.id.0,
+        )?;
+    }
+    Ok(())
+}
+
+// Adds the views of the window or dialog that have the fault.
+fn add_views(
+    alloc: Global,
+    found: &mut Sequence<Fault>,
+    kind: FaultKind,
+    frame: &Node,
+    views: &[Node],
+) -> Result<(), AllocError>
+    ensures { OnOk result (found.new ≡ found.old ++ map (fault_at kind) (view_lines kind frame.now views.now)) }
+{
+    for (i, node) in views.iter().enumerate() {
+        add_if(
+            found,
+            view_has(alloc, kind, frame, views, &views[..i], node)?,
+            kind,
+            node.id.0,
+        )?;
+    }
+    Ok(())
+}
+
+// Adds the window and its texts that have the fault.
+fn add_window(
+    alloc: Global,
+    found: &mut Sequence<Fault>,
+    kind: FaultKind,
+    before: &[Window],
+    window: &Window,
+) -> Result<(), AllocError>
+    ensures { OnOk result (found.new ≡ found.old ++ map (fault_at kind) (window_lines kind before.now window.now)) }
+{
+    add_if(
+        found,
+        window_has(kind, before, window),
+        kind,
+        window.node.id.0,
+    )?;
+    add_views(alloc, found, kind, &window.node, window.views.as_slice())
+}
+
+// Adds the rules of the dialog that have the fault.
+fn add_rules(
+    found: &mut Sequence<Fault>,
+    kind: FaultKind,
+    dialog: &Dialog,
+) -> Result<(), AllocError>
+    ensures { OnOk result (found.new ≡ found.old ++ map (fault_at kind) (rule_lines kind dialog.now)) }
+{
+    let rules = dialog.rules.as_slice();
+    for (i, rule) in rules.iter().enumerate() {
+        add_if(
+            found,
+            rule_has(kind, dialog.views.as_slice(), &rules[..i], rule),
+            kind,
+            rule.id.0,
+        )?;
+    }
+    Ok(())
+}
+
+// Adds the dialog, its views and its rules that have the fault.
+fn add_dialog(
+    alloc: Global,
+    found: &mut Sequence<Fault>,
+    kind: FaultKind,
+    desc: &Desc,
+    before: &[Dialog],
+    dialog: &Dialog,
+) -> Result<(), AllocError>
+    ensures { OnOk result (found.new ≡ found.old ++ map (fault_at kind) (dialog_lines kind desc.now before.now dialog.now)) }
+{
+    add_if(
+        found,
+        dialog_has(alloc, kind, desc, before, dialog)?,
+        kind,
+        dialog.node.id.0,
+    )?;
+    add_views(alloc, found, kind, &dialog.node, dialog.views.as_slice())?;
+    add_rules(found, kind, dialog)
+}
+
+// Adds the menus that have the fault, and their items.
+fn add_menus(found: &mut Sequence<Fault>, kind: FaultKind, menus: &[Menu]) -> Result<(), AllocError>
+    ensures { OnOk result (found.new ≡ found.old ++ map (fault_at kind) (flat_map (λ pair. menu_lines kind pair.0 pair.1) (after_seen [] menus.now))) }
+{
+    for (i, menu) in menus.iter().enumerate() {
+        add_menu(found, kind, &menus[..i], menu)?;
+    }
+    Ok(())
+}
+
+// Adds the windows that have the fault, and their texts.
+fn add_windows(
+    alloc: Global,
+    found: &mut Sequence<Fault>,
+    kind: FaultKind,
+    windows: &[Window],
+) -> Result<(), AllocError>
+    ensures { OnOk result (found.new ≡ found.old ++ map (fault_at kind) (flat_map (λ pair. window_lines kind pair.0 pair.1) (after_seen [] windows.now))) }
+{
+    for (i, window) in windows.iter().enumerate() {
+        add_window(alloc, found, kind, &windows[..i], window)?;
+    }
+    Ok(())
+}
+
+// Adds the dialogs that have the fault, and what stands in them.
+fn add_dialogs(
+    alloc: Global,
+    found: &mut Sequence<Fault>,
+    kind: FaultKind,
+    desc: &Desc,
+) -> Result<(), AllocError>
+    ensures { OnOk result (found.new ≡ found.old ++ map (fault_at kind) (flat_map (λ pair. dialog_lines kind desc.now pair.0 pair.1) (after_seen [] desc.now.dialogs))) }
+{
+    let dialogs = desc.dialogs.as_slice();
+    for (i, dialog) in dialogs.iter().enumerate() {
+        add_dialog(alloc, found, kind, desc, &dialogs[..i], dialog)?;
+    }
+    Ok(())
+}
+
+// Adds all lines that have the fault.
+fn add_kind(
+    alloc: Global,
+    found: &mut Sequence<Fault>,
+    kind: FaultKind,
+    desc: &Desc,
+) -> Result<(), AllocError>
+    ensures { OnOk result (found.new ≡ found.old ++ faults_at kind desc.now) }
+{
+    add_head(found, kind, desc)?;
+    add_menus(found, kind, desc.menus.as_slice())?;
+    add_status(found, kind, desc)?;
+    add_windows(alloc, found, kind, desc.windows.as_slice())?;
+    add_dialogs(alloc, found, kind, desc)?;
+    Ok(())
+}
+
+/// The faults of the description, by number and then by line.
+pub fn faults(alloc: Global, desc: &Desc) -> Result<Sequence<Fault>, AllocError>
+    ensures value { IfOk result (λ list. list ≡ faults_of desc.now) }
+    ensures order { AreLinesRising desc.now → IfOk result AreInOrder }
+    ensures sound { IfOk result (λ list. list ≡ [] → IsUsable desc.now) }
+{
+    let mut found = Sequence::new(alloc);
+    for kind in &KINDS {
+        add_kind(alloc, &mut found, *kind, desc)?;
+    }
+    Ok(found)
+}
