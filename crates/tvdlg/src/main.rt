@@ -5,6 +5,8 @@ mod arguments;
 mod files;
 mod input;
 mod task;
+#[cfg(test)]
+mod tests;
 
 use arguments::parse;
 use clap::Error;
