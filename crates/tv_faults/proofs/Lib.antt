@@ -4,4 +4,5 @@ pub mod ManyKinds
 pub mod Ordered
 pub mod Reached
 pub mod Sound
+pub mod Unmarked
 pub mod Unviable

@@ -50,16 +50,17 @@ fn shares_letter(text: &MarkedText, other: &MarkedText) -> bool
 fn is_marked_in(texts: &[MarkedText], text: &MarkedText) -> bool
     ensures { result ≡ list_any (shares_letter text.now) texts.now }
 {
-    texts.iter().any(|other| shares_letter(text, other))
+    letter_of(text).is_some() && texts.iter().any(|other| shares_letter(text, other))
 }
 
 // Whether one of the views marks the same letter.
 fn is_marked_by(views: &[Node], text: &MarkedText) -> bool
     ensures { result ≡ list_any (λ other. list_any (shares_letter text.now) (marked_of other.kind)) views.now }
 {
-    views
-        .iter()
-        .any(|other| is_marked_in(marked_of(&other.kind), text))
+    letter_of(text).is_some()
+        && views
+            .iter()
+            .any(|other| is_marked_in(marked_of(&other.kind), text))
 }
 
 /// Whether the view marks a letter that was marked before, on an earlier line or on its own.
