@@ -1,7 +1,9 @@
 //! What the program does with files: each subcommand, from paths to a status.
 
-ghost use Rattle.std.specs.Prelude.{◌≡◌, [], OnOk};
+ghost use Rattle.std.specs.Prelude.{◌≡◌, [], IfErr, OnOk};
+ghost use Rattle.tv_program.specs.declared.fault.RunFault.TheVariants.{Write};
 ghost use Rattle.tv_script.specs.Device.{kept_back};
+ghost use Rattle.tvdlg.specs.Failures.{IsToldOf, IsUnread};
 
 use crate::input::{ReadFault, read_file};
 use crate::task::Task;
@@ -59,9 +61,10 @@ fn check_file<'a, R: Files, W: Write + Drop>(
     out: &mut Device<W>,
 ) -> Result<(), Failure<'a>>
     ensures written { OnOk result (kept_back out.new ≡ []) }
+    ensures told { IfErr result (IsToldOf file.now file.now) }
 {
     let text = read(rt, alloc, file, LONGEST_DESCRIPTION)?;
-    told_of(file, check(alloc, text.as_slice(), out))?;
+    told_of(file, file, check(alloc, text.as_slice(), out))?;
     flush(file, out)
 }
 
@@ -74,11 +77,16 @@ fn accept_file<'a, R: Files, W: Write + Drop>(
     out: &mut Device<W>,
 ) -> Result<(), Failure<'a>>
     ensures written { OnOk result (kept_back out.new ≡ []) }
+    ensures told { IfErr result (IsToldOf file.now certificate.now) }
 {
     let text = read(rt, alloc, file, LONGEST_DESCRIPTION)?;
-    let desc = told_of(file, read_desc(alloc, text.as_slice()))?;
+    let desc = told_of(file, certificate, read_desc(alloc, text.as_slice()))?;
     let text = read(rt, alloc, certificate, LONGEST_DESCRIPTION)?;
-    told_of(certificate, accept_text(alloc, desc, text.as_slice(), out))?;
+    told_of(
+        file,
+        certificate,
+        accept_text(alloc, desc, text.as_slice(), out),
+    )?;
     flush(file, out)
 }
 
@@ -91,21 +99,39 @@ fn run_file<'a, R: Files, W: Write + Drop>(
     out: &mut Device<W>,
 ) -> Result<(), Failure<'a>>
     ensures written { OnOk result (kept_back out.new ≡ []) }
+    ensures told { IfErr result (IsToldOf file.now script.now) }
 {
     let text = read(rt, alloc, file, LONGEST_DESCRIPTION)?;
     let desc = match read_sound(alloc, text.as_slice()) {
         Ok(desc) => desc,
-        Err(fault) => return Err(Failure { fault, path: file }),
+        Err(fault) => return Err(failed_in(file, script, fault)),
     };
     let text = read(rt, alloc, script, LONGEST_SCRIPT)?;
-    told_of(script, run_script(alloc, desc, text.as_slice(), out))?;
+    told_of(file, script, run_script(alloc, desc, text.as_slice(), out))?;
     flush(file, out)
 }
 
-fn told_of<'a, T: Drop>(path: &'a str, answer: Result<T, RunFault>) -> Result<T, Failure<'a>> {
+// The fault, told of the text that it is in: the description, or the script or certificate beside it.
+fn failed_in<'a>(file: &'a str, beside: &'a str, fault: RunFault) -> Failure<'a>
+    ensures { IsToldOf file.now beside.now result }
+{
+    let path = match fault {
+        RunFault::Script(_) | RunFault::ScriptTooLong | RunFault::Cert(_) => beside,
+        _ => file,
+    };
+    Failure { fault, path }
+}
+
+fn told_of<'a, T: Drop>(
+    file: &'a str,
+    beside: &'a str,
+    answer: Result<T, RunFault>,
+) -> Result<T, Failure<'a>>
+    ensures { IfErr result (IsToldOf file.now beside.now) }
+{
     match answer {
         Ok(value) => Ok(value),
-        Err(fault) => Err(Failure { fault, path }),
+        Err(fault) => Err(failed_in(file, beside, fault)),
     }
 }
 
@@ -114,17 +140,20 @@ fn read<'a, R: Files>(
     alloc: Global,
     path: &'a str,
     limit: u32,
-) -> Result<Vec<u8>, Failure<'a>> {
-    let bytes = match read_file(rt, alloc, path, limit) {
-        Ok(bytes) => Ok(bytes),
-        Err(ReadFault::NoMemory) => Err(RunFault::NoMemory),
-        Err(ReadFault::Read) => Err(RunFault::Read),
+) -> Result<Vec<u8>, Failure<'a>>
+    ensures { IfErr result (IsUnread path.now) }
+{
+    let fault = match read_file(rt, alloc, path, limit) {
+        Ok(bytes) => return Ok(bytes),
+        Err(ReadFault::NoMemory) => RunFault::NoMemory,
+        Err(ReadFault::Read) => RunFault::Read,
     };
-    told_of(path, bytes)
+    Err(Failure { fault, path })
 }
 
 fn flush<'a, W: Write + Drop>(path: &'a str, out: &mut Device<W>) -> Result<(), Failure<'a>>
     ensures written { OnOk result (kept_back out.new ≡ []) }
+    ensures told { IfErr result (λ failure. failure.fault ≡ Write) }
 {
     match out.flush() {
         Ok(()) => Ok(()),
