@@ -69,6 +69,7 @@ impl StaticText {
     }
 }
 
+// In calls that need nothing of the text, reading a field of it still shows the prover that the leaf is a text's.
 #[tactic(auto, unfolding(tv_view::specs::Reactions::answer, tv_view::specs::Effects::Handled, tv_view::specs::Calls::focused_to, tv_view::specs::Calls::item_pressed, tv_view::specs::Calls::IsInvalid, tv_view::specs::Calls::gathered, tv_view::specs::Calls::set_from, tv_view::specs::Calls::applied, tv_view::specs::Drawing::leaf_layers))]
 impl View for StaticText {
     ghost meaning = { λ text. text };
