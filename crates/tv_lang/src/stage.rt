@@ -1,6 +1,6 @@
 //! Which declarations may come next.
 
-ghost use Rattle.std.specs.Prelude.{◌≡◌, ◌≤◌, IfOk, None, Some};
+ghost use Rattle.std.specs.Prelude.{◌≡◌, ◌≤◌, ◌++◌, ◌∷◌, [], IfOk, None, Some, false, true};
 ghost use Rattle.tv_model.specs.Nodes.{is_pane};
 ghost use Rattle.tv_lang.specs.Spelling.{is_dialog, is_text, is_view, is_window};
 ghost use Rattle.tv_lang.specs.Reading.Stages.{is_between, menu_taken, no_dialogs, no_menus, no_status, no_windows, node_opened, open_panes, panes_after, part_taken, rules_taken, screen_taken, taken_at, version_taken, view_taken, views_taken, window_taken, with_dialog};
@@ -8,7 +8,7 @@ ghost use Rattle.tv_lang.specs.Reading.Stages.{is_between, menu_taken, no_dialog
 use crate::declaration::Declaration;
 use crate::held::Held;
 use std::alloc::{AllocError, Global};
-use tv_model::{Desc, Dialog, Kind, Menu, Node, Sequence, Window};
+use tv_model::{Desc, Dialog, Kind, Menu, MenuItem, Node, Rule, Sequence, Window};
 
 /// What may come next in a description.
 #[derive(Drop)]
@@ -67,8 +67,8 @@ impl Stage {
             Stage::Version => Ok(version(desc, declaration)),
             Stage::Screen => Ok(screen(desc, declaration)),
             Stage::Between => part(alloc, desc, declaration),
-            Stage::InMenu(menu) => in_menu(alloc, desc, menu.into_inner(), declaration),
-            Stage::InWindow(window) => in_window(alloc, desc, window.into_inner(), declaration),
+            Stage::InMenu(menu) => in_menu(alloc, desc, menu, declaration),
+            Stage::InWindow(window) => in_window(alloc, desc, window, declaration),
             Stage::InViews { node, views, panes } => in_views(
                 alloc,
                 desc,
@@ -77,7 +77,7 @@ impl Stage {
                 panes,
                 declaration,
             ),
-            Stage::InRules(dialog) => in_rules(alloc, desc, dialog.into_inner(), declaration),
+            Stage::InRules(dialog) => in_rules(alloc, desc, dialog, declaration),
         }
     }
 }
@@ -154,72 +154,128 @@ fn part(alloc: Global, mut desc: Desc, declaration: Declaration) -> Result<Furth
 fn opened(alloc: Global, desc: Desc, node: Node) -> Result<Further, AllocError>
     ensures { IfOk result (λ further. further ≡ node_opened desc node) }
 {
-    let views = Sequence::new(alloc);
     if is_window(&node.kind) {
-        if !no_dialogs(&desc) {
-            return Ok(None);
-        }
-        let window = Held::new(alloc, Window { node, views })?;
-        Ok(Some((Stage::InWindow(window), desc)))
+        window_opened(alloc, desc, node)
     } else if is_dialog(&node.kind) {
-        let node = Held::new(alloc, node)?;
-        Ok(Some((
-            Stage::InViews {
-                node,
-                views,
-                panes: 0,
-            },
-            desc,
-        )))
+        dialog_opened(alloc, desc, node)
     } else {
         Ok(None)
     }
 }
 
+fn window_opened(alloc: Global, desc: Desc, node: Node) -> Result<Further, AllocError>
+    requires { is_window node.kind ≡ true }
+    ensures { IfOk result (λ further. further ≡ node_opened desc node) }
+{
+    if !no_dialogs(&desc) {
+        return Ok(None);
+    }
+    let views = Sequence::new(alloc);
+    let window = Held::new(alloc, Window { node, views })?;
+    Ok(Some((Stage::InWindow(window), desc)))
+}
+
+fn dialog_opened(alloc: Global, desc: Desc, node: Node) -> Result<Further, AllocError>
+    requires window { is_window node.kind ≡ false }
+    requires dialog { is_dialog node.kind ≡ true }
+    ensures { IfOk result (λ further. further ≡ node_opened desc node) }
+{
+    let views = Sequence::new(alloc);
+    let node = Held::new(alloc, node)?;
+    Ok(Some((
+        Stage::InViews {
+            node,
+            views,
+            panes: 0,
+        },
+        desc,
+    )))
+}
+
 fn in_menu(
     alloc: Global,
-    mut desc: Desc,
-    mut menu: Menu,
+    desc: Desc,
+    menu: Held<Menu>,
     declaration: Declaration,
 ) -> Result<Further, AllocError>
     ensures { IfOk result (λ further. further ≡ menu_taken desc menu declaration) }
 {
     match declaration {
         Declaration::Item(item) => {
-            menu.items.push(item)?;
-            Ok(Some((Stage::InMenu(Held::new(alloc, menu)?), desc)))
+            let menu = with_item(alloc, menu, item)?;
+            Ok(Some((Stage::InMenu(menu), desc)))
         }
-        Declaration::End => {
-            if menu.items.as_slice().is_empty() {
-                return Ok(None);
-            }
-            desc.menus.push(menu)?;
-            Ok(Some((Stage::Between, desc)))
-        }
+        Declaration::End => with_menu(desc, menu),
         _ => Ok(None),
     }
 }
 
+fn with_item(alloc: Global, menu: Held<Menu>, item: MenuItem) -> Result<Held<Menu>, AllocError>
+    ensures { IfOk result (λ longer. longer ≡ record menu { items = menu.items ++ item ∷ [] }) }
+{
+    let mut menu = menu.into_inner();
+    menu.items.push(item)?;
+    Held::new(alloc, menu)
+}
+
+// A menu has an item at least.
+fn with_menu(mut desc: Desc, menu: Held<Menu>) -> Result<Further, AllocError>
+    ensures { IfOk result (λ further. further ≡ menu_taken desc menu Declaration.End) }
+{
+    let menu = menu.into_inner();
+    if menu.items.as_slice().is_empty() {
+        return Ok(None);
+    }
+    desc.menus.push(menu)?;
+    Ok(Some((Stage::Between, desc)))
+}
+
+// A window holds static texts alone.
+fn with_text(
+    alloc: Global,
+    desc: Desc,
+    window: Held<Window>,
+    view: Node,
+) -> Result<Further, AllocError>
+    ensures { IfOk result (λ further. further ≡ window_taken desc window (Declaration.Node view)) }
+{
+    if !is_text(&view.kind) {
+        return Ok(None);
+    }
+    let window = longer_window(alloc, window, view)?;
+    Ok(Some((Stage::InWindow(window), desc)))
+}
+
+fn longer_window(
+    alloc: Global,
+    window: Held<Window>,
+    view: Node,
+) -> Result<Held<Window>, AllocError>
+    ensures { IfOk result (λ longer. longer ≡ record window { views = window.views ++ view ∷ [] }) }
+{
+    let mut window = window.into_inner();
+    window.views.push(view)?;
+    Held::new(alloc, window)
+}
+
+fn with_window(mut desc: Desc, window: Held<Window>) -> Result<Further, AllocError>
+    ensures { IfOk result (λ further. further ≡ window_taken desc window Declaration.End) }
+{
+    desc.windows.push(window.into_inner())?;
+    Ok(Some((Stage::Between, desc)))
+}
+
 fn in_window(
     alloc: Global,
-    mut desc: Desc,
-    mut window: Window,
+    desc: Desc,
+    window: Held<Window>,
     declaration: Declaration,
 ) -> Result<Further, AllocError>
     ensures { IfOk result (λ further. further ≡ window_taken desc window declaration) }
 {
     match declaration {
-        Declaration::Node(view) => {
-            if !is_text(&view.kind) {
-                return Ok(None);
-            }
-            window.views.push(view)?;
-            Ok(Some((Stage::InWindow(Held::new(alloc, window)?), desc)))
-        }
-        Declaration::End => {
-            desc.windows.push(window)?;
-            Ok(Some((Stage::Between, desc)))
-        }
+        Declaration::Node(view) => with_text(alloc, desc, window, view),
+        Declaration::End => with_window(desc, window),
         _ => Ok(None),
     }
 }
@@ -259,7 +315,7 @@ fn in_views(
 fn with_view(
     desc: Desc,
     node: Held<Node>,
-    mut views: Sequence<Node>,
+    views: Sequence<Node>,
     panes: u8,
     view: Node,
 ) -> Result<Further, AllocError>
@@ -271,8 +327,15 @@ fn with_view(
     let Some(panes) = panes_after(panes, &view) else {
         return Ok(None);
     };
-    views.push(view)?;
+    let views = longer(views, view)?;
     Ok(Some((Stage::InViews { node, views, panes }, desc)))
+}
+
+fn longer(mut views: Sequence<Node>, view: Node) -> Result<Sequence<Node>, AllocError>
+    ensures { IfOk result (λ longer. longer ≡ views ++ view ∷ []) }
+{
+    views.push(view)?;
+    Ok(views)
 }
 
 // The panes that are open after a view. There may be 16 at most.
@@ -291,19 +354,27 @@ fn panes_after(panes: u8, view: &Node) -> Option<u8>
 fn in_rules(
     alloc: Global,
     desc: Desc,
-    mut dialog: Dialog,
+    dialog: Held<Dialog>,
     declaration: Declaration,
 ) -> Result<Further, AllocError>
     ensures { IfOk result (λ further. further ≡ rules_taken desc dialog declaration) }
 {
     match declaration {
         Declaration::Rule(rule) => {
-            dialog.rules.push(rule)?;
-            Ok(Some((Stage::InRules(Held::new(alloc, dialog)?), desc)))
+            let dialog = with_rule(alloc, dialog, rule)?;
+            Ok(Some((Stage::InRules(dialog), desc)))
         }
-        Declaration::End => with_dialog(desc, dialog),
+        Declaration::End => with_dialog(desc, dialog.into_inner()),
         _ => Ok(None),
     }
+}
+
+fn with_rule(alloc: Global, dialog: Held<Dialog>, rule: Rule) -> Result<Held<Dialog>, AllocError>
+    ensures { IfOk result (λ longer. longer ≡ record dialog { rules = dialog.rules ++ rule ∷ [] }) }
+{
+    let mut dialog = dialog.into_inner();
+    dialog.rules.push(rule)?;
+    Held::new(alloc, dialog)
 }
 
 fn with_dialog(mut desc: Desc, dialog: Dialog) -> Result<Further, AllocError>
