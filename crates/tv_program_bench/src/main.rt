@@ -47,7 +47,7 @@ fn measure_certificate<R: Clock + Eprint>(rt: &R, alloc: Global, text: &str) -> 
     Ok(())
 }
 
-// How long a script of events takes, and what its reading costs.
+// How long a script takes, the reading of both texts included.
 fn measure_events<R: Clock + Eprint>(rt: &R, alloc: Global, script: &str) -> Result<()> {
     let desc = large::thin(alloc)?;
     let start = Instant::now(rt)?;
