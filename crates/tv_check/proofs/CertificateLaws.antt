@@ -4,9 +4,9 @@ use Rattle.std.specs.Prelude.{codes, option_and_then}
 use Rattle.std.specs.Option.{option_map}
 use Rattle.std.specs.List.{AllByRecursion}
 use Rattle.std.proofs.lemmas.List.{append-nil}
-use Rattle.tv_lang.specs.declared.word.Word.{Word}
-use Rattle.tv_lang.specs.Reading.Steps.{steps}
-use Rattle.tv_lang.specs.Spelling.Terms.{IsName}
+use Rattle.tv_words.specs.declared.word.Word.{Word}
+use Rattle.tv_words.specs.Reading.Steps.{steps}
+use Rattle.tv_words.specs.Fields.{IsName}
 use Rattle.tv_check.specs.declared.certificate.Block.{Block}
 use Rattle.tv_check.specs.declared.certificate.KeyLine.{KeyLine}
 use Rattle.tv_check.specs.declared.certificate_lines.Progress.{Progress}

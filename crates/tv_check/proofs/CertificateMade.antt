@@ -12,8 +12,8 @@ use Rattle.tv_model.specs.Faults.Limits.{is_lawful_count}
 use Rattle.tv_model.specs.Faults.Names.{shares_name}
 use Rattle.tv_model.specs.Faults.{IsSound, after_seen}
 use Rattle.tv_lang.specs.CanonicalDescription.{CanBeSpelled}
-use Rattle.tv_lang.specs.Canonical.{canonical_text}
-use Rattle.tv_lang.specs.Spelling.{is_dialog}
+use Rattle.tv_words.specs.Canonical.{canonical_text}
+use Rattle.tv_declarations.specs.Spelling.{is_dialog}
 use Rattle.tv_check.specs.Certificates.{IsSoundCertificate, certificate_of}
 use Rattle.tv_check.specs.CertificateTexts.{IsSpelledCertificate, certificate_lines}
 use Rattle.tv_faults.specs.Usable.{IsUsableDialog}

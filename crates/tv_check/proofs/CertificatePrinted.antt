@@ -1,10 +1,10 @@
 -- The text of a block, piece by piece.
 use Rattle.std.proofs.Common.{◌≡◌, ℕ, List, [], ◌∷◌, ◌++◌, map, flat_map, refl, sym, ap, ◌∙◌, append_assoc, subst}
 use Rattle.std.proofs.lemmas.List.{append-nil}
-use Rattle.tv_lang.specs.declared.word.Word.{Word}
-use Rattle.tv_lang.specs.Lines.{lines_of}
-use Rattle.tv_lang.specs.Canonical.{canonical_text, ended_line}
-use Rattle.tv_lang.proofs.CanonicalTexts.{respelled}
+use Rattle.tv_words.specs.declared.word.Word.{Word}
+use Rattle.tv_words.specs.Lines.{lines_of}
+use Rattle.tv_words.specs.Canonical.{canonical_text, ended_line}
+use Rattle.tv_words.proofs.CanonicalTexts.{respelled}
 use Rattle.tv_check.specs.declared.certificate.Block.{Block}
 use Rattle.tv_check.specs.CertificateTexts.{IsCertificate, Spells, block_lines, certificate_lines, dialog_words, end_words, key_words, tab_words}
 

@@ -3,17 +3,17 @@ use Rattle.std.proofs.Common.{◌≡◌, ℕ, suc, ◌+◌, ◌<◌, ◌≤◌, 
 use Rattle.std.specs.Prelude.{codes, option_and_then, IfOk, IfErr, IfSome}
 use Rattle.std.proofs.lemmas.Bool.{eqb-true}
 use Rattle.std.proofs.lemmas.List.{take_all}
-use Rattle.tv_lang.specs.declared.word.Word.{Word}
-use Rattle.tv_lang.specs.declared.word.Word.TheVariants.{Bare}
-use Rattle.tv_lang.specs.Lines.{lines_of}
-use Rattle.tv_lang.specs.Words.{SpellsWords}
-use Rattle.tv_lang.specs.Texts.{BeginsBy, IsFirstFault, SpellsBy}
-use Rattle.tv_lang.specs.Reading.LineWords.{line_taken, line_words, words_taken}
-use Rattle.tv_lang.specs.Reading.Steps.{steps}
+use Rattle.tv_words.specs.declared.word.Word.{Word}
+use Rattle.tv_words.specs.declared.word.Word.TheVariants.{Bare}
+use Rattle.tv_words.specs.Lines.{lines_of}
+use Rattle.tv_words.specs.Words.{SpellsWords}
+use Rattle.tv_words.specs.Texts.{BeginsBy, IsFirstFault, SpellsBy}
+use Rattle.tv_words.specs.Reading.LineWords.{line_taken, line_words, words_taken}
+use Rattle.tv_words.specs.Reading.Steps.{steps}
 use Rattle.std.specs.Str.{is_utf8, chars}
 use lib.Utf8.{encode}
-use Rattle.tv_lang.proofs.LineLaws.{found_words}
-use Rattle.tv_lang.proofs.TextLaws as texts
+use Rattle.tv_words.proofs.LineLaws.{found_words}
+use Rattle.tv_words.proofs.TextLaws as texts
 use Rattle.tv_check.specs.declared.certificate.Block.{Block}
 use Rattle.tv_check.specs.declared.certificate_lines.Progress.{Progress}
 use Rattle.tv_check.specs.declared.certificate_lines.Stage.{Stage}

@@ -9,15 +9,15 @@ use Rattle.std.proofs.lemmas.Bool.{and_parts}
 use Rattle.std.proofs.lemmas.Bool.Decides.{nat_tests}
 use Rattle.std.proofs.lemmas.Str.Parse.{IsNumeralModel, digit_from_value, numerals_by_value, tells_digits}
 use Rattle.std.proofs.lemmas.Fmt.{decimal_nonempty, digits_decimal}
-use Rattle.tv_lang.specs.declared.word.Word.{Word}
-use Rattle.tv_lang.specs.declared.word.Word.TheVariants.{Bare}
-use Rattle.tv_lang.specs.Names.{is_name_char}
-use Rattle.tv_lang.specs.Spelling.Terms.{IsName, IsNumber, number_word}
-use Rattle.tv_lang.specs.Canonical.{canonical_text}
-use Rattle.tv_lang.specs.Words.{is_bare}
-use Rattle.tv_lang.specs.Texts.{declarations}
-use Rattle.tv_lang.proofs.CanonicalLines.{Stands, is_plain}
-use Rattle.tv_lang.proofs.CanonicalTexts.{StandInLine, stand_spelled}
+use Rattle.tv_words.specs.declared.word.Word.{Word}
+use Rattle.tv_words.specs.declared.word.Word.TheVariants.{Bare}
+use Rattle.tv_words.specs.Names.{is_name_char}
+use Rattle.tv_words.specs.Fields.{IsName, IsNumber, number_word}
+use Rattle.tv_words.specs.Canonical.{canonical_text}
+use Rattle.tv_words.specs.Words.{is_bare}
+use Rattle.tv_words.specs.Texts.{declarations}
+use Rattle.tv_words.proofs.CanonicalLines.{Stands, is_plain}
+use Rattle.tv_words.proofs.CanonicalTexts.{StandInLine, stand_spelled}
 use Rattle.tv_check.specs.declared.certificate.Block.{Block}
 use Rattle.tv_check.specs.declared.certificate.KeyLine.{KeyLine}
 use Rattle.tv_check.specs.CertificateTexts.{IsBlock, IsCertificate, IsKeyLine, Spells, block_lines, certificate_lines, dialog_words, end_words, is_letter, item_words, key_words, tab_words, version_words}

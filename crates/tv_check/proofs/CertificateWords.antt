@@ -3,12 +3,12 @@ use Rattle.std.proofs.Common.{◌≡◌, ℕ, Bool, true, false, ◌&&◌, cond,
 use Rattle.std.specs.Prelude.{ℤ, codes, IfSome, IsTrue}
 use Rattle.std.specs.Option.{option_map}
 use Rattle.std.proofs.lemmas.Slice.Eq.{bytes_eq-Decides}
-use Rattle.tv_lang.specs.declared.word.Word.{Word}
-use Rattle.tv_lang.specs.declared.word.Word.TheVariants.{Bare, Quoted}
-use Rattle.tv_lang.specs.Fields.{is_bare_word, name_in}
-use Rattle.tv_lang.specs.Reading.Numbers.{number_in}
-use Rattle.tv_lang.specs.Spelling.Terms.{IsName, IsNumber}
-use Rattle.tv_lang.proofs.FieldLaws.{word_is, number_word_read, read_number_word, name_read, read_name}
+use Rattle.tv_words.specs.declared.word.Word.{Word}
+use Rattle.tv_words.specs.declared.word.Word.TheVariants.{Bare, Quoted}
+use Rattle.tv_words.specs.Fields.{is_bare_word, name_in}
+use Rattle.tv_words.specs.Reading.Numbers.{number_in}
+use Rattle.tv_words.specs.Fields.{IsName, IsNumber}
+use Rattle.tv_words.proofs.FieldLaws.{word_is, number_word_read, read_number_word, name_read, read_name}
 use Rattle.tv_check.specs.declared.certificate.KeyLine.{KeyLine}
 use Rattle.tv_check.specs.CertificateTexts.{IsKeyLine, end_words, is_letter, item_words, key_words, version_words}
 use Rattle.tv_check.specs.CertificateReading.{is_end, is_version, item_in, key_from, key_in, letter_in, named_in}

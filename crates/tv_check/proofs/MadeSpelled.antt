@@ -15,9 +15,9 @@ use Rattle.tv_model.specs.Owners.{Owner, control, item_at, marker_of, owner_by, 
 use Rattle.tv_model.specs.Certificates.{control_name, letters}
 use Rattle.tv_model.specs.Faults.Letters.{marks}
 use Rattle.tv_model.specs.Faults.Limits.{is_lawful_count}
-use Rattle.tv_lang.specs.Spelling.{is_dialog}
-use Rattle.tv_lang.specs.Spelling.Nodes.{IsKind}
-use Rattle.tv_lang.specs.Spelling.Terms.{IsName, IsNumber}
+use Rattle.tv_declarations.specs.Spelling.{is_dialog}
+use Rattle.tv_declarations.specs.Spelling.Nodes.{IsKind}
+use Rattle.tv_words.specs.Fields.{IsName, IsNumber}
 use Rattle.tv_check.specs.declared.certificate.KeyLine.{KeyLine}
 use Rattle.tv_check.specs.Certificates.{block_of, key_line}
 use Rattle.tv_check.specs.CertificateTexts.{AreRising, IsBlock, IsCertificate, IsKeyLine, is_letter}

@@ -4,12 +4,12 @@ use Rattle.std.specs.List.{AllByRecursion}
 use Rattle.tv_model.specs.declared.node.Node.{Node}
 use Rattle.tv_model.specs.declared.desc.Desc.{Desc}
 use Rattle.tv_model.specs.declared.desc.Dialog.{Dialog}
-use Rattle.tv_lang.specs.declared.declaration.Declaration.{Declaration}
-use Rattle.tv_lang.specs.declared.declaration.Declaration.TheVariants as declared
+use Rattle.tv_declarations.specs.declared.declaration.Declaration.{Declaration}
+use Rattle.tv_declarations.specs.declared.declaration.Declaration.TheVariants as declared
 use Rattle.tv_lang.specs.CanonicalDescription.{CanBeSpelled}
-use Rattle.tv_lang.specs.Spelling.{IsDescription, IsDialog, declarations_of, dialog_declarations, ends_of_panes, menu_declarations, open_after, start_declarations, view_declarations, window_declarations}
-use Rattle.tv_lang.specs.Spelling.Declarations.{AreDeclarations, IsDeclaration}
-use Rattle.tv_lang.specs.Spelling.Nodes.{IsKind}
+use Rattle.tv_declarations.specs.Spelling.{IsDescription, IsDialog, declarations_of, dialog_declarations, ends_of_panes, menu_declarations, open_after, start_declarations, view_declarations, window_declarations}
+use Rattle.tv_declarations.specs.Spelling.Declarations.{AreDeclarations, IsDeclaration}
+use Rattle.tv_declarations.specs.Spelling.Nodes.{IsKind}
 
 -- a node is of a kind that can be spelled
 abbrev HasKind : Declaration → Type 0

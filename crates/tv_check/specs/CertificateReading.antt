@@ -1,11 +1,11 @@
 -- How certificates are read, line by line. Private functions are held to these definitions.
 use Rattle.std.specs.Prelude.{◌≡◌, ℕ, ◌+◌, ℤ, List, [], ◌∷◌, ◌++◌, Bool, false, ◌&&◌, Option, Some, None, option_map, codes, if◌then◌else◌}
-use Rattle.tv_lang.specs.declared.word.Word.{Word}
-use Rattle.tv_lang.specs.declared.word.Word.TheVariants.{Bare, Quoted}
-use Rattle.tv_lang.specs.Fields.{is_bare_word, name_in}
-use Rattle.tv_lang.specs.Lines.{lines_of}
-use Rattle.tv_lang.specs.Reading.LineWords.{line_taken}
-use Rattle.tv_lang.specs.Reading.Numbers.{number_in}
+use Rattle.tv_words.specs.declared.word.Word.{Word}
+use Rattle.tv_words.specs.declared.word.Word.TheVariants.{Bare, Quoted}
+use Rattle.tv_words.specs.Fields.{is_bare_word, name_in}
+use Rattle.tv_words.specs.Lines.{lines_of}
+use Rattle.tv_words.specs.Reading.LineWords.{line_taken}
+use Rattle.tv_words.specs.Reading.Numbers.{number_in}
 use Rattle.tv_check.specs.declared.certificate.Block.{Block}
 use Rattle.tv_check.specs.declared.certificate.KeyLine.{KeyLine}
 use Rattle.tv_check.specs.declared.certificate_text.CertificateFault.{CertificateFault}

@@ -1,11 +1,11 @@
 -- The texts that spell certificates, and why a text is refused.
 use Rattle.std.specs.Prelude.{◌≡◌, ◌≢◌, ℕ, ◌<◌, ◌==◌, nat_lt, ℤ, Bool, List, [], ◌∷◌, ◌++◌, map, flat_map, length, Option, Some, None, IfSome, IsTrue, Result, Ok, Err, codes}
 use Rattle.std.specs.List.{AllByRecursion, list_all, list_any}
-use Rattle.tv_lang.specs.declared.word.Word.{Word}
-use Rattle.tv_lang.specs.declared.word.Word.TheVariants.{Bare}
-use Rattle.tv_lang.specs.Lines.{lines_of}
-use Rattle.tv_lang.specs.Spelling.Terms.{IsName, IsNumber, number_word}
-use Rattle.tv_lang.specs.Texts.{SpellsBy, IsFirstFault}
+use Rattle.tv_words.specs.declared.word.Word.{Word}
+use Rattle.tv_words.specs.declared.word.Word.TheVariants.{Bare}
+use Rattle.tv_words.specs.Lines.{lines_of}
+use Rattle.tv_words.specs.Fields.{IsName, IsNumber, number_word}
+use Rattle.tv_words.specs.Texts.{SpellsBy, IsFirstFault}
 use Rattle.tv_model.specs.Certificates.{letters}
 use Rattle.tv_check.specs.declared.certificate.Block.{Block}
 use Rattle.tv_check.specs.declared.certificate.KeyLine.{KeyLine}

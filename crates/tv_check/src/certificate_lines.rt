@@ -8,9 +8,9 @@ use crate::certificate::{Block, Certificate, KeyLine};
 use crate::certificate_owner::letters;
 use crate::certification::copy;
 use std::alloc::{AllocError, Global};
-use tv_lang::Word;
 use tv_model::Sequence;
 use tv_valid::Chars;
+use tv_words::Word;
 
 // Which declarations may come next.
 #[derive(Drop)]

@@ -1,15 +1,16 @@
 //! The canonical text of a certificate.
 
 ghost use Rattle.std.specs.Prelude.{◌≡◌, [], ◌∷◌, ◌++◌, List, ℕ, flat_map, map, IfOk, string_bytes};
-ghost use Rattle.tv_lang.specs.Canonical.{canonical_text, ended_line};
-ghost use Rattle.tv_lang.specs.Spelling.Terms.{number_word};
+ghost use Rattle.tv_words.specs.Canonical.{canonical_text, ended_line};
+ghost use Rattle.tv_words.specs.Fields.{number_word};
 ghost use Rattle.tv_check.specs.declared.certificate.Block.{Block as SeenBlock};
 ghost use Rattle.tv_check.specs.CertificateTexts.{block_lines, certificate_lines, end_words, key_words, Spells, tab_words, version_words};
 
 use crate::certificate::{Block, Certificate, KeyLine};
 use std::alloc::{AllocError, Global};
-use tv_lang::{Line, Word, ascii};
+use tv_printing::{Line, ascii};
 use tv_valid::Chars;
+use tv_words::Word;
 
 // The text with a line of a keyword and a name.
 fn with_name(alloc: Global, text: String, kind: &[u8], name: &Chars) -> Result<String, AllocError>

@@ -1,7 +1,7 @@
 //! Certificates, read from texts.
 
 ghost use Rattle.std.specs.Prelude.{◌≡◌, ◌↔◌, ◌<◌, ◌≤◌, List, length, IfOk, IfErr, Err, Some};
-ghost use Rattle.tv_lang.specs.Reading.LineWords.{line_taken};
+ghost use Rattle.tv_words.specs.Reading.LineWords.{line_taken};
 ghost use Rattle.tv_check.specs.declared.certificate.Block.{Block as SeenBlock};
 ghost use Rattle.tv_check.specs.CertificateReading.{RefusesLine, StopsAt, Value, reading_of, taken};
 ghost use Rattle.tv_check.specs.CertificateTexts.{Gives, RefusesText, Spells};
@@ -10,7 +10,7 @@ use crate::certificate::Certificate;
 use crate::certificate_lines::Progress;
 use std::alloc::{AllocError, Global};
 use thiserror::Error;
-use tv_lang::{Lines, words_of};
+use tv_words::{Lines, words_of};
 
 /// Why a text is no certificate.
 #[derive(Clone, Copy, Debug, PartialEq, Eq, Error)]

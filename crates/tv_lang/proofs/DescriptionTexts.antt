@@ -8,16 +8,16 @@ use Rattle.tv_model.specs.declared.node.Node.{Node}
 use Rattle.tv_model.specs.declared.node.CommandSpec.TheVariants as commands
 use Rattle.tv_model.specs.declared.desc.Desc.{Desc}
 use Rattle.tv_model.specs.declared.desc.MenuItem.{MenuItem}
-use Rattle.tv_lang.specs.declared.word.Word.TheVariants.{Bare, Quoted}
+use Rattle.tv_words.specs.declared.word.Word.TheVariants.{Bare, Quoted}
 use Rattle.tv_lang.specs.declared.progress.Progress.{Progress}
 use Rattle.tv_lang.specs.declared.stage.Stage.{Stage}
 use Rattle.tv_lang.specs.declared.stage.Stage.TheVariants as stages
-use Rattle.tv_lang.specs.Reading.Steps.{steps}
-use Rattle.tv_lang.specs.Reading.LineWords.{line_words, line_taken}
+use Rattle.tv_words.specs.Reading.Steps.{steps}
+use Rattle.tv_words.specs.Reading.LineWords.{line_words, line_taken}
 use Rattle.tv_lang.specs.Reading.Stages.{fresh, taken, finished}
-use Rattle.tv_lang.specs.Spelling.{word_lines, IsDescription}
+use Rattle.tv_declarations.specs.Spelling.{word_lines, IsDescription}
 use Rattle.tv_lang.specs.Faults.{SpellsLines, Begins}
-use Rattle.tv_lang.proofs.TextLaws as texts
+use Rattle.tv_words.proofs.TextLaws as texts
 use Rattle.tv_lang.proofs.GivenLaws.{at, given_spelled}
 use Rattle.tv_lang.proofs.ReachLaws.{spelled_given}
 

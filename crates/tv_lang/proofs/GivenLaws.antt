@@ -4,18 +4,18 @@ use Rattle.std.specs.Prelude.{map, option_and_then}
 use Rattle.std.specs.Option.{option_map}
 use Rattle.std.proofs.lemmas.List.{append-nil}
 use Rattle.tv_model.specs.declared.desc.Desc.{Desc}
-use Rattle.tv_lang.specs.declared.declaration.Declaration.{Declaration}
-use Rattle.tv_lang.specs.declared.word.Word.{Word}
+use Rattle.tv_declarations.specs.declared.declaration.Declaration.{Declaration}
+use Rattle.tv_words.specs.declared.word.Word.{Word}
 use Rattle.tv_lang.specs.declared.progress.Progress.{Progress}
 use Rattle.tv_lang.specs.declared.stage.Stage.{Stage}
 use Rattle.tv_lang.specs.declared.stage.Stage.TheVariants as stages
-use Rattle.tv_lang.specs.Reading.Steps.{steps}
-use Rattle.tv_lang.specs.Reading.Declarations.{declaration_in}
+use Rattle.tv_words.specs.Reading.Steps.{steps}
+use Rattle.tv_declarations.specs.Reading.Declarations.{declaration_in}
 use Rattle.tv_lang.specs.Reading.Stages.{fresh, progress, open_panes, taken_at, taken, finished}
-use Rattle.tv_lang.specs.Spelling.{declarations_of, word_lines, IsDescription}
-use Rattle.tv_lang.specs.Spelling.Declarations.{declaration_words, AreDeclarations}
-use Rattle.tv_lang.proofs.PlaceLaws.{on_line}
-use Rattle.tv_lang.proofs.DeclarationLaws.{declaration_read}
+use Rattle.tv_declarations.specs.Spelling.{declarations_of, word_lines, IsDescription}
+use Rattle.tv_declarations.specs.Spelling.Declarations.{declaration_words, AreDeclarations}
+use Rattle.tv_declarations.proofs.PlaceLaws.{on_line}
+use Rattle.tv_declarations.proofs.DeclarationLaws.{declaration_read}
 use Rattle.tv_lang.proofs.StageLaws.{so_far, Sound, HasParts, goes}
 
 -- the description that the declarations give

@@ -1,18 +1,17 @@
 -- What a line does, by the answers of the functions that read it.
-use Rattle.std.proofs.Common.{◌≡◌, ℕ, ◌≤◌, ◌+◌, ◌==◌, Bool, true, false, cond, List, [], ◌∷◌, length, Option, Some, None, refl, sym, ap, ◌∙◌, arith}
+use Rattle.std.proofs.Common.{◌≡◌, ℕ, ◌+◌, ◌==◌, true, false, List, [], ◌∷◌, length, Option, Some, None, refl, sym, ap, ◌∙◌, arith}
 use Rattle.std.specs.Prelude.{IfSome, option_and_then}
 use Rattle.std.proofs.lemmas.Bool.{eqb-true}
-use Rattle.tv_lang.specs.declared.word.Word.{Word}
+use Rattle.tv_words.specs.declared.word.Word.{Word}
 use Rattle.tv_lang.specs.declared.progress.Progress.{Progress}
-use Rattle.tv_lang.specs.Lines.{lines_of, onto_first}
-use Rattle.tv_lang.specs.Words.{SpellsWords}
+use Rattle.tv_words.specs.Words.{SpellsWords}
 use Rattle.tv_lang.specs.declared.stage.Stage.{Stage}
 use Rattle.tv_model.specs.declared.desc.Desc.{Desc}
 use Rattle.std.specs.Option.{option_map}
 use Rattle.tv_lang.specs.Reading.Stages.{is_other_version, progress, position, taken_at, taken}
-use Rattle.tv_lang.specs.Reading.Declarations.{declaration_in}
+use Rattle.tv_declarations.specs.Reading.Declarations.{declaration_in}
 use Rattle.tv_lang.specs.Reading.Descriptions.{Next, Faulty, OfOtherVersion, step_from, step_if, words_step, line_step}
-use Rattle.tv_lang.proofs.LineLaws.{found_words}
+use Rattle.tv_words.proofs.LineLaws.{found_words}
 
 module _ (p : Progress) (line : List ℕ) (found : Option (List Word)) (spelled : IfSome found (λ ws. SpellsWords line ws)) (only : (ws : List Word) → SpellsWords line ws → found ≡ Some ws) where
   by_words : words_step p found ≡ line_step p line
@@ -41,14 +40,6 @@ module _ (p : Progress) (line : List ℕ) (found : Option (List Word)) (spelled 
   pub declaration : (ws : List Word) (further : Option Progress) → found ≡ Some ws → false ≡ (length ws == 0) → false ≡ is_other_version p ws → further ≡ taken p ws → line_step p line ≡ step_from further
   declaration ws further e some same took = declared_line ws e some ∙ ap (λ b. step_if b (taken p ws)) (sym same) ∙ ap step_from (sym took)
 
-first_le : (c n : ℕ) (ls : List (List ℕ)) → length ls ≤ n → length (onto_first c ls) ≤ n + 1
-first_le c n [] h = omega arith
-first_le c n (l ∷ ls) h = omega arith
-
-line_le : (b : Bool) (c n : ℕ) (ls : List (List ℕ)) → length ls ≤ n → length (cond b ([] ∷ ls) (onto_first c ls)) ≤ n + 1
-line_le true c n ls h = omega arith
-line_le false c n ls h = first_le c n ls h
-
 next_of : (line : ℕ) (o : Option (Stage × Desc)) (q : Progress) → option_map (progress line) o ≡ Some q → q.next ≡ line
 next_of line None q e = absurd cc
 next_of line (Some t) q e = let same : progress line t ≡ q = cc in ap (λ x. x.next) (sym same)
@@ -56,8 +47,3 @@ next_of line (Some t) q e = let same : progress line t ≡ q = cc in ap (λ x. x
 -- the next declaration stands on the next line
 pub next_taken : (p : Progress) (ws : List Word) (q : Progress) → taken p ws ≡ Some q → q.next ≡ p.next + 1
 next_taken p ws q e = next_of (p.next + 1) (option_and_then (taken_at p.stage p.desc) (declaration_in (position p) ws)) q e
-
--- a text has no more lines than bytes
-pub lines_le : (cs : List ℕ) → length (lines_of cs) ≤ length cs
-lines_le [] = omega arith
-lines_le (c ∷ cs) = omega (arith, line_le (c == 10) c (length cs) (lines_of cs) (lines_le cs))

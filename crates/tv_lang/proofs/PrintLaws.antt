@@ -1,11 +1,12 @@
 -- The canonical text of a description that some text spells, spells it and no other.
 use Rattle.std.proofs.Common.{◌≡◌, ℕ, List, Some, sym, ◌∙◌}
 use Rattle.tv_model.specs.declared.desc.Desc.{Desc}
-use Rattle.tv_lang.specs.Lines.{lines_of}
-use Rattle.tv_lang.specs.Spelling.{word_lines, IsDescription}
+use Rattle.tv_words.specs.Lines.{lines_of}
+use Rattle.tv_declarations.specs.Spelling.{word_lines, IsDescription}
 use Rattle.tv_lang.specs.Faults.{Spells}
-use Rattle.tv_lang.specs.CanonicalDescription.{description_text, CanBeSpelled, SpellsOnly}
-use Rattle.tv_lang.proofs.CanonicalTexts.{respelled}
+use Rattle.tv_declarations.specs.CanonicalDescription.{description_text}
+use Rattle.tv_lang.specs.CanonicalDescription.{CanBeSpelled, SpellsOnly}
+use Rattle.tv_words.proofs.CanonicalTexts.{respelled}
 use Rattle.tv_lang.proofs.DescriptionTexts.{spelled_lines}
 
 -- a text spells one description at most

@@ -16,14 +16,14 @@ use Rattle.tv_model.specs.declared.desc.Rule.{Rule}
 use Rattle.tv_model.specs.declared.desc.StatusItem.{StatusItem}
 use Rattle.tv_model.specs.declared.desc.Window.{Window}
 use Rattle.tv_model.specs.Nodes.{is_pane}
-use Rattle.tv_lang.specs.declared.declaration.Declaration.{Declaration}
-use Rattle.tv_lang.specs.declared.declaration.Declaration.TheVariants as declared
+use Rattle.tv_declarations.specs.declared.declaration.Declaration.{Declaration}
+use Rattle.tv_declarations.specs.declared.declaration.Declaration.TheVariants as declared
 use Rattle.tv_lang.specs.declared.stage.Stage.{Stage}
 use Rattle.tv_lang.specs.declared.stage.Stage.TheVariants as stages
 use Rattle.tv_lang.specs.Reading.Stages.{no_dialogs, no_windows, no_status, panes_after, taken_at, fresh, open_panes}
-use Rattle.tv_lang.specs.Spelling.{start_declarations, menu_declarations, window_declarations, ends_of_panes, open_after, view_declarations, dialog_declarations, declarations_of, word_lines, is_window, is_dialog, HasItems, IsWindowText, IsWindow, AreViews, IsDialog, IsDescription}
-use Rattle.tv_lang.specs.Spelling.Declarations.{declaration_words, AreDeclarations}
-use Rattle.tv_lang.proofs.DeclarationLaws.{IsInside, read_declaration}
+use Rattle.tv_declarations.specs.Spelling.{start_declarations, menu_declarations, window_declarations, ends_of_panes, open_after, view_declarations, dialog_declarations, declarations_of, word_lines, is_window, is_dialog, HasItems, IsWindowText, IsWindow, AreViews, IsDialog, IsDescription}
+use Rattle.tv_declarations.specs.Spelling.Declarations.{declaration_words, AreDeclarations}
+use Rattle.tv_declarations.proofs.DeclarationLaws.{IsInside, read_declaration}
 use Rattle.tv_lang.proofs.GivenLaws.{given, at}
 
 -- from this stage on, the declarations give the description, whichever lines they stand on

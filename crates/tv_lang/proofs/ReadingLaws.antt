@@ -7,33 +7,33 @@ use Rattle.std.proofs.lemmas.Bool.{eqb-true}
 use Rattle.tv_model.specs.declared.desc.Desc.{Desc}
 use Rattle.tv_lang.specs.declared.description.LangFault.{LangFault}
 use Rattle.tv_lang.specs.declared.description.LangFault.TheVariants.{NoMemory, Syntax, TooLong, Version}
-use Rattle.tv_lang.specs.declared.word.Word.{Word}
-use Rattle.tv_lang.specs.declared.word.Word.TheVariants.{Bare}
+use Rattle.tv_words.specs.declared.word.Word.{Word}
+use Rattle.tv_words.specs.declared.word.Word.TheVariants.{Bare}
 use Rattle.tv_lang.specs.declared.progress.Progress.{Progress}
 use Rattle.tv_lang.specs.declared.stage.Stage.{Stage}
 use Rattle.tv_lang.specs.declared.stage.Stage.TheVariants as stages
-use Rattle.tv_lang.specs.declared.declaration.Declaration.{Declaration}
-use Rattle.tv_lang.specs.declared.declaration.Declaration.TheVariants as declared
-use Rattle.tv_lang.specs.declared.place.Position.{Position}
-use Rattle.tv_lang.specs.Reading.Steps.{steps}
-use Rattle.tv_lang.specs.Lines.{lines_of}
-use Rattle.tv_lang.specs.Words.{SpellsWords}
-use Rattle.tv_lang.specs.Reading.LineWords.{line_words, words_taken}
-use Rattle.tv_lang.specs.Fields.{is_bare_word}
-use Rattle.tv_lang.specs.Reading.Numbers.{number_in}
-use Rattle.tv_lang.specs.Reading.Declarations.{declaration_in}
+use Rattle.tv_declarations.specs.declared.declaration.Declaration.{Declaration}
+use Rattle.tv_declarations.specs.declared.declaration.Declaration.TheVariants as declared
+use Rattle.tv_declarations.specs.declared.place.Position.{Position}
+use Rattle.tv_words.specs.Reading.Steps.{steps}
+use Rattle.tv_words.specs.Lines.{lines_of}
+use Rattle.tv_words.specs.Words.{SpellsWords}
+use Rattle.tv_words.specs.Reading.LineWords.{line_words, words_taken}
+use Rattle.tv_words.specs.Fields.{is_bare_word}
+use Rattle.tv_words.specs.Reading.Numbers.{number_in}
+use Rattle.tv_declarations.specs.Reading.Declarations.{declaration_in}
 use Rattle.tv_lang.specs.Reading.Stages.{fresh, is_other, other_version, is_other_version, taken_at, position, progress, taken, finished}
-use Rattle.tv_lang.specs.Spelling.{word_lines, IsDescription}
-use Rattle.tv_lang.specs.Spelling.Terms.{number_word, IsNumber}
-use Rattle.tv_lang.specs.Texts.{IsFirstFault}
+use Rattle.tv_declarations.specs.Spelling.{word_lines, IsDescription}
+use Rattle.tv_words.specs.Fields.{number_word, IsNumber}
+use Rattle.tv_words.specs.Texts.{IsFirstFault}
 use Rattle.tv_lang.specs.Faults.{Spells, IsOtherVersion, Refuses, Gives}
 use Rattle.tv_lang.specs.Reading.Descriptions.{LineStep, Next, Faulty, OfOtherVersion, step_from, step_if, words_step, line_step, Reading, Value, Fault, Other, at_end, reading, reading_of, StopsAt}
-use Rattle.tv_lang.proofs.FieldLaws.{word_is, number_word_read, read_number_word}
-use Rattle.tv_lang.proofs.OptionLaws.{map_some, then_some}
-use Rattle.tv_lang.proofs.PlaceLaws.{on_line}
-use Rattle.tv_lang.proofs.DeclarationLaws.{declaration_read}
+use Rattle.tv_words.proofs.FieldLaws.{word_is, number_word_read, read_number_word}
+use Rattle.tv_declarations.proofs.OptionLaws.{map_some, then_some}
+use Rattle.tv_declarations.proofs.PlaceLaws.{on_line}
+use Rattle.tv_declarations.proofs.DeclarationLaws.{declaration_read}
 use Rattle.tv_lang.proofs.StageLaws.{both, so_far, Sound, goes}
-use Rattle.tv_lang.proofs.LineLaws.{line_spelled, spelled_line}
+use Rattle.tv_words.proofs.LineLaws.{line_spelled, spelled_line}
 use Rattle.tv_lang.proofs.DescriptionTexts.{taken_line, lines_spelled, spelled_lines, begins_taken, taken_begins}
 
 -- reading on after a line

@@ -4,12 +4,12 @@ use Rattle.std.specs.List.{AllByRecursion}
 use Rattle.tv_model.specs.declared.desc.Desc.{Desc}
 use Rattle.tv_lang.specs.declared.description.LangFault.{LangFault}
 use Rattle.tv_lang.specs.declared.description.LangFault.TheVariants.{NoMemory, Syntax, TooLong, Version}
-use Rattle.tv_lang.specs.declared.word.Word.TheVariants.{Bare}
-use Rattle.tv_lang.specs.Lines.{lines_of}
-use Rattle.tv_lang.specs.Words.{SpellsWords}
-use Rattle.tv_lang.specs.Spelling.{word_lines, IsDescription}
-use Rattle.tv_lang.specs.Spelling.Terms.{number_word, IsNumber}
-use Rattle.tv_lang.specs.Texts.{SpellsBy, BeginsBy, IsFirstFault}
+use Rattle.tv_words.specs.declared.word.Word.TheVariants.{Bare}
+use Rattle.tv_words.specs.Lines.{lines_of}
+use Rattle.tv_words.specs.Words.{SpellsWords}
+use Rattle.tv_declarations.specs.Spelling.{word_lines, IsDescription}
+use Rattle.tv_words.specs.Fields.{number_word, IsNumber}
+use Rattle.tv_words.specs.Texts.{SpellsBy, BeginsBy, IsFirstFault}
 
 -- the lines spell the description
 abbrev pub SpellsLines : List (List ℕ) → Desc → Type 0

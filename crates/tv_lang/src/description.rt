@@ -3,15 +3,14 @@
 ghost use Rattle.std.specs.Prelude.{◌≡◌, ◌↔◌, ◌+◌, ◌<◌, ◌≤◌, ◌^◌, length, IfOk, IfErr, Err};
 ghost use Rattle.tv_model.specs.declared.desc.Desc.{Desc as SeenDesc};
 ghost use Rattle.tv_lang.specs.Faults.{Refuses, Gives, Spells};
-ghost use Rattle.tv_lang.specs.Lines.{lines_of};
+ghost use Rattle.tv_words.specs.Lines.{lines_of};
 ghost use Rattle.tv_lang.specs.Reading.Descriptions.{line_step, Next, RefusesLine, reading_of, Value, StopsAt};
 
-use crate::lines::Lines;
 use crate::progress::Progress;
-use crate::scan::words_of;
 use std::alloc::{AllocError, Global};
 use thiserror::Error;
 use tv_model::Desc;
+use tv_words::{Lines, words_of};
 
 /// Why a text is no description.
 #[derive(Clone, Copy, Debug, PartialEq, Eq, Error)]

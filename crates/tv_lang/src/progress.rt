@@ -4,12 +4,11 @@ ghost use Rattle.std.specs.Prelude.{◌≡◌, ◌+◌, ◌<◌, ◌^◌, IfOk};
 ghost use Rattle.std.specs.Option.{option_map};
 ghost use Rattle.tv_lang.specs.Reading.Stages.{finished, fresh, progress, taken_at, is_other, is_other_version, taken};
 
-use crate::declaration::{Declaration, declared};
-use crate::place::Position;
 use crate::stage::Stage;
-use crate::word::Word;
 use std::alloc::{AllocError, Global};
+use tv_declarations::{Declaration, Position, declared};
 use tv_model::{Desc, Id, Sequence};
+use tv_words::Word;
 
 /// A description that is read up to some declaration.
 #[derive(Drop)]

@@ -1,6 +1,6 @@
 -- What checking a description, or accepting it with a certificate, comes to.
 use Rattle.std.specs.Prelude.{◌≡◌, ◌≢◌, ℕ, List, [], ◌∷◌, ◌++◌, Result, Ok, Err, codes}
-use Rattle.tv_lang.specs.Canonical.{canonical_text}
+use Rattle.tv_words.specs.Canonical.{canonical_text}
 use Rattle.tv_lang.specs.Faults.{Spells}
 use Rattle.tv_model.specs.declared.desc.Desc.{Desc}
 use Rattle.tv_check.specs.declared.certificate.Block.{Block}

@@ -1,7 +1,7 @@
 -- What a run of a thin description and script comes to.
 use Rattle.std.specs.Prelude.{◌≡◌, ◌<◌, ◌≤◌, ℕ, List, length, Result, Ok, Err}
-use Rattle.tv_lang.specs.declared.script.ScriptFault.TheVariants as scripts
-use Rattle.tv_lang.specs.Scripts.{Spells as SpellsScript, Refuses as RefusesScript}
+use Rattle.tv_script.specs.declared.script_text.ScriptFault.TheVariants as scripts
+use Rattle.tv_script.specs.Scripts.{Spells as SpellsScript, Refuses as RefusesScript}
 use Rattle.tv_lang.specs.Faults.{Spells}
 use Rattle.tv_model.specs.declared.desc.Desc.{Desc}
 use Rattle.tv_model.specs.declared.script.Item.{Item}

@@ -1,7 +1,7 @@
 //! One dialog of static texts and buttons, from bytes to bytes.
 
 ghost use Rattle.std.specs.Prelude.{◌≡◌, IfOk, IfErr, List, ℕ};
-ghost use Rattle.tv_lang.specs.Scripts.{Spells as SpellsScript};
+ghost use Rattle.tv_script.specs.Scripts.{Spells as SpellsScript};
 ghost use Rattle.tv_model.specs.Faults.{IsSound};
 ghost use Rattle.tv_model.specs.Output.{output};
 ghost use Rattle.tv_model.specs.Thin.{IsThin};
@@ -14,9 +14,8 @@ use crate::reading::{look_for_faults, read_desc};
 use crate::session::ThinSession;
 use crate::shape::is_thin;
 use std::alloc::Global;
-use tv_lang::{ScriptFault, parse_script};
 use tv_model::{Desc, Item, Sequence};
-use tv_script::{Writer, perform};
+use tv_script::{ScriptFault, Writer, parse_script, perform};
 
 /// The most bytes of a script.
 const LONGEST_SCRIPT: usize = 1_048_576;

@@ -6,3 +6,4 @@ pub mod Ranges
 pub mod Runs
 pub mod Screens
 pub mod Writing
+pub mod ScriptLaws

@@ -1,3 +1,5 @@
+pub mod Scripts
+pub mod Reading
 pub mod Device
 pub mod Pen
 pub mod Performed

@@ -5,7 +5,7 @@
 
 use std::alloc::{AllocError, Global};
 use std::test::Fail;
-use tv_lang::Lines;
+use tv_words::Lines;
 
 /// What a table asks about the texts of its rows.
 pub trait Question {

@@ -2,10 +2,11 @@
 
 use std::alloc::Global;
 use std::test::Fail;
-use tv_lang::{LangFault, ScriptFault, parse, parse_script};
+use tv_lang::{LangFault, parse};
 use tv_model::{Desc, Kind, Node};
 use tv_program::RunFault;
 use tv_program::thin::run;
+use tv_script::{ScriptFault, parse_script};
 use tv_test_support::descriptions::{CANCEL, WITHOUT_CANCEL};
 use tv_test_support::{Findings, Memory, Question, expect_answers};
 

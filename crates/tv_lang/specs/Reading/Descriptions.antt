@@ -3,10 +3,10 @@ use Rattle.std.specs.Prelude.{◌≡◌, ℕ, ◌+◌, List, [], ◌∷◌, Bool
 use Rattle.tv_model.specs.declared.desc.Desc.{Desc}
 use Rattle.tv_lang.specs.declared.description.LangFault.{LangFault}
 use Rattle.tv_lang.specs.declared.description.LangFault.TheVariants.{NoMemory, Syntax, TooLong, Version}
-use Rattle.tv_lang.specs.declared.word.Word.{Word}
+use Rattle.tv_words.specs.declared.word.Word.{Word}
 use Rattle.tv_lang.specs.declared.progress.Progress.{Progress}
-use Rattle.tv_lang.specs.Lines.{lines_of}
-use Rattle.tv_lang.specs.Reading.LineWords.{line_words}
+use Rattle.tv_words.specs.Lines.{lines_of}
+use Rattle.tv_words.specs.Reading.LineWords.{line_words}
 use Rattle.tv_lang.specs.Reading.Stages.{fresh, is_other_version, taken, finished}
 
 -- what a line does

@@ -7,17 +7,17 @@ use Rattle.tv_model.specs.declared.desc.Dialog.{Dialog}
 use Rattle.tv_model.specs.declared.desc.Menu.{Menu}
 use Rattle.tv_model.specs.declared.desc.Window.{Window}
 use Rattle.tv_model.specs.Nodes.{is_pane}
-use Rattle.tv_lang.specs.declared.declaration.Declaration.{Declaration}
-use Rattle.tv_lang.specs.declared.declaration.Declaration.TheVariants as declared
-use Rattle.tv_lang.specs.declared.place.Position.{Position}
-use Rattle.tv_lang.specs.declared.word.Word.{Word}
+use Rattle.tv_declarations.specs.declared.declaration.Declaration.{Declaration}
+use Rattle.tv_declarations.specs.declared.declaration.Declaration.TheVariants as declared
+use Rattle.tv_declarations.specs.declared.place.Position.{Position}
+use Rattle.tv_words.specs.declared.word.Word.{Word}
 use Rattle.tv_lang.specs.declared.progress.Progress.{Progress}
 use Rattle.tv_lang.specs.declared.stage.Stage.{Stage}
 use Rattle.tv_lang.specs.declared.stage.Stage.TheVariants as stages
-use Rattle.tv_lang.specs.Fields.{is_bare_word}
-use Rattle.tv_lang.specs.Spelling.{is_window, is_dialog, is_text, is_view}
-use Rattle.tv_lang.specs.Reading.Numbers.{number_in}
-use Rattle.tv_lang.specs.Reading.Declarations.{declaration_in}
+use Rattle.tv_words.specs.Fields.{is_bare_word}
+use Rattle.tv_declarations.specs.Spelling.{is_window, is_dialog, is_text, is_view}
+use Rattle.tv_words.specs.Reading.Numbers.{number_in}
+use Rattle.tv_declarations.specs.Reading.Declarations.{declaration_in}
 
 -- ---- which parts a description has not
 

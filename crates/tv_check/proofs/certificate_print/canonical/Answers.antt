@@ -1,7 +1,7 @@
 use Rattle.std.proofs.Common.{◌≡◌, ◌++◌, sym, ap, ◌∙◌}
 use Rattle.std.specs.Prelude.{flat_map, string_bytes}
 use Rattle.std.proofs.lemmas.Result.{IfOk-weaker}
-use Rattle.tv_lang.specs.Canonical.{canonical_text, ended_line}
+use Rattle.tv_words.specs.Canonical.{canonical_text, ended_line}
 use Rattle.tv_check.specs.CertificateTexts.{block_lines, certificate_lines, version_words}
 use Rattle.tv_check.proofs.CertificatePrinted.{blocks_text}
 use Rattle.tv_check.proofs.certificate_print.canonical.Goals as goal

@@ -1,7 +1,7 @@
 use Rattle.std.proofs.Common.{◌≡◌, ◌++◌}
 use Rattle.std.specs.Prelude.{string_bytes}
 use Rattle.std.proofs.lemmas.Result.{IfOk-weaker}
-use Rattle.tv_lang.specs.Canonical.{canonical_text, ended_line}
+use Rattle.tv_words.specs.Canonical.{canonical_text, ended_line}
 use Rattle.tv_check.specs.CertificateTexts.{block_lines, end_words}
 use Rattle.tv_check.proofs.CertificatePrinted.{block_printed}
 use Rattle.tv_check.proofs.certificate_print.with_block.Goals as goal

@@ -1,6 +1,6 @@
 use Rattle.std.proofs.Common.{◌≡◌, ◌++◌, flat_map, drop}
 use Rattle.std.specs.Prelude.{string_bytes}
-use Rattle.tv_lang.specs.Canonical.{canonical_text}
+use Rattle.tv_words.specs.Canonical.{canonical_text}
 use Rattle.tv_check.specs.CertificateTexts.{block_lines}
 use Rattle.tv_check.proofs.certificate_print.with_blocks.Given as goal
 

@@ -1,5 +1,5 @@
 use Rattle.std.proofs.Common.{◌≡◌, ◌+◌, ◌≤◌, length}
-use Rattle.tv_lang.specs.LinesLeft.{lines_left}
+use Rattle.tv_words.specs.LinesLeft.{lines_left}
 use Rattle.tv_check.specs.CertificateReading.{reading, reading_of}
 use Rattle.tv_check.proofs.certificate_text.read_lines.Given as goal
 

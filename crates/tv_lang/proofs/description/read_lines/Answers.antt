@@ -1,7 +1,7 @@
 use Rattle.std.proofs.Common.{◌≡◌, refl, ap, ◌∙◌, arith}
-use Rattle.tv_lang.specs.Lines.{lines_of}
-use Rattle.tv_lang.specs.LinesLeft.{lines_left}
-use Rattle.tv_lang.proofs.LineSteps.{lines_le}
+use Rattle.tv_words.specs.Lines.{lines_of}
+use Rattle.tv_words.specs.LinesLeft.{lines_left}
+use Rattle.tv_words.proofs.LineLemmas.{lines_le}
 use Rattle.tv_lang.proofs.description.read_lines.Goals as goal
 
 pub loop-line-init : goal.loop-line-init

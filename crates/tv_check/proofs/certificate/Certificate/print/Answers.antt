@@ -1,7 +1,7 @@
 use Rattle.std.proofs.Common.{◌≡◌, rules}
 use Rattle.std.specs.Prelude.{IfOk, string_bytes}
 use Rattle.std.proofs.lemmas.Result.{IfOk-weaker}
-use Rattle.tv_lang.specs.Canonical.{canonical_text}
+use Rattle.tv_words.specs.Canonical.{canonical_text}
 use Rattle.tv_check.specs.CertificateTexts.{Spells, certificate_lines}
 use Rattle.tv_check.proofs.CertificatePrinted.{spelled_again}
 use Rattle.tv_check.proofs.CertificateRead.{one_value}

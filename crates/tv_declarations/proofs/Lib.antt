@@ -1,0 +1,9 @@
+pub mod OptionLaws
+pub mod CommandLaws
+pub mod MarkLaws
+pub mod KeyLaws
+pub mod PlaceLaws
+pub mod NodeLaws
+pub mod InputLaws
+pub mod ItemLaws
+pub mod DeclarationLaws

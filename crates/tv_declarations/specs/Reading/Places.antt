@@ -1,0 +1,21 @@
+-- Reading where a node stands, and the texts of which one letter may be marked.
+use Rattle.std.specs.Prelude.{Option, option_and_then}
+use Rattle.tv_model.specs.declared.node.MarkedText.{MarkedText}
+use Rattle.tv_model.specs.declared.node.Node.{Node}
+use Rattle.tv_model.specs.declared.node.Kind.{Kind}
+use Rattle.tv_declarations.specs.declared.place.Place.{Place}
+use Rattle.tv_declarations.specs.declared.place.Position.{Position}
+use Rattle.tv_words.specs.declared.word.Word.{Word}
+use Rattle.tv_words.specs.Fields.{text_in}
+use Rattle.tv_declarations.specs.Reading.Options.{with3}
+use Rattle.tv_words.specs.Reading.Numbers.{number_in}
+use Rattle.tv_declarations.specs.Reading.Marks.{marked_in}
+
+abbrev pub place_in : Word → Word → Word → Option Place
+place_in x y w = with3 (λ x y w. record { x = x; y = y; w = w }) (number_in x) (number_in y) (number_in w)
+
+abbrev pub node_at : Position → Place → Kind → Node
+node_at at p kind = record { id = at.id; depth = at.depth; x = p.x; y = p.y; w = p.w; kind = kind }
+
+abbrev pub mark_in : Word → Option MarkedText
+mark_in w = option_and_then marked_in (text_in w)

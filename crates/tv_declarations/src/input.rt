@@ -1,0 +1,172 @@
+//! Lines that declare input lines.
+
+ghost use Rattle.std.specs.Prelude.{◌≡◌, IfOk};
+ghost use Rattle.std.specs.Option.{option_map};
+ghost use Rattle.tv_declarations.specs.Reading.Inputs.{filter_in, picture_in, range_in, domain_in, options_in, asked_after, asked_in, input_in};
+
+use crate::command::skip;
+use crate::node::copy;
+use crate::place::{Place, Position};
+use std::alloc::{AllocError, Global};
+use tv_model::{Kind, Node};
+use tv_valid::{Chars, DomainSpec, InputSpec};
+use tv_words::Word;
+
+// What an input line says after its greatest length.
+#[derive(Drop)]
+struct Asked {
+    domain: DomainSpec,
+    start: Chars,
+    options: Options,
+}
+
+#[derive(Clone, Copy)]
+struct Options {
+    validates: bool,
+    optional: bool,
+    fill: bool,
+}
+
+/// The input line of these fields.
+pub fn input(alloc: Global, at: Position, fields: &[Word]) -> Result<Option<Node>, AllocError>
+    ensures { IfOk result (λ found. found ≡ input_in at fields.now) }
+{
+    let [name, x, y, w, max, asked_words @ ..] = fields else {
+        return Ok(None);
+    };
+    let Some(asked) = read_asked(alloc, asked_words)? else {
+        return Ok(None);
+    };
+    let (Some(name), Some(place), Some(max)) = (name.name(), Place::read(x, y, w), max.number())
+    else {
+        return Ok(None);
+    };
+    let Asked {
+        domain,
+        start,
+        options,
+    } = asked;
+    let kind = Kind::Input {
+        name: copy(alloc, name)?,
+        spec: InputSpec {
+            max,
+            domain,
+            optional: options.optional,
+            fill: options.fill,
+        },
+        start,
+        validates: options.validates,
+    };
+    Ok(Some(place.node(at, kind)))
+}
+
+fn read_asked(alloc: Global, words: &[Word]) -> Result<Option<Asked>, AllocError>
+    ensures { IfOk result (λ found. found ≡ asked_in words.now) }
+{
+    match domain(alloc, words)? {
+        Some((domain, rest)) => asked_after(alloc, domain, rest),
+        None => Ok(None),
+    }
+}
+
+// The start text and the options.
+fn asked_after(
+    alloc: Global,
+    domain: DomainSpec,
+    words: &[Word],
+) -> Result<Option<Asked>, AllocError>
+    ensures { IfOk result (λ found. found ≡ asked_after domain words.now) }
+{
+    let [start, option_words @ ..] = words else {
+        return Ok(None);
+    };
+    let (Some(start), Some(options)) = (start.text(), read_options(option_words)) else {
+        return Ok(None);
+    };
+    let start = copy(alloc, start)?;
+    Ok(Some(Asked {
+        domain,
+        start,
+        options,
+    }))
+}
+
+// The domain that the first words name, and the words after them.
+fn domain<'a>(
+    alloc: Global,
+    words: &'a [Word],
+) -> Result<Option<(DomainSpec, &'a [Word])>, AllocError>
+    ensures { IfOk result (λ found. option_map (λ r. (r.0, r.1.now)) found ≡ domain_in words.now) }
+{
+    let [keyword, fields @ ..] = words else {
+        return Ok(None);
+    };
+    if keyword.is(b"any") {
+        Ok(Some((DomainSpec::Any, fields)))
+    } else if keyword.is(b"filter") {
+        filter(alloc, fields)
+    } else if keyword.is(b"range") {
+        Ok(range(fields))
+    } else if keyword.is(b"picture") {
+        picture(alloc, fields)
+    } else {
+        Ok(None)
+    }
+}
+
+fn filter<'a>(
+    alloc: Global,
+    fields: &'a [Word],
+) -> Result<Option<(DomainSpec, &'a [Word])>, AllocError>
+    ensures { IfOk result (λ found. option_map (λ r. (r.0, r.1.now)) found ≡ filter_in fields.now) }
+{
+    let [set, rest @ ..] = fields else {
+        return Ok(None);
+    };
+    let Some(set) = set.text() else {
+        return Ok(None);
+    };
+    let set = copy(alloc, set)?;
+    Ok(Some((DomainSpec::Filter(set), rest)))
+}
+
+fn picture<'a>(
+    alloc: Global,
+    fields: &'a [Word],
+) -> Result<Option<(DomainSpec, &'a [Word])>, AllocError>
+    ensures { IfOk result (λ found. option_map (λ r. (r.0, r.1.now)) found ≡ picture_in fields.now) }
+{
+    let [text, rest @ ..] = fields else {
+        return Ok(None);
+    };
+    let Some(text) = text.text() else {
+        return Ok(None);
+    };
+    let text = copy(alloc, text)?;
+    Ok(Some((DomainSpec::Picture(text), rest)))
+}
+
+fn range(fields: &[Word]) -> Option<(DomainSpec, &[Word])>
+    ensures { option_map (λ r. (r.0, r.1.now)) result ≡ range_in fields.now }
+{
+    let [least, greatest, rest @ ..] = fields else {
+        return None;
+    };
+    let (Some(least), Some(greatest)) = (least.number(), greatest.number()) else {
+        return None;
+    };
+    Some((DomainSpec::Range { least, greatest }, rest))
+}
+
+fn read_options(words: &[Word]) -> Option<Options>
+    ensures { result ≡ options_in words.now }
+{
+    let (validates, words) = skip(words, b"validate");
+    let (optional, words) = skip(words, b"optional");
+    let (fill, words) = skip(words, b"fill");
+    words.is_empty().then_some(Options {
+        validates,
+        optional,
+        fill,
+    })
+}

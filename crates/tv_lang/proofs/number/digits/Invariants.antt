@@ -1,7 +1,0 @@
-use Rattle.std.proofs.Common.{◌≡◌, drop}
-use Rattle.tv_lang.specs.Reading.Steps.{steps}
-use Rattle.tv_lang.specs.Reading.Numbers.{add_digit, digits_in}
-use Rattle.tv_lang.proofs.number.digits.Given as goal
-
-abbrev pub invariant-loop-ch : goal.invariant-loop-ch
-invariant-loop-ch l = steps add_digit l.number (drop l.ch-index l.text) ≡ digits_in l.text

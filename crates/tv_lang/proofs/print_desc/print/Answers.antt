@@ -1,8 +1,0 @@
-use Rattle.std.proofs.Common.{◌≡◌, string_bytes}
-use Rattle.std.proofs.lemmas.Result.{IfOk-weaker}
-use Rattle.tv_lang.specs.CanonicalDescription.{description_text, CanBeSpelled, SpellsOnly}
-use Rattle.tv_lang.proofs.PrintLaws.{text_spells}
-use Rattle.tv_lang.proofs.print_desc.print.Goals as goal
-
-pub returns-clause-spelled : goal.returns-clause-spelled
-returns-clause-spelled c = IfOk-weaker c.written.result (λ text. string_bytes text ≡ description_text c.args.desc.now) (λ text. CanBeSpelled c.args.desc.now → SpellsOnly (string_bytes text) c.args.desc.now) (λ text. text_spells c.args.desc.now (string_bytes text)) c.written.ensures

@@ -1,0 +1,12 @@
+//! Lines put together word by word, and the canonical text of a description.
+#![tactic(auto)]
+
+mod line;
+mod line_text;
+mod node;
+mod printer;
+mod terms;
+mod views;
+
+pub use line::{Line, ascii};
+pub use printer::canonical_text;

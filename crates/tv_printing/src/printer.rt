@@ -1,0 +1,169 @@
+//! The canonical text of a description.
+
+ghost use Rattle.std.specs.Prelude.{◌≡◌, ◌∷◌, ◌++◌, [], flat_map, map, string_bytes, IfOk};
+ghost use Rattle.tv_words.specs.Canonical.{canonical_text};
+ghost use Rattle.tv_declarations.specs.CanonicalDescription.{declarations_text, description_text};
+ghost use Rattle.tv_declarations.specs.Spelling.{menu_declarations, start_declarations};
+
+use crate::line::Line;
+use std::alloc::{AllocError, Global};
+use std::marker::Model;
+use tv_declarations::Declaration;
+use tv_model::{Desc, Menu, MenuItem, StatusItem};
+use tv_valid::Chars;
+
+/// The canonical text of a description: each declaration on a line, one space between words, no comments.
+#[tactic(auto, using(crate::proofs::PrintTexts::texts_joined))]
+pub fn canonical_text(alloc: Global, desc: &Desc) -> Result<String, AllocError>
+    ensures { IfOk result (λ text. string_bytes text ≡ description_text desc.now) }
+{
+    let printer = Printer::new(alloc)
+        .heading(desc)?
+        .menus(desc.menus.as_slice())?
+        .status(desc.status.as_slice())?
+        .windows(desc.windows.as_slice())?
+        .dialogs(desc.dialogs.as_slice())?;
+    Ok(printer.text)
+}
+
+/// The text so far. Contracts see its bytes.
+#[derive(Drop)]
+pub struct Printer {
+    pub alloc: Global,
+    text: String,
+}
+
+impl Model for Printer {
+    ghost use Rattle.std.specs.Prelude.{List, ℕ, string_bytes};
+
+    ghost Value = { List ℕ };
+
+    ghost view = { λ p. string_bytes p.text };
+}
+
+impl Printer {
+    fn new(alloc: Global) -> Printer
+        ensures { result ≡ [] }
+    {
+        Printer {
+            alloc,
+            text: String::new(alloc),
+        }
+    }
+
+    /// The text with the line after it.
+    pub fn line(self, line: &Line) -> Result<Printer, AllocError>
+        ensures { IfOk result (λ printer. printer ≡ self ++ canonical_text (line.now ∷ [])) }
+    {
+        let Printer { alloc, text } = self;
+        let text = line.write(text)?;
+        Ok(Printer { alloc, text })
+    }
+
+    /// The text with the line that ends a menu, a window, a dialog or a pane.
+    pub fn end(self) -> Result<Printer, AllocError>
+        ensures { IfOk result (λ printer. printer ≡ self ++ declarations_text (Declaration.End ∷ [])) }
+    {
+        let line = Line::new(self.alloc).keyword(b"end")?;
+        self.line(&line)
+    }
+
+    #[tactic(auto, using(crate::proofs::PrintTexts::texts_joined))]
+    fn heading(self, desc: &Desc) -> Result<Printer, AllocError>
+        ensures { IfOk result (λ printer. printer ≡ self ++ declarations_text (Declaration.Version ∷ Declaration.Screen desc.now.width desc.now.height ∷ start_declarations desc.now.start)) }
+    {
+        self.version()?.screen(desc)?.start(&desc.start)
+    }
+
+    fn version(self) -> Result<Printer, AllocError>
+        ensures { IfOk result (λ printer. printer ≡ self ++ declarations_text (Declaration.Version ∷ [])) }
+    {
+        let line = Line::new(self.alloc).keyword(b"tvd")?.keyword(b"1")?;
+        self.line(&line)
+    }
+
+    fn screen(self, desc: &Desc) -> Result<Printer, AllocError>
+        ensures { IfOk result (λ printer. printer ≡ self ++ declarations_text (Declaration.Screen desc.now.width desc.now.height ∷ [])) }
+    {
+        let line = Line::new(self.alloc)
+            .keyword(b"screen")?
+            .number(desc.width)?
+            .number(desc.height)?;
+        self.line(&line)
+    }
+
+    fn start(self, start: &Option<Chars>) -> Result<Printer, AllocError>
+        ensures { IfOk result (λ printer. printer ≡ self ++ declarations_text (start_declarations start.now)) }
+    {
+        match start {
+            None => Ok(self),
+            Some(name) => {
+                let line = Line::new(self.alloc).keyword(b"start")?.name(name)?;
+                self.line(&line)
+            }
+        }
+    }
+
+    #[tactic(auto, using(crate::proofs::PrintTexts::texts_joined))]
+    fn menus(mut self, menus: &[Menu]) -> Result<Printer, AllocError>
+        ensures { IfOk result (λ printer. printer ≡ self ++ declarations_text (flat_map menu_declarations menus.now)) }
+    {
+        for menu in menus {
+            self = self.menu(menu)?;
+        }
+        Ok(self)
+    }
+
+    #[tactic(auto, using(crate::proofs::PrintTexts::texts_joined))]
+    fn menu(self, menu: &Menu) -> Result<Printer, AllocError>
+        ensures { IfOk result (λ printer. printer ≡ self ++ declarations_text (menu_declarations menu.now)) }
+    {
+        self.title(menu)?.items(menu.items.as_slice())?.end()
+    }
+
+    fn title(self, menu: &Menu) -> Result<Printer, AllocError>
+        ensures { IfOk result (λ printer. printer ≡ self ++ declarations_text (Declaration.Menu menu.now.id menu.now.title ∷ [])) }
+    {
+        let line = Line::new(self.alloc).keyword(b"menu")?.marked(&menu.title)?;
+        self.line(&line)
+    }
+
+    fn items(mut self, items: &[MenuItem]) -> Result<Printer, AllocError>
+        ensures { IfOk result (λ printer. printer ≡ self ++ declarations_text (map (λ item. Declaration.Item item) items.now)) }
+    {
+        for item in items {
+            self = self.item(item)?;
+        }
+        Ok(self)
+    }
+
+    fn item(self, item: &MenuItem) -> Result<Printer, AllocError>
+        ensures { IfOk result (λ printer. printer ≡ self ++ declarations_text (Declaration.Item item.now ∷ [])) }
+    {
+        let line = Line::new(self.alloc)
+            .keyword(b"item")?
+            .marked(&item.text)?
+            .command(item.command)?;
+        self.line(&line)
+    }
+
+    fn status(mut self, items: &[StatusItem]) -> Result<Printer, AllocError>
+        ensures { IfOk result (λ printer. printer ≡ self ++ declarations_text (map (λ item. Declaration.Status item) items.now)) }
+    {
+        for item in items {
+            self = self.status_item(item)?;
+        }
+        Ok(self)
+    }
+
+    fn status_item(self, item: &StatusItem) -> Result<Printer, AllocError>
+        ensures { IfOk result (λ printer. printer ≡ self ++ declarations_text (Declaration.Status item.now ∷ [])) }
+    {
+        let line = Line::new(self.alloc)
+            .keyword(b"status")?
+            .text(&item.text)?
+            .key(item.key)?
+            .command(item.command)?;
+        self.line(&line)
+    }
+}

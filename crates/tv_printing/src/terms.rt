@@ -1,0 +1,138 @@
+//! The words of commands, keys and marked texts.
+
+ghost use Rattle.std.specs.Prelude.{◌≡◌, [], ◌∷◌, ◌++◌, ◌+◌, drop, map, slice_index, take, IfOk};
+ghost use Rattle.tv_declarations.specs.Spelling.Terms.{command_word, ends_words, marked_word, with_mark};
+ghost use Rattle.tv_declarations.specs.Spelling.Keys.{key_word};
+
+use crate::line::{Line, ascii};
+use std::alloc::{AllocError, Global};
+use tv_event::Key;
+use tv_model::{CommandSpec, Ends, MarkedText};
+use tv_valid::Chars;
+use tv_words::Word;
+
+impl Line {
+    /// The line with the word of a command.
+    pub(crate) fn command(self, command: CommandSpec) -> Result<Line, AllocError>
+        ensures { IfOk result (λ line. line ≡ self ++ command_word command ∷ []) }
+    {
+        match command {
+            CommandSpec::Quit => self.keyword(b"quit"),
+            CommandSpec::Menu => self.keyword(b"menu"),
+            CommandSpec::Close => self.keyword(b"close"),
+            CommandSpec::Next => self.keyword(b"next"),
+            CommandSpec::Ok => self.keyword(b"ok"),
+            CommandSpec::Cancel => self.keyword(b"cancel"),
+            CommandSpec::Yes => self.keyword(b"yes"),
+            CommandSpec::No => self.keyword(b"no"),
+            CommandSpec::Number(number) => self.number(number),
+        }
+    }
+
+    /// The line with the commands by which a dialog may end.
+    pub(crate) fn ends(self, ends: Ends) -> Result<Line, AllocError>
+        ensures { IfOk result (λ line. line ≡ self ++ ends_words ends) }
+    {
+        self.keyword_if(ends.ok, b"ok")?
+            .keyword_if(ends.cancel, b"cancel")?
+            .keyword_if(ends.yes, b"yes")?
+            .keyword_if(ends.no, b"no")
+    }
+
+    /// The line with the name of a key.
+    pub(crate) fn key(self, key: Key) -> Result<Line, AllocError>
+        ensures { IfOk result (λ line. line ≡ self ++ key_word key ∷ []) }
+    {
+        match key {
+            Key::Tab => self.keyword(b"Tab"),
+            Key::ShiftTab => self.keyword(b"Shift-Tab"),
+            Key::Enter => self.keyword(b"Enter"),
+            Key::Esc => self.keyword(b"Esc"),
+            Key::Up => self.keyword(b"Up"),
+            Key::Down => self.keyword(b"Down"),
+            Key::Left => self.keyword(b"Left"),
+            Key::Right => self.keyword(b"Right"),
+            Key::Home => self.keyword(b"Home"),
+            Key::End => self.keyword(b"End"),
+            Key::PageUp => self.keyword(b"PgUp"),
+            Key::PageDown => self.keyword(b"PgDn"),
+            Key::CtrlPageUp => self.keyword(b"Ctrl-PgUp"),
+            Key::CtrlPageDown => self.keyword(b"Ctrl-PgDn"),
+            Key::Backspace => self.keyword(b"Backspace"),
+            Key::Delete => self.keyword(b"Del"),
+            Key::Insert => self.keyword(b"Ins"),
+            Key::Ctrl(letter) => self.key_with(b"Ctrl-", letter),
+            Key::Function(number) => self.function_key(number),
+            Key::Alt(ch) => self.key_with(b"Alt-", ch),
+            // A typed character has no name, and no text spells one.
+            Key::Char(_) => self.keyword(b""),
+        }
+    }
+
+    fn key_with(self, prefix: &[u8], ch: char) -> Result<Line, AllocError>
+        ensures { IfOk result (λ line. line ≡ self ++ Word.Bare (prefix.now ++ ch ∷ []) ∷ []) }
+    {
+        let mut name = ascii(self.alloc, prefix)?;
+        name.push(ch)?;
+        self.word(Word::Bare(name))
+    }
+
+    fn function_key(self, number: u8) -> Result<Line, AllocError>
+        ensures { IfOk result (λ line. line ≡ self ++ key_word (Key.Function number) ∷ []) }
+    {
+        let name = format!(in self.alloc; "F{number}")?;
+        self.keyword(name.as_bytes())
+    }
+
+    /// The line with a quoted text that may have a mark.
+    pub(crate) fn marked(self, marked: &MarkedText) -> Result<Line, AllocError>
+        ensures { IfOk result (λ line. line ≡ self ++ marked_word marked.now ∷ []) }
+    {
+        let text = with_mark(self.alloc, marked.text.as_slice(), marked.mark)?;
+        self.word(Word::Quoted(text))
+    }
+
+    /// The line with these marked texts.
+    pub(crate) fn marked_items(mut self, items: &[MarkedText]) -> Result<Line, AllocError>
+        ensures { IfOk result (λ line. line ≡ self ++ map marked_word items.now) }
+    {
+        for item in items {
+            self = self.marked(item)?;
+        }
+        Ok(self)
+    }
+}
+
+fn with_mark(alloc: Global, text: &[char], mark: Option<usize>) -> Result<Chars, AllocError>
+    ensures { IfOk result (λ marked. marked ≡ with_mark mark text.now) }
+{
+    match mark {
+        None => Chars::from_slice(alloc, text),
+        Some(place) => with_mark_at(alloc, text, place),
+    }
+}
+
+fn with_mark_at(alloc: Global, text: &[char], place: usize) -> Result<Chars, AllocError>
+    ensures { IfOk result (λ marked. marked ≡ take place text.now ++ (126 ∷ slice_index text.now place ∷ 126 ∷ drop (place + 1) text.now)) }
+{
+    let (before, letter, after) = around(text, place);
+    let mut chars = Vec::from_slice(alloc, before)?;
+    chars.push('~')?;
+    chars.push(letter)?;
+    chars.push('~')?;
+    chars.extend_from_slice(after)?;
+    Ok(Chars::from_vec(chars))
+}
+
+// What stands before a place of the text, at it and after it; no text spells a mark past the end.
+fn around(text: &[char], place: usize) -> (&[char], char, &[char])
+    ensures before { result.0.now ≡ take place text.now }
+    ensures at { result.1 ≡ slice_index text.now place }
+    ensures after { result.2.now ≡ drop (place + 1) text.now }
+{
+    if place < text.len() {
+        (&text[..place], text[place], &text[place + 1..])
+    } else {
+        (text, '\0', &[])
+    }
+}

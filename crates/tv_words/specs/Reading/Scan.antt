@@ -1,0 +1,37 @@
+-- Reading the words of a line, character by character.
+use Rattle.std.specs.Prelude.{ℕ, List, [], ◌∷◌, ◌++◌, Option, Some, None, option_and_then, ◌==◌, if◌then◌else◌}
+use Rattle.tv_words.specs.declared.word.Word.{Word}
+use Rattle.tv_words.specs.declared.word.Word.TheVariants.{Bare, Quoted}
+use Rattle.tv_words.specs.declared.scan.Mode.{Mode}
+use Rattle.tv_words.specs.declared.scan.Mode.TheVariants.{Between, InBare, InQuoted, InEscape, Closed}
+use Rattle.tv_words.specs.declared.scan.Scanner.{Scanner}
+use Rattle.tv_words.specs.Reading.Steps.{steps}
+
+abbrev pub at : List Word → Mode → Scanner
+at words mode = record { words = words; mode = mode }
+
+abbrev pub taken : List Word → Mode → ℕ → Option Scanner
+taken ws Between c = if c == 32 then Some (at ws Between) else if c == 34 then Some (at ws (InQuoted [])) else Some (at ws (InBare (c ∷ [])))
+taken ws (InBare text) c = if c == 32 then Some (at (ws ++ Bare text ∷ []) Between) else if c == 34 then None else Some (at ws (InBare (text ++ c ∷ [])))
+taken ws (InQuoted text) c = if c == 34 then Some (at (ws ++ Quoted text ∷ []) Closed) else if c == 92 then Some (at ws (InEscape text)) else Some (at ws (InQuoted (text ++ c ∷ [])))
+taken ws (InEscape text) c = if c == 34 then Some (at ws (InQuoted (text ++ 34 ∷ []))) else if c == 92 then Some (at ws (InQuoted (text ++ 92 ∷ []))) else if c == 110 then Some (at ws (InQuoted (text ++ 10 ∷ []))) else None
+taken ws Closed c = if c == 32 then Some (at ws Between) else None
+
+-- one character more
+abbrev pub take_char : Scanner → ℕ → Option Scanner
+take_char s c = taken s.words s.mode c
+
+abbrev pub ended : List Word → Mode → Option (List Word)
+ended ws Between = Some ws
+ended ws (InBare text) = Some (ws ++ Bare text ∷ [])
+ended ws (InQuoted text) = None
+ended ws (InEscape text) = None
+ended ws Closed = Some ws
+
+-- the words at the end of the line
+abbrev pub finished : Scanner → Option (List Word)
+finished s = ended s.words s.mode
+
+-- the words that are read from the scanner on
+abbrev pub read_on : Scanner → List ℕ → Option (List Word)
+read_on s cs = option_and_then finished (steps take_char s cs)

@@ -1,0 +1,14 @@
+//! The lines of a text and their words: how each stands in a line, and what it can be.
+#![tactic(auto)]
+
+mod decimal;
+mod lines;
+mod scan;
+mod word;
+mod words;
+
+pub use decimal::number;
+pub use lines::Lines;
+pub use scan::words_of;
+pub use word::Word;
+pub use words::Words;
