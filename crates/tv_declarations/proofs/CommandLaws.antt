@@ -1,5 +1,5 @@
 -- What the words of commands and options are read as, and that it is their spelling.
-use Rattle.std.proofs.Common.{◌≡◌, ℕ, Bool, true, false, cond, List, [], ◌∷◌, ◌++◌, Option, Some, None, refl, sym, ap, ◌∙◌}
+use Rattle.std.proofs.Common.{◌≡◌, ℕ, Bool, true, false, cond, List, [], ◌∷◌, ◌++◌, Option, Some, None, refl, ap, ◌∙◌}
 use Rattle.std.specs.Prelude.{ℤ, codes}
 use Rattle.std.proofs.lemmas.List.{append-nil}
 use Rattle.tv_model.specs.declared.node.CommandSpec.{CommandSpec}
@@ -7,7 +7,7 @@ use Rattle.tv_model.specs.declared.node.CommandSpec.TheVariants as commands
 use Rattle.tv_model.specs.declared.node.Ends.{Ends}
 use Rattle.tv_words.specs.declared.word.Word.{Word}
 use Rattle.tv_words.specs.declared.word.Word.TheVariants.{Bare}
-use Rattle.tv_words.specs.Fields.{is_bare_word, number_word}
+use Rattle.tv_words.specs.Fields.{is_bare_word}
 use Rattle.tv_words.specs.Reading.Numbers.{number_in}
 use Rattle.tv_declarations.specs.Reading.Commands.{named_command, numbered_command, command_in, is_next, after_next, at_end, ends_in, button_options_in}
 use Rattle.tv_declarations.specs.Spelling.Terms.{command_word, word_if, ends_words, IsCommand}

@@ -4,8 +4,7 @@ ghost use Rattle.std.specs.Prelude.{◌≡◌};
 ghost use Rattle.tv_declarations.specs.Reading.Keys.{moving_key, named_key, control_key, control_letter, is_control, alt_key, alt_letter, is_alt, function_in, function_key, key_of, lettered_key, key_in};
 
 use tv_event::Key;
-use tv_words::number;
-use tv_words::Word;
+use tv_words::{Word, number};
 
 /// The key that a word names.
 pub fn key(word: &Word) -> Option<Key>

@@ -1,5 +1,5 @@
 -- The words of commands and marked texts.
-use Rattle.std.specs.Prelude.{◌≡◌, ℕ, ◌+◌, ◌<◌, ℤ, List, [], ◌∷◌, ◌++◌, length, take, drop, slice_index, Bool, false, Option, Some, None, ◌==◌, IfSome, IsTrue, codes, if◌then◌else◌}
+use Rattle.std.specs.Prelude.{◌≡◌, ℕ, ◌+◌, ◌<◌, List, [], ◌∷◌, ◌++◌, length, take, drop, slice_index, Bool, false, Option, Some, None, ◌==◌, IfSome, IsTrue, codes, if◌then◌else◌}
 use Rattle.std.specs.List.{list_any}
 use Rattle.std.specs.Char.{is_ascii_alphanumeric}
 use Rattle.tv_model.specs.declared.node.CommandSpec.{CommandSpec}
