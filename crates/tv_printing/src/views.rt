@@ -5,9 +5,9 @@ ghost use Rattle.tv_declarations.specs.CanonicalDescription.{declarations_text};
 ghost use Rattle.tv_declarations.specs.Spelling.{dialog_declarations, open_after, view_declarations, window_declarations};
 ghost use Rattle.tv_declarations.specs.Spelling.Declarations.{effect_words};
 
-use crate::printer::Printer;
-use crate::node::node_line;
 use crate::line::Line;
+use crate::node::node_line;
+use crate::printer::Printer;
 use std::alloc::AllocError;
 use tv_declarations::Declaration;
 use tv_model::{Dialog, Effect, Kind, Node, Rule, Window};

@@ -126,7 +126,10 @@ fn typed(alloc: Global, word: &Word) -> Result<Option<Item>, AllocError>
     ensures { IfOk result (λ found. found ≡ typed_in word.now) }
 {
     match word.text() {
-        Some(text) if are_spaces(text.as_slice()) => Ok(Some(Item::Type(Chars::from_slice(alloc, text.as_slice())?))),
+        Some(text) if are_spaces(text.as_slice()) => Ok(Some(Item::Type(Chars::from_slice(
+            alloc,
+            text.as_slice(),
+        )?))),
         _ => Ok(None),
     }
 }
