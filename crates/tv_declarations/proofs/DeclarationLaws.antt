@@ -1,6 +1,6 @@
 -- A line is a declaration just where it is spelled so.
 use Rattle.std.proofs.Common.{◌≡◌, ℕ, Bool, true, false, cond, List, [], ◌∷◌, Option, Some, None, refl, sym, ap, ◌∙◌, subst}
-use Rattle.std.specs.Prelude.{ℤ, codes}
+use Rattle.std.specs.Prelude.{ℤ, IfSome, codes}
 use Rattle.tv_model.specs.declared.desc.Effect.{Effect}
 use Rattle.tv_model.specs.declared.desc.Effect.TheVariants as effects
 use Rattle.tv_model.specs.declared.node.CommandSpec.{CommandSpec}
@@ -25,7 +25,7 @@ use Rattle.tv_declarations.specs.Reading.Nodes.{control_in, node_in}
 use Rattle.tv_declarations.specs.Reading.Declarations.{version_in, screen_in, start_in, menu_in, item_in, status_in, rule_in, show_in, enable_in, end_in, line_in, declaration_in}
 use Rattle.tv_words.specs.Fields.{number_word}
 use Rattle.tv_declarations.specs.Spelling.Nodes.{kind_words, IsKind}
-use Rattle.tv_declarations.specs.Spelling.Declarations.{declaration_words, effect_words, IsEffect, IsNode, IsDeclaration}
+use Rattle.tv_declarations.specs.Spelling.Declarations.{declaration_words, effect_words, IsEffect, IsNode, IsDeclaration, IsInside, IsLine}
 use Rattle.tv_declarations.proofs.OptionLaws.{map_some, then_some, with2_some, with3_some}
 use Rattle.tv_words.proofs.FieldLaws.{word_is, number_word_read, read_number_word, name_read, read_name, text_read}
 use Rattle.tv_declarations.proofs.CommandLaws.{command_read, read_command, read_button_options}
@@ -60,17 +60,6 @@ node_line at w fs n e =
     (by_keyword (LineOf at fs) w (codes "pane") _ _ n (is_bare_word w (codes "pane")) refl (pane_line at fs n)
     (by_keyword (LineOf at fs) w (codes "window") _ _ n (is_bare_word w (codes "window")) refl (window_line at fs n)
     (by_keyword (LineOf at fs) w (codes "dialog") _ _ n (is_bare_word w (codes "dialog")) refl (dialog_line at fs n) (control_line at w fs n)))))) e
-
--- a node stands inside so many panes
-abbrev pub IsInside : ℕ → Declaration → Type 0
-IsInside panes (declared.Node node) = node.depth ≡ panes
-IsInside panes _ = Unit {0}
-
--- the declaration of a line at this position
-pub record IsLine (at : Position) (d : Declaration) (ws : List Word) : Type 0 where
-  pub is : IsDeclaration at.id.0 d
-  pub inside : IsInside at.depth d
-  pub words : ws ≡ declaration_words d
 
 abbrev DeclarationOf : Position → List Word → Word → Declaration → Type 0
 DeclarationOf at fields w d = IsLine at d (w ∷ fields)
@@ -243,3 +232,12 @@ read_declaration line panes (declared.Status item) (ei, pressed, does) inside = 
 read_declaration line panes (declared.Node node) is inside = node_again line panes node.id node.depth node.x node.y node.w node.kind is inside is.kind
 read_declaration line panes (declared.Rule rule) is inside = rule_again line panes rule.id rule.effect rule.cluster rule.item is
 read_declaration line panes declared.End is inside = refl
+
+-- ---- what is found is the declaration of the line, and the only one
+
+pub found_line : (at : Position) (ws : List Word) (found : Option Declaration) → found ≡ declaration_in at ws → IfSome found (λ d. IsLine at d ws)
+found_line at ws None e = tt
+found_line at ws (Some d) e = declaration_read at ws d (sym e)
+
+pub line_found : (at : Position) (ws : List Word) (found : Option Declaration) → found ≡ declaration_in at ws → (d : Declaration) → IsLine at d ws → found ≡ Some d
+line_found at ws found e d line = e ∙ ap (declaration_in at) line.words ∙ read_declaration at.id.0 at.depth d line.is line.inside

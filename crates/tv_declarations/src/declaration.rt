@@ -1,6 +1,8 @@
 //! The declarations of a description.
 
-ghost use Rattle.std.specs.Prelude.{◌≡◌, IfOk};
+ghost use Rattle.std.specs.Prelude.{◌≡◌, IfOk, IfSome, Some};
+ghost use Rattle.tv_declarations.specs.declared.declaration.Declaration.{Declaration as SeenDeclaration};
+ghost use Rattle.tv_declarations.specs.Spelling.Declarations.{IsLine};
 ghost use Rattle.tv_declarations.specs.Reading.Declarations.{version_in, screen_in, start_in, menu_in, item_in, status_in, rule_in, show_in, enable_in, end_in, node_declared, line_in, declaration_in};
 
 use crate::command::command;
@@ -30,8 +32,20 @@ pub enum Declaration {
     End,
 }
 
-/// The declaration that the words of a line are.
+/// The declaration that the words of a line at this position spell, or `None` where they spell none.
 pub fn declared(
+    alloc: Global,
+    at: Position,
+    words: &[Word],
+) -> Result<Option<Declaration>, AllocError>
+    ensures read { IfOk result (λ found. found ≡ declaration_in at words.now) }
+    ensures spelled { IfOk result (λ found. IfSome found (λ declaration. IsLine at declaration words.now)) }
+    ensures only { IfOk result (λ found. (declaration : SeenDeclaration) → IsLine at declaration words.now → found ≡ Some declaration) }
+{
+    read(alloc, at, words)
+}
+
+fn read(
     alloc: Global,
     at: Position,
     words: &[Word],

@@ -7,6 +7,7 @@ use Rattle.tv_words.specs.declared.word.Word.{Word}
 use Rattle.tv_words.specs.declared.word.Word.TheVariants.{Bare, Quoted}
 use Rattle.tv_declarations.specs.declared.declaration.Declaration.{Declaration}
 use Rattle.tv_declarations.specs.declared.declaration.Declaration.TheVariants as declared
+use Rattle.tv_declarations.specs.declared.place.Position.{Position}
 use Rattle.tv_words.specs.Fields.{number_word, IsNumber, IsName}
 use Rattle.tv_declarations.specs.Spelling.Terms.{marked_word, command_word, IsMarked, IsCommand}
 use Rattle.tv_declarations.specs.Spelling.Keys.{key_word, IsKey}
@@ -60,3 +61,14 @@ IsDeclaration line declared.End = Unit {0}
 abbrev pub AreDeclarations : ℕ → List Declaration → Type 0
 AreDeclarations line [] = Unit {0}
 AreDeclarations line (d ∷ ds) = IsDeclaration line d × AreDeclarations (line + 1) ds
+
+-- a node stands inside so many panes
+abbrev pub IsInside : ℕ → Declaration → Type 0
+IsInside panes (declared.Node node) = node.depth ≡ panes
+IsInside panes _ = Unit {0}
+
+-- the words of a line at this position are those of the declaration
+pub record IsLine (at : Position) (d : Declaration) (ws : List Word) : Type 0 where
+  pub is : IsDeclaration at.id.0 d
+  pub inside : IsInside at.depth d
+  pub words : ws ≡ declaration_words d
