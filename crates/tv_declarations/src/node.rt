@@ -3,9 +3,8 @@
 ghost use Rattle.std.specs.Prelude.{◌≡◌, IfOk};
 ghost use Rattle.tv_words.specs.Fields.{name_in, text_in};
 ghost use Rattle.tv_words.specs.Reading.Numbers.{number_in};
-ghost use Rattle.tv_declarations.specs.Reading.Options.{with5};
-ghost use Rattle.tv_declarations.specs.Reading.Places.{mark_in, place_in, node_at};
-ghost use Rattle.tv_declarations.specs.Reading.Nodes.{text_in_fields, label_from, label_in, button_in, pane_in, window_in, opened_in, commands_in, dialog_in, control_in, node_in};
+ghost use Rattle.tv_declarations.specs.Reading.Places.{mark_in};
+ghost use Rattle.tv_declarations.specs.Reading.Nodes.{text_in_fields, label_from, label_in, button_in, pane_in, window_from, window_in, opened_in, commands_in, dialog_in, control_in, node_in};
 
 use crate::cluster::{checks, list, radios};
 use crate::command::{button_options, command, ends};
@@ -186,7 +185,7 @@ fn window_at(
     number: &Word,
     title: &Word,
 ) -> Result<Option<Node>, AllocError>
-    ensures { IfOk result (λ found. found ≡ with5 (λ name p h number title. node_at at p (Kind.Window name h number title)) (name_in name.now) place (number_in h.now) (number_in number.now) (text_in title.now)) }
+    ensures { IfOk result (λ found. found ≡ window_from at (name_in name.now) place (number_in h.now) (number_in number.now) (text_in title.now)) }
 {
     let (Some(name), Some(place), Some(h)) = (name.name(), place, h.number()) else {
         return Ok(None);

@@ -21,7 +21,7 @@ use Rattle.tv_lang.specs.declared.stage.Stage.{Stage}
 use Rattle.tv_lang.specs.declared.stage.Stage.TheVariants as stages
 use Rattle.tv_lang.specs.Reading.Stages.{no_dialogs, no_windows, no_status, no_menus, version_taken, screen_taken, part_taken, menu_taken, window_taken, panes_after, views_taken, rules_taken, taken_at, fresh, open_panes}
 use Rattle.tv_declarations.specs.Spelling.{start_declarations, menu_declarations, window_declarations, ends_of_panes, open_after, view_declarations, dialog_declarations, declarations_of, is_window, is_dialog, is_text, is_view, HasItems, IsWindowText, IsWindow, AreViews, IsDialog}
-use Rattle.tv_declarations.proofs.DeclarationLaws.{IsInside}
+use Rattle.tv_declarations.specs.Spelling.Declarations.{IsInside}
 
 -- ---- lists
 

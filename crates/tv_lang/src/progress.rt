@@ -70,9 +70,19 @@ impl Progress {
         requires { self.next + 1 < 2 ^ 32 }
         ensures { IfOk result (λ further. further ≡ option_map (progress (self.next + 1)) (taken_at self.stage self.desc declaration)) }
     {
-        let Progress { next, stage, desc } = self;
-        let further = stage.take(alloc, desc, declaration)?;
-        Ok(with_next(next + 1, further))
+        let Progress {
+            next,
+            stage,
+            mut desc,
+        } = self;
+        match stage.take(alloc, &mut desc, declaration)? {
+            Some(stage) => Ok(Some(Progress {
+                next: next + 1,
+                stage,
+                desc,
+            })),
+            None => Ok(None),
+        }
     }
 
     fn into_desc(self) -> Desc
@@ -90,16 +100,6 @@ impl Progress {
         } else {
             None
         }
-    }
-}
-
-// The progress after a declaration, with this line to come next.
-fn with_next(next: u32, further: Option<(Stage, Desc)>) -> Option<Progress>
-    ensures { result ≡ option_map (progress next) further }
-{
-    match further {
-        Some((stage, desc)) => Some(Progress { next, stage, desc }),
-        None => None,
     }
 }
 

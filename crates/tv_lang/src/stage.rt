@@ -3,7 +3,7 @@
 ghost use Rattle.std.specs.Prelude.{◌≡◌, ◌≤◌, ◌++◌, ◌∷◌, [], IfOk, None, Some, false, true};
 ghost use Rattle.tv_model.specs.Nodes.{is_pane};
 ghost use Rattle.tv_declarations.specs.Spelling.{is_dialog, is_text, is_view, is_window};
-ghost use Rattle.tv_lang.specs.Reading.Stages.{is_between, menu_taken, no_dialogs, no_menus, no_status, no_windows, node_opened, open_panes, panes_after, part_taken, rules_taken, screen_taken, taken_at, version_taken, view_taken, views_taken, window_taken, with_dialog};
+ghost use Rattle.tv_lang.specs.Reading.Stages.{beside, is_between, menu_taken, no_dialogs, no_menus, no_status, no_windows, node_opened, open_panes, panes_after, part_taken, rules_taken, screen_taken, taken_at, version_taken, view_taken, views_taken, window_taken, with_dialog};
 
 use crate::held::Held;
 use std::alloc::{AllocError, Global};
@@ -33,8 +33,8 @@ pub enum Stage {
     InRules(Held<Dialog>),
 }
 
-// The stage after a declaration, and the description so far.
-type Further = Option<(Stage, Desc)>;
+// The stage after a declaration, where it can come there. The description then has what is declared.
+type Further = Option<Stage>;
 
 impl Stage {
     /// How many panes are open.
@@ -58,10 +58,10 @@ impl Stage {
     pub fn take(
         self,
         alloc: Global,
-        desc: Desc,
+        desc: &mut Desc,
         declaration: Declaration,
     ) -> Result<Further, AllocError>
-        ensures { IfOk result (λ further. further ≡ taken_at self desc declaration) }
+        ensures { IfOk result (λ stage. beside desc.new stage ≡ taken_at self desc.old declaration) }
     {
         match self {
             Stage::Version => Ok(version(desc, declaration)),
@@ -82,23 +82,23 @@ impl Stage {
     }
 }
 
-fn version(desc: Desc, declaration: Declaration) -> Further
-    ensures { result ≡ version_taken desc declaration }
+fn version(desc: &mut Desc, declaration: Declaration) -> Further
+    ensures { beside desc.new result ≡ version_taken desc.old declaration }
 {
     match declaration {
-        Declaration::Version => Some((Stage::Screen, desc)),
+        Declaration::Version => Some(Stage::Screen),
         _ => None,
     }
 }
 
-fn screen(mut desc: Desc, declaration: Declaration) -> Further
-    ensures { result ≡ screen_taken desc declaration }
+fn screen(desc: &mut Desc, declaration: Declaration) -> Further
+    ensures { beside desc.new result ≡ screen_taken desc.old declaration }
 {
     match declaration {
         Declaration::Screen { width, height } => {
             desc.width = width;
             desc.height = height;
-            Some((Stage::Between, desc))
+            Some(Stage::Between)
         }
         _ => None,
     }
@@ -129,30 +129,30 @@ fn no_menus(desc: &Desc) -> bool
 }
 
 // The parts come in this order.
-fn part(alloc: Global, mut desc: Desc, declaration: Declaration) -> Result<Further, AllocError>
-    ensures { IfOk result (λ further. further ≡ part_taken desc declaration) }
+fn part(alloc: Global, desc: &mut Desc, declaration: Declaration) -> Result<Further, AllocError>
+    ensures { IfOk result (λ stage. beside desc.new stage ≡ part_taken desc.old declaration) }
 {
     match declaration {
-        Declaration::Start(name) if desc.start.is_none() && no_menus(&desc) => {
+        Declaration::Start(name) if desc.start.is_none() && no_menus(desc) => {
             desc.start = Some(name);
-            Ok(Some((Stage::Between, desc)))
+            Ok(Some(Stage::Between))
         }
-        Declaration::Menu { id, title } if no_status(&desc) => {
+        Declaration::Menu { id, title } if no_status(desc) => {
             let items = Sequence::new(alloc);
             let menu = Held::new(alloc, Menu { id, title, items })?;
-            Ok(Some((Stage::InMenu(menu), desc)))
+            Ok(Some(Stage::InMenu(menu)))
         }
-        Declaration::Status(item) if no_windows(&desc) => {
+        Declaration::Status(item) if no_windows(desc) => {
             desc.status.push(item)?;
-            Ok(Some((Stage::Between, desc)))
+            Ok(Some(Stage::Between))
         }
         Declaration::Node(node) => opened(alloc, desc, node),
         _ => Ok(None),
     }
 }
 
-fn opened(alloc: Global, desc: Desc, node: Node) -> Result<Further, AllocError>
-    ensures { IfOk result (λ further. further ≡ node_opened desc node) }
+fn opened(alloc: Global, desc: &mut Desc, node: Node) -> Result<Further, AllocError>
+    ensures { IfOk result (λ stage. beside desc.new stage ≡ node_opened desc.old node) }
 {
     if is_window(&node.kind) {
         window_opened(alloc, desc, node)
@@ -163,47 +163,44 @@ fn opened(alloc: Global, desc: Desc, node: Node) -> Result<Further, AllocError>
     }
 }
 
-fn window_opened(alloc: Global, desc: Desc, node: Node) -> Result<Further, AllocError>
+fn window_opened(alloc: Global, desc: &mut Desc, node: Node) -> Result<Further, AllocError>
     requires { is_window node.kind ≡ true }
-    ensures { IfOk result (λ further. further ≡ node_opened desc node) }
+    ensures { IfOk result (λ stage. beside desc.new stage ≡ node_opened desc.old node) }
 {
-    if !no_dialogs(&desc) {
+    if !no_dialogs(desc) {
         return Ok(None);
     }
     let views = Sequence::new(alloc);
     let window = Held::new(alloc, Window { node, views })?;
-    Ok(Some((Stage::InWindow(window), desc)))
+    Ok(Some(Stage::InWindow(window)))
 }
 
-fn dialog_opened(alloc: Global, desc: Desc, node: Node) -> Result<Further, AllocError>
+fn dialog_opened(alloc: Global, desc: &mut Desc, node: Node) -> Result<Further, AllocError>
     requires window { is_window node.kind ≡ false }
     requires dialog { is_dialog node.kind ≡ true }
-    ensures { IfOk result (λ further. further ≡ node_opened desc node) }
+    ensures { IfOk result (λ stage. beside desc.new stage ≡ node_opened desc.old node) }
 {
     let views = Sequence::new(alloc);
     let node = Held::new(alloc, node)?;
-    Ok(Some((
-        Stage::InViews {
-            node,
-            views,
-            panes: 0,
-        },
-        desc,
-    )))
+    Ok(Some(Stage::InViews {
+        node,
+        views,
+        panes: 0,
+    }))
 }
 
 fn in_menu(
     alloc: Global,
-    desc: Desc,
+    desc: &mut Desc,
     menu: Held<Menu>,
     declaration: Declaration,
 ) -> Result<Further, AllocError>
-    ensures { IfOk result (λ further. further ≡ menu_taken desc menu declaration) }
+    ensures { IfOk result (λ stage. beside desc.new stage ≡ menu_taken desc.old menu declaration) }
 {
     match declaration {
         Declaration::Item(item) => {
             let menu = with_item(alloc, menu, item)?;
-            Ok(Some((Stage::InMenu(menu), desc)))
+            Ok(Some(Stage::InMenu(menu)))
         }
         Declaration::End => with_menu(desc, menu),
         _ => Ok(None),
@@ -219,31 +216,31 @@ fn with_item(alloc: Global, menu: Held<Menu>, item: MenuItem) -> Result<Held<Men
 }
 
 // A menu has an item at least.
-fn with_menu(mut desc: Desc, menu: Held<Menu>) -> Result<Further, AllocError>
-    ensures { IfOk result (λ further. further ≡ menu_taken desc menu Declaration.End) }
+fn with_menu(desc: &mut Desc, menu: Held<Menu>) -> Result<Further, AllocError>
+    ensures { IfOk result (λ stage. beside desc.new stage ≡ menu_taken desc.old menu Declaration.End) }
 {
     let menu = menu.into_inner();
     if menu.items.as_slice().is_empty() {
         return Ok(None);
     }
     desc.menus.push(menu)?;
-    Ok(Some((Stage::Between, desc)))
+    Ok(Some(Stage::Between))
 }
 
 // A window holds static texts alone.
 fn with_text(
     alloc: Global,
-    desc: Desc,
+    desc: &mut Desc,
     window: Held<Window>,
     view: Node,
 ) -> Result<Further, AllocError>
-    ensures { IfOk result (λ further. further ≡ window_taken desc window (Declaration.Node view)) }
+    ensures { IfOk result (λ stage. beside desc.new stage ≡ window_taken desc.old window (Declaration.Node view)) }
 {
     if !is_text(&view.kind) {
         return Ok(None);
     }
     let window = longer_window(alloc, window, view)?;
-    Ok(Some((Stage::InWindow(window), desc)))
+    Ok(Some(Stage::InWindow(window)))
 }
 
 fn longer_window(
@@ -258,20 +255,20 @@ fn longer_window(
     Held::new(alloc, window)
 }
 
-fn with_window(mut desc: Desc, window: Held<Window>) -> Result<Further, AllocError>
-    ensures { IfOk result (λ further. further ≡ window_taken desc window Declaration.End) }
+fn with_window(desc: &mut Desc, window: Held<Window>) -> Result<Further, AllocError>
+    ensures { IfOk result (λ stage. beside desc.new stage ≡ window_taken desc.old window Declaration.End) }
 {
     desc.windows.push(window.into_inner())?;
-    Ok(Some((Stage::Between, desc)))
+    Ok(Some(Stage::Between))
 }
 
 fn in_window(
     alloc: Global,
-    desc: Desc,
+    desc: &mut Desc,
     window: Held<Window>,
     declaration: Declaration,
 ) -> Result<Further, AllocError>
-    ensures { IfOk result (λ further. further ≡ window_taken desc window declaration) }
+    ensures { IfOk result (λ stage. beside desc.new stage ≡ window_taken desc.old window declaration) }
 {
     match declaration {
         Declaration::Node(view) => with_text(alloc, desc, window, view),
@@ -282,19 +279,19 @@ fn in_window(
 
 fn in_views(
     alloc: Global,
-    desc: Desc,
+    desc: &mut Desc,
     node: Held<Node>,
     views: Sequence<Node>,
     panes: u8,
     declaration: Declaration,
 ) -> Result<Further, AllocError>
-    ensures { IfOk result (λ further. further ≡ views_taken desc node views panes declaration) }
+    ensures { IfOk result (λ stage. beside desc.new stage ≡ views_taken desc.old node views panes declaration) }
 {
     match declaration {
         Declaration::Node(view) => with_view(desc, node, views, panes, view),
         Declaration::End if panes > 0 => {
             let panes = panes - 1;
-            Ok(Some((Stage::InViews { node, views, panes }, desc)))
+            Ok(Some(Stage::InViews { node, views, panes }))
         }
         Declaration::End => {
             let rules = Sequence::new(alloc);
@@ -306,20 +303,20 @@ fn in_views(
             rules.push(rule)?;
             let node = node.into_inner();
             let dialog = Held::new(alloc, Dialog { node, views, rules })?;
-            Ok(Some((Stage::InRules(dialog), desc)))
+            Ok(Some(Stage::InRules(dialog)))
         }
         _ => Ok(None),
     }
 }
 
 fn with_view(
-    desc: Desc,
+    desc: &mut Desc,
     node: Held<Node>,
     views: Sequence<Node>,
     panes: u8,
     view: Node,
 ) -> Result<Further, AllocError>
-    ensures { IfOk result (λ further. further ≡ view_taken desc node views panes view) }
+    ensures { IfOk result (λ stage. beside desc.new stage ≡ view_taken desc.old node views panes view) }
 {
     if !is_view(&view.kind) {
         return Ok(None);
@@ -328,7 +325,7 @@ fn with_view(
         return Ok(None);
     };
     let views = longer(views, view)?;
-    Ok(Some((Stage::InViews { node, views, panes }, desc)))
+    Ok(Some(Stage::InViews { node, views, panes }))
 }
 
 fn longer(mut views: Sequence<Node>, view: Node) -> Result<Sequence<Node>, AllocError>
@@ -353,16 +350,16 @@ fn panes_after(panes: u8, view: &Node) -> Option<u8>
 
 fn in_rules(
     alloc: Global,
-    desc: Desc,
+    desc: &mut Desc,
     dialog: Held<Dialog>,
     declaration: Declaration,
 ) -> Result<Further, AllocError>
-    ensures { IfOk result (λ further. further ≡ rules_taken desc dialog declaration) }
+    ensures { IfOk result (λ stage. beside desc.new stage ≡ rules_taken desc.old dialog declaration) }
 {
     match declaration {
         Declaration::Rule(rule) => {
             let dialog = with_rule(alloc, dialog, rule)?;
-            Ok(Some((Stage::InRules(dialog), desc)))
+            Ok(Some(Stage::InRules(dialog)))
         }
         Declaration::End => with_dialog(desc, dialog.into_inner()),
         _ => Ok(None),
@@ -377,11 +374,11 @@ fn with_rule(alloc: Global, dialog: Held<Dialog>, rule: Rule) -> Result<Held<Dia
     Held::new(alloc, dialog)
 }
 
-fn with_dialog(mut desc: Desc, dialog: Dialog) -> Result<Further, AllocError>
-    ensures { IfOk result (λ further. further ≡ with_dialog desc dialog) }
+fn with_dialog(desc: &mut Desc, dialog: Dialog) -> Result<Further, AllocError>
+    ensures { IfOk result (λ stage. beside desc.new stage ≡ with_dialog desc.old dialog) }
 {
     desc.dialogs.push(dialog)?;
-    Ok(Some((Stage::Between, desc)))
+    Ok(Some(Stage::Between))
 }
 
 fn is_window(kind: &Kind) -> bool

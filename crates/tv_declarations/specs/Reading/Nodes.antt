@@ -39,9 +39,13 @@ abbrev pub pane_in : Position → List Word → Option Node
 pane_in at (name ∷ x ∷ y ∷ w ∷ h ∷ []) = with3 (λ name p h. node_at at p (kinds.Pane name h)) (name_in name) (place_in x y w) (number_in h)
 pane_in at _ = None
 
+-- a window, where all its fields are there
+abbrev pub window_from : Position → Option (List ℕ) → Option Place → Option ℤ → Option ℤ → Option (List ℕ) → Option Node
+window_from at name place h number title = with5 (λ name p h number title. node_at at p (kinds.Window name h number title)) name place h number title
+
 -- what follows `window`
 abbrev pub window_in : Position → List Word → Option Node
-window_in at (name ∷ x ∷ y ∷ w ∷ h ∷ number ∷ title ∷ []) = with5 (λ name p h number title. node_at at p (kinds.Window name h number title)) (name_in name) (place_in x y w) (number_in h) (number_in number) (text_in title)
+window_in at (name ∷ x ∷ y ∷ w ∷ h ∷ number ∷ title ∷ []) = window_from at (name_in name) (place_in x y w) (number_in h) (number_in number) (text_in title)
 window_in at _ = None
 
 -- the command after `opens`, and the end commands after `ends`

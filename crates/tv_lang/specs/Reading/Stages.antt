@@ -38,6 +38,10 @@ no_menus d = length d.menus == 0 && no_status d
 
 -- ---- what each stage takes
 
+-- a description, and the stage after it where there is one
+abbrev pub beside : Desc → Option Stage → Option (Stage × Desc)
+beside d stage = option_map (λ s. (s, d)) stage
+
 abbrev pub version_taken : Desc → Declaration → Option (Stage × Desc)
 version_taken d declared.Version = Some (stages.Screen, d)
 version_taken d _ = None
