@@ -1,6 +1,7 @@
 //! Which declarations may come next.
 
 ghost use Rattle.std.specs.Prelude.{◌≡◌, ◌≤◌, ◌++◌, ◌∷◌, [], IfOk, None, Some, false, true};
+ghost use Rattle.tv_model.specs.declared.desc.Desc.{Desc as SeenDesc};
 ghost use Rattle.tv_model.specs.Nodes.{is_pane};
 ghost use Rattle.tv_declarations.specs.Spelling.{is_dialog, is_text, is_view, is_window};
 ghost use Rattle.tv_lang.specs.Reading.Stages.{beside, is_between, menu_taken, no_dialogs, no_menus, no_status, no_windows, node_opened, open_panes, panes_after, part_taken, rules_taken, screen_taken, taken_at, version_taken, view_taken, views_taken, window_taken, with_dialog};
@@ -64,7 +65,7 @@ impl Stage {
         ensures { IfOk result (λ stage. beside desc.new stage ≡ taken_at self desc.old declaration) }
     {
         match self {
-            Stage::Version => Ok(version(desc, declaration)),
+            Stage::Version => Ok(version(declaration)),
             Stage::Screen => Ok(screen(desc, declaration)),
             Stage::Between => part(alloc, desc, declaration),
             Stage::InMenu(menu) => in_menu(alloc, desc, menu, declaration),
@@ -82,8 +83,8 @@ impl Stage {
     }
 }
 
-fn version(desc: &mut Desc, declaration: Declaration) -> Further
-    ensures { beside desc.new result ≡ version_taken desc.old declaration }
+fn version(declaration: Declaration) -> Further
+    ensures { (desc : SeenDesc) → beside desc result ≡ version_taken desc declaration }
 {
     match declaration {
         Declaration::Version => Some(Stage::Screen),
@@ -151,21 +152,21 @@ fn part(alloc: Global, desc: &mut Desc, declaration: Declaration) -> Result<Furt
     }
 }
 
-fn opened(alloc: Global, desc: &mut Desc, node: Node) -> Result<Further, AllocError>
-    ensures { IfOk result (λ stage. beside desc.new stage ≡ node_opened desc.old node) }
+fn opened(alloc: Global, desc: &Desc, node: Node) -> Result<Further, AllocError>
+    ensures { IfOk result (λ stage. beside desc.now stage ≡ node_opened desc.now node) }
 {
     if is_window(&node.kind) {
         window_opened(alloc, desc, node)
     } else if is_dialog(&node.kind) {
-        dialog_opened(alloc, desc, node)
+        dialog_opened(alloc, node)
     } else {
         Ok(None)
     }
 }
 
-fn window_opened(alloc: Global, desc: &mut Desc, node: Node) -> Result<Further, AllocError>
+fn window_opened(alloc: Global, desc: &Desc, node: Node) -> Result<Further, AllocError>
     requires { is_window node.kind ≡ true }
-    ensures { IfOk result (λ stage. beside desc.new stage ≡ node_opened desc.old node) }
+    ensures { IfOk result (λ stage. beside desc.now stage ≡ node_opened desc.now node) }
 {
     if !no_dialogs(desc) {
         return Ok(None);
@@ -175,10 +176,10 @@ fn window_opened(alloc: Global, desc: &mut Desc, node: Node) -> Result<Further, 
     Ok(Some(Stage::InWindow(window)))
 }
 
-fn dialog_opened(alloc: Global, desc: &mut Desc, node: Node) -> Result<Further, AllocError>
+fn dialog_opened(alloc: Global, node: Node) -> Result<Further, AllocError>
     requires window { is_window node.kind ≡ false }
     requires dialog { is_dialog node.kind ≡ true }
-    ensures { IfOk result (λ stage. beside desc.new stage ≡ node_opened desc.old node) }
+    ensures { IfOk result (λ stage. (desc : SeenDesc) → beside desc stage ≡ node_opened desc node) }
 {
     let views = Sequence::new(alloc);
     let node = Held::new(alloc, node)?;
@@ -228,13 +229,8 @@ fn with_menu(desc: &mut Desc, menu: Held<Menu>) -> Result<Further, AllocError>
 }
 
 // A window holds static texts alone.
-fn with_text(
-    alloc: Global,
-    desc: &mut Desc,
-    window: Held<Window>,
-    view: Node,
-) -> Result<Further, AllocError>
-    ensures { IfOk result (λ stage. beside desc.new stage ≡ window_taken desc.old window (Declaration.Node view)) }
+fn with_text(alloc: Global, window: Held<Window>, view: Node) -> Result<Further, AllocError>
+    ensures { IfOk result (λ stage. (desc : SeenDesc) → beside desc stage ≡ window_taken desc window (Declaration.Node view)) }
 {
     if !is_text(&view.kind) {
         return Ok(None);
@@ -271,7 +267,7 @@ fn in_window(
     ensures { IfOk result (λ stage. beside desc.new stage ≡ window_taken desc.old window declaration) }
 {
     match declaration {
-        Declaration::Node(view) => with_text(alloc, desc, window, view),
+        Declaration::Node(view) => with_text(alloc, window, view),
         Declaration::End => with_window(desc, window),
         _ => Ok(None),
     }
@@ -288,7 +284,7 @@ fn in_views(
     ensures { IfOk result (λ stage. beside desc.new stage ≡ views_taken desc.old node views panes declaration) }
 {
     match declaration {
-        Declaration::Node(view) => with_view(desc, node, views, panes, view),
+        Declaration::Node(view) => with_view(node, views, panes, view),
         Declaration::End if panes > 0 => {
             let panes = panes - 1;
             Ok(Some(Stage::InViews { node, views, panes }))
@@ -310,13 +306,12 @@ fn in_views(
 }
 
 fn with_view(
-    desc: &mut Desc,
     node: Held<Node>,
     views: Sequence<Node>,
     panes: u8,
     view: Node,
 ) -> Result<Further, AllocError>
-    ensures { IfOk result (λ stage. beside desc.new stage ≡ view_taken desc.old node views panes view) }
+    ensures { IfOk result (λ stage. (desc : SeenDesc) → beside desc stage ≡ view_taken desc node views panes view) }
 {
     if !is_view(&view.kind) {
         return Ok(None);
