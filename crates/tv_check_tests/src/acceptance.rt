@@ -2,7 +2,7 @@
 
 use std::alloc::Global;
 use std::test::Fail;
-use tv_check::{Certificate, CertificateFault, Refusal, accept};
+use tv_check::{Certificate, CertificateFault, Checked, Refusal, accept};
 use tv_lang::{parse, print};
 use tv_model::Desc;
 use tv_test_support::certificates::{
@@ -10,6 +10,9 @@ use tv_test_support::certificates::{
 };
 use tv_test_support::descriptions::{CANCEL, CLOSED, COLOUR, MENUS, ORDER, SHARED_LETTER, WINDOWS};
 use tv_test_support::{Question, expect_answer, expect_answers};
+
+// What `accept` answers.
+type Outcome = Result<Checked, (Refusal, Desc)>;
 
 /// What a description and a certificate come to: `accepted`, or why they are refused.
 #[derive(Clone, Copy)]
@@ -33,13 +36,17 @@ impl Question for Accepting<'_> {
 fn acceptance(alloc: Global, text: &str, certificate: &Certificate) -> Result<String, Fail> {
     let desc = parse(alloc, text.as_bytes())?;
     let printed = print(alloc, &desc)?;
-    match accept(alloc, desc, certificate) {
+    outcome_told(alloc, accept(alloc, desc, certificate), &printed)
+}
+
+fn outcome_told(alloc: Global, outcome: Outcome, printed: &str) -> Result<String, Fail> {
+    match outcome {
         Ok(checked) => {
-            expect_same(alloc, checked.desc(), &printed)?;
+            expect_same(alloc, checked.desc(), printed)?;
             Ok(format!(in alloc; "accepted\n")?)
         }
         Err((refusal, desc)) => {
-            expect_same(alloc, &desc, &printed)?;
+            expect_same(alloc, &desc, printed)?;
             refusal_told(alloc, refusal)
         }
     }
@@ -120,13 +127,29 @@ fn first_of_the_faults(rt: HostRuntime) -> Result<(), Fail> {
 fn accepted_after_a_refusal(rt: HostRuntime) -> Result<(), Fail> {
     let alloc = rt.alloc();
     let desc = parse(alloc, ORDER.as_bytes())?;
-    let wrong = Certificate::read(alloc, NO_BLOCKS.as_bytes())?;
-    let right = Certificate::read(alloc, ORDER_CERTIFICATE.as_bytes())?;
-    let (refusal, desc) = accept(alloc, desc, &wrong).err().ok_or("it is accepted")?;
+    let (refusal, desc) = refused(alloc, desc, NO_BLOCKS)?;
     assert_eq!(rt; refusal, Refusal::TabOrder(1));
-    let checked = accept(alloc, desc, &right).ok().ok_or("it is refused")?;
-    assert_eq!(rt; print(alloc, checked.desc())?.as_str(), ORDER);
-    Ok(())
+    let checked = checked(alloc, desc, ORDER_CERTIFICATE)?;
+    expect_same(alloc, checked.desc(), ORDER)
+}
+
+fn refused(alloc: Global, desc: Desc, certificate: &str) -> Result<(Refusal, Desc), Fail> {
+    let certificate = Certificate::read(alloc, certificate.as_bytes())?;
+    Ok(
+        accept(alloc, desc, &certificate)
+            .err()
+            .ok_or("it is accepted")?,
+    )
+}
+
+/// The description, accepted with this certificate.
+pub fn checked(alloc: Global, desc: Desc, certificate: &str) -> Result<Checked, Fail> {
+    let certificate = Certificate::read(alloc, certificate.as_bytes())?;
+    Ok(
+        accept(alloc, desc, &certificate)
+            .ok()
+            .ok_or("it is refused")?,
+    )
 }
 
 // Two dialogs with like controls.

@@ -1,5 +1,6 @@
 //! Texts that are no descriptions: lines that break the grammar, and a description that is cut or spoiled.
 
+use std::alloc::{AllocError, Global};
 use std::test::Fail;
 use tv_lang::{LangFault, parse};
 use tv_test_support::descriptions::{DIALOG, HEAD, ORDER};
@@ -264,15 +265,20 @@ fn spoiled_lines(rt: HostRuntime) -> Result<(), Fail> {
     let alloc = rt.alloc();
     let (before, after) = ORDER.split_once("checks").ok_or("no check boxes")?;
     for byte in [0xff, b'\t'] {
-        let mut text = Vec::new(alloc);
-        text.extend_from_slice(before.as_bytes())?;
-        text.push(byte)?;
-        text.extend_from_slice(b"checks")?;
-        text.extend_from_slice(after.as_bytes())?;
+        let text = spoiled(alloc, before, byte, after)?;
         let found = Findings.answer(alloc, text.as_slice())?;
         assert_eq!(rt; found.as_str(), "syntax at line 9\n", "after {byte}");
     }
     Ok(())
+}
+
+// The text with a byte before its first check boxes.
+fn spoiled(alloc: Global, before: &str, byte: u8, after: &str) -> Result<Vec<u8>, AllocError> {
+    let mut text = Vec::from_slice(alloc, before.as_bytes())?;
+    text.push(byte)?;
+    text.extend_from_slice(b"checks")?;
+    text.extend_from_slice(after.as_bytes())?;
+    Ok(text)
 }
 
 #[test]

@@ -1,8 +1,9 @@
 //! The order in which views are made.
 
+use crate::acceptance::checked;
 use std::alloc::{AllocError, Global};
 use std::test::Fail;
-use tv_check::{BuildStep, Certificate, accept, certify};
+use tv_check::{BuildStep, Checked, certify};
 use tv_lang::parse;
 use tv_model::Node;
 use tv_test_support::certificates::ORDER_CERTIFICATE;
@@ -16,13 +17,14 @@ struct Planning;
 impl Question for Planning {
     fn answer(&self, alloc: Global, text: &[u8]) -> Result<String, Fail> {
         let desc = parse(alloc, text)?;
-        let certificate = certify(alloc, &desc)?;
-        let checked = accept(alloc, desc, &certificate)
-            .ok()
-            .ok_or("it is refused")?;
-        let plan = checked.build_plan(alloc)?;
-        Ok(told(alloc, plan.as_slice())?)
+        let certificate = certify(alloc, &desc)?.print(alloc)?;
+        plan_told(alloc, &checked(alloc, desc, &certificate)?)
     }
+}
+
+fn plan_told(alloc: Global, checked: &Checked) -> Result<String, Fail> {
+    let plan = checked.build_plan(alloc)?;
+    Ok(told(alloc, plan.as_slice())?)
 }
 
 fn told(alloc: Global, plan: &[BuildStep]) -> Result<String, AllocError> {
@@ -134,11 +136,7 @@ fn nested_panes(rt: HostRuntime) -> Result<(), Fail> {
 fn plan_after_reading(rt: HostRuntime) -> Result<(), Fail> {
     let alloc = rt.alloc();
     let desc = parse(alloc, ORDER.as_bytes())?;
-    let certificate = Certificate::read(alloc, ORDER_CERTIFICATE.as_bytes())?;
-    let checked = accept(alloc, desc, &certificate)
-        .ok()
-        .ok_or("it is refused")?;
-    let plan = checked.build_plan(alloc)?;
-    assert_eq!(rt; told(alloc, plan.as_slice())?.as_str(), ORDER_PLAN);
+    let checked = checked(alloc, desc, ORDER_CERTIFICATE)?;
+    assert_eq!(rt; plan_told(alloc, &checked)?.as_str(), ORDER_PLAN);
     Ok(())
 }

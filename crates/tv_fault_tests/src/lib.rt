@@ -14,4 +14,6 @@ mod fault_edges;
 #[cfg(test)]
 mod input_edges;
 #[cfg(test)]
+mod status_edges;
+#[cfg(test)]
 mod view_edges;

@@ -27,19 +27,25 @@ fn subcommand<'a>(alloc: Global, name: &'a str, about: &'a str) -> Result<Comman
         .arg(description(alloc))
 }
 
-fn command<'a>(alloc: Global) -> Result<Command<'a>, AllocError> {
-    let check = subcommand(
+fn check<'a>(alloc: Global) -> Result<Command<'a>, AllocError> {
+    subcommand(
         alloc,
         "check",
         "Prints the faults of a description, a line for each, or its certificate where it has none",
-    )?;
-    let accept = subcommand(
+    )
+}
+
+fn accept<'a>(alloc: Global) -> Result<Command<'a>, AllocError> {
+    subcommand(
         alloc,
         "accept",
         "Prints `accepted` where the certificate is that of the description, else the first reason to refuse them",
     )?
-    .arg(path(alloc, "CERT", "A certificate, as `check` prints it"))?;
-    let run = subcommand(
+    .arg(path(alloc, "CERT", "A certificate, as `check` prints it"))
+}
+
+fn run<'a>(alloc: Global) -> Result<Command<'a>, AllocError> {
+    subcommand(
         alloc,
         "run",
         "Performs a script of keys and pictures on a description, and prints what happens",
@@ -48,14 +54,17 @@ fn command<'a>(alloc: Global) -> Result<Command<'a>, AllocError> {
         alloc,
         "SCRIPT",
         "A script, with an event or a picture on each line",
-    ))?;
+    ))
+}
+
+fn command<'a>(alloc: Global) -> Result<Command<'a>, AllocError> {
     Command::new(alloc, "tvdlg")
         .about("Checks descriptions of text-mode dialogs, and runs them on scripts")
         .after_help(STATUSES)
         .subcommand_required(true)
-        .subcommand(check)?
-        .subcommand(accept)?
-        .subcommand(run)
+        .subcommand(check(alloc)?)?
+        .subcommand(accept(alloc)?)?
+        .subcommand(run(alloc)?)
 }
 
 /// Reads the words of the command line, of which the first is the program's own.

@@ -1,6 +1,8 @@
 //! What the program does with files: each subcommand, from paths to a status.
 
-ghost use Rattle.std.specs.Prelude.{◌≡◌, [], IfErr, OnOk};
+ghost use Rattle.std.specs.Prelude.{◌≡◌, [], IfErr, IfOk, OnOk};
+ghost use Rattle.tv_model.specs.Faults.{IsSound};
+ghost use Rattle.tv_model.specs.Thin.{IsThin};
 ghost use Rattle.tv_program.specs.declared.fault.RunFault.TheVariants.{Write};
 ghost use Rattle.tv_script.specs.Device.{kept_back};
 ghost use Rattle.tvdlg.specs.Failures.{IsToldOf, IsUnread};
@@ -10,6 +12,7 @@ use crate::task::Task;
 use std::alloc::Global;
 use std::io::Write;
 use std::rt::Files;
+use tv_model::Desc;
 use tv_program::thin::{read_sound, run_script};
 use tv_program::{RunFault, accept_text, check, read_desc, report};
 use tv_script::Device;
@@ -79,8 +82,7 @@ fn accept_file<'a, R: Files, W: Write + Drop>(
     ensures written { OnOk result (kept_back out.new ≡ []) }
     ensures told { IfErr result (IsToldOf file.now certificate.now) }
 {
-    let text = read(rt, alloc, file, LONGEST_DESCRIPTION)?;
-    let desc = told_of(file, certificate, read_desc(alloc, text.as_slice()))?;
+    let desc = described(rt, alloc, file, certificate)?;
     let text = read(rt, alloc, certificate, LONGEST_DESCRIPTION)?;
     told_of(
         file,
@@ -101,14 +103,41 @@ fn run_file<'a, R: Files, W: Write + Drop>(
     ensures written { OnOk result (kept_back out.new ≡ []) }
     ensures told { IfErr result (IsToldOf file.now script.now) }
 {
-    let text = read(rt, alloc, file, LONGEST_DESCRIPTION)?;
-    let desc = match read_sound(alloc, text.as_slice()) {
-        Ok(desc) => desc,
-        Err(fault) => return Err(failed_in(file, script, fault)),
-    };
+    let desc = runnable(rt, alloc, file, script)?;
     let text = read(rt, alloc, script, LONGEST_SCRIPT)?;
     told_of(file, script, run_script(alloc, desc, text.as_slice(), out))?;
     flush(file, out)
+}
+
+// The description of a file.
+fn described<'a, R: Files>(
+    rt: &R,
+    alloc: Global,
+    file: &'a str,
+    beside: &'a str,
+) -> Result<Desc, Failure<'a>>
+    ensures { IfErr result (IsToldOf file.now beside.now) }
+{
+    let text = read(rt, alloc, file, LONGEST_DESCRIPTION)?;
+    told_of(file, beside, read_desc(alloc, text.as_slice()))
+}
+
+// The description of a file, where a script can be run on it.
+fn runnable<'a, R: Files>(
+    rt: &R,
+    alloc: Global,
+    file: &'a str,
+    beside: &'a str,
+) -> Result<Desc, Failure<'a>>
+    ensures thin { IfOk result (λ desc. IsThin desc) }
+    ensures sound { IfOk result (λ desc. IsSound desc) }
+    ensures told { IfErr result (IsToldOf file.now beside.now) }
+{
+    let text = read(rt, alloc, file, LONGEST_DESCRIPTION)?;
+    match read_sound(alloc, text.as_slice()) {
+        Ok(desc) => Ok(desc),
+        Err(fault) => Err(failed_in(file, beside, fault)),
+    }
 }
 
 // The fault, told of the text that it is in: the description, or the script or certificate beside it.
