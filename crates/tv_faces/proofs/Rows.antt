@@ -1,10 +1,10 @@
 -- A text that is painted row by row.
-use Rattle.std.proofs.Common.{◌≡◌, ◌⊎◌, inl, inr, ◌<◌, ◌≤◌, ◌∙◌, ℕ, zero, suc, ℤ, pos, negsuc, ◌+◌, ◌-◌, ◌+ℤ◌, ◌≤ℤ◌, ◌<ℤ◌, List, [], ◌∷◌, drop, slice_index_or, refl, sym, ap, arith, add-one}
+use Rattle.std.proofs.Common.{◌≡◌, ◌⊎◌, inl, inr, ◌∙◌, ℕ, zero, suc, ℤ, pos, negsuc, ◌+◌, ◌+ℤ◌, ◌≤ℤ◌, ◌<ℤ◌, List, [], ◌∷◌, drop, slice_index_or, refl, sym, ap, arith}
 use Rattle.std.proofs.lemmas.Int.{ints}
 use Rattle.std.specs.Int.{int_gap}
 use Rattle.tv_cells.specs.Canvas.{Covers, face_at}
 use Rattle.tv_cells.specs.Glyph.{Glyph, shown}
-use Rattle.tv_cells.specs.Picture.{Picture, Changes, IsOn}
+use Rattle.tv_cells.specs.Picture.{Picture, Changes}
 use Rattle.tv_cells.specs.Rectangle.{sized}
 use Rattle.tv_cells.specs.declared.canvas.Canvas.{Canvas}
 use Rattle.tv_cells.proofs.Drawn.{changes_both, changes_none}

@@ -1,7 +1,5 @@
 //! The desktop, and the rows above and below it.
 
-ghost use Rattle.std.specs.Prelude.{◌≡◌};
-
 use tv_cells::{Cell, Face};
 
 /// The desktop where nothing covers it.

@@ -5,7 +5,7 @@ ghost use Rattle.tv_palette.specs.Chain.{coloured};
 ghost use Rattle.tv_palette.specs.Palettes.{colour_in, owners_of_part};
 ghost use Rattle.tv_palette.specs.declared.role.Owner.TheVariants.{Dialog};
 ghost use Rattle.tv_palette.specs.declared.role.Role.TheVariants.{Button};
-ghost use Rattle.tv_model.specs.Faces.{button_attr, button_role, button_text, button_start, button_row, is_letter};
+ghost use Rattle.tv_model.specs.Faces.{button_attr, button_role, button_text, button_row, is_letter};
 ghost use Rattle.tv_faces.specs.Looks.{button_look_of};
 
 use crate::look::ButtonLook;

@@ -1,6 +1,6 @@
 //! Static texts.
 
-ghost use Rattle.std.specs.Prelude.{IfSome, List, option_copied, ◌≡◌, ◌<◌, ◌==◌, ◌+ℤ◌, ◌<ℤ◌, ◌≤ℤ◌, ◌≤◌, ◌^◌, ◌∷◌, drop, length, pos, position, slice_index_or, []};
+ghost use Rattle.std.specs.Prelude.{IfSome, List, option_copied, ◌≡◌, ◌<◌, ◌==◌, ◌+ℤ◌, ◌≤ℤ◌, ◌≤◌, ◌^◌, ◌∷◌, drop, length, pos, position, slice_index_or, []};
 ghost use Rattle.tv_cells.specs.Canvas.{Covers, face_at};
 ghost use Rattle.tv_cells.specs.Layers.{Layer, Painted, Shows};
 ghost use Rattle.tv_cells.specs.Picture.{Changes, IsAlike};

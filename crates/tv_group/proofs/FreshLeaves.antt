@@ -1,5 +1,5 @@
 -- The leaves of a group whose nodes are no panes.
-use Rattle.std.proofs.Common.{◌≡◌, ℕ, Bool, true, false, List, [], ◌∷◌, ◌++◌, ◌+◌, All, map, refl, sym, ap, ◌∙◌, Option}
+use Rattle.std.proofs.Common.{◌≡◌, ℕ, true, false, List, [], ◌∷◌, ◌++◌, ◌+◌, All, map, refl, sym, ap, ◌∙◌, Option}
 use Rattle.std.proofs.lemmas.List.Elements.{All-head, All-tail}
 use Rattle.tv_cells.specs.Canvas.{sub}
 use Rattle.tv_cells.specs.Layers.{Layer}

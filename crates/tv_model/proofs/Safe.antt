@@ -1,14 +1,11 @@
 -- A run is safe: the flat machine keeps a free focus, and ends dialogs by declared commands alone.
-use Rattle.std.proofs.Common.{◌≡◌, ℕ, zero, suc, ◌+◌, ◌<◌, ◌≤◌, ◌==◌, nat_le, Bool, true, false, cond, not, ◌&&◌, ◌||◌, List, [], ◌∷◌, ◌++◌, length, map, find, Option, Some, None, option_map, unwrap_or, position, slice_get, All, refl, sym, ap, ◌∙◌, arith, IsSome}
+use Rattle.std.proofs.Common.{◌≡◌, ℕ, zero, suc, ◌+◌, ◌≤◌, ◌==◌, nat_le, Bool, true, false, cond, ◌&&◌, ◌||◌, List, [], ◌∷◌, map, find, Option, Some, None, option_map, unwrap_or, position, slice_get, All, refl, sym, ap, ◌∙◌, arith, IsSome}
 use Rattle.std.proofs.lemmas.List.Elements.{All-append, All-cons, All-map}
-use Rattle.std.proofs.lemmas.Bool.{and_parts}
-use Rattle.tv_event.specs.declared.event.Command.{Command}
 use Rattle.tv_event.specs.declared.event.Event.{Event}
 use Rattle.tv_event.specs.declared.event.Event.TheVariants as events
 use Rattle.tv_event.specs.declared.event.Key.{Key}
 use Rattle.tv_event.specs.declared.event.Key.TheVariants as keys
 use Rattle.tv_model.specs.declared.node.Id.{Id}
-use Rattle.tv_model.specs.declared.node.Ends.{Ends}
 use Rattle.tv_model.specs.declared.node.Node.{Node}
 use Rattle.tv_model.specs.declared.node.Kind.{Kind}
 use Rattle.tv_model.specs.declared.node.Kind.TheVariants as kinds
@@ -17,11 +14,11 @@ use Rattle.tv_model.specs.declared.desc.Dialog.{Dialog}
 use Rattle.tv_model.specs.declared.record.Entry.{Entry}
 use Rattle.tv_model.specs.declared.log.LogLine.{LogLine}
 use Rattle.tv_model.specs.declared.log.LogLine.TheVariants as lines
-use Rattle.tv_model.specs.Nodes.{has_id, node_of}
+use Rattle.tv_model.specs.Nodes.{node_of}
 use Rattle.tv_model.specs.State.{State, OpenDialog, fields_of}
-use Rattle.tv_model.specs.Step.{is_free, is_free_node, is_free_at, first_free, next_free, previous_free, emptied, logged, with_dialog, request, command_number, ends_of, is_declared, field_line, ended, command, press_node, press, enter_target, key, key_event, in_dialog, at_dialog, step, open_dialog, closed, open_found, open_at, start_from, is_named, start}
+use Rattle.tv_model.specs.Step.{is_free, is_free_at, first_free, next_free, previous_free, emptied, logged, with_dialog, request, command_number, ends_of, is_declared, field_line, ended, command, press_node, enter_target, key, key_event, in_dialog, at_dialog, step, open_dialog, closed, open_found, open_at, start_from, is_named, start}
 use Rattle.tv_model.specs.Thin.{AreOnLines}
-use Rattle.tv_model.specs.Safe.{is_end, IsFocusFree, Declares, HasDeclaredEnd, IsSafe}
+use Rattle.tv_model.specs.Safe.{is_end, IsFocusFree, HasDeclaredEnd, IsSafe}
 use Rattle.tv_model.specs.Output.{states}
 
 no_lines : (d : Desc) → All (HasDeclaredEnd d) []

@@ -1,5 +1,5 @@
 -- The keys and the mouse of a list. Items count from 1.
-use Rattle.std.specs.Prelude.{ℕ, Bool, Option, Some, None, ◌+◌, ◌-◌, max, min, nat_le, nat_lt, if◌then◌else◌}
+use Rattle.std.specs.Prelude.{ℕ, Option, Some, None, ◌+◌, ◌-◌, max, min, nat_le, nat_lt, if◌then◌else◌}
 use Rattle.tv_event.specs.declared.event.Key.{Key}
 use Rattle.tv_event.specs.declared.event.Key.TheVariants as keys
 

@@ -8,8 +8,7 @@ use Rattle.tv_event.specs.declared.event.Event.TheVariants as events
 use Rattle.tv_event.specs.declared.event.Key.TheVariants as keys
 use Rattle.tv_model.specs.declared.script.Item.{Item}
 use Rattle.tv_model.specs.declared.script.Item.TheVariants as items
-use Rattle.tv_model.specs.State.{State, natural}
-use Rattle.tv_model.specs.Step.{step}
+use Rattle.tv_model.specs.State.{natural}
 use Rattle.tv_model.specs.Session.{Session, stepped, quiet}
 use Rattle.tv_model.specs.Layers.{layers_of}
 use Rattle.tv_model.specs.LogText.{log_text, line_of}

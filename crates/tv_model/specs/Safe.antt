@@ -1,5 +1,5 @@
 -- What holds at the start of a run and after each event.
-use Rattle.std.specs.Prelude.{◌≡◌, ℕ, Bool, true, List, Option, Some, All, ◌&&◌, ◌||◌, ◌==◌, slice_get}
+use Rattle.std.specs.Prelude.{◌≡◌, ℕ, Bool, true, List, Some, All, ◌&&◌, ◌||◌, ◌==◌, slice_get}
 use Rattle.tv_event.specs.declared.event.Event.{Event}
 use Rattle.tv_model.specs.declared.node.Ends.{Ends}
 use Rattle.tv_model.specs.declared.node.Id.{Id}

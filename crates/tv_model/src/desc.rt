@@ -1,6 +1,6 @@
 //! A description: its screen, menus, status items, windows and dialogs.
 
-ghost use Rattle.std.specs.Prelude.{◌≡◌, ◌∷◌, option_copied};
+ghost use Rattle.std.specs.Prelude.{◌≡◌, option_copied};
 ghost use Rattle.tv_model.specs.LogText.{all_nodes, window_nodes, dialog_nodes};
 ghost use Rattle.tv_model.specs.Nodes.{node_of};
 

@@ -1,7 +1,7 @@
 //! Windows, dialogs and what stands in them.
 
-ghost use Rattle.std.specs.Prelude.{◌≡◌, option_map, option_copied, IfSome, IsSome, ◌↔◌, Some, None};
-ghost use Rattle.tv_model.specs.Nodes.{name_of, is_control, is_button, is_pane};
+ghost use Rattle.std.specs.Prelude.{◌≡◌, option_copied};
+ghost use Rattle.tv_model.specs.Nodes.{name_of, is_control, is_button};
 
 use crate::sequence::Sequence;
 use tv_valid::{Chars, InputSpec};

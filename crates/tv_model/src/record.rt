@@ -20,6 +20,10 @@ pub enum Value {
 }
 
 impl Default for Value {
+    ghost use Rattle.tv_model.specs.declared.record.Value.TheVariants.{Marks};
+
+    ghost is_default = { λ value. value ≡ Marks 0 };
+
     fn default() -> Value {
         Value::Marks(0)
     }

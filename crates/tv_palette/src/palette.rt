@@ -80,6 +80,8 @@ impl Palette {
 }
 
 impl Default for Palette {
+    ghost is_default = { λ palette. palette.entries.now ≡ [] };
+
     fn default() -> Palette {
         Palette::empty()
     }

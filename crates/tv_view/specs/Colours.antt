@@ -1,5 +1,5 @@
 -- What a view is told of its owners, as tests and attributes.
-use Rattle.std.specs.Prelude.{◌≡◌, ℕ, Bool, false, List, ◌∷◌, Option, Some, None, option_map, ◌==◌, ◌&&◌, bytes_eq}
+use Rattle.std.specs.Prelude.{ℕ, Bool, false, List, Option, Some, None, option_map, ◌==◌}
 use Rattle.tv_model.specs.declared.node.Id.{Id}
 use Rattle.tv_model.specs.declared.node.Node.{Node}
 use Rattle.tv_model.specs.Faults.Names.{meant}

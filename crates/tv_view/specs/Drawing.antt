@@ -1,5 +1,5 @@
 -- What views draw: layers on top of what a screen shows.
-use Rattle.std.specs.Prelude.{ℕ, List, [], ◌∷◌, ◌++◌, map, Bool, ◌&&◌, pos, neg_ℤ, if◌then◌else◌}
+use Rattle.std.specs.Prelude.{List, [], ◌∷◌, ◌++◌, map, Bool, ◌&&◌, pos, neg_ℤ, if◌then◌else◌}
 use Rattle.std.specs.Int.Signed.{le_z}
 use Rattle.tv_cells.specs.Picture.{Picture, IsAlike}
 use Rattle.tv_cells.specs.Canvas.{sub}

@@ -1,5 +1,5 @@
 -- What a leaf answers to an event, by its kind. Its owner decides whether it gets the event at all.
-use Rattle.std.specs.Prelude.{ℕ, Bool, true, false, not, ◌&&◌, List, length, Option, Some, None, ◌+◌, ◌==◌, if◌then◌else◌}
+use Rattle.std.specs.Prelude.{ℕ, Bool, true, false, ◌&&◌, List, length, Option, Some, None, ◌+◌, ◌==◌, if◌then◌else◌}
 use Rattle.std.specs.Int.{int_gap}
 use Rattle.tv_cells.specs.Layers.{is_in}
 use Rattle.tv_cells.specs.declared.rect.Point.{Point}

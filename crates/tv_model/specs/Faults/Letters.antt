@@ -8,7 +8,6 @@ use Rattle.tv_model.specs.declared.node.Node.{Node}
 use Rattle.tv_model.specs.declared.node.Kind.{Kind}
 use Rattle.tv_model.specs.declared.node.Kind.TheVariants as kinds
 use Rattle.tv_model.specs.declared.node.MarkedText.{MarkedText}
-use Rattle.tv_model.specs.declared.node.CommandSpec.{CommandSpec}
 use Rattle.tv_model.specs.declared.node.CommandSpec.TheVariants as commands
 use Rattle.tv_model.specs.declared.desc.Desc.{Desc}
 use Rattle.tv_model.specs.declared.desc.Menu.{Menu}

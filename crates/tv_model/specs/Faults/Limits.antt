@@ -1,7 +1,6 @@
 -- The limits, and what lies outside them.
-use Rattle.std.specs.Prelude.{ℕ, Bool, true, false, not, ◌&&◌, ◌||◌, List, [], ◌∷◌, map, length, Option, Some, None, ℤ, pos, neg_ℤ, int_le, ◌==◌, nat_le}
+use Rattle.std.specs.Prelude.{ℕ, Bool, true, not, ◌&&◌, ◌||◌, List, length, Option, Some, None, ℤ, pos, neg_ℤ, int_le, ◌==◌, nat_le}
 use Rattle.std.specs.List.{list_any}
-use Rattle.tv_valid.specs.declared.input.InputSpec.{InputSpec}
 use Rattle.tv_model.specs.declared.node.Node.{Node}
 use Rattle.tv_model.specs.declared.node.Kind.{Kind}
 use Rattle.tv_model.specs.declared.node.Kind.TheVariants as kinds

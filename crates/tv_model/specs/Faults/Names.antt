@@ -1,5 +1,5 @@
 -- Names and what they mean. A name that is given twice means its first declaration.
-use Rattle.std.specs.Prelude.{ℕ, Bool, true, false, not, ◌||◌, ◌∷◌, List, find, Option, Some, None, bytes_eq}
+use Rattle.std.specs.Prelude.{ℕ, Bool, false, not, ◌||◌, List, find, Option, Some, None, bytes_eq}
 use Rattle.std.specs.List.{list_any}
 use Rattle.tv_model.specs.declared.node.Node.{Node}
 use Rattle.tv_model.specs.declared.node.Kind.{Kind}

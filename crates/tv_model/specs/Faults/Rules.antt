@@ -1,5 +1,5 @@
 -- Rules of a dialog, and what they stand over.
-use Rattle.std.specs.Prelude.{ℕ, Bool, true, false, not, ◌&&◌, ◌||◌, List, [], ◌∷◌, length, take, find, position, Option, Some, None, ℤ, pos, int_le, ◌==◌}
+use Rattle.std.specs.Prelude.{ℕ, Bool, true, false, not, ◌&&◌, ◌||◌, List, [], ◌∷◌, length, find, Option, Some, None, ℤ, pos, int_le}
 use Rattle.std.specs.List.{list_any}
 use Rattle.std.specs.Ordering.{int_eq}
 use Rattle.tv_model.specs.declared.node.Id.{Id}

@@ -2,7 +2,6 @@
 use Rattle.std.specs.Prelude.{ℕ, Bool, not, List, [], ◌∷◌, map, filter, ◌==◌}
 use Rattle.std.specs.List.{list_any}
 use Rattle.tv_cells.specs.Glyph.{is_narrow}
-use Rattle.tv_valid.specs.declared.input.InputSpec.{InputSpec}
 use Rattle.tv_valid.specs.declared.input.DomainSpec.{DomainSpec}
 use Rattle.tv_valid.specs.declared.input.DomainSpec.TheVariants as domains
 use Rattle.tv_model.specs.declared.node.Node.{Node}

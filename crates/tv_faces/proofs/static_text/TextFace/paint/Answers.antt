@@ -1,4 +1,4 @@
-use Rattle.std.proofs.Common.{◌∙◌, refl, subst, ap, option_copied, slice_index_or, [], drop}
+use Rattle.std.proofs.Common.{◌∙◌, refl, subst, ap, option_copied, slice_index_or, []}
 use Rattle.tv_cells.specs.Canvas.{Covers}
 use Rattle.tv_cells.specs.Picture.{Changes}
 use Rattle.tv_cells.specs.Rectangle.{sized}
