@@ -1,7 +1,6 @@
 //! Texts with at most one letter marked, which are written as `~A~mount`.
 
-ghost use Rattle.std.specs.Prelude.{◌≡◌, ◌≢◌, ◌<◌, ◌≤◌, ◌+◌, ◌++◌, [], ◌∷◌, length, chars, All, IsTrue, IfOk, IfErr, IfSome, IfNone, OnOk, OnErr, ℕ};
-ghost use Rattle.std.specs.Char.{is_ascii_alphanumeric};
+ghost use Rattle.std.specs.Prelude.{◌≡◌, ◌≢◌, ◌<◌, ◌≤◌, ◌+◌, ◌++◌, [], ◌∷◌, length, chars, All, IfOk, IfErr, IfSome, IfNone, OnOk};
 ghost use Rattle.tv_cells.specs.Glyph.{IsNarrow};
 ghost use Rattle.tv_cells.specs.HotText.{Hot, IsApart, IsHot, IsUnmarkable, Refuses, hot_of, letter_of, spelled, unmarked};
 

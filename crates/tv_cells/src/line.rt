@@ -1,7 +1,7 @@
 //! Numbers on one axis of the screen.
 
 ghost use Rattle.std.specs.Int.{int_gap, int_max, int_min};
-ghost use Rattle.std.specs.Prelude.{◌^◌, ◌↔◌, ◌≡◌, ◌≤◌, ◌<◌, ◌≤ℤ◌, ◌<ℤ◌, ◌+ℤ◌, IfSome, IfNone, IsTrue, ℕ, pos};
+ghost use Rattle.std.specs.Prelude.{◌^◌, ◌↔◌, ◌≡◌, ◌≤◌, ◌<◌, ◌≤ℤ◌, ◌<ℤ◌, IfSome, IfNone, IsTrue, ℕ, pos};
 ghost use Rattle.tv_cells.specs.Canvas.{IsAlong};
 
 // Whether a coordinate lies from one end on and before the other.

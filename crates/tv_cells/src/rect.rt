@@ -1,6 +1,6 @@
 //! Points and rectangles.
 
-ghost use Rattle.std.specs.Prelude.{◌≡◌, ◌↔◌, IsTrue, ℤ, ◌≤ℤ◌, ◌<ℤ◌, ◌+ℤ◌};
+ghost use Rattle.std.specs.Prelude.{◌≡◌, ◌↔◌, IsTrue, ℤ, ◌+ℤ◌};
 ghost use Rattle.std.specs.Int.{int_gap};
 ghost use Rattle.tv_cells.specs.Rectangle.{IsIn, cut, IsPointNear, IsRectNear, shifted, shifted_point};
 

@@ -1,6 +1,6 @@
 //! A screen of cells.
 
-ghost use Rattle.std.specs.Prelude.{◌≡◌, [], ◌≤◌, ◌<◌, ◌↔◌, ℕ, pos, IfOk, IfSome, IsSome, IsErrOf, ⊤};
+ghost use Rattle.std.specs.Prelude.{◌≡◌, [], ◌≤◌, ◌↔◌, ℕ, pos, IfOk, IfSome, IsSome, IsErrOf};
 ghost use Rattle.tv_cells.specs.Layers.{Shows};
 ghost use Rattle.tv_cells.specs.Picture.{Picture, IsAlike, IsOn, IsPlace, IsScreenSize, Changes, cell_at};
 ghost use Rattle.tv_cells.specs.Rectangle.{IsIn, sized};

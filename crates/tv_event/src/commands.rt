@@ -1,6 +1,6 @@
 //! Sets of commands.
 
-ghost use Rattle.std.specs.Prelude.{◌≡◌, ◌↔◌, ◌≢◌, ℕ, ◌<◌, ◌^◌, IsTrue};
+ghost use Rattle.std.specs.Prelude.{◌↔◌, ◌≢◌, ℕ, ◌<◌, IsTrue};
 ghost use Rattle.tv_event.specs.Commands.{Has};
 
 use crate::event::Command;

@@ -1,7 +1,7 @@
 //! Which kinds of event a view takes.
 
 ghost use Rattle.std.specs.Prelude.{⊤, ◌≡◌, ◌==◌, not, [], ◌∷◌, codes};
-ghost use Rattle.std.specs.Int.RustNames.{bit_and, bit_or};
+ghost use Rattle.std.specs.Int.RustNames.{bit_and};
 ghost use Rattle.tv_event.specs.Mask.{bit_of};
 
 use crate::event::Event;

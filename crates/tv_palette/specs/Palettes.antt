@@ -5,21 +5,13 @@ use Rattle.tv_palette.specs.declared.role.Owner.{Owner}
 use Rattle.tv_palette.specs.declared.role.Owner.TheVariants as owners
 use Rattle.tv_palette.specs.declared.role.Role.{Role}
 use Rattle.tv_palette.specs.declared.role.Role.TheVariants as roles
-use Rattle.tv_palette.specs.declared.role.BarRole.{BarRole}
 use Rattle.tv_palette.specs.declared.role.BarRole.TheVariants as bar
-use Rattle.tv_palette.specs.declared.role.StatusRole.{StatusRole}
 use Rattle.tv_palette.specs.declared.role.StatusRole.TheVariants as status
-use Rattle.tv_palette.specs.declared.role.FrameRole.{FrameRole}
 use Rattle.tv_palette.specs.declared.role.FrameRole.TheVariants as frame
-use Rattle.tv_palette.specs.declared.role.LabelRole.{LabelRole}
 use Rattle.tv_palette.specs.declared.role.LabelRole.TheVariants as label
-use Rattle.tv_palette.specs.declared.role.ButtonRole.{ButtonRole}
 use Rattle.tv_palette.specs.declared.role.ButtonRole.TheVariants as button
-use Rattle.tv_palette.specs.declared.role.ClusterRole.{ClusterRole}
 use Rattle.tv_palette.specs.declared.role.ClusterRole.TheVariants as cluster
-use Rattle.tv_palette.specs.declared.role.InputRole.{InputRole}
 use Rattle.tv_palette.specs.declared.role.InputRole.TheVariants as input
-use Rattle.tv_palette.specs.declared.role.ListRole.{ListRole}
 use Rattle.tv_palette.specs.declared.role.ListRole.TheVariants as list
 
 -- attributes, to which all other palettes lead

@@ -1,6 +1,6 @@
 //! The palettes from a view to the application.
 
-ghost use Rattle.std.specs.Prelude.{◌≡◌, ◌≤◌, ◌<◌, [], ◌∷◌, length, map, IsTrue, ◌↔◌};
+ghost use Rattle.std.specs.Prelude.{◌≡◌, ◌≤◌, ◌<◌, [], ◌∷◌, length, IsTrue, ◌↔◌};
 ghost use Rattle.tv_palette.specs.Chain.{attr_of};
 ghost use Rattle.tv_palette.specs.Entries.{entries_of};
 ghost use Rattle.tv_palette.specs.Palettes.{application, window, dialog};
