@@ -1,7 +1,8 @@
 -- What a line of a certificate is read as, and that it is its spelling.
-use Rattle.std.proofs.Common.{◌≡◌, ℕ, Bool, true, false, ◌&&◌, cond, List, [], ◌∷◌, Option, Some, None, refl, ap, ◌∙◌, subst}
+use Rattle.std.proofs.Common.{◌≡◌, ℕ, Bool, true, false, cond, List, [], ◌∷◌, Option, Some, None, refl, ap, ◌∙◌, subst}
 use Rattle.std.specs.Prelude.{ℤ, codes, IfSome, IsTrue}
 use Rattle.std.specs.Option.{option_map}
+use Rattle.std.proofs.lemmas.Bool.{and_parts}
 use Rattle.std.proofs.lemmas.Slice.Eq.{bytes_eq-Decides}
 use Rattle.tv_words.specs.declared.word.Word.{Word}
 use Rattle.tv_words.specs.declared.word.Word.TheVariants.{Bare, Quoted}
@@ -89,14 +90,10 @@ end_read [] e = absurd cc
 end_read (k ∷ []) e = ap (λ x. x ∷ []) (word_is k (codes "end") e)
 end_read (a ∷ b ∷ cs) e = absurd cc
 
-both : (a b : Bool) → (a && b) ≡ true → (a ≡ true) × (b ≡ true)
-both true b e = (refl, e)
-both false b e = absurd cc
-
 pub version_read : (ws : List Word) → is_version ws ≡ true → ws ≡ version_words
 version_read [] e = absurd cc
 version_read (a ∷ []) e = absurd cc
 version_read (k ∷ v ∷ []) e =
-    let r = both (is_bare_word k (codes "tvcert")) (is_bare_word v (codes "1")) e in
+    let r = and_parts (is_bare_word k (codes "tvcert")) (is_bare_word v (codes "1")) e in
     ap (λ x. x ∷ v ∷ []) (word_is k (codes "tvcert") r.0) ∙ ap (λ x. Bare (codes "tvcert") ∷ x ∷ []) (word_is v (codes "1") r.1)
 version_read (a ∷ b ∷ c ∷ ds) e = absurd cc

@@ -7,5 +7,6 @@ pub mod CertificateWords
 pub mod Firsts
 pub mod MadeSound
 pub mod MadeSpelled
+pub mod OwnersFound
 pub mod Planning
 pub mod SpelledDialogs

@@ -1,8 +1,8 @@
 -- The certificate that is made of a description is sound for it.
-use Rattle.std.proofs.Common.{◌≡◌, ◌≢◌, ℕ, ◌==◌, Bool, true, false, not, ◌&&◌, ◌||◌, List, [], ◌∷◌, ◌++◌, map, flat_map, filter_map, Option, Some, None, option_map, refl, sym, ap, ◌∙◌, append_assoc, eq-eqb, subst}
+use Rattle.std.proofs.Common.{◌≡◌, ◌≢◌, ℕ, ◌==◌, Bool, true, false, not, ◌&&◌, List, [], ◌∷◌, ◌++◌, map, flat_map, filter_map, Option, Some, None, option_map, refl, sym, ap, ◌∙◌, append_assoc, eq-eqb, subst}
 use Rattle.std.specs.Prelude.{All, bytes_eq, is_some, option_to_list, unwrap_or}
 use Rattle.std.specs.List.{AllByRecursion, list_all, list_any, cons_option}
-use Rattle.std.proofs.lemmas.Bool.{true≢false}
+use Rattle.std.proofs.lemmas.Bool.{and_parts, or_parts, not-true, true≢false}
 use Rattle.std.proofs.lemmas.List.{append-nil}
 use Rattle.std.proofs.lemmas.List.Elements.{All-from_recursion, All-head, All-tail, All-weaker}
 use Rattle.std.proofs.lemmas.Slice.Eq.{bytes_eq-Decides}
@@ -25,28 +25,12 @@ is_apart same (x ∷ xs) = list_all (λ y. not (same x y) && not (same y x)) xs 
 abbrev Differ : {A : Type 0} → (A → A → Bool) → A → A → Type 0
 Differ same x y = (same x y ≡ false) × (same y x ≡ false)
 
-false_of : (b : Bool) → not b ≡ true → b ≡ false
-false_of true e = absurd cc
-false_of false e = refl
-
-parts : (a b : Bool) → (a && b) ≡ true → (a ≡ true) × (b ≡ true)
-parts true b e = (refl, e)
-parts false b e = absurd cc
-
 all_differ : {A : Type 0} (same : A → A → Bool) (x : A) (xs : List A) → list_all (λ y. not (same x y) && not (same y x)) xs ≡ true → AllByRecursion (Differ same x) xs
 all_differ same x [] e = tt
 all_differ same x (y ∷ ys) e =
-    let here = parts (not (same x y) && not (same y x)) (list_all (λ z. not (same x z) && not (same z x)) ys) e in
-    let each = parts (not (same x y)) (not (same y x)) here.0 in
-    ((false_of (same x y) each.0, false_of (same y x) each.1), all_differ same x ys here.1)
-
-or_left : (a b : Bool) → (a || b) ≡ false → a ≡ false
-or_left true b e = e
-or_left false b e = refl
-
-or_right : (a b : Bool) → (a || b) ≡ false → b ≡ false
-or_right true b e = absurd cc
-or_right false b e = e
+    let here = and_parts (not (same x y) && not (same y x)) (list_all (λ z. not (same x z) && not (same z x)) ys) e in
+    let each = and_parts (not (same x y)) (not (same y x)) here.0 in
+    ((not-true (same x y) each.0, not-true (same y x) each.1), all_differ same x ys here.1)
 
 -- from two facts of each item a third
 both : {A : Type 0} (P Q R : A → Type 0) → ((x : A) → P x → Q x → R x) → (xs : List A) → AllByRecursion P xs → AllByRecursion Q xs → AllByRecursion R xs
@@ -56,7 +40,7 @@ both P Q R f (x ∷ xs) p q = (f x p.0 q.0, both P Q R f xs p.1 q.1)
 -- ---- key lines of letters
 
 module _ (owner : ℕ → Option Owner) where
-  abbrev lines_for : List ℕ → List KeyLine
+  abbrev pub lines_for : List ℕ → List KeyLine
   lines_for ls = filter_map (λ letter. option_map (key_line letter) (owner letter)) ls
 
   abbrev alike : ℕ → ℕ → Bool
@@ -81,7 +65,7 @@ module _ (owner : ℕ → Option Owner) where
   each_named : (ls : List ℕ) → is_apart alike ls ≡ true → AllByRecursion (λ letter. owners_in (lines_for ls) letter ≡ option_to_list (owner letter)) ls
   each_named [] apart = tt
   each_named (l ∷ ls) apart =
-      let split = parts (list_all (λ y. not (l == y) && not (y == l)) ls) (is_apart alike ls) apart in
+      let split = and_parts (list_all (λ y. not (l == y) && not (y == l)) ls) (is_apart alike ls) apart in
       let others = all_differ alike l ls split.0 in (
         here l (owner l) (lines_for ls) (self l) (no_line l ls others),
         both (Differ alike l) (λ letter. owners_in (lines_for ls) letter ≡ option_to_list (owner letter)) (λ letter. owners_in (lines_for (l ∷ ls)) letter ≡ option_to_list (owner letter))
@@ -109,7 +93,7 @@ HasKeys ds d = key_lines (map block_of ds) (dialog_name d) ≡ keys_of d
 each_block : (ds : List Dialog) → is_apart named_alike ds ≡ true → AllByRecursion (HasKeys ds) ds
 each_block [] apart = tt
 each_block (d ∷ ds) apart =
-    let split = parts (list_all (λ y. not (named_alike d y) && not (named_alike y d)) ds) (is_apart named_alike ds) apart in
+    let split = and_parts (list_all (λ y. not (named_alike d y) && not (named_alike y d)) ds) (is_apart named_alike ds) apart in
     let others = all_differ named_alike d ds split.0 in (
       own_block d ds (no_block d ds others),
       both (Differ named_alike d) (HasKeys ds) (HasKeys (d ∷ ds)) (λ e differ later. other_block d (dialog_name e) ds differ.0 ∙ later) ds others (each_block ds split.1),
@@ -162,8 +146,8 @@ names_differ x y nx ny e same = absurd (true≢false (sym (shared (name_of y.nod
 
 -- among many, this one doesn't pass
 not_this : (p : Dialog → Bool) (a b : List Dialog) (x : Dialog) → list_any p (a ++ x ∷ b) ≡ false → p x ≡ false
-not_this p [] b x e = or_left (p x) (list_any p b) e
-not_this p (y ∷ a) b x e = not_this p a b x (or_right (p y) (list_any p (a ++ x ∷ b)) e)
+not_this p [] b x e = (or_parts (p x) (list_any p b) e).0
+not_this p (y ∷ a) b x e = not_this p a b x (or_parts (p y) (list_any p (a ++ x ∷ b)) e).1
 
 abbrev IsNewName : List Dialog × Dialog → Type 0
 IsNewName pair = list_any (λ other. shares_name pair.1.node other.node) pair.0 ≡ false

@@ -32,7 +32,7 @@ second_of : (xs ys : List Declaration) → AllByRecursion HasKind (xs ++ ys) →
 second_of [] ys have = have
 second_of (x ∷ xs) ys have = second_of xs ys have.1
 
-abbrev ViewKind : Node → Type 0
+abbrev pub ViewKind : Node → Type 0
 ViewKind view = IsKind view.kind
 
 view_kinds : (panes : ℕ) (views : List Node) → AllByRecursion HasKind (view_declarations panes views) → AllByRecursion ViewKind views

@@ -1,9 +1,10 @@
 -- Certificates, and which of them are sound for a description.
-use Rattle.std.specs.Prelude.{◌≡◌, ℕ, ◌==◌, List, map, filter, flat_map, filter_map, option_map, option_to_list, All, bytes_eq}
+use Rattle.std.specs.Prelude.{◌≡◌, ℕ, ◌==◌, List, IfSome, map, filter, flat_map, filter_map, option_map, option_to_list, All, bytes_eq}
 use Rattle.tv_model.specs.declared.desc.Desc.{Desc}
 use Rattle.tv_model.specs.declared.desc.Dialog.{Dialog}
 use Rattle.tv_model.specs.Owners.{Owner, owner_of}
 use Rattle.tv_model.specs.Certificates.{dialog_name, letters, tab_order, tabs_of}
+use Rattle.tv_words.specs.Fields.{IsNumber}
 use Rattle.tv_check.specs.declared.certificate.Block.{Block}
 use Rattle.tv_check.specs.declared.certificate.KeyLine.{KeyLine}
 
@@ -40,6 +41,10 @@ pub record IsSoundCertificate (d : Desc) (blocks : List Block) : Type 0 where
   pub owners : All (NamesOwners blocks) d.dialogs
 
 -- ---- the certificate that is made of a description
+
+-- the number of its item, if any, is one that a text can have
+abbrev pub FitsKeyLine : Owner → Type 0
+FitsKeyLine owner = IfSome owner.item IsNumber
 
 abbrev pub key_line : ℕ → Owner → KeyLine
 key_line letter owner = record { letter = letter; owner = owner.name; item = owner.item }

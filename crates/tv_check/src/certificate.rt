@@ -38,8 +38,8 @@ pub struct KeyLine {
     pub letter: char,
     /// The name of a control.
     pub owner: Chars,
-    /// The item, counted from 1, where an item of a cluster marks the letter. It is wide enough for the place of any.
-    pub item: Option<i128>,
+    /// The item, counted from 1, where an item of a cluster marks the letter.
+    pub item: Option<i32>,
 }
 
 impl Certificate {

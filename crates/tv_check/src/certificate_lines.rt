@@ -210,12 +210,12 @@ fn letter_in(word: &Word) -> Option<char>
 }
 
 // The number at the end of a key line, where there is one.
-fn item_in(words: &[Word]) -> Option<Option<i128>>
+fn item_in(words: &[Word]) -> Option<Option<i32>>
     ensures { result ≡ item_in words.now }
 {
     match words {
         [] => Some(None),
-        [word] => Some(Some(i128::from(word.number()?))),
+        [word] => Some(Some(word.number()?)),
         _ => None,
     }
 }

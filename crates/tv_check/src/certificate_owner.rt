@@ -1,11 +1,11 @@
 //! The owners of a dialog's shortcut letters.
 
 ghost use Rattle.std.specs.Prelude.{◌≡◌, ◌↔◌, IsTrue, option_copied, option_map, is_some, position};
-ghost use Rattle.tv_check.specs.Certificates.{owner_named};
-ghost use Rattle.tv_check.specs.Lent.{lent_owner};
+ghost use Rattle.tv_check.specs.Certificates.{FitsKeyLine, owner_named};
+ghost use Rattle.tv_check.specs.Lent.{item_number, lent_owner};
 ghost use Rattle.tv_model.specs.Certificates.{letters};
 ghost use Rattle.tv_model.specs.Faults.Letters.{marks};
-ghost use Rattle.tv_model.specs.Owners.{item_at, marker_of, owner_by, owner_of};
+ghost use Rattle.tv_model.specs.Owners.{marker_of, owner_by, owner_of};
 
 use crate::certificate::KeyLine;
 use tv_faults::marks;
@@ -22,11 +22,11 @@ pub fn letters() -> &'static [char]
     ]
 }
 
-/// What a letter acts on: a control, or an item of one, counted from 1.
+/// What a letter acts on: a control, or the item at a place of one.
 #[derive(Drop)]
 pub struct Owner<'a> {
     pub name: &'a Chars,
-    pub item: Option<i128>,
+    pub place: Option<usize>,
 }
 
 impl<'a> Owner<'a> {
@@ -34,7 +34,26 @@ impl<'a> Owner<'a> {
     pub fn is_named(&self, line: &KeyLine) -> bool
         ensures { IsTrue result ↔ (owner_named line.now ≡ lent_owner self.now) }
     {
-        line.owner.is(self.name) && line.item == self.item
+        line.owner.is(self.name) && is_number_of(line.item, self.place)
+    }
+
+    /// The number of the item, counted from 1.
+    pub fn item(&self) -> Option<i32>
+        requires { FitsKeyLine (lent_owner self.now) }
+        ensures { result ≡ option_map item_number self.now.place }
+    {
+        Some(self.place? as i32 + 1)
+    }
+}
+
+// Whether the number of a key line, counted from 1, is that of the item at the place, or both are missing.
+fn is_number_of(number: Option<i32>, place: Option<usize>) -> bool
+    ensures { IsTrue result ↔ (number ≡ option_map item_number place) }
+{
+    match (number, place) {
+        (Some(number), Some(place)) => i128::from(number) == place as i128 + 1,
+        (None, None) => true,
+        _ => false,
     }
 }
 
@@ -45,15 +64,6 @@ fn marked(items: &[MarkedText], letter: char) -> Option<usize>
     items.iter().position(|item| marks(letter, item))
 }
 
-fn item_at(name: &Chars, place: usize) -> Owner
-    ensures { lent_owner result ≡ item_at name.now place }
-{
-    Owner {
-        name,
-        item: Some(place as i128 + 1),
-    }
-}
-
 /// What the letter acts on, where the declaration marks it.
 fn owner_by(kind: &Kind, letter: char) -> Option<Owner>
     ensures { option_map lent_owner result ≡ owner_by letter kind.now }
@@ -61,12 +71,12 @@ fn owner_by(kind: &Kind, letter: char) -> Option<Owner>
     match kind {
         Kind::Label { text, link } if marks(letter, text) => Some(Owner {
             name: link,
-            item: None,
+            place: None,
         }),
-        Kind::Button { name, text, .. } if marks(letter, text) => Some(Owner { name, item: None }),
+        Kind::Button { name, text, .. } if marks(letter, text) => Some(Owner { name, place: None }),
         Kind::CheckBoxes { name, items, .. } | Kind::RadioButtons { name, items, .. } => {
-            let place = marked(items.as_slice(), letter)?;
-            Some(item_at(name, place))
+            let place = Some(marked(items.as_slice(), letter)?);
+            Some(Owner { name, place })
         }
         _ => None,
     }

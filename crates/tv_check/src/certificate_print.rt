@@ -27,7 +27,7 @@ fn letter_word(alloc: Global, letter: char) -> Result<Word, AllocError>
     Ok(Word::Bare(chars))
 }
 
-fn number_word(alloc: Global, number: i128) -> Result<Word, AllocError>
+fn number_word(alloc: Global, number: i32) -> Result<Word, AllocError>
     ensures { IfOk result (λ word. word ≡ number_word number) }
 {
     let digits = number.to_string(alloc)?;

@@ -3,8 +3,9 @@
 ghost use Rattle.std.specs.Prelude.{◌≡◌, ◌∷◌, [], List, IfOk, IfErr, MatchOption, option_copied};
 ghost use Rattle.tv_model.specs.Certificates.{control_name, dialog_name, tabs_of};
 ghost use Rattle.tv_model.specs.Faults.{IsSound};
+ghost use Rattle.tv_faults.specs.Usable.{HasLawfulCounts};
 ghost use Rattle.tv_model.specs.declared.fault.Fault.{Fault as SeenFault};
-ghost use Rattle.tv_check.specs.Certificates.{IsSoundCertificate, block_of, certificate_of, key_line, keys_of};
+ghost use Rattle.tv_check.specs.Certificates.{FitsKeyLine, IsSoundCertificate, block_of, certificate_of, key_line, keys_of};
 ghost use Rattle.tv_check.specs.CertificateTexts.{IsSpelledCertificate};
 ghost use Rattle.tv_check.specs.Lent.{lent_owner};
 ghost use Rattle.tv_lang.specs.CanonicalDescription.{CanBeSpelled};
@@ -76,16 +77,18 @@ fn tabs_of(alloc: Global, dialog: &Dialog) -> Result<Sequence<Chars>, AllocError
 }
 
 fn key_line(alloc: Global, letter: char, owner: &Owner) -> Result<KeyLine, AllocError>
+    requires { FitsKeyLine (lent_owner owner.now) }
     ensures { IfOk result (λ line. line ≡ key_line letter (lent_owner owner.now)) }
 {
     Ok(KeyLine {
         letter,
         owner: copy(alloc, owner.name)?,
-        item: owner.item,
+        item: owner.item(),
     })
 }
 
 fn keys_of(alloc: Global, dialog: &Dialog) -> Result<Sequence<KeyLine>, AllocError>
+    requires { HasLawfulCounts dialog.now }
     ensures { IfOk result (λ keys. keys ≡ keys_of dialog.now) }
 {
     let mut keys = Sequence::new(alloc);
@@ -98,6 +101,7 @@ fn keys_of(alloc: Global, dialog: &Dialog) -> Result<Sequence<KeyLine>, AllocErr
 }
 
 fn block_of(alloc: Global, dialog: &Dialog) -> Result<Block, AllocError>
+    requires { HasLawfulCounts dialog.now }
     ensures { IfOk result (λ block. block ≡ block_of dialog.now) }
 {
     Ok(Block {
@@ -108,6 +112,7 @@ fn block_of(alloc: Global, dialog: &Dialog) -> Result<Block, AllocError>
 }
 
 fn certificate_of(alloc: Global, desc: &Desc) -> Result<Certificate, AllocError>
+    requires { IsSound desc.now }
     ensures { IfOk result (λ certificate. certificate ≡ certificate_of desc.now) }
 {
     let mut blocks = Sequence::new(alloc);

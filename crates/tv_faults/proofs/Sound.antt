@@ -1,7 +1,7 @@
 -- What follows from the want of each fault.
 use Rattle.std.proofs.Common.{◌≡◌, ℕ, suc, ◌+◌, ◌<◌, ◌≤◌, ◌==◌, inl, inr, Bool, true, false, not, ◌&&◌, ◌||◌, cond, List, [], ◌∷◌, ◌++◌, length, get_or, map, filter, flat_map, Some, ℤ, pos, neg_ℤ, int_le, nat_le, refl, sym, ap, ◌∙◌, arith}
 use Rattle.std.specs.List.{All, list_any}
-use Rattle.std.proofs.lemmas.Bool.{and_parts, not-false, leb-true, eqb-false, cases_lt, true≢false}
+use Rattle.std.proofs.lemmas.Bool.{and_parts, or_parts, not-true, not-false, leb-true, eqb-false, cases_lt}
 use Rattle.std.proofs.lemmas.List.Elements.{All-nil, All-cons, All-head, All-tail, All-same}
 use Rattle.std.proofs.Math.Bool.{or-false}
 use Rattle.tv_model.specs.Thin.{IsThin}
@@ -18,7 +18,7 @@ use Rattle.tv_model.specs.Faults.Rules.{is_always_free}
 use Rattle.tv_model.specs.Faults.Starts.{means_dialog}
 use Rattle.tv_model.specs.Faults.Names.{gives_name}
 use Rattle.tv_model.specs.Faults.{IsSound, after_seen, all_kinds, command_of, desktop, dialog_has, dialog_lines, dialog_named_again, fault_at, fault_lines, faults_at, has_wide, head_lines, is_lawful, is_lawful_number, is_lawful_screen, is_wide_text, is_within, least_height, least_width, line_if, menu_lines, place_of_node, rule_lines, shown_texts, status_lines, texts_of, view_has, view_lines, window_lines}
-use Rattle.tv_faults.specs.Usable.{IsBetween, IsLimited, IsNarrowNode, IsUsable, IsUsableDialog}
+use Rattle.tv_faults.specs.Usable.{HasLawfulCounts, IsBetween, IsLimited, IsNarrowNode, IsUsable, IsUsableDialog}
 use Rattle.tv_faults.proofs.Areas.{le_says}
 
 -- ---- lists without items
@@ -51,10 +51,6 @@ none_of : {A : Type 0} (p : A → Bool) (xs : List A) → list_any p xs ≡ fals
 none_of p [] e = All-nil (λ x. p x ≡ false)
 none_of p (x ∷ xs) e = let f : (p x ≡ false) × (list_any p xs ≡ false) = or_parts (p x) (list_any p xs) e in
     All-cons (λ x. p x ≡ false) x xs f.0 (none_of p xs f.1)
-  where
-    or_parts : (a b : Bool) → (a || b) ≡ false → (a ≡ false) × (b ≡ false)
-    or_parts true b e = absurd (true≢false e)
-    or_parts false b e = (refl, e)
 
 -- ---- the views without a fault
 
@@ -122,10 +118,6 @@ lawful_says node e =
           (not-false (nat_le (length (get_or (texts_of node.kind) i text)) 120) (none_of is_too_long (texts_of node.kind) (not-true (list_any is_too_long (texts_of node.kind)) k.1) i text less));
       command = k.0;
     }
-  where
-    not-true : (b : Bool) → not b ≡ true → b ≡ false
-    not-true true t = absurd (true≢false (sym t))
-    not-true false t = refl
 
 -- ---- a sound description can be used
 
@@ -134,13 +126,9 @@ narrow_says node e i text less k ch within =
     let shown : List ℕ = get_or (shown_texts node.kind) i text in
     not-false (is_narrow (get_or shown k ch)) (none_of (λ ch. not (is_narrow ch)) shown (none_of is_wide_text (shown_texts node.kind) e i text less) k ch within)
 
-or_left : (a b : Bool) → (a || b) ≡ false → a ≡ false
-or_left true b e = e
-or_left false b e = refl
-
-or_right : (a b : Bool) → (a || b) ≡ false → b ≡ false
-or_right true b e = absurd (true≢false e)
-or_right false b e = e
+-- where there is neither fault, what the first asks for holds
+first_holds : (a b : Bool) → (not a || b) ≡ false → a ≡ true
+first_holds a b e = not-false a (or_parts (not a) b e).0
 
 length_seen : {A : Type 0} (seen : List A) (x : A) → length (seen ++ x ∷ []) ≡ suc (length seen)
 length_seen [] x = refl
@@ -179,9 +167,9 @@ control_after seen (x ∷ xs) = ap (λ b. is_control x.kind || b) (control_after
 usable_dialog : (d : Desc) (before : List Dialog) (dialog : Dialog) → Lacks faults.OutsideOwner d before dialog → Lacks faults.Overlap d before dialog → Lacks faults.NothingToFocus d before dialog → Lacks faults.MissingEnd d before dialog
     → Lacks faults.WideCharacter d before dialog → Lacks faults.OutsideLimits d before dialog → IsUsableDialog d dialog
 usable_dialog d before dialog outside over focus end wide limits = record {
-  nodes = All-cons IsLimited dialog.node dialog.views (lawful_says dialog.node (not-false (is_lawful dialog.node) (or_left _ _ limits.head)))
-      (each_after IsLimited [] dialog.views (λ i pair less. lawful_says (get_or (after_seen [] dialog.views) i pair).1 (not-false (is_lawful (get_or (after_seen [] dialog.views) i pair).1) (or_left _ _ (limits.each i pair less)))));
-  few = few_all dialog.views (λ i pair less. or_left _ _ (or_right (not (is_lawful (get_or (after_seen [] dialog.views) i pair).1)) _ (limits.each i pair less)));
+  nodes = All-cons IsLimited dialog.node dialog.views (lawful_says dialog.node (first_holds (is_lawful dialog.node) _ limits.head))
+      (each_after IsLimited [] dialog.views (λ i pair less. lawful_says (get_or (after_seen [] dialog.views) i pair).1 (first_holds (is_lawful (get_or (after_seen [] dialog.views) i pair).1) _ (limits.each i pair less))));
+  few = few_all dialog.views (λ i pair less. (or_parts (length (get_or (after_seen [] dialog.views) i pair).0 == 64) _ (or_parts (not (is_lawful (get_or (after_seen [] dialog.views) i pair).1)) _ (limits.each i pair less)).1).0);
   narrow = All-cons IsNarrowNode dialog.node dialog.views (narrow_says dialog.node wide.head)
       (each_after IsNarrowNode [] dialog.views (λ i pair less. narrow_says (get_or (after_seen [] dialog.views) i pair).1 (wide.each i pair less)));
   within = not-false (is_within (place_of_node dialog.node) (desktop d)) outside.head;
@@ -222,11 +210,11 @@ new_names d sound i pair less =
     (lacks faults.NameTwice d here.0 here.1 (no_dialog d sound faults.NameTwice (no_lines d sound 0 (omega arith)) i pair less)).head
 
 -- no cluster or list has too many items
-pub lawful_counts : (d : Desc) → IsSound d → All (λ dialog. All (λ view. is_lawful_count view.kind ≡ true) dialog.views) d.dialogs
-lawful_counts d sound = each_after (λ dialog. All (λ view. is_lawful_count view.kind ≡ true) dialog.views) [] d.dialogs (λ i pair less.
+pub lawful_counts : (d : Desc) → IsSound d → All HasLawfulCounts d.dialogs
+lawful_counts d sound = each_after HasLawfulCounts [] d.dialogs (λ i pair less.
     let here : List Dialog × Dialog = get_or (after_seen [] d.dialogs) i pair in
     let limits : Lacks faults.OutsideLimits d here.0 here.1 = lacks faults.OutsideLimits d here.0 here.1 (no_dialog d sound faults.OutsideLimits (no_lines d sound 14 (omega arith)) i pair less) in
-    each_after (λ view. is_lawful_count view.kind ≡ true) [] here.1.views (λ k view below. count_says (get_or (after_seen [] here.1.views) k view).1 (not-false (is_lawful (get_or (after_seen [] here.1.views) k view).1) (or_left _ _ (limits.each k view below)))))
+    each_after (λ view. is_lawful_count view.kind ≡ true) [] here.1.views (λ k view below. count_says (get_or (after_seen [] here.1.views) k view).1 (first_holds (is_lawful (get_or (after_seen [] here.1.views) k view).1) _ (limits.each k view below))))
   where
     count_says : (node : Node) → is_lawful node ≡ true → is_lawful_count node.kind ≡ true
     count_says node e =

@@ -11,7 +11,7 @@ use Rattle.tv_model.specs.LogText.{dialog_nodes}
 use Rattle.tv_model.specs.Faults.Lines.{after_seen}
 use Rattle.tv_model.specs.Faults.Places.{desktop, is_within, overlaps_earlier, owner_of, place_of_node, room_in}
 use Rattle.tv_model.specs.Faults.Texts.{shown_texts, texts_of}
-use Rattle.tv_model.specs.Faults.Limits.{command_of, is_lawful_number, least_height, least_width}
+use Rattle.tv_model.specs.Faults.Limits.{command_of, is_lawful_count, is_lawful_number, least_height, least_width}
 
 abbrev pub IsBetween : ℤ → ℤ → ℤ → Type 0
 IsBetween least greatest n = (least ≤ℤ n) × (n ≤ℤ greatest)
@@ -36,6 +36,10 @@ AreInside frame views = All (λ pair. is_within (place_of_node pair.1) (room_in 
 -- no two views of one owner have a point in common that may not
 abbrev pub AreApart : List Node → Type 0
 AreApart views = All (λ pair. overlaps_earlier pair.0 pair.1 ≡ false) (after_seen [] views)
+
+-- no cluster or list of the dialog has too many items, or none
+abbrev pub HasLawfulCounts : Dialog → Type 0
+HasLawfulCounts dialog = All (λ view. is_lawful_count view.kind ≡ true) dialog.views
 
 -- a dialog that can be shown, focused and cancelled
 pub record IsUsableDialog (d : Desc) (dialog : Dialog) : Type 0 where

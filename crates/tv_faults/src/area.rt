@@ -10,7 +10,7 @@ use tv_model::{Desc, Kind, Node};
 
 /// A rectangle of any size and place, half open: it has its left column and its top row, and lacks the right column
 /// and the bottom row. It is wide enough for the sums of any two coordinates of a description.
-#[derive(Clone, Copy, Debug, PartialEq, Eq)]
+#[derive(Clone, Copy)]
 pub struct Area {
     left: i128,
     top: i128,

@@ -15,6 +15,5 @@ mod places;
 mod rules;
 mod texts;
 
-pub use area::Area;
 pub use letters::marks;
 pub use list::faults;

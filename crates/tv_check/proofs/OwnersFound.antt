@@ -1,0 +1,100 @@
+-- What the owners are that the views of a dialog give to a letter.
+use Rattle.std.proofs.Common.{◌≡◌, ℕ, ◌+◌, ◌<◌, ◌≤◌, nat_le, Bool, true, false, ◌&&◌, cond, List, [], ◌∷◌, length, Option, Some, None, option_map, refl, arith}
+use Rattle.std.specs.Prelude.{pos, IfSome, find, is_some, position, option_and_then}
+use Rattle.std.specs.List.{AllByRecursion}
+use Rattle.std.proofs.lemmas.Bool.{and_parts, leb-true}
+use Rattle.std.proofs.lemmas.List.Elements.{recursion_from_All}
+use Rattle.std.proofs.lemmas.List.Quantifiers.{position-Some}
+use Rattle.tv_model.specs.declared.node.Node.{Node}
+use Rattle.tv_model.specs.declared.node.MarkedText.{MarkedText}
+use Rattle.tv_model.specs.declared.node.Kind.{Kind}
+use Rattle.tv_model.specs.declared.node.Kind.TheVariants as kinds
+use Rattle.tv_model.specs.declared.desc.Dialog.{Dialog}
+use Rattle.tv_model.specs.Owners.{Owner, control, item_at, marker_of, owner_by, owner_of}
+use Rattle.tv_model.specs.Faults.Letters.{marks}
+use Rattle.tv_model.specs.Faults.Limits.{is_lawful_count}
+use Rattle.tv_declarations.specs.Spelling.Nodes.{IsKind}
+use Rattle.tv_words.specs.Fields.{IsName, IsNumber}
+use Rattle.tv_faults.specs.Usable.{HasLawfulCounts}
+use Rattle.tv_check.specs.Certificates.{FitsKeyLine}
+use Rattle.tv_check.proofs.SpelledDialogs.{ViewKind}
+
+-- what an owner is by every view that may give it, it is by the dialog
+module _ (Q : Kind → Type 0) (P : Owner → Type 0) (letter : ℕ) (each : (kind : Kind) → Q kind → IfSome (owner_by letter kind) P) where
+  abbrev Has : Node → Type 0
+  Has view = Q view.kind
+
+  found_in : (p : Node → Bool) (b : Bool) (view : Node) (views : List Node) → Has view → IfSome (find p views) Has → IfSome (cond b (Some view) (find p views)) Has
+  found_in p true view views here later = here
+  found_in p false view views here later = later
+
+  found : (p : Node → Bool) (views : List Node) → AllByRecursion Has views → IfSome (find p views) Has
+  found p [] are = tt
+  found p (view ∷ views) are = found_in p (p view) view views are.0 (found p views are.1)
+
+  given : (o : Option Node) → IfSome o Has → IfSome (option_and_then (λ node. owner_by letter node.kind) o) P
+  given None is = tt
+  given (Some view) is = each view.kind is
+
+  owner_has : (dialog : Dialog) → AllByRecursion Has dialog.views → IfSome (owner_of dialog letter) P
+  owner_has dialog are = given (marker_of dialog letter) (found (λ node. is_some (owner_by letter node.kind)) dialog.views are)
+
+owner_if : (P : Owner → Type 0) (b : Bool) (owner : Owner) → P owner → IfSome (cond b (Some owner) None) P
+owner_if P true owner is = is
+owner_if P false owner is = tt
+
+item_if : (P : Owner → Type 0) (name : List ℕ) (o : Option ℕ) → ((place : ℕ) → o ≡ Some place → P (item_at name place)) → IfSome (option_map (item_at name) o) P
+item_if P name None each = tt
+item_if P name (Some place) each = each place refl
+
+-- ---- names
+
+abbrev pub HasName : Owner → Type 0
+HasName owner = IsName owner.name
+
+kind_named : (letter : ℕ) (kind : Kind) → IsKind kind → IfSome (owner_by letter kind) HasName
+kind_named letter (kinds.Label text link) own = owner_if HasName (marks letter text) (control link) own.1
+kind_named letter (kinds.Button name text command is_default grabs) own = owner_if HasName (marks letter text) (control name) own.0
+kind_named letter (kinds.CheckBoxes name items start) own = item_if HasName name (position (marks letter) items) (λ place e. own.0)
+kind_named letter (kinds.RadioButtons name items start) own = item_if HasName name (position (marks letter) items) (λ place e. own.0)
+kind_named letter (kinds.Input name spec start validates) own = tt
+kind_named letter (kinds.List name h items start) own = tt
+kind_named letter (kinds.Dialog name h title opens ends) own = tt
+kind_named letter (kinds.Window name h number title) own = tt
+kind_named letter (kinds.Text h text) own = tt
+kind_named letter (kinds.Pane name h) own = tt
+
+pub owner_named : (dialog : Dialog) (letter : ℕ) → AllByRecursion ViewKind dialog.views → IfSome (owner_of dialog letter) HasName
+owner_named dialog letter are = owner_has IsKind HasName letter (kind_named letter) dialog are
+
+-- ---- numbers of items
+
+abbrev IsLawfulCount : Kind → Type 0
+IsLawfulCount kind = is_lawful_count kind ≡ true
+
+place_fits : (n : ℕ) (place : ℕ) → (nat_le 1 n && nat_le n 16) ≡ true → place < n → IsNumber (pos (place + 1))
+place_fits n place lawful less =
+    let high : n ≤ 16 = leb-true n 16 (and_parts (nat_le 1 n) (nat_le n 16) lawful).1 in
+    record { sfits = omega arith }
+
+no_item : MarkedText
+no_item = record { text = []; mark = None }
+
+item_fits : (letter : ℕ) (name : List ℕ) (items : List MarkedText) → (nat_le 1 (length items) && nat_le (length items) 16) ≡ true → IfSome (option_map (item_at name) (position (marks letter) items)) FitsKeyLine
+item_fits letter name items lawful =
+    item_if FitsKeyLine name (position (marks letter) items) (λ place e. place_fits (length items) place lawful (position-Some (marks letter) items place no_item e).0)
+
+kind_fits : (letter : ℕ) (kind : Kind) → IsLawfulCount kind → IfSome (owner_by letter kind) FitsKeyLine
+kind_fits letter (kinds.Label text link) lawful = owner_if FitsKeyLine (marks letter text) (control link) tt
+kind_fits letter (kinds.Button name text command is_default grabs) lawful = owner_if FitsKeyLine (marks letter text) (control name) tt
+kind_fits letter (kinds.CheckBoxes name items start) lawful = item_fits letter name items lawful
+kind_fits letter (kinds.RadioButtons name items start) lawful = item_fits letter name items lawful
+kind_fits letter (kinds.Input name spec start validates) lawful = tt
+kind_fits letter (kinds.List name h items start) lawful = tt
+kind_fits letter (kinds.Dialog name h title opens ends) lawful = tt
+kind_fits letter (kinds.Window name h number title) lawful = tt
+kind_fits letter (kinds.Text h text) lawful = tt
+kind_fits letter (kinds.Pane name h) lawful = tt
+
+pub owner_fits : (dialog : Dialog) (letter : ℕ) → HasLawfulCounts dialog → IfSome (owner_of dialog letter) FitsKeyLine
+owner_fits dialog letter lawful = owner_has IsLawfulCount FitsKeyLine letter (kind_fits letter) dialog (recursion_from_All (λ view. is_lawful_count view.kind ≡ true) dialog.views lawful)
