@@ -45,11 +45,7 @@ pub fn declared(
     read(alloc, at, words)
 }
 
-fn read(
-    alloc: Global,
-    at: Position,
-    words: &[Word],
-) -> Result<Option<Declaration>, AllocError>
+fn read(alloc: Global, at: Position, words: &[Word]) -> Result<Option<Declaration>, AllocError>
     ensures { IfOk result (λ found. found ≡ declaration_in at words.now) }
 {
     match words {
