@@ -3,7 +3,7 @@
 use tv_cells::Point;
 
 /// A key, or a character that was typed.
-#[derive(Clone, Copy, Debug, PartialEq, Eq)]
+#[derive(Clone, Copy, Debug, PartialEq, Eq, Hash)]
 pub enum Key {
     Tab,
     ShiftTab,

@@ -7,11 +7,11 @@ use crate::sequence::Sequence;
 use tv_valid::{Chars, InputSpec};
 
 /// A node of a description, by the line of its declaration in the canonical text, counted from 1.
-#[derive(Clone, Copy, Debug, Default, PartialEq, Eq)]
+#[derive(Clone, Copy, Debug, Default, PartialEq, Eq, Hash)]
 pub struct Id(pub u32);
 
 /// A command as a description names it: by a word, or by a number, which is to be 100 to 255.
-#[derive(Clone, Copy, Debug, PartialEq, Eq)]
+#[derive(Clone, Copy, Debug, PartialEq, Eq, Hash)]
 pub enum CommandSpec {
     Quit,
     Menu,
