@@ -1,4 +1,5 @@
 pub mod Areas
+pub mod EachAfter
 pub mod Lists
 pub mod ManyKinds
 pub mod Ordered

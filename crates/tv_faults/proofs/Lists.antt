@@ -9,7 +9,7 @@ pub any_map : {A B : Type 0} (p : B → Bool) (f : A → B) (xs : List A) → li
 any_map p f [] = refl
 any_map p f (x ∷ xs) = ap (λ b. p (f x) || b) (any_map p f xs)
 
-joined : {A B : Type 0} (f : A → B) (found : List B) (xs ys : List A) → (found ++ map f xs) ++ map f ys ≡ found ++ map f (xs ++ ys)
+pub joined : {A B : Type 0} (f : A → B) (found : List B) (xs ys : List A) → (found ++ map f xs) ++ map f ys ≡ found ++ map f (xs ++ ys)
 joined f found xs ys = append_assoc found (map f xs) (map f ys) ∙ ap (λ list. found ++ list) (sym (map-append f xs ys))
 
 -- five parts that are added one after the other

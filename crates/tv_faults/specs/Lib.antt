@@ -1,3 +1,4 @@
+pub mod Each
 pub mod Order
 pub mod Reach
 pub mod Usable

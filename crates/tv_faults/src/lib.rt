@@ -6,6 +6,7 @@ mod conditions;
 mod domains;
 mod ends;
 mod focus;
+mod judged;
 mod keys;
 mod letters;
 mod limits;

@@ -5,10 +5,11 @@ ghost use Rattle.tv_model.specs.Faults.{after_seen, dialog_lines, fault_at, faul
 ghost use Rattle.tv_faults.specs.Order.{AreInOrder, AreLinesRising};
 ghost use Rattle.tv_faults.specs.Usable.{IsUsable};
 
-use crate::conditions::{
-    dialog_has, item_has, menu_has, rule_has, status_has, view_has, window_has,
-};
 use crate::ends::starts_nowhere;
+use crate::judged::{
+    faulty_dialogs, faulty_items, faulty_menus, faulty_rules, faulty_status_items, faulty_views,
+    faulty_windows,
+};
 use crate::limits::is_lawful_screen;
 use std::alloc::{AllocError, Global};
 use tv_model::{Desc, Dialog, Fault, FaultKind, Menu, Node, Sequence, Window};
@@ -61,46 +62,45 @@ fn add_head(found: &mut Sequence<Fault>, kind: FaultKind, desc: &Desc) -> Result
 }
 
 // Adds the items of the menu that have the fault.
-fn add_items(found: &mut Sequence<Fault>, kind: FaultKind, menu: &Menu) -> Result<(), AllocError>
+#[tactic(auto, using(crate::proofs::EachAfter::length_each_after))]
+fn add_items(
+    alloc: Global,
+    found: &mut Sequence<Fault>,
+    kind: FaultKind,
+    menu: &Menu,
+) -> Result<(), AllocError>
     ensures { OnOk result (found.new ≡ found.old ++ map (fault_at kind) (lines_where (λ item. item.id.0) (item_has kind) [] menu.now.items)) }
 {
     let items = menu.items.as_slice();
+    let faulty = faulty_items(alloc, kind, items)?;
+    let faulty = faulty.as_slice();
     for (i, item) in items.iter().enumerate() {
-        add_if(found, item_has(kind, &items[..i], item), kind, item.id.0)?;
+        add_if(found, faulty[i], kind, item.id.0)?;
     }
     Ok(())
 }
 
-// Adds the menu and its items that have the fault.
-fn add_menu(
+// Adds the status items that have the fault.
+#[tactic(auto, using(crate::proofs::EachAfter::length_each_after))]
+fn add_status(
+    alloc: Global,
     found: &mut Sequence<Fault>,
     kind: FaultKind,
-    before: &[Menu],
-    menu: &Menu,
+    desc: &Desc,
 ) -> Result<(), AllocError>
-    ensures { OnOk result (found.new ≡ found.old ++ map (fault_at kind) (menu_lines kind before.now menu.now)) }
-{
-    add_if(found, menu_has(kind, before, menu), kind, menu.id.0)?;
-    add_items(found, kind, menu)
-}
-
-// Adds the status items that have the fault.
-fn add_status(found: &mut Sequence<Fault>, kind: FaultKind, desc: &Desc) -> Result<(), AllocError>
     ensures { OnOk result (found.new ≡ found.old ++ map (fault_at kind) (status_lines kind desc.now)) }
 {
     let items = desc.status.as_slice();
+    let faulty = faulty_status_items(alloc, kind, desc)?;
+    let faulty = faulty.as_slice();
     for (i, item) in items.iter().enumerate() {
-        add_if(
-            found,
-            status_has(kind, desc, &items[..i], item),
-            kind,
-            item.id.0,
-        )?;
+        add_if(found, faulty[i], kind, item.id.0)?;
     }
     Ok(())
 }
 
 // Adds the views of the window or dialog that have the fault.
+#[tactic(auto, using(crate::proofs::EachAfter::length_each_after))]
 fn add_views(
     alloc: Global,
     found: &mut Sequence<Fault>,
@@ -110,38 +110,18 @@ fn add_views(
 ) -> Result<(), AllocError>
     ensures { OnOk result (found.new ≡ found.old ++ map (fault_at kind) (view_lines kind frame.now views.now)) }
 {
+    let faulty = faulty_views(alloc, kind, frame, views)?;
+    let faulty = faulty.as_slice();
     for (i, node) in views.iter().enumerate() {
-        add_if(
-            found,
-            view_has(alloc, kind, frame, views, &views[..i], node)?,
-            kind,
-            node.id.0,
-        )?;
+        add_if(found, faulty[i], kind, node.id.0)?;
     }
     Ok(())
 }
 
-// Adds the window and its texts that have the fault.
-fn add_window(
-    alloc: Global,
-    found: &mut Sequence<Fault>,
-    kind: FaultKind,
-    before: &[Window],
-    window: &Window,
-) -> Result<(), AllocError>
-    ensures { OnOk result (found.new ≡ found.old ++ map (fault_at kind) (window_lines kind before.now window.now)) }
-{
-    add_if(
-        found,
-        window_has(kind, before, window),
-        kind,
-        window.node.id.0,
-    )?;
-    add_views(alloc, found, kind, &window.node, window.views.as_slice())
-}
-
 // Adds the rules of the dialog that have the fault.
+#[tactic(auto, using(crate::proofs::EachAfter::length_each_after))]
 fn add_rules(
+    alloc: Global,
     found: &mut Sequence<Fault>,
     kind: FaultKind,
     dialog: &Dialog,
@@ -149,49 +129,35 @@ fn add_rules(
     ensures { OnOk result (found.new ≡ found.old ++ map (fault_at kind) (rule_lines kind dialog.now)) }
 {
     let rules = dialog.rules.as_slice();
+    let faulty = faulty_rules(alloc, kind, dialog)?;
+    let faulty = faulty.as_slice();
     for (i, rule) in rules.iter().enumerate() {
-        add_if(
-            found,
-            rule_has(kind, dialog.views.as_slice(), &rules[..i], rule),
-            kind,
-            rule.id.0,
-        )?;
+        add_if(found, faulty[i], kind, rule.id.0)?;
     }
     Ok(())
 }
 
-// Adds the dialog, its views and its rules that have the fault.
-fn add_dialog(
+// Adds the menus that have the fault, and their items.
+#[tactic(auto, using(crate::proofs::EachAfter::length_each_after))]
+fn add_menus(
     alloc: Global,
     found: &mut Sequence<Fault>,
     kind: FaultKind,
-    desc: &Desc,
-    before: &[Dialog],
-    dialog: &Dialog,
+    menus: &[Menu],
 ) -> Result<(), AllocError>
-    ensures { OnOk result (found.new ≡ found.old ++ map (fault_at kind) (dialog_lines kind desc.now before.now dialog.now)) }
-{
-    add_if(
-        found,
-        dialog_has(alloc, kind, desc, before, dialog)?,
-        kind,
-        dialog.node.id.0,
-    )?;
-    add_views(alloc, found, kind, &dialog.node, dialog.views.as_slice())?;
-    add_rules(found, kind, dialog)
-}
-
-// Adds the menus that have the fault, and their items.
-fn add_menus(found: &mut Sequence<Fault>, kind: FaultKind, menus: &[Menu]) -> Result<(), AllocError>
     ensures { OnOk result (found.new ≡ found.old ++ map (fault_at kind) (flat_map (λ pair. menu_lines kind pair.0 pair.1) (after_seen [] menus.now))) }
 {
+    let faulty = faulty_menus(alloc, kind, menus)?;
+    let faulty = faulty.as_slice();
     for (i, menu) in menus.iter().enumerate() {
-        add_menu(found, kind, &menus[..i], menu)?;
+        add_if(found, faulty[i], kind, menu.id.0)?;
+        add_items(alloc, found, kind, menu)?;
     }
     Ok(())
 }
 
 // Adds the windows that have the fault, and their texts.
+#[tactic(auto, using(crate::proofs::EachAfter::length_each_after))]
 fn add_windows(
     alloc: Global,
     found: &mut Sequence<Fault>,
@@ -200,13 +166,17 @@ fn add_windows(
 ) -> Result<(), AllocError>
     ensures { OnOk result (found.new ≡ found.old ++ map (fault_at kind) (flat_map (λ pair. window_lines kind pair.0 pair.1) (after_seen [] windows.now))) }
 {
+    let faulty = faulty_windows(alloc, kind, windows)?;
+    let faulty = faulty.as_slice();
     for (i, window) in windows.iter().enumerate() {
-        add_window(alloc, found, kind, &windows[..i], window)?;
+        add_if(found, faulty[i], kind, window.node.id.0)?;
+        add_views(alloc, found, kind, &window.node, window.views.as_slice())?;
     }
     Ok(())
 }
 
 // Adds the dialogs that have the fault, and what stands in them.
+#[tactic(auto, using(crate::proofs::EachAfter::length_each_after))]
 fn add_dialogs(
     alloc: Global,
     found: &mut Sequence<Fault>,
@@ -216,8 +186,12 @@ fn add_dialogs(
     ensures { OnOk result (found.new ≡ found.old ++ map (fault_at kind) (flat_map (λ pair. dialog_lines kind desc.now pair.0 pair.1) (after_seen [] desc.now.dialogs))) }
 {
     let dialogs = desc.dialogs.as_slice();
+    let faulty = faulty_dialogs(alloc, kind, desc)?;
+    let faulty = faulty.as_slice();
     for (i, dialog) in dialogs.iter().enumerate() {
-        add_dialog(alloc, found, kind, desc, &dialogs[..i], dialog)?;
+        add_if(found, faulty[i], kind, dialog.node.id.0)?;
+        add_views(alloc, found, kind, &dialog.node, dialog.views.as_slice())?;
+        add_rules(alloc, found, kind, dialog)?;
     }
     Ok(())
 }
@@ -232,8 +206,8 @@ fn add_kind(
     ensures { OnOk result (found.new ≡ found.old ++ faults_at kind desc.now) }
 {
     add_head(found, kind, desc)?;
-    add_menus(found, kind, desc.menus.as_slice())?;
-    add_status(found, kind, desc)?;
+    add_menus(alloc, found, kind, desc.menus.as_slice())?;
+    add_status(alloc, found, kind, desc)?;
     add_windows(alloc, found, kind, desc.windows.as_slice())?;
     add_dialogs(alloc, found, kind, desc)?;
     Ok(())

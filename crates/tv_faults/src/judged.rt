@@ -1,0 +1,120 @@
+//! For each line of a list, whether it has the fault.
+
+ghost use Rattle.std.specs.Prelude.{◌≡◌, IfOk};
+ghost use Rattle.tv_model.specs.Faults.{dialog_has, item_has, menu_has, rule_has, status_has, view_has, window_has};
+ghost use Rattle.tv_faults.specs.Each.{each_after};
+
+use crate::conditions::{
+    dialog_has, item_has, menu_has, rule_has, status_has, view_has, window_has,
+};
+use std::alloc::{AllocError, Global};
+use tv_model::{Desc, Dialog, FaultKind, Menu, MenuItem, Node, Window};
+
+/// For each menu, whether its line has the fault.
+pub fn faulty_menus(
+    alloc: Global,
+    kind: FaultKind,
+    menus: &[Menu],
+) -> Result<Vec<bool>, AllocError>
+    ensures { IfOk result (λ faulty. faulty.items ≡ each_after (menu_has kind) menus.now) }
+{
+    let mut faulty = Vec::new(alloc);
+    for (i, menu) in menus.iter().enumerate() {
+        faulty.push(menu_has(kind, &menus[..i], menu))?;
+    }
+    Ok(faulty)
+}
+
+/// For each item of a menu, whether its line has the fault.
+pub fn faulty_items(
+    alloc: Global,
+    kind: FaultKind,
+    items: &[MenuItem],
+) -> Result<Vec<bool>, AllocError>
+    ensures { IfOk result (λ faulty. faulty.items ≡ each_after (item_has kind) items.now) }
+{
+    let mut faulty = Vec::new(alloc);
+    for (i, item) in items.iter().enumerate() {
+        faulty.push(item_has(kind, &items[..i], item))?;
+    }
+    Ok(faulty)
+}
+
+/// For each status item, whether its line has the fault.
+pub fn faulty_status_items(
+    alloc: Global,
+    kind: FaultKind,
+    desc: &Desc,
+) -> Result<Vec<bool>, AllocError>
+    ensures { IfOk result (λ faulty. faulty.items ≡ each_after (status_has kind desc.now) desc.now.status) }
+{
+    let items = desc.status.as_slice();
+    let mut faulty = Vec::new(alloc);
+    for (i, item) in items.iter().enumerate() {
+        faulty.push(status_has(kind, desc, &items[..i], item))?;
+    }
+    Ok(faulty)
+}
+
+/// For each window, whether its own line has the fault.
+pub fn faulty_windows(
+    alloc: Global,
+    kind: FaultKind,
+    windows: &[Window],
+) -> Result<Vec<bool>, AllocError>
+    ensures { IfOk result (λ faulty. faulty.items ≡ each_after (window_has kind) windows.now) }
+{
+    let mut faulty = Vec::new(alloc);
+    for (i, window) in windows.iter().enumerate() {
+        faulty.push(window_has(kind, &windows[..i], window))?;
+    }
+    Ok(faulty)
+}
+
+/// For each dialog, whether its own line has the fault.
+pub fn faulty_dialogs(
+    alloc: Global,
+    kind: FaultKind,
+    desc: &Desc,
+) -> Result<Vec<bool>, AllocError>
+    ensures { IfOk result (λ faulty. faulty.items ≡ each_after (dialog_has kind desc.now) desc.now.dialogs) }
+{
+    let dialogs = desc.dialogs.as_slice();
+    let mut faulty = Vec::new(alloc);
+    for (i, dialog) in dialogs.iter().enumerate() {
+        faulty.push(dialog_has(alloc, kind, desc, &dialogs[..i], dialog)?)?;
+    }
+    Ok(faulty)
+}
+
+/// For each view of a window or dialog, whether its line has the fault.
+pub fn faulty_views(
+    alloc: Global,
+    kind: FaultKind,
+    frame: &Node,
+    views: &[Node],
+) -> Result<Vec<bool>, AllocError>
+    ensures { IfOk result (λ faulty. faulty.items ≡ each_after (view_has kind frame.now views.now) views.now) }
+{
+    let mut faulty = Vec::new(alloc);
+    for (i, node) in views.iter().enumerate() {
+        faulty.push(view_has(alloc, kind, frame, views, &views[..i], node)?)?;
+    }
+    Ok(faulty)
+}
+
+/// For each rule of a dialog, whether its line has the fault.
+pub fn faulty_rules(
+    alloc: Global,
+    kind: FaultKind,
+    dialog: &Dialog,
+) -> Result<Vec<bool>, AllocError>
+    ensures { IfOk result (λ faulty. faulty.items ≡ each_after (rule_has kind dialog.now.views) dialog.now.rules) }
+{
+    let rules = dialog.rules.as_slice();
+    let mut faulty = Vec::new(alloc);
+    for (i, rule) in rules.iter().enumerate() {
+        faulty.push(rule_has(kind, dialog.views.as_slice(), &rules[..i], rule))?;
+    }
+    Ok(faulty)
+}
