@@ -69,28 +69,6 @@ fn add_rules(alloc: Global, text: &mut String) -> Result<()> {
     Ok(())
 }
 
-// One dialog of as many of a view as there is room for.
-fn dialog_of(alloc: Global, views: &str) -> Result<String> {
-    let before = "tvd 1\nscreen 132 60\ndialog d 0 1 132 58 \"\" ends ok cancel\n";
-    Ok(format!(in alloc; "{before}{views}end\n")?)
-}
-
-/// One dialog of 15,000 texts, of which each is looked at beside all others.
-pub fn of_texts(alloc: Global) -> Result<String> {
-    let views = "text 1 1 1 1 \"a\"\n".repeat(alloc, 15_000)?;
-    dialog_of(alloc, &views)
-}
-
-/// One dialog of 10,000 buttons.
-pub fn of_buttons(alloc: Global) -> Result<String> {
-    let mut views = String::new(alloc);
-    for button in 0u32..10_000 {
-        let line = format!(in alloc; "button b{button} 1 1 4 \"a\" ok\n")?;
-        views.push_str(&line)?;
-    }
-    dialog_of(alloc, &views)
-}
-
 /// A sound dialog of texts and buttons, over the largest screen.
 pub fn thin(alloc: Global) -> Result<String> {
     let mut text = String::from_str(alloc, "tvd 1\nscreen 132 60\nstart d\n")?;

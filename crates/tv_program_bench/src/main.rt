@@ -1,6 +1,7 @@
 //! How long the program takes over large descriptions and a long script. The figures go to standard error.
 #![tactic(auto)]
 
+mod beyond;
 mod large;
 mod sink;
 mod views;
@@ -58,12 +59,25 @@ fn measure_events<R: Clock + Eprint>(rt: &R, alloc: Global, script: &str) -> Res
     Ok(())
 }
 
+// How long the faults are looked for where there is far too much of one thing.
+fn measure_beyond<R: Clock + Eprint>(rt: &R, alloc: Global) -> Result<()> {
+    measure_faults(rt, alloc, "texts", &beyond::texts(alloc)?)?;
+    measure_faults(rt, alloc, "buttons", &beyond::buttons(alloc)?)?;
+    measure_faults(rt, alloc, "buttons apart", &beyond::apart(alloc)?)?;
+    measure_faults(rt, alloc, "lists crosswise", &beyond::crosswise(alloc)?)?;
+    measure_faults(rt, alloc, "labels", &beyond::labels(alloc)?)?;
+    measure_faults(rt, alloc, "panes", &beyond::panes(alloc)?)?;
+    measure_faults(rt, alloc, "rules", &beyond::rules(alloc)?)?;
+    measure_faults(rt, alloc, "dialogs", &beyond::dialogs(alloc)?)?;
+    measure_faults(rt, alloc, "windows", &beyond::windows(alloc)?)?;
+    measure_faults(rt, alloc, "bars", &beyond::bars(alloc)?)
+}
+
 fn run<R: Clock + Eprint + Alloc>(rt: &R, alloc: Global) -> Result<()> {
     let largest = large::lawful(alloc)?;
     measure_faults(rt, alloc, "the largest lawful", &largest)?;
     measure_certificate(rt, alloc, &largest)?;
-    measure_faults(rt, alloc, "too many texts", &large::of_texts(alloc)?)?;
-    measure_faults(rt, alloc, "too many buttons", &large::of_buttons(alloc)?)?;
+    measure_beyond(rt, alloc)?;
     measure_events(rt, alloc, &"key Tab\n".repeat(alloc, 100_000)?)?;
     measure_events(rt, alloc, &"shot\n".repeat(alloc, 2_000)?)
 }
