@@ -51,7 +51,7 @@ pub fn faulty_status_items(
     let items = desc.status.as_slice();
     let mut faulty = Vec::new(alloc);
     for (i, item) in items.iter().enumerate() {
-        faulty.push(status_has(kind, desc, &items[..i], item))?;
+        faulty.push(status_has(kind, &items[..i], item))?;
     }
     Ok(faulty)
 }
@@ -98,7 +98,7 @@ pub fn faulty_views(
 {
     let mut faulty = Vec::new(alloc);
     for (i, node) in views.iter().enumerate() {
-        faulty.push(view_has(alloc, kind, frame, views, &views[..i], node)?)?;
+        faulty.push(view_has(alloc, kind, frame, &views[..i], node)?)?;
     }
     Ok(faulty)
 }
@@ -114,7 +114,7 @@ pub fn faulty_rules(
     let rules = dialog.rules.as_slice();
     let mut faulty = Vec::new(alloc);
     for (i, rule) in rules.iter().enumerate() {
-        faulty.push(rule_has(kind, dialog.views.as_slice(), &rules[..i], rule))?;
+        faulty.push(rule_has(kind, &rules[..i], rule))?;
     }
     Ok(faulty)
 }
