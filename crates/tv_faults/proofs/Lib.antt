@@ -1,9 +1,13 @@
 pub mod Areas
 pub mod EachAfter
+pub mod FirstPlaces
+pub mod GivenKeys
+pub mod GivenLetters
+pub mod GivenOpenings
 pub mod Lists
 pub mod ManyKinds
+pub mod NamesSeen
 pub mod Ordered
 pub mod Reached
 pub mod Sound
-pub mod Unmarked
 pub mod Unviable
