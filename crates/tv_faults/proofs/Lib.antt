@@ -1,4 +1,8 @@
+pub mod After
 pub mod Areas
+pub mod Around
+pub mod Back
+pub mod Depths
 pub mod EachAfter
 pub mod FirstPlaces
 pub mod GivenKeys
@@ -9,5 +13,7 @@ pub mod ManyKinds
 pub mod NamesSeen
 pub mod Ordered
 pub mod Reached
+pub mod Sets
+pub mod Siblings
 pub mod Sound
 pub mod Unviable

@@ -178,8 +178,8 @@ impl<'a> Names<'a> {
     }
 }
 
-/// Whether the node is a label that is linked to no control.
-pub fn links_nothing(names: &Names, node: &Node) -> bool
+// Whether the node is a label that is linked to no control.
+fn links_nothing(names: &Names, node: &Node) -> bool
     ensures { result ≡ links_nothing names.now node.now }
 {
     match &node.kind {
@@ -189,4 +189,16 @@ pub fn links_nothing(names: &Names, node: &Node) -> bool
         },
         _ => false,
     }
+}
+
+/// For each view whether it is a label that is linked to no control.
+pub fn unlinked_labels(alloc: Global, views: &[Node]) -> Result<Vec<bool>, AllocError>
+    ensures { IfOk result (λ unlinked. unlinked.items ≡ each_after (λ _. links_nothing views.now) views.now) }
+{
+    let names = Names::new(alloc, views)?;
+    let mut unlinked = Vec::new(alloc);
+    for view in views {
+        unlinked.push(links_nothing(&names, view))?;
+    }
+    Ok(unlinked)
 }
