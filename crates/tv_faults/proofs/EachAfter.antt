@@ -1,9 +1,58 @@
--- Items that were judged one after the other.
-use Rattle.std.proofs.Common.{◌≡◌, ℕ, zero, suc, ◌+◌, ◌<◌, Bool, true, false, cond, List, [], ◌∷◌, ◌++◌, length, get_or, map, flat_map, take, drop, refl, sym, ap, ◌∙◌, append_assoc, add-one, drop-cons, arith}
-use Rattle.std.proofs.lemmas.List.{append-nil, map-append, take_more}
+-- Items, each judged after those before it.
+use Rattle.std.proofs.Common.{◌≡◌, ℕ, zero, suc, ◌<◌, ◌+◌, Bool, true, false, cond, ◌||◌, List, [], ◌∷◌, ◌++◌, map, flat_map, take, drop, length, get_or, refl, sym, ap, ◌∙◌, append-nil, append_assoc, add-one, drop-cons, arith}
+use Rattle.std.proofs.lemmas.List.{map-append, take_more}
+use Rattle.std.proofs.lemmas.List.Folds.{list_any-append, list_any_more}
+use Rattle.std.specs.List.{list_any}
 use Rattle.tv_model.specs.Faults.Lines.{after_seen, line_if, lines_where}
 use Rattle.tv_faults.specs.Each.{each_after}
 use Rattle.tv_faults.proofs.Lists.{joined}
+
+-- tests that agree
+pub any_same : {A : Type 0} (p q : A → Bool) → ((x : A) → p x ≡ q x) → (xs : List A) → list_any p xs ≡ list_any q xs
+any_same p q same [] = refl
+any_same p q same (x ∷ xs) = ap (λ b. b || list_any p xs) (same x) ∙ ap (λ b. q x || b) (any_same p q same xs)
+
+pub after_push : {A : Type 0} (seen xs : List A) (x : A) → after_seen seen (xs ++ x ∷ []) ≡ after_seen seen xs ++ (seen ++ xs, x) ∷ []
+after_push seen [] x = ap (λ before. (before, x) ∷ []) (sym (append-nil seen))
+after_push seen (y ∷ ys) x =
+    ap (λ pairs. (seen, y) ∷ pairs)
+    (after_push (seen ++ y ∷ []) ys x ∙ ap (λ before. after_seen (seen ++ y ∷ []) ys ++ (before, x) ∷ []) (append_assoc seen (y ∷ []) ys))
+
+-- one item more, with all others before it
+after_more : {A : Type 0} (xs : List A) (i : ℕ) (x : A) → i < length xs → x ≡ get_or xs i x → after_seen [] (take (i + 1) xs) ≡ after_seen [] (take i xs) ++ (take i xs, x) ∷ []
+after_more xs i x less item = ap (after_seen []) (take_more xs i x less) ∙ after_push [] (take i xs) (get_or xs i x) ∙ ap (λ y. after_seen [] (take i xs) ++ (take i xs, y) ∷ []) (sym item)
+
+or_last : (b c : Bool) → (b || (c || false)) ≡ (b || c)
+or_last true c = refl
+or_last false true = refl
+or_last false false = refl
+
+pub any_more : {A : Type 0} (p : List A × A → Bool) (xs : List A) (i : ℕ) (x : A) → i < length xs → x ≡ get_or xs i x
+    → list_any p (after_seen [] (take (i + 1) xs)) ≡ (list_any p (after_seen [] (take i xs)) || p (take i xs, x))
+any_more p xs i x less item =
+    ap (list_any p) (after_more xs i x less item) ∙ list_any-append p (after_seen [] (take i xs)) ((take i xs, x) ∷ []) ∙ or_last _ _
+
+-- the answer to one item more
+pub each_more : {A : Type 0} (p : List A → A → Bool) (xs : List A) (i : ℕ) (x : A) → i < length xs → x ≡ get_or xs i x
+    → (judged more : List Bool) (is_so : Bool) → judged ≡ each_after p (take i xs) → more ≡ judged ++ is_so ∷ [] → is_so ≡ p (take i xs) x
+    → more ≡ each_after p (take (i + 1) xs)
+each_more p xs i x less item judged more is_so before pushed so =
+    pushed ∙ ap (λ list. list ++ is_so ∷ []) before ∙ ap (λ b. each_after p (take i xs) ++ b ∷ []) so
+    ∙ sym (ap (map (λ pair. p pair.0 pair.1)) (after_more xs i x less item) ∙ map-append (λ pair. p pair.0 pair.1) (after_seen [] (take i xs)) ((take i xs, x) ∷ []))
+
+first_or : (b c : Bool) → cond b true c ≡ (c || b)
+first_or true true = refl
+first_or true false = refl
+first_or false true = refl
+first_or false false = refl
+
+-- one item more that may pass the test, as a set's answer puts it
+pub passed_more : {A : Type 0} (p : A → Bool) (xs : List A) (i : ℕ) (x : A) → i < length xs → x ≡ get_or xs i x
+    → (before after : Bool) → before ≡ list_any p (take i xs) → after ≡ cond (p x) true before → after ≡ list_any p (take (i + 1) xs)
+passed_more p xs i x less item before after so_far now =
+    now ∙ first_or (p x) before ∙ ap (λ b. b || p x) so_far ∙ ap (λ y. list_any p (take i xs) || p y) item ∙ sym (list_any_more p xs i x less)
+
+-- ---- what was judged, and the lines with a fault
 
 length_judged : {A : Type 0} (p : List A → A → Bool) (seen items : List A) → length (map (λ pair. p pair.0 pair.1) (after_seen seen items)) ≡ length items
 length_judged p seen [] = refl

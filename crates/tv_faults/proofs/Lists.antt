@@ -26,3 +26,10 @@ five_parts f found one two three four all a b c d e first second third fourth fi
 pub around_more : (depth : ℕ) (views : List Node) (i : ℕ) (d : Node) → i < length views
     → around depth (reverse (take (i + 1) views)) ≡ cond (nat_lt (get_or views i d).depth depth) (get_or views i d ∷ around (get_or views i d).depth (reverse (take i views))) (around depth (reverse (take i views)))
 around_more depth views i d less = ap (λ list. around depth (reverse list)) (take_more views i d less) ∙ ap (around depth) (reverse-append (take i views) (get_or views i d ∷ []))
+
+-- one item more, read by f
+pub mapped_more : {A B : Type 0} (f : A → B) (before : List B) (xs : List A) (i : ℕ) (x : A) → i < length xs → x ≡ get_or xs i x
+    → (before ++ map f (take i xs)) ++ f x ∷ [] ≡ before ++ map f (take (i + 1) xs)
+mapped_more f before xs i x less is =
+    append_assoc before (map f (take i xs)) (f x ∷ []) ∙ ap (λ list. before ++ list) (ap (λ y. map f (take i xs) ++ f y ∷ []) is
+    ∙ sym (ap (map f) (take_more xs i x less) ∙ map-append f (take i xs) (get_or xs i x ∷ [])))

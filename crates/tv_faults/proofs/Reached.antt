@@ -10,7 +10,9 @@ use Rattle.tv_model.specs.declared.desc.Effect.TheVariants as effects
 use Rattle.tv_model.specs.Nodes.{is_control}
 use Rattle.tv_model.specs.Faults.Names.{meant}
 use Rattle.tv_model.specs.Faults.Places.{panes_around}
-use Rattle.tv_model.specs.Faults.Rules.{is_always_free, option_stands_over, reaches}
+use Rattle.tv_model.specs.Faults.Rules.{has_nothing_to_focus, is_always_free, option_stands_over, reaches}
+use Rattle.tv_model.specs.Faults.Lines.{after_seen}
+use Rattle.tv_faults.specs.Focus.{has_nothing_free, is_free}
 use Rattle.tv_faults.specs.declared.focus.Reach.{Reach}
 use Rattle.tv_faults.specs.Reach.{holds_at, reach_of, reach_of_effect, shown}
 use Rattle.tv_faults.proofs.Lists.{any_map}
@@ -37,3 +39,13 @@ module _ (before : List Node) (node : Node) where
   pub free_is : (dialog : Dialog) (list : List Reach) → list ≡ map (reach_of dialog.views) dialog.rules
       → (is_control node.kind && not (list_any (holds_at ids node.kind) list)) ≡ is_always_free dialog before node
   free_is dialog list e = ap (λ found. is_control node.kind && not (list_any (holds_at ids node.kind) found)) e ∙ ap (λ b. is_control node.kind && not b) (rules_are dialog.views dialog.rules)
+
+-- asked of all views
+pub nothing_free_is : (dialog : Dialog) (list : List Reach) → list ≡ map (reach_of dialog.views) dialog.rules → has_nothing_free list dialog.views ≡ has_nothing_to_focus dialog
+nothing_free_is dialog list e = ap not (same (after_seen [] dialog.views))
+  where
+    same : (pairs : List (List Node × Node)) → list_any (λ pair. is_free list pair.0 pair.1) pairs ≡ list_any (λ pair. is_always_free dialog pair.0 pair.1) pairs
+    same [] = refl
+    same (pair ∷ pairs) =
+        ap (λ b. b || list_any (λ pair. is_free list pair.0 pair.1) pairs) (free_is pair.0 pair.1 dialog list e)
+        ∙ ap (λ b. is_always_free dialog pair.0 pair.1 || b) (same pairs)

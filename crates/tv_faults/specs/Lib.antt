@@ -1,4 +1,11 @@
+pub mod Compared
 pub mod Each
+pub mod Focus
+pub mod Keys
+pub mod Marked
+pub mod Named
+pub mod Opened
 pub mod Order
 pub mod Reach
+pub mod Standing
 pub mod Usable

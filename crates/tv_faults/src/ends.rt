@@ -1,15 +1,21 @@
 //! Ends of a dialog, its default button, and commands that open it.
 
-ghost use Rattle.std.specs.Prelude.{◌≡◌, not};
+ghost use Rattle.std.specs.Prelude.{◌≡◌, not, ◌||◌, ℤ, IfOk, OnOk};
+ghost use Rattle.std.specs.HashSet as set;
 ghost use Rattle.std.specs.List.{list_any};
+ghost use Rattle.std.specs.Ordering.{int_eq};
 ghost use Rattle.tv_model.specs.Step.{ends_of, is_default, is_named};
 ghost use Rattle.tv_model.specs.Faults.Names.{gives_name};
 ghost use Rattle.tv_model.specs.Faults.Rules.{is_item};
 ghost use Rattle.tv_model.specs.Faults.Starts.{is_option_number, is_second_default, lacks_cancel, lacks_end, means_dialog, opening_of, opens_badly, starts_nowhere, starts_outside};
+ghost use Rattle.tv_faults.specs.Each.{each_after};
+ghost use Rattle.tv_faults.specs.Opened.{is_bad_opening};
 
 use crate::limits::is_between;
 use crate::names::gives_name;
 use crate::rules::is_item;
+use std::alloc::{AllocError, Global};
+use std::collections::HashSet;
 use tv_model::{CommandSpec, Desc, Dialog, Ends, Kind, Node, Window};
 use tv_valid::Chars;
 
@@ -63,17 +69,17 @@ fn is_default(node: &Node) -> bool
     )
 }
 
-fn has_default(nodes: &[Node]) -> bool
-    ensures { result ≡ list_any is_default nodes.now }
+/// For each view whether it is a default button after another one.
+pub fn second_defaults(alloc: Global, views: &[Node]) -> Result<Vec<bool>, AllocError>
+    ensures { IfOk result (λ second. second.items ≡ each_after is_second_default views.now) }
 {
-    nodes.iter().any(|node| is_default(node))
-}
-
-/// Whether it is a default button after another one.
-pub fn is_second_default(before: &[Node], node: &Node) -> bool
-    ensures { result ≡ is_second_default before.now node.now }
-{
-    is_default(node) && has_default(before)
+    let mut has_default = false;
+    let mut second = Vec::new(alloc);
+    for view in views {
+        second.push(is_default(view) && has_default)?;
+        has_default |= is_default(view);
+    }
+    Ok(second)
 }
 
 fn starts_among(start: &[i32], count: usize) -> bool
@@ -106,32 +112,30 @@ fn opening_of(kind: &Kind) -> Option<i32>
     }
 }
 
-// Whether the dialog is opened by the number.
-fn opens_by(number: i32, dialog: &Dialog) -> bool
-    ensures { result ≡ is_option_number number (opening_of dialog.now.node.kind) }
-{
-    match opening_of(&dialog.node.kind) {
-        Some(other) => other == number,
-        None => false,
-    }
-}
-
-fn is_opened_by(number: i32, dialogs: &[Dialog]) -> bool
-    ensures { result ≡ list_any (λ other. is_option_number number (opening_of other.node.kind)) dialogs.now }
-{
-    dialogs.iter().any(|dialog| opens_by(number, dialog))
-}
-
-/// Whether the dialog's opening command is outside 100 to 255, or opens one before it.
-pub fn opens_badly(before: &[Dialog], dialog: &Dialog) -> bool
-    ensures { result ≡ opens_badly before.now dialog.now }
+// Whether the dialog's opening command is outside 100 to 255, or one of the commands, to which it is added.
+fn add_opening(commands: &mut HashSet<i32>, dialog: &Dialog) -> Result<bool, AllocError>
+    ensures bad { IfOk result (λ bad. bad ≡ is_bad_opening (set.contains int_eq commands.old) (opening_of dialog.now.node.kind)) }
+    ensures added { OnOk result ((n : ℤ) → set.contains int_eq commands.new n ≡ (set.contains int_eq commands.old n || is_option_number n (opening_of dialog.now.node.kind))) }
 {
     match opening_of(&dialog.node.kind) {
         Some(number) => {
-            !is_between(&100, &255, &i128::from(number)) || is_opened_by(number, before)
+            let again = !commands.insert(number)?;
+            Ok(!is_between(&100, &255, &i128::from(number)) || again)
         }
-        None => false,
+        None => Ok(false),
     }
+}
+
+/// For each dialog whether its opening command is outside 100 to 255, or opens one before it.
+pub fn opened_badly(alloc: Global, dialogs: &[Dialog]) -> Result<Vec<bool>, AllocError>
+    ensures { IfOk result (λ badly. badly.items ≡ each_after opens_badly dialogs.now) }
+{
+    let mut commands = HashSet::new(alloc);
+    let mut badly = Vec::new(alloc);
+    for dialog in dialogs {
+        badly.push(add_opening(&mut commands, dialog)?)?;
+    }
+    Ok(badly)
 }
 
 // Whether the dialog has the name.

@@ -1,16 +1,20 @@
 //! Controls that no rule reaches.
 
-ghost use Rattle.std.specs.Prelude.{◌≡◌, ◌==◌, ◌∷◌, ◌++◌, map, reverse, IfOk, OnOk};
+ghost use Rattle.std.specs.Prelude.{◌≡◌, ◌<◌, ◌&&◌, ◌||◌, length, map, not, IfOk, IfSome};
+ghost use Rattle.std.specs.HashSet.{contains};
 ghost use Rattle.std.specs.List.{list_any};
-ghost use Rattle.tv_model.specs.Faults.Places.{around, panes_around};
-ghost use Rattle.tv_model.specs.Faults.Rules.{has_nothing_to_focus, is_always_free};
-ghost use Rattle.tv_faults.specs.Reach.{holds_at, reach_of};
+ghost use Rattle.tv_model.specs.declared.node.CommandSpec.{CommandSpec};
+ghost use Rattle.tv_model.specs.declared.node.Id.{Id};
+ghost use Rattle.tv_model.specs.Nodes.{is_control};
+ghost use Rattle.tv_model.specs.Faults.Rules.{has_nothing_to_focus};
+ghost use Rattle.tv_faults.specs.Focus.{AreFirstShown, enables, equals_command, has_nothing_free, is_button_where, is_owner_shown, is_same_id, shows};
+ghost use Rattle.tv_faults.specs.Reach.{reach_of};
 
-use crate::names::meant;
-use crate::places::owner_before;
-use crate::rules::is_button_of;
+use crate::names::Names;
+use crate::owners::owners;
 use std::alloc::{AllocError, Global};
-use tv_model::{CommandSpec, Dialog, Effect, Id, Kind, Node, Rule, Sequence};
+use std::collections::HashSet;
+use tv_model::{CommandSpec, Dialog, Effect, Id, Kind, Node, Rule};
 
 /// What a rule reaches.
 #[derive(Clone, Copy, Debug, PartialEq, Eq)]
@@ -22,94 +26,116 @@ enum Reach {
     Buttons(CommandSpec),
 }
 
-fn is_among(target: Id, ids: &[Id]) -> bool
-    ensures { result ≡ list_any (λ i. i.0 == target.0) ids.now }
-{
-    ids.iter().any(|id| *id == target)
-}
-
 impl Reach {
-    // What the rule reaches among the views.
-    fn of(views: &[Node], rule: &Rule) -> Reach
-        ensures { result ≡ reach_of views.now rule.now }
+    // What the rule reaches among the views that give the names.
+    fn of(names: &Names, rule: &Rule) -> Reach
+        ensures { result ≡ reach_of names.now rule.now }
     {
         match &rule.effect {
-            Effect::Show(name) => match meant(views, name) {
+            Effect::Show(name) => match names.meant(name) {
                 Some(target) => Reach::View(target.id),
                 None => Reach::Nothing,
             },
             Effect::Enable(command) => Reach::Buttons(*command),
         }
     }
-
-    // Whether the view is reached, which stands in itself and these panes.
-    fn holds(self, ids: &[Id], kind: &Kind) -> bool
-        ensures { result ≡ holds_at ids.now kind.now self }
-    {
-        match self {
-            Reach::Nothing => false,
-            Reach::View(target) => is_among(target, ids),
-            Reach::Buttons(command) => is_button_of(command, kind),
-        }
-    }
 }
 
 // What the rules reach, one after the other.
-fn reaches(alloc: Global, dialog: &Dialog) -> Result<Sequence<Reach>, AllocError>
-    ensures { IfOk result (λ list. list ≡ map (reach_of dialog.now.views) dialog.now.rules) }
+fn reaches(alloc: Global, dialog: &Dialog) -> Result<Vec<Reach>, AllocError>
+    ensures { IfOk result (λ list. list.items ≡ map (reach_of dialog.now.views) dialog.now.rules) }
 {
-    let mut list = Sequence::new(alloc);
+    let names = Names::new(alloc, dialog.views.as_slice())?;
+    let mut list = Vec::new(alloc);
     for rule in dialog.rules.as_slice() {
-        list.push(Reach::of(dialog.views.as_slice(), rule))?;
+        list.push(Reach::of(&names, rule))?;
     }
     Ok(list)
 }
 
-// Adds the panes around a place of this depth, the innermost first. The views are those before the place.
-fn add_around(ids: &mut Sequence<Id>, before: &[Node], depth: u8) -> Result<(), AllocError>
-    ensures { OnOk result (ids.new ≡ ids.old ++ map (λ view. view.id) (around depth (reverse before.now))) }
+// The views that are shown, without those that stand in them.
+fn shown_views(alloc: Global, reaches: &[Reach]) -> Result<HashSet<Id>, AllocError>
+    ensures { IfOk result (λ shown. (i : Id) → contains is_same_id shown i ≡ list_any (shows i) reaches.now) }
 {
-    match owner_before(before, depth) {
-        Some((earlier, owner)) => {
-            ids.push(owner.id)?;
-            add_around(ids, earlier, owner.depth)
+    let mut shown = HashSet::new(alloc);
+    for reach in reaches {
+        if let Reach::View(target) = reach {
+            shown.insert(*target)?;
         }
-        None => Ok(()),
+    }
+    Ok(shown)
+}
+
+// The commands that are enabled.
+fn enabled_commands(alloc: Global, reaches: &[Reach]) -> Result<HashSet<CommandSpec>, AllocError>
+    ensures { IfOk result (λ enabled. (command : CommandSpec) → contains equals_command enabled command ≡ list_any (enables command) reaches.now) }
+{
+    let mut enabled = HashSet::new(alloc);
+    for reach in reaches {
+        if let Reach::Buttons(command) = reach {
+            enabled.insert(*command)?;
+        }
+    }
+    Ok(enabled)
+}
+
+// Whether the view is among the targets, or its owner is shown or stands in what is. That is known of the owner.
+fn is_shown(targets: &HashSet<Id>, shown: &[bool], owner: Option<usize>, view: &Node) -> bool
+    requires { IfSome owner (λ pane. pane < length shown.now) }
+    ensures { result ≡ (contains is_same_id targets.now view.now.id || is_owner_shown shown.now owner) }
+{
+    if targets.contains(&view.id) {
+        return true;
+    }
+    match owner {
+        Some(pane) => shown[pane],
+        None => false,
     }
 }
 
-// The view, and the panes around it, the innermost first.
-fn standing(alloc: Global, before: &[Node], node: &Node) -> Result<Sequence<Id>, AllocError>
-    ensures { IfOk result (λ list. list ≡ map (λ view. view.id) (node.now ∷ panes_around before.now node.now)) }
+// For each view whether it is shown, or a pane around it.
+fn are_shown(alloc: Global, reaches: &[Reach], views: &[Node]) -> Result<Vec<bool>, AllocError>
+    ensures len { IfOk result (λ shown. length shown.items ≡ length views.now) }
+    ensures each { IfOk result (λ shown. AreFirstShown reaches.now views.now shown.items) }
 {
-    let mut ids = Sequence::new(alloc);
-    ids.push(node.id)?;
-    add_around(&mut ids, before, node.depth)?;
-    Ok(ids)
-}
-
-fn is_reached(reaches: &[Reach], ids: &[Id], kind: &Kind) -> bool
-    ensures { result ≡ list_any (holds_at ids.now kind.now) reaches.now }
-{
-    reaches.iter().any(|reach| reach.holds(ids, kind))
-}
-
-// Whether the view is a control that none of the dialog's rules reaches.
-fn is_always_free(
-    alloc: Global,
-    dialog: &Dialog,
-    reaches: &[Reach],
-    before: &[Node],
-    node: &Node,
-) -> Result<bool, AllocError>
-    requires { reaches.now ≡ map (reach_of dialog.now.views) dialog.now.rules }
-    ensures { IfOk result (λ free. free ≡ is_always_free dialog.now before.now node.now) }
-{
-    if !node.kind.is_control() || dialog.rules.as_slice().is_empty() {
-        return Ok(node.kind.is_control());
+    let owners = owners(alloc, views)?;
+    let targets = shown_views(alloc, reaches)?;
+    let mut shown = Vec::new(alloc);
+    for (place, owner) in owners.iter().enumerate() {
+        shown.push(is_shown(&targets, &shown, *owner, &views[place]))?;
     }
-    let ids = standing(alloc, before, node)?;
-    Ok(!is_reached(reaches, ids.as_slice(), &node.kind))
+    Ok(shown)
+}
+
+// Whether it is a button of a command that is enabled.
+fn is_enabled(enabled: &HashSet<CommandSpec>, kind: &Kind) -> bool
+    ensures { result ≡ is_button_where (contains equals_command enabled.now) kind.now }
+{
+    match kind {
+        Kind::Button { command, .. } => enabled.contains(command),
+        _ => false,
+    }
+}
+
+// Whether it is a control that isn't shown and isn't enabled.
+fn is_free(enabled: &HashSet<CommandSpec>, is_shown: bool, view: &Node) -> bool
+    ensures { result ≡ (is_control view.now.kind && (not is_shown && not (is_button_where (contains equals_command enabled.now) view.now.kind))) }
+{
+    view.kind.is_control() && !is_shown && !is_enabled(enabled, &view.kind)
+}
+
+// Whether each control is reached.
+fn has_nothing_free(alloc: Global, reaches: &[Reach], views: &[Node]) -> Result<bool, AllocError>
+    ensures { IfOk result (λ lacking. lacking ≡ has_nothing_free reaches.now views.now) }
+{
+    let shown = are_shown(alloc, reaches, views)?;
+    let enabled = enabled_commands(alloc, reaches)?;
+    for (place, view) in views.iter().enumerate() {
+        if is_free(&enabled, shown[place], view) {
+            return Ok(false);
+        }
+    }
+    Ok(true)
 }
 
 /// Whether rules may leave the dialog without a control to focus.
@@ -117,11 +143,5 @@ pub fn has_nothing_to_focus(alloc: Global, dialog: &Dialog) -> Result<bool, Allo
     ensures { IfOk result (λ lacking. lacking ≡ has_nothing_to_focus dialog.now) }
 {
     let reaches = reaches(alloc, dialog)?;
-    let views = dialog.views.as_slice();
-    for (i, node) in views.iter().enumerate() {
-        if is_always_free(alloc, dialog, reaches.as_slice(), &views[..i], node)? {
-            return Ok(false);
-        }
-    }
-    Ok(true)
+    has_nothing_free(alloc, &reaches, dialog.views.as_slice())
 }

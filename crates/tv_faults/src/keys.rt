@@ -1,14 +1,21 @@
 //! Keys of status items, and numbers of windows.
 
-ghost use Rattle.std.specs.Prelude.{◌≡◌, ◌&&◌, ◌||◌};
+ghost use Rattle.std.specs.Prelude.{◌≡◌, ◌||◌, ◌&&◌, ℕ, nat_eq, IfOk, OnOk};
+ghost use Rattle.std.specs.HashSet as set;
 ghost use Rattle.std.specs.List.{list_any};
 ghost use Rattle.std.specs.Ordering.{int_eq};
-ghost use Rattle.tv_model.specs.Faults.Letters.{has_bad_key, is_same_key, is_shortcut, is_status_key, is_taken, is_window_digit, marks, marked_of, number_of, numbered_again};
+ghost use Rattle.tv_event.specs.declared.event.Key.TheVariants.{Alt};
+ghost use Rattle.tv_model.specs.Faults.Letters.{has_bad_key, is_option_letter, is_shortcut, is_status_key, is_taken, is_window_digit, marks, number_of, numbered_again};
+ghost use Rattle.tv_faults.specs.Each.{each_after};
+ghost use Rattle.tv_faults.specs.Keys.{is_alt_of};
+ghost use Rattle.tv_faults.specs.Marked.{is_marked_by};
 
-use crate::letters::{marked_of, marks};
+use crate::letters::{add_letter, add_letters, marked_of};
 use crate::limits::is_between;
+use std::alloc::{AllocError, Global};
+use std::collections::HashSet;
 use tv_event::Key;
-use tv_model::{Desc, Dialog, Kind, Menu, Node, StatusItem, Window};
+use tv_model::{Desc, Dialog, Kind, Menu, Node, Window};
 
 // The number of a window.
 fn number_of(kind: &Kind) -> i32
@@ -20,20 +27,18 @@ fn number_of(kind: &Kind) -> i32
     }
 }
 
-fn is_numbered(number: i32, windows: &[Window]) -> bool
-    ensures { result ≡ list_any (λ other. int_eq (number_of other.node.kind) number) windows.now }
+/// For each window whether it has a number from 1 to 9 that one before it has.
+pub fn numbered_again(alloc: Global, windows: &[Window]) -> Result<Vec<bool>, AllocError>
+    ensures { IfOk result (λ again. again.items ≡ each_after numbered_again windows.now) }
 {
-    windows
-        .iter()
-        .any(|window| number_of(&window.node.kind) == number)
-}
-
-/// Whether the window has a number from 1 to 9 that one before it has.
-pub fn numbered_again(before: &[Window], window: &Window) -> bool
-    ensures { result ≡ numbered_again before.now window.now }
-{
-    let number = number_of(&window.node.kind);
-    is_between(&1, &9, &i128::from(number)) && is_numbered(number, before)
+    let mut numbers = HashSet::new(alloc);
+    let mut again = Vec::new(alloc);
+    for window in windows {
+        let number = number_of(&window.node.kind);
+        let is_given = !numbers.insert(number)?;
+        again.push(is_between(&1, &9, &i128::from(number)) && is_given)?;
+    }
+    Ok(again)
 }
 
 // Whether a status item may have the key.
@@ -48,83 +53,89 @@ fn is_status_key(key: Key) -> bool
     }
 }
 
-// Whether the two are the same key, of those that a status item may have.
-fn is_same_key(key: Key, other: Key) -> bool
-    ensures { result ≡ is_same_key key other }
+// Adds the letters that the views mark.
+fn add_marked(letters: &mut HashSet<char>, views: &[Node]) -> Result<(), AllocError>
+    ensures { OnOk result ((ch : ℕ) → set.contains nat_eq letters.new ch ≡ (set.contains nat_eq letters.old ch || is_marked_by views.now ch)) }
 {
-    match (key, other) {
-        (Key::Function(number), Key::Function(other)) => number == other,
-        (Key::Ctrl(letter), Key::Ctrl(other)) => letter == other,
-        (Key::Alt(letter), Key::Alt(other)) => letter == other,
+    for view in views {
+        add_letters(letters, marked_of(&view.kind))?;
+    }
+    Ok(())
+}
+
+// Adds the shortcuts of the dialogs.
+fn add_shortcuts(taken: &mut HashSet<char>, dialogs: &[Dialog]) -> Result<(), AllocError>
+    ensures { OnOk result ((ch : ℕ) → set.contains nat_eq taken.new ch ≡ (set.contains nat_eq taken.old ch || list_any (is_shortcut ch) dialogs.now)) }
+{
+    for dialog in dialogs {
+        add_marked(taken, dialog.views.as_slice())?;
+    }
+    Ok(())
+}
+
+// Adds the letters of the menus' titles.
+fn add_titles(taken: &mut HashSet<char>, menus: &[Menu]) -> Result<(), AllocError>
+    ensures { OnOk result ((ch : ℕ) → set.contains nat_eq taken.new ch ≡ (set.contains nat_eq taken.old ch || list_any (λ menu. marks ch menu.title) menus.now)) }
+{
+    for menu in menus {
+        add_letter(taken, &menu.title)?;
+    }
+    Ok(())
+}
+
+// The digit of a window's number from 1 to 9.
+fn digit_of(window: &Window) -> Option<char>
+    ensures { (ch : ℕ) → is_option_letter ch result ≡ is_window_digit ch window.now }
+{
+    match u8::try_from(number_of(&window.node.kind)) {
+        Ok(number @ 1..=9) => Some(char::from(b'0' + number)),
+        _ => None,
+    }
+}
+
+// Adds the digits of the windows' numbers.
+fn add_digits(taken: &mut HashSet<char>, windows: &[Window]) -> Result<(), AllocError>
+    ensures { OnOk result ((ch : ℕ) → set.contains nat_eq taken.new ch ≡ (set.contains nat_eq taken.old ch || list_any (is_window_digit ch) windows.now)) }
+{
+    for window in windows {
+        if let Some(digit) = digit_of(window) {
+            taken.insert(digit)?;
+        }
+    }
+    Ok(())
+}
+
+// The letters and digits that open a menu, bring a window to the front or are shortcuts of a dialog.
+fn taken_with_alt(alloc: Global, desc: &Desc) -> Result<HashSet<char>, AllocError>
+    ensures { IfOk result (λ taken. (ch : ℕ) → set.contains nat_eq taken ch ≡ is_taken desc.now (Alt ch)) }
+{
+    let mut taken = HashSet::new(alloc);
+    add_shortcuts(&mut taken, desc.dialogs.as_slice())?;
+    add_titles(&mut taken, desc.menus.as_slice())?;
+    add_digits(&mut taken, desc.windows.as_slice())?;
+    Ok(taken)
+}
+
+// Whether the key is Alt with one of the letters and digits.
+fn is_alt_of(taken: &HashSet<char>, key: Key) -> bool
+    ensures { result ≡ is_alt_of (set.contains nat_eq taken.now) key }
+{
+    match key {
+        Key::Alt(ch) => taken.contains(&ch),
         _ => false,
     }
 }
 
-// Whether the node marks the letter.
-fn is_marked_by(letter: char, node: &Node) -> bool
-    ensures { result ≡ list_any (marks letter) (marked_of node.now.kind) }
+/// For each status item whether its key isn't one that it may have, or already means something else.
+pub fn bad_keys(alloc: Global, desc: &Desc) -> Result<Vec<bool>, AllocError>
+    ensures { IfOk result (λ bad. bad.items ≡ each_after (has_bad_key desc.now) desc.now.status) }
 {
-    marked_of(&node.kind).iter().any(|text| marks(letter, text))
-}
-
-// Whether the letter is a shortcut of the dialog.
-fn is_shortcut(letter: char, dialog: &Dialog) -> bool
-    ensures { result ≡ is_shortcut letter dialog.now }
-{
-    let views = dialog.views.as_slice();
-    views.iter().any(|node| is_marked_by(letter, node))
-}
-
-// Whether a menu's title marks the letter.
-fn is_title(letter: char, menus: &[Menu]) -> bool
-    ensures { result ≡ list_any (λ menu. marks letter menu.title) menus.now }
-{
-    menus.iter().any(|menu| marks(letter, &menu.title))
-}
-
-// Whether the character is the digit of the window's number.
-fn is_window_digit(ch: char, window: &Window) -> bool
-    ensures { result ≡ is_window_digit ch window.now }
-{
-    match ch {
-        '1'..='9' => i64::from(number_of(&window.node.kind)) == i64::from(u32::from(ch) - 48),
-        _ => false,
+    let taken = taken_with_alt(alloc, desc)?;
+    let mut keys = HashSet::new(alloc);
+    let mut bad = Vec::new(alloc);
+    for item in desc.status.as_slice() {
+        let is_given = !keys.insert(item.key)?;
+        bad.push(!is_status_key(item.key) || is_alt_of(&taken, item.key) || is_given)?;
     }
-}
-
-fn is_shortcut_of(letter: char, dialogs: &[Dialog]) -> bool
-    ensures { result ≡ list_any (is_shortcut letter) dialogs.now }
-{
-    dialogs.iter().any(|dialog| is_shortcut(letter, dialog))
-}
-
-fn is_digit_of(ch: char, windows: &[Window]) -> bool
-    ensures { result ≡ list_any (is_window_digit ch) windows.now }
-{
-    windows.iter().any(|window| is_window_digit(ch, window))
-}
-
-// Whether the key already opens a menu, brings a window to the front, or is a shortcut of a dialog.
-fn is_taken(desc: &Desc, key: Key) -> bool
-    ensures { result ≡ is_taken desc.now key }
-{
-    let Key::Alt(ch) = key else {
-        return false;
-    };
-    is_shortcut_of(ch, desc.dialogs.as_slice())
-        || is_title(ch, desc.menus.as_slice())
-        || is_digit_of(ch, desc.windows.as_slice())
-}
-
-fn is_given(key: Key, items: &[StatusItem]) -> bool
-    ensures { result ≡ list_any (λ other. is_same_key other.key key) items.now }
-{
-    items.iter().any(|item| is_same_key(item.key, key))
-}
-
-/// Whether the item's key isn't one that it may have, or already means something else.
-pub fn has_bad_key(desc: &Desc, before: &[StatusItem], item: &StatusItem) -> bool
-    ensures { result ≡ has_bad_key desc.now before.now item.now }
-{
-    !is_status_key(item.key) || is_taken(desc, item.key) || is_given(item.key, before)
+    Ok(bad)
 }

@@ -1,9 +1,14 @@
 //! Letters that are marked.
 
-ghost use Rattle.std.specs.Prelude.{◌≡◌, ◌∷◌, ◌||◌};
+ghost use Rattle.std.specs.Prelude.{◌≡◌, ◌||◌, ℕ, nat_eq, IfOk, OnOk};
+ghost use Rattle.std.specs.HashSet as set;
 ghost use Rattle.std.specs.List.{list_any};
-ghost use Rattle.tv_model.specs.Faults.Letters.{item_again, letter_of, marked_of, marks, marks_again, shares_letter, titled_again};
+ghost use Rattle.tv_model.specs.Faults.Letters.{item_again, letter_of, marked_of, marks, marks_again, titled_again};
+ghost use Rattle.tv_faults.specs.Each.{each_after};
+ghost use Rattle.tv_faults.specs.Marked.{is_marked_in, mark_again, marks_any};
 
+use std::alloc::{AllocError, Global};
+use std::collections::HashSet;
 use std::slice;
 use tv_model::{Kind, MarkedText, Menu, MenuItem, Node};
 
@@ -36,60 +41,61 @@ pub fn marks(letter: char, text: &MarkedText) -> bool
     }
 }
 
-// Whether both mark a letter, and the same one.
-fn shares_letter(text: &MarkedText, other: &MarkedText) -> bool
-    ensures { result ≡ shares_letter text.now other.now }
+/// Whether the text marks one of the letters, to which its own is added.
+pub fn add_letter(letters: &mut HashSet<char>, text: &MarkedText) -> Result<bool, AllocError>
+    ensures again { IfOk result (λ again. again ≡ marks_any (set.contains nat_eq letters.old) text.now) }
+    ensures added { OnOk result ((ch : ℕ) → set.contains nat_eq letters.new ch ≡ (set.contains nat_eq letters.old ch || marks ch text.now)) }
 {
     match letter_of(text) {
-        Some(letter) => marks(letter, other),
-        None => false,
+        Some(letter) => Ok(!letters.insert(letter)?),
+        None => Ok(false),
     }
 }
 
-// Whether one of the texts marks the same letter.
-fn is_marked_in(texts: &[MarkedText], text: &MarkedText) -> bool
-    ensures { result ≡ list_any (shares_letter text.now) texts.now }
+/// Whether one of the texts marks one of the letters or a letter of a text before it. Their own are added.
+pub fn add_letters(letters: &mut HashSet<char>, texts: &[MarkedText]) -> Result<bool, AllocError>
+    ensures again { IfOk result (λ again. again ≡ mark_again (set.contains nat_eq letters.old) texts.now) }
+    ensures added { OnOk result ((ch : ℕ) → set.contains nat_eq letters.new ch ≡ (set.contains nat_eq letters.old ch || is_marked_in texts.now ch)) }
 {
-    letter_of(text).is_some() && texts.iter().any(|other| shares_letter(text, other))
-}
-
-// Whether one of the views marks the same letter.
-fn is_marked_by(views: &[Node], text: &MarkedText) -> bool
-    ensures { result ≡ list_any (λ other. list_any (shares_letter text.now) (marked_of other.kind)) views.now }
-{
-    letter_of(text).is_some()
-        && views
-            .iter()
-            .any(|other| is_marked_in(marked_of(&other.kind), text))
-}
-
-/// Whether the view marks a letter that was marked before, on an earlier line or on its own.
-pub fn marks_again(before: &[Node], node: &Node) -> bool
-    ensures { result ≡ marks_again before.now node.now }
-{
-    let texts = marked_of(&node.kind);
-    for (i, text) in texts.iter().enumerate() {
-        if is_marked_by(before, text) || is_marked_in(&texts[..i], text) {
-            return true;
-        }
+    let mut again = false;
+    for text in texts {
+        again |= add_letter(letters, text)?;
     }
-    false
+    Ok(again)
 }
 
-/// Whether the menu's title marks the letter of one before it.
-pub fn titled_again(before: &[Menu], menu: &Menu) -> bool
-    ensures { result ≡ titled_again before.now menu.now }
+/// For each view whether it marks a letter that was marked before, on an earlier line or on its own.
+pub fn marks_again(alloc: Global, views: &[Node]) -> Result<Vec<bool>, AllocError>
+    ensures { IfOk result (λ again. again.items ≡ each_after marks_again views.now) }
 {
-    before
-        .iter()
-        .any(|other| shares_letter(&menu.title, &other.title))
+    let mut letters = HashSet::new(alloc);
+    let mut again = Vec::new(alloc);
+    for view in views {
+        again.push(add_letters(&mut letters, marked_of(&view.kind))?)?;
+    }
+    Ok(again)
 }
 
-/// Whether the item marks the letter of one before it in its menu.
-pub fn item_again(before: &[MenuItem], item: &MenuItem) -> bool
-    ensures { result ≡ item_again before.now item.now }
+/// For each menu whether its title marks the letter of one before it.
+pub fn titled_again(alloc: Global, menus: &[Menu]) -> Result<Vec<bool>, AllocError>
+    ensures { IfOk result (λ again. again.items ≡ each_after titled_again menus.now) }
 {
-    before
-        .iter()
-        .any(|other| shares_letter(&item.text, &other.text))
+    let mut letters = HashSet::new(alloc);
+    let mut again = Vec::new(alloc);
+    for menu in menus {
+        again.push(add_letter(&mut letters, &menu.title)?)?;
+    }
+    Ok(again)
+}
+
+/// For each item of a menu whether it marks the letter of one before it.
+pub fn items_again(alloc: Global, items: &[MenuItem]) -> Result<Vec<bool>, AllocError>
+    ensures { IfOk result (λ again. again.items ≡ each_after item_again items.now) }
+{
+    let mut letters = HashSet::new(alloc);
+    let mut again = Vec::new(alloc);
+    for item in items {
+        again.push(add_letter(&mut letters, &item.text)?)?;
+    }
+    Ok(again)
 }

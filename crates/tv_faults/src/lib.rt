@@ -12,6 +12,8 @@ mod letters;
 mod limits;
 mod list;
 mod names;
+mod owners;
+mod overlaps;
 mod places;
 mod rules;
 mod texts;

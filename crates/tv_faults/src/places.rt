@@ -1,19 +1,29 @@
-//! Views within their owners, and apart from their siblings.
+//! Views within their owners.
 
-ghost use Rattle.std.specs.Prelude.{◌≡◌, ◌<◌, ◌&&◌, ◌∷◌, [], length, option_copied, reverse, IfNone, IfSome};
-ghost use Rattle.std.specs.List.{list_any};
-ghost use Rattle.tv_model.specs.Nodes.{has_id, is_pane};
-ghost use Rattle.tv_model.specs.Faults.Places.{around, earlier_siblings, is_off_desktop, is_outside, need_own_places, overlap, overlaps_earlier, owner_of, panes_around, place_of_node, room_in};
+ghost use Rattle.std.specs.Prelude.{◌≡◌, ◌<◌, ◌&&◌, length, take, option_and_then, option_copied, slice_get, slice_index_or, IfOk};
+ghost use Rattle.tv_model.specs.Nodes.{is_pane};
+ghost use Rattle.tv_model.specs.Faults.Places.{is_off_desktop, is_outside, need_own_places, overlap, place_of_node, room_in};
 ghost use Rattle.tv_model.specs.Faults.Rules.{stands_over};
+ghost use Rattle.tv_faults.specs.Each.{each_after};
+ghost use Rattle.tv_faults.specs.Standing.{AreOwners, IsOwner};
 
 use crate::area::Area;
+use crate::owners::owners;
+use std::alloc::{AllocError, Global};
 use tv_model::{Desc, Dialog, Id, Kind, Node};
 
-// The pane in which the node stands, after the views before it; `None` where that is its window or dialog.
-fn owner_of<'a>(before: &'a [Node], node: &Node) -> Option<&'a Node>
-    ensures { option_copied result ≡ owner_of before.now node.now }
+/// Whether the dialog isn't within the desktop.
+pub fn is_off_desktop(desc: &Desc, dialog: &Dialog) -> bool
+    ensures { result ≡ is_off_desktop desc.now dialog.now }
 {
-    before.iter().rev().find(|other| other.depth < node.depth)
+    !Area::of_node(&dialog.node).is_within(&Area::desktop(desc))
+}
+
+/// Whether it is a pane.
+pub fn is_pane(kind: &Kind) -> bool
+    ensures { result ≡ is_pane kind.now }
+{
+    matches!(kind, Kind::Pane { .. })
 }
 
 // Where the views of an owner may be.
@@ -26,79 +36,47 @@ fn room_in(frame: &Node, owner: Option<&Node>) -> Area
     }
 }
 
-/// Whether the dialog isn't within the desktop.
-pub fn is_off_desktop(desc: &Desc, dialog: &Dialog) -> bool
-    ensures { result ≡ is_off_desktop desc.now dialog.now }
+// The pane that is the owner, where there is one.
+fn pane_of(views: &[Node], owner: Option<usize>) -> Option<&Node>
+    ensures { option_copied result ≡ option_and_then (slice_get views.now) owner }
 {
-    !Area::of_node(&dialog.node).is_within(&Area::desktop(desc))
+    views.get(owner?)
 }
 
-/// Whether the view isn't within its pane, or within the frame of its window or dialog.
-pub fn is_outside(frame: &Node, before: &[Node], node: &Node) -> bool
-    ensures { result ≡ is_outside frame.now before.now node.now }
+// Whether the view at this place isn't within its pane, or within the frame of its window or dialog.
+fn is_outside(frame: &Node, views: &[Node], owner: Option<usize>, place: usize) -> bool
+    requires owner { IsOwner views.now place owner }
+    requires within { place < length views.now }
+    ensures { (view : Node) → result ≡ is_outside frame.now (take place views.now) (slice_index_or views.now place view) }
 {
-    !Area::of_node(node).is_within(&room_in(frame, owner_of(before, node)))
+    let room = room_in(frame, pane_of(views, owner));
+    !Area::of_node(&views[place]).is_within(&room)
 }
 
-/// Whether it is a pane.
-pub fn is_pane(kind: &Kind) -> bool
-    ensures { result ≡ is_pane kind.now }
+/// For each view whether it isn't within its pane, or within the frame of its window or dialog.
+pub fn are_outside(alloc: Global, frame: &Node, views: &[Node]) -> Result<Vec<bool>, AllocError>
+    ensures { IfOk result (λ outside. outside.items ≡ each_after (is_outside frame.now) views.now) }
 {
-    matches!(kind, Kind::Pane { .. })
+    let owners = owners(alloc, views)?;
+    let mut outside = Vec::new(alloc);
+    for (place, owner) in owners.iter().enumerate() {
+        outside.push(is_outside(frame, views, *owner, place))?;
+    }
+    Ok(outside)
 }
 
-// Whether no point may lie in both.
-fn need_own_places(one: &Kind, other: &Kind) -> bool
-    ensures { result ≡ need_own_places one.now other.now }
+/// Whether the view of this id is the view at this place or a pane around it.
+pub fn stands_over(owners: &[Option<usize>], views: &[Node], target: Id, place: usize) -> bool
+    requires owners { AreOwners owners.now views.now }
+    requires within { place < length views.now }
+    ensures { (view : Node) → result ≡ stands_over target (take place views.now) (slice_index_or views.now place view) }
 {
-    is_pane(one) || is_pane(other) || (one.is_control() && other.is_control())
-}
-
-// Whether the two share a point that they may not share.
-fn collides(other: &Node, node: &Node) -> bool
-    ensures { result ≡ need_own_places other.now.kind node.now.kind && overlap (place_of_node other.now) (place_of_node node.now) }
-{
-    need_own_places(&other.kind, &node.kind) && Area::of_node(other).overlaps(&Area::of_node(node))
-}
-
-/// Whether the view overlaps an earlier one of the same owner, and may not.
-pub fn overlaps_earlier(before: &[Node], node: &Node) -> bool
-    ensures { result ≡ overlaps_earlier before.now node.now }
-{
-    before
-        .iter()
-        .rev()
-        .take_while(|other| other.depth >= node.depth)
-        .filter(|other| other.depth == node.depth)
-        .any(|other| collides(other, node))
-}
-
-/// The innermost pane around a place of this depth, and the views before the pane. The views are those before the place.
-pub fn owner_before(before: &[Node], depth: u8) -> Option<(&[Node], &Node)>
-    ensures some { IfSome result (λ found. (length found.0.now < length before.now) × (around depth (reverse before.now) ≡ found.1.now ∷ around found.1.now.depth (reverse found.0.now))) }
-    ensures none { IfNone result (around depth (reverse before.now) ≡ []) }
-{
-    for place in (0..before.len()).rev() {
-        if before[place].depth < depth {
-            return Some((&before[..place], &before[place]));
+    let mut around = Some(place);
+    while let Some(place) = around {
+        if views[place].id == target {
+            return true;
         }
+        around = owners[place];
     }
-    None
-}
-
-// Whether a pane around a place of this depth has the id. The views are those before the place.
-fn is_around(id: Id, before: &[Node], depth: u8) -> bool
-    ensures { result ≡ list_any (has_id id) (around depth (reverse before.now)) }
-{
-    match owner_before(before, depth) {
-        Some((earlier, owner)) => owner.id == id || is_around(id, earlier, owner.depth),
-        None => false,
-    }
-}
-
-/// Whether the view of this id is the node itself or a pane around it.
-pub fn stands_over(id: Id, before: &[Node], node: &Node) -> bool
-    ensures { result ≡ stands_over id before.now node.now }
-{
-    node.id == id || is_around(id, before, node.depth)
+    false
 }

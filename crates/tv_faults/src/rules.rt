@@ -1,12 +1,17 @@
 //! Rules of a dialog.
 
-ghost use Rattle.std.specs.Prelude.{◌≡◌, ◌&&◌, option_copied};
+ghost use Rattle.std.specs.Prelude.{◌≡◌, ◌<◌, length, take, option_copied, slice_index_or, IfOk};
+ghost use Rattle.tv_model.specs.declared.node.Node.{Node};
 ghost use Rattle.tv_model.specs.Faults.Letters.{rules_cancel};
-ghost use Rattle.tv_model.specs.Faults.Rules.{cluster_items, has_target, is_button_of, is_cluster, is_item, is_same_command, names_unknown, shows_cluster, shows_itself};
+ghost use Rattle.tv_model.specs.Faults.Rules.{cluster_items, has_target, is_cluster, is_item, names_unknown, shows_cluster, shows_itself};
+ghost use Rattle.tv_faults.specs.Each.{each_after};
+ghost use Rattle.tv_faults.specs.Standing.{AreOwners};
 
-use crate::names::{gives_name, meant};
+use crate::names::Names;
+use crate::owners::owners;
 use crate::places::{is_pane, stands_over};
-use tv_model::{CommandSpec, Effect, Kind, Node, Rule};
+use std::alloc::{AllocError, Global};
+use tv_model::{CommandSpec, Dialog, Effect, Kind, Node, Rule};
 
 /// Whether the item is one of so many, counted from 1.
 pub fn is_item(item: &i32, count: usize) -> bool
@@ -31,11 +36,11 @@ fn cluster_items(node: Option<&Node>) -> usize
 }
 
 // Whether the rule shows a control or a pane, where it shows anything.
-fn has_target(views: &[Node], effect: &Effect) -> bool
-    ensures { result ≡ has_target views.now effect.now }
+fn has_target(names: &Names, effect: &Effect) -> bool
+    ensures { result ≡ has_target names.now effect.now }
 {
     match effect {
-        Effect::Show(name) => match meant(views, name) {
+        Effect::Show(name) => match names.meant(name) {
             Some(node) => node.kind.is_control() || is_pane(&node.kind),
             None => false,
         },
@@ -43,12 +48,24 @@ fn has_target(views: &[Node], effect: &Effect) -> bool
     }
 }
 
-/// Whether the rule names a view or an item that isn't there.
-pub fn names_unknown(views: &[Node], rule: &Rule) -> bool
-    ensures { result ≡ names_unknown views.now rule.now }
+// Whether the rule names a view or an item that isn't there.
+fn names_unknown(names: &Names, rule: &Rule) -> bool
+    ensures { result ≡ names_unknown names.now rule.now }
 {
-    !has_target(views, &rule.effect)
-        || !is_item(&rule.item, cluster_items(meant(views, &rule.cluster)))
+    !has_target(names, &rule.effect)
+        || !is_item(&rule.item, cluster_items(names.meant(&rule.cluster)))
+}
+
+/// For each rule of the dialog whether it names a view or an item that isn't there.
+pub fn unknown_names(alloc: Global, dialog: &Dialog) -> Result<Vec<bool>, AllocError>
+    ensures { IfOk result (λ unknown. unknown.items ≡ each_after (λ _. names_unknown dialog.now.views) dialog.now.rules) }
+{
+    let names = Names::new(alloc, dialog.views.as_slice())?;
+    let mut unknown = Vec::new(alloc);
+    for rule in dialog.rules.as_slice() {
+        unknown.push(names_unknown(&names, rule))?;
+    }
+    Ok(unknown)
 }
 
 fn is_cluster(kind: &Kind) -> bool
@@ -57,29 +74,44 @@ fn is_cluster(kind: &Kind) -> bool
     matches!(kind, Kind::CheckBoxes { .. } | Kind::RadioButtons { .. })
 }
 
-// Whether the rule shows the cluster, after the views before it, or a pane around it.
-fn shows_cluster(views: &[Node], rule: &Rule, before: &[Node], cluster: &Node) -> bool
-    ensures { result ≡ shows_cluster views.now rule.now before.now cluster.now }
+// Whether the rule shows the cluster at this place, or a pane around it.
+fn shows_cluster(names: &Names, owners: &[Option<usize>], rule: &Rule, place: usize) -> bool
+    requires owners { AreOwners owners.now names.now }
+    requires within { place < length names.now }
+    ensures { (cluster : Node) → result ≡ shows_cluster names.now rule.now (take place names.now) (slice_index_or names.now place cluster) }
 {
+    let views = names.views();
     match &rule.effect {
-        Effect::Show(name) if is_cluster(&cluster.kind) => match meant(views, name) {
-            Some(target) => stands_over(target.id, before, cluster),
+        Effect::Show(name) if is_cluster(&views[place].kind) => match names.meant(name) {
+            Some(target) => stands_over(owners, views, target.id, place),
             None => false,
         },
         _ => false,
     }
 }
 
-/// Whether the rule shows its own cluster or a pane around it.
-pub fn shows_itself(views: &[Node], rule: &Rule) -> bool
-    ensures { result ≡ shows_itself views.now rule.now }
+// Whether the rule shows its own cluster or a pane around it.
+fn shows_itself(names: &Names, owners: &[Option<usize>], rule: &Rule) -> bool
+    requires { AreOwners owners.now names.now }
+    ensures { result ≡ shows_itself names.now rule.now }
 {
-    for (i, node) in views.iter().enumerate() {
-        if gives_name(&rule.cluster, node) {
-            return shows_cluster(views, rule, &views[..i], node);
-        }
+    match names.place(&rule.cluster) {
+        Some(place) => shows_cluster(names, owners, rule, place),
+        None => false,
     }
-    false
+}
+
+/// For each rule of the dialog whether it shows its own cluster or a pane around it.
+pub fn show_themselves(alloc: Global, dialog: &Dialog) -> Result<Vec<bool>, AllocError>
+    ensures { IfOk result (λ showing. showing.items ≡ each_after (λ _. shows_itself dialog.now.views) dialog.now.rules) }
+{
+    let names = Names::new(alloc, dialog.views.as_slice())?;
+    let owners = owners(alloc, dialog.views.as_slice())?;
+    let mut showing = Vec::new(alloc);
+    for rule in dialog.rules.as_slice() {
+        showing.push(shows_itself(&names, &owners, rule))?;
+    }
+    Ok(showing)
 }
 
 /// Whether the rule would disable the ways out of a dialog or a window.
@@ -92,19 +124,3 @@ pub fn rules_cancel(rule: &Rule) -> bool
     )
 }
 
-// Whether the two are the same word or the same number.
-fn is_same_command(command: CommandSpec, other: CommandSpec) -> bool
-    ensures { result ≡ is_same_command command other }
-{
-    command == other
-}
-
-/// Whether it is a button of the command.
-pub fn is_button_of(command: CommandSpec, kind: &Kind) -> bool
-    ensures { result ≡ is_button_of command kind.now }
-{
-    match kind {
-        Kind::Button { command: own, .. } => is_same_command(*own, command),
-        _ => false,
-    }
-}

@@ -1,0 +1,7 @@
+use Rattle.std.proofs.Common.{◌≡◌, ◌++◌, map, take, drop}
+use Rattle.tv_model.specs.Faults.{after_seen, item_has}
+use Rattle.tv_faults.specs.Each.{each_after}
+use Rattle.tv_faults.proofs.judged.each_item.Given as goal
+
+abbrev pub invariant-loop-i : goal.invariant-loop-i
+invariant-loop-i l = l.faulty.items ++ map (λ pair. item_has l.kind pair.0 pair.1) (after_seen (take l.i l.items) (drop l.i l.items)) ≡ each_after (item_has l.kind) l.items

@@ -1,7 +1,0 @@
-use Rattle.std.proofs.Common.{◌≡◌, ◌++◌, map, take, drop}
-use Rattle.tv_model.specs.Faults.{after_seen, menu_has}
-use Rattle.tv_faults.specs.Each.{each_after}
-use Rattle.tv_faults.proofs.judged.faulty_menus.Given as goal
-
-abbrev pub invariant-loop-i : goal.invariant-loop-i
-invariant-loop-i l = l.faulty.items ++ map (λ pair. menu_has l.kind pair.0 pair.1) (after_seen (take l.i l.menus) (drop l.i l.menus)) ≡ each_after (menu_has l.kind) l.menus

@@ -1,7 +1,0 @@
-use Rattle.std.proofs.Common.{◌≡◌, ◌++◌, map, take, drop}
-use Rattle.tv_model.specs.Faults.{after_seen, view_has}
-use Rattle.tv_faults.specs.Each.{each_after}
-use Rattle.tv_faults.proofs.judged.faulty_views.Given as goal
-
-abbrev pub invariant-loop-i : goal.invariant-loop-i
-invariant-loop-i l = l.faulty.items ++ map (λ pair. view_has l.kind l.frame l.views pair.0 pair.1) (after_seen (take l.i l.views) (drop l.i l.views)) ≡ each_after (view_has l.kind l.frame l.views) l.views
