@@ -11,13 +11,13 @@ pub rect_is : (p q r s a b c d : ℤ) → p ≡ a → q ≡ b → r ≡ c → s 
     → ◌≡◌ {A = Rect} record { a = record { x = p; y = q }; b = record { x = r; y = s } } record { a = record { x = a; y = b }; b = record { x = c; y = d } }
 rect_is p q r s a b c d e f g h = cc
 
-lt_holds : (a b : ℤ) → a <ℤ b → int_lt a b ≡ true
+pub lt_holds : (a b : ℤ) → a <ℤ b → int_lt a b ≡ true
 lt_holds a b h = grind (arith, ints)
 
-lt_says : (a b : ℤ) → int_lt a b ≡ true → a <ℤ b
+pub lt_says : (a b : ℤ) → int_lt a b ≡ true → a <ℤ b
 lt_says a b h = grind (arith, ints)
 
-le_holds : (a b : ℤ) → a ≤ℤ b → int_le a b ≡ true
+pub le_holds : (a b : ℤ) → a ≤ℤ b → int_le a b ≡ true
 le_holds a b h = grind (arith, ints)
 
 pub le_says : (a b : ℤ) → int_le a b ≡ true → a ≤ℤ b

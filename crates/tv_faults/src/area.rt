@@ -4,7 +4,9 @@ ghost use Rattle.std.specs.Prelude.{◌≡◌, ◌↔◌, IsTrue, ℤ, int_le, i
 ghost use Rattle.tv_cells.specs.Rectangle.{IsIn};
 ghost use Rattle.tv_model.specs.Nodes.{height_of};
 ghost use Rattle.tv_model.specs.Faults.Places.{desktop, has_points, interior, is_within, overlap, place_of_node, whole_area};
+ghost use Rattle.tv_faults.specs.Placing.{columns, rows};
 
+use crate::span::Span;
 use std::marker::Model;
 use tv_model::{Desc, Kind, Node};
 
@@ -108,6 +110,26 @@ impl Area {
             top: 1,
             right: i128::from(desc.width),
             bottom: i128::from(desc.height) - 1,
+        }
+    }
+
+    /// The rows of it.
+    pub fn rows(&self) -> Span
+        ensures { result ≡ rows self.now }
+    {
+        Span {
+            low: self.top,
+            high: self.bottom,
+        }
+    }
+
+    /// The columns of it.
+    pub fn columns(&self) -> Span
+        ensures { result ≡ columns self.now }
+    {
+        Span {
+            low: self.left,
+            high: self.right,
         }
     }
 

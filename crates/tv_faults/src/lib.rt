@@ -2,10 +2,12 @@
 #![tactic(auto)]
 
 mod area;
+mod columns;
 mod conditions;
 mod domains;
 mod ends;
 mod focus;
+mod heaviest;
 mod judged;
 mod keys;
 mod letters;
@@ -14,8 +16,12 @@ mod list;
 mod names;
 mod owners;
 mod overlaps;
+mod placed;
 mod places;
+mod rows;
 mod rules;
+mod siblings;
+mod span;
 mod texts;
 
 pub use letters::marks;

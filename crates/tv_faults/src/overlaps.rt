@@ -1,44 +1,70 @@
-//! Views that overlap siblings.
+//! Views that overlap an earlier sibling and may not.
 
-ghost use Rattle.std.specs.Prelude.{◌≡◌, ◌&&◌, IfOk};
-ghost use Rattle.tv_model.specs.Faults.Places.{need_own_places, overlap, overlaps_earlier, place_of_node};
+ghost use Rattle.std.specs.Prelude.{◌≡◌, fold, length, max, zip, IfOk};
+ghost use Rattle.tv_model.specs.Faults.Places.{overlaps_earlier};
 ghost use Rattle.tv_faults.specs.Each.{each_after};
+ghost use Rattle.tv_faults.specs.Placing.{placed_from};
+ghost use Rattle.tv_faults.specs.Standing.{AreSiblingsNumbered};
 
 use crate::area::Area;
-use crate::places::is_pane;
+use crate::owners::siblings;
+use crate::placed::{Placed, weight};
+use crate::siblings::mark_siblings;
 use std::alloc::{AllocError, Global};
-use tv_model::{Kind, Node};
+use tv_model::Node;
 
-fn need_own_places(one: &Kind, other: &Kind) -> bool
-    ensures { result ≡ need_own_places one.now other.now }
+// The views that have points, by what they take of their owners.
+fn placed(alloc: Global, views: &[Node], owners: &[usize]) -> Result<Vec<Placed>, AllocError>
+    requires { length owners.now ≡ length views.now }
+    ensures { IfOk result (λ items. items.items ≡ placed_from 0 (zip owners.now views.now)) }
 {
-    is_pane(one) || is_pane(other) || (one.is_control() && other.is_control())
+    let mut items = Vec::new(alloc);
+    for (place, view) in views.iter().enumerate() {
+        let area = Area::of_node(view);
+        if area.has_points() {
+            items.push(Placed {
+                place,
+                owner: owners[place],
+                rows: area.rows(),
+                columns: area.columns(),
+                weight: weight(&view.kind),
+            })?;
+        }
+    }
+    Ok(items)
 }
 
-fn collides(other: &Node, node: &Node) -> bool
-    ensures { result ≡ need_own_places other.now.kind node.now.kind && overlap (place_of_node other.now) (place_of_node node.now) }
+// The greatest number of an owner.
+fn last_owner(items: &[Placed]) -> usize
+    ensures { result ≡ fold (λ last item. max last item.owner) 0 items.now }
 {
-    need_own_places(&other.kind, &node.kind) && Area::of_node(other).overlaps(&Area::of_node(node))
+    let mut last = 0;
+    for item in items {
+        last = last.max(item.owner);
+    }
+    last
 }
 
-fn overlaps_earlier(before: &[Node], node: &Node) -> bool
-    ensures { result ≡ overlaps_earlier before.now node.now }
+// Which views overlap an earlier sibling and may not, where siblings have the same number.
+fn overlaps_among(
+    alloc: Global,
+    views: &[Node],
+    siblings: &[usize],
+) -> Result<Vec<bool>, AllocError>
+    requires { AreSiblingsNumbered siblings.now views.now }
+    ensures { IfOk result (λ found. found.items ≡ each_after overlaps_earlier views.now) }
 {
-    before
-        .iter()
-        .rev()
-        .take_while(|other| other.depth >= node.depth)
-        .filter(|other| other.depth == node.depth)
-        .any(|other| collides(other, node))
+    let items = placed(alloc, views, siblings)?;
+    let mut marks = vec![in alloc; false; views.len()]?;
+    mark_siblings(alloc, &mut marks, 0, last_owner(&items), &items)?;
+    Ok(marks)
 }
 
-/// For each view.
+/// For each view whether it overlaps an earlier sibling and may not. Takes the time of sorting, nearly: each view is
+/// looked at as often as ranges can be halved, of owners once, of rows and columns together.
 pub fn overlaps(alloc: Global, views: &[Node]) -> Result<Vec<bool>, AllocError>
     ensures { IfOk result (λ found. found.items ≡ each_after overlaps_earlier views.now) }
 {
-    let mut found = Vec::new(alloc);
-    for (i, node) in views.iter().enumerate() {
-        found.push(overlaps_earlier(&views[..i], node))?;
-    }
-    Ok(found)
+    let siblings = siblings(alloc, views)?;
+    overlaps_among(alloc, views, &siblings)
 }

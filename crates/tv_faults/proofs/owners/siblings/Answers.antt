@@ -1,7 +1,7 @@
 use Rattle.std.proofs.Common.{◌≡◌, ◌++◌, ◌∷◌, [], rules, subst, sym}
 use Rattle.std.proofs.lemmas.List.{length_push}
 use Rattle.tv_faults.specs.Standing.{AreFirstNumbers, IsNumber}
-use Rattle.tv_faults.proofs.Siblings.{all_first, all_numbered, numbers_more}
+use Rattle.tv_faults.proofs.Numbered.{all_first, all_numbered, numbers_more}
 use Rattle.tv_faults.proofs.owners.siblings.Goals as goal
 
 pub loop-place-preserved : goal.loop-place-preserved
