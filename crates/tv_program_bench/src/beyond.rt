@@ -120,3 +120,32 @@ pub fn bars(alloc: Global) -> Result<String> {
     text.push_str(&"status \"s\" Alt-Z 100\n".repeat(alloc, 3_000)?)?;
     Ok(text)
 }
+
+/// One dialog of inputs whose pictures and starts are as long as they may be.
+pub fn pictures(alloc: Global) -> Result<String> {
+    let line = format!(in alloc;
+        "input a 1 1 9 120 picture \"{}\" \"{}\"\n",
+        "*@".repeat(alloc, 60)?,
+        "1".repeat(alloc, 120)?
+    )?;
+    dialog_of(alloc, &line.repeat(alloc, 900)?)
+}
+
+/// One dialog of an input with a picture of nearly all characters of the text.
+pub fn long_picture(alloc: Global) -> Result<String> {
+    let picture = "*{#,a}".repeat(alloc, 40_000)?;
+    let start = "1".repeat(alloc, 120)?;
+    dialog_of(alloc, &format!(in alloc; "input a 1 1 9 120 picture \"{picture}\" \"{start}\"\n")?)
+}
+
+pub fn long_picture2(alloc: Global) -> Result<String> {
+    let picture = "*{#,a}".repeat(alloc, 20_000)?;
+    let start = "1".repeat(alloc, 120)?;
+    dialog_of(alloc, &format!(in alloc; "input a 1 1 9 120 picture \"{picture}\" \"{start}\"\n")?)
+}
+
+pub fn long_picture3(alloc: Global) -> Result<String> {
+    let picture = "#".repeat(alloc, 240_000)?;
+    let start = "1".repeat(alloc, 120)?;
+    dialog_of(alloc, &format!(in alloc; "input a 1 1 9 120 picture \"{picture}\" \"{start}\"\n")?)
+}

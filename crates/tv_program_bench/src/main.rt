@@ -70,7 +70,11 @@ fn measure_beyond<R: Clock + Eprint>(rt: &R, alloc: Global) -> Result<()> {
     measure_faults(rt, alloc, "rules", &beyond::rules(alloc)?)?;
     measure_faults(rt, alloc, "dialogs", &beyond::dialogs(alloc)?)?;
     measure_faults(rt, alloc, "windows", &beyond::windows(alloc)?)?;
-    measure_faults(rt, alloc, "bars", &beyond::bars(alloc)?)
+    measure_faults(rt, alloc, "bars", &beyond::bars(alloc)?)?;
+    measure_faults(rt, alloc, "pictures", &beyond::pictures(alloc)?)?;
+    measure_faults(rt, alloc, "a long picture2", &beyond::long_picture2(alloc)?)?;
+    measure_faults(rt, alloc, "a long picture3", &beyond::long_picture3(alloc)?)?;
+    measure_faults(rt, alloc, "a long picture", &beyond::long_picture(alloc)?)
 }
 
 fn run<R: Clock + Eprint + Alloc>(rt: &R, alloc: Global) -> Result<()> {
