@@ -21,4 +21,5 @@ pub mod Placings
 pub mod Reached
 pub mod Sets
 pub mod Sound
+pub mod Tests
 pub mod Unviable
