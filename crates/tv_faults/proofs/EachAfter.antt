@@ -7,11 +7,6 @@ use Rattle.tv_model.specs.Faults.Lines.{after_seen, line_if, lines_where}
 use Rattle.tv_faults.specs.Each.{each_after}
 use Rattle.tv_faults.proofs.Lists.{joined}
 
--- tests that agree
-pub any_same : {A : Type 0} (p q : A → Bool) → ((x : A) → p x ≡ q x) → (xs : List A) → list_any p xs ≡ list_any q xs
-any_same p q same [] = refl
-any_same p q same (x ∷ xs) = ap (λ b. b || list_any p xs) (same x) ∙ ap (λ b. q x || b) (any_same p q same xs)
-
 pub after_push : {A : Type 0} (seen xs : List A) (x : A) → after_seen seen (xs ++ x ∷ []) ≡ after_seen seen xs ++ (seen ++ xs, x) ∷ []
 after_push seen [] x = ap (λ before. (before, x) ∷ []) (sym (append-nil seen))
 after_push seen (y ∷ ys) x =

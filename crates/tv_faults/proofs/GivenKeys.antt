@@ -6,8 +6,8 @@ use Rattle.tv_event.specs.declared.event.Key.TheVariants as keys
 use Rattle.tv_model.specs.declared.desc.Desc.{Desc}
 use Rattle.tv_model.specs.declared.desc.StatusItem.{StatusItem}
 use Rattle.tv_model.specs.Faults.Letters.{has_bad_key, is_same_key, is_status_key, is_taken}
-use Rattle.tv_faults.proofs.EachAfter.{any_same}
 use Rattle.tv_faults.specs.Keys.{are_equal, is_alt_of}
+use Rattle.tv_faults.proofs.Tests.{any_same}
 
 same_key : (key other : Key) → is_status_key key ≡ true → are_equal other key ≡ is_same_key other key
 same_key key other lawful = search rules

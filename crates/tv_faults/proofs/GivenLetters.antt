@@ -1,17 +1,13 @@
 -- Letters that were marked before.
-use Rattle.std.proofs.Common.{◌≡◌, ℕ, Bool, false, ◌||◌, List, [], ◌∷◌, refl, sym, ap, ◌∙◌}
+use Rattle.std.proofs.Common.{◌≡◌, ℕ, Bool, false, ◌||◌, List, [], refl, sym, ap, ◌∙◌}
 use Rattle.std.specs.List.{list_any}
 use Rattle.std.specs.Prelude.{Option, Some, None}
 use Rattle.tv_model.specs.Faults.Letters.{letter_of, marked_of, marks, marks_again, shares_letter}
 use Rattle.tv_model.specs.Faults.Lines.{after_seen}
 use Rattle.tv_model.specs.declared.node.MarkedText.{MarkedText}
 use Rattle.tv_model.specs.declared.node.Node.{Node}
-use Rattle.tv_faults.proofs.EachAfter.{any_same}
 use Rattle.tv_faults.specs.Marked.{is_marked_by, is_marked_in, mark_again, marks_any}
-
-any_none : {A : Type 0} (p : A → Bool) → ((x : A) → p x ≡ false) → (xs : List A) → list_any p xs ≡ false
-any_none p none [] = refl
-any_none p none (x ∷ xs) = ap (λ b. b || list_any p xs) (none x) ∙ any_none p none xs
+use Rattle.tv_faults.proofs.Tests.{any_none, any_same}
 
 module _ (text : MarkedText) (test : ℕ → Bool) where
   unmarked : letter_of text ≡ None → marks_any test text ≡ false

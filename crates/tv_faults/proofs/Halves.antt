@@ -34,14 +34,6 @@ cover_holds one other l h = and_from (int_le one.low other.low) (int_le other.hi
 
 -- ---- tests
 
-and_true : (a : Bool) → (a && true) ≡ a
-and_true true = refl
-and_true false = refl
-
-and_false : (a : Bool) → (a && false) ≡ false
-and_false true = refl
-and_false false = refl
-
 neither : (a b : Bool) → false ≡ ((a && false) || (b && false))
 neither true true = refl
 neither true false = refl

@@ -8,24 +8,11 @@ use Rattle.tv_faults.specs.declared.placed.Placed.{Placed}
 use Rattle.std.proofs.lemmas.Bool.{or_parts}
 use Rattle.tv_faults.specs.declared.span.Span.{Span}
 use Rattle.tv_faults.specs.Marks.{AreMarked, clash, collide_filling, covers, is_hit, meets}
+use Rattle.tv_faults.proofs.Tests.{any_none, any_or, or_assoc, or_false, or_swap}
 
 any_same : (p q : Placed → Bool) (P : Placed → Type 0) → ((x : Placed) → P x → p x ≡ q x) → (xs : List Placed) → All P xs → list_any p xs ≡ list_any q xs
 any_same p q P same [] all = refl
 any_same p q P same (x ∷ xs) all = ap (λ b. b || list_any p xs) (same x (All-head P x xs all)) ∙ ap (λ b. q x || b) (any_same p q P same xs (All-tail P x xs all))
-
-any_false : (p : Placed → Bool) → ((x : Placed) → p x ≡ false) → (xs : List Placed) → list_any p xs ≡ false
-any_false p none [] = refl
-any_false p none (x ∷ xs) = ap (λ b. b || list_any p xs) (none x) ∙ any_false p none xs
-
-or_swap : (a b c d : Bool) → ((a || b) || (c || d)) ≡ ((a || c) || (b || d))
-or_swap true b c d = refl
-or_swap false true true d = refl
-or_swap false true false d = refl
-or_swap false false c d = refl
-
-any_or : (p q : Placed → Bool) (xs : List Placed) → list_any (λ x. p x || q x) xs ≡ (list_any p xs || list_any q xs)
-any_or p q [] = refl
-any_or p q (x ∷ xs) = ap (λ b. (p x || q x) || b) (any_or p q xs) ∙ or_swap (p x) (q x) (list_any p xs) (list_any q xs)
 
 and_or : (a b c : Bool) → (a && (b || c)) ≡ ((a && b) || (a && c))
 and_or true b c = refl
@@ -90,7 +77,7 @@ module _ (p : Placed → Bool) (R : Placed → Placed → Bool) (place : ℕ) wh
   kept false seen x xs e later =
       let one : filter p (seen ++ x ∷ []) ≡ filter p seen ++ [] = filter-append p seen (x ∷ []) ∙ ap (λ b. filter p seen ++ cond b (x ∷ []) []) e in
       let now : list_any (λ other. within p R other x) seen ≡ false =
-      any_false (λ other. within p R other x) (λ other. ap (λ b. (p other && b) && R other x) e ∙ and_false (p other) (R other x)) seen in
+      any_none (λ other. within p R other x) (λ other. ap (λ b. (p other && b) && R other x) e ∙ and_false (p other) (R other x)) seen in
       ap (λ list. is_hit R place list (filter p xs)) (sym (one ∙ append-nil (filter p seen)))
       ∙ later
       ∙ sym (ap (λ b. ((x.place == place) && b) || is_hit (within p R) place (seen ++ x ∷ []) xs) now ∙ nothing (x.place == place) (is_hit (within p R) place (seen ++ x ∷ []) xs))
@@ -121,7 +108,7 @@ hit_few R place (x ∷ y ∷ items) few = absurd (omega arith)
 pub hit_nothing : (place : ℕ) (seen items : List Placed) → is_hit (λ _ _. false) place seen items ≡ false
 hit_nothing place seen [] = refl
 hit_nothing place seen (x ∷ xs) =
-    ap (λ b. ((x.place == place) && b) || is_hit (λ _ _. false) place (seen ++ x ∷ []) xs) (any_false (λ _. false) (λ _. refl) seen)
+    ap (λ b. ((x.place == place) && b) || is_hit (λ _ _. false) place (seen ++ x ∷ []) xs) (any_none (λ _. false) (λ _. refl) seen)
     ∙ nothing (x.place == place) (is_hit (λ _ _. false) place (seen ++ x ∷ []) xs)
     ∙ hit_nothing place (seen ++ x ∷ []) xs
 
@@ -141,14 +128,6 @@ none_filling rows place items e = hit_none (collide_filling rows) place (λ item
     items (all_false (λ item. covers item.rows rows) items e)
 
 -- ---- marks
-
-or_false : (a : Bool) → (a || false) ≡ a
-or_false true = refl
-or_false false = refl
-
-or_assoc : (a b c : Bool) → ((a || b) || c) ≡ (a || (b || c))
-or_assoc true b c = refl
-or_assoc false b c = refl
 
 pub marked_none : (R : Placed → Placed → Bool) (items : List Placed) (marks : List Bool) → ((place : ℕ) → is_hit R place [] items ≡ false) → AreMarked R items marks marks
 marked_none R items marks none = record {

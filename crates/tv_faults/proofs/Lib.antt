@@ -1,4 +1,3 @@
-pub mod After
 pub mod Areas
 pub mod Around
 pub mod Back
@@ -19,6 +18,8 @@ pub mod Owned
 pub mod Passing
 pub mod Placings
 pub mod Reached
+pub mod Remaining
 pub mod Sets
 pub mod Sound
+pub mod Tests
 pub mod Unviable

@@ -1,9 +1,7 @@
 -- Lists that are looked through.
-use Rattle.std.proofs.Common.{◌≡◌, ℕ, ◌<◌, ◌+◌, Bool, cond, ◌||◌, List, [], ◌∷◌, ◌++◌, map, take, get_or, length, reverse, nat_lt, refl, sym, ap, ◌∙◌, append_assoc}
+use Rattle.std.proofs.Common.{◌≡◌, ℕ, ◌<◌, ◌+◌, Bool, ◌||◌, List, [], ◌∷◌, ◌++◌, map, take, get_or, length, refl, sym, ap, ◌∙◌, append_assoc}
 use Rattle.std.specs.List.{list_any}
-use Rattle.std.proofs.lemmas.List.{map-append, take_more, reverse-append}
-use Rattle.tv_model.specs.declared.node.Node.{Node}
-use Rattle.tv_model.specs.Faults.Places.{around}
+use Rattle.std.proofs.lemmas.List.{map-append, take_more}
 
 pub any_map : {A B : Type 0} (p : B → Bool) (f : A → B) (xs : List A) → list_any p (map f xs) ≡ list_any (λ x. p (f x)) xs
 any_map p f [] = refl
@@ -21,11 +19,6 @@ five_parts f found one two three four all a b c d e first second third fourth fi
     ∙ ap (λ list. list ++ map f (d ++ e)) third ∙ joined f two c (d ++ e)
     ∙ ap (λ list. list ++ map f (c ++ (d ++ e))) second ∙ joined f one b (c ++ (d ++ e))
     ∙ ap (λ list. list ++ map f (b ++ (c ++ (d ++ e)))) first ∙ joined f found a (b ++ (c ++ (d ++ e)))
-
--- going back over one view more
-pub around_more : (depth : ℕ) (views : List Node) (i : ℕ) (d : Node) → i < length views
-    → around depth (reverse (take (i + 1) views)) ≡ cond (nat_lt (get_or views i d).depth depth) (get_or views i d ∷ around (get_or views i d).depth (reverse (take i views))) (around depth (reverse (take i views)))
-around_more depth views i d less = ap (λ list. around depth (reverse list)) (take_more views i d less) ∙ ap (around depth) (reverse-append (take i views) (get_or views i d ∷ []))
 
 -- one item more, read by f
 pub mapped_more : {A B : Type 0} (f : A → B) (before : List B) (xs : List A) (i : ℕ) (x : A) → i < length xs → x ≡ get_or xs i x

@@ -6,11 +6,7 @@ use Rattle.std.proofs.lemmas.List.Folds.{list_any-append}
 use Rattle.tv_model.specs.declared.node.Node.{Node}
 use Rattle.tv_model.specs.Nodes.{name_of}
 use Rattle.tv_model.specs.Faults.Names.{gives_name, is_option_named, names_again, shares_name}
-use Rattle.tv_faults.proofs.EachAfter.{any_same}
-
-any_none : {A : Type 0} (xs : List A) → list_any (λ _. false) xs ≡ false
-any_none [] = refl
-any_none (x ∷ xs) = any_none xs
+use Rattle.tv_faults.proofs.Tests.{any_none, any_same}
 
 -- the test of one node more
 last_first : (a b : Bool) → (a || (b || false)) ≡ cond b true a
@@ -48,6 +44,6 @@ module _ (before : List Node) (node : Node) (had : List ℕ → Bool) (kept : (q
   -- no name
   pub give_none : name_of node.kind ≡ None → (false ≡ names_again before node) × ((q : List ℕ) → had q ≡ list_any (gives_name q) (before ++ node ∷ []))
   give_none e = (
-    sym (any_same (shares_name node) (λ _. false) (λ other. no_name node other e) before ∙ any_none before),
+    sym (any_same (shares_name node) (λ _. false) (λ other. no_name node other e) before ∙ any_none (λ _. false) (λ other. refl) before),
     λ q. kept q ∙ sym (more_given q before node None e),
   )

@@ -9,28 +9,13 @@ use Rattle.tv_faults.specs.declared.placed.Placed.{Placed}
 use Rattle.tv_faults.specs.declared.span.Span.{Span}
 use Rattle.tv_faults.specs.Heaviest.{at_least, fits_beside, heaviest}
 use Rattle.tv_faults.specs.Marks.{collide_wide, covers, is_hit}
+use Rattle.tv_faults.proofs.Tests.{and_false, or_assoc, or_false, or_true}
 
 -- what a list gives past its end
 abbrev pub blank : Placed
 blank = record { place = 0; owner = 0; rows = record { low = pos 0; high = pos 0 }; columns = record { low = pos 0; high = pos 0 }; weight = 0 }
 
 -- ---- marks
-
-or_assoc : (a b c : Bool) → ((a || b) || c) ≡ (a || (b || c))
-or_assoc true b c = refl
-or_assoc false b c = refl
-
-or_true : (a : Bool) → (a || true) ≡ true
-or_true true = refl
-or_true false = refl
-
-or_false : (a : Bool) → (a || false) ≡ a
-or_false true = refl
-or_false false = refl
-
-and_false : (a : Bool) → (a && false) ≡ false
-and_false true = refl
-and_false false = refl
 
 marked : (marks : List Bool) (at place : ℕ) (hit : Bool) → at < length marks
     → get_or (cond hit (set marks at true) marks) place false ≡ (get_or marks place false || ((at == place) && hit))

@@ -19,6 +19,7 @@ use Rattle.tv_faults.specs.Placing.{columns, placed_from, placed_view, rows, wei
 use Rattle.tv_faults.specs.Standing.{AreSiblingsNumbered}
 use Rattle.tv_faults.proofs.Areas.{lt_says}
 use Rattle.tv_faults.proofs.Hits.{any_filter}
+use Rattle.tv_faults.proofs.Tests.{or_false}
 
 -- ---- the list of them
 
@@ -85,10 +86,6 @@ items_placed count place [] fits = All-nil (IsItem count)
 items_placed count place (pair ∷ pairs) fits = items_next count place pair (placed_from (place + 1) pairs) (has_points (place_of_node pair.1)) refl (omega arith) (items_placed count (place + 1) pairs (omega arith))
 
 -- ---- where a view is hit
-
-or_false : (a : Bool) → (a || false) ≡ a
-or_false true = refl
-or_false false = refl
 
 module _ (R : Placed → Placed → Bool) (k : ℕ) where
   hit_past : (seen : List Placed) (p : ℕ) (pairs : List (ℕ × Node)) → k < p → is_hit R k seen (placed_from p pairs) ≡ false

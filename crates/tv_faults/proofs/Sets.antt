@@ -21,12 +21,9 @@ use Rattle.tv_faults.specs.Reach.{holds_at}
 use Rattle.tv_faults.specs.Standing.{IsOwner}
 use Rattle.tv_faults.proofs.Around.{panes_are, panes_at}
 use Rattle.tv_faults.proofs.Lists.{any_map}
+use Rattle.tv_faults.proofs.Tests.{any_none, any_or, any_same, or_false}
 
 -- ---- tests
-
-or_false : (b : Bool) → (b || false) ≡ b
-or_false true = refl
-or_false false = refl
 
 cond_or : (a b : Bool) → cond a true b ≡ (b || a)
 cond_or true true = refl
@@ -34,29 +31,9 @@ cond_or true false = refl
 cond_or false true = refl
 cond_or false false = refl
 
-or_swap : (a b c d : Bool) → ((a || b) || (c || d)) ≡ ((a || c) || (b || d))
-or_swap true b c d = refl
-or_swap false true true d = refl
-or_swap false true false d = refl
-or_swap false false true d = refl
-or_swap false false false d = refl
-
-module _ {A : Type 0} where
-  same_any : (p q : A → Bool) → ((x : A) → p x ≡ q x) → (xs : List A) → list_any p xs ≡ list_any q xs
-  same_any p q same [] = refl
-  same_any p q same (x ∷ xs) = ap (λ b. b || list_any p xs) (same x) ∙ ap (λ b. q x || b) (same_any p q same xs)
-
-  none_any : (xs : List A) → list_any (λ _. false) xs ≡ false
-  none_any [] = refl
-  none_any (x ∷ xs) = none_any xs
-
-  or_any : (p q : A → Bool) (xs : List A) → list_any (λ x. p x || q x) xs ≡ (list_any p xs || list_any q xs)
-  or_any p q [] = refl
-  or_any p q (x ∷ xs) = ap (λ b. (p x || q x) || b) (or_any p q xs) ∙ or_swap (p x) (q x) (list_any p xs) (list_any q xs)
-
 swap_any : {A B : Type 0} (r : A → B → Bool) (xs : List A) (ys : List B) → list_any (λ y. list_any (λ x. r x y) xs) ys ≡ list_any (λ x. list_any (r x) ys) xs
-swap_any r [] ys = none_any ys
-swap_any r (x ∷ xs) ys = or_any (r x) (λ y. list_any (λ x. r x y) xs) ys ∙ ap (λ b. list_any (r x) ys || b) (swap_any r xs ys)
+swap_any r [] ys = any_none (λ _. false) (λ y. refl) ys
+swap_any r (x ∷ xs) ys = any_or (r x) (λ y. list_any (λ x. r x y) xs) ys ∙ ap (λ b. list_any (r x) ys || b) (swap_any r xs ys)
 
 -- ---- sets that grow
 
@@ -139,7 +116,7 @@ enables_kind kind (reaches.Buttons command) = is_button_of command kind
 enables_kind kind _ = false
 
 no_button : (kind : Kind) (list : List Reach) → ((command : CommandSpec) → is_button_of command kind ≡ false) → false ≡ list_any (enables_kind kind) list
-no_button kind list none = sym (same_any (enables_kind kind) (λ _. false) never list ∙ none_any list)
+no_button kind list none = sym (any_same (enables_kind kind) (λ _. false) never list ∙ any_none (λ _. false) (λ x. refl) list)
   where
     never : (r : Reach) → enables_kind kind r ≡ false
     never reaches.Nothing = refl
@@ -147,7 +124,7 @@ no_button kind list none = sym (same_any (enables_kind kind) (λ _. false) never
     never (reaches.Buttons command) = none command
 
 enabled_is : (passes : CommandSpec → Bool) (list : List Reach) → ((command : CommandSpec) → passes command ≡ list_any (enables command) list) → (kind : Kind) → is_button_where passes kind ≡ list_any (enables_kind kind) list
-enabled_is passes list is (kinds.Button name text command is_default grabs) = is command ∙ same_any (enables command) (enables_kind (kinds.Button name text command is_default grabs)) same list
+enabled_is passes list is (kinds.Button name text command is_default grabs) = is command ∙ any_same (enables command) (enables_kind (kinds.Button name text command is_default grabs)) same list
   where
     same : (r : Reach) → enables command r ≡ enables_kind (kinds.Button name text command is_default grabs) r
     same reaches.Nothing = refl
@@ -164,14 +141,14 @@ enabled_is passes list is (kinds.List name h items start) = no_button (kinds.Lis
 enabled_is passes list is (kinds.Pane name h) = no_button (kinds.Pane name h) list (λ command. refl)
 
 holds_is : (ids : List Id) (kind : Kind) (r : Reach) → holds_at ids kind r ≡ (list_any (λ i. shows i r) ids || enables_kind kind r)
-holds_is ids kind reaches.Nothing = sym (ap (λ b. b || false) (none_any ids))
+holds_is ids kind reaches.Nothing = sym (ap (λ b. b || false) (any_none (λ _. false) (λ x. refl) ids))
 holds_is ids kind (reaches.View target) = sym (or_false (list_any (λ i. i.0 == target.0) ids))
-holds_is ids kind (reaches.Buttons command) = sym (ap (λ b. b || is_button_of command kind) (none_any ids))
+holds_is ids kind (reaches.Buttons command) = sym (ap (λ b. b || is_button_of command kind) (any_none (λ _. false) (λ x. refl) ids))
 
 reached_is : (list : List Reach) (before : List Node) (node : Node) → list_any (holds_at (standing before node) node.kind) list ≡ (is_shown list before node || list_any (enables_kind node.kind) list)
 reached_is list before node =
-    same_any (holds_at (standing before node) node.kind) (λ r. list_any (λ i. shows i r) (standing before node) || enables_kind node.kind r) (holds_is (standing before node) node.kind) list
-    ∙ or_any (λ r. list_any (λ i. shows i r) (standing before node)) (enables_kind node.kind) list
+    any_same (holds_at (standing before node) node.kind) (λ r. list_any (λ i. shows i r) (standing before node) || enables_kind node.kind r) (holds_is (standing before node) node.kind) list
+    ∙ any_or (λ r. list_any (λ i. shows i r) (standing before node)) (enables_kind node.kind) list
     ∙ ap (λ b. b || list_any (enables_kind node.kind) list)
     (swap_any shows (standing before node) list ∙ any_map (λ i. list_any (shows i) list) (λ view. view.id) (node ∷ panes_around before node))
 

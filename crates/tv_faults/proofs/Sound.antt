@@ -1,7 +1,7 @@
 -- What follows from the want of each fault.
 use Rattle.std.proofs.Common.{◌≡◌, ℕ, suc, ◌+◌, ◌<◌, ◌≤◌, ◌==◌, inl, inr, Bool, true, false, not, ◌&&◌, ◌||◌, cond, List, [], ◌∷◌, ◌++◌, length, get_or, map, filter, flat_map, Some, ℤ, pos, neg_ℤ, int_le, nat_le, refl, sym, ap, ◌∙◌, arith}
 use Rattle.std.specs.List.{All, list_any}
-use Rattle.std.proofs.lemmas.Bool.{and_parts, or_parts, not-true, not-false, leb-true, eqb-false, cases_lt}
+use Rattle.std.proofs.lemmas.Bool.{false≢true, and_parts, or_parts, not-true, not-false, leb-true, eqb-false, cases_lt}
 use Rattle.std.proofs.lemmas.List.Elements.{All-nil, All-cons, All-head, All-tail, All-same}
 use Rattle.std.proofs.Math.Bool.{or-false}
 use Rattle.tv_model.specs.Thin.{IsThin}
@@ -18,8 +18,10 @@ use Rattle.tv_model.specs.Faults.Rules.{is_always_free}
 use Rattle.tv_model.specs.Faults.Starts.{means_dialog}
 use Rattle.tv_model.specs.Faults.Names.{gives_name}
 use Rattle.tv_model.specs.Faults.{IsSound, after_seen, all_kinds, command_of, desktop, dialog_has, dialog_lines, dialog_named_again, fault_at, fault_lines, faults_at, has_wide, head_lines, is_lawful, is_lawful_number, is_lawful_screen, is_wide_text, is_within, least_height, least_width, line_if, menu_lines, place_of_node, rule_lines, shown_texts, status_lines, texts_of, view_has, view_lines, window_lines}
-use Rattle.tv_faults.specs.Usable.{HasLawfulCounts, IsBetween, IsLimited, IsNarrowNode, IsUsable, IsUsableDialog}
-use Rattle.tv_faults.proofs.Areas.{le_says}
+use Rattle.tv_cells.specs.declared.rect.Rect.{Rect}
+use Rattle.tv_model.specs.Faults.Places.{earlier_siblings, need_own_places, overlap, overlaps_earlier}
+use Rattle.tv_faults.specs.Usable.{HasLawfulCounts, IsApartFrom, IsBetween, IsLimited, IsNarrowNode, IsUsable, IsUsableDialog, LiesIn}
+use Rattle.tv_faults.proofs.Areas.{le_says, overlap_points, within_points}
 
 -- ---- lists without items
 
@@ -164,6 +166,20 @@ control_after : (seen views : List Node) → list_any (λ pair. is_control pair.
 control_after seen [] = refl
 control_after seen (x ∷ xs) = ap (λ b. is_control x.kind || b) (control_after (seen ++ x ∷ []) xs)
 
+lies_in : (r s : Rect) → is_within r s ≡ true → LiesIn r s
+lies_in r s e = (within_points (is_within r s) r s refl).0 e
+
+apart_from : (r s : Rect) → overlap r s ≡ false → IsApartFrom r s
+apart_from r s e x y i j = false≢true (sym e ∙ (overlap_points (overlap r s) r s refl).1 (x, y, i, j))
+
+apart_says : (before : List Node) (node : Node) → overlaps_earlier before node ≡ false
+    → All (λ other. need_own_places other.kind node.kind ≡ true → IsApartFrom (place_of_node other) (place_of_node node)) (earlier_siblings before node)
+apart_says before node e k d less need =
+    let other : Node = get_or (earlier_siblings before node) k d in
+    let none : (need_own_places other.kind node.kind && overlap (place_of_node other) (place_of_node node)) ≡ false =
+        none_of (λ other. need_own_places other.kind node.kind && overlap (place_of_node other) (place_of_node node)) (earlier_siblings before node) e k d less in
+    apart_from (place_of_node other) (place_of_node node) (ap (λ b. b && overlap (place_of_node other) (place_of_node node)) (sym need) ∙ none)
+
 usable_dialog : (d : Desc) (before : List Dialog) (dialog : Dialog) → Lacks faults.OutsideOwner d before dialog → Lacks faults.Overlap d before dialog → Lacks faults.NothingToFocus d before dialog → Lacks faults.MissingEnd d before dialog
     → Lacks faults.WideCharacter d before dialog → Lacks faults.OutsideLimits d before dialog → IsUsableDialog d dialog
 usable_dialog d before dialog outside over focus end wide limits = record {
@@ -172,9 +188,9 @@ usable_dialog d before dialog outside over focus end wide limits = record {
   few = few_all dialog.views (λ i pair less. (or_parts (length (get_or (after_seen [] dialog.views) i pair).0 == 64) _ (or_parts (not (is_lawful (get_or (after_seen [] dialog.views) i pair).1)) _ (limits.each i pair less)).1).0);
   narrow = All-cons IsNarrowNode dialog.node dialog.views (narrow_says dialog.node wide.head)
       (each_after IsNarrowNode [] dialog.views (λ i pair less. narrow_says (get_or (after_seen [] dialog.views) i pair).1 (wide.each i pair less)));
-  within = not-false (is_within (place_of_node dialog.node) (desktop d)) outside.head;
-  inside = λ i pair less. not-false _ (outside.each i pair less);
-  apart = over.each;
+  within = lies_in _ _ (not-false (is_within (place_of_node dialog.node) (desktop d)) outside.head);
+  inside = λ i pair less. lies_in _ _ (not-false _ (outside.each i pair less));
+  apart = λ i pair less. apart_says (get_or (after_seen [] dialog.views) i pair).0 (get_or (after_seen [] dialog.views) i pair).1 (over.each i pair less);
   control = sym (control_after [] dialog.views) ∙ free_control dialog (after_seen [] dialog.views) (not-false _ focus.head);
   cancel = not-false (ends_of dialog.node.kind).cancel end.head;
 }

@@ -1,7 +1,9 @@
 -- What a description without faults has.
-use Rattle.std.specs.Prelude.{◌≡◌, ℕ, ◌≤◌, true, false, List, [], length, All, Some, ℤ, pos, neg_ℤ, ◌≤ℤ◌}
+use Rattle.std.specs.Prelude.{◌≡◌, ℕ, ◌≤◌, true, List, [], length, All, Some, ℤ, pos, neg_ℤ, ◌≤ℤ◌}
 use Rattle.std.specs.List.{list_any}
 use Rattle.tv_cells.specs.Glyph.{is_narrow}
+use Rattle.tv_cells.specs.Rectangle.{IsIn}
+use Rattle.tv_cells.specs.declared.rect.Rect.{Rect}
 use Rattle.tv_model.specs.declared.node.Node.{Node}
 use Rattle.tv_model.specs.declared.desc.Desc.{Desc}
 use Rattle.tv_model.specs.declared.desc.Dialog.{Dialog}
@@ -9,7 +11,7 @@ use Rattle.tv_model.specs.Nodes.{height_of, is_control}
 use Rattle.tv_model.specs.Step.{ends_of, is_named}
 use Rattle.tv_model.specs.LogText.{dialog_nodes}
 use Rattle.tv_model.specs.Faults.Lines.{after_seen}
-use Rattle.tv_model.specs.Faults.Places.{desktop, is_within, overlaps_earlier, owner_of, place_of_node, room_in}
+use Rattle.tv_model.specs.Faults.Places.{desktop, earlier_siblings, need_own_places, owner_of, place_of_node, room_in}
 use Rattle.tv_model.specs.Faults.Texts.{shown_texts, texts_of}
 use Rattle.tv_model.specs.Faults.Limits.{command_of, is_lawful_count, is_lawful_number, least_height, least_width}
 
@@ -29,13 +31,22 @@ pub record IsLimited (node : Node) : Type 0 where
 abbrev pub IsNarrowNode : Node → Type 0
 IsNarrowNode node = All (All (λ ch. is_narrow ch ≡ true)) (shown_texts node.kind)
 
+-- every point of the first lies in the second
+abbrev pub LiesIn : Rect → Rect → Type 0
+LiesIn r s = (x y : ℤ) → IsIn r x y → IsIn s x y
+
+-- no point lies in both
+abbrev pub IsApartFrom : Rect → Rect → Type 0
+IsApartFrom r s = (x y : ℤ) → IsIn r x y → IsIn s x y → ⊥
+
 -- each view lies in the pane in which it stands, or inside the frame
 abbrev pub AreInside : Node → List Node → Type 0
-AreInside frame views = All (λ pair. is_within (place_of_node pair.1) (room_in frame (owner_of pair.0 pair.1)) ≡ true) (after_seen [] views)
+AreInside frame views = All (λ pair. LiesIn (place_of_node pair.1) (room_in frame (owner_of pair.0 pair.1))) (after_seen [] views)
 
 -- no two views of one owner have a point in common that may not
 abbrev pub AreApart : List Node → Type 0
-AreApart views = All (λ pair. overlaps_earlier pair.0 pair.1 ≡ false) (after_seen [] views)
+AreApart views =
+    All (λ pair. All (λ other. need_own_places other.kind pair.1.kind ≡ true → IsApartFrom (place_of_node other) (place_of_node pair.1)) (earlier_siblings pair.0 pair.1)) (after_seen [] views)
 
 -- no cluster or list of the dialog has too many items, or none
 abbrev pub HasLawfulCounts : Dialog → Type 0
@@ -46,7 +57,7 @@ pub record IsUsableDialog (d : Desc) (dialog : Dialog) : Type 0 where
   pub nodes : All IsLimited (dialog_nodes dialog)
   pub few : length dialog.views ≤ 64
   pub narrow : All IsNarrowNode (dialog_nodes dialog)
-  pub within : is_within (place_of_node dialog.node) (desktop d) ≡ true
+  pub within : LiesIn (place_of_node dialog.node) (desktop d)
   pub inside : AreInside dialog.node dialog.views
   pub apart : AreApart dialog.views
   pub control : list_any (λ node. is_control node.kind) dialog.views ≡ true

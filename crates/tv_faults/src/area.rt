@@ -3,7 +3,7 @@
 ghost use Rattle.std.specs.Prelude.{◌≡◌, ◌↔◌, IsTrue, ℤ, int_le, int_lt, ◌≤ℤ◌, ◌<ℤ◌, pos, neg_ℤ, ◌&&◌};
 ghost use Rattle.tv_cells.specs.Rectangle.{IsIn};
 ghost use Rattle.tv_model.specs.Nodes.{height_of};
-ghost use Rattle.tv_model.specs.Faults.Places.{desktop, has_points, interior, is_within, overlap, place_of_node, whole_area};
+ghost use Rattle.tv_model.specs.Faults.Places.{desktop, has_points, interior, is_within, place_of_node, whole_area};
 ghost use Rattle.tv_faults.specs.Placing.{columns, rows};
 
 use crate::span::Span;
@@ -150,19 +150,6 @@ impl Area {
         }
         let across = is_at_most(&other.left, &self.left) && is_at_most(&self.right, &other.right);
         let down = is_at_most(&other.top, &self.top) && is_at_most(&self.bottom, &other.bottom);
-        across && down
-    }
-
-    /// Whether some point lies in both.
-    pub fn overlaps(&self, other: &Area) -> bool
-        ensures value { result ≡ overlap self.now other.now }
-        ensures points { IsTrue result ↔ ((x : ℤ) × (y : ℤ) × IsIn self.now x y × IsIn other.now x y) }
-    {
-        if !self.has_points() || !other.has_points() {
-            return false;
-        }
-        let across = is_below(&self.left, &other.right) && is_below(&other.left, &self.right);
-        let down = is_below(&self.top, &other.bottom) && is_below(&other.top, &self.bottom);
         across && down
     }
 }

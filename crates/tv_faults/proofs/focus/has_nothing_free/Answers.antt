@@ -1,7 +1,7 @@
 use Rattle.std.proofs.Common.{◌≡◌, not, take, get_or, sym, ap, ◌∙◌}
 use Rattle.std.specs.HashSet.{contains}
 use Rattle.tv_faults.specs.Focus.{equals_command, is_free}
-use Rattle.tv_faults.proofs.After.{any_found, any_passed}
+use Rattle.tv_faults.proofs.Remaining.{any_found, any_passed}
 use Rattle.tv_faults.proofs.Sets.{free_at}
 use Rattle.tv_faults.proofs.focus.has_nothing_free.Goals as goal
 

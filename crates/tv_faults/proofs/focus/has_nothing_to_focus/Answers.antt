@@ -1,6 +1,5 @@
 use Rattle.std.proofs.Common.{◌≡◌, Bool, Ok, Err, Result, ap, ◌∙◌}
 use Rattle.std.specs.Result.{IfOk}
-use Rattle.tv_model.specs.declared.node.Node.{Node}
 use Rattle.tv_model.specs.Faults.Rules.{has_nothing_to_focus}
 use Rattle.tv_faults.specs.Focus.{has_nothing_free}
 use Rattle.tv_faults.proofs.Reached.{nothing_free_is}

@@ -1,9 +1,0 @@
-use Rattle.std.proofs.Common.{rules}
-use Rattle.tv_faults.proofs.Areas.{overlap_points}
-use Rattle.tv_faults.proofs.area.Area.overlaps.Goals as goal
-
-pub returns-then-not-has_points-clause-points : goal.returns-then-not-has_points-clause-points
-returns-then-not-has_points-clause-points c = overlap_points _ c.args.self.now c.args.other.now (search rules)
-
-pub returns-then-across-clause-points : goal.returns-then-across-clause-points
-returns-then-across-clause-points c = overlap_points _ c.args.self.now c.args.other.now (search rules)
