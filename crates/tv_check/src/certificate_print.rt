@@ -2,13 +2,12 @@
 
 ghost use Rattle.std.specs.Prelude.{◌≡◌, [], ◌∷◌, ◌++◌, List, ℕ, flat_map, map, IfOk, string_bytes};
 ghost use Rattle.tv_words.specs.Canonical.{canonical_text, ended_line};
-ghost use Rattle.tv_words.specs.Fields.{number_word};
 ghost use Rattle.tv_check.specs.declared.certificate.Block.{Block as SeenBlock};
 ghost use Rattle.tv_check.specs.CertificateTexts.{block_lines, certificate_lines, end_words, key_words, Spells, tab_words, version_words};
 
 use crate::certificate::{Block, Certificate, KeyLine};
 use std::alloc::{AllocError, Global};
-use tv_printing::{Line, ascii};
+use tv_printing::Line;
 use tv_valid::Chars;
 use tv_words::Word;
 
@@ -27,13 +26,6 @@ fn letter_word(alloc: Global, letter: char) -> Result<Word, AllocError>
     Ok(Word::Bare(chars))
 }
 
-fn number_word(alloc: Global, number: i32) -> Result<Word, AllocError>
-    ensures { IfOk result (λ word. word ≡ number_word number) }
-{
-    let digits = number.to_string(alloc)?;
-    Ok(Word::Bare(ascii(alloc, digits.as_bytes())?))
-}
-
 fn key_line(alloc: Global, line: &KeyLine) -> Result<Line, AllocError>
     ensures { IfOk result (λ words. words ≡ key_words line.now) }
 {
@@ -42,7 +34,7 @@ fn key_line(alloc: Global, line: &KeyLine) -> Result<Line, AllocError>
         .word(letter_word(alloc, line.letter)?)?
         .name(&line.owner)?;
     match line.item {
-        Some(item) => words.word(number_word(alloc, item)?),
+        Some(item) => words.number(item),
         None => Ok(words),
     }
 }

@@ -60,8 +60,9 @@ fn overlaps_among(
     Ok(marks)
 }
 
-/// For each view whether it overlaps an earlier sibling and may not. Takes the time of sorting, nearly: each view is
-/// looked at as often as ranges can be halved, of owners once, of rows and columns together.
+/// For each view whether it overlaps an earlier sibling and may not.
+///
+/// Takes some n log² n steps for n views, where comparing all pairs would take n².
 pub fn overlaps(alloc: Global, views: &[Node]) -> Result<Vec<bool>, AllocError>
     ensures { IfOk result (λ found. found.items ≡ each_after overlaps_earlier views.now) }
 {

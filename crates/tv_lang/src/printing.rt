@@ -6,7 +6,7 @@ ghost use Rattle.tv_lang.specs.CanonicalDescription.{CanBeSpelled, SpellsOnly};
 
 use std::alloc::{AllocError, Global};
 use tv_model::Desc;
-use tv_printing::canonical_text;
+use tv_printing::description_text;
 
 /// The canonical text of a description: each declaration on a line, one space between words, no comments. Where any
 /// text spells the description, this one does, and spells no other.
@@ -14,5 +14,5 @@ pub fn print(alloc: Global, desc: &Desc) -> Result<String, AllocError>
     ensures text { IfOk result (λ text. string_bytes text ≡ description_text desc.now) }
     ensures spelled { IfOk result (λ text. CanBeSpelled desc.now → SpellsOnly (string_bytes text) desc.now) }
 {
-    canonical_text(alloc, desc)
+    description_text(alloc, desc)
 }

@@ -9,4 +9,4 @@ mod terms;
 mod views;
 
 pub use line::{Line, ascii};
-pub use printer::canonical_text;
+pub use printer::description_text;

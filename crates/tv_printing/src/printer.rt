@@ -14,7 +14,7 @@ use tv_valid::Chars;
 
 /// The canonical text of a description: each declaration on a line, one space between words, no comments.
 #[tactic(auto, using(crate::proofs::PrintTexts::texts_joined))]
-pub fn canonical_text(alloc: Global, desc: &Desc) -> Result<String, AllocError>
+pub fn description_text(alloc: Global, desc: &Desc) -> Result<String, AllocError>
     ensures { IfOk result (λ text. string_bytes text ≡ description_text desc.now) }
 {
     let printer = Printer::new(alloc)

@@ -52,6 +52,22 @@ pub fn crosswise(alloc: Global) -> Result<String> {
     dialog_of(alloc, &views)
 }
 
+/// One dialog of lists beside each other, each higher at both ends than the one before it.
+pub fn staggered(alloc: Global) -> Result<String> {
+    let mut views = String::new(alloc);
+    for list in 0i32..4_500 {
+        let line = format!(in alloc;
+            "list l{list} {} {} {} {} \"a\" start 1\n",
+            400_000 * list,
+            -200_000 * list,
+            300_000,
+            400_000 * list + 1
+        )?;
+        views.push_str(&line)?;
+    }
+    dialog_of(alloc, &views)
+}
+
 /// One dialog of labels, all linked to its last view.
 pub fn labels(alloc: Global) -> Result<String> {
     let labels = "label 1 1 4 \"a\" last\n".repeat(alloc, 11_000)?;
@@ -106,19 +122,12 @@ pub fn windows(alloc: Global) -> Result<String> {
     Ok(text)
 }
 
-/// Menus of a few items, and status items, each with a letter.
+/// A menu of many items, many menus of one, and status items, with a few letters among them.
 pub fn bars(alloc: Global) -> Result<String> {
-    let mut text = String::from_str(alloc, SCREEN)?;
     let items = "item \"~i~\" 100\nitem \"~j~\" 100\n".repeat(alloc, 2_000)?;
-    for _ in 0u32..1 {
-        text.push_str("menu \"~m~\"\n")?;
-        text.push_str(&items)?;
-        text.push_str("end\n")?;
-    }
     let menus = "menu \"~n~\"\nitem \"a\" quit\nend\n".repeat(alloc, 3_000)?;
-    text.push_str(&menus)?;
-    text.push_str(&"status \"s\" Alt-Z 100\n".repeat(alloc, 3_000)?)?;
-    Ok(text)
+    let status = "status \"s\" Alt-Z 100\n".repeat(alloc, 3_000)?;
+    Ok(format!(in alloc; "{SCREEN}menu \"~m~\"\n{items}end\n{menus}{status}")?)
 }
 
 /// One dialog of inputs whose pictures and starts are as long as they may be.
@@ -134,18 +143,6 @@ pub fn pictures(alloc: Global) -> Result<String> {
 /// One dialog of an input with a picture of nearly all characters of the text.
 pub fn long_picture(alloc: Global) -> Result<String> {
     let picture = "*{#,a}".repeat(alloc, 40_000)?;
-    let start = "1".repeat(alloc, 120)?;
-    dialog_of(alloc, &format!(in alloc; "input a 1 1 9 120 picture \"{picture}\" \"{start}\"\n")?)
-}
-
-pub fn long_picture2(alloc: Global) -> Result<String> {
-    let picture = "*{#,a}".repeat(alloc, 20_000)?;
-    let start = "1".repeat(alloc, 120)?;
-    dialog_of(alloc, &format!(in alloc; "input a 1 1 9 120 picture \"{picture}\" \"{start}\"\n")?)
-}
-
-pub fn long_picture3(alloc: Global) -> Result<String> {
-    let picture = "#".repeat(alloc, 240_000)?;
     let start = "1".repeat(alloc, 120)?;
     dialog_of(alloc, &format!(in alloc; "input a 1 1 9 120 picture \"{picture}\" \"{start}\"\n")?)
 }

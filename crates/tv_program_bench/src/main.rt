@@ -65,6 +65,7 @@ fn measure_beyond<R: Clock + Eprint>(rt: &R, alloc: Global) -> Result<()> {
     measure_faults(rt, alloc, "buttons", &beyond::buttons(alloc)?)?;
     measure_faults(rt, alloc, "buttons apart", &beyond::apart(alloc)?)?;
     measure_faults(rt, alloc, "lists crosswise", &beyond::crosswise(alloc)?)?;
+    measure_faults(rt, alloc, "lists staggered", &beyond::staggered(alloc)?)?;
     measure_faults(rt, alloc, "labels", &beyond::labels(alloc)?)?;
     measure_faults(rt, alloc, "panes", &beyond::panes(alloc)?)?;
     measure_faults(rt, alloc, "rules", &beyond::rules(alloc)?)?;
@@ -72,8 +73,6 @@ fn measure_beyond<R: Clock + Eprint>(rt: &R, alloc: Global) -> Result<()> {
     measure_faults(rt, alloc, "windows", &beyond::windows(alloc)?)?;
     measure_faults(rt, alloc, "bars", &beyond::bars(alloc)?)?;
     measure_faults(rt, alloc, "pictures", &beyond::pictures(alloc)?)?;
-    measure_faults(rt, alloc, "a long picture2", &beyond::long_picture2(alloc)?)?;
-    measure_faults(rt, alloc, "a long picture3", &beyond::long_picture3(alloc)?)?;
     measure_faults(rt, alloc, "a long picture", &beyond::long_picture(alloc)?)
 }
 

@@ -6,4 +6,4 @@ use Rattle.tv_lang.proofs.PrintLaws.{text_spells}
 use Rattle.tv_lang.proofs.printing.print.Goals as goal
 
 pub returns-clause-spelled : goal.returns-clause-spelled
-returns-clause-spelled c = IfOk-weaker c.canonical_text.result (λ text. string_bytes text ≡ description_text c.args.desc.now) (λ text. CanBeSpelled c.args.desc.now → SpellsOnly (string_bytes text) c.args.desc.now) (λ text. text_spells c.args.desc.now (string_bytes text)) c.canonical_text.ensures
+returns-clause-spelled c = IfOk-weaker c.description_text.result (λ text. string_bytes text ≡ description_text c.args.desc.now) (λ text. CanBeSpelled c.args.desc.now → SpellsOnly (string_bytes text) c.args.desc.now) (λ text. text_spells c.args.desc.now (string_bytes text)) c.description_text.ensures
