@@ -55,13 +55,12 @@ pub fn crosswise(alloc: Global) -> Result<String> {
 /// One dialog of lists beside each other, each higher at both ends than the one before it.
 pub fn staggered(alloc: Global) -> Result<String> {
     let mut views = String::new(alloc);
-    for list in 0i32..4_500 {
+    for list in 1u32..4_000 {
         let line = format!(in alloc;
-            "list l{list} {} {} {} {} \"a\" start 1\n",
+            "list l{list} {} -{} 300000 {} \"a\" start 1\n",
             400_000 * list,
-            -200_000 * list,
-            300_000,
-            400_000 * list + 1
+            200_000 * list,
+            400_000 * list
         )?;
         views.push_str(&line)?;
     }
