@@ -177,7 +177,7 @@ apart_says : (before : List Node) (node : Node) → overlaps_earlier before node
 apart_says before node e k d less need =
     let other : Node = get_or (earlier_siblings before node) k d in
     let none : (need_own_places other.kind node.kind && overlap (place_of_node other) (place_of_node node)) ≡ false =
-        none_of (λ other. need_own_places other.kind node.kind && overlap (place_of_node other) (place_of_node node)) (earlier_siblings before node) e k d less in
+    none_of (λ other. need_own_places other.kind node.kind && overlap (place_of_node other) (place_of_node node)) (earlier_siblings before node) e k d less in
     apart_from (place_of_node other) (place_of_node node) (ap (λ b. b && overlap (place_of_node other) (place_of_node node)) (sym need) ∙ none)
 
 usable_dialog : (d : Desc) (before : List Dialog) (dialog : Dialog) → Lacks faults.OutsideOwner d before dialog → Lacks faults.Overlap d before dialog → Lacks faults.NothingToFocus d before dialog → Lacks faults.MissingEnd d before dialog

@@ -123,4 +123,3 @@ pub fn rules_cancel(rule: &Rule) -> bool
         Effect::Enable(CommandSpec::Cancel | CommandSpec::Close)
     )
 }
-

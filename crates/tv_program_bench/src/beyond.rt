@@ -70,7 +70,10 @@ pub fn staggered(alloc: Global) -> Result<String> {
 /// One dialog of labels, all linked to its last view.
 pub fn labels(alloc: Global) -> Result<String> {
     let labels = "label 1 1 4 \"a\" last\n".repeat(alloc, 11_000)?;
-    dialog_of(alloc, &format!(in alloc; "{labels}button last 9 1 4 \"a\" ok\n")?)
+    dialog_of(
+        alloc,
+        &format!(in alloc; "{labels}button last 9 1 4 \"a\" ok\n")?,
+    )
 }
 
 /// One dialog of panes that stand in one another, with a button in each.
@@ -78,7 +81,9 @@ pub fn panes(alloc: Global) -> Result<String> {
     let mut views = String::new(alloc);
     for group in 0u32..350 {
         for pane in 0u32..16 {
-            let line = format!(in alloc; "pane p{group}-{pane} 0 0 9 9\nbutton b 0 0 4 \"a\" ok\n")?;
+            let line = format!(in alloc;
+                "pane p{group}-{pane} 0 0 9 9\nbutton b 0 0 4 \"a\" ok\n"
+            )?;
             views.push_str(&line)?;
         }
         views.push_str(&"end\n".repeat(alloc, 16)?)?;
@@ -105,7 +110,9 @@ pub fn rules(alloc: Global) -> Result<String> {
 pub fn dialogs(alloc: Global) -> Result<String> {
     let mut text = String::from_str(alloc, SCREEN)?;
     for dialog in 0u32..4_300 {
-        let line = format!(in alloc; "dialog d{dialog} 1 2 30 9 \"\" opens {dialog} ends cancel\nend\n")?;
+        let line = format!(in alloc;
+            "dialog d{dialog} 1 2 30 9 \"\" opens {dialog} ends cancel\nend\n"
+        )?;
         text.push_str(&line)?;
     }
     Ok(text)
@@ -143,5 +150,8 @@ pub fn pictures(alloc: Global) -> Result<String> {
 pub fn long_picture(alloc: Global) -> Result<String> {
     let picture = "*{#,a}".repeat(alloc, 40_000)?;
     let start = "1".repeat(alloc, 120)?;
-    dialog_of(alloc, &format!(in alloc; "input a 1 1 9 120 picture \"{picture}\" \"{start}\"\n")?)
+    dialog_of(
+        alloc,
+        &format!(in alloc; "input a 1 1 9 120 picture \"{picture}\" \"{start}\"\n")?,
+    )
 }
