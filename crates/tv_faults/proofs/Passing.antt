@@ -7,9 +7,20 @@ use Rattle.std.proofs.lemmas.List.{get_or-set_same, get_or-set_other, take_more,
 use Rattle.std.proofs.lemmas.List.Recursion.{max_push}
 use Rattle.tv_faults.specs.declared.placed.Placed.{Placed}
 use Rattle.tv_faults.specs.declared.span.Span.{Span}
-use Rattle.tv_faults.specs.Heaviest.{at_least, fits_beside, heaviest}
+use Rattle.tv_faults.specs.Heaviest.{at_least}
 use Rattle.tv_faults.specs.Marks.{collide_wide, covers, is_hit}
 use Rattle.tv_faults.proofs.Tests.{and_false, or_assoc, or_false, or_true}
+
+-- ---- what one pass knows
+
+-- the greatest weight of those that are asked for, or 0
+abbrev pub heaviest : (Placed → Bool) → List Placed → ℕ
+heaviest asked [] = 0
+heaviest asked (x ∷ xs) = max (at_least (asked x) x.weight) (heaviest asked xs)
+
+-- an item beside one of which it is known whether it fills the rows and the columns
+abbrev pub fits_beside : Span → Span → Bool → Bool → Placed → Bool
+fits_beside rows columns fills wide item = (covers item.rows rows || fills) && (covers item.columns columns || wide)
 
 -- what a list gives past its end
 abbrev pub blank : Placed

@@ -2,9 +2,9 @@ use Rattle.std.proofs.Common.{◌≡◌, ◌+◌, ◌-◌, ◌<◌, max, Bool, t
 use Rattle.std.proofs.lemmas.Bool.{lt-ltb, le-ltb}
 use Rattle.std.specs.List.{list_any}
 use Rattle.tv_faults.specs.declared.placed.Placed.{Placed}
-use Rattle.tv_faults.specs.Heaviest.{at_least, fits_beside, heaviest}
+use Rattle.tv_faults.specs.Heaviest.{at_least}
 use Rattle.tv_faults.specs.Marks.{IsItem, collide_wide, covers, is_hit}
-use Rattle.tv_faults.proofs.Passing.{asked_any, asked_both, asked_filling, asked_wide, blank, heaviest_turn, hit_turn, marked_is}
+use Rattle.tv_faults.proofs.Passing.{asked_any, asked_both, asked_filling, asked_wide, blank, fits_beside, heaviest, heaviest_turn, hit_turn, marked_is}
 use Rattle.tv_faults.proofs.columns.mark_wide.Goals as goal
 use Rattle.tv_faults.proofs.columns.mark_wide.Goals.{then-beside-item, else-beside-item}
 

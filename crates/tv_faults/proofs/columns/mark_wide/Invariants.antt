@@ -1,5 +1,5 @@
 use Rattle.std.proofs.Common.{◌≡◌, ℕ, ◌<◌, ◌||◌, true, false, [], length, get_or, take, drop}
-use Rattle.tv_faults.specs.Heaviest.{fits_beside, heaviest}
+use Rattle.tv_faults.proofs.Passing.{fits_beside, heaviest}
 use Rattle.tv_faults.specs.Marks.{collide_wide, is_hit}
 use Rattle.tv_faults.proofs.columns.mark_wide.Given as goal
 
