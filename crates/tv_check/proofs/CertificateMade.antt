@@ -4,13 +4,14 @@ use Rattle.std.specs.Prelude.{IsTrue, is_some}
 use Rattle.std.specs.List.{AllByRecursion, list_any}
 use Rattle.std.proofs.lemmas.Bool.{or_parts}
 use Rattle.std.proofs.lemmas.List.Elements.{recursion_from_All}
-use Rattle.tv_model.specs.declared.node.Kind.{Kind}
-use Rattle.tv_model.specs.declared.node.Kind.TheVariants as kinds
+use Rattle.tv_model.specs.declared.kind.Kind.{Kind}
+use Rattle.tv_model.specs.declared.kind.Kind.TheVariants as kinds
 use Rattle.tv_model.specs.declared.desc.Desc.{Desc}
 use Rattle.tv_model.specs.declared.desc.Dialog.{Dialog}
-use Rattle.tv_model.specs.Nodes.{name_of}
-use Rattle.tv_model.specs.Faults.Names.{shares_name}
-use Rattle.tv_model.specs.Faults.{IsSound, after_seen}
+use Rattle.tv_model.specs.Description.Nodes.{name_of}
+use Rattle.tv_model.specs.Description.Names.{shares_name}
+use Rattle.tv_model.specs.Faults.{IsSound}
+use Rattle.tv_model.specs.Faults.Lines.{after_seen}
 use Rattle.tv_lang.specs.CanonicalDescription.{CanBeSpelled}
 use Rattle.tv_words.specs.Canonical.{canonical_text}
 use Rattle.tv_declarations.specs.Spelling.{is_dialog}
@@ -24,16 +25,16 @@ use Rattle.tv_faults.proofs.Sound.{lawful_counts, new_names, sound_says}
 use Rattle.tv_check.proofs.SpelledDialogs.{IsSpelledDialog, dialogs_spelled}
 
 gives_some : (kind : Kind) → IsTrue (is_dialog kind) → is_some (name_of kind) ≡ true
-gives_some (kinds.Dialog name h title opens ends) is = refl
-gives_some (kinds.Window name h number title) is = refl
-gives_some (kinds.Text h text) is = absurd cc
-gives_some (kinds.Label text link) is = absurd cc
-gives_some (kinds.Button name text command is_default grabs) is = refl
-gives_some (kinds.Input name spec start validates) is = refl
-gives_some (kinds.CheckBoxes name items start) is = refl
-gives_some (kinds.RadioButtons name items start) is = refl
-gives_some (kinds.List name h items start) is = refl
-gives_some (kinds.Pane name h) is = refl
+gives_some (kinds.Dialog head) is = refl
+gives_some (kinds.Window head) is = refl
+gives_some (kinds.Text shown) is = absurd cc
+gives_some (kinds.Label label) is = absurd cc
+gives_some (kinds.Button button) is = refl
+gives_some (kinds.Input input) is = refl
+gives_some (kinds.CheckBoxes boxes) is = refl
+gives_some (kinds.RadioButtons radios) is = refl
+gives_some (kinds.List list) is = refl
+gives_some (kinds.Pane pane) is = refl
 
 all_named : (dialogs : List Dialog) → AllByRecursion IsSpelledDialog dialogs → AllByRecursion (λ dialog. is_some (name_of dialog.node.kind) ≡ true) dialogs
 all_named [] are = tt

@@ -9,11 +9,11 @@ use Rattle.std.proofs.lemmas.Slice.Eq.{bytes_eq-Decides}
 use Rattle.tv_model.specs.declared.node.Node.{Node}
 use Rattle.tv_model.specs.declared.desc.Desc.{Desc}
 use Rattle.tv_model.specs.declared.desc.Dialog.{Dialog}
-use Rattle.tv_model.specs.Nodes.{name_of}
-use Rattle.tv_model.specs.Owners.{Owner, owner_of}
-use Rattle.tv_model.specs.Certificates.{dialog_name, letters, tabs_of}
+use Rattle.tv_model.specs.Description.Nodes.{name_of}
+use Rattle.tv_model.specs.Description.Owners.{Owner, owner_of}
+use Rattle.tv_model.specs.Description.Certificates.{dialog_name, letters, tabs_of}
 use Rattle.tv_model.specs.Faults.Lines.{after_seen}
-use Rattle.tv_model.specs.Faults.Names.{is_option_named, shares_name}
+use Rattle.tv_model.specs.Description.Names.{is_option_named, shares_name}
 use Rattle.tv_check.specs.declared.certificate.KeyLine.{KeyLine}
 use Rattle.tv_check.specs.Certificates.{IsSoundCertificate, NamesOwner, NamesOwners, block_of, certificate_of, key_line, key_lines, keys_of, owners_in, tab_lines}
 

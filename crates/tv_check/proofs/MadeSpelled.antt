@@ -5,12 +5,12 @@ use Rattle.std.specs.List.{AllByRecursion, list_all, list_any, cons_option}
 use Rattle.std.proofs.lemmas.Bool.{and_parts}
 use Rattle.std.proofs.lemmas.List.Folds.{list_all-append}
 use Rattle.tv_model.specs.declared.node.Node.{Node}
-use Rattle.tv_model.specs.declared.node.Kind.{Kind}
-use Rattle.tv_model.specs.declared.node.Kind.TheVariants as kinds
+use Rattle.tv_model.specs.declared.kind.Kind.{Kind}
+use Rattle.tv_model.specs.declared.kind.Kind.TheVariants as kinds
 use Rattle.tv_model.specs.declared.desc.Dialog.{Dialog}
-use Rattle.tv_model.specs.Nodes.{is_control, name_of}
-use Rattle.tv_model.specs.Owners.{Owner, owner_of}
-use Rattle.tv_model.specs.Certificates.{control_name, letters}
+use Rattle.tv_model.specs.Description.Nodes.{is_control, name_of}
+use Rattle.tv_model.specs.Description.Owners.{Owner, owner_of}
+use Rattle.tv_model.specs.Description.Certificates.{control_name, letters}
 use Rattle.tv_declarations.specs.Spelling.{is_dialog}
 use Rattle.tv_declarations.specs.Spelling.Nodes.{IsKind}
 use Rattle.tv_words.specs.Fields.{IsName}
@@ -25,28 +25,28 @@ use Rattle.tv_check.proofs.SpelledDialogs.{IsSpelledDialog, ViewKind}
 -- ---- names
 
 named_dialog : (kind : Kind) → IsTrue (is_dialog kind) → IsKind kind → IsName (unwrap_or (name_of kind) [])
-named_dialog (kinds.Dialog name h title opens ends) is own = own.0
-named_dialog (kinds.Window name h number title) is own = absurd cc
-named_dialog (kinds.Text h text) is own = absurd cc
-named_dialog (kinds.Label text link) is own = absurd cc
-named_dialog (kinds.Button name text command is_default grabs) is own = absurd cc
-named_dialog (kinds.Input name spec start validates) is own = absurd cc
-named_dialog (kinds.CheckBoxes name items start) is own = absurd cc
-named_dialog (kinds.RadioButtons name items start) is own = absurd cc
-named_dialog (kinds.List name h items start) is own = absurd cc
-named_dialog (kinds.Pane name h) is own = absurd cc
+named_dialog (kinds.Dialog head) is own = own.0
+named_dialog (kinds.Window head) is own = absurd cc
+named_dialog (kinds.Text shown) is own = absurd cc
+named_dialog (kinds.Label label) is own = absurd cc
+named_dialog (kinds.Button button) is own = absurd cc
+named_dialog (kinds.Input input) is own = absurd cc
+named_dialog (kinds.CheckBoxes boxes) is own = absurd cc
+named_dialog (kinds.RadioButtons radios) is own = absurd cc
+named_dialog (kinds.List list) is own = absurd cc
+named_dialog (kinds.Pane pane) is own = absurd cc
 
 named_tabs : (kind : Kind) (names : List (List ℕ)) → IsKind kind → AllByRecursion IsName names → AllByRecursion IsName (cons_option (control_name kind) names)
-named_tabs (kinds.Button name text command is_default grabs) names own are = (own.0, are)
-named_tabs (kinds.Input name spec start validates) names own are = (own.0, are)
-named_tabs (kinds.CheckBoxes name items start) names own are = (own.0, are)
-named_tabs (kinds.RadioButtons name items start) names own are = (own.0, are)
-named_tabs (kinds.List name h items start) names own are = (own.0, are)
-named_tabs (kinds.Dialog name h title opens ends) names own are = are
-named_tabs (kinds.Window name h number title) names own are = are
-named_tabs (kinds.Text h text) names own are = are
-named_tabs (kinds.Label text link) names own are = are
-named_tabs (kinds.Pane name h) names own are = are
+named_tabs (kinds.Button button) names own are = (own.0, are)
+named_tabs (kinds.Input input) names own are = (own.0, are)
+named_tabs (kinds.CheckBoxes boxes) names own are = (own.0, are)
+named_tabs (kinds.RadioButtons radios) names own are = (own.0, are)
+named_tabs (kinds.List list) names own are = (own.0, are)
+named_tabs (kinds.Dialog head) names own are = are
+named_tabs (kinds.Window head) names own are = are
+named_tabs (kinds.Text shown) names own are = are
+named_tabs (kinds.Label label) names own are = are
+named_tabs (kinds.Pane pane) names own are = are
 
 abbrev tabs_in : List Node → List (List ℕ)
 tabs_in views = filter_map (λ node. control_name node.kind) views
@@ -57,16 +57,16 @@ tabs_named (view ∷ views) are = named_tabs view.kind (tabs_in views) are.0 (ta
 
 -- a control gives a tab line
 no_tab : (kind : Kind) (names : List (List ℕ)) → cons_option (control_name kind) names ≡ [] → (is_control kind ≡ false) × (names ≡ [])
-no_tab (kinds.Button name text command is_default grabs) names e = cc
-no_tab (kinds.Input name spec start validates) names e = cc
-no_tab (kinds.CheckBoxes name items start) names e = cc
-no_tab (kinds.RadioButtons name items start) names e = cc
-no_tab (kinds.List name h items start) names e = cc
-no_tab (kinds.Dialog name h title opens ends) names e = (refl, e)
-no_tab (kinds.Window name h number title) names e = (refl, e)
-no_tab (kinds.Text h text) names e = (refl, e)
-no_tab (kinds.Label text link) names e = (refl, e)
-no_tab (kinds.Pane name h) names e = (refl, e)
+no_tab (kinds.Button button) names e = cc
+no_tab (kinds.Input input) names e = cc
+no_tab (kinds.CheckBoxes boxes) names e = cc
+no_tab (kinds.RadioButtons radios) names e = cc
+no_tab (kinds.List list) names e = cc
+no_tab (kinds.Dialog head) names e = (refl, e)
+no_tab (kinds.Window head) names e = (refl, e)
+no_tab (kinds.Text shown) names e = (refl, e)
+no_tab (kinds.Label label) names e = (refl, e)
+no_tab (kinds.Pane pane) names e = (refl, e)
 
 no_control : (views : List Node) → tabs_in views ≡ [] → list_any (λ node. is_control node.kind) views ≡ false
 no_control [] e = refl

@@ -6,12 +6,12 @@ use Rattle.std.proofs.lemmas.Bool.{and_parts, leb-true}
 use Rattle.std.proofs.lemmas.List.Elements.{recursion_from_All}
 use Rattle.std.proofs.lemmas.List.Quantifiers.{position-Some}
 use Rattle.tv_model.specs.declared.node.Node.{Node}
-use Rattle.tv_model.specs.declared.node.MarkedText.{MarkedText}
-use Rattle.tv_model.specs.declared.node.Kind.{Kind}
-use Rattle.tv_model.specs.declared.node.Kind.TheVariants as kinds
+use Rattle.tv_model.specs.declared.kind.MarkedText.{MarkedText}
+use Rattle.tv_model.specs.declared.kind.Kind.{Kind}
+use Rattle.tv_model.specs.declared.kind.Kind.TheVariants as kinds
 use Rattle.tv_model.specs.declared.desc.Dialog.{Dialog}
-use Rattle.tv_model.specs.Owners.{Owner, control, item_at, marker_of, owner_by, owner_of}
-use Rattle.tv_model.specs.Faults.Letters.{marks}
+use Rattle.tv_model.specs.Description.Owners.{Owner, control, item_at, marker_of, owner_by, owner_of}
+use Rattle.tv_model.specs.Description.Letters.{marks}
 use Rattle.tv_model.specs.Faults.Limits.{is_lawful_count}
 use Rattle.tv_declarations.specs.Spelling.Nodes.{IsKind}
 use Rattle.tv_words.specs.Fields.{IsName, IsNumber}
@@ -53,16 +53,16 @@ abbrev pub HasName : Owner → Type 0
 HasName owner = IsName owner.name
 
 kind_named : (letter : ℕ) (kind : Kind) → IsKind kind → IfSome (owner_by letter kind) HasName
-kind_named letter (kinds.Label text link) own = owner_if HasName (marks letter text) (control link) own.1
-kind_named letter (kinds.Button name text command is_default grabs) own = owner_if HasName (marks letter text) (control name) own.0
-kind_named letter (kinds.CheckBoxes name items start) own = item_if HasName name (position (marks letter) items) (λ place e. own.0)
-kind_named letter (kinds.RadioButtons name items start) own = item_if HasName name (position (marks letter) items) (λ place e. own.0)
-kind_named letter (kinds.Input name spec start validates) own = tt
-kind_named letter (kinds.List name h items start) own = tt
-kind_named letter (kinds.Dialog name h title opens ends) own = tt
-kind_named letter (kinds.Window name h number title) own = tt
-kind_named letter (kinds.Text h text) own = tt
-kind_named letter (kinds.Pane name h) own = tt
+kind_named letter (kinds.Label label) own = owner_if HasName (marks letter label.text) (control label.link) own.1
+kind_named letter (kinds.Button button) own = owner_if HasName (marks letter button.text) (control button.name) own.0
+kind_named letter (kinds.CheckBoxes boxes) own = item_if HasName boxes.name (position (marks letter) boxes.items) (λ place e. own.0)
+kind_named letter (kinds.RadioButtons radios) own = item_if HasName radios.name (position (marks letter) radios.items) (λ place e. own.0)
+kind_named letter (kinds.Input input) own = tt
+kind_named letter (kinds.List list) own = tt
+kind_named letter (kinds.Dialog head) own = tt
+kind_named letter (kinds.Window head) own = tt
+kind_named letter (kinds.Text shown) own = tt
+kind_named letter (kinds.Pane pane) own = tt
 
 pub owner_named : (dialog : Dialog) (letter : ℕ) → AllByRecursion ViewKind dialog.views → IfSome (owner_of dialog letter) HasName
 owner_named dialog letter are = owner_has IsKind HasName letter (kind_named letter) dialog are
@@ -85,16 +85,16 @@ item_fits letter name items lawful =
     item_if FitsKeyLine name (position (marks letter) items) (λ place e. place_fits (length items) place lawful (position-Some (marks letter) items place no_item e).0)
 
 kind_fits : (letter : ℕ) (kind : Kind) → IsLawfulCount kind → IfSome (owner_by letter kind) FitsKeyLine
-kind_fits letter (kinds.Label text link) lawful = owner_if FitsKeyLine (marks letter text) (control link) tt
-kind_fits letter (kinds.Button name text command is_default grabs) lawful = owner_if FitsKeyLine (marks letter text) (control name) tt
-kind_fits letter (kinds.CheckBoxes name items start) lawful = item_fits letter name items lawful
-kind_fits letter (kinds.RadioButtons name items start) lawful = item_fits letter name items lawful
-kind_fits letter (kinds.Input name spec start validates) lawful = tt
-kind_fits letter (kinds.List name h items start) lawful = tt
-kind_fits letter (kinds.Dialog name h title opens ends) lawful = tt
-kind_fits letter (kinds.Window name h number title) lawful = tt
-kind_fits letter (kinds.Text h text) lawful = tt
-kind_fits letter (kinds.Pane name h) lawful = tt
+kind_fits letter (kinds.Label label) lawful = owner_if FitsKeyLine (marks letter label.text) (control label.link) tt
+kind_fits letter (kinds.Button button) lawful = owner_if FitsKeyLine (marks letter button.text) (control button.name) tt
+kind_fits letter (kinds.CheckBoxes boxes) lawful = item_fits letter boxes.name boxes.items lawful
+kind_fits letter (kinds.RadioButtons radios) lawful = item_fits letter radios.name radios.items lawful
+kind_fits letter (kinds.Input input) lawful = tt
+kind_fits letter (kinds.List list) lawful = tt
+kind_fits letter (kinds.Dialog head) lawful = tt
+kind_fits letter (kinds.Window head) lawful = tt
+kind_fits letter (kinds.Text shown) lawful = tt
+kind_fits letter (kinds.Pane pane) lawful = tt
 
 pub owner_fits : (dialog : Dialog) (letter : ℕ) → HasLawfulCounts dialog → IfSome (owner_of dialog letter) FitsKeyLine
 owner_fits dialog letter lawful = owner_has IsLawfulCount FitsKeyLine letter (kind_fits letter) dialog (recursion_from_All (λ view. is_lawful_count view.kind ≡ true) dialog.views lawful)

@@ -6,8 +6,8 @@ use Rattle.tv_check.specs.declared.plan.BuildStep.TheVariants as steps
 use Rattle.std.proofs.lemmas.List.Elements.{filter_map-append}
 use Rattle.tv_model.specs.declared.node.Node.{Node}
 use Rattle.tv_model.specs.declared.desc.Desc.{Desc}
-use Rattle.tv_model.specs.Nodes.{is_pane}
-use Rattle.tv_model.specs.LogText.{all_nodes, window_nodes, dialog_nodes}
+use Rattle.tv_model.specs.Description.Nodes.{is_pane}
+use Rattle.tv_model.specs.Description.Heads.{all_nodes, window_nodes, dialog_nodes}
 use Rattle.tv_check.specs.Plan.{Closes, Makes, Opens, Planned, lent_step, node_in, owner_plan, plan_of, view_step, views_plan}
 
 closes_none : (n : ℕ) → filter_map node_in (replicate n Closes) ≡ []

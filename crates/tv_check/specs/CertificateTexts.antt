@@ -6,7 +6,7 @@ use Rattle.tv_words.specs.declared.word.Word.TheVariants.{Bare}
 use Rattle.tv_words.specs.Lines.{lines_of}
 use Rattle.tv_words.specs.Fields.{IsName, IsNumber, number_word}
 use Rattle.tv_words.specs.Texts.{SpellsBy, IsFirstFault}
-use Rattle.tv_model.specs.Certificates.{letters}
+use Rattle.tv_model.specs.Description.Certificates.{letters}
 use Rattle.tv_check.specs.declared.certificate.Block.{Block}
 use Rattle.tv_check.specs.declared.certificate.KeyLine.{KeyLine}
 use Rattle.tv_check.specs.declared.certificate_text.CertificateFault.{CertificateFault}

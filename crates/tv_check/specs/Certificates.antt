@@ -2,8 +2,8 @@
 use Rattle.std.specs.Prelude.{◌≡◌, ℕ, ◌==◌, List, IfSome, map, filter, flat_map, filter_map, option_map, option_to_list, All, bytes_eq}
 use Rattle.tv_model.specs.declared.desc.Desc.{Desc}
 use Rattle.tv_model.specs.declared.desc.Dialog.{Dialog}
-use Rattle.tv_model.specs.Owners.{Owner, owner_of}
-use Rattle.tv_model.specs.Certificates.{dialog_name, letters, tab_order, tabs_of}
+use Rattle.tv_model.specs.Description.Owners.{Owner, owner_of}
+use Rattle.tv_model.specs.Description.Certificates.{dialog_name, letters, tab_order, tabs_of}
 use Rattle.tv_words.specs.Fields.{IsNumber}
 use Rattle.tv_check.specs.declared.certificate.Block.{Block}
 use Rattle.tv_check.specs.declared.certificate.KeyLine.{KeyLine}

@@ -2,7 +2,7 @@
 use Rattle.std.specs.Prelude.{ℕ, ◌+◌, ◌-◌, min, List, [], ◌∷◌, ◌++◌, flat_map, replicate, Option, Some, None, if◌then◌else◌}
 use Rattle.tv_model.specs.declared.node.Node.{Node}
 use Rattle.tv_model.specs.declared.desc.Desc.{Desc}
-use Rattle.tv_model.specs.Nodes.{is_pane}
+use Rattle.tv_model.specs.Description.Nodes.{is_pane}
 use Rattle.tv_check.specs.declared.plan.BuildStep.{BuildStep}
 use Rattle.tv_check.specs.declared.plan.BuildStep.TheVariants as steps
 

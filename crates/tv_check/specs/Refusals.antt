@@ -4,7 +4,7 @@ use Rattle.tv_model.specs.declared.desc.Desc.{Desc}
 use Rattle.tv_model.specs.declared.desc.Dialog.{Dialog}
 use Rattle.tv_model.specs.declared.fault.Fault.{Fault}
 use Rattle.tv_model.specs.Faults.{IsSound, faults_of}
-use Rattle.tv_model.specs.Certificates.{dialog_name, letters, tab_order}
+use Rattle.tv_model.specs.Description.Certificates.{dialog_name, letters, tab_order}
 use Rattle.tv_check.specs.declared.certificate.Block.{Block}
 use Rattle.tv_check.specs.declared.certification.CertifyFault.{CertifyFault}
 use Rattle.tv_check.specs.declared.certification.CertifyFault.TheVariants as unmade

@@ -1,7 +1,7 @@
 //! The key lines of a certificate beside the owners of a description's letters.
 
 ghost use Rattle.std.specs.Prelude.{◌≡◌, ◌++◌, ◌↔◌, IfOk, OnOk, IsTrue, MatchOption, option_map, option_to_list, map, All};
-ghost use Rattle.tv_model.specs.Certificates.{letters};
+ghost use Rattle.tv_model.specs.Description.Certificates.{letters};
 ghost use Rattle.tv_check.specs.Certificates.{key_lines, NamesOwner, NamesOwners, owners_in};
 ghost use Rattle.tv_check.specs.Lent.{lent_owner};
 ghost use Rattle.tv_check.specs.Refusals.{IsFirstOwner, IsFirstWithout};

@@ -1,7 +1,7 @@
 //! The tab lines of a certificate beside the order of Tab.
 
 ghost use Rattle.std.specs.Prelude.{◌≡◌, ◌++◌, ◌↔◌, IfOk, OnOk, IsTrue, MatchOption, map, option_copied, option_map, slice_get};
-ghost use Rattle.tv_model.specs.Certificates.{dialog_name, tab_order, tabs_of};
+ghost use Rattle.tv_model.specs.Description.Certificates.{dialog_name, tab_order, tabs_of};
 ghost use Rattle.tv_check.specs.Certificates.{tab_lines};
 ghost use Rattle.tv_check.specs.Lent.{lent_tab};
 ghost use Rattle.tv_check.specs.Refusals.{DifferFirst};

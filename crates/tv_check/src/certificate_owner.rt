@@ -3,9 +3,9 @@
 ghost use Rattle.std.specs.Prelude.{◌≡◌, ◌↔◌, IsTrue, option_copied, option_map, is_some, position};
 ghost use Rattle.tv_check.specs.Certificates.{FitsKeyLine, owner_named};
 ghost use Rattle.tv_check.specs.Lent.{item_number, lent_owner};
-ghost use Rattle.tv_model.specs.Certificates.{letters};
-ghost use Rattle.tv_model.specs.Faults.Letters.{marks};
-ghost use Rattle.tv_model.specs.Owners.{marker_of, owner_by, owner_of};
+ghost use Rattle.tv_model.specs.Description.Certificates.{letters};
+ghost use Rattle.tv_model.specs.Description.Letters.{marks};
+ghost use Rattle.tv_model.specs.Description.Owners.{marker_of, owner_by, owner_of};
 
 use crate::certificate::KeyLine;
 use tv_faults::marks;

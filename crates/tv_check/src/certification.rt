@@ -1,7 +1,7 @@
 //! The certificate that is made of a sound description.
 
 ghost use Rattle.std.specs.Prelude.{◌≡◌, ◌∷◌, [], List, IfOk, IfErr, MatchOption, option_copied};
-ghost use Rattle.tv_model.specs.Certificates.{control_name, dialog_name, tabs_of};
+ghost use Rattle.tv_model.specs.Description.Certificates.{control_name, dialog_name, tabs_of};
 ghost use Rattle.tv_model.specs.Faults.{IsSound};
 ghost use Rattle.tv_faults.specs.Usable.{HasLawfulCounts};
 ghost use Rattle.tv_model.specs.declared.fault.Fault.{Fault as SeenFault};

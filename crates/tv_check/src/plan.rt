@@ -1,8 +1,8 @@
 //! The order in which the views of a description are made.
 
 ghost use Rattle.std.specs.Prelude.{◌≡◌, ◌∷◌, ◌++◌, [], filter_map, flat_map, map, replicate, IfOk, OnOk};
-ghost use Rattle.tv_model.specs.Nodes.{is_pane};
-ghost use Rattle.tv_model.specs.LogText.{all_nodes};
+ghost use Rattle.tv_model.specs.Description.Nodes.{is_pane};
+ghost use Rattle.tv_model.specs.Description.Heads.{all_nodes};
 ghost use Rattle.tv_check.specs.Plan.{Closes, lent_step, node_in, owner_plan, plan_of, view_step, views_plan};
 
 use crate::acceptance::Checked;

@@ -1,13 +1,13 @@
 -- What a static text means.
 use Rattle.std.specs.Prelude.{ℕ, Bool, true, false, List, ℤ, None}
 use Rattle.tv_model.specs.declared.node.Id.{Id}
-use Rattle.tv_model.specs.declared.node.Kind.{Kind}
-use Rattle.tv_model.specs.declared.node.Kind.TheVariants as kinds
-use Rattle.tv_model.specs.State.{Plain}
-use Rattle.tv_model.specs.Meaning.{Leaf}
+use Rattle.tv_model.specs.declared.kind.Kind.{Kind}
+use Rattle.tv_model.specs.declared.kind.Kind.TheVariants as kinds
+use Rattle.tv_model.specs.Machine.State.{Plain}
+use Rattle.tv_model.specs.Controls.Meaning.{Leaf}
 
 abbrev pub is_text : Kind → Bool
-is_text (kinds.Text h text) = true
+is_text (kinds.Text shown) = true
 is_text _ = false
 
 -- what a static text holds of its node, and whether it is shown
@@ -24,7 +24,7 @@ pub record Held : Type 0 where
 -- a leaf without a value, which never has the focus or the mouse and is always enabled
 abbrev pub text_leaf : Held → Leaf
 text_leaf s = record {
-  node = record { id = s.id; depth = s.depth; x = s.x; y = s.y; w = s.w; kind = kinds.Text s.h s.text };
+  node = record { id = s.id; depth = s.depth; x = s.x; y = s.y; w = s.w; kind = kinds.Text (record { h = s.h; text = s.text }) };
   value = None;
   private = Plain;
   overwrites = false;

@@ -1,8 +1,8 @@
 //! Static texts.
 
 ghost use Rattle.std.specs.Prelude.{◌≡◌, ◌↔◌, IfOk, IsErrOf, false};
-ghost use Rattle.tv_model.specs.Faults.{place_of_node};
-ghost use Rattle.tv_model.specs.Meaning.{IsSmallRect, fresh};
+ghost use Rattle.tv_model.specs.Description.Rectangles.{place_of_node};
+ghost use Rattle.tv_model.specs.Controls.Meaning.{IsSmallRect, fresh};
 ghost use Rattle.tv_controls.specs.StaticText.{is_text};
 
 use crate::fault::ControlFault;
@@ -31,8 +31,8 @@ pub struct StaticText {
 }
 
 impl Model for StaticText {
-    ghost use Rattle.tv_model.specs.Faults.{rect};
-    ghost use Rattle.tv_model.specs.Meaning.{IsSmallRect, Leaf};
+    ghost use Rattle.tv_model.specs.Description.Rectangles.{rect};
+    ghost use Rattle.tv_model.specs.Controls.Meaning.{IsSmallRect, Leaf};
     ghost use Rattle.tv_controls.specs.StaticText.{text_leaf};
 
     ghost Value = { Leaf };

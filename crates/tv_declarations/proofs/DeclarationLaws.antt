@@ -3,12 +3,12 @@ use Rattle.std.proofs.Common.{◌≡◌, ℕ, Bool, true, false, cond, List, [],
 use Rattle.std.specs.Prelude.{ℤ, IfSome, codes}
 use Rattle.tv_model.specs.declared.desc.Effect.{Effect}
 use Rattle.tv_model.specs.declared.desc.Effect.TheVariants as effects
-use Rattle.tv_model.specs.declared.node.CommandSpec.{CommandSpec}
-use Rattle.tv_model.specs.declared.node.MarkedText.{MarkedText}
+use Rattle.tv_model.specs.declared.command.CommandSpec.{CommandSpec}
+use Rattle.tv_model.specs.declared.kind.MarkedText.{MarkedText}
 use Rattle.tv_model.specs.declared.node.Id.{Id}
 use Rattle.tv_model.specs.declared.node.Node.{Node}
-use Rattle.tv_model.specs.declared.node.Kind.{Kind}
-use Rattle.tv_model.specs.declared.node.Kind.TheVariants as kinds
+use Rattle.tv_model.specs.declared.kind.Kind.{Kind}
+use Rattle.tv_model.specs.declared.kind.Kind.TheVariants as kinds
 use Rattle.tv_model.specs.declared.desc.Rule.{Rule}
 use Rattle.tv_event.specs.declared.event.Key.{Key}
 use Rattle.tv_declarations.specs.declared.declaration.Declaration.{Declaration}
@@ -204,16 +204,16 @@ same_node : (line panes : ℕ) (i : Id) (depth : ℕ) (x y w : ℤ) (kind : Kind
 same_node line panes i depth x y w kind e f = rw (← e, f) refl
 
 node_again : (line panes : ℕ) (i : Id) (depth : ℕ) (x y w : ℤ) (kind : Kind) → IsNode line (of_kind i depth x y w kind) → depth ≡ panes → IsKind kind → declaration_in (on_line line panes) (kind_words kind (number_word x) (number_word y) (number_word w)) ≡ Some (declared.Node (of_kind i depth x y w kind))
-node_again line panes i depth x y w (kinds.Text h text) p f is = rw (read_number_word x p.x, read_number_word y p.y, read_number_word w p.w, read_number_word h is) (same_node line panes i depth x y w (kinds.Text h text) p.id f)
-node_again line panes i depth x y w (kinds.Label text link) p f (marks, named) = rw (read_number_word x p.x, read_number_word y p.y, read_number_word w p.w, read_mark text marks, read_name link named) (same_node line panes i depth x y w (kinds.Label text link) p.id f)
-node_again line panes i depth x y w (kinds.Button name text command is_default grabs) p f (named, marks, does) = rw (read_number_word x p.x, read_number_word y p.y, read_number_word w p.w, read_mark text marks, read_name name named, read_command command does, read_button_options is_default grabs) (same_node line panes i depth x y w (kinds.Button name text command is_default grabs) p.id f)
-node_again line panes i depth x y w (kinds.Pane name h) p f (named, high) = rw (read_number_word x p.x, read_number_word y p.y, read_number_word w p.w, read_name name named, read_number_word h high) (same_node line panes i depth x y w (kinds.Pane name h) p.id f)
-node_again line panes i depth x y w (kinds.Window name h number title) p f (named, high, numbered) = rw (read_number_word x p.x, read_number_word y p.y, read_number_word w p.w, read_name name named, read_number_word h high, read_number_word number numbered) (same_node line panes i depth x y w (kinds.Window name h number title) p.id f)
-node_again line panes i depth x y w (kinds.Dialog name h title opens ends) p f (named, high, opened) = rw (read_number_word x p.x, read_number_word y p.y, read_number_word w p.w, read_name name named, read_number_word h high, read_commands opens ends opened) (same_node line panes i depth x y w (kinds.Dialog name h title opens ends) p.id f)
-node_again line panes i depth x y w (kinds.Input name spec start validates) p f (named, long, is) = rw (read_number_word x p.x, read_number_word y p.y, read_number_word w p.w, read_name name named, read_number_word spec.max long, read_asked spec.domain start validates spec.optional spec.fill is) (same_node line panes i depth x y w (kinds.Input name spec start validates) p.id f)
-node_again line panes i depth x y w (kinds.CheckBoxes name items start) p f (named, marks, some, fit, rising) = rw (read_number_word x p.x, read_number_word y p.y, read_number_word w p.w, read_name name named, read_boxes items start marks some fit rising) (same_node line panes i depth x y w (kinds.CheckBoxes name items start) p.id f)
-node_again line panes i depth x y w (kinds.RadioButtons name items start) p f (named, marks, some, fit) = rw (read_number_word x p.x, read_number_word y p.y, read_number_word w p.w, read_name name named, read_choices items start marks some fit) (same_node line panes i depth x y w (kinds.RadioButtons name items start) p.id f)
-node_again line panes i depth x y w (kinds.List name h items start) p f (named, high, some, fit) = rw (read_number_word x p.x, read_number_word y p.y, read_number_word w p.w, read_name name named, read_number_word h high, read_rows items start some fit) (same_node line panes i depth x y w (kinds.List name h items start) p.id f)
+node_again line panes i depth x y w (kinds.Text shown) p f is = rw (read_number_word x p.x, read_number_word y p.y, read_number_word w p.w, read_number_word shown.h is) (same_node line panes i depth x y w (kinds.Text shown) p.id f)
+node_again line panes i depth x y w (kinds.Label label) p f (marks, named) = rw (read_number_word x p.x, read_number_word y p.y, read_number_word w p.w, read_mark label.text marks, read_name label.link named) (same_node line panes i depth x y w (kinds.Label label) p.id f)
+node_again line panes i depth x y w (kinds.Button button) p f (named, marks, does) = rw (read_number_word x p.x, read_number_word y p.y, read_number_word w p.w, read_mark button.text marks, read_name button.name named, read_command button.command does, read_button_options button.is_default button.grabs) (same_node line panes i depth x y w (kinds.Button button) p.id f)
+node_again line panes i depth x y w (kinds.Pane pane) p f (named, high) = rw (read_number_word x p.x, read_number_word y p.y, read_number_word w p.w, read_name pane.name named, read_number_word pane.h high) (same_node line panes i depth x y w (kinds.Pane pane) p.id f)
+node_again line panes i depth x y w (kinds.Window head) p f (named, high, numbered) = rw (read_number_word x p.x, read_number_word y p.y, read_number_word w p.w, read_name head.name named, read_number_word head.h high, read_number_word head.number numbered) (same_node line panes i depth x y w (kinds.Window head) p.id f)
+node_again line panes i depth x y w (kinds.Dialog head) p f (named, high, opened) = rw (read_number_word x p.x, read_number_word y p.y, read_number_word w p.w, read_name head.name named, read_number_word head.h high, read_commands head.opens head.ends opened) (same_node line panes i depth x y w (kinds.Dialog head) p.id f)
+node_again line panes i depth x y w (kinds.Input input) p f (named, long, is) = rw (read_number_word x p.x, read_number_word y p.y, read_number_word w p.w, read_name input.name named, read_number_word input.spec.max long, read_asked input.spec.domain input.start input.validates input.spec.optional input.spec.fill is) (same_node line panes i depth x y w (kinds.Input input) p.id f)
+node_again line panes i depth x y w (kinds.CheckBoxes boxes) p f (named, marks, some, fit, rising) = rw (read_number_word x p.x, read_number_word y p.y, read_number_word w p.w, read_name boxes.name named, read_boxes boxes.items boxes.start marks some fit rising) (same_node line panes i depth x y w (kinds.CheckBoxes boxes) p.id f)
+node_again line panes i depth x y w (kinds.RadioButtons radios) p f (named, marks, some, fit) = rw (read_number_word x p.x, read_number_word y p.y, read_number_word w p.w, read_name radios.name named, read_choices radios.items radios.start marks some fit) (same_node line panes i depth x y w (kinds.RadioButtons radios) p.id f)
+node_again line panes i depth x y w (kinds.List list) p f (named, high, some, fit) = rw (read_number_word x p.x, read_number_word y p.y, read_number_word w p.w, read_name list.name named, read_number_word list.h high, read_rows list.items list.start some fit) (same_node line panes i depth x y w (kinds.List list) p.id f)
 
 same_line : (line : ℕ) (i : Id) → i.0 ≡ line → i ≡ record { 0 = line }
 same_line line i e = rw (← e) refl

@@ -4,9 +4,9 @@ use Rattle.std.specs.Prelude.{ℤ, codes, map, option_and_then, IsTrue}
 use Rattle.std.specs.Option.{option_map}
 use Rattle.std.specs.List.{AllByRecursion}
 use Rattle.std.proofs.lemmas.List.{append-nil}
-use Rattle.tv_model.specs.declared.node.MarkedText.{MarkedText}
+use Rattle.tv_model.specs.declared.kind.MarkedText.{MarkedText}
 use Rattle.tv_model.specs.declared.node.Node.{Node}
-use Rattle.tv_model.specs.declared.node.Kind.TheVariants as kinds
+use Rattle.tv_model.specs.declared.kind.Kind.TheVariants as kinds
 use Rattle.tv_declarations.specs.declared.place.Place.{Place}
 use Rattle.tv_declarations.specs.declared.place.Position.{Position}
 use Rattle.tv_declarations.specs.declared.items.Items.{Items}
@@ -222,11 +222,11 @@ read_boxes items start are some fit rising =
     ∙ ap (option_and_then boxes_of) (read_items (map plain items) (start_of start) (start_of_numbers start fit))
     ∙ rw (read_marks items are some, read_start start rising) refl
 
-checks_made : (at : Position) (m x y w : Word) (fs : List Word) (n : Node) → ((items : List MarkedText × List ℤ) × (name : List ℕ) × (p : Place) × (option_and_then boxes_of (items_in fs) ≡ Some items) × (name_in m ≡ Some name) × (place_in x y w ≡ Some p) × (node_at at p (kinds.CheckBoxes name items.0 items.1) ≡ n)) → IsNodeOf at n (Bare (codes "checks") ∷ m ∷ x ∷ y ∷ w ∷ fs)
+checks_made : (at : Position) (m x y w : Word) (fs : List Word) (n : Node) → ((items : List MarkedText × List ℤ) × (name : List ℕ) × (p : Place) × (option_and_then boxes_of (items_in fs) ≡ Some items) × (name_in m ≡ Some name) × (place_in x y w ≡ Some p) × (node_at at p (kinds.CheckBoxes (record { name = name; items = items.0; start = items.1 })) ≡ n)) → IsNodeOf at n (Bare (codes "checks") ∷ m ∷ x ∷ y ∷ w ∷ fs)
 checks_made at m x y w fs n (items, name, p, ei, em, ep, same) =
     let named = name_read m name em in
     let are = boxes_read fs items ei in
-    node_made at x y w p (kinds.CheckBoxes name items.0 items.1) _ n ep (named.1, are.marks, are.some, are.fit, are.rising) (rw (named.0, are.words) refl) same
+    node_made at x y w p (kinds.CheckBoxes (record { name = name; items = items.0; start = items.1 })) _ n ep (named.1, are.marks, are.some, are.fit, are.rising) (rw (named.0, are.words) refl) same
 
 pub checks_line : (at : Position) (fields : List Word) (n : Node) → checks_in at fields ≡ Some n → IsNodeOf at n (Bare (codes "checks") ∷ fields)
 checks_line at [] n e = absurd cc
@@ -261,11 +261,11 @@ read_choices items start are some fit =
     ∙ ap (option_and_then radios_of) (read_items (map plain items) (Some (start ∷ [])) (fit, tt))
     ∙ rw (read_marks items are some) refl
 
-radios_made : (at : Position) (m x y w : Word) (fs : List Word) (n : Node) → ((items : List MarkedText × ℤ) × (name : List ℕ) × (p : Place) × (option_and_then radios_of (items_in fs) ≡ Some items) × (name_in m ≡ Some name) × (place_in x y w ≡ Some p) × (node_at at p (kinds.RadioButtons name items.0 items.1) ≡ n)) → IsNodeOf at n (Bare (codes "radios") ∷ m ∷ x ∷ y ∷ w ∷ fs)
+radios_made : (at : Position) (m x y w : Word) (fs : List Word) (n : Node) → ((items : List MarkedText × ℤ) × (name : List ℕ) × (p : Place) × (option_and_then radios_of (items_in fs) ≡ Some items) × (name_in m ≡ Some name) × (place_in x y w ≡ Some p) × (node_at at p (kinds.RadioButtons (record { name = name; items = items.0; start = items.1 })) ≡ n)) → IsNodeOf at n (Bare (codes "radios") ∷ m ∷ x ∷ y ∷ w ∷ fs)
 radios_made at m x y w fs n (items, name, p, ei, em, ep, same) =
     let named = name_read m name em in
     let are = choices_read fs items ei in
-    node_made at x y w p (kinds.RadioButtons name items.0 items.1) _ n ep (named.1, are.marks, are.some, are.fits) (rw (named.0, are.words) refl) same
+    node_made at x y w p (kinds.RadioButtons (record { name = name; items = items.0; start = items.1 })) _ n ep (named.1, are.marks, are.some, are.fits) (rw (named.0, are.words) refl) same
 
 pub radios_line : (at : Position) (fields : List Word) (n : Node) → radios_in at fields ≡ Some n → IsNodeOf at n (Bare (codes "radios") ∷ fields)
 radios_line at [] n e = absurd cc
@@ -303,12 +303,12 @@ some_texts (t ∷ ts) some = refl
 pub read_rows : (items : List (List ℕ)) (start : ℤ) → items ≢ [] → IsNumber start → option_and_then rows_of (items_in (map text_word items ++ (Bare (codes "start") ∷ number_word start ∷ []))) ≡ Some (items, start)
 read_rows items start some fit = ap (option_and_then rows_of) (read_items items (Some (start ∷ [])) (fit, tt)) ∙ rw (some_texts items some) refl
 
-list_made : (at : Position) (m x y w h : Word) (fs : List Word) (n : Node) → ((items : List (List ℕ) × ℤ) × (name : List ℕ) × (p : Place) × (rows : ℤ) × (option_and_then rows_of (items_in fs) ≡ Some items) × (name_in m ≡ Some name) × (place_in x y w ≡ Some p) × (number_in h ≡ Some rows) × (node_at at p (kinds.List name rows items.0 items.1) ≡ n)) → IsNodeOf at n (Bare (codes "list") ∷ m ∷ x ∷ y ∷ w ∷ h ∷ fs)
+list_made : (at : Position) (m x y w h : Word) (fs : List Word) (n : Node) → ((items : List (List ℕ) × ℤ) × (name : List ℕ) × (p : Place) × (rows : ℤ) × (option_and_then rows_of (items_in fs) ≡ Some items) × (name_in m ≡ Some name) × (place_in x y w ≡ Some p) × (number_in h ≡ Some rows) × (node_at at p (kinds.List (record { name = name; h = rows; items = items.0; start = items.1 })) ≡ n)) → IsNodeOf at n (Bare (codes "list") ∷ m ∷ x ∷ y ∷ w ∷ h ∷ fs)
 list_made at m x y w h fs n (items, name, p, rows, ei, em, ep, eh, same) =
     let named = name_read m name em in
     let high = number_word_read h rows eh in
     let are = rows_read fs items ei in
-    node_made at x y w p (kinds.List name rows items.0 items.1) _ n ep (named.1, high.1, are.some, are.fits) (rw (named.0, high.0, are.words) refl) same
+    node_made at x y w p (kinds.List (record { name = name; h = rows; items = items.0; start = items.1 })) _ n ep (named.1, high.1, are.some, are.fits) (rw (named.0, high.0, are.words) refl) same
 
 pub list_line : (at : Position) (fields : List Word) (n : Node) → list_in at fields ≡ Some n → IsNodeOf at n (Bare (codes "list") ∷ fields)
 list_line at [] n e = absurd cc

@@ -2,11 +2,11 @@
 use Rattle.std.proofs.Common.{◌≡◌, ℕ, Bool, true, false, cond, List, [], ◌∷◌, ◌++◌, Option, Some, None, refl, ap, subst}
 use Rattle.std.specs.Prelude.{ℤ, codes, IfSome}
 use Rattle.std.specs.Option.{option_map}
-use Rattle.tv_model.specs.declared.node.CommandSpec.{CommandSpec}
-use Rattle.tv_model.specs.declared.node.Ends.{Ends}
-use Rattle.tv_model.specs.declared.node.MarkedText.{MarkedText}
+use Rattle.tv_model.specs.declared.command.CommandSpec.{CommandSpec}
+use Rattle.tv_model.specs.declared.command.Ends.{Ends}
+use Rattle.tv_model.specs.declared.kind.MarkedText.{MarkedText}
 use Rattle.tv_model.specs.declared.node.Node.{Node}
-use Rattle.tv_model.specs.declared.node.Kind.TheVariants as kinds
+use Rattle.tv_model.specs.declared.kind.Kind.TheVariants as kinds
 use Rattle.tv_declarations.specs.declared.place.Place.{Place}
 use Rattle.tv_declarations.specs.declared.place.Position.{Position}
 use Rattle.tv_words.specs.declared.word.Word.{Word}
@@ -25,10 +25,10 @@ use Rattle.tv_declarations.proofs.CommandLaws.{command_read, ends_read, read_end
 use Rattle.tv_declarations.proofs.PlaceLaws.{IsNodeOf, node_made, mark_read}
 
 -- texts
-text_made : (at : Position) (x y w h t : Word) (n : Node) → ((p : Place) × (rows : ℤ) × (text : List ℕ) × (place_in x y w ≡ Some p) × (number_in h ≡ Some rows) × (text_in t ≡ Some text) × (node_at at p (kinds.Text rows text) ≡ n)) → IsNodeOf at n (Bare (codes "text") ∷ x ∷ y ∷ w ∷ h ∷ t ∷ [])
+text_made : (at : Position) (x y w h t : Word) (n : Node) → ((p : Place) × (rows : ℤ) × (text : List ℕ) × (place_in x y w ≡ Some p) × (number_in h ≡ Some rows) × (text_in t ≡ Some text) × (node_at at p (kinds.Text (record { h = rows; text = text })) ≡ n)) → IsNodeOf at n (Bare (codes "text") ∷ x ∷ y ∷ w ∷ h ∷ t ∷ [])
 text_made at x y w h t n (p, rows, text, ep, eh, et, same) =
     let high = number_word_read h rows eh in
-    node_made at x y w p (kinds.Text rows text) _ n ep high.1 (rw (high.0, text_read t text et) refl) same
+    node_made at x y w p (kinds.Text (record { h = rows; text = text })) _ n ep high.1 (rw (high.0, text_read t text et) refl) same
 
 pub text_line : (at : Position) (fields : List Word) (n : Node) → text_in_fields at fields ≡ Some n → IsNodeOf at n (Bare (codes "text") ∷ fields)
 text_line at [] n e = absurd cc
@@ -40,11 +40,11 @@ text_line at (x ∷ y ∷ w ∷ h ∷ t ∷ []) n e = text_made at x y w h t n (
 text_line at (a ∷ b ∷ c ∷ d ∷ f ∷ g ∷ hs) n e = absurd cc
 
 -- labels
-label_made : (at : Position) (x y w t l : Word) (n : Node) → ((text : MarkedText) × (p : Place) × (link : List ℕ) × (mark_in t ≡ Some text) × (place_in x y w ≡ Some p) × (name_in l ≡ Some link) × (node_at at p (kinds.Label text link) ≡ n)) → IsNodeOf at n (Bare (codes "label") ∷ x ∷ y ∷ w ∷ t ∷ l ∷ [])
+label_made : (at : Position) (x y w t l : Word) (n : Node) → ((text : MarkedText) × (p : Place) × (link : List ℕ) × (mark_in t ≡ Some text) × (place_in x y w ≡ Some p) × (name_in l ≡ Some link) × (node_at at p (kinds.Label (record { text = text; link = link })) ≡ n)) → IsNodeOf at n (Bare (codes "label") ∷ x ∷ y ∷ w ∷ t ∷ l ∷ [])
 label_made at x y w t l n (text, p, link, et, ep, el, same) =
     let marks = mark_read t text et in
     let named = name_read l link el in
-    node_made at x y w p (kinds.Label text link) _ n ep (marks.1, named.1) (rw (marks.0, named.0) refl) same
+    node_made at x y w p (kinds.Label (record { text = text; link = link })) _ n ep (marks.1, named.1) (rw (marks.0, named.0) refl) same
 
 pub label_line : (at : Position) (fields : List Word) (n : Node) → label_in at fields ≡ Some n → IsNodeOf at n (Bare (codes "label") ∷ fields)
 label_line at [] n e = absurd cc
@@ -56,12 +56,12 @@ label_line at (x ∷ y ∷ w ∷ t ∷ l ∷ []) n e = label_made at x y w t l n
 label_line at (a ∷ b ∷ c ∷ d ∷ f ∷ g ∷ hs) n e = absurd cc
 
 -- buttons
-button_made : (at : Position) (m x y w t c : Word) (os : List Word) (n : Node) → ((text : MarkedText) × (name : List ℕ) × (p : Place) × (command : CommandSpec) × (options : Bool × Bool) × (mark_in t ≡ Some text) × (name_in m ≡ Some name) × (place_in x y w ≡ Some p) × (command_in c ≡ Some command) × (button_options_in os ≡ Some options) × (node_at at p (kinds.Button name text command options.0 options.1) ≡ n)) → IsNodeOf at n (Bare (codes "button") ∷ m ∷ x ∷ y ∷ w ∷ t ∷ c ∷ os)
+button_made : (at : Position) (m x y w t c : Word) (os : List Word) (n : Node) → ((text : MarkedText) × (name : List ℕ) × (p : Place) × (command : CommandSpec) × (options : Bool × Bool) × (mark_in t ≡ Some text) × (name_in m ≡ Some name) × (place_in x y w ≡ Some p) × (command_in c ≡ Some command) × (button_options_in os ≡ Some options) × (node_at at p (kinds.Button (record { name = name; text = text; command = command; is_default = options.0; grabs = options.1 })) ≡ n)) → IsNodeOf at n (Bare (codes "button") ∷ m ∷ x ∷ y ∷ w ∷ t ∷ c ∷ os)
 button_made at m x y w t c os n (text, name, p, command, options, et, em, ep, ec, eo, same) =
     let marks = mark_read t text et in
     let named = name_read m name em in
     let does = command_read c command ec in
-    node_made at x y w p (kinds.Button name text command options.0 options.1) _ n ep (named.1, marks.1, does.1) (rw (marks.0, named.0, does.0, button_options_read os options eo) refl) same
+    node_made at x y w p (kinds.Button (record { name = name; text = text; command = command; is_default = options.0; grabs = options.1 })) _ n ep (named.1, marks.1, does.1) (rw (marks.0, named.0, does.0, button_options_read os options eo) refl) same
 
 pub button_line : (at : Position) (fields : List Word) (n : Node) → button_in at fields ≡ Some n → IsNodeOf at n (Bare (codes "button") ∷ fields)
 button_line at [] n e = absurd cc
@@ -73,11 +73,11 @@ button_line at (a ∷ b ∷ c ∷ d ∷ f ∷ []) n e = absurd cc
 button_line at (m ∷ x ∷ y ∷ w ∷ t ∷ c ∷ os) n e = button_made at m x y w t c os n (with5_some _ (mark_in t) (name_in m) (place_in x y w) (command_in c) (button_options_in os) n e)
 
 -- panes
-pane_made : (at : Position) (m x y w h : Word) (n : Node) → ((name : List ℕ) × (p : Place) × (rows : ℤ) × (name_in m ≡ Some name) × (place_in x y w ≡ Some p) × (number_in h ≡ Some rows) × (node_at at p (kinds.Pane name rows) ≡ n)) → IsNodeOf at n (Bare (codes "pane") ∷ m ∷ x ∷ y ∷ w ∷ h ∷ [])
+pane_made : (at : Position) (m x y w h : Word) (n : Node) → ((name : List ℕ) × (p : Place) × (rows : ℤ) × (name_in m ≡ Some name) × (place_in x y w ≡ Some p) × (number_in h ≡ Some rows) × (node_at at p (kinds.Pane (record { name = name; h = rows })) ≡ n)) → IsNodeOf at n (Bare (codes "pane") ∷ m ∷ x ∷ y ∷ w ∷ h ∷ [])
 pane_made at m x y w h n (name, p, rows, em, ep, eh, same) =
     let named = name_read m name em in
     let high = number_word_read h rows eh in
-    node_made at x y w p (kinds.Pane name rows) _ n ep (named.1, high.1) (rw (named.0, high.0) refl) same
+    node_made at x y w p (kinds.Pane (record { name = name; h = rows })) _ n ep (named.1, high.1) (rw (named.0, high.0) refl) same
 
 pub pane_line : (at : Position) (fields : List Word) (n : Node) → pane_in at fields ≡ Some n → IsNodeOf at n (Bare (codes "pane") ∷ fields)
 pane_line at [] n e = absurd cc
@@ -89,12 +89,12 @@ pane_line at (m ∷ x ∷ y ∷ w ∷ h ∷ []) n e = pane_made at m x y w h n (
 pane_line at (a ∷ b ∷ c ∷ d ∷ f ∷ g ∷ hs) n e = absurd cc
 
 -- windows
-window_made : (at : Position) (m x y w h k t : Word) (n : Node) → ((name : List ℕ) × (p : Place) × (rows : ℤ) × (number : ℤ) × (title : List ℕ) × (name_in m ≡ Some name) × (place_in x y w ≡ Some p) × (number_in h ≡ Some rows) × (number_in k ≡ Some number) × (text_in t ≡ Some title) × (node_at at p (kinds.Window name rows number title) ≡ n)) → IsNodeOf at n (Bare (codes "window") ∷ m ∷ x ∷ y ∷ w ∷ h ∷ k ∷ t ∷ [])
+window_made : (at : Position) (m x y w h k t : Word) (n : Node) → ((name : List ℕ) × (p : Place) × (rows : ℤ) × (number : ℤ) × (title : List ℕ) × (name_in m ≡ Some name) × (place_in x y w ≡ Some p) × (number_in h ≡ Some rows) × (number_in k ≡ Some number) × (text_in t ≡ Some title) × (node_at at p (kinds.Window (record { name = name; h = rows; number = number; title = title })) ≡ n)) → IsNodeOf at n (Bare (codes "window") ∷ m ∷ x ∷ y ∷ w ∷ h ∷ k ∷ t ∷ [])
 window_made at m x y w h k t n (name, p, rows, number, title, em, ep, eh, ek, et, same) =
     let named = name_read m name em in
     let high = number_word_read h rows eh in
     let numbered = number_word_read k number ek in
-    node_made at x y w p (kinds.Window name rows number title) _ n ep (named.1, high.1, numbered.1) (rw (named.0, high.0, numbered.0, text_read t title et) refl) same
+    node_made at x y w p (kinds.Window (record { name = name; h = rows; number = number; title = title })) _ n ep (named.1, high.1, numbered.1) (rw (named.0, high.0, numbered.0, text_read t title et) refl) same
 
 pub window_line : (at : Position) (fields : List Word) (n : Node) → window_in at fields ≡ Some n → IsNodeOf at n (Bare (codes "window") ∷ fields)
 window_line at [] n e = absurd cc
@@ -142,12 +142,12 @@ read_commands None ends is = rw (read_ends ends) refl
 read_commands (Some number) ends is = rw (read_number_word number is, read_ends ends) refl
 
 -- dialogs
-dialog_made : (at : Position) (m x y w h t : Word) (cs : List Word) (n : Node) → ((name : List ℕ) × (p : Place) × (rows : ℤ) × (title : List ℕ) × (commands : Option ℤ × Ends) × (name_in m ≡ Some name) × (place_in x y w ≡ Some p) × (number_in h ≡ Some rows) × (text_in t ≡ Some title) × (commands_in cs ≡ Some commands) × (node_at at p (kinds.Dialog name rows title commands.0 commands.1) ≡ n)) → IsNodeOf at n (Bare (codes "dialog") ∷ m ∷ x ∷ y ∷ w ∷ h ∷ t ∷ cs)
+dialog_made : (at : Position) (m x y w h t : Word) (cs : List Word) (n : Node) → ((name : List ℕ) × (p : Place) × (rows : ℤ) × (title : List ℕ) × (commands : Option ℤ × Ends) × (name_in m ≡ Some name) × (place_in x y w ≡ Some p) × (number_in h ≡ Some rows) × (text_in t ≡ Some title) × (commands_in cs ≡ Some commands) × (node_at at p (kinds.Dialog (record { name = name; h = rows; title = title; opens = commands.0; ends = commands.1 })) ≡ n)) → IsNodeOf at n (Bare (codes "dialog") ∷ m ∷ x ∷ y ∷ w ∷ h ∷ t ∷ cs)
 dialog_made at m x y w h t cs n (name, p, rows, title, commands, em, ep, eh, et, ec, same) =
     let named = name_read m name em in
     let high = number_word_read h rows eh in
     let given = commands_read cs commands ec in
-    node_made at x y w p (kinds.Dialog name rows title commands.0 commands.1) _ n ep (named.1, high.1, given.1) (rw (named.0, high.0, text_read t title et, given.0) refl) same
+    node_made at x y w p (kinds.Dialog (record { name = name; h = rows; title = title; opens = commands.0; ends = commands.1 })) _ n ep (named.1, high.1, given.1) (rw (named.0, high.0, text_read t title et, given.0) refl) same
 
 pub dialog_line : (at : Position) (fields : List Word) (n : Node) → dialog_in at fields ≡ Some n → IsNodeOf at n (Bare (codes "dialog") ∷ fields)
 dialog_line at [] n e = absurd cc

@@ -1,9 +1,9 @@
 -- Where a node stands, and its marked text, are read just where they are spelled so.
 use Rattle.std.proofs.Common.{◌≡◌, ℕ, List, Some, refl, sym, ap, ◌∙◌, subst}
 use Rattle.std.specs.Prelude.{ℤ}
-use Rattle.tv_model.specs.declared.node.MarkedText.{MarkedText}
+use Rattle.tv_model.specs.declared.kind.MarkedText.{MarkedText}
 use Rattle.tv_model.specs.declared.node.Node.{Node}
-use Rattle.tv_model.specs.declared.node.Kind.{Kind}
+use Rattle.tv_model.specs.declared.kind.Kind.{Kind}
 use Rattle.tv_declarations.specs.declared.place.Place.{Place}
 use Rattle.tv_declarations.specs.declared.place.Position.{Position}
 use Rattle.tv_words.specs.declared.word.Word.{Word}

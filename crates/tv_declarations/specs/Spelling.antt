@@ -2,8 +2,8 @@
 use Rattle.std.specs.Prelude.{◌≡◌, ◌≢◌, ℕ, ◌+◌, ◌-◌, ◌≤◌, Bool, true, false, not, ◌||◌, List, [], ◌∷◌, ◌++◌, map, flat_map, replicate, Option, Some, None, IsTrue, if◌then◌else◌}
 use Rattle.std.specs.List.{AllByRecursion}
 use Rattle.tv_model.specs.declared.node.Node.{Node}
-use Rattle.tv_model.specs.declared.node.Kind.{Kind}
-use Rattle.tv_model.specs.declared.node.Kind.TheVariants as kinds
+use Rattle.tv_model.specs.declared.kind.Kind.{Kind}
+use Rattle.tv_model.specs.declared.kind.Kind.TheVariants as kinds
 use Rattle.tv_model.specs.declared.desc.Desc.{Desc}
 use Rattle.tv_model.specs.declared.desc.Dialog.{Dialog}
 use Rattle.tv_model.specs.declared.desc.Menu.{Menu}
@@ -11,7 +11,7 @@ use Rattle.tv_model.specs.declared.desc.MenuItem.{MenuItem}
 use Rattle.tv_model.specs.declared.desc.Rule.{Rule}
 use Rattle.tv_model.specs.declared.desc.StatusItem.{StatusItem}
 use Rattle.tv_model.specs.declared.desc.Window.{Window}
-use Rattle.tv_model.specs.Nodes.{is_pane}
+use Rattle.tv_model.specs.Description.Nodes.{is_pane}
 use Rattle.tv_words.specs.declared.word.Word.{Word}
 use Rattle.tv_declarations.specs.declared.declaration.Declaration.{Declaration}
 use Rattle.tv_declarations.specs.declared.declaration.Declaration.TheVariants as declared
@@ -67,15 +67,15 @@ word_lines d = map declaration_words (declarations_of d)
 -- ---- what can be spelled
 
 abbrev pub is_window : Kind → Bool
-is_window (kinds.Window name h number title) = true
+is_window (kinds.Window head) = true
 is_window _ = false
 
 abbrev pub is_dialog : Kind → Bool
-is_dialog (kinds.Dialog name h title opens ends) = true
+is_dialog (kinds.Dialog head) = true
 is_dialog _ = false
 
 abbrev pub is_text : Kind → Bool
-is_text (kinds.Text h text) = true
+is_text (kinds.Text shown) = true
 is_text _ = false
 
 -- anything that can stand in a dialog

@@ -2,7 +2,7 @@
 use Rattle.std.proofs.Common.{◌≡◌, ℕ, suc, ◌+◌, ◌<◌, ◌==◌, Bool, true, false, cond, List, [], ◌∷◌, length, take, drop, Option, Some, None, position, refl, ◌∙◌, arith, add-one}
 use Rattle.std.specs.List.{position_from}
 use Rattle.std.proofs.lemmas.Iterator.Adapters.{position_from-zero}
-use Rattle.tv_model.specs.Faces.{pieces_of}
+use Rattle.tv_model.specs.Screen.Faces.{pieces_of}
 
 abbrev pub is_end : ℕ → Bool
 is_end ch = ch == 10

@@ -3,7 +3,7 @@ use Rattle.std.specs.Prelude.{◌≡◌, ℕ, List, [], ◌∷◌, Option, Some,
 use Rattle.tv_cells.specs.declared.canvas.Canvas.{Canvas}
 use Rattle.tv_faces.specs.declared.look.ButtonLook.{ButtonLook as SeenButton}
 use Rattle.tv_faces.specs.declared.look.FrameLook.{FrameLook as SeenFrame}
-use Rattle.tv_model.specs.Faces.{ButtonLook, FrameLook, pieces_of}
+use Rattle.tv_model.specs.Screen.Faces.{ButtonLook, FrameLook, pieces_of}
 
 -- how a button stands
 abbrev pub button_look_of : SeenButton → ButtonLook

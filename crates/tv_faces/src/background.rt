@@ -7,7 +7,7 @@ use tv_cells::{Cell, Face};
 pub struct Background;
 
 impl Face for Background {
-    ghost use Rattle.tv_model.specs.Faces.{background};
+    ghost use Rattle.tv_model.specs.Screen.Faces.{background};
 
     ghost face = { λ _. background };
 
@@ -21,7 +21,7 @@ impl Face for Background {
 pub struct EmptyBar;
 
 impl Face for EmptyBar {
-    ghost use Rattle.tv_model.specs.Faces.{empty_bar};
+    ghost use Rattle.tv_model.specs.Screen.Faces.{empty_bar};
 
     ghost face = { λ _. empty_bar };
 

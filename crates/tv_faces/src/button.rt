@@ -5,7 +5,7 @@ ghost use Rattle.tv_palette.specs.Chain.{coloured};
 ghost use Rattle.tv_palette.specs.Palettes.{colour_in, owners_of_part};
 ghost use Rattle.tv_palette.specs.declared.role.Owner.TheVariants.{Dialog};
 ghost use Rattle.tv_palette.specs.declared.role.Role.TheVariants.{Button};
-ghost use Rattle.tv_model.specs.Faces.{button_attr, button_role, button_text, button_row, is_letter};
+ghost use Rattle.tv_model.specs.Screen.Faces.{button_attr, button_role, button_text, button_row, is_letter};
 ghost use Rattle.tv_faces.specs.Looks.{button_look_of};
 
 use crate::look::ButtonLook;
@@ -99,7 +99,7 @@ fn button_char(width: usize, text: &[char], is_default_now: bool, x: usize) -> c
 }
 
 impl Face for ButtonFace<'_> {
-    ghost use Rattle.tv_model.specs.Faces.{button_cells};
+    ghost use Rattle.tv_model.specs.Screen.Faces.{button_cells};
 
     ghost face = { λ f. button_cells f.width f.text.now f.mark f.is_default_now f.letter f.rest };
 

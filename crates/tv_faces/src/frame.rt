@@ -4,7 +4,7 @@ ghost use Rattle.std.specs.Prelude.{◌≡◌, ◌≤◌, ◌<◌, ◌^◌};
 ghost use Rattle.tv_palette.specs.Attributes.{attribute_of};
 ghost use Rattle.tv_palette.specs.Chain.{coloured};
 ghost use Rattle.tv_palette.specs.Palettes.{colour_in, owners_of_part};
-ghost use Rattle.tv_model.specs.Faces.{border, frame_look, frame_role, is_side, titled, top_row};
+ghost use Rattle.tv_model.specs.Screen.Faces.{border, frame_look, frame_role, is_side, titled, top_row};
 ghost use Rattle.tv_faces.specs.Looks.{frame_look_of};
 
 use crate::look::FrameLook;
@@ -104,7 +104,7 @@ fn top_row(width: usize, title: &[char], look: FrameLook, x: usize) -> char
 }
 
 impl Face for Frame<'_> {
-    ghost use Rattle.tv_model.specs.Faces.{frame_face};
+    ghost use Rattle.tv_model.specs.Screen.Faces.{frame_face};
     ghost use Rattle.tv_faces.specs.Looks.{frame_look_of};
 
     ghost face = { λ f. frame_face f.width f.height f.title.now (frame_look_of f.look) };

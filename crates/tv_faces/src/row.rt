@@ -1,7 +1,7 @@
 //! Rows of characters.
 
 ghost use Rattle.std.specs.Prelude.{◌≡◌, ◌∷◌};
-ghost use Rattle.tv_model.specs.Faces.{text_row};
+ghost use Rattle.tv_model.specs.Screen.Faces.{text_row};
 
 /// The character of a text in a column, where the text begins in column 0.
 pub(crate) fn text_char(text: &[char], x: usize) -> char

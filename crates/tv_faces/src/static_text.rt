@@ -5,7 +5,7 @@ ghost use Rattle.tv_cells.specs.Canvas.{Covers, face_at};
 ghost use Rattle.tv_cells.specs.Layers.{Layer, Painted, Shows};
 ghost use Rattle.tv_cells.specs.Picture.{Changes, IsAlike};
 ghost use Rattle.tv_cells.specs.Rectangle.{sized};
-ghost use Rattle.tv_model.specs.Faces.{text_face};
+ghost use Rattle.tv_model.specs.Screen.Faces.{text_face};
 ghost use Rattle.tv_faces.specs.Looks.{Splits, canvas_below, pieces_left};
 
 use crate::place::sum;
@@ -28,7 +28,7 @@ struct Piece<'a> {
 
 impl Face for Piece<'_> {
     ghost use Rattle.tv_cells.specs.Glyph.{shown};
-    ghost use Rattle.tv_model.specs.Faces.{text_row};
+    ghost use Rattle.tv_model.specs.Screen.Faces.{text_row};
 
     ghost face = { λ f x y. shown (text_row f.text.now x) f.attr };
 

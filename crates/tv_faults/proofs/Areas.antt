@@ -5,7 +5,7 @@ use Rattle.std.proofs.lemmas.Int.{ints, clamps}
 use Rattle.std.specs.Int.{int_max}
 use Rattle.tv_cells.specs.declared.rect.Rect.{Rect}
 use Rattle.tv_cells.specs.Rectangle.{IsIn}
-use Rattle.tv_model.specs.Faults.Places.{has_points, is_within, overlap}
+use Rattle.tv_model.specs.Description.Rectangles.{has_points, is_within, overlap}
 
 pub rect_is : (p q r s a b c d : ℤ) → p ≡ a → q ≡ b → r ≡ c → s ≡ d
     → ◌≡◌ {A = Rect} record { a = record { x = p; y = q }; b = record { x = r; y = s } } record { a = record { x = a; y = b }; b = record { x = c; y = d } }

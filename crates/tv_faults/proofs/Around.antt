@@ -4,7 +4,7 @@ use Rattle.std.specs.Prelude.{option_and_then, slice_get}
 use Rattle.std.proofs.lemmas.Bool.{cond-true, cond-false, le-ltb, lt-ltb}
 use Rattle.std.proofs.lemmas.Option.{slice_get-get_or}
 use Rattle.tv_model.specs.declared.node.Node.{Node}
-use Rattle.tv_model.specs.Faults.Places.{around, owner_of, panes_around}
+use Rattle.tv_model.specs.Description.Panes.{around, owner_of, panes_around}
 use Rattle.tv_faults.specs.Standing.{IsLastAbove, IsOwner, depth_at}
 use Rattle.tv_faults.proofs.Back.{back_more, places_leave}
 use Rattle.tv_faults.proofs.Depths.{depth_is}

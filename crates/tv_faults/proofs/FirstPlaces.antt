@@ -8,9 +8,9 @@ use Rattle.std.proofs.lemmas.List.{append_assoc, length-append, length-take-le, 
 use Rattle.std.proofs.lemmas.List.Folds.{find-append}
 use Rattle.std.proofs.Math.Seq.{get_or-append_seam, take-append_seam}
 use Rattle.tv_model.specs.declared.node.Node.{Node}
-use Rattle.tv_model.specs.Nodes.{name_of}
+use Rattle.tv_model.specs.Description.Nodes.{name_of}
 use Rattle.tv_model.specs.Faults.Lines.{after_seen}
-use Rattle.tv_model.specs.Faults.Names.{gives_name, is_option_named, meant}
+use Rattle.tv_model.specs.Description.Names.{gives_name, is_option_named, meant}
 use Rattle.tv_faults.specs.Named.{IsFirstAt, first_given}
 use Rattle.tv_faults.proofs.EachAfter.{after_push}
 

@@ -2,9 +2,10 @@
 use Rattle.std.proofs.Common.{◌≡◌, ℕ, Bool, false, ◌||◌, List, [], refl, sym, ap, ◌∙◌}
 use Rattle.std.specs.List.{list_any}
 use Rattle.std.specs.Prelude.{Option, Some, None}
-use Rattle.tv_model.specs.Faults.Letters.{letter_of, marked_of, marks, marks_again, shares_letter}
+use Rattle.tv_model.specs.Description.Letters.{letter_of, marked_of, marks, shares_letter}
+use Rattle.tv_model.specs.Faults.Letters.{marks_again}
 use Rattle.tv_model.specs.Faults.Lines.{after_seen}
-use Rattle.tv_model.specs.declared.node.MarkedText.{MarkedText}
+use Rattle.tv_model.specs.declared.kind.MarkedText.{MarkedText}
 use Rattle.tv_model.specs.declared.node.Node.{Node}
 use Rattle.tv_faults.specs.Marked.{is_marked_by, is_marked_in, mark_again, marks_any}
 use Rattle.tv_faults.proofs.Tests.{any_none, any_same}

@@ -3,8 +3,9 @@ use Rattle.std.proofs.Common.{◌≡◌, Bool, not, ◌||◌, List, pos, ℤ, re
 use Rattle.std.specs.List.{list_any}
 use Rattle.std.specs.Prelude.{Option, Some, None}
 use Rattle.tv_model.specs.declared.desc.Dialog.{Dialog}
-use Rattle.tv_model.specs.Faults.Limits.{is_between}
-use Rattle.tv_model.specs.Faults.Starts.{is_option_number, opening_of, opens_badly}
+use Rattle.tv_model.specs.Description.Numbers.{is_between}
+use Rattle.tv_model.specs.Faults.Starts.{is_option_number, opens_badly}
+use Rattle.tv_model.specs.Description.Commands.{opening_of}
 use Rattle.tv_faults.specs.Opened.{is_bad_opening}
 
 module _ (test : ℤ → Bool) (dialogs : List Dialog) (same : (n : ℤ) → test n ≡ list_any (λ dialog. is_option_number n (opening_of dialog.node.kind)) dialogs) where

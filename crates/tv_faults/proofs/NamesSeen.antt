@@ -4,8 +4,9 @@ use Rattle.std.specs.List.{list_any}
 use Rattle.std.proofs.Common.{ℕ}
 use Rattle.std.proofs.lemmas.List.Folds.{list_any-append}
 use Rattle.tv_model.specs.declared.node.Node.{Node}
-use Rattle.tv_model.specs.Nodes.{name_of}
-use Rattle.tv_model.specs.Faults.Names.{gives_name, is_option_named, names_again, shares_name}
+use Rattle.tv_model.specs.Description.Nodes.{name_of}
+use Rattle.tv_model.specs.Description.Names.{gives_name, is_option_named, shares_name}
+use Rattle.tv_model.specs.Faults.Names.{names_again}
 use Rattle.tv_faults.proofs.Tests.{any_none, any_same}
 
 -- the test of one node more

@@ -3,7 +3,7 @@ use Rattle.std.proofs.Common.{◌≡◌, inl, inr, ℕ, zero, suc, ◌+◌, ◌<
 use Rattle.std.proofs.lemmas.Bool.{cases_eq, cases_lt, cond-true, cond-false, ne_eqb, eq-eqb}
 use Rattle.std.proofs.lemmas.List.{get_or_append_left, get_or_push, length_push, reverse-append}
 use Rattle.tv_model.specs.declared.node.Node.{Node}
-use Rattle.tv_model.specs.Faults.Places.{earlier_siblings}
+use Rattle.tv_model.specs.Description.Panes.{earlier_siblings}
 use Rattle.tv_faults.specs.Standing.{AreFirstNumbers, AreFirstPlaces, AreSiblingsNumbered, IsLastAbove, IsNumber, depth_at, numbered, number_after}
 use Rattle.tv_faults.proofs.Back.{back_more, level, level_above, level_over, level_same, numbered_one, numbered_over}
 use Rattle.tv_faults.proofs.Depths.{depth_is}

@@ -11,7 +11,9 @@ use Rattle.tv_model.specs.declared.fault.FaultKind.TheVariants as faults
 use Rattle.tv_model.specs.declared.desc.Menu.{Menu}
 use Rattle.tv_model.specs.declared.desc.Window.{Window}
 use Rattle.tv_model.specs.Faults.Starts.{means_dialog}
-use Rattle.tv_model.specs.Faults.{after_seen, all_kinds, dialog_has, dialog_lines, fault_at, fault_lines, fault_number, faults_at, faults_of, head_lines, is_lawful_screen, item_has, line_if, lines_where, menu_has, menu_lines, rule_has, rule_lines, status_has, view_has, view_lines, window_has, window_lines}
+use Rattle.tv_model.specs.Faults.Lines.{after_seen, line_if, lines_where}
+use Rattle.tv_model.specs.Faults.{all_kinds, dialog_has, dialog_lines, fault_at, fault_lines, fault_number, faults_at, faults_of, head_lines, item_has, menu_has, menu_lines, rule_has, rule_lines, status_has, view_has, view_lines, window_has, window_lines}
+use Rattle.tv_model.specs.Faults.Limits.{is_lawful_screen}
 use Rattle.tv_faults.specs.Order.{AreInOrder, AreLinesRising, IsBefore, lines_of, lines_of_dialog, lines_of_menu, lines_of_window, start_line}
 
 -- ---- pairs

@@ -7,9 +7,11 @@ use Rattle.std.proofs.lemmas.List.Elements.{All-cons, All-nil}
 use Rattle.std.proofs.lemmas.List.Sorted.{IsPermutation-reverse, list_any-IsPermutation}
 use Rattle.std.proofs.lemmas.Slice.Zip.{get_or-zip, length-zip}
 use Rattle.tv_model.specs.declared.node.Node.{Node}
-use Rattle.tv_model.specs.Nodes.{is_control, is_pane}
+use Rattle.tv_model.specs.Description.Nodes.{is_control, is_pane}
 use Rattle.tv_model.specs.Faults.Lines.{after_seen}
-use Rattle.tv_model.specs.Faults.Places.{earlier_siblings, has_points, need_own_places, overlap, overlaps_earlier, place_of_node}
+use Rattle.tv_model.specs.Description.Panes.{earlier_siblings}
+use Rattle.tv_model.specs.Description.Rectangles.{has_points, overlap, place_of_node}
+use Rattle.tv_model.specs.Faults.Places.{need_own_places, overlaps_earlier}
 use Rattle.tv_cells.specs.declared.rect.Rect.{Rect}
 use Rattle.tv_faults.specs.declared.span.Span.{Span}
 use Rattle.tv_faults.specs.declared.placed.Placed.{Placed}

@@ -7,10 +7,11 @@ use Rattle.tv_model.specs.declared.desc.Dialog.{Dialog}
 use Rattle.tv_model.specs.declared.desc.Rule.{Rule}
 use Rattle.tv_model.specs.declared.desc.Effect.{Effect}
 use Rattle.tv_model.specs.declared.desc.Effect.TheVariants as effects
-use Rattle.tv_model.specs.Nodes.{is_control}
-use Rattle.tv_model.specs.Faults.Names.{meant}
-use Rattle.tv_model.specs.Faults.Places.{panes_around}
-use Rattle.tv_model.specs.Faults.Rules.{has_nothing_to_focus, is_always_free, option_stands_over, reaches}
+use Rattle.tv_model.specs.Description.Nodes.{is_control}
+use Rattle.tv_model.specs.Description.Names.{meant}
+use Rattle.tv_model.specs.Description.Panes.{panes_around}
+use Rattle.tv_model.specs.Faults.Rules.{has_nothing_to_focus, is_always_free}
+use Rattle.tv_model.specs.Description.Rules.{option_stands_over, reaches}
 use Rattle.tv_model.specs.Faults.Lines.{after_seen}
 use Rattle.tv_faults.specs.Focus.{has_nothing_free, is_free}
 use Rattle.tv_faults.specs.declared.focus.Reach.{Reach}

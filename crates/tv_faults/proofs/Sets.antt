@@ -7,13 +7,13 @@ use Rattle.std.proofs.lemmas.List.{get_or_append_left, get_or_default, get_or_pu
 use Rattle.std.proofs.lemmas.List.Folds.{list_any_more}
 use Rattle.tv_model.specs.declared.node.Id.{Id}
 use Rattle.tv_model.specs.declared.node.Node.{Node}
-use Rattle.tv_model.specs.declared.node.Kind.{Kind}
-use Rattle.tv_model.specs.declared.node.Kind.TheVariants as kinds
-use Rattle.tv_model.specs.declared.node.CommandSpec.{CommandSpec}
-use Rattle.tv_model.specs.declared.node.CommandSpec.TheVariants as commands
-use Rattle.tv_model.specs.Nodes.{is_control}
-use Rattle.tv_model.specs.Faults.Places.{panes_around}
-use Rattle.tv_model.specs.Faults.Rules.{is_button_of, is_same_command}
+use Rattle.tv_model.specs.declared.kind.Kind.{Kind}
+use Rattle.tv_model.specs.declared.kind.Kind.TheVariants as kinds
+use Rattle.tv_model.specs.declared.command.CommandSpec.{CommandSpec}
+use Rattle.tv_model.specs.declared.command.CommandSpec.TheVariants as commands
+use Rattle.tv_model.specs.Description.Nodes.{is_control}
+use Rattle.tv_model.specs.Description.Panes.{panes_around}
+use Rattle.tv_model.specs.Description.Commands.{is_button_of, is_same_command}
 use Rattle.tv_faults.specs.declared.focus.Reach.{Reach}
 use Rattle.tv_faults.specs.declared.focus.Reach.TheVariants as reaches
 use Rattle.tv_faults.specs.Focus.{AreFirstShown, enables, equals_command, is_button_where, is_free, is_owner_shown, is_same_id, is_shown, shows, standing}
@@ -124,21 +124,21 @@ no_button kind list none = sym (any_same (enables_kind kind) (λ _. false) never
     never (reaches.Buttons command) = none command
 
 enabled_is : (passes : CommandSpec → Bool) (list : List Reach) → ((command : CommandSpec) → passes command ≡ list_any (enables command) list) → (kind : Kind) → is_button_where passes kind ≡ list_any (enables_kind kind) list
-enabled_is passes list is (kinds.Button name text command is_default grabs) = is command ∙ any_same (enables command) (enables_kind (kinds.Button name text command is_default grabs)) same list
+enabled_is passes list is (kinds.Button button) = is button.command ∙ any_same (enables button.command) (enables_kind (kinds.Button button)) same list
   where
-    same : (r : Reach) → enables command r ≡ enables_kind (kinds.Button name text command is_default grabs) r
+    same : (r : Reach) → enables command r ≡ enables_kind (kinds.Button (record { name = name; text = text; command = command; is_default = is_default; grabs = grabs })) r
     same reaches.Nothing = refl
     same (reaches.View target) = refl
     same (reaches.Buttons other) = refl
-enabled_is passes list is (kinds.Window name h number title) = no_button (kinds.Window name h number title) list (λ command. refl)
-enabled_is passes list is (kinds.Dialog name h title opens ends) = no_button (kinds.Dialog name h title opens ends) list (λ command. refl)
-enabled_is passes list is (kinds.Text h text) = no_button (kinds.Text h text) list (λ command. refl)
-enabled_is passes list is (kinds.Label text link) = no_button (kinds.Label text link) list (λ command. refl)
-enabled_is passes list is (kinds.Input name spec start validates) = no_button (kinds.Input name spec start validates) list (λ command. refl)
-enabled_is passes list is (kinds.CheckBoxes name items start) = no_button (kinds.CheckBoxes name items start) list (λ command. refl)
-enabled_is passes list is (kinds.RadioButtons name items start) = no_button (kinds.RadioButtons name items start) list (λ command. refl)
-enabled_is passes list is (kinds.List name h items start) = no_button (kinds.List name h items start) list (λ command. refl)
-enabled_is passes list is (kinds.Pane name h) = no_button (kinds.Pane name h) list (λ command. refl)
+enabled_is passes list is (kinds.Window head) = no_button (kinds.Window head) list (λ command. refl)
+enabled_is passes list is (kinds.Dialog head) = no_button (kinds.Dialog head) list (λ command. refl)
+enabled_is passes list is (kinds.Text shown) = no_button (kinds.Text shown) list (λ command. refl)
+enabled_is passes list is (kinds.Label label) = no_button (kinds.Label label) list (λ command. refl)
+enabled_is passes list is (kinds.Input input) = no_button (kinds.Input input) list (λ command. refl)
+enabled_is passes list is (kinds.CheckBoxes boxes) = no_button (kinds.CheckBoxes boxes) list (λ command. refl)
+enabled_is passes list is (kinds.RadioButtons radios) = no_button (kinds.RadioButtons radios) list (λ command. refl)
+enabled_is passes list is (kinds.List rows) = no_button (kinds.List rows) list (λ command. refl)
+enabled_is passes list is (kinds.Pane pane) = no_button (kinds.Pane pane) list (λ command. refl)
 
 holds_is : (ids : List Id) (kind : Kind) (r : Reach) → holds_at ids kind r ≡ (list_any (λ i. shows i r) ids || enables_kind kind r)
 holds_is ids kind reaches.Nothing = sym (ap (λ b. b || false) (any_none (λ _. false) (λ x. refl) ids))

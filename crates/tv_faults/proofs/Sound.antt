@@ -4,22 +4,30 @@ use Rattle.std.specs.List.{All, list_any}
 use Rattle.std.proofs.lemmas.Bool.{false≢true, and_parts, or_parts, not-true, not-false, leb-true, eqb-false, cases_lt}
 use Rattle.std.proofs.lemmas.List.Elements.{All-nil, All-cons, All-head, All-tail, All-same}
 use Rattle.std.proofs.Math.Bool.{or-false}
-use Rattle.tv_model.specs.Thin.{IsThin}
+use Rattle.tv_model.specs.Description.Thin.{IsThin}
 use Rattle.tv_cells.specs.Glyph.{is_narrow}
 use Rattle.tv_model.specs.declared.node.Node.{Node}
 use Rattle.tv_model.specs.declared.desc.Desc.{Desc}
 use Rattle.tv_model.specs.declared.desc.Dialog.{Dialog}
 use Rattle.tv_model.specs.declared.fault.FaultKind.{FaultKind}
 use Rattle.tv_model.specs.declared.fault.FaultKind.TheVariants as faults
-use Rattle.tv_model.specs.Nodes.{height_of, is_control}
-use Rattle.tv_model.specs.Step.{ends_of, is_named}
-use Rattle.tv_model.specs.Faults.Limits.{is_between, is_lawful_amount, is_lawful_corner, is_lawful_count, is_lawful_size, is_too_long}
+use Rattle.tv_model.specs.Description.Nodes.{height_of, is_control}
+use Rattle.tv_model.specs.Description.Commands.{ends_of, command_of}
+use Rattle.tv_model.specs.Description.Names.{gives_name}
+use Rattle.tv_model.specs.Description.Heads.{is_named}
+use Rattle.tv_model.specs.Description.Numbers.{is_between}
+use Rattle.tv_model.specs.Faults.Limits.{is_lawful_amount, is_lawful_corner, is_lawful_count, is_lawful_size, is_too_long, is_lawful, is_lawful_number, is_lawful_screen, least_height, least_width}
 use Rattle.tv_model.specs.Faults.Rules.{is_always_free}
 use Rattle.tv_model.specs.Faults.Starts.{means_dialog}
-use Rattle.tv_model.specs.Faults.Names.{gives_name}
-use Rattle.tv_model.specs.Faults.{IsSound, after_seen, all_kinds, command_of, desktop, dialog_has, dialog_lines, dialog_named_again, fault_at, fault_lines, faults_at, has_wide, head_lines, is_lawful, is_lawful_number, is_lawful_screen, is_wide_text, is_within, least_height, least_width, line_if, menu_lines, place_of_node, rule_lines, shown_texts, status_lines, texts_of, view_has, view_lines, window_lines}
+use Rattle.tv_model.specs.Faults.{IsSound, all_kinds, dialog_has, dialog_lines, fault_at, fault_lines, faults_at, head_lines, menu_lines, rule_lines, status_lines, view_has, view_lines, window_lines}
+use Rattle.tv_model.specs.Faults.Lines.{after_seen, line_if}
+use Rattle.tv_model.specs.Description.Rectangles.{desktop, is_within, place_of_node, overlap}
+use Rattle.tv_model.specs.Faults.Names.{dialog_named_again}
+use Rattle.tv_model.specs.Faults.Texts.{has_wide, is_wide_text}
+use Rattle.tv_model.specs.Description.Texts.{shown_texts, texts_of}
 use Rattle.tv_cells.specs.declared.rect.Rect.{Rect}
-use Rattle.tv_model.specs.Faults.Places.{earlier_siblings, need_own_places, overlap, overlaps_earlier}
+use Rattle.tv_model.specs.Description.Panes.{earlier_siblings}
+use Rattle.tv_model.specs.Faults.Places.{need_own_places, overlaps_earlier}
 use Rattle.tv_faults.specs.Usable.{HasLawfulCounts, IsApartFrom, IsBetween, IsLimited, IsNarrowNode, IsUsable, IsUsableDialog, LiesIn}
 use Rattle.tv_faults.proofs.Areas.{le_says, overlap_points, within_points}
 

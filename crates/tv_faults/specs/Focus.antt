@@ -3,14 +3,14 @@ use Rattle.std.specs.Prelude.{◌≡◌, ℕ, ◌<◌, Bool, false, not, ◌&&�
 use Rattle.std.specs.List.{list_any}
 use Rattle.tv_model.specs.declared.node.Id.{Id}
 use Rattle.tv_model.specs.declared.node.Node.{Node}
-use Rattle.tv_model.specs.declared.node.Kind.{Kind}
-use Rattle.tv_model.specs.declared.node.Kind.TheVariants as kinds
-use Rattle.tv_model.specs.declared.node.CommandSpec.{CommandSpec}
-use Rattle.tv_model.specs.contracts.node.CommandSpecPartialEq.TheImpl as command_eq
-use Rattle.tv_model.specs.Nodes.{is_control}
+use Rattle.tv_model.specs.declared.kind.Kind.{Kind}
+use Rattle.tv_model.specs.declared.kind.Kind.TheVariants as kinds
+use Rattle.tv_model.specs.declared.command.CommandSpec.{CommandSpec}
+use Rattle.tv_model.specs.contracts.command.CommandSpecPartialEq.TheImpl as command_eq
+use Rattle.tv_model.specs.Description.Nodes.{is_control}
 use Rattle.tv_model.specs.Faults.Lines.{after_seen}
-use Rattle.tv_model.specs.Faults.Places.{panes_around}
-use Rattle.tv_model.specs.Faults.Rules.{is_same_command}
+use Rattle.tv_model.specs.Description.Panes.{panes_around}
+use Rattle.tv_model.specs.Description.Commands.{is_same_command}
 use Rattle.tv_faults.specs.Reach.{holds_at}
 use Rattle.tv_faults.specs.declared.focus.Reach.{Reach}
 use Rattle.tv_faults.specs.declared.focus.Reach.TheVariants as reaches
@@ -51,7 +51,7 @@ enables command _ = false
 
 -- a button whose command passes
 abbrev pub is_button_where : (CommandSpec → Bool) → Kind → Bool
-is_button_where passes (kinds.Button name text command is_default grabs) = passes command
+is_button_where passes (kinds.Button button) = passes button.command
 is_button_where passes _ = false
 
 -- the view or a pane around it is shown

@@ -2,10 +2,10 @@
 use Rattle.std.specs.Prelude.{ℕ, Bool, ◌||◌, List, [], false}
 use Rattle.std.specs.List.{list_any}
 use Rattle.std.specs.Option.{option_map_or}
-use Rattle.tv_model.specs.declared.node.MarkedText.{MarkedText}
+use Rattle.tv_model.specs.declared.kind.MarkedText.{MarkedText}
 use Rattle.tv_model.specs.declared.node.Node.{Node}
 use Rattle.tv_model.specs.Faults.Lines.{after_seen}
-use Rattle.tv_model.specs.Faults.Letters.{letter_of, marked_of, marks, shares_letter}
+use Rattle.tv_model.specs.Description.Letters.{letter_of, marked_of, marks, shares_letter}
 
 -- the letter is marked in one of the texts
 abbrev pub is_marked_in : List MarkedText → ℕ → Bool

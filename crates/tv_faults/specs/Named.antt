@@ -6,7 +6,7 @@ use Rattle.std.specs.HashMap.{HashMap, get_by}
 use Rattle.std.specs.HashSet.{HashSet, contains_by}
 use Rattle.tv_model.specs.declared.node.Node.{Node}
 use Rattle.tv_model.specs.Faults.Lines.{after_seen}
-use Rattle.tv_model.specs.Faults.Names.{gives_name}
+use Rattle.tv_model.specs.Description.Names.{gives_name}
 
 -- the set has the names that the nodes give
 abbrev pub AreNamesOf : {S : Type 0} → List Node → HashSet (Bor (List ℕ)) S → Type 0

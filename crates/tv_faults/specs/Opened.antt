@@ -1,6 +1,6 @@
 -- Commands that open dialogs.
 use Rattle.std.specs.Prelude.{Bool, false, not, ◌||◌, Option, Some, None, ℤ, pos}
-use Rattle.tv_model.specs.Faults.Limits.{is_between}
+use Rattle.tv_model.specs.Description.Numbers.{is_between}
 
 -- a command outside 100 to 255, or one that passes the test
 abbrev pub is_bad_opening : (ℤ → Bool) → Option ℤ → Bool

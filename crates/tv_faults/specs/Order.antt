@@ -5,7 +5,7 @@ use Rattle.tv_model.specs.declared.desc.Menu.{Menu}
 use Rattle.tv_model.specs.declared.desc.Window.{Window}
 use Rattle.tv_model.specs.declared.desc.Dialog.{Dialog}
 use Rattle.tv_model.specs.declared.fault.Fault.{Fault}
-use Rattle.tv_model.specs.LogText.{dialog_nodes, window_nodes}
+use Rattle.tv_model.specs.Description.Heads.{dialog_nodes, window_nodes}
 use Rattle.tv_model.specs.Faults.{fault_number}
 
 -- by number, then by line

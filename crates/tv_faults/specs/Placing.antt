@@ -1,10 +1,10 @@
 -- Views by what they take of their owner.
 use Rattle.std.specs.Prelude.{ℕ, ◌+◌, List, [], ◌∷◌, if◌then◌else◌}
 use Rattle.tv_model.specs.declared.node.Node.{Node}
-use Rattle.tv_model.specs.declared.node.Kind.{Kind}
+use Rattle.tv_model.specs.declared.kind.Kind.{Kind}
 use Rattle.tv_cells.specs.declared.rect.Rect.{Rect}
-use Rattle.tv_model.specs.Nodes.{is_control, is_pane}
-use Rattle.tv_model.specs.Faults.Places.{has_points, place_of_node}
+use Rattle.tv_model.specs.Description.Nodes.{is_control, is_pane}
+use Rattle.tv_model.specs.Description.Rectangles.{has_points, place_of_node}
 use Rattle.tv_faults.specs.declared.span.Span.{Span}
 use Rattle.tv_faults.specs.declared.placed.Placed.{Placed}
 

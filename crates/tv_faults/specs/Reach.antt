@@ -3,12 +3,12 @@ use Rattle.std.specs.Prelude.{Bool, false, List, Option, Some, None, ◌==◌}
 use Rattle.std.specs.List.{list_any}
 use Rattle.tv_model.specs.declared.node.Id.{Id}
 use Rattle.tv_model.specs.declared.node.Node.{Node}
-use Rattle.tv_model.specs.declared.node.Kind.{Kind}
+use Rattle.tv_model.specs.declared.kind.Kind.{Kind}
 use Rattle.tv_model.specs.declared.desc.Rule.{Rule}
 use Rattle.tv_model.specs.declared.desc.Effect.{Effect}
 use Rattle.tv_model.specs.declared.desc.Effect.TheVariants as effects
-use Rattle.tv_model.specs.Faults.Names.{meant}
-use Rattle.tv_model.specs.Faults.Rules.{is_button_of}
+use Rattle.tv_model.specs.Description.Names.{meant}
+use Rattle.tv_model.specs.Description.Commands.{is_button_of}
 use Rattle.tv_faults.specs.declared.focus.Reach.{Reach}
 use Rattle.tv_faults.specs.declared.focus.Reach.TheVariants as reaches
 

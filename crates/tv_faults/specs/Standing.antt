@@ -1,7 +1,7 @@
 -- How views stand to the views before them: in which pane, and after which siblings.
 use Rattle.std.specs.Prelude.{◌≡◌, ℕ, suc, ◌<◌, ◌≤◌, List, length, map, filter, reverse, take, zip, slice_index, slice_index_or, Option, Some, None, ◌==◌, if◌then◌else◌}
 use Rattle.tv_model.specs.declared.node.Node.{Node}
-use Rattle.tv_model.specs.Faults.Places.{earlier_siblings}
+use Rattle.tv_model.specs.Description.Panes.{earlier_siblings}
 
 -- ---- owners
 

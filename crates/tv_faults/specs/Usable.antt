@@ -7,13 +7,16 @@ use Rattle.tv_cells.specs.declared.rect.Rect.{Rect}
 use Rattle.tv_model.specs.declared.node.Node.{Node}
 use Rattle.tv_model.specs.declared.desc.Desc.{Desc}
 use Rattle.tv_model.specs.declared.desc.Dialog.{Dialog}
-use Rattle.tv_model.specs.Nodes.{height_of, is_control}
-use Rattle.tv_model.specs.Step.{ends_of, is_named}
-use Rattle.tv_model.specs.LogText.{dialog_nodes}
+use Rattle.tv_model.specs.Description.Nodes.{height_of, is_control}
+use Rattle.tv_model.specs.Description.Heads.{dialog_nodes}
+use Rattle.tv_model.specs.Description.Commands.{ends_of, command_of}
+use Rattle.tv_model.specs.Description.Heads.{is_named}
 use Rattle.tv_model.specs.Faults.Lines.{after_seen}
-use Rattle.tv_model.specs.Faults.Places.{desktop, earlier_siblings, need_own_places, owner_of, place_of_node, room_in}
-use Rattle.tv_model.specs.Faults.Texts.{shown_texts, texts_of}
-use Rattle.tv_model.specs.Faults.Limits.{command_of, is_lawful_count, is_lawful_number, least_height, least_width}
+use Rattle.tv_model.specs.Description.Rectangles.{desktop, place_of_node}
+use Rattle.tv_model.specs.Description.Panes.{earlier_siblings, owner_of, room_in}
+use Rattle.tv_model.specs.Faults.Places.{need_own_places}
+use Rattle.tv_model.specs.Description.Texts.{shown_texts, texts_of}
+use Rattle.tv_model.specs.Faults.Limits.{is_lawful_count, is_lawful_number, least_height, least_width}
 
 abbrev pub IsBetween : ℤ → ℤ → ℤ → Type 0
 IsBetween least greatest n = (least ≤ℤ n) × (n ≤ℤ greatest)

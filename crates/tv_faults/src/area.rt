@@ -2,8 +2,8 @@
 
 ghost use Rattle.std.specs.Prelude.{◌≡◌, ◌↔◌, IsTrue, ℤ, int_le, int_lt, ◌≤ℤ◌, ◌<ℤ◌, pos, neg_ℤ, ◌&&◌};
 ghost use Rattle.tv_cells.specs.Rectangle.{IsIn};
-ghost use Rattle.tv_model.specs.Nodes.{height_of};
-ghost use Rattle.tv_model.specs.Faults.Places.{desktop, has_points, interior, is_within, place_of_node, whole_area};
+ghost use Rattle.tv_model.specs.Description.Nodes.{height_of};
+ghost use Rattle.tv_model.specs.Description.Rectangles.{desktop, has_points, interior, is_within, place_of_node, whole_area};
 ghost use Rattle.tv_faults.specs.Placing.{columns, rows};
 
 use crate::span::Span;

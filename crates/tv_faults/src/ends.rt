@@ -4,10 +4,12 @@ ghost use Rattle.std.specs.Prelude.{◌≡◌, not, ◌||◌, ℤ, IfOk, OnOk};
 ghost use Rattle.std.specs.HashSet as set;
 ghost use Rattle.std.specs.List.{list_any};
 ghost use Rattle.std.specs.Ordering.{int_eq};
-ghost use Rattle.tv_model.specs.Step.{ends_of, is_default, is_named};
-ghost use Rattle.tv_model.specs.Faults.Names.{gives_name};
-ghost use Rattle.tv_model.specs.Faults.Rules.{is_item};
-ghost use Rattle.tv_model.specs.Faults.Starts.{is_option_number, is_second_default, lacks_cancel, lacks_end, means_dialog, opening_of, opens_badly, starts_nowhere, starts_outside};
+ghost use Rattle.tv_model.specs.Description.Commands.{ends_of, opening_of};
+ghost use Rattle.tv_model.specs.Description.Nodes.{is_default};
+ghost use Rattle.tv_model.specs.Description.Names.{gives_name};
+ghost use Rattle.tv_model.specs.Description.Heads.{is_named};
+ghost use Rattle.tv_model.specs.Description.Rules.{is_item};
+ghost use Rattle.tv_model.specs.Faults.Starts.{is_option_number, is_second_default, lacks_cancel, lacks_end, means_dialog, opens_badly, starts_nowhere, starts_outside};
 ghost use Rattle.tv_faults.specs.Each.{each_after};
 ghost use Rattle.tv_faults.specs.Opened.{is_bad_opening};
 

@@ -3,9 +3,9 @@
 ghost use Rattle.std.specs.Prelude.{◌≡◌, ◌<◌, ◌&&◌, ◌||◌, length, map, not, IfOk, IfSome};
 ghost use Rattle.std.specs.HashSet.{contains};
 ghost use Rattle.std.specs.List.{list_any};
-ghost use Rattle.tv_model.specs.declared.node.CommandSpec.{CommandSpec};
+ghost use Rattle.tv_model.specs.declared.command.CommandSpec.{CommandSpec};
 ghost use Rattle.tv_model.specs.declared.node.Id.{Id};
-ghost use Rattle.tv_model.specs.Nodes.{is_control};
+ghost use Rattle.tv_model.specs.Description.Nodes.{is_control};
 ghost use Rattle.tv_model.specs.Faults.Rules.{has_nothing_to_focus};
 ghost use Rattle.tv_faults.specs.Focus.{AreFirstShown, enables, equals_command, has_nothing_free, is_button_where, is_owner_shown, is_same_id, shows};
 ghost use Rattle.tv_faults.specs.Reach.{reach_of};

@@ -3,7 +3,8 @@
 ghost use Rattle.std.specs.Prelude.{◌≡◌, ◌||◌, ℕ, nat_eq, IfOk, OnOk};
 ghost use Rattle.std.specs.HashSet as set;
 ghost use Rattle.std.specs.List.{list_any};
-ghost use Rattle.tv_model.specs.Faults.Letters.{item_again, letter_of, marked_of, marks, marks_again, titled_again};
+ghost use Rattle.tv_model.specs.Faults.Letters.{item_again, marks_again, titled_again};
+ghost use Rattle.tv_model.specs.Description.Letters.{letter_of, marked_of, marks};
 ghost use Rattle.tv_faults.specs.Each.{each_after};
 ghost use Rattle.tv_faults.specs.Marked.{is_marked_in, mark_again, marks_any};
 

@@ -2,7 +2,9 @@
 
 ghost use Rattle.std.specs.Prelude.{◌≡◌};
 ghost use Rattle.std.specs.Prelude.{Some};
-ghost use Rattle.tv_model.specs.Faults.Limits.{command_of, dialog_outside_limits, is_between, is_lawful, is_lawful_amount, is_lawful_corner, is_lawful_count, is_lawful_number, is_lawful_screen, is_lawful_size, item_outside_limits, least_height, least_width, menu_outside_limits, rule_outside_limits, status_outside_limits, view_outside_limits, window_outside_limits};
+ghost use Rattle.tv_model.specs.Description.Commands.{command_of};
+ghost use Rattle.tv_model.specs.Faults.Limits.{dialog_outside_limits, is_lawful, is_lawful_amount, is_lawful_corner, is_lawful_count, is_lawful_number, is_lawful_screen, is_lawful_size, item_outside_limits, least_height, least_width, menu_outside_limits, rule_outside_limits, status_outside_limits, view_outside_limits, window_outside_limits};
+ghost use Rattle.tv_model.specs.Description.Numbers.{is_between};
 
 use crate::area::height;
 use crate::places::is_pane;

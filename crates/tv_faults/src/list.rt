@@ -1,7 +1,8 @@
 //! The list of all faults.
 
 ghost use Rattle.std.specs.Prelude.{◌≡◌, [], ◌++◌, map, flat_map, IfOk, OnOk};
-ghost use Rattle.tv_model.specs.Faults.{after_seen, dialog_lines, fault_at, faults_at, faults_of, head_lines, item_has, line_if, lines_where, menu_lines, rule_lines, status_lines, view_lines, window_lines};
+ghost use Rattle.tv_model.specs.Faults.Lines.{after_seen, line_if, lines_where};
+ghost use Rattle.tv_model.specs.Faults.{dialog_lines, fault_at, faults_at, faults_of, head_lines, item_has, menu_lines, rule_lines, status_lines, view_lines, window_lines};
 ghost use Rattle.tv_faults.specs.Order.{AreInOrder, AreLinesRising};
 ghost use Rattle.tv_faults.specs.Usable.{IsUsable};
 

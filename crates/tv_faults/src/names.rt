@@ -3,7 +3,8 @@
 ghost use Rattle.std.specs.Prelude.{◌≡◌, ℕ, ◌∷◌, ◌++◌, [], List, Some, None, MatchOption, IfOk, map, option_copied, bytes_eq, if◌then◌else◌};
 ghost use Rattle.std.specs.Option.{option_or};
 ghost use Rattle.tv_model.specs.declared.node.Node.{Node};
-ghost use Rattle.tv_model.specs.Faults.Names.{dialog_named_again, gives_name, links_nothing, meant, names_again, window_named_again};
+ghost use Rattle.tv_model.specs.Faults.Names.{dialog_named_again, links_nothing, names_again, window_named_again};
+ghost use Rattle.tv_model.specs.Description.Names.{gives_name, meant};
 ghost use Rattle.tv_faults.specs.Each.{each_after};
 ghost use Rattle.tv_faults.specs.Named.{AreNamesOf, ArePlacesOf, IsFirstAt, first_given, place_in};
 

@@ -1,9 +1,11 @@
 //! Views within their owners.
 
 ghost use Rattle.std.specs.Prelude.{◌≡◌, ◌<◌, ◌&&◌, length, take, option_and_then, option_copied, slice_get, slice_index_or, IfOk};
-ghost use Rattle.tv_model.specs.Nodes.{is_pane};
-ghost use Rattle.tv_model.specs.Faults.Places.{is_off_desktop, is_outside, need_own_places, overlap, place_of_node, room_in};
-ghost use Rattle.tv_model.specs.Faults.Rules.{stands_over};
+ghost use Rattle.tv_model.specs.Description.Nodes.{is_pane};
+ghost use Rattle.tv_model.specs.Faults.Places.{is_off_desktop, is_outside, need_own_places};
+ghost use Rattle.tv_model.specs.Description.Rectangles.{overlap, place_of_node};
+ghost use Rattle.tv_model.specs.Description.Panes.{room_in};
+ghost use Rattle.tv_model.specs.Description.Rules.{stands_over};
 ghost use Rattle.tv_faults.specs.Each.{each_after};
 ghost use Rattle.tv_faults.specs.Standing.{AreOwners, IsOwner};
 

@@ -3,7 +3,9 @@
 ghost use Rattle.std.specs.Prelude.{◌≡◌, ◌<◌, length, take, option_copied, slice_index_or, IfOk};
 ghost use Rattle.tv_model.specs.declared.node.Node.{Node};
 ghost use Rattle.tv_model.specs.Faults.Letters.{rules_cancel};
-ghost use Rattle.tv_model.specs.Faults.Rules.{cluster_items, has_target, is_cluster, is_item, names_unknown, shows_cluster, shows_itself};
+ghost use Rattle.tv_model.specs.Description.Rules.{cluster_items, has_target, is_item};
+ghost use Rattle.tv_model.specs.Description.Nodes.{is_cluster};
+ghost use Rattle.tv_model.specs.Faults.Rules.{names_unknown, shows_cluster, shows_itself};
 ghost use Rattle.tv_faults.specs.Each.{each_after};
 ghost use Rattle.tv_faults.specs.Standing.{AreOwners};
 

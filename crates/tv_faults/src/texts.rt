@@ -3,7 +3,8 @@
 ghost use Rattle.std.specs.Prelude.{◌≡◌, filter, map, not};
 ghost use Rattle.std.specs.List.{list_any};
 ghost use Rattle.tv_cells.specs.Glyph.{is_narrow};
-ghost use Rattle.tv_model.specs.Faults.Texts.{domain_texts, has_wide, is_line_end, is_wide_text, texts_of};
+ghost use Rattle.tv_model.specs.Description.Texts.{domain_texts, is_line_end, texts_of};
+ghost use Rattle.tv_model.specs.Faults.Texts.{has_wide, is_wide_text};
 ghost use Rattle.tv_model.specs.Faults.Limits.{is_too_long};
 
 use tv_cells::is_narrow;

@@ -2,11 +2,11 @@
 use Rattle.std.specs.Prelude.{◌≡◌, ℕ, Bool, true, false, IsTrue, List, [], ◌∷◌, ◌++◌, ◌+◌, map, pos, if◌then◌else◌}
 use Rattle.tv_cells.specs.declared.rect.Rect.{Rect}
 use Rattle.tv_model.specs.declared.node.Node.{Node}
-use Rattle.tv_model.specs.declared.node.Kind.{Kind}
-use Rattle.tv_model.specs.declared.node.Kind.TheVariants as kinds
-use Rattle.tv_model.specs.Nodes.{height_of, is_pane}
-use Rattle.tv_model.specs.Faults.{place_of_node, rect}
-use Rattle.tv_model.specs.Meaning.{Leaf, fresh, has_current, Part, LeafAt, PaneAt, Outlined}
+use Rattle.tv_model.specs.declared.kind.Kind.{Kind}
+use Rattle.tv_model.specs.declared.kind.Kind.TheVariants as kinds
+use Rattle.tv_model.specs.Description.Nodes.{height_of, is_pane}
+use Rattle.tv_model.specs.Description.Rectangles.{place_of_node, rect}
+use Rattle.tv_model.specs.Controls.Meaning.{Leaf, fresh, has_current, Part, LeafAt, PaneAt, Outlined}
 use Rattle.tv_group.specs.declared.group.MemberOf.{MemberOf}
 use Rattle.tv_group.specs.declared.group.GroupOf.{GroupOf}
 use Rattle.tv_group.specs.declared.group.MemberOf.TheOpen.{MemberOf-F, GroupOf-F, Leaf as LeafHere, Pane as PaneHere}
@@ -58,8 +58,8 @@ declared node = outlined (node.depth + 1) (part_of node)
 
 -- windows and dialogs have a body, which fills them
 abbrev pub has_body : Kind → Bool
-has_body (kinds.Window name h number title) = true
-has_body (kinds.Dialog name h title opens ends) = true
+has_body (kinds.Window head) = true
+has_body (kinds.Dialog head) = true
 has_body _ = false
 
 abbrev pub body_bounds : Node → Rect

@@ -5,7 +5,7 @@ use Rattle.std.specs.Str.{is_utf8, chars}
 use Rattle.std.proofs.lemmas.Bool.{eqb-true}
 use lib.Utf8.{encode}
 use Rattle.tv_model.specs.declared.node.Node.{Node}
-use Rattle.tv_model.specs.declared.node.CommandSpec.TheVariants as commands
+use Rattle.tv_model.specs.declared.command.CommandSpec.TheVariants as commands
 use Rattle.tv_model.specs.declared.desc.Desc.{Desc}
 use Rattle.tv_model.specs.declared.desc.MenuItem.{MenuItem}
 use Rattle.tv_words.specs.declared.word.Word.TheVariants.{Bare, Quoted}

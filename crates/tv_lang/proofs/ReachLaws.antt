@@ -6,8 +6,8 @@ use Rattle.std.proofs.lemmas.List.{append-nil}
 use Rattle.std.proofs.lemmas.Bool.{eqb-true}
 use Rattle.std.proofs.lemmas.Bool.Decides.{nat_tests}
 use Rattle.tv_model.specs.declared.node.Node.{Node}
-use Rattle.tv_model.specs.declared.node.Kind.{Kind}
-use Rattle.tv_model.specs.declared.node.Kind.TheVariants as kinds
+use Rattle.tv_model.specs.declared.kind.Kind.{Kind}
+use Rattle.tv_model.specs.declared.kind.Kind.TheVariants as kinds
 use Rattle.tv_model.specs.declared.desc.Desc.{Desc}
 use Rattle.tv_model.specs.declared.desc.Dialog.{Dialog}
 use Rattle.tv_model.specs.declared.desc.Menu.{Menu}
@@ -15,7 +15,7 @@ use Rattle.tv_model.specs.declared.desc.MenuItem.{MenuItem}
 use Rattle.tv_model.specs.declared.desc.Rule.{Rule}
 use Rattle.tv_model.specs.declared.desc.StatusItem.{StatusItem}
 use Rattle.tv_model.specs.declared.desc.Window.{Window}
-use Rattle.tv_model.specs.Nodes.{is_pane}
+use Rattle.tv_model.specs.Description.Nodes.{is_pane}
 use Rattle.tv_declarations.specs.declared.declaration.Declaration.{Declaration}
 use Rattle.tv_declarations.specs.declared.declaration.Declaration.TheVariants as declared
 use Rattle.tv_lang.specs.declared.stage.Stage.{Stage}
@@ -158,16 +158,16 @@ rest_reaches (rule ∷ rules) node views d v xs h =
     (one (stages.InRules dialog) d declared.End stages.Between (record d { dialogs = d.dialogs ++ dialog ∷ [] }) xs v tt refl h))
 
 not_window : (kind : Kind) → IsTrue (is_dialog kind) → is_window kind ≡ false
-not_window (kinds.Dialog name h title opens ends) is = refl
-not_window (kinds.Window name h number title) is = absurd cc
-not_window (kinds.Text h text) is = refl
-not_window (kinds.Label text link) is = refl
-not_window (kinds.Button name text command is_default grabs) is = refl
-not_window (kinds.Input name spec start validates) is = refl
-not_window (kinds.CheckBoxes name items start) is = refl
-not_window (kinds.RadioButtons name items start) is = refl
-not_window (kinds.List name h items start) is = refl
-not_window (kinds.Pane name h) is = refl
+not_window (kinds.Dialog head) is = refl
+not_window (kinds.Window head) is = absurd cc
+not_window (kinds.Text shown) is = refl
+not_window (kinds.Label label) is = refl
+not_window (kinds.Button button) is = refl
+not_window (kinds.Input input) is = refl
+not_window (kinds.CheckBoxes boxes) is = refl
+not_window (kinds.RadioButtons radios) is = refl
+not_window (kinds.List list) is = refl
+not_window (kinds.Pane pane) is = refl
 
 dialog_reach : (dialog : Dialog) (d v : Desc) (xs : List Declaration) → IsDialog dialog → Reaches stages.Between (record d { dialogs = d.dialogs ++ dialog ∷ [] }) xs v → Reaches stages.Between d (dialog_declarations dialog ++ xs) v
 dialog_reach dialog d v xs is h =

@@ -2,7 +2,7 @@
 
 ghost use Rattle.std.specs.Prelude.{◌≡◌, ◌≤◌, ◌++◌, ◌∷◌, [], IfOk, None, Some, false, true};
 ghost use Rattle.tv_model.specs.declared.desc.Desc.{Desc as SeenDesc};
-ghost use Rattle.tv_model.specs.Nodes.{is_pane};
+ghost use Rattle.tv_model.specs.Description.Nodes.{is_pane};
 ghost use Rattle.tv_declarations.specs.Spelling.{is_dialog, is_text, is_view, is_window};
 ghost use Rattle.tv_lang.specs.Reading.Stages.{beside, is_between, menu_taken, no_dialogs, no_menus, no_status, no_windows, node_opened, open_panes, panes_after, part_taken, rules_taken, screen_taken, taken_at, version_taken, view_taken, views_taken, window_taken, with_dialog};
 

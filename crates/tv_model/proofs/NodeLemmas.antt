@@ -5,7 +5,7 @@ use Rattle.std.proofs.lemmas.List.{append-nil}
 use Rattle.std.proofs.lemmas.List.Folds.{find-append}
 use Rattle.tv_model.specs.declared.node.Id.{Id}
 use Rattle.tv_model.specs.declared.node.Node.{Node}
-use Rattle.tv_model.specs.Nodes.{has_id, node_of}
+use Rattle.tv_model.specs.Description.Nodes.{has_id, node_of}
 
 module _ {X : Type 0} (f : X → List Node) (id : Id) (rest : List Node) (xs : List X) (i : ℕ) (x : X) (whole : Option Node) where
   parts : i < length xs → x ≡ get_or xs i x → flat_map f (drop i xs) ++ rest ≡ f x ++ (flat_map f (drop (i + 1) xs) ++ rest)

@@ -6,7 +6,7 @@ use Rattle.std.proofs.lemmas.Iterator.Adapters.{position_from-zero}
 use Rattle.tv_model.specs.declared.node.Id.{Id}
 use Rattle.tv_model.specs.declared.record.Value.{Value}
 use Rattle.tv_model.specs.declared.record.Entry.{Entry}
-use Rattle.tv_model.specs.Record.{Entries, value_of, with_value}
+use Rattle.tv_model.specs.Log.Record.{Entries, value_of, with_value}
 
 abbrev is_of : ℕ → Entry → Bool
 is_of f e = e.id.0 == f

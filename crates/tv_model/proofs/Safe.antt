@@ -7,19 +7,21 @@ use Rattle.tv_event.specs.declared.event.Key.{Key}
 use Rattle.tv_event.specs.declared.event.Key.TheVariants as keys
 use Rattle.tv_model.specs.declared.node.Id.{Id}
 use Rattle.tv_model.specs.declared.node.Node.{Node}
-use Rattle.tv_model.specs.declared.node.Kind.{Kind}
-use Rattle.tv_model.specs.declared.node.Kind.TheVariants as kinds
+use Rattle.tv_model.specs.declared.kind.Kind.{Kind}
+use Rattle.tv_model.specs.declared.kind.Kind.TheVariants as kinds
 use Rattle.tv_model.specs.declared.desc.Desc.{Desc}
 use Rattle.tv_model.specs.declared.desc.Dialog.{Dialog}
 use Rattle.tv_model.specs.declared.record.Entry.{Entry}
 use Rattle.tv_model.specs.declared.log.LogLine.{LogLine}
 use Rattle.tv_model.specs.declared.log.LogLine.TheVariants as lines
-use Rattle.tv_model.specs.Nodes.{node_of}
-use Rattle.tv_model.specs.State.{State, OpenDialog, fields_of}
-use Rattle.tv_model.specs.Step.{is_free, is_free_at, first_free, next_free, previous_free, emptied, logged, with_dialog, request, command_number, ends_of, is_declared, field_line, ended, command, press_node, enter_target, key, key_event, in_dialog, at_dialog, step, open_dialog, closed, open_found, open_at, start_from, is_named, start}
-use Rattle.tv_model.specs.Thin.{AreOnLines}
-use Rattle.tv_model.specs.Safe.{is_end, IsFocusFree, HasDeclaredEnd, IsSafe}
-use Rattle.tv_model.specs.Output.{states}
+use Rattle.tv_model.specs.Description.Nodes.{node_of}
+use Rattle.tv_model.specs.Machine.State.{State, OpenDialog, fields_of}
+use Rattle.tv_model.specs.Machine.Step.{is_free, is_free_at, first_free, next_free, previous_free, emptied, logged, with_dialog, request, field_line, ended, command, press_node, enter_target, key, key_event, in_dialog, at_dialog, step, open_dialog, closed, open_found, open_at, start_from, start}
+use Rattle.tv_model.specs.Description.Commands.{command_number, is_declared, is_end}
+use Rattle.tv_model.specs.Description.Heads.{dialog_head, is_named}
+use Rattle.tv_model.specs.Description.Thin.{AreOnLines}
+use Rattle.tv_model.specs.Machine.Safe.{IsFocusFree, HasDeclaredEnd, IsSafe}
+use Rattle.tv_model.specs.Log.Output.{states}
 
 no_lines : (d : Desc) → All (HasDeclaredEnd d) []
 no_lines d = λ k line less. absurd (omega (arith, less))
@@ -29,7 +31,7 @@ or_right true b e = refl
 or_right false b e = e
 
 -- ---- the dialog that is open is the one that the state names, and declares `cancel`
-module _ (d : Desc) (dialog : Dialog) (place : ℕ) (there : slice_get d.dialogs place ≡ Some dialog) (cancel : (ends_of dialog.node.kind).cancel ≡ true) where
+module _ (d : Desc) (dialog : Dialog) (place : ℕ) (there : slice_get d.dialogs place ≡ Some dialog) (cancel : (dialog_head dialog).ends.cancel ≡ true) where
   -- a free focus while this dialog is open at its place
   abbrev Keeps : State → Type 0
   Keeps s = IsSafe d s
@@ -47,33 +49,33 @@ module _ (d : Desc) (dialog : Dialog) (place : ℕ) (there : slice_get d.dialogs
   fields_fine : (entries : List Entry) → All (HasDeclaredEnd d) (map field_line entries)
   fields_fine entries = All-map (HasDeclaredEnd d) field_line entries (λ k entry less. tt)
 
-  ended_safe : (s : State) (o : OpenDialog) (number : ℕ) → is_end (ends_of dialog.node.kind) number ≡ true → IsSafe d s → IsSafe d (ended dialog s o number)
+  ended_safe : (s : State) (o : OpenDialog) (number : ℕ) → is_end (dialog_head dialog).ends number ≡ true → IsSafe d s → IsSafe d (ended dialog s o number)
   ended_safe s o number fine safe = record {
     focus = unfocused (ended dialog s o number) refl;
     ends = All-append (HasDeclaredEnd d) s.log (lines.End dialog.node.id (record { 0 = number }) ∷ map field_line (fields_of o.leaves)) safe.ends
         (All-cons (HasDeclaredEnd d) (lines.End dialog.node.id (record { 0 = number })) (map field_line (fields_of o.leaves)) (record { place = place; dialog = dialog; there = there; id = refl; «end» = fine }) (fields_fine (fields_of o.leaves)));
   }
 
-  cancel_fine : is_end (ends_of dialog.node.kind) 11 ≡ true
+  cancel_fine : is_end (dialog_head dialog).ends 11 ≡ true
   cancel_fine = rw cancel refl
 
   command_safe : (s : State) (o : OpenDialog) (number : ℕ) → IsSafe d s → IsSafe d (command dialog s o number)
   command_safe s o number safe =
       either ((number == 4) || (number == 11)) _ _ (λ _. ended_safe s o 11 cancel_fine safe)
-      (either (is_declared (ends_of dialog.node.kind) number) _ _ (λ e. ended_safe s o number (or_right ((number == 11) && (ends_of dialog.node.kind).cancel) (is_declared (ends_of dialog.node.kind) number) e) safe)
+      (either (is_declared (dialog_head dialog).ends number) _ _ (λ e. ended_safe s o number (or_right ((number == 11) && (dialog_head dialog).ends.cancel) (is_declared (dialog_head dialog).ends number) e) safe)
       (either (nat_le 100 number) _ _ (λ _. add_line s (lines.Command number) tt safe) safe))
 
   pressed_safe : (s : State) (o : OpenDialog) (node : Node) (kind : Kind) → node.kind ≡ kind → IsSafe d s → IsSafe d (press_node dialog s o (Some node))
-  pressed_safe s o node (kinds.Button name text spec is_default grabs) e safe = rw e (command_safe (logged s (lines.Press node.id)) o (command_number spec) (add_line s (lines.Press node.id) tt safe))
-  pressed_safe s o node (kinds.Window name h number title) e safe = rw e safe
-  pressed_safe s o node (kinds.Dialog name h title opens ends) e safe = rw e safe
-  pressed_safe s o node (kinds.Text h text) e safe = rw e safe
-  pressed_safe s o node (kinds.Label text link) e safe = rw e safe
-  pressed_safe s o node (kinds.Input name spec start validates) e safe = rw e safe
-  pressed_safe s o node (kinds.CheckBoxes name items start) e safe = rw e safe
-  pressed_safe s o node (kinds.RadioButtons name items start) e safe = rw e safe
-  pressed_safe s o node (kinds.List name h items start) e safe = rw e safe
-  pressed_safe s o node (kinds.Pane name h) e safe = rw e safe
+  pressed_safe s o node (kinds.Button button) e safe = rw e (command_safe (logged s (lines.Press node.id)) o (command_number button.command) (add_line s (lines.Press node.id) tt safe))
+  pressed_safe s o node (kinds.Window head) e safe = rw e safe
+  pressed_safe s o node (kinds.Dialog head) e safe = rw e safe
+  pressed_safe s o node (kinds.Text shown) e safe = rw e safe
+  pressed_safe s o node (kinds.Label label) e safe = rw e safe
+  pressed_safe s o node (kinds.Input input) e safe = rw e safe
+  pressed_safe s o node (kinds.CheckBoxes boxes) e safe = rw e safe
+  pressed_safe s o node (kinds.RadioButtons radios) e safe = rw e safe
+  pressed_safe s o node (kinds.List list) e safe = rw e safe
+  pressed_safe s o node (kinds.Pane pane) e safe = rw e safe
 
   press_safe : (s : State) (o : OpenDialog) (node : Option Node) → IsSafe d s → IsSafe d (press_node dialog s o node)
   press_safe s o None safe = safe
@@ -113,7 +115,7 @@ emptied_safe d s focus = record { focus = focus; ends = no_lines d }
 
 -- every dialog of the description declares `cancel`
 abbrev HasCancels : Desc → Type 0
-HasCancels d = (place : ℕ) (dialog : Dialog) → slice_get d.dialogs place ≡ Some dialog → (ends_of dialog.node.kind).cancel ≡ true
+HasCancels d = (place : ℕ) (dialog : Dialog) → slice_get d.dialogs place ≡ Some dialog → (dialog_head dialog).ends.cancel ≡ true
 
 dialog_safe : (d : Desc) → HasCancels d → (s : State) (o : OpenDialog) (e : Event) (found : Option Dialog) → slice_get d.dialogs o.place ≡ found → IsSafe d s → IsSafe d (in_dialog s o e found)
 dialog_safe d cancels s o e None f safe = safe

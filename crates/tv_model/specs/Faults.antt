@@ -9,27 +9,39 @@ use Rattle.tv_model.specs.declared.desc.StatusItem.{StatusItem}
 use Rattle.tv_model.specs.declared.desc.Window.{Window}
 use Rattle.tv_model.specs.declared.desc.Dialog.{Dialog}
 use Rattle.tv_model.specs.declared.desc.Rule.{Rule}
+use Rattle.tv_model.specs.declared.command.Ends.{Ends}
 use Rattle.tv_model.specs.declared.fault.Fault.{Fault}
 use Rattle.tv_model.specs.declared.fault.FaultKind.{FaultKind}
 use Rattle.tv_model.specs.declared.fault.FaultKind.TheVariants as faults
+-- lines of declarations, each judged after those before it
 pub mod Lines
+-- names: F1 and F6
 pub mod Names
+-- places: F2 and F3
 pub mod Places
+-- letters and keys: F4, F5 and F17
 pub mod Letters
+-- rules: F7, F8 and F9
 pub mod Rules
+-- texts: F14
 pub mod Texts
+-- limits: F15
 pub mod Limits
+-- ends, default buttons, starts and opening commands: F10, F11, F13 and F16
 pub mod Starts
+-- domains of inputs: F12 and F13
 pub mod Domains
 pub use Rattle.tv_model.specs.Faults.Lines.{after_seen, lines_where, line_if}
 pub use Rattle.tv_model.specs.Faults.Names.{links_nothing, names_again, window_named_again, dialog_named_again}
-pub use Rattle.tv_model.specs.Faults.Places.{rect, desktop, interior, is_within, overlap, place_of_node, is_off_desktop, is_outside, overlaps_earlier}
-pub use Rattle.tv_model.specs.Faults.Letters.{has_bad_key, item_again, letter_of, marks_again, numbered_again, rules_cancel, titled_again}
+pub use Rattle.tv_model.specs.Faults.Places.{is_off_desktop, is_outside, overlaps_earlier}
+pub use Rattle.tv_model.specs.Faults.Letters.{has_bad_key, item_again, marks_again, numbered_again, rules_cancel, titled_again}
 pub use Rattle.tv_model.specs.Faults.Rules.{has_nothing_to_focus, names_unknown, shows_itself}
-pub use Rattle.tv_model.specs.Faults.Texts.{has_wide, is_wide_text, shown_texts, texts_of}
-pub use Rattle.tv_model.specs.Faults.Limits.{command_of, dialog_outside_limits, is_lawful, is_lawful_number, is_lawful_screen, item_outside_limits, least_height, least_width, menu_outside_limits, rule_outside_limits, status_outside_limits, view_outside_limits, window_outside_limits}
+pub use Rattle.tv_model.specs.Faults.Texts.{has_wide, is_wide_text}
+pub use Rattle.tv_model.specs.Faults.Limits.{dialog_outside_limits, is_lawful, is_lawful_number, is_lawful_screen, item_outside_limits, least_height, least_width, menu_outside_limits, rule_outside_limits, status_outside_limits, view_outside_limits, window_outside_limits}
 pub use Rattle.tv_model.specs.Faults.Domains.{has_no_text, starts_badly}
 pub use Rattle.tv_model.specs.Faults.Starts.{is_second_default, lacks_cancel, lacks_end, opens_badly, starts_nowhere}
+use Rattle.tv_model.specs.Description.Commands.{no_ends}
+use Rattle.tv_model.specs.Description.Heads.{dialog_head}
 
 -- ---- the faults of each kind of line
 
@@ -79,20 +91,20 @@ dialog_has faults.OutsideLimits d before dialog = dialog_outside_limits before d
 dialog_has faults.BadOpening d before dialog = opens_badly before dialog
 dialog_has _ d before dialog = false
 
--- a view of a window or dialog, its frame, among all its views
-abbrev pub view_has : FaultKind → Node → List Node → List Node → Node → Bool
-view_has faults.NameTwice frame views before node = names_again before node
-view_has faults.OutsideOwner frame views before node = is_outside frame before node
-view_has faults.Overlap frame views before node = overlaps_earlier before node
-view_has faults.LetterTwice frame views before node = marks_again before node
-view_has faults.LabelLink frame views before node = links_nothing views node
-view_has faults.MissingEnd frame views before node = lacks_end frame node
-view_has faults.SecondDefault frame views before node = is_second_default before node
-view_has faults.EmptyDomain frame views before node = has_no_text node.kind
-view_has faults.BadStart frame views before node = starts_badly node.kind
-view_has faults.WideCharacter frame views before node = has_wide node
-view_has faults.OutsideLimits frame views before node = view_outside_limits before node
-view_has _ frame views before node = false
+-- a view of a window or dialog, its frame, with these ends, among all its views
+abbrev pub view_has : FaultKind → Node → Ends → List Node → List Node → Node → Bool
+view_has faults.NameTwice frame ends views before node = names_again before node
+view_has faults.OutsideOwner frame ends views before node = is_outside frame before node
+view_has faults.Overlap frame ends views before node = overlaps_earlier before node
+view_has faults.LetterTwice frame ends views before node = marks_again before node
+view_has faults.LabelLink frame ends views before node = links_nothing views node
+view_has faults.MissingEnd frame ends views before node = lacks_end ends node
+view_has faults.SecondDefault frame ends views before node = is_second_default before node
+view_has faults.EmptyDomain frame ends views before node = has_no_text node.kind
+view_has faults.BadStart frame ends views before node = starts_badly node.kind
+view_has faults.WideCharacter frame ends views before node = has_wide node
+view_has faults.OutsideLimits frame ends views before node = view_outside_limits before node
+view_has _ frame ends views before node = false
 
 -- a rule of a dialog
 abbrev pub rule_has : FaultKind → List Node → List Rule → Rule → Bool
@@ -110,17 +122,17 @@ menu_lines kind before menu = line_if (menu_has kind before menu) menu.id.0 ++ l
 abbrev pub status_lines : FaultKind → Desc → List ℕ
 status_lines kind d = lines_where (λ item. item.id.0) (status_has kind d) [] d.status
 
-abbrev pub view_lines : FaultKind → Node → List Node → List ℕ
-view_lines kind frame views = lines_where (λ node. node.id.0) (view_has kind frame views) [] views
+abbrev pub view_lines : FaultKind → Node → Ends → List Node → List ℕ
+view_lines kind frame ends views = lines_where (λ node. node.id.0) (view_has kind frame ends views) [] views
 
 abbrev pub window_lines : FaultKind → List Window → Window → List ℕ
-window_lines kind before window = line_if (window_has kind before window) window.node.id.0 ++ view_lines kind window.node window.views
+window_lines kind before window = line_if (window_has kind before window) window.node.id.0 ++ view_lines kind window.node no_ends window.views
 
 abbrev pub rule_lines : FaultKind → Dialog → List ℕ
 rule_lines kind dialog = lines_where (λ rule. rule.id.0) (rule_has kind dialog.views) [] dialog.rules
 
 abbrev pub dialog_lines : FaultKind → Desc → List Dialog → Dialog → List ℕ
-dialog_lines kind d before dialog = line_if (dialog_has kind d before dialog) dialog.node.id.0 ++ (view_lines kind dialog.node dialog.views ++ rule_lines kind dialog)
+dialog_lines kind d before dialog = line_if (dialog_has kind d before dialog) dialog.node.id.0 ++ (view_lines kind dialog.node (dialog_head dialog).ends dialog.views ++ rule_lines kind dialog)
 
 abbrev pub fault_lines : FaultKind → Desc → List ℕ
 fault_lines kind d =

@@ -1,17 +1,25 @@
 //! A description: its screen, menus, status items, windows and dialogs.
 
-ghost use Rattle.std.specs.Prelude.{◌≡◌, option_copied};
-ghost use Rattle.tv_model.specs.LogText.{all_nodes, window_nodes, dialog_nodes};
-ghost use Rattle.tv_model.specs.Nodes.{node_of};
+ghost use Rattle.std.specs.Prelude.{◌≡◌, IsTrue, option_copied};
+ghost use Rattle.tv_model.specs.Description.Nodes.{is_window, is_dialog, node_of};
 
-use crate::node::{CommandSpec, Id, MarkedText, Node};
+use crate::command::CommandSpec;
+use crate::kind::{DialogHead, Kind, MarkedText, WindowHead};
+use crate::node::{Id, Node};
 use crate::sequence::Sequence;
 use tv_event::Key;
 use tv_valid::Chars;
 
+/// A version of the language of descriptions.
+#[derive(Clone, Copy, Debug, PartialEq, Eq)]
+pub enum Version {
+    One,
+}
+
 /// What a description text says, whether it is sound or not. Each list is in the order of the text.
 #[derive(Debug, Drop)]
 pub struct Desc {
+    pub version: Version,
     /// Columns of the screen.
     pub width: i32,
     /// Rows of the screen.
@@ -25,6 +33,8 @@ pub struct Desc {
 }
 
 impl Desc {
+    ghost use Rattle.tv_model.specs.Description.Heads.{all_nodes};
+
     /// The node of the id: a window, a dialog or a view of one.
     pub fn node(&self, id: Id) -> Option<&Node>
         ensures { option_copied result ≡ node_of (all_nodes self.now) id }
@@ -44,6 +54,18 @@ impl Desc {
 }
 
 impl Window {
+    ghost use Rattle.tv_model.specs.Description.Heads.{window_head, window_nodes};
+
+    /// What its own line declares: its name, its number and its title.
+    pub fn head(&self) -> &WindowHead
+        ensures { result.now ≡ window_head self.now }
+    {
+        match &self.node.kind {
+            Kind::Window(head) => head,
+            _ => unreachable!(),
+        }
+    }
+
     /// The node of the id: the window itself or a text of it.
     pub fn node(&self, id: Id) -> Option<&Node>
         ensures { option_copied result ≡ node_of (window_nodes self.now) id }
@@ -57,6 +79,18 @@ impl Window {
 }
 
 impl Dialog {
+    ghost use Rattle.tv_model.specs.Description.Heads.{dialog_head, dialog_nodes};
+
+    /// What its own line declares: its name, its title, the command that opens it and its ends.
+    pub fn head(&self) -> &DialogHead
+        ensures { result.now ≡ dialog_head self.now }
+    {
+        match &self.node.kind {
+            Kind::Dialog(head) => head,
+            _ => unreachable!(),
+        }
+    }
+
     /// The node of the id: the dialog itself or a view of it.
     pub fn node(&self, id: Id) -> Option<&Node>
         ensures { option_copied result ≡ node_of (dialog_nodes self.now) id }
@@ -104,19 +138,21 @@ pub struct StatusItem {
 /// A window with its static texts.
 #[derive(Debug, Drop)]
 pub struct Window {
-    /// Its own node, of the kind `Window`.
+    /// Its own node.
     pub node: Node,
     pub views: Sequence<Node>,
+    ghost own_kind: { IsTrue (is_window node.kind) },
 }
 
 /// A dialog with its views and rules.
 #[derive(Debug, Drop)]
 pub struct Dialog {
-    /// Its own node, of the kind `Dialog`.
+    /// Its own node.
     pub node: Node,
     /// Its views, panes opened out: what stands in a pane comes after it.
     pub views: Sequence<Node>,
     pub rules: Sequence<Rule>,
+    ghost own_kind: { IsTrue (is_dialog node.kind) },
 }
 
 /// What holds while an item of a cluster is marked.

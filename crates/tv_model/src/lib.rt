@@ -1,18 +1,25 @@
 //! What a description says, what a run's records and log hold, and, in specs/, what a run does.
 #![tactic(auto)]
 
+mod command;
 mod desc;
 mod fault;
+mod kind;
 mod log;
 mod node;
 mod record;
 mod script;
 mod sequence;
 
-pub use desc::{Desc, Dialog, Effect, Menu, MenuItem, Rule, StatusItem, Window, node_of};
+pub use command::{CommandSpec, Ends};
+pub use desc::{Desc, Dialog, Effect, Menu, MenuItem, Rule, StatusItem, Version, Window, node_of};
 pub use fault::{Fault, FaultKind};
+pub use kind::{
+    Button, CheckBoxes, DialogHead, Input, Kind, Label, ListBox, MarkedText, Pane, RadioButtons,
+    StaticText, WindowHead,
+};
 pub use log::LogLine;
-pub use node::{CommandSpec, Ends, Id, Kind, MarkedText, Node};
+pub use node::{Id, Node};
 pub use record::{Entry, Record, Value};
 pub use script::Item;
 pub use sequence::Sequence;

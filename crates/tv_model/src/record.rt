@@ -1,7 +1,7 @@
 //! The values of a dialog's fields.
 
 ghost use Rattle.std.specs.Prelude.{◌≡◌, ◌<◌, ◌≤◌, ◌==◌, ◌⊎◌, ℕ, [], length, position, if◌then◌else◌, option_copied, Some, IsSome};
-ghost use Rattle.tv_model.specs.Record.{value_of, with_value, Entries};
+ghost use Rattle.tv_model.specs.Log.Record.{value_of, with_value, Entries};
 
 use crate::node::Id;
 use arrayvec::ArrayVec;
@@ -44,7 +44,7 @@ pub struct Record {
 
 impl Model for Record {
     ghost use Rattle.std.specs.Prelude.{◌≤◌, length};
-    ghost use Rattle.tv_model.specs.Record.{Entries};
+    ghost use Rattle.tv_model.specs.Log.Record.{Entries};
 
     ghost Value = { Entries };
 

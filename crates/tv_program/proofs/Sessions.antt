@@ -6,12 +6,14 @@ use Rattle.tv_model.specs.declared.node.Id.{Id}
 use Rattle.tv_model.specs.declared.node.Node.{Node}
 use Rattle.tv_model.specs.declared.desc.Desc.{Desc}
 use Rattle.tv_model.specs.declared.desc.Dialog.{Dialog}
-use Rattle.tv_model.specs.Nodes.{is_control}
-use Rattle.tv_model.specs.State.{State}
-use Rattle.tv_model.specs.Step.{emptied, at_dialog, step, is_free, ends_of, is_named, closed, open_dialog, start_from, start}
+use Rattle.tv_model.specs.Description.Nodes.{is_control}
+use Rattle.tv_model.specs.Machine.State.{State}
+use Rattle.tv_model.specs.Machine.Step.{emptied, at_dialog, step, is_free, closed, open_dialog, start_from, start}
+use Rattle.tv_model.specs.Description.Commands.{ends_of}
+use Rattle.tv_model.specs.Description.Heads.{is_named}
 use Rattle.tv_model.specs.Faults.{IsSound}
-use Rattle.tv_model.specs.Thin.{IsThin, IsThinDialog}
-use Rattle.tv_model.specs.Safe.{IsSafe, IsAlwaysSafe}
+use Rattle.tv_model.specs.Description.Thin.{IsThin, IsThinDialog}
+use Rattle.tv_model.specs.Machine.Safe.{IsSafe, IsAlwaysSafe}
 use Rattle.tv_model.proofs.Safe.{start_safe, step_safe, states_safe}
 use Rattle.tv_faults.specs.Usable.{IsLimited, IsUsableDialog}
 use Rattle.tv_faults.proofs.Sound.{sound_says, only_dialog, only_start}

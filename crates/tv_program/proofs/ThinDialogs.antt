@@ -1,12 +1,12 @@
 -- Thin dialogs have no fields.
 use Rattle.std.proofs.Common.{◌≡◌, Bool, true, false, not, List, [], ◌∷◌, Some, None, refl, ap, All, suc, arith, ◌||◌, cond, slice_set}
 use Rattle.tv_model.specs.declared.node.Node.{Node}
-use Rattle.tv_model.specs.declared.node.Kind.{Kind}
-use Rattle.tv_model.specs.declared.node.Kind.TheVariants as kinds
-use Rattle.tv_model.specs.Nodes.{is_pane}
-use Rattle.tv_model.specs.State.{declared_value, declared_leaves, fields_of}
+use Rattle.tv_model.specs.declared.kind.Kind.{Kind}
+use Rattle.tv_model.specs.declared.kind.Kind.TheVariants as kinds
+use Rattle.tv_model.specs.Description.Nodes.{is_pane}
+use Rattle.tv_model.specs.Machine.State.{declared_value, declared_leaves, fields_of}
 use Rattle.tv_program.specs.Run.{saved_of}
-use Rattle.tv_model.specs.Thin.{IsThinKind, IsThinView}
+use Rattle.tv_model.specs.Description.Thin.{IsThinKind, IsThinView}
 
 or_false : (b : Bool) → (b || false) ≡ b
 or_false true = refl
@@ -22,16 +22,16 @@ pub record IsBare (k : Kind) : Type 0 where
   pub value : declared_value k ≡ None
 
 bare_kind : (k : Kind) → IsThinKind k → IsBare k
-bare_kind (kinds.Text h text) thin = record { pane = refl; value = refl }
-bare_kind (kinds.Button name text command is_default grabs) thin = record { pane = refl; value = refl }
-bare_kind (kinds.Window name h number title) thin = absurd thin
-bare_kind (kinds.Dialog name h title opens ends) thin = absurd thin
-bare_kind (kinds.Label text link) thin = absurd thin
-bare_kind (kinds.Input name spec start validates) thin = absurd thin
-bare_kind (kinds.CheckBoxes name items start) thin = absurd thin
-bare_kind (kinds.RadioButtons name items start) thin = absurd thin
-bare_kind (kinds.List name h items start) thin = absurd thin
-bare_kind (kinds.Pane name h) thin = absurd thin
+bare_kind (kinds.Text shown) thin = record { pane = refl; value = refl }
+bare_kind (kinds.Button button) thin = record { pane = refl; value = refl }
+bare_kind (kinds.Window head) thin = absurd thin
+bare_kind (kinds.Dialog head) thin = absurd thin
+bare_kind (kinds.Label label) thin = absurd thin
+bare_kind (kinds.Input input) thin = absurd thin
+bare_kind (kinds.CheckBoxes boxes) thin = absurd thin
+bare_kind (kinds.RadioButtons radios) thin = absurd thin
+bare_kind (kinds.List list) thin = absurd thin
+bare_kind (kinds.Pane pane) thin = absurd thin
 
 pub no_fields : (views : List Node) → All IsThinView views → fields_of (declared_leaves views) ≡ []
 no_fields [] thin = refl

@@ -2,9 +2,9 @@
 use Rattle.std.proofs.Common.{◌≡◌, ◌↔◌, ℕ, Bool, true, false, not, IsTrue, List, Result, Ok, Err, refl, sym, ap, ◌∙◌}
 use Rattle.tv_model.specs.declared.desc.Desc.{Desc}
 use Rattle.tv_model.specs.declared.script.Item.{Item}
-use Rattle.tv_model.specs.Output.{output}
-use Rattle.tv_model.specs.Session.{Session, started}
-use Rattle.tv_model.specs.Thin.{IsThin}
+use Rattle.tv_model.specs.Log.Output.{output}
+use Rattle.tv_model.specs.Machine.Session.{Session, started}
+use Rattle.tv_model.specs.Description.Thin.{IsThin}
 use Rattle.tv_lang.specs.Faults.{Spells}
 use Rattle.tv_program.specs.declared.fault.RunFault.{RunFault}
 use Rattle.tv_program.specs.declared.fault.RunFault.TheVariants.{NoMemory, Lang, Faults, Script, ScriptTooLong, Write, Read, Cert, Refused, NotYet}

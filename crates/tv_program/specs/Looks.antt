@@ -4,7 +4,7 @@ use Rattle.tv_cells.specs.Layers.{Layer}
 use Rattle.tv_model.specs.declared.desc.Desc.{Desc}
 use Rattle.tv_model.specs.declared.desc.Dialog.{Dialog}
 use Rattle.tv_model.specs.declared.node.Id.{Id}
-use Rattle.tv_model.specs.Layers.{dialog_layers}
+use Rattle.tv_model.specs.Screen.Layers.{dialog_layers}
 
 -- with this focus
 abbrev pub focused_layers : Desc → Dialog → Option Id → List Layer

@@ -8,7 +8,7 @@ use Rattle.tv_lang.specs.declared.description.LangFault.{LangFault}
 use Rattle.tv_lang.specs.declared.description.LangFault.TheVariants as lang
 use Rattle.tv_model.specs.declared.fault.Fault.{Fault}
 use Rattle.tv_model.specs.Faults.{fault_number}
-use Rattle.tv_model.specs.LogText.{line_of}
+use Rattle.tv_model.specs.Log.LogText.{line_of}
 use Rattle.tv_program.specs.declared.fault.RunFault.{RunFault}
 use Rattle.tv_program.specs.declared.fault.RunFault.TheVariants.{NoMemory, Lang, Faults, Script, ScriptTooLong, Write, Read, Cert, Refused, NotYet}
 use Rattle.tv_script.specs.Writer.{Seen, Takes, Cuts}

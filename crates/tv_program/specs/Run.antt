@@ -3,11 +3,11 @@ use Rattle.std.specs.Prelude.{Bool, false, [], ◌∷◌, Option, Some, None, op
 use Rattle.tv_model.specs.declared.node.Id.{Id}
 use Rattle.tv_model.specs.declared.desc.Desc.{Desc}
 use Rattle.tv_model.specs.declared.desc.Dialog.{Dialog}
-use Rattle.tv_model.specs.Record.{Entries}
-use Rattle.tv_model.specs.State.{State, OpenDialog, declared_leaves}
+use Rattle.tv_model.specs.Log.Record.{Entries}
+use Rattle.tv_model.specs.Machine.State.{State, OpenDialog, declared_leaves}
 use Rattle.tv_event.specs.declared.event.Event.{Event}
-use Rattle.tv_model.specs.Step.{emptied, key_event}
-use Rattle.tv_model.specs.Thin.{IsThinDialog}
+use Rattle.tv_model.specs.Machine.Step.{emptied, key_event}
+use Rattle.tv_model.specs.Description.Thin.{IsThinDialog}
 use Rattle.tv_faults.specs.Usable.{IsBetween, IsLimited}
 use Rattle.tv_program.specs.declared.run.Run.{Run}
 

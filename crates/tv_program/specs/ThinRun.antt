@@ -5,10 +5,10 @@ use Rattle.tv_script.specs.Scripts.{Spells as SpellsScript, Refuses as RefusesSc
 use Rattle.tv_lang.specs.Faults.{Spells}
 use Rattle.tv_model.specs.declared.desc.Desc.{Desc}
 use Rattle.tv_model.specs.declared.script.Item.{Item}
-use Rattle.tv_model.specs.Output.{output}
-use Rattle.tv_model.specs.Safe.{IsAlwaysSafe}
-use Rattle.tv_model.specs.Session.{started}
-use Rattle.tv_model.specs.Thin.{IsThin}
+use Rattle.tv_model.specs.Log.Output.{output}
+use Rattle.tv_model.specs.Machine.Safe.{IsAlwaysSafe}
+use Rattle.tv_model.specs.Machine.Session.{started}
+use Rattle.tv_model.specs.Description.Thin.{IsThin}
 use Rattle.tv_program.specs.declared.fault.RunFault.{RunFault}
 use Rattle.tv_program.specs.declared.fault.RunFault.TheVariants.{NoMemory, Lang, Faults, Script, ScriptTooLong, Write, Read, Cert, Refused, NotYet}
 use Rattle.tv_program.specs.Reading.{IsFaulty, IsNoDescription, IsSoundText}

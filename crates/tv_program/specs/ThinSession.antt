@@ -4,11 +4,12 @@ use Rattle.tv_cells.specs.Picture.{Picture}
 use Rattle.tv_model.specs.declared.desc.Desc.{Desc}
 use Rattle.tv_model.specs.declared.desc.Dialog.{Dialog}
 use Rattle.tv_model.specs.Faults.{IsSound}
-use Rattle.tv_model.specs.Safe.{IsSafe}
-use Rattle.tv_model.specs.Session.{Session}
-use Rattle.tv_model.specs.State.{State, natural}
-use Rattle.tv_model.specs.Step.{closed}
-use Rattle.tv_model.specs.Thin.{IsThin}
+use Rattle.tv_model.specs.Machine.Safe.{IsSafe}
+use Rattle.tv_model.specs.Machine.Session.{Session}
+use Rattle.tv_model.specs.Machine.State.{State}
+use Rattle.tv_model.specs.Description.Numbers.{natural}
+use Rattle.tv_model.specs.Machine.Step.{closed}
+use Rattle.tv_model.specs.Description.Thin.{IsThin}
 use Rattle.tv_program.specs.declared.run.Run.{Run}
 use Rattle.tv_program.specs.Run.{state_of}
 

@@ -3,10 +3,10 @@
 ghost use Rattle.std.specs.Prelude.{◌≡◌, All, ◌+ℤ◌, ◌-ℤ◌, ◌∷◌, ◌++◌, [], List, true, pos, ◌≤◌, Some, None, reverse, flat_map};
 ghost use Rattle.tv_cells.specs.Rectangle.{IsNear, IsRectNear, sized};
 ghost use Rattle.tv_cells.specs.Layers.{Layer, Painted, Shows};
-ghost use Rattle.tv_model.specs.Faults.{desktop};
-ghost use Rattle.tv_model.specs.Layers.{canvas_at, bar_layer, status_layer, background_layer, view_layers, body_layers, frame_canvas, dialog_layers, is_default_now, look_of, whole_screen};
-ghost use Rattle.tv_model.specs.State.{natural};
-ghost use Rattle.tv_model.specs.Faces.{empty_bar};
+ghost use Rattle.tv_model.specs.Description.Rectangles.{desktop};
+ghost use Rattle.tv_model.specs.Screen.Layers.{canvas_at, bar_layer, status_layer, background_layer, view_layers, body_layers, frame_canvas, dialog_layers, is_default_now, look_of, whole_screen};
+ghost use Rattle.tv_model.specs.Description.Numbers.{natural};
+ghost use Rattle.tv_model.specs.Screen.Faces.{empty_bar};
 ghost use Rattle.tv_faces.specs.Looks.{button_look_of};
 ghost use Rattle.tv_cells.specs.Picture.{IsAlike};
 ghost use Rattle.tv_program.specs.Looks.{focused_layers};

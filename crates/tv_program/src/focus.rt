@@ -1,8 +1,8 @@
 //! Which control has the focus next.
 
 ghost use Rattle.std.specs.Prelude.{◌≡◌, find, position, option_copied};
-ghost use Rattle.tv_model.specs.Nodes.{has_id, node_of};
-ghost use Rattle.tv_model.specs.Step.{is_free, is_free_at, first_free, last_free, place_of, before, after, next_free, previous_free, enter_target, is_default, is_button_node};
+ghost use Rattle.tv_model.specs.Description.Nodes.{has_id, node_of, is_default, is_button_node};
+ghost use Rattle.tv_model.specs.Machine.Step.{is_free, is_free_at, first_free, last_free, place_of, before, after, next_free, previous_free, enter_target};
 
 use tv_model::{Id, Kind, Node, node_of};
 

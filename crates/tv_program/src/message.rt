@@ -1,7 +1,7 @@
 //! What is told of a call that didn't come to its end.
 
 ghost use Rattle.std.specs.Prelude.{◌≡◌, ◌++◌, ◌∷◌, [], codes, flat_map, decimal, encode_utf8};
-ghost use Rattle.tv_model.specs.LogText.{line_of};
+ghost use Rattle.tv_model.specs.Log.LogText.{line_of};
 ghost use Rattle.tv_script.specs.Pen.{Puts};
 ghost use Rattle.tv_program.specs.Report.{IsOffered, cert_message, fault_line, lang_message, lang_status, out_text, err_text, refusal_text, status_of, syntax_message};
 

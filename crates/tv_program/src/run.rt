@@ -1,9 +1,10 @@
 //! The state of a run over one dialog of texts and buttons.
 
 ghost use Rattle.std.specs.Prelude.{◌≡◌, ◌<◌, ◌≤◌, ◌+◌, [], ◌∷◌, ◌++◌, length, true, false, Some, None, option_copied, if◌then◌else◌};
-ghost use Rattle.tv_model.specs.Step.{logged, emptied, request, command, command_number, press_node, press, key, key_event, ended, is_declared, ends_of, open_dialog, enter_target};
-ghost use Rattle.tv_model.specs.Nodes.{node_of};
-ghost use Rattle.tv_model.specs.Faults.{is_lawful_number};
+ghost use Rattle.tv_model.specs.Machine.Step.{logged, emptied, request, command, press_node, press, key, key_event, ended, open_dialog, enter_target};
+ghost use Rattle.tv_model.specs.Description.Commands.{command_number, is_declared, ends_of};
+ghost use Rattle.tv_model.specs.Description.Nodes.{node_of};
+ghost use Rattle.tv_model.specs.Faults.Limits.{is_lawful_number};
 ghost use Rattle.tv_faults.specs.Usable.{IsLimited};
 ghost use Rattle.tv_program.specs.Run.{state_of, opened, stepped, IsReady};
 

@@ -2,10 +2,10 @@
 
 ghost use Rattle.std.specs.Prelude.{◌≡◌, ◌∷◌, [], IfOk, IfSome, Some, None, true, is_some, option_map};
 ghost use Rattle.tv_model.specs.Faults.{IsSound};
-ghost use Rattle.tv_model.specs.Safe.{IsAlwaysSafe, IsFocusFree};
-ghost use Rattle.tv_model.specs.Session.{started};
-ghost use Rattle.tv_model.specs.State.{natural};
-ghost use Rattle.tv_model.specs.Thin.{IsThin};
+ghost use Rattle.tv_model.specs.Machine.Safe.{IsAlwaysSafe, IsFocusFree};
+ghost use Rattle.tv_model.specs.Machine.Session.{started};
+ghost use Rattle.tv_model.specs.Description.Numbers.{natural};
+ghost use Rattle.tv_model.specs.Description.Thin.{IsThin};
 ghost use Rattle.tv_program.specs.Run.{IsScreenSize};
 
 use crate::draw::draw;

@@ -1,7 +1,7 @@
 //! Which descriptions can be run: one dialog of static texts and buttons.
 
 ghost use Rattle.std.specs.Prelude.{◌≡◌, ◌↔◌, IsTrue, ◌≤◌, ◌^◌, All};
-ghost use Rattle.tv_model.specs.Thin.{AreOnLines, IsThin, IsThinDialog, IsThinHead, IsThinKind, IsThinView};
+ghost use Rattle.tv_model.specs.Description.Thin.{AreOnLines, IsThin, IsThinDialog, IsThinHead, IsThinKind, IsThinView};
 
 use tv_model::{Desc, Dialog, Kind, Node};
 

@@ -3,8 +3,8 @@
 ghost use Rattle.std.specs.Prelude.{◌≡◌, IfOk, IfErr, List, ℕ};
 ghost use Rattle.tv_script.specs.Scripts.{Spells as SpellsScript};
 ghost use Rattle.tv_model.specs.Faults.{IsSound};
-ghost use Rattle.tv_model.specs.Output.{output};
-ghost use Rattle.tv_model.specs.Thin.{IsThin};
+ghost use Rattle.tv_model.specs.Log.Output.{output};
+ghost use Rattle.tv_model.specs.Description.Thin.{IsThin};
 ghost use Rattle.tv_program.specs.Reading.{IsSoundText};
 ghost use Rattle.tv_program.specs.ThinRun.{IsNoScript, RefusesDesc, RunsTo};
 ghost use Rattle.tv_program.specs.Written.{Writes};

@@ -3,7 +3,7 @@ use Rattle.std.proofs.Common.{◌≡◌, ℕ, ◌+◌, ◌-◌, ◌≤◌, true,
 use Rattle.std.proofs.lemmas.List.{append-nil, map-append, map-id}
 use Rattle.std.proofs.lemmas.List.FromFn.{filter_of_map_range_with_len_more}
 use Rattle.std.specs.List.{range_with_len}
-use Rattle.tv_model.specs.LogText.{spaced, is_marked, marks_text}
+use Rattle.tv_model.specs.Log.LogText.{spaced, is_marked, marks_text}
 
 -- words with a space between, none for no words
 pub joined : List (List ℕ) → List ℕ

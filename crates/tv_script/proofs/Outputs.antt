@@ -2,9 +2,9 @@
 use Rattle.std.proofs.Common.{◌≡◌, ℕ, List, [], ◌∷◌, ◌++◌, take, drop, refl, sym, ap, ◌∙◌, append_assoc}
 use Rattle.std.proofs.lemmas.List.{take-append-drop}
 use Rattle.tv_model.specs.declared.script.Item.{Item}
-use Rattle.tv_model.specs.LogText.{log_text}
-use Rattle.tv_model.specs.Output.{states, texts, item_text, item_after, output}
-use Rattle.tv_model.specs.Session.{Session, quiet}
+use Rattle.tv_model.specs.Log.LogText.{log_text}
+use Rattle.tv_model.specs.Log.Output.{states, texts, item_text, item_after, output}
+use Rattle.tv_model.specs.Machine.Session.{Session, quiet}
 use Rattle.tv_script.specs.Writer.{Seen, Cuts}
 use Rattle.tv_script.proofs.Writing.{Cuts-longer, Cuts-along}
 

@@ -5,9 +5,9 @@ use Rattle.tv_event.specs.declared.event.Event.{Event}
 use Rattle.tv_event.specs.declared.event.Event.TheVariants as events
 use Rattle.tv_event.specs.declared.event.Key.TheVariants as keys
 use Rattle.tv_model.specs.declared.script.Item.{Item}
-use Rattle.tv_model.specs.Session.{Session, quiet}
-use Rattle.tv_model.specs.LogText.{log_text}
-use Rattle.tv_model.specs.Output.{output, after, event_text, event_after, item_text, item_after, states, texts, typed}
+use Rattle.tv_model.specs.Machine.Session.{Session, quiet}
+use Rattle.tv_model.specs.Log.LogText.{log_text}
+use Rattle.tv_model.specs.Log.Output.{output, after, event_text, event_after, item_text, item_after, states, texts, typed}
 use Rattle.tv_script.proofs.Runs.{states-push, texts-push, states-take_more, texts-take_more}
 use Rattle.tv_script.specs.Writer.{Seen, Takes, Cuts}
 use Rattle.tv_script.specs.declared.pen.Pen.{Pen}

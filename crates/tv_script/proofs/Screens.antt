@@ -3,10 +3,10 @@ use Rattle.std.proofs.Common.{◌≡◌, ℕ, zero, suc, ◌+◌, ◌<◌, ◌�
 use Rattle.std.specs.List.{range_with_len}
 use Rattle.tv_cells.specs.Glyph.{Glyph}
 use Rattle.tv_cells.specs.Picture.{Picture, cell_at}
-use Rattle.tv_model.specs.LogText.{line_of}
-use Rattle.tv_model.specs.Output.{screen_cell, row_text, screen_text, session_text}
-use Rattle.tv_model.specs.Session.{Session}
-use Rattle.tv_model.specs.State.{natural}
+use Rattle.tv_model.specs.Log.LogText.{line_of}
+use Rattle.tv_model.specs.Log.Output.{screen_cell, row_text, screen_text, session_text}
+use Rattle.tv_model.specs.Machine.Session.{Session}
+use Rattle.tv_model.specs.Description.Numbers.{natural}
 use Rattle.tv_script.specs.Performed.{IsScreenOf}
 
 -- texts of numbers that are the same for each number of a row

@@ -3,10 +3,10 @@ use Rattle.std.specs.Prelude.{◌≡◌, ℕ, ◌+◌, ◌≤◌, List, ◌++◌
 use Rattle.tv_cells.specs.Layers.{Shows}
 use Rattle.tv_cells.specs.Picture.{Picture}
 use Rattle.tv_model.specs.declared.script.Item.{Item}
-use Rattle.tv_model.specs.Layers.{layers_of}
-use Rattle.tv_model.specs.Output.{output, after}
-use Rattle.tv_model.specs.Session.{Session}
-use Rattle.tv_model.specs.State.{natural}
+use Rattle.tv_model.specs.Screen.Layers.{layers_of}
+use Rattle.tv_model.specs.Log.Output.{output, after}
+use Rattle.tv_model.specs.Machine.Session.{Session}
+use Rattle.tv_model.specs.Description.Numbers.{natural}
 use Rattle.tv_script.specs.Writer.{Seen, Cuts}
 
 -- the picture is the session's screen

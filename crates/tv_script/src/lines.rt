@@ -2,8 +2,9 @@
 
 ghost use Rattle.std.specs.Prelude.{◌≡◌, ◌≤◌, ◌++◌, ◌∷◌, [], codes, decimal, flat_map};
 ghost use Rattle.tv_model.specs.declared.log.LogLine.TheVariants as lines;
-ghost use Rattle.tv_model.specs.LogText.{all_nodes, name_of_node, log_line, log_text, name_text, end_word, line_of, value_text, marks_text, is_marked, quoted_text, escaped};
-ghost use Rattle.tv_model.specs.Nodes.{node_of};
+ghost use Rattle.tv_model.specs.Description.Nodes.{node_of};
+ghost use Rattle.tv_model.specs.Description.Heads.{all_nodes};
+ghost use Rattle.tv_model.specs.Log.LogText.{name_of_node, log_line, log_text, name_text, end_word, line_of, value_text, marks_text, is_marked, quoted_text, escaped};
 ghost use Rattle.tv_script.specs.Pen.{Puts};
 
 use crate::pen::Pen;

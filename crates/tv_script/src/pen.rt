@@ -1,7 +1,7 @@
 //! A pen writes texts one after another, and nothing more once its writer failed.
 
 ghost use Rattle.std.specs.Prelude.{◌≡◌, ◌∷◌, [], decimal, encode_utf8};
-ghost use Rattle.tv_model.specs.LogText.{bytes_of};
+ghost use Rattle.tv_model.specs.Log.LogText.{bytes_of};
 ghost use Rattle.tv_script.specs.Pen.{Puts};
 
 use crate::writer::{Writer, write_all};

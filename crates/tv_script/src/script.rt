@@ -1,7 +1,7 @@
 //! A script, performed.
 
 ghost use Rattle.std.specs.Prelude.{◌≡◌, false, OnOk, IfErr};
-ghost use Rattle.tv_model.specs.Output.{event_text, event_after, texts, states, typed, item_text, item_after, shot_text, colors_text, output, after};
+ghost use Rattle.tv_model.specs.Log.Output.{event_text, event_after, texts, states, typed, item_text, item_after, shot_text, colors_text, output, after};
 ghost use Rattle.tv_script.specs.Writer.{Takes};
 ghost use Rattle.tv_script.specs.Pen.{Puts};
 ghost use Rattle.tv_script.specs.Performed.{Stops};

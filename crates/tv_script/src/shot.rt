@@ -3,8 +3,8 @@
 ghost use Rattle.std.specs.Prelude.{◌≡◌, ◌++◌, ◌<◌, codes, decimal, flat_map};
 ghost use Rattle.std.specs.List.{range_with_len};
 ghost use Rattle.tv_cells.specs.Picture.{cell_at};
-ghost use Rattle.tv_model.specs.LogText.{line_of};
-ghost use Rattle.tv_model.specs.Output.{cells_text, hex_byte, hex_digit, row_text, screen_text};
+ghost use Rattle.tv_model.specs.Log.LogText.{line_of};
+ghost use Rattle.tv_model.specs.Log.Output.{cells_text, hex_byte, hex_digit, row_text, screen_text};
 ghost use Rattle.tv_script.specs.Pen.{Puts};
 ghost use Rattle.tv_script.specs.ScreenText.{aspect_word, cell_text};
 

@@ -2,7 +2,7 @@
 
 ghost use Rattle.std.specs.Prelude.{◌≡◌};
 ghost use Rattle.tv_cells.specs.Picture.{Picture};
-ghost use Rattle.tv_model.specs.Session.{Session, stepped, quiet};
+ghost use Rattle.tv_model.specs.Machine.Session.{Session, stepped, quiet};
 ghost use Rattle.tv_script.specs.Performed.{IsScreenOf};
 
 use tv_cells::Screen;

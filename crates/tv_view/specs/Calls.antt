@@ -4,17 +4,17 @@ use Rattle.std.specs.List.{list_any}
 use Rattle.tv_valid.specs.declared.domain.Domain.{Domain}
 use Rattle.tv_valid.specs.Domain.{IsDomain, InDomain, IsViableText}
 use Rattle.tv_model.specs.declared.node.Id.{Id}
-use Rattle.tv_model.specs.declared.node.Kind.{Kind}
-use Rattle.tv_model.specs.declared.node.Kind.TheVariants as kinds
+use Rattle.tv_model.specs.declared.kind.Kind.{Kind}
+use Rattle.tv_model.specs.declared.kind.Kind.TheVariants as kinds
 use Rattle.tv_model.specs.declared.record.Value.{Value}
 use Rattle.tv_model.specs.declared.record.Value.TheVariants as values
-use Rattle.tv_model.specs.Nodes.{is_control}
-use Rattle.tv_model.specs.Record.{Entries, value_of, with_value}
-use Rattle.tv_model.specs.State.{opened_private}
-use Rattle.tv_model.specs.Step.{command_number}
-use Rattle.tv_model.specs.ClusterTable.{ClusterKind, Boxes, Radios, pressed, is_item}
-use Rattle.tv_model.specs.InputTable.{entered, left}
-use Rattle.tv_model.specs.Meaning.{Leaf}
+use Rattle.tv_model.specs.Description.Nodes.{is_control}
+use Rattle.tv_model.specs.Log.Record.{Entries, value_of, with_value}
+use Rattle.tv_model.specs.Machine.State.{opened_private}
+use Rattle.tv_model.specs.Description.Commands.{command_number}
+use Rattle.tv_model.specs.Controls.ClusterTable.{ClusterKind, Boxes, Radios, pressed, is_item}
+use Rattle.tv_model.specs.Controls.InputTable.{entered, left}
+use Rattle.tv_model.specs.Controls.Meaning.{Leaf}
 use Rattle.tv_view.specs.declared.env.Rules.{Rules}
 use Rattle.tv_view.specs.Fields.{text_of, edit_of, with_edit, cluster_of, with_cluster}
 
@@ -29,12 +29,12 @@ state_bits leaf = flag_if leaf.is_shown 0x01 + (flag_if leaf.is_focused 0x60 + f
 
 -- ofSelectable with ofFirstClick for controls, ofPreProcess with ofPostProcess for what marks letters, ofValidate
 abbrev pub option_bits : Kind → ℕ
-option_bits (kinds.Label text link) = 0x30
-option_bits (kinds.Button name text command is_default grabs) = 0x35
-option_bits (kinds.Input name spec start validates) = 0x05 + flag_if validates 0x400
-option_bits (kinds.CheckBoxes name items start) = 0x35
-option_bits (kinds.RadioButtons name items start) = 0x35
-option_bits (kinds.List name h items start) = 0x05
+option_bits (kinds.Label label) = 0x30
+option_bits (kinds.Button button) = 0x35
+option_bits (kinds.Input input) = 0x05 + flag_if input.validates 0x400
+option_bits (kinds.CheckBoxes boxes) = 0x35
+option_bits (kinds.RadioButtons radios) = 0x35
+option_bits (kinds.List list) = 0x05
 option_bits _ = 0
 
 -- ---- the focus
@@ -45,11 +45,11 @@ takes_focus id leaf = is_control leaf.node.kind && (leaf.node.id.0 == id.0)
 
 -- an input that receives the focus has its text selected, one that loses it has no selection
 abbrev pub given_focus : Kind → Leaf → Leaf
-given_focus (kinds.Input name spec start validates) leaf = record (with_edit (entered (edit_of leaf)) leaf) { is_focused = true }
+given_focus (kinds.Input input) leaf = record (with_edit (entered (edit_of leaf)) leaf) { is_focused = true }
 given_focus _ leaf = record leaf { is_focused = true }
 
 abbrev pub without_focus : Kind → Leaf → Leaf
-without_focus (kinds.Input name spec start validates) leaf = record (with_edit (left (edit_of leaf)) leaf) { is_focused = false }
+without_focus (kinds.Input input) leaf = record (with_edit (left (edit_of leaf)) leaf) { is_focused = false }
 without_focus _ leaf = record leaf { is_focused = false }
 
 -- the control that has the focus already stays as it is, and every other leaf loses it
@@ -63,8 +63,8 @@ abbrev pub cluster_pressed : ClusterKind → ℕ → ℕ → Leaf → Leaf
 cluster_pressed kind count item leaf = if is_item count item then with_cluster (pressed kind item (cluster_of leaf)) leaf else leaf
 
 abbrev pub kind_pressed : Kind → ℕ → Leaf → Leaf
-kind_pressed (kinds.CheckBoxes name items start) item leaf = cluster_pressed Boxes (length items) item leaf
-kind_pressed (kinds.RadioButtons name items start) item leaf = cluster_pressed Radios (length items) item leaf
+kind_pressed (kinds.CheckBoxes boxes) item leaf = cluster_pressed Boxes (length boxes.items) item leaf
+kind_pressed (kinds.RadioButtons radios) item leaf = cluster_pressed Radios (length radios.items) item leaf
 kind_pressed _ item leaf = leaf
 
 -- the cluster of the id has the item selected and pressed; nothing for another id or an item that it lacks
@@ -75,7 +75,7 @@ item_pressed id item leaf = if leaf.node.id.0 == id.0 then kind_pressed leaf.nod
 
 -- an input whose text lies outside its domain
 abbrev pub IsKindInvalid : Kind → Leaf → Type 0
-IsKindInvalid (kinds.Input name spec start validates) leaf = (d : Domain) × IsDomain spec d × (InDomain d (text_of leaf.value) → ⊥)
+IsKindInvalid (kinds.Input input) leaf = (d : Domain) × IsDomain input.spec d × (InDomain d (text_of leaf.value) → ⊥)
 IsKindInvalid _ leaf = ⊥
 
 unfoldable pub IsInvalid : Leaf → Type 0
@@ -99,14 +99,14 @@ HasRoom leaf entries = HasRoomFor leaf.value leaf.node.id entries
 
 -- a value that a field of the kind may have: a viable text, marks of its items, an item that there is
 abbrev pub IsValueOf : Kind → Option Value → Type 0
-IsValueOf (kinds.Input name spec start validates) (Some (values.Text text)) = (d : Domain) × IsDomain spec d × IsViableText d text
-IsValueOf (kinds.Input name spec start validates) _ = ⊥
-IsValueOf (kinds.CheckBoxes name items start) (Some (values.Marks marks)) = marks < 2 ^ length items
-IsValueOf (kinds.CheckBoxes name items start) _ = ⊥
-IsValueOf (kinds.RadioButtons name items start) (Some (values.Item item)) = IsTrue (is_item (length items) item)
-IsValueOf (kinds.RadioButtons name items start) _ = ⊥
-IsValueOf (kinds.List name h items start) (Some (values.Item item)) = IsTrue (is_item (length items) item)
-IsValueOf (kinds.List name h items start) _ = ⊥
+IsValueOf (kinds.Input input) (Some (values.Text text)) = (d : Domain) × IsDomain input.spec d × IsViableText d text
+IsValueOf (kinds.Input input) _ = ⊥
+IsValueOf (kinds.CheckBoxes boxes) (Some (values.Marks marks)) = marks < 2 ^ length boxes.items
+IsValueOf (kinds.CheckBoxes boxes) _ = ⊥
+IsValueOf (kinds.RadioButtons radios) (Some (values.Item item)) = IsTrue (is_item (length radios.items) item)
+IsValueOf (kinds.RadioButtons radios) _ = ⊥
+IsValueOf (kinds.List list) (Some (values.Item item)) = IsTrue (is_item (length list.items) item)
+IsValueOf (kinds.List list) _ = ⊥
 IsValueOf _ value = Unit {0}
 
 -- the record fits: a field finds a value that it may have
@@ -134,7 +134,7 @@ is_listed ids id = list_any (λ other. other.0 == id.0) ids
 
 -- a button is enabled while its command is, all else always
 abbrev pub is_kind_enabled : List Bool → Kind → Bool
-is_kind_enabled commands (kinds.Button name text command is_default grabs) = slice_index_or commands (command_number command) false
+is_kind_enabled commands (kinds.Button button) = slice_index_or commands (command_number button.command) false
 is_kind_enabled commands _ = true
 
 unfoldable pub applied : Rules → Leaf → Leaf

@@ -2,7 +2,7 @@
 use Rattle.std.specs.Prelude.{ℕ, Bool, false, List, Option, Some, None, option_map, ◌==◌}
 use Rattle.tv_model.specs.declared.node.Id.{Id}
 use Rattle.tv_model.specs.declared.node.Node.{Node}
-use Rattle.tv_model.specs.Faults.Names.{meant}
+use Rattle.tv_model.specs.Description.Names.{meant}
 use Rattle.tv_palette.specs.declared.role.Role.{Role}
 use Rattle.tv_palette.specs.Palettes.{colour_in}
 use Rattle.tv_view.specs.declared.env.Env.{Env}

@@ -7,9 +7,9 @@ use Rattle.tv_cells.specs.Layers.{Layer, Painted, Shows}
 use Rattle.tv_cells.specs.declared.rect.Point.{Point}
 use Rattle.tv_cells.specs.declared.rect.Rect.{Rect}
 use Rattle.tv_cells.specs.declared.canvas.Canvas.{Canvas}
-use Rattle.tv_model.specs.State.{natural}
-use Rattle.tv_model.specs.Nodes.{height_of}
-use Rattle.tv_model.specs.Meaning.{Leaf, Placed, bounds_of}
+use Rattle.tv_model.specs.Description.Numbers.{natural}
+use Rattle.tv_model.specs.Description.Nodes.{height_of}
+use Rattle.tv_model.specs.Controls.Meaning.{Leaf, Placed, bounds_of}
 use Rattle.tv_view.specs.declared.env.Env.{Env}
 use Rattle.tv_view.specs.LeafFaces.{faces_of_kind}
 

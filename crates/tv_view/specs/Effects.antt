@@ -9,14 +9,14 @@ use Rattle.tv_cells.specs.declared.rect.Point.{Point}
 use Rattle.tv_valid.specs.declared.domain.Domain.{Domain}
 use Rattle.tv_valid.specs.declared.input.InputSpec.{InputSpec}
 use Rattle.tv_valid.specs.Domain.{IsDomain}
-use Rattle.tv_model.specs.declared.node.Kind.{Kind}
-use Rattle.tv_model.specs.declared.node.Kind.TheVariants as kinds
-use Rattle.tv_model.specs.declared.node.MarkedText.{MarkedText}
-use Rattle.tv_model.specs.State.{natural}
-use Rattle.tv_model.specs.ClusterTable.{ClusterKind, Boxes, Radios, cluster_key, keyed, pressed}
-use Rattle.tv_model.specs.ListTable.{asked_item, chosen_or, item_at_row}
-use Rattle.tv_model.specs.InputTable.{Edited, clicked, first_shown}
-use Rattle.tv_model.specs.Meaning.{Leaf, holds}
+use Rattle.tv_model.specs.declared.kind.Kind.{Kind}
+use Rattle.tv_model.specs.declared.kind.Kind.TheVariants as kinds
+use Rattle.tv_model.specs.declared.kind.MarkedText.{MarkedText}
+use Rattle.tv_model.specs.Description.Numbers.{natural}
+use Rattle.tv_model.specs.Controls.ClusterTable.{ClusterKind, Boxes, Radios, cluster_key, keyed, pressed}
+use Rattle.tv_model.specs.Controls.ListTable.{asked_item, chosen_or, item_at_row}
+use Rattle.tv_model.specs.Controls.InputTable.{Edited, clicked, first_shown}
+use Rattle.tv_model.specs.Controls.Meaning.{Leaf, holds}
 use Rattle.tv_view.specs.declared.env.Env.{Env}
 use Rattle.tv_view.specs.Colours.{has_focus}
 use Rattle.tv_view.specs.Fields.{edit_of, with_edit, cluster_of, with_cluster, chosen_of, with_chosen, selected_of}
@@ -88,17 +88,17 @@ InputHandled spec env leaf (events.Up point) p after = after ≡ released leaf
 InputHandled spec env leaf _ p after = after ≡ leaf
 
 abbrev pub KindHandled : Event → Phase → Env → Leaf → Kind → Leaf → Type 0
-KindHandled e p env leaf (kinds.Text h text) after = after ≡ leaf
-KindHandled e p env leaf (kinds.Label text link) after = after ≡ leaf
-KindHandled e p env leaf (kinds.Button name text command is_default grabs) after = after ≡ button_after grabs leaf e
-KindHandled e p env leaf (kinds.Input name spec start validates) after = InputHandled spec env leaf e p after
-KindHandled e p env leaf (kinds.CheckBoxes name items start) after = after ≡ cluster_after Boxes items leaf e p
-KindHandled e p env leaf (kinds.RadioButtons name items start) after = after ≡ cluster_after Radios items leaf e p
-KindHandled e p env leaf (kinds.List name h items start) after = after ≡ list_after (natural h) (length items) leaf e p
+KindHandled e p env leaf (kinds.Text shown) after = after ≡ leaf
+KindHandled e p env leaf (kinds.Label label) after = after ≡ leaf
+KindHandled e p env leaf (kinds.Button button) after = after ≡ button_after button.grabs leaf e
+KindHandled e p env leaf (kinds.Input input) after = InputHandled input.spec env leaf e p after
+KindHandled e p env leaf (kinds.CheckBoxes boxes) after = after ≡ cluster_after Boxes boxes.items leaf e p
+KindHandled e p env leaf (kinds.RadioButtons radios) after = after ≡ cluster_after Radios radios.items leaf e p
+KindHandled e p env leaf (kinds.List list) after = after ≡ list_after (natural list.h) (length list.items) leaf e p
 -- no leaf is a window, a dialog or a pane, so that no view can stand for one
-KindHandled e p env leaf (kinds.Window name h number title) after = ⊥
-KindHandled e p env leaf (kinds.Dialog name h title opens ends) after = ⊥
-KindHandled e p env leaf (kinds.Pane name h) after = ⊥
+KindHandled e p env leaf (kinds.Window head) after = ⊥
+KindHandled e p env leaf (kinds.Dialog head) after = ⊥
+KindHandled e p env leaf (kinds.Pane pane) after = ⊥
 
 -- what a leaf becomes by an event in a phase
 unfoldable pub Handled : Event → Phase → Env → Leaf → Leaf → Type 0

@@ -2,11 +2,11 @@
 use Rattle.std.specs.Prelude.{ℕ, Bool, false, List, [], Option, Some, None, ◌-◌, slice_index_or}
 use Rattle.tv_model.specs.declared.record.Value.{Value}
 use Rattle.tv_model.specs.declared.record.Value.TheVariants as values
-use Rattle.tv_model.specs.State.{Private, Editing, Selecting, Scrolled, item_of}
-use Rattle.tv_model.specs.ClusterTable.{Cluster}
-use Rattle.tv_model.specs.ListTable.{Chosen}
-use Rattle.tv_model.specs.InputTable.{Edit}
-use Rattle.tv_model.specs.Meaning.{Leaf}
+use Rattle.tv_model.specs.Machine.State.{Private, Editing, Selecting, Scrolled, item_of}
+use Rattle.tv_model.specs.Controls.ClusterTable.{Cluster}
+use Rattle.tv_model.specs.Controls.ListTable.{Chosen}
+use Rattle.tv_model.specs.Controls.InputTable.{Edit}
+use Rattle.tv_model.specs.Controls.Meaning.{Leaf}
 
 -- ---- inputs
 

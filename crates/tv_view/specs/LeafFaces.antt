@@ -1,16 +1,16 @@
 -- What each kind of leaf shows, by columns and rows from its corner. A cell is a character in the attribute of its role.
 use Rattle.std.specs.Prelude.{ℕ, Bool, true, false, not, ◌&&◌, List, [], ◌∷◌, ◌++◌, length, Option, Some, None, slice_get, ◌+◌, ◌-◌, ◌/◌, ◌%◌, ◌^◌, ◌==◌, nat_lt, if◌then◌else◌, codes}
 use Rattle.tv_cells.specs.Glyph.{Glyph, glyph, shown}
-use Rattle.tv_model.specs.declared.node.Kind.{Kind}
-use Rattle.tv_model.specs.declared.node.Kind.TheVariants as kinds
-use Rattle.tv_model.specs.declared.node.MarkedText.{MarkedText}
+use Rattle.tv_model.specs.declared.kind.Kind.{Kind}
+use Rattle.tv_model.specs.declared.kind.Kind.TheVariants as kinds
+use Rattle.tv_model.specs.declared.kind.MarkedText.{MarkedText}
 use Rattle.tv_model.specs.declared.record.Value.{Value}
 use Rattle.tv_model.specs.declared.record.Value.TheVariants as values
-use Rattle.tv_model.specs.State.{natural}
-use Rattle.tv_model.specs.Faces.{FaceOf, text_row, text_face, ButtonLook, button_role, button_cells}
-use Rattle.tv_model.specs.ClusterTable.{ClusterKind, Boxes, Radios}
-use Rattle.tv_model.specs.InputTable.{Edit, first_shown}
-use Rattle.tv_model.specs.Meaning.{Leaf}
+use Rattle.tv_model.specs.Description.Numbers.{natural}
+use Rattle.tv_model.specs.Screen.Faces.{FaceOf, text_row, text_face, ButtonLook, button_role, button_cells}
+use Rattle.tv_model.specs.Controls.ClusterTable.{ClusterKind, Boxes, Radios}
+use Rattle.tv_model.specs.Controls.InputTable.{Edit, first_shown}
+use Rattle.tv_model.specs.Controls.Meaning.{Leaf}
 use Rattle.tv_palette.specs.declared.role.Role.{Role}
 use Rattle.tv_palette.specs.declared.role.Role.TheVariants as roles
 use Rattle.tv_palette.specs.declared.role.LabelRole.{LabelRole}
@@ -149,13 +149,13 @@ input_face env leaf x y = shown cell.ch (colour env (roles.Input cell.role))
 
 -- the face of a leaf. Windows, dialogs and panes are none
 abbrev pub faces_of_kind : Env → Leaf → Kind → List FaceOf
-faces_of_kind env leaf (kinds.Text h text) = static_text_face env text ∷ []
-faces_of_kind env leaf (kinds.Label text link) = label_face env text link ∷ []
-faces_of_kind env leaf (kinds.Button name text command is_default grabs) = button_face env leaf text ∷ []
-faces_of_kind env leaf (kinds.Input name spec start validates) = input_face env leaf ∷ []
-faces_of_kind env leaf (kinds.CheckBoxes name items start) = cluster_face Boxes env leaf items ∷ []
-faces_of_kind env leaf (kinds.RadioButtons name items start) = cluster_face Radios env leaf items ∷ []
-faces_of_kind env leaf (kinds.List name h items start) = list_face env leaf items ∷ []
-faces_of_kind env leaf (kinds.Window name h number title) = []
-faces_of_kind env leaf (kinds.Dialog name h title opens ends) = []
-faces_of_kind env leaf (kinds.Pane name h) = []
+faces_of_kind env leaf (kinds.Text shown) = static_text_face env shown.text ∷ []
+faces_of_kind env leaf (kinds.Label label) = label_face env label.text label.link ∷ []
+faces_of_kind env leaf (kinds.Button button) = button_face env leaf button.text ∷ []
+faces_of_kind env leaf (kinds.Input input) = input_face env leaf ∷ []
+faces_of_kind env leaf (kinds.CheckBoxes boxes) = cluster_face Boxes env leaf boxes.items ∷ []
+faces_of_kind env leaf (kinds.RadioButtons radios) = cluster_face Radios env leaf radios.items ∷ []
+faces_of_kind env leaf (kinds.List list) = list_face env leaf list.items ∷ []
+faces_of_kind env leaf (kinds.Window head) = []
+faces_of_kind env leaf (kinds.Dialog head) = []
+faces_of_kind env leaf (kinds.Pane pane) = []

@@ -10,18 +10,18 @@ use Rattle.tv_event.specs.declared.event.Key.TheVariants as keys
 use Rattle.tv_event.specs.declared.event.Phase.{Phase}
 use Rattle.tv_event.specs.declared.event.Phase.TheVariants as phases
 use Rattle.tv_model.specs.declared.node.Id.{Id}
-use Rattle.tv_model.specs.declared.node.Kind.{Kind}
-use Rattle.tv_model.specs.declared.node.Kind.TheVariants as kinds
-use Rattle.tv_model.specs.declared.node.CommandSpec.{CommandSpec}
-use Rattle.tv_model.specs.declared.node.MarkedText.{MarkedText}
-use Rattle.tv_model.specs.State.{natural}
-use Rattle.tv_model.specs.Step.{command_number}
-use Rattle.tv_model.specs.ButtonTable.{item_marking, is_press}
-use Rattle.tv_model.specs.Faults.Letters.{marks, upper}
-use Rattle.tv_model.specs.ClusterTable.{ClusterKind, Boxes, Radios, ClusterKey, Passed, cluster_key, may_change}
-use Rattle.tv_model.specs.ListTable.{asked_item}
-use Rattle.tv_model.specs.InputTable.{is_edit_key}
-use Rattle.tv_model.specs.Meaning.{Leaf, bounds_of, holds}
+use Rattle.tv_model.specs.declared.kind.Kind.{Kind}
+use Rattle.tv_model.specs.declared.kind.Kind.TheVariants as kinds
+use Rattle.tv_model.specs.declared.command.CommandSpec.{CommandSpec}
+use Rattle.tv_model.specs.declared.kind.MarkedText.{MarkedText}
+use Rattle.tv_model.specs.Description.Numbers.{natural}
+use Rattle.tv_model.specs.Description.Commands.{command_number}
+use Rattle.tv_model.specs.Controls.ButtonTable.{item_marking, is_press}
+use Rattle.tv_model.specs.Description.Letters.{marks, upper}
+use Rattle.tv_model.specs.Controls.ClusterTable.{ClusterKind, Boxes, Radios, ClusterKey, Passed, cluster_key, may_change}
+use Rattle.tv_model.specs.Controls.ListTable.{asked_item}
+use Rattle.tv_model.specs.Controls.InputTable.{is_edit_key}
+use Rattle.tv_model.specs.Controls.Meaning.{Leaf, bounds_of, holds}
 use Rattle.tv_view.specs.declared.env.Env.{Env}
 use Rattle.tv_view.specs.declared.reaction.Reaction.{Reaction}
 use Rattle.tv_view.specs.declared.reaction.Reaction.TheVariants.{Pass, Done, Focus, FocusPress, Post, Changed, Capture, Release}
@@ -146,16 +146,16 @@ table_answer leaf consumes (events.Command c) p = Pass
 table_answer leaf consumes (events.Broadcast c) p = Pass
 
 abbrev pub kind_answer : Event → Phase → Env → Leaf → Kind → Reaction
-kind_answer e p env leaf (kinds.Text h text) = Pass
-kind_answer e p env leaf (kinds.Label text link) = label_answer env text link e p
-kind_answer e p env leaf (kinds.Button name text command is_default grabs) = button_answer env leaf text command grabs e p
-kind_answer e p env leaf (kinds.Input name spec start validates) = table_answer leaf is_edit_key e p
-kind_answer e p env leaf (kinds.CheckBoxes name items start) = cluster_answer Boxes leaf items e p
-kind_answer e p env leaf (kinds.RadioButtons name items start) = cluster_answer Radios leaf items e p
-kind_answer e p env leaf (kinds.List name h items start) = table_answer leaf (λ k. is_some (asked_item (natural h) (length items) (chosen_of leaf) k)) e p
-kind_answer e p env leaf (kinds.Window name h number title) = Pass
-kind_answer e p env leaf (kinds.Dialog name h title opens ends) = Pass
-kind_answer e p env leaf (kinds.Pane name h) = Pass
+kind_answer e p env leaf (kinds.Text shown) = Pass
+kind_answer e p env leaf (kinds.Label label) = label_answer env label.text label.link e p
+kind_answer e p env leaf (kinds.Button button) = button_answer env leaf button.text button.command button.grabs e p
+kind_answer e p env leaf (kinds.Input input) = table_answer leaf is_edit_key e p
+kind_answer e p env leaf (kinds.CheckBoxes boxes) = cluster_answer Boxes leaf boxes.items e p
+kind_answer e p env leaf (kinds.RadioButtons radios) = cluster_answer Radios leaf radios.items e p
+kind_answer e p env leaf (kinds.List list) = table_answer leaf (λ k. is_some (asked_item (natural list.h) (length list.items) (chosen_of leaf) k)) e p
+kind_answer e p env leaf (kinds.Window head) = Pass
+kind_answer e p env leaf (kinds.Dialog head) = Pass
+kind_answer e p env leaf (kinds.Pane pane) = Pass
 
 -- what a leaf answers; `Pass` exactly where it didn't consume the event
 unfoldable pub answer : Event → Phase → Env → Leaf → Reaction

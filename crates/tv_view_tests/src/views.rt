@@ -1,8 +1,8 @@
 //! Views in groups, among them one that is made here.
 
 ghost use Rattle.std.specs.Prelude.{IfOk};
-ghost use Rattle.tv_model.specs.Faults.{place_of_node};
-ghost use Rattle.tv_model.specs.Meaning.{IsSmallRect};
+ghost use Rattle.tv_model.specs.Description.Rectangles.{place_of_node};
+ghost use Rattle.tv_model.specs.Controls.Meaning.{IsSmallRect};
 
 use crate::samples::{body, chars, sized, text_node};
 use std::alloc::Global;

@@ -11,15 +11,15 @@ use Rattle.tv_cells.specs.Rectangle.{IsIn, cut, shifted, sized}
 use Rattle.tv_cells.specs.declared.rect.Rect.{Rect}
 use Rattle.tv_cells.specs.declared.canvas.Canvas.{Canvas}
 use Rattle.tv_cells.proofs.Rectangles.{in_cut, point_is}
-use Rattle.tv_model.specs.Faces.{frame_look, frame_role, static_text}
-use Rattle.tv_model.specs.Faults.{desktop, interior, place_of_node, rect}
-use Rattle.tv_model.specs.Layers.{canvas_at, window_view_layers}
-use Rattle.tv_model.specs.Meaning.{fresh}
-use Rattle.tv_model.specs.State.{natural}
+use Rattle.tv_model.specs.Screen.Faces.{frame_look, frame_role, static_text}
+use Rattle.tv_model.specs.Description.Rectangles.{desktop, interior, place_of_node, rect}
+use Rattle.tv_model.specs.Screen.Layers.{canvas_at, window_view_layers}
+use Rattle.tv_model.specs.Controls.Meaning.{fresh}
+use Rattle.tv_model.specs.Description.Numbers.{natural}
 use Rattle.tv_model.specs.declared.desc.Desc.{Desc}
 use Rattle.tv_model.specs.declared.desc.Window.{Window}
 use Rattle.tv_model.specs.declared.node.Node.{Node}
-use Rattle.tv_model.specs.declared.node.Kind.TheVariants as kinds
+use Rattle.tv_model.specs.declared.kind.Kind.TheVariants as kinds
 use Rattle.tv_palette.proofs.Colours.{leads_through}
 use Rattle.tv_palette.specs.Attributes.{attribute_of}
 use Rattle.tv_palette.specs.Palettes.{colour_in}
@@ -133,16 +133,16 @@ module _ (env : Env) (lent : IsOfWindow env) (d : Desc) (window : Window) (h : �
   abbrev pub body_of_window : Canvas
   body_of_window = body d window.node.x window.node.y window.node.w h
 
-  view_drawn : (n : Node) (height : ℤ) (text : List ℕ) → n.kind ≡ kinds.Text height text
+  view_drawn : (n : Node) (height : ℤ) (text : List ℕ) → n.kind ≡ kinds.Text (record { h = height; text = text })
       → leaf_layers env body_of_window (fresh n) ≡ Painted (sub body_of_window (rect n.x n.y n.w height)) (natural n.w) (natural height) (static_text_face env text) ∷ []
   unfolding leaf_layers
   view_drawn n height text kind = rw kind refl
 
-  view_declared : (n : Node) (height : ℤ) (text : List ℕ) → n.kind ≡ kinds.Text height text
+  view_declared : (n : Node) (height : ℤ) (text : List ℕ) → n.kind ≡ kinds.Text (record { h = height; text = text })
       → window_view_layers d window n ≡ Painted (canvas_at (desktop d) (window.node.x +ℤ n.x) (window.node.y +ℤ n.y)) (natural n.w) (natural height) (static_text owners.Window text) ∷ []
   view_declared n height text kind = rw kind refl
 
-  place_is : (n : Node) (height : ℤ) (text : List ℕ) → n.kind ≡ kinds.Text height text → place_of_node n ≡ rect n.x n.y n.w height
+  place_is : (n : Node) (height : ℤ) (text : List ℕ) → n.kind ≡ kinds.Text (record { h = height; text = text }) → place_of_node n ≡ rect n.x n.y n.w height
   place_is n height text kind = rw kind refl
 
   view_same : (n : Node) → IsTextInside window.node n → IsSame (leaf_layers env body_of_window (fresh n)) (window_view_layers d window n)

@@ -10,19 +10,18 @@ use Rattle.tv_cells.specs.Rectangle.{sized}
 use Rattle.tv_cells.specs.declared.rect.Point.{Point}
 use Rattle.tv_cells.specs.declared.rect.Rect.{Rect}
 use Rattle.tv_cells.specs.declared.canvas.Canvas.{Canvas}
-use Rattle.tv_model.specs.Faces.{FaceOf, FrameLook, frame_face, frame_look}
-use Rattle.tv_model.specs.Faults.{interior, rect}
-use Rattle.tv_model.specs.Layers.{window_view_layers}
-use Rattle.tv_model.specs.Layers.{stack_layers as declared_layers, window_layers as declared_window}
-use Rattle.tv_model.specs.Meaning.{Leaf, IsSmall, IsSmallRect}
-use Rattle.tv_model.specs.Nodes.{height_of, is_pane}
-use Rattle.tv_model.specs.State.{natural}
+use Rattle.tv_model.specs.Screen.Faces.{FaceOf, FrameLook, frame_face, frame_look}
+use Rattle.tv_model.specs.Description.Rectangles.{interior, rect}
+use Rattle.tv_model.specs.Screen.Layers.{window_view_layers, stack_layers as declared_layers, window_layers as declared_window}
+use Rattle.tv_model.specs.Controls.Meaning.{Leaf, IsSmall, IsSmallRect}
+use Rattle.tv_model.specs.Description.Nodes.{height_of, is_pane}
+use Rattle.tv_model.specs.Description.Numbers.{natural}
 use Rattle.tv_model.specs.declared.desc.Desc.{Desc}
 use Rattle.tv_model.specs.declared.desc.Window.{Window}
 use Rattle.tv_model.specs.declared.node.Id.{Id}
 use Rattle.tv_model.specs.declared.node.Node.{Node}
-use Rattle.tv_model.specs.declared.node.Kind.{Kind}
-use Rattle.tv_model.specs.declared.node.Kind.TheVariants as kinds
+use Rattle.tv_model.specs.declared.kind.Kind.{Kind}
+use Rattle.tv_model.specs.declared.kind.Kind.TheVariants as kinds
 use Rattle.tv_palette.specs.Attributes.{attribute_of}
 use Rattle.tv_palette.specs.Palettes.{colour_in}
 use Rattle.tv_palette.specs.declared.role.Owner.TheVariants as owners
@@ -46,7 +45,7 @@ pub record IsHead (node : Node) (head : WindowHead) : Type 0 where
   pub h : ℤ
   pub number : ℤ
   pub title : List ℕ
-  pub kind : node.kind ≡ kinds.Window name h number title
+  pub kind : node.kind ≡ kinds.Window (record { name = name; h = h; number = number; title = title })
   pub is : head ≡ record { id = node.id; x = node.x; y = node.y; w = node.w; h = h; number = number; title = title }
 
 some_is : {A : Type 0} (a b : A) → Some a ≡ Some b → a ≡ b
@@ -56,16 +55,16 @@ head_is : (node : Node) (head : WindowHead) → Some head ≡ declared_head node
 head_is node head same = by_kind node.kind refl
   where
     by_kind : (k : Kind) → node.kind ≡ k → IsHead node head
-    by_kind (kinds.Window name h number title) e = record { name = name; h = h; number = number; title = title; kind = e; is = some_is head _ (rw e at same) }
-    by_kind (kinds.Dialog name h title opens ends) e = absurd (let f : Some head ≡ None = rw e at same in cc)
-    by_kind (kinds.Text h text) e = absurd (let f : Some head ≡ None = rw e at same in cc)
-    by_kind (kinds.Label text link) e = absurd (let f : Some head ≡ None = rw e at same in cc)
-    by_kind (kinds.Button name text command is_default grabs) e = absurd (let f : Some head ≡ None = rw e at same in cc)
-    by_kind (kinds.Input name spec start validates) e = absurd (let f : Some head ≡ None = rw e at same in cc)
-    by_kind (kinds.CheckBoxes name items start) e = absurd (let f : Some head ≡ None = rw e at same in cc)
-    by_kind (kinds.RadioButtons name items start) e = absurd (let f : Some head ≡ None = rw e at same in cc)
-    by_kind (kinds.List name h items start) e = absurd (let f : Some head ≡ None = rw e at same in cc)
-    by_kind (kinds.Pane name h) e = absurd (let f : Some head ≡ None = rw e at same in cc)
+    by_kind (kinds.Window own) e = record { name = own.name; h = own.h; number = own.number; title = own.title; kind = e; is = some_is head _ (rw e at same) }
+    by_kind (kinds.Dialog own) e = absurd (let f : Some head ≡ None = rw e at same in cc)
+    by_kind (kinds.Text shown) e = absurd (let f : Some head ≡ None = rw e at same in cc)
+    by_kind (kinds.Label label) e = absurd (let f : Some head ≡ None = rw e at same in cc)
+    by_kind (kinds.Button button) e = absurd (let f : Some head ≡ None = rw e at same in cc)
+    by_kind (kinds.Input input) e = absurd (let f : Some head ≡ None = rw e at same in cc)
+    by_kind (kinds.CheckBoxes boxes) e = absurd (let f : Some head ≡ None = rw e at same in cc)
+    by_kind (kinds.RadioButtons radios) e = absurd (let f : Some head ≡ None = rw e at same in cc)
+    by_kind (kinds.List list) e = absurd (let f : Some head ≡ None = rw e at same in cc)
+    by_kind (kinds.Pane pane) e = absurd (let f : Some head ≡ None = rw e at same in cc)
 
 -- ---- small origins are near
 

@@ -2,14 +2,14 @@
 use Rattle.std.specs.Prelude.{◌≡◌, ℤ, ℕ, All, List, [], ◌∷◌, Some, pos}
 use Rattle.tv_cells.specs.Rectangle.{IsIn}
 use Rattle.tv_cells.specs.declared.canvas.Canvas.{Canvas}
-use Rattle.tv_model.specs.Faults.{desktop, interior, place_of_node}
-use Rattle.tv_model.specs.Layers.{canvas_at, window_of}
-use Rattle.tv_model.specs.Meaning.{Leaf}
+use Rattle.tv_model.specs.Description.Rectangles.{desktop, interior, place_of_node}
+use Rattle.tv_model.specs.Screen.Layers.{canvas_at, window_of}
+use Rattle.tv_model.specs.Controls.Meaning.{Leaf}
 use Rattle.tv_model.specs.declared.desc.Desc.{Desc}
 use Rattle.tv_model.specs.declared.desc.Window.{Window}
 use Rattle.tv_model.specs.declared.node.Id.{Id}
 use Rattle.tv_model.specs.declared.node.Node.{Node}
-use Rattle.tv_model.specs.declared.node.Kind.TheVariants as kinds
+use Rattle.tv_model.specs.declared.kind.Kind.TheVariants as kinds
 use Rattle.tv_palette.specs.Chain.{coloured}
 use Rattle.tv_palette.specs.Palettes.{owners_of_part}
 use Rattle.tv_palette.specs.declared.role.Owner.TheVariants as owners
@@ -21,7 +21,7 @@ use Rattle.tv_window.specs.declared.window.WindowOf.{WindowOf}
 pub record IsTextInside (owner node : Node) : Type 0 where
   pub height : ℤ
   pub text : List ℕ
-  pub kind : node.kind ≡ kinds.Text height text
+  pub kind : node.kind ≡ kinds.Text (record { h = height; text = text })
   pub inside : (x y : ℤ) → IsIn (place_of_node node) x y → IsIn (interior owner) x y
 
 -- the window of the description that has the id, with static texts inside its frame

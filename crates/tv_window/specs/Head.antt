@@ -3,10 +3,10 @@ use Rattle.std.specs.Prelude.{ℕ, ℤ, pos, List, length, ◌≤◌, ◌≤ℤ�
 use Rattle.tv_cells.specs.declared.rect.Rect.{Rect}
 use Rattle.tv_model.specs.declared.node.Id.{Id}
 use Rattle.tv_model.specs.declared.node.Node.{Node}
-use Rattle.tv_model.specs.declared.node.Kind.{Kind}
-use Rattle.tv_model.specs.declared.node.Kind.TheVariants as kinds
-use Rattle.tv_model.specs.Faults.{rect}
-use Rattle.tv_model.specs.Meaning.{IsSmallRect}
+use Rattle.tv_model.specs.declared.kind.Kind.{Kind}
+use Rattle.tv_model.specs.declared.kind.Kind.TheVariants as kinds
+use Rattle.tv_model.specs.Description.Rectangles.{rect}
+use Rattle.tv_model.specs.Controls.Meaning.{IsSmallRect}
 
 pub record WindowHead : Type 0 where
   pub id : Id
@@ -22,7 +22,7 @@ abbrev pub declared_head : Node → Option WindowHead
 declared_head node = head node.kind
   where
     head : Kind → Option WindowHead
-    head (kinds.Window name h number title) = Some (record { id = node.id; x = node.x; y = node.y; w = node.w; h = h; number = number; title = title })
+    head (kinds.Window own) = Some (record { id = node.id; x = node.x; y = node.y; w = node.w; h = own.h; number = own.number; title = own.title })
     head _ = None
 
 abbrev pub bounds_of : WindowHead → Rect

@@ -1,8 +1,8 @@
 //! Windows one over the other.
 
 ghost use Rattle.std.specs.Prelude.{◌≡◌, List};
-ghost use Rattle.tv_model.specs.Layers.{stack_layers as declared_layers};
-ghost use Rattle.tv_model.specs.Meaning.{IsSmall};
+ghost use Rattle.tv_model.specs.Screen.Layers.{stack_layers as declared_layers};
+ghost use Rattle.tv_model.specs.Controls.Meaning.{IsSmall};
 ghost use Rattle.tv_model.specs.declared.desc.Desc.{Desc};
 ghost use Rattle.tv_model.specs.declared.node.Id.{Id};
 ghost use Rattle.tv_view.specs.Drawing.{Lays};

@@ -2,7 +2,7 @@
 
 ghost use Rattle.std.specs.Prelude.{◌≡◌, [], IfErr, IfOk, OnOk};
 ghost use Rattle.tv_model.specs.Faults.{IsSound};
-ghost use Rattle.tv_model.specs.Thin.{IsThin};
+ghost use Rattle.tv_model.specs.Description.Thin.{IsThin};
 ghost use Rattle.tv_program.specs.declared.fault.RunFault.TheVariants.{Write};
 ghost use Rattle.tv_script.specs.Device.{kept_back};
 ghost use Rattle.tvdlg.specs.Failures.{IsToldOf, IsUnread};

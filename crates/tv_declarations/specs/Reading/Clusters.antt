@@ -1,9 +1,9 @@
 -- Reading the lines that declare clusters and lists.
 use Rattle.std.specs.Prelude.{ℕ, ℤ, List, [], ◌∷◌, ◌++◌, Option, Some, None, option_and_then, codes, if◌then◌else◌}
 use Rattle.std.specs.Option.{option_map}
-use Rattle.tv_model.specs.declared.node.MarkedText.{MarkedText}
+use Rattle.tv_model.specs.declared.kind.MarkedText.{MarkedText}
 use Rattle.tv_model.specs.declared.node.Node.{Node}
-use Rattle.tv_model.specs.declared.node.Kind.TheVariants as kinds
+use Rattle.tv_model.specs.declared.kind.Kind.TheVariants as kinds
 use Rattle.tv_declarations.specs.declared.place.Position.{Position}
 use Rattle.tv_declarations.specs.declared.items.Items.{Items}
 use Rattle.tv_words.specs.declared.word.Word.{Word}
@@ -70,15 +70,15 @@ rows_of s = with2 (λ items start. (items, start)) (texts_in s.texts) (only_numb
 
 -- what follows `checks`
 abbrev pub checks_in : Position → List Word → Option Node
-checks_in at (name ∷ x ∷ y ∷ w ∷ items) = with3 (λ items name p. node_at at p (kinds.CheckBoxes name items.0 items.1)) (option_and_then boxes_of (items_in items)) (name_in name) (place_in x y w)
+checks_in at (name ∷ x ∷ y ∷ w ∷ items) = with3 (λ items name p. node_at at p (kinds.CheckBoxes (record { name = name; items = items.0; start = items.1 }))) (option_and_then boxes_of (items_in items)) (name_in name) (place_in x y w)
 checks_in at _ = None
 
 -- what follows `radios`
 abbrev pub radios_in : Position → List Word → Option Node
-radios_in at (name ∷ x ∷ y ∷ w ∷ items) = with3 (λ items name p. node_at at p (kinds.RadioButtons name items.0 items.1)) (option_and_then radios_of (items_in items)) (name_in name) (place_in x y w)
+radios_in at (name ∷ x ∷ y ∷ w ∷ items) = with3 (λ items name p. node_at at p (kinds.RadioButtons (record { name = name; items = items.0; start = items.1 }))) (option_and_then radios_of (items_in items)) (name_in name) (place_in x y w)
 radios_in at _ = None
 
 -- what follows `list`
 abbrev pub list_in : Position → List Word → Option Node
-list_in at (name ∷ x ∷ y ∷ w ∷ h ∷ items) = with4 (λ items name p h. node_at at p (kinds.List name h items.0 items.1)) (option_and_then rows_of (items_in items)) (name_in name) (place_in x y w) (number_in h)
+list_in at (name ∷ x ∷ y ∷ w ∷ h ∷ items) = with4 (λ items name p h. node_at at p (kinds.List (record { name = name; h = h; items = items.0; start = items.1 }))) (option_and_then rows_of (items_in items)) (name_in name) (place_in x y w) (number_in h)
 list_in at _ = None

@@ -4,8 +4,8 @@ use Rattle.std.specs.Option.{option_map}
 use Rattle.tv_valid.specs.declared.input.DomainSpec.{DomainSpec}
 use Rattle.tv_valid.specs.declared.input.DomainSpec.TheVariants as domains
 use Rattle.tv_model.specs.declared.node.Node.{Node}
-use Rattle.tv_model.specs.declared.node.Kind.{Kind}
-use Rattle.tv_model.specs.declared.node.Kind.TheVariants as kinds
+use Rattle.tv_model.specs.declared.kind.Kind.{Kind}
+use Rattle.tv_model.specs.declared.kind.Kind.TheVariants as kinds
 use Rattle.tv_declarations.specs.declared.place.Position.{Position}
 use Rattle.tv_declarations.specs.declared.input.Asked.{Asked}
 use Rattle.tv_declarations.specs.declared.input.Options.{Options}
@@ -58,7 +58,7 @@ abbrev pub asked_in : List Word → Option Asked
 asked_in ws = asked_from (domain_in ws)
 
 abbrev pub input_of : List ℕ → ℤ → Asked → Kind
-input_of name max asked = kinds.Input name (record { max = max; domain = asked.domain; optional = asked.options.optional; fill = asked.options.fill }) asked.start asked.options.validates
+input_of name max asked = kinds.Input (record { name = name; spec = (record { max = max; domain = asked.domain; optional = asked.options.optional; fill = asked.options.fill }); start = asked.start; validates = asked.options.validates })
 
 -- what follows `input`
 abbrev pub input_in : Position → List Word → Option Node

@@ -1,8 +1,8 @@
 -- Reading where a node stands, and the texts of which one letter may be marked.
 use Rattle.std.specs.Prelude.{Option, option_and_then}
-use Rattle.tv_model.specs.declared.node.MarkedText.{MarkedText}
+use Rattle.tv_model.specs.declared.kind.MarkedText.{MarkedText}
 use Rattle.tv_model.specs.declared.node.Node.{Node}
-use Rattle.tv_model.specs.declared.node.Kind.{Kind}
+use Rattle.tv_model.specs.declared.kind.Kind.{Kind}
 use Rattle.tv_declarations.specs.declared.place.Place.{Place}
 use Rattle.tv_declarations.specs.declared.place.Position.{Position}
 use Rattle.tv_words.specs.declared.word.Word.{Word}

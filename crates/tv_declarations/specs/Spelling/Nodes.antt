@@ -4,8 +4,8 @@ use Rattle.std.specs.List.{AllByRecursion}
 use Rattle.tv_valid.specs.declared.input.DomainSpec.{DomainSpec}
 use Rattle.tv_valid.specs.declared.input.DomainSpec.TheVariants as domains
 use Rattle.tv_model.specs.declared.node.Node.{Node}
-use Rattle.tv_model.specs.declared.node.Kind.{Kind}
-use Rattle.tv_model.specs.declared.node.Kind.TheVariants as kinds
+use Rattle.tv_model.specs.declared.kind.Kind.{Kind}
+use Rattle.tv_model.specs.declared.kind.Kind.TheVariants as kinds
 use Rattle.tv_words.specs.declared.word.Word.{Word}
 use Rattle.tv_words.specs.declared.word.Word.TheVariants.{Bare, Quoted}
 use Rattle.tv_words.specs.Fields.{number_word, IsNumber, IsName}
@@ -34,16 +34,16 @@ marks_words (n ∷ ns) = Bare (codes "start") ∷ map number_word (n ∷ ns)
 
 -- the words that declare a node of the kind, at the column and row and with the width
 abbrev pub kind_words : Kind → Word → Word → Word → List Word
-kind_words (kinds.Window name h number title) x y w = Bare (codes "window") ∷ Bare name ∷ x ∷ y ∷ w ∷ number_word h ∷ number_word number ∷ Quoted title ∷ []
-kind_words (kinds.Dialog name h title opens ends) x y w = Bare (codes "dialog") ∷ Bare name ∷ x ∷ y ∷ w ∷ number_word h ∷ Quoted title ∷ (opens_words opens ++ (Bare (codes "ends") ∷ ends_words ends))
-kind_words (kinds.Text h text) x y w = Bare (codes "text") ∷ x ∷ y ∷ w ∷ number_word h ∷ Quoted text ∷ []
-kind_words (kinds.Label text link) x y w = Bare (codes "label") ∷ x ∷ y ∷ w ∷ marked_word text ∷ Bare link ∷ []
-kind_words (kinds.Button name text command is_default grabs) x y w = Bare (codes "button") ∷ Bare name ∷ x ∷ y ∷ w ∷ marked_word text ∷ command_word command ∷ (word_if is_default (codes "default") ++ word_if grabs (codes "grab"))
-kind_words (kinds.Input name spec start validates) x y w = Bare (codes "input") ∷ Bare name ∷ x ∷ y ∷ w ∷ number_word spec.max ∷ (domain_words spec.domain ++ (Quoted start ∷ (word_if validates (codes "validate") ++ (word_if spec.optional (codes "optional") ++ word_if spec.fill (codes "fill")))))
-kind_words (kinds.CheckBoxes name items start) x y w = Bare (codes "checks") ∷ Bare name ∷ x ∷ y ∷ w ∷ (map marked_word items ++ marks_words start)
-kind_words (kinds.RadioButtons name items start) x y w = Bare (codes "radios") ∷ Bare name ∷ x ∷ y ∷ w ∷ (map marked_word items ++ (Bare (codes "start") ∷ number_word start ∷ []))
-kind_words (kinds.List name h items start) x y w = Bare (codes "list") ∷ Bare name ∷ x ∷ y ∷ w ∷ number_word h ∷ (map text_word items ++ (Bare (codes "start") ∷ number_word start ∷ []))
-kind_words (kinds.Pane name h) x y w = Bare (codes "pane") ∷ Bare name ∷ x ∷ y ∷ w ∷ number_word h ∷ []
+kind_words (kinds.Window head) x y w = Bare (codes "window") ∷ Bare head.name ∷ x ∷ y ∷ w ∷ number_word head.h ∷ number_word head.number ∷ Quoted head.title ∷ []
+kind_words (kinds.Dialog head) x y w = Bare (codes "dialog") ∷ Bare head.name ∷ x ∷ y ∷ w ∷ number_word head.h ∷ Quoted head.title ∷ (opens_words head.opens ++ (Bare (codes "ends") ∷ ends_words head.ends))
+kind_words (kinds.Text shown) x y w = Bare (codes "text") ∷ x ∷ y ∷ w ∷ number_word shown.h ∷ Quoted shown.text ∷ []
+kind_words (kinds.Label label_kind) x y w = Bare (codes "label") ∷ x ∷ y ∷ w ∷ marked_word label_kind.text ∷ Bare label_kind.link ∷ []
+kind_words (kinds.Button pressable) x y w = Bare (codes "button") ∷ Bare pressable.name ∷ x ∷ y ∷ w ∷ marked_word pressable.text ∷ command_word pressable.command ∷ (word_if pressable.is_default (codes "default") ++ word_if pressable.grabs (codes "grab"))
+kind_words (kinds.Input line) x y w = Bare (codes "input") ∷ Bare line.name ∷ x ∷ y ∷ w ∷ number_word line.spec.max ∷ (domain_words line.spec.domain ++ (Quoted line.start ∷ (word_if line.validates (codes "validate") ++ (word_if line.spec.optional (codes "optional") ++ word_if line.spec.fill (codes "fill")))))
+kind_words (kinds.CheckBoxes boxes) x y w = Bare (codes "checks") ∷ Bare boxes.name ∷ x ∷ y ∷ w ∷ (map marked_word boxes.items ++ marks_words boxes.start)
+kind_words (kinds.RadioButtons cluster) x y w = Bare (codes "radios") ∷ Bare cluster.name ∷ x ∷ y ∷ w ∷ (map marked_word cluster.items ++ (Bare (codes "start") ∷ number_word cluster.start ∷ []))
+kind_words (kinds.List rows) x y w = Bare (codes "list") ∷ Bare rows.name ∷ x ∷ y ∷ w ∷ number_word rows.h ∷ (map text_word rows.items ++ (Bare (codes "start") ∷ number_word rows.start ∷ []))
+kind_words (kinds.Pane area) x y w = Bare (codes "pane") ∷ Bare area.name ∷ x ∷ y ∷ w ∷ number_word area.h ∷ []
 
 -- the words of the line that declares the node
 abbrev pub node_words : Node → List Word
@@ -64,13 +64,13 @@ is_rising (a ∷ b ∷ ns) = int_lt a b && is_rising (b ∷ ns)
 
 -- a kind whose names, numbers and marked texts are such, and whose cluster or list has an item
 abbrev pub IsKind : Kind → Type 0
-IsKind (kinds.Window name h number title) = IsName name × IsNumber h × IsNumber number
-IsKind (kinds.Dialog name h title opens ends) = IsName name × IsNumber h × IfSome opens IsNumber
-IsKind (kinds.Text h text) = IsNumber h
-IsKind (kinds.Label text link) = IsMarked text × IsName link
-IsKind (kinds.Button name text command is_default grabs) = IsName name × IsMarked text × IsCommand command
-IsKind (kinds.Input name spec start validates) = IsName name × IsNumber spec.max × IsDomain spec.domain
-IsKind (kinds.CheckBoxes name items start) = IsName name × AllByRecursion IsMarked items × (items ≢ []) × AllByRecursion IsNumber start × IsTrue (is_rising start)
-IsKind (kinds.RadioButtons name items start) = IsName name × AllByRecursion IsMarked items × (items ≢ []) × IsNumber start
-IsKind (kinds.List name h items start) = IsName name × IsNumber h × (items ≢ []) × IsNumber start
-IsKind (kinds.Pane name h) = IsName name × IsNumber h
+IsKind (kinds.Window head) = IsName head.name × IsNumber head.h × IsNumber head.number
+IsKind (kinds.Dialog head) = IsName head.name × IsNumber head.h × IfSome head.opens IsNumber
+IsKind (kinds.Text shown) = IsNumber shown.h
+IsKind (kinds.Label label) = IsMarked label.text × IsName label.link
+IsKind (kinds.Button button) = IsName button.name × IsMarked button.text × IsCommand button.command
+IsKind (kinds.Input input) = IsName input.name × IsNumber input.spec.max × IsDomain input.spec.domain
+IsKind (kinds.CheckBoxes boxes) = IsName boxes.name × AllByRecursion IsMarked boxes.items × (boxes.items ≢ []) × AllByRecursion IsNumber boxes.start × IsTrue (is_rising boxes.start)
+IsKind (kinds.RadioButtons radios) = IsName radios.name × AllByRecursion IsMarked radios.items × (radios.items ≢ []) × IsNumber radios.start
+IsKind (kinds.List list) = IsName list.name × IsNumber list.h × (list.items ≢ []) × IsNumber list.start
+IsKind (kinds.Pane pane) = IsName pane.name × IsNumber pane.h

@@ -2,10 +2,10 @@
 use Rattle.std.specs.Prelude.{◌≡◌, ℕ, ◌+◌, ◌<◌, List, [], ◌∷◌, ◌++◌, length, take, drop, slice_index, Bool, false, Option, Some, None, ◌==◌, IfSome, IsTrue, codes, if◌then◌else◌}
 use Rattle.std.specs.List.{list_any}
 use Rattle.std.specs.Char.{is_ascii_alphanumeric}
-use Rattle.tv_model.specs.declared.node.CommandSpec.{CommandSpec}
-use Rattle.tv_model.specs.declared.node.CommandSpec.TheVariants as commands
-use Rattle.tv_model.specs.declared.node.Ends.{Ends}
-use Rattle.tv_model.specs.declared.node.MarkedText.{MarkedText}
+use Rattle.tv_model.specs.declared.command.CommandSpec.{CommandSpec}
+use Rattle.tv_model.specs.declared.command.CommandSpec.TheVariants as commands
+use Rattle.tv_model.specs.declared.command.Ends.{Ends}
+use Rattle.tv_model.specs.declared.kind.MarkedText.{MarkedText}
 use Rattle.tv_words.specs.declared.word.Word.{Word}
 use Rattle.tv_words.specs.declared.word.Word.TheVariants.{Bare, Quoted}
 use Rattle.tv_words.specs.Fields.{number_word, IsNumber}

@@ -6,7 +6,7 @@ use Rattle.tv_model.specs.declared.desc.Desc.{Desc}
 use Rattle.tv_model.specs.declared.desc.Dialog.{Dialog}
 use Rattle.tv_model.specs.declared.desc.Menu.{Menu}
 use Rattle.tv_model.specs.declared.desc.Window.{Window}
-use Rattle.tv_model.specs.Nodes.{is_pane}
+use Rattle.tv_model.specs.Description.Nodes.{is_pane}
 use Rattle.tv_declarations.specs.declared.declaration.Declaration.{Declaration}
 use Rattle.tv_declarations.specs.declared.declaration.Declaration.TheVariants as declared
 use Rattle.tv_declarations.specs.declared.place.Position.{Position}

@@ -1,12 +1,12 @@
--- Inputs whose domain has no text, and texts that can't stand in an input.
+-- Faults of inputs: F12 and F13.
 use Rattle.std.specs.Prelude.{ℕ, Bool, true, false, not, ◌&&◌, ◌||◌, List}
 use Rattle.tv_valid.specs.declared.input.InputSpec.{InputSpec}
 use Rattle.tv_valid.specs.declared.domain.Domain.{Domain}
 use Rattle.tv_valid.specs.Domain.{HasText, IsDomain, IsViableText}
 use Rattle.tv_valid.proofs.DecidedDomains.{dec_asked, dec_viable}
 use Rattle.tv_valid.proofs.DecidedTexts.{dec_has_text}
-use Rattle.tv_model.specs.declared.node.Kind.{Kind}
-use Rattle.tv_model.specs.declared.node.Kind.TheVariants as kinds
+use Rattle.tv_model.specs.declared.kind.Kind.{Kind}
+use Rattle.tv_model.specs.declared.kind.Kind.TheVariants as kinds
 use Rattle.tv_model.specs.Faults.Starts.{starts_outside}
 
 -- whether what was decided holds
@@ -31,12 +31,12 @@ may_stand text spec = dec_asked (λ d. IsViableText d text) (λ d. dec_viable d 
 
 -- F12: an input with a bad picture, or whose domain has no member of at most MAX characters
 abbrev pub has_no_text : Kind → Bool
-has_no_text (kinds.Input name spec start validates) = not (is_so (any_text spec))
+has_no_text (kinds.Input input) = not (is_so (any_text input.spec))
 has_no_text _ = false
 
 -- F13: an input whose start text isn't viable, where it has a domain
 abbrev pub starts_unviable : Kind → Bool
-starts_unviable (kinds.Input name spec start validates) = is_so (any_text spec) && not (is_so (may_stand start spec))
+starts_unviable (kinds.Input input) = is_so (any_text input.spec) && not (is_so (may_stand input.start input.spec))
 starts_unviable _ = false
 
 -- F13: a start text that isn't viable, or a start item that there isn't

@@ -1,57 +1,24 @@
--- Letters that are marked, and keys of status items.
-use Rattle.std.specs.Prelude.{ℕ, Bool, true, false, not, ◌&&◌, ◌||◌, List, [], ◌∷◌, slice_get, Option, Some, None, option_and_then, option_map, ℤ, pos, ◌-◌, ◌==◌, nat_le, int_le, if◌then◌else◌}
+-- Faults of letters and keys: F4, F5 and F17.
+use Rattle.std.specs.Prelude.{[], ℕ, Bool, true, false, not, ◌&&◌, ◌||◌, List, ℤ, pos, ◌-◌, ◌==◌, nat_le, int_le}
 use Rattle.std.specs.List.{list_any}
 use Rattle.std.specs.Ordering.{int_eq}
 use Rattle.tv_event.specs.declared.event.Key.{Key}
 use Rattle.tv_event.specs.declared.event.Key.TheVariants as keys
 use Rattle.tv_model.specs.declared.node.Node.{Node}
-use Rattle.tv_model.specs.declared.node.Kind.{Kind}
-use Rattle.tv_model.specs.declared.node.Kind.TheVariants as kinds
-use Rattle.tv_model.specs.declared.node.MarkedText.{MarkedText}
-use Rattle.tv_model.specs.declared.node.CommandSpec.TheVariants as commands
+use Rattle.tv_model.specs.declared.command.CommandSpec.TheVariants as commands
 use Rattle.tv_model.specs.declared.desc.Desc.{Desc}
 use Rattle.tv_model.specs.declared.desc.Menu.{Menu}
 use Rattle.tv_model.specs.declared.desc.MenuItem.{MenuItem}
 use Rattle.tv_model.specs.declared.desc.StatusItem.{StatusItem}
 use Rattle.tv_model.specs.declared.desc.Window.{Window}
-use Rattle.tv_model.specs.declared.desc.Dialog.{Dialog}
 use Rattle.tv_model.specs.declared.desc.Rule.{Rule}
 use Rattle.tv_model.specs.declared.desc.Effect.{Effect}
 use Rattle.tv_model.specs.declared.desc.Effect.TheVariants as effects
 use Rattle.tv_model.specs.Faults.Lines.{after_seen}
+use Rattle.tv_model.specs.Description.Letters.{marked_of, marks, shares_letter, is_capital, is_digit, is_shortcut}
+use Rattle.tv_model.specs.Description.Heads.{window_head}
 
 -- ---- marks
-
--- an ASCII letter in upper case
-abbrev pub upper : ℕ → ℕ
-upper ch = if nat_le 97 ch && nat_le ch 122 then ch - 32 else ch
-
--- the letter that a text marks, in upper case
-abbrev pub letter_of : MarkedText → Option ℕ
-letter_of marked = option_map upper (option_and_then (slice_get marked.text) marked.mark)
-
--- the texts of a declaration in which a letter may be marked
-abbrev pub marked_of : Kind → List MarkedText
-marked_of (kinds.Label text link) = text ∷ []
-marked_of (kinds.Button name text command is_default grabs) = text ∷ []
-marked_of (kinds.CheckBoxes name items start) = items
-marked_of (kinds.RadioButtons name items start) = items
-marked_of _ = []
-
-abbrev pub is_option_letter : ℕ → Option ℕ → Bool
-is_option_letter letter None = false
-is_option_letter letter (Some other) = other == letter
-
-abbrev pub marks : ℕ → MarkedText → Bool
-marks letter text = is_option_letter letter (letter_of text)
-
--- the first text marks a letter, and the second marks it too
-abbrev pub shares_letter : MarkedText → MarkedText → Bool
-shares_letter text other = marked (letter_of text)
-  where
-    marked : Option ℕ → Bool
-    marked None = false
-    marked (Some letter) = marks letter other
 
 -- F4: a line that marks a letter marked before in its dialog, on an earlier line or on its own
 abbrev pub marks_again : List Node → Node → Bool
@@ -68,14 +35,9 @@ titled_again before menu = list_any (λ other. shares_letter menu.title other.ti
 abbrev pub item_again : List MenuItem → MenuItem → Bool
 item_again before item = list_any (λ other. shares_letter item.text other.text) before
 
--- the number of a window
-abbrev pub number_of : Kind → ℤ
-number_of (kinds.Window name h number title) = number
-number_of _ = pos 0
-
 -- F17: a window number from 1 to 9 given before
 abbrev pub numbered_again : List Window → Window → Bool
-numbered_again before window = is_key_number (number_of window.node.kind) && list_any (λ other. int_eq (number_of other.node.kind) (number_of window.node.kind)) before
+numbered_again before window = is_key_number (window_head window).number && list_any (λ other. int_eq (window_head other).number (window_head window).number) before
   where
     is_key_number : ℤ → Bool
     is_key_number n = int_le (pos 1) n && int_le n (pos 9)
@@ -91,12 +53,6 @@ rules_cancel rule = ruled rule.effect
 
 -- ---- keys of status items
 
-abbrev pub is_capital : ℕ → Bool
-is_capital ch = nat_le 65 ch && nat_le ch 90
-
-abbrev pub is_digit : ℕ → Bool
-is_digit ch = nat_le 48 ch && nat_le ch 57
-
 -- F1 to F12, Ctrl with a letter other than Y, or Alt with a letter or digit
 abbrev pub is_status_key : Key → Bool
 is_status_key (keys.Function n) = nat_le 1 n && nat_le n 12
@@ -111,13 +67,9 @@ is_same_key (keys.Ctrl ch) (keys.Ctrl other) = ch == other
 is_same_key (keys.Alt ch) (keys.Alt other) = ch == other
 is_same_key _ _ = false
 
--- a shortcut of the dialog
-abbrev pub is_shortcut : ℕ → Dialog → Bool
-is_shortcut letter dialog = list_any (λ node. list_any (marks letter) (marked_of node.kind)) dialog.views
-
 -- the digit, 1 to 9, of a window's number
 abbrev pub is_window_digit : ℕ → Window → Bool
-is_window_digit ch window = (nat_le 49 ch && nat_le ch 57) && int_eq (number_of window.node.kind) (pos (ch - 48))
+is_window_digit ch window = (nat_le 49 ch && nat_le ch 57) && int_eq (window_head window).number (pos (ch - 48))
 
 -- Alt with a shortcut of any dialog, a menu title's letter or a window's number
 abbrev pub is_taken : Desc → Key → Bool

@@ -1,11 +1,11 @@
--- The limits, and what lies outside them.
-use Rattle.std.specs.Prelude.{ℕ, Bool, true, not, ◌&&◌, ◌||◌, List, length, Option, Some, None, ℤ, pos, neg_ℤ, int_le, ◌==◌, nat_le}
+-- Faults of limits: F15.
+use Rattle.std.specs.Prelude.{ℕ, Bool, true, not, ◌&&◌, ◌||◌, List, length, Option, Some, ℤ, pos, neg_ℤ, ◌==◌, nat_le}
 use Rattle.std.specs.List.{list_any}
 use Rattle.tv_model.specs.declared.node.Node.{Node}
-use Rattle.tv_model.specs.declared.node.Kind.{Kind}
-use Rattle.tv_model.specs.declared.node.Kind.TheVariants as kinds
-use Rattle.tv_model.specs.declared.node.CommandSpec.{CommandSpec}
-use Rattle.tv_model.specs.declared.node.CommandSpec.TheVariants as commands
+use Rattle.tv_model.specs.declared.kind.Kind.{Kind}
+use Rattle.tv_model.specs.declared.kind.Kind.TheVariants as kinds
+use Rattle.tv_model.specs.declared.command.CommandSpec.{CommandSpec}
+use Rattle.tv_model.specs.declared.command.CommandSpec.TheVariants as commands
 use Rattle.tv_model.specs.declared.desc.Desc.{Desc}
 use Rattle.tv_model.specs.declared.desc.Menu.{Menu}
 use Rattle.tv_model.specs.declared.desc.MenuItem.{MenuItem}
@@ -15,11 +15,10 @@ use Rattle.tv_model.specs.declared.desc.Dialog.{Dialog}
 use Rattle.tv_model.specs.declared.desc.Rule.{Rule}
 use Rattle.tv_model.specs.declared.desc.Effect.{Effect}
 use Rattle.tv_model.specs.declared.desc.Effect.TheVariants as effects
-use Rattle.tv_model.specs.Nodes.{height_of, is_pane}
-use Rattle.tv_model.specs.Faults.Texts.{texts_of}
-
-abbrev pub is_between : ℤ → ℤ → ℤ → Bool
-is_between least greatest n = int_le least n && int_le n greatest
+use Rattle.tv_model.specs.Description.Nodes.{height_of, is_pane}
+use Rattle.tv_model.specs.Description.Texts.{texts_of}
+use Rattle.tv_model.specs.Description.Numbers.{is_between}
+use Rattle.tv_model.specs.Description.Commands.{command_of}
 
 -- ---- how many there may be
 
@@ -55,9 +54,9 @@ most_chars = 120
 
 -- items of a cluster or a list; other declarations have none
 abbrev pub is_lawful_count : Kind → Bool
-is_lawful_count (kinds.CheckBoxes name items start) = nat_le 1 (length items) && nat_le (length items) 16
-is_lawful_count (kinds.RadioButtons name items start) = nat_le 1 (length items) && nat_le (length items) 16
-is_lawful_count (kinds.List name h items start) = nat_le 1 (length items) && nat_le (length items) 100
+is_lawful_count (kinds.CheckBoxes boxes) = nat_le 1 (length boxes.items) && nat_le (length boxes.items) 16
+is_lawful_count (kinds.RadioButtons radios) = nat_le 1 (length radios.items) && nat_le (length radios.items) 16
+is_lawful_count (kinds.List list) = nat_le 1 (length list.items) && nat_le (length list.items) 100
 is_lawful_count _ = true
 
 -- ---- how large numbers may be
@@ -66,17 +65,17 @@ abbrev pub is_lawful_screen : Desc → Bool
 is_lawful_screen d = is_between (pos 20) (pos 132) d.width && is_between (pos 10) (pos 60) d.height
 
 abbrev pub least_width : Kind → ℤ
-least_width (kinds.Dialog name h title opens ends) = pos 12
-least_width (kinds.Window name h number title) = pos 12
-least_width (kinds.Button name text command is_default grabs) = pos 4
-least_width (kinds.Input name spec start validates) = pos 3
-least_width (kinds.CheckBoxes name items start) = pos 5
-least_width (kinds.RadioButtons name items start) = pos 5
+least_width (kinds.Dialog head) = pos 12
+least_width (kinds.Window head) = pos 12
+least_width (kinds.Button button) = pos 4
+least_width (kinds.Input input) = pos 3
+least_width (kinds.CheckBoxes boxes) = pos 5
+least_width (kinds.RadioButtons radios) = pos 5
 least_width _ = pos 1
 
 abbrev pub least_height : Kind → ℤ
-least_height (kinds.Dialog name h title opens ends) = pos 3
-least_height (kinds.Window name h number title) = pos 3
+least_height (kinds.Dialog head) = pos 3
+least_height (kinds.Window head) = pos 3
 least_height _ = pos 1
 
 abbrev pub is_lawful_corner : Node → Bool
@@ -91,14 +90,10 @@ abbrev pub is_lawful_number : Option CommandSpec → Bool
 is_lawful_number (Some (commands.Number n)) = is_between (pos 100) (pos 255) n
 is_lawful_number _ = true
 
-abbrev pub command_of : Kind → Option CommandSpec
-command_of (kinds.Button name text command is_default grabs) = Some command
-command_of _ = None
-
 -- a window's number, and the most characters of an input
 abbrev pub is_lawful_amount : Kind → Bool
-is_lawful_amount (kinds.Window name h number title) = is_between (pos 0) (pos 9) number
-is_lawful_amount (kinds.Input name spec start validates) = is_between (pos 1) (pos 120) spec.max
+is_lawful_amount (kinds.Window head) = is_between (pos 0) (pos 9) head.number
+is_lawful_amount (kinds.Input input) = is_between (pos 1) (pos 120) input.spec.max
 is_lawful_amount _ = true
 
 -- ---- declarations outside the limits. Of too many things the first that is too many is named

@@ -1,5 +1,5 @@
 -- Lines of declarations, each judged after those before it.
-use Rattle.std.specs.Prelude.{ℕ, Bool, List, [], ◌∷◌, ◌++◌, map, filter, if◌then◌else◌}
+use Rattle.std.specs.Prelude.{[], ℕ, Bool, List, ◌∷◌, ◌++◌, map, filter, if◌then◌else◌}
 
 -- each item after some that were seen, with all those before it
 abbrev pub after_seen : {A : Type 0} → List A → List A → List (List A × A)

@@ -1,31 +1,34 @@
--- Ends, default buttons, start items and opening commands.
+-- Faults of ends, default buttons, starts and opening commands: F10, F11, F13 and F16.
 use Rattle.std.specs.Prelude.{ℕ, Bool, false, not, ◌&&◌, ◌||◌, List, length, Option, Some, None, ℤ, pos}
 use Rattle.std.specs.List.{list_any}
 use Rattle.std.specs.Ordering.{int_eq}
 use Rattle.tv_model.specs.declared.node.Node.{Node}
-use Rattle.tv_model.specs.declared.node.Kind.{Kind}
-use Rattle.tv_model.specs.declared.node.Kind.TheVariants as kinds
-use Rattle.tv_model.specs.declared.node.CommandSpec.{CommandSpec}
-use Rattle.tv_model.specs.declared.node.CommandSpec.TheVariants as commands
+use Rattle.tv_model.specs.declared.kind.Kind.{Kind}
+use Rattle.tv_model.specs.declared.kind.Kind.TheVariants as kinds
+use Rattle.tv_model.specs.declared.command.Ends.{Ends}
+use Rattle.tv_model.specs.declared.command.CommandSpec.{CommandSpec}
+use Rattle.tv_model.specs.declared.command.CommandSpec.TheVariants as commands
 use Rattle.tv_model.specs.declared.desc.Desc.{Desc}
 use Rattle.tv_model.specs.declared.desc.Dialog.{Dialog}
-use Rattle.tv_model.specs.Step.{ends_of, is_default, is_named}
-use Rattle.tv_model.specs.Faults.Names.{gives_name}
-use Rattle.tv_model.specs.Faults.Rules.{is_item}
-use Rattle.tv_model.specs.Faults.Limits.{command_of, is_between}
+use Rattle.tv_model.specs.Description.Commands.{command_of}
+use Rattle.tv_model.specs.Description.Heads.{dialog_head, is_named}
+use Rattle.tv_model.specs.Description.Nodes.{is_default}
+use Rattle.tv_model.specs.Description.Names.{gives_name}
+use Rattle.tv_model.specs.Description.Rules.{is_item}
+use Rattle.tv_model.specs.Description.Numbers.{is_between}
 
 -- F10: a dialog whose ends lack `cancel`
 abbrev pub lacks_cancel : Dialog → Bool
-lacks_cancel dialog = not (ends_of dialog.node.kind).cancel
+lacks_cancel dialog = not (dialog_head dialog).ends.cancel
 
 -- F10: a button of `ok`, `yes` or `no` that isn't among the ends of its dialog
-abbrev pub lacks_end : Node → Node → Bool
-lacks_end frame node = lacking (command_of node.kind)
+abbrev pub lacks_end : Ends → Node → Bool
+lacks_end ends node = lacking (command_of node.kind)
   where
     lacking : Option CommandSpec → Bool
-    lacking (Some commands.Ok) = not (ends_of frame.kind).ok
-    lacking (Some commands.Yes) = not (ends_of frame.kind).yes
-    lacking (Some commands.No) = not (ends_of frame.kind).no
+    lacking (Some commands.Ok) = not ends.ok
+    lacking (Some commands.Yes) = not ends.yes
+    lacking (Some commands.No) = not ends.no
     lacking _ = false
 
 -- F11: a second default button of a dialog
@@ -34,15 +37,10 @@ is_second_default before node = is_default node && list_any is_default before
 
 -- F13: a start item that there isn't
 abbrev pub starts_outside : Kind → Bool
-starts_outside (kinds.CheckBoxes name items start) = list_any (λ item. not (is_item item (length items))) start
-starts_outside (kinds.RadioButtons name items start) = not (is_item start (length items))
-starts_outside (kinds.List name h items start) = not (is_item start (length items))
+starts_outside (kinds.CheckBoxes boxes) = list_any (λ item. not (is_item item (length boxes.items))) boxes.start
+starts_outside (kinds.RadioButtons radios) = not (is_item radios.start (length radios.items))
+starts_outside (kinds.List list) = not (is_item list.start (length list.items))
 starts_outside _ = false
-
--- the command that opens a dialog
-abbrev pub opening_of : Kind → Option ℤ
-opening_of (kinds.Dialog name h title opens ends) = opens
-opening_of _ = None
 
 abbrev pub is_option_number : ℤ → Option ℤ → Bool
 is_option_number n None = false
@@ -50,11 +48,11 @@ is_option_number n (Some other) = int_eq other n
 
 -- F16: a dialog whose opening command is outside 100 to 255 or was given before
 abbrev pub opens_badly : List Dialog → Dialog → Bool
-opens_badly before dialog = opening (opening_of dialog.node.kind)
+opens_badly before dialog = opening (dialog_head dialog).opens
   where
     opening : Option ℤ → Bool
     opening None = false
-    opening (Some n) = not (is_between (pos 100) (pos 255) n) || list_any (λ other. is_option_number n (opening_of other.node.kind)) before
+    opening (Some n) = not (is_between (pos 100) (pos 255) n) || list_any (λ other. is_option_number n (dialog_head other).opens) before
 
 -- a name of the start means a dialog: one has it, and no window, which would come first
 abbrev pub means_dialog : Desc → List ℕ → Bool

@@ -1,5 +1,5 @@
 use Rattle.std.proofs.Common.{◌≡◌, ◌++◌, map, filter_map, drop}
-use Rattle.tv_model.specs.Certificates.{control_name, dialog_name, tabs_of}
+use Rattle.tv_model.specs.Description.Certificates.{control_name, dialog_name, tabs_of}
 use Rattle.tv_check.specs.Lent.{lent_tab}
 use Rattle.tv_check.proofs.acceptance_tabs.add_order.Given as goal
 

@@ -1,5 +1,5 @@
 use Rattle.std.proofs.Common.{◌≡◌, ◌++◌, map, flat_map, drop}
-use Rattle.tv_model.specs.Certificates.{dialog_name, tab_order, tabs_of}
+use Rattle.tv_model.specs.Description.Certificates.{dialog_name, tab_order, tabs_of}
 use Rattle.tv_check.specs.Lent.{lent_tab}
 use Rattle.tv_check.proofs.acceptance_tabs.order.Given as goal
 

@@ -1,5 +1,5 @@
 use Rattle.std.proofs.Common.{◌≡◌, ◌++◌, filter_map, option_map, drop}
-use Rattle.tv_model.specs.Owners.{owner_of}
+use Rattle.tv_model.specs.Description.Owners.{owner_of}
 use Rattle.tv_check.specs.Certificates.{key_line, keys_of}
 use Rattle.tv_check.proofs.certification.keys_of.Given as goal
 

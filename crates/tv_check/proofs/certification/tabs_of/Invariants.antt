@@ -1,5 +1,5 @@
 use Rattle.std.proofs.Common.{◌≡◌, ◌++◌, filter_map, drop}
-use Rattle.tv_model.specs.Certificates.{control_name, tabs_of}
+use Rattle.tv_model.specs.Description.Certificates.{control_name, tabs_of}
 use Rattle.tv_check.proofs.certification.tabs_of.Given as goal
 
 abbrev pub invariant-loop-node : goal.invariant-loop-node

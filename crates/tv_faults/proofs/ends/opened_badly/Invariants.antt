@@ -2,7 +2,8 @@ use Rattle.std.proofs.Common.{◌≡◌, ℤ, take}
 use Rattle.std.specs.HashSet as set
 use Rattle.std.specs.List.{list_any}
 use Rattle.std.specs.Ordering.{int_eq}
-use Rattle.tv_model.specs.Faults.Starts.{is_option_number, opening_of, opens_badly}
+use Rattle.tv_model.specs.Faults.Starts.{is_option_number, opens_badly}
+use Rattle.tv_model.specs.Description.Commands.{opening_of}
 use Rattle.tv_faults.specs.Each.{each_after}
 use Rattle.tv_faults.proofs.ends.opened_badly.Given as goal
 

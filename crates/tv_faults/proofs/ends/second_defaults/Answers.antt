@@ -1,7 +1,7 @@
 use Rattle.std.proofs.Common.{◌≡◌, ◌&&◌, rules, arith, ap, ◌∙◌}
 use Rattle.std.proofs.lemmas.Grind.{common_steps}
 use Rattle.std.proofs.lemmas.List.Folds.{list_any_more}
-use Rattle.tv_model.specs.Step.{is_default}
+use Rattle.tv_model.specs.Description.Nodes.{is_default}
 use Rattle.tv_model.specs.Faults.Starts.{is_second_default}
 use Rattle.tv_faults.proofs.EachAfter.{each_more}
 use Rattle.tv_faults.proofs.ends.second_defaults.Goals as goal

@@ -1,6 +1,6 @@
 use Rattle.std.proofs.Common.{◌≡◌, take}
 use Rattle.std.specs.List.{list_any}
-use Rattle.tv_model.specs.Step.{is_default}
+use Rattle.tv_model.specs.Description.Nodes.{is_default}
 use Rattle.tv_model.specs.Faults.Starts.{is_second_default}
 use Rattle.tv_faults.specs.Each.{each_after}
 use Rattle.tv_faults.proofs.ends.second_defaults.Given as goal

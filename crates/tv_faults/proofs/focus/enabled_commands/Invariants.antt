@@ -1,7 +1,7 @@
 use Rattle.std.proofs.Common.{◌≡◌, take}
 use Rattle.std.specs.HashSet.{contains}
 use Rattle.std.specs.List.{list_any}
-use Rattle.tv_model.specs.declared.node.CommandSpec.{CommandSpec}
+use Rattle.tv_model.specs.declared.command.CommandSpec.{CommandSpec}
 use Rattle.tv_faults.specs.Focus.{enables, equals_command}
 use Rattle.tv_faults.proofs.focus.enabled_commands.Given as goal
 

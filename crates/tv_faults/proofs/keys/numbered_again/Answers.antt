@@ -3,8 +3,9 @@ use Rattle.std.proofs.lemmas.Grind.{common_steps}
 use Rattle.std.proofs.lemmas.List.Folds.{list_any_more}
 use Rattle.std.specs.HashSet as set
 use Rattle.std.specs.Ordering.{int_eq}
-use Rattle.tv_model.specs.Faults.Letters.{number_of, numbered_again}
-use Rattle.tv_model.specs.Faults.Limits.{is_between}
+use Rattle.tv_model.specs.Description.Nodes.{number_of}
+use Rattle.tv_model.specs.Faults.Letters.{numbered_again}
+use Rattle.tv_model.specs.Description.Numbers.{is_between}
 use Rattle.tv_faults.proofs.EachAfter.{each_more}
 use Rattle.tv_faults.proofs.keys.numbered_again.Goals as goal
 

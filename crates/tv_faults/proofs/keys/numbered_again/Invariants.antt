@@ -2,7 +2,8 @@ use Rattle.std.proofs.Common.{◌≡◌, ℤ, take}
 use Rattle.std.specs.HashSet as set
 use Rattle.std.specs.List.{list_any}
 use Rattle.std.specs.Ordering.{int_eq}
-use Rattle.tv_model.specs.Faults.Letters.{number_of, numbered_again}
+use Rattle.tv_model.specs.Description.Nodes.{number_of}
+use Rattle.tv_model.specs.Faults.Letters.{numbered_again}
 use Rattle.tv_faults.specs.Each.{each_after}
 use Rattle.tv_faults.proofs.keys.numbered_again.Given as goal
 

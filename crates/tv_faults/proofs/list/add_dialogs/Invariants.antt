@@ -1,5 +1,6 @@
 use Rattle.std.proofs.Common.{◌≡◌, ◌++◌, [], map, flat_map, take, drop}
-use Rattle.tv_model.specs.Faults.{after_seen, dialog_lines, fault_at}
+use Rattle.tv_model.specs.Faults.Lines.{after_seen}
+use Rattle.tv_model.specs.Faults.{dialog_lines, fault_at}
 use Rattle.tv_faults.proofs.list.add_dialogs.Given as goal
 
 abbrev pub invariant-loop-i : goal.invariant-loop-i

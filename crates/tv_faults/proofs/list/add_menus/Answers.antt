@@ -1,5 +1,6 @@
 use Rattle.std.proofs.Common.{rules, []}
-use Rattle.tv_model.specs.Faults.{fault_at, item_has, lines_where, menu_has}
+use Rattle.tv_model.specs.Faults.{fault_at, item_has, menu_has}
+use Rattle.tv_model.specs.Faults.Lines.{lines_where}
 use Rattle.tv_faults.proofs.EachAfter.{parts_next}
 use Rattle.tv_faults.proofs.list.add_menus.Goals as goal
 

@@ -1,5 +1,6 @@
 use Rattle.std.proofs.Common.{◌≡◌, ◌++◌, map, take, drop}
-use Rattle.tv_model.specs.Faults.{fault_at, lines_where, rule_has, rule_lines}
+use Rattle.tv_model.specs.Faults.{fault_at, rule_has, rule_lines}
+use Rattle.tv_model.specs.Faults.Lines.{lines_where}
 use Rattle.tv_faults.proofs.list.add_rules.Given as goal
 
 abbrev pub invariant-loop-i : goal.invariant-loop-i

@@ -1,5 +1,6 @@
 use Rattle.std.proofs.Common.{◌≡◌, ◌++◌, map, take, drop}
-use Rattle.tv_model.specs.Faults.{fault_at, lines_where, view_has, view_lines}
+use Rattle.tv_model.specs.Faults.{fault_at, view_has, view_lines}
+use Rattle.tv_model.specs.Faults.Lines.{lines_where}
 use Rattle.tv_faults.proofs.list.add_views.Given as goal
 
 abbrev pub invariant-loop-i : goal.invariant-loop-i

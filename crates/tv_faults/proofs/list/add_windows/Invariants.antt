@@ -1,5 +1,6 @@
 use Rattle.std.proofs.Common.{◌≡◌, ◌++◌, [], map, flat_map, take, drop}
-use Rattle.tv_model.specs.Faults.{after_seen, fault_at, window_lines}
+use Rattle.tv_model.specs.Faults.Lines.{after_seen}
+use Rattle.tv_model.specs.Faults.{fault_at, window_lines}
 use Rattle.tv_faults.proofs.list.add_windows.Given as goal
 
 abbrev pub invariant-loop-i : goal.invariant-loop-i

@@ -3,7 +3,8 @@ use Rattle.std.specs.List.{list_any}
 use Rattle.std.proofs.lemmas.List.Folds.{list_any-append}
 use Rattle.tv_model.specs.declared.desc.Desc.{Desc}
 use Rattle.tv_model.specs.declared.desc.Dialog.{Dialog}
-use Rattle.tv_model.specs.Faults.Names.{dialog_named_again, gives_name, names_again, shares_name}
+use Rattle.tv_model.specs.Faults.Names.{dialog_named_again, names_again}
+use Rattle.tv_model.specs.Description.Names.{gives_name, shares_name}
 use Rattle.tv_faults.proofs.EachAfter.{each_more}
 use Rattle.tv_faults.proofs.Lists.{any_map, mapped_more}
 use Rattle.tv_faults.proofs.names.dialogs_named_again.Goals as goal

@@ -1,7 +1,8 @@
 use Rattle.std.proofs.Common.{◌<◌, ◌++◌, ◌∷◌, [], take, length, sym, ap, ◌∙◌, arith}
 use Rattle.std.specs.List.{list_any}
 use Rattle.std.proofs.lemmas.List.{take_more}
-use Rattle.tv_model.specs.Faults.Names.{gives_name, names_again}
+use Rattle.tv_model.specs.Description.Names.{gives_name}
+use Rattle.tv_model.specs.Faults.Names.{names_again}
 use Rattle.tv_faults.proofs.EachAfter.{each_more}
 use Rattle.tv_faults.proofs.names.names_again.Goals as goal
 

@@ -1,6 +1,7 @@
 use Rattle.std.proofs.Common.{◌<◌, [], map, take, length, ap, ◌∙◌, arith}
 use Rattle.std.specs.List.{list_any}
-use Rattle.tv_model.specs.Faults.Names.{gives_name, shares_name, window_named_again}
+use Rattle.tv_model.specs.Description.Names.{gives_name, shares_name}
+use Rattle.tv_model.specs.Faults.Names.{window_named_again}
 use Rattle.tv_faults.proofs.EachAfter.{each_more}
 use Rattle.tv_faults.proofs.Lists.{any_map, mapped_more}
 use Rattle.tv_faults.proofs.names.windows_named_again.Goals as goal

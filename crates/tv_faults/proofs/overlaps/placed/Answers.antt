@@ -1,6 +1,6 @@
 use Rattle.std.proofs.Common.{◌≡◌, ◌+◌, ◌++◌, get_or, drop, sym, ap, ◌∙◌}
 use Rattle.std.specs.List.{zip}
-use Rattle.tv_model.specs.Faults.Places.{has_points, place_of_node}
+use Rattle.tv_model.specs.Description.Rectangles.{has_points, place_of_node}
 use Rattle.tv_faults.specs.Placing.{placed_from}
 use Rattle.tv_faults.proofs.Placings.{item_is, placed_all, placed_with, placed_without}
 use Rattle.tv_faults.proofs.overlaps.placed.Goals as goal

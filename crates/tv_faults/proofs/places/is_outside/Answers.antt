@@ -1,6 +1,7 @@
 use Rattle.std.proofs.Common.{◌≡◌, get_or, take, option_copied, not, ap, ◌∙◌}
 use Rattle.std.proofs.lemmas.List.{get_or_read}
-use Rattle.tv_model.specs.Faults.Places.{is_within, owner_of, place_of_node, room_in}
+use Rattle.tv_model.specs.Description.Rectangles.{is_within, place_of_node}
+use Rattle.tv_model.specs.Description.Panes.{owner_of, room_in}
 use Rattle.tv_faults.proofs.Around.{owner_is}
 use Rattle.tv_faults.proofs.places.is_outside.Goals as goal
 

@@ -1,8 +1,8 @@
 use Rattle.std.proofs.Common.{◌≡◌, ◌<◌, ◌||◌, false, None, length, get_or, take, rules, arith, sym, ap, ◌∙◌}
 use Rattle.std.specs.List.{list_any}
 use Rattle.std.proofs.lemmas.List.{get_or_read}
-use Rattle.tv_model.specs.Nodes.{has_id}
-use Rattle.tv_model.specs.Faults.Places.{panes_around}
+use Rattle.tv_model.specs.Description.Nodes.{has_id}
+use Rattle.tv_model.specs.Description.Panes.{panes_around}
 use Rattle.tv_faults.specs.Standing.{IsOwner}
 use Rattle.tv_faults.proofs.Around.{panes_are, panes_at}
 use Rattle.tv_faults.proofs.Depths.{owner_before}

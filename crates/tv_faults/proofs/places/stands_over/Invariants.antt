@@ -1,8 +1,8 @@
 use Rattle.std.proofs.Common.{◌≡◌, ◌≤◌, length, take, get_or}
 use Rattle.std.specs.List.{list_any}
 use Rattle.tv_model.specs.declared.node.Node.{Node}
-use Rattle.tv_model.specs.Nodes.{has_id}
-use Rattle.tv_model.specs.Faults.Rules.{stands_over}
+use Rattle.tv_model.specs.Description.Nodes.{has_id}
+use Rattle.tv_model.specs.Description.Rules.{stands_over}
 use Rattle.tv_faults.proofs.Depths.{up_to}
 use Rattle.tv_faults.proofs.Around.{panes_at}
 use Rattle.tv_faults.proofs.places.stands_over.Given as goal

@@ -1,5 +1,6 @@
 use Rattle.std.proofs.Common.{◌≡◌, ◌++◌, map, take, drop}
-use Rattle.tv_model.specs.Faults.{after_seen, shows_itself}
+use Rattle.tv_model.specs.Faults.Lines.{after_seen}
+use Rattle.tv_model.specs.Faults.Rules.{shows_itself}
 use Rattle.tv_faults.specs.Each.{each_after}
 use Rattle.tv_faults.proofs.rules.show_themselves.Given as goal
 

@@ -1,5 +1,6 @@
 use Rattle.std.proofs.Common.{◌≡◌, ◌++◌, map, take, drop}
-use Rattle.tv_model.specs.Faults.{after_seen, names_unknown}
+use Rattle.tv_model.specs.Faults.Lines.{after_seen}
+use Rattle.tv_model.specs.Faults.Rules.{names_unknown}
 use Rattle.tv_faults.specs.Each.{each_after}
 use Rattle.tv_faults.proofs.rules.unknown_names.Given as goal
 

@@ -1,6 +1,6 @@
 use Rattle.std.proofs.Common.{subst}
 use Rattle.tv_cells.specs.Layers.{Shows}
-use Rattle.tv_model.specs.Layers.{view_layers}
+use Rattle.tv_model.specs.Screen.Layers.{view_layers}
 use Rattle.tv_program.proofs.Drawing.{alike_then, layers-more}
 use Rattle.tv_program.proofs.draw.draw_views.Goals as goal
 

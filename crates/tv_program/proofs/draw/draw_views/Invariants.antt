@@ -1,7 +1,7 @@
 use Rattle.std.proofs.Common.{◌++◌, List, reverse, flat_map, take}
 use Rattle.tv_cells.specs.Layers.{Layer, Shows}
 use Rattle.tv_cells.specs.Picture.{IsAlike}
-use Rattle.tv_model.specs.Layers.{view_layers}
+use Rattle.tv_model.specs.Screen.Layers.{view_layers}
 use Rattle.tv_program.proofs.draw.draw_views.Given as goal
 
 abbrev pub invariant-loop-node : goal.invariant-loop-node

@@ -1,4 +1,4 @@
-use Rattle.tv_model.specs.LogText.{line_of}
+use Rattle.tv_model.specs.Log.LogText.{line_of}
 use Rattle.tv_script.proofs.Pens.{Puts-then}
 use Rattle.tv_program.proofs.message.put_named.Goals as goal
 

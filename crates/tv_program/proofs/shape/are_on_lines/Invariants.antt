@@ -1,5 +1,5 @@
 use Rattle.std.proofs.Common.{◌≡◌, ◌↔◌, ◌+◌, ◌≤◌, drop, length}
-use Rattle.tv_model.specs.Thin.{AreOnLines}
+use Rattle.tv_model.specs.Description.Thin.{AreOnLines}
 use Rattle.tv_program.proofs.shape.are_on_lines.Given as goal
 
 abbrev pub invariant-loop-view : goal.invariant-loop-view

@@ -1,5 +1,5 @@
 use Rattle.std.proofs.Common.{ap}
-use Rattle.tv_model.specs.LogText.{log_line}
+use Rattle.tv_model.specs.Log.LogText.{log_line}
 use Rattle.tv_script.proofs.Pens.{Puts-more, Puts-along}
 use Rattle.tv_script.proofs.lines.put_log.Goals as goal
 

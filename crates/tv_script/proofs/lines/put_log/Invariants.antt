@@ -1,5 +1,5 @@
 use Rattle.std.proofs.Common.{take}
-use Rattle.tv_model.specs.LogText.{log_text}
+use Rattle.tv_model.specs.Log.LogText.{log_text}
 use Rattle.tv_script.specs.Pen.{Puts}
 use Rattle.tv_script.proofs.lines.put_log.Given as goal
 

@@ -1,5 +1,5 @@
 use Rattle.std.proofs.Common.{ap}
-use Rattle.tv_model.specs.LogText.{bytes_of, line_of}
+use Rattle.tv_model.specs.Log.LogText.{bytes_of, line_of}
 use Rattle.tv_script.proofs.Pens.{Puts-then, Puts-along}
 use Rattle.tv_script.proofs.lines.put_name_line.Goals as goal
 

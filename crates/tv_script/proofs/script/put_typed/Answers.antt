@@ -1,5 +1,5 @@
 use Rattle.std.proofs.Common.{◌∙◌, ap}
-use Rattle.tv_model.specs.Output.{event_text, event_after}
+use Rattle.tv_model.specs.Log.Output.{event_text, event_after}
 use Rattle.tv_script.proofs.Pens.{Puts-along}
 use Rattle.tv_script.proofs.Performing.{typed_key, typed_text, typed_state}
 use Rattle.tv_script.proofs.script.put_typed.Goals as goal

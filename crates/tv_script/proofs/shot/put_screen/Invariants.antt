@@ -4,8 +4,8 @@ use Rattle.std.specs.List.{range_with_len}
 use Rattle.std.proofs.Common.{decimal, codes, ◌++◌}
 use Rattle.tv_script.specs.Pen.{Puts}
 use Rattle.tv_script.specs.ScreenText.{aspect_word, cell_text}
-use Rattle.tv_model.specs.LogText.{line_of}
-use Rattle.tv_model.specs.Output.{row_text}
+use Rattle.tv_model.specs.Log.LogText.{line_of}
+use Rattle.tv_model.specs.Log.Output.{row_text}
 use Rattle.tv_script.proofs.shot.put_screen.Given as goal
 
 abbrev pub invariant-loop-row : goal.invariant-loop-row

@@ -1,5 +1,5 @@
 use Rattle.std.proofs.Common.{ap, decimal}
-use Rattle.tv_model.specs.LogText.{line_of}
+use Rattle.tv_model.specs.Log.LogText.{line_of}
 use Rattle.tv_script.proofs.Pens.{Puts-then, Puts-along}
 use Rattle.tv_script.proofs.shot.put_size.Goals as goal
 

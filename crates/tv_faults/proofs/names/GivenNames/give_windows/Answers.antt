@@ -1,6 +1,6 @@
 use Rattle.std.proofs.Common.{◌<◌, [], map, take, length, ap, ◌∙◌, arith}
 use Rattle.std.specs.List.{list_any}
-use Rattle.tv_model.specs.Faults.Names.{gives_name}
+use Rattle.tv_model.specs.Description.Names.{gives_name}
 use Rattle.tv_faults.proofs.Lists.{mapped_more}
 use Rattle.tv_faults.proofs.names.GivenNames.give_windows.Goals as goal
 

@@ -1,5 +1,5 @@
 use Rattle.std.proofs.Common.{flat_map}
-use Rattle.tv_model.specs.LogText.{window_nodes, dialog_nodes}
+use Rattle.tv_model.specs.Description.Heads.{window_nodes, dialog_nodes}
 use Rattle.tv_model.proofs.NodeLemmas.{found, missed, found_last, missed_last}
 use Rattle.tv_model.proofs.desc.Desc.node.Goals as goal
 

@@ -1,6 +1,6 @@
 use Rattle.std.proofs.Common.{◌≡◌, ◌++◌, drop, flat_map}
-use Rattle.tv_model.specs.LogText.{all_nodes, window_nodes, dialog_nodes}
-use Rattle.tv_model.specs.Nodes.{node_of}
+use Rattle.tv_model.specs.Description.Nodes.{node_of}
+use Rattle.tv_model.specs.Description.Heads.{all_nodes, window_nodes, dialog_nodes}
 use Rattle.tv_model.proofs.desc.Desc.node.Given as goal
 
 abbrev pub invariant-loop-window : goal.invariant-loop-window

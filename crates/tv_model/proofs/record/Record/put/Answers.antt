@@ -1,6 +1,6 @@
 use Rattle.std.proofs.Common.{sym, ◌∙◌, ap, arith, length, slice_set, slice_index_or, length-set}
 use Rattle.arrayvec.proofs.ArrayVecLemmas.{items-with_items}
-use Rattle.tv_model.specs.Record.{value_of}
+use Rattle.tv_model.specs.Log.Record.{value_of}
 use Rattle.tv_model.proofs.RecordLemmas.{with_value-None, with_value-Some, value_of-with_value, room}
 use Rattle.tv_model.proofs.record.Record.put.Goals as goal
 

@@ -1,6 +1,6 @@
 use Rattle.std.proofs.Common.{ap, ◌∙◌}
 use Rattle.tv_faults.specs.Usable.{IsLimited}
-use Rattle.tv_model.specs.Step.{enter_target}
+use Rattle.tv_model.specs.Machine.Step.{enter_target}
 use Rattle.tv_program.proofs.Lawful.{target_holds}
 use Rattle.tv_program.proofs.run.Run.enter.Goals as goal
 

@@ -1,6 +1,6 @@
 use Rattle.std.proofs.Common.{ap, ◌∙◌}
 use Rattle.tv_faults.specs.Usable.{IsLimited}
-use Rattle.tv_model.specs.Nodes.{has_id, node_of}
+use Rattle.tv_model.specs.Description.Nodes.{has_id, node_of}
 use Rattle.tv_program.proofs.Lawful.{found_holds}
 use Rattle.tv_program.proofs.run.Run.press.Goals as goal
 

@@ -1,5 +1,5 @@
 use Rattle.std.proofs.Common.{take}
-use Rattle.tv_model.specs.LogText.{bytes_of}
+use Rattle.tv_model.specs.Log.LogText.{bytes_of}
 use Rattle.tv_script.specs.Pen.{Puts}
 use Rattle.tv_script.proofs.pen.Pen.put_chars.Given as goal
 

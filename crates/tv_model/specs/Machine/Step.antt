@@ -1,5 +1,5 @@
 -- The step of the flat machine, and its start.
-use Rattle.std.specs.Prelude.{ℕ, Bool, false, ◌&&◌, ◌||◌, List, [], ◌∷◌, ◌++◌, map, reverse, find, position, length, take, drop, replicate, slice_get, slice_set, Option, Some, None, option_map, unwrap_or, ◌+◌, ◌==◌, nat_le, if◌then◌else◌, bytes_eq}
+use Rattle.std.specs.Prelude.{[], ℕ, Bool, false, ◌||◌, List, ◌∷◌, ◌++◌, map, reverse, find, position, length, take, drop, replicate, slice_get, slice_set, Option, Some, None, option_map, unwrap_or, ◌+◌, ◌==◌, nat_le, if◌then◌else◌}
 use Rattle.std.specs.Option.{option_or}
 use Rattle.tv_event.specs.declared.event.Event.{Event}
 use Rattle.tv_event.specs.declared.event.Event.TheVariants as events
@@ -7,18 +7,19 @@ use Rattle.tv_event.specs.declared.event.Key.{Key}
 use Rattle.tv_event.specs.declared.event.Key.TheVariants as keys
 use Rattle.tv_model.specs.declared.node.Id.{Id}
 use Rattle.tv_model.specs.declared.node.Node.{Node}
-use Rattle.tv_model.specs.declared.node.Kind.{Kind}
-use Rattle.tv_model.specs.declared.node.Kind.TheVariants as kinds
-use Rattle.tv_model.specs.declared.node.Ends.{Ends}
-use Rattle.tv_model.specs.declared.node.CommandSpec.{CommandSpec}
-use Rattle.tv_model.specs.declared.node.CommandSpec.TheVariants as commands
+use Rattle.tv_model.specs.declared.kind.Kind.{Kind}
+use Rattle.tv_model.specs.declared.kind.Kind.TheVariants as kinds
 use Rattle.tv_model.specs.declared.desc.Desc.{Desc}
+use Rattle.tv_model.specs.declared.desc.Window.{Window}
 use Rattle.tv_model.specs.declared.desc.Dialog.{Dialog}
 use Rattle.tv_model.specs.declared.record.Entry.{Entry}
 use Rattle.tv_model.specs.declared.log.LogLine.{LogLine}
 use Rattle.tv_model.specs.declared.log.LogLine.TheVariants as lines
-use Rattle.tv_model.specs.Nodes.{name_of, is_control, is_button, has_id, node_of}
-use Rattle.tv_model.specs.State.{State, OpenDialog, natural, declared_leaves, fields_of}
+use Rattle.tv_model.specs.Description.Nodes.{is_control, has_id, node_of, is_button_node, is_default}
+use Rattle.tv_model.specs.Machine.State.{State, OpenDialog, OpenWindow, declared_leaves, fields_of}
+use Rattle.tv_model.specs.Description.Rectangles.{corner_of}
+use Rattle.tv_model.specs.Description.Commands.{command_number, is_declared}
+use Rattle.tv_model.specs.Description.Heads.{dialog_head, is_named}
 
 -- ---- free controls
 
@@ -75,28 +76,6 @@ request d s o to =
 
 -- ---- commands
 
-abbrev pub command_number : CommandSpec → ℕ
-command_number commands.Quit = 1
-command_number commands.Menu = 3
-command_number commands.Close = 4
-command_number commands.Next = 7
-command_number commands.Ok = 10
-command_number commands.Cancel = 11
-command_number commands.Yes = 12
-command_number commands.No = 13
-command_number (commands.Number n) = natural n
-
-abbrev pub no_ends : Ends
-no_ends = record { ok = false; cancel = false; yes = false; no = false }
-
-abbrev pub ends_of : Kind → Ends
-ends_of (kinds.Dialog name h title opens ends) = ends
-ends_of _ = no_ends
-
--- whether the command is one of `ok`, `yes` and `no` that the dialog declares
-abbrev pub is_declared : Ends → ℕ → Bool
-is_declared ends number = ((number == 10) && ends.ok) || (((number == 12) && ends.yes) || ((number == 13) && ends.no))
-
 abbrev pub field_line : Entry → LogLine
 field_line entry = lines.Field entry.id entry.value
 
@@ -112,7 +91,7 @@ ended d s o number = record s {
 abbrev pub command : Dialog → State → OpenDialog → ℕ → State
 command d s o number =
     if (number == 4) || (number == 11) then ended d s o 11
-    else if is_declared (ends_of d.node.kind) number then ended d s o number
+    else if is_declared (dialog_head d).ends number then ended d s o number
     else if nat_le 100 number then logged s (lines.Command number)
     else s
 
@@ -124,22 +103,11 @@ press_node d s o None = s
 press_node d s o (Some node) = pressed node.kind
   where
     pressed : Kind → State
-    pressed (kinds.Button name text spec is_default grabs) = command d (logged s (lines.Press node.id)) o (command_number spec)
+    pressed (kinds.Button button) = command d (logged s (lines.Press node.id)) o (command_number button.command)
     pressed _ = s
 
 abbrev pub press : Dialog → State → OpenDialog → Id → State
 press d s o i = press_node d s o (node_of d.views i)
-
-abbrev pub is_button_node : Option Node → Bool
-is_button_node None = false
-is_button_node (Some node) = is_button node.kind
-
-abbrev pub is_default : Node → Bool
-is_default node = declared node.kind
-  where
-    declared : Kind → Bool
-    declared (kinds.Button name text spec default grabs) = default
-    declared _ = false
 
 -- the Enter target: the focus if it is a button, else the declared default button
 abbrev pub enter_target : List Node → Id → Option Node
@@ -174,30 +142,31 @@ step d s e = if s.is_over then emptied s else at_dialog d (emptied s) e s.dialog
 
 -- ---- the start
 
--- a dialog opens with its declared values, on its first free control
+-- a dialog opens where it is declared, with its declared values, on its first free control
 abbrev pub open_dialog : Dialog → ℕ → State → State
 open_dialog d place s = record s {
-  dialog = Some (record { place = place; leaves = declared_leaves d.views; focus = first; held = None });
+  dialog = Some (record { place = place; origin = corner_of d.node; leaves = declared_leaves d.views; focus = first; held = None });
   log = s.log ++ lines.Open d.node.id ∷ lines.Focus first ∷ [];
 }
   where
     first : Id
     first = unwrap_or (first_free d.views) d.node.id
 
+-- a window stands where it is declared
+abbrev pub open_window : Window → OpenWindow
+open_window window = record { id = window.node.id; origin = corner_of window.node }
+
 -- no dialog is open, and the later windows stand in front
 abbrev pub closed : Desc → State
 closed d = record {
   is_over = false;
-  windows = reverse (map (λ window. window.node.id) d.windows);
+  windows = reverse (map open_window d.windows);
   menu = None;
   dialog = None;
   saved = replicate (length d.dialogs) None;
   overwriting = [];
   log = [];
 }
-
-abbrev pub is_named : List ℕ → Dialog → Bool
-is_named name d = bytes_eq (unwrap_or (name_of d.node.kind) []) name
 
 abbrev pub open_found : Desc → ℕ → Option Dialog → State
 open_found d place None = closed d

@@ -1,5 +1,5 @@
 -- The keys and the mouse of an input line.
-use Rattle.std.specs.Prelude.{◌≡◌, ◌⊎◌, ℕ, Bool, true, false, not, ◌&&◌, List, [], length, remove, min, ◌+◌, ◌-◌, ◌==◌, nat_lt, if◌then◌else◌}
+use Rattle.std.specs.Prelude.{[], ◌≡◌, ◌⊎◌, ℕ, Bool, true, false, not, ◌&&◌, List, length, remove, min, ◌+◌, ◌-◌, ◌==◌, nat_lt, if◌then◌else◌}
 use Rattle.tv_event.specs.declared.event.Key.{Key}
 use Rattle.tv_event.specs.declared.event.Key.TheVariants as keys
 use Rattle.tv_valid.specs.declared.domain.Domain.{Domain}

@@ -1,5 +1,5 @@
 -- What fills the rectangle of each layer, by columns and rows from its corner.
-use Rattle.std.specs.Prelude.{ℕ, Bool, true, false, not, ◌&&◌, ◌||◌, List, [], ◌∷◌, length, take, Option, Some, None, slice_index_or, ◌+◌, ◌-◌, ◌/◌, ◌==◌, nat_le, nat_lt, if◌then◌else◌, codes}
+use Rattle.std.specs.Prelude.{[], ℕ, Bool, true, false, not, ◌&&◌, ◌||◌, List, ◌∷◌, length, take, Option, Some, None, slice_index_or, ◌+◌, ◌-◌, ◌/◌, ◌==◌, nat_le, nat_lt, if◌then◌else◌, codes}
 use Rattle.tv_cells.specs.Glyph.{Glyph, glyph, shown}
 use Rattle.tv_palette.specs.Attributes.{attribute_of}
 use Rattle.tv_palette.specs.declared.role.Owner.{Owner}

@@ -1,19 +1,16 @@
 -- What holds at the start of a run and after each event.
-use Rattle.std.specs.Prelude.{◌≡◌, ℕ, Bool, true, List, Some, All, ◌&&◌, ◌||◌, ◌==◌, slice_get}
+use Rattle.std.specs.Prelude.{◌≡◌, ℕ, true, List, Some, All, slice_get}
 use Rattle.tv_event.specs.declared.event.Event.{Event}
-use Rattle.tv_model.specs.declared.node.Ends.{Ends}
 use Rattle.tv_model.specs.declared.node.Id.{Id}
 use Rattle.tv_model.specs.declared.desc.Desc.{Desc}
 use Rattle.tv_model.specs.declared.desc.Dialog.{Dialog}
 use Rattle.tv_model.specs.declared.log.LogLine.{LogLine}
 use Rattle.tv_model.specs.declared.log.LogLine.TheVariants as lines
-use Rattle.tv_model.specs.State.{State, OpenDialog}
-use Rattle.tv_model.specs.Step.{ends_of, is_declared, is_free_at, start, step}
-use Rattle.tv_model.specs.Output.{states}
-
--- the command is among the dialog's ends
-abbrev pub is_end : Ends → ℕ → Bool
-is_end ends number = ((number == 11) && ends.cancel) || is_declared ends number
+use Rattle.tv_model.specs.Machine.State.{State, OpenDialog}
+use Rattle.tv_model.specs.Description.Commands.{is_end}
+use Rattle.tv_model.specs.Description.Heads.{dialog_head}
+use Rattle.tv_model.specs.Machine.Step.{is_free_at, start, step}
+use Rattle.tv_model.specs.Log.Output.{states}
 
 -- while a dialog is open its focus is a free control of it
 abbrev pub IsFocusFree : Desc → State → Type 0
@@ -25,13 +22,14 @@ pub record Declares (d : Desc) (i : Id) (number : ℕ) : Type 0 where
   pub dialog : Dialog
   pub there : slice_get d.dialogs place ≡ Some dialog
   pub id : dialog.node.id ≡ i
-  pub «end» : is_end (ends_of dialog.node.kind) number ≡ true
+  pub «end» : is_end (dialog_head dialog).ends number ≡ true
 
 -- an `end` line names a declared command; nothing is asked of other lines
 abbrev pub HasDeclaredEnd : Desc → LogLine → Type 0
 HasDeclaredEnd d (lines.End i command) = Declares d i command.0
 HasDeclaredEnd d _ = Unit {0}
 
+-- the focus of an open dialog is free, and dialogs end as they declare
 pub record IsSafe (d : Desc) (s : State) : Type 0 where
   pub focus : IsFocusFree d s
   pub ends : All (HasDeclaredEnd d) s.log

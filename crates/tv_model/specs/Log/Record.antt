@@ -1,5 +1,5 @@
 -- The values of a dialog's fields, as the list of the entries.
-use Rattle.std.specs.Prelude.{ℕ, List, [], ◌∷◌, Option, Some, None, ◌==◌, if◌then◌else◌}
+use Rattle.std.specs.Prelude.{[], ℕ, List, ◌∷◌, Option, Some, None, ◌==◌, if◌then◌else◌}
 use Rattle.tv_model.specs.declared.node.Id.{Id}
 use Rattle.tv_model.specs.declared.record.Value.{Value}
 use Rattle.tv_model.specs.declared.record.Entry.{Entry}

@@ -1,23 +1,25 @@
 -- The state of a run.
-use Rattle.std.specs.Prelude.{ℕ, Bool, false, not, List, [], ◌∷◌, map, filter, filter_map, max, Option, Some, None, option_map, ℤ, pos, negsuc, ◌+◌, ◌-◌, ◌^◌, bit_or}
+use Rattle.std.specs.Prelude.{[], ℕ, Bool, false, not, List, ◌∷◌, map, filter, filter_map, max, Option, Some, None, option_map, ℤ, ◌+◌, ◌-◌, ◌^◌, bit_or}
+use Rattle.tv_cells.specs.declared.rect.Point.{Point}
 use Rattle.tv_model.specs.declared.node.Id.{Id}
 use Rattle.tv_model.specs.declared.node.Node.{Node}
-use Rattle.tv_model.specs.declared.node.Kind.{Kind}
-use Rattle.tv_model.specs.declared.node.Kind.TheVariants as kinds
+use Rattle.tv_model.specs.declared.kind.Kind.{Kind}
+use Rattle.tv_model.specs.declared.kind.Kind.TheVariants as kinds
 use Rattle.tv_model.specs.declared.record.Value.{Value}
 use Rattle.tv_model.specs.declared.record.Value.TheVariants as values
 use Rattle.tv_model.specs.declared.record.Entry.{Entry}
 use Rattle.tv_model.specs.declared.log.LogLine.{LogLine}
-use Rattle.tv_model.specs.Record.{Entries}
-use Rattle.tv_model.specs.Nodes.{is_pane}
+use Rattle.tv_model.specs.Log.Record.{Entries}
+use Rattle.tv_model.specs.Description.Nodes.{is_pane}
+use Rattle.tv_model.specs.Description.Numbers.{natural}
 
 -- what a leaf keeps besides its value
 pub data Private : Type 0 where
-  -- a button, a label or a static text keeps nothing
+  -- a button, a label or a static text keeps nothing, and radio buttons nothing besides their value
   Plain : Private
   -- an input: the place of its cursor, and whether its whole text is selected
   Editing : (cursor : ℕ) (is_whole : Bool) → Private
-  -- a cluster: its selected item, from 1
+  -- check boxes: their selected item, from 1
   Selecting : (item : ℕ) → Private
   -- a list: the item of its top row, from 1
   Scrolled : (top : ℕ) → Private
@@ -33,9 +35,16 @@ pub record Held : Type 0 where
   pub id : Id
   pub item : ℕ
 
--- the dialog that is open, by its place in the description, with its leaves in description order
+-- a window that is open, and where its corner stands on the screen
+pub record OpenWindow : Type 0 where
+  pub id : Id
+  pub origin : Point
+
+-- the dialog that is open, by its place in the description, where its corner stands on the screen, and its leaves in
+-- description order
 pub record OpenDialog : Type 0 where
   pub place : ℕ
+  pub origin : Point
   pub leaves : List LeafState
   pub focus : Id
   pub held : Option Held
@@ -49,7 +58,7 @@ pub record State : Type 0 where
   -- whether the run is over
   pub is_over : Bool
   -- the open windows from front to back
-  pub windows : List Id
+  pub windows : List OpenWindow
   pub menu : Option OpenMenu
   pub dialog : Option OpenDialog
   -- for each dialog of the description the record that its last end saved
@@ -59,11 +68,6 @@ pub record State : Type 0 where
   -- the lines of the last event that aren't yet taken
   pub log : List LogLine
 
--- the number, or 0 below it
-abbrev pub natural : ℤ → ℕ
-natural (pos n) = n
-natural (negsuc n) = 0
-
 -- the marks of these items: bit 0 is the first item
 abbrev pub marks_of : List ℤ → ℕ
 marks_of [] = 0
@@ -71,16 +75,16 @@ marks_of (item ∷ items) = bit_or (2 ^ (natural item - 1)) (marks_of items)
 
 -- the value that a field has by its declaration
 abbrev pub declared_value : Kind → Option Value
-declared_value (kinds.Window name h number title) = None
-declared_value (kinds.Dialog name h title opens ends) = None
-declared_value (kinds.Text h text) = None
-declared_value (kinds.Label text link) = None
-declared_value (kinds.Button name text command is_default grabs) = None
-declared_value (kinds.Input name spec start validates) = Some (values.Text start)
-declared_value (kinds.CheckBoxes name items start) = Some (values.Marks (marks_of start))
-declared_value (kinds.RadioButtons name items start) = Some (values.Item (natural start))
-declared_value (kinds.List name h items start) = Some (values.Item (natural start))
-declared_value (kinds.Pane name h) = None
+declared_value (kinds.Window head) = None
+declared_value (kinds.Dialog head) = None
+declared_value (kinds.Text shown) = None
+declared_value (kinds.Label label) = None
+declared_value (kinds.Button button) = None
+declared_value (kinds.Input input) = Some (values.Text input.start)
+declared_value (kinds.CheckBoxes boxes) = Some (values.Marks (marks_of boxes.start))
+declared_value (kinds.RadioButtons radios) = Some (values.Item (natural radios.start))
+declared_value (kinds.List list) = Some (values.Item (natural list.start))
+declared_value (kinds.Pane pane) = None
 
 -- the item that a value marks or chooses
 abbrev pub item_of : Value → ℕ
@@ -90,10 +94,9 @@ item_of (values.Item item) = item
 
 -- what a leaf keeps when its dialog opens with the value
 abbrev pub opened_private : Kind → Value → Private
-opened_private (kinds.Input name spec start validates) value = Editing 0 false
-opened_private (kinds.CheckBoxes name items start) value = Selecting 1
-opened_private (kinds.RadioButtons name items start) value = Selecting (item_of value)
-opened_private (kinds.List name h items start) value = Scrolled (max 1 (item_of value + 1 - natural h))
+opened_private (kinds.Input input) value = Editing 0 false
+opened_private (kinds.CheckBoxes boxes) value = Selecting 1
+opened_private (kinds.List list) value = Scrolled (max 1 (item_of value + 1 - natural list.h))
 opened_private _ value = Plain
 
 -- a leaf as its declaration has it

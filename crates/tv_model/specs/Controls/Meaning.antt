@@ -1,11 +1,11 @@
 -- What a view means: its leaves, one after the other.
-use Rattle.std.specs.Prelude.{ℕ, Bool, true, false, List, [], ◌∷◌, map, Option, Some, None, ℤ, pos, neg_ℤ, ◌≤ℤ◌, if◌then◌else◌}
+use Rattle.std.specs.Prelude.{[], ℕ, Bool, true, false, List, ◌∷◌, map, Option, Some, None, ℤ, pos, neg_ℤ, ◌≤ℤ◌, if◌then◌else◌}
 use Rattle.std.specs.List.{list_any}
 use Rattle.tv_cells.specs.declared.rect.Rect.{Rect}
 use Rattle.tv_model.specs.declared.node.Node.{Node}
 use Rattle.tv_model.specs.declared.record.Value.{Value}
-use Rattle.tv_model.specs.Faults.{place_of_node}
-use Rattle.tv_model.specs.State.{Private, declared_leaf}
+use Rattle.tv_model.specs.Description.Rectangles.{place_of_node}
+use Rattle.tv_model.specs.Machine.State.{Private, declared_leaf}
 
 -- ---- leaves
 

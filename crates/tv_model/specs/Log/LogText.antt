@@ -1,30 +1,19 @@
 -- The text of the log.
-use Rattle.std.specs.Prelude.{ℕ, Bool, List, [], ◌∷◌, ◌++◌, map, filter, flat_map, Option, Some, None, unwrap_or, encode_utf8, codes, decimal, ◌-◌, ◌/◌, ◌%◌, ◌^◌, ◌==◌, if◌then◌else◌}
+use Rattle.std.specs.Prelude.{[], ℕ, Bool, List, ◌∷◌, ◌++◌, map, filter, flat_map, Option, Some, None, unwrap_or, encode_utf8, codes, decimal, ◌-◌, ◌/◌, ◌%◌, ◌^◌, ◌==◌, if◌then◌else◌}
 use Rattle.std.specs.List.{range_with_len}
 use Rattle.tv_model.specs.declared.node.Id.{Id}
 use Rattle.tv_model.specs.declared.node.Node.{Node}
 use Rattle.tv_model.specs.declared.desc.Desc.{Desc}
-use Rattle.tv_model.specs.declared.desc.Window.{Window}
-use Rattle.tv_model.specs.declared.desc.Dialog.{Dialog}
 use Rattle.tv_model.specs.declared.record.Value.{Value}
 use Rattle.tv_model.specs.declared.record.Value.TheVariants as values
 use Rattle.tv_model.specs.declared.log.LogLine.{LogLine}
 use Rattle.tv_model.specs.declared.log.LogLine.TheVariants as lines
-use Rattle.tv_model.specs.Nodes.{name_of, node_of}
+use Rattle.tv_model.specs.Description.Nodes.{name_of, node_of}
+use Rattle.tv_model.specs.Description.Heads.{all_nodes}
 
 -- the bytes of characters
 abbrev pub bytes_of : List ℕ → List ℕ
 bytes_of chars = flat_map encode_utf8 chars
-
--- all nodes of a description, in description order
-abbrev pub window_nodes : Window → List Node
-window_nodes w = w.node ∷ w.views
-
-abbrev pub dialog_nodes : Dialog → List Node
-dialog_nodes d = d.node ∷ d.views
-
-abbrev pub all_nodes : Desc → List Node
-all_nodes d = flat_map window_nodes d.windows ++ flat_map dialog_nodes d.dialogs
 
 abbrev pub name_of_node : Option Node → List ℕ
 name_of_node None = []

@@ -1,15 +1,15 @@
 -- Descriptions of one dialog with static texts and buttons.
-use Rattle.std.specs.Prelude.{◌≡◌, ℕ, List, ◌+◌, false, [], ◌∷◌, None, All}
+use Rattle.std.specs.Prelude.{[], ◌≡◌, ℕ, List, ◌+◌, false, ◌∷◌, None, All}
 use Rattle.tv_model.specs.declared.node.Node.{Node}
-use Rattle.tv_model.specs.declared.node.Kind.{Kind}
-use Rattle.tv_model.specs.declared.node.Kind.TheVariants as kinds
+use Rattle.tv_model.specs.declared.kind.Kind.{Kind}
+use Rattle.tv_model.specs.declared.kind.Kind.TheVariants as kinds
 use Rattle.tv_model.specs.declared.desc.Desc.{Desc}
 use Rattle.tv_model.specs.declared.desc.Dialog.{Dialog}
 
 -- a static text, or a button that is neither the default nor grabs the focus
 abbrev pub IsThinKind : Kind → Type 0
-IsThinKind (kinds.Text h text) = Unit {0}
-IsThinKind (kinds.Button name text command is_default grabs) = (is_default ≡ false) × (grabs ≡ false)
+IsThinKind (kinds.Text shown) = Unit {0}
+IsThinKind (kinds.Button button) = (button.is_default ≡ false) × (button.grabs ≡ false)
 IsThinKind _ = ⊥
 
 -- such a view directly in its dialog
@@ -19,7 +19,7 @@ pub record IsThinView (node : Node) : Type 0 where
 
 -- a dialog that no command opens
 abbrev pub IsThinHead : Kind → Type 0
-IsThinHead (kinds.Dialog name h title opens ends) = opens ≡ None
+IsThinHead (kinds.Dialog head) = head.opens ≡ None
 IsThinHead _ = ⊥
 
 -- the views stand on consecutive lines, from this one on

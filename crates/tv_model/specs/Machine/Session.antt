@@ -1,8 +1,8 @@
 -- A session: its description and its state.
 use Rattle.tv_event.specs.declared.event.Event.{Event}
 use Rattle.tv_model.specs.declared.desc.Desc.{Desc}
-use Rattle.tv_model.specs.State.{State}
-use Rattle.tv_model.specs.Step.{step, emptied, start}
+use Rattle.tv_model.specs.Machine.State.{State}
+use Rattle.tv_model.specs.Machine.Step.{step, emptied, start}
 
 pub record Session : Type 0 where
   pub desc : Desc

@@ -1,5 +1,5 @@
 -- What a script writes.
-use Rattle.std.specs.Prelude.{ℕ, List, [], ◌∷◌, ◌++◌, map, flat_map, codes, decimal, encode_utf8, ◌+◌, ◌/◌, ◌%◌, nat_lt, if◌then◌else◌}
+use Rattle.std.specs.Prelude.{[], ℕ, List, ◌∷◌, ◌++◌, map, flat_map, codes, decimal, encode_utf8, ◌+◌, ◌/◌, ◌%◌, nat_lt, if◌then◌else◌}
 use Rattle.std.specs.List.{range_with_len}
 use Rattle.tv_cells.specs.Glyph.{Glyph}
 use Rattle.tv_cells.specs.Layers.{cell_of}
@@ -8,10 +8,10 @@ use Rattle.tv_event.specs.declared.event.Event.TheVariants as events
 use Rattle.tv_event.specs.declared.event.Key.TheVariants as keys
 use Rattle.tv_model.specs.declared.script.Item.{Item}
 use Rattle.tv_model.specs.declared.script.Item.TheVariants as items
-use Rattle.tv_model.specs.State.{natural}
-use Rattle.tv_model.specs.Session.{Session, stepped, quiet}
-use Rattle.tv_model.specs.Layers.{layers_of}
-use Rattle.tv_model.specs.LogText.{log_text, line_of}
+use Rattle.tv_model.specs.Description.Numbers.{natural}
+use Rattle.tv_model.specs.Machine.Session.{Session, stepped, quiet}
+use Rattle.tv_model.specs.Screen.Layers.{layers_of}
+use Rattle.tv_model.specs.Log.LogText.{log_text, line_of}
 
 -- ---- the screen
 

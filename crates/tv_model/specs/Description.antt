@@ -1,0 +1,28 @@
+-- What a description says.
+
+-- numbers as descriptions have them
+pub mod Numbers
+-- nodes by their kind and by their ids
+pub mod Nodes
+-- the heads of windows and dialogs
+pub mod Heads
+-- names and what they mean
+pub mod Names
+-- marked letters
+pub mod Letters
+-- the texts of a declaration
+pub mod Texts
+-- commands, and the ends of a dialog
+pub mod Commands
+-- rectangles of the desktop and of views
+pub mod Rectangles
+-- panes and what stands in them
+pub mod Panes
+-- what rules name and stand over
+pub mod Rules
+-- what shortcut letters act on
+pub mod Owners
+-- Tab's order and the letters of a certificate
+pub mod Certificates
+-- descriptions of one dialog with static texts and buttons
+pub mod Thin

@@ -1,0 +1,82 @@
+-- What nodes have by their kind, and how they are found.
+use Rattle.std.specs.Prelude.{ℕ, Bool, true, false, List, length, Option, Some, None, ℤ, pos, ◌==◌, find, ◌∷◌, ◌++◌, ◌+◌, flat_map, ◌-◌}
+use Rattle.tv_model.specs.declared.node.Id.{Id}
+use Rattle.tv_model.specs.declared.node.Node.{Node}
+use Rattle.tv_model.specs.declared.kind.Kind.{Kind}
+use Rattle.tv_model.specs.declared.kind.Kind.TheVariants as kinds
+
+-- the name that a declaration gives
+abbrev pub name_of : Kind → Option (List ℕ)
+name_of (kinds.Window head) = Some head.name
+name_of (kinds.Dialog head) = Some head.name
+name_of (kinds.Text shown) = None
+name_of (kinds.Label label) = None
+name_of (kinds.Button button) = Some button.name
+name_of (kinds.Input input) = Some input.name
+name_of (kinds.CheckBoxes boxes) = Some boxes.name
+name_of (kinds.RadioButtons radios) = Some radios.name
+name_of (kinds.List list) = Some list.name
+name_of (kinds.Pane pane) = Some pane.name
+
+-- its rows: those declared, else one a row of a cluster's items, else one
+abbrev pub height_of : Kind → ℤ
+height_of (kinds.Window head) = head.h
+height_of (kinds.Dialog head) = head.h
+height_of (kinds.Text shown) = shown.h
+height_of (kinds.Label label) = pos 1
+height_of (kinds.Button button) = pos 1
+height_of (kinds.Input input) = pos 1
+height_of (kinds.CheckBoxes boxes) = pos (length boxes.items)
+height_of (kinds.RadioButtons radios) = pos (length radios.items)
+height_of (kinds.List list) = list.h
+height_of (kinds.Pane pane) = pane.h
+
+-- a button, an input, a cluster or a list
+abbrev pub is_control : Kind → Bool
+is_control (kinds.Button button) = true
+is_control (kinds.Input input) = true
+is_control (kinds.CheckBoxes boxes) = true
+is_control (kinds.RadioButtons radios) = true
+is_control (kinds.List list) = true
+is_control _ = false
+
+abbrev pub is_button : Kind → Bool
+is_button (kinds.Button button) = true
+is_button _ = false
+
+abbrev pub is_pane : Kind → Bool
+is_pane (kinds.Pane pane) = true
+is_pane _ = false
+
+abbrev pub is_window : Kind → Bool
+is_window (kinds.Window head) = true
+is_window _ = false
+
+abbrev pub is_dialog : Kind → Bool
+is_dialog (kinds.Dialog head) = true
+is_dialog _ = false
+
+abbrev pub has_id : Id → Node → Bool
+has_id i node = node.id.0 == i.0
+
+-- the node of an id
+abbrev pub node_of : List Node → Id → Option Node
+node_of nodes i = find (has_id i) nodes
+
+-- check boxes or radio buttons
+abbrev pub is_cluster : Kind → Bool
+is_cluster (kinds.CheckBoxes boxes) = true
+is_cluster (kinds.RadioButtons radios) = true
+is_cluster _ = false
+
+abbrev pub is_button_node : Option Node → Bool
+is_button_node None = false
+is_button_node (Some node) = is_button node.kind
+
+-- a button that is declared to be the default
+abbrev pub is_default : Node → Bool
+is_default node = declared node.kind
+  where
+    declared : Kind → Bool
+    declared (kinds.Button button) = button.is_default
+    declared _ = false

@@ -1,0 +1,10 @@
+-- Numbers as descriptions have them.
+use Rattle.std.specs.Prelude.{ℕ, Bool, ℤ, pos, negsuc, ◌-◌, ◌&&◌, int_le}
+
+-- the number, or 0 below it
+abbrev pub natural : ℤ → ℕ
+natural (pos n) = n
+natural (negsuc n) = 0
+
+abbrev pub is_between : ℤ → ℤ → ℤ → Bool
+is_between least greatest n = int_le least n && int_le n greatest

@@ -1,0 +1,6 @@
+-- What the screen shows.
+
+-- what fills the rectangle of a layer
+pub mod Faces
+-- the layers, from the top
+pub mod Layers
