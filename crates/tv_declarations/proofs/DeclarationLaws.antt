@@ -3,6 +3,7 @@ use Rattle.std.proofs.Common.{◌≡◌, ℕ, Bool, true, false, cond, List, [],
 use Rattle.std.specs.Prelude.{ℤ, IfSome, codes}
 use Rattle.tv_model.specs.declared.desc.Effect.{Effect}
 use Rattle.tv_model.specs.declared.desc.Effect.TheVariants as effects
+use Rattle.tv_model.specs.declared.desc.Version.TheVariants as versions
 use Rattle.tv_model.specs.declared.command.CommandSpec.{CommandSpec}
 use Rattle.tv_model.specs.declared.kind.MarkedText.{MarkedText}
 use Rattle.tv_model.specs.declared.node.Id.{Id}
@@ -64,8 +65,8 @@ node_line at w fs n e =
 abbrev DeclarationOf : Position → List Word → Word → Declaration → Type 0
 DeclarationOf at fields w d = IsLine at d (w ∷ fields)
 
-version_if : (at : Position) (v : Word) (d : Declaration) (b : Bool) → is_bare_word v (codes "1") ≡ b → cond b (Some declared.Version) None ≡ Some d → IsLine at d (Bare (codes "tvd") ∷ v ∷ [])
-version_if at v d true eb e = let same : declared.Version ≡ d = cc in subst (λ x. IsLine at x (Bare (codes "tvd") ∷ v ∷ [])) same (record { is = tt; inside = tt; words = rw (word_is v (codes "1") eb) refl })
+version_if : (at : Position) (v : Word) (d : Declaration) (b : Bool) → is_bare_word v (codes "1") ≡ b → cond b (Some (declared.Version versions.One)) None ≡ Some d → IsLine at d (Bare (codes "tvd") ∷ v ∷ [])
+version_if at v d true eb e = let same : declared.Version versions.One ≡ d = cc in subst (λ x. IsLine at x (Bare (codes "tvd") ∷ v ∷ [])) same (record { is = tt; inside = tt; words = rw (word_is v (codes "1") eb) refl })
 version_if at v d false eb e = absurd cc
 
 version_line : (at : Position) (fs : List Word) (d : Declaration) → version_in fs ≡ Some d → IsLine at d (Bare (codes "tvd") ∷ fs)
@@ -223,7 +224,7 @@ rule_again line panes i (effects.Show name) cluster item (ei, is, named, numbere
 rule_again line panes i (effects.Enable command) cluster item (ei, is, named, numbered) = rw (same_line line i ei, read_command command is, read_name cluster named, read_number_word item numbered) refl
 
 pub read_declaration : (line panes : ℕ) (d : Declaration) → IsDeclaration line d → IsInside panes d → declaration_in (on_line line panes) (declaration_words d) ≡ Some d
-read_declaration line panes declared.Version is inside = refl
+read_declaration line panes (declared.Version versions.One) is inside = refl
 read_declaration line panes (declared.Screen width height) (across, down) inside = rw (read_number_word width across, read_number_word height down) refl
 read_declaration line panes (declared.Start name) is inside = rw (read_name name is) refl
 read_declaration line panes (declared.Menu i title) (ei, marks) inside = rw (same_line line i ei, read_mark title marks) refl

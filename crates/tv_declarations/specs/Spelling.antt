@@ -11,7 +11,7 @@ use Rattle.tv_model.specs.declared.desc.MenuItem.{MenuItem}
 use Rattle.tv_model.specs.declared.desc.Rule.{Rule}
 use Rattle.tv_model.specs.declared.desc.StatusItem.{StatusItem}
 use Rattle.tv_model.specs.declared.desc.Window.{Window}
-use Rattle.tv_model.specs.Description.Nodes.{is_pane}
+use Rattle.tv_model.specs.Description.Nodes.{is_pane, is_window, is_dialog}
 use Rattle.tv_words.specs.declared.word.Word.{Word}
 use Rattle.tv_declarations.specs.declared.declaration.Declaration.{Declaration}
 use Rattle.tv_declarations.specs.declared.declaration.Declaration.TheVariants as declared
@@ -54,7 +54,7 @@ dialog_declarations d = declared.Node d.node ∷ (view_declarations 0 d.views ++
 -- the declarations of a description, each on a line
 abbrev pub declarations_of : Desc → List Declaration
 declarations_of d =
-    declared.Version ∷ declared.Screen d.width d.height ∷ (start_declarations d.start
+    declared.Version d.version ∷ declared.Screen d.width d.height ∷ (start_declarations d.start
     ++ (flat_map menu_declarations d.menus
     ++ (map (λ item. declared.Status item) d.status
     ++ (flat_map window_declarations d.windows
@@ -66,14 +66,7 @@ word_lines d = map declaration_words (declarations_of d)
 
 -- ---- what can be spelled
 
-abbrev pub is_window : Kind → Bool
-is_window (kinds.Window head) = true
-is_window _ = false
-
-abbrev pub is_dialog : Kind → Bool
-is_dialog (kinds.Dialog head) = true
-is_dialog _ = false
-
+-- a static text
 abbrev pub is_text : Kind → Bool
 is_text (kinds.Text shown) = true
 is_text _ = false
@@ -91,10 +84,9 @@ pub record IsWindowText (n : Node) : Type 0 where
   pub depth : n.depth ≡ 0
   pub kind : IsTrue (is_text n.kind)
 
--- a window, with nothing but static texts
+-- a window in no pane, with nothing but static texts
 pub record IsWindow (w : Window) : Type 0 where
   pub depth : w.node.depth ≡ 0
-  pub kind : IsTrue (is_window w.node.kind)
   pub views : AllByRecursion IsWindowText w.views
 
 -- views each of which stands in some of the panes that are open before it; at most 16 are
@@ -102,10 +94,9 @@ abbrev pub AreViews : ℕ → List Node → Type 0
 AreViews panes [] = Unit {0}
 AreViews panes (n ∷ ns) = IsTrue (is_view n.kind) × (n.depth ≤ panes) × (open_after n ≤ 16) × AreViews (open_after n) ns
 
--- a dialog with such views
+-- a dialog in no pane, with such views
 pub record IsDialog (d : Dialog) : Type 0 where
   pub depth : d.node.depth ≡ 0
-  pub kind : IsTrue (is_dialog d.node.kind)
   pub views : AreViews 0 d.views
 
 -- a description that a text can spell: each declaration can be spelled and has its line as its number, and each part has

@@ -7,7 +7,7 @@ use crate::items::{Items, is_rising, marks};
 use crate::node::copy;
 use crate::place::{Place, Position};
 use std::alloc::{AllocError, Global};
-use tv_model::{Kind, MarkedText, Node, Sequence};
+use tv_model::{CheckBoxes, Kind, ListBox, MarkedText, Node, RadioButtons, Sequence};
 use tv_valid::Chars;
 use tv_words::Word;
 
@@ -25,7 +25,8 @@ pub fn checks(alloc: Global, at: Position, fields: &[Word]) -> Result<Option<Nod
         return Ok(None);
     };
     let name = copy(alloc, name)?;
-    Ok(Some(place.node(at, Kind::CheckBoxes { name, items, start })))
+    let kind = Kind::CheckBoxes(CheckBoxes { name, items, start });
+    Ok(Some(place.node(at, kind)))
 }
 
 /// The radio buttons of these fields.
@@ -42,7 +43,8 @@ pub fn radios(alloc: Global, at: Position, fields: &[Word]) -> Result<Option<Nod
         return Ok(None);
     };
     let name = copy(alloc, name)?;
-    Ok(Some(place.node(at, Kind::RadioButtons { name, items, start })))
+    let kind = Kind::RadioButtons(RadioButtons { name, items, start });
+    Ok(Some(place.node(at, kind)))
 }
 
 /// The list of these fields.
@@ -58,16 +60,13 @@ pub fn list(alloc: Global, at: Position, fields: &[Word]) -> Result<Option<Node>
     let (Some(name), Some(place), Some(h)) = (name.name(), Place::read(x, y, w), h.number()) else {
         return Ok(None);
     };
-    let name = copy(alloc, name)?;
-    Ok(Some(place.node(
-        at,
-        Kind::List {
-            name,
-            h,
-            items,
-            start,
-        },
-    )))
+    let kind = Kind::List(ListBox {
+        name: copy(alloc, name)?,
+        h,
+        items,
+        start,
+    });
+    Ok(Some(place.node(at, kind)))
 }
 
 type Boxes = (Sequence<MarkedText>, Sequence<i32>);

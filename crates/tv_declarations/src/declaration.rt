@@ -10,15 +10,15 @@ use crate::keys::key;
 use crate::node::{copy, mark, node};
 use crate::place::Position;
 use std::alloc::{AllocError, Global};
-use tv_model::{Effect, Id, MarkedText, MenuItem, Node, Rule, StatusItem};
+use tv_model::{Effect, Id, MarkedText, MenuItem, Node, Rule, StatusItem, Version};
 use tv_valid::Chars;
 use tv_words::Word;
 
 /// What a line of a description declares.
 #[derive(Drop)]
 pub enum Declaration {
-    /// Version 1 of the language.
-    Version,
+    /// The version of the language.
+    Version(Version),
     Screen { width: i32, height: i32 },
     /// The dialog that is open at the start.
     Start(Chars),
@@ -89,7 +89,7 @@ fn version(fields: &[Word]) -> Option<Declaration>
     ensures { result ≡ version_in fields.now }
 {
     match fields {
-        [version] if version.is(b"1") => Some(Declaration::Version),
+        [version] if version.is(b"1") => Some(Declaration::Version(Version::One)),
         _ => None,
     }
 }

@@ -8,7 +8,7 @@ use crate::command::skip;
 use crate::node::copy;
 use crate::place::{Place, Position};
 use std::alloc::{AllocError, Global};
-use tv_model::{Kind, Node};
+use tv_model::{Input, Kind, Node};
 use tv_valid::{Chars, DomainSpec, InputSpec};
 use tv_words::Word;
 
@@ -46,7 +46,7 @@ pub fn input(alloc: Global, at: Position, fields: &[Word]) -> Result<Option<Node
         start,
         options,
     } = asked;
-    let kind = Kind::Input {
+    let kind = Kind::Input(Input {
         name: copy(alloc, name)?,
         spec: InputSpec {
             max,
@@ -56,7 +56,7 @@ pub fn input(alloc: Global, at: Position, fields: &[Word]) -> Result<Option<Node
         },
         start,
         validates: options.validates,
-    };
+    });
     Ok(Some(place.node(at, kind)))
 }
 

@@ -12,7 +12,9 @@ use crate::input::input;
 use crate::marked::marked;
 use crate::place::{Place, Position};
 use std::alloc::{AllocError, Global};
-use tv_model::{Ends, Kind, MarkedText, Node};
+use tv_model::{
+    Button, DialogHead, Ends, Kind, Label, MarkedText, Node, Pane, StaticText, WindowHead,
+};
 use tv_valid::Chars;
 use tv_words::Word;
 
@@ -90,7 +92,7 @@ fn text(alloc: Global, at: Position, fields: &[Word]) -> Result<Option<Node>, Al
         return Ok(None);
     };
     let text = copy(alloc, text)?;
-    Ok(Some(place.node(at, Kind::Text { h, text })))
+    Ok(Some(place.node(at, Kind::Text(StaticText { h, text }))))
 }
 
 fn label(alloc: Global, at: Position, fields: &[Word]) -> Result<Option<Node>, AllocError>
@@ -118,7 +120,7 @@ fn label_at(
         return Ok(None);
     };
     let link = copy(alloc, link)?;
-    Ok(Some(place.node(at, Kind::Label { text, link })))
+    Ok(Some(place.node(at, Kind::Label(Label { text, link }))))
 }
 
 fn button(alloc: Global, at: Position, fields: &[Word]) -> Result<Option<Node>, AllocError>
@@ -136,13 +138,13 @@ fn button(alloc: Global, at: Position, fields: &[Word]) -> Result<Option<Node>, 
     let (Some(command), Some((is_default, grabs))) = (command(does), button_options(options)) else {
         return Ok(None);
     };
-    let kind = Kind::Button {
+    let kind = Kind::Button(Button {
         name: copy(alloc, name)?,
         text,
         command,
         is_default,
         grabs,
-    };
+    });
     Ok(Some(place.node(at, kind)))
 }
 
@@ -156,7 +158,7 @@ fn pane(alloc: Global, at: Position, fields: &[Word]) -> Result<Option<Node>, Al
         return Ok(None);
     };
     let name = copy(alloc, name)?;
-    Ok(Some(place.node(at, Kind::Pane { name, h })))
+    Ok(Some(place.node(at, Kind::Pane(Pane { name, h }))))
 }
 
 fn window(alloc: Global, at: Position, fields: &[Word]) -> Result<Option<Node>, AllocError>
@@ -193,12 +195,12 @@ fn window_at(
     let (Some(number), Some(title)) = (number.number(), title.text()) else {
         return Ok(None);
     };
-    let kind = Kind::Window {
+    let kind = Kind::Window(WindowHead {
         name: copy(alloc, name)?,
         h,
         number,
         title: copy(alloc, title)?,
-    };
+    });
     Ok(Some(place.node(at, kind)))
 }
 
@@ -214,13 +216,13 @@ fn dialog(alloc: Global, at: Position, fields: &[Word]) -> Result<Option<Node>, 
     let (Some(title), Some((opens, ends))) = (title.text(), commands(commands_words)) else {
         return Ok(None);
     };
-    let kind = Kind::Dialog {
+    let kind = Kind::Dialog(DialogHead {
         name: copy(alloc, name)?,
         h,
         title: copy(alloc, title)?,
         opens,
         ends,
-    };
+    });
     Ok(Some(place.node(at, kind)))
 }
 

@@ -4,10 +4,11 @@ use Rattle.std.specs.Prelude.{pos, codes, option_and_then}
 use Rattle.std.specs.Str.{is_utf8, chars}
 use Rattle.std.proofs.lemmas.Bool.{eqb-true}
 use lib.Utf8.{encode}
-use Rattle.tv_model.specs.declared.node.Node.{Node}
 use Rattle.tv_model.specs.declared.command.CommandSpec.TheVariants as commands
 use Rattle.tv_model.specs.declared.desc.Desc.{Desc}
+use Rattle.tv_model.specs.declared.desc.Dialog.{Dialog}
 use Rattle.tv_model.specs.declared.desc.MenuItem.{MenuItem}
+use Rattle.tv_model.specs.declared.desc.Version.TheVariants as versions
 use Rattle.tv_words.specs.declared.word.Word.TheVariants.{Bare, Quoted}
 use Rattle.tv_lang.specs.declared.progress.Progress.{Progress}
 use Rattle.tv_lang.specs.declared.stage.Stage.{Stage}
@@ -50,7 +51,7 @@ rest_of stages.Screen = codes "screen 1 1" ∷ []
 rest_of stages.Between = []
 rest_of (stages.InMenu menu) = codes "item \"\" quit" ∷ end_line ∷ []
 rest_of (stages.InWindow window) = end_line ∷ []
-rest_of (stages.InViews node views panes) = replicate panes end_line ++ end_line ∷ []
+rest_of (stages.InViews dialog panes) = replicate panes end_line ++ end_line ∷ []
 rest_of (stages.InRules dialog) = end_line ∷ []
 
 end_words : line_words end_line ≡ Some (Bare (codes "end") ∷ [])
@@ -80,11 +81,11 @@ open_if : (n k : ℕ) (b : Bool) → n == 0 ≡ b → n ≡ suc k → n == 0 ≡
 open_if n k true eb e = absurd (omega (arith, eqb-true n 0 eb, e))
 open_if n k false eb e = eb
 
-views_complete : (k next : ℕ) (node : Node) (views : List Node) (panes : ℕ) (d : Desc) → panes ≡ k → Completes (at next (stages.InViews node views panes) d) (replicate k end_line ++ end_line ∷ [])
-views_complete zero next node views panes d e = (record d { dialogs = d.dialogs ++ record { node = node; views = views; rules = [] } ∷ [] }, rw (e, end_words) refl)
-views_complete (suc k) next node views panes d e =
+views_complete : (k next : ℕ) (dialog : Dialog) (panes : ℕ) (d : Desc) → panes ≡ k → Completes (at next (stages.InViews dialog panes) d) (replicate k end_line ++ end_line ∷ [])
+views_complete zero next dialog panes d e = (record d { dialogs = d.dialogs ++ dialog ∷ [] }, rw (e, end_words) refl)
+views_complete (suc k) next dialog panes d e =
     let less : panes - 1 ≡ k = omega (arith, e) in
-    let h = views_complete k (next + 1) node views (panes - 1) d less in
+    let h = views_complete k (next + 1) dialog (panes - 1) d less in
     (h.0, rw (end_words, open_if panes k (panes == 0) refl e) h.1)
 
 -- an item without a text
@@ -92,12 +93,12 @@ abbrev small_item : ℕ → MenuItem
 small_item line = record { id = record { 0 = line }; text = record { text = []; mark = None }; command = commands.Quit }
 
 complete : (next : ℕ) (stage : Stage) (d : Desc) → Completes (at next stage d) (rest_of stage)
-complete next stages.Version d = (record d { width = pos 1; height = pos 1 }, rw (version_words, screen_words) refl)
+complete next stages.Version d = (record d { version = versions.One; width = pos 1; height = pos 1 }, rw (version_words, screen_words) refl)
 complete next stages.Screen d = (record d { width = pos 1; height = pos 1 }, rw screen_words refl)
 complete next stages.Between d = (d, refl)
 complete next (stages.InMenu menu) d = (record d { menus = d.menus ++ record menu { items = menu.items ++ small_item next ∷ [] } ∷ [] }, rw (item_words, end_words, empty_if menu.items (small_item next) (length (menu.items ++ small_item next ∷ []) == 0) refl) refl)
 complete next (stages.InWindow window) d = (record d { windows = d.windows ++ window ∷ [] }, rw end_words refl)
-complete next (stages.InViews node views panes) d = views_complete panes next node views panes d refl
+complete next (stages.InViews dialog panes) d = views_complete panes next dialog panes d refl
 complete next (stages.InRules dialog) d = (record d { dialogs = d.dialogs ++ dialog ∷ [] }, rw end_words refl)
 
 -- lines along which the machine goes begin a description

@@ -41,7 +41,7 @@ done_tells line stages.Between d v e s =
     rw (← same) (record { more = []; words = refl; are = tt; all = sym (append-nil (declarations_of d)); parts = s })
 done_tells line (stages.InMenu menu) d v e s = absurd cc
 done_tells line (stages.InWindow window) d v e s = absurd cc
-done_tells line (stages.InViews node views panes) d v e s = absurd cc
+done_tells line (stages.InViews dialog panes) d v e s = absurd cc
 done_tells line (stages.InRules dialog) d v e s = absurd cc
 
 -- what the lines after a declaration tell, told from before it

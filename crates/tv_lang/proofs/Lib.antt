@@ -1,3 +1,4 @@
+pub mod OpenedLemmas
 pub mod StageLaws
 pub mod GivenLaws
 pub mod ReachLaws

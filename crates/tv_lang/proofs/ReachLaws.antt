@@ -1,19 +1,18 @@
 -- What is spelled as a description is read as it.
 use Rattle.std.proofs.Common.{◌≡◌, ◌≢◌, ℕ, suc, zero, ◌+◌, ◌-◌, ◌<◌, ◌≤◌, ◌==◌, nat_lt, Bool, true, false, List, [], ◌∷◌, ◌++◌, length, replicate, Option, Some, None, refl, sym, ap, ◌∙◌, append_assoc, subst, arith}
-use Rattle.std.specs.Prelude.{ℤ, map, flat_map, IsTrue}
+use Rattle.std.specs.Prelude.{ℤ, map, flat_map}
 use Rattle.std.specs.List.{AllByRecursion}
 use Rattle.std.proofs.lemmas.List.{append-nil}
 use Rattle.std.proofs.lemmas.Bool.{eqb-true}
 use Rattle.std.proofs.lemmas.Bool.Decides.{nat_tests}
 use Rattle.tv_model.specs.declared.node.Node.{Node}
-use Rattle.tv_model.specs.declared.kind.Kind.{Kind}
-use Rattle.tv_model.specs.declared.kind.Kind.TheVariants as kinds
 use Rattle.tv_model.specs.declared.desc.Desc.{Desc}
 use Rattle.tv_model.specs.declared.desc.Dialog.{Dialog}
 use Rattle.tv_model.specs.declared.desc.Menu.{Menu}
 use Rattle.tv_model.specs.declared.desc.MenuItem.{MenuItem}
 use Rattle.tv_model.specs.declared.desc.Rule.{Rule}
 use Rattle.tv_model.specs.declared.desc.StatusItem.{StatusItem}
+use Rattle.tv_model.specs.declared.desc.Version.{Version}
 use Rattle.tv_model.specs.declared.desc.Window.{Window}
 use Rattle.tv_model.specs.Description.Nodes.{is_pane}
 use Rattle.tv_declarations.specs.declared.declaration.Declaration.{Declaration}
@@ -21,11 +20,12 @@ use Rattle.tv_declarations.specs.declared.declaration.Declaration.TheVariants as
 use Rattle.tv_lang.specs.declared.stage.Stage.{Stage}
 use Rattle.tv_lang.specs.declared.stage.Stage.TheVariants as stages
 use Rattle.tv_lang.specs.Reading.Stages.{no_dialogs, no_windows, no_status, panes_after, taken_at, fresh, open_panes}
-use Rattle.tv_declarations.specs.Spelling.{start_declarations, menu_declarations, window_declarations, ends_of_panes, open_after, view_declarations, dialog_declarations, declarations_of, word_lines, is_window, is_dialog, HasItems, IsWindowText, IsWindow, AreViews, IsDialog, IsDescription}
+use Rattle.tv_declarations.specs.Spelling.{start_declarations, menu_declarations, window_declarations, ends_of_panes, open_after, view_declarations, dialog_declarations, declarations_of, word_lines, HasItems, IsWindowText, IsWindow, AreViews, IsDialog, IsDescription}
 use Rattle.tv_declarations.specs.Spelling.Declarations.{declaration_words, AreDeclarations}
 use Rattle.tv_declarations.proofs.DeclarationLaws.{read_declaration}
 use Rattle.tv_declarations.specs.Spelling.Declarations.{IsInside}
 use Rattle.tv_lang.proofs.GivenLaws.{given, at}
+use Rattle.tv_lang.proofs.OpenedLemmas.{opens_window, opens_dialog}
 
 -- from this stage on, the declarations give the description, whichever lines they stand on
 abbrev Reaches : Stage → Desc → List Declaration → Desc → Type 0
@@ -91,9 +91,9 @@ texts_reach (view ∷ views) window d v xs are h =
 
 window_reach : (window : Window) (d v : Desc) (xs : List Declaration) → IsWindow window → no_dialogs d ≡ true → Reaches stages.Between (record d { windows = d.windows ++ window ∷ [] }) xs v → Reaches stages.Between d (window_declarations window ++ xs) v
 window_reach window d v xs is none h =
-    let opened : Window = record { node = window.node; views = [] } in
+    let opened : Window = record window { views = [] } in
     along stages.Between d v (window_declarations window ++ xs) (declared.Node window.node ∷ (map (λ view. declared.Node view) window.views ++ (declared.End ∷ xs))) (ap (λ l. declared.Node window.node ∷ l) (append_assoc (map (λ view. declared.Node view) window.views) (declared.End ∷ []) xs))
-    (one stages.Between d (declared.Node window.node) (stages.InWindow opened) d (map (λ view. declared.Node view) window.views ++ (declared.End ∷ xs)) v is.depth (rw (is.kind, none) refl)
+    (one stages.Between d (declared.Node window.node) (stages.InWindow opened) d (map (λ view. declared.Node view) window.views ++ (declared.End ∷ xs)) v is.depth (opens_window d window.node opened refl refl none)
     (texts_reach window.views opened d v (declared.End ∷ xs) is.views
     (one (stages.InWindow window) d declared.End stages.Between (record d { windows = d.windows ++ window ∷ [] }) xs v tt refl h)))
 
@@ -111,16 +111,16 @@ none_of : (n : ℕ) (b : Bool) → n == 0 ≡ b → 0 < n → n == 0 ≡ false
 none_of n true e some = absurd (omega (arith, eqb-true n 0 e, some))
 none_of n false e some = e
 
-ends_reach : (k panes to : ℕ) (node : Node) (views : List Node) (d v : Desc) (xs : List Declaration) → panes ≡ to + k → Reaches (stages.InViews node views to) d xs v → Reaches (stages.InViews node views panes) d (replicate k declared.End ++ xs) v
-ends_reach zero panes to node views d v xs e h = let same : to ≡ panes = omega (arith, e) in subst (λ n. Reaches (stages.InViews node views n) d xs v) same h
-ends_reach (suc k) panes to node views d v xs e h =
+ends_reach : (k panes to : ℕ) (dialog : Dialog) (d v : Desc) (xs : List Declaration) → panes ≡ to + k → Reaches (stages.InViews dialog to) d xs v → Reaches (stages.InViews dialog panes) d (replicate k declared.End ++ xs) v
+ends_reach zero panes to dialog d v xs e h = let same : to ≡ panes = omega (arith, e) in subst (λ n. Reaches (stages.InViews dialog n) d xs v) same h
+ends_reach (suc k) panes to dialog d v xs e h =
     let less : panes - 1 ≡ to + k = omega (arith, e) in
     let some : 0 < panes = omega (arith, e) in
-    one (stages.InViews node views panes) d declared.End (stages.InViews node views (panes - 1)) d (replicate k declared.End ++ xs) v tt (rw (none_of panes (panes == 0) refl some) refl)
-    (ends_reach k (panes - 1) to node views d v xs less h)
+    one (stages.InViews dialog panes) d declared.End (stages.InViews dialog (panes - 1)) d (replicate k declared.End ++ xs) v tt (rw (none_of panes (panes == 0) refl some) refl)
+    (ends_reach k (panes - 1) to dialog d v xs less h)
 
-panes_end : (panes to : ℕ) (node : Node) (views : List Node) (d v : Desc) (xs : List Declaration) → to ≤ panes → Reaches (stages.InViews node views to) d xs v → Reaches (stages.InViews node views panes) d (ends_of_panes panes to ++ xs) v
-panes_end panes to node views d v xs within h = ends_reach (panes - to) panes to node views d v xs (omega (arith, within)) h
+panes_end : (panes to : ℕ) (dialog : Dialog) (d v : Desc) (xs : List Declaration) → to ≤ panes → Reaches (stages.InViews dialog to) d xs v → Reaches (stages.InViews dialog panes) d (ends_of_panes panes to ++ xs) v
+panes_end panes to dialog d v xs within h = ends_reach (panes - to) panes to dialog d v xs (omega (arith, within)) h
 
 few : (n : ℕ) → n + 1 ≤ 16 → nat_lt n 16 ≡ true
 few n h = grind (arith, nat_tests)
@@ -131,14 +131,15 @@ after_if n true e h =
     rw (e, few n.depth (rw (← after) h)) refl
 after_if n false e h = rw e refl
 
-views_reach : (vs : List Node) (panes : ℕ) (node : Node) (views : List Node) (d v : Desc) (xs : List Declaration) → AreViews panes vs → Reaches (stages.InViews node (views ++ vs) 0) d xs v → Reaches (stages.InViews node views panes) d (view_declarations panes vs ++ xs) v
-views_reach [] panes node views d v xs are h =
-    panes_end panes 0 node views d v xs (omega arith) (subst (λ l. Reaches (stages.InViews node l 0) d xs v) (append-nil views) h)
-views_reach (n ∷ ns) panes node views d v xs (is, within, low, are) h =
-    along (stages.InViews node views panes) d v (view_declarations panes (n ∷ ns) ++ xs) (ends_of_panes panes n.depth ++ (declared.Node n ∷ (view_declarations (open_after n) ns ++ xs))) (append_assoc (ends_of_panes panes n.depth) (declared.Node n ∷ view_declarations (open_after n) ns) xs)
-    (panes_end panes n.depth node views d v (declared.Node n ∷ (view_declarations (open_after n) ns ++ xs)) within
-    (one (stages.InViews node views n.depth) d (declared.Node n) (stages.InViews node (views ++ n ∷ []) (open_after n)) d (view_declarations (open_after n) ns ++ xs) v refl (rw (is, after_if n (is_pane n.kind) refl low) refl)
-    (views_reach ns (open_after n) node (views ++ n ∷ []) d v xs are (subst (λ l. Reaches (stages.InViews node l 0) d xs v) (sym (append_assoc views (n ∷ []) ns)) h))))
+views_reach : (vs : List Node) (panes : ℕ) (dialog : Dialog) (d v : Desc) (xs : List Declaration) → AreViews panes vs → Reaches (stages.InViews (record dialog { views = dialog.views ++ vs }) 0) d xs v → Reaches (stages.InViews dialog panes) d (view_declarations panes vs ++ xs) v
+views_reach [] panes dialog d v xs are h =
+    panes_end panes 0 dialog d v xs (omega arith) (subst (λ l. Reaches (stages.InViews (record dialog { views = l }) 0) d xs v) (append-nil dialog.views) h)
+views_reach (n ∷ ns) panes dialog d v xs (is, within, low, are) h =
+    let longer : Dialog = record dialog { views = dialog.views ++ n ∷ [] } in
+    along (stages.InViews dialog panes) d v (view_declarations panes (n ∷ ns) ++ xs) (ends_of_panes panes n.depth ++ (declared.Node n ∷ (view_declarations (open_after n) ns ++ xs))) (append_assoc (ends_of_panes panes n.depth) (declared.Node n ∷ view_declarations (open_after n) ns) xs)
+    (panes_end panes n.depth dialog d v (declared.Node n ∷ (view_declarations (open_after n) ns ++ xs)) within
+    (one (stages.InViews dialog n.depth) d (declared.Node n) (stages.InViews longer (open_after n)) d (view_declarations (open_after n) ns ++ xs) v refl (rw (is, after_if n (is_pane n.kind) refl low) refl)
+    (views_reach ns (open_after n) longer d v xs are (subst (λ l. Reaches (stages.InViews (record dialog { views = l }) 0) d xs v) (sym (append_assoc dialog.views (n ∷ []) ns)) h))))
 
 rules_reach : (rules : List Rule) (dialog : Dialog) (d v : Desc) (xs : List Declaration) → Reaches (stages.InRules (record dialog { rules = dialog.rules ++ rules })) d xs v → Reaches (stages.InRules dialog) d (map (λ rule. declared.Rule rule) rules ++ xs) v
 rules_reach [] dialog d v xs h = subst (λ l. Reaches (stages.InRules (record dialog { rules = l })) d xs v) (append-nil dialog.rules) h
@@ -148,35 +149,24 @@ rules_reach (rule ∷ rules) dialog d v xs h =
     (rules_reach rules longer d v xs (subst (λ l. Reaches (stages.InRules (record dialog { rules = l })) d xs v) (sym (append_assoc dialog.rules (rule ∷ []) rules)) h))
 
 -- the rules of a dialog, and its end
-rest_reaches : (rules : List Rule) (node : Node) (views : List Node) (d v : Desc) (xs : List Declaration) → Reaches stages.Between (record d { dialogs = d.dialogs ++ record { node = node; views = views; rules = rules } ∷ [] }) xs v → Reaches (stages.InViews node views 0) d (map (λ rule. declared.Rule rule) rules ++ (declared.End ∷ xs)) v
-rest_reaches [] node views d v xs h = one (stages.InViews node views 0) d declared.End stages.Between (record d { dialogs = d.dialogs ++ record { node = node; views = views; rules = [] } ∷ [] }) xs v tt refl h
-rest_reaches (rule ∷ rules) node views d v xs h =
-    let first : Dialog = record { node = node; views = views; rules = rule ∷ [] } in
-    let dialog : Dialog = record { node = node; views = views; rules = rule ∷ rules } in
-    one (stages.InViews node views 0) d (declared.Rule rule) (stages.InRules first) d (map (λ rule. declared.Rule rule) rules ++ (declared.End ∷ xs)) v tt refl
+rest_reaches : (rules : List Rule) (dialog : Dialog) (d v : Desc) (xs : List Declaration) → Reaches stages.Between (record d { dialogs = d.dialogs ++ record dialog { rules = rules } ∷ [] }) xs v → Reaches (stages.InViews (record dialog { rules = [] }) 0) d (map (λ rule. declared.Rule rule) rules ++ (declared.End ∷ xs)) v
+rest_reaches [] dialog d v xs h = one (stages.InViews (record dialog { rules = [] }) 0) d declared.End stages.Between (record d { dialogs = d.dialogs ++ record dialog { rules = [] } ∷ [] }) xs v tt refl h
+rest_reaches (rule ∷ rules) dialog d v xs h =
+    let first : Dialog = record dialog { rules = rule ∷ [] } in
+    let all : Dialog = record dialog { rules = rule ∷ rules } in
+    one (stages.InViews (record dialog { rules = [] }) 0) d (declared.Rule rule) (stages.InRules first) d (map (λ rule. declared.Rule rule) rules ++ (declared.End ∷ xs)) v tt refl
     (rules_reach rules first d v (declared.End ∷ xs)
-    (one (stages.InRules dialog) d declared.End stages.Between (record d { dialogs = d.dialogs ++ dialog ∷ [] }) xs v tt refl h))
-
-not_window : (kind : Kind) → IsTrue (is_dialog kind) → is_window kind ≡ false
-not_window (kinds.Dialog head) is = refl
-not_window (kinds.Window head) is = absurd cc
-not_window (kinds.Text shown) is = refl
-not_window (kinds.Label label) is = refl
-not_window (kinds.Button button) is = refl
-not_window (kinds.Input input) is = refl
-not_window (kinds.CheckBoxes boxes) is = refl
-not_window (kinds.RadioButtons radios) is = refl
-not_window (kinds.List list) is = refl
-not_window (kinds.Pane pane) is = refl
+    (one (stages.InRules all) d declared.End stages.Between (record d { dialogs = d.dialogs ++ all ∷ [] }) xs v tt refl h))
 
 dialog_reach : (dialog : Dialog) (d v : Desc) (xs : List Declaration) → IsDialog dialog → Reaches stages.Between (record d { dialogs = d.dialogs ++ dialog ∷ [] }) xs v → Reaches stages.Between d (dialog_declarations dialog ++ xs) v
 dialog_reach dialog d v xs is h =
+    let opened : Dialog = record dialog { views = []; rules = [] } in
     let rules = map (λ rule. declared.Rule rule) dialog.rules in
     let lines : (view_declarations 0 dialog.views ++ (rules ++ declared.End ∷ [])) ++ xs ≡ view_declarations 0 dialog.views ++ (rules ++ (declared.End ∷ xs)) = append_assoc (view_declarations 0 dialog.views) (rules ++ declared.End ∷ []) xs ∙ ap (λ l. view_declarations 0 dialog.views ++ l) (append_assoc rules (declared.End ∷ []) xs) in
     along stages.Between d v (dialog_declarations dialog ++ xs) (declared.Node dialog.node ∷ (view_declarations 0 dialog.views ++ (rules ++ (declared.End ∷ xs)))) (ap (λ l. declared.Node dialog.node ∷ l) lines)
-    (one stages.Between d (declared.Node dialog.node) (stages.InViews dialog.node [] 0) d (view_declarations 0 dialog.views ++ (rules ++ (declared.End ∷ xs))) v is.depth (rw (not_window dialog.node.kind is.kind, is.kind) refl)
-    (views_reach dialog.views 0 dialog.node [] d v (rules ++ (declared.End ∷ xs)) is.views
-    (rest_reaches dialog.rules dialog.node dialog.views d v xs h)))
+    (one stages.Between d (declared.Node dialog.node) (stages.InViews opened 0) d (view_declarations 0 dialog.views ++ (rules ++ (declared.End ∷ xs))) v is.depth (opens_dialog d dialog.node opened refl refl refl)
+    (views_reach dialog.views 0 opened d v (rules ++ (declared.End ∷ xs)) is.views
+    (rest_reaches dialog.rules dialog d v xs h)))
 
 dialogs_reach : (dialogs : List Dialog) (d v : Desc) → AllByRecursion IsDialog dialogs → v ≡ record d { dialogs = d.dialogs ++ dialogs } → Reaches stages.Between d (flat_map dialog_declarations dialogs) v
 dialogs_reach [] d v are e = λ line none. ap (λ l. Some (record d { dialogs = l })) (sym (append-nil d.dialogs)) ∙ ap (λ x. Some x) (sym e)
@@ -187,17 +177,17 @@ dialogs_reach (dialog ∷ dialogs) d v are e =
 
 -- ---- the whole description
 
-abbrev sized : ℤ → ℤ → Option (List ℕ) → Desc
-sized width height start = record { width = width; height = height; start = start; menus = []; status = []; windows = []; dialogs = [] }
+abbrev sized : Version → ℤ → ℤ → Option (List ℕ) → Desc
+sized version width height start = record { version = version; width = width; height = height; start = start; menus = []; status = []; windows = []; dialogs = [] }
 
-start_reach : (width height : ℤ) (start : Option (List ℕ)) (v : Desc) (xs : List Declaration) → Reaches stages.Between (sized width height start) xs v → Reaches stages.Between (sized width height None) (start_declarations start ++ xs) v
-start_reach width height None v xs h = h
-start_reach width height (Some name) v xs h = one stages.Between (sized width height None) (declared.Start name) stages.Between (sized width height (Some name)) xs v tt refl h
+start_reach : (version : Version) (width height : ℤ) (start : Option (List ℕ)) (v : Desc) (xs : List Declaration) → Reaches stages.Between (sized version width height start) xs v → Reaches stages.Between (sized version width height None) (start_declarations start ++ xs) v
+start_reach version width height None v xs h = h
+start_reach version width height (Some name) v xs h = one stages.Between (sized version width height None) (declared.Start name) stages.Between (sized version width height (Some name)) xs v tt refl h
 
 -- what is spelled so is read
 pub spelled_given : (v : Desc) → IsDescription v → given fresh (word_lines v) ≡ Some v
 spelled_given v is =
-    let with_menus : Desc = record (sized v.width v.height v.start) { menus = v.menus } in
+    let with_menus : Desc = record (sized v.version v.width v.height v.start) { menus = v.menus } in
     let with_status : Desc = record with_menus { status = v.status } in
     let with_windows : Desc = record with_status { windows = v.windows } in
     let dialogs = flat_map dialog_declarations v.dialogs in
@@ -206,10 +196,10 @@ spelled_given v is =
     let menus = flat_map menu_declarations v.menus ++ status in
     let parts = start_declarations v.start ++ menus in
     let all : Reaches stages.Version fresh.desc (declarations_of v) v =
-    one stages.Version fresh.desc declared.Version stages.Screen fresh.desc (declared.Screen v.width v.height ∷ parts) v tt refl
-    (one stages.Screen fresh.desc (declared.Screen v.width v.height) stages.Between (sized v.width v.height None) parts v tt refl
-    (start_reach v.width v.height v.start v menus
-    (menus_reach v.menus (sized v.width v.height v.start) v status is.menus refl
+    one stages.Version fresh.desc (declared.Version v.version) stages.Screen (record fresh.desc { version = v.version }) (declared.Screen v.width v.height ∷ parts) v tt refl
+    (one stages.Screen (record fresh.desc { version = v.version }) (declared.Screen v.width v.height) stages.Between (sized v.version v.width v.height None) parts v tt refl
+    (start_reach v.version v.width v.height v.start v menus
+    (menus_reach v.menus (sized v.version v.width v.height v.start) v status is.menus refl
     (status_reach v.status with_menus v windows refl
     (windows_reach v.windows with_status v dialogs is.windows refl
     (dialogs_reach v.dialogs with_windows v is.dialogs refl)))))) in

@@ -5,6 +5,7 @@ use Rattle.std.specs.List.{AllByRecursion}
 use Rattle.std.proofs.lemmas.List.{take_all}
 use Rattle.std.proofs.lemmas.Bool.{eqb-true}
 use Rattle.tv_model.specs.declared.desc.Desc.{Desc}
+use Rattle.tv_model.specs.declared.desc.Version.TheVariants as versions
 use Rattle.tv_lang.specs.declared.description.LangFault.{LangFault}
 use Rattle.tv_lang.specs.declared.description.LangFault.TheVariants.{NoMemory, Syntax, TooLong, Version}
 use Rattle.tv_words.specs.declared.word.Word.{Word}
@@ -44,7 +45,7 @@ went n ls step = elim step as (λ _. Reading) [ Next q ↦ reading (n + 1) q ls 
 is_one : is_other (Some (pos 1)) ≡ false
 is_one = refl
 
-version_clash : (v : Word) (b : Bool) → is_bare_word v (codes "1") ≡ b → is_other (number_in v) ≡ true → cond b (Some declared.Version) None ≡ None
+version_clash : (v : Word) (b : Bool) → is_bare_word v (codes "1") ≡ b → is_other (number_in v) ≡ true → cond b (Some (declared.Version versions.One)) None ≡ None
 version_clash v true eb e = let one = rw (word_is v (codes "1") eb) at e in absurd cc
 version_clash v false eb e = refl
 
@@ -62,7 +63,7 @@ stops_of_other next stages.Screen d ws e = absurd cc
 stops_of_other next stages.Between d ws e = absurd cc
 stops_of_other next (stages.InMenu menu) d ws e = absurd cc
 stops_of_other next (stages.InWindow window) d ws e = absurd cc
-stops_of_other next (stages.InViews node views panes) d ws e = absurd cc
+stops_of_other next (stages.InViews dialog panes) d ws e = absurd cc
 stops_of_other next (stages.InRules dialog) d ws e = absurd cc
 
 -- what a line does, and whether the machine goes on
@@ -191,7 +192,7 @@ not_first stages.Screen d xs x e = tt
 not_first stages.Between d xs x e = tt
 not_first (stages.InMenu menu) d xs x e = tt
 not_first (stages.InWindow window) d xs x e = tt
-not_first (stages.InViews node views panes) d xs x e = tt
+not_first (stages.InViews dialog panes) d xs x e = tt
 not_first (stages.InRules dialog) d xs x e = tt
 
 -- a stage after the first, as it is reached
@@ -215,7 +216,7 @@ not_other next stages.Screen d ws h = refl
 not_other next stages.Between d ws h = refl
 not_other next (stages.InMenu menu) d ws h = refl
 not_other next (stages.InWindow window) d ws h = refl
-not_other next (stages.InViews node views panes) d ws h = refl
+not_other next (stages.InViews dialog panes) d ws h = refl
 not_other next (stages.InRules dialog) d ws h = refl
 
 never_after : (n : ℕ) (ls : List (List ℕ)) (o : Option Progress) → ((q : Progress) → o ≡ Some q → reading (n + 1) q ls ≡ Other → ⊥) → went n ls (step_from o) ≡ Other → ⊥

@@ -14,13 +14,14 @@ use Rattle.tv_model.specs.declared.desc.Menu.{Menu}
 use Rattle.tv_model.specs.declared.desc.Rule.{Rule}
 use Rattle.tv_model.specs.declared.desc.StatusItem.{StatusItem}
 use Rattle.tv_model.specs.declared.desc.Window.{Window}
-use Rattle.tv_model.specs.Description.Nodes.{is_pane}
+use Rattle.tv_model.specs.declared.desc.Version.{Version}
+use Rattle.tv_model.specs.Description.Nodes.{is_pane, is_window, is_dialog}
 use Rattle.tv_declarations.specs.declared.declaration.Declaration.{Declaration}
 use Rattle.tv_declarations.specs.declared.declaration.Declaration.TheVariants as declared
 use Rattle.tv_lang.specs.declared.stage.Stage.{Stage}
 use Rattle.tv_lang.specs.declared.stage.Stage.TheVariants as stages
-use Rattle.tv_lang.specs.Reading.Stages.{no_dialogs, no_windows, no_status, no_menus, version_taken, screen_taken, part_taken, menu_taken, window_taken, panes_after, views_taken, rules_taken, taken_at, fresh, open_panes}
-use Rattle.tv_declarations.specs.Spelling.{start_declarations, menu_declarations, window_declarations, ends_of_panes, open_after, view_declarations, dialog_declarations, declarations_of, is_window, is_dialog, is_text, is_view, HasItems, IsWindowText, IsWindow, AreViews, IsDialog}
+use Rattle.tv_lang.specs.Reading.Stages.{no_dialogs, no_windows, no_status, no_menus, version_taken, screen_taken, part_taken, menu_taken, window_taken, panes_after, views_taken, rules_taken, window_of, dialog_of, opened_as, taken_at, fresh, open_panes}
+use Rattle.tv_declarations.specs.Spelling.{start_declarations, menu_declarations, window_declarations, ends_of_panes, open_after, view_declarations, dialog_declarations, declarations_of, is_text, is_view, HasItems, IsWindowText, IsWindow, AreViews, IsDialog}
 use Rattle.tv_declarations.specs.Spelling.Declarations.{IsInside}
 
 -- ---- lists
@@ -57,7 +58,7 @@ parts_end a b c w d x =
     ap (λ z. a ++ z) (ap (λ z. b ++ z) (ap (λ z. c ++ z) (sym (append_assoc w d x)) ∙ sym (append_assoc c (w ++ d) x)) ∙ sym (append_assoc b (c ++ (w ++ d)) x)) ∙ sym (append_assoc a (b ++ (c ++ (w ++ d))) x)
 
 abbrev whole : Desc → List Declaration → List Declaration
-whole d l = declared.Version ∷ declared.Screen d.width d.height ∷ l
+whole d l = declared.Version d.version ∷ declared.Screen d.width d.height ∷ l
 
 abbrev starts : Desc → List Declaration
 starts d = start_declarations d.start
@@ -162,11 +163,11 @@ with_view ns v =
 -- what is declared up to a stage
 abbrev pub so_far : Stage → Desc → List Declaration
 so_far stages.Version d = []
-so_far stages.Screen d = declared.Version ∷ []
+so_far stages.Screen d = declared.Version d.version ∷ []
 so_far stages.Between d = declarations_of d
 so_far (stages.InMenu menu) d = declarations_of d ++ (declared.Menu menu.id menu.title ∷ map (λ item. declared.Item item) menu.items)
 so_far (stages.InWindow window) d = declarations_of d ++ (declared.Node window.node ∷ map (λ view. declared.Node view) window.views)
-so_far (stages.InViews node views panes) d = declarations_of d ++ (declared.Node node ∷ (views_so_far 0 views ++ ends_of_panes (last_panes 0 views) panes))
+so_far (stages.InViews dialog panes) d = declarations_of d ++ (declared.Node dialog.node ∷ (views_so_far 0 dialog.views ++ ends_of_panes (last_panes 0 dialog.views) panes))
 so_far (stages.InRules dialog) d = declarations_of d ++ (declared.Node dialog.node ∷ (view_declarations 0 dialog.views ++ map (λ rule. declared.Rule rule) dialog.rules))
 
 pub record HasParts (d : Desc) : Type 0 where
@@ -177,14 +178,18 @@ pub record HasParts (d : Desc) : Type 0 where
 abbrev nothing : Desc
 nothing = fresh.desc
 
+-- nothing but the version
+abbrev only_version : Version → Desc
+only_version version = record nothing { version = version }
+
 -- what holds at each stage
 abbrev pub Sound : Stage → Desc → Type 0
 Sound stages.Version d = d ≡ nothing
-Sound stages.Screen d = d ≡ nothing
+Sound stages.Screen d = d ≡ only_version d.version
 Sound stages.Between d = HasParts d
 Sound (stages.InMenu menu) d = HasParts d × (no_status d ≡ true)
 Sound (stages.InWindow window) d = HasParts d × (no_dialogs d ≡ true) × IsWindow window
-Sound (stages.InViews node views panes) d = HasParts d × (node.depth ≡ 0) × IsTrue (is_dialog node.kind) × AreViews 0 views × (panes ≤ last_panes 0 views)
+Sound (stages.InViews dialog panes) d = HasParts d × IsDialog dialog × (dialog.rules ≡ []) × (panes ≤ last_panes 0 dialog.views)
 Sound (stages.InRules dialog) d = HasParts d × IsDialog dialog
 
 -- a declaration leads soundly to this stage, and is declared there
@@ -195,7 +200,9 @@ goes_same : (stage : Stage) (d : Desc) (x : Declaration) (p r : Stage × Desc) �
 goes_same stage d x p r e g = let same : p ≡ r = cc in subst (Goes stage d x) same g
 
 version_step : (d : Desc) (x : Declaration) (r : Stage × Desc) → version_taken d x ≡ Some r → d ≡ nothing → Goes stages.Version d x r
-version_step d declared.Version r e s = goes_same stages.Version d declared.Version (stages.Screen, d) r e (s, refl)
+version_step d (declared.Version version) r e s =
+    let sound : record d { version = version } ≡ only_version version = ap {A = Desc} (λ n. record n { version = version }) s in
+    goes_same stages.Version d (declared.Version version) (stages.Screen, record d { version = version }) r e (sound, refl)
 version_step d (declared.Screen a b) r e s = absurd cc
 version_step d (declared.Start a) r e s = absurd cc
 version_step d (declared.Menu a b) r e s = absurd cc
@@ -205,8 +212,8 @@ version_step d (declared.Node a) r e s = absurd cc
 version_step d (declared.Rule a) r e s = absurd cc
 version_step d declared.End r e s = absurd cc
 
-screen_step : (d : Desc) (x : Declaration) (r : Stage × Desc) → screen_taken d x ≡ Some r → d ≡ nothing → Goes stages.Screen d x r
-screen_step d declared.Version r e s = absurd cc
+screen_step : (d : Desc) (x : Declaration) (r : Stage × Desc) → screen_taken d x ≡ Some r → d ≡ only_version d.version → Goes stages.Screen d x r
+screen_step d (declared.Version a) r e s = absurd cc
 screen_step d (declared.Screen w h) r e s =
     goes_same stages.Screen d (declared.Screen w h) (stages.Between, record d { width = w; height = h }) r e
     (subst (λ n. Goes stages.Screen n (declared.Screen w h) (stages.Between, record n { width = w; height = h })) (sym s) (record { menus = tt; windows = tt; dialogs = tt }, refl))
@@ -242,24 +249,23 @@ status_if d item r true eb e s =
     (record { menus = s.menus; windows = s.windows; dialogs = s.dialogs }, status_added d item n.0 n.1)
 status_if d item r false eb e s = absurd cc
 
-node_if : (d : Desc) (node : Node) (r : Stage × Desc) (a b c : Bool) → is_window node.kind ≡ a → no_dialogs d ≡ b → is_dialog node.kind ≡ c → cond a (cond b (Some (stages.InWindow (record { node = node; views = [] }), d)) None) (cond c (Some (stages.InViews node [] 0, d)) None) ≡ Some r → HasParts d → node.depth ≡ 0 → Goes stages.Between d (declared.Node node) r
-node_if d node r true true c ea eb ec e s inside =
-    goes_same stages.Between d (declared.Node node) (stages.InWindow (record { node = node; views = [] }), d) r e
-    ((s, eb, record { depth = inside; kind = ea; views = tt }), refl)
-node_if d node r true false c ea eb ec e s inside = absurd cc
-node_if d node r false b true ea eb ec e s inside =
-    goes_same stages.Between d (declared.Node node) (stages.InViews node [] 0, d) r e
-    ((s, inside, ec, tt, omega arith), refl)
-node_if d node r false b false ea eb ec e s inside = absurd cc
+window_if : (d : Desc) (node : Node) (is : IsTrue (is_window node.kind)) (r : Stage × Desc) (b : Bool) → no_dialogs d ≡ b → cond b (Some (stages.InWindow (window_of node is), d)) None ≡ Some r → HasParts d → node.depth ≡ 0 → Goes stages.Between d (declared.Node node) r
+window_if d node is r true eb e s inside = goes_same stages.Between d (declared.Node node) (stages.InWindow (window_of node is), d) r e ((s, eb, record { depth = inside; views = tt }), refl)
+window_if d node is r false eb e s inside = absurd cc
+
+node_as : (d : Desc) (node : Node) (r : Stage × Desc) (window dialog : Bool) (ew : is_window node.kind ≡ window) (ed : is_dialog node.kind ≡ dialog) → opened_as d node window dialog ew ed ≡ Some r → HasParts d → node.depth ≡ 0 → Goes stages.Between d (declared.Node node) r
+node_as d node r true dialog ew ed e s inside = window_if d node ew r (no_dialogs d) refl e s inside
+node_as d node r false true ew ed e s inside = goes_same stages.Between d (declared.Node node) (stages.InViews (dialog_of node ed) 0, d) r e ((s, record { depth = inside; views = tt }, refl, omega arith), refl)
+node_as d node r false false ew ed e s inside = absurd cc
 
 part_step : (d : Desc) (x : Declaration) (r : Stage × Desc) → part_taken d x ≡ Some r → HasParts d → IsInside 0 x → Goes stages.Between d x r
-part_step d declared.Version r e s inside = absurd cc
+part_step d (declared.Version a) r e s inside = absurd cc
 part_step d (declared.Screen a b) r e s inside = absurd cc
 part_step d (declared.Start name) r e s inside = start_if d name r (is_none d.start && no_menus d) refl e s
 part_step d (declared.Menu i title) r e s inside = menu_if d (record { id = i; title = title; items = [] }) r (no_status d) refl refl e s
 part_step d (declared.Item a) r e s inside = absurd cc
 part_step d (declared.Status item) r e s inside = status_if d item r (no_windows d) refl e s
-part_step d (declared.Node node) r e s inside = node_if d node r (is_window node.kind) (no_dialogs d) (is_dialog node.kind) refl refl refl e s inside
+part_step d (declared.Node node) r e s inside = node_as d node r (is_window node.kind) (is_dialog node.kind) refl refl e s inside
 part_step d (declared.Rule a) r e s inside = absurd cc
 part_step d declared.End r e s inside = absurd cc
 
@@ -274,7 +280,7 @@ menu_end_if d menu r false eb e s none =
     )
 
 menu_step : (d : Desc) (menu : Menu) (x : Declaration) (r : Stage × Desc) → menu_taken d menu x ≡ Some r → HasParts d → no_status d ≡ true → Goes (stages.InMenu menu) d x r
-menu_step d menu declared.Version r e s none = absurd cc
+menu_step d menu (declared.Version a) r e s none = absurd cc
 menu_step d menu (declared.Screen a b) r e s none = absurd cc
 menu_step d menu (declared.Start a) r e s none = absurd cc
 menu_step d menu (declared.Menu a b) r e s none = absurd cc
@@ -289,13 +295,13 @@ menu_step d menu declared.End r e s none = menu_end_if d menu r (length menu.ite
 text_if : (d : Desc) (window : Window) (view : Node) (r : Stage × Desc) (b : Bool) → is_text view.kind ≡ b → cond b (Some (stages.InWindow (record window { views = window.views ++ view ∷ [] }), d)) None ≡ Some r → HasParts d → no_dialogs d ≡ true → IsWindow window → view.depth ≡ 0 → Goes (stages.InWindow window) d (declared.Node view) r
 text_if d window view r true eb e s none is inside =
     goes_same (stages.InWindow window) d (declared.Node view) (stages.InWindow (record window { views = window.views ++ view ∷ [] }), d) r e (
-      (s, none, record { depth = is.depth; kind = is.kind; views = all_end IsWindowText window.views view is.views (record { depth = inside; kind = eb }) }),
+      (s, none, record { depth = is.depth; views = all_end IsWindowText window.views view is.views (record { depth = inside; kind = eb }) }),
       onto (declarations_of d) (declared.Node window.node) (map (λ view. declared.Node view) (window.views ++ view ∷ [])) (map (λ view. declared.Node view) window.views) (declared.Node view) (map-append (λ view. declared.Node view) window.views (view ∷ [])),
     )
 text_if d window view r false eb e s none is inside = absurd cc
 
 window_step : (d : Desc) (window : Window) (x : Declaration) (r : Stage × Desc) → window_taken d window x ≡ Some r → HasParts d → no_dialogs d ≡ true → IsWindow window → IsInside 0 x → Goes (stages.InWindow window) d x r
-window_step d window declared.Version r e s none is inside = absurd cc
+window_step d window (declared.Version a) r e s none is inside = absurd cc
 window_step d window (declared.Screen a b) r e s none is inside = absurd cc
 window_step d window (declared.Start a) r e s none is inside = absurd cc
 window_step d window (declared.Menu a b) r e s none is inside = absurd cc
@@ -334,60 +340,66 @@ last_few : (panes : ℕ) (ns : List Node) → panes ≤ 16 → AreViews panes ns
 last_few panes [] few are = few
 last_few panes (n ∷ ns) few (a, b, c, are) = last_few (open_after n) ns c are
 
-view_if : (d : Desc) (node : Node) (views : List Node) (panes : ℕ) (v : Node) (r : Stage × Desc) (b : Bool) (o : Option ℕ) → is_view v.kind ≡ b → panes_after panes v ≡ o → cond b (option_map (λ more. (stages.InViews node (views ++ v ∷ []) more, d)) o) None ≡ Some r → Sound (stages.InViews node views panes) d → v.depth ≡ panes → Goes (stages.InViews node views panes) d (declared.Node v) r
-view_if d node views panes v r true (Some more) eb eo e (s, flat, kind, are, within) inside =
-    let few : panes ≤ 16 = omega (arith, within, last_few 0 views (omega arith) are) in
+view_if : (d : Desc) (dialog : Dialog) (panes : ℕ) (v : Node) (r : Stage × Desc) (b : Bool) (o : Option ℕ) → is_view v.kind ≡ b → panes_after panes v ≡ o → cond b (option_map (λ more. (stages.InViews (record dialog { views = dialog.views ++ v ∷ [] }) more, d)) o) None ≡ Some r → Sound (stages.InViews dialog panes) d → v.depth ≡ panes → Goes (stages.InViews dialog panes) d (declared.Node v) r
+view_if d dialog panes v r true (Some more) eb eo e (s, is, none, within) inside =
+    let views = dialog.views in
+    let few : panes ≤ 16 = omega (arith, within, last_few 0 views (omega arith) is.views) in
     let after = panes_if panes v more (is_pane v.kind) (nat_lt panes 16) refl refl eo inside few in
     let below : v.depth ≤ last_panes 0 views = rw inside within in
     let last : more ≤ last_panes 0 (views ++ v ∷ []) = rw (last_more 0 views v, after.0) (omega arith) in
     let lines : views_so_far 0 (views ++ v ∷ []) ++ ends_of_panes (last_panes 0 (views ++ v ∷ [])) more ≡ (views_so_far 0 views ++ ends_of_panes (last_panes 0 views) panes) ++ declared.Node v ∷ [] = rw (after.0, ← inside) (with_view views v) in
-    goes_same (stages.InViews node views panes) d (declared.Node v) (stages.InViews node (views ++ v ∷ []) more, d) r e (
-      (s, flat, kind, views_end 0 views v are eb below after.1, last),
-      onto (declarations_of d) (declared.Node node) (views_so_far 0 (views ++ v ∷ []) ++ ends_of_panes (last_panes 0 (views ++ v ∷ [])) more) (views_so_far 0 views ++ ends_of_panes (last_panes 0 views) panes) (declared.Node v) lines,
+    goes_same (stages.InViews dialog panes) d (declared.Node v) (stages.InViews (record dialog { views = views ++ v ∷ [] }) more, d) r e (
+      (s, record { depth = is.depth; views = views_end 0 views v is.views eb below after.1 }, none, last),
+      onto (declarations_of d) (declared.Node dialog.node) (views_so_far 0 (views ++ v ∷ []) ++ ends_of_panes (last_panes 0 (views ++ v ∷ [])) more) (views_so_far 0 views ++ ends_of_panes (last_panes 0 views) panes) (declared.Node v) lines,
     )
-view_if d node views panes v r true None eb eo e s inside = absurd cc
-view_if d node views panes v r false o eb eo e s inside = absurd cc
+view_if d dialog panes v r true None eb eo e s inside = absurd cc
+view_if d dialog panes v r false o eb eo e s inside = absurd cc
 
 -- the views of a dialog whose panes have all ended
 views_ended : (views : List Node) (panes : ℕ) → panes ≡ 0 → view_declarations 0 views ≡ views_so_far 0 views ++ ends_of_panes (last_panes 0 views) panes
 views_ended views panes none = all_views 0 views ∙ ap (λ k. views_so_far 0 views ++ ends_of_panes (last_panes 0 views) k) (sym none)
 
-rule_if : (d : Desc) (node : Node) (views : List Node) (panes : ℕ) (rule : Rule) (r : Stage × Desc) (b : Bool) → panes == 0 ≡ b → cond b (Some (stages.InRules (record { node = node; views = views; rules = rule ∷ [] }), d)) None ≡ Some r → Sound (stages.InViews node views panes) d → Goes (stages.InViews node views panes) d (declared.Rule rule) r
-rule_if d node views panes rule r true eb e (s, flat, kind, are, within) =
-    goes_same (stages.InViews node views panes) d (declared.Rule rule) (stages.InRules (record { node = node; views = views; rules = rule ∷ [] }), d) r e (
-      (s, record { depth = flat; kind = kind; views = are }),
-      onto (declarations_of d) (declared.Node node) (view_declarations 0 views ++ declared.Rule rule ∷ []) (views_so_far 0 views ++ ends_of_panes (last_panes 0 views) panes) (declared.Rule rule) (ap (λ l. l ++ declared.Rule rule ∷ []) (views_ended views panes (eqb-true panes 0 eb))),
+rule_if : (d : Desc) (dialog : Dialog) (panes : ℕ) (rule : Rule) (r : Stage × Desc) (b : Bool) → panes == 0 ≡ b → cond b (Some (stages.InRules (record dialog { rules = dialog.rules ++ rule ∷ [] }), d)) None ≡ Some r → Sound (stages.InViews dialog panes) d → Goes (stages.InViews dialog panes) d (declared.Rule rule) r
+rule_if d dialog panes rule r true eb e (s, is, none, within) =
+    let before = view_declarations 0 dialog.views in
+    let body = views_so_far 0 dialog.views ++ ends_of_panes (last_panes 0 dialog.views) panes in
+    let lines : before ++ map (λ rule. declared.Rule rule) (dialog.rules ++ rule ∷ []) ≡ body ++ declared.Rule rule ∷ [] = ap (λ l. before ++ map (λ rule. declared.Rule rule) (l ++ rule ∷ [])) none ∙ ap (λ l. l ++ declared.Rule rule ∷ []) (views_ended dialog.views panes (eqb-true panes 0 eb)) in
+    goes_same (stages.InViews dialog panes) d (declared.Rule rule) (stages.InRules (record dialog { rules = dialog.rules ++ rule ∷ [] }), d) r e (
+      (s, record { depth = is.depth; views = is.views }),
+      onto (declarations_of d) (declared.Node dialog.node) (before ++ map (λ rule. declared.Rule rule) (dialog.rules ++ rule ∷ [])) body (declared.Rule rule) lines,
     )
-rule_if d node views panes rule r false eb e s = absurd cc
+rule_if d dialog panes rule r false eb e s = absurd cc
 
 above : (n : ℕ) → n == 0 ≡ false → 0 < n
 above n e = grind (arith, nat_tests)
 
-end_if : (d : Desc) (node : Node) (views : List Node) (panes : ℕ) (r : Stage × Desc) (b : Bool) → panes == 0 ≡ b → cond b (Some (stages.Between, record d { dialogs = d.dialogs ++ record { node = node; views = views; rules = [] } ∷ [] })) (Some (stages.InViews node views (panes - 1), d)) ≡ Some r → Sound (stages.InViews node views panes) d → Goes (stages.InViews node views panes) d declared.End r
-end_if d node views panes r true eb e (s, flat, kind, are, within) =
-    let dialog : Dialog = record { node = node; views = views; rules = [] } in
-    goes_same (stages.InViews node views panes) d declared.End (stages.Between, record d { dialogs = d.dialogs ++ dialog ∷ [] }) r e
-    (dialog_ended (stages.InViews node views panes) d dialog (views_so_far 0 views ++ ends_of_panes (last_panes 0 views) panes) refl (append-nil (view_declarations 0 views) ∙ views_ended views panes (eqb-true panes 0 eb)) s (record { depth = flat; kind = kind; views = are }))
-end_if d node views panes r false eb e (s, flat, kind, are, within) =
+end_if : (d : Desc) (dialog : Dialog) (panes : ℕ) (r : Stage × Desc) (b : Bool) → panes == 0 ≡ b → cond b (Some (stages.Between, record d { dialogs = d.dialogs ++ dialog ∷ [] })) (Some (stages.InViews dialog (panes - 1), d)) ≡ Some r → Sound (stages.InViews dialog panes) d → Goes (stages.InViews dialog panes) d declared.End r
+end_if d dialog panes r true eb e (s, is, none, within) =
+    let views = dialog.views in
+    let lines : view_declarations 0 views ++ map (λ rule. declared.Rule rule) dialog.rules ≡ views_so_far 0 views ++ ends_of_panes (last_panes 0 views) panes = ap (λ l. view_declarations 0 views ++ map (λ rule. declared.Rule rule) l) none ∙ append-nil (view_declarations 0 views) ∙ views_ended views panes (eqb-true panes 0 eb) in
+    goes_same (stages.InViews dialog panes) d declared.End (stages.Between, record d { dialogs = d.dialogs ++ dialog ∷ [] }) r e
+    (dialog_ended (stages.InViews dialog panes) d dialog (views_so_far 0 views ++ ends_of_panes (last_panes 0 views) panes) refl lines s is)
+end_if d dialog panes r false eb e (s, is, none, within) =
+    let views = dialog.views in
     let lines : views_so_far 0 views ++ ends_of_panes (last_panes 0 views) (panes - 1) ≡ (views_so_far 0 views ++ ends_of_panes (last_panes 0 views) panes) ++ declared.End ∷ [] = ap (λ l. views_so_far 0 views ++ l) (one_end (last_panes 0 views) panes (above panes eb) within) ∙ sym (append_assoc (views_so_far 0 views) (ends_of_panes (last_panes 0 views) panes) (declared.End ∷ [])) in
-    goes_same (stages.InViews node views panes) d declared.End (stages.InViews node views (panes - 1), d) r e (
-      (s, flat, kind, are, omega (arith, within)),
-      onto (declarations_of d) (declared.Node node) (views_so_far 0 views ++ ends_of_panes (last_panes 0 views) (panes - 1)) (views_so_far 0 views ++ ends_of_panes (last_panes 0 views) panes) declared.End lines,
+    goes_same (stages.InViews dialog panes) d declared.End (stages.InViews dialog (panes - 1), d) r e (
+      (s, is, none, omega (arith, within)),
+      onto (declarations_of d) (declared.Node dialog.node) (views_so_far 0 views ++ ends_of_panes (last_panes 0 views) (panes - 1)) (views_so_far 0 views ++ ends_of_panes (last_panes 0 views) panes) declared.End lines,
     )
 
-views_step : (d : Desc) (node : Node) (views : List Node) (panes : ℕ) (x : Declaration) (r : Stage × Desc) → views_taken d node views panes x ≡ Some r → Sound (stages.InViews node views panes) d → IsInside panes x → Goes (stages.InViews node views panes) d x r
-views_step d node views panes declared.Version r e s inside = absurd cc
-views_step d node views panes (declared.Screen a b) r e s inside = absurd cc
-views_step d node views panes (declared.Start a) r e s inside = absurd cc
-views_step d node views panes (declared.Menu a b) r e s inside = absurd cc
-views_step d node views panes (declared.Item a) r e s inside = absurd cc
-views_step d node views panes (declared.Status a) r e s inside = absurd cc
-views_step d node views panes (declared.Node v) r e s inside = view_if d node views panes v r (is_view v.kind) (panes_after panes v) refl refl e s inside
-views_step d node views panes (declared.Rule rule) r e s inside = rule_if d node views panes rule r (panes == 0) refl e s
-views_step d node views panes declared.End r e s inside = end_if d node views panes r (panes == 0) refl e s
+views_step : (d : Desc) (dialog : Dialog) (panes : ℕ) (x : Declaration) (r : Stage × Desc) → views_taken d dialog panes x ≡ Some r → Sound (stages.InViews dialog panes) d → IsInside panes x → Goes (stages.InViews dialog panes) d x r
+views_step d dialog panes (declared.Version a) r e s inside = absurd cc
+views_step d dialog panes (declared.Screen a b) r e s inside = absurd cc
+views_step d dialog panes (declared.Start a) r e s inside = absurd cc
+views_step d dialog panes (declared.Menu a b) r e s inside = absurd cc
+views_step d dialog panes (declared.Item a) r e s inside = absurd cc
+views_step d dialog panes (declared.Status a) r e s inside = absurd cc
+views_step d dialog panes (declared.Node v) r e s inside = view_if d dialog panes v r (is_view v.kind) (panes_after panes v) refl refl e s inside
+views_step d dialog panes (declared.Rule rule) r e s inside = rule_if d dialog panes rule r (panes == 0) refl e s
+views_step d dialog panes declared.End r e s inside = end_if d dialog panes r (panes == 0) refl e s
 
 rules_step : (d : Desc) (dialog : Dialog) (x : Declaration) (r : Stage × Desc) → rules_taken d dialog x ≡ Some r → HasParts d → IsDialog dialog → Goes (stages.InRules dialog) d x r
-rules_step d dialog declared.Version r e s is = absurd cc
+rules_step d dialog (declared.Version a) r e s is = absurd cc
 rules_step d dialog (declared.Screen a b) r e s is = absurd cc
 rules_step d dialog (declared.Start a) r e s is = absurd cc
 rules_step d dialog (declared.Menu a b) r e s is = absurd cc
@@ -399,7 +411,7 @@ rules_step d dialog (declared.Rule rule) r e s is =
     let rules = map (λ rule. declared.Rule rule) dialog.rules in
     let lines : before ++ map (λ rule. declared.Rule rule) (dialog.rules ++ rule ∷ []) ≡ (before ++ rules) ++ declared.Rule rule ∷ [] = ap (λ l. before ++ l) (map-append (λ rule. declared.Rule rule) dialog.rules (rule ∷ [])) ∙ sym (append_assoc before rules (declared.Rule rule ∷ [])) in
     goes_same (stages.InRules dialog) d (declared.Rule rule) (stages.InRules (record dialog { rules = dialog.rules ++ rule ∷ [] }), d) r e (
-      (s, record { depth = is.depth; kind = is.kind; views = is.views }),
+      (s, record { depth = is.depth; views = is.views }),
       onto (declarations_of d) (declared.Node dialog.node) (before ++ map (λ rule. declared.Rule rule) (dialog.rules ++ rule ∷ [])) (before ++ rules) (declared.Rule rule) lines,
     )
 rules_step d dialog declared.End r e s is =
@@ -413,5 +425,5 @@ goes stages.Screen d x r e s inside = screen_step d x r e s
 goes stages.Between d x r e s inside = part_step d x r e s inside
 goes (stages.InMenu menu) d x r e s inside = menu_step d menu x r e s.0 s.1
 goes (stages.InWindow window) d x r e s inside = window_step d window x r e s.0 s.1 s.2 inside
-goes (stages.InViews node views panes) d x r e s inside = views_step d node views panes x r e s inside
+goes (stages.InViews dialog panes) d x r e s inside = views_step d dialog panes x r e s inside
 goes (stages.InRules dialog) d x r e s inside = rules_step d dialog x r e s.0 s.1

@@ -7,7 +7,7 @@ ghost use Rattle.tv_lang.specs.Reading.Stages.{finished, fresh, progress, taken_
 use crate::stage::Stage;
 use std::alloc::{AllocError, Global};
 use tv_declarations::{Declaration, Position, declared};
-use tv_model::{Desc, Id, Sequence};
+use tv_model::{Desc, Id, Sequence, Version};
 use tv_words::Word;
 
 /// A description that is read up to some declaration.
@@ -28,6 +28,7 @@ impl Progress {
             next: 1,
             stage: Stage::Version,
             desc: Desc {
+                version: Version::One,
                 width: 0,
                 height: 0,
                 start: None,

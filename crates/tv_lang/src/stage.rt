@@ -2,8 +2,8 @@
 
 ghost use Rattle.std.specs.Prelude.{◌≡◌, ◌≤◌, ◌++◌, ◌∷◌, [], IfOk, None, Some, false, true};
 ghost use Rattle.tv_model.specs.declared.desc.Desc.{Desc as SeenDesc};
-ghost use Rattle.tv_model.specs.Description.Nodes.{is_pane};
-ghost use Rattle.tv_declarations.specs.Spelling.{is_dialog, is_text, is_view, is_window};
+ghost use Rattle.tv_model.specs.Description.Nodes.{is_dialog, is_window};
+ghost use Rattle.tv_declarations.specs.Spelling.{is_text, is_view};
 ghost use Rattle.tv_lang.specs.Reading.Stages.{beside, is_between, menu_taken, no_dialogs, no_menus, no_status, no_windows, node_opened, open_panes, panes_after, part_taken, rules_taken, screen_taken, taken_at, version_taken, view_taken, views_taken, window_taken, with_dialog};
 
 use crate::held::Held;
@@ -24,12 +24,8 @@ pub enum Stage {
     InMenu(Held<Menu>),
     /// The texts of this window.
     InWindow(Held<Window>),
-    /// The views of the dialog of this node, after those that are there and inside so many panes; or its rules.
-    InViews {
-        node: Held<Node>,
-        views: Sequence<Node>,
-        panes: u8,
-    },
+    /// The views of this dialog, after those that are there and inside so many panes; or its rules.
+    InViews { dialog: Held<Dialog>, panes: u8 },
     /// The rules of this dialog.
     InRules(Held<Dialog>),
 }
@@ -65,29 +61,25 @@ impl Stage {
         ensures { IfOk result (λ stage. beside desc.new stage ≡ taken_at self desc.old declaration) }
     {
         match self {
-            Stage::Version => Ok(version(declaration)),
+            Stage::Version => Ok(version(desc, declaration)),
             Stage::Screen => Ok(screen(desc, declaration)),
             Stage::Between => part(alloc, desc, declaration),
             Stage::InMenu(menu) => in_menu(alloc, desc, menu, declaration),
             Stage::InWindow(window) => in_window(alloc, desc, window, declaration),
-            Stage::InViews { node, views, panes } => in_views(
-                alloc,
-                desc,
-                node,
-                views,
-                panes,
-                declaration,
-            ),
+            Stage::InViews { dialog, panes } => in_views(alloc, desc, dialog, panes, declaration),
             Stage::InRules(dialog) => in_rules(alloc, desc, dialog, declaration),
         }
     }
 }
 
-fn version(declaration: Declaration) -> Further
-    ensures { (desc : SeenDesc) → beside desc result ≡ version_taken desc declaration }
+fn version(desc: &mut Desc, declaration: Declaration) -> Further
+    ensures { beside desc.new result ≡ version_taken desc.old declaration }
 {
     match declaration {
-        Declaration::Version => Some(Stage::Screen),
+        Declaration::Version(version) => {
+            desc.version = version;
+            Some(Stage::Screen)
+        }
         _ => None,
     }
 }
@@ -155,9 +147,9 @@ fn part(alloc: Global, desc: &mut Desc, declaration: Declaration) -> Result<Furt
 fn opened(alloc: Global, desc: &Desc, node: Node) -> Result<Further, AllocError>
     ensures { IfOk result (λ stage. beside desc.now stage ≡ node_opened desc.now node) }
 {
-    if is_window(&node.kind) {
+    if node.kind.is_window() {
         window_opened(alloc, desc, node)
-    } else if is_dialog(&node.kind) {
+    } else if node.kind.is_dialog() {
         dialog_opened(alloc, node)
     } else {
         Ok(None)
@@ -168,26 +160,23 @@ fn window_opened(alloc: Global, desc: &Desc, node: Node) -> Result<Further, Allo
     requires { is_window node.kind ≡ true }
     ensures { IfOk result (λ stage. beside desc.now stage ≡ node_opened desc.now node) }
 {
-    if !no_dialogs(desc) {
-        return Ok(None);
+    if no_dialogs(desc) {
+        let views = Sequence::new(alloc);
+        let window = Held::new(alloc, Window { node, views })?;
+        Ok(Some(Stage::InWindow(window)))
+    } else {
+        Ok(None)
     }
-    let views = Sequence::new(alloc);
-    let window = Held::new(alloc, Window { node, views })?;
-    Ok(Some(Stage::InWindow(window)))
 }
 
 fn dialog_opened(alloc: Global, node: Node) -> Result<Further, AllocError>
-    requires window { is_window node.kind ≡ false }
-    requires dialog { is_dialog node.kind ≡ true }
+    requires { is_dialog node.kind ≡ true }
     ensures { IfOk result (λ stage. (desc : SeenDesc) → beside desc stage ≡ node_opened desc node) }
 {
     let views = Sequence::new(alloc);
-    let node = Held::new(alloc, node)?;
-    Ok(Some(Stage::InViews {
-        node,
-        views,
-        panes: 0,
-    }))
+    let rules = Sequence::new(alloc);
+    let dialog = Held::new(alloc, Dialog { node, views, rules })?;
+    Ok(Some(Stage::InViews { dialog, panes: 0 }))
 }
 
 fn in_menu(
@@ -276,29 +265,21 @@ fn in_window(
 fn in_views(
     alloc: Global,
     desc: &mut Desc,
-    node: Held<Node>,
-    views: Sequence<Node>,
+    dialog: Held<Dialog>,
     panes: u8,
     declaration: Declaration,
 ) -> Result<Further, AllocError>
-    ensures { IfOk result (λ stage. beside desc.new stage ≡ views_taken desc.old node views panes declaration) }
+    ensures { IfOk result (λ stage. beside desc.new stage ≡ views_taken desc.old dialog panes declaration) }
 {
     match declaration {
-        Declaration::Node(view) => with_view(node, views, panes, view),
+        Declaration::Node(view) => with_view(alloc, dialog, panes, view),
         Declaration::End if panes > 0 => {
             let panes = panes - 1;
-            Ok(Some(Stage::InViews { node, views, panes }))
+            Ok(Some(Stage::InViews { dialog, panes }))
         }
-        Declaration::End => {
-            let rules = Sequence::new(alloc);
-            let node = node.into_inner();
-            with_dialog(desc, Dialog { node, views, rules })
-        }
+        Declaration::End => with_dialog(desc, dialog.into_inner()),
         Declaration::Rule(rule) if panes == 0 => {
-            let mut rules = Sequence::new(alloc);
-            rules.push(rule)?;
-            let node = node.into_inner();
-            let dialog = Held::new(alloc, Dialog { node, views, rules })?;
+            let dialog = with_rule(alloc, dialog, rule)?;
             Ok(Some(Stage::InRules(dialog)))
         }
         _ => Ok(None),
@@ -306,12 +287,12 @@ fn in_views(
 }
 
 fn with_view(
-    node: Held<Node>,
-    views: Sequence<Node>,
+    alloc: Global,
+    dialog: Held<Dialog>,
     panes: u8,
     view: Node,
 ) -> Result<Further, AllocError>
-    ensures { IfOk result (λ stage. (desc : SeenDesc) → beside desc stage ≡ view_taken desc node views panes view) }
+    ensures { IfOk result (λ stage. (desc : SeenDesc) → beside desc stage ≡ view_taken desc dialog panes view) }
 {
     if !is_view(&view.kind) {
         return Ok(None);
@@ -319,22 +300,27 @@ fn with_view(
     let Some(panes) = panes_after(panes, &view) else {
         return Ok(None);
     };
-    let views = longer(views, view)?;
-    Ok(Some(Stage::InViews { node, views, panes }))
+    let dialog = longer_dialog(alloc, dialog, view)?;
+    Ok(Some(Stage::InViews { dialog, panes }))
 }
 
-fn longer(mut views: Sequence<Node>, view: Node) -> Result<Sequence<Node>, AllocError>
-    ensures { IfOk result (λ longer. longer ≡ views ++ view ∷ []) }
+fn longer_dialog(
+    alloc: Global,
+    dialog: Held<Dialog>,
+    view: Node,
+) -> Result<Held<Dialog>, AllocError>
+    ensures { IfOk result (λ longer. longer ≡ record dialog { views = dialog.views ++ view ∷ [] }) }
 {
-    views.push(view)?;
-    Ok(views)
+    let mut dialog = dialog.into_inner();
+    dialog.views.push(view)?;
+    Held::new(alloc, dialog)
 }
 
 // The panes that are open after a view. There may be 16 at most.
 fn panes_after(panes: u8, view: &Node) -> Option<u8>
     ensures { result ≡ panes_after panes view.now }
 {
-    if !is_pane(&view.kind) {
+    if !view.kind.is_pane() {
         Some(panes)
     } else if panes < 16 {
         Some(panes + 1)
@@ -376,32 +362,14 @@ fn with_dialog(desc: &mut Desc, dialog: Dialog) -> Result<Further, AllocError>
     Ok(Some(Stage::Between))
 }
 
-fn is_window(kind: &Kind) -> bool
-    ensures { result ≡ is_window kind.now }
-{
-    matches!(kind, Kind::Window { .. })
-}
-
-fn is_dialog(kind: &Kind) -> bool
-    ensures { result ≡ is_dialog kind.now }
-{
-    matches!(kind, Kind::Dialog { .. })
-}
-
 fn is_text(kind: &Kind) -> bool
     ensures { result ≡ is_text kind.now }
 {
-    matches!(kind, Kind::Text { .. })
-}
-
-fn is_pane(kind: &Kind) -> bool
-    ensures { result ≡ is_pane kind.now }
-{
-    matches!(kind, Kind::Pane { .. })
+    matches!(kind, Kind::Text(_))
 }
 
 fn is_view(kind: &Kind) -> bool
     ensures { result ≡ is_view kind.now }
 {
-    !is_window(kind) && !is_dialog(kind)
+    !kind.is_window() && !kind.is_dialog()
 }

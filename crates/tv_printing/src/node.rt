@@ -7,7 +7,7 @@ ghost use Rattle.tv_declarations.specs.Spelling.Nodes.{domain_words, marks_words
 
 use crate::line::Line;
 use std::alloc::{AllocError, Global};
-use tv_model::{CommandSpec, Ends, Kind, MarkedText, Node};
+use tv_model::{Button, Ends, Kind, MarkedText, Node};
 use tv_valid::{Chars, DomainSpec, InputSpec};
 use tv_words::Word;
 
@@ -16,57 +16,35 @@ pub fn node_line(alloc: Global, node: &Node) -> Result<Line, AllocError>
     ensures { IfOk result (λ line. line ≡ node_words node.now) }
 {
     match &node.kind {
-        Kind::Window {
-            name,
-            h,
-            number,
-            title,
-        } => named(alloc, b"window", name, node)?
-            .number(*h)?
-            .number(*number)?
-            .text(title),
-        Kind::Dialog {
-            name,
-            h,
-            title,
-            opens,
-            ends,
-        } => named(alloc, b"dialog", name, node)?
-            .number(*h)?
-            .dialog(title, *opens, *ends),
-        Kind::Text { h, text } => unnamed(alloc, b"text", node)?.number(*h)?.text(text),
-        Kind::Label { text, link } => unnamed(alloc, b"label", node)?.marked(text)?.name(link),
-        Kind::Button {
-            name,
-            text,
-            command,
-            is_default,
-            grabs,
-        } => named(alloc, b"button", name, node)?.button(text, *command, *is_default, *grabs),
-        Kind::Input {
-            name,
-            spec,
-            start,
-            validates,
-        } => named(alloc, b"input", name, node)?
-            .number(spec.max)?
-            .input(spec, start, *validates),
-        Kind::CheckBoxes { name, items, start } => named(alloc, b"checks", name, node)?.check_boxes(
-            items.as_slice(),
-            start.as_slice(),
+        Kind::Window(head) => named(alloc, b"window", &head.name, node)?
+            .number(head.h)?
+            .number(head.number)?
+            .text(&head.title),
+        Kind::Dialog(head) => named(alloc, b"dialog", &head.name, node)?
+            .number(head.h)?
+            .dialog(&head.title, head.opens, head.ends),
+        Kind::Text(shown) => unnamed(alloc, b"text", node)?
+            .number(shown.h)?
+            .text(&shown.text),
+        Kind::Label(label) => unnamed(alloc, b"label", node)?
+            .marked(&label.text)?
+            .name(&label.link),
+        Kind::Button(button) => named(alloc, b"button", &button.name, node)?.button(button),
+        Kind::Input(input) => named(alloc, b"input", &input.name, node)?
+            .number(input.spec.max)?
+            .input(&input.spec, &input.start, input.validates),
+        Kind::CheckBoxes(boxes) => named(alloc, b"checks", &boxes.name, node)?.check_boxes(
+            boxes.items.as_slice(),
+            boxes.start.as_slice(),
         ),
-        Kind::RadioButtons { name, items, start } => named(
-            alloc, b"radios", name, node,
-        )?.radio_buttons(items.as_slice(), *start),
-        Kind::List {
-            name,
-            h,
-            items,
-            start,
-        } => named(alloc, b"list", name, node)?
-            .number(*h)?
-            .list(items.as_slice(), *start),
-        Kind::Pane { name, h } => named(alloc, b"pane", name, node)?.number(*h),
+        Kind::RadioButtons(radios) => named(alloc, b"radios", &radios.name, node)?.radio_buttons(
+            radios.items.as_slice(),
+            radios.start,
+        ),
+        Kind::List(list) => named(alloc, b"list", &list.name, node)?
+            .number(list.h)?
+            .list(list.items.as_slice(), list.start),
+        Kind::Pane(pane) => named(alloc, b"pane", &pane.name, node)?.number(pane.h),
     }
 }
 
@@ -105,19 +83,13 @@ impl Line {
         }
     }
 
-    fn button(
-        self,
-        text: &MarkedText,
-        command: CommandSpec,
-        is_default: bool,
-        grabs: bool,
-    ) -> Result<Line, AllocError>
-        ensures { IfOk result (λ line. line ≡ self ++ marked_word text.now ∷ command_word command ∷ (word_if is_default (codes "default") ++ word_if grabs (codes "grab"))) }
+    fn button(self, button: &Button) -> Result<Line, AllocError>
+        ensures { IfOk result (λ line. line ≡ self ++ marked_word button.now.text ∷ command_word button.now.command ∷ (word_if button.now.is_default (codes "default") ++ word_if button.now.grabs (codes "grab"))) }
     {
-        self.marked(text)?
-            .command(command)?
-            .keyword_if(is_default, b"default")?
-            .keyword_if(grabs, b"grab")
+        self.marked(&button.text)?
+            .command(button.command)?
+            .keyword_if(button.is_default, b"default")?
+            .keyword_if(button.grabs, b"grab")
     }
 
     fn input(self, spec: &InputSpec, start: &Chars, validates: bool) -> Result<Line, AllocError>

@@ -9,7 +9,7 @@ use crate::line::Line;
 use std::alloc::{AllocError, Global};
 use std::marker::Model;
 use tv_declarations::Declaration;
-use tv_model::{Desc, Menu, MenuItem, StatusItem};
+use tv_model::{Desc, Menu, MenuItem, StatusItem, Version};
 use tv_valid::Chars;
 
 /// The canonical text of a description: each declaration on a line, one space between words, no comments.
@@ -70,15 +70,18 @@ impl Printer {
 
     #[tactic(auto, using(crate::proofs::PrintTexts::texts_joined))]
     fn heading(self, desc: &Desc) -> Result<Printer, AllocError>
-        ensures { IfOk result (λ printer. printer ≡ self ++ declarations_text (Declaration.Version ∷ Declaration.Screen desc.now.width desc.now.height ∷ start_declarations desc.now.start)) }
+        ensures { IfOk result (λ printer. printer ≡ self ++ declarations_text (Declaration.Version desc.now.version ∷ Declaration.Screen desc.now.width desc.now.height ∷ start_declarations desc.now.start)) }
     {
-        self.version()?.screen(desc)?.start(&desc.start)
+        self.version(desc.version)?.screen(desc)?.start(&desc.start)
     }
 
-    fn version(self) -> Result<Printer, AllocError>
-        ensures { IfOk result (λ printer. printer ≡ self ++ declarations_text (Declaration.Version ∷ [])) }
+    fn version(self, version: Version) -> Result<Printer, AllocError>
+        ensures { IfOk result (λ printer. printer ≡ self ++ declarations_text (Declaration.Version version ∷ [])) }
     {
-        let line = Line::new(self.alloc).keyword(b"tvd")?.keyword(b"1")?;
+        let number = match version {
+            Version::One => b"1",
+        };
+        let line = Line::new(self.alloc).keyword(b"tvd")?.keyword(number)?;
         self.line(&line)
     }
 

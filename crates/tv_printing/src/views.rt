@@ -10,7 +10,7 @@ use crate::node::node_line;
 use crate::printer::Printer;
 use std::alloc::AllocError;
 use tv_declarations::Declaration;
-use tv_model::{Dialog, Effect, Kind, Node, Rule, Window};
+use tv_model::{Dialog, Effect, Node, Rule, Window};
 
 impl Printer {
     #[tactic(auto, using(crate::proofs::PrintTexts::texts_joined))]
@@ -131,8 +131,9 @@ fn open_after(node: &Node) -> u32
     ensures { result ≡ open_after node.now }
 {
     let depth = u32::from(node.depth);
-    match &node.kind {
-        Kind::Pane { .. } => depth + 1,
-        _ => depth,
+    if node.kind.is_pane() {
+        depth + 1
+    } else {
+        depth
     }
 }

@@ -3,6 +3,7 @@ use Rattle.std.specs.Prelude.{List, [], ◌∷◌, Option, Some, None, option_an
 use Rattle.std.specs.Option.{option_map}
 use Rattle.tv_model.specs.declared.desc.Effect.{Effect}
 use Rattle.tv_model.specs.declared.desc.Effect.TheVariants as effects
+use Rattle.tv_model.specs.declared.desc.Version.TheVariants as versions
 use Rattle.tv_declarations.specs.declared.declaration.Declaration.{Declaration}
 use Rattle.tv_declarations.specs.declared.declaration.Declaration.TheVariants as declared
 use Rattle.tv_declarations.specs.declared.place.Position.{Position}
@@ -17,7 +18,7 @@ use Rattle.tv_declarations.specs.Reading.Nodes.{node_in}
 
 -- what follows `tvd`
 abbrev pub version_in : List Word → Option Declaration
-version_in (version ∷ []) = if is_bare_word version (codes "1") then Some declared.Version else None
+version_in (version ∷ []) = if is_bare_word version (codes "1") then Some (declared.Version versions.One) else None
 version_in _ = None
 
 -- what follows `screen`

@@ -3,6 +3,8 @@ use Rattle.std.specs.Prelude.{◌≡◌, ℕ, ◌+◌, List, [], ◌∷◌, code
 use Rattle.tv_model.specs.declared.node.Node.{Node}
 use Rattle.tv_model.specs.declared.desc.Effect.{Effect}
 use Rattle.tv_model.specs.declared.desc.Effect.TheVariants as effects
+use Rattle.tv_model.specs.declared.desc.Version.{Version}
+use Rattle.tv_model.specs.declared.desc.Version.TheVariants as versions
 use Rattle.tv_words.specs.declared.word.Word.{Word}
 use Rattle.tv_words.specs.declared.word.Word.TheVariants.{Bare, Quoted}
 use Rattle.tv_declarations.specs.declared.declaration.Declaration.{Declaration}
@@ -18,9 +20,13 @@ abbrev pub effect_words : Effect → List Word → List Word
 effect_words (effects.Show name) more = Bare (codes "show") ∷ Bare name ∷ more
 effect_words (effects.Enable command) more = Bare (codes "enable") ∷ command_word command ∷ more
 
+-- the word of a version
+abbrev pub version_word : Version → Word
+version_word versions.One = Bare (codes "1")
+
 -- the words of the line of a declaration
 abbrev pub declaration_words : Declaration → List Word
-declaration_words declared.Version = Bare (codes "tvd") ∷ Bare (codes "1") ∷ []
+declaration_words (declared.Version version) = Bare (codes "tvd") ∷ version_word version ∷ []
 declaration_words (declared.Screen width height) = Bare (codes "screen") ∷ number_word width ∷ number_word height ∷ []
 declaration_words (declared.Start name) = Bare (codes "start") ∷ Bare name ∷ []
 declaration_words (declared.Menu i title) = Bare (codes "menu") ∷ marked_word title ∷ []
@@ -47,7 +53,7 @@ IsEffect (effects.Enable command) = IsCommand command
 
 -- the declaration can stand on this line of the canonical text, and has its number
 abbrev pub IsDeclaration : ℕ → Declaration → Type 0
-IsDeclaration line declared.Version = Unit {0}
+IsDeclaration line (declared.Version version) = Unit {0}
 IsDeclaration line (declared.Screen width height) = IsNumber width × IsNumber height
 IsDeclaration line (declared.Start name) = IsName name
 IsDeclaration line (declared.Menu i title) = (i.0 ≡ line) × IsMarked title

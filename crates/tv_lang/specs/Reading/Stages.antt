@@ -1,12 +1,13 @@
 -- Reading a description, declaration by declaration.
-use Rattle.std.specs.Prelude.{ℕ, ◌+◌, ◌-◌, ℤ, pos, negsuc, List, [], ◌∷◌, ◌++◌, length, nat_lt, Bool, true, false, not, ◌&&◌, Option, Some, None, is_none, option_and_then, codes, ◌==◌, if◌then◌else◌}
+use Rattle.std.specs.Prelude.{ℕ, ◌+◌, ◌-◌, ℤ, pos, negsuc, List, [], ◌∷◌, ◌++◌, length, nat_lt, ◌≡◌, Bool, true, false, not, ◌&&◌, Option, Some, None, is_none, option_and_then, codes, ◌==◌, if◌then◌else◌, IsTrue, refl}
 use Rattle.std.specs.Option.{option_map}
 use Rattle.tv_model.specs.declared.node.Node.{Node}
 use Rattle.tv_model.specs.declared.desc.Desc.{Desc}
 use Rattle.tv_model.specs.declared.desc.Dialog.{Dialog}
 use Rattle.tv_model.specs.declared.desc.Menu.{Menu}
+use Rattle.tv_model.specs.declared.desc.Version.TheVariants as versions
 use Rattle.tv_model.specs.declared.desc.Window.{Window}
-use Rattle.tv_model.specs.Description.Nodes.{is_pane}
+use Rattle.tv_model.specs.Description.Nodes.{is_pane, is_window, is_dialog}
 use Rattle.tv_declarations.specs.declared.declaration.Declaration.{Declaration}
 use Rattle.tv_declarations.specs.declared.declaration.Declaration.TheVariants as declared
 use Rattle.tv_declarations.specs.declared.place.Position.{Position}
@@ -15,7 +16,7 @@ use Rattle.tv_lang.specs.declared.progress.Progress.{Progress}
 use Rattle.tv_lang.specs.declared.stage.Stage.{Stage}
 use Rattle.tv_lang.specs.declared.stage.Stage.TheVariants as stages
 use Rattle.tv_words.specs.Fields.{is_bare_word}
-use Rattle.tv_declarations.specs.Spelling.{is_window, is_dialog, is_text, is_view}
+use Rattle.tv_declarations.specs.Spelling.{is_text, is_view}
 use Rattle.tv_words.specs.Reading.Numbers.{number_in}
 use Rattle.tv_declarations.specs.Reading.Declarations.{declaration_in}
 
@@ -43,18 +44,30 @@ abbrev pub beside : Desc → Option Stage → Option (Stage × Desc)
 beside d stage = option_map (λ s. (s, d)) stage
 
 abbrev pub version_taken : Desc → Declaration → Option (Stage × Desc)
-version_taken d declared.Version = Some (stages.Screen, d)
+version_taken d (declared.Version version) = Some (stages.Screen, record d { version = version })
 version_taken d _ = None
 
 abbrev pub screen_taken : Desc → Declaration → Option (Stage × Desc)
 screen_taken d (declared.Screen width height) = Some (stages.Between, record d { width = width; height = height })
 screen_taken d _ = None
 
+-- a window without texts
+abbrev pub window_of : (node : Node) → IsTrue (is_window node.kind) → Window
+window_of node is = record { node = node; views = []; own_kind = is }
+
+-- a dialog without views and rules
+abbrev pub dialog_of : (node : Node) → IsTrue (is_dialog node.kind) → Dialog
+dialog_of node is = record { node = node; views = []; rules = []; own_kind = is }
+
+-- after the line of a node that is a window or not, and a dialog or not
+abbrev pub opened_as : Desc → (node : Node) (window dialog : Bool) → is_window node.kind ≡ window → is_dialog node.kind ≡ dialog → Option (Stage × Desc)
+opened_as d node true dialog window_is dialog_is = if no_dialogs d then Some (stages.InWindow (window_of node window_is), d) else None
+opened_as d node false true window_is dialog_is = Some (stages.InViews (dialog_of node dialog_is) 0, d)
+opened_as d node false false window_is dialog_is = None
+
+-- after the line of a node
 abbrev pub node_opened : Desc → Node → Option (Stage × Desc)
-node_opened d node =
-    if is_window node.kind then (if no_dialogs d then Some (stages.InWindow (record { node = node; views = [] }), d) else None)
-    else if is_dialog node.kind then Some (stages.InViews node [] 0, d)
-    else None
+node_opened d node = opened_as d node (is_window node.kind) (is_dialog node.kind) refl refl
 
 abbrev pub part_taken : Desc → Declaration → Option (Stage × Desc)
 part_taken d (declared.Start name) = if is_none d.start && no_menus d then Some (stages.Between, record d { start = Some name }) else None
@@ -77,17 +90,17 @@ window_taken d window _ = None
 abbrev pub panes_after : ℕ → Node → Option ℕ
 panes_after panes view = if is_pane view.kind then (if nat_lt panes 16 then Some (panes + 1) else None) else Some panes
 
-abbrev pub view_taken : Desc → Node → List Node → ℕ → Node → Option (Stage × Desc)
-view_taken d node views panes view = if is_view view.kind then option_map (λ more. (stages.InViews node (views ++ view ∷ []) more, d)) (panes_after panes view) else None
+abbrev pub view_taken : Desc → Dialog → ℕ → Node → Option (Stage × Desc)
+view_taken d dialog panes view = if is_view view.kind then option_map (λ more. (stages.InViews (record dialog { views = dialog.views ++ view ∷ [] }) more, d)) (panes_after panes view) else None
 
 abbrev pub with_dialog : Desc → Dialog → Option (Stage × Desc)
 with_dialog d dialog = Some (stages.Between, record d { dialogs = d.dialogs ++ dialog ∷ [] })
 
-abbrev pub views_taken : Desc → Node → List Node → ℕ → Declaration → Option (Stage × Desc)
-views_taken d node views panes (declared.Node view) = view_taken d node views panes view
-views_taken d node views panes (declared.Rule rule) = if panes == 0 then Some (stages.InRules (record { node = node; views = views; rules = rule ∷ [] }), d) else None
-views_taken d node views panes declared.End = if panes == 0 then with_dialog d (record { node = node; views = views; rules = [] }) else Some (stages.InViews node views (panes - 1), d)
-views_taken d node views panes _ = None
+abbrev pub views_taken : Desc → Dialog → ℕ → Declaration → Option (Stage × Desc)
+views_taken d dialog panes (declared.Node view) = view_taken d dialog panes view
+views_taken d dialog panes (declared.Rule rule) = if panes == 0 then Some (stages.InRules (record dialog { rules = dialog.rules ++ rule ∷ [] }), d) else None
+views_taken d dialog panes declared.End = if panes == 0 then with_dialog d dialog else Some (stages.InViews dialog (panes - 1), d)
+views_taken d dialog panes _ = None
 
 abbrev pub rules_taken : Desc → Dialog → Declaration → Option (Stage × Desc)
 rules_taken d dialog (declared.Rule rule) = Some (stages.InRules (record dialog { rules = dialog.rules ++ rule ∷ [] }), d)
@@ -101,13 +114,13 @@ taken_at stages.Screen d declaration = screen_taken d declaration
 taken_at stages.Between d declaration = part_taken d declaration
 taken_at (stages.InMenu menu) d declaration = menu_taken d menu declaration
 taken_at (stages.InWindow window) d declaration = window_taken d window declaration
-taken_at (stages.InViews node views panes) d declaration = views_taken d node views panes declaration
+taken_at (stages.InViews dialog panes) d declaration = views_taken d dialog panes declaration
 taken_at (stages.InRules dialog) d declaration = rules_taken d dialog declaration
 
 -- ---- a description, line by line
 
 abbrev pub fresh : Progress
-fresh = record { next = 1; stage = stages.Version; desc = record { width = pos 0; height = pos 0; start = None; menus = []; status = []; windows = []; dialogs = [] } }
+fresh = record { next = 1; stage = stages.Version; desc = record { version = versions.One; width = pos 0; height = pos 0; start = None; menus = []; status = []; windows = []; dialogs = [] } }
 
 abbrev pub is_other : Option ℤ → Bool
 is_other None = false
@@ -123,7 +136,7 @@ is_other_version p ws = elim p.stage as (λ _. Bool) [ stages.Version ↦ other_
 
 -- the panes that are open
 abbrev pub open_panes : Stage → ℕ
-open_panes (stages.InViews node views panes) = panes
+open_panes (stages.InViews dialog panes) = panes
 open_panes _ = 0
 
 abbrev pub position : Progress → Position
