@@ -12,9 +12,9 @@ use Rattle.tv_model.specs.declared.desc.Dialog.{Dialog}
 use Rattle.tv_model.specs.declared.fault.FaultKind.{FaultKind}
 use Rattle.tv_model.specs.declared.fault.FaultKind.TheVariants as faults
 use Rattle.tv_model.specs.Description.Nodes.{height_of, is_control}
-use Rattle.tv_model.specs.Description.Commands.{ends_of, command_of}
+use Rattle.tv_model.specs.Description.Commands.{command_of}
 use Rattle.tv_model.specs.Description.Names.{gives_name}
-use Rattle.tv_model.specs.Description.Heads.{is_named}
+use Rattle.tv_model.specs.Description.Heads.{dialog_head, is_named}
 use Rattle.tv_model.specs.Description.Numbers.{is_between}
 use Rattle.tv_model.specs.Faults.Limits.{is_lawful_amount, is_lawful_corner, is_lawful_count, is_lawful_size, is_too_long, is_lawful, is_lawful_number, is_lawful_screen, least_height, least_width}
 use Rattle.tv_model.specs.Faults.Rules.{is_always_free}
@@ -29,7 +29,7 @@ use Rattle.tv_cells.specs.declared.rect.Rect.{Rect}
 use Rattle.tv_model.specs.Description.Panes.{earlier_siblings}
 use Rattle.tv_model.specs.Faults.Places.{need_own_places, overlaps_earlier}
 use Rattle.tv_faults.specs.Usable.{HasLawfulCounts, IsApartFrom, IsBetween, IsLimited, IsNarrowNode, IsUsable, IsUsableDialog, LiesIn}
-use Rattle.tv_faults.proofs.Areas.{le_says, overlap_points, within_points}
+use Rattle.tv_overlaps.proofs.AreaLemmas.{le_says, overlap_points, within_points}
 
 -- ---- lists without items
 
@@ -96,13 +96,13 @@ module _ (d : Desc) (sound : IsSound d) where
 -- neither the dialog's line nor that of a view has the fault
 record Lacks (kind : FaultKind) (d : Desc) (before : List Dialog) (dialog : Dialog) : Type 0 where
   head : dialog_has kind d before dialog ≡ false
-  each : All (λ pair. view_has kind dialog.node dialog.views pair.0 pair.1 ≡ false) (after_seen [] dialog.views)
+  each : All (λ pair. view_has kind dialog.node (dialog_head dialog).ends dialog.views pair.0 pair.1 ≡ false) (after_seen [] dialog.views)
 
 lacks : (kind : FaultKind) (d : Desc) (before : List Dialog) (dialog : Dialog) → dialog_lines kind d before dialog ≡ [] → Lacks kind d before dialog
 lacks kind d before dialog e = record {
   head = if_nil (dialog_has kind d before dialog) dialog.node.id.0 (left_nil (line_if (dialog_has kind d before dialog) dialog.node.id.0) _ e);
-  each = filtered_none (λ pair. view_has kind dialog.node dialog.views pair.0 pair.1) (after_seen [] dialog.views)
-      (map_nil (λ pair. pair.1.id.0) _ (left_nil (view_lines kind dialog.node dialog.views) (rule_lines kind dialog) (right_nil (line_if (dialog_has kind d before dialog) dialog.node.id.0) _ e)));
+  each = filtered_none (λ pair. view_has kind dialog.node (dialog_head dialog).ends dialog.views pair.0 pair.1) (after_seen [] dialog.views)
+      (map_nil (λ pair. pair.1.id.0) _ (left_nil (view_lines kind dialog.node (dialog_head dialog).ends dialog.views) (rule_lines kind dialog) (right_nil (line_if (dialog_has kind d before dialog) dialog.node.id.0) _ e)));
 }
 
 -- ---- the limits
@@ -200,7 +200,7 @@ usable_dialog d before dialog outside over focus end wide limits = record {
   inside = λ i pair less. lies_in _ _ (not-false _ (outside.each i pair less));
   apart = λ i pair less. apart_says (get_or (after_seen [] dialog.views) i pair).0 (get_or (after_seen [] dialog.views) i pair).1 (over.each i pair less);
   control = sym (control_after [] dialog.views) ∙ free_control dialog (after_seen [] dialog.views) (not-false _ focus.head);
-  cancel = not-false (ends_of dialog.node.kind).cancel end.head;
+  cancel = not-false (dialog_head dialog).ends.cancel end.head;
 }
 
 starts : (d : Desc) → head_lines faults.BadOpening d ≡ [] → (name : List ℕ) → d.start ≡ Some name → list_any (is_named name) d.dialogs ≡ true

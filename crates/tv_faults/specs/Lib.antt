@@ -1,14 +1,3 @@
 pub mod Compared
-pub mod Each
-pub mod Focus
-pub mod Heaviest
-pub mod Keys
-pub mod Marked
-pub mod Marks
-pub mod Named
-pub mod Opened
 pub mod Order
-pub mod Placing
-pub mod Reach
-pub mod Standing
 pub mod Usable

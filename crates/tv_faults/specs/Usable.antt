@@ -8,9 +8,8 @@ use Rattle.tv_model.specs.declared.node.Node.{Node}
 use Rattle.tv_model.specs.declared.desc.Desc.{Desc}
 use Rattle.tv_model.specs.declared.desc.Dialog.{Dialog}
 use Rattle.tv_model.specs.Description.Nodes.{height_of, is_control}
-use Rattle.tv_model.specs.Description.Heads.{dialog_nodes}
-use Rattle.tv_model.specs.Description.Commands.{ends_of, command_of}
-use Rattle.tv_model.specs.Description.Heads.{is_named}
+use Rattle.tv_model.specs.Description.Commands.{command_of}
+use Rattle.tv_model.specs.Description.Heads.{dialog_head, dialog_nodes, is_named}
 use Rattle.tv_model.specs.Faults.Lines.{after_seen}
 use Rattle.tv_model.specs.Description.Rectangles.{desktop, place_of_node}
 use Rattle.tv_model.specs.Description.Panes.{earlier_siblings, owner_of, room_in}
@@ -64,7 +63,7 @@ pub record IsUsableDialog (d : Desc) (dialog : Dialog) : Type 0 where
   pub inside : AreInside dialog.node dialog.views
   pub apart : AreApart dialog.views
   pub control : list_any (λ node. is_control node.kind) dialog.views ≡ true
-  pub cancel : (ends_of dialog.node.kind).cancel ≡ true
+  pub cancel : (dialog_head dialog).ends.cancel ≡ true
 
 pub record IsUsable (d : Desc) : Type 0 where
   pub width : IsBetween (pos 20) (pos 132) d.width

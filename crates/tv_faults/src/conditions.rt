@@ -6,18 +6,15 @@ ghost use Rattle.tv_model.specs.declared.node.Node.{Node};
 ghost use Rattle.tv_model.specs.Faults.{dialog_has, item_has, menu_has, rule_has, status_has, view_has, window_has};
 ghost use Rattle.tv_faults.specs.Compared.{compares_dialogs, compares_items, compares_menus, compares_rules, compares_status_items, compares_views, compares_windows};
 
-use crate::domains::{has_no_text, starts_badly};
-use crate::ends::{lacks_cancel, lacks_end};
-use crate::focus::has_nothing_to_focus;
-use crate::limits::{
-    dialog_outside_limits, item_outside_limits, menu_outside_limits, rule_outside_limits,
-    status_outside_limits, view_outside_limits, window_outside_limits,
-};
-use crate::places::is_off_desktop;
-use crate::rules::rules_cancel;
-use crate::texts::{has_wide, is_wide_text};
 use std::alloc::{AllocError, Global};
-use tv_model::{Desc, Dialog, FaultKind, Menu, MenuItem, Node, Rule, StatusItem, Window};
+use tv_limits::{
+    dialog_outside_limits, has_wide, is_wide_text, item_outside_limits, menu_outside_limits,
+    rule_outside_limits, status_outside_limits, view_outside_limits, window_outside_limits,
+};
+use tv_model::{Desc, Dialog, Ends, FaultKind, Menu, MenuItem, Node, Rule, StatusItem, Window};
+use tv_overlaps::is_off_desktop;
+use tv_rules::{has_nothing_to_focus, rules_cancel};
+use tv_starts::{has_no_text, lacks_cancel, lacks_end, starts_badly};
 
 /// Whether the line of the menu has the fault, after the menus before it.
 pub fn menu_has(kind: FaultKind, before: &[Menu], menu: &Menu) -> bool
@@ -88,19 +85,19 @@ pub fn dialog_has(
     })
 }
 
-/// Whether the line of a view of the window or dialog has the fault, after the views before it.
+/// Whether the line of a view of a window or dialog with these ends has the fault, after the views before it.
 pub fn view_has(
     alloc: Global,
     kind: FaultKind,
-    frame: &Node,
+    ends: Ends,
     before: &[Node],
     node: &Node,
 ) -> Result<bool, AllocError>
     requires { compares_views kind ≡ false }
-    ensures { IfOk result (λ has. (views : List Node) → has ≡ view_has kind frame.now views before.now node.now) }
+    ensures { IfOk result (λ has. (frame : Node) (views : List Node) → has ≡ view_has kind frame ends views before.now node.now) }
 {
     Ok(match kind {
-        FaultKind::MissingEnd => lacks_end(frame, node),
+        FaultKind::MissingEnd => lacks_end(ends, node),
         FaultKind::EmptyDomain => has_no_text(alloc, &node.kind)?,
         FaultKind::BadStart => starts_badly(alloc, &node.kind)?,
         FaultKind::WideCharacter => has_wide(node),

@@ -3,20 +3,20 @@
 ghost use Rattle.std.specs.Prelude.{◌≡◌, false, IfOk};
 ghost use Rattle.tv_model.specs.Faults.{dialog_has, item_has, menu_has, rule_has, status_has, view_has, window_has};
 ghost use Rattle.tv_faults.specs.Compared.{compares_dialogs, compares_items, compares_menus, compares_rules, compares_status_items, compares_views, compares_windows};
-ghost use Rattle.tv_faults.specs.Each.{each_after};
+ghost use Rattle.tv_lines.specs.Each.{each_after};
 
 use crate::conditions::{
     dialog_has, item_has, menu_has, rule_has, status_has, view_has, window_has,
 };
-use crate::ends::{opened_badly, second_defaults};
-use crate::keys::{bad_keys, numbered_again};
-use crate::letters::{items_again, marks_again, titled_again};
-use crate::names::{dialogs_named_again, names_again, unlinked_labels, windows_named_again};
-use crate::overlaps::overlaps;
-use crate::places::are_outside;
-use crate::rules::{show_themselves, unknown_names};
 use std::alloc::{AllocError, Global};
-use tv_model::{Desc, Dialog, FaultKind, Menu, MenuItem, Node, Window};
+use tv_model::{Desc, Dialog, Ends, FaultKind, Menu, MenuItem, Node, Window};
+use tv_names::{
+    bad_keys, dialogs_named_again, items_again, marks_again, names_again, numbered_again,
+    titled_again, unlinked_labels, windows_named_again,
+};
+use tv_overlaps::{are_outside, overlaps};
+use tv_rules::{show_themselves, unknown_names};
+use tv_starts::{opened_badly, second_defaults};
 
 // For each menu, whether its line has the fault, which shows on the line itself.
 fn each_menu(alloc: Global, kind: FaultKind, menus: &[Menu]) -> Result<Vec<bool>, AllocError>
@@ -149,14 +149,15 @@ fn each_view(
     alloc: Global,
     kind: FaultKind,
     frame: &Node,
+    ends: Ends,
     views: &[Node],
 ) -> Result<Vec<bool>, AllocError>
     requires { compares_views kind ≡ false }
-    ensures { IfOk result (λ faulty. faulty.items ≡ each_after (view_has kind frame.now views.now) views.now) }
+    ensures { IfOk result (λ faulty. faulty.items ≡ each_after (view_has kind frame.now ends views.now) views.now) }
 {
     let mut faulty = Vec::new(alloc);
     for (i, node) in views.iter().enumerate() {
-        faulty.push(view_has(alloc, kind, frame, &views[..i], node)?)?;
+        faulty.push(view_has(alloc, kind, ends, &views[..i], node)?)?;
     }
     Ok(faulty)
 }
@@ -166,9 +167,10 @@ pub fn faulty_views(
     alloc: Global,
     kind: FaultKind,
     frame: &Node,
+    ends: Ends,
     views: &[Node],
 ) -> Result<Vec<bool>, AllocError>
-    ensures { IfOk result (λ faulty. faulty.items ≡ each_after (view_has kind frame.now views.now) views.now) }
+    ensures { IfOk result (λ faulty. faulty.items ≡ each_after (view_has kind frame.now ends views.now) views.now) }
 {
     match kind {
         FaultKind::NameTwice => names_again(alloc, views),
@@ -177,7 +179,7 @@ pub fn faulty_views(
         FaultKind::LetterTwice => marks_again(alloc, views),
         FaultKind::LabelLink => unlinked_labels(alloc, views),
         FaultKind::SecondDefault => second_defaults(alloc, views),
-        _ => each_view(alloc, kind, frame, views),
+        _ => each_view(alloc, kind, frame, ends, views),
     }
 }
 

@@ -6,14 +6,14 @@ ghost use Rattle.tv_model.specs.Faults.{dialog_lines, fault_at, faults_at, fault
 ghost use Rattle.tv_faults.specs.Order.{AreInOrder, AreLinesRising};
 ghost use Rattle.tv_faults.specs.Usable.{IsUsable};
 
-use crate::ends::starts_nowhere;
 use crate::judged::{
     faulty_dialogs, faulty_items, faulty_menus, faulty_rules, faulty_status_items, faulty_views,
     faulty_windows,
 };
-use crate::limits::is_lawful_screen;
 use std::alloc::{AllocError, Global};
-use tv_model::{Desc, Dialog, Fault, FaultKind, Menu, Node, Sequence, Window};
+use tv_limits::is_lawful_screen;
+use tv_model::{Desc, Dialog, Ends, Fault, FaultKind, Menu, Node, Sequence, Window};
+use tv_starts::starts_nowhere;
 
 // The faults, in the order of their numbers.
 const KINDS: [FaultKind; 17] = [
@@ -35,6 +35,14 @@ const KINDS: [FaultKind; 17] = [
     FaultKind::BadOpening,
     FaultKind::MenuLetter,
 ];
+
+// The ends of a window: it has none.
+const NO_ENDS: Ends = Ends {
+    ok: false,
+    cancel: false,
+    yes: false,
+    no: false,
+};
 
 // Adds the fault of the line if it is one.
 fn add_if(
@@ -63,7 +71,7 @@ fn add_head(found: &mut Sequence<Fault>, kind: FaultKind, desc: &Desc) -> Result
 }
 
 // Adds the items of the menu that have the fault.
-#[tactic(auto, using(crate::proofs::EachAfter::length_each_after))]
+#[tactic(auto, using(tv_lines::proofs::EachAfterLemmas::length_each_after))]
 fn add_items(
     alloc: Global,
     found: &mut Sequence<Fault>,
@@ -82,7 +90,7 @@ fn add_items(
 }
 
 // Adds the status items that have the fault.
-#[tactic(auto, using(crate::proofs::EachAfter::length_each_after))]
+#[tactic(auto, using(tv_lines::proofs::EachAfterLemmas::length_each_after))]
 fn add_status(
     alloc: Global,
     found: &mut Sequence<Fault>,
@@ -101,17 +109,18 @@ fn add_status(
 }
 
 // Adds the views of the window or dialog that have the fault.
-#[tactic(auto, using(crate::proofs::EachAfter::length_each_after))]
+#[tactic(auto, using(tv_lines::proofs::EachAfterLemmas::length_each_after))]
 fn add_views(
     alloc: Global,
     found: &mut Sequence<Fault>,
     kind: FaultKind,
     frame: &Node,
+    ends: Ends,
     views: &[Node],
 ) -> Result<(), AllocError>
-    ensures { OnOk result (found.new ≡ found.old ++ map (fault_at kind) (view_lines kind frame.now views.now)) }
+    ensures { OnOk result (found.new ≡ found.old ++ map (fault_at kind) (view_lines kind frame.now ends views.now)) }
 {
-    let faulty = faulty_views(alloc, kind, frame, views)?;
+    let faulty = faulty_views(alloc, kind, frame, ends, views)?;
     let faulty = faulty.as_slice();
     for (i, node) in views.iter().enumerate() {
         add_if(found, faulty[i], kind, node.id.0)?;
@@ -120,7 +129,7 @@ fn add_views(
 }
 
 // Adds the rules of the dialog that have the fault.
-#[tactic(auto, using(crate::proofs::EachAfter::length_each_after))]
+#[tactic(auto, using(tv_lines::proofs::EachAfterLemmas::length_each_after))]
 fn add_rules(
     alloc: Global,
     found: &mut Sequence<Fault>,
@@ -139,7 +148,7 @@ fn add_rules(
 }
 
 // Adds the menus that have the fault, and their items.
-#[tactic(auto, using(crate::proofs::EachAfter::length_each_after))]
+#[tactic(auto, using(tv_lines::proofs::EachAfterLemmas::length_each_after))]
 fn add_menus(
     alloc: Global,
     found: &mut Sequence<Fault>,
@@ -158,7 +167,7 @@ fn add_menus(
 }
 
 // Adds the windows that have the fault, and their texts.
-#[tactic(auto, using(crate::proofs::EachAfter::length_each_after))]
+#[tactic(auto, using(tv_lines::proofs::EachAfterLemmas::length_each_after))]
 fn add_windows(
     alloc: Global,
     found: &mut Sequence<Fault>,
@@ -171,13 +180,20 @@ fn add_windows(
     let faulty = faulty.as_slice();
     for (i, window) in windows.iter().enumerate() {
         add_if(found, faulty[i], kind, window.node.id.0)?;
-        add_views(alloc, found, kind, &window.node, window.views.as_slice())?;
+        add_views(
+            alloc,
+            found,
+            kind,
+            &window.node,
+            NO_ENDS,
+            window.views.as_slice(),
+        )?;
     }
     Ok(())
 }
 
 // Adds the dialogs that have the fault, and what stands in them.
-#[tactic(auto, using(crate::proofs::EachAfter::length_each_after))]
+#[tactic(auto, using(tv_lines::proofs::EachAfterLemmas::length_each_after))]
 fn add_dialogs(
     alloc: Global,
     found: &mut Sequence<Fault>,
@@ -191,7 +207,14 @@ fn add_dialogs(
     let faulty = faulty.as_slice();
     for (i, dialog) in dialogs.iter().enumerate() {
         add_if(found, faulty[i], kind, dialog.node.id.0)?;
-        add_views(alloc, found, kind, &dialog.node, dialog.views.as_slice())?;
+        add_views(
+            alloc,
+            found,
+            kind,
+            &dialog.node,
+            dialog.head().ends,
+            dialog.views.as_slice(),
+        )?;
         add_rules(alloc, found, kind, dialog)?;
     }
     Ok(())

@@ -1,7 +1,7 @@
 use Rattle.std.proofs.Common.{◌≡◌, ◌++◌, map, take, drop}
 use Rattle.tv_model.specs.Faults.Lines.{after_seen}
 use Rattle.tv_model.specs.Faults.{window_has}
-use Rattle.tv_faults.specs.Each.{each_after}
+use Rattle.tv_lines.specs.Each.{each_after}
 use Rattle.tv_faults.proofs.judged.each_window.Given as goal
 
 abbrev pub invariant-loop-i : goal.invariant-loop-i

@@ -1,16 +1,18 @@
 use Rattle.std.proofs.Common.{rules, ◌++◌, map, ap, ◌∙◌}
+use Rattle.tv_model.specs.Description.Heads.{dialog_head}
 use Rattle.tv_model.specs.Faults.{dialog_has, fault_at, rule_lines, view_lines}
-use Rattle.tv_faults.proofs.EachAfter.{parts_next}
-use Rattle.tv_faults.proofs.Lists.{joined}
+use Rattle.tv_lines.proofs.EachAfterLemmas.{parts_next}
+use Rattle.tv_lines.proofs.ListLemmas.{joined}
 use Rattle.tv_faults.proofs.list.add_dialogs.Goals as goal
 
 pub loop-i-preserved : goal.loop-i-preserved
 loop-i-preserved c =
     parts_next (fault_at c.args.kind) (λ dialog. dialog.node.id.0) (dialog_has c.args.kind c.args.desc.now) c.as_slice-dialogs.result.now c.as_slice-faulty.result.now c.loop-i.i _ c.index-dialogs-i.result c.loop-i-test.true (search rules) c.index-dialogs-i.is
-    (λ dialog. view_lines c.args.kind dialog.node dialog.views ++ rule_lines c.args.kind dialog)
+    (λ dialog. view_lines c.args.kind dialog.node (dialog_head dialog).ends dialog.views ++ rule_lines c.args.kind dialog)
     c.loop-i.found c.add_if.new.found c.add_rules.new.found _ c.in_ok-add_if.ensures
     (c.in_ok-add_rules.ensures
     ∙ ap (λ list. list ++ map (fault_at c.args.kind) (rule_lines c.args.kind c.index-dialogs-i.result)) c.in_ok-add_views.ensures
-    ∙ ap (λ views. (c.add_if.new.found ++ map (fault_at c.args.kind) (view_lines c.args.kind c.index-dialogs-i.result.node views)) ++ map (fault_at c.args.kind) (rule_lines c.args.kind c.index-dialogs-i.result)) c.as_slice.ensures
-    ∙ joined (fault_at c.args.kind) c.add_if.new.found (view_lines c.args.kind c.index-dialogs-i.result.node c.index-dialogs-i.result.views) (rule_lines c.args.kind c.index-dialogs-i.result))
+    ∙ ap (λ head. (c.add_if.new.found ++ map (fault_at c.args.kind) (view_lines c.args.kind c.index-dialogs-i.result.node head.ends c.as_slice.result.now)) ++ map (fault_at c.args.kind) (rule_lines c.args.kind c.index-dialogs-i.result)) c.head.ensures
+    ∙ ap (λ views. (c.add_if.new.found ++ map (fault_at c.args.kind) (view_lines c.args.kind c.index-dialogs-i.result.node (dialog_head c.index-dialogs-i.result).ends views)) ++ map (fault_at c.args.kind) (rule_lines c.args.kind c.index-dialogs-i.result)) c.as_slice.ensures
+    ∙ joined (fault_at c.args.kind) c.add_if.new.found (view_lines c.args.kind c.index-dialogs-i.result.node (dialog_head c.index-dialogs-i.result).ends c.index-dialogs-i.result.views) (rule_lines c.args.kind c.index-dialogs-i.result))
     c.loop-i.invariant

@@ -1,6 +1,6 @@
 use Rattle.std.proofs.Common.{rules}
 use Rattle.tv_model.specs.Faults.{fault_at, item_has}
-use Rattle.tv_faults.proofs.EachAfter.{where_next}
+use Rattle.tv_lines.proofs.EachAfterLemmas.{where_next}
 use Rattle.tv_faults.proofs.list.add_items.Goals as goal
 
 pub loop-i-preserved : goal.loop-i-preserved

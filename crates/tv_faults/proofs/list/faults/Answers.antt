@@ -1,8 +1,8 @@
 use Rattle.std.proofs.Common.{◌≡◌, rules, sym, subst, ◌∙◌}
 use Rattle.tv_model.specs.Faults.{all_kinds, faults_at, faults_of}
-use Rattle.tv_faults.proofs.ManyKinds.{more_found}
+use Rattle.tv_faults.proofs.FoundLemmas.{more_found}
 use Rattle.tv_faults.specs.Order.{AreInOrder}
-use Rattle.tv_faults.proofs.Ordered.{in_order}
+use Rattle.tv_faults.proofs.OrderLemmas.{in_order}
 use Rattle.tv_faults.proofs.Sound.{sound_says}
 use Rattle.tv_faults.proofs.list.faults.Goals as goal
 

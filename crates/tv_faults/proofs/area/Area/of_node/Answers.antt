@@ -1,7 +1,0 @@
-use Rattle.std.proofs.Common.{arith}
-use Rattle.std.proofs.lemmas.Int.{ints}
-use Rattle.tv_faults.proofs.Areas.{rect_is}
-use Rattle.tv_faults.proofs.area.Area.of_node.Goals as goal
-
-pub returns : goal.returns
-returns c = rect_is _ _ _ _ _ _ _ _ (omega (arith, ints)) (omega (arith, ints)) (omega (arith, ints)) (omega (arith, ints))

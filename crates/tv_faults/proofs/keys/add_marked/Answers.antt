@@ -1,7 +1,0 @@
-use Rattle.std.proofs.Common.{arith}
-use Rattle.std.proofs.lemmas.Grind.{common_steps}
-use Rattle.std.proofs.lemmas.List.Folds.{list_any_more}
-use Rattle.tv_faults.proofs.keys.add_marked.Goals as goal
-
-pub loop-view-preserved : goal.loop-view-preserved
-loop-view-preserved c = λ ch. grind (arith, common_steps, list_any_more, c.loop-view.invariant ch)

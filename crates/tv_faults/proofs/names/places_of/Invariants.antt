@@ -1,6 +1,0 @@
-use Rattle.std.proofs.Common.{take}
-use Rattle.tv_faults.specs.Named.{ArePlacesOf}
-use Rattle.tv_faults.proofs.names.places_of.Given as goal
-
-abbrev pub invariant-loop-i : goal.invariant-loop-i
-invariant-loop-i l = ArePlacesOf (take l.i l.views) l.places

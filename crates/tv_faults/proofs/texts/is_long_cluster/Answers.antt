@@ -1,7 +1,0 @@
-use Rattle.std.proofs.Common.{sym, ◌∙◌}
-use Rattle.tv_model.specs.Faults.Limits.{is_too_long}
-use Rattle.tv_faults.proofs.Lists.{any_map}
-use Rattle.tv_faults.proofs.texts.is_long_cluster.Goals as goal
-
-pub returns : goal.returns
-returns c = c.has_long_item.ensures ∙ sym (any_map is_too_long (λ item. item.text) c.args.items.now)

@@ -1,0 +1,179 @@
+//! F15: numbers, sizes, counts and lengths outside their limits.
+
+ghost use Rattle.std.specs.Prelude.{◌≡◌, ◌&&◌, nat_le, length, Some};
+ghost use Rattle.tv_model.specs.Description.Commands.{command_of};
+ghost use Rattle.tv_model.specs.Faults.Limits.{dialog_outside_limits, is_lawful, is_lawful_amount, is_lawful_corner, is_lawful_count, is_lawful_number, is_lawful_screen, is_lawful_size, item_outside_limits, least_height, least_width, menu_outside_limits, rule_outside_limits, status_outside_limits, view_outside_limits, window_outside_limits};
+ghost use Rattle.tv_model.specs.Description.Numbers.{is_between};
+
+use crate::lengths::{has_long_text, is_too_long};
+use tv_model::{
+    CommandSpec, Desc, Dialog, Effect, Kind, MarkedText, Menu, MenuItem, Node, Rule, StatusItem,
+    Window,
+};
+use tv_overlaps::height;
+
+/// Whether the number is one of `least` to `greatest`.
+pub fn is_between(least: &i128, greatest: &i128, n: &i128) -> bool
+    ensures { result ≡ is_between least.now greatest.now n.now }
+{
+    *least <= *n && *n <= *greatest
+}
+
+fn least_width(kind: &Kind) -> i128
+    ensures { result ≡ least_width kind.now }
+{
+    match kind {
+        Kind::Window(_) | Kind::Dialog(_) => 12,
+        Kind::Button(_) => 4,
+        Kind::Input(_) => 3,
+        Kind::CheckBoxes(_) | Kind::RadioButtons(_) => 5,
+        Kind::Text(_) | Kind::Label(_) | Kind::List(_) | Kind::Pane(_) => 1,
+    }
+}
+
+fn least_height(kind: &Kind) -> i128
+    ensures { result ≡ least_height kind.now }
+{
+    match kind {
+        Kind::Window(_) | Kind::Dialog(_) => 3,
+        _ => 1,
+    }
+}
+
+// Whether the command is a word, or a number that a description may give.
+fn is_lawful_command(command: CommandSpec) -> bool
+    ensures { result ≡ is_lawful_number (Some command) }
+{
+    match command {
+        CommandSpec::Number(number) => is_between(&100, &255, &i128::from(number)),
+        _ => true,
+    }
+}
+
+// Whether the declaration's command may have its number.
+fn is_lawful_button(kind: &Kind) -> bool
+    ensures { result ≡ is_lawful_number (command_of kind.now) }
+{
+    match kind {
+        Kind::Button(button) => is_lawful_command(button.command),
+        _ => true,
+    }
+}
+
+// Whether a cluster may have as many items.
+fn is_lawful_cluster(items: &[MarkedText]) -> bool
+    ensures { result ≡ (nat_le 1 (length items.now) && nat_le (length items.now) 16) }
+{
+    1 <= items.len() && items.len() <= 16
+}
+
+// Whether the declaration has as many items as it may.
+fn is_lawful_count(kind: &Kind) -> bool
+    ensures { result ≡ is_lawful_count kind.now }
+{
+    match kind {
+        Kind::CheckBoxes(boxes) => is_lawful_cluster(boxes.items.as_slice()),
+        Kind::RadioButtons(radios) => is_lawful_cluster(radios.items.as_slice()),
+        Kind::List(list) => {
+            let count = list.items.as_slice().len();
+            1 <= count && count <= 100
+        }
+        _ => true,
+    }
+}
+
+// Whether a window's number, or the most characters of an input, is one that may be.
+fn is_lawful_amount(kind: &Kind) -> bool
+    ensures { result ≡ is_lawful_amount kind.now }
+{
+    match kind {
+        Kind::Window(head) => is_between(&0, &9, &i128::from(head.number)),
+        Kind::Input(input) => is_between(&1, &120, &i128::from(input.spec.max)),
+        _ => true,
+    }
+}
+
+fn is_lawful_corner(node: &Node) -> bool
+    ensures { result ≡ is_lawful_corner node.now }
+{
+    is_between(&-132, &132, &i128::from(node.x)) && is_between(&-132, &132, &i128::from(node.y))
+}
+
+fn is_lawful_size(node: &Node) -> bool
+    ensures { result ≡ is_lawful_size node.now }
+{
+    is_between(&least_width(&node.kind), &132, &i128::from(node.w))
+        && is_between(&least_height(&node.kind), &60, &height(&node.kind))
+}
+
+/// Whether the numbers, the items and the texts of the declaration are within the limits.
+pub fn is_lawful(node: &Node) -> bool
+    ensures { result ≡ is_lawful node.now }
+{
+    is_lawful_corner(node)
+        && is_lawful_size(node)
+        && is_lawful_count(&node.kind)
+        && is_lawful_amount(&node.kind)
+        && is_lawful_button(&node.kind)
+        && !has_long_text(&node.kind)
+}
+
+/// Whether the screen has 20 to 132 columns and 10 to 60 rows.
+pub fn is_lawful_screen(desc: &Desc) -> bool
+    ensures { result ≡ is_lawful_screen desc.now }
+{
+    is_between(&20, &132, &i128::from(desc.width)) && is_between(&10, &60, &i128::from(desc.height))
+}
+
+/// Whether the menu's title is too long, or the menu the first that is too many.
+pub fn menu_outside_limits(before: &[Menu], menu: &Menu) -> bool
+    ensures { result ≡ menu_outside_limits before.now menu.now }
+{
+    is_too_long(menu.title.text.as_slice()) || before.len() == 8
+}
+
+/// Whether the item's command or text is outside the limits, or the item the first that is too many.
+pub fn item_outside_limits(before: &[MenuItem], item: &MenuItem) -> bool
+    ensures { result ≡ item_outside_limits before.now item.now }
+{
+    !is_lawful_command(item.command) || is_too_long(item.text.text.as_slice()) || before.len() == 16
+}
+
+/// Whether the item's command or text is outside the limits, or the item the first that is too many.
+pub fn status_outside_limits(before: &[StatusItem], item: &StatusItem) -> bool
+    ensures { result ≡ status_outside_limits before.now item.now }
+{
+    !is_lawful_command(item.command) || is_too_long(item.text.as_slice()) || before.len() == 8
+}
+
+/// Whether the window's own line is outside the limits, or the window the first that is too many.
+pub fn window_outside_limits(before: &[Window], window: &Window) -> bool
+    ensures { result ≡ window_outside_limits before.now window.now }
+{
+    !is_lawful(&window.node) || before.len() == 9
+}
+
+/// Whether the dialog's own line is outside the limits, or the dialog the first that is too many.
+pub fn dialog_outside_limits(before: &[Dialog], dialog: &Dialog) -> bool
+    ensures { result ≡ dialog_outside_limits before.now dialog.now }
+{
+    !is_lawful(&dialog.node) || before.len() == 16
+}
+
+/// Whether the view is outside the limits, the first that is too many, or a pane in too many others.
+pub fn view_outside_limits(before: &[Node], node: &Node) -> bool
+    ensures { result ≡ view_outside_limits before.now node.now }
+{
+    !is_lawful(node) || before.len() == 64 || (node.kind.is_pane() && node.depth == 4)
+}
+
+/// Whether the rule's command is outside the limits, or the rule the first that is too many.
+pub fn rule_outside_limits(before: &[Rule], rule: &Rule) -> bool
+    ensures { result ≡ rule_outside_limits before.now rule.now }
+{
+    let is_lawful = match &rule.effect {
+        Effect::Enable(command) => is_lawful_command(*command),
+        Effect::Show(_) => true,
+    };
+    !is_lawful || before.len() == 64
+}

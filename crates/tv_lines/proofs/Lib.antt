@@ -1,0 +1,4 @@
+pub mod EachAfterLemmas
+pub mod ListLemmas
+pub mod RemainingLemmas
+pub mod TestLemmas

@@ -1,0 +1,4 @@
+pub mod FirstPlaceLemmas
+pub mod GivenKeyLemmas
+pub mod GivenLetterLemmas
+pub mod GivenNameLemmas

@@ -1,0 +1,65 @@
+//! Letters that are marked.
+
+ghost use Rattle.std.specs.Prelude.{◌≡◌, ◌||◌, ℕ, nat_eq, IfOk, OnOk};
+ghost use Rattle.std.specs.HashSet as set;
+ghost use Rattle.tv_model.specs.Description.Letters.{letter_of, marked_of, marks};
+ghost use Rattle.tv_names.specs.Marked.{is_marked_in, mark_again, marks_any};
+
+use std::alloc::{AllocError, Global};
+use std::collections::HashSet;
+use std::slice;
+use tv_model::{Kind, MarkedText};
+
+// The letter that the text marks, in upper case.
+fn letter_of(marked: &MarkedText) -> Option<char>
+    ensures { result ≡ letter_of marked.now }
+{
+    let letter = marked.text.as_slice().get(marked.mark?)?;
+    Some(letter.to_ascii_uppercase())
+}
+
+/// The texts of the declaration in which a letter may be marked.
+pub fn marked_of(kind: &Kind) -> &[MarkedText]
+    ensures { result.now ≡ marked_of kind.now }
+{
+    match kind {
+        Kind::Label(label) => slice::from_ref(&label.text),
+        Kind::Button(button) => slice::from_ref(&button.text),
+        Kind::CheckBoxes(boxes) => boxes.items.as_slice(),
+        Kind::RadioButtons(radios) => radios.items.as_slice(),
+        _ => &[],
+    }
+}
+
+/// Whether the text marks the letter.
+pub fn marks(letter: char, text: &MarkedText) -> bool
+    ensures { result ≡ marks letter text.now }
+{
+    match letter_of(text) {
+        Some(other) => other == letter,
+        None => false,
+    }
+}
+
+/// Whether the text marks one of the letters, to which its own is added.
+pub fn add_letter(letters: &mut HashSet<char>, text: &MarkedText) -> Result<bool, AllocError>
+    ensures again { IfOk result (λ again. again ≡ marks_any (set.contains nat_eq letters.old) text.now) }
+    ensures added { OnOk result ((ch : ℕ) → set.contains nat_eq letters.new ch ≡ (set.contains nat_eq letters.old ch || marks ch text.now)) }
+{
+    match letter_of(text) {
+        Some(letter) => Ok(!letters.insert(letter)?),
+        None => Ok(false),
+    }
+}
+
+/// Whether one of the texts marks one of the letters or a letter of a text before it. Their own are added.
+pub fn add_letters(letters: &mut HashSet<char>, texts: &[MarkedText]) -> Result<bool, AllocError>
+    ensures again { IfOk result (λ again. again ≡ mark_again (set.contains nat_eq letters.old) texts.now) }
+    ensures added { OnOk result ((ch : ℕ) → set.contains nat_eq letters.new ch ≡ (set.contains nat_eq letters.old ch || is_marked_in texts.now ch)) }
+{
+    let mut again = false;
+    for text in texts {
+        again |= add_letter(letters, text)?;
+    }
+    Ok(again)
+}

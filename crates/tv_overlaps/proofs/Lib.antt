@@ -1,0 +1,10 @@
+pub mod AreaLemmas
+pub mod DepthLemmas
+pub mod GoingBackLemmas
+pub mod HalfLemmas
+pub mod HitLemmas
+pub mod OwnedLemmas
+pub mod OwnerLemmas
+pub mod PassLemmas
+pub mod PlacedLemmas
+pub mod SiblingLemmas

@@ -1,0 +1,4 @@
+pub mod Heaviest
+pub mod Marks
+pub mod Placing
+pub mod Standing

@@ -1,0 +1,56 @@
+//! Views by what they take of their owner.
+
+ghost use Rattle.std.specs.Prelude.{◌≡◌, fold};
+ghost use Rattle.tv_overlaps.specs.Marks.{around, nowhere};
+ghost use Rattle.tv_overlaps.specs.Placing.{weight_of};
+
+use crate::span::Span;
+use tv_model::Kind;
+
+/// A view that has points.
+#[derive(Clone, Copy)]
+pub struct Placed {
+    /// The view's place among all views.
+    pub place: usize,
+    /// The same number for siblings only.
+    pub owner: usize,
+    pub rows: Span,
+    pub columns: Span,
+    /// A point has room for 3. So a pane weighs 3, a control 2 and any other view 1.
+    pub weight: u8,
+}
+
+/// What such a view weighs.
+pub fn weight(kind: &Kind) -> u8
+    ensures { result ≡ weight_of kind.now }
+{
+    if kind.is_pane() {
+        3
+    } else if kind.is_control() {
+        2
+    } else {
+        1
+    }
+}
+
+/// The columns of all items and those between.
+pub fn columns_of(items: &[Placed]) -> Span
+    ensures { result ≡ fold (λ span item. around span item.columns) nowhere items.now }
+{
+    let mut columns = Span::EMPTY;
+    for item in items {
+        columns = columns.around(&item.columns);
+    }
+    columns
+}
+
+/// The rows of all items and those between.
+pub fn rows_of(items: &[Placed]) -> Span
+    ensures { result ≡ fold (λ span item. around span item.rows) nowhere items.now }
+{
+    let mut rows = Span::EMPTY;
+    for item in items {
+        rows = rows.around(&item.rows);
+    }
+    rows
+}

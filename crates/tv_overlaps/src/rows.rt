@@ -1,0 +1,45 @@
+//! Views that clash with an earlier one in some point.
+
+ghost use Rattle.std.specs.Prelude.{◌≡◌, true, filter, length, IfOk, OnOk};
+ghost use Rattle.std.specs.List.{All};
+ghost use Rattle.tv_overlaps.specs.Marks.{AreMarked, IsItem, collide, enters, meets};
+
+use crate::columns::mark_columns;
+use crate::placed::{Placed, columns_of};
+use crate::span::Span;
+use std::alloc::{AllocError, Global};
+
+// The items that have rows of this half, and not all rows.
+fn inner(alloc: Global, rows: Span, half: Span, items: &[Placed]) -> Result<Vec<Placed>, AllocError>
+    ensures { IfOk result (λ inner. inner.items ≡ filter (λ item. enters rows half item.rows) items.now) }
+{
+    items
+        .iter()
+        .filter(|item| item.rows.enters(&rows, &half))
+        .copied()
+        .collect(alloc)
+}
+
+/// Marks the items that clash with an earlier one and share a point with it. They have something in the rows.
+pub fn mark_rows(
+    alloc: Global,
+    marks: &mut [bool],
+    rows: Span,
+    items: &[Placed],
+) -> Result<(), AllocError>
+    requires items { All (IsItem (length marks.old)) items.now }
+    requires rows { All (λ item. meets rows item.rows ≡ true) items.now }
+    ensures len { length marks.new ≡ length marks.old }
+    ensures marks { OnOk result (AreMarked collide items.now marks.old marks.new) }
+{
+    if items.len() < 2 {
+        return Ok(());
+    }
+    // What fills the rows shares one with every other item there. Two that don't share one in one of the halves.
+    mark_columns(alloc, marks, rows, columns_of(items), items)?;
+    let Some((upper, lower)) = rows.halves() else {
+        return Ok(());
+    };
+    mark_rows(alloc, marks, upper, &inner(alloc, rows, upper, items)?)?;
+    mark_rows(alloc, marks, lower, &inner(alloc, rows, lower, items)?)
+}

@@ -1,0 +1,2 @@
+pub mod GivenOpeningLemmas
+pub mod StartTextLemmas

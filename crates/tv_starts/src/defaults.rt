@@ -1,0 +1,31 @@
+//! F11: second default buttons.
+
+ghost use Rattle.std.specs.Prelude.{◌≡◌, IfOk};
+ghost use Rattle.tv_model.specs.Description.Nodes.{is_default};
+ghost use Rattle.tv_model.specs.Faults.Starts.{is_second_default};
+ghost use Rattle.tv_lines.specs.Each.{each_after};
+
+use std::alloc::{AllocError, Global};
+use tv_model::{Kind, Node};
+
+fn is_default(node: &Node) -> bool
+    ensures { result ≡ is_default node.now }
+{
+    match &node.kind {
+        Kind::Button(button) => button.is_default,
+        _ => false,
+    }
+}
+
+/// For each view whether it is a default button after another one.
+pub fn second_defaults(alloc: Global, views: &[Node]) -> Result<Vec<bool>, AllocError>
+    ensures { IfOk result (λ second. second.items ≡ each_after is_second_default views.now) }
+{
+    let mut has_default = false;
+    let mut second = Vec::new(alloc);
+    for view in views {
+        second.push(is_default(view) && has_default)?;
+        has_default |= is_default(view);
+    }
+    Ok(second)
+}

@@ -1,0 +1,31 @@
+//! F12: inputs whose domain is empty.
+
+ghost use Rattle.std.specs.Prelude.{◌≡◌, IfOk, IfSome, IfNone};
+ghost use Rattle.tv_valid.specs.Domain.{HasText, IsDomain};
+ghost use Rattle.tv_model.specs.Faults.Domains.{HasAnyText, any_text, has_no_text, is_so};
+
+use std::alloc::{AllocError, Global};
+use tv_model::Kind;
+use tv_valid::{Domain, DomainFault, InputSpec};
+
+/// The domain that the input asks for, where its picture is right and some text lies in it.
+pub fn domain_of(alloc: Global, spec: &InputSpec) -> Result<Option<Domain>, AllocError>
+    ensures some { IfOk result (λ found. IfSome found (λ domain. IsDomain spec.now domain × HasText domain)) }
+    ensures none { IfOk result (λ found. IfNone found (HasAnyText spec.now → ⊥)) }
+{
+    match Domain::new(alloc, spec) {
+        Ok(domain) => Ok(Some(domain)),
+        Err(DomainFault::NoMemory) => Err(AllocError),
+        Err(DomainFault::BadPicture(_) | DomainFault::Empty) => Ok(None),
+    }
+}
+
+/// Whether it is an input with a bad picture, or with a domain in which no text lies.
+pub fn has_no_text(alloc: Global, kind: &Kind) -> Result<bool, AllocError>
+    ensures { IfOk result (λ empty. empty ≡ has_no_text kind.now) }
+{
+    match kind {
+        Kind::Input(input) => Ok(domain_of(alloc, &input.spec)?.is_none()),
+        _ => Ok(false),
+    }
+}
