@@ -1,9 +1,7 @@
-pub mod Marks
-pub mod Outputs
-pub mod Pens
-pub mod Performing
-pub mod Ranges
-pub mod Runs
-pub mod Screens
-pub mod Writing
-pub mod ScriptLaws
+pub mod MarkLemmas
+pub mod OutputLemmas
+pub mod PerformLemmas
+pub mod RangeLemmas
+pub mod RunLemmas
+pub mod ScreenLemmas
+pub mod ScriptLemmas

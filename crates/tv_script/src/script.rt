@@ -2,17 +2,16 @@
 
 ghost use Rattle.std.specs.Prelude.{◌≡◌, false, OnOk, IfErr};
 ghost use Rattle.tv_model.specs.Log.Output.{event_text, event_after, texts, states, typed, item_text, item_after, shot_text, colors_text, output, after};
-ghost use Rattle.tv_script.specs.Writer.{Takes};
-ghost use Rattle.tv_script.specs.Pen.{Puts};
+ghost use Rattle.tv_output.specs.Writer.{Takes};
+ghost use Rattle.tv_output.specs.Pen.{Puts};
 ghost use Rattle.tv_script.specs.Performed.{Stops};
 
 use crate::lines::put_log;
-use crate::pen::Pen;
 use crate::shot::{Aspect, put_screen};
 use crate::stage::Stage;
-use crate::writer::Writer;
 use tv_event::{Event, Key};
 use tv_model::Item;
+use tv_output::{Pen, Writer};
 
 /// Performs the script and writes its output: the log that isn't yet taken, and then what each item writes.
 ///

@@ -1,6 +1,6 @@
 use Rattle.std.proofs.Common.{◌≡◌}
-use Rattle.tv_script.specs.Pen.{Puts}
-use Rattle.tv_script.proofs.Marks.{joined, separator, words_below}
+use Rattle.tv_output.specs.Pen.{Puts}
+use Rattle.tv_script.proofs.MarkLemmas.{joined, separator, words_below}
 use Rattle.tv_script.proofs.lines.put_marks.Given as goal
 
 abbrev pub invariant-loop-item : goal.invariant-loop-item

@@ -3,8 +3,8 @@ use Rattle.tv_cells.specs.Picture.{cell_at}
 use Rattle.tv_model.specs.Log.Output.{screen_text, colors_text}
 use Rattle.tv_script.specs.ScreenText.{aspect_word, cell_text}
 use Rattle.tv_script.specs.declared.shot.Aspect.TheVariants.{Attributes}
-use Rattle.tv_script.proofs.Pens.{Puts-along}
-use Rattle.tv_script.proofs.Screens.{session_text-is}
+use Rattle.tv_output.proofs.PenLemmas.{Puts-along}
+use Rattle.tv_script.proofs.ScreenLemmas.{session_text-is}
 use Rattle.tv_script.proofs.script.put_colors.Goals as goal
 
 pub returns-clause-text : goal.returns-clause-text

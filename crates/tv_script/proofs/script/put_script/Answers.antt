@@ -1,7 +1,7 @@
 use Rattle.std.proofs.Common.{◌∙◌, ap}
 use Rattle.tv_model.specs.Log.Output.{item_text, item_after}
-use Rattle.tv_script.proofs.Pens.{Puts-along, Cuts-from_stopped, Takes-from_went_on}
-use Rattle.tv_script.proofs.Performing.{more_takes, more_stops, after-more}
+use Rattle.tv_output.proofs.PenLemmas.{Puts-along, Cuts-from_stopped, Takes-from_went_on}
+use Rattle.tv_script.proofs.PerformLemmas.{more_takes, more_stops, after-more}
 use Rattle.tv_script.proofs.script.put_script.Goals as goal
 
 pub loop-index-preserved : goal.loop-index-preserved

@@ -1,7 +1,7 @@
 use Rattle.std.proofs.Common.{◌∙◌, ap}
 use Rattle.tv_model.specs.Log.Output.{event_text, event_after}
-use Rattle.tv_script.proofs.Pens.{Puts-along}
-use Rattle.tv_script.proofs.Performing.{typed_key, typed_text, typed_state}
+use Rattle.tv_output.proofs.PenLemmas.{Puts-along}
+use Rattle.tv_script.proofs.PerformLemmas.{typed_key, typed_text, typed_state}
 use Rattle.tv_script.proofs.script.put_typed.Goals as goal
 
 pub loop-ch-preserved : goal.loop-ch-preserved

@@ -1,6 +1,6 @@
 use Rattle.std.proofs.Common.{◌≡◌, take}
 use Rattle.tv_model.specs.Log.Output.{event_text, event_after, states, texts, typed}
-use Rattle.tv_script.specs.Pen.{Puts}
+use Rattle.tv_output.specs.Pen.{Puts}
 use Rattle.tv_script.proofs.script.put_typed.Given as goal
 
 abbrev pub invariant-loop-ch : goal.invariant-loop-ch

@@ -2,7 +2,7 @@ use Rattle.std.proofs.Common.{◌≡◌}
 use Rattle.std.proofs.lemmas.Result.{IfOk-weaker}
 use Rattle.tv_script.specs.Scripts.{Spells}
 use Rattle.tv_script.specs.Reading.Scripts.{reading_of, Value}
-use Rattle.tv_script.proofs.ScriptLaws.{read_spelled, all_refused, gives}
+use Rattle.tv_script.proofs.ScriptLemmas.{read_spelled, all_refused, gives}
 use Rattle.tv_script.proofs.script_text.parse_script.Goals as goal
 
 pub returns-clause-spelled : goal.returns-clause-spelled

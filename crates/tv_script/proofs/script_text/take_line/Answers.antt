@@ -1,5 +1,5 @@
 use Rattle.std.proofs.Common.{Some, refl, sym, ap, ◌∙◌}
-use Rattle.tv_script.proofs.ScriptLaws.{faulty_line, line_without_words, item_line}
+use Rattle.tv_script.proofs.ScriptLemmas.{faulty_line, line_without_words, item_line}
 use Rattle.tv_script.proofs.script_text.take_line.Goals as goal
 
 pub returns-in_default-clause-fault : goal.returns-in_default-clause-fault

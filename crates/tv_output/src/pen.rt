@@ -1,8 +1,7 @@
 //! A pen writes texts one after another, and nothing more once its writer failed.
 
-ghost use Rattle.std.specs.Prelude.{◌≡◌, ◌∷◌, [], decimal, encode_utf8};
-ghost use Rattle.tv_model.specs.Log.LogText.{bytes_of};
-ghost use Rattle.tv_script.specs.Pen.{Puts};
+ghost use Rattle.std.specs.Prelude.{◌≡◌, ◌∷◌, [], decimal, encode_utf8, flat_map};
+ghost use Rattle.tv_output.specs.Pen.{Puts};
 
 use crate::writer::{Writer, write_all};
 use itoa::Buffer;
@@ -27,7 +26,7 @@ impl<'a, W: Writer> Pen<'a, W> {
 
     /// Writes the characters in UTF-8.
     pub fn put_chars(&mut self, chars: &[char])
-        ensures { Puts W.seen self.old self.new (bytes_of chars.now) }
+        ensures { Puts W.seen self.old self.new (flat_map encode_utf8 chars.now) }
     {
         for ch in chars {
             self.put_char(*ch);

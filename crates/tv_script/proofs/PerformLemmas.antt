@@ -8,13 +8,13 @@ use Rattle.tv_model.specs.declared.script.Item.{Item}
 use Rattle.tv_model.specs.Machine.Session.{Session, quiet}
 use Rattle.tv_model.specs.Log.LogText.{log_text}
 use Rattle.tv_model.specs.Log.Output.{output, after, event_text, event_after, item_text, item_after, states, texts, typed}
-use Rattle.tv_script.proofs.Runs.{states-push, texts-push, states-take_more, texts-take_more}
-use Rattle.tv_script.specs.Writer.{Seen, Takes, Cuts}
-use Rattle.tv_script.specs.declared.pen.Pen.{Pen}
-use Rattle.tv_script.specs.Pen.{Puts}
+use Rattle.tv_script.proofs.RunLemmas.{states-push, texts-push, states-take_more, texts-take_more}
+use Rattle.tv_output.specs.Writer.{Seen, Takes, Cuts}
+use Rattle.tv_output.specs.declared.pen.Pen.{Pen}
+use Rattle.tv_output.specs.Pen.{Puts}
 use Rattle.tv_script.specs.Performed.{Stops}
-use Rattle.tv_script.proofs.Writing.{Takes-then, Cuts-longer, Cuts-after, Cuts-along}
-use Rattle.tv_script.proofs.Pens.{Puts-then, Puts-along}
+use Rattle.tv_output.proofs.WriterLemmas.{Takes-then, Cuts-longer, Cuts-after, Cuts-along}
+use Rattle.tv_output.proofs.PenLemmas.{Puts-then, Puts-along}
 
 abbrev pub typed_key : ℕ → Event
 typed_key ch = events.Key (keys.Char ch)

@@ -1,7 +1,7 @@
 //! Writers, and how a whole text is written to one.
 
 ghost use Rattle.std.specs.Prelude.{◌≡◌, ◌<◌, ◌≤◌, length, take, IfSome, unwrap_or, MatchResult};
-ghost use Rattle.tv_script.specs.Writer.{Seen, Takes, Fails, Cuts};
+ghost use Rattle.tv_output.specs.Writer.{Seen, Takes, Fails, Cuts};
 
 /// What a text is written to. Contracts see the bytes that it took, where they are known, and how many of its calls
 /// failed or took nothing; that count stays at the greatest `u64`.

@@ -1,0 +1,110 @@
+//! The command line.
+
+use crate::no_task::NoTask;
+use crate::task::Task;
+use clap::error::ErrorKind;
+use clap::{Arg, ArgAction, ArgMatches, Command, Error};
+use std::alloc::{AllocError, Global};
+
+/// What is told below the help of the program and of each subcommand.
+const STATUSES: &str = "Statuses: 0 done; 1 faults, a refusal or a bad text; 2 usage; \
+    3 a file, a stream or memory failed. Messages go to standard error, all else to standard output.";
+
+fn path<'a>(alloc: Global, name: &'a str, help: &'a str) -> Arg<'a> {
+    Arg::new(alloc, name)
+        .required(true)
+        .action(ArgAction::Set)
+        .help(help)
+}
+
+fn description<'a>(alloc: Global) -> Arg<'a> {
+    path(alloc, "FILE", "A description of windows and dialogs")
+}
+
+fn subcommand<'a>(alloc: Global, name: &'a str, about: &'a str) -> Result<Command<'a>, AllocError> {
+    Command::new(alloc, name)
+        .about(about)
+        .after_help(STATUSES)
+        .arg(description(alloc))
+}
+
+fn check<'a>(alloc: Global) -> Result<Command<'a>, AllocError> {
+    subcommand(
+        alloc,
+        "check",
+        "Prints the faults of a description, a line for each, or its certificate where it has none",
+    )
+}
+
+fn accept<'a>(alloc: Global) -> Result<Command<'a>, AllocError> {
+    subcommand(
+        alloc,
+        "accept",
+        "Prints `accepted` where the certificate is that of the description, else the first reason to refuse them",
+    )?
+    .arg(path(alloc, "CERT", "A certificate, as `check` prints it"))
+}
+
+fn run<'a>(alloc: Global) -> Result<Command<'a>, AllocError> {
+    subcommand(
+        alloc,
+        "run",
+        "Performs a script of keys and pictures on a description, and prints what happens",
+    )?
+    .arg(path(
+        alloc,
+        "SCRIPT",
+        "A script, with an event or a picture on each line",
+    ))
+}
+
+fn command<'a>(alloc: Global) -> Result<Command<'a>, AllocError> {
+    Command::new(alloc, "tvdlg")
+        .about("Checks descriptions of text-mode dialogs, and runs them on scripts")
+        .after_help(STATUSES)
+        .subcommand_required(true)
+        .subcommand(check(alloc)?)?
+        .subcommand(accept(alloc)?)?
+        .subcommand(run(alloc)?)
+}
+
+/// Reads the words of the command line, of which the first is the program's own: the task, or what to tell of them.
+pub fn read_task<'a>(alloc: Global, words: &'a [String]) -> Result<Task<'a>, NoTask> {
+    match parse(alloc, words) {
+        Ok(task) => Ok(task),
+        Err(error) if error.kind() == ErrorKind::OutOfMemory => Err(NoTask::NoMemory),
+        Err(error) => Err(NoTask::Usage(format!(in alloc; "{error}")?)),
+    }
+}
+
+/// Reads the words of the command line. Help is an error too: what is wanted is its text.
+pub fn parse<'a>(alloc: Global, words: &'a [String]) -> Result<Task<'a>, Error> {
+    let matches = command(alloc)?.try_get_matches_from(words)?;
+    match matches.subcommand() {
+        Some((name, found)) => match named_task(name, found) {
+            Some(task) => Ok(task),
+            None => Err(no_task(alloc)?),
+        },
+        None => Err(no_task(alloc)?),
+    }
+}
+
+fn no_task(alloc: Global) -> Result<Error, AllocError> {
+    command(alloc)?.error(ErrorKind::MissingSubcommand, "a subcommand is required")
+}
+
+fn named_task<'a>(name: &str, found: &ArgMatches<'a>) -> Option<Task<'a>> {
+    let file = found.get_str("FILE")?;
+    match name {
+        "check" => Some(Task::Check { file }),
+        "accept" => Some(Task::Accept {
+            file,
+            certificate: found.get_str("CERT")?,
+        }),
+        "run" => Some(Task::Run {
+            file,
+            script: found.get_str("SCRIPT")?,
+        }),
+        _ => None,
+    }
+}

@@ -1,0 +1,2 @@
+pub mod PenLemmas
+pub mod WriterLemmas

@@ -1,0 +1,6 @@
+-- What a device took and keeps back
+pub mod Device
+-- What a pen puts
+pub mod Pen
+-- What a writer takes, cuts and fails at
+pub mod Writer
