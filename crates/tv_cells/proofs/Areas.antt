@@ -15,7 +15,7 @@ rows_before area row = record area { bottom = row }
 abbrev pub IsDone : Area → ℕ → ℕ → ℕ → ℕ → Type 0
 IsDone area this next column row = IsInArea (rows_before area this) column row ⊎ ((area.left ≤ column) × (column < next) × (row ≡ this))
 
-dec : (m n : ℕ) → (m ≡ n) ⊎ (m ≡ n → ⊥)
+pub dec : (m n : ℕ) → (m ≡ n) ⊎ (m ≡ n → ⊥)
 dec m n = elim (cases_lt m n) [
   | inl lt ↦ inr (λ e. absurd (omega arith))
   | inr le ↦ elim (cases_lt n m) [ inl gt ↦ inr (λ e. absurd (omega arith)) | inr ge ↦ inl (omega arith) ]

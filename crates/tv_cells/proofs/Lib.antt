@@ -3,6 +3,7 @@ pub mod Rectangles
 pub mod Pictures
 pub mod Drawn
 pub mod Areas
+pub mod RowLemmas
 pub mod Covered
 pub mod Shadows
 pub mod Layering

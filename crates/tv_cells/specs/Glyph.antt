@@ -20,8 +20,11 @@ abbrev pub glyph : ℕ → ℕ → Glyph
 glyph ch attr = record { ch = ch; attr = attr }
 
 -- the character where it takes one column, else a space
+abbrev pub shown_char : ℕ → ℕ
+shown_char ch = if is_narrow ch then ch else 32
+
 abbrev pub shown : ℕ → ℕ → Glyph
-shown ch attr = glyph (if is_narrow ch then ch else 32) attr
+shown ch attr = glyph (shown_char ch) attr
 
 -- a space in black on black, as a new screen has it
 abbrev pub blank : Glyph

@@ -3,6 +3,7 @@
 ghost use Rattle.std.specs.Prelude.{◌≡◌, ◌↔◌, IsSome, IfSome, IsTrue};
 ghost use Rattle.tv_cells.specs.Glyph.{IsNarrow, glyph, is_narrow, shaded, shown};
 
+use crate::narrow_text::NarrowChar;
 use std::marker::Model;
 use unicode_width::UnicodeWidthChar;
 
@@ -12,22 +13,25 @@ use unicode_width::UnicodeWidthChar;
 #[derive(Clone, Copy, Debug, PartialEq, Eq)]
 pub struct Cell {
     ch: char,
-    attr: u8,
+    // Below 256. As wide as the character, so that a cell has no padding: cells are then written several at a time.
+    attr: u32,
 }
 
 impl Model for Cell {
+    ghost use Rattle.std.specs.Prelude.{◌<◌, ◌^◌};
     ghost use Rattle.tv_cells.specs.Glyph.{Glyph, IsNarrow};
 
     ghost Value = { Glyph };
 
     ghost view = { λ c. record { ch = c.ch; attr = c.attr } };
 
-    ghost invariant = { λ c. IsNarrow c.ch };
+    ghost invariant = { λ c. IsNarrow c.ch × (c.attr < 2 ^ 8) };
 
     ghost inverse = { λ v. record { ch = v.ch; attr = v.attr } };
 }
 
 /// Whether the character takes exactly one column.
+#[inline]
 pub fn is_narrow(ch: char) -> bool
     ensures fact { IsTrue result ↔ IsNarrow ch }
     ensures test { result ≡ is_narrow ch }
@@ -41,6 +45,7 @@ impl Cell {
         ensures variant { IsSome result ↔ IsNarrow ch }
         ensures value { IfSome result (λ cell. cell ≡ glyph ch attr) }
     {
+        let attr = u32::from(attr);
         if is_narrow(ch) {
             Some(Cell { ch, attr })
         } else {
@@ -49,21 +54,35 @@ impl Cell {
     }
 
     /// A space.
+    #[inline]
     pub fn space(attr: u8) -> Cell
         ensures { result ≡ glyph 32 attr }
     {
+        let attr = u32::from(attr);
         Cell { ch: ' ', attr }
     }
 
     /// The cell of a character, or of a space in its place where the character doesn't take one column.
+    #[inline]
     pub fn shown(ch: char, attr: u8) -> Cell
         ensures { result ≡ shown ch attr }
     {
         if is_narrow(ch) {
+            let attr = u32::from(attr);
             Cell { ch, attr }
         } else {
             Cell::space(attr)
         }
+    }
+
+    /// The cell of a character that takes one column, which isn't tested again.
+    #[inline]
+    pub fn of(ch: NarrowChar, attr: u8) -> Cell
+        ensures { result ≡ glyph ch attr }
+    {
+        let ch = ch.get();
+        let attr = u32::from(attr);
+        Cell { ch, attr }
     }
 
     /// The character.
@@ -78,7 +97,7 @@ impl Cell {
     pub fn attr(self) -> u8
         ensures { result ≡ self.attr }
     {
-        self.attr
+        self.attr as u8
     }
 
     /// The same character in a shadow, which has attribute 08.

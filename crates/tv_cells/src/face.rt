@@ -1,10 +1,11 @@
-//! Faces, which are painted cell by cell.
+//! Faces, which are painted row by row.
 
-ghost use Rattle.std.specs.Prelude.{◌≡◌, ℕ};
+ghost use Rattle.std.specs.Prelude.{◌≡◌, ◌+◌, ◌≤◌, ◌^◌, ℕ, length};
 ghost use Rattle.tv_cells.specs.Glyph.{Glyph};
 ghost use Rattle.tv_cells.specs.Picture.{Changes};
 ghost use Rattle.tv_cells.specs.Canvas.{Covers, face_at};
 ghost use Rattle.tv_cells.specs.Rectangle.{sized};
+ghost use Rattle.tv_cells.specs.Row.{IsRow};
 
 use crate::canvas::Canvas;
 use crate::cell::Cell;
@@ -18,6 +19,19 @@ pub trait Face {
     /// The cell in a column and a row of the face.
     fn at(&self, x: u32, y: u32) -> Cell
         ensures { result ≡ face self.now x y };
+
+    /// Writes the cells of a row of the face, from a column on.
+    ///
+    /// The provided body asks for each cell. A face that knows what is alike along a row writes that at once.
+    fn row(&self, y: u32, from: u32, cells: &mut [Cell])
+        requires { from + length cells.old ≤ 2 ^ 32 }
+        ensures count { length cells.new ≡ length cells.old }
+        ensures cells { IsRow (λ x. face self.now x y) from cells.new }
+    {
+        for (i, cell) in cells.iter_mut().enumerate() {
+            *cell = self.at(from + i as u32, y);
+        }
+    }
 }
 
 /// Paints a face of this size, with its corner at the canvas's origin.
@@ -27,11 +41,9 @@ pub fn paint<F: Face>(screen: &mut Screen, canvas: Canvas, width: u32, height: u
     let start = (canvas.origin.x as i64, canvas.origin.y as i64);
     let end = (start.0 + width as i64, start.1 + height as i64);
     let area = canvas.area(screen, start, end);
+    let from = distance(&canvas.origin.x, area.left);
     for row in area.top..area.bottom {
         let y = distance(&canvas.origin.y, row);
-        for column in area.left..area.right {
-            let cell = face.at(distance(&canvas.origin.x, column), y);
-            screen.set(column, row, cell);
-        }
+        screen.paint_row(face, y, from, row, area.left, area.right);
     }
 }

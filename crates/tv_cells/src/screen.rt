@@ -1,13 +1,15 @@
 //! A screen of cells.
 
-ghost use Rattle.std.specs.Prelude.{◌≡◌, [], ◌≤◌, ◌↔◌, ℕ, pos, IfOk, IfSome, IsSome, IsErrOf};
+ghost use Rattle.std.specs.Prelude.{◌≡◌, [], ◌≤◌, ◌<◌, ◌+◌, ◌-◌, ◌^◌, ◌↔◌, ℕ, pos, IfOk, IfSome, IsSome, IsErrOf};
 ghost use Rattle.tv_cells.specs.Layers.{Shows};
 ghost use Rattle.tv_cells.specs.Picture.{Picture, IsAlike, IsOn, IsPlace, IsScreenSize, Changes, cell_at};
 ghost use Rattle.tv_cells.specs.Rectangle.{IsIn, sized};
+ghost use Rattle.tv_cells.specs.Row.{IsInRow};
 ghost use Rattle.tv_cells.specs.Canvas.{whole};
 
 use crate::canvas::Canvas;
 use crate::cell::Cell;
+use crate::face::Face;
 use crate::rect::{Point, Rect};
 use std::alloc::{AllocError, Global};
 use std::marker::Model;
@@ -143,5 +145,25 @@ impl Screen {
     {
         let index = (row * self.width + column) as usize;
         self.cells[index] = cell;
+    }
+
+    // Writes cells of a row of a face, those from a column of the face on, from one column of the screen on and before another.
+    pub(crate) fn paint_row<F: Face>(
+        &mut self,
+        face: &F,
+        y: u32,
+        from: u32,
+        row: u32,
+        left: u32,
+        right: u32,
+    )
+        requires across { (left ≤ right) × (right ≤ self.old.width) }
+        requires down { row < self.old.height }
+        requires face { from + right ≤ 2 ^ 32 }
+        ensures { Changes (IsInRow left right row) (λ column _ _. F.face face.now (from + (column - left)) y) self.old self.new }
+    {
+        let start = (row * self.width + left) as usize;
+        let end = (row * self.width + right) as usize;
+        face.row(y, from, &mut self.cells[start..end]);
     }
 }

@@ -1,0 +1,138 @@
+-- Rows of a picture that are painted whole.
+use Rattle.std.proofs.Common.{◌≡◌, ℕ, ℤ, pos, negsuc, suc, ◌+◌, ◌-◌, ◌*◌, ◌<◌, ◌≤◌, ◌≤ℤ◌, List, ◌++◌, length, take, drop, slice_index_or, refl, ap, ◌∙◌, arith, inl, inr, rules}
+use Rattle.std.specs.Int.{int_gap}
+use Rattle.std.proofs.lemmas.Bool.{cases_lt}
+use Rattle.std.proofs.lemmas.Int.{ints}
+use Rattle.std.proofs.lemmas.List.{get_or-drop, get_or-take, get_or_append_left, get_or-append_right, length-drop, length-take-le}
+use Rattle.std.proofs.Math.Nat.{mul-le-mul_right}
+use borrow.Rule.Slice.PartMut.{put_mid, post_of}
+use Rattle.tv_cells.specs.Glyph.{Glyph, blank}
+use Rattle.tv_cells.specs.Picture.{Picture, IsOn, Changes, cell_at}
+use Rattle.tv_cells.specs.Canvas.{IsInArea}
+use Rattle.tv_cells.specs.Row.{IsRow, IsInRow}
+use Rattle.tv_cells.specs.declared.canvas.Area.{Area}
+use Rattle.tv_cells.proofs.Areas.{rows_before, dec}
+use Rattle.tv_cells.proofs.Drawn.{changes_both}
+
+-- ---- a part of a list that is written
+
+taken : (a : ℕ) (xs : List Glyph) → a ≤ length xs → length (take a xs) ≡ a
+taken a xs le = search rules
+
+before_part : (a k i : ℕ) (xs ys : List Glyph) → i < a → a ≤ length xs → slice_index_or (put_mid a k xs ys) i blank ≡ slice_index_or xs i blank
+before_part a k i xs ys lt le =
+    let n = taken a xs le in
+    get_or_append_left (take a xs) (ys ++ post_of a k xs) blank i (omega (arith, n)) ∙ get_or-take a xs i blank lt
+
+in_part : (a k i : ℕ) (xs ys : List Glyph) → a ≤ length xs → a ≤ i → i - a < length ys → slice_index_or (put_mid a k xs ys) i blank ≡ slice_index_or ys (i - a) blank
+in_part a k i xs ys le ge lt =
+    get_or-append_right (take a xs) (ys ++ post_of a k xs) a i blank (taken a xs le) ge
+    ∙ get_or_append_left ys (post_of a k xs) blank (i - a) lt
+
+after_part : (a k i : ℕ) (xs ys : List Glyph) → a ≤ length xs → length ys ≡ k → a + k ≤ i → slice_index_or (put_mid a k xs ys) i blank ≡ slice_index_or xs i blank
+after_part a k i xs ys le len ge =
+    let there : a + (k + (i - a - k)) ≡ i = omega arith in
+    get_or-append_right (take a xs) (ys ++ post_of a k xs) a i blank (taken a xs le) (omega arith)
+    ∙ (get_or-append_right ys (post_of a k xs) k (i - a) blank len (omega arith)
+    ∙ (get_or-drop k (drop a xs) (i - a - k) blank
+    ∙ (get_or-drop a xs (k + (i - a - k)) blank ∙ ap (λ j. slice_index_or xs j blank) there)))
+
+-- ---- a row of a picture
+
+part_long : (a k : ℕ) (xs : List Glyph) → a + k ≤ length xs → length (take k (drop a xs)) ≡ k
+part_long a k xs le =
+    let rest : length (drop a xs) ≡ length xs - a = length-drop a xs in
+    length-take-le k (drop a xs) (omega arith)
+
+abbrev pub with_row : Picture → ℕ → ℕ → ℕ → List Glyph → Picture
+with_row p row left right ys = record { width = p.width; height = p.height; cells = put_mid (row * p.width + left) (row * p.width + right - (row * p.width + left)) p.cells ys }
+
+module _ (p : Picture) (row left right : ℕ) (ys : List Glyph) (full : length p.cells ≡ p.width * p.height) (across : (left ≤ right) × (right ≤ p.width)) (down : row < p.height) (long : length ys ≡ right - left) where
+  start_within : row * p.width + left ≤ length p.cells
+  start_within = let h : suc row * p.width ≤ p.height * p.width = mul-le-mul_right p.width down in omega (arith, h, full, across.0, across.1)
+
+  other_row : (column at : ℕ) → column < p.width → (at ≡ row → ⊥) → cell_at (with_row p row left right ys) column at ≡ cell_at p column at
+  other_row column at on other = elim (cases_lt at row) [
+    | inl lt ↦
+        let h : suc at * p.width ≤ row * p.width = mul-le-mul_right p.width lt in
+        before_part _ _ _ p.cells ys (omega (arith, h)) start_within
+    | inr le ↦ elim (cases_lt row at) [
+      | inl gt ↦
+          let h : suc row * p.width ≤ at * p.width = mul-le-mul_right p.width gt in
+          after_part _ _ _ p.cells ys start_within (omega (arith, long)) (omega (arith, h, across.0, across.1))
+      | inr ge ↦ absurd (other (omega arith))
+    ]
+  ]
+
+  beside : (column : ℕ) → (IsInRow left right row column row → ⊥) → cell_at (with_row p row left right ys) column row ≡ cell_at p column row
+  beside column other = elim (cases_lt column left) [
+    | inl lt ↦ before_part _ _ _ p.cells ys (omega arith) start_within
+    | inr le ↦ elim (cases_lt column right) [
+      | inl gt ↦ absurd (other (record { after = le; before = gt; here = refl }))
+      | inr ge ↦ after_part _ _ _ p.cells ys start_within (omega (arith, long)) (omega (arith, across.0))
+    ]
+  ]
+
+  inside_row : (face : ℕ → Glyph) (from column : ℕ) → IsRow face from ys → left ≤ column → column < right → cell_at (with_row p row left right ys) column row ≡ face (from + (column - left))
+  inside_row face from column is ge lt =
+      let there : row * p.width + column - (row * p.width + left) ≡ column - left = omega arith in
+      in_part _ _ _ p.cells ys start_within (omega arith) (omega (arith, there, long))
+      ∙ (ap (λ j. slice_index_or ys j blank) there ∙ is.each (column - left) (omega (arith, long)))
+
+part_of_row : (p : Picture) (row left right : ℕ) → length p.cells ≡ p.width * p.height → (left ≤ right) × (right ≤ p.width) → row < p.height
+    → length (take (row * p.width + right - (row * p.width + left)) (drop (row * p.width + left) p.cells)) ≡ right - left
+part_of_row p row left right full across down =
+    let h : suc row * p.width ≤ p.height * p.width = mul-le-mul_right p.width down in
+    part_long (row * p.width + left) (row * p.width + right - (row * p.width + left)) p.cells (omega (arith, h, full, across.0, across.1)) ∙ omega (arith, across.0)
+
+-- the columns of a row are written
+pub changes_painted : (p : Picture) (row left right from : ℕ) (ys : List Glyph) (face : ℕ → Glyph) → length p.cells ≡ p.width * p.height
+    → (left ≤ right) × (right ≤ p.width) → row < p.height → length ys ≡ length (take (row * p.width + right - (row * p.width + left)) (drop (row * p.width + left) p.cells)) → IsRow face from ys
+    → Changes (IsInRow left right row) (λ column _ _. face (from + (column - left))) p (with_row p row left right ys)
+changes_painted p row left right from ys face full across down count is =
+    let long : length ys ≡ right - left = count ∙ part_of_row p row left right full across down in record {
+      size = record { width = refl; height = refl };
+      inside = λ column at on here. rw here.here (inside_row p row left right ys full across down long face from column is here.after here.before);
+      outside = λ column at on other. elim (dec at row) [
+        | inl e ↦ rw e (beside p row left right ys full across down long column (λ h. other (record { after = h.after; before = h.before; here = e })))
+        | inr e ↦ other_row p row left right ys full across down long column at on.across e
+      ];
+    }
+
+-- ---- the rows of an area
+
+-- one row more
+pub changes_next : (area : Area) (this : ℕ) {f : ℕ → ℕ → Glyph → Glyph} {old mid new : Picture} → area.top ≤ this
+    → Changes (IsInArea (rows_before area this)) f old mid → Changes (IsInRow area.left area.right this) f mid new → Changes (IsInArea (rows_before area (this + 1))) f old new
+changes_next area this le p q = changes_both
+    (λ a b h k. omega (arith, h.bottom, k.here))
+    (λ a b h. elim (cases_lt b this) [
+      | inl lt ↦ inl (record { left = h.left; right = h.right; top = h.top; bottom = lt })
+      | inr ge ↦ inr (record { after = h.left; before = h.right; here = omega (arith, h.bottom) })
+    ])
+    (λ a b h. record { left = h.left; right = h.right; top = h.top; bottom = omega (arith, h.bottom) })
+    (λ a b h. record { left = h.after; right = h.before; top = omega (arith, h.here); bottom = omega (arith, h.here) })
+    p q
+
+-- the same change in other words
+pub changes_as : {Region : ℕ → ℕ → Type 0} {f g : ℕ → ℕ → Glyph → Glyph} {old new : Picture} → ((column row : ℕ) (under : Glyph) → IsOn old column row → Region column row → f column row under ≡ g column row under) → Changes Region f old new → Changes Region g old new
+changes_as same p = record {
+  size = p.size;
+  inside = λ column row on here. p.inside column row on here ∙ same column row _ on here;
+  outside = p.outside;
+}
+
+gap_along : (o : ℤ) (left column : ℕ) → o ≤ℤ pos left → left ≤ column → int_gap o (pos left) + (column - left) ≡ int_gap o (pos column)
+gap_along (pos o) left column before le = omega (arith, ints)
+gap_along (negsuc o) left column before le = omega (arith, ints)
+
+-- a row of a face that begins before the row's first column
+pub shows_row : (face : ℕ → ℕ → Glyph) (x y : ℤ) (left right this from at : ℕ) {old new : Picture} → (IsOn old left this → left < right → x ≤ℤ pos left) → from ≡ int_gap x (pos left) → at ≡ int_gap y (pos this)
+    → Changes (IsInRow left right this) (λ column _ _. face (from + (column - left)) at) old new
+    → Changes (IsInRow left right this) (λ column row _. face (int_gap x (pos column)) (int_gap y (pos row))) old new
+shows_row face x y left right this from at begins e f p = changes_as
+    (λ column row under on here.
+    let first : IsOn _ left this = record { across = omega (arith, on.across, here.after); down = rw (← here.here) on.down } in
+    let along = gap_along x left column (begins first (omega (arith, here.after, here.before))) here.after in
+    rw (e, f, here.here, along) refl)
+    p

@@ -1,0 +1,6 @@
+use Rattle.std.proofs.Common.{arith}
+use Rattle.tv_cells.proofs.Narrow.{ascii_narrow}
+use Rattle.tv_cells.proofs.narrow_text.NarrowChar.space.Goals as goal
+
+pub invariant_of-result : goal.invariant_of-result
+invariant_of-result c = ascii_narrow 32 (omega arith) (omega arith)
