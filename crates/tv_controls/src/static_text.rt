@@ -9,9 +9,9 @@ use crate::fault::ControlFault;
 use bitflags::Flags;
 use std::alloc::Global;
 use std::marker::Model;
-use tv_cells::{Canvas, Rect, Screen};
+use tv_cells::{Canvas, Rect, Screen, lay};
 use tv_event::{Event, Options, Phase, State};
-use tv_faces::{TextFace, natural, rect_at};
+use tv_faces::{PiecedFace, PiecedText, natural, rect_at};
 use tv_model::{Id, Kind, Node, Record};
 use tv_palette::Role;
 use tv_valid::Chars;
@@ -26,7 +26,7 @@ pub struct StaticText {
     y: i32,
     w: i32,
     h: i32,
-    text: Chars,
+    text: PiecedText,
     is_shown: bool,
 }
 
@@ -54,16 +54,19 @@ impl StaticText {
         ensures wrong { IsErrOf result ControlFault.WrongKind ↔ (is_text node.now.kind ≡ false) }
     {
         match &node.kind {
-            Kind::Text { h, text } => Ok(StaticText {
-                id: node.id,
-                depth: node.depth,
-                x: node.x,
-                y: node.y,
-                w: node.w,
-                h: *h,
-                text: Chars::from_slice(alloc, text.as_slice())?,
-                is_shown: true,
-            }),
+            Kind::Text { h, text } => {
+                let text = Chars::from_slice(alloc, text.as_slice())?;
+                Ok(StaticText {
+                    id: node.id,
+                    depth: node.depth,
+                    x: node.x,
+                    y: node.y,
+                    w: node.w,
+                    h: *h,
+                    text: PiecedText::new(alloc, text)?,
+                    is_shown: true,
+                })
+            }
             _ => Err(ControlFault::WrongKind),
         }
     }
@@ -105,15 +108,16 @@ impl View for StaticText {
             return;
         }
         let bounds = rect_at(&self.x, &self.y, &self.w, &self.h);
-        let face = TextFace {
-            text: self.text.as_slice(),
+        let face = PiecedFace {
+            text: &self.text,
             attr: Role::StaticText(env.owner).attr(env.chain),
         };
-        face.lay(
+        lay(
             screen,
             canvas.sub(bounds),
             natural(&self.w),
             natural(&self.h),
+            &face,
         );
     }
 
@@ -150,7 +154,7 @@ impl View for StaticText {
 
     fn is_fresh(&self, node: &Node) -> bool {
         let is_text = match &node.kind {
-            Kind::Text { h, text } => *h == self.h && text.is(&self.text),
+            Kind::Text { h, text } => *h == self.h && text.is(self.text.chars()),
             _ => false,
         };
         is_text

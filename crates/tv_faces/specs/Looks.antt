@@ -1,5 +1,6 @@
 -- How the code's faces name what the definitions of faces speak of.
-use Rattle.std.specs.Prelude.{◌≡◌, ℕ, List, [], ◌∷◌, Option, Some, None, pos, ◌+ℤ◌}
+use Rattle.std.specs.Prelude.{◌≡◌, ℕ, List, [], ◌∷◌, Option, Some, None, map, pos, ◌+ℤ◌}
+use Rattle.tv_cells.specs.Glyph.{shown_char}
 use Rattle.tv_cells.specs.declared.canvas.Canvas.{Canvas}
 use Rattle.tv_faces.specs.declared.look.ButtonLook.{ButtonLook as SeenButton}
 use Rattle.tv_faces.specs.declared.look.FrameLook.{FrameLook as SeenFrame}
@@ -21,6 +22,10 @@ pieces_left (Some text) = pieces_of text
 -- the first piece of a text, and what follows its line end
 abbrev pub Splits : List ℕ → List ℕ → Option (List ℕ) → Type 0
 Splits text first left = pieces_of text ≡ first ∷ pieces_left left
+
+-- the pieces of a text as a screen shows them
+abbrev pub shown_pieces : List ℕ → List (List ℕ)
+shown_pieces text = map (map shown_char) (pieces_of text)
 
 -- the canvas with its origin so many rows below
 abbrev pub canvas_below : Canvas → ℕ → Canvas

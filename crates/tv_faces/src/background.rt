@@ -14,6 +14,10 @@ impl Face for Background {
     fn at(&self, _x: u32, _y: u32) -> Cell {
         Cell::shown('.', 0x71)
     }
+
+    fn row(&self, _y: u32, _from: u32, cells: &mut [Cell]) {
+        cells.fill(Cell::shown('.', 0x71));
+    }
 }
 
 /// The menu bar without menus, and the status line without items.
@@ -27,5 +31,9 @@ impl Face for EmptyBar {
 
     fn at(&self, _x: u32, _y: u32) -> Cell {
         Cell::space(0x70)
+    }
+
+    fn row(&self, _y: u32, _from: u32, cells: &mut [Cell]) {
+        cells.fill(Cell::space(0x70));
     }
 }

@@ -1,6 +1,7 @@
 //! Frames of windows and dialogs.
 
-ghost use Rattle.std.specs.Prelude.{◌≡◌, ◌≤◌, ◌<◌, ◌^◌};
+ghost use Rattle.std.specs.Prelude.{◌≡◌, ◌≤◌, ◌<◌, ◌+◌, ◌^◌, if◌then◌else◌, length};
+ghost use Rattle.tv_cells.specs.Row.{IsRow};
 ghost use Rattle.tv_palette.specs.Attributes.{attribute_of};
 ghost use Rattle.tv_palette.specs.Chain.{coloured};
 ghost use Rattle.tv_palette.specs.Palettes.{colour_in, owners_of_part};
@@ -103,6 +104,24 @@ fn top_row(width: usize, title: &[char], look: FrameLook, x: usize) -> char
     }
 }
 
+// A row with one cell at both sides and another between them.
+fn between(width: u32, side: Cell, middle: Cell, from: u32, cells: &mut [Cell])
+    requires { from + length cells.old ≤ 2 ^ 32 }
+    ensures count { length cells.new ≡ length cells.old }
+    ensures cells { IsRow (λ x. if is_side width x then side else middle) from cells.new }
+{
+    cells.fill(middle);
+    if from == 0 && !cells.is_empty() {
+        cells[0] = side;
+    }
+    if width > from {
+        let last = (width - 1 - from) as usize;
+        if last < cells.len() {
+            cells[last] = side;
+        }
+    }
+}
+
 impl Face for Frame<'_> {
     ghost use Rattle.tv_model.specs.Screen.Faces.{frame_face};
     ghost use Rattle.tv_faces.specs.Looks.{frame_look_of};
@@ -123,6 +142,23 @@ impl Face for Frame<'_> {
             Cell::shown('|', look.edge)
         } else {
             Cell::space(look.inside)
+        }
+    }
+
+    fn row(&self, y: u32, from: u32, cells: &mut [Cell]) {
+        let look = self.look;
+        if y == 0 {
+            for (i, cell) in cells.iter_mut().enumerate() {
+                *cell = self.at(from + i as u32, y);
+            }
+        } else if y as usize + 1 == self.height as usize {
+            let line = if look.is_active { '=' } else { '-' };
+            let side = Cell::shown('+', look.edge);
+            let middle = Cell::shown(line, look.edge);
+            between(self.width, side, middle, from, cells);
+        } else {
+            let side = Cell::shown('|', look.edge);
+            between(self.width, side, Cell::space(look.inside), from, cells);
         }
     }
 }

@@ -36,6 +36,16 @@ impl Face for Piece<'_> {
         let _row = y;
         Cell::shown(text_char(self.text, x as usize), self.attr)
     }
+
+    fn row(&self, _y: u32, from: u32, cells: &mut [Cell]) {
+        let from = from as usize;
+        let count = self.text.len().saturating_sub(from).min(cells.len());
+        let (front, back) = cells.split_at_mut(count);
+        for (i, cell) in front.iter_mut().enumerate() {
+            *cell = Cell::shown(self.text[from + i], self.attr);
+        }
+        back.fill(Cell::shown(' ', self.attr));
+    }
 }
 
 fn line_end(text: &[char]) -> Option<usize>
@@ -45,8 +55,8 @@ fn line_end(text: &[char]) -> Option<usize>
     text.iter().position(|ch| *ch == '\n')
 }
 
-// The first piece of a text, and the text after its line end, if it has one.
-fn split(text: &[char]) -> (&[char], Option<&[char]>)
+/// The first piece of a text, and the text after its line end, if it has one.
+pub(crate) fn split(text: &[char]) -> (&[char], Option<&[char]>)
     ensures { Splits text.now result.0.now (option_copied result.1) }
 {
     match line_end(text) {
