@@ -54,15 +54,15 @@ impl StaticText {
         ensures wrong { IsErrOf result ControlFault.WrongKind ↔ (is_text node.now.kind ≡ false) }
     {
         match &node.kind {
-            Kind::Text { h, text } => {
-                let text = Chars::from_slice(alloc, text.as_slice())?;
+            Kind::Text(declared) => {
+                let text = Chars::from_slice(alloc, declared.text.as_slice())?;
                 Ok(StaticText {
                     id: node.id,
                     depth: node.depth,
                     x: node.x,
                     y: node.y,
                     w: node.w,
-                    h: *h,
+                    h: declared.h,
                     text: PiecedText::new(alloc, text)?,
                     is_shown: true,
                 })
@@ -153,11 +153,11 @@ impl View for StaticText {
     }
 
     fn is_fresh(&self, node: &Node) -> bool {
-        let is_text = match &node.kind {
-            Kind::Text { h, text } => *h == self.h && text.is(self.text.chars()),
+        let is_same_text = match &node.kind {
+            Kind::Text(declared) => declared.h == self.h && declared.text.is(self.text.chars()),
             _ => false,
         };
-        is_text
+        is_same_text
             && self.is_shown
             && node.id == self.id
             && node.depth == self.depth

@@ -2,7 +2,7 @@
 
 ghost use Rattle.std.specs.Prelude.{◌≡◌, IfOk, [], map, slice_index_or};
 ghost use Rattle.tv_cells.specs.Glyph.{shown_char};
-ghost use Rattle.tv_model.specs.Faces.{pieces_of, text_row};
+ghost use Rattle.tv_model.specs.Screen.Faces.{pieces_of, text_row};
 ghost use Rattle.tv_faces.specs.Looks.{shown_pieces};
 
 use crate::static_text::split;
@@ -77,7 +77,7 @@ pub struct PiecedFace<'a> {
 }
 
 impl Face for PiecedFace<'_> {
-    ghost use Rattle.tv_model.specs.Faces.{text_face};
+    ghost use Rattle.tv_model.specs.Screen.Faces.{text_face};
 
     ghost face = { λ f. text_face f.text.now f.attr };
 

@@ -15,7 +15,7 @@ fn declares_leaf<V: View>(node: &Node, view: &V) -> bool
     ensures { IsTrue result ↔ (part_of node.now ≡ LeafAt (V.meaning view.now)) }
 {
     match &node.kind {
-        Kind::Pane { .. } => false,
+        Kind::Pane(_) => false,
         _ => view.is_fresh(node),
     }
 }
@@ -24,7 +24,7 @@ fn declares_pane(node: &Node, bounds: Rect) -> bool
     ensures { IsTrue result ↔ (part_of node.now ≡ PaneAt bounds) }
 {
     match &node.kind {
-        Kind::Pane { h, .. } => is_rect(bounds, &node.x, &node.y, &node.w, h),
+        Kind::Pane(pane) => is_rect(bounds, &node.x, &node.y, &node.w, &pane.h),
         _ => false,
     }
 }
@@ -45,7 +45,8 @@ fn is_body(bounds: Rect, owner: &Node) -> bool
     ensures { IsTrue result ↔ (IsTrue (has_body owner.now.kind) × (body_bounds owner.now ≡ bounds)) }
 {
     match &owner.kind {
-        Kind::Window { h, .. } | Kind::Dialog { h, .. } => is_rect(bounds, &0, &0, &owner.w, h),
+        Kind::Window(head) => is_rect(bounds, &0, &0, &owner.w, &head.h),
+        Kind::Dialog(head) => is_rect(bounds, &0, &0, &owner.w, &head.h),
         _ => false,
     }
 }

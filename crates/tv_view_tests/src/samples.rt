@@ -8,7 +8,7 @@ use std::alloc::Global;
 use std::test::Fail;
 use tv_cells::{Point, Rect};
 use tv_group::{Group, Member};
-use tv_model::{Id, Kind, Node};
+use tv_model::{Id, Kind, Node, StaticText};
 use tv_valid::Chars;
 
 /// The characters of a short text.
@@ -34,7 +34,7 @@ pub fn text_node(alloc: Global, width: i32, text: &str) -> Result<Node, Fail>
         x: 1,
         y: 1,
         w: width,
-        kind: Kind::Text { h: 1, text },
+        kind: Kind::Text(StaticText { h: 1, text }),
     })
 }
 

@@ -14,7 +14,7 @@ use tv_controls::StaticText;
 use tv_event::CommandSet;
 use tv_faces::{Background, EmptyBar};
 use tv_group::{Group, Member};
-use tv_model::{Id, Kind, Node};
+use tv_model::{Id, Kind, Node, WindowHead};
 use tv_palette::{Chain, Owner};
 use tv_valid::Chars;
 use tv_view::Env;
@@ -58,12 +58,12 @@ fn first_node(alloc: Global) -> Result<Node, Fail>
         x: 1,
         y: 1,
         w: 16,
-        kind: Kind::Window {
+        kind: Kind::Window(WindowHead {
             name: Chars::new(alloc),
             h: 4,
             number: 1,
             title,
-        },
+        }),
     })
 }
 
@@ -77,12 +77,12 @@ fn second_node(alloc: Global) -> Result<Node, Fail>
         x: 8,
         y: 3,
         w: 20,
-        kind: Kind::Window {
+        kind: Kind::Window(WindowHead {
             name: Chars::new(alloc),
             h: 4,
             number: 2,
             title,
-        },
+        }),
     })
 }
 

@@ -12,7 +12,7 @@ use tv_cells::{Canvas, Point, Rect, Screen};
 use tv_controls::{ControlFault, StaticText};
 use tv_event::{Command, CommandSet, Event, Key, Options, Phase, State};
 use tv_group::{Group, Member, TooDeep};
-use tv_model::{Id, Kind, Node, Record};
+use tv_model::{Id, Kind, Node, Pane, Record};
 use tv_palette::{Chain, Owner};
 use tv_view::{Env, Reaction, Rules, View};
 
@@ -181,10 +181,10 @@ fn pane_node(alloc: Global) -> Result<Node, Fail>
         x: 1,
         y: 1,
         w: 6,
-        kind: Kind::Pane {
+        kind: Kind::Pane(Pane {
             name: chars(alloc, "p")?,
             h: 4,
-        },
+        }),
     })
 }
 

@@ -12,7 +12,7 @@ use Rattle.tv_cells.specs.declared.rect.Rect.{Rect}
 use Rattle.tv_cells.specs.declared.canvas.Canvas.{Canvas}
 use Rattle.tv_cells.proofs.Rectangles.{in_cut, point_is}
 use Rattle.tv_model.specs.Screen.Faces.{frame_look, frame_role, static_text}
-use Rattle.tv_model.specs.Description.Rectangles.{desktop, interior, place_of_node, rect}
+use Rattle.tv_model.specs.Description.Rectangles.{corner_of, desktop, interior, place_of_node, rect}
 use Rattle.tv_model.specs.Screen.Layers.{canvas_at, window_view_layers}
 use Rattle.tv_model.specs.Controls.Meaning.{fresh}
 use Rattle.tv_model.specs.Description.Numbers.{natural}
@@ -139,30 +139,30 @@ module _ (env : Env) (lent : IsOfWindow env) (d : Desc) (window : Window) (h : �
   view_drawn n height text kind = rw kind refl
 
   view_declared : (n : Node) (height : ℤ) (text : List ℕ) → n.kind ≡ kinds.Text (record { h = height; text = text })
-      → window_view_layers d window n ≡ Painted (canvas_at (desktop d) (window.node.x +ℤ n.x) (window.node.y +ℤ n.y)) (natural n.w) (natural height) (static_text owners.Window text) ∷ []
+      → window_view_layers d (corner_of window.node) n ≡ Painted (canvas_at (desktop d) (window.node.x +ℤ n.x) (window.node.y +ℤ n.y)) (natural n.w) (natural height) (static_text owners.Window text) ∷ []
   view_declared n height text kind = rw kind refl
 
   place_is : (n : Node) (height : ℤ) (text : List ℕ) → n.kind ≡ kinds.Text (record { h = height; text = text }) → place_of_node n ≡ rect n.x n.y n.w height
   place_is n height text kind = rw kind refl
 
-  view_same : (n : Node) → IsTextInside window.node n → IsSame (leaf_layers env body_of_window (fresh n)) (window_view_layers d window n)
+  view_same : (n : Node) → IsTextInside window.node n → IsSame (leaf_layers env body_of_window (fresh n)) (window_view_layers d (corner_of window.node) n)
   view_same n is =
       let within : (p q : ℤ) → IsIn (rect n.x n.y n.w is.height) p q → IsIn (rect (pos 1) (pos 1) (window.node.w -ℤ pos 2) (h -ℤ pos 2)) p q = λ p q i. subst (λ r. IsIn r p q) tall (is.inside p q (subst (λ r. IsIn r p q) (sym (place_is n is.height is.text is.kind)) i)) in
       rw (view_drawn n is.height is.text is.kind, view_declared n is.height is.text is.kind)
       (text_same d window.node.x window.node.y window.node.w h n.x n.y n.w is.height within (static_text_face env is.text) (static_text owners.Window is.text) (text_face_same env lent is.text))
 
-  views_step : (n : Node) (ns : List Node) → flat_map (window_view_layers d window) (reverse (n ∷ ns)) ≡ flat_map (window_view_layers d window) (reverse ns) ++ window_view_layers d window n
+  views_step : (n : Node) (ns : List Node) → flat_map (window_view_layers d (corner_of window.node)) (reverse (n ∷ ns)) ≡ flat_map (window_view_layers d (corner_of window.node)) (reverse ns) ++ window_view_layers d (corner_of window.node) n
   views_step n ns =
-      ap (flat_map (window_view_layers d window)) (reverse-append (n ∷ []) ns)
-      ∙ (flat_map-append (window_view_layers d window) (reverse ns) (n ∷ []) ∙ ap (λ t. flat_map (window_view_layers d window) (reverse ns) ++ t) (append_nil (window_view_layers d window n)))
+      ap (flat_map (window_view_layers d (corner_of window.node))) (reverse-append (n ∷ []) ns)
+      ∙ (flat_map-append (window_view_layers d (corner_of window.node)) (reverse ns) (n ∷ []) ∙ ap (λ t. flat_map (window_view_layers d (corner_of window.node)) (reverse ns) ++ t) (append_nil (window_view_layers d (corner_of window.node) n)))
     where
       append_nil : (xs : List Layer) → xs ++ [] ≡ xs
       append_nil [] = refl
       append_nil (x ∷ xs) = ap (λ t. x ∷ t) (append_nil xs)
 
-  pub views_same : (ns : List Node) → All (IsTextInside window.node) ns → IsSame (fresh_layers env body_of_window ns) (flat_map (window_view_layers d window) (reverse ns))
+  pub views_same : (ns : List Node) → All (IsTextInside window.node) ns → IsSame (fresh_layers env body_of_window ns) (flat_map (window_view_layers d (corner_of window.node)) (reverse ns))
   views_same [] texts = same_refl []
   views_same (n ∷ ns) texts =
       rw (views_step n ns)
-      (same_append (fresh_layers env body_of_window ns) (flat_map (window_view_layers d window) (reverse ns)) (leaf_layers env body_of_window (fresh n)) (window_view_layers d window n)
+      (same_append (fresh_layers env body_of_window ns) (flat_map (window_view_layers d (corner_of window.node)) (reverse ns)) (leaf_layers env body_of_window (fresh n)) (window_view_layers d (corner_of window.node) n)
       (views_same ns (All-tail (IsTextInside window.node) n ns texts)) (view_same n (All-head (IsTextInside window.node) n ns texts)))

@@ -1,7 +1,8 @@
 -- Declared windows, one over the other.
-use Rattle.std.proofs.Common.{◌≡◌, ℕ, ℤ, pos, neg_ℤ, ◌-ℤ◌, ◌≤ℤ◌, Bool, true, false, ◌&&◌, All, List, [], ◌∷◌, ◌++◌, flat_map, length, reverse, Some, None, refl, sym, ap, ◌∙◌, arith, subst, append_assoc}
+use Rattle.std.proofs.Common.{◌≡◌, IsTrue, ℕ, ℤ, pos, neg_ℤ, ◌-ℤ◌, ◌≤ℤ◌, Bool, true, false, ◌&&◌, All, List, [], ◌∷◌, ◌++◌, flat_map, length, reverse, Some, None, refl, sym, ap, ◌∙◌, arith, subst, append_assoc}
 use Rattle.std.proofs.lemmas.Int.{ints}
 use Rattle.std.proofs.lemmas.List.Elements.{All-head, All-tail, All-cons, All-nil}
+use Rattle.std.proofs.lemmas.Bool.{false≢true}
 use Rattle.std.specs.Int.Signed.{le_z}
 use Rattle.tv_cells.specs.Canvas.{sub}
 use Rattle.tv_cells.specs.Layers.{Layer, Painted, Shadow, Shows}
@@ -11,17 +12,20 @@ use Rattle.tv_cells.specs.declared.rect.Point.{Point}
 use Rattle.tv_cells.specs.declared.rect.Rect.{Rect}
 use Rattle.tv_cells.specs.declared.canvas.Canvas.{Canvas}
 use Rattle.tv_model.specs.Screen.Faces.{FaceOf, FrameLook, frame_face, frame_look}
-use Rattle.tv_model.specs.Description.Rectangles.{interior, rect}
+use Rattle.tv_model.specs.Description.Heads.{window_head}
+use Rattle.tv_model.specs.Description.Rectangles.{corner_of, interior, rect}
 use Rattle.tv_model.specs.Screen.Layers.{window_view_layers, stack_layers as declared_layers, window_layers as declared_window}
 use Rattle.tv_model.specs.Controls.Meaning.{Leaf, IsSmall, IsSmallRect}
-use Rattle.tv_model.specs.Description.Nodes.{height_of, is_pane}
+use Rattle.tv_model.specs.Machine.State.{OpenWindow}
+use Rattle.tv_model.proofs.HeadLemmas.{window_head_of-Window}
+use Rattle.tv_model.specs.Description.Nodes.{height_of, is_pane, is_window}
 use Rattle.tv_model.specs.Description.Numbers.{natural}
 use Rattle.tv_model.specs.declared.desc.Desc.{Desc}
 use Rattle.tv_model.specs.declared.desc.Window.{Window}
-use Rattle.tv_model.specs.declared.node.Id.{Id}
 use Rattle.tv_model.specs.declared.node.Node.{Node}
 use Rattle.tv_model.specs.declared.kind.Kind.{Kind}
 use Rattle.tv_model.specs.declared.kind.Kind.TheVariants as kinds
+use Rattle.tv_model.specs.declared.kind.WindowHead.{WindowHead}
 use Rattle.tv_palette.specs.Attributes.{attribute_of}
 use Rattle.tv_palette.specs.Palettes.{colour_in}
 use Rattle.tv_palette.specs.declared.role.Owner.TheVariants as owners
@@ -32,7 +36,7 @@ use Rattle.tv_group.specs.Opened.{opened}
 use Rattle.tv_group.specs.Outline.{IsFreshBody}
 use Rattle.tv_group.proofs.FreshLeaves.{IsLeafNode, fresh_layers, group_drawn}
 use Rattle.tv_window.specs.DeclaredWindows.{AreDeclared, IsOfWindow, IsTextInside, desktop_canvas}
-use Rattle.tv_window.specs.Head.{WindowHead, bounds_of, declared_head}
+use Rattle.tv_window.specs.Head.{KeptHead, bounds_of, declared_head, kept_head}
 use Rattle.tv_window.specs.Window.{body_of, frame_layer, head_of, window_layers}
 use Rattle.tv_window.specs.declared.window.WindowOf.{WindowOf}
 use Rattle.tv_window.proofs.Flat.{body, corner, frame_same, inner, look_same, shadows_same, views_same}
@@ -40,31 +44,24 @@ use Rattle.tv_window.proofs.Same.{IsSame, lays_same, same_append}
 
 -- ---- what a head says of its node
 
-pub record IsHead (node : Node) (head : WindowHead) : Type 0 where
-  pub name : List ℕ
-  pub h : ℤ
-  pub number : ℤ
-  pub title : List ℕ
-  pub kind : node.kind ≡ kinds.Window (record { name = name; h = h; number = number; title = title })
-  pub is : head ≡ record { id = node.id; x = node.x; y = node.y; w = node.w; h = h; number = number; title = title }
+-- the head of a window's node, and the height that it gives
+pub record IsHead (window : Window) (head : KeptHead) : Type 0 where
+  pub tall : height_of window.node.kind ≡ (window_head window).h
+  pub is : head ≡ kept_head window.node (window_head window)
 
 some_is : {A : Type 0} (a b : A) → Some a ≡ Some b → a ≡ b
 some_is a b e = cc
 
-head_is : (node : Node) (head : WindowHead) → Some head ≡ declared_head node → IsHead node head
-head_is node head same = by_kind node.kind refl
+head_is : (window : Window) (head : KeptHead) → Some head ≡ declared_head window.node → IsHead window head
+head_is window head same = by_kind window.node.kind window.own_kind refl
   where
-    by_kind : (k : Kind) → node.kind ≡ k → IsHead node head
-    by_kind (kinds.Window own) e = record { name = own.name; h = own.h; number = own.number; title = own.title; kind = e; is = some_is head _ (rw e at same) }
-    by_kind (kinds.Dialog own) e = absurd (let f : Some head ≡ None = rw e at same in cc)
-    by_kind (kinds.Text shown) e = absurd (let f : Some head ≡ None = rw e at same in cc)
-    by_kind (kinds.Label label) e = absurd (let f : Some head ≡ None = rw e at same in cc)
-    by_kind (kinds.Button button) e = absurd (let f : Some head ≡ None = rw e at same in cc)
-    by_kind (kinds.Input input) e = absurd (let f : Some head ≡ None = rw e at same in cc)
-    by_kind (kinds.CheckBoxes boxes) e = absurd (let f : Some head ≡ None = rw e at same in cc)
-    by_kind (kinds.RadioButtons radios) e = absurd (let f : Some head ≡ None = rw e at same in cc)
-    by_kind (kinds.List list) e = absurd (let f : Some head ≡ None = rw e at same in cc)
-    by_kind (kinds.Pane pane) e = absurd (let f : Some head ≡ None = rw e at same in cc)
+    by_kind : (k : Kind) (own : IsTrue (is_window k)) → window.node.kind ≡ k → IsHead window head
+    by_kind (kinds.Window own_head) own e =
+        let told = window_head_of-Window window.node.kind window.own_kind own_head e in record {
+          tall = rw (told, e) refl;
+          is = rw told (some_is head _ (rw e at same));
+        }
+    by_kind _ own e = absurd (false≢true own)
 
 -- ---- small origins are near
 
@@ -106,7 +103,7 @@ module _ {V : Type 0} (look : V → Leaf) (env : Env) (lent : IsOfWindow env) (d
       group_drawn look env (sub (desktop_canvas d) (bounds_of (head_of window))) (body_of window) views (leaf_nodes owner views texts) near fresh.parts
       ∙ ap (λ c. fresh_layers env c views) place
 
-  module _ (window : WindowOf V) (declared : Window) (is : IsHead declared.node (head_of window)) (fresh : IsFreshBody look declared.node declared.views (body_of window))
+  module _ (window : WindowOf V) (declared : Window) (is : IsHead declared (head_of window)) (fresh : IsFreshBody look declared.node declared.views (body_of window))
       (texts : All (IsTextInside declared.node) declared.views) (small : IsSmallRect (bounds_of (head_of window))) where
     abbrev x : ℤ
     x = declared.node.x
@@ -117,67 +114,67 @@ module _ {V : Type 0} (look : V → Leaf) (env : Env) (lent : IsOfWindow env) (d
     abbrev w : ℤ
     w = declared.node.w
 
-    tall : height_of declared.node.kind ≡ is.h
-    tall = rw is.kind refl
+    abbrev own : WindowHead
+    own = window_head declared
 
-    placed : bounds_of (head_of window) ≡ rect x y w is.h
+    placed : bounds_of (head_of window) ≡ rect x y w own.h
     placed = ap bounds_of is.is
 
     abbrev face_in : FrameLook → FaceOf
-    face_in frame = frame_face (natural w) (natural is.h) is.title frame
+    face_in frame = frame_face (natural w) (natural own.h) own.title frame
 
     abbrev views : List Layer
-    views = flat_map (window_view_layers d declared) (reverse declared.views)
+    views = flat_map (window_view_layers d (corner_of declared.node)) (reverse declared.views)
 
     drawn : window_layers look env (desktop_canvas d) window ++ shadow_of window ∷ []
-        ≡ (fresh_layers env (body d x y w is.h) declared.views
-        ++ Painted (inner d x y w is.h) (natural w) (natural is.h) (face_in (frame_look (colour_in env.chain.now) owners.Window (natural is.number) env.is_active)) ∷ [])
-        ++ Shadow (desktop_canvas d) (rect x y w is.h) ∷ []
+        ≡ (fresh_layers env (body d x y w own.h) declared.views
+        ++ Painted (inner d x y w own.h) (natural w) (natural own.h) (face_in (frame_look (colour_in env.chain.now) owners.Window (natural own.number) env.is_active)) ∷ [])
+        ++ Shadow (desktop_canvas d) (rect x y w own.h) ∷ []
     drawn =
-        ap (λ t. (t ++ frame_layer env (desktop_canvas d) (head_of window) ∷ []) ++ shadow_of window ∷ []) (leaves_drawn declared.node declared.views is.h window fresh tall placed small texts)
-        ∙ ap (λ head. (fresh_layers env (body d x y w is.h) declared.views ++ frame_layer env (desktop_canvas d) head ∷ []) ++ Shadow (desktop_canvas d) (bounds_of head) ∷ []) is.is
+        ap (λ t. (t ++ frame_layer env (desktop_canvas d) (head_of window) ∷ []) ++ shadow_of window ∷ []) (leaves_drawn declared.node declared.views own.h window fresh is.tall placed small texts)
+        ∙ ap (λ head. (fresh_layers env (body d x y w own.h) declared.views ++ frame_layer env (desktop_canvas d) head ∷ []) ++ Shadow (desktop_canvas d) (bounds_of head) ∷ []) is.is
 
-    shown : (a : Bool) → declared_window d a declared
-        ≡ views ++ (Painted (corner d x y w is.h) (natural w) (natural is.h) (face_in (frame_look attribute_of owners.Window (natural is.number) a)) ∷ Shadow (corner d x y w is.h) (sized (natural w) (natural is.h)) ∷ [])
-    shown a = rw is.kind refl
+    shown : (a : Bool) → declared_window d a (corner_of declared.node) declared
+        ≡ views ++ (Painted (corner d x y w own.h) (natural w) (natural own.h) (face_in (frame_look attribute_of owners.Window (natural own.number) a)) ∷ Shadow (corner d x y w own.h) (sized (natural w) (natural own.h)) ∷ [])
+    shown a = refl
 
-    pub window_same : IsSame (window_layers look env (desktop_canvas d) window ++ shadow_of window ∷ []) (declared_window d env.is_active declared)
+    pub window_same : IsSame (window_layers look env (desktop_canvas d) window ++ shadow_of window ∷ []) (declared_window d env.is_active (corner_of declared.node) declared)
     window_same =
-        let seen = frame_look (colour_in env.chain.now) owners.Window (natural is.number) env.is_active in
-        let told = frame_look attribute_of owners.Window (natural is.number) env.is_active in
-        let inside : interior declared.node ≡ rect (pos 1) (pos 1) (w -ℤ pos 2) (is.h -ℤ pos 2) = ap (λ k. rect (pos 1) (pos 1) (w -ℤ pos 2) (k -ℤ pos 2)) tall in
-        let framed = frame_same d x y w is.h (face_in seen) (face_in told) (ap face_in (look_same env lent (natural is.number) env.is_active)) in
-        let text = views_same env lent d declared is.h inside declared.views texts in
-        rw (drawn, shown env.is_active, ← append_assoc views (Painted (corner d x y w is.h) (natural w) (natural is.h) (face_in told) ∷ []) (Shadow (corner d x y w is.h) (sized (natural w) (natural is.h)) ∷ []))
-        (same_append _ _ _ _ (same_append _ _ _ _ text framed) (shadows_same d x y w is.h))
+        let seen = frame_look (colour_in env.chain.now) owners.Window (natural own.number) env.is_active in
+        let told = frame_look attribute_of owners.Window (natural own.number) env.is_active in
+        let inside : interior declared.node ≡ rect (pos 1) (pos 1) (w -ℤ pos 2) (own.h -ℤ pos 2) = ap (λ k. rect (pos 1) (pos 1) (w -ℤ pos 2) (k -ℤ pos 2)) is.tall in
+        let framed = frame_same d x y w own.h (face_in seen) (face_in told) (ap face_in (look_same env lent (natural own.number) env.is_active)) in
+        let text = views_same env lent d declared own.h inside declared.views texts in
+        rw (drawn, shown env.is_active, ← append_assoc views (Painted (corner d x y w own.h) (natural w) (natural own.h) (face_in told) ∷ []) (Shadow (corner d x y w own.h) (sized (natural w) (natural own.h)) ∷ []))
+        (same_append _ _ _ _ (same_append _ _ _ _ text framed) (shadows_same d x y w own.h))
 
   -- ---- one over the other
 
-  pub none_declared : (ids : List Id) (windows : List (WindowOf V)) (p : Picture) → length windows ≡ 0 → AreDeclared look d ids windows → Lays (declared_layers d env.is_active ids) p p
+  pub none_declared : (stack : List OpenWindow) (windows : List (WindowOf V)) (p : Picture) → length windows ≡ 0 → AreDeclared look d stack windows → Lays (declared_layers d env.is_active stack) p p
   none_declared [] [] p e are = lays_none p
-  none_declared (i ∷ ids) [] p e are = absurd are
-  none_declared ids (window ∷ windows) p e are = absurd cc
+  none_declared (o ∷ stack) [] p e are = absurd are
+  none_declared stack (window ∷ windows) p e are = absurd cc
 
-  stack_declared : (ids : List Id) (front : WindowOf V) (behind : List (WindowOf V)) (old mid after new : Picture) → AreDeclared look d ids (front ∷ behind)
+  stack_declared : (stack : List OpenWindow) (front : WindowOf V) (behind : List (WindowOf V)) (old mid after new : Picture) → AreDeclared look d stack (front ∷ behind)
       → IsSmallRect (bounds_of (head_of front))
-      → ((rest : List Id) → AreDeclared look d rest behind → Lays (declared_layers d false rest) old mid)
+      → ((rest : List OpenWindow) → AreDeclared look d rest behind → Lays (declared_layers d false rest) old mid)
       → Lays (shadow_of front ∷ []) mid after → Lays (window_layers look env (desktop_canvas d) front) after new
-      → Lays (declared_layers d env.is_active ids) old new
+      → Lays (declared_layers d env.is_active stack) old new
   stack_declared [] front behind old mid after new are small below shadow here = absurd are
-  stack_declared (i ∷ ids) front behind old mid after new are small below shadow here =
+  stack_declared (o ∷ stack) front behind old mid after new are small below shadow here =
       let one = are.0 in
-      let window = lays_same _ _ mid new (window_same front one.declared (head_is one.declared.node (head_of front) one.fresh.head) one.fresh.body one.texts small)
+      let window = lays_same _ _ mid new (window_same front one.declared (head_is one.declared (head_of front) one.fresh.head) one.fresh.body one.texts small)
       (lays_then (shadow_of front ∷ []) (window_layers look env (desktop_canvas d) front) mid after new shadow here) in
-      rw one.named (lays_then (declared_layers d false ids) (declared_window d env.is_active one.declared) old mid new (below ids are.1) window)
+      rw (one.named, one.corner) (lays_then (declared_layers d false stack) (declared_window d env.is_active (corner_of one.declared.node) one.declared) old mid new (below stack are.1) window)
 
   -- as they were drawn through a canvas, with the shadow of a rectangle
-  pub stack_drawn : (ids : List Id) (windows : List (WindowOf V)) (front : WindowOf V) (behind : List (WindowOf V)) (c : Canvas) (r : Rect) (old mid after new : Picture)
-      → windows ≡ front ∷ behind → c ≡ desktop_canvas d → r ≡ bounds_of (head_of front) → IsSmallRect r → AreDeclared look d ids windows
-      → ((rest : List Id) → AreDeclared look d rest behind → Lays (declared_layers d false rest) old mid)
+  pub stack_drawn : (stack : List OpenWindow) (windows : List (WindowOf V)) (front : WindowOf V) (behind : List (WindowOf V)) (c : Canvas) (r : Rect) (old mid after new : Picture)
+      → windows ≡ front ∷ behind → c ≡ desktop_canvas d → r ≡ bounds_of (head_of front) → IsSmallRect r → AreDeclared look d stack windows
+      → ((rest : List OpenWindow) → AreDeclared look d rest behind → Lays (declared_layers d false rest) old mid)
       → IsAlike mid after → ((layers : List Layer) → Shows layers mid → Shows (Shadow c r ∷ layers) after)
       → Lays (window_layers look env c front) after new
-      → Lays (declared_layers d env.is_active ids) old new
-  stack_drawn ids windows front behind c r old mid after new split seen bounds small are below size shows here =
-      stack_declared ids front behind old mid after new (subst (AreDeclared look d ids) split are) (subst IsSmallRect bounds small) below
+      → Lays (declared_layers d env.is_active stack) old new
+  stack_drawn stack windows front behind c r old mid after new split seen bounds small are below size shows here =
+      stack_declared stack front behind old mid after new (subst (AreDeclared look d stack) split are) (subst IsSmallRect bounds small) below
       (record { size = size; shows = λ layers shown. subst (λ s. Shows (Shadow (desktop_canvas d) s ∷ layers) after) bounds (subst (λ k. Shows (Shadow k r ∷ layers) after) seen (shows layers shown)) })
       (subst (λ k. Lays (window_layers look env k front) after new) seen here)

@@ -2,12 +2,12 @@
 use Rattle.std.specs.Prelude.{◌≡◌, ℤ, ℕ, All, List, [], ◌∷◌, Some, pos}
 use Rattle.tv_cells.specs.Rectangle.{IsIn}
 use Rattle.tv_cells.specs.declared.canvas.Canvas.{Canvas}
-use Rattle.tv_model.specs.Description.Rectangles.{desktop, interior, place_of_node}
+use Rattle.tv_model.specs.Description.Rectangles.{corner_of, desktop, interior, place_of_node}
 use Rattle.tv_model.specs.Screen.Layers.{canvas_at, window_of}
 use Rattle.tv_model.specs.Controls.Meaning.{Leaf}
+use Rattle.tv_model.specs.Machine.State.{OpenWindow}
 use Rattle.tv_model.specs.declared.desc.Desc.{Desc}
 use Rattle.tv_model.specs.declared.desc.Window.{Window}
-use Rattle.tv_model.specs.declared.node.Id.{Id}
 use Rattle.tv_model.specs.declared.node.Node.{Node}
 use Rattle.tv_model.specs.declared.kind.Kind.TheVariants as kinds
 use Rattle.tv_palette.specs.Chain.{coloured}
@@ -24,19 +24,20 @@ pub record IsTextInside (owner node : Node) : Type 0 where
   pub kind : node.kind ≡ kinds.Text (record { h = height; text = text })
   pub inside : (x y : ℤ) → IsIn (place_of_node node) x y → IsIn (interior owner) x y
 
--- the window of the description that has the id, with static texts inside its frame
-pub record IsDeclared {V : Type 0} (look : V → Leaf) (d : Desc) (i : Id) (window : WindowOf V) : Type 0 where
+-- an open window of the description, where it is declared, with static texts inside its frame
+pub record IsDeclared {V : Type 0} (look : V → Leaf) (d : Desc) (o : OpenWindow) (window : WindowOf V) : Type 0 where
   pub declared : Window
-  pub named : window_of d i ≡ Some declared
+  pub named : window_of d o.id ≡ Some declared
+  pub corner : o.origin ≡ corner_of declared.node
   pub fresh : IsFreshWindow look declared.node declared.views window
   pub texts : All (IsTextInside declared.node) declared.views
 
--- those of these ids, one for one
-abbrev pub AreDeclared : {V : Type 0} → (V → Leaf) → Desc → List Id → List (WindowOf V) → Type 0
+-- these open windows, one for one
+abbrev pub AreDeclared : {V : Type 0} → (V → Leaf) → Desc → List OpenWindow → List (WindowOf V) → Type 0
 AreDeclared look d [] [] = Unit {0}
 AreDeclared look d [] (window ∷ windows) = ⊥
-AreDeclared look d (i ∷ ids) [] = ⊥
-AreDeclared look d (i ∷ ids) (window ∷ windows) = IsDeclared look d i window × AreDeclared look d ids windows
+AreDeclared look d (o ∷ behind) [] = ⊥
+AreDeclared look d (o ∷ behind) (window ∷ windows) = IsDeclared look d o window × AreDeclared look d behind windows
 
 -- the desktop, seen from the corner of the screen
 abbrev pub desktop_canvas : Desc → Canvas

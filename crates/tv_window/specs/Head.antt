@@ -5,10 +5,12 @@ use Rattle.tv_model.specs.declared.node.Id.{Id}
 use Rattle.tv_model.specs.declared.node.Node.{Node}
 use Rattle.tv_model.specs.declared.kind.Kind.{Kind}
 use Rattle.tv_model.specs.declared.kind.Kind.TheVariants as kinds
+use Rattle.tv_model.specs.declared.kind.WindowHead.{WindowHead}
 use Rattle.tv_model.specs.Description.Rectangles.{rect}
 use Rattle.tv_model.specs.Controls.Meaning.{IsSmallRect}
 
-pub record WindowHead : Type 0 where
+-- a window's rectangle, number and title
+pub record KeptHead : Type 0 where
   pub id : Id
   pub x : ℤ
   pub y : ℤ
@@ -17,19 +19,24 @@ pub record WindowHead : Type 0 where
   pub number : ℤ
   pub title : List ℕ
 
+-- what a window keeps of a node with this head
+abbrev pub kept_head : Node → WindowHead → KeptHead
+kept_head node head = record { id = node.id; x = node.x; y = node.y; w = node.w; h = head.h; number = head.number; title = head.title }
+
 -- that of a window's node, and none of another's
-abbrev pub declared_head : Node → Option WindowHead
+abbrev pub declared_head : Node → Option KeptHead
 declared_head node = head node.kind
   where
-    head : Kind → Option WindowHead
-    head (kinds.Window own) = Some (record { id = node.id; x = node.x; y = node.y; w = node.w; h = own.h; number = own.number; title = own.title })
+    head : Kind → Option KeptHead
+    head (kinds.Window own) = Some (kept_head node own)
     head _ = None
 
-abbrev pub bounds_of : WindowHead → Rect
+-- a window's rectangle on the screen
+abbrev pub bounds_of : KeptHead → Rect
 bounds_of head = rect head.x head.y head.w head.h
 
 -- a rectangle near the screen, one digit, and a title that fits
-pub record IsLimited (head : WindowHead) : Type 0 where
+pub record IsLimited (head : KeptHead) : Type 0 where
   pub bounds : IsSmallRect (bounds_of head)
   pub from : pos 0 ≤ℤ head.number
   pub to : head.number ≤ℤ pos 9

@@ -14,10 +14,10 @@ use Rattle.tv_palette.specs.Palettes.{colour_in}
 use Rattle.tv_palette.specs.declared.role.Owner.TheVariants as owners
 use Rattle.tv_view.specs.Drawing.{leaves_layers}
 use Rattle.tv_view.specs.declared.env.Env.{Env}
-use Rattle.tv_window.specs.Head.{WindowHead, declared_head, bounds_of}
+use Rattle.tv_window.specs.Head.{KeptHead, declared_head, bounds_of}
 use Rattle.tv_window.specs.declared.window.WindowOf.{WindowOf}
 
-abbrev pub head_of : {V : Type 0} → WindowOf V → WindowHead
+abbrev pub head_of : {V : Type 0} → WindowOf V → KeptHead
 head_of window = window.head
 
 abbrev pub body_of : {V : Type 0} → WindowOf V → GroupOf V
@@ -29,7 +29,7 @@ pub record IsFreshWindow {V : Type 0} (look : V → Leaf) (node : Node) (views :
   pub body : IsFreshBody look node views (body_of window)
 
 -- the frame with what it surrounds, in the window's rectangle
-abbrev pub frame_layer : Env → Canvas → WindowHead → Layer
+abbrev pub frame_layer : Env → Canvas → KeptHead → Layer
 frame_layer env c head = Painted (sub c (bounds_of head)) (natural head.w) (natural head.h)
     (frame_face (natural head.w) (natural head.h) head.title (frame_look (colour_in env.chain.now) owners.Window (natural head.number) env.is_active))
 

@@ -31,9 +31,9 @@ pub(crate) struct Head {
 }
 
 impl Model for Head {
-    ghost use Rattle.tv_window.specs.Head.{WindowHead, IsLimited};
+    ghost use Rattle.tv_window.specs.Head.{KeptHead, IsLimited};
 
-    ghost Value = { WindowHead };
+    ghost Value = { KeptHead };
 
     ghost view = { λ s. record { id = s.id; x = s.x; y = s.y; w = s.w; h = s.h; number = s.number; title = s.title } };
 
@@ -47,19 +47,14 @@ impl Head {
         ensures { result ≡ declared_head node.now }
     {
         match &node.kind {
-            Kind::Window {
-                h,
-                number,
-                title,
-                ..
-            } => Some(Head {
+            Kind::Window(declared) => Some(Head {
                 id: node.id,
                 x: node.x,
                 y: node.y,
                 w: node.w,
-                h: *h,
-                number: *number,
-                title: Text::from_chars(title.as_slice())?,
+                h: declared.h,
+                number: declared.number,
+                title: Text::from_chars(declared.title.as_slice())?,
             }),
             _ => None,
         }
@@ -70,16 +65,11 @@ impl Head {
         ensures { IsTrue result ↔ (Some self.now ≡ declared_head node.now) }
     {
         match &node.kind {
-            Kind::Window {
-                h,
-                number,
-                title,
-                ..
-            } => {
+            Kind::Window(declared) => {
                 self.id == node.id
-                    && self.is_at(&node.x, &node.y, &node.w, h)
-                    && self.number == *number
-                    && self.title.as_slice() == title.as_slice()
+                    && self.is_at(&node.x, &node.y, &node.w, &declared.h)
+                    && self.number == declared.number
+                    && self.title.as_slice() == declared.title.as_slice()
             }
             _ => false,
         }

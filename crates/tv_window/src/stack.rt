@@ -3,8 +3,8 @@
 ghost use Rattle.std.specs.Prelude.{◌≡◌, List};
 ghost use Rattle.tv_model.specs.Screen.Layers.{stack_layers as declared_layers};
 ghost use Rattle.tv_model.specs.Controls.Meaning.{IsSmall};
+ghost use Rattle.tv_model.specs.Machine.State.{OpenWindow};
 ghost use Rattle.tv_model.specs.declared.desc.Desc.{Desc};
-ghost use Rattle.tv_model.specs.declared.node.Id.{Id};
 ghost use Rattle.tv_view.specs.Drawing.{Lays};
 ghost use Rattle.tv_window.specs.DeclaredWindows.{AreDeclared, IsOfWindow, desktop_canvas};
 ghost use Rattle.tv_window.specs.Window.{stack_layers};
@@ -20,8 +20,8 @@ use tv_view::{Env, View};
 pub fn draw_stack<V: View>(windows: &[WindowOf<V>], screen: &mut Screen, canvas: Canvas, env: &Env)
     requires { IsSmall canvas.origin.x × IsSmall canvas.origin.y }
     ensures layers { Lays (stack_layers V.meaning env.now canvas windows.now) screen.old screen.new }
-    ensures declared { (d : Desc) (ids : List Id) → AreDeclared V.meaning d ids windows.now → IsOfWindow env.now → canvas ≡ desktop_canvas d
-        → Lays (declared_layers d env.now.is_active ids) screen.old screen.new }
+    ensures declared { (d : Desc) (stack : List OpenWindow) → AreDeclared V.meaning d stack windows.now → IsOfWindow env.now → canvas ≡ desktop_canvas d
+        → Lays (declared_layers d env.now.is_active stack) screen.old screen.new }
 {
     if let Some((front, behind)) = windows.split_first() {
         let passive = Env {

@@ -12,7 +12,7 @@ use tv_controls::StaticText;
 use tv_event::CommandSet;
 use tv_faces::{Background, ButtonFace, ButtonLook, EmptyBar, Frame, FrameLook};
 use tv_group::{GroupOf, MemberOf};
-use tv_model::{Id, Kind, Node};
+use tv_model::{Id, Kind, Node, StaticText as DeclaredText};
 use tv_palette::{Chain, Owner};
 use tv_valid::Chars;
 use tv_view::Env;
@@ -39,10 +39,10 @@ fn text(alloc: Global, x: u8, y: u8) -> Result<MemberOf<StaticText>>
         x: i32::from(x),
         y: i32::from(y),
         w: 26,
-        kind: Kind::Text {
+        kind: Kind::Text(DeclaredText {
             h: 1,
             text: Chars::from_vec(text),
-        },
+        }),
     };
     Ok(MemberOf::Leaf(StaticText::new(alloc, &node)?))
 }

@@ -12,7 +12,7 @@ use tv_controls::StaticText;
 use tv_event::CommandSet;
 use tv_faces::{Background, EmptyBar};
 use tv_group::{GroupOf, MemberOf};
-use tv_model::{Id, Kind, Node};
+use tv_model::{Id, Kind, Node, StaticText as DeclaredText, WindowHead};
 use tv_palette::{Chain, Owner};
 use tv_valid::Chars;
 use tv_view::Env;
@@ -35,10 +35,10 @@ fn text(alloc: Global, row: u8) -> Result<MemberOf<StaticText>>
         x: 1,
         y: i32::from(row),
         w: 78,
-        kind: Kind::Text {
+        kind: Kind::Text(DeclaredText {
             h: 1,
             text: Chars::from_vec(text.chars().collect(alloc)?),
-        },
+        }),
     };
     Ok(MemberOf::Leaf(StaticText::new(alloc, &node)?))
 }
@@ -64,12 +64,12 @@ fn window_node(alloc: Global, x: i32, y: i32, number: i32) -> Node
         x,
         y,
         w: 80,
-        kind: Kind::Window {
+        kind: Kind::Window(WindowHead {
             name: Chars::new(alloc),
             h: 40,
             number,
             title: Chars::new(alloc),
-        },
+        }),
     }
 }
 

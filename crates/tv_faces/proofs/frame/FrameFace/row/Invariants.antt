@@ -1,5 +1,5 @@
 use Rattle.std.proofs.Common.{◌≡◌, ◌<◌, ◌+◌, ℕ, slice_index_or}
-use Rattle.tv_model.specs.Faces.{frame_face}
+use Rattle.tv_model.specs.Screen.Faces.{frame_face}
 use Rattle.tv_cells.specs.Glyph.{blank}
 use Rattle.tv_faces.specs.Looks.{frame_look_of}
 use Rattle.tv_faces.proofs.frame.FrameFace.row.Given as goal

@@ -1,5 +1,5 @@
 use Rattle.std.proofs.Common.{◌≡◌, ◌<◌, ◌+◌, ℕ, slice_index_or}
-use Rattle.tv_model.specs.Faces.{text_row}
+use Rattle.tv_model.specs.Screen.Faces.{text_row}
 use Rattle.tv_cells.specs.Glyph.{blank, shown}
 use Rattle.tv_faces.proofs.static_text.PieceFace.row.Given as goal
 
