@@ -1,18 +1,23 @@
--- Rows of a picture that are painted whole.
-use Rattle.std.proofs.Common.{◌≡◌, ℕ, ℤ, pos, negsuc, suc, ◌+◌, ◌-◌, ◌*◌, ◌<◌, ◌≤◌, ◌≤ℤ◌, List, ◌++◌, length, take, drop, slice_index_or, refl, ap, ◌∙◌, arith, inl, inr, rules}
+-- Rows of a picture that are written at once.
+use Rattle.std.proofs.Common.{◌≡◌, ℕ, ℤ, pos, negsuc, suc, ◌+◌, ◌-◌, ◌*◌, ◌<◌, ◌≤◌, ◌≤ℤ◌, List, ◌++◌, length, take, drop, slice_index_or, refl, ap, ◌∙◌, ◌⊎◌, arith, inl, inr, rules}
 use Rattle.std.specs.Int.{int_gap}
 use Rattle.std.proofs.lemmas.Bool.{cases_lt}
 use Rattle.std.proofs.lemmas.Int.{ints}
 use Rattle.std.proofs.lemmas.List.{get_or-drop, get_or-take, get_or_append_left, get_or-append_right, length-drop, length-take-le}
 use Rattle.std.proofs.Math.Nat.{mul-le-mul_right}
 use borrow.Rule.Slice.PartMut.{put_mid, post_of}
-use Rattle.tv_cells.specs.Glyph.{Glyph, blank}
+use Rattle.tv_cells.specs.Glyph.{Glyph, blank, shaded}
 use Rattle.tv_cells.specs.Picture.{Picture, IsOn, Changes, cell_at}
 use Rattle.tv_cells.specs.Canvas.{IsInArea}
 use Rattle.tv_cells.specs.Row.{IsRow, IsInRow}
 use Rattle.tv_cells.specs.declared.canvas.Area.{Area}
-use Rattle.tv_cells.proofs.Areas.{rows_before, dec}
-use Rattle.tv_cells.proofs.Drawn.{changes_both}
+use Rattle.tv_cells.proofs.ChangeLemmas.{changes_both, changes_none}
+
+same_or_not : (m n : ℕ) → (m ≡ n) ⊎ (m ≡ n → ⊥)
+same_or_not m n = elim (cases_lt m n) [
+  | inl lt ↦ inr (λ e. absurd (omega arith))
+  | inr le ↦ elim (cases_lt n m) [ inl gt ↦ inr (λ e. absurd (omega arith)) | inr ge ↦ inl (omega arith) ]
+]
 
 -- ---- a part of a list that is written
 
@@ -73,11 +78,13 @@ module _ (p : Picture) (row left right : ℕ) (ys : List Glyph) (full : length p
     ]
   ]
 
-  inside_row : (face : ℕ → Glyph) (from column : ℕ) → IsRow face from ys → left ≤ column → column < right → cell_at (with_row p row left right ys) column row ≡ face (from + (column - left))
-  inside_row face from column is ge lt =
+  inside_row : (f : ℕ → ℕ → Glyph → Glyph) (column : ℕ) → ((i : ℕ) → i < right - left → slice_index_or ys i blank ≡ f (left + i) row (cell_at p (left + i) row)) → left ≤ column → column < right
+      → cell_at (with_row p row left right ys) column row ≡ f column row (cell_at p column row)
+  inside_row f column is ge lt =
       let there : row * p.width + column - (row * p.width + left) ≡ column - left = omega arith in
+      let same : left + (column - left) ≡ column = omega arith in
       in_part _ _ _ p.cells ys start_within (omega arith) (omega (arith, there, long))
-      ∙ (ap (λ j. slice_index_or ys j blank) there ∙ is.each (column - left) (omega (arith, long)))
+      ∙ (ap (λ j. slice_index_or ys j blank) there ∙ (is (column - left) (omega arith) ∙ ap (λ j. f j row (cell_at p j row)) same))
 
 part_of_row : (p : Picture) (row left right : ℕ) → length p.cells ≡ p.width * p.height → (left ≤ right) × (right ≤ p.width) → row < p.height
     → length (take (row * p.width + right - (row * p.width + left)) (drop (row * p.width + left) p.cells)) ≡ right - left
@@ -85,21 +92,56 @@ part_of_row p row left right full across down =
     let h : suc row * p.width ≤ p.height * p.width = mul-le-mul_right p.width down in
     part_long (row * p.width + left) (row * p.width + right - (row * p.width + left)) p.cells (omega (arith, h, full, across.0, across.1)) ∙ omega (arith, across.0)
 
--- the columns of a row are written
+-- the cell in a column of the part
+cell_of_part : (p : Picture) (row left right i : ℕ) → i < right - left
+    → slice_index_or (take (row * p.width + right - (row * p.width + left)) (drop (row * p.width + left) p.cells)) i blank ≡ cell_at p (left + i) row
+cell_of_part p row left right i lt =
+    let there : row * p.width + left + i ≡ row * p.width + (left + i) = omega arith in
+    get_or-take (row * p.width + right - (row * p.width + left)) (drop (row * p.width + left) p.cells) i blank (omega (arith, lt))
+    ∙ (get_or-drop (row * p.width + left) p.cells i blank ∙ ap (λ j. slice_index_or p.cells j blank) there)
+
+-- the columns of a row are written: each cell becomes f of what it was
+changes_written : (p : Picture) (row left right : ℕ) (ys : List Glyph) (f : ℕ → ℕ → Glyph → Glyph) → length p.cells ≡ p.width * p.height
+    → (left ≤ right) × (right ≤ p.width) → row < p.height → length ys ≡ right - left
+    → ((i : ℕ) → i < right - left → slice_index_or ys i blank ≡ f (left + i) row (cell_at p (left + i) row))
+    → Changes (IsInRow left right row) f p (with_row p row left right ys)
+changes_written p row left right ys f full across down long is = record {
+  size = record { width = refl; height = refl };
+  inside = λ column at on here. rw here.here (inside_row p row left right ys full across down long f column is here.after here.before);
+  outside = λ column at on other. elim (same_or_not at row) [
+    | inl e ↦ rw e (beside p row left right ys full across down long column (λ h. other (record { after = h.after; before = h.before; here = e })))
+    | inr e ↦ other_row p row left right ys full across down long column at on.across e
+  ];
+}
+
+-- the cells of a row of a face
 pub changes_painted : (p : Picture) (row left right from : ℕ) (ys : List Glyph) (face : ℕ → Glyph) → length p.cells ≡ p.width * p.height
     → (left ≤ right) × (right ≤ p.width) → row < p.height → length ys ≡ length (take (row * p.width + right - (row * p.width + left)) (drop (row * p.width + left) p.cells)) → IsRow face from ys
     → Changes (IsInRow left right row) (λ column _ _. face (from + (column - left))) p (with_row p row left right ys)
 changes_painted p row left right from ys face full across down count is =
-    let long : length ys ≡ right - left = count ∙ part_of_row p row left right full across down in record {
-      size = record { width = refl; height = refl };
-      inside = λ column at on here. rw here.here (inside_row p row left right ys full across down long face from column is here.after here.before);
-      outside = λ column at on other. elim (dec at row) [
-        | inl e ↦ rw e (beside p row left right ys full across down long column (λ h. other (record { after = h.after; before = h.before; here = e })))
-        | inr e ↦ other_row p row left right ys full across down long column at on.across e
-      ];
-    }
+    let long : length ys ≡ right - left = count ∙ part_of_row p row left right full across down in
+    changes_written p row left right ys (λ column _ _. face (from + (column - left))) full across down long
+    (λ i lt. let there : i ≡ left + i - left = omega arith in is.each i (omega (arith, long, lt)) ∙ ap (λ j. face (from + j)) there)
+
+-- the same cells, shaded
+pub changes_shaded : (p : Picture) (row left right : ℕ) (ys : List Glyph) → length p.cells ≡ p.width * p.height
+    → (left ≤ right) × (right ≤ p.width) → row < p.height → length ys ≡ length (take (row * p.width + right - (row * p.width + left)) (drop (row * p.width + left) p.cells))
+    → ((i : ℕ) → i < length ys → slice_index_or ys i blank ≡ shaded (slice_index_or (take (row * p.width + right - (row * p.width + left)) (drop (row * p.width + left) p.cells)) i blank))
+    → Changes (IsInRow left right row) (λ _ _ under. shaded under) p (with_row p row left right ys)
+changes_shaded p row left right ys full across down count is =
+    let long : length ys ≡ right - left = count ∙ part_of_row p row left right full across down in
+    changes_written p row left right ys (λ _ _ under. shaded under) full across down long
+    (λ i lt. is i (omega (arith, long, lt)) ∙ ap shaded (cell_of_part p row left right i lt))
 
 -- ---- the rows of an area
+
+-- the rows of an area before one of its rows
+abbrev pub rows_before : Area → ℕ → Area
+rows_before area row = record area { bottom = row }
+
+-- no row is done at the start
+pub changes_start : (area : Area) {f : ℕ → ℕ → Glyph → Glyph} {p : Picture} → Changes (IsInArea (rows_before area area.top)) f p p
+changes_start area = changes_none (λ a b _ h. absurd (omega (arith, h.top, h.bottom)))
 
 -- one row more
 pub changes_next : (area : Area) (this : ℕ) {f : ℕ → ℕ → Glyph → Glyph} {old mid new : Picture} → area.top ≤ this

@@ -64,10 +64,7 @@ impl Canvas {
         let end = (rect.b.x as i64 + x, rect.b.y as i64 + y);
         let area = self.area(screen, start, end);
         for row in area.top..area.bottom {
-            for column in area.left..area.right {
-                let cell = screen.get(column, row).shaded();
-                screen.set(column, row, cell);
-            }
+            screen.shade_row(row, area.left, area.right);
         }
     }
 

@@ -1,6 +1,7 @@
 //! A screen of cells.
 
-ghost use Rattle.std.specs.Prelude.{◌≡◌, [], ◌≤◌, ◌<◌, ◌+◌, ◌-◌, ◌^◌, ◌↔◌, ℕ, pos, IfOk, IfSome, IsSome, IsErrOf};
+ghost use Rattle.std.specs.Prelude.{◌≡◌, [], ◌≤◌, ◌<◌, ◌+◌, ◌-◌, ◌^◌, ◌↔◌, ℕ, pos, IfOk, IfSome, IsSome, IsErrOf, length, slice_index_or};
+ghost use Rattle.tv_cells.specs.Glyph.{blank, shaded};
 ghost use Rattle.tv_cells.specs.Layers.{Shows};
 ghost use Rattle.tv_cells.specs.Picture.{Picture, IsAlike, IsOn, IsPlace, IsScreenSize, Changes, cell_at};
 ghost use Rattle.tv_cells.specs.Rectangle.{IsIn, sized};
@@ -165,5 +166,25 @@ impl Screen {
         let start = (row * self.width + left) as usize;
         let end = (row * self.width + right) as usize;
         face.row(y, from, &mut self.cells[start..end]);
+    }
+
+    // Shades the cells of a row, from one column of the screen on and before another.
+    pub(crate) fn shade_row(&mut self, row: u32, left: u32, right: u32)
+        requires across { (left ≤ right) × (right ≤ self.old.width) }
+        requires down { row < self.old.height }
+        ensures { Changes (IsInRow left right row) (λ _ _ under. shaded under) self.old self.new }
+    {
+        let start = (row * self.width + left) as usize;
+        let end = (row * self.width + right) as usize;
+        shade_all(&mut self.cells[start..end]);
+    }
+}
+
+fn shade_all(cells: &mut [Cell])
+    ensures count { length cells.new ≡ length cells.old }
+    ensures cells { (i : ℕ) → i < length cells.new → slice_index_or cells.new i blank ≡ shaded (slice_index_or cells.old i blank) }
+{
+    for i in 0..cells.len() {
+        cells[i] = cells[i].shaded();
     }
 }

@@ -1,5 +1,5 @@
-pub mod Currents
-pub mod Drawn
-pub mod Followed
-pub mod FreshLeaves
-pub mod Openings
+pub mod CurrentLemmas
+pub mod DrawingLemmas
+pub mod OutlineLemmas
+pub mod FreshLeafLemmas
+pub mod OpenedLemmas

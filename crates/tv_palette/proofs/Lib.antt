@@ -1,1 +1,1 @@
-pub mod Colours
+pub mod ColourLemmas

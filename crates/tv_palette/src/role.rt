@@ -143,7 +143,7 @@ impl Role {
     /// The attribute of the role's cells, for a view that the last view of the chain owns.
     ///
     /// With the toolkit's own palettes it is that of the table, however many groups are around the view.
-    #[tactic(auto, using(crate::proofs::Colours::leads_through))]
+    #[tactic(auto, using(crate::proofs::ColourLemmas::leads_through))]
     pub fn attr(self, owners: &Chain) -> u8
         ensures chain { result ≡ colour_in owners.now self }
         ensures table { coloured owners.now ≡ owners_of self → result ≡ attribute_of self }

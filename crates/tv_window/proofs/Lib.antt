@@ -1,4 +1,4 @@
-pub mod Flat
-pub mod Same
-pub mod Shown
-pub mod Stacks
+pub mod DeclaredWindowLemmas
+pub mod SameLayerLemmas
+pub mod WindowDrawingLemmas
+pub mod StackLemmas

@@ -3,9 +3,8 @@ use Rattle.std.proofs.lemmas.Int.{ints}
 use Rattle.tv_cells.specs.Canvas.{IsInArea}
 use Rattle.tv_cells.specs.Picture.{IsOn}
 use Rattle.tv_cells.specs.Rectangle.{sized}
-use Rattle.tv_cells.proofs.Areas.{changes_start}
-use Rattle.tv_cells.proofs.Covered.{changes_covered}
-use Rattle.tv_cells.proofs.RowLemmas.{changes_next, shows_row}
+use Rattle.tv_cells.proofs.CoverLemmas.{changes_covered}
+use Rattle.tv_cells.proofs.RowLemmas.{changes_next, changes_start, shows_row}
 use Rattle.tv_cells.proofs.face.paint.Goals as goal
 
 pub loop-row-init : goal.loop-row-init

@@ -1,6 +1,6 @@
 use Rattle.tv_cells.specs.Picture.{Changes}
 use Rattle.tv_cells.specs.Canvas.{IsInArea, face_at}
-use Rattle.tv_cells.proofs.Areas.{rows_before}
+use Rattle.tv_cells.proofs.RowLemmas.{rows_before}
 use Rattle.tv_cells.proofs.face.paint.Given as goal
 
 abbrev pub invariant-loop-row : goal.invariant-loop-row

@@ -3,7 +3,7 @@ use Rattle.std.proofs.lemmas.Iterator.{YieldsList-from_chars}
 use Rattle.std.proofs.lemmas.Iterator.Consumers.{YieldsList-turn, YieldsList-end}
 use Rattle.std.proofs.lemmas.List.{take_all, length_push}
 use Rattle.std.proofs.lemmas.List.Elements.{All-more}
-use Rattle.tv_cells.proofs.Tildes.{read_at}
+use Rattle.tv_cells.proofs.TildeLemmas.{read_at}
 use Rattle.std.specs.Str.{chars}
 use Rattle.tv_cells.specs.Glyph.{IsNarrow}
 use Rattle.tv_cells.proofs.hot_text.first_wide.Goals as goal

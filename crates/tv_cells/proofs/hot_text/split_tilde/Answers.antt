@@ -1,4 +1,4 @@
-use Rattle.tv_cells.proofs.Tildes.{split_none, split_some}
+use Rattle.tv_cells.proofs.TildeLemmas.{split_none, split_some}
 use Rattle.tv_cells.proofs.hot_text.split_tilde.Goals as goal
 
 pub returns-clause-some : goal.returns-clause-some

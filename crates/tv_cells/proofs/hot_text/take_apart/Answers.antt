@@ -1,6 +1,6 @@
 use Rattle.std.proofs.Common.{◌≡◌}
 use Rattle.std.specs.Str.{chars}
-use Rattle.tv_cells.proofs.Marks.{if_none, unmarkable, split_not_free}
+use Rattle.tv_cells.proofs.MarkLemmas.{if_none, unmarkable, split_not_free}
 use Rattle.tv_cells.proofs.hot_text.take_apart.Goals as goal
 use Rattle.tv_cells.proofs.hot_text.take_apart.Goals.{else-is_ascii_alphanumeric-via-then-is_ascii_alphanumeric+then-end-eq126+else-is_none, else-is_ascii_alphanumeric-via-then-is_ascii_alphanumeric+else-end-eq126, else-is_ascii_alphanumeric-via-else-is_ascii_alphanumeric}
 

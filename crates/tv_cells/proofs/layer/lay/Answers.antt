@@ -1,4 +1,4 @@
-use Rattle.tv_cells.proofs.Layering.{shows_painted}
+use Rattle.tv_cells.proofs.LayerLemmas.{shows_painted}
 use Rattle.tv_cells.proofs.layer.lay.Goals as goal
 
 pub returns-clause-shows : goal.returns-clause-shows

@@ -1,4 +1,4 @@
-use Rattle.tv_cells.proofs.Layering.{shows_shaded}
+use Rattle.tv_cells.proofs.LayerLemmas.{shows_shaded}
 use Rattle.tv_cells.proofs.layer.lay_shadow.Goals as goal
 
 pub returns-clause-shows : goal.returns-clause-shows

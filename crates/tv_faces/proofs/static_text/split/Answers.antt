@@ -1,6 +1,6 @@
 use Rattle.std.proofs.Common.{◌≤◌, ◌+◌, ◌-◌, length, drop, arith, length-drop}
 use Rattle.std.proofs.lemmas.List.{take_all}
-use Rattle.tv_faces.proofs.Pieces.{first_piece, last_piece}
+use Rattle.tv_faces.proofs.PieceLemmas.{first_piece, last_piece}
 use Rattle.tv_faces.proofs.static_text.split.Goals as goal
 
 pub returns-in-Some : goal.returns-in-Some

@@ -1,7 +1,7 @@
 use Rattle.std.proofs.Common.{arith, ◌<◌, ◌≤◌, length, ap, sym, ◌∙◌}
 use Rattle.tv_cells.specs.Canvas.{sub}
-use Rattle.tv_group.proofs.Openings.{item_at}
-use Rattle.tv_group.proofs.Drawn.{drawn-none, drawn-next, drawn-whole, drawn-far, drawn-leaf, drawn-pane}
+use Rattle.tv_group.proofs.OpenedLemmas.{item_at}
+use Rattle.tv_group.proofs.DrawingLemmas.{drawn-none, drawn-next, drawn-whole, drawn-far, drawn-leaf, drawn-pane}
 use Rattle.tv_group.proofs.group.+draw.Goals as goal
 
 pub GroupOf::draw-returns-then-not-is_near : goal.GroupOf::draw-returns-then-not-is_near

@@ -1,5 +1,5 @@
 use Rattle.tv_view.specs.Drawing.{Lays, leaves_layers}
-use Rattle.tv_group.proofs.Openings.{opened_to}
+use Rattle.tv_group.proofs.OpenedLemmas.{opened_to}
 use Rattle.tv_group.proofs.group.+draw.Given as goal
 
 abbrev pub invariant-GroupOf::draw-loop-member : goal.invariant-GroupOf::draw-loop-member

@@ -1,4 +1,4 @@
-use Rattle.tv_group.proofs.Followed.{Left}
+use Rattle.tv_group.proofs.OutlineLemmas.{Left}
 use Rattle.tv_group.proofs.group.+follow.Given as goal
 
 abbrev pub invariant-GroupOf::follow-loop-member : goal.invariant-GroupOf::follow-loop-member

@@ -1,4 +1,4 @@
-use Rattle.tv_window.proofs.Stacks.{none_declared, stack_drawn}
+use Rattle.tv_window.proofs.StackLemmas.{none_declared, stack_drawn}
 use Rattle.tv_window.proofs.stack.+draw_stack.Goals as goal
 
 pub returns-in-Some-clause-declared : goal.returns-in-Some-clause-declared

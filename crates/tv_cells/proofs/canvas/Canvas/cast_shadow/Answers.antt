@@ -1,8 +1,8 @@
 use Rattle.std.proofs.Common.{◌≡◌, ap, arith, pos, ◌+ℤ◌}
 use Rattle.std.proofs.lemmas.Int.{ints, clamps}
 use Rattle.tv_cells.specs.declared.rect.Rect.{Rect}
-use Rattle.tv_cells.proofs.Shadows.{changes_shadow}
-use Rattle.tv_cells.proofs.Rectangles.{point_is, rect_is}
+use Rattle.tv_cells.proofs.ShadowLemmas.{changes_shadow}
+use Rattle.tv_cells.proofs.RectangleLemmas.{point_is, rect_is}
 use Rattle.tv_cells.proofs.canvas.Canvas.cast_shadow.Goals as goal
 
 pub returns : goal.returns

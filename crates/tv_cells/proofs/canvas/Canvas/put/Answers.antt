@@ -1,5 +1,5 @@
 use Rattle.std.proofs.lemmas.Int.{to_z-of_z}
-use Rattle.tv_cells.proofs.Drawn.{changes_none, changes_at}
+use Rattle.tv_cells.proofs.ChangeLemmas.{changes_none, changes_at}
 use Rattle.tv_cells.proofs.canvas.Canvas.put.Goals as goal
 
 pub returns-in-Some : goal.returns-in-Some

@@ -1,6 +1,6 @@
 use Rattle.std.proofs.Common.{◌≡◌, ℕ, List, [], ◌∷◌, ◌++◌, length, Some, ◌∙◌, ap, append_assoc}
 use Rattle.std.specs.Str.{chars}
-use Rattle.tv_cells.proofs.Hots.{hot_is}
+use Rattle.tv_cells.proofs.HotTextLemmas.{hot_is}
 use Rattle.tv_cells.proofs.hot_text.HotText.marked.Goals as goal
 
 -- three pushes to an empty list

@@ -1,9 +1,9 @@
 use Rattle.std.proofs.Common.{refl, sym, ◌∙◌}
 use Rattle.std.specs.Str.{chars}
 use Rattle.tv_cells.specs.HotText.{unmarked}
-use Rattle.tv_cells.proofs.Hots.{hot_around, refuse_mark, refuse_long, spelled_of, long_refused}
+use Rattle.tv_cells.proofs.HotTextLemmas.{hot_around, refuse_mark, refuse_long, spelled_of, long_refused}
 use Rattle.tv_cells.specs.declared.hot_text.HotTextFault.TheVariants.{BadWidth, BadMark}
-use Rattle.tv_cells.proofs.Unique.{not_refused, only_known}
+use Rattle.tv_cells.proofs.SpellingLemmas.{not_refused, only_known}
 use Rattle.tv_cells.proofs.hot_text.HotText.parse.Goals as goal
 
 pub marked-requires : goal.marked-requires

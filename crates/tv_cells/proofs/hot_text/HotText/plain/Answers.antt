@@ -1,6 +1,6 @@
 use Rattle.std.proofs.Common.{◌≡◌, ◌++◌, ◌∙◌, ap, refl}
 use Rattle.std.specs.Str.{chars}
-use Rattle.tv_cells.proofs.Hots.{hot_is}
+use Rattle.tv_cells.proofs.HotTextLemmas.{hot_is}
 use Rattle.tv_cells.proofs.hot_text.HotText.plain.Goals as goal
 
 pub invariant_of-result : goal.invariant_of-result

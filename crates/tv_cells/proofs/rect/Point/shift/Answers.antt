@@ -1,6 +1,6 @@
 use Rattle.std.proofs.Common.{arith}
 use Rattle.std.proofs.lemmas.Int.{ints}
-use Rattle.tv_cells.proofs.Rectangles.{point_is}
+use Rattle.tv_cells.proofs.RectangleLemmas.{point_is}
 use Rattle.tv_cells.proofs.rect.Point.shift.Goals as goal
 
 pub returns : goal.returns

@@ -1,6 +1,6 @@
 use Rattle.std.proofs.Common.{arith}
 use Rattle.std.proofs.lemmas.Int.{ints}
-use Rattle.tv_cells.proofs.Rectangles.{point_is, rect_is, in_cut_is}
+use Rattle.tv_cells.proofs.RectangleLemmas.{point_is, rect_is, in_cut_is}
 use Rattle.tv_cells.proofs.rect.Rect.intersect.Goals as goal
 
 pub returns-clause-corners : goal.returns-clause-corners

@@ -1,4 +1,4 @@
-use Rattle.tv_cells.proofs.Rectangles.{in_shifted_is, rect_is}
+use Rattle.tv_cells.proofs.RectangleLemmas.{in_shifted_is, rect_is}
 use Rattle.tv_cells.proofs.rect.Rect.shift.Goals as goal
 
 pub returns-clause-points : goal.returns-clause-points

@@ -1,5 +1,5 @@
 use Rattle.tv_cells.specs.Picture.{Picture}
-use Rattle.tv_cells.proofs.Pictures.{changes_set}
+use Rattle.tv_cells.proofs.PictureLemmas.{changes_set}
 use Rattle.tv_cells.proofs.screen.Screen.set.Goals as goal
 
 pub returns : goal.returns

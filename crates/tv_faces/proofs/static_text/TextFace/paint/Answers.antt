@@ -4,7 +4,7 @@ use Rattle.tv_cells.specs.Picture.{Changes}
 use Rattle.tv_cells.specs.Rectangle.{sized}
 use Rattle.tv_model.specs.Screen.Faces.{pieces_of}
 use Rattle.tv_faces.specs.Looks.{pieces_left}
-use Rattle.tv_faces.proofs.Rows.{left_after, none_painted, piece_at, piece_on, row_painted}
+use Rattle.tv_faces.proofs.TextRowLemmas.{left_after, none_painted, piece_at, piece_on, row_painted}
 use Rattle.tv_faces.proofs.static_text.TextFace.paint.Goals as goal
 
 pub loop-row-init : goal.loop-row-init

@@ -4,7 +4,7 @@ use Rattle.tv_cells.specs.Picture.{Changes}
 use Rattle.tv_cells.specs.Rectangle.{sized}
 use Rattle.tv_model.specs.Screen.Faces.{pieces_of}
 use Rattle.tv_faces.specs.Looks.{pieces_left}
-use Rattle.tv_faces.proofs.Rows.{text_at}
+use Rattle.tv_faces.proofs.TextRowLemmas.{text_at}
 use Rattle.tv_faces.proofs.static_text.TextFace.paint.Given as goal
 
 abbrev pub invariant-loop-row : goal.invariant-loop-row

@@ -1,5 +1,5 @@
 use Rattle.tv_group.specs.Outline.{members_outline}
-use Rattle.tv_group.proofs.Followed.{used-up, not-followed}
+use Rattle.tv_group.proofs.OutlineLemmas.{used-up, not-followed}
 use Rattle.tv_group.proofs.group.GroupOf.is_declared_by.Goals as goal
 
 pub returns-in-Some : goal.returns-in-Some

@@ -1,7 +1,7 @@
 use Rattle.std.proofs.Common.{None, map, ap, ◌∙◌, ◌+◌}
 use Rattle.tv_model.specs.Controls.Meaning.{inside}
 use Rattle.tv_group.specs.Opened.{joined, opened_member}
-use Rattle.tv_group.proofs.Openings.{opened-rolled}
+use Rattle.tv_group.proofs.OpenedLemmas.{opened-rolled}
 use Rattle.tv_group.proofs.group.GroupOf.new.Goals as goal
 
 pub returns-then-highest-lt8-clause-leaves : goal.returns-then-highest-lt8-clause-leaves

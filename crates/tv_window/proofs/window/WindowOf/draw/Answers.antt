@@ -4,7 +4,7 @@ use Rattle.tv_cells.specs.Layers.{Shows}
 use Rattle.tv_cells.specs.Rectangle.{IsPointNear}
 use Rattle.tv_group.specs.Opened.{opened}
 use Rattle.tv_view.specs.Drawing.{Lays, leaves_layers}
-use Rattle.tv_window.proofs.Shown.{frame_is, lays_onto, near_corner}
+use Rattle.tv_window.proofs.WindowDrawingLemmas.{frame_is, lays_onto, near_corner}
 use Rattle.tv_window.proofs.window.WindowOf.draw.Goals as goal
 
 pub draw-requires : goal.draw-requires

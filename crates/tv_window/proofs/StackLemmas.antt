@@ -1,5 +1,5 @@
 -- Declared windows, one over the other.
-use Rattle.std.proofs.Common.{◌≡◌, IsTrue, ℕ, ℤ, pos, neg_ℤ, ◌-ℤ◌, ◌≤ℤ◌, Bool, true, false, ◌&&◌, All, List, [], ◌∷◌, ◌++◌, flat_map, length, reverse, Some, None, refl, sym, ap, ◌∙◌, arith, subst, append_assoc}
+use Rattle.std.proofs.Common.{◌≡◌, IsTrue, ℤ, pos, neg_ℤ, ◌-ℤ◌, ◌≤ℤ◌, Bool, true, false, ◌&&◌, All, List, [], ◌∷◌, ◌++◌, flat_map, length, reverse, Some, refl, sym, ap, ◌∙◌, arith, subst, append_assoc}
 use Rattle.std.proofs.lemmas.Int.{ints}
 use Rattle.std.proofs.lemmas.List.Elements.{All-head, All-tail, All-cons, All-nil}
 use Rattle.std.proofs.lemmas.Bool.{false≢true}
@@ -31,16 +31,16 @@ use Rattle.tv_palette.specs.Palettes.{colour_in}
 use Rattle.tv_palette.specs.declared.role.Owner.TheVariants as owners
 use Rattle.tv_view.specs.declared.env.Env.{Env}
 use Rattle.tv_view.specs.Drawing.{Lays, is_near, leaves_layers}
-use Rattle.tv_view.proofs.Laying.{lays_none, lays_then}
+use Rattle.tv_view.proofs.LayingLemmas.{lays_none, lays_then}
 use Rattle.tv_group.specs.Opened.{opened}
 use Rattle.tv_group.specs.Outline.{IsFreshBody}
-use Rattle.tv_group.proofs.FreshLeaves.{IsLeafNode, fresh_layers, group_drawn}
+use Rattle.tv_group.proofs.FreshLeafLemmas.{IsLeafNode, fresh_layers, group_drawn}
 use Rattle.tv_window.specs.DeclaredWindows.{AreDeclared, IsOfWindow, IsTextInside, desktop_canvas}
 use Rattle.tv_window.specs.Head.{KeptHead, bounds_of, declared_head, kept_head}
 use Rattle.tv_window.specs.Window.{body_of, frame_layer, head_of, window_layers}
 use Rattle.tv_window.specs.declared.window.WindowOf.{WindowOf}
-use Rattle.tv_window.proofs.Flat.{body, corner, frame_same, inner, look_same, shadows_same, views_same}
-use Rattle.tv_window.proofs.Same.{IsSame, lays_same, same_append}
+use Rattle.tv_window.proofs.DeclaredWindowLemmas.{body, corner, frame_same, inner, look_same, shadows_same, views_same}
+use Rattle.tv_window.proofs.SameLayerLemmas.{IsSame, lays_same, same_append}
 
 -- ---- what a head says of its node
 

@@ -7,8 +7,8 @@ use Rattle.tv_cells.specs.Canvas.{Covers, IsInArea}
 use Rattle.tv_cells.specs.declared.canvas.Area.{Area}
 use Rattle.tv_cells.specs.declared.canvas.Canvas.{Canvas}
 use Rattle.tv_cells.specs.declared.rect.Rect.{Rect}
-use Rattle.tv_cells.proofs.Areas.{rows_before}
-use Rattle.tv_cells.proofs.Drawn.{changes_along}
+use Rattle.tv_cells.proofs.RowLemmas.{rows_before}
+use Rattle.tv_cells.proofs.ChangeLemmas.{changes_along}
 
 -- an area has the places of the screen that lie in a clip and between two corners
 pub record Spans (p : Picture) (clip : Rect) (left top right bottom : ℤ) (area : Area) : Type 0 where

@@ -7,7 +7,7 @@ use Rattle.tv_cells.specs.Glyph.{Glyph, shown}
 use Rattle.tv_cells.specs.Picture.{Picture, Changes}
 use Rattle.tv_cells.specs.Rectangle.{sized}
 use Rattle.tv_cells.specs.declared.canvas.Canvas.{Canvas}
-use Rattle.tv_cells.proofs.Drawn.{changes_both, changes_none}
+use Rattle.tv_cells.proofs.ChangeLemmas.{changes_both, changes_none}
 use Rattle.tv_model.specs.Screen.Faces.{pieces_of, text_face, text_row}
 use Rattle.tv_faces.specs.Looks.{canvas_below}
 

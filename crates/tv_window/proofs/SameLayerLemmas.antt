@@ -10,8 +10,8 @@ use Rattle.tv_cells.specs.Rectangle.{IsIn, shifted, sized}
 use Rattle.tv_cells.specs.declared.rect.Point.{Point}
 use Rattle.tv_cells.specs.declared.rect.Rect.{Rect}
 use Rattle.tv_cells.specs.declared.canvas.Canvas.{Canvas}
-use Rattle.tv_cells.proofs.Layering.{is_in_true, is_in_false, covers_true, covers_false}
-use Rattle.tv_cells.proofs.Rectangles.{in_cut}
+use Rattle.tv_cells.proofs.LayerLemmas.{is_in_true, is_in_false, covers_true, covers_false}
+use Rattle.tv_cells.proofs.RectangleLemmas.{in_cut}
 use Rattle.tv_model.specs.Description.Rectangles.{rect}
 use Rattle.tv_model.specs.Description.Numbers.{natural}
 use Rattle.tv_view.specs.Drawing.{Lays}

@@ -6,13 +6,13 @@ use Rattle.tv_cells.specs.declared.canvas.Canvas.{Canvas}
 use Rattle.tv_model.specs.Controls.Meaning.{Leaf, kept}
 use Rattle.tv_view.specs.declared.env.Env.{Env}
 use Rattle.tv_view.specs.Drawing.{Lays, is_near, leaf_layers, leaves_layers}
-use Rattle.tv_view.proofs.Laying.{lays_none, lays_then, lays_as, layers-kept, layers-append, layers-inside, layers-far}
+use Rattle.tv_view.proofs.LayingLemmas.{lays_none, lays_then, lays_as, layers-kept, layers-append, layers-inside, layers-far}
 use Rattle.tv_group.specs.Current.{is_at}
 use Rattle.tv_group.specs.Opened.{opened, opened_member, joined}
 use Rattle.tv_group.specs.declared.group.MemberOf.{MemberOf}
 use Rattle.tv_group.specs.declared.group.GroupOf.{GroupOf}
 use Rattle.tv_group.specs.declared.group.MemberOf.TheVariants.{Leaf as LeafM, Pane as PaneM}
-use Rattle.tv_group.proofs.Openings.{opened_to, opened_to-none, opened_to-more, opened_to-whole, opened-members, member-leaf, member-pane}
+use Rattle.tv_group.proofs.OpenedLemmas.{opened_to, opened_to-none, opened_to-more, opened_to-whole, opened-members, member-leaf, member-pane}
 
 module _ {V : Type 0} (look : V → Leaf) (env : Env) (c : Canvas) where
   pub drawn-none : (current : Option ℕ) (ms : List (MemberOf V)) (p : Picture) → Lays (leaves_layers env c (opened_to look current 0 ms)) p p

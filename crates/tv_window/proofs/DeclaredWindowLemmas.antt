@@ -10,7 +10,7 @@ use Rattle.tv_cells.specs.Layers.{Layer, Painted, Shadow}
 use Rattle.tv_cells.specs.Rectangle.{IsIn, cut, shifted, sized}
 use Rattle.tv_cells.specs.declared.rect.Rect.{Rect}
 use Rattle.tv_cells.specs.declared.canvas.Canvas.{Canvas}
-use Rattle.tv_cells.proofs.Rectangles.{in_cut, point_is}
+use Rattle.tv_cells.proofs.RectangleLemmas.{in_cut, point_is}
 use Rattle.tv_model.specs.Screen.Faces.{frame_look, frame_role, static_text}
 use Rattle.tv_model.specs.Description.Rectangles.{corner_of, desktop, interior, place_of_node, rect}
 use Rattle.tv_model.specs.Screen.Layers.{canvas_at, window_view_layers}
@@ -20,7 +20,7 @@ use Rattle.tv_model.specs.declared.desc.Desc.{Desc}
 use Rattle.tv_model.specs.declared.desc.Window.{Window}
 use Rattle.tv_model.specs.declared.node.Node.{Node}
 use Rattle.tv_model.specs.declared.kind.Kind.TheVariants as kinds
-use Rattle.tv_palette.proofs.Colours.{leads_through}
+use Rattle.tv_palette.proofs.ColourLemmas.{leads_through}
 use Rattle.tv_palette.specs.Attributes.{attribute_of}
 use Rattle.tv_palette.specs.Palettes.{colour_in}
 use Rattle.tv_palette.specs.declared.role.Owner.TheVariants as owners
@@ -29,9 +29,9 @@ use Rattle.tv_palette.specs.declared.role.FrameRole.TheVariants as frame
 use Rattle.tv_view.specs.declared.env.Env.{Env}
 use Rattle.tv_view.specs.Drawing.{leaf_layers}
 use Rattle.tv_view.specs.LeafFaces.{static_text_face}
-use Rattle.tv_group.proofs.FreshLeaves.{fresh_layers}
+use Rattle.tv_group.proofs.FreshLeafLemmas.{fresh_layers}
 use Rattle.tv_window.specs.DeclaredWindows.{IsOfWindow, IsTextInside, desktop_canvas}
-use Rattle.tv_window.proofs.Same.{IsSame, covers_sub, painted_same, resized, same_append, same_refl, shadow_same, sub_covers, unsized}
+use Rattle.tv_window.proofs.SameLayerLemmas.{IsSame, covers_sub, painted_same, resized, same_append, same_refl, shadow_same, sub_covers, unsized}
 
 module _ (d : Desc) (x y w h : ℤ) where
   abbrev pub bounds : Rect

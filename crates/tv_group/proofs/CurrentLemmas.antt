@@ -7,7 +7,7 @@ use Rattle.tv_group.specs.Current.{is_at}
 use Rattle.tv_group.specs.Opened.{opened, opened_member, joined}
 use Rattle.tv_group.specs.declared.group.MemberOf.{MemberOf}
 use Rattle.tv_group.specs.declared.group.GroupOf.{GroupOf}
-use Rattle.tv_group.proofs.Openings.{opened-members}
+use Rattle.tv_group.proofs.OpenedLemmas.{opened-members}
 
 eq_false : (a b : ℕ) → a < b → a == b ≡ false
 eq_false a b h = grind (arith, nat_tests)

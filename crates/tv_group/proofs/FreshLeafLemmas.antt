@@ -9,7 +9,7 @@ use Rattle.tv_model.specs.Controls.Meaning.{Leaf, LeafAt, PaneAt, Outlined, Plac
 use Rattle.tv_model.specs.Description.Nodes.{is_pane}
 use Rattle.tv_view.specs.declared.env.Env.{Env}
 use Rattle.tv_view.specs.Drawing.{is_near, leaf_layers, leaves_layers}
-use Rattle.tv_view.proofs.Laying.{layers-append, layers-inside, layers-kept}
+use Rattle.tv_view.proofs.LayingLemmas.{layers-append, layers-inside, layers-kept}
 use Rattle.tv_group.specs.Current.{is_at}
 use Rattle.tv_group.specs.Opened.{opened, opened_member, joined, member_step, group_step}
 use Rattle.tv_group.specs.Outline.{Outline, all_at, declared, members_outline, outline, outline_member, outlined, part_step, whole_step}
@@ -17,8 +17,8 @@ use Rattle.tv_group.specs.declared.group.MemberOf.{MemberOf, out-MemberOf}
 use Rattle.tv_group.specs.declared.group.GroupOf.{GroupOf}
 use Rattle.tv_group.specs.declared.group.MemberOf.TheOpen.{MemberOf-F, Leaf as LeafHere, Pane as PaneHere}
 use Rattle.tv_group.specs.declared.group.MemberOf.TheFolds.{fold_out-MemberOf, map-MemberOf, fold-MemberOf, fold-GroupOf}
-use Rattle.tv_group.proofs.Followed.{outline-members}
-use Rattle.tv_group.proofs.Openings.{opened-members}
+use Rattle.tv_group.proofs.OutlineLemmas.{outline-members}
+use Rattle.tv_group.proofs.OpenedLemmas.{opened-members}
 
 abbrev pub IsLeafNode : Node → Type 0
 IsLeafNode n = is_pane n.kind ≡ false

@@ -7,9 +7,9 @@ use Rattle.tv_cells.specs.Glyph.{IsNarrow}
 use Rattle.tv_cells.specs.HotText.{Hot, IsHot, Refuses, char_at, spelled, spelled_at}
 use Rattle.tv_cells.specs.declared.hot_text.HotTextFault.{HotTextFault}
 use Rattle.tv_cells.specs.declared.hot_text.HotTextFault.TheVariants.{BadWidth, BadMark, TooLong}
-use Rattle.tv_cells.proofs.Hots.{hot_is}
-use Rattle.tv_cells.proofs.Marks.{IsFree, not_free, first_tilde}
-use Rattle.tv_cells.proofs.Narrow.{ascii_narrow}
+use Rattle.tv_cells.proofs.HotTextLemmas.{hot_is}
+use Rattle.tv_cells.proofs.MarkLemmas.{IsFree, not_free, first_tilde}
+use Rattle.tv_cells.proofs.NarrowLemmas.{ascii_narrow}
 
 abbrev IsLetter : List ℕ → Option ℕ → Type 0
 IsLetter text place = IfSome place (λ i. (i < length text) × IsTrue (is_ascii_alphanumeric (char_at text i)))

@@ -8,7 +8,7 @@ use Rattle.tv_cells.specs.Picture.{Picture, Changes}
 use Rattle.tv_cells.specs.Canvas.{Covers, IsShadow, aside}
 use Rattle.tv_cells.specs.declared.rect.Rect.{Rect}
 use Rattle.tv_cells.specs.declared.canvas.Canvas.{Canvas}
-use Rattle.tv_cells.proofs.Drawn.{changes_both}
+use Rattle.tv_cells.proofs.ChangeLemmas.{changes_both}
 
 abbrev pub right_strip : Rect → Rect
 right_strip r = record { a = record { x = int_max (r.a.x +ℤ pos 2) r.b.x; y = r.a.y +ℤ pos 1 }; b = shifted_point r.b aside }
