@@ -1,10 +1,11 @@
 -- How the code's faces name what the definitions of faces speak of.
 use Rattle.std.specs.Prelude.{◌≡◌, ℕ, List, [], ◌∷◌, Option, Some, None, map, pos, ◌+ℤ◌}
-use Rattle.tv_cells.specs.Glyph.{shown_char}
+use Rattle.tv_cells.specs.Glyph.{Glyph, shown, shown_char}
 use Rattle.tv_cells.specs.declared.canvas.Canvas.{Canvas}
+use Rattle.tv_faces.specs.declared.frame.Frame.{Frame}
 use Rattle.tv_faces.specs.declared.look.ButtonLook.{ButtonLook as SeenButton}
 use Rattle.tv_faces.specs.declared.look.FrameLook.{FrameLook as SeenFrame}
-use Rattle.tv_model.specs.Screen.Faces.{ButtonLook, FrameLook, pieces_of}
+use Rattle.tv_model.specs.Screen.Faces.{ButtonLook, FrameLook, pieces_of, top_row}
 
 -- how a button stands
 abbrev pub button_look_of : SeenButton → ButtonLook
@@ -13,6 +14,10 @@ button_look_of look = record { is_focused = look.is_focused; is_default_now = lo
 -- how a frame stands
 abbrev pub frame_look_of : SeenFrame → FrameLook
 frame_look_of look = record { number = look.number; is_active = look.is_active; edge = look.edge; inside = look.inside }
+
+-- the first row of a frame
+abbrev pub top_of : Frame → ℕ → Glyph
+top_of f x = shown (top_row f.width f.title.now (frame_look_of f.look) x) f.look.edge
 
 -- the pieces of what is left of a text, if anything is
 abbrev pub pieces_left : Option (List ℕ) → List (List ℕ)

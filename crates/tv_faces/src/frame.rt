@@ -1,11 +1,12 @@
 //! Frames of windows and dialogs.
 
-ghost use Rattle.std.specs.Prelude.{◌≡◌, ◌≤◌, ◌<◌, ◌+◌, ◌^◌, if◌then◌else◌, length};
+ghost use Rattle.std.specs.Prelude.{◌≡◌, ◌≤◌, ◌<◌, ◌+◌, ◌^◌, ℕ, if◌then◌else◌, length, slice_index_or};
+ghost use Rattle.tv_cells.specs.Glyph.{glyph, shown};
 ghost use Rattle.tv_cells.specs.Row.{IsRow};
 ghost use Rattle.tv_palette.specs.Attributes.{attribute_of};
 ghost use Rattle.tv_palette.specs.Chain.{coloured};
 ghost use Rattle.tv_palette.specs.Palettes.{colour_in, owners_of_part};
-ghost use Rattle.tv_model.specs.Screen.Faces.{border, frame_look, frame_role, is_side, titled, top_row};
+ghost use Rattle.tv_model.specs.Screen.Faces.{border, cut_title, frame_look, frame_role, is_side, titled, top_row};
 ghost use Rattle.tv_faces.specs.Looks.{frame_look_of};
 
 use crate::look::FrameLook;
@@ -87,6 +88,14 @@ fn titled(width: usize, title: &[char], is_active: bool, x: usize) -> char
     }
 }
 
+// The title, cut so that the close mark and the number stay free.
+fn cut_title(width: usize, title: &[char]) -> &[char]
+    ensures { result.now ≡ cut_title width title.now }
+{
+    let count = title.len().min(width.saturating_sub(12));
+    &title[..count]
+}
+
 fn top_row(width: usize, title: &[char], look: FrameLook, x: usize) -> char
     requires column { x < 2 ^ 32 }
     requires width { width < 2 ^ 32 }
@@ -97,15 +106,12 @@ fn top_row(width: usize, title: &[char], look: FrameLook, x: usize) -> char
         3 if look.is_active => 'x',
         4 if look.is_active => ']',
         _ if look.number != 0 && x + 4 == width => (b'0' + look.number) as char,
-        _ => {
-            let count = title.len().min(width.saturating_sub(12));
-            titled(width, &title[..count], look.is_active, x)
-        }
+        _ => titled(width, cut_title(width, title), look.is_active, x),
     }
 }
 
 // A row with one cell at both sides and another between them.
-fn between(width: u32, side: Cell, middle: Cell, from: u32, cells: &mut [Cell])
+fn write_between(width: u32, side: Cell, middle: Cell, from: u32, cells: &mut [Cell])
     requires { from + length cells.old ≤ 2 ^ 32 }
     ensures count { length cells.new ≡ length cells.old }
     ensures cells { IsRow (λ x. if is_side width x then side else middle) from cells.new }
@@ -119,6 +125,67 @@ fn between(width: u32, side: Cell, middle: Cell, from: u32, cells: &mut [Cell])
         if last < cells.len() {
             cells[last] = side;
         }
+    }
+}
+
+impl Frame<'_> {
+    ghost use Rattle.tv_cells.specs.Glyph.{blank};
+    ghost use Rattle.tv_faces.specs.Looks.{top_of};
+
+    // The first row: what stands on the border is written over it.
+    fn write_top(&self, from: u32, cells: &mut [Cell])
+        requires { from + length cells.old ≤ 2 ^ 32 }
+        ensures count { length cells.new ≡ length cells.old }
+        ensures cells { IsRow (top_of self.now) from cells.new }
+    {
+        self.write_border(from, cells);
+        let width = self.width as usize;
+        let number = width.saturating_sub(4);
+        let count = cut_title(width, self.title).len() + 2;
+        let start = width.saturating_sub(count) / 2;
+        self.write_top_part(2, 5, from, cells);
+        self.write_top_part(number, number + 1, from, cells);
+        self.write_top_part(start, start + count, from, cells);
+    }
+
+    // The cells of the first row from one column on and before another. The cells that were right already stay.
+    fn write_top_part(&self, start: usize, end: usize, from: u32, cells: &mut [Cell])
+        requires { from + length cells.old ≤ 2 ^ 32 }
+        ensures count { length cells.new ≡ length cells.old }
+        ensures written { (i : ℕ) → i < length cells.new → start ≤ from + i → from + i < end → slice_index_or cells.new i blank ≡ top_of self.now (from + i) }
+        ensures kept { (i : ℕ) → i < length cells.new → slice_index_or cells.old i blank ≡ top_of self.now (from + i) → slice_index_or cells.new i blank ≡ top_of self.now (from + i) }
+    {
+        let width = self.width as usize;
+        let from = from as usize;
+        let first = start.saturating_sub(from);
+        let last = end.saturating_sub(from).min(cells.len());
+        for i in first..last {
+            let ch = top_row(width, self.title, self.look, from + i);
+            cells[i] = Cell::shown(ch, self.look.edge);
+        }
+    }
+
+    // The border with its corners, as the last row is.
+    fn write_border(&self, from: u32, cells: &mut [Cell])
+        requires { from + length cells.old ≤ 2 ^ 32 }
+        ensures count { length cells.new ≡ length cells.old }
+        ensures cells { IsRow (λ x. shown (border self.now.look.is_active self.now.width x) self.now.look.edge) from cells.new }
+    {
+        let look = self.look;
+        let line = if look.is_active { '=' } else { '-' };
+        let side = Cell::shown('+', look.edge);
+        write_between(self.width, side, Cell::shown(line, look.edge), from, cells);
+    }
+
+    // A row inside the frame, with its sides.
+    fn write_inside(&self, from: u32, cells: &mut [Cell])
+        requires { from + length cells.old ≤ 2 ^ 32 }
+        ensures count { length cells.new ≡ length cells.old }
+        ensures cells { IsRow (λ x. if is_side self.now.width x then shown 124 self.now.look.edge else glyph 32 self.now.look.inside) from cells.new }
+    {
+        let look = self.look;
+        let side = Cell::shown('|', look.edge);
+        write_between(self.width, side, Cell::space(look.inside), from, cells);
     }
 }
 
@@ -146,19 +213,12 @@ impl Face for Frame<'_> {
     }
 
     fn row(&self, y: u32, from: u32, cells: &mut [Cell]) {
-        let look = self.look;
         if y == 0 {
-            for (i, cell) in cells.iter_mut().enumerate() {
-                *cell = self.at(from + i as u32, y);
-            }
+            self.write_top(from, cells);
         } else if y as usize + 1 == self.height as usize {
-            let line = if look.is_active { '=' } else { '-' };
-            let side = Cell::shown('+', look.edge);
-            let middle = Cell::shown(line, look.edge);
-            between(self.width, side, middle, from, cells);
+            self.write_border(from, cells);
         } else {
-            let side = Cell::shown('|', look.edge);
-            between(self.width, side, Cell::space(look.inside), from, cells);
+            self.write_inside(from, cells);
         }
     }
 }
