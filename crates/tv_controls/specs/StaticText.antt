@@ -6,12 +6,13 @@ use Rattle.tv_model.specs.declared.kind.Kind.TheVariants as kinds
 use Rattle.tv_model.specs.Machine.State.{Plain}
 use Rattle.tv_model.specs.Controls.Meaning.{Leaf}
 
+-- the kind of a static text
 abbrev pub is_text : Kind → Bool
 is_text (kinds.Text shown) = true
 is_text _ = false
 
--- what a static text holds of its node, and whether it is shown
-pub record Held : Type 0 where
+-- what a static text keeps of its node, and whether it is shown
+pub record TextState : Type 0 where
   pub id : Id
   pub depth : ℕ
   pub x : ℤ
@@ -22,7 +23,7 @@ pub record Held : Type 0 where
   pub is_shown : Bool
 
 -- a leaf without a value, which never has the focus or the mouse and is always enabled
-abbrev pub text_leaf : Held → Leaf
+abbrev pub text_leaf : TextState → Leaf
 text_leaf s = record {
   node = record { id = s.id; depth = s.depth; x = s.x; y = s.y; w = s.w; kind = kinds.Text (record { h = s.h; text = s.text }) };
   value = None;

@@ -3,7 +3,7 @@
 ghost use Rattle.std.specs.Prelude.{◌≡◌, ◌↔◌, IfOk, IsErrOf, false};
 ghost use Rattle.tv_model.specs.Description.Rectangles.{place_of_node};
 ghost use Rattle.tv_model.specs.Controls.Meaning.{IsSmallRect, fresh};
-ghost use Rattle.tv_controls.specs.StaticText.{is_text};
+ghost use Rattle.tv_controls.specs.StaticText.{is_text, text_leaf};
 
 use crate::fault::ControlFault;
 use bitflags::Flags;
@@ -32,12 +32,12 @@ pub struct StaticText {
 
 impl Model for StaticText {
     ghost use Rattle.tv_model.specs.Description.Rectangles.{rect};
-    ghost use Rattle.tv_model.specs.Controls.Meaning.{IsSmallRect, Leaf};
-    ghost use Rattle.tv_controls.specs.StaticText.{text_leaf};
+    ghost use Rattle.tv_model.specs.Controls.Meaning.{IsSmallRect};
+    ghost use Rattle.tv_controls.specs.StaticText.{TextState};
 
-    ghost Value = { Leaf };
+    ghost Value = { TextState };
 
-    ghost view = { λ s. text_leaf (record { id = s.id; depth = s.depth; x = s.x; y = s.y; w = s.w; h = s.h; text = s.text; is_shown = s.is_shown }) };
+    ghost view = { λ s. record { id = s.id; depth = s.depth; x = s.x; y = s.y; w = s.w; h = s.h; text = s.text; is_shown = s.is_shown } };
 
     ghost invariant = { λ s. IsSmallRect (rect s.x s.y s.w s.h) };
 }
@@ -50,7 +50,7 @@ impl StaticText {
     /// `WrongKind` for any other node, `NoMemory` where there is none for the text.
     pub fn new(alloc: Global, node: &Node) -> Result<StaticText, ControlFault>
         requires { IsSmallRect (place_of_node node.now) }
-        ensures made { IfOk result (λ view. view ≡ fresh node.now) }
+        ensures made { IfOk result (λ view. text_leaf view ≡ fresh node.now) }
         ensures wrong { IsErrOf result ControlFault.WrongKind ↔ (is_text node.now.kind ≡ false) }
     {
         match &node.kind {
@@ -72,10 +72,9 @@ impl StaticText {
     }
 }
 
-// In calls that need nothing of the text, reading a field of it still shows the prover that the leaf is a text's.
 #[tactic(auto, unfolding(tv_view::specs::Reactions::answer, tv_view::specs::Effects::Handled, tv_view::specs::Calls::focused_to, tv_view::specs::Calls::item_pressed, tv_view::specs::Calls::IsInvalid, tv_view::specs::Calls::gathered, tv_view::specs::Calls::set_from, tv_view::specs::Calls::applied, tv_view::specs::Drawing::leaf_layers))]
 impl View for StaticText {
-    ghost meaning = { λ text. text };
+    ghost meaning = { text_leaf };
 
     fn id(&self) -> Id {
         self.id
@@ -94,12 +93,10 @@ impl View for StaticText {
     }
 
     fn options(&self) -> Options {
-        let _kind = &self.text;
         Options::empty()
     }
 
     fn handle(&mut self, _event: &Event, _phase: Phase, _env: &Env) -> Reaction {
-        let _text = &self.text;
         Reaction::Pass
     }
 
@@ -122,31 +119,22 @@ impl View for StaticText {
     }
 
     fn focus_to(&mut self, _id: Id) -> bool {
-        let _text = &self.text;
         false
     }
 
-    fn press_item(&mut self, _id: Id, _item: u8) {
-        let _text = &self.text;
-    }
+    fn press_item(&mut self, _id: Id, _item: u8) {}
 
     fn held(&self) -> bool {
-        let _text = &self.text;
         false
     }
 
     fn first_invalid(&self) -> Option<Id> {
-        let _text = &self.text;
         None
     }
 
-    fn get(&self, _values: &mut Record) {
-        let _text = &self.text;
-    }
+    fn get(&self, _values: &mut Record) {}
 
-    fn set(&mut self, _values: &Record) {
-        let _text = &self.text;
-    }
+    fn set(&mut self, _values: &Record) {}
 
     fn apply(&mut self, rules: &Rules) {
         self.is_shown = rules.shows(self.id);

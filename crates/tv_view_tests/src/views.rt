@@ -24,7 +24,9 @@ struct Tally {
 }
 
 impl View for Tally {
-    ghost meaning = { λ tally. tally.text };
+    ghost use Rattle.tv_controls.specs.StaticText.{text_leaf};
+
+    ghost meaning = { λ tally. text_leaf tally.text };
 
     fn id(&self) -> Id {
         self.text.id()
