@@ -3,6 +3,7 @@
 ghost use Rattle.std.specs.Prelude.{◌≡◌, ◌≤◌, pos};
 ghost use Rattle.tv_cells.specs.Rectangle.{IsPointNear};
 
+use crate::lent::{env, rows};
 use anyhow::Result;
 use std::alloc::Global;
 use std::rt::Clock;
@@ -19,9 +20,6 @@ use tv_view::Env;
 
 /// How often the screen is painted.
 const ROUNDS: u32 = 20_000;
-
-/// The columns and rows of the screen.
-const SCREEN: Point = Point { x: 80, y: 25 };
 
 const TITLE: [char; 5] = ['S', 'e', 't', 'u', 'p'];
 
@@ -111,25 +109,12 @@ fn paint_dialog(screen: &mut Screen, desktop: Canvas, texts: &GroupOf<StaticText
     }
 }
 
-// A canvas of rows of the screen.
-fn rows(origin: i32, from: i32, to: i32) -> Canvas
-    ensures { result.origin ≡ record { x = pos 0; y = origin } }
-{
-    Canvas {
-        clip: Rect {
-            a: Point { x: 0, y: from },
-            b: Point { x: SCREEN.x, y: to },
-        },
-        origin: Point { x: 0, y: origin },
-    }
-}
-
 fn paint(screen: &mut Screen, texts: &GroupOf<StaticText>, env: &Env) {
-    let desktop = rows(0, 1, 24);
+    let desktop = rows(80, 0, 1, 24);
     lay(screen, desktop, 80, 25, &Background);
     paint_dialog(screen, desktop, texts, env);
-    lay(screen, rows(0, 0, 1), 80, 1, &EmptyBar);
-    lay(screen, rows(24, 24, 25), 80, 1, &EmptyBar);
+    lay(screen, rows(80, 0, 0, 1), 80, 1, &EmptyBar);
+    lay(screen, rows(80, 24, 24, 25), 80, 1, &EmptyBar);
 }
 
 /// Prints how long a repaint takes.
@@ -142,15 +127,9 @@ pub fn run<R: Clock + Eprint + Alloc>(rt: &R, alloc: Global) -> Result<()> {
     let Ok(texts) = GroupOf::new(inside, texts(alloc)?) else {
         return Ok(());
     };
-    let env = Env {
-        owner: Owner::Dialog,
-        chain: &Chain::of_dialog(),
-        views: &[],
-        commands: &CommandSet::all(),
-        focus: None,
-        default_now: None,
-        is_active: true,
-    };
+    let chain = Chain::of_dialog();
+    let commands = CommandSet::all();
+    let env = env(Owner::Dialog, &chain, &commands);
     let start = Instant::now(rt)?;
     for _ in 0..ROUNDS {
         paint(&mut screen, &texts, &env);

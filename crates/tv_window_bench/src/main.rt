@@ -3,6 +3,7 @@
 #![tactic(auto)]
 
 mod dialog;
+mod lent;
 mod windows;
 
 use anyhow::Result;

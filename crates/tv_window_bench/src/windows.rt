@@ -3,11 +3,12 @@
 ghost use Rattle.std.specs.Prelude.{◌≤◌, ◌≤ℤ◌, pos, IfSome};
 ghost use Rattle.tv_window.specs.Head.{IsLimited, declared_head};
 
+use crate::lent::{env, rows};
 use anyhow::Result;
 use std::alloc::Global;
 use std::rt::Clock;
 use std::time::Instant;
-use tv_cells::{Canvas, Point, Rect, Screen, lay};
+use tv_cells::{Point, Rect, Screen, lay};
 use tv_controls::StaticText;
 use tv_event::CommandSet;
 use tv_faces::{Background, EmptyBar};
@@ -20,9 +21,6 @@ use tv_window::{WindowOf, draw_stack};
 
 /// How often the screen is painted.
 const ROUNDS: u32 = 200;
-
-/// The columns and rows of the screen.
-const SCREEN: Point = Point { x: 132, y: 60 };
 
 // A text over a whole row of a window.
 fn text(alloc: Global, row: u8) -> Result<MemberOf<StaticText>>
@@ -101,47 +99,21 @@ fn windows(alloc: Global) -> Result<Vec<WindowOf<StaticText>>> {
     Ok(windows)
 }
 
-// A canvas of rows of the screen.
-fn rows(origin: i32, from: i32, to: i32) -> Canvas {
-    Canvas {
-        clip: Rect {
-            a: Point { x: 0, y: from },
-            b: Point { x: SCREEN.x, y: to },
-        },
-        origin: Point { x: 0, y: origin },
-    }
-}
-
 fn paint(screen: &mut Screen, windows: &[WindowOf<StaticText>], env: &Env) {
-    let desktop = Canvas {
-        clip: Rect {
-            a: Point { x: 0, y: 1 },
-            b: Point {
-                x: SCREEN.x,
-                y: SCREEN.y - 1,
-            },
-        },
-        origin: Point { x: 0, y: 0 },
-    };
+    let desktop = rows(132, 0, 1, 59);
     lay(screen, desktop, 132, 60, &Background);
     draw_stack(windows, screen, desktop, env);
-    lay(screen, rows(0, 0, 1), 132, 1, &EmptyBar);
-    lay(screen, rows(59, 59, 60), 132, 1, &EmptyBar);
+    lay(screen, rows(132, 0, 0, 1), 132, 1, &EmptyBar);
+    lay(screen, rows(132, 59, 59, 60), 132, 1, &EmptyBar);
 }
 
 /// Prints how long a repaint takes.
 pub fn run<R: Clock + Eprint + Alloc>(rt: &R, alloc: Global) -> Result<()> {
     let mut screen = Screen::new(alloc, 132, 60)?;
     let windows = windows(alloc)?;
-    let env = Env {
-        owner: Owner::Window,
-        chain: &Chain::of_window(),
-        views: &[],
-        commands: &CommandSet::all(),
-        focus: None,
-        default_now: None,
-        is_active: true,
-    };
+    let chain = Chain::of_window();
+    let commands = CommandSet::all();
+    let env = env(Owner::Window, &chain, &commands);
     let start = Instant::now(rt)?;
     for _ in 0..ROUNDS {
         paint(&mut screen, &windows, &env);
