@@ -2,6 +2,7 @@
 #![tactic(auto)]
 
 mod command;
+mod copy;
 mod desc;
 mod fault;
 mod kind;

@@ -1,4 +1,5 @@
-//! The picture language as a plain slow program, and the library compared with it over short pictures.
+//! The picture language as a plain slow program, and the library compared with it over short pictures; worked
+//! examples of pictures and of the domains of inputs.
 #![tactic(auto)]
 
 mod plain;
@@ -9,6 +10,10 @@ pub use tree::{Mark, Tree, spell};
 
 #[cfg(test)]
 mod answers;
+#[cfg(test)]
+mod domains;
+#[cfg(test)]
+mod examples;
 #[cfg(test)]
 mod grammar;
 #[cfg(test)]

@@ -1,6 +1,11 @@
-//! Short texts.
+//! Texts.
 
 use std::alloc::{AllocError, Global};
+
+/// The characters of the text.
+pub fn characters(alloc: Global, text: &str) -> Result<Vec<char>, AllocError> {
+    text.chars().collect(alloc)
+}
 
 /// The text and a character after it.
 pub fn longer(alloc: Global, text: &[char], ch: char) -> Result<Vec<char>, AllocError> {

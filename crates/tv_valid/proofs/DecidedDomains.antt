@@ -1,20 +1,15 @@
 -- What inputs ask of their texts can be decided.
-use Rattle.std.proofs.Common.{◌≡◌, ◌⊎◌, inl, inr, ◌↔◌, ℕ, zero, suc, ◌+◌, ◌-◌, ◌^◌, ◌≤◌, ◌<◌, min, Bool, true, false, List, [], ◌∷◌, ◌++◌, length, get_or, arith, refl, ◌∙◌, sym, ap, subst}
-use Rattle.std.specs.Prelude.{ℤ, pos, neg_ℤ, ◌≤ℤ◌, ◌<ℤ◌, int_le, int_lt, unsigned_abs, Contains, IsTrue}
-use Rattle.std.specs.List.{All}
-use Rattle.std.proofs.lemmas.Bool.{cases_lt}
+use Rattle.std.proofs.Common.{◌≡◌, ◌⊎◌, inl, inr, ℕ, zero, suc, true, List, [], ◌∷◌, length, arith, refl, ◌∙◌, sym, ap, subst}
+use Rattle.std.specs.Prelude.{ℤ, pos, ◌≤ℤ◌, ◌<ℤ◌, int_le, int_lt, Contains}
 use Rattle.std.proofs.lemmas.Int.{ints}
-use Rattle.std.proofs.lemmas.List.Elements.{All-nil, All-cons}
 use Rattle.tv_cells.specs.Glyph.{IsNarrow}
-use Rattle.tv_picture.specs.Pattern.{Pattern, IsDigit}
-use Rattle.tv_picture.specs.Spelling.{IsPicture, spelled}
 use Rattle.tv_valid.specs.declared.input.InputSpec.{InputSpec}
 use Rattle.tv_valid.specs.declared.input.DomainSpec.{DomainSpec}
 use Rattle.tv_valid.specs.declared.input.DomainSpec.TheVariants as asked
 use Rattle.tv_valid.specs.declared.domain.Kind.{Kind}
 use Rattle.tv_valid.specs.declared.domain.Kind.TheVariants.{Any, Filter, Range, Picture}
 use Rattle.tv_valid.specs.declared.domain.Domain.{Domain}
-use Rattle.tv_valid.specs.Domain.{Fits, HasNumber, HasText, InDomain, InKind, IsDomain, IsKind, IsRangeChar, IsViableText, MayBecome}
+use Rattle.tv_valid.specs.Domain.{Fits, IsDomain, IsKind, IsRangeChar, IsViableText, MayBecome}
 use Rattle.tv_valid.proofs.DecidedPictures.{dec_same, dec_or, dec_and, dec_true, dec_le, dec_eq, dec_all, dec_narrow, dec_begins, dec_picture, only_picture, IsSpelled}
 
 pub dec_int_le : (x y : ℤ) → Dec (x ≤ℤ y)

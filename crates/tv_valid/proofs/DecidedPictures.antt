@@ -1,20 +1,18 @@
 -- What pictures allow can be decided.
-use Rattle.std.proofs.Common.{◌≡◌, ◌≢◌, ◌⊎◌, inl, inr, ◌↔◌, ℕ, zero, suc, ◌+◌, ◌*◌, ◌≤◌, ◌<◌, min, Bool, true, false, List, [], ◌∷◌, ◌++◌, length, arith, refl, ◌∙◌, sym, ap, subst, append_assoc, append-nil, length-append}
+use Rattle.std.proofs.Common.{◌≡◌, ◌⊎◌, inl, inr, ◌↔◌, ℕ, zero, suc, ◌+◌, ◌*◌, ◌≤◌, ◌<◌, min, Bool, true, false, List, [], ◌∷◌, ◌++◌, length, arith, refl, ◌∙◌, sym, ap, subst, append_assoc, append-nil, length-append}
 use Rattle.std.specs.Prelude.{Option, Some, None}
-use Rattle.std.specs.Option.{option_eq}
 use Rattle.std.specs.List.{concat, All}
 use Rattle.std.proofs.lemmas.Bool.{cases_lt, true≢false}
 use Rattle.std.proofs.lemmas.List.Elements.{All-nil, All-cons, All-head, All-tail, All-append}
 use Rattle.std.proofs.lemmas.List.Folds.{concat-append}
-use Rattle.std.specs.Char.{IsScalar}
 use Rattle.tv_cells.specs.Glyph.{IsNarrow}
 use Rattle.unicode_width.specs.Width.{char_width}
 use Rattle.tv_picture.specs.declared.code.Mark.{Mark}
 use Rattle.tv_picture.specs.declared.code.Mark.TheVariants.{Digit, Letter, Capital, Any, NotLower, Literal, Quoted}
-use Rattle.tv_picture.specs.Pattern.{Pattern, empty, one, sequence, either, optional, group, many, times, Allows, IsCapital, IsLower, IsDigit, Member, Begins, IsShortest}
+use Rattle.tv_picture.specs.Pattern.{Pattern, empty, one, sequence, either, optional, group, many, times, Allows, Member, Begins, IsShortest}
 use Rattle.tv_picture.specs.Spelling.{spelled, IsPicture}
 use Rattle.tv_picture.specs.Parsing.{Reading, is_closed, merged, text_steps, start}
-use Rattle.tv_picture.proofs.Language.{sample, sample_allowed, has_member, cut, Inside, Past, many_cons, many_one, many_parted, Parted, times_zero, times_one, times-add}
+use Rattle.tv_picture.proofs.Language.{sample, sample_allowed, has_member, cut, Inside, Past, many_cons, many_parted, Parted, times_zero, times_one, times-add}
 use Rattle.tv_picture.proofs.LengthLemmas.{shortest_none, shortest_optional, shortest_many, shortest_class, shortest_wide, shortest_literal, shortest_group, shortest_sequence, shortest_either, shortest_times}
 use Rattle.tv_picture.proofs.Grammar.{state, is_either, pending, picture_goes}
 use Rattle.tv_picture.proofs.Soundness.{steps_spell, start_fine, closes}

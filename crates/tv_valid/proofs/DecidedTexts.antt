@@ -1,17 +1,16 @@
 -- Whether any text lies in a domain can be decided.
-use Rattle.std.proofs.Common.{◌≡◌, ◌⊎◌, inl, inr, ◌↔◌, ℕ, zero, suc, ◌+◌, ◌-◌, ◌^◌, ◌≤◌, ◌<◌, min, Bool, true, false, List, [], ◌∷◌, length, arith, refl, ◌∙◌, sym, ap, subst}
-use Rattle.std.specs.Prelude.{ℤ, pos, neg_ℤ, ◌≤ℤ◌, ◌<ℤ◌, int_lt, unsigned_abs, Contains, IsTrue}
+use Rattle.std.proofs.Common.{◌≡◌, ◌⊎◌, inl, inr, ◌↔◌, ℕ, suc, ◌-◌, ◌^◌, ◌≤◌, ◌<◌, min, Bool, true, false, List, [], length, arith, refl, sym, ap, subst}
+use Rattle.std.specs.Prelude.{ℤ, pos, ◌≤ℤ◌, ◌<ℤ◌, int_lt, unsigned_abs, Contains, IsTrue}
 use Rattle.std.specs.List.{All}
 use Rattle.std.proofs.lemmas.Int.{ints}
 use Rattle.std.proofs.lemmas.List.Elements.{All-nil}
 use Rattle.tv_cells.specs.Glyph.{IsNarrow}
-use Rattle.tv_picture.specs.Pattern.{Pattern, Member, IsNarrowMember, IsShortest}
 use Rattle.tv_valid.specs.declared.domain.Kind.{Kind}
 use Rattle.tv_valid.specs.declared.domain.Kind.TheVariants.{Any, Filter, Range, Picture}
 use Rattle.tv_valid.specs.declared.domain.Domain.{Domain}
-use Rattle.tv_valid.specs.Domain.{Fits, HasNumber, HasText, InDomain, InKind, InRange}
+use Rattle.tv_valid.specs.Domain.{Fits, HasNumber, HasText, InKind, InRange}
 use Rattle.tv_valid.proofs.Numbers.{number_positive, number_negative, number_zero, abs_pos, abs_neg}
-use Rattle.tv_valid.proofs.DecidedPictures.{dec_same, dec_true, dec_le, shortest_of}
+use Rattle.tv_valid.proofs.DecidedPictures.{dec_same, dec_le, shortest_of}
 use Rattle.tv_valid.proofs.DecidedDomains.{dec_int_le}
 
 -- ---- numbers of a range

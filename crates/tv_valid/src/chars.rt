@@ -69,6 +69,13 @@ impl Chars {
         &self.chars
     }
 
+    /// Copies the characters.
+    pub fn copy(&self, alloc: Global) -> Result<Chars, AllocError>
+        ensures { IfOk result (λ copy. copy ≡ self.now) }
+    {
+        Chars::from_slice(alloc, self.as_slice())
+    }
+
     /// Whether these are the same characters.
     pub fn is(&self, other: &Chars) -> bool
         ensures { IsTrue result ↔ (self.now ≡ other.now) }

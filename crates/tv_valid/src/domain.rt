@@ -80,7 +80,7 @@ impl Kind {
     {
         Ok(match spec {
             DomainSpec::Any => Kind::Any,
-            DomainSpec::Filter(set) => Kind::Filter(Chars::from_slice(alloc, set.as_slice())?),
+            DomainSpec::Filter(set) => Kind::Filter(set.copy(alloc)?),
             DomainSpec::Range { least, greatest } => Kind::Range {
                 least: *least,
                 greatest: *greatest,

@@ -1,6 +1,9 @@
 //! What an input line asks of its text.
 
+ghost use Rattle.std.specs.Prelude.{◌≡◌, ◌↔◌, IfOk, IsTrue};
+
 use crate::chars::Chars;
+use std::alloc::{AllocError, Global};
 
 /// The domain of an input, as a description gives it. No text is looked into yet.
 #[derive(Debug, Drop)]
@@ -25,4 +28,64 @@ pub struct InputSpec {
     pub optional: bool,
     /// Whether the literals that must follow are typed by themselves; without effect but for a picture.
     pub fill: bool,
+}
+
+impl DomainSpec {
+    /// Copies the domain, its characters too.
+    pub fn copy(&self, alloc: Global) -> Result<DomainSpec, AllocError>
+        ensures { IfOk result (λ copy. copy ≡ self.now) }
+    {
+        Ok(match self {
+            DomainSpec::Any => DomainSpec::Any,
+            DomainSpec::Filter(set) => DomainSpec::Filter(set.copy(alloc)?),
+            DomainSpec::Range { least, greatest } => DomainSpec::Range {
+                least: *least,
+                greatest: *greatest,
+            },
+            DomainSpec::Picture(text) => DomainSpec::Picture(text.copy(alloc)?),
+        })
+    }
+
+    /// Whether the two are written alike. Domains of the same texts may be written differently.
+    pub fn is(&self, other: &DomainSpec) -> bool
+        ensures { IsTrue result ↔ (self.now ≡ other.now) }
+    {
+        match (self, other) {
+            (DomainSpec::Any, DomainSpec::Any) => true,
+            (DomainSpec::Filter(set), DomainSpec::Filter(other)) => set.is(other),
+            (
+                DomainSpec::Range { least, greatest },
+                DomainSpec::Range {
+                    least: other_least,
+                    greatest: other_greatest,
+                },
+            ) => least == other_least && greatest == other_greatest,
+            (DomainSpec::Picture(text), DomainSpec::Picture(other)) => text.is(other),
+            _ => false,
+        }
+    }
+}
+
+impl InputSpec {
+    /// Copies what the line asks.
+    pub fn copy(&self, alloc: Global) -> Result<InputSpec, AllocError>
+        ensures { IfOk result (λ copy. copy ≡ self.now) }
+    {
+        Ok(InputSpec {
+            max: self.max,
+            domain: self.domain.copy(alloc)?,
+            optional: self.optional,
+            fill: self.fill,
+        })
+    }
+
+    /// Whether the two lines ask the same, in the same words.
+    pub fn is(&self, other: &InputSpec) -> bool
+        ensures { IsTrue result ↔ (self.now ≡ other.now) }
+    {
+        self.max == other.max
+            && self.domain.is(&other.domain)
+            && self.optional == other.optional
+            && self.fill == other.fill
+    }
 }

@@ -11,6 +11,3 @@ pub use chars::Chars;
 pub use domain::{Domain, DomainFault};
 pub use input::{DomainSpec, InputSpec};
 pub use text::Text;
-
-#[cfg(test)]
-mod tests;

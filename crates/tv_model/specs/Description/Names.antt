@@ -1,5 +1,5 @@
 -- Names and what they mean. A name that is given twice means its first declaration.
-use Rattle.std.specs.Prelude.{ℕ, Bool, false, List, find, Option, Some, None, bytes_eq, unwrap_or}
+use Rattle.std.specs.Prelude.{ℕ, Bool, false, List, find, Option, Some, None, bytes_eq}
 use Rattle.tv_model.specs.declared.node.Node.{Node}
 use Rattle.tv_model.specs.Description.Nodes.{name_of, is_control}
 

@@ -1,5 +1,5 @@
 -- What nodes have by their kind, and how they are found.
-use Rattle.std.specs.Prelude.{ℕ, Bool, true, false, List, length, Option, Some, None, ℤ, pos, ◌==◌, find, ◌∷◌, ◌++◌, ◌+◌, flat_map, ◌-◌}
+use Rattle.std.specs.Prelude.{ℕ, Bool, true, false, List, length, Option, Some, None, ℤ, pos, ◌==◌, find}
 use Rattle.tv_model.specs.declared.node.Id.{Id}
 use Rattle.tv_model.specs.declared.node.Node.{Node}
 use Rattle.tv_model.specs.declared.kind.Kind.{Kind}

@@ -1,5 +1,5 @@
 -- Numbers as descriptions have them.
-use Rattle.std.specs.Prelude.{ℕ, Bool, ℤ, pos, negsuc, ◌-◌, ◌&&◌, int_le}
+use Rattle.std.specs.Prelude.{ℕ, Bool, ℤ, pos, negsuc, ◌&&◌, int_le}
 
 -- the number, or 0 below it
 abbrev pub natural : ℤ → ℕ
