@@ -1,12 +1,14 @@
 -- Certificates, and which of them are sound for a description.
-use Rattle.std.specs.Prelude.{◌≡◌, ℕ, ◌==◌, List, IfSome, map, filter, flat_map, filter_map, option_map, option_to_list, All, bytes_eq}
+use Rattle.std.specs.Prelude.{◌≡◌, ℕ, ◌==◌, List, IfSome, map, filter, flat_map, All, bytes_eq}
 use Rattle.tv_model.specs.declared.desc.Desc.{Desc}
 use Rattle.tv_model.specs.declared.desc.Dialog.{Dialog}
-use Rattle.tv_model.specs.Description.Owners.{Owner, owner_of}
+use Rattle.tv_model.specs.Description.Owners.{Owner, owners_of}
 use Rattle.tv_model.specs.Description.Certificates.{dialog_name, letters, tab_order, tabs_of}
 use Rattle.tv_words.specs.Fields.{IsNumber}
-use Rattle.tv_check.specs.declared.certificate.Block.{Block}
-use Rattle.tv_check.specs.declared.certificate.KeyLine.{KeyLine}
+use Rattle.tv_model.specs.declared.desc.Version.TheVariants as versions
+use Rattle.tv_certificate.specs.declared.certificate.Certificate.{Certificate}
+use Rattle.tv_certificate.specs.declared.certificate.Block.{Block}
+use Rattle.tv_certificate.specs.declared.certificate.KeyLine.{KeyLine}
 
 -- ---- what a certificate tells
 
@@ -28,17 +30,18 @@ owners_in lines letter = map owner_named (filter (λ line. line.letter == letter
 
 -- ---- sound certificates
 
--- among the key lines of a dialog, the letter has just the one of its owner, or none where it has no owner
+-- among the key lines of a dialog, those of the letter name its owners: one, or none where it has no owner
 abbrev pub NamesOwner : List KeyLine → Dialog → ℕ → Type 0
-NamesOwner lines dialog letter = owners_in lines letter ≡ option_to_list (owner_of dialog letter)
+NamesOwner lines dialog letter = owners_in lines letter ≡ owners_of dialog letter
 
+-- so does each letter among the key lines of the dialog
 abbrev pub NamesOwners : List Block → Dialog → Type 0
 NamesOwners blocks dialog = All (NamesOwner (key_lines blocks (dialog_name dialog)) dialog) letters
 
 -- the tab lines are the order of Tab, and each letter of each dialog has its owner. A dialog's lines may stand in several blocks
-pub record IsSoundCertificate (d : Desc) (blocks : List Block) : Type 0 where
-  pub tabs : tab_lines blocks ≡ tab_order d
-  pub owners : All (NamesOwners blocks) d.dialogs
+pub record IsSoundCertificate (d : Desc) (certificate : Certificate) : Type 0 where
+  pub tabs : tab_lines certificate.blocks ≡ tab_order d
+  pub owners : All (NamesOwners certificate.blocks) d.dialogs
 
 -- ---- the certificate that is made of a description
 
@@ -46,16 +49,18 @@ pub record IsSoundCertificate (d : Desc) (blocks : List Block) : Type 0 where
 abbrev pub FitsKeyLine : Owner → Type 0
 FitsKeyLine owner = IfSome owner.item IsNumber
 
+-- the key line that names an owner of the letter
 abbrev pub key_line : ℕ → Owner → KeyLine
 key_line letter owner = record { letter = letter; owner = owner.name; item = owner.item }
 
--- a key line for each letter that has an owner, in the order of the letters
+-- a key line for each owner of a letter, in the order of the letters
 abbrev pub keys_of : Dialog → List KeyLine
-keys_of dialog = filter_map (λ letter. option_map (key_line letter) (owner_of dialog letter)) letters
+keys_of dialog = flat_map (λ letter. map (key_line letter) (owners_of dialog letter)) letters
 
+-- the block of a dialog: its tab lines and its key lines
 abbrev pub block_of : Dialog → Block
 block_of dialog = record { dialog = dialog_name dialog; tabs = tabs_of dialog; keys = keys_of dialog }
 
 -- one block for each dialog, in description order
-abbrev pub certificate_of : Desc → List Block
-certificate_of d = map block_of d.dialogs
+abbrev pub certificate_of : Desc → Certificate
+certificate_of d = record { version = versions.One; blocks = map block_of d.dialogs }

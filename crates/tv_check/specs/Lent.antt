@@ -1,15 +1,17 @@
 -- What lent values stand for.
 use Rattle.std.specs.Prelude.{ℕ, ◌+◌, ℤ, pos, List, option_map}
 use Rattle.tv_model.specs.Description.Owners as owners
-use Rattle.tv_check.specs.declared.certificate_owner.Owner.{Owner}
+use Rattle.tv_check.specs.declared.owner.Owner.{Owner}
 use Rattle.tv_check.specs.declared.acceptance_tabs.Tab.{Tab}
 
 -- the number of the item at a place: items count from 1
 abbrev pub item_number : ℕ → ℤ
 item_number place = pos (place + 1)
 
+-- what a letter acts on
 abbrev pub lent_owner : Owner → owners.Owner
 lent_owner o = record { name = o.name.now; item = option_map item_number o.place }
 
+-- the name of a dialog and that of a control
 abbrev pub lent_tab : Tab → List ℕ × List ℕ
 lent_tab tab = (tab.dialog.now, tab.control.now)

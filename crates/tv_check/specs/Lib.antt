@@ -1,5 +1,3 @@
-pub mod CertificateReading
-pub mod CertificateTexts
 pub mod Certificates
 pub mod Lent
 pub mod Plan

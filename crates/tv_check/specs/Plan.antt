@@ -24,6 +24,7 @@ node_in (Opens node) = Some node
 node_in (Makes node) = Some node
 node_in Closes = None
 
+-- a pane begins; any other view is a leaf
 abbrev pub view_step : Node → Planned
 view_step view = if is_pane view.kind then Opens view else Makes view
 

@@ -5,7 +5,8 @@ use Rattle.tv_model.specs.declared.desc.Dialog.{Dialog}
 use Rattle.tv_model.specs.declared.fault.Fault.{Fault}
 use Rattle.tv_model.specs.Faults.{IsSound, faults_of}
 use Rattle.tv_model.specs.Description.Certificates.{dialog_name, letters, tab_order}
-use Rattle.tv_check.specs.declared.certificate.Block.{Block}
+use Rattle.tv_certificate.specs.declared.certificate.Certificate.{Certificate}
+use Rattle.tv_certificate.specs.declared.certificate.Block.{Block}
 use Rattle.tv_check.specs.declared.certification.CertifyFault.{CertifyFault}
 use Rattle.tv_check.specs.declared.certification.CertifyFault.TheVariants as unmade
 use Rattle.tv_check.specs.declared.acceptance.Refusal.{Refusal}
@@ -36,11 +37,11 @@ abbrev pub IsFirstOwner : Desc → List Block → ℕ → Type 0
 IsFirstOwner d blocks letter = (dialog : Dialog) × IsFirstWithout (NamesOwners blocks) d.dialogs dialog × IsFirstWithout (NamesOwner (key_lines blocks (dialog_name dialog)) dialog) letters letter
 
 -- what a refusal says: the faults are looked at first, then the tab lines, then the key lines
-abbrev pub Refuses : Desc → List Block → Refusal → Type 0
-Refuses d blocks refusals.NoMemory = Unit {0}
-Refuses d blocks (refusals.Faulty fault) = IsFirstFault d fault
-Refuses d blocks (refusals.TabOrder place) = IsSound d × DifferFirst (tab_lines blocks) (tab_order d) place
-Refuses d blocks (refusals.Owner letter) = IsSound d × (tab_lines blocks ≡ tab_order d) × IsFirstOwner d blocks letter
+abbrev pub Refuses : Desc → Certificate → Refusal → Type 0
+Refuses d certificate refusals.NoMemory = Unit {0}
+Refuses d certificate (refusals.Faulty fault) = IsFirstFault d fault
+Refuses d certificate (refusals.TabOrder place) = IsSound d × DifferFirst (tab_lines certificate.blocks) (tab_order d) place
+Refuses d certificate (refusals.Owner letter) = IsSound d × (tab_lines certificate.blocks ≡ tab_order d) × IsFirstOwner d certificate.blocks letter
 
 -- the answer is yes, unless memory ran out
 abbrev pub Accepts : {A : Type 0} → Result A (Refusal × Desc) → Type 0

@@ -7,11 +7,11 @@ ghost use Rattle.tv_check.specs.Refusals.{Accepts, Refuses};
 
 use crate::acceptance_owners::first_owner;
 use crate::acceptance_tabs::first_tab;
-use crate::certificate::{Block, Certificate};
 use crate::certification::first_fault;
 use std::alloc::{AllocError, Global};
 use std::marker::Model;
 use thiserror::Error;
+use tv_certificate::Certificate;
 use tv_model::{Desc, Fault};
 
 /// Why a description or its certificate is refused.
@@ -69,10 +69,11 @@ impl Checked {
 }
 
 // The first reason to refuse a sound description's certificate: the order of Tab, then the letters.
-fn compare(alloc: Global, desc: &Desc, blocks: &[Block]) -> Result<(), Refusal>
-    ensures yes { IfOk result (λ _. IsSoundCertificate desc.now blocks.now) }
-    ensures no { IsSound desc.now → IfErr result (Refuses desc.now blocks.now) }
+fn compare(alloc: Global, desc: &Desc, certificate: &Certificate) -> Result<(), Refusal>
+    ensures yes { IfOk result (λ _. IsSoundCertificate desc.now certificate.now) }
+    ensures no { IsSound desc.now → IfErr result (Refuses desc.now certificate.now) }
 {
+    let blocks = certificate.blocks();
     if let Some(place) = first_tab(alloc, desc, blocks)? {
         return Err(Refusal::TabOrder(place));
     }
@@ -89,7 +90,7 @@ fn look(alloc: Global, desc: &Desc, certificate: &Certificate) -> Result<(), Ref
 {
     match first_fault(alloc, desc)? {
         Some(fault) => Err(Refusal::Faulty(fault)),
-        None => compare(alloc, desc, certificate.blocks()),
+        None => compare(alloc, desc, certificate),
     }
 }
 

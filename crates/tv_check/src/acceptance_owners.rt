@@ -6,10 +6,9 @@ ghost use Rattle.tv_check.specs.Certificates.{key_lines, NamesOwner, NamesOwners
 ghost use Rattle.tv_check.specs.Lent.{lent_owner};
 ghost use Rattle.tv_check.specs.Refusals.{IsFirstOwner, IsFirstWithout};
 
-use crate::certificate::{Block, KeyLine};
-use crate::certificate_owner::{Owner, letters, owner_of};
-use crate::certification::dialog_name;
+use crate::owner::{Owner, owner_of};
 use std::alloc::{AllocError, Global};
+use tv_certificate::{Block, KeyLine, letters};
 use tv_model::{Desc, Dialog};
 
 // The key lines of the dialog of this name.
@@ -71,7 +70,7 @@ pub fn first_owner(alloc: Global, desc: &Desc, blocks: &[Block]) -> Result<Optio
     ensures { IfOk result (λ letter. MatchOption letter (All (NamesOwners blocks.now) desc.now.dialogs) (IsFirstOwner desc.now blocks.now)) }
 {
     for dialog in desc.dialogs.as_slice() {
-        let lines = key_lines(alloc, blocks, dialog_name(dialog))?;
+        let lines = key_lines(alloc, blocks, dialog.head().name.as_slice())?;
         if let Some(letter) = first_letter(&lines, dialog) {
             return Ok(Some(letter));
         }

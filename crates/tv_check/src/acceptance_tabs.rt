@@ -6,9 +6,9 @@ ghost use Rattle.tv_check.specs.Certificates.{tab_lines};
 ghost use Rattle.tv_check.specs.Lent.{lent_tab};
 ghost use Rattle.tv_check.specs.Refusals.{DifferFirst};
 
-use crate::certificate::Block;
-use crate::certification::{control_name, dialog_name};
+use crate::certification::control_name;
 use std::alloc::{AllocError, Global};
+use tv_certificate::Block;
 use tv_model::{Desc, Dialog};
 
 // A control beside its dialog, both by name.
@@ -76,7 +76,7 @@ fn add_order<'a>(tabs: &mut Vec<Tab<'a>>, dialog: &'a Dialog) -> Result<(), Allo
     for node in dialog.views.as_slice() {
         if let Some(name) = control_name(&node.kind) {
             tabs.push(Tab {
-                dialog: dialog_name(dialog),
+                dialog: dialog.head().name.as_slice(),
                 control: name.as_slice(),
             })?;
         }

@@ -1,22 +1,22 @@
 //! The certificate that is made of a sound description.
 
 ghost use Rattle.std.specs.Prelude.{◌≡◌, ◌∷◌, [], List, IfOk, IfErr, MatchOption, option_copied};
-ghost use Rattle.tv_model.specs.Description.Certificates.{control_name, dialog_name, tabs_of};
+ghost use Rattle.tv_model.specs.Description.Certificates.{control_name, tabs_of};
 ghost use Rattle.tv_model.specs.Faults.{IsSound};
 ghost use Rattle.tv_faults.specs.Usable.{HasLawfulCounts};
 ghost use Rattle.tv_model.specs.declared.fault.Fault.{Fault as SeenFault};
 ghost use Rattle.tv_check.specs.Certificates.{FitsKeyLine, IsSoundCertificate, block_of, certificate_of, key_line, keys_of};
-ghost use Rattle.tv_check.specs.CertificateTexts.{IsSpelledCertificate};
+ghost use Rattle.tv_certificate.specs.CertificateTexts.{IsSpelledCertificate};
 ghost use Rattle.tv_check.specs.Lent.{lent_owner};
 ghost use Rattle.tv_lang.specs.CanonicalDescription.{CanBeSpelled};
 ghost use Rattle.tv_check.specs.Refusals.{IsFirstFault, RefusesToCertify};
 
-use crate::certificate::{Block, Certificate, KeyLine};
-use crate::certificate_owner::{Owner, letters, owner_of};
+use crate::owner::{Owner, owner_of};
 use std::alloc::{AllocError, Global};
 use thiserror::Error;
+use tv_certificate::{Block, Certificate, KeyLine, letters};
 use tv_faults::faults;
-use tv_model::{Desc, Dialog, Fault, Kind, Sequence};
+use tv_model::{Desc, Dialog, Fault, Kind, Sequence, Version};
 use tv_valid::Chars;
 
 /// Why no certificate is made.
@@ -45,16 +45,6 @@ pub fn copy(alloc: Global, text: &Chars) -> Result<Chars, AllocError>
     ensures { IfOk result (λ copy. copy ≡ text.now) }
 {
     Chars::from_slice(alloc, text.as_slice())
-}
-
-/// The name of the dialog.
-pub fn dialog_name(dialog: &Dialog) -> &[char]
-    ensures { result.now ≡ dialog_name dialog.now }
-{
-    match dialog.node.kind.name() {
-        Some(name) => name.as_slice(),
-        None => &[],
-    }
 }
 
 /// The name of a control.
@@ -105,7 +95,7 @@ fn block_of(alloc: Global, dialog: &Dialog) -> Result<Block, AllocError>
     ensures { IfOk result (λ block. block ≡ block_of dialog.now) }
 {
     Ok(Block {
-        dialog: Chars::from_slice(alloc, dialog_name(dialog))?,
+        dialog: copy(alloc, &dialog.head().name)?,
         tabs: tabs_of(alloc, dialog)?,
         keys: keys_of(alloc, dialog)?,
     })
@@ -119,7 +109,10 @@ fn certificate_of(alloc: Global, desc: &Desc) -> Result<Certificate, AllocError>
     for dialog in desc.dialogs.as_slice() {
         blocks.push(block_of(alloc, dialog)?)?;
     }
-    Ok(Certificate { blocks })
+    Ok(Certificate {
+        version: Version::One,
+        blocks,
+    })
 }
 
 /// The first fault of the description, by number and then by line.
@@ -142,7 +135,7 @@ fn first_of(found: &[Fault]) -> Option<Fault>
 /// The certificate of a sound description: a block for each dialog, in description order.
 pub fn certify(alloc: Global, desc: &Desc) -> Result<Certificate, CertifyFault>
     ensures value { IfOk result (λ certificate. certificate ≡ certificate_of desc.now) }
-    ensures sound { IfOk result (λ certificate. IsSound desc.now × (CanBeSpelled desc.now → IsSoundCertificate desc.now certificate)) }
+    ensures sound { IfOk result (λ certificate. IsSound desc.now × IsSoundCertificate desc.now certificate) }
     ensures spelled { IfOk result (λ certificate. CanBeSpelled desc.now → IsSpelledCertificate certificate) }
     ensures fault { IfErr result (RefusesToCertify desc.now) }
 {

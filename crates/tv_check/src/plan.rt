@@ -1,13 +1,12 @@
 //! The order in which the views of a description are made.
 
 ghost use Rattle.std.specs.Prelude.{◌≡◌, ◌∷◌, ◌++◌, [], filter_map, flat_map, map, replicate, IfOk, OnOk};
-ghost use Rattle.tv_model.specs.Description.Nodes.{is_pane};
 ghost use Rattle.tv_model.specs.Description.Heads.{all_nodes};
 ghost use Rattle.tv_check.specs.Plan.{Closes, lent_step, node_in, owner_plan, plan_of, view_step, views_plan};
 
 use crate::acceptance::Checked;
 use std::alloc::{AllocError, Global};
-use tv_model::{Desc, Dialog, Kind, Node, Window};
+use tv_model::{Desc, Dialog, Node, Window};
 
 /// A step of making views.
 #[derive(Clone, Copy)]
@@ -20,16 +19,10 @@ pub enum BuildStep<'a> {
     Close,
 }
 
-fn is_pane(node: &Node) -> bool
-    ensures { result ≡ is_pane node.now.kind }
-{
-    matches!(node.kind, Kind::Pane { .. })
-}
-
 fn view_step(view: &Node) -> BuildStep
     ensures { lent_step result ≡ view_step view.now }
 {
-    if is_pane(view) {
+    if view.kind.is_pane() {
         BuildStep::Open(view)
     } else {
         BuildStep::Leaf(view)
@@ -53,7 +46,7 @@ fn add_views<'a>(plan: &mut Vec<BuildStep<'a>>, views: &'a [Node]) -> Result<(),
         let depth = usize::from(view.depth);
         close(plan, around.saturating_sub(depth))?;
         plan.push(view_step(view))?;
-        around = around.min(depth) + usize::from(is_pane(view));
+        around = around.min(depth) + usize::from(view.kind.is_pane());
     }
     close(plan, around)
 }

@@ -1,5 +1,5 @@
 use Rattle.tv_model.specs.declared.desc.Desc.{Desc}
-use Rattle.tv_check.proofs.Firsts.{sound_accepted}
+use Rattle.tv_check.proofs.FirstLemmas.{sound_accepted}
 use Rattle.tv_check.proofs.acceptance.accept.Goals as goal
 
 pub returns-in-Err-clause-only : goal.returns-in-Err-clause-only

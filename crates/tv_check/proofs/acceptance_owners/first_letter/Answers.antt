@@ -2,7 +2,7 @@ use Rattle.std.proofs.Common.{◌≡◌, false, map, rules, arith}
 use Rattle.std.proofs.lemmas.Bool.{iff_false}
 use Rattle.tv_model.specs.Description.Certificates.{letters}
 use Rattle.tv_check.specs.Certificates.{NamesOwner}
-use Rattle.tv_check.proofs.Firsts.{goes_on, gone, stops_here}
+use Rattle.tv_check.proofs.FirstLemmas.{goes_on, gone, stops_here}
 use Rattle.tv_check.proofs.acceptance_owners.first_letter.Goals as goal
 
 pub returns-then-not-names_owner : goal.returns-then-not-names_owner

@@ -2,7 +2,7 @@ use Rattle.std.proofs.Common.{◌≡◌, All, map, rules, arith, subst}
 use Rattle.tv_model.specs.Description.Certificates.{dialog_name, letters}
 use Rattle.tv_check.specs.Certificates.{NamesOwner, NamesOwners, key_lines}
 use Rattle.tv_check.specs.Refusals.{IsFirstWithout}
-use Rattle.tv_check.proofs.Firsts.{goes_on, gone, never_first, stops_here}
+use Rattle.tv_check.proofs.FirstLemmas.{goes_on, gone, never_first, stops_here}
 use Rattle.tv_check.proofs.acceptance_owners.first_owner.Goals as goal
 
 pub returns-in-Some : goal.returns-in-Some

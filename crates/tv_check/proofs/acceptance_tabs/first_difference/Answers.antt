@@ -2,7 +2,7 @@ use Rattle.std.proofs.Common.{◌≡◌, map, option_map, rules, sym, ◌∙◌}
 use Rattle.std.specs.Prelude.{slice_get}
 use Rattle.std.proofs.lemmas.Option.{slice_get-map}
 use Rattle.tv_check.specs.Lent.{lent_tab}
-use Rattle.tv_check.proofs.Firsts.{alike_more}
+use Rattle.tv_check.proofs.FirstLemmas.{alike_more}
 use Rattle.tv_check.proofs.acceptance_tabs.first_difference.Goals as goal
 
 pub loop-before-preserved : goal.loop-before-preserved

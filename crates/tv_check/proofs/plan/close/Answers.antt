@@ -1,5 +1,5 @@
 use Rattle.std.proofs.Common.{◌≡◌, suc, ◌+◌, ◌-◌, rules, arith}
-use Rattle.tv_check.proofs.Planning.{one_closed}
+use Rattle.tv_check.proofs.PlanLemmas.{one_closed}
 use Rattle.tv_check.proofs.plan.close.Goals as goal
 
 pub loop-preserved : goal.loop-preserved

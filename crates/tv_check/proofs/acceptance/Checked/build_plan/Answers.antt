@@ -2,7 +2,7 @@ use Rattle.std.proofs.Common.{◌≡◌, filter_map, map, ap, ◌∙◌}
 use Rattle.std.proofs.lemmas.Result.{IfOk-weaker}
 use Rattle.tv_model.specs.Description.Heads.{all_nodes}
 use Rattle.tv_check.specs.Plan.{lent_step, node_in, plan_of}
-use Rattle.tv_check.proofs.Planning.{plan_names}
+use Rattle.tv_check.proofs.PlanLemmas.{plan_names}
 use Rattle.tv_check.proofs.acceptance.Checked.build_plan.Goals as goal
 
 pub returns-clause-nodes : goal.returns-clause-nodes

@@ -1,0 +1,162 @@
+-- How certificates are read, line by line. Private functions are held to these definitions.
+use Rattle.std.specs.Prelude.{◌≡◌, ℕ, ◌+◌, ℤ, List, [], ◌∷◌, ◌++◌, Bool, false, Option, Some, None, option_map, codes, if◌then◌else◌}
+use Rattle.tv_words.specs.declared.word.Word.{Word}
+use Rattle.tv_words.specs.declared.word.Word.TheVariants.{Bare, Quoted}
+use Rattle.tv_words.specs.Fields.{is_bare_word, name_in}
+use Rattle.tv_words.specs.Lines.{lines_of}
+use Rattle.tv_words.specs.Reading.LineWords.{line_taken}
+use Rattle.tv_words.specs.Reading.Numbers.{number_in}
+use Rattle.tv_model.specs.declared.desc.Version.{Version}
+use Rattle.tv_model.specs.declared.desc.Version.TheVariants as versions
+use Rattle.tv_certificate.specs.declared.certificate.Certificate.{Certificate}
+use Rattle.tv_certificate.specs.declared.certificate.Block.{Block}
+use Rattle.tv_certificate.specs.declared.certificate.KeyLine.{KeyLine}
+use Rattle.tv_certificate.specs.declared.reading.CertificateFault.{CertificateFault}
+use Rattle.tv_certificate.specs.declared.reading.CertificateFault.TheVariants.{NoMemory, Syntax, TooLong}
+use Rattle.tv_certificate.specs.declared.progress.Progress.{Progress}
+use Rattle.tv_certificate.specs.declared.progress.Progress.TheVariants.{Fresh, Begun}
+use Rattle.tv_certificate.specs.declared.progress.Stage.{Stage}
+use Rattle.tv_certificate.specs.declared.progress.Stage.TheVariants as stages
+use Rattle.tv_certificate.specs.CertificateTexts.{is_above, is_letter, version_number}
+
+-- ---- words
+
+-- the letter that a text is, if it is one that can be marked
+abbrev pub one_letter : List ℕ → Option ℕ
+one_letter (ch ∷ []) = if is_letter ch then Some ch else None
+one_letter _ = None
+
+-- the letter that a word is
+abbrev pub letter_in : Word → Option ℕ
+letter_in (Bare text) = one_letter text
+letter_in (Quoted text) = None
+
+-- the number at the end of a key line, or its absence
+abbrev pub item_in : List Word → Option (Option ℤ)
+item_in [] = Some None
+item_in (word ∷ []) = option_map (λ item. Some item) (number_in word)
+item_in _ = None
+
+-- the key line of these parts
+abbrev pub key_from : Option ℕ → Option (List ℕ) → Option (Option ℤ) → Option KeyLine
+key_from (Some letter) (Some owner) (Some item) = Some (record { letter = letter; owner = owner; item = item })
+key_from _ _ _ = None
+
+-- the key line that words are
+abbrev pub key_in : List Word → Option KeyLine
+key_in (keyword ∷ letter ∷ owner ∷ item) = if is_bare_word keyword (codes "key") then key_from (letter_in letter) (name_in owner) (item_in item) else None
+key_in _ = None
+
+-- the name in a line of a keyword and a name
+abbrev pub named_in : List ℕ → List Word → Option (List ℕ)
+named_in kind (keyword ∷ name ∷ []) = if is_bare_word keyword kind then name_in name else None
+named_in kind _ = None
+
+-- the line that ends a block
+abbrev pub is_end : List Word → Bool
+is_end (keyword ∷ []) = is_bare_word keyword (codes "end")
+is_end _ = false
+
+-- the version that a word stands for
+abbrev pub version_of : Word → Option Version
+version_of word = if is_bare_word word (version_number versions.One) then Some versions.One else None
+
+-- the version that a first line names
+abbrev pub version_in : List Word → Option Version
+version_in (keyword ∷ version ∷ []) = if is_bare_word keyword (codes "tvcert") then version_of version else None
+version_in _ = None
+
+-- ---- declarations
+
+-- a certificate of which the first line is read
+abbrev pub begun : Version → Progress
+begun version = Begun (record { version = version; blocks = [] }) stages.Between
+
+-- a block of the dialog begins
+abbrev pub opened : Certificate → List ℕ → Progress
+opened read name = Begun read (stages.Tabs name [])
+
+-- between blocks comes a dialog line
+abbrev pub dialog_taken : Certificate → List Word → Option Progress
+dialog_taken read ws = option_map (opened read) (named_in (codes "dialog") ws)
+
+-- one block more
+abbrev pub with_block : Certificate → Block → Certificate
+with_block read block = record read { blocks = read.blocks ++ block ∷ [] }
+
+-- one key line more
+abbrev pub with_key : Block → KeyLine → Block
+with_key block line = record block { keys = block.keys ++ line ∷ [] }
+
+-- a key line has to be above those before it
+abbrev pub after_key : Certificate → Block → Option KeyLine → Option Progress
+after_key read block None = None
+after_key read block (Some line) = if is_above block.keys line then Some (Begun read (stages.Keys (with_key block line))) else None
+
+-- in a block with its tab lines comes a key line or the end
+abbrev pub key_taken : Certificate → Block → List Word → Option Progress
+key_taken read block ws = if is_end ws then Some (Begun (with_block read block) stages.Between) else after_key read block (key_in ws)
+
+-- a line that is no tab line can come only after one
+abbrev pub after_tab : Certificate → List ℕ → List (List ℕ) → Option (List ℕ) → List Word → Option Progress
+after_tab read name tabs (Some tab) ws = Some (Begun read (stages.Tabs name (tabs ++ tab ∷ [])))
+after_tab read name [] None ws = None
+after_tab read name (tab ∷ tabs) None ws = key_taken read (record { dialog = name; tabs = tab ∷ tabs; keys = [] }) ws
+
+-- in a block without key lines comes a tab line, or what comes after these
+abbrev pub tab_taken : Certificate → List ℕ → List (List ℕ) → List Word → Option Progress
+tab_taken read name tabs ws = after_tab read name tabs (named_in (codes "tab") ws) ws
+
+-- one declaration more, after the first
+abbrev pub taken_at : Certificate → Stage → List Word → Option Progress
+taken_at read stages.Between ws = dialog_taken read ws
+taken_at read (stages.Tabs name tabs) ws = tab_taken read name tabs ws
+taken_at read (stages.Keys block) ws = key_taken read block ws
+
+-- one declaration more
+abbrev pub taken : Progress → List Word → Option Progress
+taken Fresh ws = option_map begun (version_in ws)
+taken (Begun read stage) ws = taken_at read stage ws
+
+-- a certificate ends between blocks
+abbrev pub finished_at : Certificate → Stage → Option Certificate
+finished_at read stages.Between = Some read
+finished_at read _ = None
+
+-- the certificate, where it is read to its end
+abbrev pub finished : Progress → Option Certificate
+finished Fresh = None
+finished (Begun read stage) = finished_at read stage
+
+-- ---- lines
+
+-- what reading gives: the certificate, or the number of the first faulty line
+pub data Reading : Type 0 where
+  Value : (certificate : Certificate) → Reading
+  Fault : (line : ℕ) → Reading
+
+-- what the end gives: a line that is missing counts as one
+abbrev pub at_end : ℕ → Option Certificate → Reading
+at_end n None = Fault n
+at_end n (Some certificate) = Value certificate
+
+-- reading on, from the line n
+abbrev pub reading : ℕ → Progress → List (List ℕ) → Reading
+reading n p [] = at_end n (finished p)
+reading n p (l ∷ ls) = elim (line_taken taken p l) as (λ _. Reading) [ None ↦ Fault n | Some further ↦ reading (n + 1) further ls ]
+
+-- what reading a text gives
+abbrev pub reading_of : List ℕ → Reading
+reading_of text = reading 1 Fresh (lines_of text)
+
+-- what a refusal says of a line and what it is taken to
+abbrev pub RefusesLine : CertificateFault → ℕ → Option Progress → Type 0
+RefusesLine NoMemory n further = Unit {0}
+RefusesLine (Syntax line) n further = (line ≡ n) × (further ≡ None)
+RefusesLine TooLong n further = ⊥
+
+-- what a refusal says of what reading gives
+abbrev pub StopsAt : CertificateFault → Reading → Type 0
+StopsAt NoMemory r = Unit {0}
+StopsAt (Syntax line) r = r ≡ Fault line
+StopsAt TooLong r = ⊥

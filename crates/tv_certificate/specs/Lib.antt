@@ -1,0 +1,2 @@
+pub mod CertificateReading
+pub mod CertificateTexts

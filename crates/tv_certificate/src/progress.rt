@@ -1,0 +1,217 @@
+//! How far a certificate is read, declaration by declaration.
+
+ghost use Rattle.std.specs.Prelude.{◌≡◌, IfOk, option_copied};
+ghost use Rattle.tv_certificate.specs.CertificateReading.{begun, dialog_taken, finished, is_end, item_in, key_in, key_taken, letter_in, named_in, one_letter, tab_taken, taken, taken_at};
+ghost use Rattle.tv_certificate.specs.CertificateTexts.{is_above, is_letter};
+
+use crate::alphabet::letters;
+use crate::certificate::{Block, Certificate, KeyLine};
+use crate::version::version_in;
+use std::alloc::{AllocError, Global};
+use tv_model::{Sequence, Version};
+use tv_valid::Chars;
+use tv_words::Word;
+
+/// A certificate that is read up to some declaration.
+#[derive(Drop)]
+pub enum Progress {
+    /// Nothing is read.
+    Fresh,
+    /// The first line is read: the certificate with the blocks that have ended, and what may come next.
+    Begun(Certificate, Stage),
+}
+
+/// Which declarations may come after the first line.
+#[derive(Drop)]
+pub enum Stage {
+    Between,
+    /// The tab lines of this dialog so far, and no key line.
+    Tabs(Chars, Sequence<Chars>),
+    /// A block with its tab lines and at least one key line.
+    Keys(Block),
+}
+
+impl Progress {
+    /// Goes on by the declaration, or gives `None` where it can't come here.
+    pub fn take(self, alloc: Global, words: &[Word]) -> Result<Option<Progress>, AllocError>
+        ensures { IfOk result (λ further. further ≡ taken self words.now) }
+    {
+        match self {
+            Progress::Fresh => Ok(version_in(words).map(|version| begun(alloc, version))),
+            Progress::Begun(read, stage) => further(alloc, read, stage, words),
+        }
+    }
+
+    /// The certificate, where it is read to its end.
+    pub fn finish(self) -> Option<Certificate>
+        ensures { result ≡ finished self }
+    {
+        match self {
+            Progress::Begun(certificate, Stage::Between) => Some(certificate),
+            _ => None,
+        }
+    }
+}
+
+// A certificate of which the first line is read.
+fn begun(alloc: Global, version: Version) -> Progress
+    ensures { result ≡ begun version }
+{
+    let blocks = Sequence::new(alloc);
+    Progress::Begun(Certificate { version, blocks }, Stage::Between)
+}
+
+// After the first line.
+fn further(
+    alloc: Global,
+    read: Certificate,
+    stage: Stage,
+    words: &[Word],
+) -> Result<Option<Progress>, AllocError>
+    ensures { IfOk result (λ further. further ≡ taken_at read stage words.now) }
+{
+    match stage {
+        Stage::Between => dialog(alloc, read, words),
+        Stage::Tabs(dialog, tabs) => tab(alloc, read, dialog, tabs, words),
+        Stage::Keys(block) => key(alloc, read, block, words),
+    }
+}
+
+fn copy(alloc: Global, text: &Chars) -> Result<Chars, AllocError>
+    ensures { IfOk result (λ copy. copy ≡ text.now) }
+{
+    Chars::from_slice(alloc, text.as_slice())
+}
+
+// The name in a line of this keyword and a name.
+fn named<'a>(keyword: &[u8], words: &'a [Word]) -> Option<&'a Chars>
+    ensures { option_copied result ≡ named_in keyword.now words.now }
+{
+    match words {
+        [first, name] if first.is(keyword) => name.name(),
+        _ => None,
+    }
+}
+
+fn dialog(alloc: Global, read: Certificate, words: &[Word]) -> Result<Option<Progress>, AllocError>
+    ensures { IfOk result (λ further. further ≡ dialog_taken read words.now) }
+{
+    let Some(name) = named(b"dialog", words) else {
+        return Ok(None);
+    };
+    let stage = Stage::Tabs(copy(alloc, name)?, Sequence::new(alloc));
+    Ok(Some(Progress::Begun(read, stage)))
+}
+
+fn tab(
+    alloc: Global,
+    read: Certificate,
+    dialog: Chars,
+    mut tabs: Sequence<Chars>,
+    words: &[Word],
+) -> Result<Option<Progress>, AllocError>
+    ensures { IfOk result (λ further. further ≡ tab_taken read dialog tabs words.now) }
+{
+    if let Some(name) = named(b"tab", words) {
+        tabs.push(copy(alloc, name)?)?;
+        let stage = Stage::Tabs(dialog, tabs);
+        return Ok(Some(Progress::Begun(read, stage)));
+    }
+    if tabs.as_slice().is_empty() {
+        return Ok(None);
+    }
+    let keys = Sequence::new(alloc);
+    key(alloc, read, Block { dialog, tabs, keys }, words)
+}
+
+fn is_end(words: &[Word]) -> bool
+    ensures { result ≡ is_end words.now }
+{
+    match words {
+        [keyword] => keyword.is(b"end"),
+        _ => false,
+    }
+}
+
+fn key(
+    alloc: Global,
+    mut read: Certificate,
+    mut block: Block,
+    words: &[Word],
+) -> Result<Option<Progress>, AllocError>
+    ensures { IfOk result (λ further. further ≡ key_taken read block words.now) }
+{
+    if is_end(words) {
+        read.blocks.push(block)?;
+        return Ok(Some(Progress::Begun(read, Stage::Between)));
+    }
+    let Some(line) = key_line(alloc, words)? else {
+        return Ok(None);
+    };
+    if !is_above(block.keys.as_slice(), &line) {
+        return Ok(None);
+    }
+    block.keys.push(line)?;
+    Ok(Some(Progress::Begun(read, Stage::Keys(block))))
+}
+
+fn key_line(alloc: Global, words: &[Word]) -> Result<Option<KeyLine>, AllocError>
+    ensures { IfOk result (λ line. line ≡ key_in words.now) }
+{
+    let [keyword, letter, owner, item @ ..] = words else {
+        return Ok(None);
+    };
+    if !keyword.is(b"key") {
+        return Ok(None);
+    }
+    match (letter_in(letter), owner.name(), item_in(item)) {
+        (Some(letter), Some(owner), Some(item)) => Ok(Some(KeyLine {
+            letter,
+            owner: copy(alloc, owner)?,
+            item,
+        })),
+        _ => Ok(None),
+    }
+}
+
+fn is_letter(ch: char) -> bool
+    ensures { result ≡ is_letter ch }
+{
+    letters().iter().any(|letter| *letter == ch)
+}
+
+fn one_letter(text: &[char]) -> Option<char>
+    ensures { result ≡ one_letter text.now }
+{
+    match text {
+        [ch] if is_letter(*ch) => Some(*ch),
+        _ => None,
+    }
+}
+
+fn letter_in(word: &Word) -> Option<char>
+    ensures { result ≡ letter_in word.now }
+{
+    match word {
+        Word::Bare(text) => one_letter(text.as_slice()),
+        Word::Quoted(_) => None,
+    }
+}
+
+// The number at the end of a key line, where there is one.
+fn item_in(words: &[Word]) -> Option<Option<i32>>
+    ensures { result ≡ item_in words.now }
+{
+    match words {
+        [] => Some(None),
+        [word] => Some(Some(word.number()?)),
+        _ => None,
+    }
+}
+
+// Whether the letter is above those before it.
+fn is_above(before: &[KeyLine], line: &KeyLine) -> bool
+    ensures { result ≡ is_above before.now line.now }
+{
+    before.iter().all(|earlier| earlier.letter < line.letter)
+}

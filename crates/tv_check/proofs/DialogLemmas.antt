@@ -1,0 +1,66 @@
+-- What a text spells of a description's dialogs.
+use Rattle.std.proofs.Common.{ℕ, ◌+◌, List, [], ◌∷◌, ◌++◌, map, flat_map}
+use Rattle.std.specs.List.{AllByRecursion}
+use Rattle.tv_model.specs.declared.node.Node.{Node}
+use Rattle.tv_model.specs.declared.desc.Desc.{Desc}
+use Rattle.tv_model.specs.declared.desc.Dialog.{Dialog}
+use Rattle.tv_declarations.specs.declared.declaration.Declaration.{Declaration}
+use Rattle.tv_declarations.specs.declared.declaration.Declaration.TheVariants as declared
+use Rattle.tv_lang.specs.CanonicalDescription.{CanBeSpelled}
+use Rattle.tv_declarations.specs.Spelling.{IsDescription, declarations_of, dialog_declarations, ends_of_panes, menu_declarations, open_after, start_declarations, view_declarations, window_declarations}
+use Rattle.tv_declarations.specs.Spelling.Declarations.{AreDeclarations, IsDeclaration}
+use Rattle.tv_declarations.specs.Spelling.Nodes.{IsKind}
+
+-- a node is of a kind that can be spelled
+abbrev HasKind : Declaration → Type 0
+HasKind (declared.Node node) = IsKind node.kind
+HasKind _ = Unit {0}
+
+has_kind : (line : ℕ) (d : Declaration) → IsDeclaration line d → HasKind d
+has_kind line (declared.Node node) is = is.kind
+has_kind line _ is = tt
+
+have_kinds : (line : ℕ) (ds : List Declaration) → AreDeclarations line ds → AllByRecursion HasKind ds
+have_kinds line [] are = tt
+have_kinds line (d ∷ ds) are = (has_kind line d are.0, have_kinds (line + 1) ds are.1)
+
+first_of : (xs ys : List Declaration) → AllByRecursion HasKind (xs ++ ys) → AllByRecursion HasKind xs
+first_of [] ys have = tt
+first_of (x ∷ xs) ys have = (have.0, first_of xs ys have.1)
+
+second_of : (xs ys : List Declaration) → AllByRecursion HasKind (xs ++ ys) → AllByRecursion HasKind ys
+second_of [] ys have = have
+second_of (x ∷ xs) ys have = second_of xs ys have.1
+
+abbrev pub ViewKind : Node → Type 0
+ViewKind view = IsKind view.kind
+
+view_kinds : (panes : ℕ) (views : List Node) → AllByRecursion HasKind (view_declarations panes views) → AllByRecursion ViewKind views
+view_kinds panes [] have = tt
+view_kinds panes (view ∷ views) have =
+    let here = second_of (ends_of_panes panes view.depth) (declared.Node view ∷ view_declarations (open_after view) views) have in
+    (here.0, view_kinds (open_after view) views here.1)
+
+-- a dialog whose own line and whose views can be spelled
+pub record IsSpelledDialog (dialog : Dialog) : Type 0 where
+  pub own : IsKind dialog.node.kind
+  pub views : AllByRecursion ViewKind dialog.views
+
+spelled_dialogs : (dialogs : List Dialog) → AllByRecursion HasKind (flat_map dialog_declarations dialogs) → AllByRecursion IsSpelledDialog dialogs
+spelled_dialogs [] have = tt
+spelled_dialogs (dialog ∷ dialogs) have =
+    let own = first_of (dialog_declarations dialog) (flat_map dialog_declarations dialogs) have in
+    let views = first_of (view_declarations 0 dialog.views) (map (λ rule. declared.Rule rule) dialog.rules ++ declared.End ∷ []) own.1 in (
+      record { own = own.0; views = view_kinds 0 dialog.views views },
+      spelled_dialogs dialogs (second_of (dialog_declarations dialog) (flat_map dialog_declarations dialogs) have),
+    )
+
+pub dialogs_spelled : (d : Desc) → CanBeSpelled d → AllByRecursion IsSpelledDialog d.dialogs
+dialogs_spelled d can =
+    let is : IsDescription d = can.1.can in
+    let all = have_kinds 1 (declarations_of d) is.declarations in
+    let after_start = second_of (start_declarations d.start) _ all.1.1 in
+    let after_menus = second_of (flat_map menu_declarations d.menus) _ after_start in
+    let after_status = second_of (map (λ item. declared.Status item) d.status) _ after_menus in
+    let after_windows = second_of (flat_map window_declarations d.windows) (flat_map dialog_declarations d.dialogs) after_status in
+    spelled_dialogs d.dialogs after_windows
