@@ -1,10 +1,24 @@
 //! Commands as words.
 
-ghost use Rattle.std.specs.Prelude.{◌≡◌};
-ghost use Rattle.tv_declarations.specs.Reading.Commands.{command_in, named_command, ends_in, is_next, after_next, button_options_in};
+ghost use Rattle.std.specs.Prelude.{◌≡◌, option_copied};
+ghost use Rattle.tv_declarations.specs.Spelling.Terms.{command_name};
+ghost use Rattle.tv_declarations.specs.Reading.Commands.{command_in, first_named, named_command, ends_in, is_next, after_next, button_options_in};
 
+use crate::keywords;
 use tv_model::{CommandSpec, Ends};
 use tv_words::Word;
+
+/// The commands that have a word.
+const NAMED: [CommandSpec; 8] = [
+    CommandSpec::Quit,
+    CommandSpec::Menu,
+    CommandSpec::Close,
+    CommandSpec::Next,
+    CommandSpec::Ok,
+    CommandSpec::Cancel,
+    CommandSpec::Yes,
+    CommandSpec::No,
+];
 
 /// The command that a word names.
 pub fn command(word: &Word) -> Option<CommandSpec>
@@ -19,24 +33,31 @@ pub fn command(word: &Word) -> Option<CommandSpec>
 fn named_command(word: &Word) -> Option<CommandSpec>
     ensures { result ≡ named_command word.now }
 {
-    if word.is(b"quit") {
-        Some(CommandSpec::Quit)
-    } else if word.is(b"menu") {
-        Some(CommandSpec::Menu)
-    } else if word.is(b"close") {
-        Some(CommandSpec::Close)
-    } else if word.is(b"next") {
-        Some(CommandSpec::Next)
-    } else if word.is(b"ok") {
-        Some(CommandSpec::Ok)
-    } else if word.is(b"cancel") {
-        Some(CommandSpec::Cancel)
-    } else if word.is(b"yes") {
-        Some(CommandSpec::Yes)
-    } else if word.is(b"no") {
-        Some(CommandSpec::No)
-    } else {
-        None
+    first_named(&NAMED, word).copied()
+}
+
+fn first_named<'a>(commands: &'a [CommandSpec], word: &Word) -> Option<&'a CommandSpec>
+    ensures { option_copied result ≡ first_named commands.now word.now }
+{
+    commands
+        .iter()
+        .find(|command| word.is(command_name(**command)))
+}
+
+/// The word of a command that has one. A command with a number has none, and gets the empty text.
+pub fn command_name(command: CommandSpec) -> &'static [u8]
+    ensures { result.now ≡ command_name command }
+{
+    match command {
+        CommandSpec::Quit => b"quit",
+        CommandSpec::Menu => b"menu",
+        CommandSpec::Close => b"close",
+        CommandSpec::Next => b"next",
+        CommandSpec::Ok => b"ok",
+        CommandSpec::Cancel => b"cancel",
+        CommandSpec::Yes => b"yes",
+        CommandSpec::No => b"no",
+        CommandSpec::Number(_) => b"",
     }
 }
 
@@ -44,10 +65,10 @@ fn named_command(word: &Word) -> Option<CommandSpec>
 pub fn ends(words: &[Word]) -> Option<Ends>
     ensures { result ≡ ends_in words.now }
 {
-    let (ok, words) = skip(words, b"ok");
-    let (cancel, words) = skip(words, b"cancel");
-    let (yes, words) = skip(words, b"yes");
-    let (no, words) = skip(words, b"no");
+    let (ok, words) = skip(words, command_name(CommandSpec::Ok));
+    let (cancel, words) = skip(words, command_name(CommandSpec::Cancel));
+    let (yes, words) = skip(words, command_name(CommandSpec::Yes));
+    let (no, words) = skip(words, command_name(CommandSpec::No));
     words.is_empty().then_some(Ends {
         ok,
         cancel,
@@ -60,8 +81,8 @@ pub fn ends(words: &[Word]) -> Option<Ends>
 pub fn button_options(words: &[Word]) -> Option<(bool, bool)>
     ensures { result ≡ button_options_in words.now }
 {
-    let (is_default, words) = skip(words, b"default");
-    let (grabs, words) = skip(words, b"grab");
+    let (is_default, words) = skip(words, keywords::DEFAULT);
+    let (grabs, words) = skip(words, keywords::GRAB);
     words.is_empty().then_some((is_default, grabs))
 }
 

@@ -7,6 +7,7 @@ ghost use Rattle.tv_declarations.specs.Reading.Declarations.{version_in, screen_
 
 use crate::command::command;
 use crate::keys::key;
+use crate::keywords;
 use crate::node::{copy, mark, node};
 use crate::place::Position;
 use std::alloc::{AllocError, Global};
@@ -62,23 +63,23 @@ fn line(
 ) -> Result<Option<Declaration>, AllocError>
     ensures { IfOk result (λ found. found ≡ line_in at keyword.now fields.now) }
 {
-    if keyword.is(b"tvd") {
+    if keyword.is(keywords::TVD) {
         Ok(version(fields))
-    } else if keyword.is(b"screen") {
+    } else if keyword.is(keywords::SCREEN) {
         Ok(screen(fields))
-    } else if keyword.is(b"start") {
+    } else if keyword.is(keywords::START) {
         start(alloc, fields)
-    } else if keyword.is(b"menu") {
+    } else if keyword.is(keywords::MENU) {
         menu(alloc, at, fields)
-    } else if keyword.is(b"item") {
+    } else if keyword.is(keywords::ITEM) {
         item(alloc, at, fields)
-    } else if keyword.is(b"status") {
+    } else if keyword.is(keywords::STATUS) {
         status(alloc, at, fields)
-    } else if keyword.is(b"show") {
+    } else if keyword.is(keywords::SHOW) {
         show(alloc, at, fields)
-    } else if keyword.is(b"enable") {
+    } else if keyword.is(keywords::ENABLE) {
         enable(alloc, at, fields)
-    } else if keyword.is(b"end") {
+    } else if keyword.is(keywords::END) {
         Ok(end(fields))
     } else {
         node_declared(alloc, at, keyword, fields)
@@ -201,7 +202,7 @@ fn rule(
     let [keyword, cluster, item] = condition else {
         return Ok(None);
     };
-    if !keyword.is(b"when") {
+    if !keyword.is(keywords::WHEN) {
         return Ok(None);
     }
     let (Some(cluster), Some(item)) = (cluster.name(), item.number()) else {

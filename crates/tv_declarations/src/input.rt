@@ -5,6 +5,7 @@ ghost use Rattle.std.specs.Option.{option_map};
 ghost use Rattle.tv_declarations.specs.Reading.Inputs.{filter_in, picture_in, range_in, domain_in, options_in, asked_after, asked_in, input_in};
 
 use crate::command::skip;
+use crate::keywords;
 use crate::node::copy;
 use crate::place::{Place, Position};
 use std::alloc::{AllocError, Global};
@@ -101,13 +102,13 @@ fn domain<'a>(
     let [keyword, fields @ ..] = words else {
         return Ok(None);
     };
-    if keyword.is(b"any") {
+    if keyword.is(keywords::ANY) {
         Ok(Some((DomainSpec::Any, fields)))
-    } else if keyword.is(b"filter") {
+    } else if keyword.is(keywords::FILTER) {
         filter(alloc, fields)
-    } else if keyword.is(b"range") {
+    } else if keyword.is(keywords::RANGE) {
         Ok(range(fields))
-    } else if keyword.is(b"picture") {
+    } else if keyword.is(keywords::PICTURE) {
         picture(alloc, fields)
     } else {
         Ok(None)
@@ -161,9 +162,9 @@ fn range(fields: &[Word]) -> Option<(DomainSpec, &[Word])>
 fn read_options(words: &[Word]) -> Option<Options>
     ensures { result ≡ options_in words.now }
 {
-    let (validates, words) = skip(words, b"validate");
-    let (optional, words) = skip(words, b"optional");
-    let (fill, words) = skip(words, b"fill");
+    let (validates, words) = skip(words, keywords::VALIDATE);
+    let (optional, words) = skip(words, keywords::OPTIONAL);
+    let (fill, words) = skip(words, keywords::FILL);
     words.is_empty().then_some(Options {
         validates,
         optional,

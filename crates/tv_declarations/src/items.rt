@@ -5,6 +5,7 @@ ghost use Rattle.tv_declarations.specs.Reading.Clusters.{item_taken, items_in, w
 ghost use Rattle.tv_words.specs.Reading.Steps.{steps};
 ghost use Rattle.tv_declarations.specs.Spelling.Nodes.{is_rising};
 
+use crate::keywords;
 use crate::marked::marked;
 use crate::node::copy;
 use std::alloc::{AllocError, Global};
@@ -78,7 +79,7 @@ fn text_taken(
             texts.push(copy(alloc, text)?)?;
             Ok(Some(Items { texts, start: None }))
         }
-        Word::Bare(_) if word.is(b"start") => Ok(Some(Items {
+        Word::Bare(_) if word.is(keywords::START) => Ok(Some(Items {
             texts,
             start: Some(Sequence::new(alloc)),
         })),

@@ -1,10 +1,32 @@
 //! Keys as words.
 
-ghost use Rattle.std.specs.Prelude.{◌≡◌};
-ghost use Rattle.tv_declarations.specs.Reading.Keys.{moving_key, named_key, control_key, control_letter, is_control, alt_key, alt_letter, is_alt, function_in, function_key, key_of, lettered_key, key_in};
+ghost use Rattle.std.specs.Prelude.{◌≡◌, option_copied};
+ghost use Rattle.tv_declarations.specs.Spelling.Keys.{key_name};
+ghost use Rattle.tv_declarations.specs.Reading.Keys.{first_named, named_key, control_key, control_letter, is_control, alt_key, alt_letter, is_alt, function_in, function_key, key_of, lettered_key, key_in};
 
 use tv_event::Key;
 use tv_words::{Word, number};
+
+/// The keys that have a name of their own.
+const NAMED: [Key; 17] = [
+    Key::Tab,
+    Key::ShiftTab,
+    Key::Enter,
+    Key::Esc,
+    Key::Up,
+    Key::Down,
+    Key::Left,
+    Key::Right,
+    Key::Home,
+    Key::End,
+    Key::PageUp,
+    Key::PageDown,
+    Key::CtrlPageUp,
+    Key::CtrlPageDown,
+    Key::Backspace,
+    Key::Delete,
+    Key::Insert,
+];
 
 /// The key that a word names.
 pub fn key(word: &Word) -> Option<Key>
@@ -19,50 +41,39 @@ pub fn key(word: &Word) -> Option<Key>
 fn named_key(word: &Word) -> Option<Key>
     ensures { result ≡ named_key word.now }
 {
-    if word.is(b"Tab") {
-        Some(Key::Tab)
-    } else if word.is(b"Shift-Tab") {
-        Some(Key::ShiftTab)
-    } else if word.is(b"Enter") {
-        Some(Key::Enter)
-    } else if word.is(b"Esc") {
-        Some(Key::Esc)
-    } else if word.is(b"Backspace") {
-        Some(Key::Backspace)
-    } else if word.is(b"Del") {
-        Some(Key::Delete)
-    } else if word.is(b"Ins") {
-        Some(Key::Insert)
-    } else {
-        moving_key(word)
-    }
+    first_named(&NAMED, word).copied()
 }
 
-fn moving_key(word: &Word) -> Option<Key>
-    ensures { result ≡ moving_key word.now }
+fn first_named<'a>(keys: &'a [Key], word: &Word) -> Option<&'a Key>
+    ensures { option_copied result ≡ first_named keys.now word.now }
 {
-    if word.is(b"Up") {
-        Some(Key::Up)
-    } else if word.is(b"Down") {
-        Some(Key::Down)
-    } else if word.is(b"Left") {
-        Some(Key::Left)
-    } else if word.is(b"Right") {
-        Some(Key::Right)
-    } else if word.is(b"Home") {
-        Some(Key::Home)
-    } else if word.is(b"End") {
-        Some(Key::End)
-    } else if word.is(b"PgUp") {
-        Some(Key::PageUp)
-    } else if word.is(b"PgDn") {
-        Some(Key::PageDown)
-    } else if word.is(b"Ctrl-PgUp") {
-        Some(Key::CtrlPageUp)
-    } else if word.is(b"Ctrl-PgDn") {
-        Some(Key::CtrlPageDown)
-    } else {
-        None
+    keys.iter().find(|key| word.is(key_name(**key)))
+}
+
+/// The name of a key that has one of its own. A key with a letter, a digit or a number has none, and gets the empty
+/// text.
+pub fn key_name(key: Key) -> &'static [u8]
+    ensures { result.now ≡ key_name key }
+{
+    match key {
+        Key::Tab => b"Tab",
+        Key::ShiftTab => b"Shift-Tab",
+        Key::Enter => b"Enter",
+        Key::Esc => b"Esc",
+        Key::Up => b"Up",
+        Key::Down => b"Down",
+        Key::Left => b"Left",
+        Key::Right => b"Right",
+        Key::Home => b"Home",
+        Key::End => b"End",
+        Key::PageUp => b"PgUp",
+        Key::PageDown => b"PgDn",
+        Key::CtrlPageUp => b"Ctrl-PgUp",
+        Key::CtrlPageDown => b"Ctrl-PgDn",
+        Key::Backspace => b"Backspace",
+        Key::Delete => b"Del",
+        Key::Insert => b"Ins",
+        Key::Ctrl(_) | Key::Function(_) | Key::Alt(_) | Key::Char(_) => b"",
     }
 }
 

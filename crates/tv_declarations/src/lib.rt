@@ -7,9 +7,12 @@ mod declaration;
 mod input;
 mod items;
 mod keys;
+pub mod keywords;
 mod marked;
 mod node;
 mod place;
 
+pub use command::command_name;
 pub use declaration::{Declaration, declared};
+pub use keys::key_name;
 pub use place::Position;

@@ -9,6 +9,7 @@ ghost use Rattle.tv_declarations.specs.Reading.Nodes.{text_in_fields, label_from
 use crate::cluster::{checks, list, radios};
 use crate::command::{button_options, command, ends};
 use crate::input::input;
+use crate::keywords;
 use crate::marked::marked;
 use crate::place::{Place, Position};
 use std::alloc::{AllocError, Global};
@@ -44,17 +45,17 @@ pub fn node(
 ) -> Result<Option<Node>, AllocError>
     ensures { IfOk result (λ found. found ≡ node_in at keyword.now fields.now) }
 {
-    if keyword.is(b"text") {
+    if keyword.is(keywords::TEXT) {
         text(alloc, at, fields)
-    } else if keyword.is(b"label") {
+    } else if keyword.is(keywords::LABEL) {
         label(alloc, at, fields)
-    } else if keyword.is(b"button") {
+    } else if keyword.is(keywords::BUTTON) {
         button(alloc, at, fields)
-    } else if keyword.is(b"pane") {
+    } else if keyword.is(keywords::PANE) {
         pane(alloc, at, fields)
-    } else if keyword.is(b"window") {
+    } else if keyword.is(keywords::WINDOW) {
         window(alloc, at, fields)
-    } else if keyword.is(b"dialog") {
+    } else if keyword.is(keywords::DIALOG) {
         dialog(alloc, at, fields)
     } else {
         control(alloc, at, keyword, fields)
@@ -69,13 +70,13 @@ fn control(
 ) -> Result<Option<Node>, AllocError>
     ensures { IfOk result (λ found. found ≡ control_in at keyword.now fields.now) }
 {
-    if keyword.is(b"input") {
+    if keyword.is(keywords::INPUT) {
         input(alloc, at, fields)
-    } else if keyword.is(b"checks") {
+    } else if keyword.is(keywords::CHECKS) {
         checks(alloc, at, fields)
-    } else if keyword.is(b"radios") {
+    } else if keyword.is(keywords::RADIOS) {
         radios(alloc, at, fields)
-    } else if keyword.is(b"list") {
+    } else if keyword.is(keywords::LIST) {
         list(alloc, at, fields)
     } else {
         Ok(None)
@@ -233,9 +234,9 @@ fn commands(words: &[Word]) -> Option<(Option<i32>, Ends)>
     let [keyword, fields @ ..] = words else {
         return None;
     };
-    if keyword.is(b"ends") {
+    if keyword.is(keywords::ENDS) {
         Some((None, ends(fields)?))
-    } else if keyword.is(b"opens") {
+    } else if keyword.is(keywords::OPENS) {
         opened(fields)
     } else {
         None
@@ -246,7 +247,7 @@ fn opened(fields: &[Word]) -> Option<(Option<i32>, Ends)>
     ensures { result ≡ opened_in fields.now }
 {
     match fields {
-        [number, keyword, end_words @ ..] if keyword.is(b"ends") => Some((
+        [number, keyword, end_words @ ..] if keyword.is(keywords::ENDS) => Some((
             Some(number.number()?),
             ends(end_words)?,
         )),

@@ -1,8 +1,8 @@
 pub mod OpenedLemmas
-pub mod StageLaws
-pub mod GivenLaws
-pub mod ReachLaws
-pub mod LineSteps
-pub mod DescriptionTexts
-pub mod ReadingLaws
-pub mod PrintLaws
+pub mod StageLemmas
+pub mod GivenLemmas
+pub mod ReachLemmas
+pub mod LineStepLemmas
+pub mod DescriptionTextLemmas
+pub mod ReadingLemmas
+pub mod PrintLemmas

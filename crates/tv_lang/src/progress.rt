@@ -6,7 +6,7 @@ ghost use Rattle.tv_lang.specs.Reading.Stages.{finished, fresh, progress, taken_
 
 use crate::stage::Stage;
 use std::alloc::{AllocError, Global};
-use tv_declarations::{Declaration, Position, declared};
+use tv_declarations::{Declaration, Position, declared, keywords};
 use tv_model::{Desc, Id, Sequence, Version};
 use tv_words::Word;
 
@@ -45,7 +45,7 @@ impl Progress {
         ensures { result ≡ is_other_version self.now words.now }
     {
         match (&self.stage, words) {
-            (Stage::Version, [keyword, version]) => keyword.is(b"tvd")
+            (Stage::Version, [keyword, version]) => keyword.is(keywords::TVD)
                 && is_other(version.number()),
             _ => false,
         }

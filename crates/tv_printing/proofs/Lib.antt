@@ -1,2 +1,2 @@
 pub mod PrintLemmas
-pub mod PrintTexts
+pub mod PrintTextLemmas

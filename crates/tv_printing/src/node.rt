@@ -7,8 +7,9 @@ ghost use Rattle.tv_declarations.specs.Spelling.Nodes.{domain_words, marks_words
 
 use crate::line::Line;
 use std::alloc::{AllocError, Global};
-use tv_model::{Button, Ends, Kind, MarkedText, Node};
-use tv_valid::{Chars, DomainSpec, InputSpec};
+use tv_declarations::keywords;
+use tv_model::{Button, CheckBoxes, DialogHead, Input, Kind, ListBox, Node, RadioButtons};
+use tv_valid::{Chars, DomainSpec};
 use tv_words::Word;
 
 /// The words that declare the node.
@@ -16,35 +17,36 @@ pub fn node_line(alloc: Global, node: &Node) -> Result<Line, AllocError>
     ensures { IfOk result (λ line. line ≡ node_words node.now) }
 {
     match &node.kind {
-        Kind::Window(head) => named(alloc, b"window", &head.name, node)?
+        Kind::Window(head) => named(alloc, keywords::WINDOW, &head.name, node)?
             .number(head.h)?
             .number(head.number)?
             .text(&head.title),
-        Kind::Dialog(head) => named(alloc, b"dialog", &head.name, node)?
+        Kind::Dialog(head) => named(alloc, keywords::DIALOG, &head.name, node)?
             .number(head.h)?
-            .dialog(&head.title, head.opens, head.ends),
-        Kind::Text(shown) => unnamed(alloc, b"text", node)?
+            .dialog(head),
+        Kind::Text(shown) => unnamed(alloc, keywords::TEXT, node)?
             .number(shown.h)?
             .text(&shown.text),
-        Kind::Label(label) => unnamed(alloc, b"label", node)?
+        Kind::Label(label) => unnamed(alloc, keywords::LABEL, node)?
             .marked(&label.text)?
             .name(&label.link),
-        Kind::Button(button) => named(alloc, b"button", &button.name, node)?.button(button),
-        Kind::Input(input) => named(alloc, b"input", &input.name, node)?
+        Kind::Button(button) => named(alloc, keywords::BUTTON, &button.name, node)?.button(button),
+        Kind::Input(input) => named(alloc, keywords::INPUT, &input.name, node)?
             .number(input.spec.max)?
-            .input(&input.spec, &input.start, input.validates),
-        Kind::CheckBoxes(boxes) => named(alloc, b"checks", &boxes.name, node)?.check_boxes(
-            boxes.items.as_slice(),
-            boxes.start.as_slice(),
+            .input(input),
+        Kind::CheckBoxes(boxes) => named(alloc, keywords::CHECKS, &boxes.name, node)?.check_boxes(
+            boxes,
         ),
-        Kind::RadioButtons(radios) => named(alloc, b"radios", &radios.name, node)?.radio_buttons(
-            radios.items.as_slice(),
-            radios.start,
-        ),
-        Kind::List(list) => named(alloc, b"list", &list.name, node)?
+        Kind::RadioButtons(radios) => named(
+            alloc,
+            keywords::RADIOS,
+            &radios.name,
+            node,
+        )?.radio_buttons(radios),
+        Kind::List(list) => named(alloc, keywords::LIST, &list.name, node)?
             .number(list.h)?
-            .list(list.items.as_slice(), list.start),
-        Kind::Pane(pane) => named(alloc, b"pane", &pane.name, node)?.number(pane.h),
+            .list(list),
+        Kind::Pane(pane) => named(alloc, keywords::PANE, &pane.name, node)?.number(pane.h),
     }
 }
 
@@ -68,10 +70,13 @@ impl Line {
         self.numbers(&[node.x, node.y, node.w])
     }
 
-    fn dialog(self, title: &Chars, opens: Option<i32>, ends: Ends) -> Result<Line, AllocError>
-        ensures { IfOk result (λ line. line ≡ self ++ Word.Quoted title.now ∷ (opens_words opens ++ (Word.Bare (codes "ends") ∷ ends_words ends))) }
+    fn dialog(self, head: &DialogHead) -> Result<Line, AllocError>
+        ensures { IfOk result (λ line. line ≡ self ++ Word.Quoted head.now.title ∷ (opens_words head.now.opens ++ (Word.Bare (codes "ends") ∷ ends_words head.now.ends))) }
     {
-        self.text(title)?.opens(opens)?.keyword(b"ends")?.ends(ends)
+        self.text(&head.title)?
+            .opens(head.opens)?
+            .keyword(keywords::ENDS)?
+            .ends(head.ends)
     }
 
     fn opens(self, opens: Option<i32>) -> Result<Line, AllocError>
@@ -79,7 +84,7 @@ impl Line {
     {
         match opens {
             None => Ok(self),
-            Some(command) => self.keyword(b"opens")?.number(command),
+            Some(command) => self.keyword(keywords::OPENS)?.number(command),
         }
     }
 
@@ -88,44 +93,45 @@ impl Line {
     {
         self.marked(&button.text)?
             .command(button.command)?
-            .keyword_if(button.is_default, b"default")?
-            .keyword_if(button.grabs, b"grab")
+            .keyword_if(button.is_default, keywords::DEFAULT)?
+            .keyword_if(button.grabs, keywords::GRAB)
     }
 
-    fn input(self, spec: &InputSpec, start: &Chars, validates: bool) -> Result<Line, AllocError>
-        ensures { IfOk result (λ line. line ≡ self ++ (domain_words spec.now.domain ++ (Word.Quoted start.now ∷ (word_if validates (codes "validate") ++ (word_if spec.now.optional (codes "optional") ++ word_if spec.now.fill (codes "fill")))))) }
+    fn input(self, input: &Input) -> Result<Line, AllocError>
+        ensures { IfOk result (λ line. line ≡ self ++ (domain_words input.now.spec.domain ++ (Word.Quoted input.now.start ∷ (word_if input.now.validates (codes "validate") ++ (word_if input.now.spec.optional (codes "optional") ++ word_if input.now.spec.fill (codes "fill")))))) }
     {
-        self.domain(&spec.domain)?
-            .text(start)?
-            .input_flags(validates, spec.optional, spec.fill)
+        self.domain(&input.spec.domain)?
+            .text(&input.start)?
+            .input_flags(input.validates, input.spec.optional, input.spec.fill)
     }
 
     fn input_flags(self, validates: bool, optional: bool, fill: bool) -> Result<Line, AllocError>
         ensures { IfOk result (λ line. line ≡ self ++ (word_if validates (codes "validate") ++ (word_if optional (codes "optional") ++ word_if fill (codes "fill")))) }
     {
-        self.keyword_if(validates, b"validate")?
-            .keyword_if(optional, b"optional")?
-            .keyword_if(fill, b"fill")
+        self.keyword_if(validates, keywords::VALIDATE)?
+            .keyword_if(optional, keywords::OPTIONAL)?
+            .keyword_if(fill, keywords::FILL)
     }
 
     fn domain(self, domain: &DomainSpec) -> Result<Line, AllocError>
         ensures { IfOk result (λ line. line ≡ self ++ domain_words domain.now) }
     {
         match domain {
-            DomainSpec::Any => self.keyword(b"any"),
-            DomainSpec::Filter(set) => self.keyword(b"filter")?.text(set),
+            DomainSpec::Any => self.keyword(keywords::ANY),
+            DomainSpec::Filter(set) => self.keyword(keywords::FILTER)?.text(set),
             DomainSpec::Range { least, greatest } => self
-                .keyword(b"range")?
+                .keyword(keywords::RANGE)?
                 .number(*least)?
                 .number(*greatest),
-            DomainSpec::Picture(text) => self.keyword(b"picture")?.text(text),
+            DomainSpec::Picture(text) => self.keyword(keywords::PICTURE)?.text(text),
         }
     }
 
-    fn check_boxes(self, items: &[MarkedText], start: &[i32]) -> Result<Line, AllocError>
-        ensures { IfOk result (λ line. line ≡ self ++ (map marked_word items.now ++ marks_words start.now)) }
+    fn check_boxes(self, boxes: &CheckBoxes) -> Result<Line, AllocError>
+        ensures { IfOk result (λ line. line ≡ self ++ (map marked_word boxes.now.items ++ marks_words boxes.now.start)) }
     {
-        self.marked_items(items)?.marks(start)
+        self.marked_items(boxes.items.as_slice())?
+            .marks(boxes.start.as_slice())
     }
 
     fn marks(self, start: &[i32]) -> Result<Line, AllocError>
@@ -134,20 +140,21 @@ impl Line {
         if start.is_empty() {
             Ok(self)
         } else {
-            self.keyword(b"start")?.numbers(start)
+            self.keyword(keywords::START)?.numbers(start)
         }
     }
 
-    fn radio_buttons(self, items: &[MarkedText], start: i32) -> Result<Line, AllocError>
-        ensures { IfOk result (λ line. line ≡ self ++ (map marked_word items.now ++ Word.Bare (codes "start") ∷ number_word start ∷ [])) }
+    fn radio_buttons(self, radios: &RadioButtons) -> Result<Line, AllocError>
+        ensures { IfOk result (λ line. line ≡ self ++ (map marked_word radios.now.items ++ Word.Bare (codes "start") ∷ number_word radios.now.start ∷ [])) }
     {
-        self.marked_items(items)?.start(start)
+        self.marked_items(radios.items.as_slice())?
+            .start(radios.start)
     }
 
-    fn list(self, items: &[Chars], start: i32) -> Result<Line, AllocError>
-        ensures { IfOk result (λ line. line ≡ self ++ (map text_word items.now ++ Word.Bare (codes "start") ∷ number_word start ∷ [])) }
+    fn list(self, list: &ListBox) -> Result<Line, AllocError>
+        ensures { IfOk result (λ line. line ≡ self ++ (map text_word list.now.items ++ Word.Bare (codes "start") ∷ number_word list.now.start ∷ [])) }
     {
-        self.texts(items)?.start(start)
+        self.texts(list.items.as_slice())?.start(list.start)
     }
 
     fn texts(mut self, items: &[Chars]) -> Result<Line, AllocError>
@@ -162,6 +169,6 @@ impl Line {
     fn start(self, item: i32) -> Result<Line, AllocError>
         ensures { IfOk result (λ line. line ≡ self ++ Word.Bare (codes "start") ∷ number_word item ∷ []) }
     {
-        self.keyword(b"start")?.number(item)
+        self.keyword(keywords::START)?.number(item)
     }
 }

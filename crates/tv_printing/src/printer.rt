@@ -8,12 +8,12 @@ ghost use Rattle.tv_declarations.specs.Spelling.{menu_declarations, start_declar
 use crate::line::Line;
 use std::alloc::{AllocError, Global};
 use std::marker::Model;
-use tv_declarations::Declaration;
+use tv_declarations::{Declaration, keywords};
 use tv_model::{Desc, Menu, MenuItem, StatusItem, Version};
 use tv_valid::Chars;
 
 /// The canonical text of a description: each declaration on a line, one space between words, no comments.
-#[tactic(auto, using(crate::proofs::PrintTexts::texts_joined))]
+#[tactic(auto, using(crate::proofs::PrintTextLemmas::texts_joined))]
 pub fn description_text(alloc: Global, desc: &Desc) -> Result<String, AllocError>
     ensures { IfOk result (λ text. string_bytes text ≡ description_text desc.now) }
 {
@@ -64,11 +64,11 @@ impl Printer {
     pub fn end(self) -> Result<Printer, AllocError>
         ensures { IfOk result (λ printer. printer ≡ self ++ declarations_text (Declaration.End ∷ [])) }
     {
-        let line = Line::new(self.alloc).keyword(b"end")?;
+        let line = Line::new(self.alloc).keyword(keywords::END)?;
         self.line(&line)
     }
 
-    #[tactic(auto, using(crate::proofs::PrintTexts::texts_joined))]
+    #[tactic(auto, using(crate::proofs::PrintTextLemmas::texts_joined))]
     fn heading(self, desc: &Desc) -> Result<Printer, AllocError>
         ensures { IfOk result (λ printer. printer ≡ self ++ declarations_text (Declaration.Version desc.now.version ∷ Declaration.Screen desc.now.width desc.now.height ∷ start_declarations desc.now.start)) }
     {
@@ -81,7 +81,9 @@ impl Printer {
         let number = match version {
             Version::One => b"1",
         };
-        let line = Line::new(self.alloc).keyword(b"tvd")?.keyword(number)?;
+        let line = Line::new(self.alloc)
+            .keyword(keywords::TVD)?
+            .keyword(number)?;
         self.line(&line)
     }
 
@@ -89,7 +91,7 @@ impl Printer {
         ensures { IfOk result (λ printer. printer ≡ self ++ declarations_text (Declaration.Screen desc.now.width desc.now.height ∷ [])) }
     {
         let line = Line::new(self.alloc)
-            .keyword(b"screen")?
+            .keyword(keywords::SCREEN)?
             .number(desc.width)?
             .number(desc.height)?;
         self.line(&line)
@@ -101,13 +103,13 @@ impl Printer {
         match start {
             None => Ok(self),
             Some(name) => {
-                let line = Line::new(self.alloc).keyword(b"start")?.name(name)?;
+                let line = Line::new(self.alloc).keyword(keywords::START)?.name(name)?;
                 self.line(&line)
             }
         }
     }
 
-    #[tactic(auto, using(crate::proofs::PrintTexts::texts_joined))]
+    #[tactic(auto, using(crate::proofs::PrintTextLemmas::texts_joined))]
     fn menus(mut self, menus: &[Menu]) -> Result<Printer, AllocError>
         ensures { IfOk result (λ printer. printer ≡ self ++ declarations_text (flat_map menu_declarations menus.now)) }
     {
@@ -117,7 +119,7 @@ impl Printer {
         Ok(self)
     }
 
-    #[tactic(auto, using(crate::proofs::PrintTexts::texts_joined))]
+    #[tactic(auto, using(crate::proofs::PrintTextLemmas::texts_joined))]
     fn menu(self, menu: &Menu) -> Result<Printer, AllocError>
         ensures { IfOk result (λ printer. printer ≡ self ++ declarations_text (menu_declarations menu.now)) }
     {
@@ -127,7 +129,9 @@ impl Printer {
     fn title(self, menu: &Menu) -> Result<Printer, AllocError>
         ensures { IfOk result (λ printer. printer ≡ self ++ declarations_text (Declaration.Menu menu.now.id menu.now.title ∷ [])) }
     {
-        let line = Line::new(self.alloc).keyword(b"menu")?.marked(&menu.title)?;
+        let line = Line::new(self.alloc)
+            .keyword(keywords::MENU)?
+            .marked(&menu.title)?;
         self.line(&line)
     }
 
@@ -144,7 +148,7 @@ impl Printer {
         ensures { IfOk result (λ printer. printer ≡ self ++ declarations_text (Declaration.Item item.now ∷ [])) }
     {
         let line = Line::new(self.alloc)
-            .keyword(b"item")?
+            .keyword(keywords::ITEM)?
             .marked(&item.text)?
             .command(item.command)?;
         self.line(&line)
@@ -163,7 +167,7 @@ impl Printer {
         ensures { IfOk result (λ printer. printer ≡ self ++ declarations_text (Declaration.Status item.now ∷ [])) }
     {
         let line = Line::new(self.alloc)
-            .keyword(b"status")?
+            .keyword(keywords::STATUS)?
             .text(&item.text)?
             .key(item.key)?
             .command(item.command)?;

@@ -6,6 +6,7 @@ ghost use Rattle.tv_declarations.specs.Spelling.Keys.{key_word};
 
 use crate::line::{Line, ascii};
 use std::alloc::{AllocError, Global};
+use tv_declarations::{command_name, key_name};
 use tv_event::Key;
 use tv_model::{CommandSpec, Ends, MarkedText};
 use tv_valid::Chars;
@@ -17,15 +18,8 @@ impl Line {
         ensures { IfOk result (λ line. line ≡ self ++ command_word command ∷ []) }
     {
         match command {
-            CommandSpec::Quit => self.keyword(b"quit"),
-            CommandSpec::Menu => self.keyword(b"menu"),
-            CommandSpec::Close => self.keyword(b"close"),
-            CommandSpec::Next => self.keyword(b"next"),
-            CommandSpec::Ok => self.keyword(b"ok"),
-            CommandSpec::Cancel => self.keyword(b"cancel"),
-            CommandSpec::Yes => self.keyword(b"yes"),
-            CommandSpec::No => self.keyword(b"no"),
             CommandSpec::Number(number) => self.number(number),
+            _ => self.keyword(command_name(command)),
         }
     }
 
@@ -33,10 +27,10 @@ impl Line {
     pub(crate) fn ends(self, ends: Ends) -> Result<Line, AllocError>
         ensures { IfOk result (λ line. line ≡ self ++ ends_words ends) }
     {
-        self.keyword_if(ends.ok, b"ok")?
-            .keyword_if(ends.cancel, b"cancel")?
-            .keyword_if(ends.yes, b"yes")?
-            .keyword_if(ends.no, b"no")
+        self.keyword_if(ends.ok, command_name(CommandSpec::Ok))?
+            .keyword_if(ends.cancel, command_name(CommandSpec::Cancel))?
+            .keyword_if(ends.yes, command_name(CommandSpec::Yes))?
+            .keyword_if(ends.no, command_name(CommandSpec::No))
     }
 
     /// The line with the name of a key.
@@ -44,28 +38,11 @@ impl Line {
         ensures { IfOk result (λ line. line ≡ self ++ key_word key ∷ []) }
     {
         match key {
-            Key::Tab => self.keyword(b"Tab"),
-            Key::ShiftTab => self.keyword(b"Shift-Tab"),
-            Key::Enter => self.keyword(b"Enter"),
-            Key::Esc => self.keyword(b"Esc"),
-            Key::Up => self.keyword(b"Up"),
-            Key::Down => self.keyword(b"Down"),
-            Key::Left => self.keyword(b"Left"),
-            Key::Right => self.keyword(b"Right"),
-            Key::Home => self.keyword(b"Home"),
-            Key::End => self.keyword(b"End"),
-            Key::PageUp => self.keyword(b"PgUp"),
-            Key::PageDown => self.keyword(b"PgDn"),
-            Key::CtrlPageUp => self.keyword(b"Ctrl-PgUp"),
-            Key::CtrlPageDown => self.keyword(b"Ctrl-PgDn"),
-            Key::Backspace => self.keyword(b"Backspace"),
-            Key::Delete => self.keyword(b"Del"),
-            Key::Insert => self.keyword(b"Ins"),
             Key::Ctrl(letter) => self.key_with(b"Ctrl-", letter),
             Key::Function(number) => self.function_key(number),
             Key::Alt(ch) => self.key_with(b"Alt-", ch),
             // A typed character has no name, and no text spells one.
-            Key::Char(_) => self.keyword(b""),
+            _ => self.keyword(key_name(key)),
         }
     }
 

@@ -9,11 +9,11 @@ use crate::line::Line;
 use crate::node::node_line;
 use crate::printer::Printer;
 use std::alloc::AllocError;
-use tv_declarations::Declaration;
+use tv_declarations::{Declaration, keywords};
 use tv_model::{Dialog, Effect, Node, Rule, Window};
 
 impl Printer {
-    #[tactic(auto, using(crate::proofs::PrintTexts::texts_joined))]
+    #[tactic(auto, using(crate::proofs::PrintTextLemmas::texts_joined))]
     pub(crate) fn windows(mut self, windows: &[Window]) -> Result<Printer, AllocError>
         ensures { IfOk result (λ printer. printer ≡ self ++ declarations_text (flat_map window_declarations windows.now)) }
     {
@@ -23,7 +23,7 @@ impl Printer {
         Ok(self)
     }
 
-    #[tactic(auto, using(crate::proofs::PrintTexts::texts_joined))]
+    #[tactic(auto, using(crate::proofs::PrintTextLemmas::texts_joined))]
     fn window(self, window: &Window) -> Result<Printer, AllocError>
         ensures { IfOk result (λ printer. printer ≡ self ++ declarations_text (window_declarations window.now)) }
     {
@@ -48,7 +48,7 @@ impl Printer {
         self.line(&line)
     }
 
-    #[tactic(auto, using(crate::proofs::PrintTexts::texts_joined))]
+    #[tactic(auto, using(crate::proofs::PrintTextLemmas::texts_joined))]
     pub(crate) fn dialogs(mut self, dialogs: &[Dialog]) -> Result<Printer, AllocError>
         ensures { IfOk result (λ printer. printer ≡ self ++ declarations_text (flat_map dialog_declarations dialogs.now)) }
     {
@@ -58,7 +58,7 @@ impl Printer {
         Ok(self)
     }
 
-    #[tactic(auto, using(crate::proofs::PrintTexts::texts_joined))]
+    #[tactic(auto, using(crate::proofs::PrintTextLemmas::texts_joined))]
     fn dialog(self, dialog: &Dialog) -> Result<Printer, AllocError>
         ensures { IfOk result (λ printer. printer ≡ self ++ declarations_text (dialog_declarations dialog.now)) }
     {
@@ -68,7 +68,7 @@ impl Printer {
             .end()
     }
 
-    #[tactic(auto, using(crate::proofs::PrintTexts::view_written, crate::proofs::PrintTexts::views_written))]
+    #[tactic(auto, using(crate::proofs::PrintTextLemmas::view_written, crate::proofs::PrintTextLemmas::views_written))]
     fn views(mut self, views: &[Node]) -> Result<Printer, AllocError>
         ensures { IfOk result (λ printer. printer ≡ self ++ declarations_text (view_declarations 0 views.now)) }
     {
@@ -83,7 +83,7 @@ impl Printer {
         self.ends(panes)
     }
 
-    #[tactic(auto, using(crate::proofs::PrintTexts::end_written))]
+    #[tactic(auto, using(crate::proofs::PrintTextLemmas::end_written))]
     fn ends(mut self, count: u32) -> Result<Printer, AllocError>
         ensures { IfOk result (λ printer. printer ≡ self ++ declarations_text (replicate count Declaration.End)) }
     {
@@ -107,7 +107,7 @@ impl Printer {
     {
         let line = Line::new(self.alloc)
             .effect(&rule.effect)?
-            .keyword(b"when")?
+            .keyword(keywords::WHEN)?
             .name(&rule.cluster)?
             .number(rule.item)?;
         self.line(&line)
@@ -120,8 +120,8 @@ impl Line {
         ensures { IfOk result (λ line. line ≡ self ++ effect_words effect.now []) }
     {
         match effect {
-            Effect::Show(name) => self.keyword(b"show")?.name(name),
-            Effect::Enable(command) => self.keyword(b"enable")?.command(*command),
+            Effect::Show(name) => self.keyword(keywords::SHOW)?.name(name),
+            Effect::Enable(command) => self.keyword(keywords::ENABLE)?.command(*command),
         }
     }
 }

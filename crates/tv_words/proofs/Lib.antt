@@ -1,9 +1,9 @@
 pub mod LineLemmas
 pub mod ScanLemmas
-pub mod WordLaws
-pub mod LineLaws
-pub mod CanonicalLines
-pub mod CanonicalTexts
-pub mod NumberLaws
-pub mod FieldLaws
-pub mod TextLaws
+pub mod WordLemmas
+pub mod LineWordLemmas
+pub mod CanonicalLineLemmas
+pub mod CanonicalTextLemmas
+pub mod NumberLemmas
+pub mod FieldLemmas
+pub mod TextLemmas

@@ -16,13 +16,16 @@ use Rattle.tv_words.specs.Reading.Numbers.{number_in}
 use Rattle.tv_declarations.specs.Reading.Marks.{marked_in}
 use Rattle.tv_declarations.specs.Reading.Places.{place_in, node_at}
 
+-- these texts, and the numbers after `start` where it was there
 abbrev pub items_of : List (List ℕ) → Option (List ℤ) → Items
 items_of texts start = record { texts = texts; start = start }
 
+-- one word more before `start`
 abbrev pub taken_before_start : List (List ℕ) → Word → Option Items
 taken_before_start texts (Quoted text) = Some (items_of (texts ++ text ∷ []) None)
 taken_before_start texts (Bare text) = if is_bare_word (Bare text) (codes "start") then Some (items_of texts (Some [])) else None
 
+-- one word more, before or after `start`
 abbrev pub taken_at : List (List ℕ) → Option (List ℤ) → Word → Option Items
 taken_at texts None w = taken_before_start texts w
 taken_at texts (Some numbers) w = option_map (λ n. items_of texts (Some (numbers ++ n ∷ []))) (number_in w)
@@ -55,16 +58,20 @@ abbrev pub only_number : Option (List ℤ) → Option ℤ
 only_number (Some (n ∷ [])) = Some n
 only_number _ = None
 
+-- the texts of items, of which there is one at least
 abbrev pub texts_in : List (List ℕ) → Option (List (List ℕ))
 texts_in [] = None
 texts_in (text ∷ texts) = Some (text ∷ texts)
 
+-- the items of check boxes, and those that are marked at first
 abbrev pub boxes_of : Items → Option (List MarkedText × List ℤ)
 boxes_of s = with2 (λ items start. (items, start)) (marks_in s.texts) (marked_first s.start)
 
+-- the items of radio buttons, and the one that is marked at first
 abbrev pub radios_of : Items → Option (List MarkedText × ℤ)
 radios_of s = with2 (λ items start. (items, start)) (marks_in s.texts) (only_number s.start)
 
+-- the items of a list, and the one that is chosen at first
 abbrev pub rows_of : Items → Option (List (List ℕ) × ℤ)
 rows_of s = with2 (λ items start. (items, start)) (texts_in s.texts) (only_number s.start)
 

@@ -66,6 +66,7 @@ abbrev pub end_in : List Word → Option Declaration
 end_in [] = Some declared.End
 end_in (w ∷ ws) = None
 
+-- the declaration of a window, a dialog or a view
 abbrev pub node_declared : Position → Word → List Word → Option Declaration
 node_declared at keyword fields = option_map (λ node. declared.Node node) (node_in at keyword fields)
 

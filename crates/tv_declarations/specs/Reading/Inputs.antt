@@ -16,14 +16,17 @@ use Rattle.tv_words.specs.Reading.Numbers.{number_in}
 use Rattle.tv_declarations.specs.Reading.Commands.{is_next, after_next, at_end}
 use Rattle.tv_declarations.specs.Reading.Places.{place_in, node_at}
 
+-- what follows `filter`
 abbrev pub filter_in : List Word → Option (DomainSpec × List Word)
 filter_in [] = None
 filter_in (text ∷ more) = option_map (λ text. (domains.Filter text, more)) (text_in text)
 
+-- what follows `picture`
 abbrev pub picture_in : List Word → Option (DomainSpec × List Word)
 picture_in [] = None
 picture_in (text ∷ more) = option_map (λ text. (domains.Picture text, more)) (text_in text)
 
+-- what follows `range`
 abbrev pub range_in : List Word → Option (DomainSpec × List Word)
 range_in (least ∷ greatest ∷ more) = with2 (λ least greatest. (domains.Range least greatest, more)) (number_in least) (number_in greatest)
 range_in _ = None
@@ -38,6 +41,7 @@ domain_in (keyword ∷ fields) =
     else if is_bare_word keyword (codes "picture") then picture_in fields
     else None
 
+-- the options of an input line, each at most once and in their order
 abbrev pub options_in : List Word → Option Options
 options_in ws =
     let after_validate = after_next (codes "validate") ws in
@@ -49,6 +53,7 @@ abbrev pub asked_after : DomainSpec → List Word → Option Asked
 asked_after domain [] = None
 asked_after domain (start ∷ options) = with2 (λ start options. record { domain = domain; start = start; options = options }) (text_in start) (options_in options)
 
+-- the start text and the options after a domain, where there is one
 abbrev pub asked_from : Option (DomainSpec × List Word) → Option Asked
 asked_from None = None
 asked_from (Some found) = asked_after found.0 found.1
@@ -57,6 +62,7 @@ asked_from (Some found) = asked_after found.0 found.1
 abbrev pub asked_in : List Word → Option Asked
 asked_in ws = asked_from (domain_in ws)
 
+-- the input line of these
 abbrev pub input_of : List ℕ → ℤ → Asked → Kind
 input_of name max asked = kinds.Input (record { name = name; spec = (record { max = max; domain = asked.domain; optional = asked.options.optional; fill = asked.options.fill }); start = asked.start; validates = asked.options.validates })
 

@@ -1,5 +1,5 @@
 -- Reading the keys that words name.
-use Rattle.std.specs.Prelude.{ℕ, ℤ, pos, negsuc, Bool, List, [], ◌∷◌, ◌&&◌, ◌||◌, nat_le, Option, Some, None, ◌==◌, codes, if◌then◌else◌}
+use Rattle.std.specs.Prelude.{ℕ, ℤ, pos, negsuc, Bool, List, [], ◌∷◌, ◌&&◌, ◌||◌, nat_le, Option, Some, None, ◌==◌, find, if◌then◌else◌}
 use Rattle.std.specs.Char.{is_ascii_uppercase, is_ascii_digit}
 use Rattle.tv_event.specs.declared.event.Key.{Key}
 use Rattle.tv_event.specs.declared.event.Key.TheVariants as keys
@@ -7,38 +7,29 @@ use Rattle.tv_words.specs.declared.word.Word.{Word}
 use Rattle.tv_words.specs.declared.word.Word.TheVariants.{Bare, Quoted}
 use Rattle.tv_words.specs.Fields.{is_bare_word}
 use Rattle.tv_words.specs.Reading.Numbers.{number_of}
+use Rattle.tv_declarations.specs.Spelling.Keys.{key_name}
 
-abbrev pub moving_key : Word → Option Key
-moving_key w =
-    if is_bare_word w (codes "Up") then Some keys.Up
-    else if is_bare_word w (codes "Down") then Some keys.Down
-    else if is_bare_word w (codes "Left") then Some keys.Left
-    else if is_bare_word w (codes "Right") then Some keys.Right
-    else if is_bare_word w (codes "Home") then Some keys.Home
-    else if is_bare_word w (codes "End") then Some keys.End
-    else if is_bare_word w (codes "PgUp") then Some keys.PageUp
-    else if is_bare_word w (codes "PgDn") then Some keys.PageDown
-    else if is_bare_word w (codes "Ctrl-PgUp") then Some keys.CtrlPageUp
-    else if is_bare_word w (codes "Ctrl-PgDn") then Some keys.CtrlPageDown
-    else None
+-- the keys that have a name of their own
+abbrev pub named_keys : List Key
+named_keys = keys.Tab ∷ keys.ShiftTab ∷ keys.Enter ∷ keys.Esc ∷ keys.Up ∷ keys.Down ∷ keys.Left ∷ keys.Right ∷ keys.Home ∷ keys.End ∷ keys.PageUp ∷ keys.PageDown ∷ keys.CtrlPageUp ∷ keys.CtrlPageDown ∷ keys.Backspace ∷ keys.Delete ∷ keys.Insert ∷ []
 
+-- the first of the keys whose name it is
+abbrev pub first_named : List Key → Word → Option Key
+first_named ks w = find (λ key. is_bare_word w (key_name key)) ks
+
+-- the key whose own name it is
 abbrev pub named_key : Word → Option Key
-named_key w =
-    if is_bare_word w (codes "Tab") then Some keys.Tab
-    else if is_bare_word w (codes "Shift-Tab") then Some keys.ShiftTab
-    else if is_bare_word w (codes "Enter") then Some keys.Enter
-    else if is_bare_word w (codes "Esc") then Some keys.Esc
-    else if is_bare_word w (codes "Backspace") then Some keys.Backspace
-    else if is_bare_word w (codes "Del") then Some keys.Delete
-    else if is_bare_word w (codes "Ins") then Some keys.Insert
-    else moving_key w
+named_key w = first_named named_keys w
 
+-- Ctrl with a capital letter
 abbrev pub control_key : ℕ → Option Key
 control_key c = if is_ascii_uppercase c then Some (keys.Ctrl c) else None
 
+-- Alt with a capital letter or a digit
 abbrev pub alt_key : ℕ → Option Key
 alt_key c = if is_ascii_uppercase c || is_ascii_digit c then Some (keys.Alt c) else None
 
+-- F1 to F12
 abbrev pub function_key : Option ℤ → Option Key
 function_key None = None
 function_key (Some (negsuc n)) = None
@@ -49,6 +40,7 @@ abbrev pub function_in : List ℕ → Option Key
 function_in [] = None
 function_in (c ∷ digits) = if c == 70 then function_key (number_of digits) else None
 
+-- the characters of `Ctrl-`
 abbrev pub is_control : (a b c d e : ℕ) → Bool
 is_control a b c d e = a == 67 && (b == 116 && (c == 114 && (d == 108 && e == 45)))
 
@@ -57,6 +49,7 @@ abbrev pub control_letter : List ℕ → Option ℕ
 control_letter (a ∷ b ∷ c ∷ d ∷ e ∷ letter ∷ []) = if is_control a b c d e then Some letter else None
 control_letter _ = None
 
+-- the characters of `Alt-`
 abbrev pub is_alt : (a b c d : ℕ) → Bool
 is_alt a b c d = a == 65 && (b == 108 && (c == 116 && d == 45))
 
@@ -65,6 +58,7 @@ abbrev pub alt_letter : List ℕ → Option ℕ
 alt_letter (a ∷ b ∷ c ∷ d ∷ letter ∷ []) = if is_alt a b c d then Some letter else None
 alt_letter _ = None
 
+-- the key of what follows `Ctrl-` or `Alt-`, or else another
 abbrev pub key_by : Option ℕ → Option ℕ → Option Key → Option Key
 key_by (Some letter) alt other = control_key letter
 key_by None (Some letter) other = alt_key letter
@@ -74,10 +68,12 @@ key_by None None other = other
 abbrev pub key_of : List ℕ → Option Key
 key_of text = key_by (control_letter text) (alt_letter text) (function_in text)
 
+-- the key with a letter, a digit or a number that a bare word names
 abbrev pub lettered_key : Word → Option Key
 lettered_key (Bare text) = key_of text
 lettered_key (Quoted text) = None
 
+-- that key, or else the one whose own name it is
 abbrev pub key_from : Option Key → Word → Option Key
 key_from (Some key) w = Some key
 key_from None w = named_key w

@@ -11,13 +11,16 @@ end_of_mark [] = None
 end_of_mark (c ∷ []) = None
 end_of_mark (c ∷ d ∷ after) = if d == 126 && (is_ascii_alphanumeric c && not (list_any is_tilde after)) then Some (c, after) else None
 
+-- the text around a mark at this place
 abbrev pub marked_at : ℕ → List ℕ → Option (ℕ × List ℕ) → Option MarkedText
 marked_at place before None = None
 marked_at place before (Some marked) = Some (record { text = before ++ (marked.0 ∷ marked.1); mark = Some place })
 
+-- the text and its mark, by the place of the first `~`
 abbrev pub marked_from : Option ℕ → List ℕ → Option MarkedText
 marked_from None cs = Some (record { text = cs; mark = None })
 marked_from (Some place) cs = marked_at place (take place cs) (end_of_mark (drop (place + 1) cs))
 
+-- the text and its mark that the characters spell
 abbrev pub marked_in : List ℕ → Option MarkedText
 marked_in cs = marked_from (position is_tilde cs) cs

@@ -21,6 +21,7 @@ abbrev pub text_in_fields : Position → List Word → Option Node
 text_in_fields at (x ∷ y ∷ w ∷ h ∷ text ∷ []) = with3 (λ p h text. node_at at p (kinds.Text (record { h = h; text = text }))) (place_in x y w) (number_in h) (text_in text)
 text_in_fields at _ = None
 
+-- a label, where all its fields are there
 abbrev pub label_from : Position → Option MarkedText → Option Place → Option (List ℕ) → Option Node
 label_from at text place link = with3 (λ text p link. node_at at p (kinds.Label (record { text = text; link = link }))) text place link
 

@@ -7,29 +7,33 @@ use Rattle.tv_event.specs.declared.event.Key.TheVariants as keys
 use Rattle.tv_words.specs.declared.word.Word.{Word}
 use Rattle.tv_words.specs.declared.word.Word.TheVariants.{Bare}
 
--- the name of a key; a typed character has none
+-- the name of a key that has one of its own
+abbrev pub key_name : Key → List ℕ
+key_name keys.Tab = codes "Tab"
+key_name keys.ShiftTab = codes "Shift-Tab"
+key_name keys.Enter = codes "Enter"
+key_name keys.Esc = codes "Esc"
+key_name keys.Up = codes "Up"
+key_name keys.Down = codes "Down"
+key_name keys.Left = codes "Left"
+key_name keys.Right = codes "Right"
+key_name keys.Home = codes "Home"
+key_name keys.End = codes "End"
+key_name keys.PageUp = codes "PgUp"
+key_name keys.PageDown = codes "PgDn"
+key_name keys.CtrlPageUp = codes "Ctrl-PgUp"
+key_name keys.CtrlPageDown = codes "Ctrl-PgDn"
+key_name keys.Backspace = codes "Backspace"
+key_name keys.Delete = codes "Del"
+key_name keys.Insert = codes "Ins"
+key_name _ = []
+
+-- the text of a key; a typed character has none
 abbrev pub key_text : Key → List ℕ
-key_text keys.Tab = codes "Tab"
-key_text keys.ShiftTab = codes "Shift-Tab"
-key_text keys.Enter = codes "Enter"
-key_text keys.Esc = codes "Esc"
-key_text keys.Up = codes "Up"
-key_text keys.Down = codes "Down"
-key_text keys.Left = codes "Left"
-key_text keys.Right = codes "Right"
-key_text keys.Home = codes "Home"
-key_text keys.End = codes "End"
-key_text keys.PageUp = codes "PgUp"
-key_text keys.PageDown = codes "PgDn"
-key_text keys.CtrlPageUp = codes "Ctrl-PgUp"
-key_text keys.CtrlPageDown = codes "Ctrl-PgDn"
-key_text keys.Backspace = codes "Backspace"
-key_text keys.Delete = codes "Del"
-key_text keys.Insert = codes "Ins"
 key_text (keys.Ctrl letter) = codes "Ctrl-" ++ letter ∷ []
 key_text (keys.Function number) = codes "F" ++ signed_decimal (pos number)
 key_text (keys.Alt ch) = codes "Alt-" ++ ch ∷ []
-key_text (keys.Char ch) = []
+key_text key = key_name key
 
 -- the word of a key
 abbrev pub key_word : Key → Word

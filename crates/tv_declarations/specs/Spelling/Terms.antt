@@ -10,17 +10,22 @@ use Rattle.tv_words.specs.declared.word.Word.{Word}
 use Rattle.tv_words.specs.declared.word.Word.TheVariants.{Bare, Quoted}
 use Rattle.tv_words.specs.Fields.{number_word, IsNumber}
 
+-- the text of a command's word, where it is no number
+abbrev pub command_name : CommandSpec → List ℕ
+command_name commands.Quit = codes "quit"
+command_name commands.Menu = codes "menu"
+command_name commands.Close = codes "close"
+command_name commands.Next = codes "next"
+command_name commands.Ok = codes "ok"
+command_name commands.Cancel = codes "cancel"
+command_name commands.Yes = codes "yes"
+command_name commands.No = codes "no"
+command_name (commands.Number n) = []
+
 -- the word of a command
 abbrev pub command_word : CommandSpec → Word
-command_word commands.Quit = Bare (codes "quit")
-command_word commands.Menu = Bare (codes "menu")
-command_word commands.Close = Bare (codes "close")
-command_word commands.Next = Bare (codes "next")
-command_word commands.Ok = Bare (codes "ok")
-command_word commands.Cancel = Bare (codes "cancel")
-command_word commands.Yes = Bare (codes "yes")
-command_word commands.No = Bare (codes "no")
 command_word (commands.Number n) = number_word n
+command_word command = Bare (command_name command)
 
 -- a command, whose number may be any
 abbrev pub IsCommand : CommandSpec → Type 0
@@ -33,7 +38,7 @@ word_if wanted keyword = if wanted then Bare keyword ∷ [] else []
 
 -- the end commands, in this order
 abbrev pub ends_words : Ends → List Word
-ends_words e = word_if e.ok (codes "ok") ++ (word_if e.cancel (codes "cancel") ++ (word_if e.yes (codes "yes") ++ word_if e.no (codes "no")))
+ends_words e = word_if e.ok (command_name commands.Ok) ++ (word_if e.cancel (command_name commands.Cancel) ++ (word_if e.yes (command_name commands.Yes) ++ word_if e.no (command_name commands.No)))
 
 -- the character `~`
 abbrev pub is_tilde : ℕ → Bool

@@ -15,19 +15,23 @@ pub data LineStep : Type 0 where
   Faulty : LineStep
   OfOtherVersion : LineStep
 
+-- on to what is read so far, where the line can come
 abbrev pub step_from : Option Progress → LineStep
 step_from None = Faulty
 step_from (Some further) = Next further
 
+-- the same, where the line is not one of another version
 abbrev pub step_if : Bool → Option Progress → LineStep
 step_if true further = OfOtherVersion
 step_if false further = step_from further
 
+-- what a line of these words does
 abbrev pub words_step : Progress → Option (List Word) → LineStep
 words_step p None = Faulty
 words_step p (Some []) = Next p
 words_step p (Some (w ∷ ws)) = step_if (is_other_version p (w ∷ ws)) (taken p (w ∷ ws))
 
+-- what a line of bytes does
 abbrev pub line_step : Progress → List ℕ → LineStep
 line_step p line = words_step p (line_words line)
 
@@ -37,6 +41,7 @@ pub data Reading : Type 0 where
   Fault : (line : ℕ) → Reading
   Other : Reading
 
+-- the description, or the line that is missing
 abbrev pub at_end : ℕ → Option Desc → Reading
 at_end n None = Fault n
 at_end n (Some d) = Value d
@@ -46,15 +51,18 @@ abbrev pub reading : ℕ → Progress → List (List ℕ) → Reading
 reading n p [] = at_end n (finished p)
 reading n p (l ∷ ls) = elim (line_step p l) as (λ _. Reading) [ Next q ↦ reading (n + 1) q ls | Faulty ↦ Fault n | OfOtherVersion ↦ Other ]
 
+-- reading a text from its first line
 abbrev pub reading_of : List ℕ → Reading
 reading_of text = reading 1 fresh (lines_of text)
 
+-- the fault says what the line did
 abbrev pub RefusesLine : LangFault → ℕ → LineStep → Type 0
 RefusesLine NoMemory n step = Unit {0}
 RefusesLine (Syntax line) n step = (line ≡ n) × (step ≡ Faulty)
 RefusesLine TooLong n step = ⊥
 RefusesLine Version n step = step ≡ OfOtherVersion
 
+-- the fault says what reading gave
 abbrev pub StopsAt : LangFault → Reading → Type 0
 StopsAt NoMemory r = Unit {0}
 StopsAt (Syntax line) r = r ≡ Fault line

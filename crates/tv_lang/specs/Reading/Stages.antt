@@ -22,6 +22,7 @@ use Rattle.tv_declarations.specs.Reading.Declarations.{declaration_in}
 
 -- ---- which parts a description has not
 
+-- no dialog is declared
 abbrev pub no_dialogs : Desc → Bool
 no_dialogs d = length d.dialogs == 0
 
@@ -43,10 +44,12 @@ no_menus d = length d.menus == 0 && no_status d
 abbrev pub beside : Desc → Option Stage → Option (Stage × Desc)
 beside d stage = option_map (λ s. (s, d)) stage
 
+-- the first declaration: the version
 abbrev pub version_taken : Desc → Declaration → Option (Stage × Desc)
 version_taken d (declared.Version version) = Some (stages.Screen, record d { version = version })
 version_taken d _ = None
 
+-- the second declaration: the screen
 abbrev pub screen_taken : Desc → Declaration → Option (Stage × Desc)
 screen_taken d (declared.Screen width height) = Some (stages.Between, record d { width = width; height = height })
 screen_taken d _ = None
@@ -69,6 +72,7 @@ opened_as d node false false window_is dialog_is = None
 abbrev pub node_opened : Desc → Node → Option (Stage × Desc)
 node_opened d node = opened_as d node (is_window node.kind) (is_dialog node.kind) refl refl
 
+-- the start line, a menu, a status item, a window or a dialog
 abbrev pub part_taken : Desc → Declaration → Option (Stage × Desc)
 part_taken d (declared.Start name) = if is_none d.start && no_menus d then Some (stages.Between, record d { start = Some name }) else None
 part_taken d (declared.Menu i title) = if no_status d then Some (stages.InMenu (record { id = i; title = title; items = [] }), d) else None
@@ -76,11 +80,13 @@ part_taken d (declared.Status item) = if no_windows d then Some (stages.Between,
 part_taken d (declared.Node node) = node_opened d node
 part_taken d _ = None
 
+-- an item of a menu, or its end
 abbrev pub menu_taken : Desc → Menu → Declaration → Option (Stage × Desc)
 menu_taken d menu (declared.Item item) = Some (stages.InMenu (record menu { items = menu.items ++ item ∷ [] }), d)
 menu_taken d menu declared.End = if length menu.items == 0 then None else Some (stages.Between, record d { menus = d.menus ++ menu ∷ [] })
 menu_taken d menu _ = None
 
+-- a text of a window, or its end
 abbrev pub window_taken : Desc → Window → Declaration → Option (Stage × Desc)
 window_taken d window (declared.Node view) = if is_text view.kind then Some (stages.InWindow (record window { views = window.views ++ view ∷ [] }), d) else None
 window_taken d window declared.End = Some (stages.Between, record d { windows = d.windows ++ window ∷ [] })
@@ -90,18 +96,22 @@ window_taken d window _ = None
 abbrev pub panes_after : ℕ → Node → Option ℕ
 panes_after panes view = if is_pane view.kind then (if nat_lt panes 16 then Some (panes + 1) else None) else Some panes
 
+-- a view of a dialog
 abbrev pub view_taken : Desc → Dialog → ℕ → Node → Option (Stage × Desc)
 view_taken d dialog panes view = if is_view view.kind then option_map (λ more. (stages.InViews (record dialog { views = dialog.views ++ view ∷ [] }) more, d)) (panes_after panes view) else None
 
+-- the description with the dialog
 abbrev pub with_dialog : Desc → Dialog → Option (Stage × Desc)
 with_dialog d dialog = Some (stages.Between, record d { dialogs = d.dialogs ++ dialog ∷ [] })
 
+-- a view or a rule of a dialog, the end of a pane, or that of the dialog
 abbrev pub views_taken : Desc → Dialog → ℕ → Declaration → Option (Stage × Desc)
 views_taken d dialog panes (declared.Node view) = view_taken d dialog panes view
 views_taken d dialog panes (declared.Rule rule) = if panes == 0 then Some (stages.InRules (record dialog { rules = dialog.rules ++ rule ∷ [] }), d) else None
 views_taken d dialog panes declared.End = if panes == 0 then with_dialog d dialog else Some (stages.InViews dialog (panes - 1), d)
 views_taken d dialog panes _ = None
 
+-- a rule of a dialog, or its end
 abbrev pub rules_taken : Desc → Dialog → Declaration → Option (Stage × Desc)
 rules_taken d dialog (declared.Rule rule) = Some (stages.InRules (record dialog { rules = dialog.rules ++ rule ∷ [] }), d)
 rules_taken d dialog declared.End = with_dialog d dialog
@@ -119,18 +129,22 @@ taken_at (stages.InRules dialog) d declaration = rules_taken d dialog declaratio
 
 -- ---- a description, line by line
 
+-- nothing is read
 abbrev pub fresh : Progress
 fresh = record { next = 1; stage = stages.Version; desc = record { version = versions.One; width = pos 0; height = pos 0; start = None; menus = []; status = []; windows = []; dialogs = [] } }
 
+-- a number other than 1
 abbrev pub is_other : Option ℤ → Bool
 is_other None = false
 is_other (Some (pos n)) = not (n == 1)
 is_other (Some (negsuc n)) = true
 
+-- a line `tvd` of another version
 abbrev pub other_version : List Word → Bool
 other_version (keyword ∷ version ∷ []) = is_bare_word keyword (codes "tvd") && is_other (number_in version)
 other_version _ = false
 
+-- the first declaration is one of another version
 abbrev pub is_other_version : Progress → List Word → Bool
 is_other_version p ws = elim p.stage as (λ _. Bool) [ stages.Version ↦ other_version ws | _ ↦ false ]
 
@@ -139,9 +153,11 @@ abbrev pub open_panes : Stage → ℕ
 open_panes (stages.InViews dialog panes) = panes
 open_panes _ = 0
 
+-- the line of the next declaration in the canonical text, and the panes around it
 abbrev pub position : Progress → Position
 position p = record { id = record { 0 = p.next }; depth = open_panes p.stage }
 
+-- read up to this stage, with this line next
 abbrev pub progress : ℕ → Stage × Desc → Progress
 progress next p = record { next = next; stage = p.0; desc = p.1 }
 
@@ -149,9 +165,11 @@ progress next p = record { next = next; stage = p.0; desc = p.1 }
 abbrev pub taken : Progress → List Word → Option Progress
 taken p ws = option_map (progress (p.next + 1)) (option_and_then (taken_at p.stage p.desc) (declaration_in (position p) ws))
 
+-- the text may end at the stage
 abbrev pub is_between : Stage → Bool
 is_between stages.Between = true
 is_between _ = false
 
+-- the description, where it is read to its end
 abbrev pub finished : Progress → Option Desc
 finished p = if is_between p.stage then Some p.desc else None

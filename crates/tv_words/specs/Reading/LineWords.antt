@@ -8,6 +8,7 @@ use Rattle.tv_words.specs.declared.scan.Mode.TheVariants.{Between}
 use Rattle.tv_words.specs.Words.{is_comment}
 use Rattle.tv_words.specs.Reading.Scan.{at, read_on}
 
+-- the words of these characters, by whether they are UTF-8, have a control character and are a comment
 abbrev pub line_words_if : Bool → Bool → Bool → List ℕ → Option (List Word)
 line_words_if false unclean comment cs = None
 line_words_if true true comment cs = None
@@ -24,5 +25,6 @@ words_taken next p None = None
 words_taken next p (Some []) = Some p
 words_taken next p (Some (w ∷ ws)) = next p (w ∷ ws)
 
+-- the same of a line of bytes
 abbrev pub line_taken : {S : Type 0} → (S → List Word → Option S) → S → List ℕ → Option S
 line_taken next p line = words_taken next p (line_words line)

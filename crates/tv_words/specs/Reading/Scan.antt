@@ -7,9 +7,11 @@ use Rattle.tv_words.specs.declared.scan.Mode.TheVariants.{Between, InBare, InQuo
 use Rattle.tv_words.specs.declared.scan.Scanner.{Scanner}
 use Rattle.tv_words.specs.Reading.Steps.{steps}
 
+-- these words so far, in this mode
 abbrev pub at : List Word → Mode → Scanner
 at words mode = record { words = words; mode = mode }
 
+-- one character more, by the mode
 abbrev pub taken : List Word → Mode → ℕ → Option Scanner
 taken ws Between c = if c == 32 then Some (at ws Between) else if c == 34 then Some (at ws (InQuoted [])) else Some (at ws (InBare (c ∷ [])))
 taken ws (InBare text) c = if c == 32 then Some (at (ws ++ Bare text ∷ []) Between) else if c == 34 then None else Some (at ws (InBare (text ++ c ∷ [])))
@@ -21,6 +23,7 @@ taken ws Closed c = if c == 32 then Some (at ws Between) else None
 abbrev pub take_char : Scanner → ℕ → Option Scanner
 take_char s c = taken s.words s.mode c
 
+-- the words at the end of the line, by the mode
 abbrev pub ended : List Word → Mode → Option (List Word)
 ended ws Between = Some ws
 ended ws (InBare text) = Some (ws ++ Bare text ∷ [])

@@ -4,7 +4,7 @@ use Rattle.std.proofs.lemmas.Result.{IfOk-weaker}
 use Rattle.tv_declarations.specs.declared.declaration.Declaration.{Declaration}
 use Rattle.tv_declarations.specs.Reading.Declarations.{declaration_in}
 use Rattle.tv_declarations.specs.Spelling.Declarations.{IsLine}
-use Rattle.tv_declarations.proofs.DeclarationLaws.{found_line, line_found}
+use Rattle.tv_declarations.proofs.DeclarationLemmas.{found_line, line_found}
 use Rattle.tv_declarations.proofs.declaration.declared.Goals as goal
 
 pub returns-clause-spelled : goal.returns-clause-spelled

@@ -2,7 +2,7 @@ use Rattle.std.proofs.Common.{◌≡◌}
 use Rattle.std.proofs.lemmas.Result.{IfOk-weaker}
 use Rattle.tv_lang.specs.Reading.Descriptions.{reading_of, Value}
 use Rattle.tv_lang.specs.Faults.{Spells}
-use Rattle.tv_lang.proofs.ReadingLaws.{read_spelled, all_refused, gives}
+use Rattle.tv_lang.proofs.ReadingLemmas.{read_spelled, all_refused, gives}
 use Rattle.tv_lang.proofs.description.parse.Goals as goal
 
 pub returns-clause-spelled : goal.returns-clause-spelled

@@ -1,5 +1,5 @@
 use Rattle.std.proofs.Common.{◌≡◌, ◌+◌, refl, sym, ◌∙◌, arith}
-use Rattle.tv_lang.proofs.LineSteps.{faulty_line, line_without_words, line_of_other_version, declaration, next_taken}
+use Rattle.tv_lang.proofs.LineStepLemmas.{faulty_line, line_without_words, line_of_other_version, declaration, next_taken}
 use Rattle.tv_lang.proofs.description.take_line.Goals as goal
 
 pub returns-in_default-clause-fault : goal.returns-in_default-clause-fault

@@ -2,7 +2,7 @@ use Rattle.std.proofs.Common.{◌≡◌, string_bytes}
 use Rattle.std.proofs.lemmas.Result.{IfOk-weaker}
 use Rattle.tv_declarations.specs.CanonicalDescription.{description_text}
 use Rattle.tv_lang.specs.CanonicalDescription.{CanBeSpelled, SpellsOnly}
-use Rattle.tv_lang.proofs.PrintLaws.{text_spells}
+use Rattle.tv_lang.proofs.PrintLemmas.{text_spells}
 use Rattle.tv_lang.proofs.printing.print.Goals as goal
 
 pub returns-clause-spelled : goal.returns-clause-spelled

@@ -5,7 +5,7 @@ use Rattle.tv_words.specs.declared.word.Word.{Word}
 use Rattle.tv_words.specs.declared.scan.Mode.TheVariants.{Between}
 use Rattle.tv_words.specs.Words.{SpellsWords}
 use Rattle.tv_words.specs.Reading.Scan.{at, read_on}
-use Rattle.tv_words.proofs.LineLaws.{scanned_spelled, scanned_only}
+use Rattle.tv_words.proofs.LineWordLemmas.{scanned_spelled, scanned_only}
 use Rattle.tv_words.proofs.scan.words_of.Goals as goal
 
 pub returns-clause-spelled : goal.returns-clause-spelled

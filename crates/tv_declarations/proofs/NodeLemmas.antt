@@ -19,10 +19,10 @@ use Rattle.tv_declarations.specs.Reading.Nodes.{text_in_fields, label_in, button
 use Rattle.tv_declarations.specs.Spelling.Terms.{ends_words}
 use Rattle.tv_words.specs.Fields.{IsNumber}
 use Rattle.tv_declarations.specs.Spelling.Nodes.{opens_words}
-use Rattle.tv_declarations.proofs.OptionLaws.{map_some, with2_some, with3_some, with5_some}
-use Rattle.tv_words.proofs.FieldLaws.{word_is, number_word_read, read_number_word, name_read, text_read}
-use Rattle.tv_declarations.proofs.CommandLaws.{command_read, ends_read, read_ends, button_options_read}
-use Rattle.tv_declarations.proofs.PlaceLaws.{IsNodeOf, node_made, mark_read}
+use Rattle.tv_declarations.proofs.OptionLemmas.{map_some, with2_some, with3_some, with5_some}
+use Rattle.tv_words.proofs.FieldLemmas.{word_is, number_word_read, read_number_word, name_read, text_read}
+use Rattle.tv_declarations.proofs.CommandLemmas.{command_read, ends_read, read_ends, button_options_read}
+use Rattle.tv_declarations.proofs.PlaceLemmas.{IsNodeOf, node_made, mark_read}
 
 -- texts
 text_made : (at : Position) (x y w h t : Word) (n : Node) → ((p : Place) × (rows : ℤ) × (text : List ℕ) × (place_in x y w ≡ Some p) × (number_in h ≡ Some rows) × (text_in t ≡ Some text) × (node_at at p (kinds.Text (record { h = rows; text = text })) ≡ n)) → IsNodeOf at n (Bare (codes "text") ∷ x ∷ y ∷ w ∷ h ∷ t ∷ [])

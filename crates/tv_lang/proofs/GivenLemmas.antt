@@ -14,9 +14,9 @@ use Rattle.tv_declarations.specs.Reading.Declarations.{declaration_in}
 use Rattle.tv_lang.specs.Reading.Stages.{fresh, progress, open_panes, taken_at, taken, finished}
 use Rattle.tv_declarations.specs.Spelling.{declarations_of, word_lines, IsDescription}
 use Rattle.tv_declarations.specs.Spelling.Declarations.{declaration_words, AreDeclarations}
-use Rattle.tv_declarations.proofs.PlaceLaws.{on_line}
-use Rattle.tv_declarations.proofs.DeclarationLaws.{declaration_read}
-use Rattle.tv_lang.proofs.StageLaws.{so_far, Sound, HasParts, goes}
+use Rattle.tv_declarations.proofs.PlaceLemmas.{on_line}
+use Rattle.tv_declarations.proofs.DeclarationLemmas.{declaration_read}
+use Rattle.tv_lang.proofs.StageLemmas.{so_far, Sound, HasParts, goes}
 
 -- the description that the declarations give
 abbrev pub given : Progress → List (List Word) → Option Desc

@@ -10,7 +10,7 @@ use Rattle.tv_words.specs.declared.scan.Mode.TheVariants.{Between}
 use Rattle.tv_words.specs.Words.{is_comment, Spaced, SpellsWords}
 use Rattle.tv_words.specs.Reading.Scan.{at, read_on}
 use Rattle.tv_words.specs.Reading.LineWords.{line_words_if, line_words}
-use Rattle.tv_words.proofs.WordLaws.{read_spelled, spelled_read}
+use Rattle.tv_words.proofs.WordLemmas.{read_spelled, spelled_read}
 
 spelled_if : (u n k : Bool) (line : List ℕ) (ws : List Word) → is_utf8 line ≡ u → list_any is_control (chars line) ≡ n → is_comment (chars line) ≡ k → line_words_if u n k (chars line) ≡ Some ws → SpellsWords line ws
 spelled_if false n k line ws eu en ek e = absurd cc

@@ -7,7 +7,7 @@ use Rattle.tv_words.specs.declared.word.Word.TheVariants.{Bare, Quoted}
 use Rattle.tv_words.specs.Names.{is_name}
 use Rattle.tv_words.specs.Fields.{is_bare_word, name_in, text_in, number_word, IsNumber, IsName}
 use Rattle.tv_words.specs.Reading.Numbers.{number_in}
-use Rattle.tv_words.proofs.NumberLaws.{number_read, read_number}
+use Rattle.tv_words.proofs.NumberLemmas.{number_read, read_number}
 
 -- a keyword
 pub word_is : (w : Word) (keyword : List ℕ) → is_bare_word w keyword ≡ true → w ≡ Bare keyword

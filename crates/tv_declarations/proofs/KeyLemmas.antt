@@ -1,6 +1,7 @@
 -- A word names a key just where it is its spelling.
 use Rattle.std.proofs.Common.{◌≡◌, ℕ, ◌≤◌, ◌==◌, nat_le, Bool, true, false, ◌&&◌, ◌||◌, cond, List, [], ◌∷◌, Option, Some, None, refl, sym, ap, ◌∙◌, subst, arith}
-use Rattle.std.specs.Prelude.{ℤ, pos, negsuc, codes}
+use Rattle.std.specs.Prelude.{ℤ, pos, negsuc}
+use Rattle.std.specs.List.{AllByRecursion}
 use Rattle.std.specs.Char.{is_ascii_uppercase, is_ascii_digit}
 use Rattle.std.proofs.lemmas.Bool.{eqb-true}
 use Rattle.std.proofs.lemmas.Bool.Decides.{nat_tests}
@@ -10,12 +11,12 @@ use Rattle.tv_words.specs.declared.word.Word.{Word}
 use Rattle.tv_words.specs.declared.word.Word.TheVariants.{Bare, Quoted}
 use Rattle.tv_words.specs.Fields.{is_bare_word}
 use Rattle.tv_words.specs.Reading.Numbers.{number_of}
-use Rattle.tv_declarations.specs.Reading.Keys.{moving_key, named_key, is_control, control_letter, is_alt, alt_letter, function_key, function_in, key_by, key_of, lettered_key, key_from, key_in}
+use Rattle.tv_declarations.specs.Reading.Keys.{first_named, named_keys, named_key, is_control, control_letter, is_alt, alt_letter, function_key, function_in, key_by, key_of, lettered_key, key_from, key_in}
 use Rattle.std.specs.Fmt.{signed_decimal}
 use Rattle.tv_words.specs.Fields.{IsNumber}
-use Rattle.tv_declarations.specs.Spelling.Keys.{key_text, key_word, IsKey}
-use Rattle.tv_words.proofs.FieldLaws.{word_is}
-use Rattle.tv_words.proofs.NumberLaws.{number_read, read_number}
+use Rattle.tv_declarations.specs.Spelling.Keys.{key_name, key_text, key_word, IsKey}
+use Rattle.tv_words.proofs.FieldLemmas.{word_is}
+use Rattle.tv_words.proofs.NumberLemmas.{number_read, read_number}
 
 abbrev Names : Word → Key → Type 0
 Names w key = (w ≡ key_word key) × IsKey key
@@ -24,28 +25,16 @@ named_if : (w : Word) (keyword : List ℕ) (c d : Key) (rest : Option Key) (b : 
 named_if w keyword c d rest true eb spelled is other e = let same : c ≡ d = cc in subst (Names w) same (word_is w keyword eb ∙ spelled, is)
 named_if w keyword c d rest false eb spelled is other e = other e
 
-moving_read : (w : Word) (d : Key) → moving_key w ≡ Some d → Names w d
-moving_read w d e =
-    named_if w (codes "Up") keys.Up d _ (is_bare_word w (codes "Up")) refl refl tt
-    (named_if w (codes "Down") keys.Down d _ (is_bare_word w (codes "Down")) refl refl tt
-    (named_if w (codes "Left") keys.Left d _ (is_bare_word w (codes "Left")) refl refl tt
-    (named_if w (codes "Right") keys.Right d _ (is_bare_word w (codes "Right")) refl refl tt
-    (named_if w (codes "Home") keys.Home d _ (is_bare_word w (codes "Home")) refl refl tt
-    (named_if w (codes "End") keys.End d _ (is_bare_word w (codes "End")) refl refl tt
-    (named_if w (codes "PgUp") keys.PageUp d _ (is_bare_word w (codes "PgUp")) refl refl tt
-    (named_if w (codes "PgDn") keys.PageDown d _ (is_bare_word w (codes "PgDn")) refl refl tt
-    (named_if w (codes "Ctrl-PgUp") keys.CtrlPageUp d _ (is_bare_word w (codes "Ctrl-PgUp")) refl refl tt
-    (named_if w (codes "Ctrl-PgDn") keys.CtrlPageDown d None (is_bare_word w (codes "Ctrl-PgDn")) refl refl tt (λ none. absurd cc)))))))))) e
+-- a key with a name of its own
+abbrev IsNamed : Key → Type 0
+IsNamed key = (Bare (key_name key) ≡ key_word key) × IsKey key
+
+first_read : (ks : List Key) (w : Word) (d : Key) → AllByRecursion IsNamed ks → first_named ks w ≡ Some d → Names w d
+first_read [] w d are e = absurd cc
+first_read (k ∷ ks) w d are e = named_if w (key_name k) k d (first_named ks w) (is_bare_word w (key_name k)) refl are.0.0 are.0.1 (first_read ks w d are.1) e
 
 named_read : (w : Word) (d : Key) → named_key w ≡ Some d → Names w d
-named_read w d e =
-    named_if w (codes "Tab") keys.Tab d _ (is_bare_word w (codes "Tab")) refl refl tt
-    (named_if w (codes "Shift-Tab") keys.ShiftTab d _ (is_bare_word w (codes "Shift-Tab")) refl refl tt
-    (named_if w (codes "Enter") keys.Enter d _ (is_bare_word w (codes "Enter")) refl refl tt
-    (named_if w (codes "Esc") keys.Esc d _ (is_bare_word w (codes "Esc")) refl refl tt
-    (named_if w (codes "Backspace") keys.Backspace d _ (is_bare_word w (codes "Backspace")) refl refl tt
-    (named_if w (codes "Del") keys.Delete d _ (is_bare_word w (codes "Del")) refl refl tt
-    (named_if w (codes "Ins") keys.Insert d (moving_key w) (is_bare_word w (codes "Ins")) refl refl tt (moving_read w d))))))) e
+named_read w d e = first_read named_keys w d ((refl, tt), ((refl, tt), ((refl, tt), ((refl, tt), ((refl, tt), ((refl, tt), ((refl, tt), ((refl, tt), ((refl, tt), ((refl, tt), ((refl, tt), ((refl, tt), ((refl, tt), ((refl, tt), ((refl, tt), ((refl, tt), ((refl, tt), tt))))))))))))))))) e
 
 -- keys with a letter, a digit or a number
 abbrev NamesText : List ℕ → Key → Type 0

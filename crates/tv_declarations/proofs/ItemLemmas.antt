@@ -21,10 +21,10 @@ use Rattle.tv_declarations.specs.Reading.Clusters.{items_of, item_taken, items_i
 use Rattle.tv_words.specs.Fields.{number_word, IsNumber}
 use Rattle.tv_declarations.specs.Spelling.Terms.{marked_word, with_mark, IsMarked}
 use Rattle.tv_declarations.specs.Spelling.Nodes.{text_word, marks_words, is_rising}
-use Rattle.tv_declarations.proofs.OptionLaws.{then_some, with2_some, with3_some, with4_some}
-use Rattle.tv_words.proofs.FieldLaws.{word_is, number_word_read, read_number_word, name_read}
-use Rattle.tv_declarations.proofs.MarkLaws.{marked_read, read_marked}
-use Rattle.tv_declarations.proofs.PlaceLaws.{IsNodeOf, node_made}
+use Rattle.tv_declarations.proofs.OptionLemmas.{then_some, with2_some, with3_some, with4_some}
+use Rattle.tv_words.proofs.FieldLemmas.{word_is, number_word_read, read_number_word, name_read}
+use Rattle.tv_declarations.proofs.MarkLemmas.{marked_read, read_marked}
+use Rattle.tv_declarations.proofs.PlaceLemmas.{IsNodeOf, node_made}
 
 -- ---- texts, and numbers after `start`
 

@@ -1,6 +1,7 @@
 -- What the words of commands and options are read as, and that it is their spelling.
 use Rattle.std.proofs.Common.{◌≡◌, ℕ, Bool, true, false, cond, List, [], ◌∷◌, ◌++◌, Option, Some, None, refl, ap, ◌∙◌}
 use Rattle.std.specs.Prelude.{ℤ, codes}
+use Rattle.std.specs.List.{AllByRecursion}
 use Rattle.std.proofs.lemmas.List.{append-nil}
 use Rattle.tv_model.specs.declared.command.CommandSpec.{CommandSpec}
 use Rattle.tv_model.specs.declared.command.CommandSpec.TheVariants as commands
@@ -9,26 +10,26 @@ use Rattle.tv_words.specs.declared.word.Word.{Word}
 use Rattle.tv_words.specs.declared.word.Word.TheVariants.{Bare}
 use Rattle.tv_words.specs.Fields.{is_bare_word}
 use Rattle.tv_words.specs.Reading.Numbers.{number_in}
-use Rattle.tv_declarations.specs.Reading.Commands.{named_command, numbered_command, command_in, is_next, after_next, at_end, ends_in, button_options_in}
-use Rattle.tv_declarations.specs.Spelling.Terms.{command_word, word_if, ends_words, IsCommand}
-use Rattle.tv_words.proofs.NumberLaws.{read_number}
-use Rattle.tv_words.proofs.FieldLaws.{word_is, number_word_read}
+use Rattle.tv_declarations.specs.Reading.Commands.{first_named, named_commands, named_command, numbered_command, command_in, is_next, after_next, at_end, ends_in, button_options_in}
+use Rattle.tv_declarations.specs.Spelling.Terms.{command_name, command_word, word_if, ends_words, IsCommand}
+use Rattle.tv_words.proofs.NumberLemmas.{read_number}
+use Rattle.tv_words.proofs.FieldLemmas.{word_is, number_word_read}
 
 -- commands
 named_if : (w : Word) (keyword : List ℕ) (c d : CommandSpec) (rest : Option CommandSpec) (b : Bool) → is_bare_word w keyword ≡ b → Bare keyword ≡ command_word c → IsCommand c → (rest ≡ Some d → (w ≡ command_word d) × IsCommand d) → cond b (Some c) rest ≡ Some d → (w ≡ command_word d) × IsCommand d
 named_if w keyword c d rest true eb spelled is other e = let same : c ≡ d = cc in rw (← same) (word_is w keyword eb ∙ spelled, is)
 named_if w keyword c d rest false eb spelled is other e = other e
 
+-- a command with a word
+abbrev IsNamed : CommandSpec → Type 0
+IsNamed c = (Bare (command_name c) ≡ command_word c) × IsCommand c
+
+first_read : (cs : List CommandSpec) (w : Word) (d : CommandSpec) → AllByRecursion IsNamed cs → first_named cs w ≡ Some d → (w ≡ command_word d) × IsCommand d
+first_read [] w d are e = absurd cc
+first_read (c ∷ cs) w d are e = named_if w (command_name c) c d (first_named cs w) (is_bare_word w (command_name c)) refl are.0.0 are.0.1 (first_read cs w d are.1) e
+
 named_read : (w : Word) (d : CommandSpec) → named_command w ≡ Some d → (w ≡ command_word d) × IsCommand d
-named_read w d e =
-    named_if w (codes "quit") commands.Quit d _ (is_bare_word w (codes "quit")) refl refl tt
-    (named_if w (codes "menu") commands.Menu d _ (is_bare_word w (codes "menu")) refl refl tt
-    (named_if w (codes "close") commands.Close d _ (is_bare_word w (codes "close")) refl refl tt
-    (named_if w (codes "next") commands.Next d _ (is_bare_word w (codes "next")) refl refl tt
-    (named_if w (codes "ok") commands.Ok d _ (is_bare_word w (codes "ok")) refl refl tt
-    (named_if w (codes "cancel") commands.Cancel d _ (is_bare_word w (codes "cancel")) refl refl tt
-    (named_if w (codes "yes") commands.Yes d _ (is_bare_word w (codes "yes")) refl refl tt
-    (named_if w (codes "no") commands.No d None (is_bare_word w (codes "no")) refl refl tt (λ none. absurd cc)))))))) e
+named_read w d e = first_read named_commands w d ((refl, tt), ((refl, tt), ((refl, tt), ((refl, tt), ((refl, tt), ((refl, tt), ((refl, tt), ((refl, tt), tt)))))))) e
 
 command_from : (w : Word) (d : CommandSpec) (o : Option ℤ) → number_in w ≡ o → numbered_command o w ≡ Some d → (w ≡ command_word d) × IsCommand d
 command_from w d (Some n) eo e = let same : commands.Number n ≡ d = cc in rw (← same) (number_word_read w n eo)
@@ -63,16 +64,16 @@ nothing_more (w ∷ ws) found ends e = absurd cc
 
 pub ends_read : (ws : List Word) (ends : Ends) → ends_in ws ≡ Some ends → ws ≡ ends_words ends
 ends_read ws ends e =
-    let after_ok = after_next (codes "ok") ws in
-    let after_cancel = after_next (codes "cancel") after_ok in
-    let after_yes = after_next (codes "yes") after_cancel in
-    let found : Ends = record { ok = is_next (codes "ok") ws; cancel = is_next (codes "cancel") after_ok; yes = is_next (codes "yes") after_cancel; no = is_next (codes "no") after_yes } in
-    let last = nothing_more (after_next (codes "no") after_yes) found ends e in
-    next_word (codes "ok") ws
-    ∙ ap (λ x. word_if found.ok (codes "ok") ++ x) (next_word (codes "cancel") after_ok
-    ∙ ap (λ x. word_if found.cancel (codes "cancel") ++ x) (next_word (codes "yes") after_cancel
-    ∙ ap (λ x. word_if found.yes (codes "yes") ++ x) (next_word (codes "no") after_yes
-    ∙ ap (λ x. word_if found.no (codes "no") ++ x) last.0 ∙ append-nil (word_if found.no (codes "no")))))
+    let after_ok = after_next (command_name commands.Ok) ws in
+    let after_cancel = after_next (command_name commands.Cancel) after_ok in
+    let after_yes = after_next (command_name commands.Yes) after_cancel in
+    let found : Ends = record { ok = is_next (command_name commands.Ok) ws; cancel = is_next (command_name commands.Cancel) after_ok; yes = is_next (command_name commands.Yes) after_cancel; no = is_next (command_name commands.No) after_yes } in
+    let last = nothing_more (after_next (command_name commands.No) after_yes) found ends e in
+    next_word (command_name commands.Ok) ws
+    ∙ ap (λ x. word_if found.ok (command_name commands.Ok) ++ x) (next_word (command_name commands.Cancel) after_ok
+    ∙ ap (λ x. word_if found.cancel (command_name commands.Cancel) ++ x) (next_word (command_name commands.Yes) after_cancel
+    ∙ ap (λ x. word_if found.yes (command_name commands.Yes) ++ x) (next_word (command_name commands.No) after_yes
+    ∙ ap (λ x. word_if found.no (command_name commands.No) ++ x) last.0 ∙ append-nil (word_if found.no (command_name commands.No)))))
     ∙ ap ends_words last.1
 
 abbrev ends_of : Bool → Bool → Bool → Bool → Ends

@@ -18,9 +18,9 @@ use Rattle.tv_words.specs.Reading.LineWords.{line_words, line_taken}
 use Rattle.tv_lang.specs.Reading.Stages.{fresh, taken, finished}
 use Rattle.tv_declarations.specs.Spelling.{word_lines, IsDescription}
 use Rattle.tv_lang.specs.Faults.{SpellsLines, Begins}
-use Rattle.tv_words.proofs.TextLaws as texts
-use Rattle.tv_lang.proofs.GivenLaws.{at, given_spelled}
-use Rattle.tv_lang.proofs.ReachLaws.{spelled_given}
+use Rattle.tv_words.proofs.TextLemmas as texts
+use Rattle.tv_lang.proofs.GivenLemmas.{at, given_spelled}
+use Rattle.tv_lang.proofs.ReachLemmas.{spelled_given}
 
 -- the machine over lines, which passes over lines without words
 abbrev pub taken_line : Progress → List ℕ → Option Progress

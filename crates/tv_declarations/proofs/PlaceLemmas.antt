@@ -16,9 +16,9 @@ use Rattle.tv_words.specs.Fields.{number_word, IsNumber}
 use Rattle.tv_declarations.specs.Spelling.Terms.{marked_word, IsMarked}
 use Rattle.tv_declarations.specs.Spelling.Nodes.{kind_words, node_words, IsKind}
 use Rattle.tv_declarations.specs.Spelling.Declarations.{IsNode}
-use Rattle.tv_declarations.proofs.OptionLaws.{then_some, with3_some}
-use Rattle.tv_words.proofs.FieldLaws.{number_word_read, read_number_word, text_read}
-use Rattle.tv_declarations.proofs.MarkLaws.{marked_read, read_marked}
+use Rattle.tv_declarations.proofs.OptionLemmas.{then_some, with3_some}
+use Rattle.tv_words.proofs.FieldLemmas.{number_word_read, read_number_word, text_read}
+use Rattle.tv_declarations.proofs.MarkLemmas.{marked_read, read_marked}
 
 pub record PlaceIs (x y w : Word) (p : Place) : Type 0 where
   pub column : x ≡ number_word p.x

@@ -29,13 +29,13 @@ use Rattle.tv_words.specs.Fields.{number_word, IsNumber}
 use Rattle.tv_words.specs.Texts.{IsFirstFault}
 use Rattle.tv_lang.specs.Faults.{Spells, IsOtherVersion, Refuses, Gives}
 use Rattle.tv_lang.specs.Reading.Descriptions.{LineStep, Next, Faulty, OfOtherVersion, step_from, step_if, words_step, line_step, Reading, Value, Fault, Other, at_end, reading, reading_of, StopsAt}
-use Rattle.tv_words.proofs.FieldLaws.{word_is, number_word_read, read_number_word}
-use Rattle.tv_declarations.proofs.OptionLaws.{map_some, then_some}
-use Rattle.tv_declarations.proofs.PlaceLaws.{on_line}
-use Rattle.tv_declarations.proofs.DeclarationLaws.{declaration_read}
-use Rattle.tv_lang.proofs.StageLaws.{both, so_far, Sound, goes}
-use Rattle.tv_words.proofs.LineLaws.{line_spelled, spelled_line}
-use Rattle.tv_lang.proofs.DescriptionTexts.{taken_line, lines_spelled, spelled_lines, begins_taken, taken_begins}
+use Rattle.tv_words.proofs.FieldLemmas.{word_is, number_word_read, read_number_word}
+use Rattle.tv_declarations.proofs.OptionLemmas.{map_some, then_some}
+use Rattle.tv_declarations.proofs.PlaceLemmas.{on_line}
+use Rattle.tv_declarations.proofs.DeclarationLemmas.{declaration_read}
+use Rattle.tv_lang.proofs.StageLemmas.{both, so_far, Sound, goes}
+use Rattle.tv_words.proofs.LineWordLemmas.{line_spelled, spelled_line}
+use Rattle.tv_lang.proofs.DescriptionTextLemmas.{taken_line, lines_spelled, spelled_lines, begins_taken, taken_begins}
 
 -- reading on after a line
 abbrev went : ℕ → List (List ℕ) → LineStep → Reading

@@ -18,10 +18,10 @@ use Rattle.tv_declarations.specs.Reading.Places.{place_in, node_at}
 use Rattle.tv_declarations.specs.Reading.Inputs.{filter_in, picture_in, range_in, domain_in, options_in, asked_after, asked_from, asked_in, input_of, input_in}
 use Rattle.tv_declarations.specs.Spelling.Terms.{word_if}
 use Rattle.tv_declarations.specs.Spelling.Nodes.{domain_words, IsDomain}
-use Rattle.tv_declarations.proofs.OptionLaws.{map_some, with2_some, with4_some}
-use Rattle.tv_words.proofs.FieldLaws.{word_is, number_word_read, read_number_word, name_read, text_read}
-use Rattle.tv_declarations.proofs.CommandLaws.{nothing_more, next_word}
-use Rattle.tv_declarations.proofs.PlaceLaws.{IsNodeOf, node_made}
+use Rattle.tv_declarations.proofs.OptionLemmas.{map_some, with2_some, with4_some}
+use Rattle.tv_words.proofs.FieldLemmas.{word_is, number_word_read, read_number_word, name_read, text_read}
+use Rattle.tv_declarations.proofs.CommandLemmas.{nothing_more, next_word}
+use Rattle.tv_declarations.proofs.PlaceLemmas.{IsNodeOf, node_made}
 
 -- domains
 abbrev DomainIs : List Word → DomainSpec × List Word → Type 0

@@ -11,7 +11,7 @@ use Rattle.std.specs.Option.{option_map}
 use Rattle.tv_lang.specs.Reading.Stages.{is_other_version, progress, position, taken_at, taken}
 use Rattle.tv_declarations.specs.Reading.Declarations.{declaration_in}
 use Rattle.tv_lang.specs.Reading.Descriptions.{Next, Faulty, OfOtherVersion, step_from, step_if, words_step, line_step}
-use Rattle.tv_words.proofs.LineLaws.{found_words}
+use Rattle.tv_words.proofs.LineWordLemmas.{found_words}
 
 module _ (p : Progress) (line : List ℕ) (found : Option (List Word)) (spelled : IfSome found (λ ws. SpellsWords line ws)) (only : (ws : List Word) → SpellsWords line ws → found ≡ Some ws) where
   by_words : words_step p found ≡ line_step p line

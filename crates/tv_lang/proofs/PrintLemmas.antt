@@ -6,8 +6,8 @@ use Rattle.tv_declarations.specs.Spelling.{word_lines, IsDescription}
 use Rattle.tv_lang.specs.Faults.{Spells}
 use Rattle.tv_declarations.specs.CanonicalDescription.{description_text}
 use Rattle.tv_lang.specs.CanonicalDescription.{CanBeSpelled, SpellsOnly}
-use Rattle.tv_words.proofs.CanonicalTexts.{respelled}
-use Rattle.tv_lang.proofs.DescriptionTexts.{spelled_lines}
+use Rattle.tv_words.proofs.CanonicalTextLemmas.{respelled}
+use Rattle.tv_lang.proofs.DescriptionTextLemmas.{spelled_lines}
 
 -- a text spells one description at most
 pub spelled_once : (text : List ℕ) (d e : Desc) → Spells text d → Spells text e → d ≡ e

@@ -22,9 +22,9 @@ use Rattle.tv_lang.specs.declared.stage.Stage.TheVariants as stages
 use Rattle.tv_lang.specs.Reading.Stages.{no_dialogs, no_windows, no_status, panes_after, taken_at, fresh, open_panes}
 use Rattle.tv_declarations.specs.Spelling.{start_declarations, menu_declarations, window_declarations, ends_of_panes, open_after, view_declarations, dialog_declarations, declarations_of, word_lines, HasItems, IsWindowText, IsWindow, AreViews, IsDialog, IsDescription}
 use Rattle.tv_declarations.specs.Spelling.Declarations.{declaration_words, AreDeclarations}
-use Rattle.tv_declarations.proofs.DeclarationLaws.{read_declaration}
+use Rattle.tv_declarations.proofs.DeclarationLemmas.{read_declaration}
 use Rattle.tv_declarations.specs.Spelling.Declarations.{IsInside}
-use Rattle.tv_lang.proofs.GivenLaws.{given, at}
+use Rattle.tv_lang.proofs.GivenLemmas.{given, at}
 use Rattle.tv_lang.proofs.OpenedLemmas.{opens_window, opens_dialog}
 
 -- from this stage on, the declarations give the description, whichever lines they stand on

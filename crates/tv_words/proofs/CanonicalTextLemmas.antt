@@ -10,7 +10,7 @@ use Rattle.tv_words.specs.Lines.{lines_of}
 use Rattle.tv_words.specs.Words.{is_comment, SpellsWords}
 use Rattle.tv_words.specs.Texts.{EachSpells, declarations, SpellsBy}
 use Rattle.tv_words.specs.Canonical.{canonical_line, ended_line, canonical_text}
-use Rattle.tv_words.proofs.CanonicalLines.{Stands, canonical_spells, line_of_words, words_stand, plain_line, clean_from_plain}
+use Rattle.tv_words.proofs.CanonicalLineLemmas.{Stands, canonical_spells, line_of_words, words_stand, plain_line, clean_from_plain}
 
 abbrev is_end : ℕ → Bool
 is_end b = b == 10

@@ -6,7 +6,7 @@ use Rattle.tv_words.specs.declared.word.Word.{Word}
 use Rattle.tv_words.specs.Reading.Steps.{steps}
 use Rattle.tv_words.specs.Reading.LineWords.{line_words, words_taken, line_taken}
 use Rattle.tv_words.specs.Texts.{EachSpells, declarations, SpellsBy, BeginsBy}
-use Rattle.tv_words.proofs.LineLaws.{line_spelled, spelled_line}
+use Rattle.tv_words.proofs.LineWordLemmas.{line_spelled, spelled_line}
 
 -- the words of the lines that have any, or none where a line is faulty
 abbrev onto : Option (List Word) → Option (List (List Word)) → Option (List (List Word))

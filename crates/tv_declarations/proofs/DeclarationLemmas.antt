@@ -27,14 +27,14 @@ use Rattle.tv_declarations.specs.Reading.Declarations.{version_in, screen_in, st
 use Rattle.tv_words.specs.Fields.{number_word}
 use Rattle.tv_declarations.specs.Spelling.Nodes.{kind_words, IsKind}
 use Rattle.tv_declarations.specs.Spelling.Declarations.{declaration_words, effect_words, IsEffect, IsNode, IsDeclaration, IsInside, IsLine}
-use Rattle.tv_declarations.proofs.OptionLaws.{map_some, then_some, with2_some, with3_some}
-use Rattle.tv_words.proofs.FieldLaws.{word_is, number_word_read, read_number_word, name_read, read_name, text_read}
-use Rattle.tv_declarations.proofs.CommandLaws.{command_read, read_command, read_button_options}
-use Rattle.tv_declarations.proofs.KeyLaws.{key_read, read_key}
-use Rattle.tv_declarations.proofs.PlaceLaws.{IsNodeOf, mark_read, read_mark, on_line}
-use Rattle.tv_declarations.proofs.NodeLaws.{text_line, label_line, button_line, pane_line, window_line, dialog_line, read_commands}
-use Rattle.tv_declarations.proofs.InputLaws.{input_line, read_asked}
-use Rattle.tv_declarations.proofs.ItemLaws.{checks_line, radios_line, list_line, read_boxes, read_choices, read_rows}
+use Rattle.tv_declarations.proofs.OptionLemmas.{map_some, then_some, with2_some, with3_some}
+use Rattle.tv_words.proofs.FieldLemmas.{word_is, number_word_read, read_number_word, name_read, read_name, text_read}
+use Rattle.tv_declarations.proofs.CommandLemmas.{command_read, read_command, read_button_options}
+use Rattle.tv_declarations.proofs.KeyLemmas.{key_read, read_key}
+use Rattle.tv_declarations.proofs.PlaceLemmas.{IsNodeOf, mark_read, read_mark, on_line}
+use Rattle.tv_declarations.proofs.NodeLemmas.{text_line, label_line, button_line, pane_line, window_line, dialog_line, read_commands}
+use Rattle.tv_declarations.proofs.InputLemmas.{input_line, read_asked}
+use Rattle.tv_declarations.proofs.ItemLemmas.{checks_line, radios_line, list_line, read_boxes, read_choices, read_rows}
 
 -- ---- what is read is spelled so
 
