@@ -128,6 +128,7 @@ kept_head faults.BadOpening d = kept_start d d.start refl
 kept_head _ d = skip (kept_none d.start)
 
 kept_lines : (kind : FaultKind) (d : Desc) → Kept (fault_lines kind d) (lines_of d)
+unfolding fault_lines
 kept_lines kind d =
     kept_append _ _ (kept_head kind d)
     (kept_append _ _ (kept_parts (menu_lines kind) lines_of_menu (kept_menu kind) [] d.menus)
@@ -163,5 +164,6 @@ module _ (d : Desc) (rising : AreLinesRising d) where
       (λ i line less. All-weaker (λ fault. fault_number kind < fault_number fault.kind) (IsBefore (fault_at kind (get_or (fault_lines kind d) i line))) (λ fault low. inl low) (flat_map (λ kind. faults_at kind d) kinds) (above d (fault_number kind) (fault_number kind) kinds (omega arith) up.1)))
 
 pub in_order : (d : Desc) → AreLinesRising d → AreInOrder (faults_of d)
+unfolding faults_of
 in_order d rising = many_kinds d rising 0 all_kinds
     (omega arith, (omega arith, (omega arith, (omega arith, (omega arith, (omega arith, (omega arith, (omega arith, (omega arith, (omega arith, (omega arith, (omega arith, (omega arith, (omega arith, (omega arith, (omega arith, (omega arith, tt)))))))))))))))))

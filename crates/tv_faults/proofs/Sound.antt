@@ -19,7 +19,7 @@ use Rattle.tv_model.specs.Description.Numbers.{is_between}
 use Rattle.tv_model.specs.Faults.Limits.{is_lawful_amount, is_lawful_corner, is_lawful_count, is_lawful_size, is_too_long, is_lawful, is_lawful_number, is_lawful_screen, least_height, least_width}
 use Rattle.tv_model.specs.Faults.Rules.{is_always_free}
 use Rattle.tv_model.specs.Faults.Starts.{means_dialog}
-use Rattle.tv_model.specs.Faults.{IsSound, all_kinds, dialog_has, dialog_lines, fault_at, fault_lines, faults_at, head_lines, menu_lines, rule_lines, status_lines, view_has, view_lines, window_lines}
+use Rattle.tv_model.specs.Faults.{IsSound, all_kinds, dialog_has, dialog_lines, fault_at, fault_lines, faults_at, faults_of, head_lines, menu_lines, rule_lines, status_lines, view_has, view_lines, window_lines}
 use Rattle.tv_model.specs.Faults.Lines.{after_seen, line_if}
 use Rattle.tv_model.specs.Description.Rectangles.{desktop, is_within, place_of_node, overlap}
 use Rattle.tv_model.specs.Faults.Names.{dialog_named_again}
@@ -80,13 +80,16 @@ each_after P seen (x ∷ xs) all =
 module _ (d : Desc) (sound : IsSound d) where
   -- a sound description has no line of the fault
   no_lines : (i : ℕ) → i < length all_kinds → fault_lines (get_or all_kinds i faults.NameTwice) d ≡ []
+  unfolding faults_of
   no_lines i less = map_nil (fault_at (get_or all_kinds i faults.NameTwice)) (fault_lines (get_or all_kinds i faults.NameTwice) d) (flat_nil (λ kind. faults_at kind d) all_kinds sound i faults.NameTwice less)
 
   module _ (kind : FaultKind) (none : fault_lines kind d ≡ []) where
     no_head : head_lines kind d ≡ []
+    unfolding fault_lines
     no_head = left_nil (head_lines kind d) _ none
 
     no_dialog : All (λ pair. dialog_lines kind d pair.0 pair.1 ≡ []) (after_seen [] d.dialogs)
+    unfolding fault_lines
     no_dialog = flat_nil (λ pair. dialog_lines kind d pair.0 pair.1) (after_seen [] d.dialogs)
         (right_nil (flat_map (λ pair. window_lines kind pair.0 pair.1) (after_seen [] d.windows)) _
         (right_nil (status_lines kind d) _

@@ -1,9 +1,11 @@
 //! The faults that no description of dialogs should have.
 #![tactic(auto)]
 
-mod conditions;
+mod judge;
 mod judged;
+mod line;
 mod list;
+mod own;
 
 pub use list::faults;
 pub use tv_names::marks;

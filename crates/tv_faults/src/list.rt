@@ -1,7 +1,7 @@
 //! The list of all faults.
 
 ghost use Rattle.std.specs.Prelude.{◌≡◌, [], ◌++◌, map, flat_map, IfOk, OnOk};
-ghost use Rattle.tv_model.specs.Faults.Lines.{after_seen, line_if, lines_where};
+ghost use Rattle.tv_model.specs.Faults.Lines.{after_seen, lines_where};
 ghost use Rattle.tv_model.specs.Faults.{dialog_lines, fault_at, faults_at, faults_of, head_lines, item_has, menu_lines, rule_lines, status_lines, view_lines, window_lines};
 ghost use Rattle.tv_faults.specs.Order.{AreInOrder, AreLinesRising};
 ghost use Rattle.tv_faults.specs.Usable.{IsUsable};
@@ -10,6 +10,7 @@ use crate::judged::{
     faulty_dialogs, faulty_items, faulty_menus, faulty_rules, faulty_status_items, faulty_views,
     faulty_windows,
 };
+use crate::line::{add_if, add_where};
 use std::alloc::{AllocError, Global};
 use tv_limits::is_lawful_screen;
 use tv_model::{Desc, Dialog, Ends, Fault, FaultKind, Menu, Node, Sequence, Window};
@@ -44,21 +45,6 @@ const NO_ENDS: Ends = Ends {
     no: false,
 };
 
-// Adds the fault of the line if it is one.
-fn add_if(
-    found: &mut Sequence<Fault>,
-    is_fault: bool,
-    kind: FaultKind,
-    line: u32,
-) -> Result<(), AllocError>
-    ensures { OnOk result (found.new ≡ found.old ++ map (fault_at kind) (line_if is_fault line)) }
-{
-    if is_fault {
-        found.push(Fault { kind, line })?;
-    }
-    Ok(())
-}
-
 // Adds the lines before the menus that have the fault.
 fn add_head(found: &mut Sequence<Fault>, kind: FaultKind, desc: &Desc) -> Result<(), AllocError>
     ensures { OnOk result (found.new ≡ found.old ++ map (fault_at kind) (head_lines kind desc.now)) }
@@ -82,11 +68,7 @@ fn add_items(
 {
     let items = menu.items.as_slice();
     let faulty = faulty_items(alloc, kind, items)?;
-    let faulty = faulty.as_slice();
-    for (i, item) in items.iter().enumerate() {
-        add_if(found, faulty[i], kind, item.id.0)?;
-    }
-    Ok(())
+    add_where(found, kind, items, faulty.as_slice())
 }
 
 // Adds the status items that have the fault.
@@ -101,11 +83,7 @@ fn add_status(
 {
     let items = desc.status.as_slice();
     let faulty = faulty_status_items(alloc, kind, desc)?;
-    let faulty = faulty.as_slice();
-    for (i, item) in items.iter().enumerate() {
-        add_if(found, faulty[i], kind, item.id.0)?;
-    }
-    Ok(())
+    add_where(found, kind, items, faulty.as_slice())
 }
 
 // Adds the views of the window or dialog that have the fault.
@@ -121,11 +99,7 @@ fn add_views(
     ensures { OnOk result (found.new ≡ found.old ++ map (fault_at kind) (view_lines kind frame.now ends views.now)) }
 {
     let faulty = faulty_views(alloc, kind, frame, ends, views)?;
-    let faulty = faulty.as_slice();
-    for (i, node) in views.iter().enumerate() {
-        add_if(found, faulty[i], kind, node.id.0)?;
-    }
-    Ok(())
+    add_where(found, kind, views, faulty.as_slice())
 }
 
 // Adds the rules of the dialog that have the fault.
@@ -140,11 +114,7 @@ fn add_rules(
 {
     let rules = dialog.rules.as_slice();
     let faulty = faulty_rules(alloc, kind, dialog)?;
-    let faulty = faulty.as_slice();
-    for (i, rule) in rules.iter().enumerate() {
-        add_if(found, faulty[i], kind, rule.id.0)?;
-    }
-    Ok(())
+    add_where(found, kind, rules, faulty.as_slice())
 }
 
 // Adds the menus that have the fault, and their items.
@@ -238,6 +208,7 @@ fn add_kind(
 }
 
 /// The faults of the description, by number and then by line.
+#[tactic(auto, unfolding(tv_model::specs::Faults::faults_of))]
 pub fn faults(alloc: Global, desc: &Desc) -> Result<Sequence<Fault>, AllocError>
     ensures value { IfOk result (λ list. list ≡ faults_of desc.now) }
     ensures order { AreLinesRising desc.now → IfOk result AreInOrder }

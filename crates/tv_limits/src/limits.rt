@@ -1,9 +1,10 @@
 //! F15: numbers, sizes, counts and lengths outside their limits.
 
-ghost use Rattle.std.specs.Prelude.{◌≡◌, ◌&&◌, nat_le, length, Some};
+ghost use Rattle.std.specs.Prelude.{◌≡◌, ◌&&◌, nat_le, length, pos, Some};
+ghost use Rattle.tv_model.specs.Description.Nodes.{height_of};
+ghost use Rattle.tv_model.specs.Description.Numbers.{is_between};
 ghost use Rattle.tv_model.specs.Description.Commands.{command_of};
 ghost use Rattle.tv_model.specs.Faults.Limits.{dialog_outside_limits, is_lawful, is_lawful_amount, is_lawful_corner, is_lawful_count, is_lawful_number, is_lawful_screen, is_lawful_size, item_outside_limits, least_height, least_width, menu_outside_limits, rule_outside_limits, status_outside_limits, view_outside_limits, window_outside_limits};
-ghost use Rattle.tv_model.specs.Description.Numbers.{is_between};
 
 use crate::lengths::{has_long_text, is_too_long};
 use tv_model::{
@@ -12,14 +13,7 @@ use tv_model::{
 };
 use tv_overlaps::height;
 
-/// Whether the number is one of `least` to `greatest`.
-pub fn is_between(least: &i128, greatest: &i128, n: &i128) -> bool
-    ensures { result ≡ is_between least.now greatest.now n.now }
-{
-    *least <= *n && *n <= *greatest
-}
-
-fn least_width(kind: &Kind) -> i128
+fn least_width(kind: &Kind) -> i32
     ensures { result ≡ least_width kind.now }
 {
     match kind {
@@ -45,7 +39,7 @@ fn is_lawful_command(command: CommandSpec) -> bool
     ensures { result ≡ is_lawful_number (Some command) }
 {
     match command {
-        CommandSpec::Number(number) => is_between(&100, &255, &i128::from(number)),
+        CommandSpec::Number(number) => (100..=255).contains(&number),
         _ => true,
     }
 }
@@ -64,7 +58,7 @@ fn is_lawful_button(kind: &Kind) -> bool
 fn is_lawful_cluster(items: &[MarkedText]) -> bool
     ensures { result ≡ (nat_le 1 (length items.now) && nat_le (length items.now) 16) }
 {
-    1 <= items.len() && items.len() <= 16
+    (1..=16).contains(&items.len())
 }
 
 // Whether the declaration has as many items as it may.
@@ -74,10 +68,7 @@ fn is_lawful_count(kind: &Kind) -> bool
     match kind {
         Kind::CheckBoxes(boxes) => is_lawful_cluster(boxes.items.as_slice()),
         Kind::RadioButtons(radios) => is_lawful_cluster(radios.items.as_slice()),
-        Kind::List(list) => {
-            let count = list.items.as_slice().len();
-            1 <= count && count <= 100
-        }
+        Kind::List(list) => (1..=100).contains(&list.items.as_slice().len()),
         _ => true,
     }
 }
@@ -87,8 +78,8 @@ fn is_lawful_amount(kind: &Kind) -> bool
     ensures { result ≡ is_lawful_amount kind.now }
 {
     match kind {
-        Kind::Window(head) => is_between(&0, &9, &i128::from(head.number)),
-        Kind::Input(input) => is_between(&1, &120, &i128::from(input.spec.max)),
+        Kind::Window(head) => (0..=9).contains(&head.number),
+        Kind::Input(input) => (1..=120).contains(&input.spec.max),
         _ => true,
     }
 }
@@ -96,14 +87,19 @@ fn is_lawful_amount(kind: &Kind) -> bool
 fn is_lawful_corner(node: &Node) -> bool
     ensures { result ≡ is_lawful_corner node.now }
 {
-    is_between(&-132, &132, &i128::from(node.x)) && is_between(&-132, &132, &i128::from(node.y))
+    (-132..=132).contains(&node.x) && (-132..=132).contains(&node.y)
+}
+
+fn is_lawful_height(kind: &Kind) -> bool
+    ensures { result ≡ is_between (least_height kind.now) (pos 60) (height_of kind.now) }
+{
+    (least_height(kind)..=60).contains(&height(kind))
 }
 
 fn is_lawful_size(node: &Node) -> bool
     ensures { result ≡ is_lawful_size node.now }
 {
-    is_between(&least_width(&node.kind), &132, &i128::from(node.w))
-        && is_between(&least_height(&node.kind), &60, &height(&node.kind))
+    (least_width(&node.kind)..=132).contains(&node.w) && is_lawful_height(&node.kind)
 }
 
 /// Whether the numbers, the items and the texts of the declaration are within the limits.
@@ -122,7 +118,7 @@ pub fn is_lawful(node: &Node) -> bool
 pub fn is_lawful_screen(desc: &Desc) -> bool
     ensures { result ≡ is_lawful_screen desc.now }
 {
-    is_between(&20, &132, &i128::from(desc.width)) && is_between(&10, &60, &i128::from(desc.height))
+    (20..=132).contains(&desc.width) && (10..=60).contains(&desc.height)
 }
 
 /// Whether the menu's title is too long, or the menu the first that is too many.

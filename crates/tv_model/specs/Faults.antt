@@ -134,7 +134,7 @@ rule_lines kind dialog = lines_where (λ rule. rule.id.0) (rule_has kind dialog.
 abbrev pub dialog_lines : FaultKind → Desc → List Dialog → Dialog → List ℕ
 dialog_lines kind d before dialog = line_if (dialog_has kind d before dialog) dialog.node.id.0 ++ (view_lines kind dialog.node (dialog_head dialog).ends dialog.views ++ rule_lines kind dialog)
 
-abbrev pub fault_lines : FaultKind → Desc → List ℕ
+unfoldable pub fault_lines : FaultKind → Desc → List ℕ
 fault_lines kind d =
     head_lines kind d
     ++ (flat_map (λ pair. menu_lines kind pair.0 pair.1) (after_seen [] d.menus)
@@ -157,7 +157,7 @@ all_kinds =
     ∷ faults.EmptyDomain ∷ faults.BadStart ∷ faults.WideCharacter ∷ faults.OutsideLimits ∷ faults.BadOpening ∷ faults.MenuLetter ∷ []
 
 -- all faults, by number, then by line
-abbrev pub faults_of : Desc → List Fault
+unfoldable pub faults_of : Desc → List Fault
 faults_of d = flat_map (λ kind. faults_at kind d) all_kinds
 
 -- a sound description has none

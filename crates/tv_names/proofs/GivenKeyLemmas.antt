@@ -3,11 +3,16 @@ use Rattle.std.proofs.Common.{◌≡◌, ℕ, Bool, true, false, not, ◌||◌, 
 use Rattle.std.specs.List.{list_any}
 use Rattle.tv_event.specs.declared.event.Key.{Key}
 use Rattle.tv_event.specs.declared.event.Key.TheVariants as keys
+use Rattle.tv_event.specs.contracts.event.KeyPartialEq.TheImpl as key_equality
 use Rattle.tv_model.specs.declared.desc.Desc.{Desc}
 use Rattle.tv_model.specs.declared.desc.StatusItem.{StatusItem}
 use Rattle.tv_model.specs.Faults.Letters.{has_bad_key, is_same_key, is_status_key, is_taken}
-use Rattle.tv_names.specs.Keys.{are_equal, is_alt_of}
+use Rattle.tv_names.specs.Keys.{is_alt_of}
 use Rattle.tv_lines.proofs.TestLemmas.{any_same}
+
+-- the same key, of all keys
+abbrev pub are_equal : Key → Key → Bool
+are_equal = (key_equality.ghosts).eq
 
 same_key : (key other : Key) → is_status_key key ≡ true → are_equal other key ≡ is_same_key other key
 same_key key other lawful = search rules

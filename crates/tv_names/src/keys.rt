@@ -21,7 +21,7 @@ fn is_status_key(key: Key) -> bool
     ensures { result ≡ is_status_key key }
 {
     match key {
-        Key::Function(number) => 1 <= number && number <= 12,
+        Key::Function(number) => (1..=12).contains(&number),
         Key::Ctrl(letter) => letter.is_ascii_uppercase() && letter != 'Y',
         Key::Alt(letter) => letter.is_ascii_uppercase() || letter.is_ascii_digit(),
         _ => false,

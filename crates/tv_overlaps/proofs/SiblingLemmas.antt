@@ -4,9 +4,13 @@ use Rattle.std.proofs.lemmas.Bool.{cases_eq, cases_lt, cond-true, cond-false, ne
 use Rattle.std.proofs.lemmas.List.{get_or_append_left, get_or_push, length_push, reverse-append}
 use Rattle.tv_model.specs.declared.node.Node.{Node}
 use Rattle.tv_model.specs.Description.Panes.{earlier_siblings}
-use Rattle.tv_overlaps.specs.Standing.{AreFirstNumbers, AreFirstPlaces, AreSiblingsNumbered, IsLastAbove, IsNumber, depth_at, numbered, number_after}
+use Rattle.tv_overlaps.specs.Standing.{AreFirstPlaces, AreSiblingsNumbered, IsLastAbove, IsNumber, depth_at, numbered, number_after}
 use Rattle.tv_overlaps.proofs.GoingBackLemmas.{back_more, level, level_above, level_over, level_same, numbered_one, numbered_over}
 use Rattle.tv_overlaps.proofs.DepthLemmas.{depth_is}
+
+-- the numbers of the first views
+abbrev pub AreFirstNumbers : List ℕ → List Node → Type 0
+AreFirstNumbers numbers views = (i : ℕ) → i < length numbers → IsNumber numbers views i (get_or numbers i 0)
 
 -- the two cases of a number: that of the last sibling, or its own place where the view is the first
 data Numbering (numbers : List ℕ) (views : List Node) (place number : ℕ) : Type 0 where

@@ -37,10 +37,6 @@ number_after numbers views place (Some last) = if depth_at views last == depth_a
 abbrev pub IsNumber : List ℕ → List Node → ℕ → ℕ → Type 0
 IsNumber numbers views place number = (last : Option ℕ) × IsLastAbove views (suc (depth_at views place)) place last × (number ≡ number_after numbers views place last)
 
--- those of the first views
-abbrev pub AreFirstNumbers : List ℕ → List Node → Type 0
-AreFirstNumbers numbers views = (i : ℕ) → i < length numbers → IsNumber numbers views i (slice_index numbers i)
-
 -- the views of a number, in their order
 abbrev pub numbered : ℕ → List (ℕ × Node) → List Node
 numbered number pairs = map (λ pair. pair.1) (filter (λ pair. pair.0 == number) pairs)

@@ -1,6 +1,6 @@
 //! Rectangles of nodes as sets of points.
 
-ghost use Rattle.std.specs.Prelude.{◌≡◌, ◌↔◌, IsTrue, ℤ, int_le, int_lt, ◌≤ℤ◌, ◌<ℤ◌, pos, neg_ℤ, ◌&&◌};
+ghost use Rattle.std.specs.Prelude.{◌≡◌, ◌↔◌, IsTrue, ℤ, ◌≤ℤ◌, ◌<ℤ◌, pos, neg_ℤ, ◌&&◌};
 ghost use Rattle.tv_cells.specs.Rectangle.{IsIn};
 ghost use Rattle.tv_model.specs.Description.Nodes.{height_of};
 ghost use Rattle.tv_model.specs.Description.Rectangles.{desktop, has_points, interior, is_within, place_of_node, whole_area};
@@ -46,19 +46,6 @@ pub fn height(kind: &Kind) -> i128
         Kind::RadioButtons(radios) => radios.items.as_slice().len() as i128,
         Kind::Label(_) | Kind::Button(_) | Kind::Input(_) => 1,
     }
-}
-
-// Whether one coordinate isn't above another.
-fn is_at_most(a: &i128, b: &i128) -> bool
-    ensures { result ≡ int_le a.now b.now }
-{
-    *a <= *b
-}
-
-fn is_below(a: &i128, b: &i128) -> bool
-    ensures { result ≡ int_lt a.now b.now }
-{
-    *a < *b
 }
 
 impl Area {
@@ -136,7 +123,7 @@ impl Area {
     pub fn has_points(&self) -> bool
         ensures { result ≡ has_points self.now }
     {
-        is_below(&self.left, &self.right) && is_below(&self.top, &self.bottom)
+        self.left < self.right && self.top < self.bottom
     }
 
     /// Whether every point of it lies in the other, as none of an empty one fails to.
@@ -147,8 +134,6 @@ impl Area {
         if !self.has_points() {
             return true;
         }
-        let across = is_at_most(&other.left, &self.left) && is_at_most(&self.right, &other.right);
-        let down = is_at_most(&other.top, &self.top) && is_at_most(&self.bottom, &other.bottom);
-        across && down
+        other.columns().covers(&self.columns()) && other.rows().covers(&self.rows())
     }
 }

@@ -2,7 +2,7 @@
 
 ghost use Rattle.std.specs.Prelude.{◌≡◌, ◌<◌, ◌≤◌, suc, length, slice_index_or, take, IfOk};
 ghost use Rattle.tv_model.specs.Description.Rules.{stands_over};
-ghost use Rattle.tv_overlaps.specs.Standing.{AreFirstNumbers, AreFirstOwners, AreFirstPlaces, AreOwners, AreSiblingsNumbered, IsLastAbove, IsNumber, IsOwner};
+ghost use Rattle.tv_overlaps.specs.Standing.{AreFirstOwners, AreFirstPlaces, AreOwners, AreSiblingsNumbered, IsLastAbove, IsNumber, IsOwner};
 
 use std::alloc::{AllocError, Global};
 use tv_model::{Id, Node};

@@ -24,7 +24,7 @@ fn add_opening(commands: &mut HashSet<i32>, dialog: &Dialog) -> Result<bool, All
     match dialog.head().opens {
         Some(number) => {
             let again = !commands.insert(number)?;
-            Ok(number < 100 || 255 < number || again)
+            Ok(!(100..=255).contains(&number) || again)
         }
         None => Ok(false),
     }

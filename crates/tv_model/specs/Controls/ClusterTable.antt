@@ -22,6 +22,7 @@ pub record Cluster : Type 0 where
 abbrev pub item_before : ℕ → ℕ → ℕ
 item_before count item = if nat_le item 1 then count else item - 1
 
+-- the item after it, cyclically
 abbrev pub item_after : ℕ → ℕ → ℕ
 item_after count item = if nat_le count item then 1 else item + 1
 
@@ -47,6 +48,7 @@ pub data ClusterKey : Type 0 where
   Selects : (item : ℕ) → ClusterKey
   Presses : (item : ℕ) → ClusterKey
 
+-- the press that a letter asks for, if an item marks it
 abbrev pub of_letter : Option ℕ → ClusterKey
 of_letter None = Passed
 of_letter (Some item) = Presses item
@@ -58,6 +60,7 @@ cluster_key items count at keys.Down = Selects (item_after count at)
 cluster_key items count at (keys.Char ch) = if ch == 32 then Presses at else of_letter (item_marking items ch)
 cluster_key items count at _ = Passed
 
+-- the cluster after a key
 abbrev pub keyed : ClusterKind → ClusterKey → Cluster → Cluster
 keyed kind Passed c = c
 keyed kind (Selects item) c = selected kind item c

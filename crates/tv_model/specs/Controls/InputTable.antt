@@ -101,5 +101,6 @@ clicked first column e = at_place (min (first + column - 1) (length e.text)) e
 abbrev pub entered : Edit → Edit
 entered e = record e { cursor = length e.text; is_whole = nat_lt 0 (length e.text) }
 
+-- the focus goes: nothing is selected, and the cursor is at the start
 abbrev pub left : Edit → Edit
 left e = record e { cursor = 0; is_whole = false }

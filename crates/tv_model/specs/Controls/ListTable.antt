@@ -16,6 +16,7 @@ top_for height item top = if nat_lt item top then item else if nat_le (top + hei
 abbrev pub within : ℕ → ℕ → ℕ
 within count item = max 1 (min item count)
 
+-- the list with an item chosen, or the nearest that there is
 abbrev pub chosen : ℕ → ℕ → ℕ → Chosen → Chosen
 chosen height count item c = record { item = within count item; top = top_for height (within count item) c.top }
 
@@ -31,6 +32,7 @@ asked_item height count c keys.CtrlPageUp = Some 1
 asked_item height count c keys.CtrlPageDown = Some count
 asked_item height count c _ = None
 
+-- the list after a key that may ask for an item
 abbrev pub chosen_or : ℕ → ℕ → Option ℕ → Chosen → Chosen
 chosen_or height count None c = c
 chosen_or height count (Some item) c = chosen height count item c

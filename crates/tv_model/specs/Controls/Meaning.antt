@@ -47,6 +47,7 @@ pub record IsSmall (z : ℤ) : Type 0 where
   pub low : neg_ℤ (pos 300) ≤ℤ z
   pub high : z ≤ℤ pos 300
 
+-- a rectangle that the bounds of a view may be
 pub record IsSmallRect (r : Rect) : Type 0 where
   pub left : IsSmall r.a.x
   pub top : IsSmall r.a.y
@@ -81,10 +82,12 @@ kept b xs = if b then xs else map unmarked xs
 abbrev pub has_current : List Placed → Bool
 has_current xs = list_any (λ x. x.is_current) xs
 
+-- whether an item is remembered
 abbrev pub has_item : Option ℕ → Bool
 has_item None = false
 has_item (Some item) = true
 
+-- whether the leaf holds the mouse
 abbrev pub holds : Leaf → Bool
 holds leaf = has_item leaf.held
 

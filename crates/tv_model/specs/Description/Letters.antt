@@ -22,10 +22,12 @@ marked_of (kinds.CheckBoxes boxes) = boxes.items
 marked_of (kinds.RadioButtons radios) = radios.items
 marked_of _ = []
 
+-- whether it is this letter
 abbrev pub is_option_letter : ℕ → Option ℕ → Bool
 is_option_letter letter None = false
 is_option_letter letter (Some other) = other == letter
 
+-- whether the text marks the letter
 abbrev pub marks : ℕ → MarkedText → Bool
 marks letter text = is_option_letter letter (letter_of text)
 
@@ -41,8 +43,10 @@ shares_letter text other = marked (letter_of text)
 abbrev pub is_shortcut : ℕ → Dialog → Bool
 is_shortcut letter dialog = list_any (λ node. list_any (marks letter) (marked_of node.kind)) dialog.views
 
+-- A to Z
 abbrev pub is_capital : ℕ → Bool
 is_capital ch = nat_le 65 ch && nat_le ch 90
 
+-- 0 to 9
 abbrev pub is_digit : ℕ → Bool
 is_digit ch = nat_le 48 ch && nat_le ch 57

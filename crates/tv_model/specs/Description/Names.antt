@@ -3,6 +3,7 @@ use Rattle.std.specs.Prelude.{ℕ, Bool, false, List, find, Option, Some, None, 
 use Rattle.tv_model.specs.declared.node.Node.{Node}
 use Rattle.tv_model.specs.Description.Nodes.{name_of, is_control}
 
+-- whether it is this name
 abbrev pub is_option_named : List ℕ → Option (List ℕ) → Bool
 is_option_named name None = false
 is_option_named name (Some other) = bytes_eq other name
@@ -23,6 +24,7 @@ shares_name node other = named (name_of node.kind)
     named None = false
     named (Some name) = gives_name name other
 
+-- whether it is a control
 abbrev pub is_control_option : Option Node → Bool
 is_control_option None = false
 is_control_option (Some node) = is_control node.kind

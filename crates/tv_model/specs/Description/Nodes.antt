@@ -40,22 +40,27 @@ is_control (kinds.RadioButtons radios) = true
 is_control (kinds.List list) = true
 is_control _ = false
 
+-- whether a node of the kind is a button
 abbrev pub is_button : Kind → Bool
 is_button (kinds.Button button) = true
 is_button _ = false
 
+-- whether a node of the kind is a pane
 abbrev pub is_pane : Kind → Bool
 is_pane (kinds.Pane pane) = true
 is_pane _ = false
 
+-- whether a node of the kind is a window
 abbrev pub is_window : Kind → Bool
 is_window (kinds.Window head) = true
 is_window _ = false
 
+-- whether a node of the kind is a dialog
 abbrev pub is_dialog : Kind → Bool
 is_dialog (kinds.Dialog head) = true
 is_dialog _ = false
 
+-- whether it is the node of the id
 abbrev pub has_id : Id → Node → Bool
 has_id i node = node.id.0 == i.0
 
@@ -69,6 +74,7 @@ is_cluster (kinds.CheckBoxes boxes) = true
 is_cluster (kinds.RadioButtons radios) = true
 is_cluster _ = false
 
+-- whether it is a button
 abbrev pub is_button_node : Option Node → Bool
 is_button_node None = false
 is_button_node (Some node) = is_button node.kind

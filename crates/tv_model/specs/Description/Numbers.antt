@@ -6,5 +6,6 @@ abbrev pub natural : ℤ → ℕ
 natural (pos n) = n
 natural (negsuc n) = 0
 
+-- whether the number lies from the least to the greatest
 abbrev pub is_between : ℤ → ℤ → ℤ → Bool
 is_between least greatest n = int_le least n && int_le n greatest

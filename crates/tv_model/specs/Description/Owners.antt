@@ -11,6 +11,7 @@ pub record Owner : Type 0 where
   pub name : List ℕ
   pub item : Option ℤ
 
+-- a control by itself
 abbrev pub control : List ℕ → Owner
 control name = record { name = name; item = None }
 

@@ -22,9 +22,11 @@ cluster_items (Some node) = counted node.kind
     counted (kinds.RadioButtons radios) = length radios.items
     counted _ = 0
 
+-- whether there is an item of the number, counted from 1
 abbrev pub is_item : ℤ → ℕ → Bool
 is_item n count = int_le (pos 1) n && int_le n (pos count)
 
+-- whether it is a control or a pane
 abbrev pub is_target : Option Node → Bool
 is_target None = false
 is_target (Some node) = is_control node.kind || is_pane node.kind
@@ -38,6 +40,7 @@ has_target views (effects.Enable command) = true
 abbrev pub stands_over : Id → List Node → Node → Bool
 stands_over i before node = list_any (has_id i) (node ∷ panes_around before node)
 
+-- whether it is the view or a pane around it
 abbrev pub option_stands_over : Option Node → List Node → Node → Bool
 option_stands_over None before node = false
 option_stands_over (Some target) before node = stands_over target.id before node

@@ -24,6 +24,7 @@ texts_of (kinds.RadioButtons radios) = map (λ item. item.text) radios.items
 texts_of (kinds.List list) = list.items
 texts_of (kinds.Pane pane) = []
 
+-- the character that ends a line of a static text
 abbrev pub is_line_end : ℕ → Bool
 is_line_end ch = ch == 10
 

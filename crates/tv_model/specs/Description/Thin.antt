@@ -27,6 +27,7 @@ abbrev pub AreOnLines : ℕ → List Node → Type 0
 AreOnLines line [] = Unit {0}
 AreOnLines line (view ∷ views) = (view.id.0 ≡ line) × AreOnLines (line + 1) views
 
+-- such a dialog, with such views on the lines after its own and without rules
 pub record IsThinDialog (d : Dialog) : Type 0 where
   pub depth : d.node.depth ≡ 0
   pub head : IsThinHead d.node.kind

@@ -26,6 +26,7 @@ MayStand text spec = (d : Domain) × IsDomain spec d × IsViableText d text
 abbrev pub any_text : (spec : InputSpec) → Dec (HasAnyText spec)
 any_text spec = dec_asked HasText dec_has_text spec
 
+-- whether the text may stand in the input, decided
 abbrev pub may_stand : (text : List ℕ) (spec : InputSpec) → Dec (MayStand text spec)
 may_stand text spec = dec_asked (λ d. IsViableText d text) (λ d. dec_viable d text) spec
 

@@ -22,18 +22,23 @@ use Rattle.tv_model.specs.Description.Commands.{command_of}
 
 -- ---- how many there may be
 
+-- menus of the bar
 abbrev pub most_menus : ℕ
 most_menus = 8
 
+-- items of a menu
 abbrev pub most_menu_items : ℕ
 most_menu_items = 16
 
+-- items of the status line
 abbrev pub most_status_items : ℕ
 most_status_items = 8
 
+-- windows of a description
 abbrev pub most_windows : ℕ
 most_windows = 9
 
+-- dialogs of a description
 abbrev pub most_dialogs : ℕ
 most_dialogs = 16
 
@@ -41,6 +46,7 @@ most_dialogs = 16
 abbrev pub most_views : ℕ
 most_views = 64
 
+-- rules of a dialog
 abbrev pub most_rules : ℕ
 most_rules = 64
 
@@ -61,9 +67,11 @@ is_lawful_count _ = true
 
 -- ---- how large numbers may be
 
+-- columns and rows of the screen
 abbrev pub is_lawful_screen : Desc → Bool
 is_lawful_screen d = is_between (pos 20) (pos 132) d.width && is_between (pos 10) (pos 60) d.height
 
+-- the least width of a kind
 abbrev pub least_width : Kind → ℤ
 least_width (kinds.Dialog head) = pos 12
 least_width (kinds.Window head) = pos 12
@@ -73,11 +81,13 @@ least_width (kinds.CheckBoxes boxes) = pos 5
 least_width (kinds.RadioButtons radios) = pos 5
 least_width _ = pos 1
 
+-- the least height of a kind
 abbrev pub least_height : Kind → ℤ
 least_height (kinds.Dialog head) = pos 3
 least_height (kinds.Window head) = pos 3
 least_height _ = pos 1
 
+-- how far a corner may stand off
 abbrev pub is_lawful_corner : Node → Bool
 is_lawful_corner node = is_between (neg_ℤ (pos 132)) (pos 132) node.x && is_between (neg_ℤ (pos 132)) (pos 132) node.y
 
@@ -98,9 +108,11 @@ is_lawful_amount _ = true
 
 -- ---- declarations outside the limits. Of too many things the first that is too many is named
 
+-- whether the text has too many characters
 abbrev pub is_too_long : List ℕ → Bool
 is_too_long text = not (nat_le (length text) most_chars)
 
+-- whether all numbers and texts of a node lie within the limits
 abbrev pub is_lawful : Node → Bool
 is_lawful node =
     ((is_lawful_corner node && is_lawful_size node) && (is_lawful_count node.kind && is_lawful_amount node.kind))

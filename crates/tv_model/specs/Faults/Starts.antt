@@ -42,6 +42,7 @@ starts_outside (kinds.RadioButtons radios) = not (is_item radios.start (length r
 starts_outside (kinds.List list) = not (is_item list.start (length list.items))
 starts_outside _ = false
 
+-- whether it is this number
 abbrev pub is_option_number : ℤ → Option ℤ → Bool
 is_option_number n None = false
 is_option_number n (Some other) = int_eq other n

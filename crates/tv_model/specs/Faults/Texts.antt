@@ -5,6 +5,7 @@ use Rattle.tv_cells.specs.Glyph.{is_narrow}
 use Rattle.tv_model.specs.declared.node.Node.{Node}
 use Rattle.tv_model.specs.Description.Texts.{shown_texts}
 
+-- whether a character of the text takes no column, or two
 abbrev pub is_wide_text : List ℕ → Bool
 is_wide_text text = list_any (λ ch. not (is_narrow ch)) text
 

@@ -15,6 +15,7 @@ use Rattle.tv_model.specs.Description.Heads.{all_nodes}
 abbrev pub bytes_of : List ℕ → List ℕ
 bytes_of chars = flat_map encode_utf8 chars
 
+-- the name of a node, empty where it has none
 abbrev pub name_of_node : Option Node → List ℕ
 name_of_node None = []
 name_of_node (Some node) = unwrap_or (name_of node.kind) []
@@ -35,6 +36,7 @@ end_word number =
 abbrev pub escaped : ℕ → List ℕ
 escaped ch = if ch == 34 then 92 ∷ 34 ∷ [] else if ch == 92 then 92 ∷ 92 ∷ [] else encode_utf8 ch
 
+-- a text between quotes
 abbrev pub quoted_text : List ℕ → List ℕ
 quoted_text chars = 34 ∷ (flat_map escaped chars ++ 34 ∷ [])
 
@@ -42,11 +44,13 @@ quoted_text chars = 34 ∷ (flat_map escaped chars ++ 34 ∷ [])
 abbrev pub is_marked : ℕ → ℕ → Bool
 is_marked marks item = (marks / 2 ^ (item - 1)) % 2 == 1
 
+-- words with a space between, or `-` where there are none
 abbrev pub spaced : List (List ℕ) → List ℕ
 spaced [] = codes "-"
 spaced (word ∷ []) = word
 spaced (word ∷ words) = word ++ 32 ∷ spaced words
 
+-- the items that are marked
 abbrev pub marks_text : ℕ → List ℕ
 marks_text marks = spaced (map decimal (filter (is_marked marks) (range_with_len 1 16)))
 
@@ -72,5 +76,6 @@ log_line d (lines.Command number) = line_of (codes "command ") (decimal number)
 log_line d (lines.End i command) = line_of (codes "end ") (name_text d i ++ codes " " ++ end_word command.0)
 log_line d (lines.Field i value) = line_of (codes "field ") (name_text d i ++ codes " " ++ value_text value)
 
+-- the lines of the log
 abbrev pub log_text : Desc → List LogLine → List ℕ
 log_text d log = flat_map (log_line d) log

@@ -19,6 +19,7 @@ use Rattle.tv_model.specs.Log.LogText.{log_text, line_of}
 abbrev pub screen_cell : Session → ℕ → ℕ → Glyph
 screen_cell s column row = cell_of (layers_of s.desc s.state) column row
 
+-- a lower case hexadecimal digit
 abbrev pub hex_digit : ℕ → ℕ
 hex_digit n = if nat_lt n 10 then 48 + n else 87 + n
 
@@ -58,6 +59,7 @@ abbrev pub states : {S E : Type 0} → (S → E → S) → S → List E → S
 states next s [] = s
 states next s (e ∷ es) = states next (next s e) es
 
+-- what is written for inputs, one after the other
 abbrev pub texts : {S E : Type 0} → (S → E → S) → (S → E → List ℕ) → S → List E → List ℕ
 texts next text s [] = []
 texts next text s (e ∷ es) = text s e ++ texts next text (next s e) es
@@ -68,6 +70,7 @@ texts next text s (e ∷ es) = text s e ++ texts next text (next s e) es
 abbrev pub event_text : Session → Event → List ℕ
 event_text s e = log_text s.desc (stepped s e).state.log
 
+-- the session after an event, its log taken
 abbrev pub event_after : Session → Event → Session
 event_after s e = quiet (stepped s e)
 
@@ -75,12 +78,14 @@ event_after s e = quiet (stepped s e)
 abbrev pub typed : List ℕ → List Event
 typed chars = map (λ ch. events.Key (keys.Char ch)) chars
 
+-- what is written for an item
 abbrev pub item_text : Session → Item → List ℕ
 item_text s (items.Event e) = event_text s e
 item_text s (items.Type chars) = texts event_after event_text s (typed chars)
 item_text s items.Shot = shot_text s
 item_text s items.Colors = colors_text s
 
+-- the session after an item
 abbrev pub item_after : Session → Item → Session
 item_after s (items.Event e) = event_after s e
 item_after s (items.Type chars) = states event_after s (typed chars)

@@ -4,6 +4,7 @@ use Rattle.tv_model.specs.declared.node.Id.{Id}
 use Rattle.tv_model.specs.declared.record.Value.{Value}
 use Rattle.tv_model.specs.declared.record.Entry.{Entry}
 
+-- the entries of a record, in order
 abbrev pub Entries : Type 0
 Entries = List Entry
 

@@ -4,6 +4,7 @@ use Rattle.tv_model.specs.declared.desc.Desc.{Desc}
 use Rattle.tv_model.specs.Machine.State.{State}
 use Rattle.tv_model.specs.Machine.Step.{step, emptied, start}
 
+-- a description and the state of its run
 pub record Session : Type 0 where
   pub desc : Desc
   pub state : State

@@ -54,6 +54,7 @@ pub record OpenMenu : Type 0 where
   pub menu : ℕ
   pub item : ℕ
 
+-- the state of a run
 pub record State : Type 0 where
   -- whether the run is over
   pub is_over : Bool
@@ -115,5 +116,6 @@ declared_leaves views = map declared_leaf (filter (λ node. not (is_pane node.ki
 abbrev pub entry_of : LeafState → Option Entry
 entry_of leaf = option_map (λ value. record { id = leaf.id; value = value }) leaf.value
 
+-- the values of the fields among leaves, in description order
 abbrev pub fields_of : List LeafState → Entries
 fields_of leaves = filter_map entry_of leaves

@@ -27,6 +27,7 @@ use Rattle.tv_model.specs.Description.Heads.{dialog_head, is_named}
 abbrev pub is_free : Node → Bool
 is_free node = is_control node.kind
 
+-- whether there is a node and it is free
 abbrev pub is_free_node : Option Node → Bool
 is_free_node None = false
 is_free_node (Some node) = is_free node
@@ -35,9 +36,11 @@ is_free_node (Some node) = is_free node
 abbrev pub is_free_at : List Node → Id → Bool
 is_free_at views i = is_free_node (node_of views i)
 
+-- the first free control
 abbrev pub first_free : List Node → Option Id
 first_free views = option_map (λ node. node.id) (find is_free views)
 
+-- the last free control
 abbrev pub last_free : List Node → Option Id
 last_free views = first_free (reverse views)
 
@@ -45,9 +48,11 @@ last_free views = first_free (reverse views)
 abbrev pub place_of : List Node → Id → ℕ
 place_of views i = unwrap_or (position (has_id i) views) (length views)
 
+-- the views before the one of the id
 abbrev pub before : List Node → Id → List Node
 before views i = take (place_of views i) views
 
+-- the views after the one of the id
 abbrev pub after : List Node → Id → List Node
 after views i = drop (place_of views i + 1) views
 
@@ -55,17 +60,21 @@ after views i = drop (place_of views i + 1) views
 abbrev pub next_free : List Node → Id → Id
 next_free views focus = unwrap_or (option_or (first_free (after views focus)) (first_free (before views focus))) focus
 
+-- the previous free control before the focus, cyclically; the focus where it alone is free
 abbrev pub previous_free : List Node → Id → Id
 previous_free views focus = unwrap_or (option_or (last_free (before views focus)) (last_free (after views focus))) focus
 
 -- ---- the log and the open dialog
 
+-- the state with no log
 abbrev pub emptied : State → State
 emptied s = record s { log = [] }
 
+-- the state with one more line in its log
 abbrev pub logged : State → LogLine → State
 logged s line = record s { log = s.log ++ line ∷ [] }
 
+-- the state with another open dialog
 abbrev pub with_dialog : State → OpenDialog → State
 with_dialog s o = record s { dialog = Some o }
 
@@ -76,6 +85,7 @@ request d s o to =
 
 -- ---- commands
 
+-- the line of a field
 abbrev pub field_line : Entry → LogLine
 field_line entry = lines.Field entry.id entry.value
 
@@ -106,6 +116,7 @@ press_node d s o (Some node) = pressed node.kind
     pressed (kinds.Button button) = command d (logged s (lines.Press node.id)) o (command_number button.command)
     pressed _ = s
 
+-- the view of the id is pressed, if it is a button
 abbrev pub press : Dialog → State → OpenDialog → Id → State
 press d s o i = press_node d s o (node_of d.views i)
 
@@ -122,16 +133,19 @@ key d s o keys.Enter = press_node d s o (enter_target d.views o.focus)
 key d s o (keys.Char ch) = if ch == 32 then press d s o o.focus else s
 key d s o _ = s
 
+-- an event while a dialog is open: none but keys do anything
 abbrev pub key_event : Dialog → State → OpenDialog → Event → State
 key_event d s o (events.Key k) = key d s o k
 key_event d s o _ = s
 
 -- ---- the step
 
+-- an event while a dialog may be open
 abbrev pub in_dialog : State → OpenDialog → Event → Option Dialog → State
 in_dialog s o e None = s
 in_dialog s o e (Some d) = key_event d s o e
 
+-- an event at the open dialog, if there is one
 abbrev pub at_dialog : Desc → State → Event → Option OpenDialog → State
 at_dialog d s e None = s
 at_dialog d s e (Some o) = in_dialog s o e (slice_get d.dialogs o.place)
@@ -168,14 +182,17 @@ closed d = record {
   log = [];
 }
 
+-- the start with the dialog that was found
 abbrev pub open_found : Desc → ℕ → Option Dialog → State
 open_found d place None = closed d
 open_found d place (Some dialog) = open_dialog dialog place (closed d)
 
+-- the start with the dialog at a place
 abbrev pub open_at : Desc → Option ℕ → State
 open_at d None = closed d
 open_at d (Some place) = open_found d place (slice_get d.dialogs place)
 
+-- the start with the dialog of a name
 abbrev pub start_from : Desc → Option (List ℕ) → State
 start_from d None = closed d
 start_from d (Some name) = open_at d (position (is_named name) d.dialogs)

@@ -31,6 +31,7 @@ over_row from count row below x = if nat_le from x && nat_lt x (from + count) th
 
 -- ---- the desktop, the bar and the status line
 
+-- the desktop where nothing stands on it
 abbrev pub background : FaceOf
 background x y = shown 46 (attribute_of roles.Background)
 
@@ -47,6 +48,7 @@ pub record FrameLook : Type 0 where
   pub edge : ℕ
   pub inside : ℕ
 
+-- the role of a frame by whether it is active
 abbrev pub frame_role : Bool → FrameRole
 frame_role is_active = if is_active then frame.Active else frame.Passive
 
@@ -59,6 +61,7 @@ frame_look colour owner number is_active = record {
   inside = colour (roles.Frame owner frame.Body);
 }
 
+-- the first and the last column
 abbrev pub is_side : ℕ → ℕ → Bool
 is_side w x = (x == 0) || (x + 1 == w)
 
@@ -70,6 +73,7 @@ border is_active w x = if is_side w x then 43 else if is_active then 61 else 45
 abbrev pub cut_title : ℕ → List ℕ → List ℕ
 cut_title w title = take (w - 12) title
 
+-- the title in the middle of the row below
 abbrev pub titled : ℕ → List ℕ → Row → Row
 titled w [] below = below
 titled w (ch ∷ chars) below = over_row ((w - (length (ch ∷ chars) + 2)) / 2) (length (ch ∷ chars) + 2) (text_row (32 ∷ ch ∷ chars)) below
@@ -82,9 +86,11 @@ numbered w number below x = if not (number == 0) && (x + 4 == w) then 48 + numbe
 abbrev pub closed : Bool → Row → Row
 closed is_active below = if is_active then over_row 2 3 (text_row (codes "[x]")) below else below
 
+-- the first row: corners, title, number and close mark
 abbrev pub top_row : ℕ → List ℕ → FrameLook → Row
 top_row w title look = closed look.is_active (numbered w look.number (titled w (cut_title w title) (border look.is_active w)))
 
+-- a frame round an empty interior
 abbrev pub frame_face : ℕ → ℕ → List ℕ → FrameLook → FaceOf
 frame_face w h title look x y =
     if y == 0 then shown (top_row w title look x) look.edge
@@ -99,6 +105,7 @@ abbrev pub onto_first : ℕ → List (List ℕ) → List (List ℕ)
 onto_first ch [] = (ch ∷ []) ∷ []
 onto_first ch (piece ∷ pieces) = (ch ∷ piece) ∷ pieces
 
+-- the pieces, at least one
 abbrev pub pieces_of : List ℕ → List (List ℕ)
 pieces_of [] = [] ∷ []
 pieces_of (ch ∷ chars) = if ch == 10 then [] ∷ pieces_of chars else onto_first ch (pieces_of chars)
@@ -123,9 +130,11 @@ pub record ButtonLook : Type 0 where
 abbrev pub button_text : ℕ → List ℕ → List ℕ
 button_text w text = take (w - 2) text
 
+-- the column in which the text starts
 abbrev pub button_start : ℕ → List ℕ → ℕ
 button_start w text = 1 + (w - 2 - length (button_text w text)) / 2
 
+-- the characters of a button
 abbrev pub button_row : ℕ → List ℕ → Bool → Row
 button_row w text is_default_now x =
     if x == 0 then (if is_default_now then 60 else 91)
@@ -137,6 +146,7 @@ abbrev pub is_letter : ℕ → List ℕ → Option ℕ → ℕ → Bool
 is_letter w text None x = false
 is_letter w text (Some mark) x = nat_lt mark (length (button_text w text)) && (x == button_start w text + mark)
 
+-- the role of a cell: that of a disabled button before all others
 abbrev pub button_role : ButtonLook → Bool → ButtonRole
 button_role look letter =
     if look.is_disabled then button.Disabled
@@ -145,6 +155,7 @@ button_role look letter =
     else if look.is_default_now then button.Default
     else button.Normal
 
+-- the attribute of that role
 abbrev pub button_attr : ButtonLook → Bool → ℕ
 button_attr look letter = attribute_of (roles.Button (button_role look letter))
 
@@ -152,5 +163,6 @@ button_attr look letter = attribute_of (roles.Button (button_role look letter))
 abbrev pub button_cells : ℕ → List ℕ → Option ℕ → Bool → ℕ → ℕ → FaceOf
 button_cells w text mark is_default_now letter rest x y = shown (button_row w text is_default_now x) (if is_letter w text mark x then letter else rest)
 
+-- a button as it stands
 abbrev pub button_face : ℕ → List ℕ → Option ℕ → ButtonLook → FaceOf
 button_face w text mark look = button_cells w text mark look.is_default_now (button_attr look true) (button_attr look false)

@@ -27,6 +27,7 @@ use Rattle.tv_palette.specs.declared.role.Owner.TheVariants as owners
 abbrev pub canvas_at : Rect → ℤ → ℤ → Canvas
 canvas_at clip x y = record { clip = clip; origin = record { x = x; y = y } }
 
+-- all points of the screen
 abbrev pub whole_screen : Desc → Rect
 whole_screen d = rect (pos 0) (pos 0) d.width d.height
 
@@ -34,9 +35,11 @@ whole_screen d = rect (pos 0) (pos 0) d.width d.height
 abbrev pub bar_layer : Desc → Layer
 bar_layer d = Painted (canvas_at (whole_screen d) (pos 0) (pos 0)) (natural d.width) 1 empty_bar
 
+-- the last row is the status line
 abbrev pub status_layer : Desc → Layer
 status_layer d = Painted (canvas_at (whole_screen d) (pos 0) (d.height -ℤ pos 1)) (natural d.width) 1 empty_bar
 
+-- the desktop behind everything
 abbrev pub background_layer : Desc → Layer
 background_layer d = Painted (canvas_at (desktop d) (pos 0) (pos 0)) (natural d.width) (natural d.height) background
 
@@ -44,6 +47,7 @@ background_layer d = Painted (canvas_at (desktop d) (pos 0) (pos 0)) (natural d.
 abbrev pub is_default_now : List Node → Id → Node → Bool
 is_default_now views focus node = if is_button_node (node_of views focus) then node.id.0 == focus.0 else is_default node
 
+-- how a button stands where this control has the focus
 abbrev pub look_of : List Node → Id → Node → ButtonLook
 look_of views focus node = record {
   is_focused = node.id.0 == focus.0;

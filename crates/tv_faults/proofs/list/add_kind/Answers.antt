@@ -1,10 +1,11 @@
 use Rattle.std.proofs.Common.{[], ◌++◌, map, flat_map, ap, ◌∙◌}
 use Rattle.tv_model.specs.Faults.Lines.{after_seen}
-use Rattle.tv_model.specs.Faults.{fault_at, menu_lines, window_lines}
+use Rattle.tv_model.specs.Faults.{fault_at, fault_lines, menu_lines, window_lines}
 use Rattle.tv_lines.proofs.ListLemmas.{five_parts}
 use Rattle.tv_faults.proofs.list.add_kind.Goals as goal
 
 pub returns : goal.returns
+unfolding fault_lines
 returns c =
     five_parts (fault_at c.args.kind) c.args.found.now c.add_head.new.found c.add_menus.new.found c.add_status.new.found c.add_windows.new.found c.add_dialogs.new.found _ _ _ _ _
     c.in_ok-add_head.ensures

@@ -1,9 +1,12 @@
-use Rattle.std.proofs.Common.{rules}
+use Rattle.std.proofs.Common.{◌≡◌, ◌++◌, [], map, sym, ap, subst, ◌∙◌}
+use Rattle.std.specs.Prelude.{OnOk}
 use Rattle.tv_model.specs.Faults.{fault_at, rule_has}
-use Rattle.tv_lines.proofs.EachAfterLemmas.{where_next}
+use Rattle.tv_model.specs.Faults.Lines.{lines_where}
+use Rattle.tv_lines.specs.Each.{each_after}
 use Rattle.tv_faults.proofs.list.add_rules.Goals as goal
 
-pub loop-i-preserved : goal.loop-i-preserved
-loop-i-preserved c =
-    where_next (fault_at c.args.kind) (λ rule. rule.id.0) (rule_has c.args.kind c.args.dialog.now.views) c.as_slice-rules.result.now c.as_slice-faulty.result.now c.loop-i.i _ c.index-rules-i.result c.loop-i-test.true (search rules) c.index-rules-i.is
-    c.loop-i.found c.add_if.new.found _ c.in_ok-add_if.ensures c.loop-i.invariant
+pub returns : goal.returns
+returns c =
+    subst (λ lines. OnOk c.add_where.result (c.add_where.new.found ≡ c.args.found.now ++ map (fault_at c.args.kind) (lines_where (λ line. line.id.0) (rule_has c.args.kind c.args.dialog.now.views) [] lines)))
+    c.as_slice-rules.ensures
+    (c.add_where.ensures (rule_has c.args.kind c.args.dialog.now.views) (c.as_slice.ensures.value ∙ c.in_ok-faulty.ensures ∙ ap (each_after (rule_has c.args.kind c.args.dialog.now.views)) (sym c.as_slice-rules.ensures)))

@@ -1,9 +1,12 @@
-use Rattle.std.proofs.Common.{rules}
+use Rattle.std.proofs.Common.{◌≡◌, ◌++◌, [], map, sym, ap, subst, ◌∙◌}
+use Rattle.std.specs.Prelude.{OnOk}
 use Rattle.tv_model.specs.Faults.{fault_at, status_has}
-use Rattle.tv_lines.proofs.EachAfterLemmas.{where_next}
+use Rattle.tv_model.specs.Faults.Lines.{lines_where}
+use Rattle.tv_lines.specs.Each.{each_after}
 use Rattle.tv_faults.proofs.list.add_status.Goals as goal
 
-pub loop-i-preserved : goal.loop-i-preserved
-loop-i-preserved c =
-    where_next (fault_at c.args.kind) (λ item. item.id.0) (status_has c.args.kind c.args.desc.now) c.as_slice-items.result.now c.as_slice-faulty.result.now c.loop-i.i _ c.index-items-i.result c.loop-i-test.true (search rules) c.index-items-i.is
-    c.loop-i.found c.add_if.new.found _ c.in_ok-add_if.ensures c.loop-i.invariant
+pub returns : goal.returns
+returns c =
+    subst (λ lines. OnOk c.add_where.result (c.add_where.new.found ≡ c.args.found.now ++ map (fault_at c.args.kind) (lines_where (λ line. line.id.0) (status_has c.args.kind c.args.desc.now) [] lines)))
+    c.as_slice-items.ensures
+    (c.add_where.ensures (status_has c.args.kind c.args.desc.now) (c.as_slice.ensures.value ∙ c.in_ok-faulty.ensures ∙ ap (each_after (status_has c.args.kind c.args.desc.now)) (sym c.as_slice-items.ensures)))

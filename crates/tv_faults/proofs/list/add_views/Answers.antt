@@ -1,9 +1,6 @@
-use Rattle.std.proofs.Common.{rules}
-use Rattle.tv_model.specs.Faults.{fault_at, view_has}
-use Rattle.tv_lines.proofs.EachAfterLemmas.{where_next}
+use Rattle.std.proofs.Common.{◌∙◌}
+use Rattle.tv_model.specs.Faults.{view_has}
 use Rattle.tv_faults.proofs.list.add_views.Goals as goal
 
-pub loop-i-preserved : goal.loop-i-preserved
-loop-i-preserved c =
-    where_next (fault_at c.args.kind) (λ node. node.id.0) (view_has c.args.kind c.args.frame.now c.args.ends c.args.views.now) c.args.views.now c.as_slice-faulty.result.now c.loop-i.i _ c.index-views-i.result c.loop-i-test.true (search rules) c.index-views-i.is
-    c.loop-i.found c.add_if.new.found _ c.in_ok-add_if.ensures c.loop-i.invariant
+pub returns : goal.returns
+returns c = c.add_where.ensures (view_has c.args.kind c.args.frame.now c.args.ends c.args.views.now) (c.as_slice.ensures.value ∙ c.in_ok-faulty.ensures)

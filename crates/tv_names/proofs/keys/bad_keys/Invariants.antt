@@ -4,7 +4,7 @@ use Rattle.std.specs.List.{list_any}
 use Rattle.tv_event.specs.declared.event.Key.{Key}
 use Rattle.tv_model.specs.Faults.Letters.{has_bad_key}
 use Rattle.tv_lines.specs.Each.{each_after}
-use Rattle.tv_names.specs.Keys.{are_equal}
+use Rattle.tv_names.proofs.GivenKeyLemmas.{are_equal}
 use Rattle.tv_names.proofs.keys.bad_keys.Given as goal
 
 abbrev pub invariant-loop-item : goal.invariant-loop-item

@@ -1,7 +1,7 @@
 use Rattle.std.proofs.Common.{◌≡◌, ◌++◌, ◌∷◌, [], rules, subst, sym}
 use Rattle.std.proofs.lemmas.List.{length_push}
-use Rattle.tv_overlaps.specs.Standing.{AreFirstNumbers, IsNumber}
-use Rattle.tv_overlaps.proofs.SiblingLemmas.{all_first, all_numbered, numbers_more}
+use Rattle.tv_overlaps.specs.Standing.{IsNumber}
+use Rattle.tv_overlaps.proofs.SiblingLemmas.{AreFirstNumbers, all_first, all_numbered, numbers_more}
 use Rattle.tv_overlaps.proofs.owner.siblings.Goals as goal
 
 pub loop-place-preserved : goal.loop-place-preserved

@@ -1,5 +1,5 @@
 use Rattle.std.proofs.Common.{◌≡◌, length}
-use Rattle.tv_overlaps.specs.Standing.{AreFirstNumbers}
+use Rattle.tv_overlaps.proofs.SiblingLemmas.{AreFirstNumbers}
 use Rattle.tv_overlaps.proofs.owner.siblings.Given as goal
 
 abbrev pub invariant-loop-place : goal.invariant-loop-place
