@@ -1,6 +1,2 @@
-pub mod Checks
-pub mod Drawing
-pub mod Lawful
-pub mod Sessions
-pub mod ThinDialogs
-pub mod ThinRuns
+pub mod CheckLemmas
+pub mod RunLemmas

@@ -1,8 +1,10 @@
+-- What checking a description, or accepting it with a certificate, comes to
 pub mod CheckRun
-pub mod Looks
+-- Faults handed on
+pub mod Conversions
+-- What is read of a description, and why it is refused
 pub mod Reading
+-- What is printed of a call that failed
 pub mod Report
-pub mod Run
+-- What a run of a thin description and script comes to
 pub mod ThinRun
-pub mod ThinSession
-pub mod Written

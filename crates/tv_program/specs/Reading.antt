@@ -1,25 +1,28 @@
 -- What is read of a description, and why it is refused.
 use Rattle.std.specs.Prelude.{◌≡◌, ◌≢◌, ℕ, List, []}
+use Rattle.tv_lang.specs.declared.description.LangFault.{LangFault}
 use Rattle.tv_lang.specs.declared.description.LangFault.TheVariants as lang
 use Rattle.tv_lang.specs.Faults.{Refuses, Spells}
 use Rattle.tv_model.specs.declared.desc.Desc.{Desc}
+use Rattle.tv_model.specs.declared.fault.Fault.{Fault}
 use Rattle.tv_model.specs.Faults.{IsSound, faults_of}
-use Rattle.tv_program.specs.declared.fault.RunFault.{RunFault}
-use Rattle.tv_program.specs.declared.fault.RunFault.TheVariants.{NoMemory, Lang, Faults}
+use Rattle.tv_program.specs.declared.desc_fault.DescFault.{DescFault}
+use Rattle.tv_program.specs.declared.desc_fault.DescFault.TheVariants.{NoMemory, Faults}
 
 -- the text spells the description, and it is sound
 pub record IsSoundText (text : List ℕ) (d : Desc) : Type 0 where
   pub spelled : Spells text d
   pub sound : IsSound d
 
--- the text spells no description
-abbrev pub IsNoDescription : List ℕ → RunFault → Type 0
-IsNoDescription text NoMemory = Unit {0}
-IsNoDescription text (Lang fault) = Refuses text fault × (fault ≢ lang.NoMemory)
-IsNoDescription text _ = ⊥
+-- the text spells no description, for a reason of its own
+abbrev pub IsNoDescription : List ℕ → LangFault → Type 0
+IsNoDescription text fault = Refuses text fault × (fault ≢ lang.NoMemory)
 
--- the description has these faults
-abbrev pub IsFaulty : Desc → RunFault → Type 0
+-- the list has the description's faults, and isn't empty
+abbrev pub HasFaults : Desc → List Fault → Type 0
+HasFaults d list = (list ≡ faults_of d) × (list ≢ [])
+
+-- the description has faults, or memory ran out
+abbrev pub IsFaulty : Desc → DescFault → Type 0
 IsFaulty d NoMemory = Unit {0}
-IsFaulty d (Faults list) = (list ≡ faults_of d) × (list ≢ [])
-IsFaulty d _ = ⊥
+IsFaulty d (Faults list) = HasFaults d list

@@ -2,8 +2,8 @@
 use Rattle.std.specs.Prelude.{ℕ, List, [], ◌++◌, ◌⊎◌, flat_map, codes, decimal, encode_utf8}
 use Rattle.tv_check.specs.declared.acceptance.Refusal.{Refusal}
 use Rattle.tv_check.specs.declared.acceptance.Refusal.TheVariants as refusals
-use Rattle.tv_check.specs.declared.certificate_text.CertificateFault.{CertificateFault}
-use Rattle.tv_check.specs.declared.certificate_text.CertificateFault.TheVariants as certificates
+use Rattle.tv_certificate.specs.declared.reading.CertificateFault.{CertificateFault}
+use Rattle.tv_certificate.specs.declared.reading.CertificateFault.TheVariants as certificates
 use Rattle.tv_lang.specs.declared.description.LangFault.{LangFault}
 use Rattle.tv_lang.specs.declared.description.LangFault.TheVariants as lang
 use Rattle.tv_model.specs.declared.fault.Fault.{Fault}
@@ -11,7 +11,7 @@ use Rattle.tv_model.specs.Faults.{fault_number}
 use Rattle.tv_model.specs.Log.LogText.{line_of}
 use Rattle.tv_program.specs.declared.fault.RunFault.{RunFault}
 use Rattle.tv_program.specs.declared.fault.RunFault.TheVariants.{NoMemory, Lang, Faults, Script, ScriptTooLong, Write, Read, Cert, Refused, NotYet}
-use Rattle.tv_script.specs.Writer.{Seen, Takes, Cuts}
+use Rattle.tv_output.specs.Writer.{Seen, Takes, Cuts}
 
 -- the text was taken, or a proper prefix of it because the writer failed
 abbrev pub IsOffered : Seen → Seen → List ℕ → Type 0

@@ -9,10 +9,10 @@ use Rattle.tv_model.specs.Log.Output.{output}
 use Rattle.tv_model.specs.Machine.Safe.{IsAlwaysSafe}
 use Rattle.tv_model.specs.Machine.Session.{started}
 use Rattle.tv_model.specs.Description.Thin.{IsThin}
-use Rattle.tv_program.specs.declared.fault.RunFault.{RunFault}
-use Rattle.tv_program.specs.declared.fault.RunFault.TheVariants.{NoMemory, Lang, Faults, Script, ScriptTooLong, Write, Read, Cert, Refused, NotYet}
-use Rattle.tv_program.specs.Reading.{IsFaulty, IsNoDescription, IsSoundText}
-use Rattle.tv_script.specs.Writer.{Seen, Takes, Cuts}
+use Rattle.tv_program.specs.declared.thin_fault.ThinFault.{ThinFault}
+use Rattle.tv_program.specs.declared.thin_fault.ThinFault.TheVariants.{NoMemory, Lang, NotYet, Faults, Script, ScriptTooLong, Write}
+use Rattle.tv_program.specs.Reading.{HasFaults, IsNoDescription, IsSoundText}
+use Rattle.tv_output.specs.Writer.{Seen, Takes, Cuts}
 
 -- the texts spell a sound description and a script; every run of the description is safe
 pub record Runs (text script : List ℕ) : Type 0 where
@@ -23,15 +23,15 @@ pub record Runs (text script : List ℕ) : Type 0 where
   pub safe : IsAlwaysSafe desc
 
 -- why a description is not run: by its text, since it isn't thin, or by its faults
-abbrev pub RefusesDesc : List ℕ → RunFault → Type 0
+abbrev pub RefusesDesc : List ℕ → ThinFault → Type 0
 RefusesDesc text NoMemory = Unit {0}
-RefusesDesc text (Lang fault) = IsNoDescription text (Lang fault)
+RefusesDesc text (Lang fault) = IsNoDescription text fault
 RefusesDesc text NotYet = (d : Desc) × Spells text d × (IsThin d → ⊥)
-RefusesDesc text (Faults list) = (d : Desc) × Spells text d × IsThin d × IsFaulty d (Faults list)
+RefusesDesc text (Faults list) = (d : Desc) × Spells text d × IsThin d × HasFaults d list
 RefusesDesc text _ = ⊥
 
 -- why a script is not run
-abbrev pub IsNoScript : List ℕ → RunFault → Type 0
+abbrev pub IsNoScript : List ℕ → ThinFault → Type 0
 IsNoScript text NoMemory = Unit {0}
 IsNoScript text (Script line) = (length text ≤ 1048576) × RefusesScript text (scripts.Syntax line)
 IsNoScript text ScriptTooLong = 1048576 < length text
@@ -39,15 +39,12 @@ IsNoScript text _ = ⊥
 
 -- With Ok the whole output of the script was written. A fault of a text comes before anything is written, that of the
 -- description first. A writer that fails has taken a proper prefix of the output.
-abbrev pub RunsTo : {T : Type 0} → List ℕ → List ℕ → Seen → Seen → Result T RunFault → Type 0
+abbrev pub RunsTo : {T : Type 0} → List ℕ → List ℕ → Seen → Seen → Result T ThinFault → Type 0
 RunsTo text script old new (Ok _) = (r : Runs text script) × Takes old new (output (started r.desc) r.items)
 RunsTo text script old new (Err NoMemory) = new ≡ old
 RunsTo text script old new (Err (Lang fault)) = RefusesDesc text (Lang fault) × (new ≡ old)
-RunsTo text script old new (Err (Faults list)) = RefusesDesc text (Faults list) × (new ≡ old)
 RunsTo text script old new (Err NotYet) = RefusesDesc text NotYet × (new ≡ old)
+RunsTo text script old new (Err (Faults list)) = RefusesDesc text (Faults list) × (new ≡ old)
 RunsTo text script old new (Err (Script line)) = (d : Desc) × IsSoundText text d × IsNoScript script (Script line) × (new ≡ old)
 RunsTo text script old new (Err ScriptTooLong) = (d : Desc) × IsSoundText text d × IsNoScript script ScriptTooLong × (new ≡ old)
-RunsTo text script old new (Err Read) = ⊥
-RunsTo text script old new (Err (Cert fault)) = ⊥
-RunsTo text script old new (Err (Refused refusal)) = ⊥
 RunsTo text script old new (Err Write) = (r : Runs text script) × Cuts old new (output (started r.desc) r.items)

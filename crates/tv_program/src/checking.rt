@@ -1,48 +1,40 @@
 //! Descriptions checked, and certificates accepted.
 
-ghost use Rattle.std.specs.Prelude.{◌≡◌, ℕ, List, IfErr, IfOk, codes, string_bytes};
-ghost use Rattle.tv_check.specs.CertificateTexts.{Spells as SpellsBlocks};
+ghost use Rattle.std.specs.Prelude.{◌≡◌, ℕ, List, IfOk, codes, string_bytes};
 ghost use Rattle.tv_lang.specs.Faults.{Spells};
 ghost use Rattle.tv_model.specs.Faults.{IsSound};
-ghost use Rattle.tv_program.specs.CheckRun.{AcceptsTo, ChecksTo, certificate_text, IsNoCertificate};
-ghost use Rattle.tv_program.specs.declared.fault.RunFault.TheVariants.{NoMemory};
-ghost use Rattle.tv_program.specs.Written.{Writes};
+ghost use Rattle.tv_program.specs.CheckRun.{AcceptsTo, ChecksTo, certificate_text};
 
-use crate::fault::RunFault;
-use crate::reading::{look_for_faults, read_desc};
-use std::alloc::Global;
-use tv_check::{Certificate, CertificateFault, CertifyFault, Refusal, accept, certify};
+use crate::accept_fault::AcceptFault;
+use crate::check_fault::CheckFault;
+use crate::reading::look_for_faults;
+use std::alloc::{AllocError, Global};
+use tv_check::{Certificate, CertifyFault, accept, certify};
+use tv_lang::parse;
 use tv_model::Desc;
-use tv_script::{WriteFailed, Writer, write_all};
+use tv_output::{Writer, write_all};
 
 /// Writes the certificate of a description that has no faults.
 ///
 /// Faults come as an error, and nothing is written then.
-pub fn check<W: Writer>(alloc: Global, text: &[u8], out: &mut W) -> Result<(), RunFault>
+pub fn check<W: Writer>(alloc: Global, text: &[u8], out: &mut W) -> Result<(), CheckFault>
     ensures { ChecksTo text.now (W.seen out.old) (W.seen out.new) result }
 {
-    let desc = read_desc(alloc, text)?;
-    if let Err(fault) = look_for_faults(alloc, &desc) {
-        return Err(fault);
-    }
-    match print_certificate(alloc, &desc) {
-        Ok(certificate) => put(out, certificate.as_bytes()),
-        Err(_) => Err(RunFault::NoMemory),
-    }
+    let desc = parse(alloc, text)?;
+    look_for_faults(alloc, &desc)?;
+    let certificate = print_certificate(alloc, &desc)?;
+    write_all(out, certificate.as_bytes())?;
+    Ok(())
 }
 
 // The text of the certificate of a sound description.
-fn print_certificate(alloc: Global, desc: &Desc) -> Result<String, RunFault>
+fn print_certificate(alloc: Global, desc: &Desc) -> Result<String, AllocError>
     requires { IsSound desc.now }
-    ensures value { IfOk result (λ text. string_bytes text ≡ certificate_text desc.now) }
-    ensures fault { IfErr result (λ fault. fault ≡ NoMemory) }
+    ensures { IfOk result (λ text. string_bytes text ≡ certificate_text desc.now) }
 {
     match certify(alloc, desc) {
-        Ok(certificate) => match certificate.print(alloc) {
-            Ok(text) => Ok(text),
-            Err(_) => Err(RunFault::NoMemory),
-        },
-        Err(CertifyFault::NoMemory) => Err(RunFault::NoMemory),
+        Ok(certificate) => certificate.print(alloc),
+        Err(CertifyFault::NoMemory) => Err(AllocError),
         Err(CertifyFault::Faulty(_)) => unreachable!(),
     }
 }
@@ -55,10 +47,10 @@ pub fn accept_files<W: Writer>(
     desc: &[u8],
     certificate: &[u8],
     out: &mut W,
-) -> Result<(), RunFault>
+) -> Result<(), AcceptFault>
     ensures { AcceptsTo desc.now certificate.now (W.seen out.old) (W.seen out.new) result }
 {
-    let desc = read_desc(alloc, desc)?;
+    let desc = parse(alloc, desc)?;
     accept_text(alloc, desc, certificate, out)
 }
 
@@ -70,33 +62,13 @@ pub fn accept_text<W: Writer>(
     desc: Desc,
     certificate: &[u8],
     out: &mut W,
-) -> Result<(), RunFault>
+) -> Result<(), AcceptFault>
     ensures { (text : List ℕ) → Spells text desc → AcceptsTo text certificate.now (W.seen out.old) (W.seen out.new) result }
 {
-    let certificate = read_certificate(alloc, certificate)?;
-    match accept(alloc, desc, &certificate) {
-        Ok(_) => put(out, b"accepted\n"),
-        Err((Refusal::NoMemory, _)) => Err(RunFault::NoMemory),
-        Err((refusal, _)) => Err(RunFault::Refused(refusal)),
+    let certificate = Certificate::read(alloc, certificate)?;
+    if let Err((refusal, _)) = accept(alloc, desc, &certificate) {
+        return Err(AcceptFault::from(refusal));
     }
-}
-
-fn read_certificate(alloc: Global, text: &[u8]) -> Result<Certificate, RunFault>
-    ensures spelled { IfOk result (λ certificate. SpellsBlocks text.now certificate) }
-    ensures fault { IfErr result (λ fault. IsNoCertificate text.now fault) }
-{
-    match Certificate::read(alloc, text) {
-        Ok(certificate) => Ok(certificate),
-        Err(CertificateFault::NoMemory) => Err(RunFault::NoMemory),
-        Err(fault) => Err(RunFault::Cert(fault)),
-    }
-}
-
-fn put<W: Writer>(out: &mut W, text: &[u8]) -> Result<(), RunFault>
-    ensures { Writes (W.seen out.old) (W.seen out.new) text.now result }
-{
-    match write_all(out, text) {
-        Ok(()) => Ok(()),
-        Err(WriteFailed) => Err(RunFault::Write),
-    }
+    write_all(out, b"accepted\n")?;
+    Ok(())
 }

@@ -1,11 +1,20 @@
-//! Why a call of the program didn't come to its end.
+//! Why a call of the program failed, whichever it was.
 
+ghost use Rattle.std.specs.Prelude.{◌≡◌};
+ghost use Rattle.tv_program.specs.declared.fault.RunFault.TheVariants.{NoMemory};
+ghost use Rattle.tv_program.specs.Conversions.{accept_told, check_told, lang_told, thin_told};
+
+use crate::accept_fault::AcceptFault;
+use crate::check_fault::CheckFault;
+use crate::thin_fault::ThinFault;
 use std::alloc::AllocError;
 use tv_check::{CertificateFault, Refusal};
 use tv_lang::LangFault;
 use tv_model::{Fault, Sequence};
 
-/// Why a call of the program didn't come to its end.
+/// Why a call of the program failed, whichever it was: what `report` tells.
+///
+/// Each call has a type of its own for what it can answer, which `From` turns into this one.
 #[derive(Debug, Drop)]
 pub enum RunFault {
     NoMemory,
@@ -30,12 +39,63 @@ pub enum RunFault {
 }
 
 impl From<AllocError> for RunFault {
-    ghost use Rattle.std.specs.Prelude.{◌≡◌};
-    ghost use Rattle.tv_program.specs.declared.fault.RunFault.TheVariants.{NoMemory};
-
     ghost from_gives = { λ _ fault. fault ≡ NoMemory };
 
     fn from(_error: AllocError) -> RunFault {
         RunFault::NoMemory
+    }
+}
+
+impl From<LangFault> for RunFault {
+    ghost from_gives = { λ unread told. told ≡ lang_told unread };
+
+    fn from(unread: LangFault) -> RunFault {
+        match unread {
+            LangFault::NoMemory => RunFault::NoMemory,
+            _ => RunFault::Lang(unread),
+        }
+    }
+}
+
+impl From<CheckFault> for RunFault {
+    ghost from_gives = { λ fault told. told ≡ check_told fault };
+
+    fn from(fault: CheckFault) -> RunFault {
+        match fault {
+            CheckFault::NoMemory => RunFault::NoMemory,
+            CheckFault::Lang(unread) => RunFault::Lang(unread),
+            CheckFault::Faults(list) => RunFault::Faults(list),
+            CheckFault::Write => RunFault::Write,
+        }
+    }
+}
+
+impl From<AcceptFault> for RunFault {
+    ghost from_gives = { λ fault told. told ≡ accept_told fault };
+
+    fn from(fault: AcceptFault) -> RunFault {
+        match fault {
+            AcceptFault::NoMemory => RunFault::NoMemory,
+            AcceptFault::Lang(unread) => RunFault::Lang(unread),
+            AcceptFault::Cert(unread) => RunFault::Cert(unread),
+            AcceptFault::Refused(refusal) => RunFault::Refused(refusal),
+            AcceptFault::Write => RunFault::Write,
+        }
+    }
+}
+
+impl From<ThinFault> for RunFault {
+    ghost from_gives = { λ fault told. told ≡ thin_told fault };
+
+    fn from(fault: ThinFault) -> RunFault {
+        match fault {
+            ThinFault::NoMemory => RunFault::NoMemory,
+            ThinFault::Lang(unread) => RunFault::Lang(unread),
+            ThinFault::NotYet => RunFault::NotYet,
+            ThinFault::Faults(list) => RunFault::Faults(list),
+            ThinFault::Script(line) => RunFault::Script(line),
+            ThinFault::ScriptTooLong => RunFault::ScriptTooLong,
+            ThinFault::Write => RunFault::Write,
+        }
     }
 }

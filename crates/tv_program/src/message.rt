@@ -1,15 +1,15 @@
-//! What is told of a call that didn't come to its end.
+//! What is printed of a call that failed, and the status that it gives.
 
 ghost use Rattle.std.specs.Prelude.{◌≡◌, ◌++◌, ◌∷◌, [], codes, flat_map, decimal, encode_utf8};
 ghost use Rattle.tv_model.specs.Log.LogText.{line_of};
-ghost use Rattle.tv_script.specs.Pen.{Puts};
+ghost use Rattle.tv_output.specs.Pen.{Puts};
 ghost use Rattle.tv_program.specs.Report.{IsOffered, cert_message, fault_line, lang_message, lang_status, out_text, err_text, refusal_text, status_of, syntax_message};
 
 use crate::fault::RunFault;
 use tv_check::{CertificateFault, Refusal};
 use tv_lang::LangFault;
 use tv_model::Fault;
-use tv_script::{Pen, Writer};
+use tv_output::{Pen, Writer};
 
 /// Tells why a call didn't come to its end: faults and refusals on `out`, a message on `err`. Answers the program's status.
 ///

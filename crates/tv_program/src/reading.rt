@@ -1,30 +1,16 @@
-//! Descriptions, read and looked at.
+//! Faults of descriptions, looked for.
 
-ghost use Rattle.std.specs.Prelude.{◌≡◌, IfOk, IfErr, OnOk};
-ghost use Rattle.tv_lang.specs.Faults.{Spells};
+ghost use Rattle.std.specs.Prelude.{◌≡◌, IfErr, OnOk};
 ghost use Rattle.tv_model.specs.Faults.{IsSound};
-ghost use Rattle.tv_program.specs.Reading.{IsFaulty, IsNoDescription};
+ghost use Rattle.tv_program.specs.Reading.{IsFaulty};
 
-use crate::fault::RunFault;
+use crate::desc_fault::DescFault;
 use std::alloc::Global;
 use tv_check::faults;
-use tv_lang::{LangFault, parse};
 use tv_model::Desc;
 
-/// The description that a text spells.
-pub fn read_desc(alloc: Global, text: &[u8]) -> Result<Desc, RunFault>
-    ensures spelled { IfOk result (λ desc. Spells text.now desc) }
-    ensures fault { IfErr result (λ fault. IsNoDescription text.now fault) }
-{
-    match parse(alloc, text) {
-        Ok(desc) => Ok(desc),
-        Err(LangFault::NoMemory) => Err(RunFault::NoMemory),
-        Err(fault) => Err(RunFault::Lang(fault)),
-    }
-}
-
 /// Looks for faults of a description.
-pub fn look_for_faults(alloc: Global, desc: &Desc) -> Result<(), RunFault>
+pub fn look_for_faults(alloc: Global, desc: &Desc) -> Result<(), DescFault>
     ensures sound { OnOk result (IsSound desc.now) }
     ensures fault { IfErr result (λ fault. IsFaulty desc.now fault) }
 {
@@ -32,6 +18,6 @@ pub fn look_for_faults(alloc: Global, desc: &Desc) -> Result<(), RunFault>
     if list.as_slice().is_empty() {
         Ok(())
     } else {
-        Err(RunFault::Faults(list))
+        Err(DescFault::Faults(list))
     }
 }

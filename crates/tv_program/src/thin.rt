@@ -1,21 +1,22 @@
 //! One dialog of static texts and buttons, from bytes to bytes.
 
-ghost use Rattle.std.specs.Prelude.{◌≡◌, IfOk, IfErr, List, ℕ};
+ghost use Rattle.std.specs.Prelude.{◌≡◌, IfOk, IfErr, List, MatchResult, ℕ};
 ghost use Rattle.tv_script.specs.Scripts.{Spells as SpellsScript};
 ghost use Rattle.tv_model.specs.Faults.{IsSound};
 ghost use Rattle.tv_model.specs.Log.Output.{output};
 ghost use Rattle.tv_model.specs.Description.Thin.{IsThin};
 ghost use Rattle.tv_program.specs.Reading.{IsSoundText};
 ghost use Rattle.tv_program.specs.ThinRun.{IsNoScript, RefusesDesc, RunsTo};
-ghost use Rattle.tv_program.specs.Written.{Writes};
+ghost use Rattle.tv_output.specs.Writer.{Cuts, Takes};
 
-use crate::fault::RunFault;
-use crate::reading::{look_for_faults, read_desc};
-use crate::session::ThinSession;
-use crate::shape::is_thin;
+use crate::reading::look_for_faults;
+use crate::thin_fault::ThinFault;
 use std::alloc::Global;
+use tv_lang::parse;
 use tv_model::{Desc, Item, Sequence};
-use tv_script::{ScriptFault, Writer, parse_script, perform};
+use tv_output::{WriteFailed, Writer};
+use tv_script::{parse_script, perform};
+use tv_thin::{ThinSession, is_thin};
 
 /// The most bytes of a script.
 const LONGEST_SCRIPT: usize = 1_048_576;
@@ -29,7 +30,7 @@ pub fn run<W: Writer>(
     desc: &[u8],
     script: &[u8],
     out: &mut W,
-) -> Result<(), RunFault>
+) -> Result<(), ThinFault>
     ensures { RunsTo desc.now script.now (W.seen out.old) (W.seen out.new) result }
 {
     let desc = read_sound(alloc, desc)?;
@@ -44,57 +45,56 @@ pub fn run_script<W: Writer>(
     desc: Desc,
     script: &[u8],
     out: &mut W,
-) -> Result<(), RunFault>
+) -> Result<(), ThinFault>
     requires thin { IsThin desc }
     requires sound { IsSound desc }
     ensures { (text : List ℕ) → IsSoundText text desc → RunsTo text script.now (W.seen out.old) (W.seen out.new) result }
 {
-    let items = match read_script(alloc, script) {
-        Ok(items) => items,
-        Err(fault) => return Err(fault),
-    };
+    let items = read_script(alloc, script)?;
     let mut session = ThinSession::new(alloc, desc)?;
-    play(&mut session, items.as_slice(), out)
+    play(&mut session, items.as_slice(), out)?;
+    Ok(())
 }
 
 // Performs a script on a session.
-fn play<W: Writer>(session: &mut ThinSession, script: &[Item], out: &mut W) -> Result<(), RunFault>
-    ensures { Writes (W.seen out.old) (W.seen out.new) (output session.old.session script.now) result }
+fn play<W: Writer>(
+    session: &mut ThinSession,
+    script: &[Item],
+    out: &mut W,
+) -> Result<(), WriteFailed>
+    ensures { MatchResult result
+        (λ _. Takes (W.seen out.old) (W.seen out.new) (output session.old.session script.now))
+        (λ _. Cuts (W.seen out.old) (W.seen out.new) (output session.old.session script.now)) }
 {
     match perform(session, script, out) {
         Ok(()) => Ok(()),
-        Err(_) => Err(RunFault::Write),
+        Err(_) => Err(WriteFailed),
     }
 }
 
 /// The description that a text spells, where it is one dialog of static texts and buttons without faults.
 ///
 /// The errors are those of the text, then `NotYet` for another description, then its faults.
-pub fn read_sound(alloc: Global, text: &[u8]) -> Result<Desc, RunFault>
+pub fn read_sound(alloc: Global, text: &[u8]) -> Result<Desc, ThinFault>
     ensures sound { IfOk result (λ desc. IsSoundText text.now desc) }
     ensures thin { IfOk result (λ desc. IsThin desc) }
     ensures fault { IfErr result (λ fault. RefusesDesc text.now fault) }
 {
-    let desc = read_desc(alloc, text)?;
+    let desc = parse(alloc, text)?;
     if !is_thin(&desc) {
-        return Err(RunFault::NotYet);
+        return Err(ThinFault::NotYet);
     }
-    match look_for_faults(alloc, &desc) {
-        Ok(()) => Ok(desc),
-        Err(fault) => Err(fault),
-    }
+    look_for_faults(alloc, &desc)?;
+    Ok(desc)
 }
 
-fn read_script(alloc: Global, text: &[u8]) -> Result<Sequence<Item>, RunFault>
+fn read_script(alloc: Global, text: &[u8]) -> Result<Sequence<Item>, ThinFault>
     ensures spelled { IfOk result (λ items. SpellsScript text.now items) }
     ensures fault { IfErr result (λ fault. IsNoScript text.now fault) }
 {
     if text.len() > LONGEST_SCRIPT {
-        return Err(RunFault::ScriptTooLong);
+        return Err(ThinFault::ScriptTooLong);
     }
-    match parse_script(alloc, text) {
-        Ok(items) => Ok(items),
-        Err(ScriptFault::NoMemory) => Err(RunFault::NoMemory),
-        Err(ScriptFault::Syntax(line)) => Err(RunFault::Script(line)),
-    }
+    let items = parse_script(alloc, text)?;
+    Ok(items)
 }

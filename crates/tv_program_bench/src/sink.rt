@@ -1,6 +1,6 @@
 //! A writer that keeps nothing.
 
-use tv_script::Writer;
+use tv_output::Writer;
 
 /// Takes all bytes, and forgets them.
 #[derive(Drop)]

@@ -23,9 +23,9 @@ use Rattle.tv_words.specs.Texts.{SpellsBy, BeginsBy, IsFirstFault}
 use Rattle.tv_script.specs.Scripts.{key_name, IsScriptKey, is_space, item_words, IsScriptItem, script_lines, IsScript, Spells, Refuses, Gives}
 use Rattle.tv_script.specs.Reading.Items.{key_in, key_item, typed, typed_in, item_in, with_item, taken}
 use Rattle.tv_script.specs.Reading.Scripts.{Reading, Value, Fault, reading, reading_of, StopsAt}
-use Rattle.tv_words.proofs.FieldLaws.{word_is, text_read}
-use Rattle.tv_words.proofs.LineLaws.{found_words}
-use Rattle.tv_words.proofs.TextLaws as texts
+use Rattle.tv_words.proofs.FieldLemmas.{word_is, text_read}
+use Rattle.tv_words.proofs.LineWordLemmas.{found_words}
+use Rattle.tv_words.proofs.TextLemmas as texts
 
 -- ---- items
 

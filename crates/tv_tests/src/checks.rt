@@ -2,8 +2,9 @@
 
 use std::alloc::Global;
 use std::test::Fail;
+use tv_lang::parse;
 use tv_program::thin::run;
-use tv_program::{RunFault, accept_files, accept_text, check, read_desc, report};
+use tv_program::{AcceptFault, CheckFault, RunFault, accept_files, accept_text, check, report};
 use tv_test_support::certificates::{CANCEL_CERTIFICATE, NO_BLOCKS, ORDER_CERTIFICATE};
 use tv_test_support::descriptions::{CANCEL, COLOUR, MENUS, ORDER, SHARED_LETTER, WINDOWS};
 use tv_test_support::{Idle, Memory, Question, expect_answer, expect_answers};
@@ -32,7 +33,7 @@ impl Question for Checking {
     fn answer(&self, alloc: Global, text: &[u8]) -> Result<String, Fail> {
         let mut out = Memory::ample(alloc)?;
         let answer = check(alloc, text, &mut out);
-        told(alloc, answer, out)
+        told(alloc, answer.map_err(RunFault::from), out)
     }
 }
 
@@ -100,11 +101,11 @@ impl Question for AcceptingFiles<'_> {
     fn answer(&self, alloc: Global, text: &[u8]) -> Result<String, Fail> {
         let mut out = Memory::ample(alloc)?;
         let answer = accept_files(alloc, self.desc.as_bytes(), text, &mut out);
-        let all_told = told(alloc, answer, out)?;
-        if let Ok(desc) = read_desc(alloc, self.desc.as_bytes()) {
+        let all_told = told(alloc, answer.map_err(RunFault::from), out)?;
+        if let Ok(desc) = parse(alloc, self.desc.as_bytes()) {
             let mut out = Memory::ample(alloc)?;
             let answer = accept_text(alloc, desc, text, &mut out);
-            if told(alloc, answer, out)?.as_str() != all_told.as_str() {
+            if told(alloc, answer.map_err(RunFault::from), out)?.as_str() != all_told.as_str() {
                 return Err(Fail::new("accept_files and accept_text differ"));
             }
         }
@@ -234,7 +235,7 @@ impl Question for Running<'_> {
     fn answer(&self, alloc: Global, text: &[u8]) -> Result<String, Fail> {
         let mut out = Memory::ample(alloc)?;
         let answer = run(alloc, text, self.script.as_bytes(), &mut out);
-        told(alloc, answer, out)
+        told(alloc, answer.map_err(RunFault::from), out)
     }
 }
 
@@ -301,7 +302,7 @@ fn writers_that_fail(rt: HostRuntime) -> Result<(), Fail> {
     for room in 0..certificate.len() {
         let mut out = Memory::new(alloc, room, 5)?;
         let answer = check(alloc, CANCEL.as_bytes(), &mut out);
-        assert!(rt; matches!(answer, Err(RunFault::Write)), "{answer:?}");
+        assert!(rt; matches!(answer, Err(CheckFault::Write)), "{answer:?}");
         assert_eq!(rt; out.taken(), &certificate[..room], "at {room}");
     }
     let mut out = Memory::new(alloc, certificate.len(), 5)?;
@@ -320,6 +321,6 @@ fn acceptance_that_cannot_be_written(rt: HostRuntime) {
         CANCEL_CERTIFICATE.as_bytes(),
         &mut out,
     );
-    assert!(rt; matches!(answer, Err(RunFault::Write)), "{answer:?}");
+    assert!(rt; matches!(answer, Err(AcceptFault::Write)), "{answer:?}");
     assert_eq!(rt; out.calls, 1);
 }

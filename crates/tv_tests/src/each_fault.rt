@@ -2,8 +2,8 @@
 
 use std::alloc::Global;
 use std::test::Fail;
-use tv_program::report;
 use tv_program::thin::run;
+use tv_program::{RunFault, report};
 use tv_test_support::{Findings, Memory, Question, expect_answers};
 
 // What a run without items comes to: `sound`, or the faults that the program tells of.
@@ -19,6 +19,7 @@ impl Question for Running {
         };
         let mut out = Memory::ample(alloc)?;
         let mut err = Memory::ample(alloc)?;
+        let fault = RunFault::from(fault);
         if report(&fault, "NAME", &mut out, &mut err) != 1
             || !err.taken().is_empty()
             || !written.taken().is_empty()

@@ -4,6 +4,8 @@
 #[cfg(test)]
 mod checks;
 #[cfg(test)]
+mod command_lines;
+#[cfg(test)]
 mod constructors;
 #[cfg(test)]
 mod each_fault;

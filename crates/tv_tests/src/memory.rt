@@ -1,6 +1,6 @@
 //! Allocations that are refused.
 
-use tv_program::RunFault;
+use tv_program::ThinFault;
 use tv_program::thin::run;
 use tv_test_support::Memory;
 use tv_test_support::descriptions::CANCEL;
@@ -20,7 +20,7 @@ fn refused_allocations(rt: HostRuntime) {
     ) {
         Ok(()) => assert_ne!(rt; out.taken().len(), 0),
         Err(fault) => {
-            assert!(rt; matches!(fault, RunFault::NoMemory), "{fault:?}");
+            assert!(rt; matches!(fault, ThinFault::NoMemory), "{fault:?}");
             assert_eq!(rt; out.taken().len(), 0);
         }
     }

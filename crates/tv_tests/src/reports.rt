@@ -99,7 +99,7 @@ fn faults_where_writers_fail(rt: HostRuntime) -> Result<(), Fail> {
     let alloc = rt.alloc();
     let mut out = Memory::new(alloc, 5, 4)?;
     let answer = run(alloc, WITHOUT_CANCEL.as_bytes(), b"", &mut out);
-    let fault = answer.err().ok_or("it runs")?;
+    let fault = RunFault::from(answer.err().ok_or("it runs")?);
     let mut err = Idle { calls: 0 };
     assert_eq!(rt; report(&fault, "NAME", &mut out, &mut err), 1);
     assert_eq!(rt; str::from_utf8(out.taken())?, "F10 l");

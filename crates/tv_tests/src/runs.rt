@@ -4,7 +4,7 @@ use std::alloc::{AllocError, Global};
 use std::process::Abort;
 use std::test::Fail;
 use tv_program::thin::run;
-use tv_program::{RunFault, report};
+use tv_program::{RunFault, ThinFault, report};
 use tv_test_support::descriptions::{CANCEL, CLOSED, WITHOUT_CANCEL};
 use tv_test_support::{Idle, Memory};
 
@@ -63,7 +63,7 @@ shot 20 10
 ";
 
 // What a run writes where the writer has ample room.
-fn output(alloc: Global, desc: &str, script: &str) -> Result<Memory, RunFault> {
+fn output(alloc: Global, desc: &str, script: &str) -> Result<Memory, ThinFault> {
     let mut out = Memory::ample(alloc)?;
     run(alloc, desc.as_bytes(), script.as_bytes(), &mut out)?;
     Ok(out)
@@ -123,10 +123,11 @@ fn missing_cancel(rt: HostRuntime) -> Result<(), Fail> {
     let mut written = Memory::ample(alloc)?;
     let answer = run(alloc, WITHOUT_CANCEL.as_bytes(), b"key Foo\n", &mut written);
     let fault = answer.err().ok_or("it runs")?;
-    assert!(rt; matches!(fault, RunFault::Faults(_)), "{fault:?}");
+    assert!(rt; matches!(fault, ThinFault::Faults(_)), "{fault:?}");
     assert_eq!(rt; written.taken().len(), 0);
     let mut out = Memory::ample(alloc)?;
     let mut err = Memory::ample(alloc)?;
+    let fault = RunFault::from(fault);
     assert_eq!(rt; report(&fault, "NAME", &mut out, &mut err), 1);
     assert_eq!(rt; str::from_utf8(out.taken())?, "F10 line 4\n");
     assert_eq!(rt; str::from_utf8(err.taken())?, "");
@@ -138,7 +139,7 @@ fn cut_at(rt: &impl Abort, alloc: Global, room: usize, wanted: &[u8]) -> Result<
     let mut out = Memory::new(alloc, room, 4096)?;
     let answer = run(alloc, CANCEL.as_bytes(), b"shot\n", &mut out);
     assert!(rt;
-        matches!(answer, Err(RunFault::Write)),
+        matches!(answer, Err(ThinFault::Write)),
         "{answer:?} at {room}"
     );
     assert_eq!(rt; out.taken(), wanted, "at {room}");
@@ -160,7 +161,7 @@ fn failing_writer(rt: HostRuntime) -> Result<(), Fail> {
 fn writer_that_takes_nothing(rt: HostRuntime) {
     let mut out = Idle { calls: 0 };
     let answer = run(rt.alloc(), CANCEL.as_bytes(), b"shot\n", &mut out);
-    assert!(rt; matches!(answer, Err(RunFault::Write)), "{answer:?}");
+    assert!(rt; matches!(answer, Err(ThinFault::Write)), "{answer:?}");
     assert_eq!(rt; out.calls, 1);
 }
 

@@ -3,8 +3,8 @@
 use std::alloc::Global;
 use std::test::Fail;
 use tv_lang::{LangFault, parse};
-use tv_model::{Desc, Kind, Node};
-use tv_program::RunFault;
+use tv_model::{Desc, Dialog, Kind, Node};
+use tv_program::ThinFault;
 use tv_program::thin::run;
 use tv_script::{ScriptFault, parse_script};
 use tv_test_support::descriptions::{CANCEL, WITHOUT_CANCEL};
@@ -252,14 +252,13 @@ fn ends_of_texts(rt: HostRuntime) -> Result<(), Fail> {
     Ok(())
 }
 
-// The node of the description's first dialog.
-fn first_dialog(desc: &Desc) -> Option<&Node> {
-    Some(&desc.dialogs.as_slice().first()?.node)
+fn first_dialog(desc: &Desc) -> Option<&Dialog> {
+    desc.dialogs.as_slice().first()
 }
 
 // The node of the first view of the description's first dialog.
 fn first_view(desc: &Desc) -> Option<&Node> {
-    desc.dialogs.as_slice().first()?.views.as_slice().first()
+    first_dialog(desc)?.views.as_slice().first()
 }
 
 #[test]
@@ -275,7 +274,7 @@ fn ids_are_canonical_lines(rt: HostRuntime) -> Result<(), Fail> {
         let desc = parse(alloc, text.as_bytes())?;
         let dialog = first_dialog(&desc).ok_or("no dialog")?;
         let view = first_view(&desc).ok_or("no view")?;
-        assert_eq!(rt; (dialog.id.0, view.id.0), lines, "{head}");
+        assert_eq!(rt; (dialog.node.id.0, view.id.0), lines, "{head}");
     }
     Ok(())
 }
@@ -293,25 +292,25 @@ end
     let desc = parse(alloc, text.as_bytes())?;
     assert_eq!(rt; (desc.width, desc.height), (-2147483648, 2147483647));
     assert!(rt; desc.start.is_none());
-    let node = first_dialog(&desc).ok_or("no dialog")?;
+    let dialog = first_dialog(&desc).ok_or("no dialog")?;
+    let node = &dialog.node;
     assert_eq!(rt; (node.x, node.y, node.w), (-3, 2, 14));
-    let Kind::Dialog { title, ends, .. } = &node.kind else {
-        return Err("no dialog".into());
-    };
-    assert_eq!(rt; title.as_slice(), ['Q', '"', '\\', '\n'].as_slice());
+    let head = dialog.head();
+    assert_eq!(rt; head.title.as_slice(), ['Q', '"', '\\', '\n'].as_slice());
+    let ends = head.ends;
     assert_eq!(rt;
         (ends.ok, ends.cancel, ends.yes, ends.no),
         (true, false, false, true)
     );
     let node = first_view(&desc).ok_or("no view")?;
-    let Kind::Button { text, .. } = &node.kind else {
+    let Kind::Button(button) = &node.kind else {
         return Err("no button".into());
     };
     assert_eq!(rt;
-        text.text.as_slice(),
+        button.text.text.as_slice(),
         ['C', 'a', 'n', 'c', 'e', 'l'].as_slice()
     );
-    assert_eq!(rt; text.mark, Some(0));
+    assert_eq!(rt; button.text.mark, Some(0));
     Ok(())
 }
 
@@ -326,7 +325,7 @@ impl Question for Scripts {
         let read = parse_script(alloc, text);
         match (answer, read) {
             (Ok(()), Ok(_)) => Ok(format!(in alloc; "performed\n")?),
-            (Err(RunFault::Script(line)), Err(ScriptFault::Syntax(found)))
+            (Err(ThinFault::Script(line)), Err(ScriptFault::Syntax(found)))
                 if line == found && out.taken().is_empty() => {
                 Ok(format!(in alloc; "syntax at line {line}\n")?)
             }
@@ -392,7 +391,7 @@ fn lengths_of_scripts(rt: HostRuntime) -> Result<(), Fail> {
     let mut out = Memory::ample(alloc)?;
     let answer = run(alloc, CANCEL.as_bytes(), too_long.as_bytes(), &mut out);
     assert!(rt;
-        matches!(answer, Err(RunFault::ScriptTooLong)),
+        matches!(answer, Err(ThinFault::ScriptTooLong)),
         "{answer:?}"
     );
     assert_eq!(rt; out.taken().len(), 0);
@@ -405,11 +404,11 @@ fn descriptions_are_judged_first(rt: HostRuntime) -> Result<(), Fail> {
     let mut out = Memory::ample(alloc)?;
     let answer = run(alloc, b"tvd 1\nscreen 40\n", b"key Foo", &mut out);
     assert!(rt;
-        matches!(answer, Err(RunFault::Lang(LangFault::Syntax(2)))),
+        matches!(answer, Err(ThinFault::Lang(LangFault::Syntax(2)))),
         "{answer:?}"
     );
     let answer = run(alloc, WITHOUT_CANCEL.as_bytes(), b"key Foo", &mut out);
-    assert!(rt; matches!(answer, Err(RunFault::Faults(_))), "{answer:?}");
+    assert!(rt; matches!(answer, Err(ThinFault::Faults(_))), "{answer:?}");
     assert_eq!(rt; out.taken().len(), 0);
     Ok(())
 }

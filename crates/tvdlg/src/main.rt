@@ -1,22 +1,12 @@
 //! Checks descriptions of text-mode dialogs, and runs them on scripts of keys and pictures.
 #![tactic(auto)]
 
-mod arguments;
-mod files;
-mod input;
-mod task;
-#[cfg(test)]
-mod tests;
-
-use arguments::parse;
-use clap::Error;
-use clap::error::ErrorKind;
-use files::{OUTSIDE, perform};
 use std::process::ExitCode;
 use std::rt::{Env, Files};
 use std::{env, io};
-use task::Task;
-use tv_script::Device;
+use tv_command_line::{NoTask, Task, read_task};
+use tv_files::{OUTSIDE, accept_file, check_file, finish, run_file};
+use tv_output::Device;
 
 /// The status after a faulty command line, and after help.
 const USAGE: u8 = 2;
@@ -34,9 +24,10 @@ fn run<R: Files + Env + AllocGlobal + Print + Eprint, E: io::Write + Drop>(rt: &
     let Ok(words) = words.collect::<Vec<String>>(rt.alloc()) else {
         return no_memory(rt);
     };
-    match parse(rt.alloc(), words.as_slice()) {
+    match read_task(rt.alloc(), words.as_slice()) {
         Ok(task) => on_streams(rt, task, err),
-        Err(error) => tell_usage(rt, error),
+        Err(NoTask::Usage(text)) => tell_usage(rt, text.as_str()),
+        Err(NoTask::NoMemory) => no_memory(rt),
     }
 }
 
@@ -51,14 +42,18 @@ fn on_streams<R: Files + AllocGlobal + Print + Eprint, E: io::Write + Drop>(
     let Ok(mut err) = Device::new(rt.alloc(), err) else {
         return no_memory(rt);
     };
-    perform(rt, rt.alloc(), task, &mut out, &mut err)
+    let answer = match task {
+        Task::Check { file } => check_file(rt, rt.alloc(), file, &mut out),
+        Task::Accept { file, certificate } => {
+            accept_file(rt, rt.alloc(), file, certificate, &mut out)
+        }
+        Task::Run { file, script } => run_file(rt, rt.alloc(), file, script, &mut out),
+    };
+    finish(answer, &mut out, &mut err)
 }
 
-fn tell_usage<R: Eprint>(rt: &R, error: Error) -> u8 {
-    if error.kind() == ErrorKind::OutOfMemory {
-        return no_memory(rt);
-    }
-    let _ = rt.eprint(error);
+fn tell_usage<R: Eprint>(rt: &R, text: &str) -> u8 {
+    let _ = rt.eprint(text);
     USAGE
 }
 

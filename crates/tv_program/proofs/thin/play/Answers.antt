@@ -1,4 +1,4 @@
-use Rattle.tv_script.proofs.Outputs.{cut-whole}
+use Rattle.tv_script.proofs.OutputLemmas.{cut-whole}
 use Rattle.tv_program.proofs.thin.play.Goals as goal
 
 pub returns-in-Err : goal.returns-in-Err

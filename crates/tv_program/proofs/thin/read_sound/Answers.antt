@@ -1,6 +1,10 @@
-use Rattle.tv_program.proofs.ThinRuns.{faulty_refuses}
+use Rattle.tv_program.proofs.RunLemmas.{faulty-RefusesDesc}
 use Rattle.tv_program.proofs.thin.read_sound.Goals as goal
 
-pub returns-in-Err-clause-fault : goal.returns-in-Err-clause-fault
-returns-in-Err-clause-fault c =
-    faulty_refuses c.args.text.now c.in_ok-desc.desc c.in_ok-desc.ensures.spelled (c.is_thin.ensures.0 c.if-not-is_thin.false) c.in-Err.fault c.in-Err.ensures.fault
+pub returns-in_err-look_for_faults-clause-fault : goal.returns-in_err-look_for_faults-clause-fault
+returns-in_err-look_for_faults-clause-fault c =
+    faulty-RefusesDesc c.args.text.now c.in_ok-desc.desc c.in_ok-desc.ensures.spelled (c.is_thin.ensures.0 c.if-not-is_thin.false) c.in_err-look_for_faults.field-0.0 c.in_err-look_for_faults.ensures.fault
+    c.from_residual-in_err-look_for_faults.result c.from_residual-in_err-look_for_faults.ensures.1
+
+pub returns-clause-thin : goal.returns-clause-thin
+returns-clause-thin c = c.is_thin.ensures.0 c.if-not-is_thin.false

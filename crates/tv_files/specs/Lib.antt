@@ -1,0 +1,2 @@
+-- Of which file a failure is told
+pub mod Failures

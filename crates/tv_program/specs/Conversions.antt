@@ -1,0 +1,97 @@
+-- Faults handed on: the fault of a part as that of the call which it ends, and that of each call as the one that is told.
+use Rattle.tv_check.specs.declared.acceptance.Refusal.{Refusal}
+use Rattle.tv_check.specs.declared.acceptance.Refusal.TheVariants as refusals
+use Rattle.tv_certificate.specs.declared.reading.CertificateFault.{CertificateFault}
+use Rattle.tv_certificate.specs.declared.reading.CertificateFault.TheVariants as certificates
+use Rattle.tv_lang.specs.declared.description.LangFault.{LangFault}
+use Rattle.tv_lang.specs.declared.description.LangFault.TheVariants as lang
+use Rattle.tv_program.specs.declared.accept_fault.AcceptFault.{AcceptFault}
+use Rattle.tv_program.specs.declared.accept_fault.AcceptFault.TheVariants as accepts
+use Rattle.tv_program.specs.declared.check_fault.CheckFault.{CheckFault}
+use Rattle.tv_program.specs.declared.check_fault.CheckFault.TheVariants as checks
+use Rattle.tv_program.specs.declared.desc_fault.DescFault.{DescFault}
+use Rattle.tv_program.specs.declared.desc_fault.DescFault.TheVariants as descs
+use Rattle.tv_program.specs.declared.fault.RunFault.{RunFault}
+use Rattle.tv_program.specs.declared.fault.RunFault.TheVariants as told
+use Rattle.tv_program.specs.declared.thin_fault.ThinFault.{ThinFault}
+use Rattle.tv_program.specs.declared.thin_fault.ThinFault.TheVariants as runs
+use Rattle.tv_script.specs.declared.script_text.ScriptFault.{ScriptFault}
+use Rattle.tv_script.specs.declared.script_text.ScriptFault.TheVariants as scripts
+
+-- ---- checking
+
+-- the description is not spelled
+abbrev pub lang_checked : LangFault → CheckFault
+lang_checked lang.NoMemory = checks.NoMemory
+lang_checked fault = checks.Lang fault
+
+-- the description has faults
+abbrev pub desc_checked : DescFault → CheckFault
+desc_checked descs.NoMemory = checks.NoMemory
+desc_checked (descs.Faults list) = checks.Faults list
+
+-- ---- accepting
+
+-- the description is not spelled
+abbrev pub lang_accepted : LangFault → AcceptFault
+lang_accepted lang.NoMemory = accepts.NoMemory
+lang_accepted fault = accepts.Lang fault
+
+-- the certificate is not spelled
+abbrev pub certificate_accepted : CertificateFault → AcceptFault
+certificate_accepted certificates.NoMemory = accepts.NoMemory
+certificate_accepted fault = accepts.Cert fault
+
+-- the certificate is refused
+abbrev pub refusal_accepted : Refusal → AcceptFault
+refusal_accepted refusals.NoMemory = accepts.NoMemory
+refusal_accepted refusal = accepts.Refused refusal
+
+-- ---- running
+
+-- the description is not spelled
+abbrev pub lang_run : LangFault → ThinFault
+lang_run lang.NoMemory = runs.NoMemory
+lang_run fault = runs.Lang fault
+
+-- the description has faults
+abbrev pub desc_run : DescFault → ThinFault
+desc_run descs.NoMemory = runs.NoMemory
+desc_run (descs.Faults list) = runs.Faults list
+
+-- the script is not spelled
+abbrev pub script_run : ScriptFault → ThinFault
+script_run scripts.NoMemory = runs.NoMemory
+script_run (scripts.Syntax line) = runs.Script line
+
+-- ---- telling
+
+-- a fault of reading a description
+abbrev pub lang_told : LangFault → RunFault
+lang_told lang.NoMemory = told.NoMemory
+lang_told fault = told.Lang fault
+
+-- a fault of checking
+abbrev pub check_told : CheckFault → RunFault
+check_told checks.NoMemory = told.NoMemory
+check_told (checks.Lang fault) = told.Lang fault
+check_told (checks.Faults list) = told.Faults list
+check_told checks.Write = told.Write
+
+-- a fault of accepting
+abbrev pub accept_told : AcceptFault → RunFault
+accept_told accepts.NoMemory = told.NoMemory
+accept_told (accepts.Lang fault) = told.Lang fault
+accept_told (accepts.Cert fault) = told.Cert fault
+accept_told (accepts.Refused refusal) = told.Refused refusal
+accept_told accepts.Write = told.Write
+
+-- a fault of a run
+abbrev pub thin_told : ThinFault → RunFault
+thin_told runs.NoMemory = told.NoMemory
+thin_told (runs.Lang fault) = told.Lang fault
+thin_told runs.NotYet = told.NotYet
+thin_told (runs.Faults list) = told.Faults list
+thin_told (runs.Script line) = told.Script line
+thin_told runs.ScriptTooLong = told.ScriptTooLong
+thin_told runs.Write = told.Write

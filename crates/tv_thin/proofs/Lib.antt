@@ -1,0 +1,5 @@
+pub mod DialogLemmas
+pub mod DrawingLemmas
+pub mod LimitLemmas
+pub mod SessionLemmas
+pub mod ShapeLemmas
