@@ -15,11 +15,11 @@ use Rattle.tv_model.specs.Description.Numbers.{natural}
 
 -- what a leaf keeps besides its value
 pub data Private : Type 0 where
-  -- a button, a label or a static text keeps nothing, and radio buttons nothing besides their value
+  -- a button, a label or a static text keeps nothing
   Plain : Private
   -- an input: the place of its cursor, and whether its whole text is selected
   Editing : (cursor : ℕ) (is_whole : Bool) → Private
-  -- check boxes: their selected item, from 1
+  -- a cluster: its selected item, from 1
   Selecting : (item : ℕ) → Private
   -- a list: the item of its top row, from 1
   Scrolled : (top : ℕ) → Private
@@ -97,6 +97,7 @@ item_of (values.Item item) = item
 abbrev pub opened_private : Kind → Value → Private
 opened_private (kinds.Input input) value = Editing 0 false
 opened_private (kinds.CheckBoxes boxes) value = Selecting 1
+opened_private (kinds.RadioButtons radios) value = Selecting (item_of value)
 opened_private (kinds.List list) value = Scrolled (max 1 (item_of value + 1 - natural list.h))
 opened_private _ value = Plain
 
