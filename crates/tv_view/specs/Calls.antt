@@ -60,7 +60,7 @@ focused_to id leaf =
 -- ---- pressing an item
 
 abbrev pub cluster_pressed : ClusterKind → ℕ → ℕ → Leaf → Leaf
-cluster_pressed kind count item leaf = if is_item count item then with_cluster (pressed kind item (cluster_of leaf)) leaf else leaf
+cluster_pressed kind count item leaf = if is_item count item then with_cluster kind (pressed kind item (cluster_of kind leaf)) leaf else leaf
 
 abbrev pub kind_pressed : Kind → ℕ → Leaf → Leaf
 kind_pressed (kinds.CheckBoxes boxes) item leaf = cluster_pressed Boxes (length boxes.items) item leaf

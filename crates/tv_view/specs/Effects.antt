@@ -46,14 +46,14 @@ button_after grabs leaf (events.Up point) = released leaf
 button_after grabs leaf _ = leaf
 
 abbrev pub cluster_keyed_after : ClusterKind → List MarkedText → Leaf → Key → Phase → Leaf
-cluster_keyed_after kind items leaf k phases.Focused = with_cluster (keyed kind (cluster_key items (length items) (selected_of leaf.private) k) (cluster_of leaf)) leaf
+cluster_keyed_after kind items leaf k phases.Focused = with_cluster kind (keyed kind (cluster_key items (length items) (selected_of kind leaf) k) (cluster_of kind leaf)) leaf
 cluster_keyed_after kind items leaf k _ = leaf
 
 abbrev pub cluster_after : ClusterKind → List MarkedText → Leaf → Event → Phase → Leaf
 cluster_after kind items leaf (events.Key k) p = cluster_keyed_after kind items leaf k p
 cluster_after kind items leaf (events.Down point) p = if_focused leaf (holding (item_under leaf point) leaf)
 cluster_after kind items leaf (events.Up point) p =
-    released (if is_released_on leaf point then with_cluster (pressed kind (item_under leaf point) (cluster_of leaf)) leaf else leaf)
+    released (if is_released_on leaf point then with_cluster kind (pressed kind (item_under leaf point) (cluster_of kind leaf)) leaf else leaf)
 cluster_after kind items leaf _ p = leaf
 
 -- the item of the row under a point is chosen

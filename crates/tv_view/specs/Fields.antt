@@ -3,7 +3,7 @@ use Rattle.std.specs.Prelude.{ℕ, Bool, false, List, [], Option, Some, None, �
 use Rattle.tv_model.specs.declared.record.Value.{Value}
 use Rattle.tv_model.specs.declared.record.Value.TheVariants as values
 use Rattle.tv_model.specs.Machine.State.{Private, Editing, Selecting, Scrolled, item_of}
-use Rattle.tv_model.specs.Controls.ClusterTable.{Cluster}
+use Rattle.tv_model.specs.Controls.ClusterTable.{Cluster, ClusterKind, Boxes, Radios}
 use Rattle.tv_model.specs.Controls.ListTable.{Chosen}
 use Rattle.tv_model.specs.Controls.InputTable.{Edit}
 use Rattle.tv_model.specs.Controls.Meaning.{Leaf}
@@ -30,29 +30,37 @@ with_edit e leaf = record leaf { value = Some (values.Text e.text); private = Ed
 
 -- ---- clusters
 
-abbrev pub selected_of : Private → ℕ
-selected_of (Selecting item) = item
-selected_of _ = 1
-
 abbrev pub marks_of : Option Value → Value
 marks_of None = values.Marks 0
 marks_of (Some value) = value
 
-abbrev pub cluster_of : Leaf → Cluster
-cluster_of leaf = record { value = marks_of leaf.value; selected = selected_of leaf.private }
+-- the item that a value marks or chooses
+abbrev pub chosen_item : Option Value → ℕ
+chosen_item None = 1
+chosen_item (Some value) = item_of value
 
-abbrev pub with_cluster : Cluster → Leaf → Leaf
-with_cluster c leaf = record leaf { value = Some c.value; private = Selecting c.selected }
+-- the item that check boxes have selected
+abbrev pub selecting_of : Private → ℕ
+selecting_of (Selecting item) = item
+selecting_of _ = 1
+
+-- the selected item: of radio buttons it is the marked one, which they keep as their value alone
+abbrev pub selected_of : ClusterKind → Leaf → ℕ
+selected_of Boxes leaf = selecting_of leaf.private
+selected_of Radios leaf = chosen_item leaf.value
+
+abbrev pub cluster_of : ClusterKind → Leaf → Cluster
+cluster_of kind leaf = record { value = marks_of leaf.value; selected = selected_of kind leaf }
+
+abbrev pub with_cluster : ClusterKind → Cluster → Leaf → Leaf
+with_cluster Boxes c leaf = record leaf { value = Some c.value; private = Selecting c.selected }
+with_cluster Radios c leaf = record leaf { value = Some c.value }
 
 -- ---- lists
 
 abbrev pub top_of : Private → ℕ
 top_of (Scrolled top) = top
 top_of _ = 1
-
-abbrev pub chosen_item : Option Value → ℕ
-chosen_item None = 1
-chosen_item (Some value) = item_of value
 
 abbrev pub chosen_of : Leaf → Chosen
 chosen_of leaf = record { item = chosen_item leaf.value; top = top_of leaf.private }

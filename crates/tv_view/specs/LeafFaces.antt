@@ -87,7 +87,7 @@ abbrev pub cluster_face : ClusterKind → Env → Leaf → List MarkedText → F
 cluster_face kind env leaf items x y = row (slice_get items y)
   where
     is_selected : Bool
-    is_selected = has_focus env leaf.node.id && (selected_of leaf.private == y + 1)
+    is_selected = has_focus env leaf.node.id && (selected_of kind leaf == y + 1)
 
     box : List ℕ
     box = box_of kind (is_marked (marks_of leaf.value) (y + 1))

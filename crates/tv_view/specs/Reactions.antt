@@ -113,7 +113,7 @@ key_answer kind leaf Passed = Pass
 key_answer kind leaf key = if may_change kind key then Changed leaf.node.id else Done
 
 abbrev pub cluster_keyed : ClusterKind → Leaf → List MarkedText → Key → Phase → Reaction
-cluster_keyed kind leaf items k phases.Focused = key_answer kind leaf (cluster_key items (length items) (selected_of leaf.private) k)
+cluster_keyed kind leaf items k phases.Focused = key_answer kind leaf (cluster_key items (length items) (selected_of kind leaf) k)
 cluster_keyed kind leaf items k p = item_call leaf (called_item items (called p k))
 
 -- the item under an up, where it is the one that was under the down

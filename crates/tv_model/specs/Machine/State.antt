@@ -19,7 +19,7 @@ pub data Private : Type 0 where
   Plain : Private
   -- an input: the place of its cursor, and whether its whole text is selected
   Editing : (cursor : ℕ) (is_whole : Bool) → Private
-  -- a cluster: its selected item, from 1
+  -- check boxes: their selected item, from 1; of radio buttons it is the marked one, their value
   Selecting : (item : ℕ) → Private
   -- a list: the item of its top row, from 1
   Scrolled : (top : ℕ) → Private
@@ -97,7 +97,6 @@ item_of (values.Item item) = item
 abbrev pub opened_private : Kind → Value → Private
 opened_private (kinds.Input input) value = Editing 0 false
 opened_private (kinds.CheckBoxes boxes) value = Selecting 1
-opened_private (kinds.RadioButtons radios) value = Selecting (item_of value)
 opened_private (kinds.List list) value = Scrolled (max 1 (item_of value + 1 - natural list.h))
 opened_private _ value = Plain
 
