@@ -1,3 +1,4 @@
 pub mod FoundLemmas
 pub mod OrderLemmas
+pub mod RisingLemmas
 pub mod Sound

@@ -27,7 +27,7 @@ pairs_head R x xs all k d less = all 0 (suc k) d (omega arith) (omega arith)
 pairs_tail : {A : Type 0} (R : A → A → Type 0) (x : A) (xs : List A) → AllPairs R (x ∷ xs) → AllPairs R xs
 pairs_tail R x xs all i j d less within = all (suc i) (suc j) d (omega arith) (omega arith)
 
-pairs_nil : {A : Type 0} (R : A → A → Type 0) → AllPairs R []
+pub pairs_nil : {A : Type 0} (R : A → A → Type 0) → AllPairs R []
 pairs_nil R i j d less within = absurd (omega arith)
 
 pairs_append : {A : Type 0} (R : A → A → Type 0) (xs ys : List A) → AllPairs R xs → AllPairs R ys → All (λ x. All (R x) ys) xs → AllPairs R (xs ++ ys)

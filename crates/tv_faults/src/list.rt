@@ -3,7 +3,8 @@
 ghost use Rattle.std.specs.Prelude.{◌≡◌, [], ◌++◌, map, flat_map, IfOk, OnOk};
 ghost use Rattle.tv_model.specs.Faults.Lines.{after_seen, lines_where};
 ghost use Rattle.tv_model.specs.Faults.{dialog_lines, fault_at, faults_at, faults_of, head_lines, item_has, menu_lines, rule_lines, status_lines, view_lines, window_lines};
-ghost use Rattle.tv_faults.specs.Order.{AreInOrder, AreLinesRising};
+ghost use Rattle.tv_declarations.specs.Spelling.{IsDescription};
+ghost use Rattle.tv_faults.specs.Order.{AreInOrder};
 ghost use Rattle.tv_faults.specs.Usable.{IsUsable};
 
 use crate::judged::{
@@ -211,7 +212,7 @@ fn add_kind(
 #[tactic(auto, unfolding(tv_model::specs::Faults::faults_of))]
 pub fn faults(alloc: Global, desc: &Desc) -> Result<Sequence<Fault>, AllocError>
     ensures value { IfOk result (λ list. list ≡ faults_of desc.now) }
-    ensures order { AreLinesRising desc.now → IfOk result AreInOrder }
+    ensures order { IsDescription desc.now → IfOk result AreInOrder }
     ensures sound { IfOk result (λ list. list ≡ [] → IsUsable desc.now) }
 {
     let mut found = Sequence::new(alloc);

@@ -3,6 +3,7 @@ use Rattle.tv_model.specs.Faults.{all_kinds, faults_at, faults_of}
 use Rattle.tv_faults.proofs.FoundLemmas.{more_found}
 use Rattle.tv_faults.specs.Order.{AreInOrder}
 use Rattle.tv_faults.proofs.OrderLemmas.{in_order}
+use Rattle.tv_faults.proofs.RisingLemmas.{rising_lines}
 use Rattle.tv_faults.proofs.Sound.{sound_says}
 use Rattle.tv_faults.proofs.list.faults.Goals as goal
 
@@ -14,4 +15,6 @@ pub returns-clause-sound : goal.returns-clause-sound
 returns-clause-sound c = let list : c.loop-kind.found ≡ faults_of c.args.desc.now = search rules in λ none. sound_says c.args.desc.now (sym list ∙ none)
 
 pub returns-clause-order : goal.returns-clause-order
-returns-clause-order c rising = let list : c.loop-kind.found ≡ faults_of c.args.desc.now = search rules in subst AreInOrder (sym list) (in_order c.args.desc.now rising)
+returns-clause-order c spelled =
+    let list : c.loop-kind.found ≡ faults_of c.args.desc.now = search rules in
+    subst AreInOrder (sym list) (in_order c.args.desc.now (rising_lines c.args.desc.now spelled))
