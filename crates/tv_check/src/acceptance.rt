@@ -1,6 +1,7 @@
 //! Descriptions that were checked, with their certificates.
 
 ghost use Rattle.std.specs.Prelude.{◌≡◌, IfOk, IfErr};
+ghost use Rattle.tv_lang.specs.CanonicalDescription.{CanBeSpelled};
 ghost use Rattle.tv_model.specs.Faults.{IsSound};
 ghost use Rattle.tv_check.specs.Certificates.{IsSoundCertificate};
 ghost use Rattle.tv_check.specs.Refusals.{Accepts, Refuses};
@@ -41,13 +42,14 @@ impl From<AllocError> for Refusal {
     }
 }
 
-/// A sound description. It can be had from `accept` alone.
+/// A sound description that a text can spell. It can be had from `accept` alone.
 #[derive(Debug, Drop)]
 pub struct Checked {
     desc: Desc,
 }
 
 impl Model for Checked {
+    ghost use Rattle.tv_lang.specs.CanonicalDescription.{CanBeSpelled};
     ghost use Rattle.tv_model.specs.declared.desc.Desc.{Desc};
     ghost use Rattle.tv_model.specs.Faults.{IsSound};
 
@@ -55,13 +57,14 @@ impl Model for Checked {
 
     ghost view = { λ c. c.desc };
 
-    ghost invariant = { λ c. IsSound c.desc };
+    ghost invariant = { λ c. CanBeSpelled c.desc × IsSound c.desc };
 }
 
 impl Checked {
     /// The description that was accepted.
     pub fn desc(&self) -> &Desc
         ensures value { result.now ≡ self.now }
+        ensures spelled { CanBeSpelled result.now }
         ensures sound { IsSound result.now }
     {
         &self.desc
@@ -96,11 +99,14 @@ fn look(alloc: Global, desc: &Desc, certificate: &Certificate) -> Result<(), Ref
 
 /// Says yes exactly where the description is sound and the certificate is sound for it. Else the description comes back
 /// unchanged, with the first reason.
+///
+/// The description is one that a text can spell, as `parse` gives it.
 pub fn accept(
     alloc: Global,
     desc: Desc,
     certificate: &Certificate,
 ) -> Result<Checked, (Refusal, Desc)>
+    requires { CanBeSpelled desc }
     ensures yes { IfOk result (λ checked. (checked ≡ desc) × IsSound desc × IsSoundCertificate desc certificate.now) }
     ensures no { IfErr result (λ refused. Refuses desc certificate.now refused.0 × (refused.1 ≡ desc)) }
     ensures only { IsSound desc → IsSoundCertificate desc certificate.now → Accepts result }

@@ -132,11 +132,12 @@ fn first_of(found: &[Fault]) -> Option<Fault>
     }
 }
 
-/// The certificate of a sound description: a block for each dialog, in description order.
+/// The certificate of a sound description that a text can spell: a block for each dialog, in description order.
 pub fn certify(alloc: Global, desc: &Desc) -> Result<Certificate, CertifyFault>
+    requires { CanBeSpelled desc.now }
     ensures value { IfOk result (λ certificate. certificate ≡ certificate_of desc.now) }
     ensures sound { IfOk result (λ certificate. IsSound desc.now × IsSoundCertificate desc.now certificate) }
-    ensures spelled { IfOk result (λ certificate. CanBeSpelled desc.now → IsSpelledCertificate certificate) }
+    ensures spelled { IfOk result (λ certificate. IsSpelledCertificate certificate) }
     ensures fault { IfErr result (RefusesToCertify desc.now) }
 {
     match first_fault(alloc, desc)? {

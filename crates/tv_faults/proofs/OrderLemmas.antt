@@ -21,10 +21,10 @@ use Rattle.tv_faults.specs.Order.{AreInOrder, AreLinesRising, IsBefore, lines_of
 
 -- ---- pairs
 
-pairs_head : {A : Type 0} (R : A → A → Type 0) (x : A) (xs : List A) → AllPairs R (x ∷ xs) → All (R x) xs
+pub pairs_head : {A : Type 0} (R : A → A → Type 0) (x : A) (xs : List A) → AllPairs R (x ∷ xs) → All (R x) xs
 pairs_head R x xs all k d less = all 0 (suc k) d (omega arith) (omega arith)
 
-pairs_tail : {A : Type 0} (R : A → A → Type 0) (x : A) (xs : List A) → AllPairs R (x ∷ xs) → AllPairs R xs
+pub pairs_tail : {A : Type 0} (R : A → A → Type 0) (x : A) (xs : List A) → AllPairs R (x ∷ xs) → AllPairs R xs
 pairs_tail R x xs all i j d less within = all (suc i) (suc j) d (omega arith) (omega arith)
 
 pub pairs_nil : {A : Type 0} (R : A → A → Type 0) → AllPairs R []

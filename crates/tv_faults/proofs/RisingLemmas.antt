@@ -1,7 +1,7 @@
 -- The lines of a description that can be spelled rise.
 use Rattle.std.proofs.Common.{◌≡◌, ℕ, zero, suc, ◌+◌, ◌-◌, ◌<◌, ◌≤◌, Option, Some, None, List, [], ◌∷◌, ◌++◌, append_assoc, map, flat_map, replicate, refl, ap, ◌∙◌, arith}
 use Rattle.std.specs.List.{All, AllPairs}
-use Rattle.std.proofs.lemmas.List.Elements.{All-nil, All-cons, All-weaker, All-same}
+use Rattle.std.proofs.lemmas.List.Elements.{All-nil, All-cons, All-head, All-tail, All-weaker}
 use Rattle.std.proofs.lemmas.List.Kept.{AllPairs-cons}
 use Rattle.std.proofs.lemmas.Grind.{flat_map-append}
 use Rattle.tv_model.specs.declared.node.Node.{Node}
@@ -9,12 +9,14 @@ use Rattle.tv_model.specs.declared.desc.Desc.{Desc}
 use Rattle.tv_model.specs.declared.desc.Dialog.{Dialog}
 use Rattle.tv_model.specs.declared.desc.Menu.{Menu}
 use Rattle.tv_model.specs.declared.desc.Window.{Window}
+use Rattle.tv_model.specs.Description.Heads.{dialog_nodes}
+use Rattle.tv_model.proofs.SafeLemmas.{AreRising}
 use Rattle.tv_declarations.specs.declared.declaration.Declaration.{Declaration}
 use Rattle.tv_declarations.specs.declared.declaration.Declaration.TheVariants as declared
 use Rattle.tv_declarations.specs.Spelling.{IsDescription, declarations_of, dialog_declarations, ends_of_panes, menu_declarations, open_after, start_declarations, view_declarations, window_declarations}
 use Rattle.tv_declarations.specs.Spelling.Declarations.{AreDeclarations, IsDeclaration}
 use Rattle.tv_faults.specs.Order.{AreLinesRising, lines_of, lines_of_dialog, lines_of_menu, lines_of_window, start_line}
-use Rattle.tv_faults.proofs.OrderLemmas.{pairs_nil}
+use Rattle.tv_faults.proofs.OrderLemmas.{pairs_head, pairs_nil, pairs_tail}
 
 -- the number that a declaration has of its line, where it has one
 abbrev numbers : Declaration → List ℕ
@@ -133,3 +135,46 @@ pub rising_lines : (d : Desc) → IsDescription d → AreLinesRising d
 rising_lines d is =
     let rise : Rises 2 (2 ∷ (start_line d.start ++ all_numbers (after_start d))) = with_start d.start (after_start d) is.declarations.1.1 in
     rw (numbers_after_start d) at rise.rising
+
+-- ---- the lines of each dialog's views rise
+
+all_left : {A : Type 0} (P : A → Type 0) (xs ys : List A) → All P (xs ++ ys) → All P xs
+all_left P [] ys all = All-nil P
+all_left P (x ∷ xs) ys all = All-cons P x xs (All-head P x (xs ++ ys) all) (all_left P xs ys (All-tail P x (xs ++ ys) all))
+
+all_unmap : {A B : Type 0} (P : B → Type 0) (f : A → B) (xs : List A) → All P (map f xs) → All (λ x. P (f x)) xs
+all_unmap P f [] all = All-nil (λ x. P (f x))
+all_unmap P f (x ∷ xs) all = All-cons (λ x. P (f x)) x xs (All-head P (f x) (map f xs) all) (all_unmap P f xs (All-tail P (f x) (map f xs) all))
+
+pairs_left : {A : Type 0} (R : A → A → Type 0) (xs ys : List A) → AllPairs R (xs ++ ys) → AllPairs R xs
+pairs_left R [] ys all = pairs_nil R
+pairs_left R (x ∷ xs) ys all = AllPairs-cons R x xs (all_left (R x) xs ys (pairs_head R x (xs ++ ys) all)) (pairs_left R xs ys (pairs_tail R x (xs ++ ys) all))
+
+pairs_right : {A : Type 0} (R : A → A → Type 0) (xs ys : List A) → AllPairs R (xs ++ ys) → AllPairs R ys
+pairs_right R [] ys all = all
+pairs_right R (x ∷ xs) ys all = pairs_right R xs ys (pairs_tail R x (xs ++ ys) all)
+
+pairs_unmap : {A B : Type 0} (R : B → B → Type 0) (f : A → B) (xs : List A) → AllPairs R (map f xs) → AllPairs (λ x y. R (f x) (f y)) xs
+pairs_unmap R f [] all = pairs_nil (λ x y. R (f x) (f y))
+pairs_unmap R f (x ∷ xs) all =
+    AllPairs-cons (λ x y. R (f x) (f y)) x xs (all_unmap (R (f x)) f xs (pairs_head R (f x) (map f xs) all)) (pairs_unmap R f xs (pairs_tail R (f x) (map f xs) all))
+
+abbrev IsEarlier : ℕ → ℕ → Type 0
+IsEarlier line later = line < later
+
+rising_views : (dialogs : List Dialog) → AllPairs IsEarlier (flat_map lines_of_dialog dialogs) → All (λ dialog. AreRising dialog.views) dialogs
+rising_views [] rising = All-nil (λ dialog. AreRising dialog.views)
+rising_views (dialog ∷ dialogs) rising =
+    let own : AllPairs IsEarlier (lines_of_dialog dialog) = pairs_left IsEarlier (lines_of_dialog dialog) (flat_map lines_of_dialog dialogs) rising in
+    let nodes : AllPairs IsEarlier (map (λ node. node.id.0) dialog.views) =
+    pairs_tail IsEarlier dialog.node.id.0 _ (pairs_left IsEarlier (map (λ node. node.id.0) (dialog_nodes dialog)) (map (λ rule. rule.id.0) dialog.rules) own) in
+    All-cons (λ dialog. AreRising dialog.views) dialog dialogs (pairs_unmap IsEarlier (λ node. node.id.0) dialog.views nodes)
+    (rising_views dialogs (pairs_right IsEarlier (lines_of_dialog dialog) (flat_map lines_of_dialog dialogs) rising))
+
+pub views_rise : (d : Desc) → IsDescription d → All (λ dialog. AreRising dialog.views) d.dialogs
+views_rise d is =
+    rising_views d.dialogs
+    (pairs_right IsEarlier (flat_map lines_of_window d.windows) _
+    (pairs_right IsEarlier (map (λ item. item.id.0) d.status) _
+    (pairs_right IsEarlier (flat_map lines_of_menu d.menus) _
+    (pairs_right IsEarlier (2 ∷ start_line d.start) _ (rising_lines d is)))))

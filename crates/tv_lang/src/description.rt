@@ -2,6 +2,7 @@
 
 ghost use Rattle.std.specs.Prelude.{◌≡◌, ◌↔◌, ◌+◌, ◌<◌, ◌≤◌, ◌^◌, length, IfOk, IfErr, Err};
 ghost use Rattle.tv_model.specs.declared.desc.Desc.{Desc as SeenDesc};
+ghost use Rattle.tv_lang.specs.CanonicalDescription.{CanBeSpelled};
 ghost use Rattle.tv_lang.specs.Faults.{Refuses, Gives, Spells};
 ghost use Rattle.tv_words.specs.Lines.{lines_of};
 ghost use Rattle.tv_lang.specs.Reading.Descriptions.{line_step, Next, RefusesLine, reading_of, Value, StopsAt};
@@ -43,6 +44,7 @@ const LONGEST: usize = 262_144;
 /// The description that a text of at most 262,144 bytes spells.
 pub fn parse(alloc: Global, text: &[u8]) -> Result<Desc, LangFault>
     ensures spelled { IfOk result (λ desc. Spells text.now desc) }
+    ensures can_be_spelled { IfOk result (λ desc. CanBeSpelled desc) }
     ensures only { (desc : SeenDesc) → Spells text.now desc → length text.now ≤ 262144 → Gives result desc }
     ensures fault { IfErr result (λ fault. Refuses text.now fault) }
     ensures too_long { (result ≡ Err LangFault.TooLong) ↔ (262144 < length text.now) }

@@ -1,4 +1,4 @@
 pub mod HeadLemmas
 pub mod NodeLemmas
 pub mod RecordLemmas
-pub mod Safe
+pub mod SafeLemmas

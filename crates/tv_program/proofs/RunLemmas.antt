@@ -24,20 +24,20 @@ pub faulty-RefusesDesc : {T : Type 0} (text : List ℕ) (d : Desc) → Spells te
 faulty-RefusesDesc text d spelled thin fault is (Ok x) told = absurd told
 faulty-RefusesDesc text d spelled thin fault is (Err other) told = rw told (desc_run-RefusesDesc text d spelled thin fault is)
 
-IsNoScript-RunsTo : (T : Type 0) (text script : List ℕ) (seen : Seen) (d : Desc) → IsSoundText text d → (fault : ThinFault) → IsNoScript script fault → RunsTo {T = T} text script seen seen (Err fault)
-IsNoScript-RunsTo T text script seen d sound NoMemory unspelled = refl
-IsNoScript-RunsTo T text script seen d sound (Script line) unspelled = (d, sound, unspelled, refl)
-IsNoScript-RunsTo T text script seen d sound ScriptTooLong unspelled = (d, sound, unspelled, refl)
-IsNoScript-RunsTo T text script seen d sound (Lang fault) unspelled = absurd unspelled
-IsNoScript-RunsTo T text script seen d sound NotYet unspelled = absurd unspelled
-IsNoScript-RunsTo T text script seen d sound (Faults list) unspelled = absurd unspelled
-IsNoScript-RunsTo T text script seen d sound Write unspelled = absurd unspelled
+IsNoScript-RunsTo : (T : Type 0) (text script : List ℕ) (seen : Seen) (d : Desc) → IsSoundText text d → IsThin d → (fault : ThinFault) → IsNoScript script fault → RunsTo {T = T} text script seen seen (Err fault)
+IsNoScript-RunsTo T text script seen d sound thin NoMemory unspelled = refl
+IsNoScript-RunsTo T text script seen d sound thin (Script line) unspelled = (d, sound, thin, unspelled, refl)
+IsNoScript-RunsTo T text script seen d sound thin ScriptTooLong unspelled = (d, sound, thin, unspelled, refl)
+IsNoScript-RunsTo T text script seen d sound thin (Lang fault) unspelled = absurd unspelled
+IsNoScript-RunsTo T text script seen d sound thin NotYet unspelled = absurd unspelled
+IsNoScript-RunsTo T text script seen d sound thin (Faults list) unspelled = absurd unspelled
+IsNoScript-RunsTo T text script seen d sound thin Write unspelled = absurd unspelled
 
 module _ (text script : List ℕ) where
   -- the script wasn't read
-  pub unread-RunsTo : {T : Type 0} (seen : Seen) (d : Desc) → IsSoundText text d → (fault : ThinFault) → IsNoScript script fault → (r : Result T ThinFault) → IsErrAnd r (λ told. told ≡ fault) → RunsTo text script seen seen r
-  unread-RunsTo {T} seen d sound fault unspelled (Ok x) told = absurd told
-  unread-RunsTo {T} seen d sound fault unspelled (Err other) told = rw told (IsNoScript-RunsTo T text script seen d sound fault unspelled)
+  pub unread-RunsTo : {T : Type 0} (seen : Seen) (d : Desc) → IsSoundText text d → IsThin d → (fault : ThinFault) → IsNoScript script fault → (r : Result T ThinFault) → IsErrAnd r (λ told. told ≡ fault) → RunsTo text script seen seen r
+  unread-RunsTo {T} seen d sound thin fault unspelled (Ok x) told = absurd told
+  unread-RunsTo {T} seen d sound thin fault unspelled (Err other) told = rw told (IsNoScript-RunsTo T text script seen d sound thin fault unspelled)
 
   module _ (old new : Seen) (r : Runs text script) (s : Session) (items : List Item) (begun : s ≡ started r.desc) (read : items ≡ r.items) where
     -- the writer failed

@@ -14,11 +14,12 @@ use Rattle.tv_program.specs.declared.thin_fault.ThinFault.TheVariants.{NoMemory,
 use Rattle.tv_program.specs.Reading.{HasFaults, IsNoDescription, IsSoundText}
 use Rattle.tv_output.specs.Writer.{Seen, Takes, Cuts}
 
--- the texts spell a sound description and a script; every run of the description is safe
+-- the texts spell a thin and sound description and a script; every run of the description is safe
 pub record Runs (text script : List ℕ) : Type 0 where
   pub desc : Desc
   pub items : List Item
   pub described : IsSoundText text desc
+  pub thin : IsThin desc
   pub scripted : SpellsScript script items
   pub safe : IsAlwaysSafe desc
 
@@ -37,7 +38,7 @@ IsNoScript text (Script line) = (length text ≤ 1048576) × RefusesScript text 
 IsNoScript text ScriptTooLong = 1048576 < length text
 IsNoScript text _ = ⊥
 
--- With Ok the whole output of the script was written. A fault of a text comes before anything is written, that of the
+-- With Ok the whole output of the script was written. Only a thin description is run, or its script looked at. A fault of a text comes before anything is written, that of the
 -- description first. A writer that fails has taken a proper prefix of the output.
 abbrev pub RunsTo : {T : Type 0} → List ℕ → List ℕ → Seen → Seen → Result T ThinFault → Type 0
 RunsTo text script old new (Ok _) = (r : Runs text script) × Takes old new (output (started r.desc) r.items)
@@ -45,6 +46,6 @@ RunsTo text script old new (Err NoMemory) = new ≡ old
 RunsTo text script old new (Err (Lang fault)) = RefusesDesc text (Lang fault) × (new ≡ old)
 RunsTo text script old new (Err NotYet) = RefusesDesc text NotYet × (new ≡ old)
 RunsTo text script old new (Err (Faults list)) = RefusesDesc text (Faults list) × (new ≡ old)
-RunsTo text script old new (Err (Script line)) = (d : Desc) × IsSoundText text d × IsNoScript script (Script line) × (new ≡ old)
-RunsTo text script old new (Err ScriptTooLong) = (d : Desc) × IsSoundText text d × IsNoScript script ScriptTooLong × (new ≡ old)
+RunsTo text script old new (Err (Script line)) = (d : Desc) × IsSoundText text d × IsThin d × IsNoScript script (Script line) × (new ≡ old)
+RunsTo text script old new (Err ScriptTooLong) = (d : Desc) × IsSoundText text d × IsThin d × IsNoScript script ScriptTooLong × (new ≡ old)
 RunsTo text script old new (Err Write) = (r : Runs text script) × Cuts old new (output (started r.desc) r.items)

@@ -1,6 +1,7 @@
 //! Descriptions checked, and certificates accepted.
 
 ghost use Rattle.std.specs.Prelude.{◌≡◌, ℕ, List, IfOk, codes, string_bytes};
+ghost use Rattle.tv_lang.specs.CanonicalDescription.{CanBeSpelled};
 ghost use Rattle.tv_lang.specs.Faults.{Spells};
 ghost use Rattle.tv_model.specs.Faults.{IsSound};
 ghost use Rattle.tv_program.specs.CheckRun.{AcceptsTo, ChecksTo, certificate_text};
@@ -29,7 +30,8 @@ pub fn check<W: Writer>(alloc: Global, text: &[u8], out: &mut W) -> Result<(), C
 
 // The text of the certificate of a sound description.
 fn print_certificate(alloc: Global, desc: &Desc) -> Result<String, AllocError>
-    requires { IsSound desc.now }
+    requires spelled { CanBeSpelled desc.now }
+    requires sound { IsSound desc.now }
     ensures { IfOk result (λ text. string_bytes text ≡ certificate_text desc.now) }
 {
     match certify(alloc, desc) {
@@ -63,6 +65,7 @@ pub fn accept_text<W: Writer>(
     certificate: &[u8],
     out: &mut W,
 ) -> Result<(), AcceptFault>
+    requires { CanBeSpelled desc }
     ensures { (text : List ℕ) → Spells text desc → AcceptsTo text certificate.now (W.seen out.old) (W.seen out.new) result }
 {
     let certificate = Certificate::read(alloc, certificate)?;

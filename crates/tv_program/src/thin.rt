@@ -2,6 +2,7 @@
 
 ghost use Rattle.std.specs.Prelude.{◌≡◌, IfOk, IfErr, List, MatchResult, ℕ};
 ghost use Rattle.tv_script.specs.Scripts.{Spells as SpellsScript};
+ghost use Rattle.tv_lang.specs.CanonicalDescription.{CanBeSpelled};
 ghost use Rattle.tv_model.specs.Faults.{IsSound};
 ghost use Rattle.tv_model.specs.Log.Output.{output};
 ghost use Rattle.tv_model.specs.Description.Thin.{IsThin};
@@ -46,6 +47,7 @@ pub fn run_script<W: Writer>(
     script: &[u8],
     out: &mut W,
 ) -> Result<(), ThinFault>
+    requires spelled { CanBeSpelled desc }
     requires thin { IsThin desc }
     requires sound { IsSound desc }
     ensures { (text : List ℕ) → IsSoundText text desc → RunsTo text script.now (W.seen out.old) (W.seen out.new) result }
@@ -77,6 +79,7 @@ fn play<W: Writer>(
 /// The errors are those of the text, then `NotYet` for another description, then its faults.
 pub fn read_sound(alloc: Global, text: &[u8]) -> Result<Desc, ThinFault>
     ensures sound { IfOk result (λ desc. IsSoundText text.now desc) }
+    ensures spelled { IfOk result (λ desc. CanBeSpelled desc) }
     ensures thin { IfOk result (λ desc. IsThin desc) }
     ensures fault { IfErr result (λ fault. RefusesDesc text.now fault) }
 {

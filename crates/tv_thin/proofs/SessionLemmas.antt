@@ -1,20 +1,24 @@
 -- A session over a thin and sound description.
-use Rattle.std.proofs.Common.{◌≡◌, ℕ, zero, suc, ◌+◌, Bool, true, false, cond, ◌||◌, List, [], ◌∷◌, find, slice_get, Option, Some, None, option_map, is_some, refl, sym, ap, ◌∙◌, arith, All, IsSome, subst}
+use Rattle.std.proofs.Common.{◌≡◌, ℕ, zero, suc, Bool, true, false, cond, ◌||◌, List, [], ◌∷◌, find, slice_get, Option, Some, None, option_map, is_some, refl, sym, ap, ◌∙◌, arith, All, IsSome, subst}
 use Rattle.std.specs.List.{list_any}
+use Rattle.std.proofs.lemmas.List.Elements.{All-head, All-same}
 use Rattle.tv_event.specs.declared.event.Event.{Event}
 use Rattle.tv_model.specs.declared.node.Id.{Id}
 use Rattle.tv_model.specs.declared.node.Node.{Node}
 use Rattle.tv_model.specs.declared.desc.Desc.{Desc}
 use Rattle.tv_model.specs.declared.desc.Dialog.{Dialog}
 use Rattle.tv_model.specs.Description.Nodes.{is_control}
+use Rattle.tv_model.specs.declared.log.LogLine.{LogLine}
 use Rattle.tv_model.specs.Machine.State.{State}
 use Rattle.tv_model.specs.Machine.Step.{emptied, at_dialog, step, is_free, closed, open_dialog, start_from, start}
 use Rattle.tv_model.specs.Description.Heads.{dialog_head, is_named}
 use Rattle.tv_model.specs.Faults.{IsSound}
 use Rattle.tv_model.specs.Description.Thin.{IsThin, IsThinDialog}
 use Rattle.tv_model.specs.Machine.Safe.{IsSafe, IsAlwaysSafe}
-use Rattle.tv_model.proofs.Safe.{start_safe, step_safe, states_safe}
+use Rattle.tv_model.proofs.SafeLemmas.{AreRising, emptied_safe, start_safe, step_safe, states_safe}
 use Rattle.tv_faults.specs.Usable.{IsLimited, IsUsableDialog}
+use Rattle.tv_declarations.specs.Spelling.{IsDescription}
+use Rattle.tv_faults.proofs.RisingLemmas.{views_rise}
 use Rattle.tv_faults.proofs.Sound.{sound_says, only_dialog, only_start}
 use Rattle.tv_thin.specs.declared.run.Run.{Run}
 use Rattle.tv_thin.specs.Run.{opened, state_of, stepped, IsReady, IsScreenSize}
@@ -40,6 +44,10 @@ module _ (d : Desc) (dialog : Dialog) (only : d.dialogs ≡ dialog ∷ []) where
 
   state_is : (r : Run) → state_in d r ≡ state_of dialog r
   state_is r = ap (λ ds. state_over d ds r) only
+
+  -- a run whose lines were taken is as safe as before
+  pub forgotten_safe : (r : Run) (lines : List LogLine) → lines ≡ [] → IsSafe d (state_in d r) → IsSafe d (state_in d (record r { log = lines }))
+  forgotten_safe r lines none safe = rw none (subst (IsSafe d) (ap emptied (state_is r) ∙ sym (state_is (record r { log = [] }))) (emptied_safe d (state_in d r) safe.focus))
 
   pub step_is : (r : Run) (e : Event) → step d (state_in d r) e ≡ stepped dialog (state_of dialog r) r.focus e
   step_is r e = ap (λ s. step d s e) (state_is r) ∙ at_is (state_of dialog r) e r.focus
@@ -70,12 +78,6 @@ module _ (d : Desc) (dialog : Dialog) (only : d.dialogs ≡ dialog ∷ []) where
         at zero f = let same : dialog ≡ found = cc in rw (← same) usable.cancel
         at (suc n) f = absurd cc
 
-    begun : IsSafe d (start d)
-    begun = start_safe d dialog (dialog.node.id.0 + 1) only is_thin.lines (some_free dialog.views usable.control)
-
-    pub always_safe : IsAlwaysSafe d
-    always_safe events = states_safe d cancels (start d) begun events
-
     pub still_safe : (old new : Run) (e : Event) → IsSafe d (state_in d old) → state_of dialog new ≡ stepped dialog (state_of dialog old) old.focus e → IsSafe d (state_in d new)
     still_safe old new e safe same = subst (IsSafe d) (sym (stepped_is old new e same)) (step_safe d cancels (state_in d old) e safe.focus)
 
@@ -94,8 +96,15 @@ module _ (d : Desc) (dialog : Dialog) (only : d.dialogs ≡ dialog ∷ []) where
     pub started_is : (r : Run) → (is_some d.start ≡ true → state_of dialog r ≡ open_dialog dialog 0 (state_of dialog fresh)) → (is_some d.start ≡ false → r ≡ fresh) → state_in d r ≡ start d
     started_is r opens shuts = state_is r ∙ started_from d.start refl r opens shuts
 
-    pub safe_start : (r : Run) → state_in d r ≡ start d → IsSafe d (state_in d r)
-    safe_start r same = subst (IsSafe d) (sym same) begun
+    module _ (spelled : IsDescription d) where
+      begun : IsSafe d (start d)
+      begun = start_safe d dialog only (All-head (λ dialog. AreRising dialog.views) dialog [] (All-same (λ dialog. AreRising dialog.views) (dialog ∷ []) d.dialogs (sym only) (views_rise d spelled))) (some_free dialog.views usable.control)
+
+      pub always_safe : IsAlwaysSafe d
+      always_safe events = states_safe d cancels (start d) begun events
+
+      pub safe_start : (r : Run) → state_in d r ≡ start d → IsSafe d (state_in d r)
+      safe_start r same = subst (IsSafe d) (sym same) begun
 
 pub screen_size : (d : Desc) → IsSound d → IsScreenSize d
 screen_size d sound = let usable = sound_says d sound in record { width = usable.width; height = usable.height }

@@ -1,6 +1,7 @@
 //! A session over a description of one dialog with static texts and buttons.
 
 ghost use Rattle.std.specs.Prelude.{◌≡◌, ◌∷◌, [], IfOk, IfSome, Some, None, true, is_some, option_map};
+ghost use Rattle.tv_declarations.specs.Spelling.{IsDescription};
 ghost use Rattle.tv_model.specs.Faults.{IsSound};
 ghost use Rattle.tv_model.specs.Machine.Safe.{IsAlwaysSafe, IsFocusFree};
 ghost use Rattle.tv_model.specs.Machine.Session.{started};
@@ -62,6 +63,7 @@ impl ThinSession {
     ///
     /// Whatever happens then, the focus of the open dialog is a free control, and each end is by a declared command.
     pub fn new(alloc: Global, desc: Desc) -> Result<ThinSession, AllocError>
+        requires spelled { IsDescription desc }
         requires thin { IsThin desc }
         requires sound { IsSound desc }
         ensures start { IfOk result (λ made. made.session ≡ started desc) }

@@ -1,7 +1,7 @@
 //! Which descriptions can be run: one dialog of static texts and buttons.
 
-ghost use Rattle.std.specs.Prelude.{◌≡◌, ◌↔◌, IsTrue, ◌≤◌, ◌^◌, All, []};
-ghost use Rattle.tv_model.specs.Description.Thin.{AreOnLines, IsThin, IsThinDialog, IsThinHead, IsThinKind, IsThinView};
+ghost use Rattle.std.specs.Prelude.{◌≡◌, ◌↔◌, IsTrue, All, []};
+ghost use Rattle.tv_model.specs.Description.Thin.{IsThin, IsThinDialog, IsThinHead, IsThinKind, IsThinView};
 
 use tv_model::{Desc, Dialog, Kind, Node};
 
@@ -27,21 +27,6 @@ fn are_thin_views(views: &[Node]) -> bool
     views.iter().all(is_thin_view)
 }
 
-// Whether the views stand on consecutive lines, from the first on.
-fn are_on_lines(first: u64, views: &[Node]) -> bool
-    requires { first ≤ 2 ^ 32 }
-    ensures { IsTrue result ↔ AreOnLines first views.now }
-{
-    let mut line = first;
-    for view in views {
-        if u64::from(view.id.0) != line {
-            return false;
-        }
-        line += 1;
-    }
-    true
-}
-
 // Whether no command opens the dialog.
 fn is_thin_head(dialog: &Dialog) -> bool
     ensures { IsTrue result ↔ IsThinHead dialog.now.node.kind }
@@ -52,11 +37,8 @@ fn is_thin_head(dialog: &Dialog) -> bool
 fn is_thin_dialog(dialog: &Dialog) -> bool
     ensures { IsTrue result ↔ IsThinDialog dialog.now }
 {
-    let views = dialog.views.as_slice();
-    dialog.node.depth == 0
-        && is_thin_head(dialog)
-        && are_thin_views(views)
-        && are_on_lines(u64::from(dialog.node.id.0) + 1, views)
+    is_thin_head(dialog)
+        && are_thin_views(dialog.views.as_slice())
         && dialog.rules.as_slice().is_empty()
 }
 

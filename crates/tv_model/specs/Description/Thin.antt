@@ -1,5 +1,5 @@
 -- Descriptions of one dialog with static texts and buttons.
-use Rattle.std.specs.Prelude.{[], ◌≡◌, ℕ, List, ◌+◌, false, ◌∷◌, None, All}
+use Rattle.std.specs.Prelude.{[], ◌≡◌, false, ◌∷◌, None, All}
 use Rattle.tv_model.specs.declared.node.Node.{Node}
 use Rattle.tv_model.specs.declared.kind.Kind.{Kind}
 use Rattle.tv_model.specs.declared.kind.Kind.TheVariants as kinds
@@ -22,17 +22,10 @@ abbrev pub IsThinHead : Kind → Type 0
 IsThinHead (kinds.Dialog head) = head.opens ≡ None
 IsThinHead _ = ⊥
 
--- the views stand on consecutive lines, from this one on
-abbrev pub AreOnLines : ℕ → List Node → Type 0
-AreOnLines line [] = Unit {0}
-AreOnLines line (view ∷ views) = (view.id.0 ≡ line) × AreOnLines (line + 1) views
-
--- such a dialog, with such views on the lines after its own and without rules
+-- such a dialog, with such views and without rules
 pub record IsThinDialog (d : Dialog) : Type 0 where
-  pub depth : d.node.depth ≡ 0
   pub head : IsThinHead d.node.kind
   pub views : All IsThinView d.views
-  pub lines : AreOnLines (d.node.id.0 + 1) d.views
   pub rules : d.rules ≡ []
 
 -- nothing but a screen, perhaps a start, and one such dialog

@@ -12,9 +12,9 @@ use Rattle.tv_model.specs.Description.Heads.{dialog_head}
 use Rattle.tv_model.specs.Machine.Step.{is_free_at, start, step}
 use Rattle.tv_model.specs.Log.Output.{states}
 
--- while a dialog is open its focus is a free control of it
+-- while a dialog is open it is one of the description, and its focus is a free control of it
 abbrev pub IsFocusFree : Desc → State → Type 0
-IsFocusFree d s = (o : OpenDialog) (dialog : Dialog) → s.dialog ≡ Some o → slice_get d.dialogs o.place ≡ Some dialog → is_free_at dialog.views o.focus ≡ true
+IsFocusFree d s = (o : OpenDialog) → s.dialog ≡ Some o → (dialog : Dialog) × (slice_get d.dialogs o.place ≡ Some dialog) × (is_free_at dialog.views o.focus ≡ true)
 
 -- a dialog of this id declares the command as an end of it
 pub record Declares (d : Desc) (i : Id) (number : ℕ) : Type 0 where

@@ -12,4 +12,4 @@ returns-in_ok-certificate_of-in-None-clause-sound c =
 pub returns-in_ok-certificate_of-in-None-clause-spelled : goal.returns-in_ok-certificate_of-in-None-clause-spelled
 returns-in_ok-certificate_of-in-None-clause-spelled c =
     let sound = rw c.in-None.is at c.in_ok-fault.ensures in
-    λ can. subst IsSpelledCertificate (sym c.in_ok-certificate_of-in-None.ensures) (spelled_made c.args.desc.now sound can)
+    subst IsSpelledCertificate (sym c.in_ok-certificate_of-in-None.ensures) (spelled_made c.args.desc.now sound c.requires)

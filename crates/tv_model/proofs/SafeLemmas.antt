@@ -1,6 +1,6 @@
 -- A run is safe: the flat machine keeps a free focus, and ends dialogs by declared commands alone.
-use Rattle.std.proofs.Common.{◌≡◌, ℕ, zero, suc, ◌+◌, ◌≤◌, ◌==◌, nat_le, Bool, true, false, cond, ◌&&◌, ◌||◌, List, [], ◌∷◌, map, find, Option, Some, None, option_map, unwrap_or, position, slice_get, All, refl, sym, ap, ◌∙◌, arith, IsSome}
-use Rattle.std.proofs.lemmas.List.Elements.{All-append, All-cons, All-map}
+use Rattle.std.proofs.Common.{◌≡◌, ℕ, zero, suc, ◌<◌, ◌==◌, nat_le, Bool, true, false, cond, ◌&&◌, ◌||◌, List, [], ◌∷◌, map, find, Option, Some, None, option_map, unwrap_or, position, slice_get, All, AllPairs, refl, sym, subst, ap, ◌∙◌, arith, IsSome}
+use Rattle.std.proofs.lemmas.List.Elements.{All-append, All-cons, All-head, All-map, All-tail}
 use Rattle.tv_event.specs.declared.event.Event.{Event}
 use Rattle.tv_event.specs.declared.event.Event.TheVariants as events
 use Rattle.tv_event.specs.declared.event.Key.{Key}
@@ -19,7 +19,6 @@ use Rattle.tv_model.specs.Machine.State.{State, OpenDialog, fields_of}
 use Rattle.tv_model.specs.Machine.Step.{is_free, is_free_at, first_free, next_free, previous_free, emptied, logged, with_dialog, request, field_line, ended, command, press_node, enter_target, key, key_event, in_dialog, at_dialog, step, open_dialog, closed, open_found, open_at, start_from, start}
 use Rattle.tv_model.specs.Description.Commands.{command_number, is_declared, is_end}
 use Rattle.tv_model.specs.Description.Heads.{dialog_head, is_named}
-use Rattle.tv_model.specs.Description.Thin.{AreOnLines}
 use Rattle.tv_model.specs.Machine.Safe.{IsFocusFree, HasDeclaredEnd, IsSafe}
 use Rattle.tv_model.specs.Log.Output.{states}
 
@@ -37,7 +36,7 @@ module _ (d : Desc) (dialog : Dialog) (place : ℕ) (there : slice_get d.dialogs
   Keeps s = IsSafe d s
 
   unfocused : (s : State) → s.dialog ≡ None → IsFocusFree d s
-  unfocused s none o other e f = absurd (cc (sym none ∙ e))
+  unfocused s none o e = absurd (cc (sym none ∙ e))
 
   add_line : (s : State) (line : LogLine) → HasDeclaredEnd d line → IsSafe d s → IsSafe d (logged s line)
   add_line s line fine safe = record { focus = safe.focus; ends = All-append (HasDeclaredEnd d) s.log (line ∷ []) safe.ends (All-cons (HasDeclaredEnd d) line [] fine (no_lines d)) }
@@ -84,12 +83,11 @@ module _ (d : Desc) (dialog : Dialog) (place : ℕ) (there : slice_get d.dialogs
   -- the focus moves to a free control alone
   moved_safe : (s : State) (o : OpenDialog) (to : Id) → o.place ≡ place → is_free_at dialog.views to ≡ true → IsSafe d s → IsSafe d (logged (with_dialog s (record o { focus = to })) (lines.Focus to))
   moved_safe s o to same free safe = record {
-    focus = λ now other e f.
+    focus = λ now e.
         let is : record o { focus = to } ≡ now = cc in
         let at : now.place ≡ place = sym (ap (λ (x : OpenDialog). x.place) is) ∙ same in
-        let both : other ≡ dialog = cc (sym f ∙ ap (slice_get d.dialogs) at ∙ there) in
         let moved : to ≡ now.focus = ap (λ (x : OpenDialog). x.focus) is in
-        rw (both, ← moved) free;
+        (dialog, ap (slice_get d.dialogs) at ∙ there, rw (← moved) free);
     ends = All-append (HasDeclaredEnd d) s.log (lines.Focus to ∷ []) safe.ends (All-cons (HasDeclaredEnd d) (lines.Focus to) [] tt (no_lines d));
   }
 
@@ -110,7 +108,7 @@ module _ (d : Desc) (dialog : Dialog) (place : ℕ) (there : slice_get d.dialogs
   event_safe s o (events.Key k) same safe = key_safe s o k same safe
   event_safe s o _ same safe = safe
 
-emptied_safe : (d : Desc) (s : State) → IsFocusFree d s → IsSafe d (emptied s)
+pub emptied_safe : (d : Desc) (s : State) → IsFocusFree d s → IsSafe d (emptied s)
 emptied_safe d s focus = record { focus = focus; ends = no_lines d }
 
 -- every dialog of the description declares `cancel`
@@ -139,30 +137,41 @@ states_safe d cancels s safe (e ∷ es) = states_safe d cancels (step d s e) (st
 
 -- ---- the start
 
--- views on later lines have later lines as ids
-later_at : (v : Node) (line : ℕ) (rest : Option Node) (x : Node) (b : Bool) → v.id.0 ≡ line → (rest ≡ Some x → line + 1 ≤ x.id.0) → cond b (Some v) rest ≡ Some x → line ≤ x.id.0
-later_at v line rest x true on more f = let same : v ≡ x = cc in let at : v.id.0 ≡ x.id.0 = ap (λ (n : Node). n.id.0) same in omega (arith, on)
-later_at v line rest x false on more f = let next = more f in omega (arith, next)
+-- what holds of each view holds of one that is found among them
+found_at : (P : Node → Type 0) (v : Node) (rest : Option Node) (x : Node) (b : Bool) → P v → (rest ≡ Some x → P x) → cond b (Some v) rest ≡ Some x → P x
+found_at P v rest x true here more e = let same : v ≡ x = cc in subst P same here
+found_at P v rest x false here more e = more e
 
-later : (line : ℕ) (views : List Node) (p : Node → Bool) (x : Node) → AreOnLines line views → find p views ≡ Some x → line ≤ x.id.0
-later line [] p x on e = absurd cc
-later line (v ∷ views) p x on e = later_at v line (find p views) x (p v) on.0 (later (line + 1) views p x on.1) e
+found_has : (P : Node → Type 0) (views : List Node) (p : Node → Bool) (x : Node) → All P views → find p views ≡ Some x → P x
+found_has P [] p x all e = absurd cc
+found_has P (v ∷ views) p x all e = found_at P v (find p views) x (p v) (All-head P v views all) (found_has P views p x (All-tail P v views all)) e
 
--- what is found among views on lines is found again by its id
+-- each view has a later line than those before it
+abbrev pub AreRising : List Node → Type 0
+AreRising views = AllPairs (λ node later. node.id.0 < later.id.0) views
+
+above_first : (v : Node) (views : List Node) → AreRising (v ∷ views) → All (λ later. v.id.0 < later.id.0) views
+above_first v views rising k later less = rising 0 (suc k) later (omega arith) (omega arith)
+
+rising_tail : (v : Node) (views : List Node) → AreRising (v ∷ views) → AreRising views
+rising_tail v views rising i j node less within = rising (suc i) (suc j) node (omega arith) (omega arith)
+
+-- what is found among views on rising lines is found again by its id
 own_id : (n : Node) (rest : Option Node) → cond (n.id.0 == n.id.0) (Some n) rest ≡ Some n
 own_id n rest = grind arith
 
-other_id : (v x : Node) (line : ℕ) (rest : Option Node) (b : Bool) → v.id.0 == x.id.0 ≡ b → v.id.0 ≡ line → line + 1 ≤ x.id.0 → rest ≡ Some x → cond b (Some v) rest ≡ Some x
-other_id v x line rest true f on less same = absurd (let e : v.id.0 ≡ x.id.0 = grind arith in omega (arith, on, e))
-other_id v x line rest false f on less same = same
+other_id : (v x : Node) (rest : Option Node) (b : Bool) → v.id.0 == x.id.0 ≡ b → v.id.0 < x.id.0 → rest ≡ Some x → cond b (Some v) rest ≡ Some x
+other_id v x rest true f less same = absurd (let e : v.id.0 ≡ x.id.0 = grind arith in omega (arith, e, less))
+other_id v x rest false f less same = same
 
-again_at : (v : Node) (views : List Node) (line : ℕ) (p : Node → Bool) (x : Node) (b : Bool) → AreOnLines line (v ∷ views) → (find p views ≡ Some x → node_of views x.id ≡ Some x) → cond b (Some v) (find p views) ≡ Some x → node_of (v ∷ views) x.id ≡ Some x
-again_at v views line p x true on more f = let same : v ≡ x = cc in rw same (own_id x (node_of views x.id))
-again_at v views line p x false on more f = other_id v x line (node_of views x.id) (v.id.0 == x.id.0) refl on.0 (later (line + 1) views p x on.1 f) (more f)
+again_at : (v : Node) (views : List Node) (p : Node → Bool) (x : Node) (b : Bool) → AreRising (v ∷ views) → (find p views ≡ Some x → node_of views x.id ≡ Some x) → cond b (Some v) (find p views) ≡ Some x → node_of (v ∷ views) x.id ≡ Some x
+again_at v views p x true rising more f = let same : v ≡ x = cc in rw same (own_id x (node_of views x.id))
+again_at v views p x false rising more f =
+    other_id v x (node_of views x.id) (v.id.0 == x.id.0) refl (found_has (λ later. v.id.0 < later.id.0) views p x (above_first v views rising) f) (more f)
 
-found_again : (line : ℕ) (views : List Node) (p : Node → Bool) (x : Node) → AreOnLines line views → find p views ≡ Some x → node_of views x.id ≡ Some x
-found_again line [] p x on e = absurd cc
-found_again line (v ∷ views) p x on e = again_at v views line p x (p v) on (found_again (line + 1) views p x on.1) e
+found_again : (views : List Node) (p : Node → Bool) (x : Node) → AreRising views → find p views ≡ Some x → node_of views x.id ≡ Some x
+found_again [] p x rising e = absurd cc
+found_again (v ∷ views) p x rising e = again_at v views p x (p v) rising (found_again views p x (rising_tail v views rising)) e
 
 passes_at : (v : Node) (rest : Option Node) (p : Node → Bool) (x : Node) (b : Bool) → p v ≡ b → (rest ≡ Some x → p x ≡ true) → cond b (Some v) rest ≡ Some x → p x ≡ true
 passes_at v rest p x true f more g = let same : v ≡ x = cc in rw (← same) f
@@ -173,34 +182,33 @@ passes [] p x e = absurd cc
 passes (v ∷ views) p x e = passes_at v (find p views) p x (p v) refl (passes views p x) e
 
 -- the first free control is free
-first_is_free : (line : ℕ) (views : List Node) (found : Option Node) (d : Id) → AreOnLines line views → find is_free views ≡ found → IsSome found → is_free_at views (unwrap_or (option_map (λ node. node.id) found) d) ≡ true
-first_is_free line views None d on e some = absurd cc
-first_is_free line views (Some x) d on e some = rw (found_again line views is_free x on e) (passes views is_free x e)
+first_is_free : (views : List Node) (found : Option Node) (d : Id) → AreRising views → find is_free views ≡ found → IsSome found → is_free_at views (unwrap_or (option_map (λ node. node.id) found) d) ≡ true
+first_is_free views None d rising e some = absurd cc
+first_is_free views (Some x) d rising e some = rw (found_again views is_free x rising e) (passes views is_free x e)
 
 single : (dialog found : Dialog) (place : ℕ) → slice_get (dialog ∷ []) place ≡ Some found → dialog ≡ found
 single dialog found zero e = cc
 single dialog found (suc place) e = absurd cc
 
 -- a run starts safe where its dialog has a control
-module _ (d : Desc) (dialog : Dialog) (line : ℕ) (only : d.dialogs ≡ dialog ∷ []) (on : AreOnLines line dialog.views) (some : IsSome (find is_free dialog.views)) where
+module _ (d : Desc) (dialog : Dialog) (only : d.dialogs ≡ dialog ∷ []) (rising : AreRising dialog.views) (some : IsSome (find is_free dialog.views)) where
   shut_safe : IsSafe d (closed d)
-  shut_safe = record { focus = λ o other e f. absurd cc; ends = no_lines d }
+  shut_safe = record { focus = λ o e. absurd cc; ends = no_lines d }
 
   is_only : (place : ℕ) (found : Dialog) → slice_get d.dialogs place ≡ Some found → dialog ≡ found
   is_only place found e = single dialog found place (ap (λ ds. slice_get ds place) (sym only) ∙ e)
 
   free_first : is_free_at dialog.views (unwrap_or (first_free dialog.views) dialog.node.id) ≡ true
-  free_first = first_is_free line dialog.views (find is_free dialog.views) dialog.node.id on refl some
+  free_first = first_is_free dialog.views (find is_free dialog.views) dialog.node.id rising refl some
 
   opened_safe : (place : ℕ) (found : Dialog) → slice_get d.dialogs place ≡ Some found → IsSafe d (open_dialog found place (closed d))
   opened_safe place found there =
       let same = is_only place found there in
       record {
-        focus = λ o other e f.
+        focus = λ o e.
             let at : o.place ≡ place = cc (sym (ap (option_map (λ (x : OpenDialog). x.place)) e)) in
-            let is : dialog ≡ other = is_only o.place other f in
             let focus : unwrap_or (first_free found.views) found.node.id ≡ o.focus = cc (ap (option_map (λ (x : OpenDialog). x.focus)) e) in
-            rw (← is, ← focus, ← same) free_first;
+            (found, ap (slice_get d.dialogs) at ∙ there, rw (← focus, ← same) free_first);
         ends = All-cons (HasDeclaredEnd d) (lines.Open found.node.id) (lines.Focus (unwrap_or (first_free found.views) found.node.id) ∷ []) tt
             (All-cons (HasDeclaredEnd d) (lines.Focus (unwrap_or (first_free found.views) found.node.id)) [] tt (no_lines d));
       }
