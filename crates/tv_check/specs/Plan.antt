@@ -1,8 +1,12 @@
 -- In which order the views of a description are made.
-use Rattle.std.specs.Prelude.{ℕ, ◌+◌, ◌-◌, min, List, [], ◌∷◌, ◌++◌, flat_map, replicate, Option, Some, None, if◌then◌else◌}
+use Rattle.std.specs.Prelude.{Bool, ◌||◌, List, ◌++◌, filter_map, flat_map, Option, Some, None, if◌then◌else◌}
 use Rattle.tv_model.specs.declared.node.Node.{Node}
+use Rattle.tv_model.specs.declared.kind.Kind.{Kind}
 use Rattle.tv_model.specs.declared.desc.Desc.{Desc}
-use Rattle.tv_model.specs.Description.Nodes.{is_pane}
+use Rattle.tv_model.specs.Description.Nodes.{is_dialog, is_pane, is_window}
+use Rattle.tv_declarations.specs.declared.declaration.Declaration.{Declaration}
+use Rattle.tv_declarations.specs.declared.declaration.Declaration.TheVariants as declared
+use Rattle.tv_declarations.specs.Spelling.{dialog_declarations, window_declarations}
 use Rattle.tv_check.specs.declared.plan.BuildStep.{BuildStep}
 use Rattle.tv_check.specs.declared.plan.BuildStep.TheVariants as steps
 
@@ -24,20 +28,23 @@ node_in (Opens node) = Some node
 node_in (Makes node) = Some node
 node_in Closes = None
 
--- a pane begins; any other view is a leaf
-abbrev pub view_step : Node → Planned
-view_step view = if is_pane view.kind then Opens view else Makes view
+-- what has views of its own: a window, a dialog or a pane
+abbrev pub is_owner : Kind → Bool
+is_owner kind = is_window kind || (is_dialog kind || is_pane kind)
 
--- views while so many panes are open around them: a view has as many panes around it as its depth says, so those that are more end before it
-abbrev pub views_plan : ℕ → List Node → List Planned
-views_plan around [] = replicate around Closes
-views_plan around (view ∷ views) =
-    replicate (around - view.depth) Closes ++ (view_step view ∷ views_plan (min around view.depth + (if is_pane view.kind then 1 else 0)) views)
+-- an owner begins; anything else is a leaf
+abbrev pub node_step : Node → Planned
+node_step node = if is_owner node.kind then Opens node else Makes node
 
--- a window or dialog with its views
-abbrev pub owner_plan : Node → List Node → List Planned
-owner_plan node views = Opens node ∷ (views_plan 0 views ++ Closes ∷ [])
+-- the step of a declaration of a window or dialog: that of its node, or the end of what was opened last. Nothing is made of a rule
+abbrev pub step_of : Declaration → Option Planned
+step_of (declared.Node node) = Some (node_step node)
+step_of declared.End = Some Closes
+step_of _ = None
 
--- windows first, then dialogs, each in description order
+abbrev pub steps_of : List Declaration → List Planned
+steps_of declarations = filter_map step_of declarations
+
+-- windows first, then dialogs, each in description order, and each from its own line to its `end`
 abbrev pub plan_of : Desc → List Planned
-plan_of d = flat_map (λ window. owner_plan window.node window.views) d.windows ++ flat_map (λ dialog. owner_plan dialog.node dialog.views) d.dialogs
+plan_of d = flat_map (λ window. steps_of (window_declarations window)) d.windows ++ flat_map (λ dialog. steps_of (dialog_declarations dialog)) d.dialogs

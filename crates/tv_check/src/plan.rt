@@ -1,12 +1,13 @@
 //! The order in which the views of a description are made.
 
-ghost use Rattle.std.specs.Prelude.{◌≡◌, ◌∷◌, ◌++◌, [], filter_map, flat_map, map, replicate, IfOk, OnOk};
+ghost use Rattle.std.specs.Prelude.{◌≡◌, ◌++◌, filter_map, map, replicate, IfOk, OnOk};
 ghost use Rattle.tv_model.specs.Description.Heads.{all_nodes};
-ghost use Rattle.tv_check.specs.Plan.{Closes, lent_step, node_in, owner_plan, plan_of, view_step, views_plan};
+ghost use Rattle.tv_declarations.specs.Spelling.{dialog_declarations, view_declarations, window_declarations};
+ghost use Rattle.tv_check.specs.Plan.{Closes, lent_step, node_in, node_step, plan_of, steps_of};
 
 use crate::acceptance::Checked;
 use std::alloc::{AllocError, Global};
-use tv_model::{Desc, Dialog, Node, Window};
+use tv_model::{Desc, Dialog, Kind, Node, Window};
 
 /// A step of making views.
 #[derive(Clone, Copy)]
@@ -19,13 +20,12 @@ pub enum BuildStep<'a> {
     Close,
 }
 
-fn view_step(view: &Node) -> BuildStep
-    ensures { lent_step result ≡ view_step view.now }
+fn step_of(node: &Node) -> BuildStep
+    ensures { lent_step result ≡ node_step node.now }
 {
-    if view.kind.is_pane() {
-        BuildStep::Open(view)
-    } else {
-        BuildStep::Leaf(view)
+    match node.kind {
+        Kind::Window(_) | Kind::Dialog(_) | Kind::Pane(_) => BuildStep::Open(node),
+        _ => BuildStep::Leaf(node),
     }
 }
 
@@ -39,46 +39,42 @@ fn close(plan: &mut Vec<BuildStep>, count: usize) -> Result<(), AllocError>
 }
 
 fn add_views<'a>(plan: &mut Vec<BuildStep<'a>>, views: &'a [Node]) -> Result<(), AllocError>
-    ensures { OnOk result (map lent_step plan.new.items ≡ map lent_step plan.old.items ++ views_plan 0 views.now) }
+    ensures { OnOk result (map lent_step plan.new.items ≡ map lent_step plan.old.items ++ steps_of (view_declarations 0 views.now)) }
 {
-    let mut around = 0usize;
+    let mut panes = 0usize;
     for view in views {
         let depth = usize::from(view.depth);
-        close(plan, around.saturating_sub(depth))?;
-        plan.push(view_step(view))?;
-        around = around.min(depth) + usize::from(view.kind.is_pane());
+        close(plan, panes.saturating_sub(depth))?;
+        plan.push(step_of(view))?;
+        panes = depth + usize::from(view.kind.is_pane());
     }
-    close(plan, around)
+    close(plan, panes)
 }
 
-fn add_owner<'a>(
-    plan: &mut Vec<BuildStep<'a>>,
-    node: &'a Node,
-    views: &'a [Node],
-) -> Result<(), AllocError>
-    ensures { OnOk result (map lent_step plan.new.items ≡ map lent_step plan.old.items ++ owner_plan node.now views.now) }
+fn add_texts<'a>(plan: &mut Vec<BuildStep<'a>>, texts: &'a [Node]) -> Result<(), AllocError>
+    ensures { OnOk result (map lent_step plan.new.items ≡ map lent_step plan.old.items ++ map node_step texts.now) }
 {
-    plan.push(BuildStep::Open(node))?;
-    add_views(plan, views)?;
+    for text in texts {
+        plan.push(step_of(text))?;
+    }
+    Ok(())
+}
+
+fn add_window<'a>(plan: &mut Vec<BuildStep<'a>>, window: &'a Window) -> Result<(), AllocError>
+    ensures { OnOk result (map lent_step plan.new.items ≡ map lent_step plan.old.items ++ steps_of (window_declarations window.now)) }
+{
+    plan.push(step_of(&window.node))?;
+    add_texts(plan, window.views.as_slice())?;
     plan.push(BuildStep::Close)?;
     Ok(())
 }
 
-fn add_windows<'a>(plan: &mut Vec<BuildStep<'a>>, windows: &'a [Window]) -> Result<(), AllocError>
-    ensures { OnOk result (map lent_step plan.new.items ≡ map lent_step plan.old.items ++ flat_map (λ window. owner_plan window.node window.views) windows.now) }
+fn add_dialog<'a>(plan: &mut Vec<BuildStep<'a>>, dialog: &'a Dialog) -> Result<(), AllocError>
+    ensures { OnOk result (map lent_step plan.new.items ≡ map lent_step plan.old.items ++ steps_of (dialog_declarations dialog.now)) }
 {
-    for window in windows {
-        add_owner(plan, &window.node, window.views.as_slice())?;
-    }
-    Ok(())
-}
-
-fn add_dialogs<'a>(plan: &mut Vec<BuildStep<'a>>, dialogs: &'a [Dialog]) -> Result<(), AllocError>
-    ensures { OnOk result (map lent_step plan.new.items ≡ map lent_step plan.old.items ++ flat_map (λ dialog. owner_plan dialog.node dialog.views) dialogs.now) }
-{
-    for dialog in dialogs {
-        add_owner(plan, &dialog.node, dialog.views.as_slice())?;
-    }
+    plan.push(step_of(&dialog.node))?;
+    add_views(plan, dialog.views.as_slice())?;
+    plan.push(BuildStep::Close)?;
     Ok(())
 }
 
@@ -86,8 +82,12 @@ fn plan_of(alloc: Global, desc: &Desc) -> Result<Vec<BuildStep>, AllocError>
     ensures { IfOk result (λ plan. map lent_step plan.items ≡ plan_of desc.now) }
 {
     let mut plan = Vec::new(alloc);
-    add_windows(&mut plan, desc.windows.as_slice())?;
-    add_dialogs(&mut plan, desc.dialogs.as_slice())?;
+    for window in desc.windows.as_slice() {
+        add_window(&mut plan, window)?;
+    }
+    for dialog in desc.dialogs.as_slice() {
+        add_dialog(&mut plan, dialog)?;
+    }
     Ok(plan)
 }
 
