@@ -1,5 +1,5 @@
 -- What a word of a declaration is read as, and that it is its spelling.
-use Rattle.std.proofs.Common.{◌≡◌, ℕ, Bool, true, false, cond, List, Some, None, refl, sym, ap}
+use Rattle.std.proofs.Common.{◌≡◌, ℕ, Bool, true, false, cond, List, Option, Some, None, IfSome, refl, sym, ap}
 use Rattle.std.specs.Prelude.{ℤ}
 use Rattle.std.proofs.lemmas.Slice.Eq.{bytes_eq-Decides}
 use Rattle.tv_words.specs.declared.word.Word.{Word}
@@ -21,6 +21,11 @@ number_word_read (Quoted text) n e = absurd cc
 
 pub read_number_word : (n : ℤ) → IsNumber n → number_in (number_word n) ≡ Some n
 read_number_word n fits = read_number n fits
+
+-- what is read of a word is the number that it says
+pub number_said : (w : Word) (found : Option ℤ) → found ≡ number_in w → IfSome found (λ n. (w ≡ number_word n) × IsNumber n)
+number_said w None e = tt
+number_said w (Some n) e = number_word_read w n (sym e)
 
 -- names
 name_if : (text name : List ℕ) (b : Bool) → is_name text ≡ b → cond b (Some text) None ≡ Some name → (Bare text ≡ Bare name) × IsName name

@@ -1,11 +1,11 @@
 //! A word of a line, and what it says in a declaration.
 
-ghost use Rattle.std.specs.Prelude.{◌≡◌};
+ghost use Rattle.std.specs.Prelude.{◌≡◌, ℤ, IfSome, Some};
 ghost use Rattle.std.specs.List.{list_all};
 ghost use Rattle.std.specs.Option.{option_copied};
 ghost use Rattle.std.specs.Str.{bytes_eq};
 ghost use Rattle.tv_words.specs.Names.{is_name, is_name_char};
-ghost use Rattle.tv_words.specs.Fields.{is_bare_word, name_in, text_in};
+ghost use Rattle.tv_words.specs.Fields.{IsNumber, is_bare_word, name_in, number_word, text_in};
 ghost use Rattle.tv_words.specs.Reading.Numbers.{number_in};
 
 use crate::decimal::number;
@@ -33,7 +33,9 @@ impl Word {
 
     /// The number that a bare word is the decimal text of, where it is one of an `i32`.
     pub fn number(&self) -> Option<i32>
-        ensures { result ≡ number_in self.now }
+        ensures read { result ≡ number_in self.now }
+        ensures word { IfSome result (λ n. (self.now ≡ number_word n) × IsNumber n) }
+        ensures only { (n : ℤ) → IsNumber n → self.now ≡ number_word n → result ≡ Some n }
     {
         match self {
             Word::Bare(text) => number(text.as_slice()),
