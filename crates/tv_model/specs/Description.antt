@@ -14,6 +14,10 @@ pub mod Letters
 pub mod Texts
 -- commands, and the ends of a dialog
 pub mod Commands
+-- how many there may be of a thing, and how small a view may be
+pub mod Limits
+-- nodes with lawful numbers, counts and texts, and with starts that may stand
+pub mod LawfulNodes
 -- rectangles of the desktop and of views
 pub mod Rectangles
 -- panes and what stands in them

@@ -1,12 +1,12 @@
 -- Faults of inputs: F12 and F13.
 use Rattle.std.specs.Prelude.{ℕ, Bool, true, false, not, ◌&&◌, ◌||◌, List}
 use Rattle.tv_valid.specs.declared.input.InputSpec.{InputSpec}
-use Rattle.tv_valid.specs.declared.domain.Domain.{Domain}
-use Rattle.tv_valid.specs.Domain.{HasText, IsDomain, IsViableText}
+use Rattle.tv_valid.specs.Domain.{HasText, IsViableText}
 use Rattle.tv_valid.proofs.DecidedDomains.{dec_asked, dec_viable}
 use Rattle.tv_valid.proofs.DecidedTexts.{dec_has_text}
 use Rattle.tv_model.specs.declared.kind.Kind.{Kind}
 use Rattle.tv_model.specs.declared.kind.Kind.TheVariants as kinds
+pub use Rattle.tv_model.specs.Description.LawfulNodes.{HasAnyText, MayStand}
 use Rattle.tv_model.specs.Faults.Starts.{starts_outside}
 
 -- whether what was decided holds
@@ -14,15 +14,7 @@ abbrev pub is_so : {P : Type 0} → Dec P → Bool
 is_so (yes p) = true
 is_so (no f) = false
 
--- some text lies in the domain that the input asks for. A bad picture asks for none
-abbrev pub HasAnyText : InputSpec → Type 0
-HasAnyText spec = (d : Domain) × IsDomain spec d × HasText d
-
--- the text may stand in the input while it is typed
-abbrev pub MayStand : List ℕ → InputSpec → Type 0
-MayStand text spec = (d : Domain) × IsDomain spec d × IsViableText d text
-
--- both can be decided
+-- whether some text lies in the domain that the input asks for, decided
 abbrev pub any_text : (spec : InputSpec) → Dec (HasAnyText spec)
 any_text spec = dec_asked HasText dec_has_text spec
 

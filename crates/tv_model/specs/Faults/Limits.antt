@@ -19,44 +19,9 @@ use Rattle.tv_model.specs.Description.Nodes.{height_of, is_pane}
 use Rattle.tv_model.specs.Description.Texts.{texts_of}
 use Rattle.tv_model.specs.Description.Numbers.{is_between}
 use Rattle.tv_model.specs.Description.Commands.{command_of}
+pub use Rattle.tv_model.specs.Description.Limits.{least_height, least_width, most_chars, most_dialogs, most_menu_items, most_menus, most_nested, most_rules, most_status_items, most_views, most_windows}
 
--- ---- how many there may be
-
--- menus of the bar
-abbrev pub most_menus : ℕ
-most_menus = 8
-
--- items of a menu
-abbrev pub most_menu_items : ℕ
-most_menu_items = 16
-
--- items of the status line
-abbrev pub most_status_items : ℕ
-most_status_items = 8
-
--- windows of a description
-abbrev pub most_windows : ℕ
-most_windows = 9
-
--- dialogs of a description
-abbrev pub most_dialogs : ℕ
-most_dialogs = 16
-
--- views of a window or dialog
-abbrev pub most_views : ℕ
-most_views = 64
-
--- rules of a dialog
-abbrev pub most_rules : ℕ
-most_rules = 64
-
--- panes in one another
-abbrev pub most_nested : ℕ
-most_nested = 4
-
--- characters of a text
-abbrev pub most_chars : ℕ
-most_chars = 120
+-- ---- how many items there may be
 
 -- items of a cluster or a list; other declarations have none
 abbrev pub is_lawful_count : Kind → Bool
@@ -70,22 +35,6 @@ is_lawful_count _ = true
 -- columns and rows of the screen
 abbrev pub is_lawful_screen : Desc → Bool
 is_lawful_screen d = is_between (pos 20) (pos 132) d.width && is_between (pos 10) (pos 60) d.height
-
--- the least width of a kind
-abbrev pub least_width : Kind → ℤ
-least_width (kinds.Dialog head) = pos 12
-least_width (kinds.Window head) = pos 12
-least_width (kinds.Button button) = pos 4
-least_width (kinds.Input input) = pos 3
-least_width (kinds.CheckBoxes boxes) = pos 5
-least_width (kinds.RadioButtons radios) = pos 5
-least_width _ = pos 1
-
--- the least height of a kind
-abbrev pub least_height : Kind → ℤ
-least_height (kinds.Dialog head) = pos 3
-least_height (kinds.Window head) = pos 3
-least_height _ = pos 1
 
 -- how far a corner may stand off
 abbrev pub is_lawful_corner : Node → Bool

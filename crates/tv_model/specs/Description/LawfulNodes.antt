@@ -1,0 +1,95 @@
+-- Nodes that are lawful by themselves: what a view may be made of.
+use Rattle.std.specs.Prelude.{◌≡◌, ℕ, ◌≤◌, List, length, All, Option, Some, ℤ, pos, neg_ℤ}
+use Rattle.tv_cells.specs.Glyph.{IsNarrow}
+use Rattle.tv_valid.specs.declared.input.InputSpec.{InputSpec}
+use Rattle.tv_valid.specs.declared.domain.Domain.{Domain}
+use Rattle.tv_valid.specs.Domain.{HasText, IsDomain, IsViableText}
+use Rattle.tv_model.specs.declared.node.Node.{Node}
+use Rattle.tv_model.specs.declared.kind.Kind.{Kind}
+use Rattle.tv_model.specs.declared.kind.Kind.TheVariants as kinds
+use Rattle.tv_model.specs.declared.command.CommandSpec.{CommandSpec}
+use Rattle.tv_model.specs.declared.command.CommandSpec.TheVariants as commands
+use Rattle.tv_model.specs.Description.Commands.{command_of}
+use Rattle.tv_model.specs.Description.Limits.{least_height, least_width, most_chars}
+use Rattle.tv_model.specs.Description.Nodes.{height_of}
+use Rattle.tv_model.specs.Description.Numbers.{IsBetween}
+use Rattle.tv_model.specs.Description.Texts.{shown_texts, texts_of}
+
+-- ---- numbers, counts and texts
+
+-- a command of a name, or of a number from 100 to 255
+abbrev pub IsLawfulCommand : Option CommandSpec → Type 0
+IsLawfulCommand (Some (commands.Number n)) = IsBetween (pos 100) (pos 255) n
+IsLawfulCommand _ = Unit {0}
+
+-- so many items as a cluster or a list may have; nothing else has items
+abbrev pub HasLawfulCount : Kind → Type 0
+HasLawfulCount (kinds.CheckBoxes boxes) = (1 ≤ length boxes.items) × (length boxes.items ≤ 16)
+HasLawfulCount (kinds.RadioButtons radios) = (1 ≤ length radios.items) × (length radios.items ≤ 16)
+HasLawfulCount (kinds.List list) = (1 ≤ length list.items) × (length list.items ≤ 100)
+HasLawfulCount _ = Unit {0}
+
+-- a number that a window may have, and so many characters as an input may take
+abbrev pub HasLawfulAmount : Kind → Type 0
+HasLawfulAmount (kinds.Window head) = IsBetween (pos 0) (pos 9) head.number
+HasLawfulAmount (kinds.Input input) = IsBetween (pos 1) (pos 120) input.spec.max
+HasLawfulAmount _ = Unit {0}
+
+-- no more characters than a text may have
+abbrev pub IsShort : List ℕ → Type 0
+IsShort text = length text ≤ most_chars
+
+-- a node whose numbers, counts and texts lie within the limits
+pub record IsLimited (node : Node) : Type 0 where
+  pub x : IsBetween (neg_ℤ (pos 132)) (pos 132) node.x
+  pub y : IsBetween (neg_ℤ (pos 132)) (pos 132) node.y
+  pub w : IsBetween (least_width node.kind) (pos 132) node.w
+  pub h : IsBetween (least_height node.kind) (pos 60) (height_of node.kind)
+  pub count : HasLawfulCount node.kind
+  pub amount : HasLawfulAmount node.kind
+  pub texts : All IsShort (texts_of node.kind)
+  pub command : IsLawfulCommand (command_of node.kind)
+
+-- every character takes one column
+abbrev pub IsNarrowText : List ℕ → Type 0
+IsNarrowText text = All IsNarrow text
+
+-- a node of which all that shows takes one column a character
+abbrev pub IsNarrowNode : Node → Type 0
+IsNarrowNode node = All IsNarrowText (shown_texts node.kind)
+
+-- ---- domains and starts
+
+-- some text lies in the domain that the input asks for. A bad picture asks for none
+abbrev pub HasAnyText : InputSpec → Type 0
+HasAnyText spec = (d : Domain) × IsDomain spec d × HasText d
+
+-- the text may stand in the input while it is typed
+abbrev pub MayStand : List ℕ → InputSpec → Type 0
+MayStand text spec = (d : Domain) × IsDomain spec d × IsViableText d text
+
+-- an input has a domain with a text
+abbrev pub HasLawfulDomain : Kind → Type 0
+HasLawfulDomain (kinds.Input input) = HasAnyText input.spec
+HasLawfulDomain _ = Unit {0}
+
+-- there is an item of the number, counted from 1
+abbrev pub IsItem : ℤ → ℕ → Type 0
+IsItem n count = IsBetween (pos 1) (pos count) n
+
+-- an input starts with a text that may stand in it, a cluster or list with items that it has
+abbrev pub HasLawfulStart : Kind → Type 0
+HasLawfulStart (kinds.Input input) = MayStand input.start input.spec
+HasLawfulStart (kinds.CheckBoxes boxes) = All (λ item. IsItem item (length boxes.items)) boxes.start
+HasLawfulStart (kinds.RadioButtons radios) = IsItem radios.start (length radios.items)
+HasLawfulStart (kinds.List list) = IsItem list.start (length list.items)
+HasLawfulStart _ = Unit {0}
+
+-- ---- the whole
+
+-- a node that a view may be made of
+pub record IsLawfulNode (node : Node) : Type 0 where
+  pub limited : IsLimited node
+  pub narrow : IsNarrowNode node
+  pub domain : HasLawfulDomain node.kind
+  pub start : HasLawfulStart node.kind
