@@ -16,7 +16,7 @@ use Rattle.tv_faults.specs.Usable.{HasLawfulCounts, IsUsableDialog}
 use Rattle.tv_certificate.proofs.SpelledLemmas.{canonical_spelled}
 use Rattle.tv_check.proofs.SoundLemmas.{made_sound}
 use Rattle.tv_check.proofs.SpelledLemmas.{IsReady, certificate_spelled}
-use Rattle.tv_faults.proofs.Sound.{lawful_counts, new_names, sound_says}
+use Rattle.tv_faults.proofs.UsableLemmas.{lawful_counts, new_names, sound_usable}
 use Rattle.tv_check.proofs.DialogLemmas.{IsSpelledDialog, dialogs_spelled}
 
 pub sound_made : (d : Desc) → IsSound d → IsSoundCertificate d (certificate_of d)
@@ -32,5 +32,5 @@ all_ready d (dialog ∷ dialogs) are lawful usable = (
 
 pub spelled_made : (d : Desc) → IsSound d → CanBeSpelled d → IsSpelledCertificate (certificate_of d)
 spelled_made d sound can =
-    let ready = all_ready d d.dialogs (dialogs_spelled d can) (recursion_from_All HasLawfulCounts d.dialogs (lawful_counts d sound)) (recursion_from_All (IsUsableDialog d) d.dialogs (sound_says d sound).dialogs) in
+    let ready = all_ready d d.dialogs (dialogs_spelled d can) (recursion_from_All HasLawfulCounts d.dialogs (lawful_counts d sound)) (recursion_from_All (IsUsableDialog d) d.dialogs (sound_usable d sound).dialogs) in
     (canonical_text (certificate_lines (certificate_of d)), canonical_spelled (certificate_of d) (certificate_spelled d.dialogs ready))

@@ -1,4 +1,13 @@
+pub mod EndLemmas
+pub mod ExcludeLemmas
 pub mod FoundLemmas
+pub mod LackLemmas
+pub mod LetterLemmas
+pub mod LimitLemmas
+pub mod NameLemmas
 pub mod OrderLemmas
+pub mod PairLemmas
 pub mod RisingLemmas
-pub mod Sound
+pub mod RuleLemmas
+pub mod SoundLemmas
+pub mod UsableLemmas

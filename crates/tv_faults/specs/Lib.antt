@@ -1,3 +1,4 @@
 pub mod Compared
 pub mod Order
+pub mod Sound
 pub mod Usable

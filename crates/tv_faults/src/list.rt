@@ -1,11 +1,11 @@
 //! The list of all faults.
 
-ghost use Rattle.std.specs.Prelude.{◌≡◌, [], ◌++◌, map, flat_map, IfOk, OnOk};
+ghost use Rattle.std.specs.Prelude.{◌≡◌, ◌↔◌, [], ◌++◌, map, flat_map, IfOk, OnOk};
 ghost use Rattle.tv_model.specs.Faults.Lines.{after_seen, lines_where};
 ghost use Rattle.tv_model.specs.Faults.{dialog_lines, fault_at, faults_at, faults_of, head_lines, item_has, menu_lines, rule_lines, status_lines, view_lines, window_lines};
 ghost use Rattle.tv_declarations.specs.Spelling.{IsDescription};
 ghost use Rattle.tv_faults.specs.Order.{AreInOrder};
-ghost use Rattle.tv_faults.specs.Usable.{IsUsable};
+ghost use Rattle.tv_faults.specs.Sound.{Sound};
 
 use crate::judged::{
     faulty_dialogs, faulty_items, faulty_menus, faulty_rules, faulty_status_items, faulty_views,
@@ -213,7 +213,7 @@ fn add_kind(
 pub fn faults(alloc: Global, desc: &Desc) -> Result<Sequence<Fault>, AllocError>
     ensures value { IfOk result (λ list. list ≡ faults_of desc.now) }
     ensures order { IsDescription desc.now → IfOk result AreInOrder }
-    ensures sound { IfOk result (λ list. list ≡ [] → IsUsable desc.now) }
+    ensures sound { IfOk result (λ list. (list ≡ []) ↔ Sound desc.now) }
 {
     let mut found = Sequence::new(alloc);
     for kind in &KINDS {

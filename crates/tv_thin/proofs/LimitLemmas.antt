@@ -3,7 +3,8 @@ use Rattle.std.proofs.Common.{◌≡◌, suc, Bool, true, false, cond, List, [],
 use Rattle.std.specs.Prelude.{neg_ℤ, pos, ℤ}
 use Rattle.std.proofs.lemmas.Int.{ints}
 use Rattle.tv_cells.specs.Rectangle.{IsNear}
-use Rattle.tv_faults.specs.Usable.{IsBetween, IsLimited}
+use Rattle.tv_model.specs.Description.LawfulNodes.{IsLimited}
+use Rattle.tv_model.specs.Description.Numbers.{IsBetween}
 use Rattle.tv_model.specs.declared.node.Id.{Id}
 use Rattle.tv_model.specs.declared.node.Node.{Node}
 use Rattle.tv_model.specs.Description.Nodes.{has_id, node_of, is_default, is_button_node}

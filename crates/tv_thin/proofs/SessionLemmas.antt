@@ -16,10 +16,11 @@ use Rattle.tv_model.specs.Faults.{IsSound}
 use Rattle.tv_model.specs.Description.Thin.{IsThin, IsThinDialog}
 use Rattle.tv_model.specs.Machine.Safe.{IsSafe, IsAlwaysSafe}
 use Rattle.tv_model.proofs.SafeLemmas.{AreRising, emptied_safe, start_safe, step_safe, states_safe}
-use Rattle.tv_faults.specs.Usable.{IsLimited, IsUsableDialog}
+use Rattle.tv_model.specs.Description.LawfulNodes.{IsLimited}
 use Rattle.tv_declarations.specs.Spelling.{IsDescription}
+use Rattle.tv_faults.specs.Usable.{IsUsableDialog}
 use Rattle.tv_faults.proofs.RisingLemmas.{views_rise}
-use Rattle.tv_faults.proofs.Sound.{sound_says, only_dialog, only_start}
+use Rattle.tv_faults.proofs.UsableLemmas.{only_dialog, only_start, sound_usable}
 use Rattle.tv_thin.specs.declared.run.Run.{Run}
 use Rattle.tv_thin.specs.Run.{opened, state_of, stepped, IsReady, IsScreenSize}
 use Rattle.tv_thin.specs.ThinSession.{state_over, state_in}
@@ -57,7 +58,7 @@ module _ (d : Desc) (dialog : Dialog) (only : d.dialogs ≡ dialog ∷ []) where
 
   module _ (thin : IsThin d) (sound : IsSound d) where
     usable : IsUsableDialog d dialog
-    usable = only_dialog d dialog only (sound_says d sound)
+    usable = only_dialog d dialog only (sound_usable d sound)
 
     is_thin : IsThinDialog dialog
     is_thin = let same : thin.dialog ≡ dialog = cc (sym thin.only ∙ only) in subst IsThinDialog same thin.thin
@@ -88,7 +89,7 @@ module _ (d : Desc) (dialog : Dialog) (only : d.dialogs ≡ dialog ∷ []) where
         → (is_some o ≡ true → state_of dialog r ≡ open_dialog dialog 0 (state_of dialog fresh)) → (is_some o ≡ false → r ≡ fresh) → state_of dialog r ≡ start_from d o
     started_from None e r opens shuts = ap (state_of dialog) (shuts refl) ∙ closed_is
     started_from (Some name) e r opens shuts =
-        let named : is_named name dialog ≡ true = only_start d dialog only (sound_says d sound) name e in
+        let named : is_named name dialog ≡ true = only_start d dialog only (sound_usable d sound) name e in
         let here : start_from d (Some name) ≡ open_dialog dialog 0 (closed d) = rw (only, named) refl in
         opens refl ∙ ap (open_dialog dialog 0) closed_is ∙ sym here
 
@@ -107,4 +108,4 @@ module _ (d : Desc) (dialog : Dialog) (only : d.dialogs ≡ dialog ∷ []) where
       safe_start r same = subst (IsSafe d) (sym same) begun
 
 pub screen_size : (d : Desc) → IsSound d → IsScreenSize d
-screen_size d sound = let usable = sound_says d sound in record { width = usable.width; height = usable.height }
+screen_size d sound = let usable = sound_usable d sound in record { width = usable.width; height = usable.height }

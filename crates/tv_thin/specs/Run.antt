@@ -9,7 +9,8 @@ use Rattle.tv_event.specs.declared.event.Event.{Event}
 use Rattle.tv_model.specs.Machine.Step.{emptied, key_event}
 use Rattle.tv_model.specs.Description.Rectangles.{corner_of}
 use Rattle.tv_model.specs.Description.Thin.{IsThinDialog}
-use Rattle.tv_faults.specs.Usable.{IsBetween, IsLimited}
+use Rattle.tv_model.specs.Description.LawfulNodes.{IsLimited}
+use Rattle.tv_model.specs.Description.Numbers.{IsBetween}
 use Rattle.tv_thin.specs.declared.run.Run.{Run}
 
 -- the dialog while it is open, where it is declared

@@ -10,7 +10,7 @@ ghost use Rattle.tv_model.specs.Screen.Faces.{empty_bar};
 ghost use Rattle.tv_faces.specs.Looks.{button_look_of};
 ghost use Rattle.tv_cells.specs.Picture.{IsAlike};
 ghost use Rattle.tv_thin.specs.Looks.{focused_layers};
-ghost use Rattle.tv_faults.specs.Usable.{IsLimited};
+ghost use Rattle.tv_model.specs.Description.LawfulNodes.{IsLimited};
 ghost use Rattle.tv_thin.specs.Run.{IsScreenSize};
 
 use crate::focus::{is_button_at, is_default};

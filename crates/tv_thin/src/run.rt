@@ -4,8 +4,7 @@ ghost use Rattle.std.specs.Prelude.{◌≡◌, ◌<◌, ◌≤◌, ◌+◌, [], 
 ghost use Rattle.tv_model.specs.Machine.Step.{logged, emptied, request, command, press_node, press, key, key_event, ended, open_dialog, enter_target};
 ghost use Rattle.tv_model.specs.Description.Commands.{command_number, is_declared};
 ghost use Rattle.tv_model.specs.Description.Nodes.{node_of};
-ghost use Rattle.tv_model.specs.Faults.Limits.{is_lawful_number};
-ghost use Rattle.tv_faults.specs.Usable.{IsLimited};
+ghost use Rattle.tv_model.specs.Description.LawfulNodes.{IsLawfulCommand, IsLimited};
 ghost use Rattle.tv_thin.specs.Run.{state_of, opened, stepped, IsReady};
 
 use crate::focus::{enter_target, first_free, is_free_at, next_free, previous_free};
@@ -25,7 +24,7 @@ pub struct Run {
 
 /// The number of a command, where it is within its limits.
 pub(crate) fn command_number(spec: &CommandSpec) -> u8
-    requires { is_lawful_number (Some spec.now) ≡ true }
+    requires { IsLawfulCommand (Some spec.now) }
     ensures { result ≡ command_number spec.now }
 {
     match spec {

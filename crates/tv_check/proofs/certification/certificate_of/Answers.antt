@@ -1,7 +1,7 @@
 use Rattle.std.proofs.Common.{sym, subst}
 use Rattle.std.specs.Prelude.{All}
 use Rattle.tv_faults.specs.Usable.{HasLawfulCounts}
-use Rattle.tv_faults.proofs.Sound.{lawful_counts}
+use Rattle.tv_faults.proofs.UsableLemmas.{lawful_counts}
 use Rattle.tv_check.proofs.certification.certificate_of.Goals as goal
 
 pub block_of-requires : goal.block_of-requires

@@ -1,5 +1,5 @@
 use Rattle.std.proofs.Common.{ap, ◌∙◌}
-use Rattle.tv_faults.specs.Usable.{IsLimited}
+use Rattle.tv_model.specs.Description.LawfulNodes.{IsLimited}
 use Rattle.tv_model.specs.Description.Nodes.{has_id, node_of}
 use Rattle.tv_thin.proofs.LimitLemmas.{found_holds}
 use Rattle.tv_thin.proofs.run.Run.press.Goals as goal
