@@ -1,7 +1,8 @@
 //! The order in which the views of a description are made.
 
-ghost use Rattle.std.specs.Prelude.{◌≡◌, ◌++◌, filter_map, map, replicate, IfOk, OnOk};
+ghost use Rattle.std.specs.Prelude.{◌≡◌, ◌++◌, filter_map, map, replicate, All, IfOk, OnOk};
 ghost use Rattle.tv_model.specs.Description.Heads.{all_nodes};
+ghost use Rattle.tv_model.specs.Description.LawfulNodes.{IsLawfulNode};
 ghost use Rattle.tv_declarations.specs.Spelling.{dialog_declarations, view_declarations, window_declarations};
 ghost use Rattle.tv_check.specs.Plan.{Closes, lent_step, node_in, node_step, plan_of, steps_of};
 
@@ -96,6 +97,7 @@ impl Checked {
     pub fn build_plan(&self, alloc: Global) -> Result<Vec<BuildStep>, AllocError>
         ensures plan { IfOk result (λ plan. map lent_step plan.items ≡ plan_of self.now) }
         ensures nodes { IfOk result (λ plan. filter_map node_in (map lent_step plan.items) ≡ all_nodes self.now) }
+        ensures lawful { IfOk result (λ plan. All IsLawfulNode (filter_map node_in (map lent_step plan.items))) }
     {
         plan_of(alloc, self.desc())
     }
