@@ -1,3 +1,4 @@
+pub mod LongerLemmas
 pub mod OpenedLemmas
 pub mod StageLemmas
 pub mod GivenLemmas

@@ -81,6 +81,7 @@ fn take_line(
     ensures fault { IfErr result (λ fault. RefusesLine fault number (line_step progress line.now)) }
 {
     let Some(list) = words_of(alloc, line)? else {
+        drop(progress);
         return Err(LangFault::Syntax(number));
     };
     let words = list.as_slice();
@@ -88,6 +89,7 @@ fn take_line(
         return Ok(progress);
     }
     if progress.is_other_version(words) {
+        drop(progress);
         return Err(LangFault::Version);
     }
     match progress.take(alloc, words)? {

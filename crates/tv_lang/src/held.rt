@@ -8,7 +8,7 @@ use std::marker::Model;
 /// A value on the heap, so that what holds it is small to move. Contracts see the value.
 #[derive(Drop)]
 pub struct Held<T> {
-    value: Box<T>,
+    pub value: Box<T>,
 }
 
 impl<T> Model for Held<T> {

@@ -2,7 +2,7 @@
 
 ghost use Rattle.std.specs.Prelude.{◌≡◌, ◌+◌, ◌<◌, ◌^◌, IfOk};
 ghost use Rattle.std.specs.Option.{option_map};
-ghost use Rattle.tv_lang.specs.Reading.Stages.{finished, fresh, progress, taken_at, is_other, is_other_version, taken};
+ghost use Rattle.tv_lang.specs.Reading.Stages.{finished, fresh, progress, taken_at, is_other, is_other_version, position, taken};
 
 use crate::stage::Stage;
 use std::alloc::{AllocError, Global};
@@ -56,13 +56,23 @@ impl Progress {
         requires { self.next + 1 < 2 ^ 32 }
         ensures { IfOk result (λ further. further ≡ taken self words.now) }
     {
-        let at = Position {
-            id: Id(self.next),
-            depth: self.stage.open_panes(),
-        };
+        let at = self.position();
         match declared(alloc, at, words)? {
             Some(declaration) => self.go(alloc, declaration),
-            None => Ok(None),
+            None => {
+                drop(self);
+                Ok(None)
+            }
+        }
+    }
+
+    // Where the next declaration stands.
+    fn position(&self) -> Position
+        ensures { result ≡ position self.now }
+    {
+        Position {
+            id: Id(self.next),
+            depth: self.stage.open_panes(),
         }
     }
 

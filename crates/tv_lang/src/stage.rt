@@ -1,6 +1,6 @@
 //! Which declarations may come next.
 
-ghost use Rattle.std.specs.Prelude.{◌≡◌, ◌≤◌, ◌++◌, ◌∷◌, [], IfOk, None, Some, false, true};
+ghost use Rattle.std.specs.Prelude.{◌≡◌, ◌≤◌, IfOk, None, Some, false, true};
 ghost use Rattle.tv_model.specs.declared.desc.Desc.{Desc as SeenDesc};
 ghost use Rattle.tv_model.specs.Description.Nodes.{is_dialog, is_window};
 ghost use Rattle.tv_declarations.specs.Spelling.{is_text, is_view};
@@ -31,6 +31,9 @@ pub enum Stage {
 }
 
 // The stage after a declaration, where it can come there. The description then has what is declared.
+//
+// What can't come there is let go by a call of `drop`: at the end of its scope it would be taken apart field by field,
+// which takes long to prove.
 type Further = Option<Stage>;
 
 impl Stage {
@@ -64,10 +67,10 @@ impl Stage {
             Stage::Version => Ok(version(desc, declaration)),
             Stage::Screen => Ok(screen(desc, declaration)),
             Stage::Between => part(alloc, desc, declaration),
-            Stage::InMenu(menu) => in_menu(alloc, desc, menu, declaration),
-            Stage::InWindow(window) => in_window(alloc, desc, window, declaration),
-            Stage::InViews { dialog, panes } => in_views(alloc, desc, dialog, panes, declaration),
-            Stage::InRules(dialog) => in_rules(alloc, desc, dialog, declaration),
+            Stage::InMenu(menu) => in_menu(desc, menu, declaration),
+            Stage::InWindow(window) => in_window(desc, window, declaration),
+            Stage::InViews { dialog, panes } => in_views(desc, dialog, panes, declaration),
+            Stage::InRules(dialog) => in_rules(desc, dialog, declaration),
         }
     }
 }
@@ -77,10 +80,14 @@ fn version(desc: &mut Desc, declaration: Declaration) -> Further
 {
     match declaration {
         Declaration::Version(version) => {
+            drop(declaration);
             desc.version = version;
             Some(Stage::Screen)
         }
-        _ => None,
+        _ => {
+            drop(declaration);
+            None
+        }
     }
 }
 
@@ -89,11 +96,15 @@ fn screen(desc: &mut Desc, declaration: Declaration) -> Further
 {
     match declaration {
         Declaration::Screen { width, height } => {
+            drop(declaration);
             desc.width = width;
             desc.height = height;
             Some(Stage::Between)
         }
-        _ => None,
+        _ => {
+            drop(declaration);
+            None
+        }
     }
 }
 
@@ -140,7 +151,10 @@ fn part(alloc: Global, desc: &mut Desc, declaration: Declaration) -> Result<Furt
             Ok(Some(Stage::Between))
         }
         Declaration::Node(node) => opened(alloc, desc, node),
-        _ => Ok(None),
+        _ => {
+            drop(declaration);
+            Ok(None)
+        }
     }
 }
 
@@ -152,6 +166,7 @@ fn opened(alloc: Global, desc: &Desc, node: Node) -> Result<Further, AllocError>
     } else if node.kind.is_dialog() {
         dialog_opened(alloc, node)
     } else {
+        drop(node);
         Ok(None)
     }
 }
@@ -165,6 +180,7 @@ fn window_opened(alloc: Global, desc: &Desc, node: Node) -> Result<Further, Allo
         let window = Held::new(alloc, Window { node, views })?;
         Ok(Some(Stage::InWindow(window)))
     } else {
+        drop(node);
         Ok(None)
     }
 }
@@ -180,7 +196,6 @@ fn dialog_opened(alloc: Global, node: Node) -> Result<Further, AllocError>
 }
 
 fn in_menu(
-    alloc: Global,
     desc: &mut Desc,
     menu: Held<Menu>,
     declaration: Declaration,
@@ -188,21 +203,20 @@ fn in_menu(
     ensures { IfOk result (λ stage. beside desc.new stage ≡ menu_taken desc.old menu declaration) }
 {
     match declaration {
-        Declaration::Item(item) => {
-            let menu = with_item(alloc, menu, item)?;
-            Ok(Some(Stage::InMenu(menu)))
-        }
+        Declaration::Item(item) => with_item(menu, item),
         Declaration::End => with_menu(desc, menu),
-        _ => Ok(None),
+        _ => {
+            drop(declaration);
+            Ok(None)
+        }
     }
 }
 
-fn with_item(alloc: Global, menu: Held<Menu>, item: MenuItem) -> Result<Held<Menu>, AllocError>
-    ensures { IfOk result (λ longer. longer ≡ record menu { items = menu.items ++ item ∷ [] }) }
+fn with_item(mut menu: Held<Menu>, item: MenuItem) -> Result<Further, AllocError>
+    ensures { IfOk result (λ stage. (desc : SeenDesc) → beside desc stage ≡ menu_taken desc menu (Declaration.Item item)) }
 {
-    let mut menu = menu.into_inner();
-    menu.items.push(item)?;
-    Held::new(alloc, menu)
+    menu.value.items.push(item)?;
+    Ok(Some(Stage::InMenu(menu)))
 }
 
 // A menu has an item at least.
@@ -218,26 +232,15 @@ fn with_menu(desc: &mut Desc, menu: Held<Menu>) -> Result<Further, AllocError>
 }
 
 // A window holds static texts alone.
-fn with_text(alloc: Global, window: Held<Window>, view: Node) -> Result<Further, AllocError>
+fn with_text(mut window: Held<Window>, view: Node) -> Result<Further, AllocError>
     ensures { IfOk result (λ stage. (desc : SeenDesc) → beside desc stage ≡ window_taken desc window (Declaration.Node view)) }
 {
     if !is_text(&view.kind) {
+        drop(view);
         return Ok(None);
     }
-    let window = longer_window(alloc, window, view)?;
+    window.value.views.push(view)?;
     Ok(Some(Stage::InWindow(window)))
-}
-
-fn longer_window(
-    alloc: Global,
-    window: Held<Window>,
-    view: Node,
-) -> Result<Held<Window>, AllocError>
-    ensures { IfOk result (λ longer. longer ≡ record window { views = window.views ++ view ∷ [] }) }
-{
-    let mut window = window.into_inner();
-    window.views.push(view)?;
-    Held::new(alloc, window)
 }
 
 fn with_window(desc: &mut Desc, window: Held<Window>) -> Result<Further, AllocError>
@@ -248,7 +251,6 @@ fn with_window(desc: &mut Desc, window: Held<Window>) -> Result<Further, AllocEr
 }
 
 fn in_window(
-    alloc: Global,
     desc: &mut Desc,
     window: Held<Window>,
     declaration: Declaration,
@@ -256,14 +258,16 @@ fn in_window(
     ensures { IfOk result (λ stage. beside desc.new stage ≡ window_taken desc.old window declaration) }
 {
     match declaration {
-        Declaration::Node(view) => with_text(alloc, window, view),
+        Declaration::Node(view) => with_text(window, view),
         Declaration::End => with_window(desc, window),
-        _ => Ok(None),
+        _ => {
+            drop(declaration);
+            Ok(None)
+        }
     }
 }
 
 fn in_views(
-    alloc: Global,
     desc: &mut Desc,
     dialog: Held<Dialog>,
     panes: u8,
@@ -272,48 +276,33 @@ fn in_views(
     ensures { IfOk result (λ stage. beside desc.new stage ≡ views_taken desc.old dialog panes declaration) }
 {
     match declaration {
-        Declaration::Node(view) => with_view(alloc, dialog, panes, view),
+        Declaration::Node(view) => with_view(dialog, panes, view),
         Declaration::End if panes > 0 => {
             let panes = panes - 1;
             Ok(Some(Stage::InViews { dialog, panes }))
         }
-        Declaration::End => with_dialog(desc, dialog.into_inner()),
-        Declaration::Rule(rule) if panes == 0 => {
-            let dialog = with_rule(alloc, dialog, rule)?;
-            Ok(Some(Stage::InRules(dialog)))
+        Declaration::End => with_dialog(desc, dialog),
+        Declaration::Rule(rule) if panes == 0 => with_rule(dialog, rule),
+        _ => {
+            drop(declaration);
+            Ok(None)
         }
-        _ => Ok(None),
     }
 }
 
-fn with_view(
-    alloc: Global,
-    dialog: Held<Dialog>,
-    panes: u8,
-    view: Node,
-) -> Result<Further, AllocError>
+fn with_view(mut dialog: Held<Dialog>, panes: u8, view: Node) -> Result<Further, AllocError>
     ensures { IfOk result (λ stage. (desc : SeenDesc) → beside desc stage ≡ view_taken desc dialog panes view) }
 {
     if !is_view(&view.kind) {
+        drop(view);
         return Ok(None);
     }
     let Some(panes) = panes_after(panes, &view) else {
+        drop(view);
         return Ok(None);
     };
-    let dialog = longer_dialog(alloc, dialog, view)?;
+    dialog.value.views.push(view)?;
     Ok(Some(Stage::InViews { dialog, panes }))
-}
-
-fn longer_dialog(
-    alloc: Global,
-    dialog: Held<Dialog>,
-    view: Node,
-) -> Result<Held<Dialog>, AllocError>
-    ensures { IfOk result (λ longer. longer ≡ record dialog { views = dialog.views ++ view ∷ [] }) }
-{
-    let mut dialog = dialog.into_inner();
-    dialog.views.push(view)?;
-    Held::new(alloc, dialog)
 }
 
 // The panes that are open after a view. There may be 16 at most.
@@ -330,7 +319,6 @@ fn panes_after(panes: u8, view: &Node) -> Option<u8>
 }
 
 fn in_rules(
-    alloc: Global,
     desc: &mut Desc,
     dialog: Held<Dialog>,
     declaration: Declaration,
@@ -338,27 +326,26 @@ fn in_rules(
     ensures { IfOk result (λ stage. beside desc.new stage ≡ rules_taken desc.old dialog declaration) }
 {
     match declaration {
-        Declaration::Rule(rule) => {
-            let dialog = with_rule(alloc, dialog, rule)?;
-            Ok(Some(Stage::InRules(dialog)))
+        Declaration::Rule(rule) => with_rule(dialog, rule),
+        Declaration::End => with_dialog(desc, dialog),
+        _ => {
+            drop(declaration);
+            Ok(None)
         }
-        Declaration::End => with_dialog(desc, dialog.into_inner()),
-        _ => Ok(None),
     }
 }
 
-fn with_rule(alloc: Global, dialog: Held<Dialog>, rule: Rule) -> Result<Held<Dialog>, AllocError>
-    ensures { IfOk result (λ longer. longer ≡ record dialog { rules = dialog.rules ++ rule ∷ [] }) }
+fn with_rule(mut dialog: Held<Dialog>, rule: Rule) -> Result<Further, AllocError>
+    ensures { IfOk result (λ stage. (desc : SeenDesc) → beside desc stage ≡ rules_taken desc dialog (Declaration.Rule rule)) }
 {
-    let mut dialog = dialog.into_inner();
-    dialog.rules.push(rule)?;
-    Held::new(alloc, dialog)
+    dialog.value.rules.push(rule)?;
+    Ok(Some(Stage::InRules(dialog)))
 }
 
-fn with_dialog(desc: &mut Desc, dialog: Dialog) -> Result<Further, AllocError>
+fn with_dialog(desc: &mut Desc, dialog: Held<Dialog>) -> Result<Further, AllocError>
     ensures { IfOk result (λ stage. beside desc.new stage ≡ with_dialog desc.old dialog) }
 {
-    desc.dialogs.push(dialog)?;
+    desc.dialogs.push(dialog.into_inner())?;
     Ok(Some(Stage::Between))
 }
 
