@@ -77,12 +77,6 @@ fn further(
     }
 }
 
-fn copy(alloc: Global, text: &Chars) -> Result<Chars, AllocError>
-    ensures { IfOk result (λ copy. copy ≡ text.now) }
-{
-    Chars::from_slice(alloc, text.as_slice())
-}
-
 // The name in a line of this keyword and a name.
 fn named<'a>(keyword: &[u8], words: &'a [Word]) -> Option<&'a Chars>
     ensures { option_copied result ≡ named_in keyword.now words.now }
@@ -99,7 +93,7 @@ fn dialog(alloc: Global, read: Certificate, words: &[Word]) -> Result<Option<Pro
     let Some(name) = named(b"dialog", words) else {
         return Ok(None);
     };
-    let stage = Stage::Tabs(copy(alloc, name)?, Sequence::new(alloc));
+    let stage = Stage::Tabs(name.copy(alloc)?, Sequence::new(alloc));
     Ok(Some(Progress::Begun(read, stage)))
 }
 
@@ -113,7 +107,7 @@ fn tab(
     ensures { IfOk result (λ further. further ≡ tab_taken read dialog tabs words.now) }
 {
     if let Some(name) = named(b"tab", words) {
-        tabs.push(copy(alloc, name)?)?;
+        tabs.push(name.copy(alloc)?)?;
         let stage = Stage::Tabs(dialog, tabs);
         return Ok(Some(Progress::Begun(read, stage)));
     }
@@ -167,7 +161,7 @@ fn key_line(alloc: Global, words: &[Word]) -> Result<Option<KeyLine>, AllocError
     match (letter_in(letter), owner.name(), item_in(item)) {
         (Some(letter), Some(owner), Some(item)) => Ok(Some(KeyLine {
             letter,
-            owner: copy(alloc, owner)?,
+            owner: owner.copy(alloc)?,
             item,
         })),
         _ => Ok(None),
