@@ -4,7 +4,6 @@ ghost use Rattle.std.specs.Prelude.{◌≡◌, IfOk, option_and_then};
 ghost use Rattle.tv_declarations.specs.Reading.Clusters.{items_in, marked_first, only_number, texts_in, boxes_of, radios_of, rows_of, checks_in, radios_in, list_in};
 
 use crate::items::{Items, is_rising, marks};
-use crate::node::copy;
 use crate::place::{Place, Position};
 use std::alloc::{AllocError, Global};
 use tv_model::{CheckBoxes, Kind, ListBox, MarkedText, Node, RadioButtons, Sequence};
@@ -24,7 +23,7 @@ pub fn checks(alloc: Global, at: Position, fields: &[Word]) -> Result<Option<Nod
     let (Some(name), Some(place)) = (name.name(), Place::read(x, y, w)) else {
         return Ok(None);
     };
-    let name = copy(alloc, name)?;
+    let name = name.copy(alloc)?;
     let kind = Kind::CheckBoxes(CheckBoxes { name, items, start });
     Ok(Some(place.node(at, kind)))
 }
@@ -42,7 +41,7 @@ pub fn radios(alloc: Global, at: Position, fields: &[Word]) -> Result<Option<Nod
     let (Some(name), Some(place)) = (name.name(), Place::read(x, y, w)) else {
         return Ok(None);
     };
-    let name = copy(alloc, name)?;
+    let name = name.copy(alloc)?;
     let kind = Kind::RadioButtons(RadioButtons { name, items, start });
     Ok(Some(place.node(at, kind)))
 }
@@ -61,7 +60,7 @@ pub fn list(alloc: Global, at: Position, fields: &[Word]) -> Result<Option<Node>
         return Ok(None);
     };
     let kind = Kind::List(ListBox {
-        name: copy(alloc, name)?,
+        name: name.copy(alloc)?,
         h,
         items,
         start,

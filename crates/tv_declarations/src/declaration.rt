@@ -8,7 +8,7 @@ ghost use Rattle.tv_declarations.specs.Reading.Declarations.{version_in, screen_
 use crate::command::command;
 use crate::keys::key;
 use crate::keywords;
-use crate::node::{copy, mark, node};
+use crate::node::{mark, node};
 use crate::place::Position;
 use std::alloc::{AllocError, Global};
 use tv_model::{Effect, Id, MarkedText, MenuItem, Node, Rule, StatusItem, Version};
@@ -116,7 +116,7 @@ fn start(alloc: Global, fields: &[Word]) -> Result<Option<Declaration>, AllocErr
     let Some(name) = name.name() else {
         return Ok(None);
     };
-    Ok(Some(Declaration::Start(copy(alloc, name)?)))
+    Ok(Some(Declaration::Start(name.copy(alloc)?)))
 }
 
 fn menu(alloc: Global, at: Position, fields: &[Word]) -> Result<Option<Declaration>, AllocError>
@@ -156,7 +156,7 @@ fn status(alloc: Global, at: Position, fields: &[Word]) -> Result<Option<Declara
     let (Some(text), Some(key), Some(command)) = (text.text(), key(pressed), command(does)) else {
         return Ok(None);
     };
-    let text = copy(alloc, text)?;
+    let text = text.copy(alloc)?;
     Ok(Some(Declaration::Status(StatusItem {
         id: at.id,
         text,
@@ -174,7 +174,7 @@ fn show(alloc: Global, at: Position, fields: &[Word]) -> Result<Option<Declarati
     let Some(name) = name.name() else {
         return Ok(None);
     };
-    let effect = Effect::Show(copy(alloc, name)?);
+    let effect = Effect::Show(name.copy(alloc)?);
     rule(alloc, at, effect, condition)
 }
 
@@ -208,7 +208,7 @@ fn rule(
     let (Some(cluster), Some(item)) = (cluster.name(), item.number()) else {
         return Ok(None);
     };
-    let cluster = copy(alloc, cluster)?;
+    let cluster = cluster.copy(alloc)?;
     Ok(Some(Declaration::Rule(Rule {
         id: at.id,
         effect,

@@ -6,7 +6,6 @@ ghost use Rattle.tv_declarations.specs.Reading.Inputs.{filter_in, picture_in, ra
 
 use crate::command::skip;
 use crate::keywords;
-use crate::node::copy;
 use crate::place::{Place, Position};
 use std::alloc::{AllocError, Global};
 use tv_model::{Input, Kind, Node};
@@ -48,7 +47,7 @@ pub fn input(alloc: Global, at: Position, fields: &[Word]) -> Result<Option<Node
         options,
     } = asked;
     let kind = Kind::Input(Input {
-        name: copy(alloc, name)?,
+        name: name.copy(alloc)?,
         spec: InputSpec {
             max,
             domain,
@@ -84,7 +83,7 @@ fn asked_after(
     let (Some(start), Some(options)) = (start.text(), read_options(option_words)) else {
         return Ok(None);
     };
-    let start = copy(alloc, start)?;
+    let start = start.copy(alloc)?;
     Ok(Some(Asked {
         domain,
         start,
@@ -127,7 +126,7 @@ fn filter<'a>(
     let Some(set) = set.text() else {
         return Ok(None);
     };
-    let set = copy(alloc, set)?;
+    let set = set.copy(alloc)?;
     Ok(Some((DomainSpec::Filter(set), rest)))
 }
 
@@ -143,7 +142,7 @@ fn picture<'a>(
     let Some(text) = text.text() else {
         return Ok(None);
     };
-    let text = copy(alloc, text)?;
+    let text = text.copy(alloc)?;
     Ok(Some((DomainSpec::Picture(text), rest)))
 }
 

@@ -7,7 +7,6 @@ ghost use Rattle.tv_declarations.specs.Spelling.Nodes.{is_rising};
 
 use crate::keywords;
 use crate::marked::marked;
-use crate::node::copy;
 use std::alloc::{AllocError, Global};
 use tv_model::{MarkedText, Sequence};
 use tv_valid::Chars;
@@ -76,7 +75,7 @@ fn text_taken(
 {
     match word {
         Word::Quoted(text) => {
-            texts.push(copy(alloc, text)?)?;
+            texts.push(text.copy(alloc)?)?;
             Ok(Some(Items { texts, start: None }))
         }
         Word::Bare(_) if word.is(keywords::START) => Ok(Some(Items {

@@ -16,15 +16,7 @@ use std::alloc::{AllocError, Global};
 use tv_model::{
     Button, DialogHead, Ends, Kind, Label, MarkedText, Node, Pane, StaticText, WindowHead,
 };
-use tv_valid::Chars;
 use tv_words::Word;
-
-/// A text of its own.
-pub fn copy(alloc: Global, text: &Chars) -> Result<Chars, AllocError>
-    ensures { IfOk result (λ copy. copy ≡ text.now) }
-{
-    Chars::from_slice(alloc, text.as_slice())
-}
 
 /// The marked text of a quoted word.
 pub fn mark(alloc: Global, word: &Word) -> Result<Option<MarkedText>, AllocError>
@@ -92,7 +84,7 @@ fn text(alloc: Global, at: Position, fields: &[Word]) -> Result<Option<Node>, Al
     let (Some(place), Some(h), Some(text)) = (Place::read(x, y, w), h.number(), text.text()) else {
         return Ok(None);
     };
-    let text = copy(alloc, text)?;
+    let text = text.copy(alloc)?;
     Ok(Some(place.node(at, Kind::Text(StaticText { h, text }))))
 }
 
@@ -120,7 +112,7 @@ fn label_at(
     let (Some(place), Some(link)) = (place, link.name()) else {
         return Ok(None);
     };
-    let link = copy(alloc, link)?;
+    let link = link.copy(alloc)?;
     Ok(Some(place.node(at, Kind::Label(Label { text, link }))))
 }
 
@@ -140,7 +132,7 @@ fn button(alloc: Global, at: Position, fields: &[Word]) -> Result<Option<Node>, 
         return Ok(None);
     };
     let kind = Kind::Button(Button {
-        name: copy(alloc, name)?,
+        name: name.copy(alloc)?,
         text,
         command,
         is_default,
@@ -158,7 +150,7 @@ fn pane(alloc: Global, at: Position, fields: &[Word]) -> Result<Option<Node>, Al
     let (Some(name), Some(place), Some(h)) = (name.name(), Place::read(x, y, w), h.number()) else {
         return Ok(None);
     };
-    let name = copy(alloc, name)?;
+    let name = name.copy(alloc)?;
     Ok(Some(place.node(at, Kind::Pane(Pane { name, h }))))
 }
 
@@ -197,10 +189,10 @@ fn window_at(
         return Ok(None);
     };
     let kind = Kind::Window(WindowHead {
-        name: copy(alloc, name)?,
+        name: name.copy(alloc)?,
         h,
         number,
-        title: copy(alloc, title)?,
+        title: title.copy(alloc)?,
     });
     Ok(Some(place.node(at, kind)))
 }
@@ -218,9 +210,9 @@ fn dialog(alloc: Global, at: Position, fields: &[Word]) -> Result<Option<Node>, 
         return Ok(None);
     };
     let kind = Kind::Dialog(DialogHead {
-        name: copy(alloc, name)?,
+        name: name.copy(alloc)?,
         h,
-        title: copy(alloc, title)?,
+        title: title.copy(alloc)?,
         opens,
         ends,
     });
