@@ -3,7 +3,7 @@
 ghost use Rattle.std.specs.Prelude.{◌≡◌, ◌≤◌, pos};
 ghost use Rattle.tv_cells.specs.Rectangle.{IsPointNear};
 
-use crate::lent::{env, rows};
+use crate::lent::{env, rows, text};
 use anyhow::Result;
 use std::alloc::Global;
 use std::rt::Clock;
@@ -13,9 +13,7 @@ use tv_controls::StaticText;
 use tv_event::CommandSet;
 use tv_faces::{Background, ButtonFace, ButtonLook, EmptyBar, Frame, FrameLook};
 use tv_group::{GroupOf, MemberOf};
-use tv_model::{Id, Kind, Node, StaticText as DeclaredText};
 use tv_palette::{Chain, Owner};
-use tv_valid::Chars;
 use tv_view::Env;
 
 /// How often the screen is painted.
@@ -26,31 +24,15 @@ const TITLE: [char; 5] = ['S', 'e', 't', 'u', 'p'];
 const CAPTION: [char; 6] = ['C', 'h', 'o', 'i', 'c', 'e'];
 
 // A text of 24 columns.
-fn text(alloc: Global, x: u8, y: u8) -> Result<MemberOf<StaticText>>
-    requires across { x ≤ 100 }
-    requires down { y ≤ 100 }
-{
-    let text = "A text in a dialog, x:y.".chars().collect(alloc)?;
-    let node = Node {
-        id: Id(2),
-        depth: 0,
-        x: i32::from(x),
-        y: i32::from(y),
-        w: 26,
-        kind: Kind::Text(DeclaredText {
-            h: 1,
-            text: Chars::from_vec(text),
-        }),
-    };
-    Ok(MemberOf::Leaf(StaticText::new(alloc, &node)?))
-}
+const TEXT: &str = "A text in a dialog, x:y.";
 
 // In two columns of seven.
 fn texts(alloc: Global) -> Result<Vec<MemberOf<StaticText>>> {
     let mut texts = Vec::new(alloc);
-    for row in 0..7 {
-        texts.push(text(alloc, 2, 2 + row)?)?;
-        texts.push(text(alloc, 30, 2 + row)?)?;
+    for row in 2u8..9 {
+        let row = i32::from(row);
+        texts.push(text(alloc, 2, row, 26, TEXT)?)?;
+        texts.push(text(alloc, 30, row, 26, TEXT)?)?;
     }
     Ok(texts)
 }

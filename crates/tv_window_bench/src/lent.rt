@@ -1,11 +1,35 @@
 //! What both screens lend to what they show.
 
-ghost use Rattle.std.specs.Prelude.{◌≡◌, pos};
+ghost use Rattle.std.specs.Prelude.{◌≡◌, ◌≤ℤ◌, pos};
 
+use anyhow::Result;
+use std::alloc::Global;
 use tv_cells::{Canvas, Point, Rect};
+use tv_controls::StaticText;
 use tv_event::CommandSet;
+use tv_group::MemberOf;
+use tv_model::{Id, Kind, Node, StaticText as DeclaredText};
 use tv_palette::{Chain, Owner};
+use tv_valid::Chars;
 use tv_view::Env;
+
+/// A text in one row, seen from the corner of what it stands in.
+pub fn text(alloc: Global, x: i32, y: i32, w: i32, text: &str) -> Result<MemberOf<StaticText>>
+    requires across { (pos 0 ≤ℤ x) × (x ≤ℤ pos 100) }
+    requires down { (pos 0 ≤ℤ y) × (y ≤ℤ pos 100) }
+    requires width { (pos 0 ≤ℤ w) × (w ≤ℤ pos 100) }
+{
+    let text = Chars::from_vec(text.chars().collect(alloc)?);
+    let node = Node {
+        id: Id(2),
+        depth: 0,
+        x,
+        y,
+        w,
+        kind: Kind::Text(DeclaredText { h: 1, text }),
+    };
+    Ok(MemberOf::Leaf(StaticText::new(alloc, &node)?))
+}
 
 /// A canvas of rows of a screen of this width.
 pub fn rows(width: i32, origin: i32, from: i32, to: i32) -> Canvas

@@ -3,7 +3,7 @@
 ghost use Rattle.std.specs.Prelude.{◌≤◌, ◌≤ℤ◌, pos, IfSome};
 ghost use Rattle.tv_window.specs.Head.{IsLimited, declared_head};
 
-use crate::lent::{env, rows};
+use crate::lent::{env, rows, text};
 use anyhow::Result;
 use std::alloc::Global;
 use std::rt::Clock;
@@ -13,7 +13,7 @@ use tv_controls::StaticText;
 use tv_event::CommandSet;
 use tv_faces::{Background, EmptyBar};
 use tv_group::{GroupOf, MemberOf};
-use tv_model::{Id, Kind, Node, StaticText as DeclaredText, WindowHead};
+use tv_model::{Id, Kind, Node, WindowHead};
 use tv_palette::{Chain, Owner};
 use tv_valid::Chars;
 use tv_view::Env;
@@ -23,29 +23,13 @@ use tv_window::{WindowOf, draw_stack};
 const ROUNDS: u32 = 200;
 
 // A text over a whole row of a window.
-fn text(alloc: Global, row: u8) -> Result<MemberOf<StaticText>>
-    requires { row ≤ 100 }
-{
-    let text = "x".repeat(alloc, 78)?;
-    let node = Node {
-        id: Id(2),
-        depth: 0,
-        x: 1,
-        y: i32::from(row),
-        w: 78,
-        kind: Kind::Text(DeclaredText {
-            h: 1,
-            text: Chars::from_vec(text.chars().collect(alloc)?),
-        }),
-    };
-    Ok(MemberOf::Leaf(StaticText::new(alloc, &node)?))
-}
+const ROW: &str = "xxxxxxxxxxxxxxxxxxxxxxxxxxxxxxxxxxxxxxxxxxxxxxxxxxxxxxxxxxxxxxxxxxxxxxxxxxxxxx";
 
 // One in each row that the frame surrounds.
 fn texts(alloc: Global) -> Result<Vec<MemberOf<StaticText>>> {
     let mut texts = Vec::new(alloc);
-    for row in 1..39 {
-        texts.push(text(alloc, row)?)?;
+    for row in 1u8..39 {
+        texts.push(text(alloc, 1, i32::from(row), 78, ROW)?)?;
     }
     Ok(texts)
 }
