@@ -1,10 +1,9 @@
 //! The certificate of the order form, edited: what is refused, and what says the same in another way.
 
-use crate::acceptance::Accepting;
 use std::test::Fail;
 use tv_test_support::certificates::{CANCEL_CERTIFICATE, NO_BLOCKS, ORDER_CERTIFICATE};
 use tv_test_support::descriptions::ORDER;
-use tv_test_support::{expect_answer, expect_edits};
+use tv_test_support::{Accepting, expect_edits, expect_rows};
 
 // The order of Tab: exchanged, missing, too many, of another dialog, another name.
 const TABS: &str = "- tab amount
@@ -53,11 +52,18 @@ const TABS: &str = "- tab amount
 
 #[test]
 fn orders(rt: HostRuntime) -> Result<(), Fail> {
-    let alloc = rt.alloc();
-    let order = Accepting { desc: ORDER };
-    expect_answer(&order, alloc, NO_BLOCKS, "tab 1\n")?;
-    expect_answer(&order, alloc, CANCEL_CERTIFICATE, "tab 1\n")?;
-    expect_edits(&order, alloc, ORDER_CERTIFICATE, TABS)
+    expect_edits(
+        &Accepting { desc: ORDER },
+        rt.alloc(),
+        ORDER_CERTIFICATE,
+        TABS,
+    )
+}
+
+#[test]
+fn other_certificates(rt: HostRuntime) -> Result<(), Fail> {
+    const ROWS: [(&str, &str); 2] = [(NO_BLOCKS, "tab 1\n"), (CANCEL_CERTIFICATE, "tab 1\n")];
+    expect_rows(&Accepting { desc: ORDER }, rt.alloc(), &ROWS)
 }
 
 // Letters: missing, with another owner or item, with an item too many or none, too many letters; the least is told.

@@ -2,9 +2,10 @@
 
 use std::alloc::{AllocError, Global};
 use std::test::Fail;
-use tv_lang::{LangFault, parse};
 use tv_test_support::descriptions::{DIALOG, HEAD, ORDER};
-use tv_test_support::{Findings, Question, expect_finding, expect_findings};
+use tv_test_support::{
+    Findings, Question, Reading, expect_answer, expect_finding, expect_findings,
+};
 
 // Lines of views and rules. Only the last row is read: keywords may be names.
 const VIEWS: &str = r#"label 1 2 8 "~AB~" c
@@ -242,37 +243,57 @@ fn refused_declarations(rt: HostRuntime) -> Result<(), Fail> {
     expect_findings(rt.alloc(), HEAD, DECLARATIONS, "")
 }
 
+// Fails where something else is found in the order form as far as it stands before a word.
+fn expect_cut(alloc: Global, word: &str, wanted: &str) -> Result<(), Fail> {
+    let (begun, _) = ORDER.split_once(word).ok_or("no such word")?;
+    expect_finding(alloc, begun, wanted)
+}
+
 #[test]
 fn cut_descriptions(rt: HostRuntime) -> Result<(), Fail> {
-    let alloc = rt.alloc();
-    for (end, wanted) in [
+    for (word, wanted) in [
         ("start", "sound"),
         ("dialog", "F16 line 3"),
         ("enable", "syntax at line 17"),
     ] {
-        let (begun, _) = ORDER.split_once(end).ok_or("no such word")?;
-        expect_finding(alloc, begun, wanted)?;
+        expect_cut(rt.alloc(), word, wanted)?;
     }
-    let open = ORDER.strip_suffix("end\n").ok_or("no last line")?;
-    expect_finding(alloc, open, "syntax at line 18")?;
-    let unended = ORDER.strip_suffix("\n").ok_or("no last line end")?;
-    expect_finding(alloc, unended, "sound")?;
-    expect_finding(alloc, "tvd 7", "unknown version")
+    Ok(())
+}
+
+// Fails where something else is found in the order form without its last characters.
+fn expect_without(alloc: Global, end: &str, wanted: &str) -> Result<(), Fail> {
+    let text = ORDER.strip_suffix(end).ok_or("no such end")?;
+    expect_finding(alloc, text, wanted)
+}
+
+#[test]
+fn missing_ends(rt: HostRuntime) -> Result<(), Fail> {
+    expect_without(rt.alloc(), "end\n", "syntax at line 18")?;
+    expect_without(rt.alloc(), "\n", "sound")
+}
+
+#[test]
+fn other_version_without_a_line_end(rt: HostRuntime) -> Result<(), Fail> {
+    expect_finding(rt.alloc(), "tvd 7", "unknown version")
 }
 
 #[test]
 fn spoiled_lines(rt: HostRuntime) -> Result<(), Fail> {
-    let alloc = rt.alloc();
-    let (before, after) = ORDER.split_once("checks").ok_or("no check boxes")?;
     for byte in [0xff, b'\t'] {
-        let text = spoiled(alloc, before, byte, after)?;
-        let found = Findings.answer(alloc, text.as_slice())?;
+        let found = found_after(rt.alloc(), byte)?;
         assert_eq!(rt; found.as_str(), "syntax at line 9\n", "after {byte}");
     }
     Ok(())
 }
 
-// The text with a byte before its first check boxes.
+// What is found where a byte stands before the order form's first check boxes.
+fn found_after(alloc: Global, byte: u8) -> Result<String, Fail> {
+    let (before, after) = ORDER.split_once("checks").ok_or("no check boxes")?;
+    let text = spoiled(alloc, before, byte, after)?;
+    Findings.answer(alloc, text.as_slice())
+}
+
 fn spoiled(alloc: Global, before: &str, byte: u8, after: &str) -> Result<Vec<u8>, AllocError> {
     let mut text = Vec::from_slice(alloc, before.as_bytes())?;
     text.push(byte)?;
@@ -281,15 +302,15 @@ fn spoiled(alloc: Global, before: &str, byte: u8, after: &str) -> Result<Vec<u8>
     Ok(text)
 }
 
+fn expect_panes(alloc: Global, panes: usize, wanted: &str) -> Result<(), Fail> {
+    let begins = "pane p 0 0 1 1\n".repeat(alloc, panes)?;
+    let ends = "end\n".repeat(alloc, panes)?;
+    let text = format!(in alloc; "{DIALOG}{begins}{ends}end\n")?;
+    expect_answer(&Reading, alloc, &text, wanted)
+}
+
 #[test]
 fn nested_panes(rt: HostRuntime) -> Result<(), Fail> {
-    let alloc = rt.alloc();
-    for (panes, wanted) in [(16, None), (17, Some(LangFault::Syntax(21)))] {
-        let begins = "pane p 0 0 1 1\n".repeat(alloc, panes)?;
-        let ends = "end\n".repeat(alloc, panes)?;
-        let text = format!(in alloc; "{DIALOG}{begins}{ends}end\n")?;
-        let fault = parse(alloc, text.as_bytes()).err();
-        assert_eq!(rt; fault, wanted, "{panes} panes");
-    }
-    Ok(())
+    expect_panes(rt.alloc(), 16, "read\n")?;
+    expect_panes(rt.alloc(), 17, "syntax at line 21\n")
 }

@@ -2,45 +2,28 @@
 
 use std::alloc::Global;
 use std::test::Fail;
-use tv_check::{Certificate, CertificateFault, CertifyFault, certify};
-use tv_lang::parse;
 use tv_test_support::certificates::{
     CANCEL_CERTIFICATE, COLOUR_CERTIFICATE, NO_BLOCKS, ORDER_CERTIFICATE,
 };
-use tv_test_support::descriptions::{CANCEL, CLOSED, COLOUR, MENUS, ORDER, SHARED_LETTER, WINDOWS};
-use tv_test_support::{Question, expect_answer, expect_answers};
-
-/// The certificate of a description, or its first fault.
-#[derive(Clone, Copy)]
-pub struct Certifying;
-
-impl Question for Certifying {
-    fn answer(&self, alloc: Global, text: &[u8]) -> Result<String, Fail> {
-        let desc = parse(alloc, text)?;
-        match certify(alloc, &desc) {
-            Ok(certificate) => Ok(certificate.print(alloc)?),
-            Err(CertifyFault::Faulty(fault)) => {
-                let number = fault.kind.number();
-                Ok(format!(in alloc; "faulty F{number} line {}\n", fault.line)?)
-            }
-            Err(CertifyFault::NoMemory) => Err(Fail::new("no memory")),
-        }
-    }
-}
+use tv_test_support::descriptions::{
+    CANCEL, CLOSED, COLOUR, HEAD, MENUS, ORDER, SHARED_LETTER, WINDOWS,
+};
+use tv_test_support::{
+    Certifying, PrintingCertificate, Question, expect_answer, expect_answers, expect_rows,
+};
 
 #[test]
 fn certificates(rt: HostRuntime) -> Result<(), Fail> {
-    for (text, certificate) in [
+    const ROWS: [(&str, &str); 7] = [
         (CANCEL, CANCEL_CERTIFICATE),
         (CLOSED, CANCEL_CERTIFICATE),
         (ORDER, ORDER_CERTIFICATE),
         (COLOUR, COLOUR_CERTIFICATE),
         (WINDOWS, NO_BLOCKS),
         (MENUS, NO_BLOCKS),
-    ] {
-        expect_answer(&Certifying, rt.alloc(), text, certificate)?;
-    }
-    Ok(())
+        (SHARED_LETTER, "faulty F4 line 8\n"),
+    ];
+    expect_rows(&Certifying, rt.alloc(), &ROWS)
 }
 
 // A letter's owner is the control that a label names, wherever it stands; digits come before letters; a text's `~` marks
@@ -102,7 +85,7 @@ end
 
 #[test]
 fn owners(rt: HostRuntime) -> Result<(), Fail> {
-    expect_answers(&Certifying, rt.alloc(), "tvd 1\nscreen 40 14\n", OWNERS, "")
+    expect_answers(&Certifying, rt.alloc(), HEAD, OWNERS, "")
 }
 
 // The first fault is that of the least number, and of the least line among these.
@@ -120,26 +103,7 @@ end
 
 #[test]
 fn first_faults(rt: HostRuntime) -> Result<(), Fail> {
-    let alloc = rt.alloc();
-    expect_answer(&Certifying, alloc, SHARED_LETTER, "faulty F4 line 8\n")?;
-    expect_answers(&Certifying, alloc, "tvd 1\nscreen 40 14\n", FAULTY, "")
-}
-
-/// The canonical text of a certificate, or why it can't be read.
-#[derive(Clone, Copy)]
-struct Printing;
-
-impl Question for Printing {
-    fn answer(&self, alloc: Global, text: &[u8]) -> Result<String, Fail> {
-        match Certificate::read(alloc, text) {
-            Ok(certificate) => Ok(certificate.print(alloc)?),
-            Err(CertificateFault::Syntax(line)) => {
-                Ok(format!(in alloc; "syntax at line {line}\n")?)
-            }
-            Err(CertificateFault::TooLong) => Ok(format!(in alloc; "too long\n")?),
-            Err(CertificateFault::NoMemory) => Err(Fail::new("no memory")),
-        }
-    }
+    expect_answers(&Certifying, rt.alloc(), HEAD, FAULTY, "")
 }
 
 // Certificates of several blocks, with comments and spaces, and with any numbers.
@@ -177,24 +141,26 @@ end
 
 #[test]
 fn read_and_printed(rt: HostRuntime) -> Result<(), Fail> {
-    expect_answers(&Printing, rt.alloc(), "", READ, "")
+    expect_answers(&PrintingCertificate, rt.alloc(), "", READ, "")
 }
 
 #[test]
 fn canonical_certificates(rt: HostRuntime) -> Result<(), Fail> {
-    let alloc = rt.alloc();
-    for text in [
-        CANCEL_CERTIFICATE,
-        ORDER_CERTIFICATE,
-        COLOUR_CERTIFICATE,
-        NO_BLOCKS,
-    ] {
-        expect_answer(&Printing, alloc, text, text)?;
-    }
+    const ROWS: [(&str, &str); 4] = [
+        (CANCEL_CERTIFICATE, CANCEL_CERTIFICATE),
+        (ORDER_CERTIFICATE, ORDER_CERTIFICATE),
+        (COLOUR_CERTIFICATE, COLOUR_CERTIFICATE),
+        (NO_BLOCKS, NO_BLOCKS),
+    ];
+    expect_rows(&PrintingCertificate, rt.alloc(), &ROWS)
+}
+
+#[test]
+fn last_line_end(rt: HostRuntime) -> Result<(), Fail> {
     let text = ORDER_CERTIFICATE
         .strip_suffix("\n")
         .ok_or("no last line end")?;
-    expect_answer(&Printing, alloc, text, ORDER_CERTIFICATE)
+    expect_answer(&PrintingCertificate, rt.alloc(), text, ORDER_CERTIFICATE)
 }
 
 const REFUSED: &str = "tvcert 2
@@ -331,25 +297,31 @@ end
 
 #[test]
 fn refused_certificates(rt: HostRuntime) -> Result<(), Fail> {
-    let alloc = rt.alloc();
-    expect_answers(&Printing, alloc, "", REFUSED, "")?;
-    expect_answer(&Printing, alloc, "", "syntax at line 1\n")?;
-    expect_answer(&Printing, alloc, "\n\n", "syntax at line 3\n")
+    expect_answers(&PrintingCertificate, rt.alloc(), "", REFUSED, "")
+}
+
+#[test]
+fn empty_certificates(rt: HostRuntime) -> Result<(), Fail> {
+    const ROWS: [(&str, &str); 2] = [("", "syntax at line 1\n"), ("\n\n", "syntax at line 3\n")];
+    expect_rows(&PrintingCertificate, rt.alloc(), &ROWS)
+}
+
+// A certificate whose second line is a comment of so many characters.
+fn expect_comment(alloc: Global, length: usize, wanted: &str) -> Result<(), Fail> {
+    let comment = "#".repeat(alloc, length)?;
+    let text = format!(in alloc; "tvcert 1\n{comment}")?;
+    expect_answer(&PrintingCertificate, alloc, &text, wanted)
 }
 
 #[test]
 fn lengths_of_certificates(rt: HostRuntime) -> Result<(), Fail> {
-    let alloc = rt.alloc();
-    let comment = "#".repeat(alloc, 262_135)?;
-    let longest = format!(in alloc; "tvcert 1\n{comment}")?;
-    expect_answer(&Printing, alloc, &longest, NO_BLOCKS)?;
-    let too_long = format!(in alloc; "{longest}#")?;
-    expect_answer(&Printing, alloc, &too_long, "too long\n")
+    expect_comment(rt.alloc(), 262_135, NO_BLOCKS)?;
+    expect_comment(rt.alloc(), 262_136, "too long\n")
 }
 
 #[test]
 fn bytes_that_are_no_text(rt: HostRuntime) -> Result<(), Fail> {
-    let found = Printing.answer(rt.alloc(), b"tvcert 1\n# \xff\n")?;
+    let found = PrintingCertificate.answer(rt.alloc(), b"tvcert 1\n# \xff\n")?;
     assert_eq!(rt; found.as_str(), "syntax at line 2\n");
     Ok(())
 }

@@ -2,16 +2,13 @@
 //!
 //! The texts are those of the files. The ones that other tests use too stand in `tv_test_support`.
 
-use crate::acceptance::Accepting;
-use crate::certificates::Certifying;
-use crate::printing::expect_canonical;
 use std::alloc::Global;
 use std::test::Fail;
 use tv_test_support::certificates::{
     CANCEL_CERTIFICATE, COLOUR_CERTIFICATE, NO_BLOCKS, ORDER_CERTIFICATE,
 };
 use tv_test_support::descriptions::{CANCEL, COLOUR, MENUS, ORDER, WINDOWS};
-use tv_test_support::{expect_answer, expect_finding};
+use tv_test_support::{Accepting, Certifying, expect_answer, expect_canonical, expect_finding};
 
 // A description and its certificate.
 #[derive(Clone, Copy)]

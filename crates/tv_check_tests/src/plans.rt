@@ -1,56 +1,9 @@
 //! The order in which views are made.
 
-use crate::acceptance::checked;
-use std::alloc::{AllocError, Global};
 use std::test::Fail;
-use tv_check::{BuildStep, Checked, certify};
-use tv_lang::parse;
-use tv_model::Node;
 use tv_test_support::certificates::ORDER_CERTIFICATE;
 use tv_test_support::descriptions::{MENUS, ORDER, WINDOWS};
-use tv_test_support::{Question, expect_answer, push_line};
-
-/// The steps of making the views of a sound description, a line for each.
-#[derive(Clone, Copy)]
-struct Planning;
-
-impl Question for Planning {
-    fn answer(&self, alloc: Global, text: &[u8]) -> Result<String, Fail> {
-        let desc = parse(alloc, text)?;
-        let certificate = certify(alloc, &desc)?.print(alloc)?;
-        plan_told(alloc, &checked(alloc, desc, &certificate)?)
-    }
-}
-
-fn plan_told(alloc: Global, checked: &Checked) -> Result<String, Fail> {
-    let plan = checked.build_plan(alloc)?;
-    Ok(told(alloc, plan.as_slice())?)
-}
-
-fn told(alloc: Global, plan: &[BuildStep]) -> Result<String, AllocError> {
-    let mut lines = String::new(alloc);
-    for step in plan {
-        let line = match step {
-            BuildStep::Open(node) => node_told(alloc, "open", node)?,
-            BuildStep::Leaf(node) => node_told(alloc, "leaf", node)?,
-            BuildStep::Close => String::from_str(alloc, "close")?,
-        };
-        push_line(&mut lines, &line)?;
-    }
-    Ok(lines)
-}
-
-// A node by its name, or by its line where it has none.
-fn node_told(alloc: Global, step: &str, node: &Node) -> Result<String, AllocError> {
-    let Some(name) = node.kind.name() else {
-        return format!(in alloc; "{step} line {}", node.id.0);
-    };
-    let mut line = format!(in alloc; "{step} ")?;
-    for ch in name.as_slice() {
-        line.push(*ch)?;
-    }
-    Ok(line)
-}
+use tv_test_support::{Planning, PlanningWith, expect_answer, expect_rows};
 
 const ORDER_PLAN: &str = "open b
 leaf line 7
@@ -75,10 +28,8 @@ close
 
 #[test]
 fn plans(rt: HostRuntime) -> Result<(), Fail> {
-    for (text, plan) in [(ORDER, ORDER_PLAN), (WINDOWS, WINDOWS_PLAN), (MENUS, "")] {
-        expect_answer(&Planning, rt.alloc(), text, plan)?;
-    }
-    Ok(())
+    const ROWS: [(&str, &str); 3] = [(ORDER, ORDER_PLAN), (WINDOWS, WINDOWS_PLAN), (MENUS, "")];
+    expect_rows(&Planning, rt.alloc(), &ROWS)
 }
 
 // Windows before dialogs, panes in panes, empty ones, and panes that end together.
@@ -134,9 +85,8 @@ fn nested_panes(rt: HostRuntime) -> Result<(), Fail> {
 // The plan is that of the description also where the certificate was read.
 #[test]
 fn plan_after_reading(rt: HostRuntime) -> Result<(), Fail> {
-    let alloc = rt.alloc();
-    let desc = parse(alloc, ORDER.as_bytes())?;
-    let checked = checked(alloc, desc, ORDER_CERTIFICATE)?;
-    assert_eq!(rt; plan_told(alloc, &checked)?.as_str(), ORDER_PLAN);
-    Ok(())
+    let read = PlanningWith {
+        certificate: ORDER_CERTIFICATE,
+    };
+    expect_answer(&read, rt.alloc(), ORDER, ORDER_PLAN)
 }

@@ -1,35 +1,8 @@
 //! Canonical texts: that of a text with comments, spaces and empty lines, and that of a canonical text, which is itself.
 
-use std::alloc::Global;
 use std::test::Fail;
-use tv_lang::{parse, print};
 use tv_test_support::descriptions::{CANCEL, CLOSED, COLOUR, MENUS, ORDER, SHARED_LETTER, WINDOWS};
-use tv_test_support::{Question, expect_answer, expect_answers};
-
-/// The canonical text of what a text spells.
-#[derive(Clone, Copy)]
-pub struct Printing;
-
-impl Question for Printing {
-    fn answer(&self, alloc: Global, text: &[u8]) -> Result<String, Fail> {
-        let printed = print_of(alloc, text)?;
-        let again = print_of(alloc, printed.as_bytes())?;
-        if again.as_str() != printed.as_str() {
-            return Err(Fail::new("the canonical text spells something else"));
-        }
-        Ok(printed)
-    }
-}
-
-fn print_of(alloc: Global, text: &[u8]) -> Result<String, Fail> {
-    let desc = parse(alloc, text)?;
-    Ok(print(alloc, &desc)?)
-}
-
-/// Fails where a text isn't its own canonical text.
-pub fn expect_canonical(alloc: Global, text: &str) -> Result<(), Fail> {
-    expect_answer(&Printing, alloc, text, text)
-}
+use tv_test_support::{Printing, expect_answer, expect_answers, expect_canonical};
 
 #[test]
 fn canonical_texts(rt: HostRuntime) -> Result<(), Fail> {

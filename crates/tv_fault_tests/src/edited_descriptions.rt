@@ -1,8 +1,6 @@
 //! Sound descriptions, and edits of them that have one fault each.
 
 use std::test::Fail;
-use tv_check::faults;
-use tv_lang::parse;
 use tv_test_support::descriptions::{CANCEL, CLOSED, COLOUR, MENUS, ORDER, SHARED_LETTER, WINDOWS};
 use tv_test_support::{Findings, expect_edits, expect_finding};
 
@@ -113,12 +111,5 @@ fn rule_shows_itself(rt: HostRuntime) -> Result<(), Fail> {
 // fails here.
 #[test]
 fn faults_always_no_memory(rt: HostRuntime) -> Result<(), Fail> {
-    let alloc = rt.alloc();
-    let desc = parse(alloc, SHARED_LETTER.as_bytes())?;
-    let found = faults(alloc, &desc)?;
-    let [fault] = found.as_slice() else {
-        return Err(Fail::new("one fault is wanted"));
-    };
-    assert_eq!(rt; (fault.kind.number(), fault.line), (4, 8));
-    Ok(())
+    expect_finding(rt.alloc(), SHARED_LETTER, "F4 line 8")
 }

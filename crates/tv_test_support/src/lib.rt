@@ -1,12 +1,25 @@
-//! What the crates of tests share: descriptions, tables of texts and what is found in them, writers in memory.
+//! What the crates of tests share: descriptions, tables of texts and what is answered about them, writers in memory.
+//!
+//! A call of a library stands here in one function that answers with a text. What its contract says is long, and what it hands
+//! out is large: a test that makes the call itself has both before it.
 #![tactic(auto)]
 
+mod accepting;
 pub mod certificates;
+mod certifying;
 pub mod descriptions;
+mod dialogs;
 mod findings;
+mod planning;
+mod printing;
 mod tables;
 mod writers;
 
-pub use findings::{Findings, expect_finding, expect_findings};
-pub use tables::{Question, expect_answer, expect_answers, expect_edits, push_line};
+pub use accepting::{Accepting, AcceptingLater, expect_accepted};
+pub use certifying::{Certifying, PrintingCertificate};
+pub use dialogs::FirstDialog;
+pub use findings::{Findings, Reading, expect_finding, expect_findings};
+pub use planning::{Planning, PlanningWith};
+pub use printing::{Printing, expect_canonical};
+pub use tables::{Question, expect_answer, expect_answers, expect_edits, expect_rows, push_line};
 pub use writers::{Idle, Memory};

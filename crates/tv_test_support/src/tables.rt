@@ -33,6 +33,18 @@ pub fn expect_answer<Q: Question>(
     Err(Fail::new(format_args!("answered:\n{found}wanted:\n{wanted}about:\n{text}")))
 }
 
+/// Fails where about some text of a table another answer is given than the one beside it.
+pub fn expect_rows<Q: Question>(
+    question: &Q,
+    alloc: Global,
+    rows: &[(&str, &str)],
+) -> Result<(), Fail> {
+    for (text, wanted) in rows {
+        expect_answer(question, alloc, text, wanted)?;
+    }
+    Ok(())
+}
+
 // A row of a table, as far as it is read.
 #[derive(Drop)]
 struct Row {
@@ -94,6 +106,30 @@ fn judge<Q: Question>(
     expect_answer(question, alloc, &whole, &row.wanted)
 }
 
+// An edit of a text, as far as it is read.
+#[derive(Drop)]
+struct Edit {
+    old: String,
+    new: String,
+}
+
+impl Edit {
+    fn new(alloc: Global) -> Edit {
+        Edit {
+            old: String::new(alloc),
+            new: String::new(alloc),
+        }
+    }
+
+    fn take_line(&mut self, line: &str) -> Result<(), Fail> {
+        if let Some(line) = line.strip_prefix("- ") {
+            return Ok(push_line(&mut self.old, line)?);
+        }
+        let line = line.strip_prefix("+ ").ok_or("no line of an edit")?;
+        Ok(push_line(&mut self.new, line)?)
+    }
+}
+
 /// Fails where after some edit of a text another answer is given than its row says.
 ///
 /// An edit takes out the lines after `- `, where they stand first, and puts the lines after `+ ` in their place. One line
@@ -104,23 +140,28 @@ pub fn expect_edits<Q: Question>(
     text: &str,
     table: &str,
 ) -> Result<(), Fail> {
-    let mut old = String::new(alloc);
-    let mut new = String::new(alloc);
+    let mut edit = Edit::new(alloc);
     for line in Lines::new(table.as_bytes()) {
         let line = str::from_utf8(line)?;
-        if let Some(line) = line.strip_prefix("- ") {
-            push_line(&mut old, line)?;
-        } else if let Some(line) = line.strip_prefix("+ ") {
-            push_line(&mut new, line)?;
+        if let Some(wanted) = line.strip_prefix("=> ") {
+            judge_edit(question, alloc, text, &edit, wanted)?;
+            edit = Edit::new(alloc);
         } else {
-            let wanted = line.strip_prefix("=> ").ok_or("no line of an edit")?;
-            let (before, after) = text.split_once(old.as_str()).ok_or("nothing to edit")?;
-            let edited = format!(in alloc; "{before}{new}{after}")?;
-            let wanted = format!(in alloc; "{wanted}\n")?;
-            expect_answer(question, alloc, &edited, &wanted)?;
-            old.clear();
-            new.clear();
+            edit.take_line(line)?;
         }
     }
     Ok(())
+}
+
+fn judge_edit<Q: Question>(
+    question: &Q,
+    alloc: Global,
+    text: &str,
+    edit: &Edit,
+    wanted: &str,
+) -> Result<(), Fail> {
+    let (before, after) = text.split_once(edit.old.as_str()).ok_or("nothing to edit")?;
+    let edited = format!(in alloc; "{before}{}{after}", edit.new)?;
+    let wanted = format!(in alloc; "{wanted}\n")?;
+    expect_answer(question, alloc, &edited, &wanted)
 }
