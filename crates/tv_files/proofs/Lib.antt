@@ -1,0 +1,3 @@
+pub mod FileLemmas
+pub mod TaskLemmas
+pub mod TellingLemmas

@@ -1,2 +1,12 @@
--- Of which file a failure is told
-pub mod Failures
+-- How the program ends
+pub mod EndsWith
+-- How a task ends
+pub mod Ends
+-- What is known of files, and what reading one comes to
+pub mod Files
+-- What a flush leaves
+pub mod Streams
+-- What a task on files comes to
+pub mod Tasks
+-- What is told of a task, and the status
+pub mod Telling

@@ -1,9 +1,22 @@
-//! What the program does with files, from paths to a status.
+//! What the program does with files and streams, from what it is asked for to its status.
 #![tactic(auto)]
 
 mod failure;
-mod files;
-mod input;
+mod file_store;
+mod program;
+mod read_fault;
+mod runtime_files;
+mod stream;
+mod tasks;
+mod telling;
+mod text_kind;
 
-pub use failure::{DONE, Failure, OUTSIDE, finish};
-pub use files::{accept_file, check_file, run_file};
+pub use failure::Failure;
+pub use file_store::FileStore;
+pub use program::run_program;
+pub use read_fault::ReadFault;
+pub use runtime_files::{RuntimeFiles, read_text};
+pub use stream::{BufferedStream, DirectStream, Stream};
+pub use tasks::{accept_file, check_file, perform, run_file};
+pub use telling::{finish, tell_no_memory, tell_no_task};
+pub use text_kind::TextKind;

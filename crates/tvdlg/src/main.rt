@@ -2,62 +2,35 @@
 #![tactic(auto)]
 
 use std::process::ExitCode;
-use std::rt::{Env, Files};
+use std::rt::Env;
 use std::{env, io};
-use tv_command_line::{NoTask, Task, read_task};
-use tv_files::{OUTSIDE, accept_file, check_file, finish, run_file};
-use tv_output::Device;
-
-/// The status after a faulty command line, and after help.
-const USAGE: u8 = 2;
+use tv_command_line::{NoTask, read_task};
+use tv_files::{BufferedStream, DirectStream, RuntimeFiles, run_program, tell_no_memory};
 
 fn main(rt: HostRuntime) -> ExitCode {
-    ExitCode::from(run(&rt, rt.stderr()))
-}
-
-fn run<R: Files + Env + AllocGlobal + Print + Eprint, E: io::Write + Drop>(rt: &R, err: E) -> u8 {
-    let words = match env::args(rt) {
-        Ok(words) => words,
-        Err(error) if error.kind() == io::ErrorKind::OutOfMemory => return no_memory(rt),
-        Err(_) => return USAGE,
+    let alloc = rt.alloc();
+    let (Ok(mut out), Ok(mut err)) = (
+        BufferedStream::new(alloc, io::writer(&rt)),
+        BufferedStream::new(alloc, rt.stderr()),
+    ) else {
+        return ExitCode::from(tell_no_memory(&mut DirectStream::new(rt.stderr())));
     };
-    let Ok(words) = words.collect::<Vec<String>>(rt.alloc()) else {
-        return no_memory(rt);
-    };
-    match read_task(rt.alloc(), words.as_slice()) {
-        Ok(task) => on_streams(rt, task, err),
-        Err(NoTask::Usage(text)) => tell_usage(rt, text.as_str()),
-        Err(NoTask::NoMemory) => no_memory(rt),
-    }
-}
-
-fn on_streams<R: Files + AllocGlobal + Print + Eprint, E: io::Write + Drop>(
-    rt: &R,
-    task: Task<'_>,
-    err: E,
-) -> u8 {
-    let Ok(mut out) = Device::new(rt.alloc(), io::writer(rt)) else {
-        return no_memory(rt);
-    };
-    let Ok(mut err) = Device::new(rt.alloc(), err) else {
-        return no_memory(rt);
-    };
-    let answer = match task {
-        Task::Check { file } => check_file(rt, rt.alloc(), file, &mut out),
-        Task::Accept { file, certificate } => {
-            accept_file(rt, rt.alloc(), file, certificate, &mut out)
+    let mut files = RuntimeFiles::new(&rt);
+    let status = match words(&rt) {
+        Ok(words) => {
+            let asked = read_task(alloc, words.as_slice());
+            run_program(&mut files, alloc, asked, &mut out, &mut err)
         }
-        Task::Run { file, script } => run_file(rt, rt.alloc(), file, script, &mut out),
+        Err(no_task) => run_program(&mut files, alloc, Err(no_task), &mut out, &mut err),
     };
-    finish(answer, &mut out, &mut err)
+    ExitCode::from(status)
 }
 
-fn tell_usage<R: Eprint>(rt: &R, text: &str) -> u8 {
-    let _ = rt.eprint(text);
-    USAGE
-}
-
-fn no_memory<R: Eprint>(rt: &R) -> u8 {
-    let _ = eprintln!(rt; "tvdlg: no memory");
-    OUTSIDE
+// The words of the command line. Of one that isn't text nothing is told.
+fn words<R: Env + AllocGlobal>(rt: &R) -> Result<Vec<String>, NoTask> {
+    match env::args(rt) {
+        Ok(words) => Ok(words.collect::<Vec<String>>(rt.alloc())?),
+        Err(error) if error.kind() == io::ErrorKind::OutOfMemory => Err(NoTask::NoMemory),
+        Err(_) => Err(NoTask::Usage(String::new(rt.alloc()))),
+    }
 }

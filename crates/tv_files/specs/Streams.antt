@@ -1,0 +1,22 @@
+-- What a flush leaves, and a row of texts.
+use Rattle.std.specs.Prelude.{◌≡◌, ℕ, ◌⊎◌, List, [], ◌∷◌, Result, Ok, Err}
+use Rattle.std.specs.Io.KnownBytes.{Keeps}
+use Rattle.tv_output.specs.Writer.{Fails, Seen}
+use Rattle.tv_program.specs.Report.{IsOffered}
+
+-- all that the stream took is written, and no call of it has ever failed
+pub record IsWritten (old new : Seen) (kept : List ℕ) : Type 0 where
+  pub bytes : Keeps old.taken new.taken
+  pub count : new.failures ≡ old.failures
+  pub none : new.failures ≡ 0
+  pub rest : kept ≡ []
+
+-- by the flush's answer
+abbrev pub Flushes : {T E : Type 0} → (old new : Seen) → (kept : List ℕ) → Result T E → Type 0
+Flushes old new kept (Ok _) = IsWritten old new kept
+Flushes old new kept (Err _) = Fails old new
+
+-- the texts were offered one after another, and then the stream was flushed
+abbrev pub Offers : (old new : Seen) → (kept : List ℕ) → List (List ℕ) → Type 0
+Offers old new kept [] = IsWritten old new kept ⊎ Fails old new
+Offers old new kept (text ∷ texts) = (mid : Seen) × IsOffered old mid text × Offers mid new kept texts

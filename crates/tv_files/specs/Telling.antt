@@ -1,0 +1,49 @@
+-- What is told of how a task ended, and the status.
+use Rattle.std.specs.Prelude.{◌≡◌, ℕ, List, [], ◌∷◌, Some, None, string_bytes}
+use Rattle.tv_output.specs.Writer.{Fails, Seen, Takes}
+use Rattle.tv_program.specs.declared.fault.RunFault.{RunFault}
+use Rattle.tv_program.specs.declared.fault.RunFault.TheVariants.{NoMemory, Write}
+use Rattle.tv_program.specs.Report.{IsOffered, err_text, out_text, status_of}
+use Rattle.tv_task.specs.declared.no_task.NoTask.{NoTask}
+use Rattle.tv_task.specs.declared.no_task.NoTask.TheVariants as no_tasks
+use Rattle.tv_files.specs.Ends.{End}
+use Rattle.tv_files.specs.Streams.{IsWritten, Offers}
+
+-- what standard output is offered
+abbrev pub out_told : End → List ℕ
+out_told None = []
+out_told (Some (fault, path)) = out_text fault
+
+-- the message on standard error; that standard output failed is told below, where it is flushed
+abbrev pub err_told : End → List ℕ
+err_told None = []
+err_told (Some (Write, path)) = []
+err_told (Some (fault, path)) = err_text path fault
+
+-- the message where standard output failed
+abbrev pub cannot_write : List ℕ
+cannot_write = err_text [] Write
+
+-- the status, where standard output didn't fail
+abbrev pub status_told : End → ℕ
+status_told None = 0
+status_told (Some (fault, path)) = status_of fault
+
+-- standard output took all that was to be told, and the status is that of the end; or it failed, which is told too
+pub data Tells (end : End) (out out_after : Seen) (out_kept : List ℕ) (err err_after : Seen) (err_kept : List ℕ) (status : ℕ) : Type 0 where
+  written : (mid : Seen) → Takes out mid (out_told end) → IsWritten mid out_after out_kept → Offers err err_after err_kept (err_told end ∷ []) → status ≡ status_told end → Tells end out out_after out_kept err err_after err_kept status
+  failed : (mid : Seen) → IsOffered out mid (out_told end) → Fails mid out_after → Offers err err_after err_kept (err_told end ∷ cannot_write ∷ []) → status ≡ 3 → Tells end out out_after out_kept err err_after err_kept status
+
+-- the text of a usage fault, or help, was told; or it couldn't be
+pub data TellsUsage (text : List ℕ) (err err_after : Seen) (err_kept : List ℕ) (status : ℕ) : Type 0 where
+  written : (mid : Seen) → Takes err mid text → IsWritten mid err_after err_kept → status ≡ 2 → TellsUsage text err err_after err_kept status
+  failed : (mid : Seen) → IsOffered err mid text → Fails mid err_after → status ≡ 3 → TellsUsage text err err_after err_kept status
+
+-- the message where memory ran out before a task
+abbrev pub no_memory : List ℕ
+no_memory = err_text [] NoMemory
+
+-- why there is no task is told on standard error, which is flushed
+abbrev pub TellsNoTask : NoTask → (err err_after : Seen) → (err_kept : List ℕ) → (status : ℕ) → Type 0
+TellsNoTask no_tasks.NoMemory err err_after err_kept status = Offers err err_after err_kept (no_memory ∷ []) × (status ≡ 3)
+TellsNoTask (no_tasks.Usage text) err err_after err_kept status = TellsUsage (string_bytes text) err err_after err_kept status

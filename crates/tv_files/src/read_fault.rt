@@ -1,0 +1,24 @@
+//! Why the bytes of a file aren't there.
+
+use std::io;
+use std::io::ErrorKind;
+use thiserror::Error;
+
+/// Why the bytes of a file aren't there.
+#[derive(Clone, Copy, Debug, PartialEq, Eq, Error)]
+pub enum ReadFault {
+    #[error("no memory")]
+    NoMemory,
+    #[error("cannot read")]
+    Read,
+}
+
+impl From<io::Error> for ReadFault {
+    fn from(error: io::Error) -> ReadFault {
+        if error.kind() == ErrorKind::OutOfMemory {
+            ReadFault::NoMemory
+        } else {
+            ReadFault::Read
+        }
+    }
+}

@@ -1,0 +1,112 @@
+//! Streams: writers that may keep bytes back.
+
+ghost use Rattle.std.specs.Prelude.{◌≡◌, ℕ, List, [], IfOk};
+ghost use Rattle.std.specs.Io.KnownBytes.{Keeps};
+ghost use Rattle.tv_output.specs.Device.{device_seen, kept_back as device_kept_back};
+ghost use Rattle.tv_files.specs.Streams.{Flushes};
+
+use std::alloc::{AllocError, Global};
+use std::io::Write;
+use tv_output::{Device, WriteFailed, Writer};
+
+/// A writer that may keep back what it took.
+pub trait Stream: Writer {
+    ghost kept_back: { Self → List ℕ };
+
+    /// Writes what is kept back. It fails where that can't be written, and where a call failed before.
+    fn flush(&mut self) -> Result<(), WriteFailed>
+        ensures { Flushes (Self.seen self.old) (Self.seen self.new) (kept_back self.new) result };
+}
+
+/// A stream to which the bytes go in large pieces.
+#[derive(Drop)]
+pub struct BufferedStream<W: Write + Drop> {
+    device: Device<W>,
+    failures: u64,
+}
+
+impl<W: Write + Drop> BufferedStream<W> {
+    /// Over the writer, with room for what is kept back. Where there is no memory for it, the writer is dropped.
+    pub fn new(alloc: Global, writer: W) -> Result<BufferedStream<W>, AllocError>
+        ensures taken { IfOk result (λ stream. Keeps (W.contents writer) (device_seen W.contents stream.device).taken) }
+        ensures count { IfOk result (λ stream. stream.failures ≡ 0) }
+    {
+        let device = Device::new(alloc, writer)?;
+        Ok(BufferedStream {
+            device,
+            failures: 0,
+        })
+    }
+}
+
+impl<W: Write + Drop> Writer for BufferedStream<W> {
+    ghost seen = { λ s. record { taken = (device_seen W.contents s.device).taken; failures = s.failures } };
+
+    fn write(&mut self, bytes: &[u8]) -> Option<usize> {
+        match self.device.write(bytes) {
+            Some(count) if count > 0 => Some(count),
+            _ => {
+                self.failures = self.failures.saturating_add(1);
+                None
+            }
+        }
+    }
+}
+
+impl<W: Write + Drop> Stream for BufferedStream<W> {
+    ghost kept_back = { λ s. device_kept_back s.device };
+
+    fn flush(&mut self) -> Result<(), WriteFailed> {
+        if self.failures == 0 && self.device.flush().is_ok() {
+            return Ok(());
+        }
+        self.failures = self.failures.saturating_add(1);
+        Err(WriteFailed)
+    }
+}
+
+/// A stream that keeps nothing back, and so takes no memory.
+#[derive(Drop)]
+pub struct DirectStream<W: Write + Drop> {
+    writer: W,
+    failures: u64,
+}
+
+impl<W: Write + Drop> DirectStream<W> {
+    /// Over the writer.
+    pub fn new(writer: W) -> DirectStream<W>
+        ensures writer { result.writer ≡ writer }
+        ensures count { result.failures ≡ 0 }
+    {
+        DirectStream {
+            writer,
+            failures: 0,
+        }
+    }
+}
+
+impl<W: Write + Drop> Writer for DirectStream<W> {
+    ghost seen = { λ s. record { taken = W.contents s.writer; failures = s.failures } };
+
+    fn write(&mut self, bytes: &[u8]) -> Option<usize> {
+        match self.writer.write(bytes) {
+            Ok(count) if count > 0 => Some(count),
+            _ => {
+                self.failures = self.failures.saturating_add(1);
+                None
+            }
+        }
+    }
+}
+
+impl<W: Write + Drop> Stream for DirectStream<W> {
+    ghost kept_back = { λ _. [] };
+
+    fn flush(&mut self) -> Result<(), WriteFailed> {
+        if self.failures == 0 && self.writer.flush().is_ok() {
+            return Ok(());
+        }
+        self.failures = self.failures.saturating_add(1);
+        Err(WriteFailed)
+    }
+}

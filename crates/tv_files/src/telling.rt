@@ -1,0 +1,114 @@
+//! What is told of a task that ended, and the status.
+
+ghost use Rattle.std.specs.Prelude.{◌≡◌, [], ◌∷◌};
+ghost use Rattle.tv_program.specs.Report.{IsOffered};
+ghost use Rattle.tv_files.specs.Ends.{end_of};
+ghost use Rattle.tv_files.specs.Streams.{Offers};
+ghost use Rattle.tv_files.specs.Telling.{Tells, TellsNoTask, TellsUsage, err_told, no_memory, out_told, status_told};
+
+use crate::failure::Failure;
+use crate::stream::Stream;
+use tv_output::{Writer, write_all};
+use tv_program::{RunFault, report};
+use tv_task::NoTask;
+
+/// The status after all was done.
+const DONE: u8 = 0;
+
+/// The status after a faulty command line, and after help.
+const USAGE: u8 = 2;
+
+/// The status where a file or a stream failed, or memory was refused.
+const OUTSIDE: u8 = 3;
+
+/// Tells how a task ended, on the stream that took its result and on that of messages. Returns the status.
+///
+/// Where `out` failed, that is told too. Where a message can't be written, the status stays.
+pub fn finish<O: Stream, E: Stream>(
+    answer: &Result<(), Failure<'_>>,
+    out: &mut O,
+    err: &mut E,
+) -> u8
+    ensures { Tells (end_of answer.now) (O.seen out.old) (O.seen out.new) (O.kept_back out.new) (E.seen err.old) (E.seen err.new) (E.kept_back err.new) result }
+{
+    let status = tell(answer, out, err);
+    match out.flush() {
+        Ok(()) => {
+            close(err);
+            status
+        }
+        Err(_) => {
+            tell_last(b"tvdlg: cannot write\n", err);
+            OUTSIDE
+        }
+    }
+}
+
+/// Tells why there is no task. Returns the status.
+pub fn tell_no_task<E: Stream>(no_task: NoTask, err: &mut E) -> u8
+    ensures { TellsNoTask no_task (E.seen err.old) (E.seen err.new) (E.kept_back err.new) result }
+{
+    match no_task {
+        NoTask::NoMemory => tell_no_memory(err),
+        NoTask::Usage(text) => tell_usage(text.as_str(), err),
+    }
+}
+
+/// Tells that memory ran out before a task. Returns the status.
+pub fn tell_no_memory<E: Stream>(err: &mut E) -> u8
+    ensures told { Offers (E.seen err.old) (E.seen err.new) (E.kept_back err.new) (no_memory ∷ []) }
+    ensures status { result ≡ 3 }
+{
+    tell_last(b"tvdlg: no memory\n", err);
+    OUTSIDE
+}
+
+// Tells what is wrong with a command line, or the help that it asks for.
+fn tell_usage<E: Stream>(text: &str, err: &mut E) -> u8
+    ensures { TellsUsage text.now (E.seen err.old) (E.seen err.new) (E.kept_back err.new) result }
+{
+    offer(text.as_bytes(), err);
+    match err.flush() {
+        Ok(()) => USAGE,
+        Err(_) => OUTSIDE,
+    }
+}
+
+// That `out` failed is not told here: it fails again where it is flushed.
+fn tell<O: Writer, E: Writer>(answer: &Result<(), Failure<'_>>, out: &mut O, err: &mut E) -> u8
+    ensures status { result ≡ status_told (end_of answer.now) }
+    ensures out { IsOffered (O.seen out.old) (O.seen out.new) (out_told (end_of answer.now)) }
+    ensures err { IsOffered (E.seen err.old) (E.seen err.new) (err_told (end_of answer.now)) }
+{
+    match answer {
+        Ok(()) => DONE,
+        Err(
+            Failure {
+                fault: RunFault::Write,
+                path: _,
+            },
+        ) => OUTSIDE,
+        Err(failure) => report(&failure.fault, failure.path, out, err),
+    }
+}
+
+fn tell_last<E: Stream>(text: &[u8], err: &mut E)
+    ensures { Offers (E.seen err.old) (E.seen err.new) (E.kept_back err.new) (text.now ∷ []) }
+{
+    offer(text, err);
+    close(err);
+}
+
+// What the writer failed to take isn't offered again.
+fn offer<W: Writer>(text: &[u8], to: &mut W)
+    ensures { IsOffered (W.seen to.old) (W.seen to.new) text.now }
+{
+    let _ = write_all(to, text);
+}
+
+// There is nobody left to tell of a failure.
+fn close<S: Stream>(stream: &mut S)
+    ensures { Offers (S.seen stream.old) (S.seen stream.new) (S.kept_back stream.new) [] }
+{
+    let _ = stream.flush();
+}
