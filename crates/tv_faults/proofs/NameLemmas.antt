@@ -1,8 +1,9 @@
 -- What the want of faults of names says, and of places: F1, F2, F3 and F6.
-use Rattle.std.proofs.Common.{◌≡◌, ◌↔◌, ℕ, Bool, false, not, ◌&&◌, Decides, IsTrue, List, [], map, Option, Some, None, refl, sym, ap, subst, ◌∙◌}
+use Rattle.std.proofs.Common.{◌≡◌, ◌↔◌, ℕ, Bool, false, not, ◌&&◌, Decides, IsTrue, ◌||◌, List, [], map, Option, Some, None, refl, sym, ap, subst, ◌∙◌}
 use Rattle.std.specs.List.{All, AllPairs, list_any}
 use Rattle.std.specs.Str.{bytes_eq}
 use Rattle.std.proofs.lemmas.Bool.{false≢true, false_from_ne_true}
+use Rattle.std.proofs.lemmas.Bool.Decides.{Decides-and, Decides-or}
 use Rattle.std.proofs.lemmas.Slice.Eq.{bytes_eq-Decides}
 use Rattle.tv_cells.specs.declared.rect.Rect.{Rect}
 use Rattle.tv_model.specs.declared.node.Node.{Node}
@@ -13,7 +14,7 @@ use Rattle.tv_model.specs.declared.desc.Window.{Window}
 use Rattle.tv_model.specs.declared.desc.Dialog.{Dialog}
 use Rattle.tv_model.specs.declared.fault.FaultKind.TheVariants as faults
 use Rattle.tv_model.specs.Description.Names.{gives_name, is_control_option, is_option_named, meant, shares_name}
-use Rattle.tv_model.specs.Description.Nodes.{is_control, name_of}
+use Rattle.tv_model.specs.Description.Nodes.{is_control, is_pane, name_of}
 use Rattle.tv_model.specs.Description.Panes.{earlier_siblings, owner_of, room_in}
 use Rattle.tv_model.specs.Description.Rectangles.{desktop, is_within, overlap, place_of_node}
 use Rattle.tv_model.specs.Faults.{dialog_has, window_has}
@@ -22,7 +23,7 @@ use Rattle.tv_model.specs.Faults.Names.{dialog_named_again, links_nothing}
 use Rattle.tv_model.specs.Faults.Places.{is_off_desktop, is_outside, need_own_places, overlaps_earlier}
 use Rattle.tv_faults.specs.Sound.Bodies.{Body, bodies_of}
 use Rattle.tv_faults.specs.Sound.Names.{AreLabelsLinked, HasName, HaveOtherNames, HaveOwnNames, IsLinked, frames_of}
-use Rattle.tv_faults.specs.Sound.Places.{AreApart, AreInside, ArePlacedWell, AreViewsApart, IsApartFrom, LiesIn}
+use Rattle.tv_faults.specs.Sound.Places.{AreApart, AreInside, ArePlacedWell, AreViewsApart, IsApartFrom, LiesIn, NeedOwnPlaces}
 use Rattle.tv_faults.proofs.ExcludeLemmas.{Excludes, again_excludes, and_excludes, any_excludes, not_excludes, or_excludes}
 use Rattle.tv_faults.proofs.LackLemmas.{Lacks, NoView, NoneAfter}
 use Rattle.tv_faults.proofs.PairLemmas.{Across, after_each, after_own, all_and, all_map, all_swap, both, chain, each, pairs_append, pairs_map}
@@ -148,13 +149,26 @@ apart_excludes r s = let points = overlap_points (overlap r s) r s refl in (
   λ apart. false_from_ne_true (overlap r s) (λ t. let p = points.0 t in apart p.0 p.1 p.2 p.3),
 )
 
+need_decides : (one other : Kind) → Decides (need_own_places one other) (NeedOwnPlaces one other)
+need_decides one other =
+    Decides-or (is_pane one || is_pane other) (is_control one && is_control other)
+    (Decides-or (is_pane one) (is_pane other) (λ t. t, λ t. t) (λ t. t, λ t. t))
+    (Decides-and (is_control one) (is_control other) (λ t. t, λ t. t) (λ t. t, λ t. t))
+
+pair_excludes : (other node : Node)
+    → Excludes (need_own_places other.kind node.kind && overlap (place_of_node other) (place_of_node node)) (NeedOwnPlaces other.kind node.kind → IsApartFrom (place_of_node other) (place_of_node node))
+pair_excludes other node =
+    let need = need_decides other.kind node.kind in
+    let test = and_excludes (need_own_places other.kind node.kind) (overlap (place_of_node other) (place_of_node node)) (apart_excludes (place_of_node other) (place_of_node node)) in
+    (λ e own. test.0 e (need.1 own), λ h. test.1 (λ t. h (need.0 t)))
+
 views_apart : (body : Body) → NoView faults.Overlap body ↔ AreApart body.views
 views_apart body =
     each (λ pair. overlaps_earlier pair.0 pair.1 ≡ false)
-    (λ pair. All (λ other. IsTrue (need_own_places other.kind pair.1.kind) → IsApartFrom (place_of_node other) (place_of_node pair.1)) (earlier_siblings pair.0 pair.1))
+    (λ pair. All (λ other. NeedOwnPlaces other.kind pair.1.kind → IsApartFrom (place_of_node other) (place_of_node pair.1)) (earlier_siblings pair.0 pair.1))
     (λ pair. any_excludes (λ other. need_own_places other.kind pair.1.kind && overlap (place_of_node other) (place_of_node pair.1))
-    (λ other. IsTrue (need_own_places other.kind pair.1.kind) → IsApartFrom (place_of_node other) (place_of_node pair.1))
-    (λ other. and_excludes (need_own_places other.kind pair.1.kind) (overlap (place_of_node other) (place_of_node pair.1)) (apart_excludes (place_of_node other) (place_of_node pair.1)))
+    (λ other. NeedOwnPlaces other.kind pair.1.kind → IsApartFrom (place_of_node other) (place_of_node pair.1))
+    (λ other. pair_excludes other pair.1)
     (earlier_siblings pair.0 pair.1))
     (after_seen [] body.views)
 
