@@ -12,6 +12,8 @@ mod certificates;
 #[cfg(test)]
 mod examples;
 #[cfg(test)]
+mod large;
+#[cfg(test)]
 mod plans;
 #[cfg(test)]
 mod printing;

@@ -1,5 +1,8 @@
 //! What is answered to a description and a certificate.
 
+ghost use Rattle.std.specs.Prelude.{◌≡◌, IfErr, IfOk};
+ghost use Rattle.tv_lang.specs.CanonicalDescription.{CanBeSpelled};
+
 use crate::certifying::{read_certificate, unread_told};
 use crate::findings::{desc_of, fault_told};
 use crate::printing::print_of;
@@ -33,12 +36,17 @@ fn acceptance(alloc: Global, desc: &str, certificate: &Certificate) -> Result<St
 }
 
 // The description comes back unchanged, accepted or refused.
-fn acceptance_of(alloc: Global, desc: Desc, certificate: &Certificate) -> Result<String, Fail> {
+fn acceptance_of(alloc: Global, desc: Desc, certificate: &Certificate) -> Result<String, Fail>
+    requires { CanBeSpelled desc }
+{
     let printed = print_of(alloc, &desc)?;
     outcome_told(alloc, outcome(alloc, desc, certificate), &printed)
 }
 
-fn outcome(alloc: Global, desc: Desc, certificate: &Certificate) -> Outcome {
+fn outcome(alloc: Global, desc: Desc, certificate: &Certificate) -> Outcome
+    requires { CanBeSpelled desc }
+    ensures { IfErr result (λ refused. refused.1 ≡ desc) }
+{
     accept(alloc, desc, certificate)
 }
 
@@ -97,7 +105,9 @@ impl Question for AcceptingLater<'_> {
     }
 }
 
-fn refused(alloc: Global, desc: &str, certificate: &str) -> Result<(Refusal, Desc), Fail> {
+fn refused(alloc: Global, desc: &str, certificate: &str) -> Result<(Refusal, Desc), Fail>
+    ensures { IfOk result (λ refused. CanBeSpelled refused.1) }
+{
     let certificate = read_certificate(alloc, certificate.as_bytes())?;
     let desc = desc_of(alloc, desc.as_bytes())?;
     match outcome(alloc, desc, &certificate) {
@@ -106,7 +116,9 @@ fn refused(alloc: Global, desc: &str, certificate: &str) -> Result<(Refusal, Des
     }
 }
 
-fn acceptance_by(alloc: Global, desc: Desc, certificate: &[u8]) -> Result<String, Fail> {
+fn acceptance_by(alloc: Global, desc: Desc, certificate: &[u8]) -> Result<String, Fail>
+    requires { CanBeSpelled desc }
+{
     let certificate = read_certificate(alloc, certificate)?;
     acceptance_of(alloc, desc, &certificate)
 }

@@ -1,5 +1,7 @@
 //! Certificates: those of descriptions, and how they are read and printed.
 
+ghost use Rattle.tv_lang.specs.CanonicalDescription.{CanBeSpelled};
+
 use crate::findings::{desc_of, fault_told};
 use crate::tables::Question;
 use std::alloc::{AllocError, Global};
@@ -18,7 +20,9 @@ impl Question for Certifying {
     }
 }
 
-fn certified(alloc: Global, desc: &Desc) -> Result<String, Fail> {
+fn certified(alloc: Global, desc: &Desc) -> Result<String, Fail>
+    requires { CanBeSpelled desc.now }
+{
     match certificate_of(alloc, desc) {
         Ok(certificate) => Ok(print_of(alloc, &certificate)?),
         Err(CertifyFault::Faulty(fault)) => Ok(fault_told(alloc, "faulty ", &fault)?),
@@ -26,7 +30,9 @@ fn certified(alloc: Global, desc: &Desc) -> Result<String, Fail> {
     }
 }
 
-fn certificate_of(alloc: Global, desc: &Desc) -> Result<Certificate, CertifyFault> {
+fn certificate_of(alloc: Global, desc: &Desc) -> Result<Certificate, CertifyFault>
+    requires { CanBeSpelled desc.now }
+{
     certify(alloc, desc)
 }
 

@@ -1,5 +1,8 @@
 //! What the parser and the checker find in a description.
 
+ghost use Rattle.std.specs.Prelude.{IfOk};
+ghost use Rattle.tv_lang.specs.CanonicalDescription.{CanBeSpelled};
+
 use crate::tables::{Question, expect_answer, expect_answers};
 use std::alloc::{AllocError, Global};
 use std::test::Fail;
@@ -34,7 +37,9 @@ impl Question for Reading {
 }
 
 // The description that a text spells.
-pub(crate) fn desc_of(alloc: Global, text: &[u8]) -> Result<Desc, LangFault> {
+pub(crate) fn desc_of(alloc: Global, text: &[u8]) -> Result<Desc, LangFault>
+    ensures { IfOk result (λ desc. CanBeSpelled desc) }
+{
     parse(alloc, text)
 }
 

@@ -10,6 +10,7 @@ mod certifying;
 pub mod descriptions;
 mod dialogs;
 mod findings;
+pub mod large;
 mod planning;
 mod printing;
 mod tables;

@@ -27,6 +27,15 @@ pub fn text_node(alloc: Global, width: i32, text: &str) -> Result<Node, Fail>
     requires { (pos 0 ≤ℤ width) × (width ≤ℤ pos 50) }
     ensures { IfOk result (λ node. IsSmallRect (place_of_node node)) }
 {
+    rows_node(alloc, width, 1, text)
+}
+
+/// The same of a text of several rows.
+pub fn rows_node(alloc: Global, width: i32, h: i32, text: &str) -> Result<Node, Fail>
+    requires across { (pos 0 ≤ℤ width) × (width ≤ℤ pos 50) }
+    requires down { (pos 0 ≤ℤ h) × (h ≤ℤ pos 50) }
+    ensures { IfOk result (λ node. IsSmallRect (place_of_node node)) }
+{
     let text = chars(alloc, text)?;
     Ok(Node {
         id: Id(2),
@@ -34,7 +43,7 @@ pub fn text_node(alloc: Global, width: i32, text: &str) -> Result<Node, Fail>
         x: 1,
         y: 1,
         w: width,
-        kind: Kind::Text(StaticText { h: 1, text }),
+        kind: Kind::Text(StaticText { h, text }),
     })
 }
 

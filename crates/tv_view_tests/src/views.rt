@@ -4,7 +4,7 @@ ghost use Rattle.std.specs.Prelude.{IfOk};
 ghost use Rattle.tv_model.specs.Description.Rectangles.{place_of_node};
 ghost use Rattle.tv_model.specs.Controls.Meaning.{IsSmallRect};
 
-use crate::samples::{body, chars, sized, text_node};
+use crate::samples::{body, chars, rows_node, sized, text_node};
 use std::alloc::Global;
 use std::process::Abort;
 use std::test::Fail;
@@ -196,5 +196,13 @@ fn a_static_text_wants_its_node(rt: HostRuntime) -> Result<(), Fail> {
     let node = pane_node(alloc)?;
     let fault = StaticText::new(alloc, &node).err();
     assert_eq!(rt; fault, Some(ControlFault::WrongKind));
+    Ok(())
+}
+
+#[test]
+fn a_static_text_of_many_rows_has_memory(rt: HostRuntime) -> Result<(), Fail> {
+    let alloc = rt.alloc();
+    let node = rows_node(alloc, 50, 40, &"row\n".repeat(alloc, 30)?)?;
+    assert!(rt; StaticText::new(alloc, &node).is_ok());
     Ok(())
 }

@@ -45,3 +45,6 @@ returns g c =
       subst (λ written. AcceptsTo {T = Unit {0}} first.text written old new (Err c.in-Err.fault)) c.as_slice.ensures.value (c.in-Err.ensures first.text first.follows_text),
       end_as-Some c.new.result.fault c.from.result c.new.result.path.now (accept_told c.in-Err.fault) c.args.file.now c.args.certificate.now c.new.ensures.fault c.new.ensures.path c.from.ensures,
     )
+
+pub accept_text-requires : goal.accept_text-requires
+accept_text-requires g c = let first = c.in_ok-desc.ensures in (first.text, first.follows_text)

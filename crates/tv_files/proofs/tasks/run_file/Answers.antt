@@ -45,3 +45,6 @@ returns g c =
       subst (λ written. RunsTo {T = Unit {0}} first.text written old new (Err c.in-Err.fault)) c.as_slice.ensures.value (c.in-Err.ensures first.text first.follows_text.0),
       end_as-Some c.new.result.fault c.from.result c.new.result.path.now (thin_told c.in-Err.fault) c.args.file.now c.args.script.now c.new.ensures.fault c.new.ensures.path c.from.ensures,
     )
+
+pub run_script-requires-clause-spelled : goal.run_script-requires-clause-spelled
+run_script-requires-clause-spelled g c = let first = c.in_ok-desc.ensures.read in (first.text, first.follows_text.0.spelled)
