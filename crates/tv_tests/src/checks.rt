@@ -1,55 +1,38 @@
 //! What the program checks, accepts and doesn't run yet, from the bytes of its files to what it prints and its status.
 
+use crate::calls::{Call, expect_cuts, expect_stop};
 use std::alloc::Global;
 use std::test::Fail;
-use tv_lang::parse;
-use tv_program::thin::run;
-use tv_program::{AcceptFault, CheckFault, RunFault, accept_files, accept_text, check, report};
 use tv_test_support::certificates::{CANCEL_CERTIFICATE, NO_BLOCKS, ORDER_CERTIFICATE};
 use tv_test_support::descriptions::{CANCEL, COLOUR, MENUS, ORDER, SHARED_LETTER, WINDOWS};
-use tv_test_support::{Idle, Memory, Question, expect_answer, expect_answers};
-
-// What stands on standard output, then what stands on standard error, then the status. A call that failed wrote nothing.
-fn told(alloc: Global, answer: Result<(), RunFault>, mut out: Memory) -> Result<String, Fail> {
-    let Err(fault) = answer else {
-        let text = str::from_utf8(out.taken())?;
-        return Ok(format!(in alloc; "{text}status 0\n")?);
-    };
-    if !out.taken().is_empty() {
-        return Err(Fail::new("a call that failed has written"));
-    }
-    let mut err = Memory::ample(alloc)?;
-    let status = report(&fault, "NAME", &mut out, &mut err);
-    let text = str::from_utf8(out.taken())?;
-    let message = str::from_utf8(err.taken())?;
-    Ok(format!(in alloc; "{text}{message}status {status}\n")?)
-}
-
-/// What `check` prints.
-#[derive(Clone, Copy)]
-struct Checking;
-
-impl Question for Checking {
-    fn answer(&self, alloc: Global, text: &[u8]) -> Result<String, Fail> {
-        let mut out = Memory::ample(alloc)?;
-        let answer = check(alloc, text, &mut out);
-        told(alloc, answer.map_err(RunFault::from), out)
-    }
-}
+use tv_test_support::{expect_answer, expect_answers, expect_rows};
 
 #[test]
 fn checked_descriptions(rt: HostRuntime) -> Result<(), Fail> {
-    let alloc = rt.alloc();
     for (text, certificate) in [
         (CANCEL, CANCEL_CERTIFICATE),
         (ORDER, ORDER_CERTIFICATE),
         (WINDOWS, NO_BLOCKS),
         (MENUS, NO_BLOCKS),
     ] {
-        let wanted = format!(in alloc; "{certificate}status 0\n")?;
-        expect_answer(&Checking, alloc, text, &wanted)?;
+        expect_checked(rt.alloc(), text, certificate)?;
     }
-    expect_answer(&Checking, alloc, SHARED_LETTER, "F4 line 8\nstatus 1\n")
+    Ok(())
+}
+
+fn expect_checked(alloc: Global, text: &str, certificate: &str) -> Result<(), Fail> {
+    let wanted = format!(in alloc; "{certificate}status 0\n")?;
+    expect_answer(&Call::Check, alloc, text, &wanted)
+}
+
+#[test]
+fn checked_with_a_fault(rt: HostRuntime) -> Result<(), Fail> {
+    expect_answer(
+        &Call::Check,
+        rt.alloc(),
+        SHARED_LETTER,
+        "F4 line 8\nstatus 1\n",
+    )
 }
 
 // Faults by number, then by line of the canonical text; and texts that are no descriptions.
@@ -84,33 +67,18 @@ tvd 3
 
 #[test]
 fn refused_descriptions(rt: HostRuntime) -> Result<(), Fail> {
-    let alloc = rt.alloc();
-    expect_answers(&Checking, alloc, "", CHECKED, "")?;
+    expect_answers(&Call::Check, rt.alloc(), "", CHECKED, "")
+}
+
+#[test]
+fn descriptions_too_long(rt: HostRuntime) -> Result<(), Fail> {
+    expect_too_long(&Call::Check, rt.alloc())
+}
+
+// One byte more than a description or a certificate may have.
+fn expect_too_long(call: &Call<'_>, alloc: Global) -> Result<(), Fail> {
     let too_long = "#".repeat(alloc, 262_145)?;
-    let wanted = "tvdlg: NAME: too long\nstatus 1\n";
-    expect_answer(&Checking, alloc, &too_long, wanted)
-}
-
-/// What `accept` prints for this description and the certificate of a row.
-#[derive(Clone, Copy)]
-struct AcceptingFiles<'a> {
-    desc: &'a str,
-}
-
-impl Question for AcceptingFiles<'_> {
-    fn answer(&self, alloc: Global, text: &[u8]) -> Result<String, Fail> {
-        let mut out = Memory::ample(alloc)?;
-        let answer = accept_files(alloc, self.desc.as_bytes(), text, &mut out);
-        let all_told = told(alloc, answer.map_err(RunFault::from), out)?;
-        if let Ok(desc) = parse(alloc, self.desc.as_bytes()) {
-            let mut out = Memory::ample(alloc)?;
-            let answer = accept_text(alloc, desc, text, &mut out);
-            if told(alloc, answer.map_err(RunFault::from), out)?.as_str() != all_told.as_str() {
-                return Err(Fail::new("accept_files and accept_text differ"));
-            }
-        }
-        Ok(all_told)
-    }
+    expect_answer(call, alloc, &too_long, "tvdlg: NAME: too long\nstatus 1\n")
 }
 
 // The certificate of the order form as it is, and where something is wrong with it.
@@ -177,14 +145,23 @@ end
 => status 1
 ";
 
+// The answer is the same where the description was read before.
+fn expect_acceptance(alloc: Global, desc: &str, table: &str) -> Result<(), Fail> {
+    expect_answers(&Call::AcceptFiles { desc }, alloc, "", table, "")?;
+    expect_answers(&Call::AcceptText { desc }, alloc, "", table, "")
+}
+
 #[test]
 fn accepted_certificates(rt: HostRuntime) -> Result<(), Fail> {
-    let alloc = rt.alloc();
-    let order = AcceptingFiles { desc: ORDER };
-    expect_answers(&order, alloc, "", CERTIFICATES, "")?;
-    let too_long = "#".repeat(alloc, 262_145)?;
-    let wanted = "tvdlg: NAME: too long\nstatus 1\n";
-    expect_answer(&order, alloc, &too_long, wanted)
+    expect_acceptance(rt.alloc(), ORDER, CERTIFICATES)
+}
+
+#[test]
+fn certificates_too_long(rt: HostRuntime) -> Result<(), Fail> {
+    let files = Call::AcceptFiles { desc: ORDER };
+    let text = Call::AcceptText { desc: ORDER };
+    expect_too_long(&files, rt.alloc())?;
+    expect_too_long(&text, rt.alloc())
 }
 
 // A description that can't be read is told first, then a certificate that can't be read, then the description's faults.
@@ -209,35 +186,38 @@ key C y
 ";
 
 #[test]
-fn order_of_refusals(rt: HostRuntime) -> Result<(), Fail> {
-    let alloc = rt.alloc();
-    let faulty = AcceptingFiles {
-        desc: SHARED_LETTER,
-    };
-    expect_answers(&faulty, alloc, "", HIDDEN, "")?;
-    let broken = AcceptingFiles { desc: "tvd 1\n" };
-    let wanted = "tvdlg: NAME: syntax at line 2\nstatus 1\n";
-    for certificate in [NO_BLOCKS, "tvcert 2\n"] {
-        expect_answer(&broken, alloc, certificate, wanted)?;
-    }
-    let other_version = AcceptingFiles { desc: "tvd 3\n" };
-    let wanted = "tvdlg: NAME: unknown version\nstatus 1\n";
-    expect_answer(&other_version, alloc, "tvcert 2\n", wanted)
+fn faulty_descriptions(rt: HostRuntime) -> Result<(), Fail> {
+    expect_acceptance(rt.alloc(), SHARED_LETTER, HIDDEN)
 }
 
-/// What `run` prints.
-#[derive(Clone, Copy)]
-struct Running<'a> {
-    script: &'a str,
+// What is told where the description can't be read, whatever the certificate is.
+const UNREAD: &str = "tvcert 1
+=> tvdlg: NAME: syntax at line 2
+=> status 1
+tvcert 2
+=> tvdlg: NAME: syntax at line 2
+=> status 1
+";
+
+#[test]
+fn broken_descriptions(rt: HostRuntime) -> Result<(), Fail> {
+    expect_acceptance(rt.alloc(), "tvd 1\n", UNREAD)
 }
 
-impl Question for Running<'_> {
-    fn answer(&self, alloc: Global, text: &[u8]) -> Result<String, Fail> {
-        let mut out = Memory::ample(alloc)?;
-        let answer = run(alloc, text, self.script.as_bytes(), &mut out);
-        told(alloc, answer.map_err(RunFault::from), out)
-    }
+const OTHER_VERSION: &str = "tvcert 2
+=> tvdlg: NAME: unknown version
+=> status 1
+";
+
+#[test]
+fn descriptions_of_another_version(rt: HostRuntime) -> Result<(), Fail> {
+    expect_acceptance(rt.alloc(), "tvd 3\n", OTHER_VERSION)
 }
+
+// A script that is no script: a description that isn't run yet is told first.
+const NO_SCRIPT: Call<'static> = Call::Run {
+    script: "key Foo\n",
+};
 
 // Descriptions that are read and aren't one dialog of texts and plain buttons; the first one is faulty too.
 const NOT_YET: &str = r#"dialog d 2 2 36 11 "" ends ok
@@ -284,43 +264,30 @@ end
 
 #[test]
 fn descriptions_not_run_yet(rt: HostRuntime) -> Result<(), Fail> {
-    let alloc = rt.alloc();
-    let running = Running {
-        script: "key Foo\n",
-    };
-    let wanted = "tvdlg: NAME: not yet\nstatus 1\n";
-    for text in [ORDER, COLOUR, WINDOWS, MENUS, SHARED_LETTER] {
-        expect_answer(&running, alloc, text, wanted)?;
-    }
-    expect_answers(&running, alloc, "tvd 1\nscreen 40 14\n", NOT_YET, "")
+    expect_answers(&NO_SCRIPT, rt.alloc(), "tvd 1\nscreen 40 14\n", NOT_YET, "")
+}
+
+const NOT_YET_TOLD: &str = "tvdlg: NAME: not yet\nstatus 1\n";
+
+#[test]
+fn examples_not_run_yet(rt: HostRuntime) -> Result<(), Fail> {
+    const ROWS: [(&str, &str); 5] = [
+        (ORDER, NOT_YET_TOLD),
+        (COLOUR, NOT_YET_TOLD),
+        (WINDOWS, NOT_YET_TOLD),
+        (MENUS, NOT_YET_TOLD),
+        (SHARED_LETTER, NOT_YET_TOLD),
+    ];
+    expect_rows(&NO_SCRIPT, rt.alloc(), &ROWS)
 }
 
 #[test]
 fn writers_that_fail(rt: HostRuntime) -> Result<(), Fail> {
-    let alloc = rt.alloc();
-    let certificate = CANCEL_CERTIFICATE.as_bytes();
-    for room in 0..certificate.len() {
-        let mut out = Memory::new(alloc, room, 5)?;
-        let answer = check(alloc, CANCEL.as_bytes(), &mut out);
-        assert!(rt; matches!(answer, Err(CheckFault::Write)), "{answer:?}");
-        assert_eq!(rt; out.taken(), &certificate[..room], "at {room}");
-    }
-    let mut out = Memory::new(alloc, certificate.len(), 5)?;
-    assert!(rt; check(alloc, CANCEL.as_bytes(), &mut out).is_ok());
-    assert_eq!(rt; out.taken(), certificate);
-    Ok(())
+    expect_cuts(&Call::Check, rt.alloc(), CANCEL, CANCEL_CERTIFICATE, 5)
 }
 
 #[test]
-fn acceptance_that_cannot_be_written(rt: HostRuntime) {
-    let alloc = rt.alloc();
-    let mut out = Idle { calls: 0 };
-    let answer = accept_files(
-        alloc,
-        CANCEL.as_bytes(),
-        CANCEL_CERTIFICATE.as_bytes(),
-        &mut out,
-    );
-    assert!(rt; matches!(answer, Err(AcceptFault::Write)), "{answer:?}");
-    assert_eq!(rt; out.calls, 1);
+fn acceptance_that_cannot_be_written(rt: HostRuntime) -> Result<(), Fail> {
+    let accepting = Call::AcceptFiles { desc: CANCEL };
+    expect_stop(&accepting, rt.alloc(), CANCEL_CERTIFICATE)
 }

@@ -3,6 +3,7 @@
 use std::alloc::{AllocError, Global};
 use std::test::Fail;
 use tv_command_line::{NoTask, Task, parse, read_task};
+use tv_test_support::{Question, expect_answers};
 
 fn words(alloc: Global, line: &str) -> Result<Vec<String>, AllocError> {
     let mut words = Vec::new(alloc);
@@ -12,78 +13,130 @@ fn words(alloc: Global, line: &str) -> Result<Vec<String>, AllocError> {
     Ok(words)
 }
 
-// What a command line asks for, or what is wrong with it.
-fn meaning(alloc: Global, line: &str) -> Result<String, Fail> {
-    let words = words(alloc, line)?;
-    let told = match parse(alloc, words.as_slice()) {
-        Ok(Task::Check { file }) => format!(in alloc; "checks {file}"),
-        Ok(Task::Accept { file, certificate }) => {
-            format!(in alloc; "accepts {file} with {certificate}")
-        }
-        Ok(Task::Run { file, script }) => format!(in alloc; "runs {script} on {file}"),
-        Err(error) => format!(in alloc; "{:?}", error.kind()),
-    };
-    Ok(told?)
+/// What a command line asks for, or what is wrong with it.
+#[derive(Clone, Copy)]
+struct Meaning;
+
+impl Question for Meaning {
+    fn answer(&self, alloc: Global, text: &[u8]) -> Result<String, Fail> {
+        let line = str::from_utf8(text)?.trim_end();
+        let words = words(alloc, line)?;
+        Ok(task_or_fault(alloc, words.as_slice())?)
+    }
 }
+
+fn task_or_fault(alloc: Global, words: &[String]) -> Result<String, AllocError> {
+    match parse(alloc, words) {
+        Ok(task) => task_told(alloc, task),
+        Err(error) => format!(in alloc; "{:?}\n", error.kind()),
+    }
+}
+
+fn task_told(alloc: Global, task: Task<'_>) -> Result<String, AllocError> {
+    match task {
+        Task::Check { file } => format!(in alloc; "checks {file}\n"),
+        Task::Accept { file, certificate } => format!(in alloc;
+            "accepts {file} with {certificate}\n"
+        ),
+        Task::Run { file, script } => format!(in alloc; "runs {script} on {file}\n"),
+    }
+}
+
+const LINES: &str = "tvdlg check a.tvd
+=> checks a.tvd
+tvdlg accept a.tvd a.cert
+=> accepts a.tvd with a.cert
+tvdlg run a.tvd a.tvs
+=> runs a.tvs on a.tvd
+tvdlg check -- -a.tvd
+=> checks -a.tvd
+tvdlg run -- -a -b
+=> runs -b on -a
+";
 
 #[test]
 fn command_lines(rt: HostRuntime) -> Result<(), Fail> {
-    for (line, wanted) in [
-        ("tvdlg check a.tvd", "checks a.tvd"),
-        ("tvdlg accept a.tvd a.cert", "accepts a.tvd with a.cert"),
-        ("tvdlg run a.tvd a.tvs", "runs a.tvs on a.tvd"),
-        ("tvdlg check -- -a.tvd", "checks -a.tvd"),
-        ("tvdlg run -- -a -b", "runs -b on -a"),
-    ] {
-        assert_eq!(rt; meaning(rt.alloc(), line)?.as_str(), wanted, "{line}");
-    }
-    Ok(())
+    expect_answers(&Meaning, rt.alloc(), "", LINES, "")
 }
+
+const FAULTY_LINES: &str = "tvdlg
+=> MissingSubcommand
+tvdlg paint a.tvd
+=> InvalidSubcommand
+tvdlg check
+=> MissingRequiredArgument
+tvdlg accept a.tvd
+=> MissingRequiredArgument
+tvdlg run a.tvd
+=> MissingRequiredArgument
+tvdlg check a.tvd b.tvd
+=> UnknownArgument
+tvdlg check -a.tvd
+=> UnknownArgument
+tvdlg check --fast a.tvd
+=> UnknownArgument
+";
 
 #[test]
 fn faulty_command_lines(rt: HostRuntime) -> Result<(), Fail> {
-    for (line, wanted) in [
-        ("tvdlg", "MissingSubcommand"),
-        ("tvdlg paint a.tvd", "InvalidSubcommand"),
-        ("tvdlg check", "MissingRequiredArgument"),
-        ("tvdlg accept a.tvd", "MissingRequiredArgument"),
-        ("tvdlg run a.tvd", "MissingRequiredArgument"),
-        ("tvdlg check a.tvd b.tvd", "UnknownArgument"),
-        ("tvdlg check -a.tvd", "UnknownArgument"),
-        ("tvdlg check --fast a.tvd", "UnknownArgument"),
-    ] {
-        assert_eq!(rt; meaning(rt.alloc(), line)?.as_str(), wanted, "{line}");
-    }
-    Ok(())
+    expect_answers(&Meaning, rt.alloc(), "", FAULTY_LINES, "")
 }
 
-// The text that a command line without a task shows.
+/// Whether the text that a command line without a task shows has a part: a row is the command line, and the part.
+#[derive(Clone, Copy)]
+struct Showing;
+
+impl Question for Showing {
+    fn answer(&self, alloc: Global, text: &[u8]) -> Result<String, Fail> {
+        let (line, part) = str::from_utf8(text)?.split_once("\n").ok_or("no part")?;
+        let shown = shown(alloc, line)?;
+        if shown.contains(part.trim_end()) {
+            return Ok(String::from_str(alloc, "shown\n")?);
+        }
+        Ok(shown)
+    }
+}
+
 fn shown(alloc: Global, line: &str) -> Result<String, Fail> {
     let words = words(alloc, line)?;
-    match read_task(alloc, words.as_slice()) {
+    usage(alloc, words.as_slice())
+}
+
+fn usage(alloc: Global, words: &[String]) -> Result<String, Fail> {
+    match read_task(alloc, words) {
         Err(NoTask::Usage(text)) => Ok(text),
         Err(NoTask::NoMemory) => Err("no memory".into()),
         Ok(_) => Err("a task".into()),
     }
 }
 
+const HELP: &str = "tvdlg --help
+Checks descriptions of text-mode dialogs
+=> shown
+tvdlg --help
+Statuses: 0 done
+=> shown
+tvdlg check --help
+A description of windows and dialogs
+=> shown
+tvdlg check --help
+Statuses: 0 done
+=> shown
+tvdlg accept --help
+A certificate, as `check` prints it
+=> shown
+tvdlg run --help
+A script, with an event or a picture on each line
+=> shown
+tvdlg
+Usage: tvdlg
+=> shown
+tvdlg accept a.tvd
+<CERT>
+=> shown
+";
+
 #[test]
 fn help_teaches(rt: HostRuntime) -> Result<(), Fail> {
-    for (line, part) in [
-        ("tvdlg --help", "Checks descriptions of text-mode dialogs"),
-        ("tvdlg --help", "Statuses: 0 done"),
-        ("tvdlg check --help", "A description of windows and dialogs"),
-        ("tvdlg check --help", "Statuses: 0 done"),
-        ("tvdlg accept --help", "A certificate, as `check` prints it"),
-        (
-            "tvdlg run --help",
-            "A script, with an event or a picture on each line",
-        ),
-        ("tvdlg", "Usage: tvdlg"),
-        ("tvdlg accept a.tvd", "<CERT>"),
-    ] {
-        let text = shown(rt.alloc(), line)?;
-        assert!(rt; text.contains(part), "{line}: {text}");
-    }
-    Ok(())
+    expect_answers(&Showing, rt.alloc(), "", HELP, "")
 }

@@ -1,36 +1,48 @@
 //! What is made by the libraries' constructors.
 
 use bitflags::Flags;
+use std::alloc::{AllocError, Global};
 use std::process::Abort;
 use std::test::Fail;
 use tv_cells::{Cell, HotText, HotTextFault, Point, Screen, ScreenFault};
-use tv_check::faults;
 use tv_event::{Command, CommandSet, Event, Key, Mask, Options, State};
-use tv_lang::parse;
 use tv_model::{Id, Record, Value};
 use tv_test_support::descriptions::CANCEL;
+use tv_test_support::{Question, expect_finding, expect_rows};
 use tv_valid::Text;
 
 #[test]
 fn screens(rt: HostRuntime) -> Result<(), Fail> {
-    let alloc = rt.alloc();
     for (width, height) in [(20, 10), (132, 60)] {
-        let screen = Screen::new(alloc, width, height)?;
+        let screen = Screen::new(rt.alloc(), width, height)?;
         assert_eq!(rt; (screen.width(), screen.height()), (width, height));
-        let blank = Cell::new(' ', 0);
-        for y in 0..screen.height() as i32 {
-            for x in 0..screen.width() as i32 {
-                assert_eq!(rt; screen.at(Point { x, y }), blank, "{x} {y}");
-            }
-        }
-        let x = screen.width() as i32;
-        assert_eq!(rt; screen.at(Point { x, y: 0 }), None);
-    }
-    for (width, height) in [(19, 10), (20, 9), (133, 10), (20, 61), (0, 0)] {
-        let fault = Screen::new(alloc, width, height).err();
-        assert_eq!(rt; fault, Some(ScreenFault::BadSize), "{width} {height}");
+        expect_blank(&rt, &screen);
     }
     Ok(())
+}
+
+// Sees to it that each cell is blank, and that there is none beside the first row.
+fn expect_blank(rt: &impl Abort, screen: &Screen) {
+    for y in 0..screen.height() as i32 {
+        expect_blank_row(rt, screen, y);
+    }
+    let x = screen.width() as i32;
+    assert_eq!(rt; screen.at(Point { x, y: 0 }), None);
+}
+
+fn expect_blank_row(rt: &impl Abort, screen: &Screen, y: i32) {
+    let blank = Cell::new(' ', 0);
+    for x in 0..screen.width() as i32 {
+        assert_eq!(rt; screen.at(Point { x, y }), blank, "{x} {y}");
+    }
+}
+
+#[test]
+fn refused_screens(rt: HostRuntime) {
+    for (width, height) in [(19, 10), (20, 9), (133, 10), (20, 61), (0, 0)] {
+        let fault = Screen::new(rt.alloc(), width, height).err();
+        assert_eq!(rt; fault, Some(ScreenFault::BadSize), "{width} {height}");
+    }
 }
 
 #[test]
@@ -43,43 +55,76 @@ fn cells(rt: HostRuntime) -> Result<(), Fail> {
     Ok(())
 }
 
-#[test]
-fn marked_texts(rt: HostRuntime) -> Result<(), Fail> {
-    let alloc = rt.alloc();
-    for (text, plain, letter) in [
-        ("~A~mount", "Amount", Some('A')),
-        ("~a~", "a", Some('A')),
-        ("x~9~", "x9", Some('9')),
-        ("Amount", "Amount", None),
-        ("", "", None),
-    ] {
-        let hot = HotText::parse(text)?;
-        let chars: Vec<char> = plain.chars().collect(alloc)?;
-        assert_eq!(rt; hot.text(), chars.as_slice(), "{text}");
-        assert_eq!(rt; hot.letter(), letter, "{text}");
+/// What a marked text is: its text without the mark and its letter, or why it is refused.
+#[derive(Clone, Copy)]
+struct MarkedTexts;
+
+impl Question for MarkedTexts {
+    fn answer(&self, alloc: Global, text: &[u8]) -> Result<String, Fail> {
+        match HotText::parse(str::from_utf8(text)?) {
+            Ok(hot) => Ok(letter_told(alloc, hot.text(), hot.letter())?),
+            Err(fault) => Ok(refusal_told(alloc, fault)?),
+        }
     }
-    Ok(())
+}
+
+fn letter_told(alloc: Global, text: &[char], letter: Option<char>) -> Result<String, AllocError> {
+    let mut told = String::new(alloc);
+    for ch in text {
+        told.push(*ch)?;
+    }
+    told.push(',')?;
+    if let Some(letter) = letter {
+        told.push(letter)?;
+    }
+    Ok(told)
+}
+
+fn refusal_told(alloc: Global, fault: HotTextFault) -> Result<String, AllocError> {
+    match fault {
+        HotTextFault::BadMark => String::from_str(alloc, "bad mark"),
+        HotTextFault::TooLong => String::from_str(alloc, "too long"),
+        HotTextFault::BadWidth(place) => format!(in alloc; "bad width at {place}"),
+    }
 }
 
 #[test]
-fn refused_marked_texts(rt: HostRuntime) -> Result<(), Fail> {
-    let alloc = rt.alloc();
-    for (text, fault) in [
-        ("~AB~", HotTextFault::BadMark),
-        ("a~b", HotTextFault::BadMark),
-        ("~A~~B~", HotTextFault::BadMark),
-        ("~~", HotTextFault::BadMark),
-        ("ab漢", HotTextFault::BadWidth(2)),
+fn marked_texts(rt: HostRuntime) -> Result<(), Fail> {
+    const ROWS: [(&str, &str); 10] = [
+        ("~A~mount", "Amount,A"),
+        ("~a~", "a,A"),
+        ("x~9~", "x9,9"),
+        ("Amount", "Amount,"),
+        ("", ","),
+        ("~AB~", "bad mark"),
+        ("a~b", "bad mark"),
+        ("~A~~B~", "bad mark"),
+        ("~~", "bad mark"),
+        ("ab漢", "bad width at 2"),
+    ];
+    expect_rows(&MarkedTexts, rt.alloc(), &ROWS)
+}
+
+// Fails where a text with so many characters more is something else than what ends like this.
+fn expect_end(alloc: Global, text: &str, more: usize, end: &str) -> Result<(), Fail> {
+    let rest = "x".repeat(alloc, more)?;
+    let whole = format!(in alloc; "{text}{rest}")?;
+    let told = MarkedTexts.answer(alloc, whole.as_bytes())?;
+    if told.ends_with(end) {
+        return Ok(());
+    }
+    Err(Fail::new(format_args!("{text} and {more} more: {told}")))
+}
+
+#[test]
+fn lengths_of_marked_texts(rt: HostRuntime) -> Result<(), Fail> {
+    for (text, more, end) in [
+        ("~A~", 119, "x,A"),
+        ("~A~x", 119, "too long"),
+        ("", 121, "too long"),
     ] {
-        assert_eq!(rt; HotText::parse(text).err(), Some(fault), "{text}");
+        expect_end(rt.alloc(), text, more, end)?;
     }
-    let rest = "x".repeat(alloc, 119)?;
-    for (text, fault) in [("~A~", None), ("~A~x", Some(HotTextFault::TooLong))] {
-        let text = format!(in alloc; "{text}{rest}")?;
-        assert_eq!(rt; HotText::parse(&text).err(), fault, "{text}");
-    }
-    let text = "x".repeat(alloc, 121)?;
-    assert_eq!(rt; HotText::parse(&text).err(), Some(HotTextFault::TooLong));
     Ok(())
 }
 
@@ -122,20 +167,28 @@ fn bits_of_flags(rt: HostRuntime) {
     }
 }
 
+// The bits of an event's mask, and whether a view and a group take it.
+fn masked(event: &Event) -> (u16, bool, bool) {
+    let bits = Mask::of_event(event).bits();
+    (
+        bits,
+        Mask::of_view().takes(event),
+        Mask::of_group().takes(event),
+    )
+}
+
 #[test]
 fn masks_of_events(rt: HostRuntime) {
     let point = Point { x: 0, y: 0 };
-    for (event, bits, is_taken) in [
-        (Event::Down(point), 0x0001, true),
-        (Event::Up(point), 0x0002, false),
-        (Event::Move(point), 0x0004, false),
-        (Event::Key(Key::Tab), 0x0010, true),
-        (Event::Command(Command::OK), 0x0100, true),
-        (Event::Broadcast(Command::DEFAULT), 0x0200, false),
+    for (event, wanted) in [
+        (Event::Down(point), (0x0001, true, true)),
+        (Event::Up(point), (0x0002, false, true)),
+        (Event::Move(point), (0x0004, false, true)),
+        (Event::Key(Key::Tab), (0x0010, true, true)),
+        (Event::Command(Command::OK), (0x0100, true, true)),
+        (Event::Broadcast(Command::DEFAULT), (0x0200, false, true)),
     ] {
-        assert_eq!(rt; Mask::of_event(&event).bits(), bits, "{event:?}");
-        assert_eq!(rt; Mask::of_view().takes(&event), is_taken, "{event:?}");
-        assert!(rt; Mask::of_group().takes(&event), "{event:?}");
+        assert_eq!(rt; masked(&event), wanted, "{event:?}");
     }
 }
 
@@ -145,30 +198,49 @@ fn put(rt: &impl Abort, record: &mut Record, id: Id, value: Value) {
     record.put(id, value);
 }
 
+// What a field holds.
+fn value_told(alloc: Global, value: Option<&Value>) -> Result<String, AllocError> {
+    match value {
+        None => String::from_str(alloc, "none"),
+        Some(Value::Marks(marks)) => format!(in alloc; "marks {marks}"),
+        Some(Value::Item(item)) => format!(in alloc; "item {item}"),
+        Some(Value::Text(text)) => text.as_slice().iter().collect(alloc),
+    }
+}
+
+fn expect_value(alloc: Global, record: &Record, id: Id, wanted: &str) -> Result<(), Fail> {
+    let told = value_told(alloc, record.value(id))?;
+    if told.as_str() == wanted {
+        return Ok(());
+    }
+    Err(Fail::new(format_args!("{}: {told}", id.0)))
+}
+
 #[test]
 fn records(rt: HostRuntime) -> Result<(), Fail> {
     let mut record = Record::new();
-    assert!(rt; record.value(Id(4)).is_none());
+    expect_value(rt.alloc(), &record, Id(4), "none")?;
     put(&rt, &mut record, Id(4), Value::Marks(5));
     put(&rt, &mut record, Id(7), Value::Item(2));
     put(&rt, &mut record, Id(4), Value::Marks(6));
     assert_eq!(rt; record.len(), 2);
-    assert!(rt; matches!(record.value(Id(4)), Some(Value::Marks(6))));
-    assert!(rt; matches!(record.value(Id(7)), Some(Value::Item(2))));
-    assert!(rt; record.value(Id(5)).is_none());
-    let text = Text::from_chars(&['a', 'b']).ok_or("two characters fit")?;
-    put(&rt, &mut record, Id(7), Value::Text(text));
-    let Some(Value::Text(text)) = record.value(Id(7)) else {
-        return Err("no text".into());
-    };
-    assert_eq!(rt; text.as_slice(), ['a', 'b'].as_slice());
+    for (id, wanted) in [(4, "marks 6"), (7, "item 2"), (5, "none")] {
+        expect_value(rt.alloc(), &record, Id(id), wanted)?;
+    }
     Ok(())
 }
 
 #[test]
+fn texts_in_records(rt: HostRuntime) -> Result<(), Fail> {
+    let text = Text::from_chars(&['a', 'b']).ok_or("two characters fit")?;
+    let mut record = Record::new();
+    put(&rt, &mut record, Id(4), Value::Marks(6));
+    put(&rt, &mut record, Id(7), Value::Item(2));
+    put(&rt, &mut record, Id(7), Value::Text(text));
+    expect_value(rt.alloc(), &record, Id(7), "ab")
+}
+
+#[test]
 fn no_faults(rt: HostRuntime) -> Result<(), Fail> {
-    let alloc = rt.alloc();
-    let desc = parse(alloc, CANCEL.as_bytes())?;
-    assert_eq!(rt; faults(alloc, &desc)?.as_slice().len(), 0);
-    Ok(())
+    expect_finding(rt.alloc(), CANCEL, "sound")
 }

@@ -1,10 +1,9 @@
 //! Thin descriptions with a fault each, and such as are just inside the limits: what the checker lists, a run tells.
 
+use crate::calls::Call;
 use std::alloc::Global;
 use std::test::Fail;
-use tv_program::thin::run;
-use tv_program::{RunFault, report};
-use tv_test_support::{Findings, Memory, Question, expect_answers};
+use tv_test_support::{Findings, Question, expect_answers};
 
 // What a run without items comes to: `sound`, or the faults that the program tells of.
 #[derive(Clone, Copy)]
@@ -12,21 +11,14 @@ struct Running;
 
 impl Question for Running {
     fn answer(&self, alloc: Global, text: &[u8]) -> Result<String, Fail> {
-        let mut written = Memory::ample(alloc)?;
-        let Err(fault) = run(alloc, text, b"", &mut written) else {
-            let written = str::from_utf8(written.taken())?;
-            return Ok(format!(in alloc; "{written}sound\n")?);
-        };
-        let mut out = Memory::ample(alloc)?;
-        let mut err = Memory::ample(alloc)?;
-        let fault = RunFault::from(fault);
-        if report(&fault, "NAME", &mut out, &mut err) != 1
-            || !err.taken().is_empty()
-            || !written.taken().is_empty()
-        {
-            return Err(Fail::new("more than the faults was told"));
+        let told = Call::Run { script: "" }.answer(alloc, text)?;
+        if let Some(faults) = told.strip_suffix("status 1\n") {
+            return Ok(String::from_str(alloc, faults)?);
         }
-        Ok(String::from_str(alloc, str::from_utf8(out.taken())?)?)
+        let written = told
+            .strip_suffix("status 0\n")
+            .ok_or("more than the faults was told")?;
+        Ok(format!(in alloc; "{written}sound\n")?)
     }
 }
 
@@ -225,34 +217,35 @@ fn faults_of_the_head(rt: HostRuntime) -> Result<(), Fail> {
     expect_faults(rt.alloc(), "tvd 1\n", HEADS, rest)
 }
 
-#[test]
-fn faults_of_long_texts(rt: HostRuntime) -> Result<(), Fail> {
-    let alloc = rt.alloc();
-    let longest = "x".repeat(alloc, 120)?;
+// Texts of 120 characters, and longer ones.
+fn expect_long_texts(alloc: Global, extra: &str, wanted: &str) -> Result<(), Fail> {
     let rest = "x".repeat(alloc, 119)?;
-    for (extra, wanted) in [
-        ("", "sound"),
-        ("x", "F15 line 3\n=> F15 line 4\n=> F15 line 5"),
-    ] {
-        let row = format!(in alloc;
-            r#"dialog a 2 2 14 4 "{longest}{extra}" ends cancel
+    let row = format!(in alloc;
+        r#"dialog a 2 2 14 4 "x{rest}{extra}" ends cancel
 button c 2 1 4 "~C~{rest}{extra}" cancel
-text 1 2 4 1 "{longest}{extra}"
+text 1 2 4 1 "x{rest}{extra}"
 => {wanted}
 "#
-        )?;
-        expect_faults(alloc, SCREEN, &row, "end\n")?;
-    }
-    Ok(())
+    )?;
+    expect_faults(alloc, SCREEN, &row, "end\n")
+}
+
+#[test]
+fn faults_of_long_texts(rt: HostRuntime) -> Result<(), Fail> {
+    expect_long_texts(rt.alloc(), "", "sound")?;
+    expect_long_texts(rt.alloc(), "x", "F15 line 3\n=> F15 line 4\n=> F15 line 5")
+}
+
+fn expect_many_views(alloc: Global, texts: usize, wanted: &str) -> Result<(), Fail> {
+    let lines = "text 1 2 4 1 \"abc\"\n".repeat(alloc, texts)?;
+    let row = format!(in alloc; "{lines}=> {wanted}\n")?;
+    expect_faults(alloc, DIALOG, &row, "end\n")
 }
 
 #[test]
 fn faults_of_many_views(rt: HostRuntime) -> Result<(), Fail> {
-    let alloc = rt.alloc();
     for (texts, wanted) in [(63, "sound"), (64, "F15 line 68"), (66, "F15 line 68")] {
-        let lines = "text 1 2 4 1 \"abc\"\n".repeat(alloc, texts)?;
-        let row = format!(in alloc; "{lines}=> {wanted}\n")?;
-        expect_faults(alloc, DIALOG, &row, "end\n")?;
+        expect_many_views(rt.alloc(), texts, wanted)?;
     }
     Ok(())
 }

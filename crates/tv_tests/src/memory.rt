@@ -1,7 +1,7 @@
 //! Allocations that are refused.
 
-use tv_program::ThinFault;
-use tv_program::thin::run;
+use crate::calls::run_into;
+use tv_program::RunFault;
 use tv_test_support::Memory;
 use tv_test_support::descriptions::CANCEL;
 
@@ -12,15 +12,11 @@ fn refused_allocations(rt: HostRuntime) {
     let Ok(mut out) = Memory::ample(alloc) else {
         return;
     };
-    match run(
-        alloc,
-        CANCEL.as_bytes(),
-        b"key Tab\ntype \"  \"\nshot\n",
-        &mut out,
-    ) {
+    let script = b"key Tab\ntype \"  \"\nshot\n";
+    match run_into(alloc, CANCEL.as_bytes(), script, &mut out) {
         Ok(()) => assert_ne!(rt; out.taken().len(), 0),
         Err(fault) => {
-            assert!(rt; matches!(fault, ThinFault::NoMemory), "{fault:?}");
+            assert!(rt; matches!(fault, RunFault::NoMemory), "{fault:?}");
             assert_eq!(rt; out.taken().len(), 0);
         }
     }

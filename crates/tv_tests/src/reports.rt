@@ -1,30 +1,24 @@
 //! What is told of a run that didn't come to its end.
 
+use crate::calls::{report_into, run_into};
 use std::alloc::Global;
-use std::process::Abort;
 use std::test::Fail;
 use tv_check::CertificateFault;
 use tv_lang::LangFault;
-use tv_program::thin::run;
-use tv_program::{RunFault, report};
+use tv_program::RunFault;
 use tv_test_support::descriptions::WITHOUT_CANCEL;
 use tv_test_support::{Idle, Memory};
 
-// Sees to it that a fault has this message and status, and that nothing is told elsewhere.
-fn expect_report(
-    rt: &impl Abort,
-    alloc: Global,
-    fault: &RunFault,
-    message: &str,
-    status: u8,
-) -> Result<(), Fail> {
+// Fails where a fault has another message or status than this, and where anything is told elsewhere.
+fn expect_report(alloc: Global, fault: &RunFault, message: &str, status: u8) -> Result<(), Fail> {
     let mut out = Memory::ample(alloc)?;
     let mut err = Memory::ample(alloc)?;
-    let answer = report(fault, "NAME", &mut out, &mut err);
-    assert_eq!(rt; answer, status, "{fault:?}");
-    assert_eq!(rt; out.taken().len(), 0, "{fault:?}");
-    assert_eq!(rt; str::from_utf8(err.taken())?, message, "{fault:?}");
-    Ok(())
+    let answer = report_into(fault, &mut out, &mut err);
+    let is_told = err.taken() == message.as_bytes() && out.taken().is_empty();
+    if is_told && answer == status {
+        return Ok(());
+    }
+    Err(Fail::new(format_args!("{fault:?}: status {answer}")))
 }
 
 #[test]
@@ -54,7 +48,7 @@ fn reports_on_texts(rt: HostRuntime) -> Result<(), Fail> {
         ),
         (RunFault::NotYet, "tvdlg: NAME: not yet\n"),
     ] {
-        expect_report(&rt, rt.alloc(), &fault, message, 1)?;
+        expect_report(rt.alloc(), &fault, message, 1)?;
     }
     Ok(())
 }
@@ -67,42 +61,51 @@ fn reports_on_memory_and_devices(rt: HostRuntime) -> Result<(), Fail> {
         (RunFault::Read, "tvdlg: cannot read NAME\n"),
         (RunFault::Write, "tvdlg: cannot write\n"),
     ] {
-        expect_report(&rt, rt.alloc(), &fault, message, 3)?;
+        expect_report(rt.alloc(), &fault, message, 3)?;
     }
     Ok(())
 }
 
+// Fails where a fault has another status, or leaves anything but this on a writer that fails after so many bytes.
+fn expect_begun(alloc: Global, fault: &RunFault, prefix: &str, status: u8) -> Result<(), Fail> {
+    let mut err = Memory::new(alloc, prefix.len(), 5)?;
+    let mut out = Idle { calls: 0 };
+    let answer = report_into(fault, &mut out, &mut err);
+    if answer == status && err.taken() == prefix.as_bytes() && out.calls == 0 {
+        return Ok(());
+    }
+    Err(Fail::new(format_args!("{fault:?}: status {answer}")))
+}
+
 #[test]
 fn statuses_where_writers_fail(rt: HostRuntime) -> Result<(), Fail> {
-    let alloc = rt.alloc();
     for (fault, prefix, status) in [
         (RunFault::Lang(LangFault::Syntax(2)), "tvdlg: NAME", 1),
         (RunFault::Script(100), "tvdlg: NAME", 1),
         (RunFault::Write, "tvdlg: canno", 3),
         (RunFault::NoMemory, "tvdlg: no me", 3),
     ] {
-        let mut err = Memory::new(alloc, prefix.len(), 5)?;
-        let mut out = Idle { calls: 0 };
-        assert_eq!(rt;
-            report(&fault, "NAME", &mut out, &mut err),
-            status,
-            "{fault:?}"
-        );
-        assert_eq!(rt; str::from_utf8(err.taken())?, prefix, "{fault:?}");
-        assert_eq!(rt; out.calls, 0, "{fault:?}");
+        expect_begun(rt.alloc(), &fault, prefix, status)?;
     }
     Ok(())
 }
 
+// Runs a faulty description with a writer, and tells that of its faults. Returns the status, and how often standard error was
+// called; and no status where it runs.
+fn run_and_report(alloc: Global, desc: &str, out: &mut Memory) -> (Option<u8>, u64) {
+    let mut err = Idle { calls: 0 };
+    let status = match run_into(alloc, desc.as_bytes(), b"", out) {
+        Ok(()) => None,
+        Err(fault) => Some(report_into(&fault, out, &mut err)),
+    };
+    (status, err.calls)
+}
+
 #[test]
 fn faults_where_writers_fail(rt: HostRuntime) -> Result<(), Fail> {
-    let alloc = rt.alloc();
-    let mut out = Memory::new(alloc, 5, 4)?;
-    let answer = run(alloc, WITHOUT_CANCEL.as_bytes(), b"", &mut out);
-    let fault = RunFault::from(answer.err().ok_or("it runs")?);
-    let mut err = Idle { calls: 0 };
-    assert_eq!(rt; report(&fault, "NAME", &mut out, &mut err), 1);
+    let mut out = Memory::new(rt.alloc(), 5, 4)?;
+    let told = run_and_report(rt.alloc(), WITHOUT_CANCEL, &mut out);
+    assert_eq!(rt; told, (Some(1), 0));
     assert_eq!(rt; str::from_utf8(out.taken())?, "F10 l");
-    assert_eq!(rt; err.calls, 0);
     Ok(())
 }

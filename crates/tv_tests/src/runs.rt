@@ -1,12 +1,10 @@
 //! Whole runs, from the bytes of a description and a script to those of the output.
 
+use crate::calls::{Call, expect_cut, expect_cuts, expect_run, expect_stop, expect_whole};
 use std::alloc::{AllocError, Global};
-use std::process::Abort;
 use std::test::Fail;
-use tv_program::thin::run;
-use tv_program::{RunFault, ThinFault, report};
 use tv_test_support::descriptions::{CANCEL, CLOSED, WITHOUT_CANCEL};
-use tv_test_support::{Idle, Memory};
+use tv_test_support::{Question, push_line};
 
 const TWO_BUTTONS: &str = r#"tvd 1
 screen 20 10
@@ -62,114 +60,97 @@ shot 20 10
 :                    :
 ";
 
-// What a run writes where the writer has ample room.
-fn output(alloc: Global, desc: &str, script: &str) -> Result<Memory, ThinFault> {
-    let mut out = Memory::ample(alloc)?;
-    run(alloc, desc.as_bytes(), script.as_bytes(), &mut out)?;
-    Ok(out)
+// A run by its description and its script, and what it writes, in two parts.
+const RUNS: [(&str, &str, &str, &str); 5] = [
+    (CANCEL, "key Tab\nshot\nkey Esc\n", SHOWN, "end a cancel\n"),
+    (
+        TWO_BUTTONS,
+        "key Tab\ntype \" \"\nkey Enter\nkey Shift-Tab\nkey Enter\nkey Tab\n",
+        TWO_BUTTONS_LOG,
+        "",
+    ),
+    (CLOSED, "", "", ""),
+    (
+        CLOSED,
+        "key Tab\nkey Enter\ntype \"  \"\nkey Esc\nkey Shift-Tab\n",
+        "",
+        "",
+    ),
+    (CLOSED, "key Esc\nshot\n", EMPTY, ""),
+];
+
+fn expect_written(
+    alloc: Global,
+    desc: &str,
+    script: &str,
+    written: &str,
+    end: &str,
+) -> Result<(), Fail> {
+    let wanted = format!(in alloc; "{written}{end}status 0\n")?;
+    expect_run(alloc, desc, script, &wanted)
 }
 
 #[test]
-fn cancel_dialog(rt: HostRuntime) -> Result<(), Fail> {
-    let alloc = rt.alloc();
-    let out = output(alloc, CANCEL, "key Tab\nshot\nkey Esc\n")?;
-    let mut wanted = String::from_str(alloc, SHOWN)?;
-    wanted.push_str("end a cancel\n")?;
-    assert_eq!(rt; str::from_utf8(out.taken())?, wanted.as_str());
+fn runs(rt: HostRuntime) -> Result<(), Fail> {
+    for (desc, script, written, end) in RUNS {
+        expect_written(rt.alloc(), desc, script, written, end)?;
+    }
     Ok(())
 }
+
+// Some lines of a text, by their numbers from 0, and all from the 14th on.
+fn lines_of(alloc: Global, text: &str, numbers: &[usize]) -> Result<String, AllocError> {
+    let mut lines = String::new(alloc);
+    for (number, line) in text.lines().enumerate() {
+        if numbers.contains(&number) || number > 13 {
+            push_line(&mut lines, line)?;
+        }
+    }
+    Ok(lines)
+}
+
+const COLORS: &str = "\
+colors 20 10
+:71717f702f2f2e2f2f2f2f2f2f2f707f08087171:
+end a cancel
+status 0
+";
 
 #[test]
 fn cancel_dialog_colors(rt: HostRuntime) -> Result<(), Fail> {
-    let out = output(rt.alloc(), CANCEL, "key Tab\ncolors\nkey Esc\n")?;
-    let text = str::from_utf8(out.taken())?;
-    assert_eq!(rt; text.lines().nth(2), Some("colors 20 10"));
-    assert_eq!(rt;
-        text.lines().nth(6),
-        Some(":71717f702f2f2e2f2f2f2f2f2f2f707f08087171:")
-    );
-    assert_eq!(rt; text.lines().nth(13), Some("end a cancel"));
-    assert_eq!(rt; text.lines().nth(14), None);
-    Ok(())
-}
-
-#[test]
-fn two_buttons(rt: HostRuntime) -> Result<(), Fail> {
-    let script = "key Tab\ntype \" \"\nkey Enter\nkey Shift-Tab\nkey Enter\nkey Tab\n";
-    let out = output(rt.alloc(), TWO_BUTTONS, script)?;
-    assert_eq!(rt; str::from_utf8(out.taken())?, TWO_BUTTONS_LOG);
-    Ok(())
-}
-
-#[test]
-fn no_start(rt: HostRuntime) -> Result<(), Fail> {
-    for (script, wanted) in [
-        ("", ""),
-        (
-            "key Tab\nkey Enter\ntype \"  \"\nkey Esc\nkey Shift-Tab\n",
-            "",
-        ),
-        ("key Esc\nshot\n", EMPTY),
-    ] {
-        let out = output(rt.alloc(), CLOSED, script)?;
-        assert_eq!(rt; str::from_utf8(out.taken())?, wanted, "after {script}");
-    }
+    let script = "key Tab\ncolors\nkey Esc\n";
+    let told = Call::Run { script }.answer(rt.alloc(), CANCEL.as_bytes())?;
+    let lines = lines_of(rt.alloc(), &told, &[2, 6, 13])?;
+    assert_eq!(rt; lines.as_str(), COLORS);
     Ok(())
 }
 
 #[test]
 fn missing_cancel(rt: HostRuntime) -> Result<(), Fail> {
-    let alloc = rt.alloc();
-    let mut written = Memory::ample(alloc)?;
-    let answer = run(alloc, WITHOUT_CANCEL.as_bytes(), b"key Foo\n", &mut written);
-    let fault = answer.err().ok_or("it runs")?;
-    assert!(rt; matches!(fault, ThinFault::Faults(_)), "{fault:?}");
-    assert_eq!(rt; written.taken().len(), 0);
-    let mut out = Memory::ample(alloc)?;
-    let mut err = Memory::ample(alloc)?;
-    let fault = RunFault::from(fault);
-    assert_eq!(rt; report(&fault, "NAME", &mut out, &mut err), 1);
-    assert_eq!(rt; str::from_utf8(out.taken())?, "F10 line 4\n");
-    assert_eq!(rt; str::from_utf8(err.taken())?, "");
-    Ok(())
+    expect_run(
+        rt.alloc(),
+        WITHOUT_CANCEL,
+        "key Foo\n",
+        "F10 line 4\nstatus 1\n",
+    )
 }
 
-// Runs `shot` on a writer that fails after so many bytes.
-fn cut_at(rt: &impl Abort, alloc: Global, room: usize, wanted: &[u8]) -> Result<(), AllocError> {
-    let mut out = Memory::new(alloc, room, 4096)?;
-    let answer = run(alloc, CANCEL.as_bytes(), b"shot\n", &mut out);
-    assert!(rt;
-        matches!(answer, Err(ThinFault::Write)),
-        "{answer:?} at {room}"
-    );
-    assert_eq!(rt; out.taken(), wanted, "at {room}");
-    Ok(())
-}
+// Shows the dialog.
+const SHOT: Call<'static> = Call::Run { script: "shot\n" };
 
 #[test]
 fn failing_writer(rt: HostRuntime) -> Result<(), Fail> {
-    let alloc = rt.alloc();
-    cut_at(&rt, alloc, 30, b"open a\nfocus c\nshot 20 10\n:   ")?;
-    let shown = SHOWN.as_bytes();
-    for room in 0..shown.len() {
-        cut_at(&rt, alloc, room, &shown[..room])?;
-    }
-    Ok(())
-}
-
-#[test]
-fn writer_that_takes_nothing(rt: HostRuntime) {
-    let mut out = Idle { calls: 0 };
-    let answer = run(rt.alloc(), CANCEL.as_bytes(), b"shot\n", &mut out);
-    assert!(rt; matches!(answer, Err(ThinFault::Write)), "{answer:?}");
-    assert_eq!(rt; out.calls, 1);
+    let begun = "open a\nfocus c\nshot 20 10\n:   ";
+    expect_cut(&SHOT, rt.alloc(), CANCEL, begun, 30, 4096)?;
+    expect_cuts(&SHOT, rt.alloc(), CANCEL, SHOWN, 4096)
 }
 
 #[test]
 fn writer_of_one_byte_a_call(rt: HostRuntime) -> Result<(), Fail> {
-    let alloc = rt.alloc();
-    let mut out = Memory::new(alloc, 4096, 1)?;
-    run(alloc, CANCEL.as_bytes(), b"shot\n", &mut out)?;
-    assert_eq!(rt; str::from_utf8(out.taken())?, SHOWN);
-    Ok(())
+    expect_whole(&SHOT, rt.alloc(), CANCEL, SHOWN, 1)
+}
+
+#[test]
+fn writer_that_takes_nothing(rt: HostRuntime) -> Result<(), Fail> {
+    expect_stop(&SHOT, rt.alloc(), CANCEL)
 }

@@ -1,41 +1,28 @@
 //! Texts that are descriptions and scripts, and such as are refused.
 
+use crate::calls::{Call, run_into};
 use std::alloc::Global;
 use std::test::Fail;
-use tv_lang::{LangFault, parse};
-use tv_model::{Desc, Dialog, Kind, Node};
-use tv_program::ThinFault;
-use tv_program::thin::run;
+use tv_program::RunFault;
 use tv_script::{ScriptFault, parse_script};
 use tv_test_support::descriptions::{CANCEL, WITHOUT_CANCEL};
-use tv_test_support::{Findings, Memory, Question, expect_answers};
-
-// Whether a text is read as a description.
-#[derive(Clone, Copy)]
-struct Reading;
-
-impl Question for Reading {
-    fn answer(&self, alloc: Global, text: &[u8]) -> Result<String, Fail> {
-        match parse(alloc, text) {
-            Ok(_) => Ok(format!(in alloc; "read\n")?),
-            Err(_) => Findings.answer(alloc, text),
-        }
-    }
-}
+use tv_test_support::{FirstDialog, Memory, Question, Reading, expect_answer, expect_answers};
 
 // Texts that aren't UTF-8, and such without a last line end.
 #[test]
-fn refused_bytes(rt: HostRuntime) {
-    const TABLE: [(&[u8], LangFault); 5] = [
-        (b"", LangFault::Syntax(1)),
-        (b"tvd 1", LangFault::Syntax(2)),
-        (b"tvd 2", LangFault::Version),
-        (b"tvd 0\n\xff", LangFault::Version),
-        (b"#\xff\ntvd 3\n", LangFault::Syntax(1)),
+fn refused_bytes(rt: HostRuntime) -> Result<(), Fail> {
+    const TABLE: [(&[u8], &str); 5] = [
+        (b"", "syntax at line 1\n"),
+        (b"tvd 1", "syntax at line 2\n"),
+        (b"tvd 2", "unknown version\n"),
+        (b"tvd 0\n\xff", "unknown version\n"),
+        (b"#\xff\ntvd 3\n", "syntax at line 1\n"),
     ];
-    for (text, fault) in TABLE {
-        assert_eq!(rt; parse(rt.alloc(), text).err(), Some(fault), "{text:?}");
+    for (text, wanted) in TABLE {
+        let found = Reading.answer(rt.alloc(), text)?;
+        assert_eq!(rt; found.as_str(), wanted, "{text:?}");
     }
+    Ok(())
 }
 
 const BEGINNINGS: &str = "
@@ -229,109 +216,117 @@ fn views(rt: HostRuntime) -> Result<(), Fail> {
     expect_answers(&Reading, rt.alloc(), DIALOG, VIEWS, "end\n")
 }
 
+// Fails where a text is read otherwise without its last characters.
+fn expect_without(alloc: Global, text: &str, end: &str, wanted: &str) -> Result<(), Fail> {
+    let text = text.strip_suffix(end).ok_or("no such end")?;
+    expect_answer(&Reading, alloc, text, wanted)
+}
+
 #[test]
 fn ends_of_texts(rt: HostRuntime) -> Result<(), Fail> {
-    let alloc = rt.alloc();
-    let text = CANCEL.strip_suffix("\n").ok_or("no last line end")?;
-    assert_eq!(rt; parse(alloc, text.as_bytes()).err(), None);
-    let text = text.strip_suffix("end").ok_or("no last line")?;
-    assert_eq!(rt;
-        parse(alloc, text.as_bytes()).err(),
-        Some(LangFault::Syntax(6))
-    );
-    let comment = "#".repeat(alloc, 262_144)?;
-    assert_eq!(rt;
-        parse(alloc, comment.as_bytes()).err(),
-        Some(LangFault::Syntax(2))
-    );
-    let comment = "#".repeat(alloc, 262_145)?;
-    assert_eq!(rt;
-        parse(alloc, comment.as_bytes()).err(),
-        Some(LangFault::TooLong)
-    );
-    Ok(())
+    expect_without(rt.alloc(), CANCEL, "\n", "read\n")?;
+    expect_without(rt.alloc(), CANCEL, "end\n", "syntax at line 6\n")
 }
 
-fn first_dialog(desc: &Desc) -> Option<&Dialog> {
-    desc.dialogs.as_slice().first()
+fn expect_comment(alloc: Global, length: usize, wanted: &str) -> Result<(), Fail> {
+    let comment = "#".repeat(alloc, length)?;
+    expect_answer(&Reading, alloc, &comment, wanted)
 }
 
-// The node of the first view of the description's first dialog.
-fn first_view(desc: &Desc) -> Option<&Node> {
-    first_dialog(desc)?.views.as_slice().first()
+#[test]
+fn lengths_of_texts(rt: HostRuntime) -> Result<(), Fail> {
+    expect_comment(rt.alloc(), 262_144, "syntax at line 2\n")?;
+    expect_comment(rt.alloc(), 262_145, "too long\n")
 }
+
+// Ids are lines of the canonical text. A text may have several lines of its own for one of these.
+const HEADS: &str = r#"tvd 1
+screen 20 10
+start a
+=> screen 20 10, a start
+=> dialog of line 4 at 2 2, 14 wide
+=> |Q|
+=> view of line 5
+# one
+
+tvd 1
+  # two
+
+screen 20 10
+
+=> screen 20 10, no start
+=> dialog of line 3 at 2 2, 14 wide
+=> |Q|
+=> view of line 4
+"#;
 
 #[test]
 fn ids_are_canonical_lines(rt: HostRuntime) -> Result<(), Fail> {
-    let alloc = rt.alloc();
-    for (head, lines) in [
-        ("tvd 1\nscreen 20 10\nstart a", (4, 5)),
-        ("# one\n\ntvd 1\n  # two\n\nscreen 20 10\n", (3, 4)),
-    ] {
-        let text = format!(in alloc;
-            "{head}\ndialog a 2 2 14 4 \"Q\" ends\n# three\ntext 1 1 2 1 \"\"\nend"
-        )?;
-        let desc = parse(alloc, text.as_bytes())?;
-        let dialog = first_dialog(&desc).ok_or("no dialog")?;
-        let view = first_view(&desc).ok_or("no view")?;
-        assert_eq!(rt; (dialog.node.id.0, view.id.0), lines, "{head}");
-    }
-    Ok(())
+    let rest = "dialog a 2 2 14 4 \"Q\" ends\n# three\ntext 1 1 2 1 \"\"\nend";
+    expect_answers(&FirstDialog, rt.alloc(), "", HEADS, rest)
 }
 
-#[test]
-fn what_is_read(rt: HostRuntime) -> Result<(), Fail> {
-    let alloc = rt.alloc();
-    let text = r#"tvd 1
+// The title ends with a quote, a backslash and a line end.
+const READ: &str = r#"tvd 1
 screen -2147483648 2147483647
 
 dialog a -3 2 14 4 "Q\"\\\n" ends ok no
 button c 2 1 10 "~C~ancel" cancel
 end
+=> screen -2147483648 2147483647, no start
+=> dialog of line 3 at -3 2, 14 wide
+=> |Q"\
+=> | ok no
+=> view of line 4
+=> |Cancel| marked at 0
 "#;
-    let desc = parse(alloc, text.as_bytes())?;
-    assert_eq!(rt; (desc.width, desc.height), (-2147483648, 2147483647));
-    assert!(rt; desc.start.is_none());
-    let dialog = first_dialog(&desc).ok_or("no dialog")?;
-    let node = &dialog.node;
-    assert_eq!(rt; (node.x, node.y, node.w), (-3, 2, 14));
-    let head = dialog.head();
-    assert_eq!(rt; head.title.as_slice(), ['Q', '"', '\\', '\n'].as_slice());
-    let ends = head.ends;
-    assert_eq!(rt;
-        (ends.ok, ends.cancel, ends.yes, ends.no),
-        (true, false, false, true)
-    );
-    let node = first_view(&desc).ok_or("no view")?;
-    let Kind::Button(button) = &node.kind else {
-        return Err("no button".into());
-    };
-    assert_eq!(rt;
-        button.text.text.as_slice(),
-        ['C', 'a', 'n', 'c', 'e', 'l'].as_slice()
-    );
-    assert_eq!(rt; button.text.mark, Some(0));
-    Ok(())
+
+#[test]
+fn what_is_read(rt: HostRuntime) -> Result<(), Fail> {
+    expect_answers(&FirstDialog, rt.alloc(), "", READ, "")
 }
 
-// What a run of a script comes to, where the reader of scripts says the same.
+// What a run of a script comes to.
 #[derive(Clone, Copy)]
-struct Scripts;
+struct RunScripts;
 
-impl Question for Scripts {
+impl Question for RunScripts {
     fn answer(&self, alloc: Global, text: &[u8]) -> Result<String, Fail> {
         let mut out = Memory::ample(alloc)?;
-        let answer = run(alloc, CANCEL.as_bytes(), text, &mut out);
-        let read = parse_script(alloc, text);
-        match (answer, read) {
-            (Ok(()), Ok(_)) => Ok(format!(in alloc; "performed\n")?),
-            (Err(ThinFault::Script(line)), Err(ScriptFault::Syntax(found)))
-                if line == found && out.taken().is_empty() => {
-                Ok(format!(in alloc; "syntax at line {line}\n")?)
-            }
-            _ => Err(Fail::new("the run and the reader differ")),
+        let Err(fault) = run_into(alloc, CANCEL.as_bytes(), text, &mut out) else {
+            return Ok(String::from_str(alloc, "performed\n")?);
+        };
+        if !out.taken().is_empty() {
+            return Err(Fail::new("a run that failed has written"));
+        }
+        refusal_told(alloc, &fault)
+    }
+}
+
+fn refusal_told(alloc: Global, fault: &RunFault) -> Result<String, Fail> {
+    match fault {
+        RunFault::Script(line) => Ok(format!(in alloc; "syntax at line {line}\n")?),
+        RunFault::ScriptTooLong => Ok(String::from_str(alloc, "too long\n")?),
+        _ => Err(Fail::new("no fault of the script")),
+    }
+}
+
+// What the reader of scripts says.
+#[derive(Clone, Copy)]
+struct ReadScripts;
+
+impl Question for ReadScripts {
+    fn answer(&self, alloc: Global, text: &[u8]) -> Result<String, Fail> {
+        match script_fault(alloc, text) {
+            None => Ok(String::from_str(alloc, "performed\n")?),
+            Some(ScriptFault::Syntax(line)) => Ok(format!(in alloc; "syntax at line {line}\n")?),
+            Some(ScriptFault::NoMemory) => Err(Fail::new("no memory")),
         }
     }
+}
+
+fn script_fault(alloc: Global, text: &[u8]) -> Option<ScriptFault> {
+    parse_script(alloc, text).err()
 }
 
 const SCRIPTS: &str = "key Foo
@@ -377,38 +372,32 @@ type \"\"
 
 #[test]
 fn refused_scripts(rt: HostRuntime) -> Result<(), Fail> {
-    expect_answers(&Scripts, rt.alloc(), "", SCRIPTS, "")
+    expect_answers(&RunScripts, rt.alloc(), "", SCRIPTS, "")?;
+    expect_answers(&ReadScripts, rt.alloc(), "", SCRIPTS, "")
+}
+
+fn expect_comment_script<Q: Question>(
+    question: &Q,
+    alloc: Global,
+    length: usize,
+    wanted: &str,
+) -> Result<(), Fail> {
+    let script = "#".repeat(alloc, length)?;
+    expect_answer(question, alloc, &script, wanted)
 }
 
 #[test]
 fn lengths_of_scripts(rt: HostRuntime) -> Result<(), Fail> {
-    let alloc = rt.alloc();
-    let longest = "#".repeat(alloc, 1_048_576)?;
-    let mut out = Memory::ample(alloc)?;
-    run(alloc, CANCEL.as_bytes(), longest.as_bytes(), &mut out)?;
-    assert_eq!(rt; str::from_utf8(out.taken())?, "open a\nfocus c\n");
-    let too_long = "#".repeat(alloc, 1_048_577)?;
-    let mut out = Memory::ample(alloc)?;
-    let answer = run(alloc, CANCEL.as_bytes(), too_long.as_bytes(), &mut out);
-    assert!(rt;
-        matches!(answer, Err(ThinFault::ScriptTooLong)),
-        "{answer:?}"
-    );
-    assert_eq!(rt; out.taken().len(), 0);
-    Ok(())
+    let call = Call::Perform { desc: CANCEL };
+    let performed = "open a\nfocus c\nstatus 0\n";
+    expect_comment_script(&call, rt.alloc(), 1_048_576, performed)?;
+    expect_comment_script(&RunScripts, rt.alloc(), 1_048_577, "too long\n")
 }
 
 #[test]
 fn descriptions_are_judged_first(rt: HostRuntime) -> Result<(), Fail> {
-    let alloc = rt.alloc();
-    let mut out = Memory::ample(alloc)?;
-    let answer = run(alloc, b"tvd 1\nscreen 40\n", b"key Foo", &mut out);
-    assert!(rt;
-        matches!(answer, Err(ThinFault::Lang(LangFault::Syntax(2)))),
-        "{answer:?}"
-    );
-    let answer = run(alloc, WITHOUT_CANCEL.as_bytes(), b"key Foo", &mut out);
-    assert!(rt; matches!(answer, Err(ThinFault::Faults(_))), "{answer:?}");
-    assert_eq!(rt; out.taken().len(), 0);
-    Ok(())
+    let call = Call::Run { script: "key Foo" };
+    let unread = "tvdlg: NAME: syntax at line 2\nstatus 1\n";
+    expect_answer(&call, rt.alloc(), "tvd 1\nscreen 40\n", unread)?;
+    expect_answer(&call, rt.alloc(), WITHOUT_CANCEL, "F10 line 4\nstatus 1\n")
 }
