@@ -1,9 +1,9 @@
-//! A description near the limits: sixteen dialogs of sixty views each, and what is answered about it.
+//! Descriptions near the limits, of dialogs of sixty views each, and what is answered about them.
 
 use std::alloc::Global;
 use std::test::Fail;
 
-/// The description. Each dialog has fifty-nine texts and a button that cancels it.
+/// Sixteen dialogs. Each has fifty-nine texts and a button that cancels it.
 pub fn large_description(alloc: Global) -> Result<String, Fail> {
     let texts = "text 1 1 9 1 \"a text\"\n".repeat(alloc, 59)?;
     let mut desc = String::from_str(alloc, "tvd 1\nscreen 132 60\n")?;
@@ -17,7 +17,15 @@ pub fn large_description(alloc: Global) -> Result<String, Fail> {
     Ok(desc)
 }
 
-/// Its certificate.
+/// One dialog of sixty views, open at the start.
+pub fn large_thin_description(alloc: Global) -> Result<String, Fail> {
+    let texts = "text 1 1 9 1 \"a text\"\n".repeat(alloc, 59)?;
+    Ok(format!(in alloc;
+        "tvd 1\nscreen 132 60\nstart d\ndialog d 0 1 132 58 \"\" ends cancel\n{texts}button c 1 2 10 \"~C~ancel\" cancel\nend\n"
+    )?)
+}
+
+/// The certificate of the large description.
 pub fn large_certificate(alloc: Global) -> Result<String, Fail> {
     let mut certificate = String::from_str(alloc, "tvcert 1\n")?;
     for dialog in 0u32..16 {
@@ -27,7 +35,7 @@ pub fn large_certificate(alloc: Global) -> Result<String, Fail> {
     Ok(certificate)
 }
 
-/// The steps of making its views.
+/// The steps of making the views of the large description.
 pub fn large_plan(alloc: Global) -> Result<String, Fail> {
     let mut plan = String::new(alloc);
     for dialog in 0u32..16 {

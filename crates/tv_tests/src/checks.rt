@@ -5,6 +5,7 @@ use std::alloc::Global;
 use std::test::Fail;
 use tv_test_support::certificates::{CANCEL_CERTIFICATE, NO_BLOCKS, ORDER_CERTIFICATE};
 use tv_test_support::descriptions::{CANCEL, COLOUR, MENUS, ORDER, SHARED_LETTER, WINDOWS};
+use tv_test_support::large::{large_certificate, large_description};
 use tv_test_support::{expect_answer, expect_answers, expect_rows};
 
 #[test]
@@ -290,4 +291,19 @@ fn writers_that_fail(rt: HostRuntime) -> Result<(), Fail> {
 fn acceptance_that_cannot_be_written(rt: HostRuntime) -> Result<(), Fail> {
     let accepting = Call::AcceptFiles { desc: CANCEL };
     expect_stop(&accepting, rt.alloc(), CANCEL_CERTIFICATE)
+}
+
+// Where there is memory, nothing is refused for the want of it.
+#[test]
+fn large_descriptions(rt: HostRuntime) -> Result<(), Fail> {
+    let desc = large_description(rt.alloc())?;
+    let certificate = large_certificate(rt.alloc())?;
+    expect_checked(rt.alloc(), &desc, &certificate)?;
+    for call in [
+        Call::AcceptFiles { desc: &desc },
+        Call::AcceptText { desc: &desc },
+    ] {
+        expect_answer(&call, rt.alloc(), &certificate, "accepted\nstatus 0\n")?;
+    }
+    Ok(())
 }

@@ -4,6 +4,7 @@ use crate::calls::{Call, expect_cut, expect_cuts, expect_run, expect_stop, expec
 use std::alloc::{AllocError, Global};
 use std::test::Fail;
 use tv_test_support::descriptions::{CANCEL, CLOSED, WITHOUT_CANCEL};
+use tv_test_support::large::large_thin_description;
 use tv_test_support::{Question, push_line};
 
 const TWO_BUTTONS: &str = r#"tvd 1
@@ -153,4 +154,12 @@ fn writer_of_one_byte_a_call(rt: HostRuntime) -> Result<(), Fail> {
 #[test]
 fn writer_that_takes_nothing(rt: HostRuntime) -> Result<(), Fail> {
     expect_stop(&SHOT, rt.alloc(), CANCEL)
+}
+
+// Where there is memory, nothing is refused for the want of it.
+#[test]
+fn large_run(rt: HostRuntime) -> Result<(), Fail> {
+    let desc = large_thin_description(rt.alloc())?;
+    let script = "key Tab\n".repeat(rt.alloc(), 2000)?;
+    expect_run(rt.alloc(), &desc, &script, "open d\nfocus c\nstatus 0\n")
 }
