@@ -1,4 +1,5 @@
-//! Tests of descriptions that are read and printed, and of certificates, acceptance and plans.
+//! Tests of the checker: descriptions that are read and printed, each fault just outside of what it asks for and just
+//! inside, certificates, acceptance and plans.
 #![tactic(auto)]
 
 #[cfg(test)]
@@ -10,10 +11,26 @@ mod broken_descriptions;
 #[cfg(test)]
 mod certificates;
 #[cfg(test)]
+mod count_edges;
+#[cfg(test)]
+mod declared_edges;
+#[cfg(test)]
+mod documented_faults;
+#[cfg(test)]
+mod edited_descriptions;
+#[cfg(test)]
 mod examples;
+#[cfg(test)]
+mod fault_edges;
+#[cfg(test)]
+mod input_edges;
 #[cfg(test)]
 mod large;
 #[cfg(test)]
 mod plans;
 #[cfg(test)]
 mod printing;
+#[cfg(test)]
+mod status_edges;
+#[cfg(test)]
+mod view_edges;
