@@ -1,8 +1,8 @@
 -- One file after another.
-use Rattle.std.proofs.Common.{◌≡◌, ℕ, List, [], ◌∷◌, ◌++◌, Option, Some, None, ap, ◌∙◌, append_assoc}
+use Rattle.std.proofs.Common.{ℕ, List, [], ◌∷◌, ◌++◌, Option, Some, None, ap, ◌∙◌, append_assoc}
 use Rattle.tv_files.specs.declared.text_kind.TextKind.{TextKind}
 use Rattle.tv_files.specs.Ends.{End}
-use Rattle.tv_files.specs.Files.{Extends, IsTextOf, Known, Opens}
+use Rattle.tv_files.specs.Files.{Extends, Known, Opens}
 use Rattle.tv_files.specs.Tasks.{Gives, IsUnread}
 use Rattle.tv_files.specs.Tasks.IsUnread.{memory, missing}
 

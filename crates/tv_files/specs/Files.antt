@@ -1,5 +1,5 @@
 -- What is known of files, and what reading one comes to.
-use Rattle.std.specs.Prelude.{◌≡◌, ℕ, ◌+◌, List, [], ◌∷◌, ◌++◌, take, Option, Some, None, IfSome, IsNone, Result, Ok, Err, Vec, vec_items}
+use Rattle.std.specs.Prelude.{◌≡◌, ℕ, ◌+◌, List, [], ◌∷◌, ◌++◌, take, Option, Some, None, IfSome, IsNone, Result, Ok, Err, Vec}
 use Rattle.tv_files.specs.declared.read_fault.ReadFault.{ReadFault}
 use Rattle.tv_files.specs.declared.read_fault.ReadFault.TheVariants.{NoMemory, Read}
 use Rattle.tv_files.specs.declared.text_kind.TextKind.{TextKind}

@@ -1,0 +1,2 @@
+-- What files in memory hold
+pub mod Shelves

@@ -1,0 +1,370 @@
+//! How the program ends: what its two streams took, its status, and which files were opened.
+
+use crate::shelf::Shelf;
+use crate::sink::Sink;
+use std::alloc::Global;
+use std::test::Fail;
+use tv_files::{BufferedStream, DirectStream, run_program, tell_no_memory};
+use tv_task::{NoTask, Task};
+use tv_test_support::certificates::CANCEL_CERTIFICATE;
+use tv_test_support::descriptions::{CANCEL, ORDER, SHARED_LETTER, WITHOUT_CANCEL};
+
+const FILE: &str = Shelf::DESCRIPTION;
+
+const BESIDE: &str = Shelf::BESIDE;
+
+const CHECK: Task<'static> = Task::Check { file: FILE };
+
+const ACCEPT: Task<'static> = Task::Accept {
+    file: FILE,
+    certificate: BESIDE,
+};
+
+const RUN: Task<'static> = Task::Run {
+    file: FILE,
+    script: BESIDE,
+};
+
+// A stream: how many bytes it has room for, and whether it can be flushed.
+type Room = (usize, bool);
+
+const AMPLE: Room = (100_000, true);
+
+// What stands on standard output, then what stands on standard error, then the status, then what was opened.
+fn ending(
+    alloc: Global,
+    asked: Result<Task<'_>, NoTask>,
+    texts: (&str, &str),
+    out_room: Room,
+    err_room: Room,
+) -> Result<String, Fail> {
+    let mut files = Shelf::new(texts.0, texts.1);
+    let mut out = Sink::new(alloc, out_room.0, out_room.1);
+    let mut err = Sink::new(alloc, err_room.0, err_room.1);
+    let status = status(alloc, asked, &mut files, &mut out, &mut err)?;
+    let text = str::from_utf8(out.taken())?;
+    let message = str::from_utf8(err.taken())?;
+    let opened = files.opened();
+    Ok(format!(in alloc; "{text}{message}status {status}\nopened {opened}\n")?)
+}
+
+fn status(
+    alloc: Global,
+    asked: Result<Task<'_>, NoTask>,
+    files: &mut Shelf<'_>,
+    out: &mut Sink,
+    err: &mut Sink,
+) -> Result<u8, Fail> {
+    let mut out = BufferedStream::new(alloc, out)?;
+    let mut err = BufferedStream::new(alloc, err)?;
+    Ok(run_program(files, alloc, asked, &mut out, &mut err))
+}
+
+// The order form's certificate with two lines exchanged.
+const EXCHANGED: &str = "tvcert 1
+dialog b
+tab opts
+tab amount
+tab qty
+tab ok
+tab no
+tab log
+key A amount
+key C no
+key G opts 1
+key L log
+key N opts 2
+key O ok
+end
+";
+
+// What is asked for, the description, the text beside it, and what is told.
+const TASKS: [(Task<'static>, &str, &str, &str); 13] = [
+    (
+        CHECK,
+        CANCEL,
+        "",
+        "tvcert 1\ndialog a\ntab c\nkey C c\nend\nstatus 0\nopened 1\n",
+    ),
+    (CHECK, SHARED_LETTER, "", "F4 line 8\nstatus 1\nopened 1\n"),
+    (
+        CHECK,
+        "tvd 1\n",
+        "",
+        "tvdlg: FILE: syntax at line 2\nstatus 1\nopened 1\n",
+    ),
+    (
+        CHECK,
+        "tvd 3\n",
+        "",
+        "tvdlg: FILE: unknown version\nstatus 1\nopened 1\n",
+    ),
+    (
+        ACCEPT,
+        CANCEL,
+        CANCEL_CERTIFICATE,
+        "accepted\nstatus 0\nopened 12\n",
+    ),
+    (
+        ACCEPT,
+        ORDER,
+        EXCHANGED,
+        "refused tab 1\nstatus 1\nopened 12\n",
+    ),
+    (
+        ACCEPT,
+        CANCEL,
+        "tvcert 2\n",
+        "tvdlg: BESIDE: syntax at line 1\nstatus 1\nopened 12\n",
+    ),
+    (
+        ACCEPT,
+        "tvd 1\n",
+        "tvcert 2\n",
+        "tvdlg: FILE: syntax at line 2\nstatus 1\nopened 1\n",
+    ),
+    (
+        RUN,
+        CANCEL,
+        "key Tab\nkey Esc\n",
+        "open a\nfocus c\nend a cancel\nstatus 0\nopened 12\n",
+    ),
+    (
+        RUN,
+        CANCEL,
+        "key Foo\n",
+        "tvdlg: BESIDE: syntax at line 1\nstatus 1\nopened 12\n",
+    ),
+    (
+        RUN,
+        WITHOUT_CANCEL,
+        "key Foo\n",
+        "F10 line 4\nstatus 1\nopened 1\n",
+    ),
+    (
+        RUN,
+        ORDER,
+        "key Foo\n",
+        "tvdlg: FILE: not yet\nstatus 1\nopened 1\n",
+    ),
+    (
+        RUN,
+        "tvd 1\n",
+        "key Foo\n",
+        "tvdlg: FILE: syntax at line 2\nstatus 1\nopened 1\n",
+    ),
+];
+
+#[test]
+fn tasks_and_their_faults(rt: HostRuntime) -> Result<(), Fail> {
+    for (task, description, beside, wanted) in TASKS {
+        let told = ending(rt.alloc(), Ok(task), (description, beside), AMPLE, AMPLE)?;
+        assert_eq!(rt; told.as_str(), wanted, "{task:?}");
+    }
+    Ok(())
+}
+
+#[test]
+fn missing_files(rt: HostRuntime) -> Result<(), Fail> {
+    let no_description = Task::Check { file: "NONE" };
+    let no_certificate = Task::Accept {
+        file: FILE,
+        certificate: "NONE",
+    };
+    let no_script = Task::Run {
+        file: FILE,
+        script: "NONE",
+    };
+    for (task, description, wanted) in [
+        (
+            no_description,
+            CANCEL,
+            "tvdlg: cannot read NONE\nstatus 3\nopened 3\n",
+        ),
+        (
+            no_certificate,
+            CANCEL,
+            "tvdlg: cannot read NONE\nstatus 3\nopened 13\n",
+        ),
+        (
+            no_certificate,
+            SHARED_LETTER,
+            "tvdlg: cannot read NONE\nstatus 3\nopened 13\n",
+        ),
+        (
+            no_certificate,
+            "tvd 1\n",
+            "tvdlg: FILE: syntax at line 2\nstatus 1\nopened 1\n",
+        ),
+        (
+            no_script,
+            CANCEL,
+            "tvdlg: cannot read NONE\nstatus 3\nopened 13\n",
+        ),
+        (
+            no_script,
+            WITHOUT_CANCEL,
+            "F10 line 4\nstatus 1\nopened 1\n",
+        ),
+    ] {
+        let told = ending(rt.alloc(), Ok(task), (description, ""), AMPLE, AMPLE)?;
+        assert_eq!(rt; told.as_str(), wanted, "{task:?}");
+    }
+    Ok(())
+}
+
+// Texts of comments, so many bytes past what each may have.
+#[test]
+fn long_texts(rt: HostRuntime) -> Result<(), Fail> {
+    let alloc = rt.alloc();
+    for (past, is_too_long) in [(0, false), (1, true), (50_000, true)] {
+        let long = "#".repeat(alloc, 262_144 + past)?;
+        let script = "#".repeat(alloc, 1_048_576 + past)?;
+        for (task, texts, message) in [
+            (
+                CHECK,
+                (long.as_str(), ""),
+                "tvdlg: FILE: too long\nstatus 1\nopened 1\n",
+            ),
+            (
+                ACCEPT,
+                (CANCEL, long.as_str()),
+                "tvdlg: BESIDE: too long\nstatus 1\nopened 12\n",
+            ),
+            (
+                RUN,
+                (CANCEL, script.as_str()),
+                "tvdlg: BESIDE: too long\nstatus 1\nopened 12\n",
+            ),
+        ] {
+            let told = ending(alloc, Ok(task), texts, AMPLE, AMPLE)?;
+            assert_eq!(rt; told.as_str() == message, is_too_long, "{task:?}: {told}");
+        }
+    }
+    Ok(())
+}
+
+// A certificate that was taken, but not flushed.
+const UNFLUSHED: &str = "tvcert 1
+dialog a
+tab c
+key C c
+end
+tvdlg: cannot write
+status 3
+opened 1
+";
+
+// The description that is checked, the room of both streams, and what is told.
+const FAILING: [(&str, Room, Room, &str); 11] = [
+    (
+        CANCEL,
+        (0, true),
+        AMPLE,
+        "tvdlg: cannot write\nstatus 3\nopened 1\n",
+    ),
+    (
+        CANCEL,
+        (8, true),
+        AMPLE,
+        "tvcert 1tvdlg: cannot write\nstatus 3\nopened 1\n",
+    ),
+    (CANCEL, (1000, false), AMPLE, UNFLUSHED),
+    (CANCEL, (0, true), (0, true), "status 3\nopened 1\n"),
+    (
+        SHARED_LETTER,
+        (0, true),
+        AMPLE,
+        "tvdlg: cannot write\nstatus 3\nopened 1\n",
+    ),
+    (
+        SHARED_LETTER,
+        (5, true),
+        AMPLE,
+        "F4 litvdlg: cannot write\nstatus 3\nopened 1\n",
+    ),
+    (
+        SHARED_LETTER,
+        (1000, false),
+        AMPLE,
+        "F4 line 8\ntvdlg: cannot write\nstatus 3\nopened 1\n",
+    ),
+    (
+        SHARED_LETTER,
+        AMPLE,
+        (0, false),
+        "F4 line 8\nstatus 1\nopened 1\n",
+    ),
+    ("tvd 3\n", AMPLE, (0, true), "status 1\nopened 1\n"),
+    (
+        "tvd 3\n",
+        AMPLE,
+        (11, true),
+        "tvdlg: FILEstatus 1\nopened 1\n",
+    ),
+    (
+        "tvd 3\n",
+        AMPLE,
+        (1000, false),
+        "tvdlg: FILE: unknown version\nstatus 1\nopened 1\n",
+    ),
+];
+
+#[test]
+fn streams_that_fail(rt: HostRuntime) -> Result<(), Fail> {
+    for (description, out_room, err_room, wanted) in FAILING {
+        let told = ending(rt.alloc(), Ok(CHECK), (description, ""), out_room, err_room)?;
+        assert_eq!(rt; told.as_str(), wanted, "{out_room:?} {err_room:?}");
+    }
+    Ok(())
+}
+
+// More than is kept back, so that the stream fails while the script is performed.
+#[test]
+fn streams_that_fail_in_a_run(rt: HostRuntime) -> Result<(), Fail> {
+    let alloc = rt.alloc();
+    let script = "shot\n".repeat(alloc, 100)?;
+    let mut files = Shelf::new(CANCEL, script.as_str());
+    let mut out = Sink::new(alloc, 9000, true);
+    let mut err = Sink::new(alloc, 1000, true);
+    assert_eq!(rt; status(alloc, Ok(RUN), &mut files, &mut out, &mut err)?, 3);
+    assert_eq!(rt; out.taken().len(), 9000);
+    assert_eq!(rt; str::from_utf8(err.taken())?, "tvdlg: cannot write\n");
+    Ok(())
+}
+
+#[test]
+fn nothing_to_do(rt: HostRuntime) -> Result<(), Fail> {
+    let alloc = rt.alloc();
+    for (room, told, untold) in [
+        (
+            AMPLE,
+            "a\nstatus 2\nopened 0\n",
+            "tvdlg: no memory\nstatus 3\nopened 0\n",
+        ),
+        ((0, true), "status 3\nopened 0\n", "status 3\nopened 0\n"),
+        ((1, true), "astatus 3\nopened 0\n", "tstatus 3\nopened 0\n"),
+        (
+            (1000, false),
+            "a\nstatus 3\nopened 0\n",
+            "tvdlg: no memory\nstatus 3\nopened 0\n",
+        ),
+    ] {
+        let text = String::from_str(alloc, "a\n")?;
+        let usage = ending(alloc, Err(NoTask::Usage(text)), ("", ""), AMPLE, room)?;
+        assert_eq!(rt; usage.as_str(), told, "{room:?}");
+        let no_memory = ending(alloc, Err(NoTask::NoMemory), ("", ""), AMPLE, room)?;
+        assert_eq!(rt; no_memory.as_str(), untold, "{room:?}");
+    }
+    Ok(())
+}
+
+#[test]
+fn no_room_for_streams(rt: HostRuntime) -> Result<(), Fail> {
+    for (room, wanted) in [(AMPLE, "tvdlg: no memory\n"), ((5, true), "tvdlg")] {
+        let mut err = Sink::new(rt.alloc(), room.0, room.1);
+        assert_eq!(rt; tell_no_memory(&mut DirectStream::new(&mut err)), 3);
+        assert_eq!(rt; str::from_utf8(err.taken())?, wanted, "{room:?}");
+    }
+    Ok(())
+}
