@@ -13,9 +13,9 @@ use Rattle.tv_model.specs.Description.Heads.{dialog_nodes}
 use Rattle.tv_model.proofs.SafeLemmas.{AreRising}
 use Rattle.tv_declarations.specs.declared.declaration.Declaration.{Declaration}
 use Rattle.tv_declarations.specs.declared.declaration.Declaration.TheVariants as declared
-use Rattle.tv_declarations.specs.Spelling.{IsDescription, declarations_of, dialog_declarations, ends_of_panes, menu_declarations, open_after, start_declarations, view_declarations, window_declarations}
+use Rattle.tv_declarations.specs.Spelling.{IsDescription, dialog_declarations, ends_of_panes, menu_declarations, open_after, start_declarations, view_declarations, window_declarations}
 use Rattle.tv_declarations.specs.Spelling.Declarations.{AreDeclarations, IsDeclaration}
-use Rattle.tv_faults.specs.Order.{AreLinesRising, lines_of, lines_of_dialog, lines_of_menu, lines_of_window, start_line}
+use Rattle.tv_faults.specs.Order.{AreLinesRising, lines_of_dialog, lines_of_menu, lines_of_window, start_line}
 use Rattle.tv_faults.proofs.OrderLemmas.{pairs_head, pairs_nil, pairs_tail}
 
 -- the number that a declaration has of its line, where it has one

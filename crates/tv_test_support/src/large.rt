@@ -9,7 +9,9 @@ pub fn large_description(alloc: Global) -> Result<String, Fail> {
     let mut desc = String::from_str(alloc, "tvd 1\nscreen 132 60\n")?;
     for dialog in 0u32..16 {
         let command = 100 + dialog;
-        let head = format!(in alloc; "dialog d{dialog} 0 1 132 58 \"\" opens {command} ends cancel\n")?;
+        let head = format!(in alloc;
+            "dialog d{dialog} 0 1 132 58 \"\" opens {command} ends cancel\n"
+        )?;
         desc.push_str(&head)?;
         desc.push_str(&texts)?;
         desc.push_str("button c 1 2 10 \"~C~ancel\" cancel\nend\n")?;

@@ -1,5 +1,5 @@
 -- Nodes that are lawful by themselves: what a view may be made of.
-use Rattle.std.specs.Prelude.{◌≡◌, ℕ, ◌≤◌, List, length, All, Option, Some, ℤ, pos, neg_ℤ}
+use Rattle.std.specs.Prelude.{ℕ, ◌≤◌, List, length, All, Option, Some, ℤ, pos, neg_ℤ}
 use Rattle.tv_cells.specs.Glyph.{IsNarrow}
 use Rattle.tv_valid.specs.declared.input.InputSpec.{InputSpec}
 use Rattle.tv_valid.specs.declared.domain.Domain.{Domain}

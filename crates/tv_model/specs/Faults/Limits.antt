@@ -1,5 +1,5 @@
 -- Faults of limits: F15.
-use Rattle.std.specs.Prelude.{ℕ, Bool, true, not, ◌&&◌, ◌||◌, List, length, Option, Some, ℤ, pos, neg_ℤ, ◌==◌, nat_le}
+use Rattle.std.specs.Prelude.{ℕ, Bool, true, not, ◌&&◌, ◌||◌, List, length, Option, Some, pos, neg_ℤ, ◌==◌, nat_le}
 use Rattle.std.specs.List.{list_any}
 use Rattle.tv_model.specs.declared.node.Node.{Node}
 use Rattle.tv_model.specs.declared.kind.Kind.{Kind}

@@ -8,8 +8,8 @@ pub loop-view-preserved : goal.loop-view-preserved
 loop-view-preserved c =
     let panes : c.from-depth.result + c.from.result ≡ open_after c.view-item.result = counted_after c.view-item.result c.is_pane.result c.from-depth.result c.from.result (search rules) (search rules) (search rules) in (
       rw panes
-      (view_added c.loop-view.plan.items c.close.new.plan.items c.push.new.self.items c.step_of.result c.loop-view.panes c.loop-view.view-index c.view-item.result c.args.views.now _
-      c.loop-view-test.true c.view-item.is c.loop-view.invariant.0 (search rules) (search rules) c.step_of.ensures),
+          (view_added c.loop-view.plan.items c.close.new.plan.items c.push.new.self.items c.step_of.result c.loop-view.panes c.loop-view.view-index c.view-item.result c.args.views.now _
+          c.loop-view-test.true c.view-item.is c.loop-view.invariant.0 (search rules) (search rules) c.step_of.ensures),
       search rules,
     )
 
