@@ -1,17 +1,20 @@
 -- The shortest members of a pattern from those of its parts.
 use Rattle.std.proofs.Common.{suc, zero, inl, inr, ◌≡◌, ◌≢◌, ◌⊎◌, ◌↔◌, ◌+◌, ◌*◌, ◌≤◌, ℕ, List, [], ◌∷◌, ◌++◌, length, min, arith, refl, sym, ◌∙◌, ap, subst, length-append, replicate, ⊎_elim}
 use Rattle.std.specs.List.{concat, All}
-use Rattle.std.specs.Prelude.{Option, Some, None, true}
+use Rattle.std.specs.Prelude.{Option, Some, None, true, false, unwrap_or, if◌then◌else◌, ◌==◌, ◌<◌}
+use Rattle.std.specs.Bool.{Decides}
+use Rattle.std.proofs.lemmas.Bool.Decides.{Decides-eqb, not_from_Decides}
 use Rattle.std.specs.Option.{option_eq}
 use Rattle.std.proofs.Math.Dec.{eqb}
-use Rattle.std.proofs.lemmas.Bool.{eqb-true}
+use Rattle.std.proofs.lemmas.Bool.{eqb-true, false≢true, cond_both, cases_lt}
 use Rattle.std.proofs.lemmas.List.{length-replicate}
 use Rattle.std.proofs.lemmas.List.Elements.{All-nil, All-cons, All-head, All-tail, All-append, All-replicate}
-use Rattle.tv_cells.specs.Glyph.{IsNarrow}
+use Rattle.tv_cells.specs.Glyph.{IsNarrow, is_narrow}
 use Rattle.unicode_width.specs.Width.{char_width}
 use Rattle.tv_picture.specs.declared.code.Mark.{Mark}
 use Rattle.tv_picture.specs.declared.code.Mark.TheVariants.{Digit, Letter, Capital, Any, NotLower, Literal, Quoted}
-use Rattle.tv_picture.specs.Pattern.{Pattern, one, sequence, either, optional, group, many, times, Allows, Member, IsNarrowMember, IsShortest}
+use Rattle.tv_picture.specs.Pattern.{Pattern, empty, one, sequence, either, optional, group, many, times, Allows, Member, IsNarrowMember, IsShortest}
+use Rattle.tv_picture.specs.Matching.{mark_length, shortest_length}
 use Rattle.tv_picture.proofs.Language.{sample, sample_allowed}
 
 all_left : (u v : List ℕ) → All IsNarrow (u ++ v) → All IsNarrow u
@@ -139,3 +142,49 @@ shortest_literal m c (inr e) narrow = shortest_one m c (subst (λ (x : Mark). Al
 pub equal_one : (o : Option ℕ) → option_eq eqb o (Some 1) ≡ true → o ≡ Some 1
 equal_one None e = cc
 equal_one (Some n) e = ap Some (eqb-true n 1 e)
+
+-- ---- the length as a function
+
+column_decides : (o : Option ℕ) → Decides (unwrap_or o 0 == 1) (o ≡ Some 1)
+column_decides None = (λ e. absurd (false≢true e), λ e. absurd cc)
+column_decides (Some n) = (λ e. ap Some ((Decides-eqb n 1).0 e), λ e. let same : n ≡ 1 = cc in (Decides-eqb n 1).1 same)
+
+-- the test of a column says what the property says
+pub narrow_decides : (c : ℕ) → Decides (is_narrow c) (IsNarrow c)
+narrow_decides c = column_decides (char_width false c)
+
+char_shortest : (m : Mark) (c : ℕ) → (m ≡ Literal c) ⊎ (m ≡ Quoted c) → ((x : ℕ) → Allows m x → x ≡ c) → IsShortest (one m) (if is_narrow c then 1 else 121)
+char_shortest m c is only = cond_both (is_narrow c) 1 121 (IsShortest (one m)) (λ e. shortest_literal m c is ((narrow_decides c).0 e)) (λ e. shortest_wide m c only (not_from_Decides (is_narrow c) (narrow_decides c) e))
+
+mark_shortest : (m : Mark) → IsShortest (one m) (mark_length m)
+mark_shortest Digit = shortest_class Digit (λ c e. cc) (λ c e. cc)
+mark_shortest Letter = shortest_class Letter (λ c e. cc) (λ c e. cc)
+mark_shortest Capital = shortest_class Capital (λ c e. cc) (λ c e. cc)
+mark_shortest Any = shortest_class Any (λ c e. cc) (λ c e. cc)
+mark_shortest NotLower = shortest_class NotLower (λ c e. cc) (λ c e. cc)
+mark_shortest (Literal c) = char_shortest (Literal c) c (inl refl) (λ x e. e)
+mark_shortest (Quoted c) = char_shortest (Quoted c) c (inr refl) (λ x e. e)
+
+-- the function gives the least length
+pub shortest_law : (p : Pattern) → IsShortest p (shortest_length p)
+shortest_law empty = shortest_none empty refl
+shortest_law (one m) = mark_shortest m
+shortest_law (sequence a b) = shortest_sequence a b (shortest_length a) (shortest_length b) (shortest_law a) (shortest_law b)
+shortest_law (either a b) = shortest_either a b (shortest_length a) (shortest_length b) (shortest_law a) (shortest_law b)
+shortest_law (optional a) = shortest_optional a
+shortest_law (group a) = shortest_group a (shortest_length a) (shortest_law a)
+shortest_law (many a) = shortest_many a
+shortest_law (times n a) = shortest_times a n (shortest_length a) (shortest_law a)
+
+-- two least lengths are one
+pub only_shortest : (p : Pattern) (m n : ℕ) → IsShortest p m → IsShortest p n → m ≡ n
+only_shortest p m n hm hn = of (cases_lt 120 m) (cases_lt 120 n)
+  where
+    at_most : (i j : ℕ) → IsShortest p i → IsShortest p j → i ≤ 120 → j ≤ i
+    at_most i j hi hj few = let r = hi.reached few in let low = hj.least r.0 r.1 in omega (arith, low, r.2)
+
+    of : (120 < m) ⊎ (m ≤ 120) → (120 < n) ⊎ (n ≤ 120) → m ≡ n
+    of (inl a) (inl b) = let x = hm.bound in let y = hn.bound in omega (arith, a, b, x, y)
+    of (inl a) (inr b) = let x = at_most n m hn hm b in absurd (omega (arith, a, b, x))
+    of (inr a) (inl b) = let x = at_most m n hm hn a in absurd (omega (arith, a, b, x))
+    of (inr a) (inr b) = let x = at_most m n hm hn a in let y = at_most n m hn hm b in omega (arith, x, y)

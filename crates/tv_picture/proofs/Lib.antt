@@ -10,3 +10,7 @@ pub mod Spelled
 pub mod Soundness
 pub mod Parsed
 pub mod Laws
+pub mod EndsLemmas
+pub mod FollowsLemmas
+pub mod MatchingLemmas
+pub mod ReadingLemmas

@@ -12,7 +12,7 @@ use Rattle.tv_picture.specs.declared.parser.Repeat.TheVariants.{Once, Many, Time
 use Rattle.tv_picture.specs.declared.parser.Open.{Open}
 use Rattle.tv_picture.specs.declared.parser.Parser.{Parser}
 use Rattle.tv_picture.specs.Pattern.{Pattern}
-use Rattle.tv_picture.specs.Code.{step, run, height_after, height_from}
+use Rattle.tv_picture.specs.Code.{step, run, top, height_after, height_from}
 
 -- what code leaves: the stack of patterns, and its height where each operation finds its parts
 pub record Built : Type 0 where
@@ -154,3 +154,11 @@ Took next false after = next ≡ None
 -- nothing is waited for
 abbrev pub is_closed : Reading → Bool
 is_closed r = is_empty_list r.brackets && is_once r.repeat && not r.quoted
+
+-- the pattern that was read, where nothing is waited for
+abbrev pub pattern_read : Reading → Option Pattern
+pattern_read r = elim (is_closed r) [ true ↦ Some (top (merged r.choice r.built).stack) | false ↦ None ]
+
+-- the pattern that a picture's text spells, or none where it is no picture's
+abbrev pub picture_of : List ℕ → Option Pattern
+picture_of text = option_and_then pattern_read (text_steps start text)

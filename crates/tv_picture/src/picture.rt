@@ -1,8 +1,10 @@
 //! A parsed picture.
 
-ghost use Rattle.std.specs.Prelude.{◌≡◌, ◌≢◌, ◌≤◌, ◌++◌, ℕ, List, [], length, take, chars, Contains, IfSome, IfNone, IfOk, IfErr, MatchResult};
+ghost use Rattle.std.specs.Prelude.{◌≡◌, ◌≢◌, ◌≤◌, ◌++◌, ℕ, List, [], length, take, chars, Contains, Some, IfSome, IfNone, IfOk, IfErr, MatchResult};
 ghost use Rattle.tv_picture.specs.Pattern.{Pattern, Member, Begins, IsStatus, IsNextLiteral, IsShortest};
 ghost use Rattle.tv_picture.specs.Spelling.{spelled, IsPicture, Refuses};
+ghost use Rattle.tv_picture.specs.Parsing.{picture_of};
+ghost use Rattle.tv_picture.specs.Matching.{status_of, next_literal_of, shortest_length};
 ghost use Rattle.tv_picture.specs.Table.{Covers};
 
 use crate::code::Op;
@@ -61,6 +63,7 @@ impl Picture {
         ensures ok { IfOk result (λ p. IsPicture p × (spelled p ≡ chars text.now)) }
         ensures err { IfErr result (λ fault. Refuses (chars text.now) fault) }
         ensures only { (p : Pattern) → IsPicture p → spelled p ≡ chars text.now → MatchResult result (λ q. q ≡ p) (λ fault. fault ≡ PictureFault.NoMemory) }
+        ensures computed { IfOk result (λ p. picture_of (chars text.now) ≡ Some p) }
     {
         let text = characters(alloc, text)?;
         Picture::from_chars(alloc, &text)
@@ -71,6 +74,7 @@ impl Picture {
         ensures ok { IfOk result (λ p. IsPicture p × (spelled p ≡ text.now)) }
         ensures err { IfErr result (λ fault. Refuses text.now fault) }
         ensures only { (p : Pattern) → IsPicture p → spelled p ≡ text.now → MatchResult result (λ q. q ≡ p) (λ fault. fault ≡ PictureFault.NoMemory) }
+        ensures computed { IfOk result (λ p. picture_of text.now ≡ Some p) }
     {
         let mut parser = Parser::new(alloc)?;
         for (place, ch) in text.iter().enumerate() {
@@ -102,6 +106,7 @@ impl Picture {
         ensures status { IsStatus self.now text.now result }
         ensures completed { result ≡ Status.Viable → (more : List ℕ) × (more ≢ []) × Member self.now (text.now ++ more) }
         ensures beginnings { result ≢ Status.Error → (k : ℕ) → Begins self.now (take k text.now) }
+        ensures computed { result ≡ status_of self.now text.now }
     {
         let row = self.table(text).rows[0];
         if row.ends.has(text.len()) {
@@ -119,6 +124,7 @@ impl Picture {
         ensures some { IfSome result (λ c. IsNextLiteral self.now text.now c) }
         ensures none { IfNone result ((c : ℕ) → IsNextLiteral self.now text.now c → ⊥) }
         ensures literal { IfSome result (λ c. Contains (spelled self.now) c) }
+        ensures computed { result ≡ next_literal_of self.now text.now }
     {
         let row = self.table(text).rows[0];
         if text.len() == 120 || row.ends.has(text.len()) {
@@ -133,7 +139,8 @@ impl Picture {
     /// The length of the shortest right text whose characters all take one column, or 121 where none has 120
     /// characters or fewer.
     pub fn shortest(&self) -> u32
-        ensures { IsShortest self.now result }
+        ensures shortest { IsShortest self.now result }
+        ensures computed { result ≡ shortest_length self.now }
     {
         shortest(&self.code)
     }
