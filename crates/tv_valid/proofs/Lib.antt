@@ -1,6 +1,7 @@
 pub mod Numbers
 pub mod Filling
 pub mod Beginnings
-pub mod DecidedPictures
-pub mod DecidedDomains
-pub mod DecidedTexts
+pub mod DecidingLemmas
+pub mod HasTextLemmas
+pub mod TypingLemmas
+pub mod AskingLemmas

@@ -1,7 +1,10 @@
 //! The texts that an input takes.
 
-ghost use Rattle.std.specs.Prelude.{◌≡◌, ◌↔◌, ◌<◌, ◌≤◌, ◌≤ℤ◌, ◌<ℤ◌, pos, insert, take, ℕ, length, All, Contains, IsTrue, IfSome, IfNone, IfOk, IfErr};
+ghost use Rattle.std.specs.Prelude.{◌≡◌, ◌↔◌, ◌<◌, ◌≤◌, ◌≤ℤ◌, ◌<ℤ◌, pos, insert, take, ℕ, length, All, Contains, IsTrue, Some, IfSome, IfNone, IfOk, IfErr};
 ghost use Rattle.tv_valid.specs.Domain.{IsDomain, IsKind, RefusesKind, HasText, InDomain, IsViableText, IsTyped, IsChosen, IsFilledTo, other_case, InKind, MayBecome, Fits, FitsIn, IsNarrowKind, Refuses};
+ghost use Rattle.tv_valid.specs.Asking.{domain_of};
+ghost use Rattle.tv_valid.specs.Deciding.{in_domain, viable, has_text};
+ghost use Rattle.tv_valid.specs.Typing.{typed_of};
 ghost use Rattle.tv_cells.specs.Glyph.{IsNarrow};
 ghost use Rattle.tv_picture.specs.Pattern.{Begins};
 ghost use Rattle.tv_picture.specs.Spelling.{spelled};
@@ -98,6 +101,7 @@ impl Domain {
     pub fn new(alloc: Global, spec: &InputSpec) -> Result<Domain, DomainFault>
         ensures ok { IfOk result (λ domain. IsDomain spec.now domain × HasText domain) }
         ensures err { IfErr result (λ fault. Refuses spec.now fault) }
+        ensures computed { IfOk result (λ domain. (domain_of spec.now ≡ Some domain) × IsTrue (has_text domain)) }
     {
         let domain = Domain {
             max: spec.max,
@@ -134,6 +138,7 @@ impl Domain {
     pub fn accepts(&self, text: &Text) -> bool
         ensures accepted { IsTrue result ↔ InDomain self.now text.now }
         ensures beginnings { IsTrue result → (k : ℕ) → IsViableText self.now (take k text.now) }
+        ensures computed { result ≡ in_domain self.now text.now }
     {
         let chars = text.as_slice();
         self.fits(chars) && (self.is_complete(chars) || (self.optional && chars.is_empty()))
@@ -145,6 +150,7 @@ impl Domain {
     pub fn viable(&self, text: &Text) -> bool
         ensures viable { IsTrue result ↔ IsViableText self.now text.now }
         ensures beginnings { IsTrue result → (k : ℕ) → IsViableText self.now (take k text.now) }
+        ensures computed { result ≡ viable self.now text.now }
     {
         let chars = text.as_slice();
         self.fits(chars) && self.may_become(chars)
@@ -159,6 +165,7 @@ impl Domain {
         ensures some { IfSome result (λ out. IsTyped self.now text.now at ch out) }
         ensures viable { IfSome result (λ out. IsNarrowKind self.now.kind → IsViableText self.now out) }
         ensures none { IfNone result ((c : ℕ) → IsChosen self.now text.now at ch c → ⊥) }
+        ensures computed { result ≡ typed_of self.now text.now at ch }
     {
         if text.is_full() {
             return None;

@@ -1,10 +1,12 @@
-use Rattle.std.proofs.Common.{◌≡◌, true, false, refl, sym, ◌∙◌, ap, subst, Bool}
+use Rattle.std.proofs.Common.{rules, ◌≡◌, true, false, refl, sym, ◌∙◌, ap, subst, Bool}
 use Rattle.std.specs.Prelude.{ℤ}
 use Rattle.std.proofs.Common.{to_z, of_z, w32, arith}
 use Rattle.std.proofs.lemmas.Int.{ints}
 use Rattle.tv_valid.specs.declared.domain.Domain.{Domain}
 use Rattle.tv_valid.specs.declared.domain.Kind.{Kind}
 use Rattle.tv_valid.specs.Domain.{HasText}
+use Rattle.tv_valid.proofs.AskingLemmas.{domain_law}
+use Rattle.tv_valid.proofs.HasTextLemmas.{has_text_law}
 use Rattle.tv_valid.proofs.domain.Domain.new.Goals as goal
 
 abbrev with : Domain → ℤ → Kind → Bool → Bool → Domain
@@ -26,3 +28,9 @@ returns-else-has_text-clause-err c =
           let no : c.has_text.result ≡ false = c.if-has_text.false in
           cc,
     )
+
+pub returns-then-has_text-clause-computed : goal.returns-then-has_text-clause-computed
+returns-then-has_text-clause-computed c =
+    let max : ℤ = to_z w32 (of_z w32 c.args.spec.now.max) in
+    let made : Domain = record { max = max; kind = c.in_ok-new.field-0; optional = c.args.spec.now.optional; fill = c.args.spec.now.fill } in
+    ((domain_law c.args.spec.now made).1 (search rules), (has_text_law made).1 (search rules))
