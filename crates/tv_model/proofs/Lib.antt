@@ -1,3 +1,4 @@
+pub mod DomainLemmas
 pub mod HeadLemmas
 pub mod NodeLemmas
 pub mod RecordLemmas
