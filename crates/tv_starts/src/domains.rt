@@ -1,8 +1,9 @@
 //! F12: inputs whose domain is empty.
 
-ghost use Rattle.std.specs.Prelude.{◌≡◌, IfOk, IfSome, IfNone};
-ghost use Rattle.tv_valid.specs.Domain.{HasText, IsDomain};
-ghost use Rattle.tv_model.specs.Faults.Domains.{HasAnyText, any_text, has_no_text, is_so};
+ghost use Rattle.std.specs.Prelude.{◌≡◌, Some, false, IfOk, IfSome, IfNone, IsTrue};
+ghost use Rattle.tv_valid.specs.Asking.{domain_of};
+ghost use Rattle.tv_valid.specs.Deciding.{has_text};
+ghost use Rattle.tv_model.specs.Faults.Domains.{any_text, has_no_text};
 
 use std::alloc::{AllocError, Global};
 use tv_model::Kind;
@@ -10,8 +11,8 @@ use tv_valid::{Domain, DomainFault, InputSpec};
 
 /// The domain that the input asks for, where its picture is right and some text lies in it.
 pub fn domain_of(alloc: Global, spec: &InputSpec) -> Result<Option<Domain>, AllocError>
-    ensures some { IfOk result (λ found. IfSome found (λ domain. IsDomain spec.now domain × HasText domain)) }
-    ensures none { IfOk result (λ found. IfNone found (HasAnyText spec.now → ⊥)) }
+    ensures some { IfOk result (λ found. IfSome found (λ domain. (domain_of spec.now ≡ Some domain) × IsTrue (has_text domain))) }
+    ensures none { IfOk result (λ found. IfNone found (any_text spec.now ≡ false)) }
 {
     match Domain::new(alloc, spec) {
         Ok(domain) => Ok(Some(domain)),

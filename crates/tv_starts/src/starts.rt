@@ -1,11 +1,11 @@
 //! F13: start values that can't be.
 
-ghost use Rattle.std.specs.Prelude.{◌≡◌, ◌↔◌, not, IsTrue, IfOk};
+ghost use Rattle.std.specs.Prelude.{◌≡◌, not, IfOk};
 ghost use Rattle.std.specs.List.{list_any};
-ghost use Rattle.tv_valid.specs.Domain.{IsViableText};
+ghost use Rattle.tv_valid.specs.Deciding.{viable};
 ghost use Rattle.tv_model.specs.Description.Rules.{is_item};
 ghost use Rattle.tv_model.specs.Faults.Starts.{starts_outside};
-ghost use Rattle.tv_model.specs.Faults.Domains.{any_text, is_so, may_stand, starts_badly, starts_unviable};
+ghost use Rattle.tv_model.specs.Faults.Domains.{starts_badly, starts_unviable};
 
 use crate::domains::domain_of;
 use std::alloc::{AllocError, Global};
@@ -35,7 +35,7 @@ fn starts_outside(kind: &Kind) -> bool
 
 // Whether the text may stand in an input of the domain.
 fn is_viable(domain: &Domain, text: &Chars) -> bool
-    ensures { IsTrue result ↔ IsViableText domain.now text.now }
+    ensures { result ≡ viable domain.now text.now }
 {
     match Text::from_chars(text.as_slice()) {
         Some(text) => domain.viable(&text),

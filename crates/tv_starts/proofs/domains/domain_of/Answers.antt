@@ -1,0 +1,13 @@
+use Rattle.std.proofs.Common.{rules}
+use Rattle.std.proofs.lemmas.Bool.{false_from_ne_true}
+use Rattle.tv_model.specs.Description.LawfulNodes.{HasAnyText}
+use Rattle.tv_model.specs.Faults.Domains.{any_text}
+use Rattle.tv_model.proofs.DomainLemmas.{any_text_law}
+use Rattle.tv_starts.proofs.domains.domain_of.Goals as goal
+
+pub returns-in-Err-BadPicture : goal.returns-in-Err-BadPicture
+returns-in-Err-BadPicture c =
+    let none : HasAnyText c.args.spec.now → ⊥ = search rules in record {
+      some = tt;
+      none = false_from_ne_true (any_text c.args.spec.now) (λ e. none ((any_text_law c.args.spec.now).0 e));
+    }
