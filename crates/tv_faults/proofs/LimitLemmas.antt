@@ -1,11 +1,11 @@
 -- What the want of faults of domains, starts, widths and limits says: F12 to F15.
-use Rattle.std.proofs.Common.{◌≡◌, ◌≢◌, ◌↔◌, ℕ, ◌<◌, ◌≤◌, ◌==◌, Bool, true, false, not, ◌&&◌, ◌||◌, Decides, IsTrue, List, [], ◌∷◌, length, get_or, flat_map, Option, Some, None, ℤ, pos, neg_ℤ, nat_le, refl, ap}
+use Rattle.std.proofs.Common.{◌≡◌, ◌≢◌, ◌↔◌, ℕ, ◌<◌, ◌≤◌, ◌==◌, Bool, true, false, not, ◌&&◌, ◌||◌, Decides, IsTrue, List, [], ◌∷◌, length, get_or, flat_map, Option, Some, ℤ, pos, neg_ℤ, nat_le, refl}
 use Rattle.std.specs.List.{All, list_any}
 use Rattle.std.proofs.lemmas.Bool.{false≢true, not-true, not_from_false, or_parts, or_from}
 use Rattle.std.proofs.lemmas.Bool.Decides.{Decides-and, Decides-eqb}
 use Rattle.std.proofs.lemmas.List.Elements.{All-cons, All-head, All-tail}
-use Rattle.std.specs.Option.{unwrap_or}
 use Rattle.tv_cells.specs.Glyph.{IsNarrow, is_narrow}
+use Rattle.tv_valid.proofs.DecidingLemmas.{narrow_decides}
 use Rattle.tv_model.specs.declared.node.Node.{Node}
 use Rattle.tv_model.specs.declared.kind.Kind.{Kind}
 use Rattle.tv_model.specs.declared.kind.Kind.TheVariants as kinds
@@ -27,7 +27,8 @@ use Rattle.tv_model.specs.Description.Numbers.{IsBetween, is_between}
 use Rattle.tv_model.specs.Description.Rules.{is_item}
 use Rattle.tv_model.specs.Description.Texts.{shown_texts, texts_of}
 use Rattle.tv_model.specs.Faults.{head_lines}
-use Rattle.tv_model.specs.Faults.Domains.{any_text, has_no_text, is_so, may_stand, starts_badly}
+use Rattle.tv_model.specs.Faults.Domains.{any_text, has_no_text, may_stand, starts_badly}
+use Rattle.tv_model.proofs.DomainLemmas.{any_text_law, may_stand_law}
 use Rattle.tv_model.specs.Faults.Limits.{is_lawful, is_lawful_amount, is_lawful_corner, is_lawful_count, is_lawful_number, is_lawful_screen, is_lawful_size, is_too_long, rule_outside_limits, view_outside_limits}
 use Rattle.tv_model.specs.Faults.Lines.{after_seen}
 use Rattle.tv_model.specs.Faults.Texts.{has_wide, is_wide_text}
@@ -68,12 +69,8 @@ nodes_tested P d =
 
 -- ---- F12 and F13
 
-so_decides : {P : Type 0} (decided : Dec P) → Decides (is_so decided) P
-so_decides (yes p) = (λ t. p, λ h. refl)
-so_decides (no f) = (λ t. absurd (false≢true t), λ h. absurd (f h))
-
 domain_excludes : (kind : Kind) → Excludes (has_no_text kind) (HasLawfulDomain kind)
-domain_excludes (kinds.Input input) = not_excludes (is_so (any_text input.spec)) (so_decides (any_text input.spec))
+domain_excludes (kinds.Input input) = not_excludes (any_text input.spec) (any_text_law input.spec)
 domain_excludes _ = (λ f. tt, λ h. refl)
 
 item_decides : (n : ℤ) (count : ℕ) → Decides (is_item n count) (IsItem n count)
@@ -85,8 +82,8 @@ alone b f = (λ e. f.0 (or_parts b false e).0, λ h. or_from b false (f.1 h) ref
 -- where the input has a domain with a text
 start_excludes : (kind : Kind) → HasLawfulDomain kind → Excludes (starts_badly kind) (HasLawfulStart kind)
 start_excludes (kinds.Input input) some =
-    let test = and_excludes (is_so (any_text input.spec)) (not (is_so (may_stand input.start input.spec))) (not_excludes (is_so (may_stand input.start input.spec)) (so_decides (may_stand input.start input.spec))) in
-    (λ f. test.0 f ((so_decides (any_text input.spec)).1 some), λ h. test.1 (λ t. h))
+    let test = and_excludes (any_text input.spec) (not (may_stand input.start input.spec)) (not_excludes (may_stand input.start input.spec) (may_stand_law input.start input.spec)) in
+    (λ f. test.0 f ((any_text_law input.spec).1 some), λ h. test.1 (λ t. h))
 start_excludes (kinds.CheckBoxes boxes) some =
     alone (list_any (λ item. not (is_item item (length boxes.items))) boxes.start)
     (any_excludes (λ item. not (is_item item (length boxes.items))) (λ item. IsItem item (length boxes.items)) (λ item. not_excludes (is_item item (length boxes.items)) (item_decides item (length boxes.items))) boxes.start)
@@ -164,13 +161,6 @@ starts d some =
     )
 
 -- ---- F14
-
-one_column : (o : Option ℕ) → Decides (unwrap_or o 0 == 1) (o ≡ Some 1)
-one_column None = (λ t. absurd (false≢true t), λ e. absurd cc)
-one_column (Some n) = (λ t. ap Some ((Decides-eqb n 1).0 t), λ e. let same : n ≡ 1 = cc in (Decides-eqb n 1).1 same)
-
-narrow_decides : (ch : ℕ) → Decides (is_narrow ch) (IsNarrow ch)
-narrow_decides ch = one_column _
 
 text_excludes : (text : List ℕ) → Excludes (is_wide_text text) (IsNarrowText text)
 text_excludes text = any_excludes (λ ch. not (is_narrow ch)) IsNarrow (λ ch. not_excludes (is_narrow ch) (narrow_decides ch)) text

@@ -11,7 +11,7 @@ use Rattle.std.proofs.lemmas.List.{nil_from_length}
 use Rattle.tv_cells.specs.Glyph.{IsNarrow, is_narrow}
 use Rattle.tv_picture.specs.Pattern.{IsDigit}
 use Rattle.tv_picture.proofs.EndsLemmas.{le_decides, range_decides, matches_law}
-use Rattle.tv_picture.proofs.LengthLemmas.{narrow_decides}
+pub use Rattle.tv_picture.proofs.LengthLemmas.{narrow_decides}
 use Rattle.tv_picture.proofs.MatchingLemmas.{begins_law}
 use Rattle.tv_valid.specs.declared.domain.Kind.{Kind}
 use Rattle.tv_valid.specs.declared.domain.Kind.TheVariants.{Any, Filter, Range, Picture}
