@@ -8,6 +8,7 @@ use tv_files::{BufferedStream, DirectStream, run_program, tell_no_memory};
 use tv_task::{NoTask, Task};
 use tv_test_support::certificates::CANCEL_CERTIFICATE;
 use tv_test_support::descriptions::{CANCEL, ORDER, SHARED_LETTER, WITHOUT_CANCEL};
+use tv_test_support::large::{large_certificate, large_description, large_thin_description};
 
 const FILE: &str = Shelf::DESCRIPTION;
 
@@ -240,6 +241,34 @@ fn long_texts(rt: HostRuntime) -> Result<(), Fail> {
             let told = ending(alloc, Ok(task), texts, AMPLE, AMPLE)?;
             assert_eq!(rt; told.as_str() == message, is_too_long, "{task:?}: {told}");
         }
+    }
+    Ok(())
+}
+
+// Where there is memory, nothing is refused for the want of it.
+#[test]
+fn large_texts(rt: HostRuntime) -> Result<(), Fail> {
+    let alloc = rt.alloc();
+    let description = large_description(alloc)?;
+    let certificate = large_certificate(alloc)?;
+    let thin = large_thin_description(alloc)?;
+    let script = "key Tab\n".repeat(alloc, 2000)?;
+    let checked = format!(in alloc; "{certificate}status 0\nopened 1\n")?;
+    for (task, texts, wanted) in [
+        (CHECK, (description.as_str(), ""), checked.as_str()),
+        (
+            ACCEPT,
+            (description.as_str(), certificate.as_str()),
+            "accepted\nstatus 0\nopened 12\n",
+        ),
+        (
+            RUN,
+            (thin.as_str(), script.as_str()),
+            "open d\nfocus c\nstatus 0\nopened 12\n",
+        ),
+    ] {
+        let told = ending(alloc, Ok(task), texts, AMPLE, AMPLE)?;
+        assert_eq!(rt; told.as_str(), wanted, "{task:?}");
     }
     Ok(())
 }

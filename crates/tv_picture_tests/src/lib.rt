@@ -17,6 +17,8 @@ mod examples;
 #[cfg(test)]
 mod grammar;
 #[cfg(test)]
+mod large;
+#[cfg(test)]
 mod reading;
 #[cfg(test)]
 mod texts;

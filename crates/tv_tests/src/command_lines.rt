@@ -3,7 +3,7 @@
 use std::alloc::{AllocError, Global};
 use std::test::Fail;
 use tv_command_line::{NoTask, Task, parse, read_task};
-use tv_test_support::{Question, expect_answers};
+use tv_test_support::{Question, expect_answer, expect_answers};
 
 fn words(alloc: Global, line: &str) -> Result<Vec<String>, AllocError> {
     let mut words = Vec::new(alloc);
@@ -139,4 +139,16 @@ tvdlg accept a.tvd
 #[test]
 fn help_teaches(rt: HostRuntime) -> Result<(), Fail> {
     expect_answers(&Showing, rt.alloc(), "", HELP, "")
+}
+
+// Where there is memory, nothing is refused for the want of it.
+#[test]
+fn long_words(rt: HostRuntime) -> Result<(), Fail> {
+    let alloc = rt.alloc();
+    let path = "path/".repeat(alloc, 800)?;
+    let line = format!(in alloc; "tvdlg accept {path}a {path}b\n")?;
+    let task = format!(in alloc; "accepts {path}a with {path}b\n")?;
+    expect_answer(&Meaning, alloc, &line, &task)?;
+    let line = format!(in alloc; "tvdlg check a {path}\n{path}\n")?;
+    expect_answer(&Showing, alloc, &line, "shown\n")
 }

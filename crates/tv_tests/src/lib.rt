@@ -10,6 +10,8 @@ mod command_lines;
 #[cfg(test)]
 mod constructors;
 #[cfg(test)]
+mod copies;
+#[cfg(test)]
 mod each_fault;
 #[cfg(test)]
 mod memory;

@@ -160,6 +160,13 @@ fn writer_that_takes_nothing(rt: HostRuntime) -> Result<(), Fail> {
 #[test]
 fn large_run(rt: HostRuntime) -> Result<(), Fail> {
     let desc = large_thin_description(rt.alloc())?;
-    let script = "key Tab\n".repeat(rt.alloc(), 2000)?;
-    expect_run(rt.alloc(), &desc, &script, "open d\nfocus c\nstatus 0\n")
+    let keys = "key Tab\n".repeat(rt.alloc(), 2000)?;
+    let spaces = " ".repeat(rt.alloc(), 2000)?;
+    let script = format!(in rt.alloc(); "{keys}type \"{spaces}\"\n")?;
+    expect_run(
+        rt.alloc(),
+        &desc,
+        &script,
+        "open d\nfocus c\npress c\nend d cancel\nstatus 0\n",
+    )
 }
