@@ -54,7 +54,7 @@ fn push_windows(desc: &mut String, alloc: Global) -> Result<(), AllocError> {
 fn push_dialogs(desc: &mut String, alloc: Global) -> Result<(), AllocError> {
     let inputs = inputs(alloc)?;
     let items = items(alloc)?;
-    let texts = texts(alloc)?;
+    let texts = texts(alloc, 50)?;
     let rules = "show p when k 1\nenable ok when r 2\n".repeat(alloc, 32)?;
     for dialog in 0u32..16 {
         let command = 100 + dialog;
@@ -95,16 +95,16 @@ button c 1 42 10 \"~C~ancel\" cancel
     )
 }
 
-// Fifty texts of thirty rows.
-fn texts(alloc: Global) -> Result<String, AllocError> {
+// So many texts of thirty rows.
+fn texts(alloc: Global, count: usize) -> Result<String, AllocError> {
     let rows = "row\\n".repeat(alloc, 30)?;
     let text = format!(in alloc; "text 40 22 20 30 \"{rows}\"\n")?;
-    text.repeat(alloc, 50)
+    text.repeat(alloc, count)
 }
 
 /// One dialog of sixty views, open at the start.
 pub fn large_thin_description(alloc: Global) -> Result<String, Fail> {
-    let texts = "text 1 1 9 1 \"a text\"\n".repeat(alloc, 59)?;
+    let texts = texts(alloc, 59)?;
     Ok(format!(in alloc;
         "tvd 1\nscreen 132 60\nstart d\ndialog d 0 1 132 58 \"\" ends cancel\n{texts}button c 1 2 10 \"~C~ancel\" cancel\nend\n"
     )?)

@@ -199,10 +199,17 @@ fn a_static_text_wants_its_node(rt: HostRuntime) -> Result<(), Fail> {
     Ok(())
 }
 
+// Whether a static text is made of a part that is repeated.
+fn is_made(alloc: Global, part: &str, times: usize) -> Result<bool, Fail> {
+    let node = rows_node(alloc, 50, 40, &part.repeat(alloc, times)?)?;
+    Ok(StaticText::new(alloc, &node).is_ok())
+}
+
+// Where there is memory, nothing is refused for the want of it.
 #[test]
-fn a_static_text_of_many_rows_has_memory(rt: HostRuntime) -> Result<(), Fail> {
-    let alloc = rt.alloc();
-    let node = rows_node(alloc, 50, 40, &"row\n".repeat(alloc, 30)?)?;
-    assert!(rt; StaticText::new(alloc, &node).is_ok());
+fn large_static_texts(rt: HostRuntime) -> Result<(), Fail> {
+    for (part, times) in [("row\n", 30), ("x", 120), ("\n", 120)] {
+        assert!(rt; is_made(rt.alloc(), part, times)?, "{part}");
+    }
     Ok(())
 }
