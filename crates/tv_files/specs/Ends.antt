@@ -1,7 +1,7 @@
 -- How a task ends.
 use Rattle.std.specs.Prelude.{ℕ, List, Option, Some, None, Result, Ok, Err}
 use Rattle.tv_program.specs.declared.fault.RunFault.{RunFault}
-use Rattle.tv_program.specs.declared.fault.RunFault.TheVariants.{Script, ScriptTooLong, Cert}
+use Rattle.tv_program.specs.declared.fault.RunFault.TheVariants.{Script, Cert}
 use Rattle.tv_files.specs.declared.failure.Failure.{Failure}
 
 -- the fault, with the path of the file that it is told of; none where all was done
@@ -16,7 +16,6 @@ end_of (Err failure) = Some (failure.fault, failure.path.now)
 -- the file that a fault is in: the description, or the script or certificate beside it
 abbrev pub path_of : RunFault → (file beside : List ℕ) → List ℕ
 path_of (Script line) file beside = beside
-path_of ScriptTooLong file beside = beside
 path_of (Cert fault) file beside = beside
 path_of _ file beside = file
 

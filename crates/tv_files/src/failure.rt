@@ -19,7 +19,7 @@ impl<'a> Failure<'a> {
         ensures path { result.path.now ≡ path_of fault file.now beside.now }
     {
         let path = match fault {
-            RunFault::Script(_) | RunFault::ScriptTooLong | RunFault::Cert(_) => beside,
+            RunFault::Script(_) | RunFault::Cert(_) => beside,
             _ => file,
         };
         Failure { fault, path }

@@ -9,7 +9,7 @@ use Rattle.tv_model.specs.Machine.Session.{Session, started}
 use Rattle.tv_program.specs.declared.desc_fault.DescFault.{DescFault}
 use Rattle.tv_program.specs.declared.desc_fault.DescFault.TheVariants as descs
 use Rattle.tv_program.specs.declared.thin_fault.ThinFault.{ThinFault}
-use Rattle.tv_program.specs.declared.thin_fault.ThinFault.TheVariants.{NoMemory, Lang, NotYet, Faults, Script, ScriptTooLong, Write}
+use Rattle.tv_program.specs.declared.thin_fault.ThinFault.TheVariants.{NoMemory, Lang, NotYet, Faults, Script, Write}
 use Rattle.tv_program.specs.Conversions.{desc_run}
 use Rattle.tv_program.specs.Reading.{IsFaulty, IsSoundText}
 use Rattle.tv_program.specs.ThinRun.{IsNoScript, RefusesDesc, Runs, RunsTo}
@@ -26,8 +26,7 @@ faulty-RefusesDesc text d spelled thin fault is (Err other) told = rw told (desc
 
 IsNoScript-RunsTo : (T : Type 0) (text script : List ℕ) (seen : Seen) (d : Desc) → IsSoundText text d → IsThin d → (fault : ThinFault) → IsNoScript script fault → RunsTo {T = T} text script seen seen (Err fault)
 IsNoScript-RunsTo T text script seen d sound thin NoMemory unspelled = refl
-IsNoScript-RunsTo T text script seen d sound thin (Script line) unspelled = (d, sound, thin, unspelled, refl)
-IsNoScript-RunsTo T text script seen d sound thin ScriptTooLong unspelled = (d, sound, thin, unspelled, refl)
+IsNoScript-RunsTo T text script seen d sound thin (Script fault) unspelled = (d, sound, thin, unspelled, refl)
 IsNoScript-RunsTo T text script seen d sound thin (Lang fault) unspelled = absurd unspelled
 IsNoScript-RunsTo T text script seen d sound thin NotYet unspelled = absurd unspelled
 IsNoScript-RunsTo T text script seen d sound thin (Faults list) unspelled = absurd unspelled

@@ -62,7 +62,7 @@ desc_run (descs.Faults list) = runs.Faults list
 -- the script is not spelled
 abbrev pub script_run : ScriptFault → ThinFault
 script_run scripts.NoMemory = runs.NoMemory
-script_run (scripts.Syntax line) = runs.Script line
+script_run fault = runs.Script fault
 
 -- ---- telling
 
@@ -92,6 +92,5 @@ thin_told runs.NoMemory = told.NoMemory
 thin_told (runs.Lang fault) = told.Lang fault
 thin_told runs.NotYet = told.NotYet
 thin_told (runs.Faults list) = told.Faults list
-thin_told (runs.Script line) = told.Script line
-thin_told runs.ScriptTooLong = told.ScriptTooLong
+thin_told (runs.Script fault) = told.Script fault
 thin_told runs.Write = told.Write

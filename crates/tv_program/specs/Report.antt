@@ -10,8 +10,10 @@ use Rattle.tv_model.specs.declared.fault.Fault.{Fault}
 use Rattle.tv_model.specs.Faults.{fault_number}
 use Rattle.tv_model.specs.Log.LogText.{line_of}
 use Rattle.tv_program.specs.declared.fault.RunFault.{RunFault}
-use Rattle.tv_program.specs.declared.fault.RunFault.TheVariants.{NoMemory, Lang, Faults, Script, ScriptTooLong, Write, Read, Cert, Refused, NotYet}
+use Rattle.tv_program.specs.declared.fault.RunFault.TheVariants.{NoMemory, Lang, Faults, Script, Write, Read, Cert, Refused, NotYet}
 use Rattle.tv_output.specs.Writer.{Seen, Takes, Cuts}
+use Rattle.tv_script.specs.declared.script_text.ScriptFault.{ScriptFault}
+use Rattle.tv_script.specs.declared.script_text.ScriptFault.TheVariants as scripts
 
 -- the text was taken, or a proper prefix of it because the writer failed
 abbrev pub IsOffered : Seen → Seen → List ℕ → Type 0
@@ -34,14 +36,25 @@ out_text (Faults list) = flat_map fault_line list
 out_text (Refused refusal) = refusal_text refusal
 out_text _ = []
 
+-- what is the matter with a line of the file
+abbrev pub line_message : List ℕ → List ℕ → ℕ → List ℕ
+line_message name text line = line_of (codes "tvdlg: ") (name ++ text ++ decimal line)
+
+-- the line is none of its language
 abbrev pub syntax_message : List ℕ → ℕ → List ℕ
-syntax_message name line = line_of (codes "tvdlg: ") (name ++ codes ": syntax at line " ++ decimal line)
+syntax_message name line = line_message name (codes ": syntax at line ") line
 
 abbrev pub lang_message : List ℕ → LangFault → List ℕ
 lang_message name lang.NoMemory = line_of (codes "tvdlg: ") (codes "no memory")
 lang_message name (lang.Syntax line) = syntax_message name line
 lang_message name lang.TooLong = line_of (codes "tvdlg: ") (name ++ codes ": too long")
 lang_message name lang.Version = line_of (codes "tvdlg: ") (name ++ codes ": unknown version")
+
+abbrev pub script_message : List ℕ → ScriptFault → List ℕ
+script_message name scripts.NoMemory = line_of (codes "tvdlg: ") (codes "no memory")
+script_message name (scripts.Syntax line) = syntax_message name line
+script_message name (scripts.OffScreen line) = line_message name (codes ": off screen at line ") line
+script_message name scripts.TooLong = line_of (codes "tvdlg: ") (name ++ codes ": too long")
 
 abbrev pub cert_message : List ℕ → CertificateFault → List ℕ
 cert_message name certificates.NoMemory = line_of (codes "tvdlg: ") (codes "no memory")
@@ -53,8 +66,7 @@ abbrev pub err_text : List ℕ → RunFault → List ℕ
 err_text name NoMemory = line_of (codes "tvdlg: ") (codes "no memory")
 err_text name (Lang fault) = lang_message name fault
 err_text name (Faults list) = []
-err_text name (Script line) = syntax_message name line
-err_text name ScriptTooLong = line_of (codes "tvdlg: ") (name ++ codes ": too long")
+err_text name (Script fault) = script_message name fault
 err_text name (Cert fault) = cert_message name fault
 err_text name (Refused refusals.NoMemory) = line_of (codes "tvdlg: ") (codes "no memory")
 err_text name (Refused refusal) = []
@@ -66,6 +78,10 @@ err_text name Write = line_of (codes "tvdlg: ") (codes "cannot write")
 abbrev pub lang_status : LangFault → ℕ
 lang_status lang.NoMemory = 3
 lang_status _ = 1
+
+abbrev pub script_status : ScriptFault → ℕ
+script_status scripts.NoMemory = 3
+script_status _ = 1
 
 abbrev pub cert_status : CertificateFault → ℕ
 cert_status certificates.NoMemory = 3
@@ -79,8 +95,7 @@ abbrev pub status_of : RunFault → ℕ
 status_of NoMemory = 3
 status_of (Lang fault) = lang_status fault
 status_of (Faults list) = 1
-status_of (Script line) = 1
-status_of ScriptTooLong = 1
+status_of (Script fault) = script_status fault
 status_of (Cert fault) = cert_status fault
 status_of (Refused refusal) = refusal_status refusal
 status_of NotYet = 1

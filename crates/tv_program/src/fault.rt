@@ -11,6 +11,7 @@ use std::alloc::AllocError;
 use tv_check::{CertificateFault, Refusal};
 use tv_lang::LangFault;
 use tv_model::{Fault, Sequence};
+use tv_script::ScriptFault;
 
 /// Why a call of the program failed, whichever it was: what `report` tells.
 ///
@@ -22,10 +23,8 @@ pub enum RunFault {
     Lang(LangFault),
     /// The faults of a description that is spelled right, by number and then by line.
     Faults(Sequence<Fault>),
-    /// The first faulty line of the script.
-    Script(usize),
-    /// The script has more than 1,048,576 bytes.
-    ScriptTooLong,
+    /// The script is not spelled right.
+    Script(ScriptFault),
     /// The writer failed, or took nothing.
     Write,
     /// A file can't be opened or read.
@@ -93,8 +92,7 @@ impl From<ThinFault> for RunFault {
             ThinFault::Lang(unread) => RunFault::Lang(unread),
             ThinFault::NotYet => RunFault::NotYet,
             ThinFault::Faults(list) => RunFault::Faults(list),
-            ThinFault::Script(line) => RunFault::Script(line),
-            ThinFault::ScriptTooLong => RunFault::ScriptTooLong,
+            ThinFault::Script(unread) => RunFault::Script(unread),
             ThinFault::Write => RunFault::Write,
         }
     }

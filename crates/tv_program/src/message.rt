@@ -3,13 +3,16 @@
 ghost use Rattle.std.specs.Prelude.{◌≡◌, ◌++◌, ◌∷◌, [], codes, flat_map, decimal, encode_utf8};
 ghost use Rattle.tv_model.specs.Log.LogText.{line_of};
 ghost use Rattle.tv_output.specs.Pen.{Puts};
-ghost use Rattle.tv_program.specs.Report.{IsOffered, cert_message, fault_line, lang_message, lang_status, out_text, err_text, refusal_text, status_of, syntax_message};
+ghost use Rattle.tv_program.specs.Report.{IsOffered, cert_message, fault_line, lang_message, lang_status, line_message, out_text, err_text, refusal_text, script_message, status_of};
 
 use crate::fault::RunFault;
 use tv_check::{CertificateFault, Refusal};
 use tv_lang::LangFault;
 use tv_model::Fault;
 use tv_output::{Pen, Writer};
+use tv_script::ScriptFault;
+
+const SYNTAX: &[u8] = b": syntax at line ";
 
 /// Tells why a call didn't come to its end: faults and refusals on `out`, a message on `err`. Answers the program's status.
 ///
@@ -38,6 +41,7 @@ fn status(fault: &RunFault) -> u8
     match fault {
         RunFault::NoMemory
         | RunFault::Lang(LangFault::NoMemory)
+        | RunFault::Script(ScriptFault::NoMemory)
         | RunFault::Cert(CertificateFault::NoMemory)
         | RunFault::Refused(Refusal::NoMemory)
         | RunFault::Write
@@ -45,7 +49,6 @@ fn status(fault: &RunFault) -> u8
         RunFault::Lang(_)
         | RunFault::Faults(_)
         | RunFault::Script(_)
-        | RunFault::ScriptTooLong
         | RunFault::Cert(_)
         | RunFault::Refused(_)
         | RunFault::NotYet => 1,
@@ -124,8 +127,7 @@ fn put_message<W: Writer>(pen: &mut Pen<W>, name: &[u8], fault: &RunFault)
         RunFault::Cert(fault) => put_cert(pen, name, *fault),
         RunFault::Refused(Refusal::NoMemory) => put_plain(pen, b"no memory"),
         RunFault::Refused(_) => {}
-        RunFault::Script(line) => put_syntax(pen, name, *line),
-        RunFault::ScriptTooLong => put_named(pen, name, b": too long"),
+        RunFault::Script(fault) => put_script(pen, name, *fault),
         RunFault::NotYet => put_named(pen, name, b": not yet"),
         RunFault::Read => put_named(pen, b"cannot read ", name),
         RunFault::Write => put_plain(pen, b"cannot write"),
@@ -137,9 +139,20 @@ fn put_lang<W: Writer>(pen: &mut Pen<W>, name: &[u8], fault: LangFault)
 {
     match fault {
         LangFault::NoMemory => put_plain(pen, b"no memory"),
-        LangFault::Syntax(line) => put_syntax(pen, name, line),
+        LangFault::Syntax(line) => put_line(pen, name, SYNTAX, line),
         LangFault::TooLong => put_named(pen, name, b": too long"),
         LangFault::Version => put_named(pen, name, b": unknown version"),
+    }
+}
+
+fn put_script<W: Writer>(pen: &mut Pen<W>, name: &[u8], fault: ScriptFault)
+    ensures { Puts W.seen pen.old pen.new (script_message name.now fault) }
+{
+    match fault {
+        ScriptFault::NoMemory => put_plain(pen, b"no memory"),
+        ScriptFault::Syntax(line) => put_line(pen, name, SYNTAX, line),
+        ScriptFault::OffScreen(line) => put_line(pen, name, b": off screen at line ", line),
+        ScriptFault::TooLong => put_named(pen, name, b": too long"),
     }
 }
 
@@ -148,7 +161,7 @@ fn put_cert<W: Writer>(pen: &mut Pen<W>, name: &[u8], fault: CertificateFault)
 {
     match fault {
         CertificateFault::NoMemory => put_plain(pen, b"no memory"),
-        CertificateFault::Syntax(line) => put_syntax(pen, name, line),
+        CertificateFault::Syntax(line) => put_line(pen, name, SYNTAX, line),
         CertificateFault::TooLong => put_named(pen, name, b": too long"),
     }
 }
@@ -170,12 +183,12 @@ fn put_named<W: Writer>(pen: &mut Pen<W>, name: &[u8], text: &[u8])
     pen.put(b"\n");
 }
 
-fn put_syntax<W: Writer>(pen: &mut Pen<W>, name: &[u8], line: usize)
-    ensures { Puts W.seen pen.old pen.new (syntax_message name.now line) }
+fn put_line<W: Writer>(pen: &mut Pen<W>, name: &[u8], text: &[u8], line: usize)
+    ensures { Puts W.seen pen.old pen.new (line_message name.now text.now line) }
 {
     pen.put(b"tvdlg: ");
     pen.put(name);
-    pen.put(b": syntax at line ");
+    pen.put(text);
     pen.put_place(line);
     pen.put(b"\n");
 }

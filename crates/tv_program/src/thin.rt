@@ -16,11 +16,8 @@ use std::alloc::Global;
 use tv_lang::parse;
 use tv_model::{Desc, Item, Sequence};
 use tv_output::{WriteFailed, Writer};
-use tv_script::{parse_script, perform};
+use tv_script::{Grammar, parse_script, perform};
 use tv_thin::{ThinSession, is_thin};
-
-/// The most bytes of a script.
-const LONGEST_SCRIPT: usize = 1_048_576;
 
 /// Runs a script on a description, and writes its output: the log and the screens that it asks for.
 ///
@@ -92,12 +89,9 @@ pub fn read_sound(alloc: Global, text: &[u8]) -> Result<Desc, ThinFault>
 }
 
 fn read_script(alloc: Global, text: &[u8]) -> Result<Sequence<Item>, ThinFault>
-    ensures spelled { IfOk result (λ items. SpellsScript text.now items) }
+    ensures spelled { IfOk result (λ items. SpellsScript Grammar.Thin text.now items) }
     ensures fault { IfErr result (λ fault. IsNoScript text.now fault) }
 {
-    if text.len() > LONGEST_SCRIPT {
-        return Err(ThinFault::ScriptTooLong);
-    }
-    let items = parse_script(alloc, text)?;
+    let items = parse_script(alloc, Grammar::Thin, text)?;
     Ok(items)
 }

@@ -21,10 +21,8 @@ pub enum ThinFault {
     NotYet,
     /// The faults of a description that is spelled right, by number and then by line.
     Faults(Sequence<Fault>),
-    /// The first faulty line of the script.
-    Script(usize),
-    /// The script has more than 1,048,576 bytes.
-    ScriptTooLong,
+    /// The script is not spelled right.
+    Script(ScriptFault),
     /// The writer failed, or took nothing.
     Write,
 }
@@ -65,7 +63,7 @@ impl From<ScriptFault> for ThinFault {
     fn from(unread: ScriptFault) -> ThinFault {
         match unread {
             ScriptFault::NoMemory => ThinFault::NoMemory,
-            ScriptFault::Syntax(line) => ThinFault::Script(line),
+            _ => ThinFault::Script(unread),
         }
     }
 }

@@ -1,3 +1,6 @@
+pub mod FitLemmas
+pub mod GrammarLemmas
+pub mod LineLemmas
 pub mod MarkLemmas
 pub mod OutputLemmas
 pub mod PerformLemmas
@@ -5,3 +8,4 @@ pub mod RangeLemmas
 pub mod RunLemmas
 pub mod ScreenLemmas
 pub mod ScriptLemmas
+pub mod TakeLemmas

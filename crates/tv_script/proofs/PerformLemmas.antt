@@ -1,37 +1,14 @@
 -- One item more, and a writer that fails at one.
-use Rattle.std.proofs.Common.{◌≡◌, ℕ, ◌+◌, ◌<◌, List, [], ◌∷◌, ◌++◌, length, get_or, take, refl, sym, ap, ◌∙◌, append_assoc, arith}
-use Rattle.std.proofs.lemmas.List.{append-nil, take_more, map-append}
-use Rattle.tv_event.specs.declared.event.Event.{Event}
-use Rattle.tv_event.specs.declared.event.Event.TheVariants as events
-use Rattle.tv_event.specs.declared.event.Key.TheVariants as keys
+use Rattle.std.proofs.Common.{◌≡◌, ℕ, ◌+◌, ◌<◌, List, [], ◌++◌, length, get_or, take, refl, sym, ap, ◌∙◌, append_assoc, arith}
+use Rattle.std.proofs.lemmas.List.{append-nil}
 use Rattle.tv_model.specs.declared.script.Item.{Item}
 use Rattle.tv_model.specs.Machine.Session.{Session, quiet}
 use Rattle.tv_model.specs.Log.LogText.{log_text}
-use Rattle.tv_model.specs.Log.Output.{output, after, event_text, event_after, item_text, item_after, states, texts, typed}
-use Rattle.tv_script.proofs.RunLemmas.{states-push, texts-push, states-take_more, texts-take_more}
+use Rattle.tv_model.specs.Log.Output.{output, after, item_text, item_after, texts}
+use Rattle.tv_script.proofs.RunLemmas.{states-take_more, texts-take_more}
 use Rattle.tv_output.specs.Writer.{Seen, Takes, Cuts}
-use Rattle.tv_output.specs.declared.pen.Pen.{Pen}
-use Rattle.tv_output.specs.Pen.{Puts}
 use Rattle.tv_script.specs.Performed.{Stops}
 use Rattle.tv_output.proofs.WriterLemmas.{Takes-then, Cuts-longer, Cuts-after, Cuts-along}
-use Rattle.tv_output.proofs.PenLemmas.{Puts-then, Puts-along}
-
-abbrev pub typed_key : ℕ → Event
-typed_key ch = events.Key (keys.Char ch)
-
--- characters, one more
-typed-more : (cs : List ℕ) (i c : ℕ) → i < length cs → typed (take (i + 1) cs) ≡ typed (take i cs) ++ typed_key (get_or cs i c) ∷ []
-typed-more cs i c lt = ap typed (take_more cs i c lt) ∙ map-append typed_key (take i cs) (get_or cs i c ∷ [])
-
-module _ (s t : Session) (cs : List ℕ) (i c : ℕ) (lt : i < length cs) (at : t ≡ states event_after s (typed (take i cs))) where
-  pub typed_text : {W : Type 0} {seen : W → Seen} {a b e : Pen W} → Puts seen a b (texts event_after event_text s (typed (take i cs))) → Puts seen b e (event_text t (typed_key (get_or cs i c))) → Puts seen a e (texts event_after event_text s (typed (take (i + 1) cs)))
-  typed_text first second =
-      let same = ap (texts event_after event_text s) (typed-more cs i c lt) ∙ texts-push event_after event_text s (typed (take i cs)) (typed_key (get_or cs i c)) in
-      Puts-along (sym same) (Puts-then first (Puts-along (ap (λ x. event_text x (typed_key (get_or cs i c))) at) second))
-
-  pub typed_state : event_after t (typed_key (get_or cs i c)) ≡ states event_after s (typed (take (i + 1) cs))
-  typed_state =
-      ap (λ x. event_after x (typed_key (get_or cs i c))) at ∙ sym (states-push event_after s (typed (take i cs)) (typed_key (get_or cs i c))) ∙ sym (ap (states event_after s) (typed-more cs i c lt))
 
 -- items, one more
 module _ (s t : Session) (items : List Item) (i : ℕ) (d : Item) (lt : i < length items) (at : t ≡ after s (take i items)) where

@@ -1,274 +1,237 @@
 -- A script is read just where a text spells it.
-use Rattle.std.proofs.Common.{◌≡◌, ℕ, suc, ◌+◌, ◌<◌, ◌==◌, Bool, true, false, cond, List, [], ◌∷◌, ◌++◌, length, take, Option, Some, None, Result, Ok, Err, refl, sym, ap, ◌∙◌, append_assoc, add-one, subst, arith}
-use Rattle.std.specs.Prelude.{codes, map, option_and_then, IfSome, IfOk, IfErr}
-use Rattle.std.specs.Option.{option_map}
-use Rattle.std.specs.List.{list_all}
-use Rattle.std.proofs.lemmas.List.{append-nil}
-use Rattle.std.proofs.lemmas.Bool.{eqb-true}
-use Rattle.tv_event.specs.declared.event.Event.TheVariants as events
-use Rattle.tv_event.specs.declared.event.Key.{Key}
-use Rattle.tv_event.specs.declared.event.Key.TheVariants as keys
+use Rattle.std.proofs.Common.{◌≡◌, ℕ, suc, ◌+◌, ◌<◌, ◌≤◌, inl, inr, nat_le, Bool, true, false, cond, ◌&&◌, List, [], ◌∷◌, ◌++◌, length, take, Option, Some, None, Ok, Err, refl, sym, ap, ◌∙◌, add-one, add-zero, subst, arith}
+use Rattle.std.specs.Prelude.{option_and_then, IfOk, IfErr}
+use Rattle.std.proofs.lemmas.Bool.Decides.{nat_tests}
 use Rattle.tv_model.specs.declared.script.Item.{Item}
-use Rattle.tv_model.specs.declared.script.Item.TheVariants as items
+use Rattle.tv_script.proofs.FitLemmas.{fits, from_fitting, from_script, from_shown, into_fitting, into_script, into_shown, items_push, shows, stands}
+use Rattle.tv_script.proofs.GrammarLemmas.{Test, added, begins_weaker, faulty_unspelled, lines_spelled, no_begin, spelled_lines, taken_begins, tested}
+use Rattle.tv_script.specs.declared.line.Grammar.{Grammar}
+use Rattle.tv_script.specs.declared.line.Line.{Line}
 use Rattle.tv_script.specs.declared.script_text.ScriptFault.{ScriptFault}
-use Rattle.tv_script.specs.declared.script_text.ScriptFault.TheVariants.{NoMemory, Syntax}
+use Rattle.tv_script.specs.declared.script_text.ScriptFault.TheVariants.{NoMemory, Syntax, OffScreen, TooLong}
+use Rattle.tv_script.specs.Lines.{allows, is_on_screen, items_of, items_of_line}
+use Rattle.tv_script.specs.Reading.Lines.{line_in}
+use Rattle.tv_script.specs.Reading.Scripts.{Answer, IsAnswered, reading, script_by, with_bytes, with_found, with_words}
+use Rattle.tv_script.specs.Scripts.{Gives, IsFirstFaulty, IsFitting, IsOnScreen, IsScript, Refuses, Spells, script_words}
 use Rattle.tv_words.specs.declared.word.Word.{Word}
-use Rattle.tv_words.specs.declared.word.Word.TheVariants.{Bare, Quoted}
-use Rattle.tv_words.specs.Reading.Steps.{steps}
 use Rattle.tv_words.specs.Lines.{lines_of}
-use Rattle.tv_words.specs.Words.{SpellsWords}
-use Rattle.tv_words.specs.Reading.LineWords.{words_taken, line_taken}
-use Rattle.tv_words.specs.Fields.{is_bare_word, text_in}
-use Rattle.tv_words.specs.Texts.{SpellsBy, BeginsBy, IsFirstFault}
-use Rattle.tv_script.specs.Scripts.{key_name, IsScriptKey, is_space, item_words, IsScriptItem, script_lines, IsScript, Spells, Refuses, Gives}
-use Rattle.tv_script.specs.Reading.Items.{key_in, key_item, typed, typed_in, item_in, with_item, taken}
-use Rattle.tv_script.specs.Reading.Scripts.{Reading, Value, Fault, reading, reading_of, StopsAt}
-use Rattle.tv_words.proofs.FieldLemmas.{word_is, text_read}
-use Rattle.tv_words.proofs.LineWordLemmas.{found_words}
-use Rattle.tv_words.proofs.TextLemmas as texts
+use Rattle.tv_words.specs.Reading.LineWords.{line_taken, line_words, words_taken}
+use Rattle.tv_words.specs.Reading.Steps.{steps}
+use Rattle.tv_words.specs.Texts.{BeginsBy, IsFirstFault, SpellsBy}
 
--- ---- items
+-- ---- one line
 
-abbrev KeyOf : Key → Word → Type 0
-KeyOf key w = (w ≡ Bare (key_name key)) × IsScriptKey key
+-- the answer at the line n, by what the tests of lines come to: that of the grammar, that of points too, and that of all
+abbrev Tells : ℕ → Option (List Line) → Option (List Line) → Option (List Line) → Answer → Type 0
+Tells n stood shown fitted (Ok longer) = (further : List Line) × (stood ≡ Some further) × (shown ≡ Some further) × (fitted ≡ Some further) × (longer ≡ items_of further)
+Tells n stood shown fitted (Err NoMemory) = ⊥
+Tells n stood shown fitted (Err (Syntax line)) = (line ≡ n) × (stood ≡ None)
+Tells n stood shown fitted (Err (OffScreen line)) = (line ≡ n) × ((further : List Line) × (stood ≡ Some further)) × (shown ≡ None)
+Tells n stood shown fitted (Err TooLong) = ((further : List Line) × (shown ≡ Some further)) × (fitted ≡ None)
 
-key_if : (w : Word) (keyword : List ℕ) (k key : Key) (rest : Option Key) (b : Bool) → is_bare_word w keyword ≡ b → Bare keyword ≡ Bare (key_name k) → IsScriptKey k → (rest ≡ Some key → KeyOf key w) → cond b (Some k) rest ≡ Some key → KeyOf key w
-key_if w keyword k key rest true eb named is later e = let same : k ≡ key = cc in subst (λ x. KeyOf x w) same (word_is w keyword eb ∙ named, is)
-key_if w keyword k key rest false eb named is later e = later e
+Tells-along : (n m : ℕ) (a b c x y z : Option (List Line)) (r : Answer) → n ≡ m → a ≡ x → b ≡ y → c ≡ z → Tells n a b c r → Tells m x y z r
+Tells-along n m a b c x y z r en ea eb ec h =
+    subst (λ v. Tells m x y v r) ec (subst (λ v. Tells m x v c r) eb (subst (λ v. Tells m v b c r) ea (subst (λ v. Tells v a b c r) en h)))
 
-key_read : (w : Word) (key : Key) → key_in w ≡ Some key → KeyOf key w
-key_read w key e =
-    key_if w (codes "Tab") keys.Tab key _ (is_bare_word w (codes "Tab")) refl refl tt
-    (key_if w (codes "Shift-Tab") keys.ShiftTab key _ (is_bare_word w (codes "Shift-Tab")) refl refl tt
-    (key_if w (codes "Enter") keys.Enter key _ (is_bare_word w (codes "Enter")) refl refl tt
-    (key_if w (codes "Esc") keys.Esc key None (is_bare_word w (codes "Esc")) refl refl tt (λ none. absurd cc)))) e
+by_tests : (n : ℕ) (longer : List Item) (further : List Line) (a b c : Bool) → longer ≡ items_of further → Tells n (cond a (Some further) None) (cond (a && b) (Some further) None) (cond ((a && b) && c) (Some further) None) (cond a (cond b (cond c (Ok longer) (Err TooLong)) (Err (OffScreen n))) (Err (Syntax n)))
+by_tests n longer further true true true e = (further, refl, refl, refl, e)
+by_tests n longer further true true false e = ((further, refl), refl)
+by_tests n longer further true false c e = (refl, (further, refl), refl)
+by_tests n longer further false b c e = (refl, refl)
 
-abbrev ItemOf : Item → List Word → Type 0
-ItemOf item ws = (item_words item ≡ ws) × IsScriptItem item
+module _ (grammar : Grammar) where
+  by_line : (n : ℕ) (ls : List Line) (o : Option Line) → Tells n (tested (stands grammar) ls o) (tested (shows grammar) ls o) (tested (fits grammar) ls o) (with_found grammar n (items_of ls) o)
+  by_line n ls None = (refl, refl)
+  by_line n ls (Some l) =
+      by_tests n (items_of ls ++ items_of_line l) (ls ++ l ∷ []) (allows grammar l) (is_on_screen grammar l) (nat_le (length (items_of ls ++ items_of_line l)) 100000) (sym (items_push ls l))
 
-screen_if : (k : Word) (item : Item) (a b : Bool) → is_bare_word k (codes "shot") ≡ a → is_bare_word k (codes "colors") ≡ b → cond a (Some items.Shot) (cond b (Some items.Colors) None) ≡ Some item → ItemOf item (k ∷ [])
-screen_if k item true b ea eb e = let same : items.Shot ≡ item = cc in subst (λ x. ItemOf x (k ∷ [])) same (ap (λ w. w ∷ []) (sym (word_is k (codes "shot") ea)), tt)
-screen_if k item false true ea eb e = let same : items.Colors ≡ item = cc in subst (λ x. ItemOf x (k ∷ [])) same (ap (λ w. w ∷ []) (sym (word_is k (codes "colors") eb)), tt)
-screen_if k item false false ea eb e = absurd cc
+  by_words : (n : ℕ) (ls : List Line) (o : Option (List Word)) → Tells n (words_taken (added (stands grammar)) ls o) (words_taken (added (shows grammar)) ls o) (words_taken (added (fits grammar)) ls o) (with_words grammar n (items_of ls) o)
+  by_words n ls None = (refl, refl)
+  by_words n ls (Some []) = (ls, refl, refl, refl, refl)
+  by_words n ls (Some (w ∷ ws)) = by_line n ls (line_in (w ∷ ws))
 
-keyed : (k w : Word) (item : Item) (o : Option Key) → k ≡ Bare (codes "key") → key_in w ≡ o → option_map key_item o ≡ Some item → ItemOf item (k ∷ w ∷ [])
-keyed k w item None ek eo e = absurd cc
-keyed k w item (Some key) ek eo e =
-    let same : key_item key ≡ item = cc in
-    let r = key_read w key eo in
-    let words : item_words (key_item key) ≡ k ∷ w ∷ [] = ap (λ x. x ∷ Bare (key_name key) ∷ []) (sym ek) ∙ ap (λ x. k ∷ x ∷ []) (sym r.0) in
-    subst (λ x. ItemOf x (k ∷ w ∷ [])) same (words, r.1)
+  -- ---- lines
 
-typed_if : (k w : Word) (item : Item) (text : List ℕ) (b : Bool) → k ≡ Bare (codes "type") → w ≡ Quoted text → list_all is_space text ≡ b → cond b (Some (items.Type text)) None ≡ Some item → ItemOf item (k ∷ w ∷ [])
-typed_if k w item text true ek ew eb e =
-    let same : items.Type text ≡ item = cc in
-    let words : item_words (items.Type text) ≡ k ∷ w ∷ [] = ap (λ x. x ∷ Quoted text ∷ []) (sym ek) ∙ ap (λ x. k ∷ x ∷ []) (sym ew) in
-    subst (λ x. ItemOf x (k ∷ w ∷ [])) same (words, eb)
-typed_if k w item text false ek ew eb e = absurd cc
+  abbrev along : Test → List Line → List (List ℕ) → Option (List Line)
+  along can ls lines = steps (line_taken (added can)) ls lines
 
-typed_read : (k w : Word) (item : Item) (o : Option (List ℕ)) → k ≡ Bare (codes "type") → text_in w ≡ o → typed o ≡ Some item → ItemOf item (k ∷ w ∷ [])
-typed_read k w item None ek eo e = absurd cc
-typed_read k w item (Some text) ek eo e = typed_if k w item text (list_all is_space text) ek (text_read w text eo) refl e
+  -- reading on, after the line n
+  abbrev went : ℕ → List (List ℕ) → Answer → Answer
+  went n rest r = elim r as (λ _. Answer) [ Err fault ↦ Err fault | Ok longer ↦ reading grammar (n + 1) longer rest ]
 
-two_if : (k w : Word) (item : Item) (a b : Bool) → is_bare_word k (codes "key") ≡ a → is_bare_word k (codes "type") ≡ b → cond a (option_map key_item (key_in w)) (cond b (typed_in w) None) ≡ Some item → ItemOf item (k ∷ w ∷ [])
-two_if k w item true b ea eb e = keyed k w item (key_in w) (word_is k (codes "key") ea) refl e
-two_if k w item false true ea eb e = typed_read k w item (text_in w) (word_is k (codes "type") eb) refl e
-two_if k w item false false ea eb e = absurd cc
+  abbrev Takes : List Line → List (List ℕ) → List Item → Type 0
+  Takes ls lines all = (further : List Line) × (along (fits grammar) ls lines ≡ Some further) × (all ≡ items_of further)
 
-item_read : (ws : List Word) (item : Item) → item_in ws ≡ Some item → ItemOf item ws
-item_read [] item e = absurd cc
-item_read (k ∷ []) item e = screen_if k item (is_bare_word k (codes "shot")) (is_bare_word k (codes "colors")) refl refl e
-item_read (k ∷ w ∷ []) item e = two_if k w item (is_bare_word k (codes "key")) (is_bare_word k (codes "type")) refl refl e
-item_read (a ∷ b ∷ c ∷ ds) item e = absurd cc
+  takes_line : (n : ℕ) (rest : List (List ℕ)) (all : List Item) (a b c : Option (List Line)) (r : Answer) → Tells n a b c r → ((m : ℕ) (further : List Line) → reading grammar m (items_of further) rest ≡ Ok all → Takes further rest all) → went n rest r ≡ Ok all → (further : List Line) × (option_and_then (λ t. along (fits grammar) t rest) c ≡ Some further) × (all ≡ items_of further)
+  takes_line n rest all a b c (Err fault) tells later e = absurd cc
+  takes_line n rest all a b c (Ok longer) tells later e =
+      let r = later (n + 1) tells.0 (ap (λ x. reading grammar (n + 1) x rest) (sym tells.4) ∙ e) in
+      (r.0, ap (option_and_then (λ t. along (fits grammar) t rest)) tells.3 ∙ r.1, r.2)
 
-read_key : (key : Key) → IsScriptKey key → key_in (Bare (key_name key)) ≡ Some key
-read_key keys.Tab is = refl
-read_key keys.ShiftTab is = refl
-read_key keys.Enter is = refl
-read_key keys.Esc is = refl
-read_key keys.Up is = absurd is
-read_key keys.Down is = absurd is
-read_key keys.Left is = absurd is
-read_key keys.Right is = absurd is
-read_key keys.Home is = absurd is
-read_key keys.End is = absurd is
-read_key keys.PageUp is = absurd is
-read_key keys.PageDown is = absurd is
-read_key keys.CtrlPageUp is = absurd is
-read_key keys.CtrlPageDown is = absurd is
-read_key keys.Backspace is = absurd is
-read_key keys.Delete is = absurd is
-read_key keys.Insert is = absurd is
-read_key (keys.Ctrl c) is = absurd is
-read_key (keys.Function n) is = absurd is
-read_key (keys.Alt c) is = absurd is
-read_key (keys.Char c) is = absurd is
+  -- the items that are read are those of the lines that are taken
+  takes : (lines : List (List ℕ)) (n : ℕ) (ls : List Line) (all : List Item) → reading grammar n (items_of ls) lines ≡ Ok all → Takes ls lines all
+  takes [] n ls all e = (ls, refl, (let same : items_of ls ≡ all = cc in sym same))
+  takes (l ∷ rest) n ls all e =
+      takes_line n rest all (line_taken (added (stands grammar)) ls l) (line_taken (added (shows grammar)) ls l) (line_taken (added (fits grammar)) ls l) (with_bytes grammar n (items_of ls) l) (by_words n ls (line_words l))
+      (λ m further. takes rest m further all) e
 
-read_item : (item : Item) → IsScriptItem item → item_in (item_words item) ≡ Some item
-read_item (items.Event (events.Key key)) is = rw (read_key key is) refl
-read_item (items.Event (events.Down p)) is = absurd is
-read_item (items.Event (events.Up p)) is = absurd is
-read_item (items.Event (events.Move p)) is = absurd is
-read_item (items.Event (events.Command c)) is = absurd is
-read_item (items.Event (events.Broadcast c)) is = absurd is
-read_item (items.Type text) is = rw is refl
-read_item items.Shot is = refl
-read_item items.Colors is = refl
+  -- reading stops at a line: those before it are taken, and with it the fault is told
+  record Halts (ls : List Line) (lines : List (List ℕ)) (n : ℕ) (fault : ScriptFault) : Type 0 where
+    before : ℕ
+    within : before < length lines
+    longer : List Line
+    goes : along (fits grammar) ls (take before lines) ≡ Some longer
+    tells : Tells (n + before) (along (stands grammar) ls (take (before + 1) lines)) (along (shows grammar) ls (take (before + 1) lines)) (along (fits grammar) ls (take (before + 1) lines)) (Err fault)
 
--- ---- declarations
+  alone : (o : Option (List Line)) → o ≡ option_and_then (λ t. Some t) o
+  alone None = refl
+  alone (Some s) = refl
 
-abbrev given : List Item → List (List Word) → Option (List Item)
-given script wss = option_and_then (λ s. Some s) (steps taken script wss)
+  one_on : (can : Test) (ls further : List Line) (l : List ℕ) (rest : List (List ℕ)) (b : ℕ) → line_taken (added can) ls l ≡ Some further → along can further (take (b + 1) rest) ≡ along can ls (take (suc b + 1) (l ∷ rest))
+  one_on can ls further l rest b e = rw (add-one b, add-one (suc b), e) refl
 
-abbrev Adds : List Item → List (List Word) → List Item → Type 0
-Adds script wss all = (more : List Item) × (all ≡ script ++ more) × (wss ≡ map item_words more) × IsScript more
+  halts_at : (n : ℕ) (ls : List Line) (l : List ℕ) (rest : List (List ℕ)) (fault : ScriptFault) (r : Answer) → Tells n (line_taken (added (stands grammar)) ls l) (line_taken (added (shows grammar)) ls l) (line_taken (added (fits grammar)) ls l) r → ((m : ℕ) (further : List Line) → reading grammar m (items_of further) rest ≡ Err fault → Halts further rest m fault) → went n rest r ≡ Err fault → Halts ls (l ∷ rest) n fault
+  halts_at n ls l rest fault (Err found) tells later e =
+      let same : found ≡ fault = cc in
+      record {
+        before = 0;
+        within = omega arith;
+        longer = ls;
+        goes = refl;
+        tells = subst (λ f. Tells (n + 0) (along (stands grammar) ls (l ∷ [])) (along (shows grammar) ls (l ∷ [])) (along (fits grammar) ls (l ∷ [])) (Err f)) same
+            (Tells-along n (n + 0) _ _ _ _ _ _ (Err found) (sym (add-zero n)) (alone (line_taken (added (stands grammar)) ls l)) (alone (line_taken (added (shows grammar)) ls l)) (alone (line_taken (added (fits grammar)) ls l)) tells);
+      }
+  halts_at n ls l rest fault (Ok longer) tells later e =
+      let r = later (n + 1) tells.0 (ap (λ x. reading grammar (n + 1) x rest) (sym tells.4) ∙ e) in
+      let number : n + 1 + r.before ≡ n + suc r.before = omega arith in
+      record {
+        before = suc r.before;
+        within = omega (arith, r.within);
+        longer = r.longer;
+        goes = rw tells.3 r.goes;
+        tells = Tells-along (n + 1 + r.before) (n + suc r.before) _ _ _ _ _ _ (Err fault) number (one_on (stands grammar) ls tells.0 l rest r.before tells.1) (one_on (shows grammar) ls tells.0 l rest r.before tells.2) (one_on (fits grammar) ls tells.0 l rest r.before tells.3) r.tells;
+      }
 
-same_cons : (a b : List Word) (xs ys : List (List Word)) → a ≡ b → xs ≡ ys → a ∷ xs ≡ b ∷ ys
-same_cons a b xs ys e f = rw (e, f) refl
+  halts : (lines : List (List ℕ)) (n : ℕ) (ls : List Line) (fault : ScriptFault) → reading grammar n (items_of ls) lines ≡ Err fault → Halts ls lines n fault
+  halts [] n ls fault e = absurd cc
+  halts (l ∷ rest) n ls fault e = halts_at n ls l rest fault (with_bytes grammar n (items_of ls) l) (by_words n ls (line_words l)) (λ m further. halts rest m further fault) e
 
-adds_one : (script : List Item) (ws : List Word) (wss : List (List Word)) (all : List Item) (o : Option Item) → item_in ws ≡ o → ((s : List Item) → given s wss ≡ Some all → Adds s wss all) → option_and_then (λ s. Some s) (option_and_then (λ t. steps taken t wss) (option_map (with_item script) o)) ≡ Some all → Adds script (ws ∷ wss) all
-adds_one script ws wss all None eo later e = absurd cc
-adds_one script ws wss all (Some item) eo later e =
-    let t = later (script ++ item ∷ []) e in
-    let r = item_read ws item eo in
-    (item ∷ t.0, t.1 ∙ append_assoc script (item ∷ []) t.0, same_cons ws (item_words item) wss (map item_words t.0) (sym r.0) t.2, (r.1, t.3))
+  -- ---- the first faulty line
 
-adds : (wss : List (List Word)) (script all : List Item) → given script wss ≡ Some all → Adds script wss all
-adds [] script all e = ([], (let same : script ≡ all = cc in sym same ∙ sym (append-nil script)), refl, tt)
-adds (ws ∷ wss) script all e = adds_one script ws wss all (item_in ws) refl (λ s. adds wss s all) e
+  abbrev spells_fitting : (lines : List (List ℕ)) (ls : List Line) → along (fits grammar) [] lines ≡ Some ls → SpellsBy script_words (IsFitting grammar) lines ls
+  spells_fitting = lines_spelled (fits grammar) (IsFitting grammar) (into_fitting grammar) (from_fitting grammar)
 
-given_spelled : (wss : List (List Word)) (script : List Item) → given [] wss ≡ Some script → (wss ≡ script_lines script) × IsScript script
-given_spelled wss script e = let t = adds wss [] script e in subst (λ x. (wss ≡ script_lines x) × IsScript x) (sym t.1) (t.2, t.3)
+  first : (lines : List (List ℕ)) (fault : ScriptFault) (h : Halts [] lines 1 fault) (line : ℕ) → line ≡ h.before + 1 → (BeginsBy script_words (IsFitting grammar) (take line lines) → ⊥) → IsFirstFault script_words (IsFitting grammar) lines line
+  first lines fault h line number unbegun = record {
+    before = h.before;
+    number = number;
+    within = omega (arith, h.within);
+    begins = taken_begins (fits grammar) (IsFitting grammar) (into_fitting grammar) (from_fitting grammar) (take h.before lines) h.longer h.goes;
+    stops = λ less b. unbegun b;
+    missing = λ same ls spelled. absurd (omega (arith, same, h.within));
+  }
 
-given_again : (more script : List Item) → IsScript more → given script (map item_words more) ≡ Some (script ++ more)
-given_again [] script is = ap (λ x. Some x) (sym (append-nil script))
-given_again (item ∷ more) script is = rw (read_item item is.0) (given_again more (script ++ item ∷ []) is.1 ∙ ap (λ x. Some x) (append_assoc script (item ∷ []) more))
+  no_script : (lines : List (List ℕ)) → along (stands grammar) [] lines ≡ None → BeginsBy script_words (IsScript grammar) lines → ⊥
+  no_script = no_begin (stands grammar) (IsScript grammar) (into_script grammar) (from_script grammar)
 
-spelled_given : (script : List Item) → IsScript script → given [] (script_lines script) ≡ Some script
-spelled_given script is = given_again script [] is
+  some_script : (lines : List (List ℕ)) (ls : List Line) → along (stands grammar) [] lines ≡ Some ls → BeginsBy script_words (IsScript grammar) lines
+  some_script = taken_begins (stands grammar) (IsScript grammar) (into_script grammar) (from_script grammar)
 
--- ---- lines
+  none_shown : (lines : List (List ℕ)) → along (shows grammar) [] lines ≡ None → BeginsBy script_words (IsOnScreen grammar) lines → ⊥
+  none_shown = no_begin (shows grammar) (IsOnScreen grammar) (into_shown grammar) (from_shown grammar)
 
-abbrev taken_line : List Item → List ℕ → Option (List Item)
-taken_line script line = line_taken taken script line
+  some_shown : (lines : List (List ℕ)) (ls : List Line) → along (shows grammar) [] lines ≡ Some ls → BeginsBy script_words (IsOnScreen grammar) lines
+  some_shown = taken_begins (shows grammar) (IsOnScreen grammar) (into_shown grammar) (from_shown grammar)
 
-abbrev SpellsLines : List (List ℕ) → List Item → Type 0
-SpellsLines lines script = SpellsBy script_lines IsScript lines script
+  none_fitting : (lines : List (List ℕ)) → along (fits grammar) [] lines ≡ None → BeginsBy script_words (IsFitting grammar) lines → ⊥
+  none_fitting = no_begin (fits grammar) (IsFitting grammar) (into_fitting grammar) (from_fitting grammar)
 
-lines_spelled : (lines : List (List ℕ)) (script : List Item) → option_and_then (λ s. Some s) (steps taken_line [] lines) ≡ Some script → SpellsLines lines script
-lines_spelled = texts.lines_spelled taken [] (λ s. Some s) script_lines IsScript given_spelled spelled_given
+  refused : (text : List ℕ) (fault : ScriptFault) → length text ≤ 1048576 → Halts [] (lines_of text) 1 fault → Refuses grammar text fault
+  refused text NoMemory short h = tt
+  refused text (Syntax line) short h =
+      let number : line ≡ h.before + 1 = omega (arith, h.tells.0) in
+      let unbegun = no_script (take line (lines_of text)) (rw number h.tells.1) in
+      (short, first (lines_of text) (Syntax line) h line number (λ b. unbegun (begins_weaker (IsFitting grammar) (IsScript grammar) (λ ls is. is.0.0) (take line (lines_of text)) b)), unbegun)
+  refused text (OffScreen line) short h =
+      let number : line ≡ h.before + 1 = omega (arith, h.tells.0) in
+      let unbegun = none_shown (take line (lines_of text)) (rw number h.tells.2) in (
+        short,
+        first (lines_of text) (OffScreen line) h line number (λ b. unbegun (begins_weaker (IsFitting grammar) (IsOnScreen grammar) (λ ls is. is.0) (take line (lines_of text)) b)),
+        some_script (take line (lines_of text)) h.tells.1.0 (rw number h.tells.1.1),
+        unbegun,
+      )
+  refused text TooLong short h =
+      let unbegun = none_fitting (take (h.before + 1) (lines_of text)) h.tells.1 in
+      inr (h.before + 1, first (lines_of text) TooLong h (h.before + 1) refl unbegun, some_shown (take (h.before + 1) (lines_of text)) h.tells.0.0 h.tells.0.1)
 
-spelled_lines : (lines : List (List ℕ)) (script : List Item) → SpellsLines lines script → option_and_then (λ s. Some s) (steps taken_line [] lines) ≡ Some script
-spelled_lines = texts.spelled_lines taken [] (λ s. Some s) script_lines IsScript given_spelled spelled_given
+  -- ---- the function and the relation
 
-begins_taken : (lines : List (List ℕ)) → BeginsBy script_lines IsScript lines → (s : List Item) × (steps taken_line [] lines ≡ Some s)
-begins_taken = texts.begins_taken taken [] (λ s. Some s) script_lines IsScript given_spelled spelled_given
+  spelled_if : (text : List ℕ) (script : List Item) (b : Bool) → nat_le (length text) 1048576 ≡ b → cond b (reading grammar 1 [] (lines_of text)) (Err TooLong) ≡ Ok script → Spells grammar text script
+  spelled_if text script true eb e =
+      let r = takes (lines_of text) 1 [] script e in
+      record { short = grind (arith, nat_tests); lines = r.0; spelled = spells_fitting (lines_of text) r.0 r.1; are = r.2 }
+  spelled_if text script false eb e = absurd cc
 
--- lines that spell a script begin one
-taken_begins : (lines : List (List ℕ)) (script : List Item) → steps taken_line [] lines ≡ Some script → BeginsBy script_lines IsScript lines
-taken_begins lines script e = ([], script, subst (λ x. SpellsLines x script) (sym (append-nil lines)) (lines_spelled lines script (ap (option_and_then (λ s. Some s)) e)))
+  -- what is read is spelled
+  pub read_spelled : (text : List ℕ) (script : List Item) → script_by grammar text ≡ Ok script → Spells grammar text script
+  read_spelled text script e = spelled_if text script (nat_le (length text) 1048576) refl e
 
--- ---- reading
+  refused_if : (text : List ℕ) (fault : ScriptFault) (b : Bool) → nat_le (length text) 1048576 ≡ b → cond b (reading grammar 1 [] (lines_of text)) (Err TooLong) ≡ Err fault → Refuses grammar text fault
+  refused_if text fault true eb e = refused text fault (grind (arith, nat_tests)) (halts (lines_of text) 1 [] fault e)
+  refused_if text fault false eb e =
+      let same : TooLong ≡ fault = cc in
+      let long : 1048576 < length text = grind (arith, nat_tests) in
+      subst (Refuses grammar text) same (inl long)
 
-abbrev went : ℕ → List (List ℕ) → Option (List Item) → Reading
-went n ls o = elim o as (λ _. Reading) [ None ↦ Fault n | Some longer ↦ reading (n + 1) longer ls ]
+  -- what is refused is faulty
+  pub read_refused : (text : List ℕ) (fault : ScriptFault) → script_by grammar text ≡ Err fault → Refuses grammar text fault
+  read_refused text fault e = refused_if text fault (nat_le (length text) 1048576) refl e
 
-some_back : (o : Option (List Item)) (all : List Item) → option_and_then (λ s. Some s) o ≡ Some all → o ≡ Some all
-some_back None all e = absurd cc
-some_back (Some s) all e = e
+  unspelled : (text : List ℕ) (script : List Item) → Spells grammar text script → (line : ℕ) → IsFirstFaulty grammar text line → ⊥
+  unspelled text script spelled line faulty = faulty_unspelled (IsFitting grammar) (lines_of text) line faulty spelled.lines spelled.spelled
 
-value_of : (n : ℕ) (ls : List (List ℕ)) (o : Option (List Item)) (all : List Item) → ((m : ℕ) (s : List Item) → reading m s ls ≡ Value all → steps taken_line s ls ≡ Some all) → went n ls o ≡ Value all → option_and_then (λ t. steps taken_line t ls) o ≡ Some all
-value_of n ls None all later e = absurd cc
-value_of n ls (Some s) all later e = later (n + 1) s e
+  same_script : (text : List ℕ) (found script : List Item) → Spells grammar text found → Spells grammar text script → found ≡ script
+  same_script text found script a b =
+      let ea = spelled_lines (fits grammar) (IsFitting grammar) (into_fitting grammar) (from_fitting grammar) (lines_of text) a.lines a.spelled in
+      let eb = spelled_lines (fits grammar) (IsFitting grammar) (into_fitting grammar) (from_fitting grammar) (lines_of text) b.lines b.spelled in
+      let both : Some a.lines ≡ Some b.lines = sym ea ∙ eb in
+      let same : a.lines ≡ b.lines = cc in
+      a.are ∙ ap items_of same ∙ sym b.are
 
-reading_value : (lines : List (List ℕ)) (n : ℕ) (script all : List Item) → reading n script lines ≡ Value all → steps taken_line script lines ≡ Some all
-reading_value [] n script all e = cc
-reading_value (l ∷ ls) n script all e = value_of n ls (taken_line script l) all (λ m s. reading_value ls m s all) e
+  with_memory : (text : List ℕ) (b : Bool) → cond b (reading grammar 1 [] (lines_of text)) (Err TooLong) ≡ Err NoMemory → ⊥
+  with_memory text true e = (halts (lines_of text) 1 [] NoMemory e).tells
+  with_memory text false e = absurd cc
 
-of_value : (n : ℕ) (ls : List (List ℕ)) (o : Option (List Item)) (all : List Item) → ((m : ℕ) (s : List Item) → steps taken_line s ls ≡ Some all → reading m s ls ≡ Value all) → option_and_then (λ t. steps taken_line t ls) o ≡ Some all → went n ls o ≡ Value all
-of_value n ls None all later e = absurd cc
-of_value n ls (Some s) all later e = later (n + 1) s e
+  spelled_answer : (r : Answer) (text : List ℕ) (script : List Item) → script_by grammar text ≡ r → Spells grammar text script → r ≡ Ok script
+  spelled_answer (Ok found) text script e spelled = ap (λ x. Ok x) (same_script text found script (read_spelled text found e) spelled)
+  spelled_answer (Err NoMemory) text script e spelled = absurd (with_memory text (nat_le (length text) 1048576) e)
+  spelled_answer (Err (Syntax line)) text script e spelled = absurd (unspelled text script spelled line (read_refused text (Syntax line) e).1)
+  spelled_answer (Err (OffScreen line)) text script e spelled = absurd (unspelled text script spelled line (read_refused text (OffScreen line) e).1)
+  spelled_answer (Err TooLong) text script e spelled =
+      absurd (elim (read_refused text TooLong e) [ inl long ↦ absurd (omega (arith, long, spelled.short)) | inr faulty ↦ unspelled text script spelled faulty.0 faulty.1 ])
 
-value_reading : (lines : List (List ℕ)) (n : ℕ) (script all : List Item) → steps taken_line script lines ≡ Some all → reading n script lines ≡ Value all
-value_reading [] n script all e = cc
-value_reading (l ∷ ls) n script all e = of_value n ls (taken_line script l) all (λ m s. value_reading ls m s all) e
+  -- a script that is spelled is read
+  pub spelled_read : (text : List ℕ) (script : List Item) → Spells grammar text script → script_by grammar text ≡ Ok script
+  spelled_read text script spelled = spelled_answer (script_by grammar text) text script refl spelled
 
-record Stops (script : List Item) (lines : List (List ℕ)) (n line : ℕ) : Type 0 where
-  before : ℕ
-  number : line ≡ n + before
-  within : before < length lines
-  longer : List Item
-  goes : steps taken_line script (take before lines) ≡ Some longer
-  stops : steps taken_line script (take (before + 1) lines) ≡ None
+  -- ---- the answers of `parse_script`
 
-stops_at : (n line : ℕ) (script : List Item) (l : List ℕ) (ls : List (List ℕ)) (o : Option (List Item)) → taken_line script l ≡ o → ((m : ℕ) (s : List Item) → reading m s ls ≡ Fault line → Stops s ls m line) → went n ls o ≡ Fault line → Stops script (l ∷ ls) n line
-stops_at n line script l ls None eo later e =
-    record { before = 0; number = (let same : n ≡ line = cc in omega arith); within = omega arith; longer = script; goes = refl; stops = rw eo refl }
-stops_at n line script l ls (Some s) eo later e =
-    let r = later (n + 1) s e in
-    record {
-      before = suc r.before;
-      number = omega (arith, r.number);
-      within = omega (arith, r.within);
-      longer = r.longer;
-      goes = rw eo r.goes;
-      stops = rw (add-one, eo) (rw add-one at r.stops);
-    }
+  answered : (text : List ℕ) (fault : ScriptFault) → IsAnswered fault (script_by grammar text) → Refuses grammar text fault
+  answered text NoMemory h = tt
+  answered text (Syntax line) h = read_refused text (Syntax line) h
+  answered text (OffScreen line) h = read_refused text (OffScreen line) h
+  answered text TooLong h = read_refused text TooLong h
 
-reading_stops : (lines : List (List ℕ)) (n line : ℕ) (script : List Item) → reading n script lines ≡ Fault line → Stops script lines n line
-reading_stops [] n line script e = absurd cc
-reading_stops (l ∷ ls) n line script e = stops_at n line script l ls (taken_line script l) refl (λ m s. reading_stops ls m line s) e
+  pub all_refused : (r : Answer) (text : List ℕ) → IfErr r (λ fault. IsAnswered fault (script_by grammar text)) → IfErr r (λ fault. Refuses grammar text fault)
+  all_refused (Ok script) text h = tt
+  all_refused (Err fault) text h = answered text fault h
 
-first_fault : (lines : List (List ℕ)) (line : ℕ) → reading 1 [] lines ≡ Fault line → IsFirstFault script_lines IsScript lines line
-first_fault lines line e =
-    let r = reading_stops lines 1 line [] e in
-    let number : line ≡ r.before + 1 = omega (arith, r.number) in
-    record {
-      before = r.before;
-      number = number;
-      within = omega (arith, r.within);
-      begins = taken_begins (take r.before lines) r.longer r.goes;
-      stops = λ h b. (let t = begins_taken (take line lines) b in let s : steps taken_line [] (take line lines) ≡ None = rw number r.stops in let clash : None ≡ Some t.0 = sym s ∙ t.1 in absurd cc);
-      missing = λ h v spelled. absurd (omega (arith, h, r.within));
-    }
+  given : (text : List ℕ) (script : List Item) (r : Answer) → script_by grammar text ≡ r → Spells grammar text script → Gives r script
+  given text script r e spelled = subst (λ x. Gives x script) (sym (spelled_answer r text script e spelled)) refl
 
--- ---- the answers of `parse_script`
-
-pub read_spelled : (text : List ℕ) (script : List Item) → reading_of text ≡ Value script → Spells text script
-read_spelled text script e = lines_spelled (lines_of text) script (ap (option_and_then (λ s. Some s)) (reading_value (lines_of text) 1 [] script e))
-
-spelled_read : (text : List ℕ) (script : List Item) → Spells text script → reading_of text ≡ Value script
-spelled_read text script h = value_reading (lines_of text) 1 [] script (some_back (steps taken_line [] (lines_of text)) script (spelled_lines (lines_of text) script h))
-
-pub all_refused : (r : Result (List Item) ScriptFault) (text : List ℕ) → IfErr r (λ fault. StopsAt fault (reading_of text)) → IfErr r (λ fault. Refuses text fault)
-all_refused (Ok script) text h = tt
-all_refused (Err NoMemory) text h = tt
-all_refused (Err (Syntax line)) text h = first_fault (lines_of text) line h
-
-pub gives : (r : Result (List Item) ScriptFault) (text : List ℕ) (script : List Item) → IfOk r (λ found. reading_of text ≡ Value found) → IfErr r (λ fault. StopsAt fault (reading_of text)) → Spells text script → Gives r script
-gives (Ok found) text script ok err spelled = let same : Value found ≡ Value script = sym ok ∙ spelled_read text script spelled in cc
-gives (Err NoMemory) text script ok err spelled = tt
-gives (Err (Syntax line)) text script ok err spelled = let clash : Fault line ≡ Value script = sym err ∙ spelled_read text script spelled in absurd cc
-
--- ---- what a line does, by the answers of the functions that read it
-
-module _ (script : List Item) (line : List ℕ) (found : Option (List Word)) (spelled : IfSome found (λ ws. SpellsWords line ws)) (only : (ws : List Word) → SpellsWords line ws → found ≡ Some ws) where
-  by_words : words_taken taken script found ≡ taken_line script line
-  by_words = ap (words_taken taken script) (found_words line found spelled only)
-
-  pub faulty_line : found ≡ None → taken_line script line ≡ None
-  faulty_line e = sym by_words ∙ ap (words_taken taken script) e
-
-  no_words : (ws : List Word) → true ≡ (length ws == 0) → words_taken taken script (Some ws) ≡ Some script
-  no_words [] e = refl
-  no_words (w ∷ ws) e = absurd (omega (arith, eqb-true (length (w ∷ ws)) 0 (sym e)))
-
-  pub line_without_words : (ws : List Word) → found ≡ Some ws → true ≡ (length ws == 0) → taken_line script line ≡ Some script
-  line_without_words ws e none = sym by_words ∙ ap (words_taken taken script) e ∙ no_words ws none
-
-  with_words : (ws : List Word) → false ≡ (length ws == 0) → words_taken taken script (Some ws) ≡ taken script ws
-  with_words [] e = absurd cc
-  with_words (w ∷ ws) e = refl
-
-  pub item_line : (ws : List Word) (item : Option Item) → found ≡ Some ws → false ≡ (length ws == 0) → item ≡ item_in ws → taken_line script line ≡ option_map (with_item script) item
-  item_line ws item e some took = sym by_words ∙ ap (words_taken taken script) e ∙ with_words ws some ∙ ap (option_map (with_item script)) (sym took)
+  pub gives : (r : Answer) (text : List ℕ) (script : List Item) → IfOk r (λ found. script_by grammar text ≡ Ok found) → IfErr r (λ fault. IsAnswered fault (script_by grammar text)) → Spells grammar text script → Gives r script
+  gives (Ok found) text script value fault spelled = given text script (Ok found) value spelled
+  gives (Err NoMemory) text script value fault spelled = tt
+  gives (Err (Syntax line)) text script value fault spelled = given text script (Err (Syntax line)) fault spelled
+  gives (Err (OffScreen line)) text script value fault spelled = given text script (Err (OffScreen line)) fault spelled
+  gives (Err TooLong) text script value fault spelled = given text script (Err TooLong) fault spelled

@@ -1,3 +1,5 @@
+-- The lines of scripts
+pub mod Lines
 -- The scripts that texts spell, and why a text is refused
 pub mod Scripts
 -- How a script is read, line by line

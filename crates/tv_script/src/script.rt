@@ -1,7 +1,7 @@
 //! A script, performed.
 
 ghost use Rattle.std.specs.Prelude.{◌≡◌, false, OnOk, IfErr};
-ghost use Rattle.tv_model.specs.Log.Output.{event_text, event_after, texts, states, typed, item_text, item_after, shot_text, colors_text, output, after};
+ghost use Rattle.tv_model.specs.Log.Output.{event_text, event_after, item_text, item_after, shot_text, colors_text, output, after};
 ghost use Rattle.tv_output.specs.Writer.{Takes};
 ghost use Rattle.tv_output.specs.Pen.{Puts};
 ghost use Rattle.tv_script.specs.Performed.{Stops};
@@ -9,7 +9,7 @@ ghost use Rattle.tv_script.specs.Performed.{Stops};
 use crate::lines::put_log;
 use crate::shot::{Aspect, put_screen};
 use crate::stage::Stage;
-use tv_event::{Event, Key};
+use tv_event::Event;
 use tv_model::Item;
 use tv_output::{Pen, Writer};
 
@@ -17,7 +17,7 @@ use tv_output::{Pen, Writer};
 ///
 /// # Errors
 ///
-/// The writer failed, or took nothing; the number is that of the items that were begun.
+/// The writer failed, or took nothing; the number is that of the items that were begun, each typed character being one.
 pub fn perform<S: Stage, W: Writer>(
     stage: &mut S,
     script: &[Item],
@@ -65,7 +65,6 @@ fn put_item<S: Stage, W: Writer>(pen: &mut Pen<W>, stage: &mut S, item: &Item)
 {
     match item {
         Item::Event(event) => put_event(pen, stage, event),
-        Item::Type(chars) => put_typed(pen, stage, chars.as_slice()),
         Item::Shot => put_shot(pen, stage),
         Item::Colors => put_colors(pen, stage),
     }
@@ -78,15 +77,6 @@ fn put_event<S: Stage, W: Writer>(pen: &mut Pen<W>, stage: &mut S, event: &Event
     stage.step(event);
     put_log(pen, stage.desc(), stage.log());
     stage.forget_log();
-}
-
-fn put_typed<S: Stage, W: Writer>(pen: &mut Pen<W>, stage: &mut S, chars: &[char])
-    ensures text { Puts W.seen pen.old pen.new (texts event_after event_text (S.session stage.old) (typed chars.now)) }
-    ensures state { S.session stage.new ≡ states event_after (S.session stage.old) (typed chars.now) }
-{
-    for ch in chars {
-        put_event(pen, stage, &Event::Key(Key::Char(*ch)));
-    }
 }
 
 fn put_shot<S: Stage, W: Writer>(pen: &mut Pen<W>, stage: &mut S)

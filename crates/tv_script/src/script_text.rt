@@ -1,28 +1,44 @@
 //! A script, read line by line.
 
-ghost use Rattle.std.specs.Prelude.{◌≡◌, List, IfOk, IfErr, Some};
-ghost use Rattle.std.specs.List.{list_all};
+ghost use Rattle.std.specs.Prelude.{◌≡◌, ◌++◌, [], map, List, IfOk, IfErr, OnOk};
+ghost use Rattle.std.specs.List.{list_any};
 ghost use Rattle.tv_model.specs.declared.script.Item.{Item as SeenItem};
-ghost use Rattle.tv_words.specs.Reading.LineWords.{line_taken};
-ghost use Rattle.tv_script.specs.Reading.Items.{item_in, key_in, screen_item_in, typed_in, taken};
-ghost use Rattle.tv_script.specs.Reading.Scripts.{reading_of, RefusesLine, StopsAt, Value};
-ghost use Rattle.tv_script.specs.Scripts.{Gives, is_space, Refuses, Spells};
+ghost use Rattle.tv_script.specs.Lines.{is_line_end, items_of_line, typed};
+ghost use Rattle.tv_script.specs.Reading.Lines.{key_line_in, line_in, mouse_line_in, point_in, screen_line_in, typed_in};
+ghost use Rattle.tv_script.specs.Reading.Scripts.{IsAnswered, reading, script_by, with_bytes, with_line};
+ghost use Rattle.tv_script.specs.Scripts.{Gives, Refuses, Spells};
+ghost use Rattle.tv_words.specs.Lines.{lines_of};
 
+use crate::line::{Grammar, Line};
 use std::alloc::{AllocError, Global};
 use thiserror::Error;
+use tv_cells::Point;
+use tv_declarations::key;
 use tv_event::{Event, Key};
 use tv_model::{Item, Sequence};
 use tv_valid::Chars;
 use tv_words::{Lines, Word, words_of};
 
-/// Why a text is no script.
+/// The most bytes of a script.
+const MOST_BYTES: usize = 1_048_576;
+
+/// The most items of a script.
+const MOST_ITEMS: usize = 100_000;
+
+/// Why a text is no script. Lines count from 1; of the first faulty line the first of these reasons is told.
 #[derive(Clone, Copy, Debug, PartialEq, Eq, Error)]
 pub enum ScriptFault {
     #[error("out of memory")]
     NoMemory,
-    /// The first line that is no item, counted from 1.
-    #[error("line {0} is no item of a script")]
+    /// The line is none of a script.
+    #[error("line {0} is none of a script")]
     Syntax(usize),
+    /// The line's point is not on the screen.
+    #[error("the point of line {0} is not on the screen")]
+    OffScreen(usize),
+    /// The text has more than 1,048,576 bytes, or the script more than 100,000 items.
+    #[error("the script is too long")]
+    TooLong,
 }
 
 impl From<AllocError> for ScriptFault {
@@ -36,23 +52,37 @@ impl From<AllocError> for ScriptFault {
     }
 }
 
-/// The script that a text spells. The caller sees to it that the text is no longer than a script may be.
-pub fn parse_script(alloc: Global, text: &[u8]) -> Result<Sequence<Item>, ScriptFault>
-    ensures spelled { IfOk result (λ items. Spells text.now items) }
-    ensures only { (items : List SeenItem) → Spells text.now items → Gives result items }
-    ensures fault { IfErr result (λ fault. Refuses text.now fault) }
+/// The items of the script that a text spells, by the lines that a script of the grammar may have.
+pub fn parse_script(
+    alloc: Global,
+    grammar: Grammar,
+    text: &[u8],
+) -> Result<Sequence<Item>, ScriptFault>
+    ensures spelled { IfOk result (λ items. Spells grammar text.now items) }
+    ensures only { (items : List SeenItem) → Spells grammar text.now items → Gives result items }
+    ensures fault { IfErr result (λ fault. Refuses grammar text.now fault) }
 {
-    read_items(alloc, text)
+    read_text(alloc, grammar, text)
 }
 
-fn read_items(alloc: Global, text: &[u8]) -> Result<Sequence<Item>, ScriptFault>
-    ensures value { IfOk result (λ items. reading_of text.now ≡ Value items) }
-    ensures fault { IfErr result (λ fault. StopsAt fault (reading_of text.now)) }
+fn read_text(alloc: Global, grammar: Grammar, text: &[u8]) -> Result<Sequence<Item>, ScriptFault>
+    ensures value { IfOk result (λ items. script_by grammar text.now ≡ Ok items) }
+    ensures fault { IfErr result (λ fault. IsAnswered fault (script_by grammar text.now)) }
+{
+    if text.len() > MOST_BYTES {
+        return Err(ScriptFault::TooLong);
+    }
+    read_lines(alloc, grammar, text)
+}
+
+fn read_lines(alloc: Global, grammar: Grammar, text: &[u8]) -> Result<Sequence<Item>, ScriptFault>
+    ensures value { IfOk result (λ items. reading grammar 1 [] (lines_of text.now) ≡ Ok items) }
+    ensures fault { IfErr result (λ fault. IsAnswered fault (reading grammar 1 [] (lines_of text.now))) }
 {
     let mut items = Sequence::new(alloc);
     let mut number = 1;
     for line in Lines::new(text) {
-        items = take_line(alloc, items, line, number)?;
+        items = take_line(alloc, grammar, items, line, number)?;
         number += 1;
     }
     Ok(items)
@@ -60,12 +90,13 @@ fn read_items(alloc: Global, text: &[u8]) -> Result<Sequence<Item>, ScriptFault>
 
 fn take_line(
     alloc: Global,
-    mut items: Sequence<Item>,
+    grammar: Grammar,
+    items: Sequence<Item>,
     line: &[u8],
     number: usize,
 ) -> Result<Sequence<Item>, ScriptFault>
-    ensures value { IfOk result (λ further. line_taken taken items line.now ≡ Some further) }
-    ensures fault { IfErr result (λ fault. RefusesLine fault number (line_taken taken items line.now)) }
+    ensures value { IfOk result (λ longer. with_bytes grammar number items line.now ≡ Ok longer) }
+    ensures fault { IfErr result (λ fault. IsAnswered fault (with_bytes grammar number items line.now)) }
 {
     let Some(list) = words_of(alloc, line)? else {
         return Err(ScriptFault::Syntax(number));
@@ -74,59 +105,98 @@ fn take_line(
     if words.is_empty() {
         return Ok(items);
     }
-    let Some(item) = item(alloc, words)? else {
+    let Some(found) = line_in(alloc, words)? else {
         return Err(ScriptFault::Syntax(number));
     };
-    items.push(item)?;
+    with_line(grammar, items, &found, number)
+}
+
+fn with_line(
+    grammar: Grammar,
+    mut items: Sequence<Item>,
+    line: &Line,
+    number: usize,
+) -> Result<Sequence<Item>, ScriptFault>
+    ensures value { IfOk result (λ longer. with_line grammar number items line.now ≡ Ok longer) }
+    ensures fault { IfErr result (λ fault. IsAnswered fault (with_line grammar number items line.now)) }
+{
+    if !grammar.allows(line) {
+        return Err(ScriptFault::Syntax(number));
+    }
+    if !grammar.shows(line) {
+        return Err(ScriptFault::OffScreen(number));
+    }
+    let count = line.items();
+    if count > MOST_ITEMS || items.as_slice().len() > MOST_ITEMS - count {
+        return Err(ScriptFault::TooLong);
+    }
+    push_items(&mut items, line)?;
     Ok(items)
 }
 
-fn item(alloc: Global, words: &[Word]) -> Result<Option<Item>, AllocError>
-    ensures { IfOk result (λ found. found ≡ item_in words.now) }
+fn push_items(items: &mut Sequence<Item>, line: &Line) -> Result<(), AllocError>
+    ensures { OnOk result (items.new ≡ items.old ++ items_of_line line.now) }
+{
+    match line {
+        Line::Key(key) => items.push(Item::Event(Event::Key(*key))),
+        Line::Type(text) => push_typed(items, text.as_slice()),
+        Line::Down(point) => items.push(Item::Event(Event::Down(*point))),
+        Line::Move(point) => items.push(Item::Event(Event::Move(*point))),
+        Line::Up(point) => items.push(Item::Event(Event::Up(*point))),
+        Line::Shot => items.push(Item::Shot),
+        Line::Colors => items.push(Item::Colors),
+    }
+}
+
+fn push_typed(items: &mut Sequence<Item>, text: &[char]) -> Result<(), AllocError>
+    ensures { OnOk result (items.new ≡ items.old ++ map typed text.now) }
+{
+    for ch in text {
+        items.push(Item::Event(Event::Key(Key::Char(*ch))))?;
+    }
+    Ok(())
+}
+
+fn line_in(alloc: Global, words: &[Word]) -> Result<Option<Line>, AllocError>
+    ensures { IfOk result (λ found. found ≡ line_in words.now) }
 {
     match words {
-        [keyword] => Ok(screen_item(keyword)),
-        [keyword, word] if keyword.is(b"key") => Ok(key(word).map(|key| Item::Event(Event::Key(
-            key,
-        )))),
-        [keyword, word] if keyword.is(b"type") => typed(alloc, word),
+        [keyword] => Ok(screen_line(keyword)),
+        [keyword, word] => key_line(alloc, keyword, word),
+        [keyword, x, y] => Ok(mouse_line(keyword, x, y)),
         _ => Ok(None),
     }
 }
 
-fn screen_item(keyword: &Word) -> Option<Item>
-    ensures { result ≡ screen_item_in keyword.now }
+fn screen_line(keyword: &Word) -> Option<Line>
+    ensures { result ≡ screen_line_in keyword.now }
 {
     if keyword.is(b"shot") {
-        Some(Item::Shot)
+        Some(Line::Shot)
     } else if keyword.is(b"colors") {
-        Some(Item::Colors)
+        Some(Line::Colors)
     } else {
         None
     }
 }
 
-fn key(word: &Word) -> Option<Key>
-    ensures { result ≡ key_in word.now }
+fn key_line(alloc: Global, keyword: &Word, word: &Word) -> Result<Option<Line>, AllocError>
+    ensures { IfOk result (λ found. found ≡ key_line_in keyword.now word.now) }
 {
-    if word.is(b"Tab") {
-        Some(Key::Tab)
-    } else if word.is(b"Shift-Tab") {
-        Some(Key::ShiftTab)
-    } else if word.is(b"Enter") {
-        Some(Key::Enter)
-    } else if word.is(b"Esc") {
-        Some(Key::Esc)
+    if keyword.is(b"key") {
+        Ok(key(word).map(|key| Line::Key(key)))
+    } else if keyword.is(b"type") {
+        typed(alloc, word)
     } else {
-        None
+        Ok(None)
     }
 }
 
-fn typed(alloc: Global, word: &Word) -> Result<Option<Item>, AllocError>
+fn typed(alloc: Global, word: &Word) -> Result<Option<Line>, AllocError>
     ensures { IfOk result (λ found. found ≡ typed_in word.now) }
 {
     match word.text() {
-        Some(text) if are_spaces(text.as_slice()) => Ok(Some(Item::Type(Chars::from_slice(
+        Some(text) if !has_line_end(text.as_slice()) => Ok(Some(Line::Type(Chars::from_slice(
             alloc,
             text.as_slice(),
         )?))),
@@ -134,8 +204,32 @@ fn typed(alloc: Global, word: &Word) -> Result<Option<Item>, AllocError>
     }
 }
 
-fn are_spaces(text: &[char]) -> bool
-    ensures { result ≡ list_all is_space text.now }
+fn has_line_end(text: &[char]) -> bool
+    ensures { result ≡ list_any is_line_end text.now }
 {
-    text.iter().all(|ch| *ch == ' ')
+    text.iter().any(|ch| *ch == '\n')
+}
+
+fn mouse_line(keyword: &Word, x: &Word, y: &Word) -> Option<Line>
+    ensures { result ≡ mouse_line_in keyword.now (point_in x.now y.now) }
+{
+    let point = point(x, y);
+    if keyword.is(b"down") {
+        point.map(|point| Line::Down(point))
+    } else if keyword.is(b"move") {
+        point.map(|point| Line::Move(point))
+    } else if keyword.is(b"up") {
+        point.map(|point| Line::Up(point))
+    } else {
+        None
+    }
+}
+
+fn point(x: &Word, y: &Word) -> Option<Point>
+    ensures { result ≡ point_in x.now y.now }
+{
+    Some(Point {
+        x: x.number()?,
+        y: y.number()?,
+    })
 }

@@ -16,8 +16,12 @@ mod each_fault;
 #[cfg(test)]
 mod memory;
 #[cfg(test)]
+mod performing;
+#[cfg(test)]
 mod reports;
 #[cfg(test)]
 mod runs;
+#[cfg(test)]
+mod scripts;
 #[cfg(test)]
 mod texts;

@@ -6,6 +6,7 @@ use std::test::Fail;
 use tv_check::CertificateFault;
 use tv_lang::LangFault;
 use tv_program::RunFault;
+use tv_script::ScriptFault;
 use tv_test_support::descriptions::WITHOUT_CANCEL;
 use tv_test_support::{Idle, Memory};
 
@@ -36,8 +37,18 @@ fn reports_on_texts(rt: HostRuntime) -> Result<(), Fail> {
             RunFault::Lang(LangFault::Version),
             "tvdlg: NAME: unknown version\n",
         ),
-        (RunFault::Script(100), "tvdlg: NAME: syntax at line 100\n"),
-        (RunFault::ScriptTooLong, "tvdlg: NAME: too long\n"),
+        (
+            RunFault::Script(ScriptFault::Syntax(100)),
+            "tvdlg: NAME: syntax at line 100\n",
+        ),
+        (
+            RunFault::Script(ScriptFault::OffScreen(12)),
+            "tvdlg: NAME: off screen at line 12\n",
+        ),
+        (
+            RunFault::Script(ScriptFault::TooLong),
+            "tvdlg: NAME: too long\n",
+        ),
         (
             RunFault::Cert(CertificateFault::Syntax(7)),
             "tvdlg: NAME: syntax at line 7\n",
@@ -57,6 +68,7 @@ fn reports_on_texts(rt: HostRuntime) -> Result<(), Fail> {
 fn reports_on_memory_and_devices(rt: HostRuntime) -> Result<(), Fail> {
     for (fault, message) in [
         (RunFault::Lang(LangFault::NoMemory), "tvdlg: no memory\n"),
+        (RunFault::Script(ScriptFault::NoMemory), "tvdlg: no memory\n"),
         (RunFault::NoMemory, "tvdlg: no memory\n"),
         (RunFault::Read, "tvdlg: cannot read NAME\n"),
         (RunFault::Write, "tvdlg: cannot write\n"),
@@ -81,7 +93,7 @@ fn expect_begun(alloc: Global, fault: &RunFault, prefix: &str, status: u8) -> Re
 fn statuses_where_writers_fail(rt: HostRuntime) -> Result<(), Fail> {
     for (fault, prefix, status) in [
         (RunFault::Lang(LangFault::Syntax(2)), "tvdlg: NAME", 1),
-        (RunFault::Script(100), "tvdlg: NAME", 1),
+        (RunFault::Script(ScriptFault::Syntax(100)), "tvdlg: NAME", 1),
         (RunFault::Write, "tvdlg: canno", 3),
         (RunFault::NoMemory, "tvdlg: no me", 3),
     ] {

@@ -1,12 +1,9 @@
-//! Texts that are descriptions and scripts, and such as are refused.
+//! Texts that are descriptions, and such as are refused.
 
-use crate::calls::{Call, run_into};
 use std::alloc::Global;
 use std::test::Fail;
-use tv_program::RunFault;
-use tv_script::{ScriptFault, parse_script};
-use tv_test_support::descriptions::{CANCEL, WITHOUT_CANCEL};
-use tv_test_support::{FirstDialog, Memory, Question, Reading, expect_answer, expect_answers};
+use tv_test_support::descriptions::CANCEL;
+use tv_test_support::{FirstDialog, Question, Reading, expect_answer, expect_answers};
 
 // Texts that aren't UTF-8, and such without a last line end.
 #[test]
@@ -284,120 +281,4 @@ end
 #[test]
 fn what_is_read(rt: HostRuntime) -> Result<(), Fail> {
     expect_answers(&FirstDialog, rt.alloc(), "", READ, "")
-}
-
-// What a run of a script comes to.
-#[derive(Clone, Copy)]
-struct RunScripts;
-
-impl Question for RunScripts {
-    fn answer(&self, alloc: Global, text: &[u8]) -> Result<String, Fail> {
-        let mut out = Memory::ample(alloc)?;
-        let Err(fault) = run_into(alloc, CANCEL.as_bytes(), text, &mut out) else {
-            return Ok(String::from_str(alloc, "performed\n")?);
-        };
-        if !out.taken().is_empty() {
-            return Err(Fail::new("a run that failed has written"));
-        }
-        refusal_told(alloc, &fault)
-    }
-}
-
-fn refusal_told(alloc: Global, fault: &RunFault) -> Result<String, Fail> {
-    match fault {
-        RunFault::Script(line) => Ok(format!(in alloc; "syntax at line {line}\n")?),
-        RunFault::ScriptTooLong => Ok(String::from_str(alloc, "too long\n")?),
-        _ => Err(Fail::new("no fault of the script")),
-    }
-}
-
-// What the reader of scripts says.
-#[derive(Clone, Copy)]
-struct ReadScripts;
-
-impl Question for ReadScripts {
-    fn answer(&self, alloc: Global, text: &[u8]) -> Result<String, Fail> {
-        match script_fault(alloc, text) {
-            None => Ok(String::from_str(alloc, "performed\n")?),
-            Some(ScriptFault::Syntax(line)) => Ok(format!(in alloc; "syntax at line {line}\n")?),
-            Some(ScriptFault::NoMemory) => Err(Fail::new("no memory")),
-        }
-    }
-}
-
-fn script_fault(alloc: Global, text: &[u8]) -> Option<ScriptFault> {
-    parse_script(alloc, text).err()
-}
-
-const SCRIPTS: &str = "key Foo
-=> syntax at line 1
-type \"a\"
-=> syntax at line 1
-type \" a\"
-=> syntax at line 1
-type \"\\n\"
-=> syntax at line 1
-type \"\u{20}
-=> syntax at line 1
-type\u{20}
-=> syntax at line 1
-down 1 1
-=> syntax at line 1
-key tab
-=> syntax at line 1
-key \"Tab\"
-=> syntax at line 1
-key Up
-=> syntax at line 1
-shot 1
-=> syntax at line 1
-key Tab shot
-=> syntax at line 1
-key Tab
-
-# a comment
-key Foo
-key Bar
-=> syntax at line 4
-shot
-\tshot
-=> syntax at line 2
-key Tab
-
-  # a comment
-type \"\"
-  shot
-=> performed
-";
-
-#[test]
-fn refused_scripts(rt: HostRuntime) -> Result<(), Fail> {
-    expect_answers(&RunScripts, rt.alloc(), "", SCRIPTS, "")?;
-    expect_answers(&ReadScripts, rt.alloc(), "", SCRIPTS, "")
-}
-
-fn expect_comment_script<Q: Question>(
-    question: &Q,
-    alloc: Global,
-    length: usize,
-    wanted: &str,
-) -> Result<(), Fail> {
-    let script = "#".repeat(alloc, length)?;
-    expect_answer(question, alloc, &script, wanted)
-}
-
-#[test]
-fn lengths_of_scripts(rt: HostRuntime) -> Result<(), Fail> {
-    let call = Call::Perform { desc: CANCEL };
-    let performed = "open a\nfocus c\nstatus 0\n";
-    expect_comment_script(&call, rt.alloc(), 1_048_576, performed)?;
-    expect_comment_script(&RunScripts, rt.alloc(), 1_048_577, "too long\n")
-}
-
-#[test]
-fn descriptions_are_judged_first(rt: HostRuntime) -> Result<(), Fail> {
-    let call = Call::Run { script: "key Foo" };
-    let unread = "tvdlg: NAME: syntax at line 2\nstatus 1\n";
-    expect_answer(&call, rt.alloc(), "tvd 1\nscreen 40\n", unread)?;
-    expect_answer(&call, rt.alloc(), WITHOUT_CANCEL, "F10 line 4\nstatus 1\n")
 }

@@ -1,11 +1,9 @@
 -- What a script writes.
-use Rattle.std.specs.Prelude.{[], ℕ, List, ◌∷◌, ◌++◌, map, flat_map, codes, decimal, encode_utf8, ◌+◌, ◌/◌, ◌%◌, nat_lt, if◌then◌else◌}
+use Rattle.std.specs.Prelude.{[], ℕ, List, ◌∷◌, ◌++◌, flat_map, codes, decimal, encode_utf8, ◌+◌, ◌/◌, ◌%◌, nat_lt, if◌then◌else◌}
 use Rattle.std.specs.List.{range_with_len}
 use Rattle.tv_cells.specs.Glyph.{Glyph}
 use Rattle.tv_cells.specs.Layers.{cell_of}
 use Rattle.tv_event.specs.declared.event.Event.{Event}
-use Rattle.tv_event.specs.declared.event.Event.TheVariants as events
-use Rattle.tv_event.specs.declared.event.Key.TheVariants as keys
 use Rattle.tv_model.specs.declared.script.Item.{Item}
 use Rattle.tv_model.specs.declared.script.Item.TheVariants as items
 use Rattle.tv_model.specs.Description.Numbers.{natural}
@@ -74,21 +72,15 @@ event_text s e = log_text s.desc (stepped s e).state.log
 abbrev pub event_after : Session → Event → Session
 event_after s e = quiet (stepped s e)
 
--- a key event for each character
-abbrev pub typed : List ℕ → List Event
-typed chars = map (λ ch. events.Key (keys.Char ch)) chars
-
 -- what is written for an item
 abbrev pub item_text : Session → Item → List ℕ
 item_text s (items.Event e) = event_text s e
-item_text s (items.Type chars) = texts event_after event_text s (typed chars)
 item_text s items.Shot = shot_text s
 item_text s items.Colors = colors_text s
 
 -- the session after an item
 abbrev pub item_after : Session → Item → Session
 item_after s (items.Event e) = event_after s e
-item_after s (items.Type chars) = states event_after s (typed chars)
 item_after s items.Shot = s
 item_after s items.Colors = s
 

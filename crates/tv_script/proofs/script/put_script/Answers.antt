@@ -1,6 +1,5 @@
-use Rattle.std.proofs.Common.{◌∙◌, ap}
-use Rattle.tv_model.specs.Log.Output.{item_text, item_after}
-use Rattle.tv_output.proofs.PenLemmas.{Puts-along, Cuts-from_stopped, Takes-from_went_on}
+use Rattle.std.proofs.Common.{◌∙◌}
+use Rattle.tv_output.proofs.PenLemmas.{Cuts-from_stopped, Takes-from_went_on}
 use Rattle.tv_script.proofs.PerformLemmas.{more_takes, more_stops, after-more}
 use Rattle.tv_script.proofs.script.put_script.Goals as goal
 
@@ -9,14 +8,13 @@ loop-index-preserved g c =
     let s = g.S.Stage.session c.args.stage.now in
     let t = g.S.Stage.session c.loop-index.stage in
     let i = c.loop-index.index in
-    let item = c.index-script-index.result in
     let before = c.loop-index.invariant in
-    let text = Puts-along (ap (item_text t) c.index-script-index.is) c.put_item.ensures.text in
+    let text = c.put_item.ensures.text in
     record {
       going = c.if-pen-2.false;
-      text = more_takes s t c.args.script.now i item c.loop-index-test.true before.state before.text (Takes-from_went_on c.if-pen-2.false text);
+      text = more_takes s t c.args.script.now i _ c.loop-index-test.true before.state before.text (Takes-from_went_on c.if-pen-2.false text);
       same = text.same ∙ before.same;
-      state = c.put_item.ensures.state ∙ ap (item_after t) c.index-script-index.is ∙ after-more s t c.args.script.now i item c.loop-index-test.true before.state;
+      state = c.put_item.ensures.state ∙ after-more s t c.args.script.now i _ c.loop-index-test.true before.state;
     }
 
 pub returns-then-pen-2-clause-stops : goal.returns-then-pen-2-clause-stops
@@ -24,8 +22,5 @@ returns-then-pen-2-clause-stops g c =
     let s = g.S.Stage.session c.args.stage.now in
     let t = g.S.Stage.session c.loop-index.stage in
     let i = c.loop-index.index in
-    let item = c.index-script-index.result in
     let before = c.loop-index.invariant in
-    let text = Puts-along (ap (item_text t) c.index-script-index.is) c.put_item.ensures.text in
-    let left = c.put_item.ensures.state ∙ ap (item_after t) c.index-script-index.is in
-    more_stops s t c.args.script.now i item c.loop-index-test.true before.state (g.S.Stage.session c.put_item.new.stage) left before.text (Cuts-from_stopped before.going c.if-pen-2.true text)
+    more_stops s t c.args.script.now i _ c.loop-index-test.true before.state (g.S.Stage.session c.put_item.new.stage) c.put_item.ensures.state before.text (Cuts-from_stopped before.going c.if-pen-2.true c.put_item.ensures.text)

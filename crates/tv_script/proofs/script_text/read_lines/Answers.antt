@@ -2,7 +2,7 @@ use Rattle.std.proofs.Common.{◌≡◌, refl, ap, ◌∙◌, arith}
 use Rattle.tv_words.specs.Lines.{lines_of}
 use Rattle.tv_words.specs.LinesLeft.{lines_left}
 use Rattle.tv_words.proofs.LineLemmas.{lines_le}
-use Rattle.tv_script.proofs.script_text.read_items.Goals as goal
+use Rattle.tv_script.proofs.script_text.read_lines.Goals as goal
 
 pub loop-line-init : goal.loop-line-init
 loop-line-init c =

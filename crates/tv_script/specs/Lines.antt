@@ -1,0 +1,120 @@
+-- The lines of scripts: their words, their items, and which of them a script may have.
+use Rattle.std.specs.Prelude.{◌≡◌, ℕ, ℤ, pos, List, [], ◌∷◌, Bool, true, false, ◌&&◌, map, flat_map, int_le, int_lt, codes, ◌==◌}
+use Rattle.std.specs.List.{list_all, list_any}
+use Rattle.tv_cells.specs.declared.rect.Point.{Point}
+use Rattle.tv_declarations.specs.Spelling.Keys.{IsKey, key_word}
+use Rattle.tv_event.specs.declared.event.Event.TheVariants as events
+use Rattle.tv_event.specs.declared.event.Key.{Key}
+use Rattle.tv_event.specs.declared.event.Key.TheVariants as keys
+use Rattle.tv_model.specs.declared.script.Item.{Item}
+use Rattle.tv_model.specs.declared.script.Item.TheVariants as items
+use Rattle.tv_script.specs.declared.line.Grammar.{Grammar}
+use Rattle.tv_script.specs.declared.line.Grammar.TheVariants.{Thin, Whole}
+use Rattle.tv_script.specs.declared.line.Line.{Line}
+use Rattle.tv_script.specs.declared.line.Line.TheVariants as lines
+use Rattle.tv_words.specs.declared.word.Word.{Word}
+use Rattle.tv_words.specs.declared.word.Word.TheVariants.{Bare, Quoted}
+use Rattle.tv_words.specs.Fields.{IsNumber, number_word}
+
+-- ---- spelling
+
+-- a keyword and a point
+abbrev pub point_words : List ℕ → Point → List Word
+point_words keyword p = Bare keyword ∷ number_word p.x ∷ number_word p.y ∷ []
+
+-- the words of a line
+abbrev pub words_of_line : Line → List Word
+words_of_line (lines.Key key) = Bare (codes "key") ∷ key_word key ∷ []
+words_of_line (lines.Type text) = Bare (codes "type") ∷ Quoted text ∷ []
+words_of_line (lines.Down p) = point_words (codes "down") p
+words_of_line (lines.Move p) = point_words (codes "move") p
+words_of_line (lines.Up p) = point_words (codes "up") p
+words_of_line lines.Shot = Bare (codes "shot") ∷ []
+words_of_line lines.Colors = Bare (codes "colors") ∷ []
+
+-- a point of two numbers
+abbrev pub IsPoint : Point → Type 0
+IsPoint p = IsNumber p.x × IsNumber p.y
+
+-- a line end
+abbrev pub is_line_end : ℕ → Bool
+is_line_end c = c == 10
+
+-- a line that can be spelled: a key with a name, a text without a line end, or a point of two numbers
+abbrev pub IsLine : Line → Type 0
+IsLine (lines.Key key) = IsKey key
+IsLine (lines.Type text) = list_any is_line_end text ≡ false
+IsLine (lines.Down p) = IsPoint p
+IsLine (lines.Move p) = IsPoint p
+IsLine (lines.Up p) = IsPoint p
+IsLine lines.Shot = Unit {0}
+IsLine lines.Colors = Unit {0}
+
+-- ---- items
+
+-- a character that is typed
+abbrev pub typed : ℕ → Item
+typed ch = items.Event (events.Key (keys.Char ch))
+
+-- the items of a line: a typed text has one for each character
+abbrev pub items_of_line : Line → List Item
+items_of_line (lines.Key key) = items.Event (events.Key key) ∷ []
+items_of_line (lines.Type text) = map typed text
+items_of_line (lines.Down p) = items.Event (events.Down p) ∷ []
+items_of_line (lines.Move p) = items.Event (events.Move p) ∷ []
+items_of_line (lines.Up p) = items.Event (events.Up p) ∷ []
+items_of_line lines.Shot = items.Shot ∷ []
+items_of_line lines.Colors = items.Colors ∷ []
+
+-- the items of lines
+abbrev pub items_of : List Line → List Item
+items_of ls = flat_map items_of_line ls
+
+-- ---- thin scripts
+
+-- the keys of thin scripts
+abbrev pub is_thin_key : Key → Bool
+is_thin_key keys.Tab = true
+is_thin_key keys.ShiftTab = true
+is_thin_key keys.Enter = true
+is_thin_key keys.Esc = true
+is_thin_key _ = false
+
+-- a space
+abbrev pub is_space : ℕ → Bool
+is_space c = c == 32
+
+-- the lines of thin scripts: one of these keys, typed spaces, or a screen
+abbrev pub is_thin_line : Line → Bool
+is_thin_line (lines.Key key) = is_thin_key key
+is_thin_line (lines.Type text) = list_all is_space text
+is_thin_line lines.Shot = true
+is_thin_line lines.Colors = true
+is_thin_line _ = false
+
+-- a line of the grammar
+abbrev pub allows : Grammar → Line → Bool
+allows Thin l = is_thin_line l
+allows (Whole width height) l = true
+
+-- ---- the screen
+
+-- one of so many columns or rows
+abbrev pub is_within : ℤ → ℤ → Bool
+is_within size at = int_le (pos 0) at && int_lt at size
+
+-- a point of a screen of so many columns and rows
+abbrev pub is_point_within : ℤ → ℤ → Point → Bool
+is_point_within width height p = is_within width p.x && is_within height p.y
+
+-- a line whose point, if it has one, is on the screen
+abbrev pub is_within_screen : ℤ → ℤ → Line → Bool
+is_within_screen width height (lines.Down p) = is_point_within width height p
+is_within_screen width height (lines.Move p) = is_point_within width height p
+is_within_screen width height (lines.Up p) = is_point_within width height p
+is_within_screen width height _ = true
+
+-- the same of the grammar's screen
+abbrev pub is_on_screen : Grammar → Line → Bool
+is_on_screen Thin l = true
+is_on_screen (Whole width height) l = is_within_screen width height l
