@@ -19,11 +19,7 @@ end
 
 // How many items of a script were begun where the writer took so many bytes, unless all was written, and the line of the control
 // that has the focus then.
-fn begun(
-    alloc: Global,
-    script: &str,
-    room: usize,
-) -> Result<(Option<usize>, Option<Id>), Fail> {
+fn begun(alloc: Global, script: &str, room: usize) -> Result<(Option<usize>, Option<Id>), Fail> {
     let Ok(desc) = read_sound(alloc, TWO_BUTTONS.as_bytes()) else {
         return Err(Fail::new("no thin description"));
     };

@@ -68,7 +68,10 @@ fn reports_on_texts(rt: HostRuntime) -> Result<(), Fail> {
 fn reports_on_memory_and_devices(rt: HostRuntime) -> Result<(), Fail> {
     for (fault, message) in [
         (RunFault::Lang(LangFault::NoMemory), "tvdlg: no memory\n"),
-        (RunFault::Script(ScriptFault::NoMemory), "tvdlg: no memory\n"),
+        (
+            RunFault::Script(ScriptFault::NoMemory),
+            "tvdlg: no memory\n",
+        ),
         (RunFault::NoMemory, "tvdlg: no memory\n"),
         (RunFault::Read, "tvdlg: cannot read NAME\n"),
         (RunFault::Write, "tvdlg: cannot write\n"),
