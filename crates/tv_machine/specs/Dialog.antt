@@ -1,0 +1,20 @@
+-- What an event does to the open dialog.
+
+-- what is visible, enabled and free to focus
+pub mod Rules
+-- an open dialog at work
+pub mod Modal
+-- where the focus goes
+pub mod Focus
+-- commands, and how a dialog ends
+pub mod Ending
+-- what letters act on
+pub mod Shortcuts
+-- keys
+pub mod Keys
+-- the mouse
+pub mod Mouse
+-- one event
+pub mod Step
+-- how a dialog opens
+pub mod Opening

@@ -1,0 +1,96 @@
+-- What the marks of a dialog's clusters show, enable and leave free to focus.
+use Rattle.std.specs.Prelude.{[], ℕ, Bool, true, false, not, ◌&&◌, ◌||◌, List, ◌∷◌, find, Option, Some, None, ◌-◌, ◌/◌, ◌%◌, ◌^◌, ◌==◌}
+use Rattle.std.specs.List.{list_any, list_all}
+use Rattle.tv_model.specs.declared.node.Id.{Id}
+use Rattle.tv_model.specs.declared.node.Node.{Node}
+use Rattle.tv_model.specs.declared.kind.Kind.{Kind}
+use Rattle.tv_model.specs.declared.kind.Kind.TheVariants as kinds
+use Rattle.tv_model.specs.declared.record.Value.{Value}
+use Rattle.tv_model.specs.declared.record.Value.TheVariants as values
+use Rattle.tv_model.specs.declared.desc.Dialog.{Dialog}
+use Rattle.tv_model.specs.declared.desc.Rule.{Rule}
+use Rattle.tv_model.specs.declared.desc.Effect.{Effect}
+use Rattle.tv_model.specs.declared.desc.Effect.TheVariants as effects
+use Rattle.tv_model.specs.Description.Names.{meant, gives_name}
+use Rattle.tv_model.specs.Description.Nodes.{is_control}
+use Rattle.tv_model.specs.Description.Numbers.{natural}
+use Rattle.tv_model.specs.Description.Commands.{command_number}
+use Rattle.tv_machine.specs.State.{LeafState, Plain}
+use Rattle.tv_machine.specs.Controls.Contents.{Content}
+use Rattle.tv_machine.specs.Leaves.{PlacedNode}
+
+-- ---- what leaves hold
+
+-- the state of the leaf of an id
+abbrev pub state_of : List LeafState → Id → Option LeafState
+state_of leaves i = find (λ leaf. leaf.id.0 == i.0) leaves
+
+-- whether the id is among these
+abbrev pub is_among : List Id → Id → Bool
+is_among ids i = list_any (λ other. other.0 == i.0) ids
+
+-- what a leaf holds by its state, and whether typing overwrites in it
+abbrev pub content_by : Bool → Option LeafState → Content
+content_by overwrites None = record { value = None; private = Plain; overwrites = overwrites }
+content_by overwrites (Some leaf) = record { value = leaf.value; private = leaf.private; overwrites = overwrites }
+
+-- what the leaf of an id holds, where typing overwrites in these inputs
+abbrev pub content_of : List LeafState → List Id → Id → Content
+content_of leaves overwriting i = content_by (is_among overwriting i) (state_of leaves i)
+
+-- ---- rules
+
+-- whether an item, from 1, is marked: bit 0 of marks is the first item
+abbrev pub is_marked : Option Value → ℕ → Bool
+is_marked None item = false
+is_marked (Some (values.Text text)) item = false
+is_marked (Some (values.Marks marks)) item = (marks / 2 ^ (item - 1)) % 2 == 1
+is_marked (Some (values.Item marked)) item = marked == item
+
+-- whether the cluster has the item marked, hidden or not
+abbrev pub is_marked_at : List LeafState → ℕ → Option Node → Bool
+is_marked_at leaves item None = false
+is_marked_at leaves item (Some cluster) = is_marked (content_of leaves [] cluster.id).value item
+
+-- a rule holds where its cluster has its item marked
+abbrev pub holds : Dialog → List LeafState → Rule → Bool
+holds d leaves rule = is_marked_at leaves (natural rule.item) (meant d.views rule.cluster)
+
+-- a show rule over the leaf or a pane around it
+abbrev pub shows : PlacedNode → Effect → Bool
+shows leaf (effects.Show name) = list_any (gives_name name) (leaf.node ∷ leaf.panes)
+shows leaf (effects.Enable command) = false
+
+-- visible: every show rule over it and over the panes around it holds
+abbrev pub is_visible : Dialog → List LeafState → PlacedNode → Bool
+is_visible d leaves leaf = list_all (λ rule. not (shows leaf rule.effect) || holds d leaves rule) d.rules
+
+-- an enable rule on the command
+abbrev pub enables : ℕ → Effect → Bool
+enables number (effects.Show name) = false
+enables number (effects.Enable command) = command_number command == number
+
+-- a command is enabled where every enable rule on it holds
+abbrev pub is_command_enabled : Dialog → List LeafState → ℕ → Bool
+is_command_enabled d leaves number = list_all (λ rule. not (enables number rule.effect) || holds d leaves rule) d.rules
+
+-- a button is enabled while its command is, and every other leaf always
+abbrev pub is_kind_enabled : Dialog → List LeafState → Kind → Bool
+is_kind_enabled d leaves (kinds.Button button) = is_command_enabled d leaves (command_number button.command)
+is_kind_enabled d leaves (kinds.Window head) = true
+is_kind_enabled d leaves (kinds.Dialog head) = true
+is_kind_enabled d leaves (kinds.Text shown) = true
+is_kind_enabled d leaves (kinds.Label label) = true
+is_kind_enabled d leaves (kinds.Input input) = true
+is_kind_enabled d leaves (kinds.CheckBoxes boxes) = true
+is_kind_enabled d leaves (kinds.RadioButtons radios) = true
+is_kind_enabled d leaves (kinds.List list) = true
+is_kind_enabled d leaves (kinds.Pane pane) = true
+
+-- a button whose command is disabled is not enabled
+abbrev pub is_enabled : Dialog → List LeafState → Node → Bool
+is_enabled d leaves node = is_kind_enabled d leaves node.kind
+
+-- free to focus: a control that is visible and enabled
+abbrev pub is_free : Dialog → List LeafState → PlacedNode → Bool
+is_free d leaves leaf = is_control leaf.node.kind && (is_visible d leaves leaf && is_enabled d leaves leaf.node)

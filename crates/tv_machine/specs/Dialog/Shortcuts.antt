@@ -1,0 +1,57 @@
+-- What letters act on in a dialog.
+use Rattle.std.specs.Prelude.{ℕ, Option, Some, None, find, is_some, if◌then◌else◌}
+use Rattle.tv_model.specs.declared.node.Id.{Id}
+use Rattle.tv_model.specs.declared.node.Node.{Node}
+use Rattle.tv_model.specs.declared.kind.Kind.{Kind}
+use Rattle.tv_model.specs.declared.kind.Kind.TheVariants as kinds
+use Rattle.tv_model.specs.declared.desc.Dialog.{Dialog}
+use Rattle.tv_model.specs.Description.Names.{meant}
+use Rattle.tv_model.specs.Description.Owners.{owner_by}
+use Rattle.tv_model.specs.Controls.ButtonTable.{item_marking}
+use Rattle.tv_model.specs.Controls.ClusterTable.{ClusterKind, Boxes, Radios}
+use Rattle.tv_machine.specs.Leaves.{PlacedNode, leaf_list}
+use Rattle.tv_machine.specs.Controls.Tables.{item_pressed}
+use Rattle.tv_machine.specs.Dialog.Rules.{is_visible, is_enabled}
+use Rattle.tv_machine.specs.Dialog.Focus.{request, request_then}
+use Rattle.tv_machine.specs.Dialog.Ending.{press}
+use Rattle.tv_machine.specs.Dialog.Modal.{Modal, content_at, with_content}
+
+-- the leaf that marks the letter, hidden or not
+abbrev pub marker_of : Dialog → ℕ → Option PlacedNode
+marker_of d letter = find (λ leaf. is_some (owner_by letter leaf.node.kind)) (leaf_list d.views)
+
+-- a label asks for the focus of its link
+abbrev pub request_link : Dialog → Option Node → Modal → Modal
+request_link d None m = m
+request_link d (Some link) m = request d link.id m
+
+-- the item of a cluster is selected and pressed
+abbrev pub press_item : Dialog → ClusterKind → Id → Option ℕ → Modal → Modal
+press_item d kind i None m = m
+press_item d kind i (Some item) m = with_content d i (item_pressed kind item (content_at m i)) m
+
+-- a cluster asks for the focus, and where that is granted its item is selected and pressed
+abbrev pub call_item : Dialog → ClusterKind → Id → Option ℕ → Modal → Modal
+call_item d kind i item m = request_then d i (press_item d kind i item) m
+
+-- what a letter does with a marker by its kind: a label's focuses its link, a button's presses it, an item's presses the item
+abbrev pub called : Dialog → ℕ → PlacedNode → Kind → Modal → Modal
+called d letter leaf (kinds.Label label) m = request_link d (meant d.views label.link) m
+called d letter leaf (kinds.Button button) m = if is_enabled d m.leaves leaf.node then press d leaf m else m
+called d letter leaf (kinds.CheckBoxes boxes) m = call_item d Boxes leaf.node.id (item_marking boxes.items letter) m
+called d letter leaf (kinds.RadioButtons radios) m = call_item d Radios leaf.node.id (item_marking radios.items letter) m
+called d letter leaf (kinds.Window head) m = m
+called d letter leaf (kinds.Dialog head) m = m
+called d letter leaf (kinds.Text shown) m = m
+called d letter leaf (kinds.Input input) m = m
+called d letter leaf (kinds.List list) m = m
+called d letter leaf (kinds.Pane pane) m = m
+
+-- the letter acts on its marker; a hidden one does nothing
+abbrev pub act : Dialog → ℕ → PlacedNode → Modal → Modal
+act d letter leaf m = if is_visible d m.leaves leaf then called d letter leaf leaf.node.kind m else m
+
+-- the same where there is a marker
+abbrev pub act_on : Dialog → ℕ → Option PlacedNode → Modal → Modal
+act_on d letter None m = m
+act_on d letter (Some leaf) m = act d letter leaf m

@@ -1,0 +1,23 @@
+-- A run of a description, event for event.
+use Rattle.tv_event.specs.declared.event.Event.{Event}
+use Rattle.tv_model.specs.declared.desc.Desc.{Desc}
+use Rattle.tv_machine.specs.State.{State}
+use Rattle.tv_machine.specs.Session.Step.{step, emptied}
+use Rattle.tv_machine.specs.Session.Start.{start}
+
+-- a description and the state of its run
+pub record Session : Type 0 where
+  pub desc : Desc
+  pub state : State
+
+-- before the first event
+abbrev pub started : Desc → Session
+started d = record { desc = d; state = start d }
+
+-- after one event
+abbrev pub stepped : Session → Event → Session
+stepped s e = record { desc = s.desc; state = step s.desc s.state e }
+
+-- its log was taken
+abbrev pub quiet : Session → Session
+quiet s = record { desc = s.desc; state = emptied s.state }

@@ -1,0 +1,206 @@
+-- What holds at the start of a run and after each event.
+use Rattle.std.specs.Prelude.{◌≡◌, ◌≤◌, ◌<◌, ℕ, Bool, false, true, List, map, filter, length, slice_get, Option, Some, None, IsTrue, All, ◌^◌, is_some}
+use Rattle.tv_event.specs.declared.event.Event.{Event}
+use Rattle.tv_valid.specs.declared.domain.Domain.{Domain}
+use Rattle.tv_valid.specs.Domain.{IsDomain, IsViableText, InDomain}
+use Rattle.tv_model.specs.declared.node.Id.{Id}
+use Rattle.tv_model.specs.declared.node.Node.{Node}
+use Rattle.tv_model.specs.declared.kind.Kind.{Kind}
+use Rattle.tv_model.specs.declared.kind.Kind.TheVariants as kinds
+use Rattle.tv_model.specs.declared.record.Value.{Value}
+use Rattle.tv_model.specs.declared.record.Value.TheVariants as values
+use Rattle.tv_model.specs.declared.record.Entry.{Entry}
+use Rattle.tv_model.specs.declared.desc.Desc.{Desc}
+use Rattle.tv_model.specs.declared.desc.Dialog.{Dialog}
+use Rattle.tv_model.specs.declared.log.LogLine.{LogLine}
+use Rattle.tv_model.specs.declared.log.LogLine.TheVariants as lines
+use Rattle.tv_model.specs.Description.Commands.{is_end}
+use Rattle.tv_model.specs.Description.Heads.{dialog_head}
+use Rattle.tv_model.specs.Description.Nodes.{node_of}
+use Rattle.tv_model.specs.Controls.ClusterTable.{is_item}
+use Rattle.tv_model.specs.Log.Record.{Entries}
+use Rattle.tv_model.specs.Machine.State.{declared_value}
+use Rattle.tv_machine.specs.State.{State, OpenDialog, Held, Private, Plain, Editing, Selecting, Scrolled}
+use Rattle.tv_machine.specs.Controls.Contents.{Content, text_of, cursor_of}
+use Rattle.tv_machine.specs.Leaves.{PlacedNode, leaf_list}
+use Rattle.tv_machine.specs.Dialog.Rules.{content_of, is_among, is_visible, is_enabled}
+use Rattle.tv_machine.specs.Dialog.Modal.{leaf_at}
+use Rattle.tv_machine.specs.Dialog.Focus.{is_free_at}
+use Rattle.tv_machine.specs.Session.Commands.{overwriting_at}
+use Rattle.tv_machine.specs.Session.Step.{step}
+use Rattle.tv_machine.specs.Session.Start.{start}
+use Rattle.tv_machine.specs.Output.{states}
+
+-- ---- values
+
+-- whether the text may stand in an input that is declared so, or lies in its domain
+abbrev pub IsTextOf : (Domain → List ℕ → Type 0) → Kind → List ℕ → Type 0
+IsTextOf Allows (kinds.Input input) text = (domain : Domain) × IsDomain input.spec domain × Allows domain text
+IsTextOf Allows (kinds.Window head) text = ⊥
+IsTextOf Allows (kinds.Dialog head) text = ⊥
+IsTextOf Allows (kinds.Text shown) text = ⊥
+IsTextOf Allows (kinds.Label label) text = ⊥
+IsTextOf Allows (kinds.Button button) text = ⊥
+IsTextOf Allows (kinds.CheckBoxes boxes) text = ⊥
+IsTextOf Allows (kinds.RadioButtons radios) text = ⊥
+IsTextOf Allows (kinds.List list) text = ⊥
+IsTextOf Allows (kinds.Pane pane) text = ⊥
+
+-- an item, from 1, that radio buttons or a list have
+abbrev pub IsItemOf : Kind → ℕ → Type 0
+IsItemOf (kinds.RadioButtons radios) item = IsTrue (is_item (length radios.items) item)
+IsItemOf (kinds.List list) item = IsTrue (is_item (length list.items) item)
+IsItemOf (kinds.Window head) item = ⊥
+IsItemOf (kinds.Dialog head) item = ⊥
+IsItemOf (kinds.Text shown) item = ⊥
+IsItemOf (kinds.Label label) item = ⊥
+IsItemOf (kinds.Button button) item = ⊥
+IsItemOf (kinds.Input input) item = ⊥
+IsItemOf (kinds.CheckBoxes boxes) item = ⊥
+IsItemOf (kinds.Pane pane) item = ⊥
+
+-- marks of items that check boxes have
+abbrev pub AreMarksOf : Kind → ℕ → Type 0
+AreMarksOf (kinds.CheckBoxes boxes) marks = marks < 2 ^ length boxes.items
+AreMarksOf (kinds.Window head) marks = ⊥
+AreMarksOf (kinds.Dialog head) marks = ⊥
+AreMarksOf (kinds.Text shown) marks = ⊥
+AreMarksOf (kinds.Label label) marks = ⊥
+AreMarksOf (kinds.Button button) marks = ⊥
+AreMarksOf (kinds.Input input) marks = ⊥
+AreMarksOf (kinds.RadioButtons radios) marks = ⊥
+AreMarksOf (kinds.List list) marks = ⊥
+AreMarksOf (kinds.Pane pane) marks = ⊥
+
+-- a value that a field of the kind may have, where its texts are allowed so
+abbrev pub IsValueOf : (Domain → List ℕ → Type 0) → Kind → Value → Type 0
+IsValueOf Allows kind (values.Text text) = IsTextOf Allows kind text
+IsValueOf Allows kind (values.Marks marks) = AreMarksOf kind marks
+IsValueOf Allows kind (values.Item item) = IsItemOf kind item
+
+-- whether a leaf of the kind is a field
+abbrev pub is_field : Kind → Bool
+is_field kind = is_some (declared_value kind)
+
+-- a field has a value that it may have while it is typed, and no other leaf has one
+abbrev pub HasValueOf : Kind → Option Value → Type 0
+HasValueOf kind None = is_field kind ≡ false
+HasValueOf kind (Some value) = IsValueOf IsViableText kind value
+
+-- ---- the open dialog
+
+-- what a leaf of the kind holds: a value of its kind, with the cursor in the text
+pub record IsSafeContent (kind : Kind) (content : Content) : Type 0 where
+  pub value : HasValueOf kind content.value
+  pub cursor : cursor_of content.private ≤ length (text_of content.value)
+
+-- the leaf that holds the mouse is visible, and a button enabled
+pub record IsSafeHold (dialog : Dialog) (o : OpenDialog) (held : Held) : Type 0 where
+  pub leaf : PlacedNode
+  pub there : leaf_at dialog held.id ≡ Some leaf
+  pub visible : is_visible dialog o.leaves leaf ≡ true
+  pub enabled : is_enabled dialog o.leaves leaf.node ≡ true
+
+-- what a leaf of the open dialog holds is safe
+abbrev pub IsSafeLeaf : State → OpenDialog → PlacedNode → Type 0
+IsSafeLeaf s o leaf = IsSafeContent leaf.node.kind (content_of o.leaves (overwriting_at s o.place) leaf.node.id)
+
+-- the open dialog is one of the description, with its leaves in order; its focus is free, and no menu is open
+pub record IsSafeDialog (d : Desc) (s : State) (o : OpenDialog) : Type 0 where
+  pub dialog : Dialog
+  pub there : slice_get d.dialogs o.place ≡ Some dialog
+  pub leaves : map (λ leaf. leaf.id) o.leaves ≡ map (λ leaf. leaf.node.id) (leaf_list dialog.views)
+  pub focus : is_free_at dialog o.leaves o.focus ≡ true
+  pub held : (held : Held) → o.held ≡ Some held → IsSafeHold dialog o held
+  pub contents : All (IsSafeLeaf s o) (leaf_list dialog.views)
+  pub menu : s.menu ≡ None
+  pub over : s.is_over ≡ false
+
+-- ---- saved records
+
+-- the fields of a dialog, in description order
+abbrev pub field_ids : Dialog → List Id
+field_ids dialog = map (λ leaf. leaf.node.id) (filter (λ leaf. is_field leaf.node.kind) (leaf_list dialog.views))
+
+-- a value that the field of the entry may be saved with
+pub record IsSafeEntry (dialog : Dialog) (entry : Entry) : Type 0 where
+  pub node : Node
+  pub there : node_of dialog.views entry.id ≡ Some node
+  pub value : IsValueOf InDomain node.kind entry.value
+
+-- exactly the dialog's fields, each text in its domain, and items that there are
+pub record IsSafeRecord (dialog : Dialog) (entries : Entries) : Type 0 where
+  pub fields : map (λ entry. entry.id) entries ≡ field_ids dialog
+  pub values : All (IsSafeEntry dialog) entries
+
+-- the record that a dialog saved
+pub record IsSafeSaved (d : Desc) (place : ℕ) (entries : Entries) : Type 0 where
+  pub dialog : Dialog
+  pub there : slice_get d.dialogs place ≡ Some dialog
+  pub record_of : IsSafeRecord dialog entries
+
+-- ---- the log
+
+-- a dialog of this id declares the command as an end of it
+pub record Declares (d : Desc) (i : Id) (number : ℕ) : Type 0 where
+  pub place : ℕ
+  pub dialog : Dialog
+  pub there : slice_get d.dialogs place ≡ Some dialog
+  pub id : dialog.node.id ≡ i
+  pub «end» : is_end (dialog_head dialog).ends number ≡ true
+
+-- an `end` line names a declared command; nothing is asked of other lines
+abbrev pub HasDeclaredEnd : Desc → LogLine → Type 0
+HasDeclaredEnd d (lines.End i command) = Declares d i command.0
+HasDeclaredEnd d _ = Unit {0}
+
+-- ---- the safe state
+
+-- an open dialog can be used, saved records lie in their domains, and dialogs end as they declare
+pub record IsSafe (d : Desc) (s : State) : Type 0 where
+  pub dialog : (o : OpenDialog) → s.dialog ≡ Some o → IsSafeDialog d s o
+  pub saved : (place : ℕ) (entries : Entries) → slice_get s.saved place ≡ Some (Some entries) → IsSafeSaved d place entries
+  pub ends : All (HasDeclaredEnd d) s.log
+
+-- every run is safe: at the start, and after any events
+abbrev pub IsAlwaysSafe : Desc → Type 0
+IsAlwaysSafe d = (events : List Event) → IsSafe d (states (step d) (start d) events)
+
+-- ---- what every step keeps
+
+-- what a leaf keeps beside its value is of its kind, and the item that check boxes have selected exists
+abbrev pub IsPrivateOf : Kind → Private → Type 0
+IsPrivateOf (kinds.Input input) (Editing cursor is_whole) = Unit {0}
+IsPrivateOf (kinds.Input input) private = ⊥
+IsPrivateOf (kinds.CheckBoxes boxes) (Selecting item) = IsTrue (is_item (length boxes.items) item)
+IsPrivateOf (kinds.CheckBoxes boxes) private = ⊥
+IsPrivateOf (kinds.List list) (Scrolled top) = Unit {0}
+IsPrivateOf (kinds.List list) private = ⊥
+IsPrivateOf (kinds.Window head) private = private ≡ Plain
+IsPrivateOf (kinds.Dialog head) private = private ≡ Plain
+IsPrivateOf (kinds.Text shown) private = private ≡ Plain
+IsPrivateOf (kinds.Label label) private = private ≡ Plain
+IsPrivateOf (kinds.Button button) private = private ≡ Plain
+IsPrivateOf (kinds.RadioButtons radios) private = private ≡ Plain
+IsPrivateOf (kinds.Pane pane) private = private ≡ Plain
+
+-- of each leaf of the open dialog
+pub record IsFitDialog (d : Desc) (s : State) (o : OpenDialog) : Type 0 where
+  pub dialog : Dialog
+  pub there : slice_get d.dialogs o.place ≡ Some dialog
+  pub kept : All (λ leaf. IsPrivateOf leaf.node.kind (content_of o.leaves (overwriting_at s o.place) leaf.node.id).private) (leaf_list dialog.views)
+
+-- the inputs of a dialog in which typing overwrites stand in description order
+pub record IsFitOverwriting (d : Desc) (place : ℕ) (ids : List Id) : Type 0 where
+  pub dialog : Dialog
+  pub there : slice_get d.dialogs place ≡ Some dialog
+  pub ordered : ids ≡ filter (is_among ids) (map (λ view. view.id) dialog.views)
+
+-- a safe state, with what is needed to keep it so: there is a record and a list of overwriting inputs for each dialog, these in
+-- order, and what leaves keep is of their kinds
+pub record IsFit (d : Desc) (s : State) : Type 0 where
+  pub safe : IsSafe d s
+  pub dialog : (o : OpenDialog) → s.dialog ≡ Some o → IsFitDialog d s o
+  pub saved : length s.saved ≡ length d.dialogs
+  pub overwriting : length s.overwriting ≡ length d.dialogs
+  pub ordered : (place : ℕ) (ids : List Id) → slice_get s.overwriting place ≡ Some ids → IsFitOverwriting d place ids

@@ -1,0 +1,14 @@
+-- What an event does to a run.
+
+-- the commands that are enabled
+pub mod Enabled
+-- commands, with a dialog open and without one
+pub mod Commands
+-- the menu bar
+pub mod Menu
+-- windows on the desktop
+pub mod Desktop
+-- one event
+pub mod Step
+-- the state before the first event
+pub mod Start
