@@ -1,25 +1,28 @@
 -- What the other calls of a view answer, and make of its leaf.
 use Rattle.std.specs.Prelude.{◌⊎◌, ◌<◌, ℕ, Bool, true, false, not, ◌&&◌, List, length, Option, Some, None, IsSome, IsTrue, slice_index_or, ◌+◌, ◌^◌, ◌==◌, if◌then◌else◌}
-use Rattle.std.specs.List.{list_any}
 use Rattle.tv_valid.specs.declared.domain.Domain.{Domain}
-use Rattle.tv_valid.specs.Domain.{IsDomain, InDomain, IsViableText}
+use Rattle.tv_valid.specs.Domain.{IsDomain, IsViableText}
 use Rattle.tv_model.specs.declared.node.Id.{Id}
 use Rattle.tv_model.specs.declared.kind.Kind.{Kind}
 use Rattle.tv_model.specs.declared.kind.Kind.TheVariants as kinds
 use Rattle.tv_model.specs.declared.record.Value.{Value}
 use Rattle.tv_model.specs.declared.record.Value.TheVariants as values
 use Rattle.tv_model.specs.Description.Nodes.{is_control}
-use Rattle.tv_model.specs.Log.Record.{Entries, value_of, with_value}
-use Rattle.tv_model.specs.Machine.State.{opened_private}
 use Rattle.tv_model.specs.Description.Commands.{command_number}
-use Rattle.tv_model.specs.Controls.ClusterTable.{ClusterKind, Boxes, Radios, pressed, is_item}
-use Rattle.tv_model.specs.Controls.InputTable.{entered, left}
+use Rattle.tv_model.specs.Log.Record.{Entries, value_of, with_value}
+use Rattle.tv_model.specs.Controls.ClusterTable.{ClusterKind, Boxes, Radios, is_item}
+use Rattle.tv_model.specs.Controls.InputTable.{Edit, entered, left}
 use Rattle.tv_model.specs.Controls.Meaning.{Leaf}
+use Rattle.tv_machine.specs.Controls.Contents.{edit_of, edit_content, opened_private}
+use Rattle.tv_machine.specs.Controls.Tables as tables
+use Rattle.tv_machine.specs.Dialog.Focus.{is_invalid}
+use Rattle.tv_machine.specs.Dialog.Rules.{is_among}
 use Rattle.tv_view.specs.declared.env.Rules.{Rules}
-use Rattle.tv_view.specs.Fields.{text_of, edit_of, with_edit, cluster_of, with_cluster}
+use Rattle.tv_view.specs.Fields.{content_of, with_content}
 
 -- ---- flags
 
+-- a flag that is set or isn't
 abbrev pub flag_if : Bool → ℕ → ℕ
 flag_if b flag = if b then flag else 0
 
@@ -35,7 +38,10 @@ option_bits (kinds.Input input) = 0x05 + flag_if input.validates 0x400
 option_bits (kinds.CheckBoxes boxes) = 0x35
 option_bits (kinds.RadioButtons radios) = 0x35
 option_bits (kinds.List list) = 0x05
-option_bits _ = 0
+option_bits (kinds.Text shown) = 0
+option_bits (kinds.Window head) = 0
+option_bits (kinds.Dialog head) = 0
+option_bits (kinds.Pane pane) = 0
 
 -- ---- the focus
 
@@ -43,29 +49,49 @@ option_bits _ = 0
 abbrev pub takes_focus : Id → Leaf → Bool
 takes_focus id leaf = is_control leaf.node.kind && (leaf.node.id.0 == id.0)
 
--- an input that receives the focus has its text selected, one that loses it has no selection
-abbrev pub given_focus : Kind → Leaf → Leaf
-given_focus (kinds.Input input) leaf = record (with_edit (entered (edit_of leaf)) leaf) { is_focused = true }
-given_focus _ leaf = record leaf { is_focused = true }
+-- what the coming or going of the focus makes of a leaf by its kind: of an input an edit, of other leaves nothing
+abbrev pub refocused : (Edit → Edit) → Kind → Leaf → Leaf
+refocused edit (kinds.Input input) leaf = with_content (edit_content (edit (edit_of (content_of leaf)))) leaf
+refocused edit (kinds.Window head) leaf = leaf
+refocused edit (kinds.Dialog head) leaf = leaf
+refocused edit (kinds.Text shown) leaf = leaf
+refocused edit (kinds.Label label) leaf = leaf
+refocused edit (kinds.Button button) leaf = leaf
+refocused edit (kinds.CheckBoxes boxes) leaf = leaf
+refocused edit (kinds.RadioButtons radios) leaf = leaf
+refocused edit (kinds.List list) leaf = leaf
+refocused edit (kinds.Pane pane) leaf = leaf
 
-abbrev pub without_focus : Kind → Leaf → Leaf
-without_focus (kinds.Input input) leaf = record (with_edit (left (edit_of leaf)) leaf) { is_focused = false }
-without_focus _ leaf = record leaf { is_focused = false }
+-- an input that receives the focus has its text selected
+abbrev pub given_focus : Leaf → Leaf
+given_focus leaf = record (refocused entered leaf.node.kind leaf) { is_focused = true }
+
+-- one that loses it has nothing selected
+abbrev pub without_focus : Leaf → Leaf
+without_focus leaf = record (refocused left leaf.node.kind leaf) { is_focused = false }
 
 -- the control that has the focus already stays as it is, and every other leaf loses it
 unfoldable pub focused_to : Id → Leaf → Leaf
-focused_to id leaf =
-    if not (takes_focus id leaf) then without_focus leaf.node.kind leaf else if leaf.is_focused then leaf else given_focus leaf.node.kind leaf
+focused_to id leaf = if not (takes_focus id leaf) then without_focus leaf else if leaf.is_focused then leaf else given_focus leaf
 
 -- ---- pressing an item
 
+-- a cluster of so many items with the item pressed, if it has it
 abbrev pub cluster_pressed : ClusterKind → ℕ → ℕ → Leaf → Leaf
-cluster_pressed kind count item leaf = if is_item count item then with_cluster kind (pressed kind item (cluster_of kind leaf)) leaf else leaf
+cluster_pressed kind count item leaf = if is_item count item then with_content (tables.item_pressed kind item (content_of leaf)) leaf else leaf
 
+-- by kind: only clusters have items to press
 abbrev pub kind_pressed : Kind → ℕ → Leaf → Leaf
 kind_pressed (kinds.CheckBoxes boxes) item leaf = cluster_pressed Boxes (length boxes.items) item leaf
 kind_pressed (kinds.RadioButtons radios) item leaf = cluster_pressed Radios (length radios.items) item leaf
-kind_pressed _ item leaf = leaf
+kind_pressed (kinds.Window head) item leaf = leaf
+kind_pressed (kinds.Dialog head) item leaf = leaf
+kind_pressed (kinds.Text shown) item leaf = leaf
+kind_pressed (kinds.Label label) item leaf = leaf
+kind_pressed (kinds.Button button) item leaf = leaf
+kind_pressed (kinds.Input input) item leaf = leaf
+kind_pressed (kinds.List list) item leaf = leaf
+kind_pressed (kinds.Pane pane) item leaf = leaf
 
 -- the cluster of the id has the item selected and pressed; nothing for another id or an item that it lacks
 unfoldable pub item_pressed : Id → ℕ → Leaf → Leaf
@@ -73,27 +99,25 @@ item_pressed id item leaf = if leaf.node.id.0 == id.0 then kind_pressed leaf.nod
 
 -- ---- values
 
--- an input whose text lies outside its domain
-abbrev pub IsKindInvalid : Kind → Leaf → Type 0
-IsKindInvalid (kinds.Input input) leaf = (d : Domain) × IsDomain input.spec d × (InDomain d (text_of leaf.value) → ⊥)
-IsKindInvalid _ leaf = ⊥
-
-unfoldable pub IsInvalid : Leaf → Type 0
-IsInvalid leaf = IsKindInvalid leaf.node.kind leaf
+-- the id of an input whose text lies outside its domain
+unfoldable pub invalid_id : Leaf → Option Id
+invalid_id leaf = if is_invalid leaf.node.kind (content_of leaf) then Some leaf.node.id else None
 
 -- the record with the value of a field
 abbrev pub with_field : Option Value → Id → Entries → Entries
 with_field None id entries = entries
 with_field (Some value) id entries = with_value entries id value
 
+-- the same for a leaf
 unfoldable pub gathered : Leaf → Entries → Entries
 gathered leaf entries = with_field leaf.value leaf.node.id entries
 
+-- whether a record has the field of an id, or room for it; what is no field needs none
 abbrev pub HasRoomFor : Option Value → Id → Entries → Type 0
 HasRoomFor None id entries = Unit {0}
 HasRoomFor (Some value) id entries = IsSome (value_of entries id.0) ⊎ (length entries < 64)
 
--- the record has the field, or room for it
+-- the same for a leaf
 unfoldable pub HasRoom : Leaf → Entries → Type 0
 HasRoom leaf entries = HasRoomFor leaf.value leaf.node.id entries
 
@@ -107,16 +131,23 @@ IsValueOf (kinds.RadioButtons radios) (Some (values.Item item)) = IsTrue (is_ite
 IsValueOf (kinds.RadioButtons radios) _ = ⊥
 IsValueOf (kinds.List list) (Some (values.Item item)) = IsTrue (is_item (length list.items) item)
 IsValueOf (kinds.List list) _ = ⊥
-IsValueOf _ value = Unit {0}
+IsValueOf (kinds.Window head) value = Unit {0}
+IsValueOf (kinds.Dialog head) value = Unit {0}
+IsValueOf (kinds.Text shown) value = Unit {0}
+IsValueOf (kinds.Label label) value = Unit {0}
+IsValueOf (kinds.Button button) value = Unit {0}
+IsValueOf (kinds.Pane pane) value = Unit {0}
 
 -- the record fits: a field finds a value that it may have
 unfoldable pub Fits : Entries → Leaf → Type 0
 Fits entries leaf = IsValueOf leaf.node.kind (value_of entries leaf.node.id.0)
 
+-- a leaf with a value and the first private state that goes with it
 abbrev pub opened_with : Option Value → Leaf → Leaf
-opened_with (Some value) leaf = record leaf { value = Some value; private = opened_private leaf.node.kind value }
+opened_with (Some value) leaf = record leaf { value = Some value; private = opened_private leaf.node.kind (Some value) }
 opened_with None leaf = leaf
 
+-- whether there is a value, as fields have one
 abbrev pub is_field : Option Value → Bool
 is_field None = false
 is_field (Some value) = true
@@ -129,13 +160,19 @@ set_from entries leaf =
 
 -- ---- rules
 
-abbrev pub is_listed : List Id → Id → Bool
-is_listed ids id = list_any (λ other. other.0 == id.0) ids
-
 -- a button is enabled while its command is, all else always
 abbrev pub is_kind_enabled : List Bool → Kind → Bool
 is_kind_enabled commands (kinds.Button button) = slice_index_or commands (command_number button.command) false
-is_kind_enabled commands _ = true
+is_kind_enabled commands (kinds.Window head) = true
+is_kind_enabled commands (kinds.Dialog head) = true
+is_kind_enabled commands (kinds.Text shown) = true
+is_kind_enabled commands (kinds.Label label) = true
+is_kind_enabled commands (kinds.Input input) = true
+is_kind_enabled commands (kinds.CheckBoxes boxes) = true
+is_kind_enabled commands (kinds.RadioButtons radios) = true
+is_kind_enabled commands (kinds.List list) = true
+is_kind_enabled commands (kinds.Pane pane) = true
 
+-- what the rules make of a leaf
 unfoldable pub applied : Rules → Leaf → Leaf
-applied rules leaf = record leaf { is_shown = is_listed rules.shown.now leaf.node.id; is_enabled = is_kind_enabled rules.commands.now leaf.node.kind }
+applied rules leaf = record leaf { is_shown = is_among rules.shown.now leaf.node.id; is_enabled = is_kind_enabled rules.commands.now leaf.node.kind }

@@ -1,23 +1,30 @@
--- What a view is told of its owners, as tests and attributes.
-use Rattle.std.specs.Prelude.{ℕ, Bool, false, List, Option, Some, None, option_map, ◌==◌}
+-- What a view is told of its owners: attributes, and how its leaf stands.
+use Rattle.std.specs.Prelude.{ℕ, Bool, false, not, List, Option, Some, None, option_map, ◌==◌}
 use Rattle.tv_model.specs.declared.node.Id.{Id}
 use Rattle.tv_model.specs.declared.node.Node.{Node}
+use Rattle.tv_model.specs.declared.kind.Kind.{Kind}
+use Rattle.tv_model.specs.declared.kind.Kind.TheVariants as kinds
+use Rattle.tv_model.specs.Controls.Meaning.{Leaf}
 use Rattle.tv_model.specs.Description.Names.{meant}
 use Rattle.tv_palette.specs.declared.role.Role.{Role}
 use Rattle.tv_palette.specs.Palettes.{colour_in}
+use Rattle.tv_machine.specs.Screen.LeafFaces.{Look}
 use Rattle.tv_view.specs.declared.env.Env.{Env}
 
 -- the attribute of a role, by the view's palette and those of its owners
 abbrev pub colour : Env → Role → ℕ
 colour env role = colour_in env.chain.now role
 
+-- whether it is the one of the id
 abbrev pub is_id : Option Id → Id → Bool
 is_id None id = false
 is_id (Some other) id = other.0 == id.0
 
+-- whether the control of the id has the focus
 abbrev pub has_focus : Env → Id → Bool
 has_focus env id = is_id env.focus id
 
+-- whether Enter presses the button of the id
 abbrev pub is_default_now : Env → Id → Bool
 is_default_now env id = is_id env.default_now id
 
@@ -25,9 +32,29 @@ is_default_now env id = is_id env.default_now id
 abbrev pub link_of : List Node → List ℕ → Option Id
 link_of views name = option_map (λ node. node.id) (meant views name)
 
-abbrev pub is_link_focused : Env → List ℕ → Bool
-is_link_focused env name = focused (link_of env.views.now name)
-  where
-    focused : Option Id → Bool
-    focused None = false
-    focused (Some id) = has_focus env id
+-- whether what a leaf links has the focus
+abbrev pub is_focus : Env → Option Id → Bool
+is_focus env None = false
+is_focus env (Some id) = has_focus env id
+
+-- what a leaf links: a label has a link, no other kind has one
+abbrev pub linked_by : Env → Kind → Option Id
+linked_by env (kinds.Label label) = link_of env.views.now label.link
+linked_by env (kinds.Window head) = None
+linked_by env (kinds.Dialog head) = None
+linked_by env (kinds.Text shown) = None
+linked_by env (kinds.Button button) = None
+linked_by env (kinds.Input input) = None
+linked_by env (kinds.CheckBoxes boxes) = None
+linked_by env (kinds.RadioButtons radios) = None
+linked_by env (kinds.List list) = None
+linked_by env (kinds.Pane pane) = None
+
+-- how a leaf stands
+abbrev pub look_of : Env → Leaf → Look
+look_of env leaf = record {
+  is_focused = has_focus env leaf.node.id;
+  is_default_now = is_default_now env leaf.node.id;
+  is_disabled = not leaf.is_enabled;
+  is_linked = is_focus env (linked_by env leaf.node.kind);
+}

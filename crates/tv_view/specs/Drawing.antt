@@ -9,19 +9,26 @@ use Rattle.tv_cells.specs.declared.rect.Rect.{Rect}
 use Rattle.tv_cells.specs.declared.canvas.Canvas.{Canvas}
 use Rattle.tv_model.specs.Description.Numbers.{natural}
 use Rattle.tv_model.specs.Description.Nodes.{height_of}
+use Rattle.tv_model.specs.Screen.Faces.{FaceOf}
 use Rattle.tv_model.specs.Controls.Meaning.{Leaf, Placed, bounds_of}
+use Rattle.tv_machine.specs.Screen.LeafFaces.{leaf_faces}
 use Rattle.tv_view.specs.declared.env.Env.{Env}
-use Rattle.tv_view.specs.LeafFaces.{faces_of_kind}
+use Rattle.tv_view.specs.Colours.{colour, look_of}
+use Rattle.tv_view.specs.Fields.{content_of}
 
 -- the new picture shows these layers over whatever the old one shows, and no more
 pub record Lays (layers : List Layer) (old new : Picture) : Type 0 where
   pub size : IsAlike old new
   pub shows : (below : List Layer) → Shows below old → Shows (layers ++ below) new
 
+-- the face of a leaf, by its kind
+abbrev pub faces_of : Env → Leaf → List FaceOf
+faces_of env leaf = leaf_faces (colour env) env.owner (look_of env leaf) (natural leaf.node.w) leaf.node.kind (content_of leaf)
+
 -- a leaf, seen from the canvas's origin: its face in its rectangle, nothing where it is hidden
 unfoldable pub leaf_layers : Env → Canvas → Leaf → List Layer
 leaf_layers env c leaf =
-    if leaf.is_shown then map (λ face. Painted (sub c (bounds_of leaf)) (natural leaf.node.w) (natural (height_of leaf.node.kind)) face) (faces_of_kind env leaf leaf.node.kind) else []
+    if leaf.is_shown then map (λ face. Painted (sub c (bounds_of leaf)) (natural leaf.node.w) (natural (height_of leaf.node.kind)) face) (faces_of env leaf) else []
 
 -- an origin so near that every rectangle of the screen's size can be seen from it
 abbrev pub is_near : Point → Bool

@@ -3,5 +3,5 @@ pub mod Colours
 pub mod Drawing
 pub mod Effects
 pub mod Fields
-pub mod LeafFaces
+pub mod Points
 pub mod Reactions

@@ -1,8 +1,7 @@
 -- What a leaf answers to an event, by its kind. Its owner decides whether it gets the event at all.
-use Rattle.std.specs.Prelude.{ℕ, Bool, true, false, ◌&&◌, List, length, Option, Some, None, ◌+◌, ◌==◌, if◌then◌else◌}
-use Rattle.std.specs.Int.{int_gap}
-use Rattle.tv_cells.specs.Layers.{is_in}
+use Rattle.std.specs.Prelude.{ℕ, Bool, false, not, ◌&&◌, ◌||◌, List, length, Option, Some, None, ◌==◌, if◌then◌else◌}
 use Rattle.tv_cells.specs.declared.rect.Point.{Point}
+use Rattle.tv_event.specs.declared.event.Command.{Command}
 use Rattle.tv_event.specs.declared.event.Event.{Event}
 use Rattle.tv_event.specs.declared.event.Event.TheVariants as events
 use Rattle.tv_event.specs.declared.event.Key.{Key}
@@ -14,19 +13,44 @@ use Rattle.tv_model.specs.declared.kind.Kind.{Kind}
 use Rattle.tv_model.specs.declared.kind.Kind.TheVariants as kinds
 use Rattle.tv_model.specs.declared.command.CommandSpec.{CommandSpec}
 use Rattle.tv_model.specs.declared.kind.MarkedText.{MarkedText}
-use Rattle.tv_model.specs.Description.Numbers.{natural}
 use Rattle.tv_model.specs.Description.Commands.{command_number}
-use Rattle.tv_model.specs.Controls.ButtonTable.{item_marking, is_press}
 use Rattle.tv_model.specs.Description.Letters.{marks, upper}
-use Rattle.tv_model.specs.Controls.ClusterTable.{ClusterKind, Boxes, Radios, ClusterKey, Passed, cluster_key, may_change}
-use Rattle.tv_model.specs.Controls.ListTable.{asked_item}
-use Rattle.tv_model.specs.Controls.InputTable.{is_edit_key}
-use Rattle.tv_model.specs.Controls.Meaning.{Leaf, bounds_of, holds}
+use Rattle.tv_model.specs.Description.Nodes.{is_button, is_control}
+use Rattle.tv_model.specs.Controls.ButtonTable.{item_marking}
+use Rattle.tv_model.specs.Controls.ClusterTable.{ClusterKind, Boxes, Radios, cluster_key, may_change}
+use Rattle.tv_model.specs.Controls.Meaning.{Leaf, holds}
+use Rattle.tv_machine.specs.Controls.Contents.{Content, selected_of}
+use Rattle.tv_machine.specs.Controls.Tables.{Answer, Passed, Becomes, Presses, key_answer, up_answer}
 use Rattle.tv_view.specs.declared.env.Env.{Env}
 use Rattle.tv_view.specs.declared.reaction.Reaction.{Reaction}
 use Rattle.tv_view.specs.declared.reaction.Reaction.TheVariants.{Pass, Done, Focus, FocusPress, Post, Changed, Capture, Release}
-use Rattle.tv_view.specs.Colours.{is_default_now, link_of}
-use Rattle.tv_view.specs.Fields.{selected_of, chosen_of}
+use Rattle.tv_view.specs.Colours.{is_default_now, linked_by}
+use Rattle.tv_view.specs.Fields.{content_of}
+use Rattle.tv_view.specs.Points.{is_inside, row_of}
+
+-- ---- presses and links
+
+-- a button that is pressed posts its command
+abbrev pub post_of : Leaf → CommandSpec → Reaction
+post_of leaf command = Post leaf.node.id (record { 0 = command_number command })
+
+-- what a leaf answers where it is pressed: of other kinds nothing is asked for
+abbrev pub press_of : Leaf → Kind → Reaction
+press_of leaf (kinds.Button button) = post_of leaf button.command
+press_of leaf (kinds.Window head) = Done
+press_of leaf (kinds.Dialog head) = Done
+press_of leaf (kinds.Text shown) = Done
+press_of leaf (kinds.Label label) = Done
+press_of leaf (kinds.Input input) = Done
+press_of leaf (kinds.CheckBoxes boxes) = Done
+press_of leaf (kinds.RadioButtons radios) = Done
+press_of leaf (kinds.List list) = Done
+press_of leaf (kinds.Pane pane) = Done
+
+-- the focus for a link, if there is one
+abbrev pub focus_on : Option Id → Reaction
+focus_on None = Pass
+focus_on (Some id) = Focus id
 
 -- ---- letters
 
@@ -41,122 +65,118 @@ abbrev pub calls : MarkedText → Option ℕ → Bool
 calls text None = false
 calls text (Some ch) = marks (upper ch) text
 
+-- the item that marks it
 abbrev pub called_item : List MarkedText → Option ℕ → Option ℕ
 called_item items None = None
 called_item items (Some ch) = item_marking items ch
-
--- ---- the mouse
-
-abbrev pub is_inside : Leaf → Point → Bool
-is_inside leaf p = is_in (bounds_of leaf) p.x p.y
-
--- the column and the row of a point, seen from the leaf's corner
-abbrev pub column_of : Leaf → Point → ℕ
-column_of leaf p = int_gap (bounds_of leaf).a.x p.x
-
-abbrev pub row_of : Leaf → Point → ℕ
-row_of leaf p = int_gap (bounds_of leaf).a.y p.y
-
--- the item of a cluster's row, from 1
-abbrev pub item_under : Leaf → Point → ℕ
-item_under leaf p = row_of leaf p + 1
-
--- a down asks for the focus first, and holds the mouse once the control has it
-abbrev pub taken_down : Leaf → Reaction
-taken_down leaf = if leaf.is_focused then Capture leaf.node.id else Focus leaf.node.id
-
--- what only the control that holds the mouse consumes
-abbrev pub if_held : Leaf → Reaction → Reaction
-if_held leaf r = if holds leaf then r else Pass
-
-abbrev pub is_held_item : Option ℕ → ℕ → Bool
-is_held_item None item = false
-is_held_item (Some held) item = held == item
-
--- ---- by kind
-
-abbrev pub focus_on : Option Id → Reaction
-focus_on None = Pass
-focus_on (Some id) = Focus id
-
--- a label asks for the focus of its link, by its letter or by a mouse down
-abbrev pub label_answer : Env → MarkedText → List ℕ → Event → Phase → Reaction
-label_answer env text link (events.Key k) p = if calls text (called p k) then focus_on (link_of env.views.now link) else Pass
-label_answer env text link (events.Down point) p = focus_on (link_of env.views.now link)
-label_answer env text link _ p = Pass
-
-abbrev pub press_of : Leaf → CommandSpec → Reaction
-press_of leaf command = Post leaf.node.id (record { 0 = command_number command })
-
--- the letter, or a space in the focus, presses a button
-abbrev pub is_button_key : MarkedText → Phase → Key → Bool
-is_button_key text phases.Focused k = is_press k
-is_button_key text p k = calls text (called p k)
-
--- a button is pressed by its keys, as the default by the broadcast that Enter becomes (command 14), and by an up inside it
-abbrev pub button_answer : Env → Leaf → MarkedText → CommandSpec → Bool → Event → Phase → Reaction
-button_answer env leaf text command grabs (events.Key k) p = if is_button_key text p k then press_of leaf command else Pass
-button_answer env leaf text command grabs (events.Broadcast c) p =
-    if (c.0 == 14) && (is_default_now env leaf.node.id && leaf.is_enabled) then press_of leaf command else Pass
-button_answer env leaf text command grabs (events.Command c) p = Pass
-button_answer env leaf text command grabs (events.Down point) p = if grabs then taken_down leaf else Capture leaf.node.id
-button_answer env leaf text command grabs (events.Move point) p = if_held leaf Done
-button_answer env leaf text command grabs (events.Up point) p = if_held leaf (if is_inside leaf point then press_of leaf command else Release)
 
 -- a letter from another focus asks for the focus and the item
 abbrev pub item_call : Leaf → Option ℕ → Reaction
 item_call leaf None = Pass
 item_call leaf (Some item) = FocusPress leaf.node.id item
 
-abbrev pub key_answer : ClusterKind → Leaf → ClusterKey → Reaction
-key_answer kind leaf Passed = Pass
-key_answer kind leaf key = if may_change kind key then Changed leaf.node.id else Done
+-- a letter from any focus: a label asks for the focus of its link, a button is pressed, a cluster asks for the item
+abbrev pub letter_answer : Env → Leaf → Kind → Option ℕ → Reaction
+letter_answer env leaf (kinds.Label label) letter = if calls label.text letter then focus_on (linked_by env leaf.node.kind) else Pass
+letter_answer env leaf (kinds.Button button) letter = if calls button.text letter then post_of leaf button.command else Pass
+letter_answer env leaf (kinds.CheckBoxes boxes) letter = item_call leaf (called_item boxes.items letter)
+letter_answer env leaf (kinds.RadioButtons radios) letter = item_call leaf (called_item radios.items letter)
+letter_answer env leaf (kinds.Window head) letter = Pass
+letter_answer env leaf (kinds.Dialog head) letter = Pass
+letter_answer env leaf (kinds.Text shown) letter = Pass
+letter_answer env leaf (kinds.Input input) letter = Pass
+letter_answer env leaf (kinds.List list) letter = Pass
+letter_answer env leaf (kinds.Pane pane) letter = Pass
 
-abbrev pub cluster_keyed : ClusterKind → Leaf → List MarkedText → Key → Phase → Reaction
-cluster_keyed kind leaf items k phases.Focused = key_answer kind leaf (cluster_key items (length items) (selected_of kind leaf) k)
-cluster_keyed kind leaf items k p = item_call leaf (called_item items (called p k))
+-- ---- keys
 
--- the item under an up, where it is the one that was under the down
-abbrev pub is_released_on : Leaf → Point → Bool
-is_released_on leaf point = is_inside leaf point && is_held_item leaf.held (item_under leaf point)
+-- whether a key of a cluster may change a mark
+abbrev pub may_mark : ClusterKind → List MarkedText → Key → Content → Bool
+may_mark kind items k c = may_change kind (cluster_key items (length items) (selected_of kind c) k)
 
-abbrev pub cluster_answer : ClusterKind → Leaf → List MarkedText → Event → Phase → Reaction
-cluster_answer kind leaf items (events.Key k) p = cluster_keyed kind leaf items k p
-cluster_answer kind leaf items (events.Down point) p = taken_down leaf
-cluster_answer kind leaf items (events.Move point) p = if_held leaf Done
-cluster_answer kind leaf items (events.Up point) p = if_held leaf (if is_released_on leaf point then Changed leaf.node.id else Release)
-cluster_answer kind leaf items (events.Command c) p = Pass
-cluster_answer kind leaf items (events.Broadcast c) p = Pass
+-- the same for a leaf by its kind; only clusters have marks
+abbrev pub may_mark_by : Kind → Key → Content → Bool
+may_mark_by (kinds.CheckBoxes boxes) k c = may_mark Boxes boxes.items k c
+may_mark_by (kinds.RadioButtons radios) k c = may_mark Radios radios.items k c
+may_mark_by (kinds.Window head) k c = false
+may_mark_by (kinds.Dialog head) k c = false
+may_mark_by (kinds.Text shown) k c = false
+may_mark_by (kinds.Label label) k c = false
+may_mark_by (kinds.Button button) k c = false
+may_mark_by (kinds.Input input) k c = false
+may_mark_by (kinds.List list) k c = false
+may_mark_by (kinds.Pane pane) k c = false
 
--- lists and inputs consume the keys of their tables
-abbrev pub done_if : Bool → Reaction
-done_if b = if b then Done else Pass
+-- the key was consumed, and where it may have changed a mark the rules are to be applied
+abbrev pub consumed : Leaf → Bool → Reaction
+consumed leaf marks = if marks then Changed leaf.node.id else Done
 
-abbrev pub is_some : Option ℕ → Bool
-is_some None = false
-is_some (Some item) = true
+-- a key in the focus, by what the control does with it and whether that may change a mark
+abbrev pub focus_answer : Leaf → Bool → Answer → Reaction
+focus_answer leaf marks Passed = Pass
+focus_answer leaf marks (Becomes content) = consumed leaf marks
+focus_answer leaf marks Presses = press_of leaf leaf.node.kind
 
-abbrev pub table_answer : Leaf → (Key → Bool) → Event → Phase → Reaction
-table_answer leaf consumes (events.Key k) phases.Focused = done_if (consumes k)
-table_answer leaf consumes (events.Key k) p = Pass
-table_answer leaf consumes (events.Down point) p = taken_down leaf
-table_answer leaf consumes (events.Move point) p = if_held leaf Done
-table_answer leaf consumes (events.Up point) p = if_held leaf Release
-table_answer leaf consumes (events.Command c) p = Pass
-table_answer leaf consumes (events.Broadcast c) p = Pass
+-- a key in a phase
+abbrev pub keyed_answer : Env → Leaf → Key → Phase → Reaction
+keyed_answer env leaf k phases.Focused =
+    focus_answer leaf (may_mark_by leaf.node.kind k (content_of leaf)) (key_answer leaf.node.kind k (content_of leaf))
+keyed_answer env leaf k phases.Pre = letter_answer env leaf leaf.node.kind (called phases.Pre k)
+keyed_answer env leaf k phases.Post = letter_answer env leaf leaf.node.kind (called phases.Post k)
 
-abbrev pub kind_answer : Event → Phase → Env → Leaf → Kind → Reaction
-kind_answer e p env leaf (kinds.Text shown) = Pass
-kind_answer e p env leaf (kinds.Label label) = label_answer env label.text label.link e p
-kind_answer e p env leaf (kinds.Button button) = button_answer env leaf button.text button.command button.grabs e p
-kind_answer e p env leaf (kinds.Input input) = table_answer leaf is_edit_key e p
-kind_answer e p env leaf (kinds.CheckBoxes boxes) = cluster_answer Boxes leaf boxes.items e p
-kind_answer e p env leaf (kinds.RadioButtons radios) = cluster_answer Radios leaf radios.items e p
-kind_answer e p env leaf (kinds.List list) = table_answer leaf (λ k. is_some (asked_item (natural list.h) (length list.items) (chosen_of leaf) k)) e p
-kind_answer e p env leaf (kinds.Window head) = Pass
-kind_answer e p env leaf (kinds.Dialog head) = Pass
-kind_answer e p env leaf (kinds.Pane pane) = Pass
+-- ---- the mouse
+
+-- whether a mouse down makes the leaf hold the mouse: a control that has the focus, or a button that doesn't want it
+abbrev pub captures : Leaf → Kind → Bool
+captures leaf (kinds.Button button) = not button.grabs || leaf.is_focused
+captures leaf (kinds.Input input) = leaf.is_focused
+captures leaf (kinds.CheckBoxes boxes) = leaf.is_focused
+captures leaf (kinds.RadioButtons radios) = leaf.is_focused
+captures leaf (kinds.List list) = leaf.is_focused
+captures leaf (kinds.Window head) = false
+captures leaf (kinds.Dialog head) = false
+captures leaf (kinds.Text shown) = false
+captures leaf (kinds.Label label) = false
+captures leaf (kinds.Pane pane) = false
+
+-- the focus that a mouse down asks for: a control its own, a label that of its link
+abbrev pub down_focus : Env → Leaf → Option Id
+down_focus env leaf = if is_control leaf.node.kind then Some leaf.node.id else linked_by env leaf.node.kind
+
+-- a mouse down
+abbrev pub down_answer : Env → Leaf → Reaction
+down_answer env leaf = if captures leaf leaf.node.kind then Capture leaf.node.id else focus_on (down_focus env leaf)
+
+-- a move is consumed by the leaf that holds the mouse
+abbrev pub move_answer : Leaf → Reaction
+move_answer leaf = if holds leaf then Done else Pass
+
+-- a release inside the leaf, by what the control does with it: an item was pressed, or the button
+abbrev pub release_answer : Leaf → Answer → Reaction
+release_answer leaf Passed = Release
+release_answer leaf (Becomes content) = Changed leaf.node.id
+release_answer leaf Presses = press_of leaf leaf.node.kind
+
+-- an up, where the leaf holds the mouse and remembers an item
+abbrev pub lifted_answer : Leaf → Point → Option ℕ → Reaction
+lifted_answer leaf p None = Pass
+lifted_answer leaf p (Some item) =
+    if is_inside leaf p then release_answer leaf (up_answer leaf.node.kind item (row_of leaf p) (content_of leaf)) else Release
+
+-- ---- commands
+
+-- the default button is pressed by the broadcast that Enter becomes (command 14), while it is enabled
+abbrev pub broadcast_answer : Env → Leaf → Command → Reaction
+broadcast_answer env leaf c =
+    if is_button leaf.node.kind && ((c.0 == 14) && (is_default_now env leaf.node.id && leaf.is_enabled)) then press_of leaf leaf.node.kind else Pass
+
+-- ---- events
 
 -- what a leaf answers; `Pass` exactly where it didn't consume the event
 unfoldable pub answer : Event → Phase → Env → Leaf → Reaction
-answer e p env leaf = kind_answer e p env leaf leaf.node.kind
+answer (events.Key k) p env leaf = keyed_answer env leaf k p
+answer (events.Down point) p env leaf = down_answer env leaf
+answer (events.Move point) p env leaf = move_answer leaf
+answer (events.Up point) p env leaf = lifted_answer leaf point leaf.held
+answer (events.Command c) p env leaf = Pass
+answer (events.Broadcast c) p env leaf = broadcast_answer env leaf c

@@ -1,7 +1,7 @@
 //! What owners lend to their views.
 
 ghost use Rattle.std.specs.Prelude.{◌≡◌};
-ghost use Rattle.tv_view.specs.Calls.{is_listed};
+ghost use Rattle.tv_machine.specs.Dialog.Rules.{is_among};
 
 use tv_event::CommandSet;
 use tv_model::{Id, Node};
@@ -38,7 +38,7 @@ pub struct Rules<'a> {
 impl Rules<'_> {
     /// Whether the view of the id is shown.
     pub fn shows(&self, id: Id) -> bool
-        ensures { result ≡ is_listed self.now.shown.now id }
+        ensures { result ≡ is_among self.now.shown.now id }
     {
         self.shown.iter().any(|other| *other == id)
     }

@@ -12,7 +12,9 @@ pub enum Reaction {
     Pass,
     /// It was, and nothing is asked for.
     Done,
-    /// The control is to receive the focus, if it is free. After a mouse down the same down is handed in again once it has.
+    /// The control is to receive the focus, if it is free. Where a mouse down was answered so and the focus was granted, the
+    /// same down goes once more, under the same environment, to the topmost leaf at the point: the one that answered, and not
+    /// the control that got the focus, which may be a label's link. A `Focus` that it answers then asks for nothing.
     Focus(Id),
     /// The same, and if the focus was granted the item of the cluster is to be selected and pressed.
     FocusPress(Id, u8),

@@ -1,11 +1,11 @@
 //! The contract of a view.
 
-ghost use Rattle.std.specs.Prelude.{◌≡◌, ◌↔◌, IsTrue, IsSome, IfSome};
+ghost use Rattle.std.specs.Prelude.{◌≡◌, ◌↔◌, IsTrue};
 ghost use Rattle.tv_cells.specs.Rectangle.{IsPointNear};
 ghost use Rattle.tv_model.specs.Controls.Meaning.{Leaf, IsSmallRect, bounds_of, fresh, holds};
-ghost use Rattle.tv_view.specs.Calls.{Fits, HasRoom, IsInvalid, applied, focused_to, gathered, item_pressed, option_bits, set_from, state_bits, takes_focus};
+ghost use Rattle.tv_view.specs.Calls.{Fits, HasRoom, applied, focused_to, gathered, invalid_id, item_pressed, option_bits, set_from, state_bits, takes_focus};
 ghost use Rattle.tv_view.specs.Drawing.{Lays, leaf_layers};
-ghost use Rattle.tv_view.specs.Effects.{Handled};
+ghost use Rattle.tv_view.specs.Effects.{StaysWherePassed, handled};
 ghost use Rattle.tv_view.specs.Reactions.{answer};
 
 use crate::env::{Env, Rules};
@@ -40,10 +40,12 @@ pub trait View: Drop {
         ensures { result.0 ≡ option_bits (meaning self.now).node.kind };
 
     /// Handles an event in a phase. Its owner hands it only what it is to get: a mouse down where it is the topmost
-    /// visible view, moves and ups while it holds the mouse, and keys and commands while it is shown and enabled.
+    /// visible view, moves and ups while it holds the mouse, and keys and commands while it is shown and enabled. A point
+    /// may be any. A view that passes an event on stays as it is.
     fn handle(&mut self, event: &Event, phase: Phase, env: &Env) -> Reaction
         ensures reaction { result ≡ answer event.now phase env.now (meaning self.old) }
-        ensures after { Handled event.now phase env.now (meaning self.old) (meaning self.new) };
+        ensures after { meaning self.new ≡ handled event.now phase env.now (meaning self.old) }
+        ensures passed { StaysWherePassed result (meaning self.old) (meaning self.new) };
 
     /// Draws its face in its rectangle, which is seen from the canvas's origin; nothing while it is hidden.
     fn draw(&self, screen: &mut Screen, canvas: Canvas, env: &Env)
@@ -65,8 +67,7 @@ pub trait View: Drop {
 
     /// Its id, where it is an input whose text lies outside its domain.
     fn first_invalid(&self) -> Option<Id>
-        ensures variant { IsSome result ↔ IsInvalid (meaning self.now) }
-        ensures value { IfSome result (λ id. id ≡ (meaning self.now).node.id) };
+        ensures { result ≡ invalid_id (meaning self.now) };
 
     /// Puts its value into the record, where it is a field.
     fn get(&self, values: &mut Record)

@@ -11,7 +11,7 @@ use Rattle.tv_cells.specs.Rectangle.{IsIn, cut, shifted, sized}
 use Rattle.tv_cells.specs.declared.rect.Rect.{Rect}
 use Rattle.tv_cells.specs.declared.canvas.Canvas.{Canvas}
 use Rattle.tv_cells.proofs.RectangleLemmas.{in_cut, point_is}
-use Rattle.tv_model.specs.Screen.Faces.{frame_look, frame_role, static_text}
+use Rattle.tv_model.specs.Screen.Faces.{FaceOf, frame_look, frame_role, static_text, text_face}
 use Rattle.tv_model.specs.Description.Rectangles.{corner_of, desktop, interior, place_of_node, rect}
 use Rattle.tv_model.specs.Screen.Layers.{canvas_at, window_view_layers}
 use Rattle.tv_model.specs.Controls.Meaning.{fresh}
@@ -27,8 +27,8 @@ use Rattle.tv_palette.specs.declared.role.Owner.TheVariants as owners
 use Rattle.tv_palette.specs.declared.role.Role.TheVariants as roles
 use Rattle.tv_palette.specs.declared.role.FrameRole.TheVariants as frame
 use Rattle.tv_view.specs.declared.env.Env.{Env}
+use Rattle.tv_view.specs.Colours.{colour}
 use Rattle.tv_view.specs.Drawing.{leaf_layers}
-use Rattle.tv_view.specs.LeafFaces.{static_text_face}
 use Rattle.tv_group.proofs.FreshLeafLemmas.{fresh_layers}
 use Rattle.tv_window.specs.DeclaredWindows.{IsOfWindow, IsTextInside, desktop_canvas}
 use Rattle.tv_window.proofs.SameLayerLemmas.{IsSame, covers_sub, painted_same, resized, same_append, same_refl, shadow_same, sub_covers, unsized}
@@ -122,7 +122,11 @@ module _ (d : Desc) (x y w h : ℤ) where
 
 -- ---- the views of a declared window
 
-text_face_same : (env : Env) → IsOfWindow env → (text : List ℕ) → static_text_face env text ≡ static_text owners.Window text
+-- the face of a text in the colours of the view's owners
+abbrev text_face_in : Env → List ℕ → FaceOf
+text_face_in env text = text_face text (colour env (roles.StaticText env.owner))
+
+text_face_same : (env : Env) → IsOfWindow env → (text : List ℕ) → text_face_in env text ≡ static_text owners.Window text
 text_face_same env lent text = rw (lent.owner, leads_through (roles.StaticText owners.Window) env.chain.now lent.chain) refl
 
 pub look_same : (env : Env) → IsOfWindow env → (number : ℕ) (is_active : Bool) → frame_look (colour_in env.chain.now) owners.Window number is_active ≡ frame_look attribute_of owners.Window number is_active
@@ -134,7 +138,7 @@ module _ (env : Env) (lent : IsOfWindow env) (d : Desc) (window : Window) (h : �
   body_of_window = body d window.node.x window.node.y window.node.w h
 
   view_drawn : (n : Node) (height : ℤ) (text : List ℕ) → n.kind ≡ kinds.Text (record { h = height; text = text })
-      → leaf_layers env body_of_window (fresh n) ≡ Painted (sub body_of_window (rect n.x n.y n.w height)) (natural n.w) (natural height) (static_text_face env text) ∷ []
+      → leaf_layers env body_of_window (fresh n) ≡ Painted (sub body_of_window (rect n.x n.y n.w height)) (natural n.w) (natural height) (text_face_in env text) ∷ []
   unfolding leaf_layers
   view_drawn n height text kind = rw kind refl
 
@@ -149,7 +153,7 @@ module _ (env : Env) (lent : IsOfWindow env) (d : Desc) (window : Window) (h : �
   view_same n is =
       let within : (p q : ℤ) → IsIn (rect n.x n.y n.w is.height) p q → IsIn (rect (pos 1) (pos 1) (window.node.w -ℤ pos 2) (h -ℤ pos 2)) p q = λ p q i. subst (λ r. IsIn r p q) tall (is.inside p q (subst (λ r. IsIn r p q) (sym (place_is n is.height is.text is.kind)) i)) in
       rw (view_drawn n is.height is.text is.kind, view_declared n is.height is.text is.kind)
-      (text_same d window.node.x window.node.y window.node.w h n.x n.y n.w is.height within (static_text_face env is.text) (static_text owners.Window is.text) (text_face_same env lent is.text))
+      (text_same d window.node.x window.node.y window.node.w h n.x n.y n.w is.height within (text_face_in env is.text) (static_text owners.Window is.text) (text_face_same env lent is.text))
 
   views_step : (n : Node) (ns : List Node) → flat_map (window_view_layers d (corner_of window.node)) (reverse (n ∷ ns)) ≡ flat_map (window_view_layers d (corner_of window.node)) (reverse ns) ++ window_view_layers d (corner_of window.node) n
   views_step n ns =
