@@ -2,4 +2,3 @@ pub mod DomainLemmas
 pub mod HeadLemmas
 pub mod NodeLemmas
 pub mod RecordLemmas
-pub mod SafeLemmas

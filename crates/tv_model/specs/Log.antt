@@ -4,5 +4,3 @@
 pub mod Record
 -- the text of the log
 pub mod LogText
--- the output of a script
-pub mod Output

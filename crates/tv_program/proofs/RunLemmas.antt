@@ -4,8 +4,8 @@ use Rattle.tv_lang.specs.Faults.{Spells}
 use Rattle.tv_model.specs.declared.desc.Desc.{Desc}
 use Rattle.tv_model.specs.declared.script.Item.{Item}
 use Rattle.tv_model.specs.Description.Thin.{IsThin}
-use Rattle.tv_model.specs.Log.Output.{output}
-use Rattle.tv_model.specs.Machine.Session.{Session, started}
+use Rattle.tv_machine.specs.Output.{output}
+use Rattle.tv_machine.specs.Run.{Session, started}
 use Rattle.tv_program.specs.declared.desc_fault.DescFault.{DescFault}
 use Rattle.tv_program.specs.declared.desc_fault.DescFault.TheVariants as descs
 use Rattle.tv_program.specs.declared.thin_fault.ThinFault.{ThinFault}

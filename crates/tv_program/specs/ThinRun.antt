@@ -6,23 +6,23 @@ use Rattle.tv_script.specs.Scripts.{Spells as SpellsScript, Refuses as RefusesSc
 use Rattle.tv_lang.specs.Faults.{Spells}
 use Rattle.tv_model.specs.declared.desc.Desc.{Desc}
 use Rattle.tv_model.specs.declared.script.Item.{Item}
-use Rattle.tv_model.specs.Log.Output.{output}
-use Rattle.tv_model.specs.Machine.Safe.{IsAlwaysSafe}
-use Rattle.tv_model.specs.Machine.Session.{started}
+use Rattle.tv_machine.specs.Output.{output}
+use Rattle.tv_machine.specs.Run.{started}
 use Rattle.tv_model.specs.Description.Thin.{IsThin}
 use Rattle.tv_program.specs.declared.thin_fault.ThinFault.{ThinFault}
 use Rattle.tv_program.specs.declared.thin_fault.ThinFault.TheVariants.{NoMemory, Lang, NotYet, Faults, Script, Write}
 use Rattle.tv_program.specs.Reading.{HasFaults, IsNoDescription, IsSoundText}
+use Rattle.tv_thin.specs.ThinSession.{IsSafeWhileThin}
 use Rattle.tv_output.specs.Writer.{Seen, Takes, Cuts}
 
--- the texts spell a thin and sound description and a thin script; every run of the description is safe
+-- the texts spell a thin and sound description and a thin script; every run of the description by events of thin scripts is safe
 pub record Runs (text script : List ℕ) : Type 0 where
   pub desc : Desc
   pub items : List Item
   pub described : IsSoundText text desc
   pub thin : IsThin desc
   pub scripted : SpellsScript Thin script items
-  pub safe : IsAlwaysSafe desc
+  pub safe : IsSafeWhileThin desc
 
 -- why a description is not run: by its text, since it isn't thin, or by its faults
 abbrev pub RefusesDesc : List ℕ → ThinFault → Type 0

@@ -1,10 +1,12 @@
 //! One dialog of static texts and buttons, from bytes to bytes.
 
-ghost use Rattle.std.specs.Prelude.{◌≡◌, IfOk, IfErr, List, MatchResult, ℕ};
+ghost use Rattle.std.specs.Prelude.{◌≡◌, All, IfOk, IfErr, List, MatchResult, ℕ};
+ghost use Rattle.tv_script.specs.Lines.{IsThinEvent};
+ghost use Rattle.tv_script.specs.Performed.{IsItemOf};
 ghost use Rattle.tv_script.specs.Scripts.{Spells as SpellsScript};
 ghost use Rattle.tv_lang.specs.CanonicalDescription.{CanBeSpelled};
 ghost use Rattle.tv_model.specs.Faults.{IsSound};
-ghost use Rattle.tv_model.specs.Log.Output.{output};
+ghost use Rattle.tv_machine.specs.Output.{output};
 ghost use Rattle.tv_model.specs.Description.Thin.{IsThin};
 ghost use Rattle.tv_program.specs.Reading.{IsSoundText};
 ghost use Rattle.tv_program.specs.ThinRun.{IsNoScript, RefusesDesc, RunsTo};
@@ -55,12 +57,13 @@ pub fn run_script<W: Writer>(
     Ok(())
 }
 
-// Performs a script on a session.
+// Performs a thin script on a session.
 fn play<W: Writer>(
     session: &mut ThinSession,
     script: &[Item],
     out: &mut W,
 ) -> Result<(), WriteFailed>
+    requires { All (IsItemOf IsThinEvent) script.now }
     ensures { MatchResult result
         (λ _. Takes (W.seen out.old) (W.seen out.new) (output session.old.session script.now))
         (λ _. Cuts (W.seen out.old) (W.seen out.new) (output session.old.session script.now)) }
@@ -90,6 +93,7 @@ pub fn read_sound(alloc: Global, text: &[u8]) -> Result<Desc, ThinFault>
 
 fn read_script(alloc: Global, text: &[u8]) -> Result<Sequence<Item>, ThinFault>
     ensures spelled { IfOk result (λ items. SpellsScript Grammar.Thin text.now items) }
+    ensures events { IfOk result (λ items. All (IsItemOf IsThinEvent) items) }
     ensures fault { IfErr result (λ fault. IsNoScript text.now fault) }
 {
     let items = parse_script(alloc, Grammar::Thin, text)?;

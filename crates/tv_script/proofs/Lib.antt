@@ -1,3 +1,4 @@
+pub mod EventLemmas
 pub mod FitLemmas
 pub mod GrammarLemmas
 pub mod LineLemmas

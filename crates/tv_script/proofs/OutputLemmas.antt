@@ -3,8 +3,8 @@ use Rattle.std.proofs.Common.{◌≡◌, ℕ, List, [], ◌∷◌, ◌++◌, tak
 use Rattle.std.proofs.lemmas.List.{take-append-drop}
 use Rattle.tv_model.specs.declared.script.Item.{Item}
 use Rattle.tv_model.specs.Log.LogText.{log_text}
-use Rattle.tv_model.specs.Log.Output.{states, texts, item_text, item_after, output}
-use Rattle.tv_model.specs.Machine.Session.{Session, quiet}
+use Rattle.tv_machine.specs.Output.{states, texts, item_text, item_after, output}
+use Rattle.tv_machine.specs.Run.{Session, quiet}
 use Rattle.tv_output.specs.Writer.{Seen, Cuts}
 use Rattle.tv_output.proofs.WriterLemmas.{Cuts-longer, Cuts-along}
 

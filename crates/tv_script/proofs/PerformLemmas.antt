@@ -2,9 +2,9 @@
 use Rattle.std.proofs.Common.{◌≡◌, ℕ, ◌+◌, ◌<◌, List, [], ◌++◌, length, get_or, take, refl, sym, ap, ◌∙◌, append_assoc, arith}
 use Rattle.std.proofs.lemmas.List.{append-nil}
 use Rattle.tv_model.specs.declared.script.Item.{Item}
-use Rattle.tv_model.specs.Machine.Session.{Session, quiet}
+use Rattle.tv_machine.specs.Run.{Session, quiet}
 use Rattle.tv_model.specs.Log.LogText.{log_text}
-use Rattle.tv_model.specs.Log.Output.{output, after, item_text, item_after, texts}
+use Rattle.tv_machine.specs.Output.{output, after, item_text, item_after, texts}
 use Rattle.tv_script.proofs.RunLemmas.{states-take_more, texts-take_more}
 use Rattle.tv_output.specs.Writer.{Seen, Takes, Cuts}
 use Rattle.tv_script.specs.Performed.{Stops}

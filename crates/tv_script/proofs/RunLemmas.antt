@@ -1,7 +1,7 @@
 -- A machine, one input more.
 use Rattle.std.proofs.Common.{◌≡◌, ℕ, ◌+◌, ◌<◌, List, [], ◌∷◌, ◌++◌, length, get_or, take, refl, sym, ap, ◌∙◌, append_assoc}
 use Rattle.std.proofs.lemmas.List.{append-nil, take_more}
-use Rattle.tv_model.specs.Log.Output.{states, texts}
+use Rattle.tv_machine.specs.Output.{states, texts}
 
 pub states-push : {S E : Type 0} (next : S → E → S) (s : S) (es : List E) (e : E) → states next s (es ++ e ∷ []) ≡ next (states next s es) e
 states-push next s [] e = refl

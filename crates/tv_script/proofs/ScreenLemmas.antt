@@ -4,8 +4,8 @@ use Rattle.std.specs.List.{range_with_len}
 use Rattle.tv_cells.specs.Glyph.{Glyph}
 use Rattle.tv_cells.specs.Picture.{Picture, cell_at}
 use Rattle.tv_model.specs.Log.LogText.{line_of}
-use Rattle.tv_model.specs.Log.Output.{screen_cell, row_text, screen_text, session_text}
-use Rattle.tv_model.specs.Machine.Session.{Session}
+use Rattle.tv_machine.specs.Output.{screen_cell, row_text, screen_text, session_text}
+use Rattle.tv_machine.specs.Run.{Session}
 use Rattle.tv_model.specs.Description.Numbers.{natural}
 use Rattle.tv_script.specs.Performed.{IsScreenOf}
 

@@ -1,8 +1,9 @@
 -- The lines of scripts: their words, their items, and which of them a script may have.
-use Rattle.std.specs.Prelude.{◌≡◌, ℕ, ℤ, pos, List, [], ◌∷◌, Bool, true, false, ◌&&◌, map, flat_map, int_le, int_lt, codes, ◌==◌}
+use Rattle.std.specs.Prelude.{◌≡◌, ℕ, ℤ, pos, List, [], ◌∷◌, Bool, true, false, ◌&&◌, map, flat_map, IsTrue, int_le, int_lt, codes, ◌==◌}
 use Rattle.std.specs.List.{list_all, list_any}
 use Rattle.tv_cells.specs.declared.rect.Point.{Point}
 use Rattle.tv_declarations.specs.Spelling.Keys.{IsKey, key_word}
+use Rattle.tv_event.specs.declared.event.Event.{Event}
 use Rattle.tv_event.specs.declared.event.Event.TheVariants as events
 use Rattle.tv_event.specs.declared.event.Key.{Key}
 use Rattle.tv_event.specs.declared.event.Key.TheVariants as keys
@@ -92,6 +93,16 @@ is_thin_line lines.Shot = true
 is_thin_line lines.Colors = true
 is_thin_line _ = false
 
+-- the events of thin scripts: one of these keys, or a typed space
+abbrev pub is_thin_event : Event → Bool
+is_thin_event (events.Key (keys.Char ch)) = is_space ch
+is_thin_event (events.Key key) = is_thin_key key
+is_thin_event _ = false
+
+-- an event of a thin script
+abbrev pub IsThinEvent : Event → Type 0
+IsThinEvent e = IsTrue (is_thin_event e)
+
 -- a line of the grammar
 abbrev pub allows : Grammar → Line → Bool
 allows Thin l = is_thin_line l
@@ -118,3 +129,17 @@ is_within_screen width height _ = true
 abbrev pub is_on_screen : Grammar → Line → Bool
 is_on_screen Thin l = true
 is_on_screen (Whole width height) l = is_within_screen width height l
+
+-- ---- events
+
+-- an event whose point, if it has one, is on the screen
+abbrev pub is_event_within : ℤ → ℤ → Event → Bool
+is_event_within width height (events.Down p) = is_point_within width height p
+is_event_within width height (events.Move p) = is_point_within width height p
+is_event_within width height (events.Up p) = is_point_within width height p
+is_event_within width height _ = true
+
+-- an event of the grammar's scripts
+abbrev pub IsEventOf : Grammar → Event → Type 0
+IsEventOf Thin e = IsThinEvent e
+IsEventOf (Whole width height) e = IsTrue (is_event_within width height e)

@@ -2,10 +2,12 @@
 use Rattle.std.specs.Prelude.{◌≡◌, ℕ, ◌+◌, ◌≤◌, List, ◌++◌, length, take}
 use Rattle.tv_cells.specs.Layers.{Shows}
 use Rattle.tv_cells.specs.Picture.{Picture}
+use Rattle.tv_event.specs.declared.event.Event.{Event}
 use Rattle.tv_model.specs.declared.script.Item.{Item}
-use Rattle.tv_model.specs.Screen.Layers.{layers_of}
-use Rattle.tv_model.specs.Log.Output.{output, after}
-use Rattle.tv_model.specs.Machine.Session.{Session}
+use Rattle.tv_model.specs.declared.script.Item.TheVariants as items
+use Rattle.tv_machine.specs.Screen.Layers.{layers_of}
+use Rattle.tv_machine.specs.Output.{output, after}
+use Rattle.tv_machine.specs.Run.{Session}
 use Rattle.tv_model.specs.Description.Numbers.{natural}
 use Rattle.tv_output.specs.Writer.{Seen, Cuts}
 
@@ -14,6 +16,12 @@ pub record IsScreenOf (s : Session) (p : Picture) : Type 0 where
   pub width : p.width ≡ natural s.desc.width
   pub height : p.height ≡ natural s.desc.height
   pub cells : Shows (layers_of s.desc s.state) p
+
+-- an item whose event, if it is one, is as wanted
+abbrev pub IsItemOf : (Event → Type 0) → Item → Type 0
+IsItemOf Wanted (items.Event e) = Wanted e
+IsItemOf Wanted items.Shot = Unit {0}
+IsItemOf Wanted items.Colors = Unit {0}
 
 -- the writer failed after so many items were begun: a proper prefix of their text was taken, with that of those before
 -- the last one whole, and the session stands after their events

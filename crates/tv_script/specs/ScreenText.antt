@@ -1,7 +1,7 @@
 -- What is shown of a screen: its characters or its attributes.
 use Rattle.std.specs.Prelude.{ℕ, List, encode_utf8, codes}
 use Rattle.tv_cells.specs.Glyph.{Glyph}
-use Rattle.tv_model.specs.Log.Output.{hex_byte}
+use Rattle.tv_machine.specs.Output.{hex_byte}
 use Rattle.tv_script.specs.declared.shot.Aspect.{Aspect}
 use Rattle.tv_script.specs.declared.shot.Aspect.TheVariants as aspects
 

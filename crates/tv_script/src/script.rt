@@ -1,10 +1,10 @@
 //! A script, performed.
 
-ghost use Rattle.std.specs.Prelude.{◌≡◌, false, OnOk, IfErr};
-ghost use Rattle.tv_model.specs.Log.Output.{event_text, event_after, item_text, item_after, shot_text, colors_text, output, after};
+ghost use Rattle.std.specs.Prelude.{◌≡◌, false, All, OnOk, IfErr};
+ghost use Rattle.tv_machine.specs.Output.{event_text, event_after, item_text, item_after, shot_text, colors_text, output, after};
 ghost use Rattle.tv_output.specs.Writer.{Takes};
 ghost use Rattle.tv_output.specs.Pen.{Puts};
-ghost use Rattle.tv_script.specs.Performed.{Stops};
+ghost use Rattle.tv_script.specs.Performed.{IsItemOf, Stops};
 
 use crate::lines::put_log;
 use crate::shot::{Aspect, put_screen};
@@ -23,6 +23,7 @@ pub fn perform<S: Stage, W: Writer>(
     script: &[Item],
     out: &mut W,
 ) -> Result<(), usize>
+    requires { All (IsItemOf S.takes) script.now }
     ensures text { OnOk result (Takes (W.seen out.old) (W.seen out.new) (output (S.session stage.old) script.now)) }
     ensures state { OnOk result (S.session stage.new ≡ after (S.session stage.old) script.now) }
     ensures stops { IfErr result (λ begun. Stops (S.session stage.old) script.now begun (W.seen out.old) (W.seen out.new) (S.session stage.new)) }
@@ -39,7 +40,8 @@ fn put_script<S: Stage, W: Writer>(
     stage: &mut S,
     script: &[Item],
 ) -> Result<(), usize>
-    requires { pen.old.stopped ≡ false }
+    requires going { pen.old.stopped ≡ false }
+    requires taken { All (IsItemOf S.takes) script.now }
     ensures same { pen.new.out.ghost_name ≡ pen.old.out.ghost_name }
     ensures text { OnOk result (Takes (W.seen pen.old.out.now) (W.seen pen.new.out.now) (output (S.session stage.old) script.now)) }
     ensures state { OnOk result (S.session stage.new ≡ after (S.session stage.old) script.now) }
@@ -60,6 +62,7 @@ fn put_script<S: Stage, W: Writer>(
 }
 
 fn put_item<S: Stage, W: Writer>(pen: &mut Pen<W>, stage: &mut S, item: &Item)
+    requires { IsItemOf S.takes item.now }
     ensures text { Puts W.seen pen.old pen.new (item_text (S.session stage.old) item.now) }
     ensures state { S.session stage.new ≡ item_after (S.session stage.old) item.now }
 {
@@ -71,6 +74,7 @@ fn put_item<S: Stage, W: Writer>(pen: &mut Pen<W>, stage: &mut S, item: &Item)
 }
 
 fn put_event<S: Stage, W: Writer>(pen: &mut Pen<W>, stage: &mut S, event: &Event)
+    requires { S.takes event.now }
     ensures text { Puts W.seen pen.old pen.new (event_text (S.session stage.old) event.now) }
     ensures state { S.session stage.new ≡ event_after (S.session stage.old) event.now }
 {

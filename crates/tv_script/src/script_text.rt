@@ -1,9 +1,10 @@
 //! A script, read line by line.
 
-ghost use Rattle.std.specs.Prelude.{◌≡◌, ◌++◌, [], map, List, IfOk, IfErr, OnOk};
+ghost use Rattle.std.specs.Prelude.{◌≡◌, ◌++◌, [], map, All, List, IfOk, IfErr, OnOk};
 ghost use Rattle.std.specs.List.{list_any};
 ghost use Rattle.tv_model.specs.declared.script.Item.{Item as SeenItem};
-ghost use Rattle.tv_script.specs.Lines.{is_line_end, items_of_line, typed};
+ghost use Rattle.tv_script.specs.Lines.{IsEventOf, is_line_end, items_of_line, typed};
+ghost use Rattle.tv_script.specs.Performed.{IsItemOf};
 ghost use Rattle.tv_script.specs.Reading.Lines.{key_line_in, line_in, mouse_line_in, point_in, screen_line_in, typed_in};
 ghost use Rattle.tv_script.specs.Reading.Scripts.{IsAnswered, reading, script_by, with_bytes, with_line};
 ghost use Rattle.tv_script.specs.Scripts.{Gives, Refuses, Spells};
@@ -59,6 +60,7 @@ pub fn parse_script(
     text: &[u8],
 ) -> Result<Sequence<Item>, ScriptFault>
     ensures spelled { IfOk result (λ items. Spells grammar text.now items) }
+    ensures events { IfOk result (λ items. All (IsItemOf (IsEventOf grammar)) items) }
     ensures only { (items : List SeenItem) → Spells grammar text.now items → Gives result items }
     ensures fault { IfErr result (λ fault. Refuses grammar text.now fault) }
 {

@@ -4,7 +4,7 @@ ghost use Rattle.std.specs.Prelude.{◌≡◌, ◌++◌, ◌<◌, codes, decimal
 ghost use Rattle.std.specs.List.{range_with_len};
 ghost use Rattle.tv_cells.specs.Picture.{cell_at};
 ghost use Rattle.tv_model.specs.Log.LogText.{line_of};
-ghost use Rattle.tv_model.specs.Log.Output.{cells_text, hex_byte, hex_digit, row_text, screen_text};
+ghost use Rattle.tv_machine.specs.Output.{cells_text, hex_byte, hex_digit, row_text, screen_text};
 ghost use Rattle.tv_output.specs.Pen.{Puts};
 ghost use Rattle.tv_script.specs.ScreenText.{aspect_word, cell_text};
 

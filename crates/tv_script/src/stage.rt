@@ -2,7 +2,8 @@
 
 ghost use Rattle.std.specs.Prelude.{◌≡◌};
 ghost use Rattle.tv_cells.specs.Picture.{Picture};
-ghost use Rattle.tv_model.specs.Machine.Session.{Session, stepped, quiet};
+ghost use Rattle.tv_event.specs.declared.event.Event.{Event as SeenEvent};
+ghost use Rattle.tv_machine.specs.Run.{Session, stepped, quiet};
 ghost use Rattle.tv_script.specs.Performed.{IsScreenOf};
 
 use tv_cells::Screen;
@@ -14,6 +15,9 @@ pub trait Stage {
     ghost session: { Self → Session };
 
     ghost picture: { Self → Picture };
+
+    // The events that it may be handed.
+    ghost takes: { SeenEvent → Type 0 };
 
     /// The description.
     fn desc(&self) -> &Desc
@@ -29,6 +33,7 @@ pub trait Stage {
 
     /// One event.
     fn step(&mut self, event: &Event)
+        requires { takes event.now }
         ensures { session self.new ≡ stepped (session self.old) event.now };
 
     /// Brings the screen up to date.

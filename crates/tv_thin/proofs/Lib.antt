@@ -1,5 +1,11 @@
 pub mod DialogLemmas
 pub mod DrawingLemmas
+pub mod LayerLemmas
+pub mod LeafLemmas
 pub mod LimitLemmas
+pub mod ListLemmas
+pub mod SafeLemmas
 pub mod SessionLemmas
 pub mod ShapeLemmas
+pub mod StartLemmas
+pub mod StepLemmas

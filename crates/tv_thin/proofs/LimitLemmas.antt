@@ -8,7 +8,7 @@ use Rattle.tv_model.specs.Description.Numbers.{IsBetween}
 use Rattle.tv_model.specs.declared.node.Id.{Id}
 use Rattle.tv_model.specs.declared.node.Node.{Node}
 use Rattle.tv_model.specs.Description.Nodes.{has_id, node_of, is_default, is_button_node}
-use Rattle.tv_model.specs.Machine.Step.{enter_target}
+use Rattle.tv_thin.specs.ThinMachine.{enter_target}
 
 module _ (Q : Node → Type 0) (p : Node → Bool) where
   found_at : (n : Node) (b : Bool) (rest : Option Node) (x : Node) → Q n → (Some x ≡ rest → Q x) → Some x ≡ cond b (Some n) rest → Q x

@@ -1,111 +1,130 @@
 -- A session over a thin and sound description.
-use Rattle.std.proofs.Common.{◌≡◌, ℕ, zero, suc, Bool, true, false, cond, ◌||◌, List, [], ◌∷◌, find, slice_get, Option, Some, None, option_map, is_some, refl, sym, ap, ◌∙◌, arith, All, IsSome, subst}
-use Rattle.std.specs.List.{list_any}
-use Rattle.std.proofs.lemmas.List.Elements.{All-head, All-same}
+use Rattle.std.proofs.Common.{◌≡◌, ℕ, suc, true, false, cond, List, [], ◌∷◌, Option, Some, None, is_some, refl, sym, ap, ◌∙◌, arith, All, subst}
+use Rattle.std.proofs.lemmas.List.Elements.{All-cons, All-head, All-nil, All-same}
+use Rattle.tv_cells.specs.Layers.{Shows}
+use Rattle.tv_cells.specs.Picture.{Picture}
 use Rattle.tv_event.specs.declared.event.Event.{Event}
-use Rattle.tv_model.specs.declared.node.Id.{Id}
-use Rattle.tv_model.specs.declared.node.Node.{Node}
 use Rattle.tv_model.specs.declared.desc.Desc.{Desc}
 use Rattle.tv_model.specs.declared.desc.Dialog.{Dialog}
-use Rattle.tv_model.specs.Description.Nodes.{is_control}
 use Rattle.tv_model.specs.declared.log.LogLine.{LogLine}
-use Rattle.tv_model.specs.Machine.State.{State}
-use Rattle.tv_model.specs.Machine.Step.{emptied, at_dialog, step, is_free, closed, open_dialog, start_from, start}
-use Rattle.tv_model.specs.Description.Heads.{dialog_head, is_named}
-use Rattle.tv_model.specs.Faults.{IsSound}
-use Rattle.tv_model.specs.Description.Thin.{IsThin, IsThinDialog}
-use Rattle.tv_model.specs.Machine.Safe.{IsSafe, IsAlwaysSafe}
-use Rattle.tv_model.proofs.SafeLemmas.{AreRising, emptied_safe, start_safe, step_safe, states_safe}
+use Rattle.tv_model.specs.declared.log.LogLine.TheVariants as lines
 use Rattle.tv_model.specs.Description.LawfulNodes.{IsLimited}
+use Rattle.tv_model.specs.Description.Thin.{IsThin, IsThinDialog}
+use Rattle.tv_model.specs.Faults.{IsSound}
+use Rattle.tv_model.specs.Screen.Layers.{background_layer}
+use Rattle.std.proofs.Common.{◌++◌, pos, ◌-ℤ◌}
+use Rattle.tv_machine.specs.Output.{states}
+use Rattle.tv_machine.specs.Safe.{HasDeclaredEnd, IsSafe}
+use Rattle.tv_machine.specs.Screen.Layers.{layers_of}
+use Rattle.tv_machine.specs.Session.Start.{start}
+use Rattle.tv_machine.specs.Session.Step.{emptied, step}
 use Rattle.tv_declarations.specs.Spelling.{IsDescription}
 use Rattle.tv_faults.specs.Usable.{IsUsableDialog}
 use Rattle.tv_faults.proofs.RisingLemmas.{views_rise}
 use Rattle.tv_faults.proofs.UsableLemmas.{only_dialog, only_start, sound_usable}
+use Rattle.tv_script.specs.Lines.{IsThinEvent}
 use Rattle.tv_thin.specs.declared.run.Run.{Run}
-use Rattle.tv_thin.specs.Run.{opened, state_of, stepped, IsReady, IsScreenSize}
-use Rattle.tv_thin.specs.ThinSession.{state_over, state_in}
-
--- a run before its start
-abbrev fresh : Run
-fresh = record { focus = None; is_saved = false; log = [] }
-
-some_free_at : (view : Node) (views : List Node) (b : Bool) → (list_any (λ node. is_control node.kind) views ≡ true → IsSome (find is_free views)) → (b || list_any (λ node. is_control node.kind) views) ≡ true → IsSome (cond b (Some view) (find is_free views))
-some_free_at view views true more e = refl
-some_free_at view views false more e = more e
-
-some_free : (views : List Node) → list_any (λ node. is_control node.kind) views ≡ true → IsSome (find is_free views)
-some_free [] e = absurd cc
-some_free (view ∷ views) e = some_free_at view views (is_free view) (some_free views) e
+use Rattle.tv_thin.specs.Looks.{empty_row, focused_layers}
+use Rattle.tv_thin.specs.Run.{begun, first_focus, fresh, state_of, IsReady, IsScreenSize}
+use Rattle.tv_thin.specs.ThinMachine.{stepped}
+use Rattle.tv_thin.specs.ThinSession.{state_over, state_in, IsSafeWhileThin}
+use Rattle.tv_thin.proofs.LayerLemmas.{layers_are}
+use Rattle.tv_thin.proofs.SafeLemmas.{IsSafeRun, no_lines, run_safe, safe_run, states_safe, still_safe}
+use Rattle.tv_model.specs.Description.Nodes.{AreRising}
+use Rattle.tv_thin.proofs.StartLemmas.{free_first}
+use Rattle.tv_thin.proofs.StepLemmas.{start_is, step_is}
 
 module _ (d : Desc) (dialog : Dialog) (only : d.dialogs ≡ dialog ∷ []) where
-  -- a step of the run is the flat machine's
-  at_is : (s : State) (e : Event) (focus : Option Id) → at_dialog d (emptied s) e (option_map (opened dialog) focus) ≡ stepped dialog s focus e
-  at_is s e None = refl
-  at_is s e (Some focus) = rw only refl
+  pub state_is : (r : Run) → state_in d r ≡ state_of dialog r
+  state_is r = ap (λ dialogs. state_over d dialogs r) only
 
-  state_is : (r : Run) → state_in d r ≡ state_of dialog r
-  state_is r = ap (λ ds. state_over d ds r) only
-
-  -- a run whose lines were taken is as safe as before
-  pub forgotten_safe : (r : Run) (lines : List LogLine) → lines ≡ [] → IsSafe d (state_in d r) → IsSafe d (state_in d (record r { log = lines }))
-  forgotten_safe r lines none safe = rw none (subst (IsSafe d) (ap emptied (state_is r) ∙ sym (state_is (record r { log = [] }))) (emptied_safe d (state_in d r) safe.focus))
-
-  pub step_is : (r : Run) (e : Event) → step d (state_in d r) e ≡ stepped dialog (state_of dialog r) r.focus e
-  step_is r e = ap (λ s. step d s e) (state_is r) ∙ at_is (state_of dialog r) e r.focus
-
-  pub stepped_is : (old new : Run) (e : Event) → state_of dialog new ≡ stepped dialog (state_of dialog old) old.focus e → state_in d new ≡ step d (state_in d old) e
-  stepped_is old new e same = state_is new ∙ same ∙ sym (step_is old e)
-
-  module _ (thin : IsThin d) (sound : IsSound d) where
-    usable : IsUsableDialog d dialog
-    usable = only_dialog d dialog only (sound_usable d sound)
-
+  module _ (thin : IsThin d) where
     is_thin : IsThinDialog dialog
     is_thin = let same : thin.dialog ≡ dialog = cc (sym thin.only ∙ only) in subst IsThinDialog same thin.thin
 
-    pub views_limited : All IsLimited dialog.views
-    views_limited = λ k node less. usable.nodes (suc k) node (omega (arith, less))
+    -- ---- the screen
 
-    pub head_limited : IsLimited dialog.node
-    head_limited = usable.nodes 0 dialog.node (omega arith)
+    pub drawn_is : (r : Run) (p : Picture) → Shows (empty_row d (pos 0) ∷ empty_row d (d.height -ℤ pos 1) ∷ (focused_layers d dialog r.focus ++ background_layer d ∷ [])) p → Shows (layers_of d (state_in d r)) p
+    drawn_is r p shows =
+        subst (λ layers. Shows layers p)
+        (sym (ap (layers_of d) (state_is r) ∙ layers_are d dialog only thin.menus thin.status is_thin.views is_thin.rules r)) shows
 
-    pub ready : IsReady dialog
-    ready = record { thin = is_thin; limited = views_limited }
+    -- ---- events
 
-    cancels : (place : ℕ) (found : Dialog) → slice_get d.dialogs place ≡ Some found → (dialog_head found).ends.cancel ≡ true
-    cancels place found e = at place (ap (λ ds. slice_get ds place) (sym only) ∙ e)
-      where
-        at : (n : ℕ) → slice_get (dialog ∷ []) n ≡ Some found → (dialog_head found).ends.cancel ≡ true
-        at zero f = let same : dialog ≡ found = cc in rw (← same) usable.cancel
-        at (suc n) f = absurd cc
+    is_safe_run : (r : Run) → IsSafe d (state_in d r) → IsSafeRun d dialog r
+    is_safe_run r safe = safe_run d dialog only is_thin.views is_thin.rules r (subst (IsSafe d) (state_is r) safe)
 
-    pub still_safe : (old new : Run) (e : Event) → IsSafe d (state_in d old) → state_of dialog new ≡ stepped dialog (state_of dialog old) old.focus e → IsSafe d (state_in d new)
-    still_safe old new e safe same = subst (IsSafe d) (sym (stepped_is old new e same)) (step_safe d cancels (state_in d old) e safe.focus)
+    -- a run whose lines were taken is as safe as before
+    pub forgotten_safe : (r : Run) (lines : List LogLine) → lines ≡ [] → IsSafe d (state_in d r) → IsSafe d (state_in d (record r { log = lines }))
+    forgotten_safe r lines none safe =
+        rw none
+        (subst (IsSafe d) (sym (state_is (record r { log = [] })))
+        (run_safe d dialog only is_thin.views is_thin.rules (record r { log = [] }) (record { free = (is_safe_run r safe).free; ends = no_lines d })))
 
-    closed_is : state_of dialog fresh ≡ closed d
-    closed_is = rw (thin.windows, only) refl
+    pub forgotten_is : (r : Run) (lines : List LogLine) → lines ≡ [] → state_in d (record r { log = lines }) ≡ emptied (state_in d r)
+    forgotten_is r lines none = rw none (state_is (record r { log = [] }) ∙ sym (ap emptied (state_is r)))
 
-    started_from : (o : Option (List ℕ)) → d.start ≡ o → (r : Run)
-        → (is_some o ≡ true → state_of dialog r ≡ open_dialog dialog 0 (state_of dialog fresh)) → (is_some o ≡ false → r ≡ fresh) → state_of dialog r ≡ start_from d o
-    started_from None e r opens shuts = ap (state_of dialog) (shuts refl) ∙ closed_is
-    started_from (Some name) e r opens shuts =
-        let named : is_named name dialog ≡ true = only_start d dialog only (sound_usable d sound) name e in
-        let here : start_from d (Some name) ≡ open_dialog dialog 0 (closed d) = rw (only, named) refl in
-        opens refl ∙ ap (open_dialog dialog 0) closed_is ∙ sym here
+    pub stepped_is : (old new : Run) (e : Event) → IsThinEvent e → IsSafe d (state_in d old) → state_of dialog new ≡ stepped dialog (state_of dialog old) old.focus e → state_in d new ≡ step d (state_in d old) e
+    stepped_is old new e is safe same =
+        state_is new ∙ same
+        ∙ sym (ap (λ s. step d s e) (state_is old) ∙ step_is d dialog only thin.menus thin.status thin.windows is_thin.views is_thin.rules old e is (is_safe_run old safe).free)
 
-    -- the run at its start has the flat machine's start
-    pub started_is : (r : Run) → (is_some d.start ≡ true → state_of dialog r ≡ open_dialog dialog 0 (state_of dialog fresh)) → (is_some d.start ≡ false → r ≡ fresh) → state_in d r ≡ start d
-    started_is r opens shuts = state_is r ∙ started_from d.start refl r opens shuts
+    module _ (sound : IsSound d) where
+      usable : IsUsableDialog d dialog
+      usable = only_dialog d dialog only (sound_usable d sound)
 
-    module _ (spelled : IsDescription d) where
-      begun : IsSafe d (start d)
-      begun = start_safe d dialog only (All-head (λ dialog. AreRising dialog.views) dialog [] (All-same (λ dialog. AreRising dialog.views) (dialog ∷ []) d.dialogs (sym only) (views_rise d spelled))) (some_free dialog.views usable.control)
+      pub views_limited : All IsLimited dialog.views
+      views_limited = λ k node less. usable.nodes (suc k) node (omega (arith, less))
 
-      pub always_safe : IsAlwaysSafe d
-      always_safe events = states_safe d cancels (start d) begun events
+      pub head_limited : IsLimited dialog.node
+      head_limited = usable.nodes 0 dialog.node (omega arith)
 
-      pub safe_start : (r : Run) → state_in d r ≡ start d → IsSafe d (state_in d r)
-      safe_start r same = subst (IsSafe d) (sym same) begun
+      pub ready : IsReady dialog
+      ready = record { thin = is_thin; limited = views_limited }
+
+      pub kept_safe : (old new : Run) (e : Event) → IsSafe d (state_in d old) → state_of dialog new ≡ stepped dialog (state_of dialog old) old.focus e → IsSafe d (state_in d new)
+      kept_safe old new e safe same =
+          subst (IsSafe d) (sym (state_is new)) (still_safe d dialog only is_thin.views is_thin.rules usable.cancel old new e (subst (IsSafe d) (state_is old) safe) same)
+
+      -- ---- the start
+
+      starts : (name : Option (List ℕ)) → d.start ≡ name → start d ≡ cond (is_some name) (state_of dialog (begun dialog)) (state_of dialog fresh)
+      starts name e = start_is d dialog only thin.menus thin.status thin.windows is_thin.views is_thin.rules name (only_start d dialog only (sound_usable d sound)) e
+
+      started_as : (name : Option (List ℕ)) → d.start ≡ name → (r : Run) → (is_some name ≡ true → r ≡ begun dialog) → (is_some name ≡ false → r ≡ fresh) → state_in d r ≡ start d
+      started_as None e r opens shuts = state_is r ∙ ap (state_of dialog) (shuts refl) ∙ sym (starts None e)
+      started_as (Some name) e r opens shuts = state_is r ∙ ap (state_of dialog) (opens refl) ∙ sym (starts (Some name) e)
+
+      -- the run at its start has the flat machine's start
+      pub started_is : (r : Run) → (is_some d.start ≡ true → r ≡ begun dialog) → (is_some d.start ≡ false → r ≡ fresh) → state_in d r ≡ start d
+      started_is r opens shuts = started_as d.start refl r opens shuts
+
+      module _ (spelled : IsDescription d) where
+        rising : AreRising dialog.views
+        rising = All-head (λ dialog. AreRising dialog.views) dialog [] (All-same (λ dialog. AreRising dialog.views) (dialog ∷ []) d.dialogs (sym only) (views_rise d spelled))
+
+        begun_safe : IsSafeRun d dialog (begun dialog)
+        begun_safe = record {
+          free = free_first dialog.views dialog.node.id rising usable.control;
+          ends = All-cons (HasDeclaredEnd d) (lines.Open dialog.node.id) (lines.Focus (first_focus dialog) ∷ []) tt (All-cons (HasDeclaredEnd d) (lines.Focus (first_focus dialog)) [] tt (no_lines d));
+        }
+
+        fresh_safe : IsSafeRun d dialog fresh
+        fresh_safe = record { free = tt; ends = no_lines d }
+
+        after_start : (r : Run) → start d ≡ state_of dialog r → IsSafeRun d dialog r → IsSafeWhileThin d
+        after_start r is safe es thin_es =
+            subst (λ s. IsSafe d (states (step d) s es)) (sym is) (states_safe d dialog only is_thin.views is_thin.rules usable.cancel thin.menus thin.status thin.windows r safe es thin_es)
+
+        always_by : (name : Option (List ℕ)) → d.start ≡ name → IsSafeWhileThin d
+        always_by None e = after_start fresh (starts None e) fresh_safe
+        always_by (Some name) e = after_start (begun dialog) (starts (Some name) e) begun_safe
+
+        pub always_safe : IsSafeWhileThin d
+        always_safe = always_by d.start refl
+
+        pub safe_start : (r : Run) → state_in d r ≡ start d → IsSafe d (state_in d r)
+        safe_start r same = subst (IsSafe d) (sym same) (always_safe [] (All-nil IsThinEvent))
 
 pub screen_size : (d : Desc) → IsSound d → IsScreenSize d
 screen_size d sound = let usable = sound_usable d sound in record { width = usable.width; height = usable.height }

@@ -2,14 +2,12 @@
 
 ghost use Rattle.std.specs.Prelude.{◌≡◌, All, ◌+ℤ◌, ◌-ℤ◌, ◌∷◌, ◌++◌, [], List, true, pos, ◌≤◌, Some, None, reverse, flat_map};
 ghost use Rattle.tv_cells.specs.Rectangle.{IsNear, IsRectNear, sized};
-ghost use Rattle.tv_cells.specs.Layers.{Layer, Painted, Shows};
+ghost use Rattle.tv_cells.specs.Layers.{Layer, Shows};
 ghost use Rattle.tv_model.specs.Description.Rectangles.{corner_of, desktop};
-ghost use Rattle.tv_model.specs.Screen.Layers.{canvas_at, bar_layer, status_layer, background_layer, view_layers, body_layers, dialog_layers, is_default_now, look_of, whole_screen};
-ghost use Rattle.tv_model.specs.Description.Numbers.{natural};
-ghost use Rattle.tv_model.specs.Screen.Faces.{empty_bar};
+ghost use Rattle.tv_model.specs.Screen.Layers.{canvas_at, background_layer, body_layers, is_default_now, whole_screen};
 ghost use Rattle.tv_faces.specs.Looks.{button_look_of};
 ghost use Rattle.tv_cells.specs.Picture.{IsAlike};
-ghost use Rattle.tv_thin.specs.Looks.{focused_layers};
+ghost use Rattle.tv_thin.specs.Looks.{dialog_layers, empty_row, focused_layers, look_of, view_layers};
 ghost use Rattle.tv_model.specs.Description.LawfulNodes.{IsLimited};
 ghost use Rattle.tv_thin.specs.Run.{IsScreenSize};
 
@@ -241,7 +239,7 @@ fn draw_open(screen: &mut Screen, desc: &Desc, dialog: &Dialog, focus: Option<Id
 fn draw_bar(screen: &mut Screen, desc: &Desc, row: &i32)
     ensures size { IsAlike screen.old screen.new }
     ensures shows { (layers : List Layer) → Shows layers screen.old
-        → Shows (Painted (canvas_at (whole_screen desc.now) (pos 0) row.now) (natural desc.now.width) 1 empty_bar ∷ layers) screen.new }
+        → Shows (empty_row desc.now row.now ∷ layers) screen.new }
 {
     lay(
         screen,
@@ -265,7 +263,7 @@ pub(crate) fn draw(screen: &mut Screen, desc: &Desc, dialog: &Dialog, focus: Opt
     requires dialog { IsLimited dialog.now.node }
     requires views { All IsLimited dialog.now.views }
     ensures size { IsAlike screen.old screen.new }
-    ensures shows { Shows (bar_layer desc.now ∷ status_layer desc.now ∷ (focused_layers desc.now dialog.now focus ++ background_layer desc.now ∷ [])) screen.new }
+    ensures shows { Shows (empty_row desc.now (pos 0) ∷ empty_row desc.now (desc.now.height -ℤ pos 1) ∷ (focused_layers desc.now dialog.now focus ++ background_layer desc.now ∷ [])) screen.new }
 {
     draw_background(screen, desc);
     draw_open(screen, desc, dialog, focus);

@@ -2,7 +2,7 @@
 
 ghost use Rattle.std.specs.Prelude.{◌≡◌, find, position, option_copied};
 ghost use Rattle.tv_model.specs.Description.Nodes.{has_id, node_of, is_default, is_button_node};
-ghost use Rattle.tv_model.specs.Machine.Step.{is_free, is_free_at, first_free, last_free, place_of, before, after, next_free, previous_free, enter_target};
+ghost use Rattle.tv_thin.specs.ThinMachine.{is_free, is_free_at, first_free, last_free, place_of, before, after, next_free, previous_free, enter_target};
 
 use tv_model::{Id, Kind, Node, node_of};
 

@@ -1,11 +1,13 @@
 //! The state of a run over one dialog of texts and buttons.
 
 ghost use Rattle.std.specs.Prelude.{◌≡◌, ◌<◌, ◌≤◌, ◌+◌, [], ◌∷◌, ◌++◌, length, true, false, Some, None, option_copied, if◌then◌else◌};
-ghost use Rattle.tv_model.specs.Machine.Step.{logged, emptied, request, command, press_node, press, key, key_event, ended, open_dialog, enter_target};
+ghost use Rattle.tv_machine.specs.Session.Commands.{logged};
+ghost use Rattle.tv_machine.specs.Session.Step.{emptied};
 ghost use Rattle.tv_model.specs.Description.Commands.{command_number, is_declared};
 ghost use Rattle.tv_model.specs.Description.Nodes.{node_of};
 ghost use Rattle.tv_model.specs.Description.LawfulNodes.{IsLawfulCommand, IsLimited};
-ghost use Rattle.tv_thin.specs.Run.{state_of, opened, stepped, IsReady};
+ghost use Rattle.tv_thin.specs.Run.{state_of, fresh, begun, first_focus, IsReady};
+ghost use Rattle.tv_thin.specs.ThinMachine.{opened, request, command, press_node, press, key, key_event, ended, enter_target, stepped};
 
 use crate::focus::{enter_target, first_free, is_free_at, next_free, previous_free};
 use crate::log::Log;
@@ -54,8 +56,8 @@ fn is_declared(ends: Ends, number: u8) -> bool
 impl Run {
     /// The state at the start: the dialog is open or no dialog is.
     pub fn start(dialog: &Dialog, is_open: bool) -> Run
-        ensures opened { is_open ≡ true → state_of dialog.now result ≡ open_dialog dialog.now 0 (state_of dialog.now (record { focus = None; is_saved = false; log = [] })) }
-        ensures closed { is_open ≡ false → result ≡ record { focus = None; is_saved = false; log = [] } }
+        ensures opened { is_open ≡ true → result ≡ begun dialog.now }
+        ensures closed { is_open ≡ false → result ≡ fresh }
     {
         let mut run = Run {
             focus: None,

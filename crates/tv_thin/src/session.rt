@@ -3,11 +3,13 @@
 ghost use Rattle.std.specs.Prelude.{◌≡◌, ◌∷◌, [], IfOk, IfSome, Some, None, true, is_some, option_map};
 ghost use Rattle.tv_declarations.specs.Spelling.{IsDescription};
 ghost use Rattle.tv_model.specs.Faults.{IsSound};
-ghost use Rattle.tv_model.specs.Machine.Safe.{IsAlwaysSafe, IsFocusFree};
-ghost use Rattle.tv_model.specs.Machine.Session.{started};
+ghost use Rattle.tv_machine.specs.Run.{started};
+ghost use Rattle.tv_machine.specs.Safe.{IsSafe};
 ghost use Rattle.tv_model.specs.Description.Numbers.{natural};
 ghost use Rattle.tv_model.specs.Description.Thin.{IsThin};
+ghost use Rattle.tv_script.specs.Lines.{IsThinEvent};
 ghost use Rattle.tv_thin.specs.Run.{IsScreenSize};
+ghost use Rattle.tv_thin.specs.ThinSession.{IsSafeWhileThin};
 
 use crate::draw::draw;
 use crate::run::Run;
@@ -61,13 +63,14 @@ fn blank_screen(alloc: Global, desc: &Desc) -> Result<Screen, AllocError>
 impl ThinSession {
     /// The start of a session: the start dialog is open, and that is logged. The only error is of memory, for the screen.
     ///
-    /// Whatever happens then, the focus of the open dialog is a free control, and each end is by a declared command.
+    /// Whatever keys of thin scripts come then, the state stays safe: the focus of the open dialog is a free control, and
+    /// each end is by a declared command.
     pub fn new(alloc: Global, desc: Desc) -> Result<ThinSession, AllocError>
         requires spelled { IsDescription desc }
         requires thin { IsThin desc }
         requires sound { IsSound desc }
         ensures start { IfOk result (λ made. made.session ≡ started desc) }
-        ensures safe { IsAlwaysSafe desc }
+        ensures safe { IsSafeWhileThin desc }
     {
         let screen = blank_screen(alloc, &desc)?;
         let run = Run::start(only_dialog(&desc), desc.start.is_some());
@@ -77,7 +80,7 @@ impl ThinSession {
     /// The control that has the focus, while the dialog is open.
     pub fn focus(&self) -> Option<Id>
         ensures focus { result ≡ option_map (λ o. o.focus) self.now.session.state.dialog }
-        ensures free { IsFocusFree self.now.session.desc self.now.session.state }
+        ensures safe { IsSafe self.now.session.desc self.now.session.state }
     {
         self.run.focus
     }
@@ -87,6 +90,8 @@ impl Stage for ThinSession {
     ghost session = { λ s. s.session };
 
     ghost picture = { λ s. s.picture };
+
+    ghost takes = { IsThinEvent };
 
     fn desc(&self) -> &Desc {
         &self.desc

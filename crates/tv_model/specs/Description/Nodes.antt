@@ -1,5 +1,6 @@
 -- What nodes have by their kind, and how they are found.
-use Rattle.std.specs.Prelude.{ℕ, Bool, true, false, List, length, Option, Some, None, ℤ, pos, ◌==◌, find}
+use Rattle.std.specs.Prelude.{ℕ, Bool, true, false, List, length, Option, Some, None, ℤ, pos, ◌==◌, ◌<◌, find}
+use Rattle.std.specs.List.{AllPairs}
 use Rattle.tv_model.specs.declared.node.Id.{Id}
 use Rattle.tv_model.specs.declared.node.Node.{Node}
 use Rattle.tv_model.specs.declared.kind.Kind.{Kind}
@@ -86,3 +87,7 @@ is_default node = declared node.kind
     declared : Kind → Bool
     declared (kinds.Button button) = button.is_default
     declared _ = false
+
+-- each view has a later line than those before it
+abbrev pub AreRising : List Node → Type 0
+AreRising views = AllPairs (λ node later. node.id.0 < later.id.0) views

@@ -18,5 +18,8 @@ returns g c text described =
     (record { desc = c.args.desc; items = c.in_ok-items.items; described = described; thin = c.requires.thin; scripted = c.in_ok-items.ensures.spelled; safe = c.in_ok-session.ensures.safe })
     c.in_ok-session.session.session c.as_slice.result.now c.in_ok-session.ensures.start c.as_slice.ensures c.in_ok-play.ensures
 
+pub play-requires : goal.play-requires
+play-requires g c = rw c.as_slice.ensures c.in_ok-items.ensures.events
+
 pub new-requires-clause-spelled : goal.new-requires-clause-spelled
 new-requires-clause-spelled g c = c.requires.spelled.1.can

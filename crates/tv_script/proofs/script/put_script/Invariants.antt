@@ -1,5 +1,5 @@
 use Rattle.std.proofs.Common.{◌≡◌, take, false}
-use Rattle.tv_model.specs.Log.Output.{output, after}
+use Rattle.tv_machine.specs.Output.{output, after}
 use Rattle.tv_output.specs.Writer.{Takes}
 use Rattle.tv_script.proofs.script.put_script.Given as goal
 

@@ -1,6 +1,6 @@
 use Rattle.std.proofs.Common.{ap, ◌∙◌}
 use Rattle.tv_cells.specs.Picture.{cell_at}
-use Rattle.tv_model.specs.Log.Output.{screen_text, shot_text}
+use Rattle.tv_machine.specs.Output.{screen_text, shot_text}
 use Rattle.tv_script.specs.ScreenText.{aspect_word, cell_text}
 use Rattle.tv_script.specs.declared.shot.Aspect.TheVariants.{Characters}
 use Rattle.tv_output.proofs.PenLemmas.{Puts-along}

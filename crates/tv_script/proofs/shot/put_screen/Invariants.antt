@@ -5,7 +5,7 @@ use Rattle.std.proofs.Common.{decimal, codes, ◌++◌}
 use Rattle.tv_output.specs.Pen.{Puts}
 use Rattle.tv_script.specs.ScreenText.{aspect_word, cell_text}
 use Rattle.tv_model.specs.Log.LogText.{line_of}
-use Rattle.tv_model.specs.Log.Output.{row_text}
+use Rattle.tv_machine.specs.Output.{row_text}
 use Rattle.tv_script.proofs.shot.put_screen.Given as goal
 
 abbrev pub invariant-loop-row : goal.invariant-loop-row

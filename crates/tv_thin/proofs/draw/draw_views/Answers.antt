@@ -1,7 +1,7 @@
 use Rattle.std.proofs.Common.{subst}
 use Rattle.tv_cells.specs.Layers.{Shows}
 use Rattle.tv_model.specs.Description.Rectangles.{corner_of}
-use Rattle.tv_model.specs.Screen.Layers.{view_layers}
+use Rattle.tv_thin.specs.Looks.{view_layers}
 use Rattle.tv_thin.proofs.DrawingLemmas.{alike_then, layers-more}
 use Rattle.tv_thin.proofs.draw.draw_views.Goals as goal
 

@@ -2,7 +2,7 @@ use Rattle.std.proofs.Common.{◌++◌, List, reverse, flat_map, take}
 use Rattle.tv_cells.specs.Layers.{Layer, Shows}
 use Rattle.tv_cells.specs.Picture.{IsAlike}
 use Rattle.tv_model.specs.Description.Rectangles.{corner_of}
-use Rattle.tv_model.specs.Screen.Layers.{view_layers}
+use Rattle.tv_thin.specs.Looks.{view_layers}
 use Rattle.tv_thin.proofs.draw.draw_views.Given as goal
 
 abbrev pub invariant-loop-node : goal.invariant-loop-node

@@ -1,6 +1,6 @@
 use Rattle.std.proofs.Common.{ap, ◌∙◌}
 use Rattle.tv_model.specs.Description.LawfulNodes.{IsLimited}
-use Rattle.tv_model.specs.Machine.Step.{enter_target}
+use Rattle.tv_thin.specs.ThinMachine.{enter_target}
 use Rattle.tv_thin.proofs.LimitLemmas.{target_holds}
 use Rattle.tv_thin.proofs.run.Run.enter.Goals as goal
 

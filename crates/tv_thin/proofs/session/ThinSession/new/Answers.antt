@@ -1,5 +1,5 @@
 use Rattle.std.proofs.Common.{ap, ◌∙◌}
-use Rattle.tv_model.specs.Machine.State.{State}
+use Rattle.tv_machine.specs.State.{State}
 use Rattle.tv_thin.proofs.SessionLemmas.{screen_size, always_safe, started_is, safe_start}
 use Rattle.tv_thin.proofs.session.ThinSession.new.Goals as goal
 

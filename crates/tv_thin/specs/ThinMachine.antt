@@ -1,5 +1,6 @@
--- The step of the flat machine, and its start.
-use Rattle.std.specs.Prelude.{[], ℕ, Bool, false, ◌||◌, List, ◌∷◌, ◌++◌, map, reverse, find, position, length, take, drop, replicate, slice_get, slice_set, Option, Some, None, option_map, unwrap_or, ◌+◌, ◌==◌, nat_le, if◌then◌else◌}
+-- What a run over a thin dialog does. Private functions are held to these definitions, and StepLemmas show that they give what
+-- the flat machine gives, which public contracts name.
+use Rattle.std.specs.Prelude.{ℕ, Bool, false, ◌||◌, List, ◌∷◌, ◌++◌, map, reverse, find, position, length, take, drop, slice_set, Option, Some, None, option_map, unwrap_or, ◌+◌, ◌==◌, nat_le, if◌then◌else◌}
 use Rattle.std.specs.Option.{option_or}
 use Rattle.tv_event.specs.declared.event.Event.{Event}
 use Rattle.tv_event.specs.declared.event.Event.TheVariants as events
@@ -9,21 +10,21 @@ use Rattle.tv_model.specs.declared.node.Id.{Id}
 use Rattle.tv_model.specs.declared.node.Node.{Node}
 use Rattle.tv_model.specs.declared.kind.Kind.{Kind}
 use Rattle.tv_model.specs.declared.kind.Kind.TheVariants as kinds
-use Rattle.tv_model.specs.declared.desc.Desc.{Desc}
-use Rattle.tv_model.specs.declared.desc.Window.{Window}
 use Rattle.tv_model.specs.declared.desc.Dialog.{Dialog}
-use Rattle.tv_model.specs.declared.record.Entry.{Entry}
-use Rattle.tv_model.specs.declared.log.LogLine.{LogLine}
 use Rattle.tv_model.specs.declared.log.LogLine.TheVariants as lines
 use Rattle.tv_model.specs.Description.Nodes.{is_control, has_id, node_of, is_button_node, is_default}
-use Rattle.tv_model.specs.Machine.State.{State, OpenDialog, OpenWindow, declared_leaves, fields_of}
 use Rattle.tv_model.specs.Description.Rectangles.{corner_of}
 use Rattle.tv_model.specs.Description.Commands.{command_number, is_declared}
-use Rattle.tv_model.specs.Description.Heads.{dialog_head, is_named}
+use Rattle.tv_model.specs.Description.Heads.{dialog_head}
+use Rattle.tv_machine.specs.State.{State, OpenDialog}
+use Rattle.tv_machine.specs.Dialog.Ending.{fields_of, field_line}
+use Rattle.tv_machine.specs.Dialog.Opening.{opened_leaves}
+use Rattle.tv_machine.specs.Session.Commands.{logged}
+use Rattle.tv_machine.specs.Session.Step.{emptied}
 
 -- ---- free controls
 
--- free to focus: a control. No rule hides or disables one yet
+-- free to focus: a control, since no rule hides or disables one
 abbrev pub is_free : Node → Bool
 is_free node = is_control node.kind
 
@@ -44,7 +45,7 @@ first_free views = option_map (λ node. node.id) (find is_free views)
 abbrev pub last_free : List Node → Option Id
 last_free views = first_free (reverse views)
 
--- the views before the one of the id, and those after it
+-- how many views stand before the one of the id
 abbrev pub place_of : List Node → Id → ℕ
 place_of views i = unwrap_or (position (has_id i) views) (length views)
 
@@ -56,7 +57,7 @@ before views i = take (place_of views i) views
 abbrev pub after : List Node → Id → List Node
 after views i = drop (place_of views i + 1) views
 
--- the next free control after the focus, and the previous one before it, cyclically; the focus where it alone is free
+-- the next free control after the focus, cyclically; the focus where it alone is free
 abbrev pub next_free : List Node → Id → Id
 next_free views focus = unwrap_or (option_or (first_free (after views focus)) (first_free (before views focus))) focus
 
@@ -64,15 +65,11 @@ next_free views focus = unwrap_or (option_or (first_free (after views focus)) (f
 abbrev pub previous_free : List Node → Id → Id
 previous_free views focus = unwrap_or (option_or (last_free (before views focus)) (last_free (after views focus))) focus
 
--- ---- the log and the open dialog
+-- ---- the open dialog
 
--- the state with no log
-abbrev pub emptied : State → State
-emptied s = record s { log = [] }
-
--- the state with one more line in its log
-abbrev pub logged : State → LogLine → State
-logged s line = record s { log = s.log ++ line ∷ [] }
+-- the dialog while it is open with this focus, where it is declared
+abbrev pub opened : Dialog → Id → OpenDialog
+opened d focus = record { place = 0; origin = corner_of d.node; leaves = opened_leaves d None; focus = focus; held = None }
 
 -- the state with another open dialog
 abbrev pub with_dialog : State → OpenDialog → State
@@ -81,13 +78,9 @@ with_dialog s o = record s { dialog = Some o }
 -- a focus request: nothing for the focus itself or for what isn't free, else the focus moves
 abbrev pub request : Dialog → State → OpenDialog → Id → State
 request d s o to =
-    if to.0 == o.focus.0 then s else if is_free_at d.views to then logged (with_dialog s (record o { focus = to })) (lines.Focus to) else s
+    if to.0 == o.focus.0 then s else if is_free_at d.views to then logged (lines.Focus to) (with_dialog s (record o { focus = to })) else s
 
 -- ---- commands
-
--- the line of a field
-abbrev pub field_line : Entry → LogLine
-field_line entry = lines.Field entry.id entry.value
 
 -- the dialog ends: the command and the fields are logged, and unless it is `cancel` the record is saved
 abbrev pub ended : Dialog → State → OpenDialog → ℕ → State
@@ -97,12 +90,12 @@ ended d s o number = record s {
   log = s.log ++ lines.End d.node.id (record { 0 = number }) ∷ map field_line (fields_of o.leaves);
 }
 
--- a command while a dialog is open: `close` is taken as `cancel`; without inputs every declared end is granted
+-- a command: `close` is taken as `cancel`; without inputs every declared end is granted
 abbrev pub command : Dialog → State → OpenDialog → ℕ → State
 command d s o number =
     if (number == 4) || (number == 11) then ended d s o 11
     else if is_declared (dialog_head d).ends number then ended d s o number
-    else if nat_le 100 number then logged s (lines.Command number)
+    else if nat_le 100 number then logged (lines.Command number) s
     else s
 
 -- ---- keys
@@ -113,7 +106,7 @@ press_node d s o None = s
 press_node d s o (Some node) = pressed node.kind
   where
     pressed : Kind → State
-    pressed (kinds.Button button) = command d (logged s (lines.Press node.id)) o (command_number button.command)
+    pressed (kinds.Button button) = command d (logged (lines.Press node.id) s) o (command_number button.command)
     pressed _ = s
 
 -- the view of the id is pressed, if it is a button
@@ -138,65 +131,9 @@ abbrev pub key_event : Dialog → State → OpenDialog → Event → State
 key_event d s o (events.Key k) = key d s o k
 key_event d s o _ = s
 
--- ---- the step
+-- ---- one event
 
--- an event while a dialog may be open
-abbrev pub in_dialog : State → OpenDialog → Event → Option Dialog → State
-in_dialog s o e None = s
-in_dialog s o e (Some d) = key_event d s o e
-
--- an event at the open dialog, if there is one
-abbrev pub at_dialog : Desc → State → Event → Option OpenDialog → State
-at_dialog d s e None = s
-at_dialog d s e (Some o) = in_dialog s o e (slice_get d.dialogs o.place)
-
--- one event: the log is emptied; nothing more once the run is over; without a dialog a key does nothing
-abbrev pub step : Desc → State → Event → State
-step d s e = if s.is_over then emptied s else at_dialog d (emptied s) e s.dialog
-
--- ---- the start
-
--- a dialog opens where it is declared, with its declared values, on its first free control
-abbrev pub open_dialog : Dialog → ℕ → State → State
-open_dialog d place s = record s {
-  dialog = Some (record { place = place; origin = corner_of d.node; leaves = declared_leaves d.views; focus = first; held = None });
-  log = s.log ++ lines.Open d.node.id ∷ lines.Focus first ∷ [];
-}
-  where
-    first : Id
-    first = unwrap_or (first_free d.views) d.node.id
-
--- a window stands where it is declared
-abbrev pub open_window : Window → OpenWindow
-open_window window = record { id = window.node.id; origin = corner_of window.node }
-
--- no dialog is open, and the later windows stand in front
-abbrev pub closed : Desc → State
-closed d = record {
-  is_over = false;
-  windows = reverse (map open_window d.windows);
-  menu = None;
-  dialog = None;
-  saved = replicate (length d.dialogs) None;
-  overwriting = [];
-  log = [];
-}
-
--- the start with the dialog that was found
-abbrev pub open_found : Desc → ℕ → Option Dialog → State
-open_found d place None = closed d
-open_found d place (Some dialog) = open_dialog dialog place (closed d)
-
--- the start with the dialog at a place
-abbrev pub open_at : Desc → Option ℕ → State
-open_at d None = closed d
-open_at d (Some place) = open_found d place (slice_get d.dialogs place)
-
--- the start with the dialog of a name
-abbrev pub start_from : Desc → Option (List ℕ) → State
-start_from d None = closed d
-start_from d (Some name) = open_at d (position (is_named name) d.dialogs)
-
--- the state before the first event: the start dialog is open, and that is logged
-abbrev pub start : Desc → State
-start d = start_from d d.start
+-- one event, while the dialog is open with this focus or while no dialog is
+abbrev pub stepped : Dialog → State → Option Id → Event → State
+stepped d s None e = emptied s
+stepped d s (Some focus) e = key_event d (emptied s) (opened d focus) e
