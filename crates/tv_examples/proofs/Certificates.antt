@@ -1,0 +1,32 @@
+-- The certificates of descriptions, from text to text.
+use Prim.Native.String.{String}
+use Rattle.std.specs.Prelude.{◌≡◌, ℕ, List, [], ◌∷◌, Option, Some, None}
+use Rattle.std.proofs.Common.{refl}
+use Rattle.tv_words.specs.Canonical.{canonical_text}
+use Rattle.tv_lang.specs.Reading.Descriptions as readings
+use Rattle.tv_lang.specs.Reading.Descriptions.{Reading, reading_of}
+use Rattle.tv_certificate.specs.CertificateTexts.{certificate_lines}
+use Rattle.tv_check.specs.Certificates.{certificate_of}
+use Rattle.tv_examples.specs.Descriptions.{cancel, order}
+use Rattle.tv_examples.specs.Running.{written, text}
+
+-- the text of the certificate of a description that was read, if one was
+abbrev certificate_read : Reading → Option (List ℕ)
+certificate_read (readings.Value d) = Some (canonical_text (certificate_lines (certificate_of d)))
+certificate_read (readings.Fault line) = None
+certificate_read readings.Other = None
+
+-- the description of these lines has the certificate of these lines
+abbrev HasCertificate : List String → List String → Type 0
+HasCertificate description lines = certificate_read (reading_of (text description)) ≡ Some (text lines)
+
+cancel_certificate : HasCertificate cancel ("tvcert 1" ∷ "dialog a" ∷ "tab c" ∷ "key C c" ∷ "end" ∷ [])
+unfolding written
+cancel_certificate = refl
+
+-- a label's letter names its link, an item's its cluster and its number
+order_certificate : HasCertificate order (
+    "tvcert 1" ∷ "dialog b" ∷ "tab amount" ∷ "tab opts" ∷ "tab qty" ∷ "tab ok" ∷ "tab no" ∷ "tab log" ∷
+    "key A amount" ∷ "key C no" ∷ "key G opts 1" ∷ "key L log" ∷ "key N opts 2" ∷ "key O ok" ∷ "end" ∷ [])
+unfolding written
+order_certificate = refl

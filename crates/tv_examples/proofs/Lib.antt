@@ -1,0 +1,23 @@
+-- a dialog with one button
+mod CancelDialog
+-- check boxes that show an input and enable an end
+mod OrderDialog
+mod ReopenedRecords
+mod RadioRules
+mod TwoWindows
+mod MenuKeys
+mod ControlKeys
+-- panes
+mod Views
+-- what parts of the screen show
+mod Screens
+-- the tables of lists and clusters
+mod ControlTables
+mod Pictures
+mod Ranges
+mod Faults
+mod RefusedTexts
+mod RefusedScripts
+mod Certificates
+-- descriptions and scripts that reach every rule
+mod Cases

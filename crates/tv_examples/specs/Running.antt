@@ -1,0 +1,93 @@
+-- How an example is run: from the text of a description and its script to the text of its output.
+use Prim.Native.String.{String}
+use Rattle.std.specs.Prelude.{◌≡◌, [], ℕ, List, ◌∷◌, ◌++◌, Option, Some, None, Result, Ok, Err, option_map, flat_map, codes}
+use Rattle.std.specs.List.{range_with_len}
+use Rattle.std.specs.Char.{encode_utf8}
+use Rattle.std.specs.Fmt.{digits}
+use Rattle.std.specs.Str.{chars, is_utf8}
+use Rattle.tv_examples.specs.Widths.{widths}
+use Rattle.tv_cells.specs.Glyph.{Glyph}
+use Rattle.tv_model.specs.declared.fault.Fault.{Fault}
+use Rattle.tv_model.specs.Faults.{faults_of}
+use Rattle.tv_model.specs.Log.LogText.{line_of, bytes_of}
+use Rattle.tv_words.specs.Canonical.{ended_line}
+use Rattle.tv_lang.specs.Reading.Descriptions as readings
+use Rattle.tv_lang.specs.Reading.Descriptions.{Reading, reading_of}
+use Rattle.tv_script.specs.declared.script_text.ScriptFault.{ScriptFault}
+use Rattle.tv_script.specs.Reading.Scripts.{script_of}
+use Rattle.tv_model.specs.declared.script.Item.{Item}
+use Rattle.tv_model.specs.declared.desc.Desc.{Desc}
+use Rattle.tv_model.specs.Description.Numbers.{natural}
+use Rattle.tv_machine.specs.Run.{Session, started}
+use Rattle.tv_machine.specs.Output.{output, after, screen_cell, hex_byte}
+
+-- one name to unfold where a text is computed
+unfoldable pub written : Unit {0}
+unfolding line_of ended_line digits encode_utf8 chars is_utf8 widths
+written = tt
+
+-- lines, each with its line end
+abbrev pub text : List String → List ℕ
+text lines = flat_map (λ line. bytes_of (codes line) ++ 10 ∷ []) lines
+
+-- the session after a script that was read, if one was
+abbrev pub after_script : Desc → Result (List Item) ScriptFault → Option Session
+after_script d (Ok script) = Some (after (started d) script)
+after_script d (Err fault) = None
+
+-- what a script writes that was read, if one was
+abbrev pub script_output : Desc → Result (List Item) ScriptFault → Option (List ℕ)
+script_output d (Ok script) = Some (output (started d) script)
+script_output d (Err fault) = None
+
+-- the script of a text for the screen of a description
+abbrev pub read_script : Desc → List ℕ → Result (List Item) ScriptFault
+read_script d script = script_of (natural d.width) (natural d.height) script
+
+-- what a script writes for the description that was read, if one was
+abbrev pub run_read : Reading → List ℕ → Option (List ℕ)
+run_read (readings.Value d) script = script_output d (read_script d script)
+run_read (readings.Fault line) script = None
+run_read readings.Other script = None
+
+-- what a script writes for the description of a text
+abbrev pub run_text : List ℕ → List ℕ → Option (List ℕ)
+run_text description script = run_read (reading_of description) script
+
+-- the lines of a script write these lines for the description of these lines
+abbrev pub Writes : List String → List String → List String → Type 0
+Writes description script lines = run_text (text description) (text script) ≡ Some (text lines)
+
+-- ---- the screen after a script
+
+-- the session after a script for the description that was read, if one was
+abbrev pub after_read : Reading → List ℕ → Option Session
+after_read (readings.Value d) script = after_script d (read_script d script)
+after_read (readings.Fault line) script = None
+after_read readings.Other script = None
+
+-- so many cells of a row from a column on, each by its text
+abbrev pub cells_of : (Glyph → List ℕ) → ℕ → ℕ → ℕ → Session → List ℕ
+cells_of cell row first count s = flat_map (λ column. cell (screen_cell s column row)) (range_with_len first count)
+
+-- so many cells of a row from a column on have these characters after the script
+abbrev pub ShowsCharacters : List String → List String → (row first count : ℕ) → String → Type 0
+ShowsCharacters description script row first count shown =
+    option_map (cells_of (λ cell. encode_utf8 cell.ch) row first count) (after_read (reading_of (text description)) (text script)) ≡ Some (codes shown)
+
+-- and these attributes, two digits each
+abbrev pub ShowsColours : List String → List String → (row first count : ℕ) → String → Type 0
+ShowsColours description script row first count shown =
+    option_map (cells_of (λ cell. hex_byte cell.attr) row first count) (after_read (reading_of (text description)) (text script)) ≡ Some (codes shown)
+
+-- ---- faults
+
+-- the faults of the description that was read, if one was
+abbrev pub faults_read : Reading → Option (List Fault)
+faults_read (readings.Value d) = Some (faults_of d)
+faults_read (readings.Fault line) = None
+faults_read readings.Other = None
+
+-- a description has just these faults
+abbrev pub HasFaults : List String → List Fault → Type 0
+HasFaults description found = faults_read (reading_of (text description)) ≡ Some found
