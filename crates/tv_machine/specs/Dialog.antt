@@ -18,3 +18,5 @@ pub mod Mouse
 pub mod Step
 -- how a dialog opens
 pub mod Opening
+-- what a dialog has that is spelled and sound
+pub mod Lawful

@@ -1,5 +1,11 @@
 //! Commands as descriptions name them.
 
+ghost use Rattle.std.specs.Prelude.{◌≡◌, Some};
+ghost use Rattle.tv_model.specs.Description.Commands.{command_number};
+ghost use Rattle.tv_model.specs.Description.LawfulNodes.{IsLawfulCommand};
+
+use tv_event::Command;
+
 /// A command as a description names it: by a word, or by a number, which is to be 100 to 255.
 #[derive(Clone, Copy, Debug, PartialEq, Eq, Hash)]
 pub enum CommandSpec {
@@ -12,6 +18,26 @@ pub enum CommandSpec {
     Yes,
     No,
     Number(i32),
+}
+
+impl CommandSpec {
+    /// The command that is named. A number is to be 100 to 255, as in sound descriptions.
+    pub fn command(&self) -> Command
+        requires { IsLawfulCommand (Some self.now) }
+        ensures { result.0 ≡ command_number self.now }
+    {
+        match self {
+            CommandSpec::Quit => Command::QUIT,
+            CommandSpec::Menu => Command::MENU,
+            CommandSpec::Close => Command::CLOSE,
+            CommandSpec::Next => Command::NEXT,
+            CommandSpec::Ok => Command::OK,
+            CommandSpec::Cancel => Command::CANCEL,
+            CommandSpec::Yes => Command::YES,
+            CommandSpec::No => Command::NO,
+            CommandSpec::Number(number) => Command(*number as u8),
+        }
+    }
 }
 
 /// The commands by which a dialog may end.

@@ -129,6 +129,28 @@ pub struct Pane {
     pub h: i32,
 }
 
+impl MarkedText {
+    ghost use Rattle.tv_model.specs.Description.Letters.{letter_of, marks};
+
+    /// The letter that it marks, in upper case.
+    pub fn letter(&self) -> Option<char>
+        ensures { result ≡ letter_of self.now }
+    {
+        let letter = self.text.as_slice().get(self.mark?)?;
+        Some(letter.to_ascii_uppercase())
+    }
+
+    /// Whether it marks the letter, which is to be in upper case.
+    pub fn marks(&self, letter: char) -> bool
+        ensures { result ≡ marks letter self.now }
+    {
+        match self.letter() {
+            Some(other) => other == letter,
+            None => false,
+        }
+    }
+}
+
 impl Kind {
     /// The name that the declaration gives; static texts and labels have none.
     pub fn name(&self) -> Option<&Chars>
