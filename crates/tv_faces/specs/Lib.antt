@@ -1,1 +1,4 @@
+pub mod Choices
+pub mod Inputs
+pub mod Labels
 pub mod Looks

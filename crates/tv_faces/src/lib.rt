@@ -3,7 +3,11 @@
 
 mod background;
 mod button;
+mod cluster;
 mod frame;
+mod input;
+mod label;
+mod list;
 mod look;
 mod pieced_text;
 mod place;
@@ -12,7 +16,11 @@ mod static_text;
 
 pub use background::{Background, EmptyBar};
 pub use button::ButtonFace;
+pub use cluster::{ClusterFace, ClusterMarks};
 pub use frame::Frame;
+pub use input::{InputColours, InputFace, first_shown};
+pub use label::LabelFace;
+pub use list::ListFace;
 pub use look::{ButtonLook, FrameLook};
 pub use pieced_text::{PiecedFace, PiecedText};
 pub use place::{natural, rect_at};

@@ -1,0 +1,36 @@
+-- How the faces of clusters and lists name what the definitions of faces speak of.
+use Rattle.std.specs.Prelude.{ℕ, ◌&&◌, Option, Some, slice_get, ◌+◌, ◌==◌}
+use Rattle.tv_cells.specs.Glyph.{shown}
+use Rattle.tv_faces.specs.declared.cluster.ClusterFace.{ClusterFace}
+use Rattle.tv_faces.specs.declared.cluster.ClusterMarks.{ClusterMarks}
+use Rattle.tv_faces.specs.declared.cluster.ClusterMarks.TheVariants as marks
+use Rattle.tv_faces.specs.declared.list.ListFace.{ListFace}
+use Rattle.tv_machine.specs.Controls.Contents.{text_at}
+use Rattle.tv_machine.specs.Dialog.Rules.{is_marked}
+use Rattle.tv_machine.specs.Screen.LeafFaces.{cluster_row, list_role}
+use Rattle.tv_model.specs.Controls.ClusterTable.{ClusterKind, Boxes, Radios}
+use Rattle.tv_model.specs.Screen.Faces.{FaceOf, text_row}
+use Rattle.tv_model.specs.declared.record.Value.{Value}
+use Rattle.tv_model.specs.declared.record.Value.TheVariants as values
+use Rattle.tv_palette.specs.Palettes.{colour_in}
+use Rattle.tv_palette.specs.declared.role.Role.TheVariants as roles
+
+-- which cluster has such marks
+abbrev pub kind_of : ClusterMarks → ClusterKind
+kind_of (marks.Boxes boxes) = Boxes
+kind_of marks.Radios = Radios
+
+-- the value of a cluster with such marks, where the item is the selected one
+abbrev pub value_of : ClusterMarks → ℕ → Option Value
+value_of (marks.Boxes boxes) selected = Some (values.Marks boxes)
+value_of marks.Radios selected = Some (values.Item selected)
+
+-- an item a row
+abbrev pub cluster_cells : ClusterFace → FaceOf
+cluster_cells f x y =
+    cluster_row (colour_in f.chain.now) (kind_of f.marks) (f.is_focused && (f.selected == y + 1)) (is_marked (value_of f.marks f.selected) (y + 1)) (slice_get f.items.now y) x
+
+-- an item a row, from that of the top row on
+abbrev pub list_cells : ListFace → FaceOf
+list_cells f x y =
+    shown (text_row (text_at f.items.now (f.top + y)) x) (colour_in f.chain.now (roles.List (list_role f.is_focused (f.chosen == f.top + y))))

@@ -1,0 +1,36 @@
+-- The cells of an input line, and their attributes.
+use Rattle.std.specs.Prelude.{ℕ, Bool, false, List}
+use Rattle.tv_cells.specs.Glyph.{shown}
+use Rattle.tv_palette.specs.Palettes.{colour_in}
+use Rattle.tv_palette.specs.declared.role.InputRole.{InputRole}
+use Rattle.tv_palette.specs.declared.role.InputRole.TheVariants as input
+use Rattle.tv_palette.specs.declared.role.Role.TheVariants as roles
+use Rattle.tv_model.specs.Controls.InputTable.{Edit}
+use Rattle.tv_model.specs.Screen.Faces.{FaceOf}
+use Rattle.tv_machine.specs.Screen.LeafFaces.{input_cell}
+use Rattle.tv_faces.specs.declared.input.InputColours.{InputColours}
+
+-- the attributes to which a chain leads
+abbrev pub colours_of : List (List ℕ) → InputColours
+colours_of chain = record {
+  normal = colour_in chain (roles.Input input.Normal);
+  selected = colour_in chain (roles.Input input.SelectedText);
+  arrow = colour_in chain (roles.Input input.Arrow);
+  cursor = colour_in chain (roles.Input input.Cursor);
+}
+
+-- the attribute of a role
+abbrev pub attr_of : InputColours → InputRole → ℕ
+attr_of colours input.Normal = colours.normal
+attr_of colours input.SelectedText = colours.selected
+attr_of colours input.Arrow = colours.arrow
+attr_of colours input.Cursor = colours.cursor
+
+-- what is shown of an edit
+abbrev pub seen_edit : List ℕ → ℕ → Bool → Edit
+seen_edit text cursor is_whole = record { text = text; cursor = cursor; is_whole = is_whole; overwrites = false }
+
+-- the text round the cursor
+abbrev pub input_cells : InputColours → ℕ → Bool → Edit → FaceOf
+input_cells colours width is_focused e x y =
+    shown (input_cell width is_focused e x).ch (attr_of colours (input_cell width is_focused e x).role)

@@ -1,0 +1,44 @@
+//! Labels.
+
+ghost use Rattle.std.specs.Prelude.{◌≡◌};
+ghost use Rattle.tv_faces.specs.Labels.{is_mark};
+
+use crate::row::text_char;
+use tv_cells::{Cell, Face};
+
+/// A label of a dialog.
+#[derive(Clone, Copy)]
+pub struct LabelFace<'a> {
+    pub text: &'a [char],
+    pub mark: Option<usize>,
+    /// The attribute of the marked letter.
+    pub letter: u8,
+    /// The attribute of all other cells.
+    pub rest: u8,
+}
+
+fn is_mark(mark: Option<usize>, x: usize) -> bool
+    ensures { result ≡ is_mark mark x }
+{
+    match mark {
+        Some(place) => x == place,
+        None => false,
+    }
+}
+
+impl Face for LabelFace<'_> {
+    ghost use Rattle.tv_faces.specs.Labels.{label_cells};
+
+    ghost face = { λ f. label_cells f.text.now f.mark f.letter f.rest };
+
+    fn at(&self, x: u32, y: u32) -> Cell {
+        let _row = y;
+        let x = x as usize;
+        let attr = if is_mark(self.mark, x) {
+            self.letter
+        } else {
+            self.rest
+        };
+        Cell::shown(text_char(self.text, x), attr)
+    }
+}
