@@ -1,2 +1,4 @@
 pub mod LayingLemmas
 pub mod PassLemmas
+pub mod SameLayerLemmas
+pub mod FrameLayerLemmas

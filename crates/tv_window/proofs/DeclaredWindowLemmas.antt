@@ -4,11 +4,10 @@ use Rattle.std.proofs.lemmas.Grind.{flat_map-append}
 use Rattle.std.proofs.lemmas.Int.{ints}
 use Rattle.std.proofs.lemmas.List.{reverse-append}
 use Rattle.std.proofs.lemmas.List.Elements.{All-head, All-tail}
-use Rattle.tv_cells.specs.Canvas.{Covers, aside, sub}
+use Rattle.tv_cells.specs.Canvas.{Covers, sub}
 use Rattle.tv_cells.specs.Glyph.{Glyph}
-use Rattle.tv_cells.specs.Layers.{Layer, Painted, Shadow}
+use Rattle.tv_cells.specs.Layers.{Layer, Painted}
 use Rattle.tv_cells.specs.Rectangle.{IsIn, cut, shifted, sized}
-use Rattle.tv_cells.specs.declared.rect.Rect.{Rect}
 use Rattle.tv_cells.specs.declared.canvas.Canvas.{Canvas}
 use Rattle.tv_cells.proofs.RectangleLemmas.{in_cut, point_is}
 use Rattle.tv_model.specs.Screen.Faces.{FaceOf, frame_look, frame_role, static_text, text_face}
@@ -31,59 +30,13 @@ use Rattle.tv_view.specs.Colours.{colour}
 use Rattle.tv_view.specs.Drawing.{leaf_layers}
 use Rattle.tv_group.proofs.FreshLeafLemmas.{fresh_layers}
 use Rattle.tv_window.specs.DeclaredWindows.{IsOfWindow, IsTextInside, desktop_canvas}
-use Rattle.tv_window.proofs.SameLayerLemmas.{IsSame, covers_sub, painted_same, resized, same_append, same_refl, shadow_same, sub_covers, unsized}
+use Rattle.tv_view.proofs.FrameLayerLemmas.{bounds, inner}
+use Rattle.tv_view.proofs.SameLayerLemmas.{IsSame, covers_sub, painted_same, resized, same_append, same_refl, sub_covers, unsized}
 
 module _ (d : Desc) (x y w h : ℤ) where
-  abbrev pub bounds : Rect
-  bounds = rect x y w h
-
-  abbrev pub corner : Canvas
-  corner = canvas_at (desktop d) x y
-
-  -- the canvas of the window, and of the body that fills it
-  abbrev pub inner : Canvas
-  inner = sub (desktop_canvas d) bounds
-
+  -- the canvas of the body, which fills the window
   abbrev pub body : Canvas
-  body = sub inner (rect (pos 0) (pos 0) w h)
-
-  -- ---- the frame and the shadow
-
-  pub frame_same : (face other : ℕ → ℕ → Glyph) → face ≡ other → IsSame (Painted inner (natural w) (natural h) face ∷ []) (Painted corner (natural w) (natural h) other ∷ [])
-  frame_same face other same =
-      painted_same inner corner (natural w) (natural h) face other
-      (point_is (x +ℤ pos 0) (y +ℤ pos 0) x y (omega (arith, ints)) (omega (arith, ints))) same
-      (λ column row i.
-      let c = covers_sub (desktop_canvas d) x y w h column row i in
-      record { clip = c.clip; rect = resized x y w h (desktop_canvas d).origin corner.origin (omega (arith, ints)) (omega (arith, ints)) (pos column) (pos row) c.rect })
-      (λ column row i. sub_covers (desktop_canvas d) x y w h column row
-      (record { clip = i.clip; rect = unsized x y w h (desktop_canvas d).origin corner.origin (omega (arith, ints)) (omega (arith, ints)) (pos column) (pos row) i.rect }))
-
-  pub shadows_same : IsSame (Shadow (desktop_canvas d) bounds ∷ []) (Shadow corner (sized (natural w) (natural h)) ∷ [])
-  shadows_same =
-      shadow_same (desktop_canvas d) corner bounds (sized (natural w) (natural h))
-      (λ column row i. record { clip = i.clip; rect = aside_in column row (resized_at (pos column -ℤ pos 2) (pos row -ℤ pos 1) (back_from column row i.rect)) })
-      (λ column row i. record { clip = i.clip; rect = aside_out column row (unsized_at (pos column -ℤ pos 2) (pos row -ℤ pos 1) (back_sized column row i.rect)) })
-      (λ column row i. resized_at (pos column) (pos row) i)
-      (λ column row i. unsized_at (pos column) (pos row) i)
-    where
-      resized_at : (p q : ℤ) → IsIn (shifted bounds (desktop_canvas d).origin) p q → IsIn (shifted (sized (natural w) (natural h)) corner.origin) p q
-      resized_at p q i = resized x y w h (desktop_canvas d).origin corner.origin (omega (arith, ints)) (omega (arith, ints)) p q i
-
-      unsized_at : (p q : ℤ) → IsIn (shifted (sized (natural w) (natural h)) corner.origin) p q → IsIn (shifted bounds (desktop_canvas d).origin) p q
-      unsized_at p q i = unsized x y w h (desktop_canvas d).origin corner.origin (omega (arith, ints)) (omega (arith, ints)) p q i
-
-      back_from : (column row : ℕ) → IsIn (shifted (shifted bounds aside) (desktop_canvas d).origin) (pos column) (pos row) → IsIn (shifted bounds (desktop_canvas d).origin) (pos column -ℤ pos 2) (pos row -ℤ pos 1)
-      back_from column row i = record { after_left = omega (arith, ints, i.after_left); before_right = omega (arith, ints, i.before_right); after_top = omega (arith, ints, i.after_top); before_bottom = omega (arith, ints, i.before_bottom) }
-
-      aside_out : (column row : ℕ) → IsIn (shifted bounds (desktop_canvas d).origin) (pos column -ℤ pos 2) (pos row -ℤ pos 1) → IsIn (shifted (shifted bounds aside) (desktop_canvas d).origin) (pos column) (pos row)
-      aside_out column row i = record { after_left = omega (arith, ints, i.after_left); before_right = omega (arith, ints, i.before_right); after_top = omega (arith, ints, i.after_top); before_bottom = omega (arith, ints, i.before_bottom) }
-
-      back_sized : (column row : ℕ) → IsIn (shifted (shifted (sized (natural w) (natural h)) aside) corner.origin) (pos column) (pos row) → IsIn (shifted (sized (natural w) (natural h)) corner.origin) (pos column -ℤ pos 2) (pos row -ℤ pos 1)
-      back_sized column row i = record { after_left = omega (arith, ints, i.after_left); before_right = omega (arith, ints, i.before_right); after_top = omega (arith, ints, i.after_top); before_bottom = omega (arith, ints, i.before_bottom) }
-
-      aside_in : (column row : ℕ) → IsIn (shifted (sized (natural w) (natural h)) corner.origin) (pos column -ℤ pos 2) (pos row -ℤ pos 1) → IsIn (shifted (shifted (sized (natural w) (natural h)) aside) corner.origin) (pos column) (pos row)
-      aside_in column row i = record { after_left = omega (arith, ints, i.after_left); before_right = omega (arith, ints, i.before_right); after_top = omega (arith, ints, i.after_top); before_bottom = omega (arith, ints, i.before_bottom) }
+  body = sub (inner d x y w h) (rect (pos 0) (pos 0) w h)
 
   -- ---- a static text inside the frame
 
@@ -94,9 +47,9 @@ module _ (d : Desc) (x y w h : ℤ) where
     text_to : (column row : ℕ) → Covers (sub body (rect nx ny nw nh)) (sized (natural nw) (natural nh)) column row → Covers leaf (sized (natural nw) (natural nh)) column row
     text_to column row i =
         let c = covers_sub body nx ny nw nh column row i in
-        let outer = (in_cut (cut (desktop d) (shifted bounds (desktop_canvas d).origin)) (shifted (rect (pos 0) (pos 0) w h) inner.origin) (pos column) (pos row)).0 c.clip in
+        let outer = (in_cut (cut (desktop d) (shifted (bounds d x y w h) (desktop_canvas d).origin)) (shifted (rect (pos 0) (pos 0) w h) (inner d x y w h).origin) (pos column) (pos row)).0 c.clip in
         record {
-          clip = ((in_cut (desktop d) (shifted bounds (desktop_canvas d).origin) (pos column) (pos row)).0 outer.0).0;
+          clip = ((in_cut (desktop d) (shifted (bounds d x y w h) (desktop_canvas d).origin) (pos column) (pos row)).0 outer.0).0;
           rect = resized nx ny nw nh body.origin leaf.origin (omega (arith, ints)) (omega (arith, ints)) (pos column) (pos row) c.rect;
         }
 
@@ -105,8 +58,8 @@ module _ (d : Desc) (x y w h : ℤ) where
         let at = unsized nx ny nw nh body.origin leaf.origin (omega (arith, ints)) (omega (arith, ints)) (pos column) (pos row) i.rect in
         let within = inside (pos column -ℤ x) (pos row -ℤ y) (record { after_left = omega (arith, ints, at.after_left); before_right = omega (arith, ints, at.before_right); after_top = omega (arith, ints, at.after_top); before_bottom = omega (arith, ints, at.before_bottom) }) in
         sub_covers body nx ny nw nh column row (record {
-          clip = (in_cut (cut (desktop d) (shifted bounds (desktop_canvas d).origin)) (shifted (rect (pos 0) (pos 0) w h) inner.origin) (pos column) (pos row)).1 (
-            (in_cut (desktop d) (shifted bounds (desktop_canvas d).origin) (pos column) (pos row)).1 (
+          clip = (in_cut (cut (desktop d) (shifted (bounds d x y w h) (desktop_canvas d).origin)) (shifted (rect (pos 0) (pos 0) w h) (inner d x y w h).origin) (pos column) (pos row)).1 (
+            (in_cut (desktop d) (shifted (bounds d x y w h) (desktop_canvas d).origin) (pos column) (pos row)).1 (
               i.clip,
               record { after_left = omega (arith, ints, within.after_left); before_right = omega (arith, ints, within.before_right); after_top = omega (arith, ints, within.after_top); before_bottom = omega (arith, ints, within.before_bottom) },
             ),

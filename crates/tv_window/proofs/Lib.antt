@@ -1,4 +1,3 @@
 pub mod DeclaredWindowLemmas
-pub mod SameLayerLemmas
 pub mod WindowDrawingLemmas
 pub mod StackLemmas

@@ -39,8 +39,9 @@ use Rattle.tv_window.specs.DeclaredWindows.{AreDeclared, IsOfWindow, IsTextInsid
 use Rattle.tv_window.specs.Head.{KeptHead, bounds_of, declared_head, kept_head}
 use Rattle.tv_window.specs.Window.{body_of, frame_layer, head_of, window_layers}
 use Rattle.tv_window.specs.declared.window.WindowOf.{WindowOf}
-use Rattle.tv_window.proofs.DeclaredWindowLemmas.{body, corner, frame_same, inner, look_same, shadows_same, views_same}
-use Rattle.tv_window.proofs.SameLayerLemmas.{IsSame, lays_same, same_append}
+use Rattle.tv_window.proofs.DeclaredWindowLemmas.{body, look_same, views_same}
+use Rattle.tv_view.proofs.FrameLayerLemmas.{corner, frame_same, inner, shadows_same}
+use Rattle.tv_view.proofs.SameLayerLemmas.{IsSame, lays_same, same_append}
 
 -- ---- what a head says of its node
 

@@ -1,5 +1,5 @@
 -- Layers that show the same over whatever is below them.
-use Rattle.std.proofs.Common.{◌≡◌, ℕ, ℤ, pos, negsuc, ◌+ℤ◌, ◌≤ℤ◌, ◌<ℤ◌, Bool, true, false, not, ◌&&◌, List, [], ◌∷◌, ◌++◌, refl, sym, ap, ◌∙◌, arith}
+use Rattle.std.proofs.Common.{◌≡◌, ℕ, ℤ, pos, negsuc, ◌+ℤ◌, ◌≤ℤ◌, ◌<ℤ◌, Bool, true, false, not, ◌&&◌, List, [], ◌∷◌, ◌++◌, map, refl, sym, ap, ◌∙◌, arith}
 use Rattle.std.specs.Prelude.{if◌then◌else◌}
 use Rattle.std.proofs.lemmas.Int.{ints}
 use Rattle.tv_cells.specs.Glyph.{Glyph, shaded}
@@ -14,6 +14,7 @@ use Rattle.tv_cells.proofs.LayerLemmas.{is_in_true, is_in_false, covers_true, co
 use Rattle.tv_cells.proofs.RectangleLemmas.{in_cut}
 use Rattle.tv_model.specs.Description.Rectangles.{rect}
 use Rattle.tv_model.specs.Description.Numbers.{natural}
+use Rattle.tv_model.specs.Screen.Faces.{FaceOf}
 use Rattle.tv_view.specs.Drawing.{Lays}
 
 -- ---- lists of layers
@@ -132,3 +133,13 @@ module _ (c : Canvas) (x y w h : ℤ) (column row : ℕ) where
     clip = (in_cut c.clip (shifted (rect x y w h) c.origin) (pos column) (pos row)).1 (i.clip, i.rect);
     rect = resized x y w h c.origin (sub c (rect x y w h)).origin refl refl (pos column) (pos row) i.rect;
   }
+
+-- faces of one size, one over the other, through two canvases
+pub faces_same : (c d : Canvas) (width height : ℕ) (faces : List FaceOf) → c.origin ≡ d.origin
+    → ((column row : ℕ) → Covers c (sized width height) column row → Covers d (sized width height) column row)
+    → ((column row : ℕ) → Covers d (sized width height) column row → Covers c (sized width height) column row)
+    → IsSame (map (Painted c width height) faces) (map (Painted d width height) faces)
+faces_same c d width height [] origin to back = same_refl []
+faces_same c d width height (face ∷ faces) origin to back =
+    same_append (Painted c width height face ∷ []) (Painted d width height face ∷ []) (map (Painted c width height) faces) (map (Painted d width height) faces)
+    (painted_same c d width height face face origin refl to back) (faces_same c d width height faces origin to back)
