@@ -17,18 +17,18 @@ append_nil (x ∷ xs) = ap (λ t. x ∷ t) (append_nil xs)
 add_suc : (k n : ℕ) → (k + 1) + n ≡ k + suc n
 add_suc k n = omega arith
 
-joined-append : (current : Option ℕ) (k : ℕ) (xs ys : List (List Placed)) → joined current k (xs ++ ys) ≡ joined current k xs ++ joined current (k + length xs) ys
+pub joined-append : (current : Option ℕ) (k : ℕ) (xs ys : List (List Placed)) → joined current k (xs ++ ys) ≡ joined current k xs ++ joined current (k + length xs) ys
 joined-append current k [] ys = ap (λ n. joined current n ys) (let e : k ≡ k + 0 = omega arith in e)
 joined-append current k (x ∷ xs) ys =
     ap (λ t. kept (is_at current k) x ++ t) (joined-append current (k + 1) xs ys)
     ∙ ap (λ n. kept (is_at current k) x ++ (joined current (k + 1) xs ++ joined current n ys)) (add_suc k (length xs))
     ∙ sym (append_assoc (kept (is_at current k) x) (joined current (k + 1) xs) (joined current (k + suc (length xs)) ys))
 
-map_snoc : {A B : Type 0} (f : A → B) (xs : List A) (y : A) → map f (xs ++ (y ∷ [])) ≡ map f xs ++ (f y ∷ [])
+pub map_snoc : {A B : Type 0} (f : A → B) (xs : List A) (y : A) → map f (xs ++ (y ∷ [])) ≡ map f xs ++ (f y ∷ [])
 map_snoc f [] y = refl
 map_snoc f (x ∷ xs) y = ap (λ t. f x ∷ t) (map_snoc f xs y)
 
-length_map : {A B : Type 0} (f : A → B) (xs : List A) → length (map f xs) ≡ length xs
+pub length_map : {A B : Type 0} (f : A → B) (xs : List A) → length (map f xs) ≡ length xs
 length_map f [] = refl
 length_map f (x ∷ xs) = ap suc (length_map f xs)
 
@@ -72,7 +72,7 @@ module _ {V : Type 0} (look : V → Leaf) where
   unfolding opened_to
   opened_to-none current ms = refl
 
-  opened_to-next : (current : Option ℕ) (i : ℕ) (ms : List (MemberOf V)) (m : MemberOf V) → i < length ms
+  pub opened_to-next : (current : Option ℕ) (i : ℕ) (ms : List (MemberOf V)) (m : MemberOf V) → i < length ms
       → opened_to current (i + 1) (set ms i m) ≡ opened_to current i ms ++ kept (is_at current i) (opened_member look m)
   unfolding opened_to
   opened_to-next current i ms m h =

@@ -1,3 +1,7 @@
+pub mod Calls
 pub mod Current
+pub mod Handling
 pub mod Opened
 pub mod Outline
+pub mod Searching
+pub mod Turns

@@ -1,9 +1,16 @@
 //! Groups of views: a group means its leaves, opened out.
 #![tactic(auto)]
 
+mod ask;
 mod bounds;
 mod draw;
+mod each;
+mod focus;
 mod fresh;
 mod group;
+mod handle;
+mod search;
+mod values;
 
+pub use focus::{Advanced, Dir};
 pub use group::{Group, GroupOf, Member, MemberOf, TooDeep};

@@ -1,0 +1,77 @@
+use Rattle.std.proofs.Common.{rules, arith, ◌≡◌, ◌<◌, ◌≤◌, length, ap, sym, ◌∙◌}
+use Rattle.tv_view.specs.Calls.{focused_to, takes_focus}
+use Rattle.tv_group.specs.Calls.{all_focused, has_control}
+use Rattle.tv_group.specs.Opened.{opened}
+use Rattle.tv_group.specs.declared.group.MemberOf.TheVariants.{outs-Leaf, outs-Pane}
+use Rattle.tv_group.proofs.FocusLemmas.{focusing-none, focusing-next, focusing-found, focusing-all, has_control-alone, leaf-left}
+use Rattle.tv_group.proofs.FocusLemmas.{leaf-moved, pane-left, pane-moved}
+use Rattle.tv_group.proofs.OpenedLemmas.{member-leaf, member-pane, opened_member-leaf}
+use Rattle.tv_group.proofs.group.+focus_to.Goals as goal
+
+pub GroupOf::focus_to-loop-i-init : goal.GroupOf::focus_to-loop-i-init
+GroupOf::focus_to-loop-i-init g t c =
+    let at = c.deref_mut-member-items in
+    record { unvisited = search rules; focusing = focusing-none g.V.View.meaning c.args.id c.args.self.now at.result.now at.ensures.value }
+
+pub GroupOf::focus_to-loop-i-preserved : goal.GroupOf::focus_to-loop-i-preserved
+GroupOf::focus_to-loop-i-preserved g t c =
+    let s = c.args.self.now in let p = c.loop-i in let at = c.deref_mut-member-items in let f = c.focus_to-has in
+    let h : p.i < length p.member-items = omega arith in
+    let same : length p.member-items ≡ length s.members.items = p.auto.member-items ∙ ap length at.ensures.value in
+    record {
+      unvisited = search rules;
+      focusing = rw (c.or-current.ensures, c.then_some.ensures)
+          (focusing-next g.V.View.meaning c.args.id s p.current f.result p.i p.member-items c.member-item.result f.new.self h same
+          f.ensures.found f.ensures.left f.ensures.moved p.invariant.focusing);
+    }
+
+pub GroupOf::focus_to-returns-clause-found : goal.GroupOf::focus_to-returns-clause-found
+GroupOf::focus_to-returns-clause-found g t c =
+    let s = c.args.self.now in let p = c.loop-i in let at = c.deref_mut-member-items in
+    let h : length s.members.items ≤ p.i = omega (arith, ap length at.ensures.value) in
+    c.is_some.ensures ∙ focusing-found g.V.View.meaning c.args.id s p.current p.i p.member-items h p.invariant.focusing
+
+pub GroupOf::focus_to-returns-clause-leaves : goal.GroupOf::focus_to-returns-clause-leaves
+GroupOf::focus_to-returns-clause-leaves g t c =
+    let s = c.args.self.now in let p = c.loop-i in let at = c.deref_mut-member-items in
+    let h : length p.member-items ≤ p.i = omega arith in
+    let same : length p.member-items ≡ length s.members.items = p.auto.member-items ∙ ap length at.ensures.value in
+    focusing-all g.V.View.meaning c.args.id s p.current p.i p.member-items h same p.invariant.focusing
+
+pub MemberOf::focus_to-returns-in-Leaf-clause-found : goal.MemberOf::focus_to-returns-in-Leaf-clause-found
+MemberOf::focus_to-returns-in-Leaf-clause-found g t c =
+    let look = g.V.View.meaning in let id = c.args.id in
+    c.focus_to.ensures.found ∙ ap (λ v. takes_focus id (look v)) c.in-Leaf.view-is
+    ∙ sym (ap (has_control id) (member-leaf look c.args.self.now c.in-Leaf.view c.in-Leaf.is) ∙ has_control-alone id (look c.in-Leaf.view))
+
+pub MemberOf::focus_to-returns-in-Leaf-clause-left : goal.MemberOf::focus_to-returns-in-Leaf-clause-left
+MemberOf::focus_to-returns-in-Leaf-clause-left g t c =
+    let look = g.V.View.meaning in let v = c.in-Leaf.view in let w = c.focus_to.new.self in
+    let told = c.focus_to.ensures.moved ∙ ap (λ x. focused_to c.args.id (look x)) c.in-Leaf.view-is in
+    rw (c.in-Leaf.is, outs-Leaf c.in-Leaf.view, opened_member-leaf look v, opened_member-leaf look w)
+    (leaf-left c.args.id (look v) (look w) told)
+
+pub MemberOf::focus_to-returns-in-Leaf-clause-moved : goal.MemberOf::focus_to-returns-in-Leaf-clause-moved
+MemberOf::focus_to-returns-in-Leaf-clause-moved g t c =
+    let look = g.V.View.meaning in let v = c.in-Leaf.view in let w = c.focus_to.new.self in
+    let told = c.focus_to.ensures.moved ∙ ap (λ x. focused_to c.args.id (look x)) c.in-Leaf.view-is in
+    rw (c.in-Leaf.is, outs-Leaf c.in-Leaf.view, opened_member-leaf look v, opened_member-leaf look w)
+    (leaf-moved c.args.id (look v) (look w) told)
+
+pub MemberOf::focus_to-returns-in-Pane-clause-found : goal.MemberOf::focus_to-returns-in-Pane-clause-found
+MemberOf::focus_to-returns-in-Pane-clause-found g t c =
+    let look = g.V.View.meaning in
+    c.focus_to-in-Pane.ensures.found ∙ ap (λ x. has_control c.args.id (opened look x)) c.in-Pane.group-is
+    ∙ sym (ap (has_control c.args.id) (member-pane look c.args.self.now c.in-Pane.group c.in-Pane.is))
+
+pub MemberOf::focus_to-returns-in-Pane-clause-left : goal.MemberOf::focus_to-returns-in-Pane-clause-left
+MemberOf::focus_to-returns-in-Pane-clause-left g t c =
+    let look = g.V.View.meaning in let h = c.focus_to-in-Pane in
+    let told = h.ensures.leaves ∙ ap (λ x. all_focused c.args.id (opened look x)) c.in-Pane.group-is in
+    rw (c.in-Pane.is, outs-Pane c.in-Pane.group) (pane-left look c.args.id c.in-Pane.group h.new.self told)
+
+pub MemberOf::focus_to-returns-in-Pane-clause-moved : goal.MemberOf::focus_to-returns-in-Pane-clause-moved
+MemberOf::focus_to-returns-in-Pane-clause-moved g t c =
+    let look = g.V.View.meaning in let h = c.focus_to-in-Pane in
+    let told = h.ensures.leaves ∙ ap (λ x. all_focused c.args.id (opened look x)) c.in-Pane.group-is in
+    rw (c.in-Pane.is, outs-Pane c.in-Pane.group) (λ _. pane-moved look c.args.id c.in-Pane.group h.new.self told)

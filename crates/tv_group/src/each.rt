@@ -1,0 +1,81 @@
+//! Calls that change every leaf of a group.
+
+ghost use Rattle.std.specs.Prelude.{◌≡◌, map};
+ghost use Rattle.tv_model.specs.Controls.Meaning.{unmarked};
+ghost use Rattle.tv_group.specs.Opened.{bounds_of, level_of, opened, opened_member};
+ghost use Rattle.tv_group.specs.Calls.{FitsAll, all_applied, all_pressed, all_set};
+
+use crate::group::{GroupOf, MemberOf};
+use tv_model::{Id, Record};
+use tv_view::{Rules, View};
+
+impl<V: View> MemberOf<V> {
+    #[cycle(press_item)]
+    fn press_item(&mut self, id: Id, item: u8)
+        ensures { opened_member V.meaning self.new ≡ all_pressed id item (opened_member V.meaning self.old) }
+    {
+        match self {
+            MemberOf::Leaf(view) => view.press_item(id, item),
+            MemberOf::Pane(group) => group.press_item(id, item),
+        }
+    }
+
+    #[cycle(apply)]
+    fn apply(&mut self, rules: &Rules)
+        ensures { opened_member V.meaning self.new ≡ all_applied rules.now (opened_member V.meaning self.old) }
+    {
+        match self {
+            MemberOf::Leaf(view) => view.apply(rules),
+            MemberOf::Pane(group) => group.apply(rules),
+        }
+    }
+
+    // A leaf by itself is marked, so what it becomes is told without its mark.
+    #[cycle(set)]
+    fn set(&mut self, values: &Record)
+        requires { FitsAll values.now (opened_member V.meaning self.old) }
+        ensures { map unmarked (opened_member V.meaning self.new) ≡ all_set values.now (opened_member V.meaning self.old) }
+    {
+        match self {
+            MemberOf::Leaf(view) => view.set(values),
+            MemberOf::Pane(group) => group.set(values),
+        }
+    }
+}
+
+impl<V: View> GroupOf<V> {
+    /// Selects and presses an item, from 1, of the clusters of the id, where they have it.
+    #[cycle(press_item)]
+    pub fn press_item(&mut self, id: Id, item: u8)
+        ensures leaves { opened V.meaning self.new ≡ all_pressed id item (opened V.meaning self.old) }
+        ensures shape { (bounds_of self.new ≡ bounds_of self.old) × (level_of self.new ≡ level_of self.old) }
+    {
+        for member in self.members.iter_mut() {
+            member.press_item(id, item);
+        }
+    }
+
+    /// Shows or hides, enables or disables the leaves.
+    #[cycle(apply)]
+    pub fn apply(&mut self, rules: &Rules)
+        ensures leaves { opened V.meaning self.new ≡ all_applied rules.now (opened V.meaning self.old) }
+        ensures shape { (bounds_of self.new ≡ bounds_of self.old) × (level_of self.new ≡ level_of self.old) }
+    {
+        for member in self.members.iter_mut() {
+            member.apply(rules);
+        }
+    }
+
+    /// Opens the leaves with their values of the record. No member is current then, in panes neither.
+    #[cycle(set)]
+    pub fn set(&mut self, values: &Record)
+        requires { FitsAll values.now (opened V.meaning self.old) }
+        ensures leaves { opened V.meaning self.new ≡ all_set values.now (opened V.meaning self.old) }
+        ensures shape { (bounds_of self.new ≡ bounds_of self.old) × (level_of self.new ≡ level_of self.old) }
+    {
+        self.current = None;
+        for member in self.members.iter_mut() {
+            member.set(values);
+        }
+    }
+}

@@ -1,0 +1,221 @@
+//! Handing events to the leaves of groups.
+
+ghost use Rattle.std.specs.Prelude.{◌≡◌, ◌∷◌, []};
+ghost use Rattle.tv_cells.specs.Layers.{is_in};
+ghost use Rattle.tv_model.specs.Controls.Meaning.{alone};
+ghost use Rattle.tv_view.specs.Points.{moved_into, point_into};
+ghost use Rattle.tv_group.specs.Handling.{group_after, group_answer, scan_after, scan_answer};
+ghost use Rattle.tv_group.specs.Handling.{has_turn, is_awake, is_hit, is_offered, is_pass};
+ghost use Rattle.tv_group.specs.Current.{is_at};
+ghost use Rattle.tv_group.specs.Opened.{bounds_of, level_of, opened, opened_member};
+ghost use Rattle.tv_group.specs.Turns.{down_after, down_here, is_asked};
+
+use crate::group::{GroupOf, MemberOf};
+use bitflags::Flags;
+use tv_cells::{Point, Rect};
+use tv_event::{Event, Options, Phase, State};
+use tv_view::{Env, Reaction, View};
+
+fn is_pass(reaction: &Reaction) -> bool
+    ensures { result ≡ is_pass reaction.now }
+{
+    matches!(reaction, Reaction::Pass)
+}
+
+fn has_point(bounds: Rect, point: Point) -> bool
+    ensures { result ≡ is_in bounds point.x point.y }
+{
+    bounds.contains(point)
+}
+
+fn point_into(bounds: Rect, point: Point) -> Point
+    ensures { result ≡ point_into bounds point }
+{
+    Point {
+        x: point.x.saturating_sub(bounds.a.x),
+        y: point.y.saturating_sub(bounds.a.y),
+    }
+}
+
+// The event as what stands in a group with these bounds sees it.
+fn moved_into(bounds: Rect, event: &Event) -> Event
+    ensures { result ≡ moved_into bounds event.now }
+{
+    match event {
+        Event::Down(point) => Event::Down(point_into(bounds, *point)),
+        Event::Up(point) => Event::Up(point_into(bounds, *point)),
+        Event::Move(point) => Event::Move(point_into(bounds, *point)),
+        Event::Key(key) => Event::Key(*key),
+        Event::Command(command) => Event::Command(*command),
+        Event::Broadcast(command) => Event::Broadcast(*command),
+    }
+}
+
+fn is_shown<V: View>(view: &V) -> bool
+    ensures { result ≡ (V.meaning view.now).is_shown }
+{
+    view.state().contains(State::VISIBLE)
+}
+
+fn is_enabled<V: View>(view: &V) -> bool
+    ensures { result ≡ (V.meaning view.now).is_enabled }
+{
+    !view.state().contains(State::DISABLED)
+}
+
+fn is_awake<V: View>(view: &V) -> bool
+    ensures { result ≡ is_awake (V.meaning view.now) }
+{
+    is_shown(view) && is_enabled(view)
+}
+
+fn has_turn<V: View>(view: &V, phase: Phase) -> bool
+    ensures { result ≡ has_turn phase (alone (V.meaning view.now)) }
+{
+    match phase {
+        Phase::Pre => view.options().contains(Options::PRE_PROCESS),
+        Phase::Focused => true,
+        Phase::Post => view.options().contains(Options::POST_PROCESS),
+    }
+}
+
+fn is_offered<V: View>(view: &V, event: &Event, phase: Phase) -> bool
+    ensures { result ≡ is_offered event.now phase (alone (V.meaning view.now)) }
+{
+    match event {
+        Event::Key(_) | Event::Command(_) => is_awake(view) && has_turn(view, phase),
+        Event::Move(_) | Event::Up(_) | Event::Broadcast(_) => true,
+        Event::Down(_) => false,
+    }
+}
+
+fn offer<V: View>(view: &mut V, event: &Event, phase: Phase, env: &Env) -> Reaction
+    ensures reaction { result ≡ scan_answer event.now phase env.now (alone (V.meaning view.old) ∷ []) }
+    ensures after { alone (V.meaning view.new) ∷ [] ≡ scan_after event.now phase env.now (alone (V.meaning view.old) ∷ []) }
+{
+    if is_offered(view, event, phase) {
+        view.handle(event, phase, env)
+    } else {
+        Reaction::Pass
+    }
+}
+
+fn is_hit<V: View>(view: &V, point: Point) -> bool
+    ensures { result ≡ is_hit point (alone (V.meaning view.now)) }
+{
+    is_shown(view) && has_point(view.bounds(), point)
+}
+
+// A disabled view keeps a mouse down from those below it.
+fn hit<V: View>(view: &mut V, point: Point, phase: Phase, env: &Env) -> Option<Reaction>
+    ensures reaction { result ≡ down_here point phase env.now (alone (V.meaning view.old) ∷ []) }
+    ensures after { alone (V.meaning view.new) ∷ [] ≡ down_after point phase env.now (alone (V.meaning view.old) ∷ []) }
+{
+    if !is_hit(view, point) {
+        return None;
+    }
+    if is_enabled(view) {
+        Some(view.handle(&Event::Down(point), phase, env))
+    } else {
+        Some(Reaction::Pass)
+    }
+}
+
+fn is_at(current: Option<usize>, i: usize) -> bool
+    ensures { result ≡ is_at current i }
+{
+    match current {
+        Some(k) => k == i,
+        None => false,
+    }
+}
+
+// Keys and commands in the focus go to the current member alone, all else to each.
+fn is_asked(event: &Event, phase: Phase, current: Option<usize>, i: usize) -> bool
+    ensures { result ≡ is_asked event.now phase current i }
+{
+    match (event, phase) {
+        (Event::Key(_) | Event::Command(_), Phase::Focused) => is_at(current, i),
+        _ => true,
+    }
+}
+
+impl<V: View> MemberOf<V> {
+    #[cycle(scan)]
+    fn scan(&mut self, event: &Event, phase: Phase, env: &Env) -> Reaction
+        ensures reaction { result ≡ scan_answer event.now phase env.now (opened_member V.meaning self.old) }
+        ensures after { opened_member V.meaning self.new ≡ scan_after event.now phase env.now (opened_member V.meaning self.old) }
+    {
+        match self {
+            MemberOf::Leaf(view) => offer(view, event, phase, env),
+            MemberOf::Pane(group) => group.scan(event, phase, env),
+        }
+    }
+
+    #[cycle(down)]
+    fn down(&mut self, point: Point, phase: Phase, env: &Env) -> Option<Reaction>
+        ensures reaction { result ≡ down_here point phase env.now (opened_member V.meaning self.old) }
+        ensures after { opened_member V.meaning self.new ≡ down_after point phase env.now (opened_member V.meaning self.old) }
+    {
+        match self {
+            MemberOf::Leaf(view) => hit(view, point, phase, env),
+            MemberOf::Pane(group) => group.down(point, phase, env),
+        }
+    }
+}
+
+impl<V: View> GroupOf<V> {
+    // The leaves in order, until one doesn't pass the event on.
+    #[cycle(scan)]
+    fn scan(&mut self, event: &Event, phase: Phase, env: &Env) -> Reaction
+        ensures reaction { result ≡ scan_answer event.now phase env.now (opened V.meaning self.old) }
+        ensures after { opened V.meaning self.new ≡ scan_after event.now phase env.now (opened V.meaning self.old) }
+        ensures shape { (bounds_of self.new ≡ bounds_of self.old) × (level_of self.new ≡ level_of self.old) }
+    {
+        let current = self.current;
+        let inner = moved_into(self.bounds.rect(), event);
+        for (i, member) in self.members.iter_mut().enumerate() {
+            let asked = is_asked(&inner, phase, current, i);
+            if asked {
+                let reaction = member.scan(&inner, phase, env);
+                if !is_pass(&reaction) {
+                    return reaction;
+                }
+            }
+        }
+        Reaction::Pass
+    }
+
+    // The last of the shown leaves that have the point. `None` where none has it, so that what lies below is looked at.
+    #[cycle(down)]
+    fn down(&mut self, point: Point, phase: Phase, env: &Env) -> Option<Reaction>
+        ensures reaction { result ≡ down_here point phase env.now (opened V.meaning self.old) }
+        ensures after { opened V.meaning self.new ≡ down_after point phase env.now (opened V.meaning self.old) }
+        ensures shape { (bounds_of self.new ≡ bounds_of self.old) × (level_of self.new ≡ level_of self.old) }
+    {
+        let bounds = self.bounds.rect();
+        if !has_point(bounds, point) {
+            return None;
+        }
+        let inner = point_into(bounds, point);
+        for i in (0..self.members.len()).rev() {
+            if let Some(reaction) = self.members[i].down(inner, phase, env) {
+                return Some(reaction);
+            }
+        }
+        None
+    }
+
+    /// Hands an event to its leaves in a phase. A mouse down goes to the topmost shown leaf at the point, and to no other
+    /// where that one is disabled; another event goes from leaf to leaf, until one doesn't pass it on.
+    pub fn handle(&mut self, event: &Event, phase: Phase, env: &Env) -> Reaction
+        ensures reaction { result ≡ group_answer event.now phase env.now (opened V.meaning self.old) }
+        ensures after { opened V.meaning self.new ≡ group_after event.now phase env.now (opened V.meaning self.old) }
+        ensures shape { (bounds_of self.new ≡ bounds_of self.old) × (level_of self.new ≡ level_of self.old) }
+    {
+        match event {
+            Event::Down(point) => self.down(*point, phase, env).unwrap_or(Reaction::Pass),
+            _ => self.scan(event, phase, env),
+        }
+    }
+}
