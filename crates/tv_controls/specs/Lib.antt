@@ -1,1 +1,4 @@
+pub mod Button
+pub mod InputLine
+pub mod Label
 pub mod StaticText

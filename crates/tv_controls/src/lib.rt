@@ -1,8 +1,14 @@
-//! Static texts, labels, buttons and inputs, each of which is its table. So far static texts.
+//! Static texts, labels, buttons and input lines, each of which is its table.
 #![tactic(auto)]
 
-mod fault;
+mod button;
+mod input_line;
+mod label;
+mod line_edit;
 mod static_text;
 
-pub use fault::ControlFault;
+pub use button::Button;
+pub use input_line::InputLine;
+pub use label::Label;
 pub use static_text::StaticText;
+pub use tv_leaf::ControlFault;

@@ -5,13 +5,13 @@ ghost use Rattle.tv_model.specs.Description.Rectangles.{place_of_node};
 ghost use Rattle.tv_model.specs.Controls.Meaning.{IsSmallRect, fresh};
 ghost use Rattle.tv_controls.specs.StaticText.{is_text, text_leaf};
 
-use crate::fault::ControlFault;
 use bitflags::Flags;
 use std::alloc::Global;
 use std::marker::Model;
 use tv_cells::{Canvas, Rect, Screen, lay};
 use tv_event::{Event, Options, Phase, State};
 use tv_faces::{PiecedFace, PiecedText, natural, rect_at};
+use tv_leaf::ControlFault;
 use tv_model::{Id, Kind, Node, Record};
 use tv_palette::Role;
 use tv_valid::Chars;

@@ -14,7 +14,7 @@ pub enum ControlFault {
 
 impl From<AllocError> for ControlFault {
     ghost use Rattle.std.specs.Prelude.{◌≡◌};
-    ghost use Rattle.tv_controls.specs.declared.fault.ControlFault.TheVariants.{NoMemory};
+    ghost use Rattle.tv_leaf.specs.declared.fault.ControlFault.TheVariants.{NoMemory};
 
     ghost from_gives = { λ _ fault. fault ≡ NoMemory };
 

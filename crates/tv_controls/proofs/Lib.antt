@@ -1,0 +1,4 @@
+pub mod ButtonLemmas
+pub mod FaceLemmas
+pub mod InputLemmas
+pub mod LabelLemmas

@@ -1,0 +1,267 @@
+//! Input lines.
+
+ghost use Rattle.std.specs.Prelude.{◌≡◌, ◌↔◌, ◌≤◌, IfOk, IsErrOf, IsTrue, Some, false, if◌then◌else◌, length};
+ghost use Rattle.tv_valid.specs.Asking.{domain_of};
+ghost use Rattle.tv_model.specs.Controls.Meaning.{fresh, holds};
+ghost use Rattle.tv_model.specs.Description.LawfulNodes.{HasAnyText, IsLawfulNode, MayStand};
+ghost use Rattle.tv_model.specs.Log.Record.{value_of};
+ghost use Rattle.tv_model.specs.declared.kind.Input.{Input as Declared};
+ghost use Rattle.tv_model.specs.declared.kind.Kind.TheVariants as kinds;
+ghost use Rattle.tv_cells.specs.declared.rect.Point.{Point};
+ghost use Rattle.tv_view.specs.Calls.{Fits, focused_to, set_from, takes_focus};
+ghost use Rattle.tv_view.specs.Effects.{captured, first_before, keyed, lifted};
+ghost use Rattle.tv_view.specs.Reactions.{answer, captures, down_answer, lifted_answer};
+ghost use Rattle.tv_view.specs.declared.env.Env.{Env as Lent};
+ghost use Rattle.tv_event.specs.declared.event.Event.TheVariants as events;
+ghost use Rattle.tv_controls.specs.InputLine.{asked_by, input_leaf, is_input, is_own_key, text_in};
+
+use crate::line_edit::{LineEdit, is_edit_key};
+use bitflags::Flags;
+use std::alloc::Global;
+use tv_cells::{Canvas, Point, Rect, Screen, lay};
+use tv_event::{Event, Key, Options, Phase, State};
+use tv_faces::{InputColours, InputFace, first_shown, natural};
+use tv_leaf::{ControlFault, LeafCore, column_of, has_focus};
+use tv_model::{Id, Input as Declared, Kind, Node, Record, Value};
+use tv_valid::{Domain, DomainFault, InputSpec, Text};
+use tv_view::{Env, Reaction, Rules, View};
+
+/// An input line: a text is typed in it, as far as its domain lets.
+#[derive(Drop)]
+pub struct InputLine {
+    core: LeafCore,
+    domain: Domain,
+    edit: LineEdit,
+    ghost own_kind: { IsTrue (is_input core.node.kind) },
+    ghost asked: { asked_by core.node.kind ≡ Some domain },
+}
+
+fn domain_of(alloc: Global, spec: &InputSpec) -> Result<Domain, ControlFault>
+    requires { HasAnyText spec.now }
+    ensures made { IfOk result (λ domain. domain_of spec.now ≡ Some domain) }
+    ensures right { IsErrOf result ControlFault.WrongKind → ⊥ }
+{
+    match Domain::new(alloc, spec) {
+        Ok(domain) => Ok(domain),
+        Err(DomainFault::NoMemory) => Err(ControlFault::NoMemory),
+        Err(_) => unreachable!(),
+    }
+}
+
+fn start_of(input: &Declared) -> Text
+    requires { MayStand input.now.start input.now.spec }
+    ensures { result ≡ input.now.start }
+{
+    Text::from_chars(input.start.as_slice()).unwrap()
+}
+
+// The text of a field, where the record has one.
+fn text_in(values: &Record, id: Id) -> Option<Text>
+    ensures { result ≡ text_in (value_of values.now id.0) }
+{
+    match values.value(id)? {
+        Value::Text(text) => Some(text.copy()),
+        Value::Marks(_) | Value::Item(_) => None,
+    }
+}
+
+// Whether it consumes a key.
+fn is_own_key(phase: Phase, key: Key) -> bool
+    ensures { result ≡ is_own_key phase key }
+{
+    match phase {
+        Phase::Focused => is_edit_key(key),
+        _ => false,
+    }
+}
+
+impl InputLine {
+    /// The input line of a node, as sound descriptions have them, with the text that it starts with.
+    ///
+    /// # Errors
+    ///
+    /// `WrongKind` for any other node, `NoMemory` where there is none for its domain and its texts.
+    pub fn new(alloc: Global, node: &Node) -> Result<InputLine, ControlFault>
+        requires { IsLawfulNode node.now }
+        ensures made { IfOk result (λ view. input_leaf view.core view.edit ≡ fresh node.now) }
+        ensures wrong { IsErrOf result ControlFault.WrongKind ↔ (is_input node.now.kind ≡ false) }
+    {
+        match &node.kind {
+            Kind::Input(input) => Ok(InputLine {
+                core: LeafCore::new(alloc, node)?,
+                domain: domain_of(alloc, &input.spec)?,
+                edit: LineEdit::new(start_of(input)),
+            }),
+            _ => Err(ControlFault::WrongKind),
+        }
+    }
+
+    // What its line declares.
+    fn declared(&self) -> &Declared
+        ensures { self.now.core.node.kind ≡ kinds.Input result.now }
+    {
+        match &self.core.node().kind {
+            Kind::Input(input) => input,
+            _ => unreachable!(),
+        }
+    }
+
+    fn key(&mut self, key: Key, phase: Phase) -> Reaction
+        ensures reaction { (env : Lent) → result ≡ answer (events.Key key) phase env (input_leaf self.old.core self.old.edit) }
+        ensures after { input_leaf self.new.core self.new.edit ≡ keyed key phase (input_leaf self.old.core self.old.edit) }
+    {
+        if !is_own_key(phase, key) {
+            return Reaction::Pass;
+        }
+        self.edit.edit(&self.domain, key);
+        Reaction::Done
+    }
+
+    // The first place of the text that was shown when the event came.
+    fn first_before(&self, env: &Env) -> u32
+        ensures value { result ≡ first_before env.now (input_leaf self.now.core self.now.edit) }
+        ensures within { result ≤ length self.now.edit.text }
+    {
+        let cursor = self.edit.cursor();
+        if has_focus(env, self.core.id()) {
+            first_shown(natural(&self.core.node().w), cursor)
+        } else {
+            0
+        }
+    }
+
+    // A mouse down where it is the topmost leaf.
+    fn down(&mut self, point: Point, env: &Env) -> Reaction
+        ensures reaction { result ≡ down_answer env.now (input_leaf self.old.core self.old.edit) }
+        ensures after { input_leaf self.new.core self.new.edit
+            ≡ (if captures (input_leaf self.old.core self.old.edit) self.old.core.node.kind
+            then captured env.now point (input_leaf self.old.core self.old.edit) else input_leaf self.old.core self.old.edit) }
+    {
+        if !self.core.is_focused() {
+            return Reaction::Focus(self.core.id());
+        }
+        let first = self.first_before(env);
+        let column = column_of(self.core.bounds(), point);
+        self.edit.click(first as usize, column);
+        self.core.hold(0);
+        Reaction::Capture(self.core.id())
+    }
+
+    // The mouse goes up.
+    fn up(&mut self) -> Reaction
+        ensures reaction { (point : Point) → result ≡ lifted_answer (input_leaf self.old.core self.old.edit) point self.old.core.held }
+        ensures after { (point : Point) → input_leaf self.new.core self.new.edit
+            ≡ lifted point self.old.core.held (input_leaf self.old.core self.old.edit) }
+    {
+        if !self.core.holds() {
+            return Reaction::Pass;
+        }
+        self.core.release();
+        Reaction::Release
+    }
+
+    // The text of its field in the record.
+    fn open(&mut self, values: &Record)
+        requires { Fits values.now (input_leaf self.old.core self.old.edit) }
+        ensures { input_leaf self.new.core self.new.edit ≡ set_from values.now (input_leaf self.old.core self.old.edit) }
+    {
+        self.core.reset();
+        match text_in(values, self.core.id()) {
+            Some(text) => self.edit.open(text),
+            None => unreachable!(),
+        }
+    }
+}
+
+#[tactic(auto, unfolding(tv_view::specs::Reactions::answer, tv_view::specs::Effects::handled, tv_view::specs::Calls::focused_to, tv_view::specs::Calls::item_pressed, tv_view::specs::Calls::invalid_id, tv_view::specs::Calls::gathered, tv_view::specs::Calls::set_from, tv_view::specs::Calls::applied, tv_view::specs::Drawing::leaf_layers))]
+impl View for InputLine {
+    ghost meaning = { λ line. input_leaf line.core line.edit };
+
+    fn id(&self) -> Id {
+        self.core.id()
+    }
+
+    fn bounds(&self) -> Rect {
+        self.core.bounds()
+    }
+
+    fn state(&self) -> State {
+        self.core.state()
+    }
+
+    fn options(&self) -> Options {
+        let mut options = Options::SELECTABLE;
+        options.insert(Options::FIRST_CLICK);
+        if self.declared().validates {
+            options.insert(Options::VALIDATE);
+        }
+        options
+    }
+
+    fn handle(&mut self, event: &Event, phase: Phase, env: &Env) -> Reaction {
+        match event {
+            Event::Key(key) => self.key(*key, phase),
+            Event::Down(point) => self.down(*point, env),
+            Event::Move(_) if self.core.holds() => Reaction::Done,
+            Event::Up(_) => self.up(),
+            _ => Reaction::Pass,
+        }
+    }
+
+    fn draw(&self, screen: &mut Screen, canvas: Canvas, env: &Env) {
+        if !self.core.is_shown() {
+            return;
+        }
+        let width = natural(&self.core.node().w);
+        let face = InputFace {
+            width,
+            text: self.edit.text().as_slice(),
+            cursor: self.edit.cursor(),
+            is_whole: self.edit.is_whole(),
+            is_focused: has_focus(env, self.core.id()),
+            colours: InputColours::of(env.chain),
+        };
+        lay(screen, canvas.sub(self.core.bounds()), width, 1, &face);
+    }
+
+    fn focus_to(&mut self, id: Id) -> bool {
+        let had_focus = self.core.is_focused();
+        let has_focus = self.core.focus_to(id);
+        if !has_focus {
+            self.edit.leave();
+        } else if !had_focus {
+            self.edit.enter();
+        }
+        has_focus
+    }
+
+    fn press_item(&mut self, _id: Id, _item: u8) {}
+
+    fn held(&self) -> bool {
+        self.core.holds()
+    }
+
+    fn first_invalid(&self) -> Option<Id> {
+        if self.domain.accepts(self.edit.text()) {
+            None
+        } else {
+            Some(self.core.id())
+        }
+    }
+
+    fn get(&self, values: &mut Record) {
+        values.put(self.core.id(), Value::Text(self.edit.text().copy()));
+    }
+
+    fn set(&mut self, values: &Record) {
+        self.open(values);
+    }
+
+    fn apply(&mut self, rules: &Rules) {
+        self.core.apply(rules);
+    }
+
+    fn is_fresh(&self, node: &Node) -> bool {
+        self.core.is_fresh(node) && self.edit.is_start(self.declared().start.as_slice())
+    }
+}

@@ -1,0 +1,234 @@
+//! Labels.
+
+ghost use Rattle.std.specs.Prelude.{◌≡◌, ◌↔◌, IfOk, IsErrOf, IsTrue, None, false, if◌then◌else◌, option_copied};
+ghost use Rattle.tv_model.specs.Description.LawfulNodes.{IsLawfulNode};
+ghost use Rattle.tv_model.specs.Description.Names.{gives_name, meant};
+ghost use Rattle.tv_model.specs.Controls.Meaning.{fresh};
+ghost use Rattle.tv_model.specs.declared.kind.Label.{Label as Declared};
+ghost use Rattle.tv_model.specs.declared.kind.Kind.TheVariants as kinds;
+ghost use Rattle.tv_view.specs.Colours.{is_focus, link_of, linked_by};
+ghost use Rattle.tv_view.specs.Reactions.{answer, called, calls, focus_on};
+ghost use Rattle.tv_view.specs.declared.env.Env.{Env as Lent};
+ghost use Rattle.tv_event.specs.declared.event.Event.TheVariants as events;
+ghost use Rattle.tv_leaf.specs.Core.{plain_leaf};
+ghost use Rattle.tv_controls.specs.Label.{is_label, text_role};
+
+use bitflags::Flags;
+use std::alloc::Global;
+use tv_cells::{Canvas, Rect, Screen, lay};
+use tv_event::{Event, Key, Options, Phase, State};
+use tv_faces::{LabelFace, natural};
+use tv_leaf::{ControlFault, LeafCore, has_focus};
+use tv_model::{Id, Kind, Label as Declared, Node, Record};
+use tv_palette::{LabelRole, Role};
+use tv_valid::Chars;
+use tv_view::{Env, Reaction, Rules, View};
+
+/// A label: its letter and the mouse ask for the focus of the control that it stands for.
+#[derive(Drop)]
+pub struct Label {
+    core: LeafCore,
+    ghost own_kind: { IsTrue (is_label core.node.kind) },
+    ghost unfocused: { core.is_focused ≡ false },
+    ghost free: { core.held ≡ None },
+}
+
+fn is_label(kind: &Kind) -> bool
+    ensures { result ≡ is_label kind.now }
+{
+    matches!(kind, Kind::Label(_))
+}
+
+fn gives_name(node: &Node, name: &Chars) -> bool
+    ensures { result ≡ gives_name name.now node.now }
+{
+    match node.kind.name() {
+        Some(other) => other.as_slice() == name.as_slice(),
+        None => false,
+    }
+}
+
+fn meant<'a>(views: &'a [Node], name: &Chars) -> Option<&'a Node>
+    ensures { option_copied result ≡ meant views.now name.now }
+{
+    views.iter().find(|node| gives_name(node, name))
+}
+
+fn link_of(views: &[Node], name: &Chars) -> Option<Id>
+    ensures { result ≡ link_of views.now name.now }
+{
+    match meant(views, name) {
+        Some(node) => Some(node.id),
+        None => None,
+    }
+}
+
+fn focus_on(link: Option<Id>) -> Reaction
+    ensures { result ≡ focus_on link }
+{
+    match link {
+        Some(id) => Reaction::Focus(id),
+        None => Reaction::Pass,
+    }
+}
+
+fn is_focus(env: &Env, link: Option<Id>) -> bool
+    ensures { result ≡ is_focus env.now link }
+{
+    match link {
+        Some(id) => has_focus(env, id),
+        None => false,
+    }
+}
+
+// The role of the text but for its marked letter.
+fn text_role(is_linked: bool) -> LabelRole
+    ensures { result ≡ text_role is_linked }
+{
+    if is_linked {
+        LabelRole::Focused
+    } else {
+        LabelRole::Normal
+    }
+}
+
+// The letter by which a key calls it.
+fn called(phase: Phase, key: Key) -> Option<char>
+    ensures { result ≡ called phase key }
+{
+    match (phase, key) {
+        (Phase::Pre, Key::Alt(ch)) => Some(ch),
+        (Phase::Post, Key::Char(ch)) => Some(ch),
+        _ => None,
+    }
+}
+
+impl Label {
+    /// The label of a node, as sound descriptions have them.
+    ///
+    /// # Errors
+    ///
+    /// `WrongKind` for any other node, `NoMemory` where there is none for its texts.
+    pub fn new(alloc: Global, node: &Node) -> Result<Label, ControlFault>
+        requires { IsLawfulNode node.now }
+        ensures made { IfOk result (λ view. plain_leaf view.core ≡ fresh node.now) }
+        ensures wrong { IsErrOf result ControlFault.WrongKind ↔ (is_label node.now.kind ≡ false) }
+    {
+        if !is_label(&node.kind) {
+            return Err(ControlFault::WrongKind);
+        }
+        Ok(Label {
+            core: LeafCore::new(alloc, node)?,
+        })
+    }
+
+    // What its line declares.
+    fn declared(&self) -> &Declared
+        ensures { self.now.core.node.kind ≡ kinds.Label result.now }
+    {
+        match &self.core.node().kind {
+            Kind::Label(label) => label,
+            _ => unreachable!(),
+        }
+    }
+
+    // The control that it stands for.
+    fn link(&self, env: &Env) -> Option<Id>
+        ensures { result ≡ linked_by env.now self.now.core.node.kind }
+    {
+        link_of(env.views, &self.declared().link)
+    }
+
+    // Whether a letter calls it, in either case.
+    fn is_called(&self, letter: Option<char>) -> bool
+        ensures { (label : Declared) → self.now.core.node.kind ≡ kinds.Label label → result ≡ calls label.text letter }
+    {
+        match letter {
+            Some(ch) => self.declared().text.marks(ch.to_ascii_uppercase()),
+            None => false,
+        }
+    }
+
+    fn key_answer(&self, key: Key, phase: Phase, env: &Env) -> Reaction
+        ensures { result ≡ answer (events.Key key) phase env.now (plain_leaf self.now.core) }
+    {
+        if self.is_called(called(phase, key)) {
+            focus_on(self.link(env))
+        } else {
+            Reaction::Pass
+        }
+    }
+}
+
+#[tactic(auto, unfolding(tv_view::specs::Reactions::answer, tv_view::specs::Effects::handled, tv_view::specs::Calls::focused_to, tv_view::specs::Calls::item_pressed, tv_view::specs::Calls::invalid_id, tv_view::specs::Calls::gathered, tv_view::specs::Calls::set_from, tv_view::specs::Calls::applied, tv_view::specs::Drawing::leaf_layers))]
+impl View for Label {
+    ghost meaning = { λ label. plain_leaf label.core };
+
+    fn id(&self) -> Id {
+        self.core.id()
+    }
+
+    fn bounds(&self) -> Rect {
+        self.core.bounds()
+    }
+
+    fn state(&self) -> State {
+        self.core.state()
+    }
+
+    fn options(&self) -> Options {
+        let mut options = Options::PRE_PROCESS;
+        options.insert(Options::POST_PROCESS);
+        options
+    }
+
+    fn handle(&mut self, event: &Event, phase: Phase, env: &Env) -> Reaction {
+        match event {
+            Event::Key(key) => self.key_answer(*key, phase, env),
+            Event::Down(_) => focus_on(self.link(env)),
+            _ => Reaction::Pass,
+        }
+    }
+
+    fn draw(&self, screen: &mut Screen, canvas: Canvas, env: &Env) {
+        if !self.core.is_shown() {
+            return;
+        }
+        let text = &self.declared().text;
+        let rest = text_role(is_focus(env, self.link(env)));
+        let face = LabelFace {
+            text: text.text.as_slice(),
+            mark: text.mark,
+            letter: Role::Label(LabelRole::Letter).attr(env.chain),
+            rest: Role::Label(rest).attr(env.chain),
+        };
+        let width = natural(&self.core.node().w);
+        lay(screen, canvas.sub(self.core.bounds()), width, 1, &face);
+    }
+
+    fn focus_to(&mut self, _id: Id) -> bool {
+        false
+    }
+
+    fn press_item(&mut self, _id: Id, _item: u8) {}
+
+    fn held(&self) -> bool {
+        false
+    }
+
+    fn first_invalid(&self) -> Option<Id> {
+        None
+    }
+
+    fn get(&self, _values: &mut Record) {}
+
+    fn set(&mut self, _values: &Record) {}
+
+    fn apply(&mut self, rules: &Rules) {
+        self.core.apply(rules);
+    }
+
+    fn is_fresh(&self, node: &Node) -> bool {
+        self.core.is_fresh(node)
+    }
+}

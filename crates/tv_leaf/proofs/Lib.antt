@@ -1,0 +1,3 @@
+pub mod CoreLemmas
+pub mod PassedLemmas
+pub mod PointLemmas

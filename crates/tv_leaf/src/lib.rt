@@ -1,0 +1,12 @@
+//! What every control keeps: its node, its flags, the focus and the hold of the mouse; and what it asks of what it is lent.
+#![tactic(auto)]
+
+mod fault;
+mod leaf_core;
+mod looks;
+mod points;
+
+pub use fault::ControlFault;
+pub use leaf_core::LeafCore;
+pub use looks::{has_focus, is_default_now};
+pub use points::{column_of, contains, row_of};

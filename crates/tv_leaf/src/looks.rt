@@ -1,0 +1,30 @@
+//! How a control stands by what it is lent.
+
+ghost use Rattle.std.specs.Prelude.{◌≡◌};
+ghost use Rattle.tv_view.specs.Colours.{has_focus, is_default_now, is_id};
+
+use tv_model::Id;
+use tv_view::Env;
+
+fn is_id(other: Option<Id>, id: Id) -> bool
+    ensures { result ≡ is_id other id }
+{
+    match other {
+        Some(other) => other == id,
+        None => false,
+    }
+}
+
+/// Whether the control of the id had the focus when the event came.
+pub fn has_focus(env: &Env, id: Id) -> bool
+    ensures { result ≡ has_focus env.now id }
+{
+    is_id(env.focus, id)
+}
+
+/// Whether Enter presses the button of the id.
+pub fn is_default_now(env: &Env, id: Id) -> bool
+    ensures { result ≡ is_default_now env.now id }
+{
+    is_id(env.default_now, id)
+}
