@@ -1,0 +1,3 @@
+pub mod ClusterLemmas
+pub mod ListLemmas
+pub mod MarkLemmas
