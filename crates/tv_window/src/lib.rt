@@ -1,4 +1,4 @@
-//! Windows: frames round groups of views, one over the other.
+//! Windows and dialogs: frames round groups of views, one over the other.
 #![tactic(auto)]
 
 mod head;
@@ -6,5 +6,6 @@ mod stack;
 mod window;
 
 pub use stack::draw_stack;
+pub use tv_dialog::{Dialog, DialogFault, DialogOf};
 pub use tv_faces::Frame;
 pub use window::{Window, WindowOf, WrongKind};

@@ -1,0 +1,57 @@
+-- The panes that are open at a view, as the code keeps them.
+use Rattle.std.proofs.Common.{◌≡◌, ◌∙◌, ℕ, suc, ◌+◌, ◌<◌, Bool, true, false, List, [], ◌∷◌, ◌++◌, length, get_or, drop, map, refl, sym, ap, add-one, drop-cons, append_assoc, Bor, nat_lt, ◌||◌}
+use Rattle.std.specs.List.{filter, list_any}
+use Rattle.tv_model.specs.declared.node.Node.{Node}
+use Rattle.tv_model.specs.Description.Names.{gives_name}
+use Rattle.tv_model.specs.Description.Nodes.{is_pane}
+use Rattle.tv_machine.specs.Leaves.{PlacedNode, leaves_in, open_at}
+use Rattle.tv_dialog.specs.declared.plan.LeafPlan.{LeafPlan}
+
+-- ---- what references refer to
+
+-- a pane gives the name, where references to the panes are asked
+pub any_now : (name : List ℕ) (panes : List (Bor Node)) → list_any (λ pane. gives_name name pane.now) panes ≡ list_any (gives_name name) (map (λ pane. pane.now) panes)
+any_now name [] = refl
+any_now name (pane ∷ panes) = ap (λ b. gives_name name pane.now || b) (any_now name panes)
+
+kept_now : (b : Bool) (depth : ℕ) (pane : Bor Node) (panes : List (Bor Node)) → nat_lt pane.now.depth depth ≡ b
+    → map (λ pane. pane.now) (filter (λ pane. nat_lt pane.now.depth depth) panes) ≡ open_at depth (map (λ pane. pane.now) panes)
+    → map (λ pane. pane.now) (filter (λ pane. nat_lt pane.now.depth depth) (pane ∷ panes)) ≡ open_at depth (map (λ pane. pane.now) (pane ∷ panes))
+kept_now true depth pane panes e rest = rw e (ap (λ ps. pane.now ∷ ps) rest)
+kept_now false depth pane panes e rest = rw e rest
+
+-- the panes that stay open, where the references to the others were dropped
+pub open_now : (depth : ℕ) (panes : List (Bor Node)) → map (λ pane. pane.now) (filter (λ pane. nat_lt pane.now.depth depth) panes) ≡ open_at depth (map (λ pane. pane.now) panes)
+open_now depth [] = refl
+open_now depth (pane ∷ panes) = kept_now (nat_lt pane.now.depth depth) depth pane panes refl (open_now depth panes)
+
+-- ---- one view more
+
+leaves-pane : (panes : List Node) (view : Node) (views : List Node) → is_pane view.kind ≡ true → leaves_in panes (view ∷ views) ≡ leaves_in (view ∷ open_at view.depth panes) views
+leaves-pane panes view views e = rw e refl
+
+leaves-leaf : (panes : List Node) (view : Node) (views : List Node) → is_pane view.kind ≡ false
+    → leaves_in panes (view ∷ views) ≡ record { node = view; panes = open_at view.depth panes } ∷ leaves_in (open_at view.depth panes) views
+leaves-leaf panes view views e = rw e refl
+
+next_view : (views : List Node) (i : ℕ) (view : Node) → i < length views → view ≡ get_or views i view → drop i views ≡ view ∷ drop (i + 1) views
+next_view views i view less is = rw add-one (drop-cons views i view less ∙ ap (λ v. v ∷ drop (suc i) views) (sym is))
+
+-- past a pane, which is open from there on
+pub past_pane : (plan : PlacedNode → LeafPlan) (leaves whole : List LeafPlan) (panes after views : List Node) (i : ℕ) (view : Node) → i < length views → view ≡ get_or views i view
+    → is_pane view.kind ≡ true → after ≡ view ∷ open_at view.depth panes
+    → leaves ++ map plan (leaves_in panes (drop i views)) ≡ whole → leaves ++ map plan (leaves_in after (drop (i + 1) views)) ≡ whole
+past_pane plan leaves whole panes after views i view less is pane opens so_far =
+    ap (λ ps. leaves ++ map plan (leaves_in ps (drop (i + 1) views))) opens
+    ∙ (ap (λ ls. leaves ++ map plan ls) (sym (ap (leaves_in panes) (next_view views i view less is) ∙ leaves-pane panes view (drop (i + 1) views) pane)) ∙ so_far)
+
+-- past a leaf, which was added to those before it
+pub past_leaf : (plan : PlacedNode → LeafPlan) (leaves added whole : List LeafPlan) (leaf : LeafPlan) (panes after views : List Node) (i : ℕ) (view : Node) → i < length views → view ≡ get_or views i view
+    → is_pane view.kind ≡ false → after ≡ open_at view.depth panes → added ≡ leaves ++ leaf ∷ [] → leaf ≡ plan (record { node = view; panes = open_at view.depth panes })
+    → leaves ++ map plan (leaves_in panes (drop i views)) ≡ whole → added ++ map plan (leaves_in after (drop (i + 1) views)) ≡ whole
+past_leaf plan leaves added whole leaf panes after views i view less is no_pane opens adds planned so_far =
+    let rest : List LeafPlan = map plan (leaves_in (open_at view.depth panes) (drop (i + 1) views)) in
+    let all : map plan (leaves_in panes (drop i views)) ≡ plan (record { node = view; panes = open_at view.depth panes }) ∷ rest
+    = ap (map plan) (ap (leaves_in panes) (next_view views i view less is) ∙ leaves-leaf panes view (drop (i + 1) views) no_pane) in
+    ap (λ ps. added ++ map plan (leaves_in ps (drop (i + 1) views))) opens
+    ∙ (ap (λ ls. ls ++ rest) adds ∙ (append_assoc leaves (leaf ∷ []) rest ∙ (ap (λ l. leaves ++ l ∷ rest) planned ∙ (ap (λ ls. leaves ++ ls) (sym all) ∙ so_far))))

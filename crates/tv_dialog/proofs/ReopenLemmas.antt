@@ -1,0 +1,215 @@
+-- A dialog that opens: it rests, its values are set, rules are applied, and it stands.
+use Rattle.std.proofs.Common.{arith, ◌≡◌, ◌≤◌, ◌<◌, ◌||◌, ℕ, true, false, List, [], ◌∷◌, map, length, Option, Some, None, is_some, slice_index_or, refl, sym, ap, subst, ◌∙◌, All, inl, ◌==◌}
+use Rattle.std.specs.Prelude.{is_none, unwrap_or}
+use Rattle.std.specs.Option.{option_or}
+use Rattle.std.proofs.lemmas.Bool.{false≢true}
+use Rattle.std.proofs.lemmas.List.{length-map}
+use Rattle.tv_model.specs.declared.node.Id.{Id}
+use Rattle.tv_model.specs.declared.desc.Dialog.{Dialog}
+use Rattle.tv_model.specs.Controls.Meaning.{Leaf, Placed}
+use Rattle.tv_model.specs.Log.Record.{Entries, value_of}
+use Rattle.tv_model.specs.Machine.State.{declared_value}
+use Rattle.tv_machine.specs.State.{LeafState}
+use Rattle.tv_machine.specs.Leaves.{leaf_list}
+use Rattle.tv_machine.specs.Safe.{field_ids}
+use Rattle.tv_machine.specs.Dialog.Ending.{fields_of}
+use Rattle.tv_machine.specs.Dialog.Focus.{first_free, focus_moved, is_free_at, is_free_leaf, stops_of}
+use Rattle.tv_machine.specs.Dialog.Lawful.{IsLawfulDialog}
+use Rattle.tv_machine.specs.Dialog.Modal.{Modal, leaf_at}
+use Rattle.tv_machine.specs.Dialog.Opening.{first_focus, opened as opens, opened_leaf, opened_leaves, opened_with, unfocused}
+use Rattle.tv_machine.specs.Dialog.Rules.{is_among, is_command_enabled, is_visible}
+use Rattle.tv_view.specs.declared.env.Rules.{Rules}
+use Rattle.tv_view.specs.Calls.{gathered}
+use Rattle.tv_group.specs.Calls.{FitsAll, all_applied, all_set, first_in, gathered_within}
+use Rattle.tv_group.specs.declared.focus.Dir.TheVariants.{Forward}
+use Rattle.tv_group.specs.Opened.{opened}
+use Rattle.tv_dialog.specs.declared.dialog.DialogOf.{DialogOf}
+use Rattle.tv_dialog.specs.Head.{declared_head}
+use Rattle.tv_dialog.specs.Plan.{is_enabled_by, leaf_plan, plan_of, shown_by}
+use Rattle.tv_dialog.specs.Resting.{AreAlike, Rests, unflagged}
+use Rattle.tv_dialog.specs.Standing.{AreFields, Stands}
+use Rattle.tv_dialog.specs.Tree.{placed_as, tree_as, tree_of}
+use Rattle.tv_dialog.proofs.EndingLemmas.{fewer_leaves}
+use Rattle.tv_dialog.proofs.FreshLemmas.{applied-alike, fits-alike, fresh-alike, fresh_tree, set-alike, steady-declared}
+use Rattle.tv_dialog.proofs.GatheredLemmas.{fields-are, fields-ids, gathered-again, value-fields}
+use Rattle.tv_dialog.proofs.ListLemmas.{map-map, option_cases}
+use Rattle.tv_dialog.proofs.MarkLemmas.{free-same}
+use Rattle.tv_dialog.proofs.NextLemmas.{first-tree}
+use Rattle.tv_dialog.proofs.OpeningLemmas.{content_at-unfocused, first-free, first_focus-free, free-other, leaves-unfocused, set-tree, steady-unfocused}
+use Rattle.tv_dialog.proofs.RuledLemmas.{AreRulesOf, applied-tree}
+use Rattle.tv_dialog.proofs.StandingLemmas.{held-moved, hold-moved}
+use Rattle.tv_dialog.proofs.TreeLemmas.{leaves-same}
+use Rattle.tv_dialog.proofs.WorkingLemmas.{enabled-plan, shown-plan}
+
+-- ---- leaves that are alike
+
+-- whatever their rules were last applied to
+alike-rules : (d : Dialog) (ruled other : List LeafState) (m : Modal) → AreAlike (tree_as d ruled m) (tree_as d other m)
+alike-rules d ruled other m =
+    map-map (placed_as d ruled m) unflagged (leaf_list d.views) ∙ sym (map-map (placed_as d other m) unflagged (leaf_list d.views))
+
+gathered-unflagged : (xs : List Placed) (entries : Entries) → gathered_within (map unflagged xs) entries ≡ gathered_within xs entries
+unfolding gathered
+gathered-unflagged [] entries = refl
+gathered-unflagged (x ∷ xs) entries = gathered-unflagged xs (gathered_within (x ∷ []) entries)
+
+-- they have the same values
+pub gathered-alike : (xs ys : List Placed) (entries : Entries) → AreAlike xs ys → gathered_within xs entries ≡ gathered_within ys entries
+gathered-alike xs ys entries alike =
+    sym (gathered-unflagged xs entries) ∙ ap (λ zs. gathered_within zs entries) alike ∙ gathered-unflagged ys entries
+
+-- ---- dialogs that rest
+
+module _ {V : Type 0} (look : V → Leaf) (d : Dialog) where
+  -- one that stands does, open or ended
+  pub stands-rests : (ruled : List LeafState) (m : Modal) (dialog : DialogOf V) → Stands look d ruled m dialog → Rests look d m dialog
+  stands-rests ruled m dialog s = record {
+    head = s.head;
+    plan = s.plan;
+    tree = ap (map unflagged) s.tree ∙ alike-rules d ruled m.leaves m;
+    steady = s.steady;
+    marks = s.marks;
+  }
+
+  -- so does a new one round a fresh body
+  pub fresh-rests : IsLawfulDialog d → (dialog : DialogOf V) → Some dialog.head ≡ declared_head d.node
+      → dialog.plan ≡ plan_of d.views d.rules → opened look dialog.body ≡ fresh_tree d → dialog.marks ≡ []
+      → Rests look d (unfocused d None []) dialog
+  fresh-rests lawful dialog head plan body marks = record {
+    head = head;
+    plan = plan;
+    tree = ap (map unflagged) body ∙ fresh-alike d lawful (unfocused d None []).leaves;
+    steady = steady-declared d lawful [];
+    marks = inl marks;
+  }
+
+  -- and one whose values were set
+  pub rests-set : IsLawfulDialog d → (m : Modal) (entries : Entries) → map (λ entry. entry.id) entries ≡ field_ids d
+      → (old new : DialogOf V) → Rests look d m old → FitsAll entries (opened look old.body)
+      → new.head ≡ old.head → new.plan ≡ old.plan → new.marks ≡ old.marks
+      → opened look new.body ≡ all_set entries (opened look old.body) → Rests look d (unfocused d (Some entries) m.overwriting) new
+  rests-set lawful m entries fields old new s fits head plan marks body =
+      let shut : Modal = unfocused d (Some entries) m.overwriting in
+      record {
+        head = ap Some head ∙ s.head;
+        plan = plan ∙ s.plan;
+        tree = ap (map unflagged) body ∙ set-alike entries (opened look old.body) (tree_of d m) s.tree
+            ∙ ap (map unflagged) (set-tree d lawful entries fields m.overwriting m.leaves m s.steady (λ leaf e. refl))
+            ∙ alike-rules d m.leaves shut.leaves shut;
+        steady = steady-unfocused d lawful entries fields m.overwriting m.leaves m
+            (fits-alike entries (opened look old.body) (tree_of d m) s.tree fits);
+        marks = subst (AreFields d) (sym marks) s.marks;
+      }
+
+  -- ---- rules are applied
+
+  -- a dialog that rests stands then
+  pub stands-applied : IsLawfulDialog d → (m : Modal) (rules : Rules) (old new : DialogOf V) → m.ended ≡ None → Rests look d m old
+      → old.focus ≡ m.focus → old.log.items ≡ m.log → old.is_open ≡ true
+      → new.head ≡ old.head → new.plan ≡ old.plan → new.focus ≡ old.focus → new.log ≡ old.log → new.is_open ≡ old.is_open
+      → new.marks ≡ gathered_within (opened look old.body) old.marks
+      → (length old.plan.leaves ≤ 64 → new.ruled.shown.items ≡ shown_by old.plan new.marks)
+      → ((number : ℕ) → number < 256 → slice_index_or new.ruled.commands number false ≡ is_enabled_by old.plan new.marks number)
+      → rules.shown.now ≡ new.ruled.shown.items → rules.commands.now ≡ new.ruled.commands
+      → opened look new.body ≡ all_applied rules (opened look old.body)
+      → Stands look d m.leaves m new
+  stands-applied lawful m rules old new going s focus log is head plan same_focus same_log still marks shown commands shows lets body =
+      let own = plan_of d.views d.rules in
+      let fields : new.marks ≡ fields_of m.leaves
+      = marks ∙ gathered-alike (opened look old.body) (tree_of d m) old.marks s.tree
+      ∙ gathered-again d lawful m s.steady m.leaves old.marks s.marks in
+      let count = lawful.count in
+      let fewer = fewer_leaves [] d.views in
+      let same : length own.leaves ≡ length (leaf_list d.views) = length-map (leaf_list d.views) (leaf_plan d.views d.rules) in
+      let few : length old.plan.leaves ≤ 64 = omega (arith, ap (λ p. length p.leaves) s.plan, same, fewer, count) in
+      let shown_now : rules.shown.now ≡ shown_by own (fields_of m.leaves)
+      = shows ∙ shown few ∙ ap (λ p. shown_by p new.marks) s.plan ∙ ap (shown_by own) fields in
+      let enabled : (number : ℕ) → number < 256 → slice_index_or new.ruled.commands number false ≡ is_command_enabled d m.leaves number
+      = λ number less. commands number less ∙ ap (λ p. is_enabled_by p new.marks number) s.plan
+      ∙ ap (λ v. is_enabled_by own v number) fields ∙ enabled-plan d lawful m s.steady.leaves number in
+      let are : AreRulesOf d m.leaves rules = record {
+        shown = subst (λ ids. All (λ leaf. is_among ids leaf.node.id ≡ is_visible d m.leaves leaf) (leaf_list d.views)) (sym shown_now)
+            (shown-plan d lawful m s.steady.leaves);
+        enabled = λ number less. ap (λ set. slice_index_or set number false) lets ∙ enabled number less;
+      } in
+      record {
+        head = ap Some head ∙ s.head;
+        plan = plan ∙ s.plan;
+        tree = body ∙ applied-alike rules (opened look old.body) (tree_of d m) s.tree ∙ applied-tree d lawful rules m.leaves m are;
+        steady = s.steady;
+        focus = same_focus ∙ focus;
+        log = ap (λ l. l.items) same_log ∙ log;
+        «open» = still ∙ is ∙ ap is_none (sym going);
+        marks = subst (AreFields d) (sym fields) (fields-are d lawful m s.steady);
+        commands = λ number less. enabled number less ∙ sym (ap (λ e. is_some e || is_command_enabled d m.leaves number) going);
+      }
+
+-- ---- the first focus
+
+module _ (d : Dialog) (lawful : IsLawfulDialog d) (saved : Option Entries) (overwriting : List Id) where
+  abbrev shut : Modal
+  shut = unfocused d saved overwriting
+
+  -- what the tree answers
+  first-found : (o : Option Id) → o ≡ first_in Forward (tree_of d shut) → o ≡ first_free (stops_of d shut.leaves)
+  first-found o e = e ∙ first-tree d shut.leaves shut
+
+  module _ (i : Id) (e : Some i ≡ first_in Forward (tree_of d shut)) where
+    pub found-free : is_free_at d shut.leaves i ≡ true
+    found-free = first-free d lawful shut.leaves i (sym (first-found (Some i) e))
+
+    pub found-other : (i.0 == shut.focus.0) ≡ false
+    found-other = free-other d lawful shut.leaves i found-free
+
+    pub found-opened : focus_moved d i shut ≡ opens d saved overwriting
+    found-opened = ap (λ o. focus_moved d (unwrap_or o d.node.id) shut) (first-found (Some i) e)
+
+  -- there is one
+  pub none-absurd : None ≡ first_in Forward (tree_of d shut) → ⊥
+  none-absurd e = false≢true (ap is_some (first-found None e) ∙ lawful.«free» shut.leaves)
+
+  -- ---- a dialog that opened
+
+  -- its focus is free
+  pub opened-free : is_free_at d (opens d saved overwriting).leaves (opens d saved overwriting).focus ≡ true
+  opened-free =
+      let i = first_focus d shut.leaves in
+      let same = hold-moved d lawful shut i (leaves-unfocused d saved overwriting) in
+      let after : Modal = opens d saved overwriting in
+      option_cases (leaf_at d i) (λ o. is_free_leaf d after.leaves o ≡ is_free_leaf d shut.leaves o) (λ none. refl)
+      (λ leaf found. sym (free-same d shut.leaves after.leaves same leaf))
+      ∙ first_focus-free d lawful shut.leaves
+
+  -- no leaf of it holds the mouse
+  pub opened-held : (opens d saved overwriting).held ≡ None
+  opened-held = held-moved d lawful shut (first_focus d shut.leaves)
+
+-- ---- the declared values
+
+or-itself : {A : Type 0} (o : Option A) → option_or o o ≡ o
+or-itself None = refl
+or-itself (Some x) = refl
+
+module _ (d : Dialog) (lawful : IsLawfulDialog d) (overwriting : List Id) where
+  -- the record of a new dialog's fields
+  abbrev pub declared : Entries
+  declared = fields_of (opened_leaves d None)
+
+  -- it has the fields of the dialog
+  pub declared-fields : map (λ entry. entry.id) declared ≡ field_ids d
+  declared-fields = fields-ids d lawful (unfocused d None overwriting) (steady-declared d lawful overwriting)
+
+  -- to open with it is to open with no record
+  pub declared-leaves : opened_leaves d (Some declared) ≡ opened_leaves d None
+  declared-leaves =
+      leaves-same d lawful (λ leaf. opened_leaf (Some declared) leaf.node) (λ leaf. opened_leaf None leaf.node)
+      (λ leaf e.
+      let own = declared_value leaf.node.kind in
+      let found : value_of declared leaf.node.id.0 ≡ own
+      = value-fields d lawful (unfocused d None overwriting) (leaves-unfocused d None overwriting) leaf.node.id
+      ∙ ap (λ c. c.value) (content_at-unfocused d None overwriting leaf e) in
+      ap (opened_with leaf.node) (ap (λ o. option_or o own) found ∙ or-itself own))
+
+  pub declared-opened : opens d (Some declared) overwriting ≡ opens d None overwriting
+  declared-opened =
+      ap (λ leaves. focus_moved d (first_focus d leaves) (record (unfocused d None overwriting) { leaves = leaves })) declared-leaves

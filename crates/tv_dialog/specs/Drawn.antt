@@ -1,0 +1,36 @@
+-- What a dialog lends its views, and what it shows.
+use Rattle.std.specs.Prelude.{List, [], ◌∷◌, ◌++◌, Option, Some, if◌then◌else◌}
+use Rattle.tv_cells.specs.Canvas.{sub}
+use Rattle.tv_cells.specs.Layers.{Layer, Painted}
+use Rattle.tv_cells.specs.declared.canvas.Canvas.{Canvas}
+use Rattle.tv_group.specs.Opened.{opened}
+use Rattle.tv_model.specs.declared.node.Id.{Id}
+use Rattle.tv_model.specs.Controls.Meaning.{Leaf}
+use Rattle.tv_model.specs.Description.Numbers.{natural}
+use Rattle.tv_model.specs.Screen.Faces.{frame_face, frame_look}
+use Rattle.tv_palette.specs.Palettes.{colour_in}
+use Rattle.tv_palette.specs.declared.role.Owner.TheVariants as owners
+use Rattle.tv_view.specs.Drawing.{leaves_layers}
+use Rattle.tv_view.specs.declared.env.Env.{Env}
+use Rattle.tv_dialog.specs.Head.{KeptHead, bounds_of}
+use Rattle.tv_dialog.specs.Plan.{has_button_at}
+use Rattle.tv_dialog.specs.declared.dialog.DialogOf.{DialogOf}
+use Rattle.tv_dialog.specs.declared.plan.Plan.{Plan}
+
+-- what Enter presses: the focus if it is a button, else the declared default button
+abbrev pub default_now : Plan → Id → Option Id
+default_now plan focus = if has_button_at plan.leaves focus then Some focus else plan.default_button
+
+-- what the views are lent, where the focus is here
+abbrev pub lent : Plan → Id → Env → Env
+lent plan focus env = record env { focus = Some focus; default_now = default_now plan focus }
+
+-- the frame with what it surrounds, in the dialog's rectangle
+abbrev pub frame_layer : Env → Canvas → KeptHead → Layer
+frame_layer env c head = Painted (sub c (bounds_of head)) (natural head.w) (natural head.h)
+    (frame_face (natural head.w) (natural head.h) head.title (frame_look (colour_in env.chain.now) owners.Dialog 0 env.is_active))
+
+-- the leaves of the body in the dialog's rectangle, the last on top, and the frame below them
+abbrev pub dialog_layers : {V : Type 0} → (V → Leaf) → Env → Canvas → DialogOf V → List Layer
+dialog_layers look env c dialog =
+    leaves_layers (lent dialog.plan dialog.focus env) (sub c (bounds_of dialog.head)) (opened look dialog.body) ++ frame_layer env c dialog.head ∷ []

@@ -1,0 +1,236 @@
+//! Dialogs.
+
+ghost use Rattle.std.specs.Prelude.{◌≡◌, ◌∷◌, [], IfOk, IfErr, IfSome, List, None, Some, false};
+ghost use Rattle.tv_cells.specs.Rectangle.{IsRectNear};
+ghost use Rattle.tv_model.specs.Controls.Meaning.{IsSmall, IsSmallRect};
+ghost use Rattle.tv_view.specs.Drawing.{Lays};
+ghost use Rattle.tv_group.specs.Calls.{HasRoomForAll, all_gathered, any_holds};
+ghost use Rattle.tv_group.specs.Opened.{opened};
+ghost use Rattle.tv_group.specs.Outline.{IsFreshBody};
+ghost use Rattle.tv_machine.specs.Dialog.Lawful.{IsLawfulDialog};
+ghost use Rattle.tv_machine.specs.Dialog.Opening.{unfocused};
+ghost use Rattle.tv_model.specs.declared.desc.Dialog.{Dialog as Declared};
+ghost use Rattle.tv_dialog.specs.Resting.{Rests};
+ghost use Rattle.tv_dialog.specs.Shown.{IsShown, shadow_layer};
+ghost use Rattle.tv_dialog.specs.Standing.{Stands};
+ghost use Rattle.tv_cells.specs.Picture.{Picture};
+ghost use Rattle.tv_model.specs.declared.desc.Desc.{Desc};
+ghost use Rattle.tv_model.specs.declared.node.Id.{Id as Ident};
+ghost use Rattle.tv_machine.specs.State.{OpenDialog};
+ghost use Rattle.tv_machine.specs.Dialog.Modal.{Modal};
+ghost use Rattle.tv_machine.specs.Screen.Layers.{dialog_layers as open_layers};
+ghost use Rattle.tv_dialog.specs.Head.{IsLimited, bounds_of, declared_head};
+ghost use Rattle.tv_dialog.specs.Plan.{plan_of};
+ghost use Rattle.tv_dialog.specs.Drawn.{default_now, dialog_layers, lent};
+ghost use Rattle.tv_dialog.specs.declared.fault.DialogFault.TheVariants.{WrongKind};
+
+use crate::fault::DialogFault;
+use crate::head::Head;
+use crate::log::Log;
+use crate::plan::Plan;
+use crate::ruled::Ruled;
+use arrayvec::ArrayVec;
+use std::alloc::Global;
+use tv_cells::{Canvas, Rect, Screen, lay};
+use tv_event::{CommandSet, Pending};
+use tv_group::GroupOf;
+use tv_model::{Id, LogLine, Node, Record, Rule};
+use tv_view::{Env, View};
+
+/// A frame with a title, and the group of views that it surrounds, as they work together.
+///
+/// It keeps ids and numbers of its description, and its title. It is generic in its views, as a group is; the toolkit's
+/// own has boxed ones.
+#[derive(Drop)]
+pub struct DialogOf<V> {
+    pub(crate) head: Head,
+    pub(crate) plan: Plan,
+    pub(crate) body: GroupOf<V>,
+    pub(crate) is_open: bool,
+    /// While it is open; the dialog's own id stands for none.
+    pub(crate) focus: Id,
+    pub(crate) ruled: Ruled,
+    /// The values by which the rules were last applied.
+    pub(crate) marks: Record,
+    pub(crate) pending: Pending,
+    pub(crate) log: Log,
+}
+
+/// A dialog whose views are boxed.
+pub type Dialog = DialogOf<Box<dyn View>>;
+
+/// What a dialog keeps of its description, and its queue.
+#[derive(Drop)]
+struct Kept {
+    head: Head,
+    plan: Plan,
+    pending: Pending,
+}
+
+impl Kept {
+    fn of(alloc: Global, node: &Node, views: &[Node], rules: &[Rule]) -> Result<Kept, DialogFault>
+        requires { IfSome (declared_head node.now) IsLimited }
+        ensures head { IfOk result (λ kept. Some kept.head ≡ declared_head node.now) }
+        ensures plan { IfOk result (λ kept. kept.plan ≡ plan_of views.now rules.now) }
+        ensures pending { IfOk result (λ kept. kept.pending ≡ []) }
+        ensures wrong { declared_head node.now ≡ None → IfErr result (λ fault. fault ≡ WrongKind) }
+        ensures right { IfErr result (λ fault. fault ≡ WrongKind → declared_head node.now ≡ None) }
+    {
+        let head = Head::of(node).ok_or(DialogFault::WrongKind)?;
+        let plan = Plan::of(alloc, views, rules)?;
+        let pending = Pending::new(alloc)?;
+        Ok(Kept {
+            head,
+            plan,
+            pending,
+        })
+    }
+}
+
+impl<V: View> DialogOf<V> {
+    /// The dialog of a node with these views, panes opened out, and rules, round a body that stands as they declare it. It
+    /// is closed. The title has at most 120 characters, and the rectangle lies within -300 to 300, as those of sound
+    /// descriptions do.
+    ///
+    /// # Errors
+    ///
+    /// `WrongKind` for a node that isn't a dialog's, else `NoMemory` where there is none, both with the body as it was.
+    pub fn new(
+        alloc: Global,
+        node: &Node,
+        views: &[Node],
+        rules: &[Rule],
+        body: GroupOf<V>,
+    ) -> Result<DialogOf<V>, (DialogFault, GroupOf<V>)>
+        requires { IfSome (declared_head node.now) IsLimited }
+        ensures head { IfOk result (λ dialog. Some dialog.head ≡ declared_head node.now) }
+        ensures plan { IfOk result (λ dialog. dialog.plan ≡ plan_of views.now rules.now) }
+        ensures body { IfOk result (λ dialog. dialog.body ≡ body) }
+        ensures closed { IfOk result (λ dialog. dialog.is_open ≡ false) }
+        ensures empty { IfOk result (λ dialog. (dialog.marks ≡ []) × (dialog.pending ≡ []) × (dialog.log.items ≡ [])) }
+        ensures fresh { IfOk result (λ dialog. (d : Declared) → d.node ≡ node.now → d.views ≡ views.now → d.rules ≡ rules.now → IsLawfulDialog d
+            → IsFreshBody V.meaning node.now views.now body → Rests V.meaning d (unfocused d None []) dialog) }
+        ensures wrong { declared_head node.now ≡ None → IfErr result (λ e. e.0 ≡ WrongKind) }
+        ensures right { IfErr result (λ e. e.0 ≡ WrongKind → declared_head node.now ≡ None) }
+        ensures back { IfErr result (λ e. e.1 ≡ body) }
+    {
+        match Kept::of(alloc, node, views, rules) {
+            Ok(kept) => Ok(DialogOf {
+                focus: kept.head.id(),
+                head: kept.head,
+                plan: kept.plan,
+                body,
+                is_open: false,
+                ruled: Ruled::new(),
+                marks: Record::new(),
+                pending: kept.pending,
+                log: ArrayVec::new(),
+            }),
+            Err(fault) => Err((fault, body)),
+        }
+    }
+}
+
+impl<V> DialogOf<V> {
+    /// Its rectangle, seen from the corner of what it stands in.
+    pub fn bounds(&self) -> Rect
+        ensures is { result ≡ bounds_of self.now.head }
+        ensures small { IsSmallRect result }
+        ensures near { IsRectNear result }
+    {
+        self.head.bounds()
+    }
+
+    /// Whether it is open.
+    pub fn is_open(&self) -> bool
+        ensures { result ≡ self.now.is_open }
+    {
+        self.is_open
+    }
+
+    /// The control that has the focus, while it is open.
+    pub fn focus(&self) -> Id
+        ensures { result ≡ self.now.focus }
+    {
+        self.focus
+    }
+
+    /// The lines of the last event.
+    pub fn log(&self) -> &[LogLine]
+        ensures { result.now ≡ self.now.log.items }
+    {
+        self.log.as_slice()
+    }
+
+    /// The enabled commands; all of them while it is closed.
+    pub fn commands(&self) -> &CommandSet
+        ensures { result.now ≡ self.now.ruled.commands }
+    {
+        &self.ruled.commands
+    }
+
+    /// Gives the body back, as it is.
+    pub fn into_body(self) -> GroupOf<V>
+    where
+        V: Drop,
+        ensures { result ≡ self.body }
+    {
+        let DialogOf { body, .. } = self;
+        body
+    }
+
+    /// What Enter presses: the focus if it is a button, else the declared default button.
+    fn default_now(&self) -> Option<Id>
+        ensures { result ≡ default_now self.now.plan self.now.focus }
+    {
+        if self.plan.is_button(self.focus) {
+            Some(self.focus)
+        } else {
+            self.plan.default_button
+        }
+    }
+
+    /// What its views are lent: who has the focus, and what Enter presses.
+    pub(crate) fn lent<'a>(&self, env: &Env<'a>) -> Env<'a>
+        ensures { result ≡ lent self.now.plan self.now.focus env.now }
+    {
+        Env {
+            focus: Some(self.focus),
+            default_now: self.default_now(),
+            ..*env
+        }
+    }
+}
+
+impl<V: View> DialogOf<V> {
+    /// Whether one of its views holds the mouse.
+    pub fn held(&self) -> bool
+        ensures { result ≡ any_holds (opened V.meaning self.now.body) }
+    {
+        self.body.held()
+    }
+
+    /// Puts the values of all fields into the record.
+    pub fn record(&self, values: &mut Record)
+        requires { HasRoomForAll (opened V.meaning self.now.body) values.old }
+        ensures { values.new ≡ all_gathered (opened V.meaning self.now.body) values.old }
+    {
+        self.body.get(values);
+    }
+
+    /// Draws the frame, the space in it, and the views on top, all seen from the canvas's origin. The environment is what
+    /// the dialog is lent; who has the focus and what Enter presses it tells its views itself. The shadow isn't drawn; where it
+    /// was before, the screen then shows the flat machine's layers of the open dialog.
+    pub fn draw(&self, screen: &mut Screen, canvas: Canvas, env: &Env)
+        requires { IsSmall canvas.origin.x × IsSmall canvas.origin.y }
+        ensures layers { Lays (dialog_layers V.meaning env.now canvas self.now) screen.old screen.new }
+        ensures machine { (desc : Desc) (d : Declared) (o : OpenDialog) (overwriting : List Ident) (m : Modal) (before : Picture) → IsLawfulDialog d
+            → Stands V.meaning d m.leaves m self.now → IsShown desc d o overwriting m env.now canvas
+            → Lays (shadow_layer desc o d ∷ []) before screen.old → Lays (open_layers desc o overwriting d) before screen.new }
+    {
+        let inner = canvas.sub(self.head.bounds());
+        let frame = self.head.frame(env);
+        lay(screen, inner, frame.width, frame.height, &frame);
+        self.body.draw(screen, inner, &self.lent(env));
+    }
+}

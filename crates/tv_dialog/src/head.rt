@@ -1,0 +1,105 @@
+//! What a dialog keeps of its node.
+
+ghost use Rattle.std.specs.Prelude.{◌≡◌, IfSome};
+ghost use Rattle.tv_cells.specs.Rectangle.{IsRectNear};
+ghost use Rattle.tv_model.specs.Screen.Faces.{frame_look};
+ghost use Rattle.tv_model.specs.Controls.Meaning.{IsSmallRect};
+ghost use Rattle.tv_model.specs.Description.Commands.{is_declared};
+ghost use Rattle.tv_model.specs.Description.Numbers.{natural};
+ghost use Rattle.tv_faces.specs.Looks.{frame_look_of};
+ghost use Rattle.tv_palette.specs.Palettes.{colour_in};
+ghost use Rattle.tv_palette.specs.declared.role.Owner.TheVariants.{Dialog};
+ghost use Rattle.tv_dialog.specs.Head.{IsLimited, declared_head, bounds_of};
+
+use std::marker::Model;
+use tv_cells::Rect;
+use tv_event::Command;
+use tv_faces::{Frame, FrameLook, natural, rect_at};
+use tv_model::{Ends, Id, Kind, Node};
+use tv_palette::Owner;
+use tv_valid::Text;
+use tv_view::Env;
+
+/// A dialog's node without its name and the command that opens it.
+#[derive(Drop)]
+pub(crate) struct Head {
+    id: Id,
+    x: i32,
+    y: i32,
+    w: i32,
+    h: i32,
+    title: Text,
+    ends: Ends,
+}
+
+impl Model for Head {
+    ghost use Rattle.tv_dialog.specs.Head.{KeptHead, IsLimited};
+
+    ghost Value = { KeptHead };
+
+    ghost view = { λ s. record { id = s.id; x = s.x; y = s.y; w = s.w; h = s.h; title = s.title; ends = s.ends } };
+
+    ghost invariant = { λ s. IsLimited (record { id = s.id; x = s.x; y = s.y; w = s.w; h = s.h; title = s.title; ends = s.ends }) };
+}
+
+impl Head {
+    /// That of a dialog's node, and none of another's.
+    pub(crate) fn of(node: &Node) -> Option<Head>
+        requires { IfSome (declared_head node.now) IsLimited }
+        ensures { result ≡ declared_head node.now }
+    {
+        match &node.kind {
+            Kind::Dialog(declared) => Some(Head {
+                id: node.id,
+                x: node.x,
+                y: node.y,
+                w: node.w,
+                h: declared.h,
+                title: Text::from_chars(declared.title.as_slice())?,
+                ends: declared.ends,
+            }),
+            _ => None,
+        }
+    }
+
+    pub(crate) fn id(&self) -> Id
+        ensures { result ≡ self.now.id }
+    {
+        self.id
+    }
+
+    pub(crate) fn bounds(&self) -> Rect
+        ensures is { result ≡ bounds_of self.now }
+        ensures small { IsSmallRect result }
+        ensures near { IsRectNear result }
+    {
+        rect_at(&self.x, &self.y, &self.w, &self.h)
+    }
+
+    /// Whether the dialog declares the command as one of its ends other than `cancel`.
+    pub(crate) fn declares(&self, command: Command) -> bool
+        ensures { result ≡ is_declared self.now.ends command.0 }
+    {
+        match command {
+            Command::OK => self.ends.ok,
+            Command::YES => self.ends.yes,
+            Command::NO => self.ends.no,
+            _ => false,
+        }
+    }
+
+    /// The face of the frame, in the colours that the dialog's views are lent.
+    pub(crate) fn frame(&self, env: &Env) -> Frame<'_>
+        ensures width { result.width ≡ natural self.now.w }
+        ensures height { result.height ≡ natural self.now.h }
+        ensures title { result.title.now ≡ self.now.title }
+        ensures look { frame_look_of result.look ≡ frame_look (colour_in env.now.chain.now) Dialog 0 env.now.is_active }
+    {
+        Frame {
+            width: natural(&self.w),
+            height: natural(&self.h),
+            title: self.title.as_slice(),
+            look: FrameLook::new(env.chain, Owner::Dialog, 0, env.is_active),
+        }
+    }
+}

@@ -1,0 +1,19 @@
+//! Modal dialogs over any views.
+#![tactic(auto)]
+
+mod command;
+mod condition;
+mod dialog;
+mod fault;
+mod head;
+mod log;
+mod open;
+mod plan;
+mod request;
+mod ruled;
+mod rules;
+mod step;
+mod turn;
+
+pub use dialog::{Dialog, DialogOf};
+pub use fault::DialogFault;

@@ -1,0 +1,39 @@
+//! How a dialog opens.
+
+ghost use Rattle.std.specs.Prelude.{◌≡◌, [], map, true, Some};
+ghost use Rattle.tv_model.specs.declared.desc.Dialog.{Dialog};
+ghost use Rattle.tv_machine.specs.Safe.{field_ids};
+ghost use Rattle.tv_machine.specs.Dialog.Lawful.{IsLawfulDialog};
+ghost use Rattle.tv_machine.specs.Dialog.Modal.{Modal};
+ghost use Rattle.tv_machine.specs.Dialog.Opening.{opened as opens};
+ghost use Rattle.tv_group.specs.Calls.{FitsAll};
+ghost use Rattle.tv_group.specs.Opened.{opened};
+ghost use Rattle.tv_dialog.specs.Resting.{Rests};
+ghost use Rattle.tv_dialog.specs.Standing.{Stands};
+
+use crate::dialog::DialogOf;
+use tv_group::Dir;
+use tv_model::Record;
+use tv_view::View;
+
+impl<V: View> DialogOf<V> {
+    /// Opens it with these values, with the focus on the first free control. Where typing overwrites, it still does.
+    pub fn reopen(&mut self, values: &Record)
+        requires { FitsAll values.now (opened V.meaning self.old.body) }
+        ensures stands { (d : Dialog) (m : Modal) → IsLawfulDialog d → map (λ entry. entry.id) values.now ≡ field_ids d
+            → Rests V.meaning d m self.old
+            → Stands V.meaning d (opens d (Some values.now) m.overwriting).leaves (opens d (Some values.now) m.overwriting) self.new }
+        ensures is_open { self.new.is_open ≡ true }
+        ensures pending { self.new.pending ≡ [] }
+    {
+        self.log.clear();
+        self.pending.clear();
+        self.body.set(values);
+        self.is_open = true;
+        self.focus = self.head.id();
+        self.apply_rules();
+        if let Some(id) = self.body.first(Dir::Forward) {
+            self.move_focus(id);
+        }
+    }
+}

@@ -1,0 +1,239 @@
+//! What a dialog keeps of its views and rules.
+
+ghost use Rattle.std.specs.Prelude.{◌≡◌, ◌==◌, IfOk, Option, option_copied, find, filter_map, map, option_map};
+ghost use Rattle.std.specs.List.{list_any};
+ghost use Rattle.tv_model.specs.declared.node.Node.{Node};
+ghost use Rattle.tv_model.specs.Description.Names.{gives_name, meant};
+ghost use Rattle.tv_model.specs.Description.Commands.{command_number};
+ghost use Rattle.tv_model.specs.Description.Nodes.{is_default};
+ghost use Rattle.tv_machine.specs.Dialog.Rules.{shows};
+ghost use Rattle.tv_machine.specs.Leaves.{leaf_list};
+ghost use Rattle.tv_dialog.specs.Placing.{placed};
+ghost use Rattle.tv_dialog.specs.Plan.{condition_of, conditions_of, gate_of, has_button_at, is_shown_by, leaf_plan, plan_of};
+
+use crate::condition::Condition;
+use std::alloc::{AllocError, Global};
+use tv_faces::natural;
+use tv_model::{CommandSpec, Effect, Id, Kind, Node, Record, Rule, Sequence};
+use tv_valid::Chars;
+
+/// What a dialog keeps of a leaf.
+#[derive(Debug, Drop)]
+pub(crate) struct LeafPlan {
+    pub(crate) id: Id,
+    pub(crate) is_button: bool,
+    /// The conditions of all show rules over it and over the panes around it.
+    pub(crate) shown_when: Sequence<Condition>,
+}
+
+/// A condition on which a command is enabled.
+#[derive(Clone, Copy, Debug)]
+pub(crate) struct Gate {
+    pub(crate) number: u32,
+    pub(crate) condition: Condition,
+}
+
+/// What a dialog keeps of its views and rules: ids and numbers, and no texts.
+#[derive(Debug, Drop)]
+pub(crate) struct Plan {
+    /// In description order.
+    pub(crate) leaves: Sequence<LeafPlan>,
+    pub(crate) gates: Sequence<Gate>,
+    /// The declared one, hidden or not.
+    pub(crate) default_button: Option<Id>,
+}
+
+impl LeafPlan {
+    /// Whether all that it depends on is marked.
+    pub(crate) fn is_shown(&self, marks: &Record) -> bool
+        ensures { result ≡ is_shown_by marks.now self.now }
+    {
+        self.shown_when
+            .as_slice()
+            .iter()
+            .all(|condition| condition.is_met(marks))
+    }
+}
+
+// A leaf, and the panes around it from the innermost out.
+#[derive(Clone, Copy)]
+struct Placed<'a> {
+    node: &'a Node,
+    panes: &'a [&'a Node],
+}
+
+fn gives_name(name: &Chars, node: &Node) -> bool
+    ensures { result ≡ gives_name name.now node.now }
+{
+    match node.kind.name() {
+        Some(other) => other.is(name),
+        None => false,
+    }
+}
+
+// The first view that gives the name.
+fn meant(views: &[Node], name: &Chars) -> Option<Id>
+    ensures { result ≡ option_map (λ node. node.id) (meant views.now name.now) }
+{
+    views
+        .iter()
+        .find(|view| gives_name(name, view))
+        .map(|view| view.id)
+}
+
+fn kept_condition(views: &[Node], rule: &Rule) -> Condition
+    ensures { result ≡ condition_of views.now rule.now }
+{
+    Condition {
+        cluster: meant(views, &rule.cluster),
+        item: natural(&rule.item),
+    }
+}
+
+fn any_gives(panes: &[&Node], name: &Chars) -> bool
+    ensures { result ≡ list_any (λ pane. gives_name name.now pane.now) panes.now }
+{
+    panes.iter().any(|pane| gives_name(name, pane))
+}
+
+fn shows(leaf: Placed, effect: &Effect) -> bool
+    ensures { result ≡ shows (placed leaf.entry) effect.now }
+{
+    match effect {
+        Effect::Show(name) => gives_name(name, leaf.node) || any_gives(leaf.panes, name),
+        Effect::Enable(_) => false,
+    }
+}
+
+fn kept_conditions(
+    alloc: Global,
+    leaf: Placed,
+    views: &[Node],
+    rules: &[Rule],
+) -> Result<Sequence<Condition>, AllocError>
+    ensures { IfOk result (λ conditions. conditions ≡ conditions_of views.now rules.now (placed leaf.entry)) }
+{
+    let mut conditions = Sequence::new(alloc);
+    for rule in rules {
+        if shows(leaf, &rule.effect) {
+            conditions.push(kept_condition(views, rule))?;
+        }
+    }
+    Ok(conditions)
+}
+
+fn leaf_plans(
+    alloc: Global,
+    views: &[Node],
+    rules: &[Rule],
+) -> Result<Sequence<LeafPlan>, AllocError>
+    ensures { IfOk result (λ leaves. leaves ≡ map (leaf_plan views.now rules.now) (leaf_list views.now)) }
+{
+    let mut leaves = Sequence::new(alloc);
+    let mut panes: Vec<&Node> = Vec::new(alloc);
+    for view in views {
+        panes.retain(|pane| pane.depth < view.depth);
+        if view.kind.is_pane() {
+            panes.insert(0, view)?;
+        } else {
+            let leaf = Placed {
+                node: view,
+                panes: &panes,
+            };
+            leaves.push(LeafPlan {
+                id: view.id,
+                is_button: view.kind.is_button(),
+                shown_when: kept_conditions(alloc, leaf, views, rules)?,
+            })?;
+        }
+    }
+    Ok(leaves)
+}
+
+fn command_number(spec: &CommandSpec) -> u32
+    ensures { result ≡ command_number spec.now }
+{
+    match spec {
+        CommandSpec::Quit => 1,
+        CommandSpec::Menu => 3,
+        CommandSpec::Close => 4,
+        CommandSpec::Next => 7,
+        CommandSpec::Ok => 10,
+        CommandSpec::Cancel => 11,
+        CommandSpec::Yes => 12,
+        CommandSpec::No => 13,
+        CommandSpec::Number(number) => natural(number),
+    }
+}
+
+fn kept_gate(views: &[Node], rule: &Rule) -> Option<Gate>
+    ensures { result ≡ gate_of views.now rule.now }
+{
+    match &rule.effect {
+        Effect::Show(_) => None,
+        Effect::Enable(spec) => Some(Gate {
+            number: command_number(spec),
+            condition: kept_condition(views, rule),
+        }),
+    }
+}
+
+fn kept_gates(alloc: Global, views: &[Node], rules: &[Rule]) -> Result<Sequence<Gate>, AllocError>
+    ensures { IfOk result (λ gates. gates ≡ filter_map (gate_of views.now) rules.now) }
+{
+    let mut gates = Sequence::new(alloc);
+    for rule in rules {
+        if let Some(gate) = kept_gate(views, rule) {
+            gates.push(gate)?;
+        }
+    }
+    Ok(gates)
+}
+
+fn is_default(node: &Node) -> bool
+    ensures { result ≡ is_default node.now }
+{
+    match &node.kind {
+        Kind::Button(button) => button.is_default,
+        _ => false,
+    }
+}
+
+fn default_button(views: &[Node]) -> Option<Id>
+    ensures { result ≡ option_map (λ view. view.id) (find is_default views.now) }
+{
+    views
+        .iter()
+        .find(|view| is_default(view))
+        .map(|view| view.id)
+}
+
+// The first of the leaves that has the id.
+fn leaf_of(leaves: &[LeafPlan], id: Id) -> Option<&LeafPlan>
+    ensures { option_copied result ≡ find (λ leaf. leaf.id.0 == id.0) leaves.now }
+{
+    leaves.iter().find(|leaf| leaf.id == id)
+}
+
+impl Plan {
+    /// That of these views and rules.
+    pub(crate) fn of(alloc: Global, views: &[Node], rules: &[Rule]) -> Result<Plan, AllocError>
+        ensures { IfOk result (λ plan. plan ≡ plan_of views.now rules.now) }
+    {
+        Ok(Plan {
+            leaves: leaf_plans(alloc, views, rules)?,
+            gates: kept_gates(alloc, views, rules)?,
+            default_button: default_button(views),
+        })
+    }
+
+    /// Whether the first leaf of the id is a button.
+    pub(crate) fn is_button(&self, id: Id) -> bool
+        ensures { result ≡ has_button_at self.now.leaves id }
+    {
+        match leaf_of(self.leaves.as_slice(), id) {
+            Some(leaf) => leaf.is_button,
+            None => false,
+        }
+    }
+}

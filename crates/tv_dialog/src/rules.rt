@@ -1,0 +1,31 @@
+//! When rules are applied.
+
+ghost use Rattle.std.specs.Prelude.{◌≡◌, List, None, true};
+ghost use Rattle.tv_model.specs.declared.desc.Dialog.{Dialog};
+ghost use Rattle.tv_machine.specs.State.{LeafState};
+ghost use Rattle.tv_machine.specs.Dialog.Lawful.{IsLawfulDialog};
+ghost use Rattle.tv_machine.specs.Dialog.Modal.{Modal};
+ghost use Rattle.tv_dialog.specs.Resting.{Rests};
+ghost use Rattle.tv_dialog.specs.Standing.{Stands};
+
+use crate::dialog::DialogOf;
+use tv_view::{Rules, View};
+
+impl<V: View> DialogOf<V> {
+    // Applies the rules to the marks as they are now.
+    pub(crate) fn apply_rules(&mut self)
+        ensures stands { (d : Dialog) (ruled : List LeafState) (m : Modal) → IsLawfulDialog d → m.ended ≡ None
+            → Stands V.meaning d ruled m self.old → Stands V.meaning d m.leaves m self.new }
+        ensures anew { (d : Dialog) (m : Modal) → IsLawfulDialog d → m.ended ≡ None → Rests V.meaning d m self.old
+            → self.old.focus ≡ m.focus → self.old.log.items ≡ m.log → self.old.is_open ≡ true → Stands V.meaning d m.leaves m self.new }
+        ensures is_open { self.new.is_open ≡ self.old.is_open }
+        ensures pending { self.new.pending ≡ self.old.pending }
+    {
+        self.body.gather(&mut self.marks);
+        self.ruled.update(&self.plan, &self.marks);
+        self.body.apply(&Rules {
+            shown: self.ruled.shown.as_slice(),
+            commands: &self.ruled.commands,
+        });
+    }
+}

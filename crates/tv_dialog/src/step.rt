@@ -1,0 +1,116 @@
+//! What a dialog makes of an event that it is handed.
+
+ghost use Rattle.std.specs.Prelude.{◌≡◌, ◌<◌, [], length, true};
+ghost use Rattle.tv_model.specs.declared.desc.Dialog.{Dialog};
+ghost use Rattle.tv_machine.specs.Dialog.Focus.{is_free_at};
+ghost use Rattle.tv_machine.specs.Dialog.Lawful.{IsLawfulDialog};
+ghost use Rattle.tv_machine.specs.Dialog.Modal.{Modal};
+ghost use Rattle.tv_machine.specs.Dialog.Mouse.{is_close_mark};
+ghost use Rattle.tv_machine.specs.Dialog.Step.{dialog_step};
+ghost use Rattle.tv_dialog.specs.Ready.{HoldsLeaf};
+ghost use Rattle.tv_dialog.specs.Standing.{Stands};
+ghost use Rattle.tv_dialog.specs.Stepping.{IsHandedIn, posted, posted_free, posted_held, posted_key, started, walked};
+
+use crate::dialog::DialogOf;
+use tv_cells::Point;
+use tv_event::{Command, Event, Key};
+use tv_group::Dir;
+use tv_view::{Env, View};
+
+// A dialog's own button, which lies in its frame.
+fn is_close_mark(point: Point) -> bool
+    ensures { result ≡ is_close_mark point }
+{
+    point.y == 0 && 2 <= point.x && point.x <= 4
+}
+
+fn posted_key(key: Key) -> Option<Event>
+    ensures { result ≡ posted_key key }
+{
+    match key {
+        Key::Tab | Key::ShiftTab => None,
+        Key::Esc => Some(Event::Command(Command::CANCEL)),
+        Key::Enter => Some(Event::Broadcast(Command::DEFAULT)),
+        _ => Some(Event::Key(key)),
+    }
+}
+
+// What an event is posted as while no view holds the mouse, if it is.
+fn posted_free(event: &Event) -> Option<Event>
+    ensures { result ≡ posted_free event.now }
+{
+    match event {
+        Event::Key(key) => posted_key(*key),
+        Event::Down(point) => {
+            if is_close_mark(*point) {
+                Some(Event::Command(Command::CLOSE))
+            } else {
+                Some(Event::Down(*point))
+            }
+        }
+        Event::Command(command) => Some(Event::Command(*command)),
+        Event::Up(_) | Event::Move(_) | Event::Broadcast(_) => None,
+    }
+}
+
+// The same while a view holds the mouse.
+fn posted_held(event: &Event) -> Option<Event>
+    ensures { result ≡ posted_held event.now }
+{
+    match event {
+        Event::Up(point) => Some(Event::Up(*point)),
+        Event::Move(point) => Some(Event::Move(*point)),
+        Event::Command(command) => Some(Event::Command(*command)),
+        Event::Key(_) | Event::Down(_) | Event::Broadcast(_) => None,
+    }
+}
+
+fn posted(is_held: bool, event: &Event) -> Option<Event>
+    ensures { result ≡ posted is_held event.now }
+{
+    if is_held {
+        posted_held(event)
+    } else {
+        posted_free(event)
+    }
+}
+
+impl<V: View> DialogOf<V> {
+    // The keys that lead from control to control.
+    fn walk(&mut self, event: &Event)
+        ensures stands { (d : Dialog) (m : Modal) → IsLawfulDialog d → length m.log < 66
+            → Stands V.meaning d m.leaves m self.old → Stands V.meaning d (walked d event.now m).leaves (walked d event.now m) self.new }
+        ensures pending { self.new.pending ≡ self.old.pending }
+    {
+        match event {
+            Event::Key(Key::Tab) => self.advance(Dir::Forward),
+            Event::Key(Key::ShiftTab) => self.advance(Dir::Backward),
+            _ => {}
+        }
+    }
+
+    /// Handles an event, whose point is seen from the dialog's corner. The environment is what the dialog is lent, with
+    /// its views; who has the focus and what Enter presses it tells its views itself.
+    pub fn step(&mut self, event: &Event, env: &Env)
+        requires { self.old.is_open ≡ true }
+        ensures stands { (d : Dialog) (m : Modal) → IsLawfulDialog d → env.now.views.now ≡ d.views → IsHandedIn event.now → HoldsLeaf d m
+            → is_free_at d m.leaves m.focus ≡ true → Stands V.meaning d m.leaves m self.old
+            → Stands V.meaning d (dialog_step d event.now (started m)).leaves (dialog_step d event.now (started m)) self.new }
+        ensures pending { self.new.pending ≡ [] }
+    {
+        self.log.clear();
+        self.pending.clear();
+        let is_held = self.body.held();
+        match posted(is_held, event) {
+            Some(event) => {
+                self.pending.post(event);
+                self.settle(env);
+            }
+            None => {
+                if !is_held {
+                    self.walk(event);
+                }
+            }
+        }
+    }
+}

@@ -1,0 +1,159 @@
+//! What a posted event comes to.
+
+ghost use Rattle.std.specs.Prelude.{◌≡◌, ◌≤◌, ◌∷◌, [], List, length, None};
+ghost use Rattle.tv_cells.specs.declared.rect.Point.{Point};
+ghost use Rattle.tv_event.specs.declared.event.Command.{Command};
+ghost use Rattle.tv_event.specs.declared.event.Event.{Event};
+ghost use Rattle.tv_event.specs.declared.event.Event.TheVariants as events;
+ghost use Rattle.tv_model.specs.declared.desc.Dialog.{Dialog};
+ghost use Rattle.tv_machine.specs.Dialog.Lawful.{IsLawfulDialog};
+ghost use Rattle.tv_machine.specs.Dialog.Modal.{Modal};
+ghost use Rattle.tv_machine.specs.State.{LeafState};
+ghost use Rattle.tv_group.specs.Handling.{is_pass};
+ghost use Rattle.tv_group.specs.Opened.{opened};
+ghost use Rattle.tv_dialog.specs.Ready.{HoldSame, KeepsMarks};
+ghost use Rattle.tv_dialog.specs.Settling.{ComesTo, IsPosted, IsReady, IsReadyForAll, IsReadyForDown, PostedAfter, posted_by, reacted_first, turned};
+ghost use Rattle.tv_dialog.specs.Standing.{Stands};
+ghost use Rattle.tv_dialog.specs.Turns.{IsLentBy, phases_after, phases_answer};
+
+use crate::dialog::DialogOf;
+use crate::log::note;
+use tv_event::{Event, Phase};
+use tv_group::GroupOf;
+use tv_model::LogLine;
+use tv_view::{Env, Reaction, View};
+
+// Whether the event was not consumed.
+fn is_pass(reaction: &Reaction) -> bool
+    ensures { result ≡ is_pass reaction.now }
+{
+    matches!(reaction, Reaction::Pass)
+}
+
+// Hands an event that isn't a mouse down to the views in the three phases, until one takes it.
+fn offer_in_phases<V: View>(body: &mut GroupOf<V>, event: &Event, env: &Env) -> Reaction
+    ensures { ((p : Point) → event.now ≡ events.Down p → ⊥) → (result ≡ phases_answer event.now env.now (opened V.meaning body.old))
+        × (opened V.meaning body.new ≡ phases_after event.now env.now (opened V.meaning body.old)) }
+{
+    let first = body.handle(event, Phase::Pre, env);
+    if !is_pass(&first) {
+        return first;
+    }
+    let second = body.handle(event, Phase::Focused, env);
+    if !is_pass(&second) {
+        return second;
+    }
+    body.handle(event, Phase::Post, env)
+}
+
+impl<V: View> DialogOf<V> {
+    // Does what a view asks for.
+    fn react(&mut self, reaction: Reaction)
+        requires { self.old.pending ≡ [] }
+        ensures stands { (d : Dialog) (ruled : List LeafState) (m : Modal) → IsLawfulDialog d → length m.log ≤ 1 → m.ended ≡ None
+            → (KeepsMarks reaction → HoldSame d ruled m.leaves) → Stands V.meaning d ruled m self.old
+            → Stands V.meaning d (reacted_first d reaction m).leaves (reacted_first d reaction m) self.new }
+        ensures pending { self.new.pending ≡ posted_by reaction }
+    {
+        match reaction {
+            Reaction::Focus(id) => {
+                self.request(id);
+            }
+            Reaction::FocusPress(id, item) => {
+                if self.request(id) {
+                    self.body.press_item(id, item);
+                    self.apply_rules();
+                }
+            }
+            Reaction::Post(id, command) => {
+                note(&mut self.log, LogLine::Press(id));
+                self.pending.post(Event::Command(command));
+            }
+            Reaction::Changed(_) => self.apply_rules(),
+            Reaction::Pass => {}
+            Reaction::Done => {}
+            Reaction::Capture(_) => {}
+            Reaction::Release => {}
+        }
+    }
+
+    // A mouse down. A view that asked for the focus, and got it, is handed it once more.
+    fn press(&mut self, event: &Event, env: &Env)
+        requires { self.old.pending ≡ [] }
+        ensures stands { (d : Dialog) (m : Modal) → IsLawfulDialog d → IsLentBy d m env.now → (p : Point) → event.now ≡ events.Down p
+            → IsReadyForDown m p → Stands V.meaning d m.leaves m self.old
+            → ComesTo V.meaning d (turned d event.now m) self.new }
+        ensures pending { IsPosted self.new.pending }
+    {
+        match self.body.handle(event, Phase::Focused, env) {
+            Reaction::Focus(id) => {
+                if self.request(id) {
+                    self.body.handle(event, Phase::Focused, env);
+                }
+            }
+            reaction => self.react(reaction),
+        }
+    }
+
+    // An event that goes to every view.
+    fn tell(&mut self, event: &Event, env: &Env)
+        requires { self.old.pending ≡ [] }
+        ensures stands { (d : Dialog) (m : Modal) → IsLawfulDialog d → IsLentBy d m env.now → IsReadyForAll d m event.now
+            → Stands V.meaning d m.leaves m self.old → ComesTo V.meaning d (turned d event.now m) self.new }
+        ensures pending { IsPosted self.new.pending }
+    {
+        let reaction = self.body.handle(event, Phase::Focused, env);
+        self.react(reaction);
+    }
+
+    // A posted event, with one environment for all that it comes to.
+    fn turn(&mut self, event: &Event, env: &Env)
+        requires { self.old.pending ≡ [] }
+        ensures stands { (d : Dialog) (m : Modal) → IsLawfulDialog d → env.now.views.now ≡ d.views → IsReady d m event.now
+            → Stands V.meaning d m.leaves m self.old → ComesTo V.meaning d (turned d event.now m) self.new }
+        ensures pending { PostedAfter event.now self.new.pending }
+    {
+        let env = self.lent(env);
+        match event {
+            Event::Key(_) => {
+                let reaction = offer_in_phases(&mut self.body, event, &env);
+                self.react(reaction);
+            }
+            Event::Command(command) => match offer_in_phases(&mut self.body, event, &env) {
+                Reaction::Pass => self.command(*command),
+                reaction => self.react(reaction),
+            },
+            Event::Down(_) => self.press(event, &env),
+            Event::Up(_) => self.tell(event, &env),
+            Event::Move(_) => self.tell(event, &env),
+            Event::Broadcast(_) => self.tell(event, &env),
+        }
+    }
+
+    // The event that waited longest, if one does.
+    fn turn_next(&mut self, env: &Env)
+        requires { length self.old.pending ≤ 1 }
+        ensures stands { (d : Dialog) (m : Modal) (e : Event) → IsLawfulDialog d → env.now.views.now ≡ d.views → IsReady d m e
+            → self.old.pending ≡ e ∷ [] → Stands V.meaning d m.leaves m self.old → ComesTo V.meaning d (turned d e m) self.new }
+        ensures rests { self.old.pending ≡ [] → self.new ≡ self.old }
+        ensures posted { IsPosted self.new.pending }
+        ensures last { (c : Command) → self.old.pending ≡ events.Command c ∷ [] → self.new.pending ≡ [] }
+    {
+        if let Some(event) = self.pending.next() {
+            self.turn(&event, env);
+        }
+    }
+
+    /// Handles the posted event, and what it posts: a key, a press or a release may post a command, and that nothing.
+    pub(crate) fn settle(&mut self, env: &Env)
+        requires { length self.old.pending ≤ 1 }
+        ensures stands { (d : Dialog) (m : Modal) (e : Event) → IsLawfulDialog d → env.now.views.now ≡ d.views → IsReady d m e
+            → self.old.pending ≡ e ∷ [] → Stands V.meaning d m.leaves m self.old
+            → Stands V.meaning d (turned d e m).leaves (turned d e m) self.new }
+        ensures rests { self.old.pending ≡ [] → self.new ≡ self.old }
+        ensures pending { self.new.pending ≡ [] }
+    {
+        self.turn_next(env);
+        self.turn_next(env);
+    }
+}
