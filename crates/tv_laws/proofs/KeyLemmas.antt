@@ -1,0 +1,152 @@
+-- Keys while nothing holds the mouse: the dialog goes on, or it ends as it should.
+use Rattle.std.proofs.Common.{◌≡◌, true, ◌==◌, ℕ, if◌then◌else◌, ◌∷◌, is_some, Option, Some, None, refl, sym, ap, subst, ◌∙◌, All}
+use Rattle.std.proofs.lemmas.List.Elements.{All-tail}
+use Rattle.tv_event.specs.declared.event.Key.{Key}
+use Rattle.tv_event.specs.declared.event.Key.TheVariants as keys
+use Rattle.tv_model.specs.declared.node.Id.{Id}
+use Rattle.tv_model.specs.declared.node.Node.{Node}
+use Rattle.tv_model.specs.declared.kind.Kind.{Kind}
+use Rattle.tv_model.specs.declared.kind.Kind.TheVariants as kinds
+use Rattle.tv_model.specs.declared.desc.Dialog.{Dialog}
+use Rattle.tv_model.specs.Controls.ButtonTable.{item_marking}
+use Rattle.tv_model.specs.Controls.ClusterTable.{Boxes, Radios}
+use Rattle.tv_model.specs.Description.LawfulNodes.{HasLawfulCount, IsLimited, IsNarrowNode, IsNarrowText}
+use Rattle.tv_model.specs.Description.Letters.{upper}
+use Rattle.tv_model.specs.Description.Owners.{owner_by}
+use Rattle.tv_model.specs.Description.Names.{meant}
+use Rattle.tv_model.specs.Description.Texts.{shown_texts}
+use Rattle.tv_machine.specs.Leaves.{PlacedNode}
+use Rattle.tv_machine.specs.Controls.Contents.{Content}
+use Rattle.tv_machine.specs.Controls.Tables.{Answer, Becomes, Passed, Presses, item_pressed, key_answer}
+use Rattle.tv_machine.specs.Dialog.Ending.{press}
+use Rattle.tv_machine.specs.Dialog.Focus.{next_free, previous_free, request, stops_of}
+use Rattle.tv_machine.specs.Dialog.Keys.{alt_keyed, answered, enter_target, focus_keyed, key, keyed, passed_on, press_enabled}
+use Rattle.tv_machine.specs.Dialog.Modal.{Modal, content_at, leaf_at, with_content}
+use Rattle.tv_machine.specs.Dialog.Rules.{is_enabled, is_visible}
+use Rattle.tv_machine.specs.Dialog.Shortcuts.{act, act_on, called, marker_of, press_item, request_link}
+use Rattle.tv_laws.specs.Ends.{IsDone}
+use Rattle.tv_laws.specs.Fit.{IsFitContent}
+use Rattle.tv_laws.specs.Sound.{IsSoundDialog}
+use Rattle.tv_laws.proofs.EndLemmas.{command-done, press-done}
+use Rattle.tv_laws.proofs.FreeLemmas.{IsFree, free-done, free-focus, free-request, request-then}
+use Rattle.tv_laws.proofs.ItemLemmas.{marking-item}
+use Rattle.tv_laws.proofs.KindLemmas.{IsFitAnswer, boxes-called, key-fit, radios-called}
+use Rattle.tv_laws.proofs.LeafLemmas.{IsIn, found-in, leaf_at-in, leaf_at-is, leaf_at-node}
+use Rattle.tv_laws.proofs.ListLemmas.{bool_cases, id-itself, option_cases}
+use Rattle.tv_laws.proofs.StandLemmas.{standing-leaf}
+
+module _ (d : Dialog) (sound : IsSoundDialog d) where
+  -- ---- leaves
+
+  pub leaf-count : (i : Id) (leaf : PlacedNode) → leaf_at d i ≡ Some leaf → HasLawfulCount leaf.node.kind
+  leaf-count i leaf e = (leaf_at-node IsLimited d i leaf (views_limited sound.lawful.limits) e).count
+    where
+      views_limited : All IsLimited (d.node ∷ d.views) → All IsLimited d.views
+      views_limited all = All-tail IsLimited d.node d.views all
+
+  leaf_narrow : (i : Id) (leaf : PlacedNode) → leaf_at d i ≡ Some leaf → All IsNarrowText (shown_texts leaf.node.kind)
+  leaf_narrow i leaf e = leaf_at-node IsNarrowNode d i leaf sound.narrow e
+
+  -- what the focus holds
+  pub focus-content : (m : Modal) (leaf : PlacedNode) → IsFree d m → leaf_at d m.focus ≡ Some leaf
+      → IsFitContent true leaf.node.kind (content_at m leaf.node.id)
+  focus-content m leaf f there =
+      subst (λ b. IsFitContent b leaf.node.kind (content_at m leaf.node.id)) (ap (λ id. id.0 == m.focus.0) (leaf_at-is d m.focus leaf there) ∙ id-itself m.focus)
+      (standing-leaf d sound m f.fit.standing leaf (leaf_at-in d sound.lawful m.focus leaf there))
+
+  -- the focus, by its own id, holds something else
+  pub focus-becomes : (m : Modal) (c : Content) (leaf : PlacedNode) → IsFree d m → IsIn d leaf → m.focus ≡ leaf.node.id
+      → IsFitContent true leaf.node.kind c → IsFree d (with_content d leaf.node.id c m)
+  focus-becomes m c leaf f e is fits = subst (λ i. IsFree d (with_content d i c m)) is (free-focus d sound m c leaf f (ap (leaf_at d) is ∙ e) fits)
+
+  -- ---- letters
+
+  link_free : (link : Option Node) (m : Modal) → IsFree d m → IsFree d (request_link d link m)
+  link_free None m f = f
+  link_free (Some node) m f = free-request d sound m node.id f
+
+  pub link-done : (link : Option Node) (m : Modal) → IsFree d m → IsDone d (request_link d link m)
+  link-done link m f = free-done d (request_link d link m) (link_free link m f)
+
+  -- the item of a marker is pressed once the focus is there
+  boxes_called_free : (m : Modal) (leaf : PlacedNode) (letter : ℕ) (k : Kind) → IsIn d leaf → leaf.node.kind ≡ k → IsFree d m
+      → IsDone d (called d letter leaf k m)
+  boxes_called_free m leaf letter (kinds.CheckBoxes boxes) e is f =
+      request-then d sound (IsDone d) m leaf.node.id (press_item d Boxes leaf.node.id (item_marking boxes.items letter)) f (λ n g. free-done d n g)
+      (λ n g at marks. option_cases (item_marking boxes.items letter) (λ o. IsDone d (press_item d Boxes leaf.node.id o n)) (λ none. free-done d n g)
+      (λ item found.
+      let fits : IsFitContent true (kinds.CheckBoxes boxes) (content_at n leaf.node.id) =
+      subst (λ x. IsFitContent true x (content_at n leaf.node.id)) is (focus-content n leaf g (ap (leaf_at d) at ∙ e)) in
+      let after = item_pressed Boxes item (content_at n leaf.node.id) in
+      free-done d (with_content d leaf.node.id after n)
+      (focus-becomes n after leaf g e at
+      (subst (λ x. IsFitContent true x after) (sym is) (boxes-called true boxes item (content_at n leaf.node.id) (marking-item boxes.items letter item found) fits)))))
+  boxes_called_free m leaf letter (kinds.RadioButtons radios) e is f =
+      request-then d sound (IsDone d) m leaf.node.id (press_item d Radios leaf.node.id (item_marking radios.items letter)) f (λ n g. free-done d n g)
+      (λ n g at marks. option_cases (item_marking radios.items letter) (λ o. IsDone d (press_item d Radios leaf.node.id o n)) (λ none. free-done d n g)
+      (λ item found.
+      let fits : IsFitContent true (kinds.RadioButtons radios) (content_at n leaf.node.id) =
+      subst (λ x. IsFitContent true x (content_at n leaf.node.id)) is (focus-content n leaf g (ap (leaf_at d) at ∙ e)) in
+      let after = item_pressed Radios item (content_at n leaf.node.id) in
+      free-done d (with_content d leaf.node.id after n)
+      (focus-becomes n after leaf g e at
+      (subst (λ x. IsFitContent true x after) (sym is) (radios-called true radios item (content_at n leaf.node.id) (marking-item radios.items letter item found) fits)))))
+  boxes_called_free m leaf letter (kinds.Label label) e is f = link-done (meant d.views label.link) m f
+  boxes_called_free m leaf letter (kinds.Button button) e is f =
+      bool_cases (is_enabled d m.leaves leaf.node) (λ b. IsDone d (if b then press d leaf m else m)) (λ enabled. press-done d sound leaf m f) (λ disabled. free-done d m f)
+  boxes_called_free m leaf letter (kinds.Window head) e is f = free-done d m f
+  boxes_called_free m leaf letter (kinds.Dialog head) e is f = free-done d m f
+  boxes_called_free m leaf letter (kinds.Text shown) e is f = free-done d m f
+  boxes_called_free m leaf letter (kinds.Input input) e is f = free-done d m f
+  boxes_called_free m leaf letter (kinds.List list) e is f = free-done d m f
+  boxes_called_free m leaf letter (kinds.Pane pane) e is f = free-done d m f
+
+  act_done : (letter : ℕ) (leaf : PlacedNode) (m : Modal) → IsIn d leaf → IsFree d m → IsDone d (act d letter leaf m)
+  act_done letter leaf m e f =
+      bool_cases (is_visible d m.leaves leaf) (λ b. IsDone d (if b then called d letter leaf leaf.node.kind m else m))
+      (λ shown. boxes_called_free m leaf letter leaf.node.kind e refl f) (λ hidden. free-done d m f)
+
+  marker_done : (letter : ℕ) (m : Modal) → IsFree d m → IsDone d (act_on d letter (marker_of d letter) m)
+  marker_done letter m f =
+      option_cases (marker_of d letter) (λ o. IsDone d (act_on d letter o m)) (λ none. free-done d m f)
+      (λ leaf found. act_done letter leaf m (found-in d sound.lawful (λ x. is_some (owner_by letter x.node.kind)) leaf found) f)
+
+  -- ---- the focused control
+
+  passed_done : (k : Key) (m : Modal) → IsFree d m → IsDone d (passed_on d k m)
+  passed_done (keys.Char ch) m f = marker_done (upper ch) m f
+  passed_done _ m f = free-done d m f
+
+  answered_done : (k : Key) (leaf : PlacedNode) (a : Answer) (m : Modal) → IsIn d leaf → m.focus ≡ leaf.node.id
+      → IsFitAnswer true leaf.node.kind a → IsFree d m → IsDone d (answered d k leaf a m)
+  answered_done k leaf Passed m e at fits f = passed_done k m f
+  answered_done k leaf (Becomes c) m e at fits f = free-done d (with_content d leaf.node.id c m) (focus-becomes m c leaf f e at fits)
+  answered_done k leaf Presses m e at fits f = press-done d sound leaf m f
+
+  focus_done : (k : Key) (m : Modal) → IsFree d m → IsDone d (focus_keyed d k m)
+  focus_done k m f =
+      option_cases (leaf_at d m.focus) (λ o. IsDone d (keyed d k o m)) (λ none. passed_done k m f)
+      (λ leaf there.
+      answered_done k leaf (key_answer leaf.node.kind k (content_at m leaf.node.id)) m (leaf_at-in d sound.lawful m.focus leaf there) (sym (leaf_at-is d m.focus leaf there))
+      (key-fit leaf.node.kind k (content_at m leaf.node.id) (leaf_narrow m.focus leaf there) (leaf-count m.focus leaf there) (focus-content m leaf f there)) f)
+
+  -- ---- keys
+
+  enter_done : (target : Option PlacedNode) (m : Modal) → IsFree d m → IsDone d (press_enabled d target m)
+  enter_done None m f = free-done d m f
+  enter_done (Some leaf) m f =
+      bool_cases (is_enabled d m.leaves leaf.node) (λ b. IsDone d (if b then press d leaf m else m)) (λ enabled. press-done d sound leaf m f) (λ disabled. free-done d m f)
+
+  alt_done : (letter : ℕ) (m : Modal) → IsFree d m → IsDone d (alt_keyed d letter (marker_of d letter) m)
+  alt_done letter m f =
+      option_cases (marker_of d letter) (λ o. IsDone d (alt_keyed d letter o m)) (λ none. focus_done (keys.Alt letter) m f)
+      (λ leaf found. act_done letter leaf m (found-in d sound.lawful (λ x. is_some (owner_by letter x.node.kind)) leaf found) f)
+
+  -- a key while nothing holds the mouse
+  pub key-done : (k : Key) (m : Modal) → IsFree d m → IsDone d (key d k m)
+  key-done keys.Tab m f = let to = next_free (stops_of d m.leaves) m.focus in free-done d (request d to m) (free-request d sound m to f)
+  key-done keys.ShiftTab m f = let to = previous_free (stops_of d m.leaves) m.focus in free-done d (request d to m) (free-request d sound m to f)
+  key-done keys.Esc m f = command-done d sound 11 m f
+  key-done keys.Enter m f = enter_done (enter_target d m) m f
+  key-done (keys.Alt letter) m f = alt_done letter m f
+  key-done k m f = focus_done k m f

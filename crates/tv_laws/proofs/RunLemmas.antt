@@ -1,0 +1,213 @@
+-- Every event keeps a run fit, and a fit run is safe; so every run is.
+use Rattle.std.proofs.Common.{◌≡◌, false, not, ◌<◌, ℕ, zero, suc, if◌then◌else◌, List, [], ◌∷◌, map, length, position, replicate, Option, Some, None, is_some, refl, sym, ap, subst, ◌∙◌, arith}
+use Rattle.std.specs.Prelude.{pos, slice_get}
+use Rattle.std.proofs.lemmas.Bool.{true≢false}
+use Rattle.std.proofs.lemmas.List.Elements.{All-nil}
+use Rattle.tv_cells.specs.Layers.{is_in}
+use Rattle.tv_cells.specs.declared.rect.Point.{Point}
+use Rattle.tv_event.specs.declared.event.Event.{Event}
+use Rattle.tv_event.specs.declared.event.Event.TheVariants as events
+use Rattle.tv_event.specs.declared.event.Key.{Key}
+use Rattle.tv_model.specs.declared.desc.Desc.{Desc}
+use Rattle.tv_model.specs.declared.desc.StatusItem.{StatusItem}
+use Rattle.tv_model.specs.Description.Commands.{command_number}
+use Rattle.tv_model.specs.Description.Heads.{is_named}
+use Rattle.tv_model.specs.Description.Rectangles.{desktop, rect}
+use Rattle.tv_machine.specs.State.{Held, OpenDialog, OpenMenu, State}
+use Rattle.tv_machine.specs.Dialog.Step.{dialog_step}
+use Rattle.tv_machine.specs.Output.{states}
+use Rattle.tv_machine.specs.Safe.{HasDeclaredEnd, IsAlwaysSafe, IsFitOverwriting, IsSafe}
+use Rattle.tv_machine.specs.Screen.Bars.{status_under}
+use Rattle.tv_machine.specs.Session.Commands.{do_command, modal_of}
+use Rattle.tv_machine.specs.Session.Start.{closed, start, started_at, started_by}
+use Rattle.tv_machine.specs.Session.Step.{down_at_menu, down_at_status, down_below, emptied, event_from, held_of, is_item_enabled, is_status_row, key_at_menu, key_at_status, key_below, status_command, status_item_of, step, step_at, step_below, step_held, to_dialog}
+use Rattle.tv_laws.specs.Runs.{HasSoundDialogs, IsFitState, IsKept, RunsFit}
+use Rattle.tv_laws.specs.Steps.{IsGiven}
+use Rattle.tv_laws.proofs.CommandLemmas.{IsReady, command-fit, desktop_down-fit, desktop_key-fit, idle-fit, menu_down-fit, menu_key-fit, ready-idle}
+use Rattle.tv_laws.proofs.ListLemmas.{bool_cases, option_cases}
+use Rattle.tv_laws.proofs.StepLemmas.{stays-fit}
+use Rattle.tv_laws.proofs.WorkLemmas.{dialog-opens, dialog-works, filter_none, nothing}
+
+-- ---- events that may come at any time
+
+given_key : (held : Option Held) (k : Key) → IsGiven held (events.Key k)
+given_key None k = tt
+given_key (Some held) k = tt
+
+given_down : (held : Option Held) (p : Point) → IsGiven held (events.Down p)
+given_down None p = tt
+given_down (Some held) p = tt
+
+given_move : (held : Option Held) (p : Point) → IsGiven held (events.Move p)
+given_move None p = tt
+given_move (Some held) p = tt
+
+given_up : (held : Option Held) (p : Point) → IsGiven held (events.Up p)
+given_up None p = tt
+given_up (Some held) p = tt
+
+not_some : {A : Type 0} (o : Option A) → is_some o ≡ false → o ≡ None
+not_some None e = refl
+not_some (Some x) e = absurd (true≢false e)
+
+module _ (d : Desc) (sound : HasSoundDialogs d) where
+  -- ---- the open dialog
+
+  to_dialog_fit : (s : State) (o : OpenDialog) (e : Event) → s.dialog ≡ Some o → IsFitState d s
+      → IsGiven o.held (event_from o.origin e) → IsFitState d (to_dialog d o e s)
+  to_dialog_fit s o e some f given =
+      dialog-works d sound s o (λ dialog m. dialog_step dialog (event_from o.origin e) m) some f
+      (λ dialog is going. stays-fit dialog is (modal_of s o) (event_from o.origin e) going given)
+
+  -- no menu is open over a dialog
+  menu_idle : (s : State) (o : OpenMenu) → s.menu ≡ Some o → IsFitState d s → s.dialog ≡ None
+  menu_idle s o some f =
+      option_cases s.dialog (λ x. s.dialog ≡ x → x ≡ None) (λ none e. refl) (λ dialog is e. absurd (nothing o (sym (f.«open» dialog e).menu ∙ some))) refl
+
+  -- ---- keys
+
+  key_below_fit : (k : Key) (s : State) → IsReady d sound s → IsFitState d (key_below d s.dialog k s)
+  key_below_fit k s r =
+      option_cases s.dialog (λ o. IsFitState d (key_below d o k s)) (λ none. desktop_key-fit d sound k s (ready-idle d sound s r none))
+      (λ o some. to_dialog_fit s o (events.Key k) some r.fit (given_key o.held k))
+
+  key_status_fit : (item : Option StatusItem) (k : Key) (s : State) → IsReady d sound s → s.menu ≡ None
+      → IsFitState d (key_at_status d item k s)
+  key_status_fit None k s r menu = key_below_fit k s r
+  key_status_fit (Some item) k s r menu = command-fit d sound (command_number item.command) s r menu
+
+  key_fit : (k : Key) (s : State) → IsReady d sound s → IsFitState d (key_at_menu d s.menu k s)
+  key_fit k s r =
+      option_cases s.menu (λ o. IsFitState d (key_at_menu d o k s)) (λ none. key_status_fit (status_item_of d s k) k s r none)
+      (λ o some. menu_key-fit d sound o k s (ready-idle d sound s r (menu_idle s o some r.fit)))
+
+  -- ---- mouse downs
+
+  status_fit : (item : Option StatusItem) (s : State) → IsReady d sound s → s.menu ≡ None → IsFitState d (status_command d item s)
+  status_fit None s r menu = r.fit
+  status_fit (Some item) s r menu =
+      bool_cases (is_item_enabled d s item) (λ b. IsFitState d (if b then do_command d (command_number item.command) s else s))
+      (λ enabled. command-fit d sound (command_number item.command) s r menu) (λ disabled. r.fit)
+
+  down_below_fit : (p : Point) (s : State) → IsReady d sound s → s.menu ≡ None → IsFitState d (down_below d s.dialog p s)
+  down_below_fit p s r menu =
+      option_cases s.dialog (λ o. IsFitState d (down_below d o p s)) (λ none. desktop_down-fit d sound p s (ready-idle d sound s r none) menu)
+      (λ o some. bool_cases (is_in (desktop d) p.x p.y) (λ b. IsFitState d (if b then to_dialog d o (events.Down p) s else s))
+      (λ inside. to_dialog_fit s o (events.Down p) some r.fit (given_down o.held _)) (λ outside. r.fit))
+
+  down_status_fit : (p : Point) (s : State) → IsReady d sound s → s.menu ≡ None → IsFitState d (down_at_status d p s)
+  down_status_fit p s r menu =
+      bool_cases (is_in (rect (pos 0) (pos 0) d.width d.height) p.x p.y)
+      (λ b. IsFitState d (if not b then s else if is_status_row d p then status_command d (status_under d p.x) s else down_below d s.dialog p s))
+      (λ inside. bool_cases (is_status_row d p) (λ b. IsFitState d (if b then status_command d (status_under d p.x) s else down_below d s.dialog p s))
+      (λ row. status_fit (status_under d p.x) s r menu) (λ above. down_below_fit p s r menu))
+      (λ outside. r.fit)
+
+  down_fit : (p : Point) (s : State) → IsReady d sound s → IsFitState d (down_at_menu d s.menu p s)
+  down_fit p s r =
+      option_cases s.menu (λ o. IsFitState d (down_at_menu d o p s)) (λ none. down_status_fit p s r none)
+      (λ o some. menu_down-fit d sound o p s (ready-idle d sound s r (menu_idle s o some r.fit)))
+
+  -- ---- events
+
+  below_fit : (e : Event) (s : State) → IsReady d sound s → IsFitState d (step_below d e s)
+  below_fit (events.Key k) s r = key_fit k s r
+  below_fit (events.Down p) s r = down_fit p s r
+  below_fit (events.Move p) s r = r.fit
+  below_fit (events.Up p) s r = r.fit
+  below_fit (events.Command c) s r = r.fit
+  below_fit (events.Broadcast c) s r = r.fit
+
+  held_fit : (o : OpenDialog) (e : Event) (s : State) → s.dialog ≡ Some o → IsFitState d s → IsFitState d (step_held d o e s)
+  held_fit o (events.Move p) s some f = to_dialog_fit s o (events.Move p) some f (given_move o.held _)
+  held_fit o (events.Up p) s some f = to_dialog_fit s o (events.Up p) some f (given_up o.held _)
+  held_fit o (events.Key k) s some f = f
+  held_fit o (events.Down p) s some f = f
+  held_fit o (events.Command c) s some f = f
+  held_fit o (events.Broadcast c) s some f = f
+
+  -- the log is taken
+  emptied_fit : (s : State) → IsFitState d s → IsFitState d (emptied s)
+  emptied_fit s f = record {
+    kept = record { saved = f.kept.saved; places = f.kept.places; ordered = f.kept.ordered; ends = All-nil (HasDeclaredEnd d) };
+    «open» = λ o e. let x = f.«open» o e in record { dialog = x.dialog; there = x.there; fit = x.fit; menu = x.menu; over = x.over };
+  }
+
+  step_at_fit : (e : Event) (s : State) → IsFitState d s → s.is_over ≡ false → IsFitState d (step_at d (held_of s.dialog) e s)
+  step_at_fit e s f over =
+      option_cases s.dialog (λ o. IsFitState d (step_at d (held_of o) e s))
+      (λ none. below_fit e s (record { fit = f; over = over; idle = λ o is. absurd (nothing o (sym none ∙ is)) }))
+      (λ o some. bool_cases (is_some o.held) (λ b. IsFitState d (step_at d (if b then Some o else None) e s)) (λ holds. held_fit o e s some f)
+      (λ loose. below_fit e s (record {
+        fit = f;
+        over = over;
+        idle = λ x is. let both : Some o ≡ Some x = sym some ∙ is in let same : o ≡ x = cc in subst (λ y. y.held ≡ None) same (not_some o.held loose);
+      })))
+
+  pub runs-fit : RunsFit d
+  runs-fit s e f =
+      bool_cases s.is_over (λ b. IsFitState d (if b then emptied s else step_at d (held_of s.dialog) e (emptied s))) (λ over. emptied_fit s f)
+      (λ goes. step_at_fit e (emptied s) (emptied_fit s f) goes)
+
+  -- ---- the start
+
+  copies : {A : Type 0} (n : ℕ) (v x : A) (j : ℕ) → slice_get (replicate n v) j ≡ Some x → (x ≡ v) × (j < n)
+  copies zero v x j e = absurd cc
+  copies (suc n) v x zero e = (cc, omega arith)
+  copies (suc n) v x (suc j) e = let r = copies n v x j e in (r.0, omega (arith, r.1))
+
+  copies_length : {A : Type 0} (n : ℕ) (v : A) → length (replicate n v) ≡ n
+  copies_length zero v = refl
+  copies_length (suc n) v = ap (λ (k : ℕ). suc k) (copies_length n v)
+
+  there_is : {A : Type 0} (xs : List A) (j : ℕ) → j < length xs → (x : A) × (slice_get xs j ≡ Some x)
+  there_is [] j less = absurd (omega arith)
+  there_is (x ∷ xs) zero less = (x, refl)
+  there_is (x ∷ xs) (suc j) less = there_is xs j (omega arith)
+
+  closed_kept : IsKept d (closed d)
+  closed_kept = record {
+    saved = λ j entries e. let r = copies (length d.dialogs) None (Some entries) j e in absurd (nothing entries (sym r.0));
+    places = copies_length (length d.dialogs) [];
+    ordered = λ j ids e.
+        let r = copies (length d.dialogs) [] ids j e in
+        let x = there_is d.dialogs j r.1 in
+        subst (IsFitOverwriting d j) (sym r.0) (record { dialog = x.0; there = x.1; ordered = sym (filter_none (map (λ view. view.id) x.0.views)) });
+    ends = All-nil (HasDeclaredEnd d);
+  }
+
+  at_fit : (place : Option ℕ) → IsFitState d (started_at d place)
+  at_fit None = idle-fit d sound (closed d) closed_kept refl
+  at_fit (Some place) = dialog-opens d sound place (closed d) (idle-fit d sound (closed d) closed_kept refl) refl refl
+
+  by_fit : (name : Option (List ℕ)) → IsFitState d (started_by d name)
+  by_fit None = at_fit None
+  by_fit (Some name) = at_fit (position (is_named name) d.dialogs)
+
+  pub start-fit : IsFitState d (start d)
+  start-fit = by_fit d.start
+
+  -- ---- every run
+
+  pub fit-safe : (s : State) → IsFitState d s → IsSafe d s
+  fit-safe s f = record {
+    dialog = λ o e. let x = f.«open» o e in record {
+      dialog = x.dialog;
+      there = x.there;
+      leaves = x.fit.standing.leaves;
+      focus = x.fit.focus;
+      held = λ held is. let h = x.fit.held held is in record { leaf = h.leaf; there = h.there; visible = h.visible; enabled = h.enabled };
+      contents = λ k y h. (x.fit.standing.contents k y h).safe;
+      menu = x.menu;
+      over = x.over;
+    };
+    saved = f.kept.saved;
+    ends = f.kept.ends;
+  }
+
+  states-fit : (es : List Event) (s : State) → IsFitState d s → IsFitState d (states (step d) s es)
+  states-fit [] s f = f
+  states-fit (e ∷ es) s f = states-fit es (step d s e) (runs-fit s e f)
+
+  pub always-safe : IsAlwaysSafe d
+  always-safe es = fit-safe (states (step d) (start d) es) (states-fit es (start d) start-fit)

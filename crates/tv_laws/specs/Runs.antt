@@ -1,0 +1,41 @@
+-- What every event of a run keeps.
+use Rattle.std.specs.Prelude.{◌≡◌, ℕ, false, List, length, slice_get, Some, None, All}
+use Rattle.tv_event.specs.declared.event.Event.{Event}
+use Rattle.tv_model.specs.declared.node.Id.{Id}
+use Rattle.tv_model.specs.declared.desc.Desc.{Desc}
+use Rattle.tv_model.specs.declared.desc.Dialog.{Dialog}
+use Rattle.tv_model.specs.Log.Record.{Entries}
+use Rattle.tv_machine.specs.State.{State, OpenDialog}
+use Rattle.tv_machine.specs.Session.Commands.{modal_of}
+use Rattle.tv_machine.specs.Session.Step.{step}
+use Rattle.tv_machine.specs.Safe.{HasDeclaredEnd, IsFitOverwriting, IsSafeSaved}
+use Rattle.tv_laws.specs.Fit.{IsFitModal}
+use Rattle.tv_laws.specs.Sound.{IsSoundDialog}
+
+-- every dialog of the description is sound
+abbrev pub HasSoundDialogs : Desc → Type 0
+HasSoundDialogs d = All IsSoundDialog d.dialogs
+
+-- the open dialog is one of the description and can be used, and no menu is open
+pub record IsFitOpen (d : Desc) (s : State) (o : OpenDialog) : Type 0 where
+  pub dialog : Dialog
+  pub there : slice_get d.dialogs o.place ≡ Some dialog
+  pub fit : IsFitModal dialog (modal_of s o)
+  pub menu : s.menu ≡ None
+  pub over : s.is_over ≡ false
+
+-- saved records are safe, the inputs in which typing overwrites stand in order, and dialogs end as they declare
+pub record IsKept (d : Desc) (s : State) : Type 0 where
+  pub saved : (place : ℕ) (entries : Entries) → slice_get s.saved place ≡ Some (Some entries) → IsSafeSaved d place entries
+  pub places : length s.overwriting ≡ length d.dialogs
+  pub ordered : (place : ℕ) (ids : List Id) → slice_get s.overwriting place ≡ Some ids → IsFitOverwriting d place ids
+  pub ends : All (HasDeclaredEnd d) s.log
+
+-- what every event keeps of a run, so that it stays safe
+pub record IsFitState (d : Desc) (s : State) : Type 0 where
+  pub kept : IsKept d s
+  pub «open» : (o : OpenDialog) → s.dialog ≡ Some o → IsFitOpen d s o
+
+-- every event keeps it
+abbrev pub RunsFit : Desc → Type 0
+RunsFit d = (s : State) (e : Event) → IsFitState d s → IsFitState d (step d s e)

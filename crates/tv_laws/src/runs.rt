@@ -1,0 +1,24 @@
+//! What is so of every run and of every open dialog, as contracts.
+ghost use Rattle.tv_machine.specs.Safe.{IsAlwaysSafe};
+ghost use Rattle.tv_laws.specs.Leaving.{EscCancels, TabGoesOn, UpLetsGo};
+ghost use Rattle.tv_laws.specs.Runs.{HasSoundDialogs};
+ghost use Rattle.tv_laws.specs.Sound.{IsSoundDialog};
+ghost use Rattle.tv_laws.specs.Steps.{OpensFit, StaysFit};
+
+use tv_model::{Desc, Dialog};
+
+/// Promises that every run of a description whose dialogs are sound is safe; there is nothing to do.
+pub fn runs_are_safe(_desc: &Desc)
+    requires sound { HasSoundDialogs _desc.now }
+    ensures safe { IsAlwaysSafe _desc.now }
+{}
+
+/// Promises that a sound dialog opens, stays usable and can be left; there is nothing to do.
+pub fn dialog_stays_fit(_dialog: &Dialog)
+    requires sound { IsSoundDialog _dialog.now }
+    ensures opens { OpensFit _dialog.now }
+    ensures stays { StaysFit _dialog.now }
+    ensures cancels { EscCancels _dialog.now }
+    ensures lets_go { UpLetsGo _dialog.now }
+    ensures goes_on { TabGoesOn _dialog.now }
+{}
