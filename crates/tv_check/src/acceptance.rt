@@ -1,7 +1,8 @@
 //! Descriptions that were checked, with their certificates.
 
-ghost use Rattle.std.specs.Prelude.{◌≡◌, IfOk, IfErr};
+ghost use Rattle.std.specs.Prelude.{◌≡◌, All, IfOk, IfErr};
 ghost use Rattle.tv_lang.specs.CanonicalDescription.{CanBeSpelled};
+ghost use Rattle.tv_machine.specs.Dialog.Lawful.{IsLawfulDialog};
 ghost use Rattle.tv_model.specs.Faults.{IsSound};
 ghost use Rattle.tv_check.specs.Certificates.{IsSoundCertificate};
 ghost use Rattle.tv_check.specs.Refusals.{Accepts, Refuses};
@@ -66,6 +67,7 @@ impl Checked {
         ensures value { result.now ≡ self.now }
         ensures spelled { CanBeSpelled result.now }
         ensures sound { IsSound result.now }
+        ensures lawful { All IsLawfulDialog result.now.dialogs }
     {
         &self.desc
     }

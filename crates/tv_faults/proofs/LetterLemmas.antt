@@ -37,7 +37,7 @@ lettered letter None = (λ e. absurd (false≢true e), λ e. absurd cc)
 lettered letter (Some other) = let same : Decides (other == letter) (other ≡ letter) = Decides-eqb other letter in
     (λ e. ap Some (same.0 e), λ e. let one : other ≡ letter = cc in same.1 one)
 
-marks_decides : (letter : ℕ) (text : MarkedText) → Decides (marks letter text) (MarksLetter text letter)
+pub marks_decides : (letter : ℕ) (text : MarkedText) → Decides (marks letter text) (MarksLetter text letter)
 marks_decides letter text = lettered letter (letter_of text)
 
 shares_excludes : (text other : MarkedText) → Excludes (shares_letter text other) (MarkOtherLetters other text)

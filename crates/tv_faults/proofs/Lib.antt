@@ -2,6 +2,10 @@ pub mod EndLemmas
 pub mod ExcludeLemmas
 pub mod FoundLemmas
 pub mod LackLemmas
+pub mod LawfulDialogLemmas
+pub mod LawfulFocusLemmas
+pub mod LawfulPartLemmas
+pub mod LawfulPlaceLemmas
 pub mod LetterLemmas
 pub mod LimitLemmas
 pub mod NameLemmas
@@ -9,5 +13,6 @@ pub mod OrderLemmas
 pub mod PairLemmas
 pub mod RisingLemmas
 pub mod RuleLemmas
+pub mod SeenLemmas
 pub mod SoundLemmas
 pub mod UsableLemmas

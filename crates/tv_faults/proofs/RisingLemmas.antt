@@ -1,5 +1,5 @@
 -- The lines of a description that can be spelled rise.
-use Rattle.std.proofs.Common.{◌≡◌, ℕ, zero, suc, ◌+◌, ◌-◌, ◌<◌, ◌≤◌, Option, Some, None, List, [], ◌∷◌, ◌++◌, append_assoc, map, flat_map, replicate, refl, ap, ◌∙◌, arith}
+use Rattle.std.proofs.Common.{◌≡◌, ℕ, zero, suc, ◌+◌, ◌-◌, ◌<◌, ◌≤◌, Option, Some, None, List, [], ◌∷◌, ◌++◌, append_assoc, get_or, map, flat_map, replicate, refl, ap, ◌∙◌, arith}
 use Rattle.std.specs.List.{All, AllPairs}
 use Rattle.std.proofs.lemmas.List.Elements.{All-nil, All-cons, All-head, All-tail, All-weaker}
 use Rattle.std.proofs.lemmas.List.Kept.{AllPairs-cons}
@@ -136,7 +136,7 @@ rising_lines d is =
     let rise : Rises 2 (2 ∷ (start_line d.start ++ all_numbers (after_start d))) = with_start d.start (after_start d) is.declarations.1.1 in
     rw (numbers_after_start d) at rise.rising
 
--- ---- the lines of each dialog's views rise
+-- ---- the lines of each dialog and its views rise
 
 all_left : {A : Type 0} (P : A → Type 0) (xs ys : List A) → All P (xs ++ ys) → All P xs
 all_left P [] ys all = All-nil P
@@ -162,19 +162,26 @@ pairs_unmap R f (x ∷ xs) all =
 abbrev IsEarlier : ℕ → ℕ → Type 0
 IsEarlier line later = line < later
 
-rising_views : (dialogs : List Dialog) → AllPairs IsEarlier (flat_map lines_of_dialog dialogs) → All (λ dialog. AreRising dialog.views) dialogs
-rising_views [] rising = All-nil (λ dialog. AreRising dialog.views)
-rising_views (dialog ∷ dialogs) rising =
+rising_nodes : (dialogs : List Dialog) → AllPairs IsEarlier (flat_map lines_of_dialog dialogs) → All (λ dialog. AreRising (dialog_nodes dialog)) dialogs
+rising_nodes [] rising = All-nil (λ dialog. AreRising (dialog_nodes dialog))
+rising_nodes (dialog ∷ dialogs) rising =
     let own : AllPairs IsEarlier (lines_of_dialog dialog) = pairs_left IsEarlier (lines_of_dialog dialog) (flat_map lines_of_dialog dialogs) rising in
-    let nodes : AllPairs IsEarlier (map (λ node. node.id.0) dialog.views) =
-    pairs_tail IsEarlier dialog.node.id.0 _ (pairs_left IsEarlier (map (λ node. node.id.0) (dialog_nodes dialog)) (map (λ rule. rule.id.0) dialog.rules) own) in
-    All-cons (λ dialog. AreRising dialog.views) dialog dialogs (pairs_unmap IsEarlier (λ node. node.id.0) dialog.views nodes)
-    (rising_views dialogs (pairs_right IsEarlier (lines_of_dialog dialog) (flat_map lines_of_dialog dialogs) rising))
+    let nodes : AllPairs IsEarlier (map (λ node. node.id.0) (dialog_nodes dialog)) =
+    pairs_left IsEarlier (map (λ node. node.id.0) (dialog_nodes dialog)) (map (λ rule. rule.id.0) dialog.rules) own in
+    All-cons (λ dialog. AreRising (dialog_nodes dialog)) dialog dialogs (pairs_unmap IsEarlier (λ node. node.id.0) (dialog_nodes dialog) nodes)
+    (rising_nodes dialogs (pairs_right IsEarlier (lines_of_dialog dialog) (flat_map lines_of_dialog dialogs) rising))
 
-pub views_rise : (d : Desc) → IsDescription d → All (λ dialog. AreRising dialog.views) d.dialogs
-views_rise d is =
-    rising_views d.dialogs
+-- each dialog and its views
+pub nodes_rise : (d : Desc) → IsDescription d → All (λ dialog. AreRising (dialog_nodes dialog)) d.dialogs
+nodes_rise d is =
+    rising_nodes d.dialogs
     (pairs_right IsEarlier (flat_map lines_of_window d.windows) _
     (pairs_right IsEarlier (map (λ item. item.id.0) d.status) _
     (pairs_right IsEarlier (flat_map lines_of_menu d.menus) _
     (pairs_right IsEarlier (2 ∷ start_line d.start) _ (rising_lines d is)))))
+
+-- its views alone
+pub views_rise : (d : Desc) → IsDescription d → All (λ dialog. AreRising dialog.views) d.dialogs
+views_rise d is k dialog less =
+    let own : Dialog = get_or d.dialogs k dialog in
+    pairs_tail (λ node later. node.id.0 < later.id.0) own.node own.views (nodes_rise d is k dialog less)

@@ -1,0 +1,5 @@
+use Rattle.tv_faults.proofs.LawfulDialogLemmas.{sound_lawful}
+use Rattle.tv_check.proofs.acceptance.Checked.desc.Goals as goal
+
+pub returns-clause-lawful : goal.returns-clause-lawful
+returns-clause-lawful c = sound_lawful _ c.self.invariant.0.1.can c.self.invariant.1
