@@ -8,6 +8,7 @@ pub mod FitLemmas
 pub mod FocusLemmas
 pub mod FreshLeafLemmas
 pub mod GatheredLemmas
+pub mod GroupFitLemmas
 pub mod HandlingLemmas
 pub mod HeightLemmas
 pub mod HitLemmas
@@ -20,3 +21,4 @@ pub mod RestLemmas
 pub mod ScanLemmas
 pub mod SearchLemmas
 pub mod TreeLemmas
+pub mod StackLemmas

@@ -1,5 +1,5 @@
 -- What the other calls of a group answer, and what its leaves become.
-use Rattle.std.specs.Prelude.{ℕ, Bool, true, false, not, ◌&&◌, ◌||◌, List, [], ◌∷◌, map, find, reverse, length, nat_lt, is_some, Option, Some, None, option_map, ◌+◌, if◌then◌else◌, All}
+use Rattle.std.specs.Prelude.{ℕ, Bool, false, not, ◌&&◌, ◌||◌, List, [], ◌∷◌, map, find, reverse, length, nat_lt, is_some, Option, Some, None, option_map, ◌+◌, if◌then◌else◌, All}
 use Rattle.std.specs.List.{list_any}
 use Rattle.std.specs.Option.{option_or}
 use Rattle.tv_model.specs.declared.node.Id.{Id}

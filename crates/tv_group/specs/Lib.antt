@@ -4,4 +4,5 @@ pub mod Handling
 pub mod Opened
 pub mod Outline
 pub mod Searching
+pub mod Stack
 pub mod Turns

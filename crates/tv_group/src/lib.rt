@@ -10,7 +10,9 @@ mod fresh;
 mod group;
 mod handle;
 mod search;
+mod stack;
 mod values;
 
 pub use focus::{Advanced, Dir};
 pub use group::{Group, GroupOf, Member, MemberOf, TooDeep};
+pub use stack::Stack;

@@ -1,0 +1,62 @@
+//! Items one over the other, as windows are.
+
+ghost use Rattle.std.specs.Prelude.{◌≡◌, ◌<◌, length, slice_get, remove};
+ghost use Rattle.tv_group.specs.Stack.{lowered, raised};
+
+fn bring_to_front<T>(items: &mut [T], place: usize)
+    requires { place < length items.old }
+    ensures { items.new ≡ raised items.old place }
+{
+    items[..=place].rotate_left(place);
+}
+
+fn send_to_back<T>(items: &mut [T], place: usize)
+    requires { place < length items.old }
+    ensures { items.new ≡ lowered items.old place }
+{
+    items[place..].rotate_left(1);
+}
+
+/// Items from front to back. It never grows.
+#[derive(Drop)]
+pub struct Stack<T> {
+    /// The front one first.
+    pub items: Vec<T>,
+}
+
+impl<T> Stack<T> {
+    /// Items in their order.
+    pub fn new(items: Vec<T>) -> Stack<T>
+        ensures { result.items.items ≡ items.items }
+    {
+        Stack { items }
+    }
+
+    /// Takes the item at a place out, and no other. None where there is no such place.
+    pub fn remove(&mut self, place: usize) -> Option<T>
+        ensures item { result ≡ slice_get self.old.items.items place }
+        ensures others { self.new.items.items ≡ remove self.old.items.items place }
+    {
+        if place < self.items.len() {
+            Some(self.items.remove(place))
+        } else {
+            None
+        }
+    }
+
+    /// Brings the item at a place to the front.
+    pub fn raise(&mut self, place: usize)
+        requires { place < length self.old.items.items }
+        ensures { self.new.items.items ≡ raised self.old.items.items place }
+    {
+        bring_to_front(&mut self.items, place);
+    }
+
+    /// Sends the item at a place to the back.
+    pub fn lower(&mut self, place: usize)
+        requires { place < length self.old.items.items }
+        ensures { self.new.items.items ≡ lowered self.old.items.items place }
+    {
+        send_to_back(&mut self.items, place);
+    }
+}
