@@ -112,6 +112,15 @@ hidden_input = one_dialog (dialog 5
     ∷ [])
     (rule 10 (effects.Show (codes "i")) "k" 1 ∷ []))
 
+-- check boxes `k` show the button `b`
+abbrev pub hidden_button : Desc
+hidden_button = one_dialog (dialog 5
+    (view 6 0 1 1 12 (check "Show")
+    ∷ view 7 0 1 3 10 (button "b" "Press" (commands.Number (pos 120)))
+    ∷ view 8 0 12 6 10 (button "c" "Cancel" commands.Cancel)
+    ∷ [])
+    (rule 9 (effects.Show (codes "b")) "k" 1 ∷ []))
+
 -- radio buttons `r` show the input `i` before them by their second item, the first being marked
 abbrev pub hidden_first : Desc
 hidden_first = one_dialog (dialog 5
@@ -132,6 +141,14 @@ file_menu = record {
 -- a menu, and the dialog that isn't open at the start
 abbrev pub closed_dialog : Desc
 closed_dialog = record hidden_first { start = None; menus = file_menu ∷ [] }
+
+-- F10, which quits
+abbrev quit_key : StatusItem
+quit_key = record { id = record { 0 = 3 }; text = codes "F10 Quit"; key = keys.Function 10; command = commands.Quit }
+
+-- F10 ends the run, and F3 opens the dialog
+abbrev pub quitting : Desc
+quitting = record hidden_first { start = None; status = quit_key ∷ open_key ∷ [] }
 
 -- a window without texts, by its line, its corner and its size
 abbrev window : (line x y w h : ℕ) → String → Window

@@ -1,2 +1,6 @@
 pub mod Descriptions
+pub mod LeafLemmas
+pub mod ListLemmas
+pub mod MarkLemmas
+pub mod RefocusLemmas
 pub mod RuleExamples

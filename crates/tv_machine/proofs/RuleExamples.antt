@@ -13,7 +13,7 @@ use Rattle.tv_model.specs.declared.script.Item.TheVariants as items
 use Rattle.tv_model.specs.Log.LogText.{line_of}
 use Rattle.tv_machine.specs.Run.{started}
 use Rattle.tv_machine.specs.Output.{output, screen_cell}
-use Rattle.tv_machine.proofs.Descriptions.{shown_pane, hidden_input, hidden_first, closed_dialog, two_windows}
+use Rattle.tv_machine.proofs.Descriptions.{shown_pane, hidden_input, hidden_button, hidden_first, closed_dialog, quitting, two_windows}
 
 -- one name to unfold where a text is computed
 unfoldable written : Unit {0}
@@ -62,6 +62,18 @@ label_leaves_hidden_link : output (started shown_pane) (alt 73 ∷ space ∷ alt
 unfolding written
 label_leaves_hidden_link = refl
 
+-- a letter doesn't press a button that is disabled
+letter_leaves_disabled_button : output (started shown_pane) (alt 79 ∷ space ∷ alt 79 ∷ []) ≡ text
+    ("open d" ∷ "focus k" ∷ "press o" ∷ "end d ok" ∷ "field k 1" ∷ "field i \"1\"" ∷ [])
+unfolding written
+letter_leaves_disabled_button = refl
+
+-- nor one that is hidden
+letter_leaves_hidden_button : output (started hidden_button) (alt 80 ∷ space ∷ alt 80 ∷ []) ≡ text
+    ("open d" ∷ "focus k" ∷ "press b" ∷ "command 120" ∷ [])
+unfolding written
+letter_leaves_hidden_button = refl
+
 -- `ok` asks hidden inputs too, and then the focus stays where it is
 ok_asks_hidden_inputs : output (started hidden_input) (alt 79 ∷ key keys.Esc ∷ []) ≡ text
     ("open d" ∷ "focus k" ∷ "press o" ∷ "invalid i" ∷ "end d cancel" ∷ "field k -" ∷ "field i \"\"" ∷ [])
@@ -78,6 +90,29 @@ reopened_as_declared : output (started hidden_input) (space ∷ key keys.Esc ∷
     ("open d" ∷ "focus k" ∷ "end d cancel" ∷ "field k 1" ∷ "field i \"\"" ∷ "open d" ∷ "focus k" ∷ "end d cancel" ∷ "field k -" ∷ "field i \"\"" ∷ [])
 unfolding written
 reopened_as_declared = refl
+
+-- and from what was saved where the last end was by `ok`
+reopened_as_saved : output (started shown_pane) (space ∷ key keys.Enter ∷ key (keys.Function 3) ∷ key keys.Esc ∷ []) ≡ text
+    ("open d" ∷ "focus k" ∷ "press o" ∷ "end d ok" ∷ "field k 1" ∷ "field i \"1\"" ∷ "open d" ∷ "focus k" ∷ "end d cancel" ∷ "field k 1" ∷ "field i \"1\"" ∷ [])
+unfolding written
+reopened_as_saved = refl
+
+-- a command of the description's own is logged, and the dialog stays open
+own_command_stays : output (started hidden_input) (key (keys.Function 3) ∷ key keys.Esc ∷ []) ≡ text
+    ("open d" ∷ "focus k" ∷ "command 100" ∷ "end d cancel" ∷ "field k -" ∷ "field i \"\"" ∷ [])
+unfolding written
+own_command_stays = refl
+
+-- an up lets the mouse go, also outside the button that holds it, so that keys are heard again
+up_lets_go : output (started hidden_input) (down 15 7 ∷ up 3 7 ∷ key keys.Esc ∷ []) ≡ text
+    ("open d" ∷ "focus k" ∷ "end d cancel" ∷ "field k -" ∷ "field i \"\"" ∷ [])
+unfolding written
+up_lets_go = refl
+
+-- nothing happens once the run is over
+over_drops_events : output (started quitting) (key (keys.Function 10) ∷ key (keys.Function 3) ∷ []) ≡ text ("quit" ∷ [])
+unfolding written
+over_drops_events = refl
 
 -- the rules hold before the first focus, and after each change of a mark
 rules_before_focus : output (started hidden_first) (key keys.Tab ∷ key keys.Tab ∷ key keys.Down ∷ key keys.ShiftTab ∷ []) ≡ text

@@ -20,3 +20,7 @@ pub mod Step
 pub mod Opening
 -- what a dialog has that is spelled and sound
 pub mod Lawful
+-- what a dialog of a sound description has
+pub mod Sound
+-- marks by which the same is shown and enabled
+pub mod Alike
