@@ -1,9 +1,8 @@
 -- What the record of a dialog's fields has for each leaf, and the lines of the fields.
-use Rattle.std.proofs.Common.{◌≡◌, Bool, true, false, ◌||◌, ◌==◌, if◌then◌else◌, List, [], ◌∷◌, map, find, filter_map, get_or, Option, Some, None, option_map, refl, sym, ap, subst, ◌∙◌, All}
+use Rattle.std.proofs.Common.{◌≡◌, true, false, ◌||◌, ◌==◌, if◌then◌else◌, List, [], ◌∷◌, map, filter_map, get_or, Option, Some, None, option_map, refl, sym, ap, subst, ◌∙◌, All}
 use Rattle.std.specs.List.{cons_option}
 use Rattle.std.proofs.lemmas.List.Elements.{All-head, All-tail}
 use Rattle.tv_model.specs.declared.node.Id.{Id}
-use Rattle.tv_model.specs.declared.node.Node.{Node}
 use Rattle.tv_model.specs.declared.record.Entry.{Entry}
 use Rattle.tv_model.specs.declared.record.Value.{Value}
 use Rattle.tv_model.specs.declared.desc.Dialog.{Dialog}
@@ -11,15 +10,15 @@ use Rattle.tv_model.specs.declared.log.LogLine.{LogLine}
 use Rattle.tv_model.specs.declared.log.LogLine.TheVariants as lines
 use Rattle.tv_model.specs.Log.Record.{Entries, value_of}
 use Rattle.tv_machine.specs.State.{LeafState}
-use Rattle.tv_machine.specs.Leaves.{PlacedNode, leaf_list}
-use Rattle.tv_machine.specs.Dialog.Ending.{entry_of, field_line, fields_of}
+use Rattle.tv_machine.specs.Leaves.{leaf_list}
+use Rattle.tv_machine.specs.Dialog.Ending.{field_line, fields_of}
 use Rattle.tv_machine.specs.Dialog.Rules.{content_by, is_among, state_of}
 use Rattle.tv_machine.specs.Dialog.Modal.{Modal}
 use Rattle.tv_machine.specs.Dialog.Lawful.{IsLawfulDialog}
 use Rattle.tv_dialog.specs.Fields.{field_lines, line_by}
 use Rattle.tv_dialog.specs.Plan.{leaf_plan, plan_of}
-use Rattle.tv_dialog.proofs.ListLemmas.{AreApart, bool_cases, find-member, has, map-map, same-id}
-use Rattle.tv_dialog.proofs.TreeLemmas.{HasLeaves, ids-apart, leaf_id, state_id}
+use Rattle.tv_machine.proofs.ListLemmas.{AreApart, bool_cases, find-member, map-map, same-id}
+use Rattle.tv_machine.proofs.LeafLemmas.{HasLeaves, ids-apart, state_id}
 
 -- ---- what a record has for an id
 

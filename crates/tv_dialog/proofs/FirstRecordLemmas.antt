@@ -1,5 +1,5 @@
 -- The values of a fresh body: a record has room for them, and they fit it again.
-use Rattle.std.proofs.Common.{arith, inr, ◌≡◌, ◌≤◌, ◌<◌, ◌+◌, ◌∙◌, ◌==◌, if◌then◌else◌, ℕ, suc, true, false, List, [], ◌∷◌, map, length, Option, Some, None, refl, sym, ap, subst, All}
+use Rattle.std.proofs.Common.{arith, inr, ◌≡◌, ◌≤◌, ◌<◌, ◌+◌, ◌∙◌, ◌==◌, if◌then◌else◌, suc, List, [], ◌∷◌, length, Option, Some, None, sym, ap, subst, All}
 use Rattle.std.proofs.lemmas.Bool.{false≢true}
 use Rattle.std.proofs.lemmas.List.{length-map}
 use Rattle.std.proofs.lemmas.List.Elements.{All-map}
@@ -19,20 +19,20 @@ use Rattle.tv_machine.specs.Dialog.Ending.{fields_of}
 use Rattle.tv_machine.specs.Dialog.Lawful.{IsLawfulDialog}
 use Rattle.tv_machine.specs.Dialog.Opening.{opened_leaves, unfocused}
 use Rattle.tv_view.specs.Calls.{Fits, HasRoom, HasRoomFor, IsValueOf, gathered, with_field}
-use Rattle.tv_group.specs.Calls.{FitsAll, HasRoomForAll, all_gathered, gathered_within}
+use Rattle.tv_group.specs.Calls.{FitsAll, HasRoomForAll, all_gathered}
 use Rattle.tv_group.specs.Opened.{opened}
-use Rattle.tv_group.specs.Outline.{IsFreshBody, body_bounds}
+use Rattle.tv_group.specs.Outline.{IsFreshBody}
 use Rattle.tv_group.specs.declared.group.GroupOf.{GroupOf}
 use Rattle.tv_group.proofs.GatheredLemmas.{gathered-all}
-use Rattle.tv_group.proofs.TreeLemmas.{fresh_placed, opened-fresh}
-use Rattle.tv_dialog.specs.Tree.{tree_of}
-use Rattle.tv_dialog.proofs.EndingLemmas.{fewer_leaves, gathered-tree}
+use Rattle.tv_group.proofs.TreeLemmas.{opened-fresh}
+use Rattle.tv_tree.specs.Tree.{tree_of}
+use Rattle.tv_tree.proofs.EndingLemmas.{fewer_leaves, gathered-tree}
 use Rattle.tv_dialog.proofs.FreshLemmas.{fresh-alike, fresh_leaf, fresh_tree}
-use Rattle.tv_dialog.proofs.GatheredLemmas.{value-fields}
-use Rattle.tv_dialog.proofs.ListLemmas.{bool_cases}
-use Rattle.tv_dialog.proofs.OpeningLemmas.{content_at-unfocused, leaves-unfocused}
+use Rattle.tv_tree.proofs.GatheredLemmas.{value-fields}
+use Rattle.tv_machine.proofs.ListLemmas.{bool_cases}
+use Rattle.tv_tree.proofs.OpeningLemmas.{content_at-unfocused, leaves-unfocused}
 use Rattle.tv_dialog.proofs.ReopenLemmas.{gathered-alike}
-use Rattle.tv_dialog.proofs.TreeLemmas.{IsIn, leaf_at-all, leaves-are}
+use Rattle.tv_machine.proofs.LeafLemmas.{IsIn, leaf_at-all, leaves-are}
 
 -- ---- room
 

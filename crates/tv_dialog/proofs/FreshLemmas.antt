@@ -22,12 +22,12 @@ use Rattle.tv_view.specs.Calls as calls
 use Rattle.tv_group.specs.Calls.{FitsAll, all_applied, all_focused, all_set, in_place, in_place_unmarked}
 use Rattle.tv_machine.specs.Dialog.Lawful.{IsLawfulDialog}
 use Rattle.tv_dialog.specs.Resting.{AreAlike, unflagged}
-use Rattle.tv_dialog.specs.Tree.{IsSteady, IsSteadyContent, IsSteadyLeaf, around_of, placed_as, tree_as, tree_of}
-use Rattle.tv_dialog.proofs.ListLemmas.{All-unmap, among-filter, and-true, map-map, map-same}
-use Rattle.tv_dialog.proofs.OpeningLemmas.{OverwritesAlike, content_at-unfocused, leaves-unfocused, open_content, opened-tree}
-use Rattle.tv_dialog.proofs.RuledLemmas.{AreRulesOf}
-use Rattle.tv_dialog.proofs.StandingLemmas.{standing}
-use Rattle.tv_dialog.proofs.TreeLemmas.{IsIn, among-views, leaf_at-all, leaves-are, leaves-same, own-fails}
+use Rattle.tv_tree.specs.Tree.{IsSteady, IsSteadyContent, IsSteadyLeaf, around_of, placed_as, tree_as, tree_of}
+use Rattle.tv_machine.proofs.ListLemmas.{All-unmap, among-filter, and-true, map-map, map-same}
+use Rattle.tv_tree.proofs.OpeningLemmas.{OverwritesAlike, content_at-unfocused, leaves-unfocused, open_content, opened-tree}
+use Rattle.tv_tree.proofs.RuledLemmas.{AreRulesOf}
+use Rattle.tv_tree.proofs.StandingLemmas.{standing}
+use Rattle.tv_machine.proofs.LeafLemmas.{IsIn, among-views, leaf_at-all, leaves-are, leaves-same, own-fails}
 
 -- ---- leaves that are alike but for their flags
 

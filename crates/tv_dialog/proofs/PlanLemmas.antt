@@ -7,7 +7,7 @@ use Rattle.tv_model.specs.declared.node.Node.{Node}
 use Rattle.tv_model.specs.declared.kind.Kind.{Kind}
 use Rattle.tv_model.specs.declared.kind.Kind.TheVariants as kinds
 use Rattle.tv_model.specs.Description.Nodes.{is_default, is_pane}
-use Rattle.tv_machine.specs.Leaves.{PlacedNode, leaf_list, leaves_in, open_after, open_at}
+use Rattle.tv_machine.specs.Leaves.{PlacedNode, leaves_in, open_after, open_at}
 use Rattle.tv_dialog.specs.Plan.{default_of}
 
 -- ---- the default button

@@ -1,10 +1,9 @@
 -- What a dialog's plan makes of marks is what its rules do.
-use Rattle.std.proofs.Common.{◌≡◌, Bool, true, false, cond, not, ◌&&◌, ◌||◌, ◌==◌, ◌<◌, ◌≤◌, ℕ, length, arith, if◌then◌else◌, List, [], ◌∷◌, map, filter, find, filter_map, get_or, Option, Some, None, option_map, is_some, refl, sym, ap, ◌∙◌, All, IsTrue, slice_index_or}
+use Rattle.std.proofs.Common.{◌≡◌, Bool, true, false, cond, not, ◌&&◌, ◌||◌, ◌==◌, ◌<◌, ◌≤◌, ℕ, length, arith, if◌then◌else◌, List, [], ◌∷◌, map, filter, filter_map, get_or, Option, Some, None, option_map, is_some, refl, sym, ap, ◌∙◌, All, slice_index_or}
 use Rattle.std.specs.List.{cons_option, list_all}
 use Rattle.std.proofs.lemmas.Bool.{false≢true, or_right}
 use Rattle.std.proofs.lemmas.List.{length-map}
-use Rattle.std.proofs.lemmas.List.Elements.{All-nil, All-cons, All-tail, All-head}
-use Rattle.tv_model.specs.declared.node.Id.{Id}
+use Rattle.std.proofs.lemmas.List.Elements.{All-nil, All-cons}
 use Rattle.tv_model.specs.declared.node.Node.{Node}
 use Rattle.tv_model.specs.declared.kind.Kind.{Kind}
 use Rattle.tv_model.specs.declared.kind.Kind.TheVariants as kinds
@@ -21,19 +20,18 @@ use Rattle.tv_machine.specs.State.{LeafState}
 use Rattle.tv_machine.specs.Leaves.{PlacedNode, leaf_list, leaves_in, open_after, open_at}
 use Rattle.tv_machine.specs.Dialog.Ending.{fields_of}
 use Rattle.tv_machine.specs.Dialog.Modal.{Modal, leaf_at}
-use Rattle.tv_machine.specs.Dialog.Rules.{content_by, content_of, enables, holds, is_among, is_command_enabled, is_marked, is_marked_at, is_visible, shows, state_of}
+use Rattle.tv_machine.specs.Dialog.Rules.{content_of, enables, holds, is_among, is_command_enabled, is_marked, is_marked_at, is_visible, shows, state_of}
 use Rattle.tv_view.specs.declared.env.Rules.{Rules}
 use Rattle.tv_machine.specs.Dialog.Lawful.{IsLawfulDialog, NamesCluster}
 use Rattle.tv_dialog.specs.Plan.{blocks, condition_of, gate_by, gate_of, is_enabled_by, is_met, is_shown_by, leaf_plan, plan_of, shown_by, value_at}
 use Rattle.tv_dialog.specs.declared.condition.Condition.{Condition}
-use Rattle.tv_dialog.specs.declared.plan.Gate.{Gate}
-use Rattle.tv_dialog.proofs.EndingLemmas.{fewer_leaves}
-use Rattle.tv_dialog.proofs.GatheredLemmas.{value-fields}
-use Rattle.tv_dialog.proofs.ListLemmas.{all-same, any-found, bool_cases, found-all, found-among, found-id, has, id-itself, map-map, on_found, option_cases}
-use Rattle.tv_dialog.proofs.MarkLemmas.{value_by}
-use Rattle.tv_dialog.proofs.OpeningLemmas.{among_filtered}
-use Rattle.tv_dialog.proofs.RuledLemmas.{AreRulesOf}
-use Rattle.tv_dialog.proofs.TreeLemmas.{HasLeaves, IsIn, ids-apart, leaf_at-in, leaf_at-is, leaf_id, leaves-are}
+use Rattle.tv_tree.proofs.EndingLemmas.{fewer_leaves}
+use Rattle.tv_tree.proofs.GatheredLemmas.{value-fields}
+use Rattle.tv_machine.proofs.ListLemmas.{all-same, any-found, bool_cases, found-all, found-among, id-itself, map-map, on_found, option_cases}
+use Rattle.tv_machine.proofs.MarkLemmas.{value_by}
+use Rattle.tv_tree.proofs.OpeningLemmas.{among_filtered}
+use Rattle.tv_tree.proofs.RuledLemmas.{AreRulesOf}
+use Rattle.tv_machine.proofs.LeafLemmas.{HasLeaves, IsIn, ids-apart, leaf_at-in, leaf_at-is, leaf_id, leaves-are}
 
 -- ---- lists
 

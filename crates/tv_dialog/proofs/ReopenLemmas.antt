@@ -28,17 +28,17 @@ use Rattle.tv_dialog.specs.Head.{declared_head}
 use Rattle.tv_dialog.specs.Plan.{is_enabled_by, leaf_plan, plan_of, shown_by}
 use Rattle.tv_dialog.specs.Resting.{AreAlike, Rests, unflagged}
 use Rattle.tv_dialog.specs.Standing.{AreFields, Stands}
-use Rattle.tv_dialog.specs.Tree.{placed_as, tree_as, tree_of}
-use Rattle.tv_dialog.proofs.EndingLemmas.{fewer_leaves}
+use Rattle.tv_tree.specs.Tree.{placed_as, tree_as, tree_of}
+use Rattle.tv_tree.proofs.EndingLemmas.{fewer_leaves}
 use Rattle.tv_dialog.proofs.FreshLemmas.{applied-alike, fits-alike, fresh-alike, fresh_tree, set-alike, steady-declared}
-use Rattle.tv_dialog.proofs.GatheredLemmas.{fields-are, fields-ids, gathered-again, value-fields}
-use Rattle.tv_dialog.proofs.ListLemmas.{map-map, option_cases}
-use Rattle.tv_dialog.proofs.MarkLemmas.{free-same}
-use Rattle.tv_dialog.proofs.NextLemmas.{first-tree}
-use Rattle.tv_dialog.proofs.OpeningLemmas.{content_at-unfocused, first-free, first_focus-free, free-other, leaves-unfocused, set-tree, steady-unfocused}
-use Rattle.tv_dialog.proofs.RuledLemmas.{AreRulesOf, applied-tree}
-use Rattle.tv_dialog.proofs.StandingLemmas.{held-moved, hold-moved}
-use Rattle.tv_dialog.proofs.TreeLemmas.{leaves-same}
+use Rattle.tv_tree.proofs.GatheredLemmas.{fields-are, fields-ids, gathered-again, value-fields}
+use Rattle.tv_machine.proofs.ListLemmas.{map-map, option_cases}
+use Rattle.tv_machine.proofs.MarkLemmas.{free-same}
+use Rattle.tv_tree.proofs.NextLemmas.{first-tree}
+use Rattle.tv_tree.proofs.OpeningLemmas.{content_at-unfocused, first-free, first_focus-free, free-other, leaves-unfocused, set-tree, steady-unfocused}
+use Rattle.tv_tree.proofs.RuledLemmas.{AreRulesOf, applied-tree}
+use Rattle.tv_machine.proofs.RefocusLemmas.{held-moved, hold-moved}
+use Rattle.tv_machine.proofs.LeafLemmas.{leaves-same}
 use Rattle.tv_dialog.proofs.WorkingLemmas.{enabled-plan, shown-plan}
 
 -- ---- leaves that are alike

@@ -1,5 +1,5 @@
 -- What a dialog draws is what the machine shows of the open one.
-use Rattle.std.proofs.Common.{◌≡◌, ◌∙◌, IsTrue, List, [], ◌∷◌, ◌++◌, ℤ, ℕ, Some, pos, neg_ℤ, ap, sym, subst, arith, refl}
+use Rattle.std.proofs.Common.{◌≡◌, ◌∙◌, IsTrue, List, [], ◌∷◌, ◌++◌, ℤ, ℕ, Some, ap, sym, subst, arith, refl}
 use Rattle.std.proofs.lemmas.Bool.{false≢true}
 use Rattle.std.proofs.lemmas.Int.{ints}
 use Rattle.std.proofs.lemmas.List.Elements.{All-head}
@@ -7,14 +7,13 @@ use Rattle.tv_cells.specs.Canvas.{sub}
 use Rattle.tv_cells.specs.Layers.{Layer, Painted}
 use Rattle.tv_cells.specs.Picture.{Picture}
 use Rattle.tv_cells.specs.declared.canvas.Canvas.{Canvas}
-use Rattle.tv_cells.specs.declared.rect.Point.{Point}
 use Rattle.tv_model.specs.declared.node.Id.{Id}
 use Rattle.tv_model.specs.declared.node.Node.{Node}
 use Rattle.tv_model.specs.declared.kind.Kind.{Kind}
 use Rattle.tv_model.specs.declared.kind.Kind.TheVariants as kinds
 use Rattle.tv_model.specs.declared.desc.Desc.{Desc}
 use Rattle.tv_model.specs.declared.desc.Dialog.{Dialog}
-use Rattle.tv_model.specs.Controls.Meaning.{IsSmall, Leaf, Placed}
+use Rattle.tv_model.specs.Controls.Meaning.{IsSmall, Leaf}
 use Rattle.tv_model.specs.Description.Heads.{dialog_head, dialog_head_of}
 use Rattle.tv_model.specs.Description.LawfulNodes as lawful
 use Rattle.tv_model.specs.Description.Nodes.{height_of, is_dialog}
@@ -34,11 +33,11 @@ use Rattle.tv_view.proofs.LayingLemmas.{lays_as}
 use Rattle.tv_dialog.specs.Drawn as drawn
 use Rattle.tv_dialog.specs.Drawn.{lent}
 use Rattle.tv_dialog.specs.Head.{KeptHead, bounds_of, declared_head}
-use Rattle.tv_dialog.specs.Shown.{IsShown, desktop_canvas, dialog_canvas, shadow_layer}
+use Rattle.tv_tree_screen.specs.Shown.{IsShown, desktop_canvas, dialog_canvas, shadow_layer}
 use Rattle.tv_dialog.specs.Standing.{Stands}
-use Rattle.tv_dialog.specs.Tree.{tree_of}
+use Rattle.tv_tree.specs.Tree.{tree_of}
 use Rattle.tv_dialog.specs.declared.dialog.DialogOf.{DialogOf}
-use Rattle.tv_dialog.proofs.OpenDialogLemmas.{dialog-laid, dialog-tall, tree_layers}
+use Rattle.tv_tree_screen.proofs.OpenDialogLemmas.{dialog-laid, dialog-tall, tree_layers}
 use Rattle.tv_dialog.proofs.TurnCodeLemmas.{lent-by}
 
 -- what a dialog keeps of its node

@@ -1,5 +1,5 @@
 -- How a dialog goes on standing as the machine's does.
-use Rattle.std.proofs.Common.{◌≡◌, ◌<◌, ◌||◌, ◌==◌, Bool, true, false, ℕ, List, [], ◌∷◌, ◌++◌, Option, Some, None, is_some, slice_index_or, if◌then◌else◌, map, refl, sym, ap, subst, ◌∙◌, IsTrue}
+use Rattle.std.proofs.Common.{◌≡◌, ◌<◌, ◌||◌, ◌==◌, Bool, true, false, ℕ, List, [], ◌∷◌, ◌++◌, Some, None, is_some, slice_index_or, if◌then◌else◌, map, refl, sym, ap, subst, ◌∙◌, IsTrue}
 use Rattle.std.specs.Prelude.{is_none, unwrap_or}
 use Rattle.std.specs.Option.{option_or}
 use Rattle.std.proofs.lemmas.Bool.{false≢true}
@@ -16,7 +16,7 @@ use Rattle.tv_model.specs.Description.Nodes.{is_dialog}
 use Rattle.tv_machine.specs.State.{LeafState}
 use Rattle.tv_machine.specs.Dialog.Focus.{Request, Same, NotFree, Refused, Moved, after_request, focus_moved, is_free_at, keeps_focus, refocused, request, requested}
 use Rattle.tv_machine.specs.Dialog.Lawful.{IsLawfulDialog}
-use Rattle.tv_machine.specs.Dialog.Modal.{Modal, leaf_at, with_line}
+use Rattle.tv_machine.specs.Dialog.Modal.{Modal, leaf_at}
 use Rattle.tv_machine.specs.Dialog.Rules.{is_command_enabled}
 use Rattle.tv_machine.specs.Dialog.Ending.{ended, field_line, fields_of, shown_invalid}
 use Rattle.tv_group.specs.Calls.{all_focused, first_in, next_in}
@@ -26,14 +26,16 @@ use Rattle.tv_group.specs.Opened.{opened}
 use Rattle.tv_dialog.specs.declared.dialog.DialogOf.{DialogOf}
 use Rattle.tv_dialog.specs.Head.{KeptHead, declared_head}
 use Rattle.tv_dialog.specs.Standing.{AreFields, Stands, stop_in}
-use Rattle.tv_dialog.specs.Ready.{HoldSame}
+use Rattle.tv_machine.specs.Dialog.Alike.{HoldSame}
 use Rattle.tv_dialog.specs.Stepping.{started}
-use Rattle.tv_dialog.specs.Tree.{IsSteady, tree_as, tree_of}
-use Rattle.tv_dialog.proofs.FocusTreeLemmas.{focused-tree}
-use Rattle.tv_dialog.proofs.ListLemmas.{either-same, option_cases}
-use Rattle.tv_dialog.proofs.MarkLemmas.{command-same, flags-same}
-use Rattle.tv_dialog.proofs.NextLemmas.{next-tree, previous-tree}
-use Rattle.tv_dialog.proofs.StandingLemmas.{hold-moved, refocused-keeps, steady-moved}
+use Rattle.tv_tree.specs.Tree.{IsSteady, tree_as, tree_of}
+use Rattle.tv_tree.proofs.FocusTreeLemmas.{focused-tree}
+use Rattle.tv_machine.proofs.ListLemmas.{either-same, option_cases}
+use Rattle.tv_machine.proofs.MarkLemmas.{command-same}
+use Rattle.tv_tree.proofs.FlagLemmas.{flags-same}
+use Rattle.tv_tree.proofs.NextLemmas.{next-tree, previous-tree}
+use Rattle.tv_machine.proofs.RefocusLemmas.{hold-moved, refocused-keeps}
+use Rattle.tv_tree.proofs.StandingLemmas.{steady-moved}
 
 -- ---- heads
 

@@ -1,6 +1,5 @@
 -- What a dialog posts of an event comes to what the machine's dialog makes of the event.
-use Rattle.std.proofs.Common.{◌≡◌, ◌≤◌, Bool, true, false, ℕ, List, [], length, Option, Some, None, is_some, if◌then◌else◌, refl, sym, ap, subst, ◌∙◌, arith}
-use Rattle.tv_cells.specs.declared.rect.Point.{Point}
+use Rattle.std.proofs.Common.{◌≡◌, ◌≤◌, Bool, true, false, length, Some, None, is_some, if◌then◌else◌, refl, sym, ap, subst, ◌∙◌, arith}
 use Rattle.tv_event.specs.declared.event.Event.{Event}
 use Rattle.tv_event.specs.declared.event.Event.TheVariants as events
 use Rattle.tv_event.specs.declared.event.Key.{Key}
@@ -13,10 +12,10 @@ use Rattle.tv_machine.specs.Dialog.Keys.{key}
 use Rattle.tv_machine.specs.Dialog.Modal.{Modal}
 use Rattle.tv_machine.specs.Dialog.Mouse.{down_at, is_close_mark, topmost}
 use Rattle.tv_machine.specs.Dialog.Step.{dialog_step, free_step, held_step, step_by}
-use Rattle.tv_dialog.specs.Ready.{HoldsLeaf}
+use Rattle.tv_tree.specs.Ready.{HoldsLeaf}
 use Rattle.tv_dialog.specs.Settling.{IsFresh, IsReady, turned}
 use Rattle.tv_dialog.specs.Stepping.{IsHandedIn, posted, posted_free, posted_held, posted_key, walked}
-use Rattle.tv_dialog.proofs.ListLemmas.{bool_cases, option_cases}
+use Rattle.tv_machine.proofs.ListLemmas.{bool_cases, option_cases}
 
 through : {A : Type 0} (P : A → Type 0) (x y : A) → Some x ≡ Some y → P x → P y
 through P x y e p = let same : x ≡ y = cc in subst P same p

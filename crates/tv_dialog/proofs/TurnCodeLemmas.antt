@@ -1,13 +1,10 @@
 -- How a dialog stands after its views have handled an event, and after what they asked for.
-use Rattle.std.proofs.Common.{arith, inl, inr, ◌≡◌, ◌≤◌, ◌==◌, Bool, true, false, ℕ, List, [], ◌∷◌, ◌++◌, Option, Some, None, option_map, length, map, find, refl, sym, ap, subst, ◌∙◌, if◌then◌else◌}
+use Rattle.std.proofs.Common.{arith, inl, inr, ◌≡◌, ◌≤◌, ◌==◌, true, false, ℕ, List, [], ◌∷◌, ◌++◌, Option, Some, None, option_map, length, refl, sym, ap, subst, ◌∙◌, if◌then◌else◌}
 use Rattle.std.proofs.lemmas.List.{length-append}
-use Rattle.tv_event.specs.declared.event.Event.{Event}
-use Rattle.tv_event.specs.declared.event.Event.TheVariants as events
 use Rattle.tv_model.specs.declared.node.Id.{Id}
 use Rattle.tv_model.specs.declared.desc.Dialog.{Dialog}
 use Rattle.tv_model.specs.declared.log.LogLine.TheVariants as lines
 use Rattle.tv_model.specs.Controls.Meaning.{Leaf}
-use Rattle.tv_model.specs.Description.Nodes.{is_button}
 use Rattle.tv_machine.specs.State.{LeafState}
 use Rattle.tv_machine.specs.Leaves.{PlacedNode, leaf_list}
 use Rattle.tv_machine.specs.Dialog.Focus.{Request, Same, NotFree, Refused, Moved, after_request, is_granted, request, request_then, requested}
@@ -21,19 +18,19 @@ use Rattle.tv_group.specs.Calls.{all_pressed}
 use Rattle.tv_group.specs.Opened.{opened}
 use Rattle.tv_dialog.specs.Drawn.{default_now, lent}
 use Rattle.tv_dialog.specs.Plan.{is_button_plan, leaf_plan, plan_of}
-use Rattle.tv_dialog.specs.Ready.{HoldSame, IsLike, KeepsMarks}
+use Rattle.tv_machine.specs.Dialog.Alike.{HoldSame}
+use Rattle.tv_tree.specs.Ready.{IsLike, KeepsMarks}
 use Rattle.tv_dialog.specs.Settling.{ComesTo, IsFresh, posted_by, reacted_first}
 use Rattle.tv_dialog.specs.Standing.{Stands}
-use Rattle.tv_dialog.specs.Tree.{IsSteady, tree_as, tree_of}
-use Rattle.tv_dialog.specs.Turns.{IsLentBy, pressed_at, reacted}
+use Rattle.tv_tree.specs.Tree.{IsSteady, tree_as, tree_of}
+use Rattle.tv_tree.specs.Turns.{IsLentBy, pressed_at, reacted}
 use Rattle.tv_dialog.specs.declared.dialog.DialogOf.{DialogOf}
-use Rattle.tv_dialog.specs.declared.plan.LeafPlan.{LeafPlan}
 use Rattle.tv_dialog.specs.declared.plan.Plan.{Plan}
-use Rattle.tv_dialog.proofs.EnterLemmas.{enter_target-id, id_of_leaf, is_button_leaf}
-use Rattle.tv_dialog.proofs.FocusTreeLemmas.{steady-line}
-use Rattle.tv_dialog.proofs.ListLemmas.{find-map}
-use Rattle.tv_dialog.proofs.MarkLemmas.{flags-same}
-use Rattle.tv_dialog.proofs.RuledLemmas.{focus-pressed, pressed-keeps, pressed-tree, steady-pressed}
+use Rattle.tv_tree_keys.proofs.EnterLemmas.{enter_target-id, id_of_leaf, is_button_leaf}
+use Rattle.tv_tree.proofs.FocusTreeLemmas.{steady-line}
+use Rattle.tv_machine.proofs.ListLemmas.{find-map}
+use Rattle.tv_tree.proofs.FlagLemmas.{flags-same}
+use Rattle.tv_tree.proofs.RuledLemmas.{focus-pressed, pressed-keeps, pressed-tree, steady-pressed}
 use Rattle.tv_dialog.proofs.StandsLemmas.{IsKept, ended-moved, restands, stands-on}
 
 -- ---- what views are lent

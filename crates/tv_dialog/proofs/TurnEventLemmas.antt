@@ -1,5 +1,5 @@
 -- What a dialog comes to where its views were handed a key, a broadcast, a move or an up, and it did what they asked for.
-use Rattle.std.proofs.Common.{◌≡◌, ◌≤◌, true, false, List, Some, None, is_some, length, refl, sym, ap, subst, ◌∙◌}
+use Rattle.std.proofs.Common.{◌≡◌, ◌≤◌, true, false, List, None, is_some, length, refl, sym, ap, ◌∙◌}
 use Rattle.tv_cells.specs.declared.rect.Point.{Point}
 use Rattle.tv_event.specs.declared.event.Command.{Command}
 use Rattle.tv_event.specs.declared.event.Event.{Event}
@@ -8,7 +8,7 @@ use Rattle.tv_event.specs.declared.event.Key.{Key}
 use Rattle.tv_event.specs.declared.event.Phase.TheVariants as phases
 use Rattle.tv_model.specs.declared.desc.Dialog.{Dialog}
 use Rattle.tv_model.specs.Controls.Meaning.{Leaf}
-use Rattle.tv_machine.specs.State.{Held, LeafState}
+use Rattle.tv_machine.specs.State.{LeafState}
 use Rattle.tv_machine.specs.Dialog.Keys.{enter_target, key, press_enabled}
 use Rattle.tv_machine.specs.Dialog.Lawful.{IsLawfulDialog}
 use Rattle.tv_machine.specs.Dialog.Modal.{Modal, leaf_at}
@@ -18,18 +18,20 @@ use Rattle.tv_view.specs.declared.env.Env.{Env}
 use Rattle.tv_view.specs.declared.reaction.Reaction.{Reaction}
 use Rattle.tv_group.specs.Handling.{group_after, group_answer}
 use Rattle.tv_group.specs.Opened.{opened}
-use Rattle.tv_dialog.specs.Ready.{HoldSame, KeepsMarks}
+use Rattle.tv_machine.specs.Dialog.Alike.{HoldSame}
+use Rattle.tv_tree.specs.Ready.{KeepsMarks}
 use Rattle.tv_dialog.specs.Settling.{ComesTo, IsFresh, IsReadyForAll, IsReadyForHeld, IsReadyForKey, posted_by, reacted_first, turned}
 use Rattle.tv_dialog.specs.Standing.{Stands}
-use Rattle.tv_dialog.specs.Tree.{tree_of}
-use Rattle.tv_dialog.specs.Turns.{IsLentBy, phases_after, phases_answer, reacted}
+use Rattle.tv_tree.specs.Tree.{tree_of}
+use Rattle.tv_tree.specs.Turns.{IsLentBy, phases_after, phases_answer, reacted}
 use Rattle.tv_dialog.specs.declared.dialog.DialogOf.{DialogOf}
-use Rattle.tv_dialog.proofs.EnterLemmas.{enter_turn, group_after-broadcast}
-use Rattle.tv_dialog.proofs.HeldLemmas.{move-turn}
-use Rattle.tv_dialog.proofs.KeyLemmas.{key_turn}
-use Rattle.tv_dialog.proofs.ListLemmas.{option_cases}
-use Rattle.tv_dialog.proofs.MarkLemmas.{flags-same, hold-itself}
-use Rattle.tv_dialog.proofs.ReleaseLemmas.{up-holds, up-turn}
+use Rattle.tv_tree_keys.proofs.EnterLemmas.{enter_turn, group_after-broadcast}
+use Rattle.tv_tree_mouse.proofs.HeldLemmas.{move-turn}
+use Rattle.tv_tree_keys.proofs.KeyLemmas.{key_turn}
+use Rattle.tv_machine.proofs.ListLemmas.{option_cases}
+use Rattle.tv_tree.proofs.FlagLemmas.{flags-same}
+use Rattle.tv_machine.proofs.MarkLemmas.{hold-itself}
+use Rattle.tv_tree_mouse.proofs.ReleaseLemmas.{up-holds, up-turn}
 use Rattle.tv_dialog.proofs.TurnCodeLemmas.{comes-handled}
 
 module _ {V : Type 0} (look : V → Leaf) (d : Dialog) (lawful : IsLawfulDialog d) (m : Modal) (env : Env) (lentby : IsLentBy d m env)

@@ -1,8 +1,7 @@
 -- What the plan's rules come to is what the machine's do.
-use Rattle.std.proofs.Common.{◌≡◌, ◌<◌, Bool, true, false, not, ◌&&◌, ◌||◌, ◌==◌, ℕ, if◌then◌else◌, List, [], ◌∷◌, map, find, filter, filter_map, get_or, Option, Some, None, option_map, refl, sym, ap, ◌∙◌, All}
+use Rattle.std.proofs.Common.{◌≡◌, Bool, true, false, not, ◌&&◌, ◌||◌, ◌==◌, ℕ, if◌then◌else◌, List, [], ◌∷◌, map, filter, filter_map, get_or, option_map, refl, sym, ap, ◌∙◌, All}
 use Rattle.std.specs.List.{cons_option, list_all, list_any}
 use Rattle.tv_model.specs.declared.node.Id.{Id}
-use Rattle.tv_model.specs.declared.node.Node.{Node}
 use Rattle.tv_model.specs.declared.desc.Dialog.{Dialog}
 use Rattle.tv_model.specs.declared.desc.Rule.{Rule}
 use Rattle.tv_model.specs.declared.desc.Effect.{Effect}
@@ -10,7 +9,6 @@ use Rattle.tv_model.specs.declared.desc.Effect.TheVariants as effects
 use Rattle.tv_model.specs.Description.Commands.{command_number}
 use Rattle.tv_model.specs.Description.Names.{meant}
 use Rattle.tv_model.specs.Description.Numbers.{natural}
-use Rattle.tv_machine.specs.State.{LeafState}
 use Rattle.tv_machine.specs.Leaves.{PlacedNode, leaf_list}
 use Rattle.tv_machine.specs.Dialog.Ending.{fields_of}
 use Rattle.tv_machine.specs.Dialog.Rules.{enables, holds, is_among, is_command_enabled, is_marked, is_marked_at, is_visible, shows}
@@ -19,10 +17,10 @@ use Rattle.tv_machine.specs.Dialog.Lawful.{IsLawfulDialog}
 use Rattle.tv_dialog.specs.declared.condition.Condition.{Condition}
 use Rattle.tv_dialog.specs.declared.plan.Gate.{Gate}
 use Rattle.tv_dialog.specs.declared.plan.LeafPlan.{LeafPlan}
-use Rattle.tv_dialog.specs.Plan.{condition_of, conditions_of, gate_by, gate_of, is_enabled_by, is_met, is_shown_by, leaf_plan, passes_all, plan_of, shown_by, value_at}
+use Rattle.tv_dialog.specs.Plan.{condition_of, gate_by, gate_of, is_enabled_by, is_met, is_shown_by, leaf_plan, passes_all, plan_of, shown_by, value_at}
 use Rattle.tv_dialog.proofs.FieldLemmas.{states-apart, value-fields}
-use Rattle.tv_dialog.proofs.ListLemmas.{and-true, any-found, bool_cases, find-member, has, on_found, option_cases}
-use Rattle.tv_dialog.proofs.TreeLemmas.{HasLeaves, ids-apart, leaf_id}
+use Rattle.tv_machine.proofs.ListLemmas.{and-true, any-found, bool_cases, find-member, has, on_found, option_cases}
+use Rattle.tv_machine.proofs.LeafLemmas.{HasLeaves, ids-apart, leaf_id}
 
 and_false : (b : Bool) → (b && false) ≡ false
 and_false true = refl

@@ -3,11 +3,7 @@ pub mod Fields
 pub mod Head
 pub mod Placing
 pub mod Plan
-pub mod Ready
 pub mod Resting
 pub mod Settling
-pub mod Shown
 pub mod Standing
 pub mod Stepping
-pub mod Tree
-pub mod Turns

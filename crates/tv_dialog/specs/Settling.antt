@@ -1,5 +1,5 @@
 -- What a dialog posts while it handles an event, and what the machine's dialog comes to.
-use Rattle.std.specs.Prelude.{◌≡◌, ◌≤◌, ◌⊎◌, ℕ, true, false, List, [], ◌∷◌, length, IsTrue, Option, Some, None, is_some}
+use Rattle.std.specs.Prelude.{◌≡◌, ◌≤◌, ◌⊎◌, ℕ, true, false, List, [], ◌∷◌, length, IsTrue, None, is_some}
 use Rattle.tv_cells.specs.declared.rect.Point.{Point}
 use Rattle.tv_event.specs.declared.event.Command.{Command}
 use Rattle.tv_event.specs.declared.event.Event.{Event}
@@ -18,9 +18,9 @@ use Rattle.tv_machine.specs.Dialog.Mouse.{down_at, topmost}
 use Rattle.tv_machine.specs.Dialog.Step.{dialog_step}
 use Rattle.tv_view.specs.declared.reaction.Reaction.{Reaction}
 use Rattle.tv_view.specs.declared.reaction.Reaction.TheVariants as reactions
-use Rattle.tv_dialog.specs.Ready.{HoldsLeaf, IsPointOf, is_own}
+use Rattle.tv_tree.specs.Ready.{HoldsLeaf, IsPointOf, is_own}
 use Rattle.tv_dialog.specs.Standing.{Stands}
-use Rattle.tv_dialog.specs.Turns.{reacted}
+use Rattle.tv_tree.specs.Turns.{reacted}
 use Rattle.tv_dialog.specs.declared.dialog.DialogOf.{DialogOf}
 
 -- ---- what is posted

@@ -9,7 +9,7 @@ ghost use Rattle.tv_model.specs.Description.Numbers.{natural};
 ghost use Rattle.tv_faces.specs.Looks.{frame_look_of};
 ghost use Rattle.tv_palette.specs.Palettes.{colour_in};
 ghost use Rattle.tv_palette.specs.declared.role.Owner.TheVariants.{Dialog};
-ghost use Rattle.tv_dialog.specs.Head.{IsLimited, declared_head, bounds_of};
+ghost use Rattle.tv_dialog.specs.Head.{IsLimited, bounds_of, declared_head};
 
 use std::marker::Model;
 use tv_cells::Rect;
@@ -33,7 +33,7 @@ pub(crate) struct Head {
 }
 
 impl Model for Head {
-    ghost use Rattle.tv_dialog.specs.Head.{KeptHead, IsLimited};
+    ghost use Rattle.tv_dialog.specs.Head.{IsLimited, KeptHead};
 
     ghost Value = { KeptHead };
 

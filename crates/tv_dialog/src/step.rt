@@ -7,7 +7,7 @@ ghost use Rattle.tv_machine.specs.Dialog.Lawful.{IsLawfulDialog};
 ghost use Rattle.tv_machine.specs.Dialog.Modal.{Modal};
 ghost use Rattle.tv_machine.specs.Dialog.Mouse.{is_close_mark};
 ghost use Rattle.tv_machine.specs.Dialog.Step.{dialog_step};
-ghost use Rattle.tv_dialog.specs.Ready.{HoldsLeaf};
+ghost use Rattle.tv_tree.specs.Ready.{HoldsLeaf};
 ghost use Rattle.tv_dialog.specs.Standing.{Stands};
 ghost use Rattle.tv_dialog.specs.Stepping.{IsHandedIn, posted, posted_free, posted_held, posted_key, started, walked};
 

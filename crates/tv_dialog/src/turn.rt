@@ -11,10 +11,11 @@ ghost use Rattle.tv_machine.specs.Dialog.Modal.{Modal};
 ghost use Rattle.tv_machine.specs.State.{LeafState};
 ghost use Rattle.tv_group.specs.Handling.{is_pass};
 ghost use Rattle.tv_group.specs.Opened.{opened};
-ghost use Rattle.tv_dialog.specs.Ready.{HoldSame, KeepsMarks};
+ghost use Rattle.tv_machine.specs.Dialog.Alike.{HoldSame};
+ghost use Rattle.tv_tree.specs.Ready.{KeepsMarks};
 ghost use Rattle.tv_dialog.specs.Settling.{ComesTo, IsPosted, IsReady, IsReadyForAll, IsReadyForDown, PostedAfter, posted_by, reacted_first, turned};
 ghost use Rattle.tv_dialog.specs.Standing.{Stands};
-ghost use Rattle.tv_dialog.specs.Turns.{IsLentBy, phases_after, phases_answer};
+ghost use Rattle.tv_tree.specs.Turns.{IsLentBy, phases_after, phases_answer};
 
 use crate::dialog::DialogOf;
 use crate::log::note;

@@ -1,8 +1,7 @@
-use Rattle.std.proofs.Common.{rules, arith, ◌≡◌, ◌∙◌, ◌<◌, ◌∷◌, List, length, map, ap, sym, nat_lt}
+use Rattle.std.proofs.Common.{rules, arith, ◌≡◌, ◌∙◌, ◌<◌, ◌∷◌, length, map, ap, sym, nat_lt}
 use Rattle.std.specs.List.{filter}
 use Rattle.std.proofs.lemmas.Fn.{filter_same}
-use Rattle.tv_model.specs.declared.node.Node.{Node}
-use Rattle.tv_machine.specs.Leaves.{leaf_list, open_at}
+use Rattle.tv_machine.specs.Leaves.{open_at}
 use Rattle.tv_dialog.specs.Plan.{conditions_of, leaf_plan}
 use Rattle.tv_dialog.proofs.PaneLemmas.{open_now, past_leaf, past_pane}
 use Rattle.tv_dialog.proofs.plan.leaf_plans.Goals as goal

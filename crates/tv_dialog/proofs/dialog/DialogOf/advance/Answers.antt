@@ -1,11 +1,11 @@
-use Rattle.std.proofs.Common.{◌≡◌, ◌∙◌, Option, Some, None, ap, sym, subst, refl}
+use Rattle.std.proofs.Common.{◌≡◌, ◌∙◌, Some, None, ap, sym, subst}
 use Rattle.std.specs.Prelude.{unwrap_or}
 use Rattle.std.specs.Option.{option_or}
 use Rattle.tv_machine.specs.Dialog.Focus.{Same, request}
 use Rattle.tv_group.specs.Calls.{first_in, next_in}
 use Rattle.tv_dialog.specs.Standing.{Stands, stop_in}
-use Rattle.tv_dialog.specs.Tree.{tree_of}
-use Rattle.tv_dialog.proofs.ListLemmas.{id-itself}
+use Rattle.tv_tree.specs.Tree.{tree_of}
+use Rattle.tv_machine.proofs.ListLemmas.{id-itself}
 use Rattle.tv_dialog.proofs.StandsLemmas.{requested-same, stands-requested, stop-tree}
 use Rattle.tv_dialog.proofs.dialog.DialogOf.advance.Goals as goal
 

@@ -1,4 +1,4 @@
-use Rattle.std.proofs.Common.{arith, ◌≡◌, ◌<◌, ◌≤◌, ◌+◌, ◌++◌, ◌∷◌, [], ◌∙◌, length, map, refl, ap, sym, append_assoc, length-append}
+use Rattle.std.proofs.Common.{arith, ◌≡◌, ◌≤◌, ◌++◌, ◌∷◌, [], ◌∙◌, length, map, refl, ap, append_assoc, length-append}
 use Rattle.std.proofs.lemmas.List.{length-map}
 use Rattle.tv_model.specs.declared.log.LogLine.TheVariants as lines
 use Rattle.tv_machine.specs.Leaves.{leaf_list}
@@ -7,7 +7,7 @@ use Rattle.tv_group.specs.Calls.{gathered_within}
 use Rattle.tv_group.specs.Opened.{opened}
 use Rattle.tv_dialog.specs.Fields.{field_lines}
 use Rattle.tv_dialog.specs.Plan.{leaf_plan, plan_of}
-use Rattle.tv_dialog.proofs.EndingLemmas.{fewer_leaves, gathered-tree, steady-ended}
+use Rattle.tv_tree.proofs.EndingLemmas.{fewer_leaves, gathered-tree, steady-ended}
 use Rattle.tv_dialog.proofs.FieldLemmas.{lines-fields}
 use Rattle.tv_dialog.proofs.StandsLemmas.{head-parts, stands-ended}
 use Rattle.tv_dialog.proofs.dialog.DialogOf.end.Goals as goal

@@ -1,4 +1,4 @@
-use Rattle.std.proofs.Common.{arith, ◌<◌, ◌∙◌, length, refl, ap}
+use Rattle.std.proofs.Common.{arith, ◌<◌, length, refl, ap}
 use Rattle.tv_dialog.proofs.StandsLemmas.{stands-moved}
 use Rattle.tv_dialog.proofs.dialog.DialogOf.move_focus.Goals as goal
 

@@ -1,5 +1,4 @@
-use Rattle.std.proofs.Common.{arith, inl, ◌≡◌, ◌<◌, [], true, false, length, ap, sym, subst, refl, ◌∙◌}
-use Rattle.tv_event.specs.declared.event.Event.TheVariants as events
+use Rattle.std.proofs.Common.{arith, inl, ◌≡◌, ◌<◌, true, false, length, ap, sym, subst, refl, ◌∙◌}
 use Rattle.tv_event.specs.declared.event.Phase.TheVariants as phases
 use Rattle.tv_view.specs.declared.reaction.Reaction.TheVariants.{Focus}
 use Rattle.tv_machine.specs.Dialog.Focus.{is_granted, requested}
@@ -7,7 +6,7 @@ use Rattle.tv_group.specs.Handling.{group_after, group_answer}
 use Rattle.tv_group.specs.Opened.{opened}
 use Rattle.tv_dialog.specs.declared.dialog.DialogOf.{DialogOf}
 use Rattle.tv_dialog.specs.Settling.{ComesTo, turned}
-use Rattle.tv_dialog.proofs.MarkLemmas.{flags-same}
+use Rattle.tv_tree.proofs.FlagLemmas.{flags-same}
 use Rattle.tv_dialog.proofs.PressCodeLemmas.{answer_down, leaves_down, over-comes, press-over, pressed, stands-again, stands-asking, stands-refused}
 use Rattle.tv_dialog.proofs.SettleLemmas.{posted-by}
 use Rattle.tv_dialog.proofs.TurnCodeLemmas.{comes-handled}

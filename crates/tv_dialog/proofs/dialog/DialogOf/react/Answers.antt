@@ -1,13 +1,12 @@
-use Rattle.std.proofs.Common.{arith, ◌≡◌, ◌≤◌, ◌<◌, true, false, None, length, ap, sym, subst, refl, ◌∙◌}
-use Rattle.tv_model.specs.declared.node.Id.{Id}
+use Rattle.std.proofs.Common.{arith, ◌≡◌, ◌<◌, true, false, None, length, ap, sym, subst, refl, ◌∙◌}
 use Rattle.tv_view.specs.declared.reaction.Reaction.TheVariants as reactions
 use Rattle.tv_machine.specs.Dialog.Focus.{is_granted, request, requested}
 use Rattle.tv_machine.specs.Dialog.Modal.{Modal, leaf_at}
 use Rattle.tv_dialog.specs.declared.dialog.DialogOf.{DialogOf}
 use Rattle.tv_dialog.specs.Settling.{reacted_first}
 use Rattle.tv_dialog.specs.Standing.{Stands}
-use Rattle.tv_dialog.specs.Turns.{pressed_at}
-use Rattle.tv_dialog.proofs.RuledLemmas.{pressed-keeps}
+use Rattle.tv_tree.specs.Turns.{pressed_at}
+use Rattle.tv_tree.proofs.RuledLemmas.{pressed-keeps}
 use Rattle.tv_dialog.proofs.StandsLemmas.{restands}
 use Rattle.tv_dialog.proofs.TurnCodeLemmas.{ended-request, granted-then, keeps-as, refused-then, stands-item, stands-pressed}
 use Rattle.tv_dialog.proofs.dialog.DialogOf.react.Goals as goal

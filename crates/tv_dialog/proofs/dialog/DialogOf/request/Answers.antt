@@ -3,7 +3,7 @@ use Rattle.tv_model.specs.declared.log.LogLine.TheVariants as lines
 use Rattle.tv_machine.specs.Dialog.Focus.{NotFree, Refused, Moved, is_free_at, is_granted, keeps_focus}
 use Rattle.tv_machine.specs.Dialog.Modal.{leaf_at, with_line}
 use Rattle.tv_group.specs.Calls.{is_free_id, refused_in}
-use Rattle.tv_dialog.proofs.FocusTreeLemmas.{is_free-tree, refused-tree, steady-line}
+use Rattle.tv_tree.proofs.FocusTreeLemmas.{is_free-tree, refused-tree, steady-line}
 use Rattle.tv_dialog.proofs.StandsLemmas.{requested-busy, requested-moved, requested-refused, some-kept, stands-on, stands-requested}
 use Rattle.tv_dialog.proofs.dialog.DialogOf.request.Goals as goal
 

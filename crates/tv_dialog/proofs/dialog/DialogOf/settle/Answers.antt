@@ -1,4 +1,4 @@
-use Rattle.std.proofs.Common.{[], ap, ◌∙◌}
+use Rattle.std.proofs.Common.{ap, ◌∙◌}
 use Rattle.tv_event.specs.declared.event.Event.TheVariants as events
 use Rattle.tv_dialog.specs.Settling.{turned}
 use Rattle.tv_dialog.proofs.SettleLemmas.{posted-few, settled-none, settles}

@@ -1,10 +1,10 @@
-use Rattle.std.proofs.Common.{rules, arith, ◌≡◌, ◌<◌, ◌≤◌, ◌==◌, ◌∙◌, true, false, length, refl, ap, sym, subst, ◌++◌, ◌∷◌, [], length-append, if◌then◌else◌}
+use Rattle.std.proofs.Common.{rules, arith, ◌≡◌, ◌≤◌, ◌==◌, ◌∙◌, true, false, length, refl, ap, sym, subst, ◌++◌, ◌∷◌, [], length-append}
 use Rattle.tv_model.specs.declared.log.LogLine.TheVariants as lines
-use Rattle.tv_machine.specs.Dialog.Focus.{focus_moved, is_free_at}
-use Rattle.tv_machine.specs.Dialog.Modal.{Modal, with_line}
+use Rattle.tv_machine.specs.Dialog.Focus.{is_free_at}
+use Rattle.tv_machine.specs.Dialog.Modal.{with_line}
 use Rattle.tv_group.specs.Calls.{is_free_id}
 use Rattle.tv_dialog.specs.Standing.{Stands}
-use Rattle.tv_dialog.proofs.FocusTreeLemmas.{is_free-tree, steady-line}
+use Rattle.tv_tree.proofs.FocusTreeLemmas.{is_free-tree, steady-line}
 use Rattle.tv_dialog.proofs.StandsLemmas.{shown-busy, shown-moved, shown-same, stands-on}
 use Rattle.tv_dialog.proofs.dialog.DialogOf.show_invalid.Goals as goal
 use Rattle.tv_dialog.proofs.dialog.DialogOf.show_invalid.Goals.{else-ne-via-then-ne+else-is_free, else-ne-via-else-ne}

@@ -1,11 +1,10 @@
-use Rattle.std.proofs.Common.{arith, ◌≡◌, ◌<◌, ◌∷◌, ◌++◌, [], ◌∙◌, Bool, Some, None, length, is_some, refl, ap, sym, subst}
-use Rattle.tv_machine.specs.Dialog.Step.{dialog_step}
+use Rattle.std.proofs.Common.{arith, ◌≡◌, ◌∷◌, ◌++◌, [], ◌∙◌, Some, is_some, refl, ap, sym, subst}
 use Rattle.tv_group.specs.Calls.{any_holds}
 use Rattle.tv_dialog.specs.Standing.{Stands}
 use Rattle.tv_dialog.specs.Stepping.{posted, started}
 use Rattle.tv_dialog.proofs.StandsLemmas.{stands-started}
 use Rattle.tv_dialog.proofs.SteppingLemmas.{none-stays, none-walks, posted-comes}
-use Rattle.tv_dialog.proofs.TakenLemmas.{any-holds}
+use Rattle.tv_tree_mouse.proofs.TakenLemmas.{any-holds}
 use Rattle.tv_dialog.proofs.dialog.DialogOf.step.Goals as goal
 
 pub returns-in-Some-clause-stands : goal.returns-in-Some-clause-stands

@@ -1,7 +1,6 @@
-use Rattle.std.proofs.Common.{◌≡◌, [], ◌∷◌, Some, None, drop, slice_get, ap, sym, subst, refl, ◌∙◌}
-use Rattle.tv_event.specs.declared.event.Event.TheVariants as events
-use Rattle.tv_dialog.specs.Settling.{ComesTo, IsReady, PostedAfter, turned}
-use Rattle.tv_dialog.proofs.SettleLemmas.{first-is, posted-after, rest-none}
+use Rattle.std.proofs.Common.{sym, subst, refl, ◌∙◌}
+use Rattle.tv_dialog.specs.Settling.{ComesTo, IsReady, turned}
+use Rattle.tv_dialog.proofs.SettleLemmas.{first-is, rest-none}
 use Rattle.tv_dialog.proofs.TurnCodeLemmas.{stands-alike}
 use Rattle.tv_dialog.proofs.dialog.DialogOf.turn_next.Goals as goal
 

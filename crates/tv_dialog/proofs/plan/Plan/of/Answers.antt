@@ -1,6 +1,5 @@
-use Rattle.std.proofs.Common.{◌∙◌, ap}
+use Rattle.std.proofs.Common.{◌∙◌}
 use Rattle.tv_dialog.proofs.PlanLemmas.{default-leaves}
-use Rattle.tv_dialog.specs.declared.plan.Plan.{Plan}
 use Rattle.tv_dialog.proofs.plan.Plan.of.Goals as goal
 
 pub returns : goal.returns

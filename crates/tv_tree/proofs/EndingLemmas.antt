@@ -1,0 +1,204 @@
+-- What a dialog's tree answers where the dialog ends, and what commands leave of the dialog.
+use Rattle.std.proofs.Common.{◌≡◌, Bool, true, false, cond, ◌||◌, ◌==◌, ◌+◌, ◌≤◌, ℕ, suc, nat_lt, nat_le, if◌then◌else◌, List, [], ◌∷◌, ◌++◌, map, find, filter_map, length, get_or, Option, Some, None, option_map, is_some, refl, sym, ap, subst, ◌∙◌, All, arith, append_assoc, append-nil, length-append, lt-ltb}
+use Rattle.std.specs.List.{cons_option}
+use Rattle.std.specs.Option.{option_or}
+use Rattle.std.proofs.lemmas.Bool.{or_right}
+use Rattle.std.proofs.lemmas.List.Elements.{All-head, All-tail}
+use Rattle.tv_model.specs.declared.node.Id.{Id}
+use Rattle.tv_model.specs.declared.node.Node.{Node}
+use Rattle.tv_model.specs.declared.kind.Kind.{Kind}
+use Rattle.tv_model.specs.declared.kind.Kind.TheVariants as kinds
+use Rattle.tv_model.specs.declared.record.Entry.{Entry}
+use Rattle.tv_model.specs.declared.record.Value.{Value}
+use Rattle.tv_model.specs.declared.desc.Dialog.{Dialog}
+use Rattle.tv_model.specs.declared.log.LogLine.TheVariants as lines
+use Rattle.tv_model.specs.Description.Commands.{command_number, is_declared}
+use Rattle.tv_model.specs.Description.Heads.{dialog_head}
+use Rattle.tv_model.specs.Description.Nodes.{is_pane}
+use Rattle.tv_model.specs.Log.Record.{Entries, value_of, with_value}
+use Rattle.tv_machine.specs.State.{LeafState}
+use Rattle.tv_machine.specs.Leaves.{PlacedNode, leaf_list, leaves_in, open_after, open_at}
+use Rattle.tv_machine.specs.Dialog.Ending.{command, end_by, ended, entry_of, fields_of, first_invalid, is_invalid_leaf, press, pressed_kind, shown_invalid}
+use Rattle.tv_machine.specs.Dialog.Focus.{focus_moved, is_free_at}
+use Rattle.tv_machine.specs.Dialog.Rules.{content_by, is_among, state_of}
+use Rattle.tv_machine.specs.Dialog.Modal.{Modal, content_at, with_line}
+use Rattle.tv_view.specs.Calls.{gathered, invalid_id, with_field}
+use Rattle.tv_group.specs.Calls.{first_invalid_in, first_some, gathered_within}
+use Rattle.tv_machine.specs.Dialog.Lawful.{IsLawfulDialog}
+use Rattle.tv_tree.specs.Tree.{IsSteady, leaf_as, placed_as, tree_as}
+use Rattle.tv_machine.proofs.ListLemmas.{AreApart, bool_cases, find-member, id-swap, others-fail}
+use Rattle.tv_tree.proofs.FoundLemmas.{first_some-map}
+use Rattle.tv_tree.proofs.FocusTreeLemmas.{steady-line}
+use Rattle.tv_machine.proofs.MarkLemmas.{value_by}
+use Rattle.tv_tree.proofs.StandingLemmas.{steady-moved}
+use Rattle.tv_machine.proofs.LeafLemmas.{HasLeaves, ids-apart, leaf_id, state_id}
+
+-- ---- a text outside its domain
+
+module _ {A B : Type 0} (p : A → Bool) (f : A → B) where
+  some_at : (b : Bool) (x : A) (rest : Option A)
+      → option_or (if b then Some (f x) else None) (option_map f rest) ≡ option_map f (cond b (Some x) rest)
+  some_at true x rest = refl
+  some_at false x rest = refl
+
+  some-find : (xs : List A) → first_some (λ x. if p x then Some (f x) else None) xs ≡ option_map f (find p xs)
+  some-find [] = refl
+  some-find (x ∷ xs) = ap (option_or (if p x then Some (f x) else None)) (some-find xs) ∙ some_at (p x) x (find p xs)
+
+pub first_invalid-tree : (d : Dialog) (ruled : List LeafState) (m : Modal) → first_invalid_in (tree_as d ruled m) ≡ first_invalid d m
+unfolding first_invalid_in invalid_id
+first_invalid-tree d ruled m =
+    first_some-map (placed_as d ruled m) (λ x. invalid_id x.leaf) (leaf_list d.views)
+    ∙ some-find (is_invalid_leaf m) leaf_id (leaf_list d.views)
+
+-- ---- the record
+
+abbrev pub entry_with : Id → Value → Entry
+entry_with i value = record { id = i; value = value }
+
+-- the entry of a leaf, if it is a field
+abbrev pub entry_at : Modal → PlacedNode → Option Entry
+entry_at m leaf = option_map (entry_with leaf.node.id) (content_at m leaf.node.id).value
+
+one_more : (entries : Entries) (i : Id) (value : Value) → value_of entries i.0 ≡ None
+    → with_value entries i value ≡ entries ++ entry_with i value ∷ []
+one_more [] i value e = refl
+one_more (x ∷ entries) i value e =
+    bool_cases (x.id.0 == i.0)
+    (λ b. (if b then Some x.value else value_of entries i.0) ≡ None
+    → (if b then entry_with x.id value ∷ entries else x ∷ with_value entries i value) ≡ x ∷ (entries ++ entry_with i value ∷ []))
+    (λ is f. absurd cc) (λ is f. ap (λ ys. x ∷ ys) (one_more entries i value f)) e
+
+pub none_behind : (entries : Entries) (x : Entry) (field : ℕ) → value_of entries field ≡ None → (x.id.0 == field) ≡ false
+    → value_of (entries ++ x ∷ []) field ≡ None
+none_behind [] x field e other = ap (λ b. if b then Some x.value else None) other
+none_behind (y ∷ entries) x field e other =
+    bool_cases (y.id.0 == field)
+    (λ b. (if b then Some y.value else value_of entries field) ≡ None
+    → (if b then Some y.value else value_of (entries ++ x ∷ []) field) ≡ None)
+    (λ is f. f) (λ is f. none_behind entries x field f other) e
+
+module _ (d : Dialog) (ruled : List LeafState) (m : Modal) where
+  abbrev IsOpen : Entries → PlacedNode → Type 0
+  IsOpen entries leaf = value_of entries leaf.node.id.0 ≡ None
+
+  abbrev Gathers : List PlacedNode → Entries → Type 0
+  Gathers xs entries = gathered_within (map (placed_as d ruled m) xs) entries ≡ entries ++ filter_map (entry_at m) xs
+
+  gathers_one : (x : PlacedNode) (xs : List PlacedNode) (entries : Entries) → is_among (map leaf_id xs) x.node.id ≡ false
+      → IsOpen entries x → All (IsOpen entries) xs
+      → length entries + suc (length xs) ≤ 64 → ((more : Entries) → All (IsOpen more) xs → length more + length xs ≤ 64 → Gathers xs more)
+      → (value : Option Value)
+      → gathered_within (map (placed_as d ruled m) xs) (with_field value x.node.id entries)
+      ≡ entries ++ cons_option (option_map (entry_with x.node.id) value) (filter_map (entry_at m) xs)
+  gathers_one x xs entries apart here behind room ih None = ih entries behind (omega arith)
+  gathers_one x xs entries apart here behind room ih (Some value) =
+      let e = entry_with x.node.id value in
+      let long = length-append entries (e ∷ []) in
+      ap (gathered_within (map (placed_as d ruled m) xs)) (one_more entries x.node.id value here)
+      ∙ ih (entries ++ e ∷ [])
+      (λ k f h. none_behind entries e (get_or xs k f).node.id.0 (behind k f h)
+      (id-swap x.node.id (get_or xs k f).node.id ∙ others-fail leaf_id xs x.node.id apart k f h))
+      (omega (arith, long))
+      ∙ append_assoc entries (e ∷ []) (filter_map (entry_at m) xs)
+
+  gathers : (xs : List PlacedNode) (entries : Entries) → AreApart (map leaf_id xs) → All (IsOpen entries) xs
+      → length entries + length xs ≤ 64 → Gathers xs entries
+  unfolding gathered
+  gathers [] entries apart unused room = sym (append-nil entries)
+  gathers (x ∷ xs) entries apart unused room =
+      let rest = map (placed_as d ruled m) xs in
+      let space : nat_lt (length entries) 64 ≡ true = lt-ltb (length entries) 64 (omega arith) in
+      let here = All-head (IsOpen entries) x xs unused in
+      let behind = All-tail (IsOpen entries) x xs unused in
+      ap (λ b. gathered_within rest
+      (if is_some (value_of entries x.node.id.0) || b then gathered (leaf_as d ruled m x) entries else entries)) space
+      ∙ ap (λ b. gathered_within rest (if b then gathered (leaf_as d ruled m x) entries else entries))
+      (or_right (is_some (value_of entries x.node.id.0)) true refl)
+      ∙ gathers_one x xs entries apart.0 here behind room (λ more fits less. gathers xs more apart.1 fits less)
+      (content_at m x.node.id).value
+
+-- the entries of leaves are those of what they hold
+pub entries_are : (m : Modal) (xs : List PlacedNode) (states : List LeafState) → map state_id states ≡ map leaf_id xs
+    → All (λ s. state_of m.leaves s.id ≡ Some s) states
+    → filter_map (entry_at m) xs ≡ filter_map entry_of states
+entries_are m [] [] same found = refl
+entries_are m [] (s ∷ states) same found = absurd cc
+entries_are m (x ∷ xs) [] same found = absurd cc
+entries_are m (x ∷ xs) (s ∷ states) same found =
+    let head : s.id ≡ x.node.id = cc in
+    let tail : map state_id states ≡ map leaf_id xs = cc in
+    let here : state_of m.leaves x.node.id ≡ Some s =
+    ap (state_of m.leaves) (sym head) ∙ All-head (λ other. state_of m.leaves other.id ≡ Some other) s states found in
+    let value : (content_at m x.node.id).value ≡ s.value =
+    value_by (is_among m.overwriting x.node.id) (state_of m.leaves x.node.id) ∙ ap (λ o. (content_by false o).value) here in
+    ap (λ v. cons_option (option_map (entry_with x.node.id) v) (filter_map (entry_at m) xs)) value
+    ∙ ap (λ i. cons_option (option_map (entry_with i) s.value) (filter_map (entry_at m) xs)) (sym head)
+    ∙ ap (cons_option (entry_of s))
+    (entries_are m xs states tail (All-tail (λ other. state_of m.leaves other.id ≡ Some other) s states found))
+
+pub fewer_leaves : (panes views : List Node) → length (leaves_in panes views) ≤ length views
+fewer_leaves panes [] = omega arith
+fewer_leaves panes (view ∷ views) =
+    let rest = leaves_in (open_after panes view) views in
+    let less = fewer_leaves (open_after panes view) views in
+    bool_cases (is_pane view.kind)
+    (λ b. length (if b then rest else record { node = view; panes = open_at view.depth panes } ∷ rest) ≤ suc (length views))
+    (λ is. omega (arith, less)) (λ is. omega (arith, less))
+
+module _ (d : Dialog) (lawful : IsLawfulDialog d) where
+  pub states-apart : (m : Modal) → HasLeaves d m → AreApart (map state_id m.leaves)
+  states-apart m leaves = subst AreApart (sym leaves) (ids-apart d lawful)
+
+  pub gathered-tree : (ruled : List LeafState) (m : Modal) → HasLeaves d m → gathered_within (tree_as d ruled m) [] ≡ fields_of m.leaves
+  gathered-tree ruled m leaves =
+      let few = fewer_leaves [] d.views in
+      let count = lawful.count in
+      gathers d ruled m (leaf_list d.views) [] (ids-apart d lawful) (λ k e h. refl) (omega (arith, few, count))
+      ∙ entries_are m (leaf_list d.views) m.leaves leaves (find-member state_id m.leaves (states-apart m leaves))
+
+  -- ---- commands leave the dialog steady
+
+  pub steady-ended : (number : ℕ) (m : Modal) → IsSteady d m → IsSteady d (ended d number m)
+  steady-ended number m steady = record { leaves = steady.leaves; contents = steady.contents }
+
+  steady_if : (b : Bool) (m n : Modal) → IsSteady d m → IsSteady d n → IsSteady d (if b then m else n)
+  steady_if true m n p q = p
+  steady_if false m n p q = q
+
+  pub steady-shown_invalid : (i : Id) (m : Modal) → IsSteady d m → IsSteady d (shown_invalid d i m)
+  steady-shown_invalid i m steady =
+      steady_if (i.0 == m.focus.0) m (if is_free_at d m.leaves i then focus_moved d i m else m) steady
+      (steady_if (is_free_at d m.leaves i) (focus_moved d i m) m (steady-moved d lawful m i steady) steady)
+
+  pub steady-end_by : (number : ℕ) (invalid : Option Id) (m : Modal) → IsSteady d m → IsSteady d (end_by d number invalid m)
+  steady-end_by number None m steady = steady-ended number m steady
+  steady-end_by number (Some i) m steady =
+      steady-shown_invalid i (with_line (lines.Invalid i) m) (steady-line d lawful (lines.Invalid i) m steady)
+
+  pub steady-command : (number : ℕ) (m : Modal) → IsSteady d m → IsSteady d (command d number m)
+  steady-command number m steady =
+      steady_if ((number == 4) || (number == 11)) (ended d 11 m)
+      (if is_declared (dialog_head d).ends number then end_by d number (first_invalid d m) m
+      else if nat_le 100 number then with_line (lines.Command number) m else m)
+      (steady-ended 11 m steady)
+      (steady_if (is_declared (dialog_head d).ends number) (end_by d number (first_invalid d m) m)
+      (if nat_le 100 number then with_line (lines.Command number) m else m)
+      (steady-end_by number (first_invalid d m) m steady)
+      (steady_if (nat_le 100 number) (with_line (lines.Command number) m) m (steady-line d lawful (lines.Command number) m steady) steady))
+
+  steady_pressed_kind : (i : Id) (k : Kind) (m : Modal) → IsSteady d m → IsSteady d (pressed_kind d i k m)
+  steady_pressed_kind i (kinds.Button button) m steady =
+      steady-command (command_number button.command) (with_line (lines.Press i) m) (steady-line d lawful (lines.Press i) m steady)
+  steady_pressed_kind i (kinds.Window head) m steady = steady
+  steady_pressed_kind i (kinds.Dialog head) m steady = steady
+  steady_pressed_kind i (kinds.Text shown) m steady = steady
+  steady_pressed_kind i (kinds.Label label) m steady = steady
+  steady_pressed_kind i (kinds.Input input) m steady = steady
+  steady_pressed_kind i (kinds.CheckBoxes boxes) m steady = steady
+  steady_pressed_kind i (kinds.RadioButtons radios) m steady = steady
+  steady_pressed_kind i (kinds.List list) m steady = steady
+  steady_pressed_kind i (kinds.Pane pane) m steady = steady
+
+  pub steady-press : (leaf : PlacedNode) (m : Modal) → IsSteady d m → IsSteady d (press d leaf m)
+  steady-press leaf m steady = steady_pressed_kind leaf.node.id leaf.node.kind m steady

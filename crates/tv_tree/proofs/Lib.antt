@@ -1,0 +1,14 @@
+pub mod ChangedLemmas
+pub mod EndingLemmas
+pub mod FirstLemmas
+pub mod FlagLemmas
+pub mod FocusTreeLemmas
+pub mod FoundLemmas
+pub mod GatheredLemmas
+pub mod LeafListLemmas
+pub mod NextLemmas
+pub mod OpeningLemmas
+pub mod RequestLemmas
+pub mod RuledLemmas
+pub mod StandingLemmas
+pub mod TreeLemmas

@@ -1,0 +1,305 @@
+-- A dialog's tree as the dialog opens with a record: the values are set, rules are applied, and the first free control has the focus.
+use Rattle.std.proofs.Common.{◌≡◌, Bool, true, false, cond, ◌&&◌, ◌||◌, ◌==◌, ℕ, if◌then◌else◌, List, [], ◌∷◌, map, filter, find, Option, Some, None, option_map, is_some, refl, sym, ap, subst, ◌∙◌}
+use Rattle.std.specs.Prelude.{unwrap_or}
+use Rattle.std.specs.List.{list_any}
+use Rattle.std.specs.Option.{option_or}
+use Rattle.std.proofs.lemmas.Bool.{true≢false, false≢true}
+use Rattle.tv_model.specs.declared.node.Id.{Id}
+use Rattle.tv_model.specs.declared.kind.Kind.{Kind}
+use Rattle.tv_model.specs.declared.kind.Kind.TheVariants as kinds
+use Rattle.tv_model.specs.declared.record.Value.{Value}
+use Rattle.tv_model.specs.declared.record.Value.TheVariants as values
+use Rattle.tv_model.specs.declared.desc.Dialog.{Dialog}
+use Rattle.tv_model.specs.Controls.Meaning.{Placed}
+use Rattle.tv_model.specs.Log.Record.{Entries, value_of}
+use Rattle.tv_model.specs.Machine.State.{declared_value}
+use Rattle.tv_machine.specs.State.{LeafState, Private, Plain}
+use Rattle.tv_machine.specs.Leaves.{PlacedNode, leaf_list}
+use Rattle.tv_machine.specs.Controls.Contents.{Content, opened_private}
+use Rattle.tv_machine.specs.Dialog.Focus.{first_free, is_free_at, is_free_leaf, stop_of, stops_of}
+use Rattle.tv_machine.specs.Dialog.Opening.{first_focus, opened, opened_leaf, opened_leaves, recorded, unfocused}
+use Rattle.tv_machine.specs.Dialog.Rules.{content_by, is_among, is_free, state_of}
+use Rattle.tv_machine.specs.Dialog.Modal.{Modal, content_at, leaf_at}
+use Rattle.tv_machine.specs.Safe.{field_ids, is_field}
+use Rattle.tv_view.specs.declared.env.Rules.{Rules}
+use Rattle.tv_view.specs.Calls as calls
+use Rattle.tv_group.specs.Calls.{FitsAll, all_applied, all_focused, all_set, in_place_unmarked}
+use Rattle.tv_machine.specs.Dialog.Lawful.{IsLawfulDialog}
+use Rattle.tv_tree.specs.Tree.{HoldsNothing, IsSteady, IsSteadyContent, IsSteadyLeaf, around_of, held_at, placed_as, tree_as, tree_of}
+use Rattle.tv_machine.proofs.ListLemmas.{All-unmap, any-found, bool_cases, find-map, found-passes, has, map-map, on_found, option_cases}
+use Rattle.tv_tree.proofs.FocusTreeLemmas.{focused-tree}
+use Rattle.tv_tree.proofs.RuledLemmas.{AreRulesOf, applied-tree}
+use Rattle.tv_tree.proofs.StandingLemmas.{standing, standing_leaf, steady-moved}
+use Rattle.tv_machine.proofs.LeafLemmas.{HasLeaves, IsIn, found-in, ids-apart, leaf_at-all, leaf_at-is, leaf_id, leaves-are, leaves-same, own-fails, state_id}
+use Rattle.tv_tree.proofs.TreeLemmas.{steady-leaf}
+
+-- ---- what a record has
+
+pub value-among : (entries : Entries) (i : Id) → is_some (value_of entries i.0) ≡ is_among (map (λ entry. entry.id) entries) i
+value-among [] i = refl
+value-among (x ∷ entries) i =
+    bool_cases (x.id.0 == i.0)
+    (λ b. is_some (if b then Some x.value else value_of entries i.0) ≡ (b || is_among (map (λ entry. entry.id) entries) i))
+    (λ is. refl) (λ is. value-among entries i)
+
+pub among_filtered : (test : PlacedNode → Bool) (i : Id) (xs : List PlacedNode)
+    → is_among (map leaf_id (filter test xs)) i ≡ list_any (λ leaf. has leaf_id i leaf && test leaf) xs
+among_filtered test i [] = refl
+among_filtered test i (x ∷ xs) =
+    bool_cases (test x)
+    (λ b. is_among (map leaf_id (cond b (x ∷ filter test xs) (filter test xs))) i
+    ≡ ((has leaf_id i x && b) || list_any (λ leaf. has leaf_id i leaf && test leaf) xs))
+    (λ is. bool_cases (has leaf_id i x)
+    (λ b. (b || is_among (map leaf_id (filter test xs)) i) ≡ ((b && true) || list_any (λ leaf. has leaf_id i leaf && test leaf) xs))
+    (λ here. refl) (λ there. among_filtered test i xs))
+    (λ is. bool_cases (has leaf_id i x)
+    (λ b. is_among (map leaf_id (filter test xs)) i ≡ ((b && false) || list_any (λ leaf. has leaf_id i leaf && test leaf) xs))
+    (λ here. among_filtered test i xs) (λ there. among_filtered test i xs))
+
+-- a record of a dialog's fields has a value for each of them and no other leaf
+pub recorded-field : (d : Dialog) → IsLawfulDialog d → (entries : Entries) → map (λ entry. entry.id) entries ≡ field_ids d
+    → (leaf : PlacedNode) → IsIn d leaf
+    → is_some (value_of entries leaf.node.id.0) ≡ is_field leaf.node.kind
+recorded-field d lawful entries fields leaf e =
+    let test = λ (other : PlacedNode). is_field other.node.kind in
+    value-among entries leaf.node.id ∙ ap (λ ids. is_among ids leaf.node.id) fields
+    ∙ among_filtered test leaf.node.id (leaf_list d.views)
+    ∙ any-found leaf_id leaf.node.id test (leaf_list d.views) (ids-apart d lawful)
+    ∙ ap (on_found leaf_id test) e
+
+-- ---- a leaf as its dialog opens
+
+-- what it holds
+abbrev pub open_content : Kind → Option Value → Bool → Content
+open_content k recorded overwrites = record {
+  value = option_or recorded (declared_value k);
+  private = opened_private k (option_or recorded (declared_value k));
+  overwrites = overwrites;
+}
+
+content_with : Option Value → Private → Bool → Content
+content_with value private overwrites = record { value = value; private = private; overwrites = overwrites }
+
+none_is : {A : Type 0} (o : Option A) → is_some o ≡ false → o ≡ None
+none_is None e = refl
+none_is (Some x) e = absurd (true≢false e)
+
+held_field : (o : Option Value) → calls.is_field o ≡ is_some o
+held_field None = refl
+held_field (Some value) = refl
+
+-- a field has a value, and nothing else does
+pub steady_field : (is_focused : Bool) (k : Kind) (c : Content) → IsSteadyContent is_focused k c → is_some c.value ≡ is_field k
+steady_field is_focused (kinds.Input input) c s = ap is_some s.value
+steady_field is_focused (kinds.CheckBoxes boxes) c s = s
+steady_field is_focused (kinds.RadioButtons radios) c s = s
+steady_field is_focused (kinds.List list) c s = s
+steady_field is_focused (kinds.Window head) c s = ap is_some s.value
+steady_field is_focused (kinds.Dialog head) c s = ap is_some s.value
+steady_field is_focused (kinds.Text shown) c s = ap is_some s.value
+steady_field is_focused (kinds.Label label) c s = ap is_some s.value
+steady_field is_focused (kinds.Button button) c s = ap is_some s.value
+steady_field is_focused (kinds.Pane pane) c s = ap is_some s.value
+
+-- what is no field opens as it always stands
+still_plain : (c : Content) (k : Kind) → HoldsNothing c → declared_value k ≡ None → opened_private k None ≡ Plain
+    → c ≡ open_content k None c.overwrites
+unfolding content_with
+still_plain c k s declared private =
+    ap (λ v. content_with v c.private c.overwrites) s.value ∙ ap (λ p. content_with None p c.overwrites) (s.private ∙ sym private)
+    ∙ ap (λ v. content_with v (opened_private k v) c.overwrites) (sym declared)
+
+plain_opens : (is_focused : Bool) (k : Kind) (c : Content) → IsSteadyContent is_focused k c → is_field k ≡ false
+    → c ≡ open_content k None c.overwrites
+plain_opens is_focused (kinds.Input input) c s e = absurd (true≢false e)
+plain_opens is_focused (kinds.CheckBoxes boxes) c s e = absurd (true≢false e)
+plain_opens is_focused (kinds.RadioButtons radios) c s e = absurd (true≢false e)
+plain_opens is_focused (kinds.List list) c s e = absurd (true≢false e)
+plain_opens is_focused (kinds.Window head) c s e = still_plain c (kinds.Window head) s refl refl
+plain_opens is_focused (kinds.Dialog head) c s e = still_plain c (kinds.Dialog head) s refl refl
+plain_opens is_focused (kinds.Text shown) c s e = still_plain c (kinds.Text shown) s refl refl
+plain_opens is_focused (kinds.Label label) c s e = still_plain c (kinds.Label label) s refl refl
+plain_opens is_focused (kinds.Button button) c s e = still_plain c (kinds.Button button) s refl refl
+plain_opens is_focused (kinds.Pane pane) c s e = still_plain c (kinds.Pane pane) s refl refl
+
+-- ---- where values are set
+
+module _ (d : Dialog) (ruled : List LeafState) (leaf : PlacedNode) (c : Content) (is_focused : Bool) (held : Option ℕ) where
+  -- the leaf in its place after the call, by whether it has a value and what is recorded
+  abbrev set_place : Bool → Option Value → Placed
+  set_place field found = record {
+    leaf = record (
+        if field then calls.opened_with found (standing_leaf d ruled leaf c is_focused held)
+        else standing_leaf d ruled leaf c is_focused held) {
+          is_focused = false;
+          held = None;
+        };
+    around = around_of d leaf;
+    is_current = false;
+  }
+
+  abbrev opens : Option Value → Placed
+  opens found = standing d ruled leaf (open_content leaf.node.kind found c.overwrites) false None
+
+  set_so : (field : Bool) (found : Option Value) → calls.is_field c.value ≡ field → is_some found ≡ field
+      → IsSteadyContent is_focused leaf.node.kind c → is_field leaf.node.kind ≡ field
+      → set_place field found ≡ opens found
+  set_so true (Some value) has_value there steady fields = refl
+  set_so true None has_value there steady fields = absurd (false≢true there)
+  set_so false (Some value) has_value there steady fields = absurd (true≢false there)
+  set_so false None has_value there steady fields =
+      ap (λ x. standing d ruled leaf x false None) (plain_opens is_focused leaf.node.kind c steady fields)
+
+overwrites_by : (overwrites : Bool) (o : Option LeafState) → (content_by overwrites o).overwrites ≡ overwrites
+overwrites_by overwrites None = refl
+overwrites_by overwrites (Some leaf) = refl
+
+module _ (d : Dialog) (saved : Option Entries) (overwriting : List Id) where
+  -- what a leaf holds before the dialog has a focus
+  pub content_at-unfocused : (leaf : PlacedNode) → IsIn d leaf
+      → content_at (unfocused d saved overwriting) leaf.node.id
+      ≡ open_content leaf.node.kind (recorded saved leaf.node.id) (is_among overwriting leaf.node.id)
+  content_at-unfocused leaf e =
+      ap (content_by (is_among overwriting leaf.node.id))
+      (find-map (λ other. opened_leaf saved other.node) (λ s. s.id.0 == leaf.node.id.0) (leaf_list d.views)
+      ∙ ap (option_map (λ other. opened_leaf saved other.node)) e)
+
+  pub leaves-unfocused : HasLeaves d (unfocused d saved overwriting)
+  leaves-unfocused = map-map (λ leaf. opened_leaf saved leaf.node) state_id (leaf_list d.views)
+
+-- the same inputs overwrite
+abbrev pub OverwritesAlike : Dialog → List Id → Modal → Type 0
+OverwritesAlike d overwriting m =
+    (leaf : PlacedNode) → IsIn d leaf → is_among overwriting leaf.node.id ≡ is_among m.overwriting leaf.node.id
+
+module _ (d : Dialog) (lawful : IsLawfulDialog d) (entries : Entries) (fields : map (λ entry. entry.id) entries ≡ field_ids d)
+    (overwriting : List Id) where
+  abbrev shut : Modal
+  shut = unfocused d (Some entries) overwriting
+
+  -- the values are set
+  pub set-tree : (ruled : List LeafState) (m : Modal) → IsSteady d m → OverwritesAlike d overwriting m
+      → all_set entries (tree_as d ruled m) ≡ tree_as d ruled shut
+  unfolding all_set calls.set_from
+  set-tree ruled m steady alike =
+      map-map (placed_as d ruled m) (in_place_unmarked (calls.set_from entries)) (leaf_list d.views)
+      ∙ leaves-same d lawful (λ leaf. in_place_unmarked (calls.set_from entries) (placed_as d ruled m leaf)) (placed_as d ruled shut)
+      (λ leaf e.
+      let c = content_at m leaf.node.id in
+      let is_focused = leaf.node.id.0 == m.focus.0 in
+      let held = held_at m.held leaf.node.id in
+      let found = value_of entries leaf.node.id.0 in
+      let holds = steady-leaf d lawful m steady leaf e in
+      let is = steady_field is_focused leaf.node.kind c holds in
+      let there = recorded-field d lawful entries fields leaf e in
+      let own = leaf_at-all (λ other. (other.node.id.0 == d.node.id.0) ≡ false) d leaf.node.id leaf (own-fails d lawful) e in
+      set_so d ruled leaf c is_focused held (calls.is_field c.value) found refl (there ∙ sym is ∙ sym (held_field c.value)) holds
+      (sym is ∙ sym (held_field c.value))
+      ∙ ap (λ b. standing d ruled leaf (open_content leaf.node.kind found b) false None)
+      (overwrites_by (is_among m.overwriting leaf.node.id) (state_of m.leaves leaf.node.id) ∙ sym (alike leaf e))
+      ∙ ap (λ x. standing d ruled leaf x false None) (sym (content_at-unfocused d (Some entries) overwriting leaf e))
+      ∙ ap (λ b. standing d ruled leaf (content_at shut leaf.node.id) b None) (sym own))
+
+  -- ---- the dialog is steady then
+
+  opens_input : (is_focused : Bool) (k : Kind) (found : Option Value) (overwrites : Bool) → calls.IsValueOf k found
+      → is_some found ≡ is_field k
+      → IsSteadyContent is_focused k (open_content k found overwrites)
+  opens_input is_focused (kinds.Input input) None overwrites fits there = absurd fits
+  opens_input is_focused (kinds.Input input) (Some (values.Text text)) overwrites fits there =
+      record { text = text; cursor = 0; is_whole = false; value = refl; private = refl; rested = λ e. refl }
+  opens_input is_focused (kinds.Input input) (Some (values.Marks marks)) overwrites fits there = absurd fits
+  opens_input is_focused (kinds.Input input) (Some (values.Item item)) overwrites fits there = absurd fits
+  opens_input is_focused (kinds.CheckBoxes boxes) None overwrites fits there = refl
+  opens_input is_focused (kinds.CheckBoxes boxes) (Some value) overwrites fits there = refl
+  opens_input is_focused (kinds.RadioButtons radios) None overwrites fits there = refl
+  opens_input is_focused (kinds.RadioButtons radios) (Some value) overwrites fits there = refl
+  opens_input is_focused (kinds.List list) None overwrites fits there = refl
+  opens_input is_focused (kinds.List list) (Some value) overwrites fits there = refl
+  opens_input is_focused (kinds.Window head) found overwrites fits there =
+      record { value = ap (λ o. option_or o None) (none_is found there); private = refl }
+  opens_input is_focused (kinds.Dialog head) found overwrites fits there =
+      record { value = ap (λ o. option_or o None) (none_is found there); private = refl }
+  opens_input is_focused (kinds.Text shown) found overwrites fits there =
+      record { value = ap (λ o. option_or o None) (none_is found there); private = refl }
+  opens_input is_focused (kinds.Label label) found overwrites fits there =
+      record { value = ap (λ o. option_or o None) (none_is found there); private = refl }
+  opens_input is_focused (kinds.Button button) found overwrites fits there =
+      record { value = ap (λ o. option_or o None) (none_is found there); private = refl }
+  opens_input is_focused (kinds.Pane pane) found overwrites fits there =
+      record { value = ap (λ o. option_or o None) (none_is found there); private = refl }
+
+  -- the record fits each leaf
+  abbrev Suits : Type 0
+  Suits = (leaf : PlacedNode) → IsIn d leaf → calls.IsValueOf leaf.node.kind (value_of entries leaf.node.id.0)
+
+  fits_leaf : (ruled : List LeafState) (m : Modal) → FitsAll entries (tree_as d ruled m) → Suits
+  unfolding calls.Fits
+  fits_leaf ruled m fits leaf e =
+      leaf_at-all (λ other. calls.IsValueOf other.node.kind (value_of entries other.node.id.0)) d leaf.node.id leaf
+      (All-unmap (λ x. calls.Fits entries x.leaf) (placed_as d ruled m) (leaf_list d.views) fits) e
+
+  steady_suited : Suits → IsSteady d shut
+  steady_suited suits = record {
+    leaves = leaves-unfocused d (Some entries) overwriting;
+    contents = leaves-are d lawful (IsSteadyLeaf shut)
+        (λ leaf e. subst (IsSteadyContent (leaf.node.id.0 == d.node.id.0) leaf.node.kind)
+        (sym (content_at-unfocused d (Some entries) overwriting leaf e))
+        (opens_input (leaf.node.id.0 == d.node.id.0) leaf.node.kind (value_of entries leaf.node.id.0)
+        (is_among overwriting leaf.node.id) (suits leaf e)
+        (recorded-field d lawful entries fields leaf e)));
+  }
+
+  pub steady-unfocused : (ruled : List LeafState) (m : Modal) → FitsAll entries (tree_as d ruled m) → IsSteady d shut
+  steady-unfocused ruled m fits = steady_suited (fits_leaf ruled m fits)
+
+  pub steady-opened : (ruled : List LeafState) (m : Modal) → FitsAll entries (tree_as d ruled m)
+      → IsSteady d (opened d (Some entries) overwriting)
+  steady-opened ruled m fits = steady-moved d lawful shut (first_focus d (opened_leaves d (Some entries))) (steady-unfocused ruled m fits)
+
+-- ---- the first focus
+
+module _ (d : Dialog) (lawful : IsLawfulDialog d) (leaves : List LeafState) where
+  -- the first free control is free
+  pub first-free : (i : Id) → first_free (stops_of d leaves) ≡ Some i → is_free_at d leaves i ≡ true
+  first-free i e =
+      option_cases (find (is_free d leaves) (leaf_list d.views))
+      (λ o. option_map (λ stop. stop.id) (option_map (stop_of d leaves) o) ≡ Some i → is_free_at d leaves i ≡ true)
+      (λ none f. absurd cc)
+      (λ leaf found f.
+      let is : leaf.node.id ≡ i = cc in
+      ap (λ id. is_free_at d leaves id) (sym is) ∙ ap (is_free_leaf d leaves) (found-in d lawful (is_free d leaves) leaf found)
+      ∙ found-passes (is_free d leaves) (leaf_list d.views) leaf found)
+      (ap (option_map (λ stop. stop.id)) (sym (find-map (stop_of d leaves) (λ stop. stop.is_free) (leaf_list d.views))) ∙ e)
+
+  -- what is free isn't the dialog itself
+  pub free-other : (i : Id) → is_free_at d leaves i ≡ true → (i.0 == d.node.id.0) ≡ false
+  free-other i e =
+      option_cases (leaf_at d i) (λ o. is_free_leaf d leaves o ≡ true → (i.0 == d.node.id.0) ≡ false)
+      (λ none f. absurd (false≢true f))
+      (λ leaf found f.
+      ap (λ id. id.0 == d.node.id.0) (sym (leaf_at-is d i leaf found))
+      ∙ leaf_at-all (λ other. (other.node.id.0 == d.node.id.0) ≡ false) d i leaf (own-fails d lawful) found) e
+
+  -- a lawful dialog has one
+  pub first_focus-free : is_free_at d leaves (first_focus d leaves) ≡ true
+  first_focus-free =
+      option_cases (first_free (stops_of d leaves)) (λ o. is_some o ≡ true → is_free_at d leaves (unwrap_or o d.node.id) ≡ true)
+      (λ none f. absurd (false≢true f)) (λ i is f. first-free i is) (lawful.«free» leaves)
+
+module _ (d : Dialog) (lawful : IsLawfulDialog d) (entries : Entries) (fields : map (λ entry. entry.id) entries ≡ field_ids d)
+    (overwriting : List Id) where
+  -- the whole: values, rules, focus
+  pub opened-tree : (rules : Rules) (ruled : List LeafState) (m : Modal) → IsSteady d m → OverwritesAlike d overwriting m
+      → FitsAll entries (tree_as d ruled m)
+      → AreRulesOf d (opened_leaves d (Some entries)) rules
+      → all_focused (first_focus d (opened_leaves d (Some entries))) (all_applied rules (all_set entries (tree_as d ruled m)))
+      ≡ tree_of d (opened d (Some entries) overwriting)
+  opened-tree rules ruled m steady alike fits are =
+      let shut_now = unfocused d (Some entries) overwriting in
+      let to = first_focus d (opened_leaves d (Some entries)) in
+      let is_free_now = first_focus-free d lawful (opened_leaves d (Some entries)) in
+      ap (λ xs. all_focused to (all_applied rules xs)) (set-tree d lawful entries fields overwriting ruled m steady alike)
+      ∙ ap (all_focused to) (applied-tree d lawful rules ruled shut_now are)
+      ∙ focused-tree d lawful shut_now to (steady-unfocused d lawful entries fields overwriting ruled m fits)
+      (free-other d lawful (opened_leaves d (Some entries)) to is_free_now) is_free_now

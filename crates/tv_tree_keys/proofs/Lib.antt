@@ -1,0 +1,10 @@
+pub mod EnterLemmas
+pub mod FocusLemmas
+pub mod KeyContentLemmas
+pub mod KeyLemmas
+pub mod LetterLemmas
+pub mod OfferLemmas
+pub mod PhaseLemmas
+pub mod QuietLemmas
+pub mod ReactedLemmas
+pub mod TurnLemmas

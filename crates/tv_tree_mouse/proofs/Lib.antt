@@ -1,0 +1,9 @@
+pub mod DownLemmas
+pub mod GripLemmas
+pub mod HeldLemmas
+pub mod HoldLemmas
+pub mod PlaceLemmas
+pub mod ReachLemmas
+pub mod ReleaseLemmas
+pub mod TakenLemmas
+pub mod TopmostLemmas

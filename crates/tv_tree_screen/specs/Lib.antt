@@ -1,0 +1,2 @@
+-- the open dialog on the screen
+pub mod Shown
