@@ -1,5 +1,5 @@
 -- A declared window shows what the flat machine's layers show.
-use Rattle.std.proofs.Common.{◌≡◌, ℕ, ℤ, pos, ◌+ℤ◌, ◌-ℤ◌, Bool, All, List, [], ◌∷◌, ◌++◌, flat_map, reverse, refl, sym, ap, ◌∙◌, arith, subst}
+use Rattle.std.proofs.Common.{◌≡◌, ℕ, ℤ, pos, ◌+ℤ◌, ◌-ℤ◌, Bool, false, All, List, [], ◌∷◌, ◌++◌, flat_map, map, reverse, refl, sym, ap, ◌∙◌, arith, subst}
 use Rattle.std.proofs.lemmas.Grind.{flat_map-append}
 use Rattle.std.proofs.lemmas.Int.{ints}
 use Rattle.std.proofs.lemmas.List.{reverse-append}
@@ -11,8 +11,11 @@ use Rattle.tv_cells.specs.Rectangle.{IsIn, cut, shifted, sized}
 use Rattle.tv_cells.specs.declared.canvas.Canvas.{Canvas}
 use Rattle.tv_cells.proofs.RectangleLemmas.{in_cut, point_is}
 use Rattle.tv_model.specs.Screen.Faces.{FaceOf, frame_look, frame_role, static_text, text_face}
+use Rattle.tv_model.specs.Description.Nodes.{is_pane}
 use Rattle.tv_model.specs.Description.Rectangles.{corner_of, desktop, interior, place_of_node, rect}
-use Rattle.tv_model.specs.Screen.Layers.{canvas_at, window_view_layers}
+use Rattle.tv_model.specs.Screen.Layers.{canvas_at}
+use Rattle.tv_machine.specs.Leaves.{PlacedNode, leaf_list}
+use Rattle.tv_machine.specs.Screen.Layers.{window_leaf}
 use Rattle.tv_model.specs.Controls.Meaning.{fresh}
 use Rattle.tv_model.specs.Description.Numbers.{natural}
 use Rattle.tv_model.specs.declared.desc.Desc.{Desc}
@@ -75,6 +78,16 @@ module _ (d : Desc) (x y w h : ℤ) where
 
 -- ---- the views of a declared window
 
+-- a view round which there are no panes
+abbrev bare : Node → PlacedNode
+bare n = record { node = n; panes = [] }
+
+bare_list : (owner : Node) (ns : List Node) → All (IsTextInside owner) ns → leaf_list ns ≡ map bare ns
+bare_list owner [] texts = refl
+bare_list owner (n ∷ ns) texts =
+    let is_leaf : is_pane n.kind ≡ false = ap is_pane (All-head (IsTextInside owner) n ns texts).kind in
+    rw is_leaf (ap (λ leaves. bare n ∷ leaves) (bare_list owner ns (All-tail (IsTextInside owner) n ns texts)))
+
 -- the face of a text in the colours of the view's owners
 abbrev text_face_in : Env → List ℕ → FaceOf
 text_face_in env text = text_face text (colour env (roles.StaticText env.owner))
@@ -90,36 +103,44 @@ module _ (env : Env) (lent : IsOfWindow env) (d : Desc) (window : Window) (h : �
   abbrev pub body_of_window : Canvas
   body_of_window = body d window.node.x window.node.y window.node.w h
 
+  -- what the machine shows of views round which there are no panes
+  abbrev shown_views : List Node → List Layer
+  shown_views ns = flat_map (window_leaf d (corner_of window.node)) (reverse (map bare ns))
+
   view_drawn : (n : Node) (height : ℤ) (text : List ℕ) → n.kind ≡ kinds.Text (record { h = height; text = text })
       → leaf_layers env body_of_window (fresh n) ≡ Painted (sub body_of_window (rect n.x n.y n.w height)) (natural n.w) (natural height) (text_face_in env text) ∷ []
   unfolding leaf_layers
   view_drawn n height text kind = rw kind refl
 
   view_declared : (n : Node) (height : ℤ) (text : List ℕ) → n.kind ≡ kinds.Text (record { h = height; text = text })
-      → window_view_layers d (corner_of window.node) n ≡ Painted (canvas_at (desktop d) (window.node.x +ℤ n.x) (window.node.y +ℤ n.y)) (natural n.w) (natural height) (static_text owners.Window text) ∷ []
+      → window_leaf d (corner_of window.node) (bare n) ≡ Painted (canvas_at (desktop d) (window.node.x +ℤ n.x) (window.node.y +ℤ n.y)) (natural n.w) (natural height) (static_text owners.Window text) ∷ []
   view_declared n height text kind = rw kind refl
 
   place_is : (n : Node) (height : ℤ) (text : List ℕ) → n.kind ≡ kinds.Text (record { h = height; text = text }) → place_of_node n ≡ rect n.x n.y n.w height
   place_is n height text kind = rw kind refl
 
-  view_same : (n : Node) → IsTextInside window.node n → IsSame (leaf_layers env body_of_window (fresh n)) (window_view_layers d (corner_of window.node) n)
+  view_same : (n : Node) → IsTextInside window.node n → IsSame (leaf_layers env body_of_window (fresh n)) (window_leaf d (corner_of window.node) (bare n))
   view_same n is =
       let within : (p q : ℤ) → IsIn (rect n.x n.y n.w is.height) p q → IsIn (rect (pos 1) (pos 1) (window.node.w -ℤ pos 2) (h -ℤ pos 2)) p q = λ p q i. subst (λ r. IsIn r p q) tall (is.inside p q (subst (λ r. IsIn r p q) (sym (place_is n is.height is.text is.kind)) i)) in
       rw (view_drawn n is.height is.text is.kind, view_declared n is.height is.text is.kind)
       (text_same d window.node.x window.node.y window.node.w h n.x n.y n.w is.height within (text_face_in env is.text) (static_text owners.Window is.text) (text_face_same env lent is.text))
 
-  views_step : (n : Node) (ns : List Node) → flat_map (window_view_layers d (corner_of window.node)) (reverse (n ∷ ns)) ≡ flat_map (window_view_layers d (corner_of window.node)) (reverse ns) ++ window_view_layers d (corner_of window.node) n
+  views_step : (n : Node) (ns : List Node) → shown_views (n ∷ ns) ≡ shown_views ns ++ window_leaf d (corner_of window.node) (bare n)
   views_step n ns =
-      ap (flat_map (window_view_layers d (corner_of window.node))) (reverse-append (n ∷ []) ns)
-      ∙ (flat_map-append (window_view_layers d (corner_of window.node)) (reverse ns) (n ∷ []) ∙ ap (λ t. flat_map (window_view_layers d (corner_of window.node)) (reverse ns) ++ t) (append_nil (window_view_layers d (corner_of window.node) n)))
+      ap (flat_map (window_leaf d (corner_of window.node))) (reverse-append (bare n ∷ []) (map bare ns))
+      ∙ (flat_map-append (window_leaf d (corner_of window.node)) (reverse (map bare ns)) (bare n ∷ []) ∙ ap (λ t. shown_views ns ++ t) (append_nil (window_leaf d (corner_of window.node) (bare n))))
     where
       append_nil : (xs : List Layer) → xs ++ [] ≡ xs
       append_nil [] = refl
       append_nil (x ∷ xs) = ap (λ t. x ∷ t) (append_nil xs)
 
-  pub views_same : (ns : List Node) → All (IsTextInside window.node) ns → IsSame (fresh_layers env body_of_window ns) (flat_map (window_view_layers d (corner_of window.node)) (reverse ns))
-  views_same [] texts = same_refl []
-  views_same (n ∷ ns) texts =
+  bare_same : (ns : List Node) → All (IsTextInside window.node) ns → IsSame (fresh_layers env body_of_window ns) (shown_views ns)
+  bare_same [] texts = same_refl []
+  bare_same (n ∷ ns) texts =
       rw (views_step n ns)
-      (same_append (fresh_layers env body_of_window ns) (flat_map (window_view_layers d (corner_of window.node)) (reverse ns)) (leaf_layers env body_of_window (fresh n)) (window_view_layers d (corner_of window.node) n)
-      (views_same ns (All-tail (IsTextInside window.node) n ns texts)) (view_same n (All-head (IsTextInside window.node) n ns texts)))
+      (same_append (fresh_layers env body_of_window ns) (shown_views ns) (leaf_layers env body_of_window (fresh n)) (window_leaf d (corner_of window.node) (bare n))
+      (bare_same ns (All-tail (IsTextInside window.node) n ns texts)) (view_same n (All-head (IsTextInside window.node) n ns texts)))
+
+  pub views_same : (ns : List Node) → All (IsTextInside window.node) ns → IsSame (fresh_layers env body_of_window ns) (flat_map (window_leaf d (corner_of window.node)) (reverse (leaf_list ns)))
+  views_same ns texts =
+      subst (λ leaves. IsSame (fresh_layers env body_of_window ns) (flat_map (window_leaf d (corner_of window.node)) (reverse leaves))) (sym (bare_list window.node ns texts)) (bare_same ns texts)

@@ -14,9 +14,10 @@ use Rattle.tv_cells.specs.declared.canvas.Canvas.{Canvas}
 use Rattle.tv_model.specs.Screen.Faces.{FaceOf, FrameLook, frame_face, frame_look}
 use Rattle.tv_model.specs.Description.Heads.{window_head}
 use Rattle.tv_model.specs.Description.Rectangles.{corner_of, interior, rect}
-use Rattle.tv_model.specs.Screen.Layers.{window_view_layers, stack_layers as declared_layers, window_layers as declared_window}
+use Rattle.tv_machine.specs.Leaves.{leaf_list}
+use Rattle.tv_machine.specs.Screen.Layers.{stack_layers as declared_layers, window_layers as declared_window, window_leaf}
 use Rattle.tv_model.specs.Controls.Meaning.{Leaf, IsSmall, IsSmallRect}
-use Rattle.tv_model.specs.Machine.State.{OpenWindow}
+use Rattle.tv_machine.specs.State.{OpenWindow}
 use Rattle.tv_model.proofs.HeadLemmas.{window_head_of-Window}
 use Rattle.tv_model.specs.Description.Nodes.{height_of, is_pane, is_window}
 use Rattle.tv_model.specs.Description.Numbers.{natural}
@@ -125,7 +126,7 @@ module _ {V : Type 0} (look : V → Leaf) (env : Env) (lent : IsOfWindow env) (d
     face_in frame = frame_face (natural w) (natural own.h) own.title frame
 
     abbrev views : List Layer
-    views = flat_map (window_view_layers d (corner_of declared.node)) (reverse declared.views)
+    views = flat_map (window_leaf d (corner_of declared.node)) (reverse (leaf_list declared.views))
 
     drawn : window_layers look env (desktop_canvas d) window ++ shadow_of window ∷ []
         ≡ (fresh_layers env (body d x y w own.h) declared.views

@@ -5,7 +5,7 @@ use Rattle.tv_cells.specs.declared.canvas.Canvas.{Canvas}
 use Rattle.tv_model.specs.Description.Rectangles.{corner_of, desktop, interior, place_of_node}
 use Rattle.tv_model.specs.Screen.Layers.{canvas_at, window_of}
 use Rattle.tv_model.specs.Controls.Meaning.{Leaf}
-use Rattle.tv_model.specs.Machine.State.{OpenWindow}
+use Rattle.tv_machine.specs.State.{OpenWindow}
 use Rattle.tv_model.specs.declared.desc.Desc.{Desc}
 use Rattle.tv_model.specs.declared.desc.Window.{Window}
 use Rattle.tv_model.specs.declared.node.Node.{Node}

@@ -1,9 +1,9 @@
 //! Windows one over the other.
 
 ghost use Rattle.std.specs.Prelude.{◌≡◌, List};
-ghost use Rattle.tv_model.specs.Screen.Layers.{stack_layers as declared_layers};
+ghost use Rattle.tv_machine.specs.Screen.Layers.{stack_layers as declared_layers};
 ghost use Rattle.tv_model.specs.Controls.Meaning.{IsSmall};
-ghost use Rattle.tv_model.specs.Machine.State.{OpenWindow};
+ghost use Rattle.tv_machine.specs.State.{OpenWindow};
 ghost use Rattle.tv_model.specs.declared.desc.Desc.{Desc};
 ghost use Rattle.tv_view.specs.Drawing.{Lays};
 ghost use Rattle.tv_window.specs.DeclaredWindows.{AreDeclared, IsOfWindow, desktop_canvas};
@@ -16,7 +16,7 @@ use tv_view::{Env, View};
 /// Draws windows, the front one first in the list, each over its shadow and that over all windows behind it. None but the
 /// front one is drawn as active, and it only where the environment says so.
 ///
-/// Windows as a description declares them, drawn on its desktop, show what the description's own layers show.
+/// Windows as a description declares them, drawn on its desktop, show what the flat machine's layers of the open windows show.
 pub fn draw_stack<V: View>(windows: &[WindowOf<V>], screen: &mut Screen, canvas: Canvas, env: &Env)
     requires { IsSmall canvas.origin.x × IsSmall canvas.origin.y }
     ensures layers { Lays (stack_layers V.meaning env.now canvas windows.now) screen.old screen.new }
