@@ -1,20 +1,21 @@
 -- A plan of building names each node once, in order.
-use Rattle.std.proofs.Common.{◌≡◌, ℕ, zero, suc, ◌+◌, ◌-◌, ◌<◌, ◌≤◌, Bool, true, false, cond, List, [], ◌∷◌, ◌++◌, append_assoc, map, flat_map, filter_map, replicate, length, get_or, drop, Some, refl, sym, ap, ◌∙◌, add-zero, arith}
+use Rattle.std.proofs.Common.{◌≡◌, All, ℕ, zero, suc, ◌+◌, ◌-◌, ◌<◌, ◌≤◌, Bool, true, false, cond, List, [], ◌∷◌, ◌++◌, append_assoc, map, flat_map, filter_map, replicate, length, get_or, drop, Some, refl, sym, ap, ◌∙◌, add-zero, arith}
 use Rattle.std.proofs.lemmas.List.{append-nil, drop_more, map-append}
 use Rattle.tv_check.specs.declared.plan.BuildStep.{BuildStep}
 use Rattle.tv_check.specs.declared.plan.BuildStep.TheVariants as steps
-use Rattle.std.proofs.lemmas.List.Elements.{filter_map-append}
+use Rattle.std.proofs.lemmas.List.Elements.{All-cons, All-head, All-nil, All-tail, filter_map-append}
 use Rattle.tv_model.specs.declared.node.Node.{Node}
 use Rattle.tv_model.specs.declared.desc.Desc.{Desc}
 use Rattle.tv_model.specs.declared.desc.Dialog.{Dialog}
 use Rattle.tv_model.specs.declared.desc.Rule.{Rule}
 use Rattle.tv_model.specs.declared.desc.Window.{Window}
+use Rattle.tv_model.specs.Description.LawfulNodes.{IsLawfulNode}
 use Rattle.tv_model.specs.Description.Nodes.{is_pane}
 use Rattle.tv_model.specs.Description.Heads.{all_nodes, window_nodes, dialog_nodes}
 use Rattle.tv_declarations.specs.declared.declaration.Declaration.{Declaration}
 use Rattle.tv_declarations.specs.declared.declaration.Declaration.TheVariants as declared
 use Rattle.tv_declarations.specs.Spelling.{dialog_declarations, ends_of_panes, open_after, view_declarations, window_declarations}
-use Rattle.tv_check.specs.Plan.{Closes, Makes, Opens, Planned, is_owner, lent_step, node_in, node_step, plan_of, step_of, steps_of}
+use Rattle.tv_check.specs.Plan.{Closes, IsLawfulStep, Makes, Opens, Planned, is_owner, lent_step, node_in, node_step, plan_of, step_of, steps_of}
 
 -- ---- the steps of declarations
 
@@ -95,6 +96,17 @@ plan_names d =
       all_named (λ window. steps_of (window_declarations window)) window_nodes window_named d.windows,
       all_named (λ dialog. steps_of (dialog_declarations dialog)) dialog_nodes dialog_named d.dialogs,
     ) refl
+
+-- where all nodes that a plan names are lawful, each step is
+pub steps_lawful : (plan : List BuildStep) → All IsLawfulNode (filter_map node_in (map lent_step plan)) → All IsLawfulStep plan
+steps_lawful [] lawful = All-nil IsLawfulStep
+steps_lawful (steps.Open node ∷ plan) lawful =
+    let nodes = filter_map node_in (map lent_step plan) in
+    All-cons IsLawfulStep (steps.Open node) plan (All-head IsLawfulNode node.now nodes lawful) (steps_lawful plan (All-tail IsLawfulNode node.now nodes lawful))
+steps_lawful (steps.Leaf node ∷ plan) lawful =
+    let nodes = filter_map node_in (map lent_step plan) in
+    All-cons IsLawfulStep (steps.Leaf node) plan (All-head IsLawfulNode node.now nodes lawful) (steps_lawful plan (All-tail IsLawfulNode node.now nodes lawful))
+steps_lawful (steps.Close ∷ plan) lawful = All-cons IsLawfulStep steps.Close plan tt (steps_lawful plan lawful)
 
 -- one of the closes that are left is made
 pub one_closed : (before now : List BuildStep) (n : ℕ) (all : List Planned) → now ≡ before ++ steps.Close ∷ [] → map lent_step before ++ (Closes ∷ replicate n Closes) ≡ all → map lent_step now ++ replicate n Closes ≡ all

@@ -3,6 +3,7 @@ use Rattle.std.specs.Prelude.{Bool, ◌||◌, List, ◌++◌, filter_map, flat_m
 use Rattle.tv_model.specs.declared.node.Node.{Node}
 use Rattle.tv_model.specs.declared.kind.Kind.{Kind}
 use Rattle.tv_model.specs.declared.desc.Desc.{Desc}
+use Rattle.tv_model.specs.Description.LawfulNodes.{IsLawfulNode}
 use Rattle.tv_model.specs.Description.Nodes.{is_dialog, is_pane, is_window}
 use Rattle.tv_declarations.specs.declared.declaration.Declaration.{Declaration}
 use Rattle.tv_declarations.specs.declared.declaration.Declaration.TheVariants as declared
@@ -21,6 +22,12 @@ abbrev pub lent_step : BuildStep → Planned
 lent_step (steps.Open node) = Opens node.now
 lent_step (steps.Leaf node) = Makes node.now
 lent_step steps.Close = Closes
+
+-- a view or a group may be made of the node that the step lends, if any
+abbrev pub IsLawfulStep : BuildStep → Type 0
+IsLawfulStep (steps.Open node) = IsLawfulNode node.now
+IsLawfulStep (steps.Leaf node) = IsLawfulNode node.now
+IsLawfulStep steps.Close = Unit {0}
 
 -- the node that a step names
 abbrev pub node_in : Planned → Option Node

@@ -3,6 +3,7 @@
 ghost use Rattle.std.specs.Prelude.{◌≡◌, All, IfOk, IfErr};
 ghost use Rattle.tv_lang.specs.CanonicalDescription.{CanBeSpelled};
 ghost use Rattle.tv_machine.specs.Dialog.Lawful.{IsLawfulDialog};
+ghost use Rattle.tv_machine.specs.Dialog.Sound.{HasSoundDialogs};
 ghost use Rattle.tv_model.specs.Faults.{IsSound};
 ghost use Rattle.tv_check.specs.Certificates.{IsSoundCertificate};
 ghost use Rattle.tv_check.specs.Refusals.{Accepts, Refuses};
@@ -62,12 +63,14 @@ impl Model for Checked {
 }
 
 impl Checked {
-    /// The description that was accepted.
+    /// The description that was accepted. Each of its dialogs has what the modal dialog asks of it (`lawful`), and what the
+    /// laws of every run ask (`sound_dialogs`).
     pub fn desc(&self) -> &Desc
         ensures value { result.now ≡ self.now }
         ensures spelled { CanBeSpelled result.now }
         ensures sound { IsSound result.now }
         ensures lawful { All IsLawfulDialog result.now.dialogs }
+        ensures sound_dialogs { HasSoundDialogs result.now }
     {
         &self.desc
     }

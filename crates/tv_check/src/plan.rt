@@ -4,7 +4,7 @@ ghost use Rattle.std.specs.Prelude.{◌≡◌, ◌++◌, filter_map, map, replic
 ghost use Rattle.tv_model.specs.Description.Heads.{all_nodes};
 ghost use Rattle.tv_model.specs.Description.LawfulNodes.{IsLawfulNode};
 ghost use Rattle.tv_declarations.specs.Spelling.{dialog_declarations, view_declarations, window_declarations};
-ghost use Rattle.tv_check.specs.Plan.{Closes, lent_step, node_in, node_step, plan_of, steps_of};
+ghost use Rattle.tv_check.specs.Plan.{Closes, IsLawfulStep, lent_step, node_in, node_step, plan_of, steps_of};
 
 use crate::acceptance::Checked;
 use std::alloc::{AllocError, Global};
@@ -98,6 +98,7 @@ impl Checked {
         ensures plan { IfOk result (λ plan. map lent_step plan.items ≡ plan_of self.now) }
         ensures nodes { IfOk result (λ plan. filter_map node_in (map lent_step plan.items) ≡ all_nodes self.now) }
         ensures lawful { IfOk result (λ plan. All IsLawfulNode (filter_map node_in (map lent_step plan.items))) }
+        ensures steps { IfOk result (λ plan. All IsLawfulStep plan.items) }
     {
         plan_of(alloc, self.desc())
     }

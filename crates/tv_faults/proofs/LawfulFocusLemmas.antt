@@ -73,10 +73,10 @@ module _ (Q : Node → Type 0) where
       (λ is. All-cons Q view (around view.depth back) (All-head Q view back all) (all_around view.depth back (All-tail Q view back all)))
       (λ is. all_around depth back (All-tail Q view back all))
 
-  abbrev AllOver : List Node × Node → Type 0
+  abbrev pub AllOver : List Node × Node → Type 0
   AllOver pair = All Q (pair.1 ∷ panes_around pair.0 pair.1)
 
-  all_over : (seen views : List Node) → All Q seen → All Q views → All AllOver (after_seen seen views)
+  pub all_over : (seen views : List Node) → All Q seen → All Q views → All AllOver (after_seen seen views)
   all_over seen [] before all = All-nil AllOver
   all_over seen (view ∷ views) before all =
       let own : Q view = All-head Q view views all in
@@ -88,10 +88,10 @@ module _ (Q : Node → Type 0) where
 -- ---- names
 
 -- its name means the view itself
-abbrev MeansItself : List Node → Node → Type 0
+abbrev pub MeansItself : List Node → Node → Type 0
 MeansItself views view = (name : List ℕ) → HasName view name → meant views name ≡ Some view
 
-all_mean : (views : List Node) → AllPairs HaveOtherNames views → All (MeansItself views) views
+pub all_mean : (views : List Node) → AllPairs HaveOtherNames views → All (MeansItself views) views
 all_mean [] apart = All-nil (MeansItself [])
 all_mean (view ∷ views) apart =
     All-cons (MeansItself (view ∷ views)) view views
@@ -102,7 +102,7 @@ all_mean (view ∷ views) apart =
     (λ t. pairs_head HaveOtherNames view views apart k other less name ((gives_decides name view).0 t) has))
     ∙ all_mean views (pairs_tail HaveOtherNames view views apart) k other less name has)
 
-not_shown : (views before : List Node) (node : Node) (effect : Effect) → All (MeansItself views) (node ∷ panes_around before node)
+pub not_shown : (views before : List Node) (node : Node) (effect : Effect) → All (MeansItself views) (node ∷ panes_around before node)
     → (Reaches views before node effect → ⊥) → shows (placed_after (before, node)) effect ≡ false
 not_shown views before node (effects.Enable command) mean none = refl
 not_shown views before node (effects.Show name) mean none =

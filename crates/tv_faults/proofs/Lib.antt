@@ -16,3 +16,4 @@ pub mod RuleLemmas
 pub mod SeenLemmas
 pub mod SoundLemmas
 pub mod UsableLemmas
+pub mod SoundDialogLemmas

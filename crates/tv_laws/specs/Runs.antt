@@ -8,13 +8,9 @@ use Rattle.tv_model.specs.Log.Record.{Entries}
 use Rattle.tv_machine.specs.State.{State, OpenDialog}
 use Rattle.tv_machine.specs.Session.Commands.{modal_of}
 use Rattle.tv_machine.specs.Session.Step.{step}
+pub use Rattle.tv_machine.specs.Dialog.Sound.{HasSoundDialogs}
 use Rattle.tv_machine.specs.Safe.{HasDeclaredEnd, IsFitOverwriting, IsSafeSaved}
 use Rattle.tv_laws.specs.Fit.{IsFitModal}
-use Rattle.tv_laws.specs.Sound.{IsSoundDialog}
-
--- every dialog of the description is sound
-abbrev pub HasSoundDialogs : Desc → Type 0
-HasSoundDialogs d = All IsSoundDialog d.dialogs
 
 -- the open dialog is one of the description and can be used, and no menu is open
 pub record IsFitOpen (d : Desc) (s : State) (o : OpenDialog) : Type 0 where

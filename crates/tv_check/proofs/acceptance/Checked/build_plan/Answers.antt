@@ -3,8 +3,8 @@ use Rattle.std.proofs.lemmas.Result.{IfOk-weaker}
 use Rattle.tv_model.specs.Description.Heads.{all_nodes}
 use Rattle.tv_model.specs.Description.LawfulNodes.{IsLawfulNode}
 use Rattle.tv_faults.proofs.SoundLemmas.{lawful_nodes, sound_says}
-use Rattle.tv_check.specs.Plan.{lent_step, node_in, plan_of}
-use Rattle.tv_check.proofs.PlanLemmas.{plan_names}
+use Rattle.tv_check.specs.Plan.{IsLawfulStep, lent_step, node_in, plan_of}
+use Rattle.tv_check.proofs.PlanLemmas.{plan_names, steps_lawful}
 use Rattle.tv_check.proofs.acceptance.Checked.build_plan.Goals as goal
 
 pub returns-clause-nodes : goal.returns-clause-nodes
@@ -17,3 +17,9 @@ returns-clause-lawful c =
     let lawful : All IsLawfulNode (all_nodes c.desc.result.now) = lawful_nodes c.desc.result.now (sound_says c.desc.result.now c.desc.ensures.sound) in
     IfOk-weaker c.plan_of.result (λ plan. map lent_step plan.items ≡ plan_of c.desc.result.now) (λ plan. All IsLawfulNode (filter_map node_in (map lent_step plan.items)))
     (λ plan same. subst (All IsLawfulNode) (sym (ap (filter_map node_in) same ∙ plan_names c.desc.result.now)) lawful) c.plan_of.ensures
+
+pub returns-clause-steps : goal.returns-clause-steps
+returns-clause-steps c =
+    let lawful : All IsLawfulNode (all_nodes c.desc.result.now) = lawful_nodes c.desc.result.now (sound_says c.desc.result.now c.desc.ensures.sound) in
+    IfOk-weaker c.plan_of.result (λ plan. map lent_step plan.items ≡ plan_of c.desc.result.now) (λ plan. All IsLawfulStep plan.items)
+    (λ plan same. steps_lawful plan.items (subst (All IsLawfulNode) (sym (ap (filter_map node_in) same ∙ plan_names c.desc.result.now)) lawful)) c.plan_of.ensures
