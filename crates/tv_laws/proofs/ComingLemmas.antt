@@ -9,7 +9,7 @@ use Rattle.tv_model.specs.Machine.State.{declared_value}
 use Rattle.tv_machine.specs.Controls.Contents.{Content, edit_of, opened_private}
 use Rattle.tv_machine.specs.Safe.{HasValueOf}
 use Rattle.tv_laws.specs.Fit.{IsAtRest, IsFitContent}
-use Rattle.tv_laws.proofs.FocusLemmas.{moved_content, refocused_content}
+use Rattle.tv_machine.proofs.RefocusLemmas.{moved_content, refocused_content}
 use Rattle.tv_laws.proofs.InputLemmas.{entered-good}
 use Rattle.tv_laws.proofs.ItemLemmas.{declared-item, declared-marks, item-from}
 use Rattle.tv_laws.proofs.KindLemmas.{boxes-fit, focused-input, input-edit, input-fit}

@@ -21,7 +21,7 @@ use Rattle.tv_machine.specs.Session.Desktop.{alt_pressed, desktop_down, desktop_
 use Rattle.tv_machine.specs.Session.Menu.{choose, choose_at, close_menu, down_on_item, down_on_title, item_of_letter, menu_down, menu_key, open_items, open_menu, title_at, title_of_letter}
 use Rattle.tv_laws.specs.Runs.{HasSoundDialogs, IsFitState, IsKept}
 use Rattle.tv_laws.proofs.EndLemmas.{command-done}
-use Rattle.tv_laws.proofs.ListLemmas.{bool_cases, option_cases}
+use Rattle.tv_machine.proofs.ListLemmas.{bool_cases, option_cases}
 use Rattle.tv_laws.proofs.WorkLemmas.{dialog-opens, dialog-works, kept-beside, kept-logged, nothing}
 
 module _ (d : Desc) (sound : HasSoundDialogs d) where

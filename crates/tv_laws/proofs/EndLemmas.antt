@@ -19,7 +19,7 @@ use Rattle.tv_machine.specs.Safe.{IsSafeRecord}
 use Rattle.tv_laws.specs.Ends.{IsDone, IsEnding, IsLineOf, IsOpen}
 use Rattle.tv_laws.specs.Sound.{IsSoundDialog}
 use Rattle.tv_laws.proofs.FreeLemmas.{IsFree, free-done, free-line, free-moved}
-use Rattle.tv_laws.proofs.ListLemmas.{bool_cases, option_cases}
+use Rattle.tv_machine.proofs.ListLemmas.{bool_cases, option_cases}
 use Rattle.tv_laws.proofs.RecordLemmas.{record-safe}
 use Rattle.tv_laws.proofs.StandLemmas.{fit-logged}
 

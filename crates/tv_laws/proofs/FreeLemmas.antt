@@ -14,9 +14,10 @@ use Rattle.tv_machine.specs.Dialog.Modal.{Modal, leaf_at, with_content, with_lin
 use Rattle.tv_laws.specs.Ends.{IsDone, IsLineOf, IsOpen}
 use Rattle.tv_laws.specs.Fit.{IsFitContent, IsFitModal}
 use Rattle.tv_laws.specs.Sound.{IsSoundDialog}
-use Rattle.tv_laws.proofs.FocusLemmas.{held-moved, hold-moved, refocused-keeps}
-use Rattle.tv_laws.proofs.ListLemmas.{bool_cases, same-id}
-use Rattle.tv_laws.proofs.MarkLemmas.{HoldSame, hold-itself}
+use Rattle.tv_machine.proofs.RefocusLemmas.{held-moved, hold-moved, refocused-keeps}
+use Rattle.tv_machine.proofs.ListLemmas.{bool_cases, same-id}
+use Rattle.tv_machine.specs.Dialog.Alike.{HoldSame}
+use Rattle.tv_machine.proofs.MarkLemmas.{hold-itself}
 use Rattle.tv_laws.proofs.StandLemmas.{fit-focus, fit-logged, fit-moved}
 
 -- an open dialog in which no leaf holds the mouse

@@ -27,7 +27,7 @@ use Rattle.tv_model.specs.Controls.InputTable.{Edit, at_place, backspaced, click
 use Rattle.tv_model.specs.Description.LawfulNodes.{IsNarrowText}
 use Rattle.tv_model.specs.Description.Texts.{domain_texts}
 use Rattle.tv_machine.specs.Controls.Editing.{becomes, edited, edited_by, edited_in, typed, typed_into}
-use Rattle.tv_laws.proofs.ListLemmas.{bool_cases, option_cases}
+use Rattle.tv_machine.proofs.ListLemmas.{bool_cases, option_cases}
 
 -- ---- lengths
 

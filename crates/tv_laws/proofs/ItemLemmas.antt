@@ -18,7 +18,7 @@ use Rattle.tv_model.specs.Description.LawfulNodes.{IsItem}
 use Rattle.tv_model.specs.Description.Letters.{marks, upper}
 use Rattle.tv_model.specs.Description.Numbers.{natural}
 use Rattle.tv_model.specs.Machine.State.{marks_of}
-use Rattle.tv_laws.proofs.ListLemmas.{bool_cases, option_cases}
+use Rattle.tv_machine.proofs.ListLemmas.{bool_cases, option_cases}
 
 -- an item that there is
 abbrev pub Item : ℕ → ℕ → Type 0

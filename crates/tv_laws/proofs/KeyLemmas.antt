@@ -31,8 +31,8 @@ use Rattle.tv_laws.proofs.EndLemmas.{command-done, press-done}
 use Rattle.tv_laws.proofs.FreeLemmas.{IsFree, free-done, free-focus, free-request, request-then}
 use Rattle.tv_laws.proofs.ItemLemmas.{marking-item}
 use Rattle.tv_laws.proofs.KindLemmas.{IsFitAnswer, boxes-called, key-fit, radios-called}
-use Rattle.tv_laws.proofs.LeafLemmas.{IsIn, found-in, leaf_at-in, leaf_at-is, leaf_at-node}
-use Rattle.tv_laws.proofs.ListLemmas.{bool_cases, id-itself, option_cases}
+use Rattle.tv_machine.proofs.LeafLemmas.{IsIn, found-in, leaf_at-in, leaf_at-is, leaf_at-node}
+use Rattle.tv_machine.proofs.ListLemmas.{bool_cases, id-itself, option_cases}
 use Rattle.tv_laws.proofs.StandLemmas.{standing-leaf}
 
 module _ (d : Dialog) (sound : IsSoundDialog d) where

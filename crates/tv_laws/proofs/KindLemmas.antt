@@ -30,7 +30,7 @@ use Rattle.tv_machine.specs.Safe.{HasValueOf, IsPrivateOf, IsTextOf}
 use Rattle.tv_laws.specs.Fit.{IsFitContent}
 use Rattle.tv_laws.proofs.InputLemmas.{IsGoodEdit, clicked-good, edited_by-good}
 use Rattle.tv_laws.proofs.ItemLemmas.{Item, KeyItem, flip-below, item-from, key-item, within-item}
-use Rattle.tv_laws.proofs.ListLemmas.{bool_cases}
+use Rattle.tv_machine.proofs.ListLemmas.{bool_cases}
 
 -- ---- answers
 

@@ -20,8 +20,8 @@ use Rattle.tv_machine.specs.Dialog.Mouse.{held_up, is_inside, released, row_of}
 use Rattle.tv_machine.specs.Dialog.Step.{step_by}
 use Rattle.tv_laws.specs.Leaving.{EscCancels, TabAsksNext, UpLetsGo}
 use Rattle.tv_laws.specs.Sound.{IsSoundDialog}
-use Rattle.tv_laws.proofs.FocusLemmas.{held-moved}
-use Rattle.tv_laws.proofs.ListLemmas.{bool_cases, option_cases}
+use Rattle.tv_machine.proofs.RefocusLemmas.{held-moved}
+use Rattle.tv_machine.proofs.ListLemmas.{bool_cases, option_cases}
 
 pub esc-cancels : (d : Dialog) → EscCancels d
 esc-cancels d m idle = ap (λ h. step_by d h (events.Key keys.Esc) m) idle

@@ -1,7 +1,3 @@
-pub mod ListLemmas
-pub mod LeafLemmas
-pub mod MarkLemmas
-pub mod FocusLemmas
 pub mod InputLemmas
 pub mod ItemLemmas
 pub mod KindLemmas

@@ -29,9 +29,10 @@ use Rattle.tv_laws.proofs.EndLemmas.{command-done, press-done}
 use Rattle.tv_laws.proofs.FreeLemmas.{IsFree, free-done, open-done, request-then}
 use Rattle.tv_laws.proofs.KeyLemmas.{focus-becomes, focus-content, leaf-count, link-done}
 use Rattle.tv_laws.proofs.KindLemmas.{HasRow, IsFitAnswer, down-fit, move-fit, up-fit}
-use Rattle.tv_laws.proofs.LeafLemmas.{HasLeaves, IsIn, leaf_at-in, leaf_at-is, leaf_at-member}
-use Rattle.tv_laws.proofs.ListLemmas.{bool_cases, found-all, found-passes, id-itself, option_cases}
-use Rattle.tv_laws.proofs.MarkLemmas.{HoldSame, enabled-same, hold-changed, hold-unclustered, visible-same}
+use Rattle.tv_machine.proofs.LeafLemmas.{HasLeaves, IsIn, leaf_at-in, leaf_at-is, leaf_at-member}
+use Rattle.tv_machine.proofs.ListLemmas.{bool_cases, found-all, found-passes, id-itself, option_cases}
+use Rattle.tv_machine.specs.Dialog.Alike.{HoldSame}
+use Rattle.tv_machine.proofs.MarkLemmas.{enabled-same, hold-changed, hold-unclustered, visible-same}
 use Rattle.tv_laws.proofs.StandLemmas.{fit-same, standing-leaf}
 
 -- ---- rows of a leaf

@@ -28,11 +28,11 @@ use Rattle.tv_laws.specs.Fit.{IsFitContent, IsFitLeaf, IsStanding}
 use Rattle.tv_laws.specs.Sound.{IsSoundDialog}
 use Rattle.tv_laws.specs.Steps.{IsSafeSave, OpensFit}
 use Rattle.tv_laws.proofs.ComingLemmas.{declared-fit, opened-fit}
-use Rattle.tv_laws.proofs.FocusLemmas.{held-moved}
+use Rattle.tv_machine.proofs.RefocusLemmas.{held-moved}
 use Rattle.tv_laws.proofs.FreeLemmas.{quiet-moved}
 use Rattle.tv_laws.proofs.KeyLemmas.{leaf-count}
-use Rattle.tv_laws.proofs.LeafLemmas.{IsIn, found-in, leaf_at-node, leaves-are, state_id, views-apart}
-use Rattle.tv_laws.proofs.ListLemmas.{bool_cases, find-map, find-member, found-passes, has, map-map, option_cases, same-id}
+use Rattle.tv_machine.proofs.LeafLemmas.{IsIn, found-in, leaf_at-node, leaves-are, state_id, views-apart}
+use Rattle.tv_machine.proofs.ListLemmas.{bool_cases, find-map, find-member, found-passes, has, map-map, option_cases, same-id}
 use Rattle.tv_laws.proofs.StandLemmas.{fit-moved}
 
 -- ---- a saved value
@@ -64,7 +64,7 @@ module _ (d : Dialog) (sound : IsSoundDialog d) where
     node_there : node_of d.views leaf.node.id ≡ Some leaf.node
     node_there = leaf_at-node (λ view. find (has (λ other. other.id) view.id) d.views ≡ Some view) d leaf.node.id leaf (find-member (λ view. view.id) d.views (views-apart d sound.lawful)) there
 
-    recorded_value : (entries : Entries) (v : Value) → IsSafeRecord d entries → value_of entries leaf.node.id.0 ≡ Some v
+    pub recorded_value : (entries : Entries) (v : Value) → IsSafeRecord d entries → value_of entries leaf.node.id.0 ≡ Some v
         → HasValueOf leaf.node.kind (Some v)
     recorded_value entries v safe e =
         let found = entry_for (IsSafeEntry d) entries leaf.node.id.0 v safe.values e in
@@ -99,7 +99,7 @@ module _ (d : Dialog) (sound : IsSoundDialog d) where
         subst (λ o. IsFitContent (leaf.node.id.0 == d.node.id.0) leaf.node.kind (content_by (is_among overwriting leaf.node.id) o)) (sym (state_there leaf e))
         (opened-fit (leaf.node.id.0 == d.node.id.0) leaf.node.kind value (is_among overwriting leaf.node.id) (leaf-count d sound leaf.node.id leaf e) (opened_value leaf e saved safe))
 
-    standing_before : IsStanding d before
+    pub standing_before : IsStanding d before
     standing_before = record {
       leaves = map-map leaf_state state_id (leaf_list d.views);
       contents = leaves-are d sound.lawful (IsFitLeaf before) opened_content;

@@ -28,14 +28,14 @@ use Rattle.tv_machine.specs.Dialog.Rules.{content_by, is_among, state_of}
 use Rattle.tv_machine.specs.Safe.{HasValueOf, IsSafeEntry, IsSafeRecord, IsTextOf, IsValueOf, is_field}
 use Rattle.tv_laws.specs.Fit.{IsStanding}
 use Rattle.tv_laws.specs.Sound.{IsSoundDialog}
-use Rattle.tv_laws.proofs.LeafLemmas.{HasLeaves, IsIn, ids-apart, leaf_at-node, leaf_id, leaves-are, state_id, views-apart}
-use Rattle.tv_laws.proofs.ListLemmas.{AreApart, find-member, has, none-fails, option_cases}
-use Rattle.tv_laws.proofs.MarkLemmas.{value_by}
+use Rattle.tv_machine.proofs.LeafLemmas.{HasLeaves, IsIn, ids-apart, leaf_at-node, leaf_id, leaves-are, state_id, views-apart}
+use Rattle.tv_machine.proofs.ListLemmas.{AreApart, find-member, has, none-fails, option_cases}
+use Rattle.tv_machine.proofs.MarkLemmas.{value_by}
 
 -- ---- a value
 
 -- what has a value is a field, and nothing else
-value-field : (k : Kind) (v : Option Value) → HasValueOf k v → is_field k ≡ is_some v
+pub value-field : (k : Kind) (v : Option Value) → HasValueOf k v → is_field k ≡ is_some v
 value-field k None h = h
 value-field (kinds.Input input) (Some (values.Text text)) h = refl
 value-field k (Some (values.Text text)) h = absurd h
@@ -67,11 +67,11 @@ value-inside k (values.Item item) private overwrites h e = h
 
 -- ---- the entries
 
-abbrev entry_with : Id → Value → Entry
+abbrev pub entry_with : Id → Value → Entry
 entry_with i value = record { id = i; value = value }
 
 -- the entry of a leaf, if it is a field
-abbrev entry_at : Modal → PlacedNode → Option Entry
+abbrev pub entry_at : Modal → PlacedNode → Option Entry
 entry_at m leaf = option_map (entry_with leaf.node.id) (content_at m leaf.node.id).value
 
 -- the entries of leaves are those of what they hold
@@ -150,7 +150,7 @@ module _ (d : Dialog) (sound : IsSoundDialog d) (m : Modal) where
       option_cases (find (is_invalid_leaf m) (leaf_list d.views)) (λ o. option_map leaf_id o ≡ None → All (λ leaf. is_invalid_leaf m leaf ≡ false) (leaf_list d.views))
       (λ none f. none-fails (is_invalid_leaf m) (leaf_list d.views) none) (λ leaf found f. absurd cc) e
 
-  fields-are : HasLeaves d m → filter_map (entry_at m) (leaf_list d.views) ≡ fields_of m.leaves
+  pub fields-are : HasLeaves d m → filter_map (entry_at m) (leaf_list d.views) ≡ fields_of m.leaves
   fields-are leaves = entries_are m (leaf_list d.views) m.leaves leaves (find-member state_id m.leaves (subst AreApart (sym leaves) (ids-apart d sound.lawful)))
 
   -- the record of a dialog is safe where no input refuses the end

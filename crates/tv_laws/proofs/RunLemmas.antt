@@ -24,29 +24,29 @@ use Rattle.tv_machine.specs.Session.Step.{down_at_menu, down_at_status, down_bel
 use Rattle.tv_laws.specs.Runs.{HasSoundDialogs, IsFitState, IsKept, RunsFit}
 use Rattle.tv_laws.specs.Steps.{IsGiven}
 use Rattle.tv_laws.proofs.CommandLemmas.{IsReady, command-fit, desktop_down-fit, desktop_key-fit, idle-fit, menu_down-fit, menu_key-fit, ready-idle}
-use Rattle.tv_laws.proofs.ListLemmas.{bool_cases, option_cases}
+use Rattle.tv_machine.proofs.ListLemmas.{bool_cases, option_cases}
 use Rattle.tv_laws.proofs.StepLemmas.{stays-fit}
 use Rattle.tv_laws.proofs.WorkLemmas.{dialog-opens, dialog-works, filter_none, nothing}
 
 -- ---- events that may come at any time
 
-given_key : (held : Option Held) (k : Key) → IsGiven held (events.Key k)
+pub given_key : (held : Option Held) (k : Key) → IsGiven held (events.Key k)
 given_key None k = tt
 given_key (Some held) k = tt
 
-given_down : (held : Option Held) (p : Point) → IsGiven held (events.Down p)
+pub given_down : (held : Option Held) (p : Point) → IsGiven held (events.Down p)
 given_down None p = tt
 given_down (Some held) p = tt
 
-given_move : (held : Option Held) (p : Point) → IsGiven held (events.Move p)
+pub given_move : (held : Option Held) (p : Point) → IsGiven held (events.Move p)
 given_move None p = tt
 given_move (Some held) p = tt
 
-given_up : (held : Option Held) (p : Point) → IsGiven held (events.Up p)
+pub given_up : (held : Option Held) (p : Point) → IsGiven held (events.Up p)
 given_up None p = tt
 given_up (Some held) p = tt
 
-not_some : {A : Type 0} (o : Option A) → is_some o ≡ false → o ≡ None
+pub not_some : {A : Type 0} (o : Option A) → is_some o ≡ false → o ≡ None
 not_some None e = refl
 not_some (Some x) e = absurd (true≢false e)
 
@@ -60,7 +60,7 @@ module _ (d : Desc) (sound : HasSoundDialogs d) where
       (λ dialog is going. stays-fit dialog is (modal_of s o) (event_from o.origin e) going given)
 
   -- no menu is open over a dialog
-  menu_idle : (s : State) (o : OpenMenu) → s.menu ≡ Some o → IsFitState d s → s.dialog ≡ None
+  pub menu_idle : (s : State) (o : OpenMenu) → s.menu ≡ Some o → IsFitState d s → s.dialog ≡ None
   menu_idle s o some f =
       option_cases s.dialog (λ x. s.dialog ≡ x → x ≡ None) (λ none e. refl) (λ dialog is e. absurd (nothing o (sym (f.«open» dialog e).menu ∙ some))) refl
 
@@ -156,7 +156,7 @@ module _ (d : Desc) (sound : HasSoundDialogs d) where
   copies (suc n) v x zero e = (cc, omega arith)
   copies (suc n) v x (suc j) e = let r = copies n v x j e in (r.0, omega (arith, r.1))
 
-  copies_length : {A : Type 0} (n : ℕ) (v : A) → length (replicate n v) ≡ n
+  pub copies_length : {A : Type 0} (n : ℕ) (v : A) → length (replicate n v) ≡ n
   copies_length zero v = refl
   copies_length (suc n) v = ap (λ (k : ℕ). suc k) (copies_length n v)
 
@@ -165,7 +165,7 @@ module _ (d : Desc) (sound : HasSoundDialogs d) where
   there_is (x ∷ xs) zero less = (x, refl)
   there_is (x ∷ xs) (suc j) less = there_is xs j (omega arith)
 
-  closed_kept : IsKept d (closed d)
+  pub closed_kept : IsKept d (closed d)
   closed_kept = record {
     saved = λ j entries e. let r = copies (length d.dialogs) None (Some entries) j e in absurd (nothing entries (sym r.0));
     places = copies_length (length d.dialogs) [];

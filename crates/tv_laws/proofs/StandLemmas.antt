@@ -22,10 +22,11 @@ use Rattle.tv_machine.specs.Dialog.Rules.{content_by, holds, is_among, is_enable
 use Rattle.tv_laws.specs.Fit.{IsFitContent, IsFitLeaf, IsFitModal, IsStanding}
 use Rattle.tv_laws.specs.Sound.{IsSoundDialog}
 use Rattle.tv_laws.proofs.ComingLemmas.{moved-fit}
-use Rattle.tv_laws.proofs.FocusLemmas.{content_at-moved, held-moved, hold-moved, leaves-moved, refocused-keeps}
-use Rattle.tv_laws.proofs.LeafLemmas.{HasLeaves, IsIn, content_at-changed, leaf_at-all, leaf_at-is, leaf_at-node, leaf_at-same, leaves-are, leaves-changed, state-changed, state_id, views-apart}
-use Rattle.tv_laws.proofs.ListLemmas.{all-same, among-filter, and-true, bool_cases, find-member, found-id, found-member, found-passes, has, id-itself, option_cases, same-id}
-use Rattle.tv_laws.proofs.MarkLemmas.{HoldSame, enabled-same, free-same, hold-unclustered, visible-same}
+use Rattle.tv_machine.proofs.RefocusLemmas.{content_at-moved, held-moved, hold-moved, leaves-moved, refocused-keeps}
+use Rattle.tv_machine.proofs.LeafLemmas.{HasLeaves, IsIn, content_at-changed, leaf_at-all, leaf_at-is, leaf_at-node, leaf_at-same, leaves-are, leaves-changed, state-changed, state_id, views-apart}
+use Rattle.tv_machine.proofs.ListLemmas.{all-same, among-filter, and-true, bool_cases, find-member, found-id, found-member, found-passes, has, id-itself, option_cases, same-id}
+use Rattle.tv_machine.specs.Dialog.Alike.{HoldSame}
+use Rattle.tv_machine.proofs.MarkLemmas.{enabled-same, free-same, hold-unclustered, visible-same}
 
 -- ---- filters
 

@@ -13,7 +13,7 @@ use Rattle.tv_laws.specs.Steps.{IsGiven, StaysFit}
 use Rattle.tv_laws.proofs.EndLemmas.{command-done}
 use Rattle.tv_laws.proofs.FreeLemmas.{IsFree, free-done, open-done}
 use Rattle.tv_laws.proofs.KeyLemmas.{key-done}
-use Rattle.tv_laws.proofs.ListLemmas.{option_cases}
+use Rattle.tv_machine.proofs.ListLemmas.{option_cases}
 use Rattle.tv_laws.proofs.MouseLemmas.{down-done, move-open, up-done}
 
 module _ (d : Dialog) (sound : IsSoundDialog d) where

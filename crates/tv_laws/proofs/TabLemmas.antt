@@ -12,8 +12,8 @@ use Rattle.tv_machine.specs.Dialog.Modal.{Modal, leaf_at}
 use Rattle.tv_machine.specs.Dialog.Step.{step_by}
 use Rattle.tv_laws.specs.Leaving.{TabGoesOn}
 use Rattle.tv_laws.specs.Sound.{IsSoundDialog}
-use Rattle.tv_laws.proofs.LeafLemmas.{leaves-are}
-use Rattle.tv_laws.proofs.ListLemmas.{bool_cases, found-all, found-passes, option_cases, same-id}
+use Rattle.tv_machine.proofs.LeafLemmas.{leaves-are}
+use Rattle.tv_machine.proofs.ListLemmas.{bool_cases, found-all, found-passes, option_cases, same-id}
 
 module _ (d : Dialog) (sound : IsSoundDialog d) where
   module _ (leaves : List LeafState) where

@@ -23,7 +23,7 @@ use Rattle.tv_laws.specs.Runs.{HasSoundDialogs, IsFitOpen, IsFitState, IsKept}
 use Rattle.tv_laws.specs.Sound.{IsSoundDialog}
 use Rattle.tv_laws.specs.Steps.{IsSafeSave}
 use Rattle.tv_laws.proofs.FreeLemmas.{open-done}
-use Rattle.tv_laws.proofs.ListLemmas.{bool_cases, option_cases}
+use Rattle.tv_machine.proofs.ListLemmas.{bool_cases, option_cases}
 use Rattle.tv_laws.proofs.OpenLemmas.{opens-fit}
 use Rattle.tv_laws.proofs.StandLemmas.{fit-logged}
 
@@ -41,17 +41,17 @@ get_set (y ∷ xs) (suc i) v (suc j) x e = of (get_set xs i v j x e)
     of (inl (at, is)) = inl (ap (λ (n : ℕ). suc n) at, is)
     of (inr same) = inr same
 
-get_set_same : {A : Type 0} (xs : List A) (i : ℕ) (v : A) → i < length xs → slice_get (slice_set xs i v) i ≡ Some v
+pub get_set_same : {A : Type 0} (xs : List A) (i : ℕ) (v : A) → i < length xs → slice_get (slice_set xs i v) i ≡ Some v
 get_set_same [] i v less = absurd (omega arith)
 get_set_same (y ∷ xs) zero v less = refl
 get_set_same (y ∷ xs) (suc i) v less = get_set_same xs i v (omega arith)
 
-length_set : {A : Type 0} (xs : List A) (i : ℕ) (v : A) → length (slice_set xs i v) ≡ length xs
+pub length_set : {A : Type 0} (xs : List A) (i : ℕ) (v : A) → length (slice_set xs i v) ≡ length xs
 length_set [] i v = refl
 length_set (y ∷ xs) zero v = refl
 length_set (y ∷ xs) (suc i) v = ap (λ (n : ℕ). suc n) (length_set xs i v)
 
-get_less : {A : Type 0} (xs : List A) (i : ℕ) (x : A) → slice_get xs i ≡ Some x → i < length xs
+pub get_less : {A : Type 0} (xs : List A) (i : ℕ) (x : A) → slice_get xs i ≡ Some x → i < length xs
 get_less [] i x e = absurd cc
 get_less (y ∷ xs) zero x e = omega arith
 get_less (y ∷ xs) (suc i) x e = let r = get_less xs i x e in omega (arith, r)
@@ -89,7 +89,7 @@ module _ (d : Desc) (sound : HasSoundDialogs d) where
     line_declared (lines.End i command) h = record { place = place; dialog = dialog; there = there; id = sym h.0; «end» = h.1 }
     line_declared _ h = tt
 
-    ordered_at : overwriting_at s place ≡ filter (is_among (overwriting_at s place)) (map (λ view. view.id) dialog.views)
+    pub ordered_at : overwriting_at s place ≡ filter (is_among (overwriting_at s place)) (map (λ view. view.id) dialog.views)
     ordered_at =
         option_cases (slice_get s.overwriting place) (λ o. unwrap_or o [] ≡ filter (is_among (unwrap_or o [])) (map (λ view. view.id) dialog.views))
         (λ none. sym (filter_none (map (λ view. view.id) dialog.views)))
@@ -99,7 +99,7 @@ module _ (d : Desc) (sound : HasSoundDialogs d) where
         let same : x.dialog ≡ dialog = cc in
         subst (λ y. ids ≡ filter (is_among ids) (map (λ view. view.id) y.views)) same x.ordered)
 
-    saved_safe : IsSafeSave dialog (saved_at s place)
+    pub saved_safe : IsSafeSave dialog (saved_at s place)
     saved_safe entries =
         option_cases (slice_get s.saved place) (λ o. unwrap_or o None ≡ Some entries → IsSafeRecord dialog entries)
         (λ none e. absurd (nothing entries e))

@@ -1,0 +1,9 @@
+pub mod ActLemmas
+pub mod CycleLemmas
+pub mod GrantLemmas
+pub mod LetterLemmas
+pub mod NoneLemmas
+pub mod OrderLemmas
+pub mod RisingLemmas
+pub mod StopLemmas
+pub mod ValueLemmas
