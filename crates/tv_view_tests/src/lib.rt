@@ -2,6 +2,28 @@
 #![tactic(auto)]
 
 #[cfg(test)]
+mod broadcasts;
+#[cfg(test)]
+mod depths;
+#[cfg(test)]
+mod dialogs;
+#[cfg(test)]
+mod downs;
+#[cfg(test)]
+mod edges;
+#[cfg(test)]
+mod forms;
+#[cfg(test)]
+mod nodes;
+#[cfg(test)]
+mod own_control;
+#[cfg(test)]
+mod phases;
+#[cfg(test)]
+mod probes;
+#[cfg(test)]
+mod queue;
+#[cfg(test)]
 mod samples;
 #[cfg(test)]
 mod two_windows;

@@ -1,0 +1,17 @@
+//! Tests of the controls, each by itself: what it answers to events, what it becomes and what it shows.
+#![tactic(auto)]
+
+#[cfg(test)]
+mod bench;
+#[cfg(test)]
+mod buttons;
+#[cfg(test)]
+mod clusters;
+#[cfg(test)]
+mod inputs;
+#[cfg(test)]
+mod lists;
+#[cfg(test)]
+mod making;
+#[cfg(test)]
+mod telling;

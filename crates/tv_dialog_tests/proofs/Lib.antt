@@ -1,0 +1,2 @@
+pub mod AreaLemmas
+pub mod FreshLemmas

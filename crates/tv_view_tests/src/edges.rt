@@ -1,0 +1,81 @@
+//! How the focus goes through a group, and where it stops.
+
+use crate::forms::{FIRST, INNER, INPUT, LAST, form};
+use crate::probes::{Call, Journal};
+use bitflags::Flags;
+use std::process::Abort;
+use std::rc::Rc;
+use std::test::Fail;
+use tv_event::{CommandSet, State};
+use tv_group::{Advanced, Dir, Group};
+use tv_model::Id;
+use tv_view::Rules;
+
+// The controls in description order, panes opened out.
+const STOPS: [u32; 4] = [FIRST, INNER, INPUT, LAST];
+
+const STOPS_BACK: [u32; 4] = [LAST, INPUT, INNER, FIRST];
+
+// Fails unless the group is entered at the first of these, and the focus then goes from one to the next up to the edge,
+// where it stays.
+fn walk(
+    rt: &impl Abort,
+    group: &mut Group,
+    journal: &Rc<Journal>,
+    dir: Dir,
+    stops: &[u32],
+) -> Result<(), Fail> {
+    let mut is_entered = false;
+    for stop in stops {
+        if is_entered {
+            assert_eq!(rt; group.advance(dir), Advanced::Moved(Id(*stop)), "to {stop}");
+        } else {
+            assert_eq!(rt; group.enter(dir), Some(Id(*stop)));
+            is_entered = true;
+        }
+        journal.expect(&[(*stop, Call::Focused)])?;
+    }
+    assert_eq!(rt; group.advance(dir), Advanced::Edge);
+    assert_eq!(rt; group.state().contains(State::FOCUSED), is_entered);
+    journal.expect(&[])
+}
+
+#[test]
+fn both_ways_to_the_edge(rt: HostRuntime) -> Result<(), Fail> {
+    let journal = Journal::new(rt.alloc())?;
+    let mut form = form(rt.alloc(), &journal)?;
+    walk(&rt, &mut form, &journal, Dir::Forward, &STOPS)?;
+    walk(&rt, &mut form, &journal, Dir::Backward, &STOPS_BACK)
+}
+
+#[test]
+fn no_current_leaf_is_an_edge(rt: HostRuntime) -> Result<(), Fail> {
+    let journal = Journal::new(rt.alloc())?;
+    let mut form = form(rt.alloc(), &journal)?;
+    assert_eq!(rt; form.advance(Dir::Forward), Advanced::Edge);
+    assert_eq!(rt; form.advance(Dir::Backward), Advanced::Edge);
+    assert!(rt; !form.state().contains(State::FOCUSED));
+    journal.expect(&[])
+}
+
+// Hidden controls are no stops, and with none shown there is nothing to enter.
+#[test]
+fn hidden_controls_are_passed_over(rt: HostRuntime) -> Result<(), Fail> {
+    let journal = Journal::new(rt.alloc())?;
+    let mut form = form(rt.alloc(), &journal)?;
+    let commands = CommandSet::all();
+    let shown = [Id(INNER), Id(INPUT)];
+    form.apply(&Rules {
+        shown: &shown,
+        commands: &commands,
+    });
+    walk(&rt, &mut form, &journal, Dir::Forward, &[INNER, INPUT])?;
+    walk(&rt, &mut form, &journal, Dir::Backward, &[INPUT, INNER])?;
+    form.apply(&Rules {
+        shown: &[],
+        commands: &commands,
+    });
+    assert_eq!(rt; form.enter(Dir::Forward), None);
+    assert_eq!(rt; form.enter(Dir::Backward), None);
+    journal.expect(&[])
+}

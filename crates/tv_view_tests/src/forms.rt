@@ -1,0 +1,106 @@
+//! A group of probes with a pane in it, by which several tests go.
+
+ghost use Rattle.std.specs.Prelude.{◌≤ℤ◌, pos};
+
+use crate::nodes::{button_node, input_node, label_node};
+use crate::probes::{Journal, Probe};
+use crate::samples::{sized, text_node};
+use std::alloc::Global;
+use std::rc::Rc;
+use std::test::Fail;
+use tv_cells::{Point, Rect};
+use tv_controls::{Button, InputLine, Label, StaticText};
+use tv_event::CommandSet;
+use tv_group::{Group, Member};
+use tv_model::{CommandSpec, Id, Node};
+use tv_palette::{Chain, Owner};
+use tv_view::Env;
+
+/// The leaves of the form, in order. Those of the label and the buttons mark letters, and the text is no control.
+pub const LEAVES: [u32; 6] = [LABEL, FIRST, INNER, TEXT, INPUT, LAST];
+
+pub const LABEL: u32 = 2;
+
+pub const FIRST: u32 = 3;
+// The pane has line 4.
+pub const INNER: u32 = 5;
+
+pub const TEXT: u32 = 6;
+
+pub const INPUT: u32 = 7;
+
+pub const LAST: u32 = 8;
+
+/// What a view of a dialog is lent.
+pub fn env<'a>(chain: &'a Chain, commands: &'a CommandSet, views: &'a [Node]) -> Env<'a> {
+    Env {
+        owner: Owner::Dialog,
+        chain,
+        views,
+        commands,
+        focus: None,
+        default_now: None,
+        is_active: true,
+    }
+}
+
+// A button at the left edge, which gives a command of its own.
+fn button(alloc: Global, id: u32, y: i32, text: &str, journal: &Rc<Journal>) -> Result<Member, Fail>
+    requires { (pos 0 ≤ℤ y) × (y ≤ℤ pos 50) }
+{
+    let node = button_node(alloc, id, Point { x: 1, y }, text, CommandSpec::Number(120))?;
+    let probe = Probe::new(Button::new(alloc, &node)?, journal)?;
+    Ok(Member::Leaf(Box::new(alloc, probe)?))
+}
+
+fn label(alloc: Global, journal: &Rc<Journal>) -> Result<Member, Fail> {
+    let node = label_node(alloc, LABEL, Point { x: 1, y: 1 }, "Amount", "amount")?;
+    let probe = Probe::new(Label::new(alloc, &node)?, journal)?;
+    Ok(Member::Leaf(Box::new(alloc, probe)?))
+}
+
+fn input(alloc: Global, journal: &Rc<Journal>) -> Result<Member, Fail> {
+    let node = input_node(alloc, INPUT, Point { x: 1, y: 7 })?;
+    let probe = Probe::new(InputLine::new(alloc, &node)?, journal)?;
+    Ok(Member::Leaf(Box::new(alloc, probe)?))
+}
+
+fn text(alloc: Global, journal: &Rc<Journal>) -> Result<Member, Fail> {
+    let node = Node {
+        id: Id(TEXT),
+        ..text_node(alloc, 9, "ab")?
+    };
+    let probe = Probe::new(StaticText::new(alloc, &node)?, journal)?;
+    Ok(Member::Leaf(Box::new(alloc, probe)?))
+}
+
+// A pane with a button and a text.
+fn pane(alloc: Global, journal: &Rc<Journal>) -> Result<Member, Fail> {
+    let mut members = Vec::new(alloc);
+    members.push(button(alloc, INNER, 0, "Save", journal)?)?;
+    members.push(text(alloc, journal)?)?;
+    let bounds = Rect {
+        a: Point { x: 1, y: 3 },
+        b: Point { x: 21, y: 6 },
+    };
+    let group = Group::new(bounds, members).ok().ok_or("one level")?;
+    Ok(Member::Pane(group))
+}
+
+/// The members of the form: a label, a button, a pane with a button and a text, an input and a button.
+pub fn members(alloc: Global, journal: &Rc<Journal>) -> Result<Vec<Member>, Fail> {
+    let mut members = Vec::new(alloc);
+    members.push(label(alloc, journal)?)?;
+    members.push(button(alloc, FIRST, 2, "Open", journal)?)?;
+    members.push(pane(alloc, journal)?)?;
+    members.push(input(alloc, journal)?)?;
+    members.push(button(alloc, LAST, 8, "Save", journal)?)?;
+    Ok(members)
+}
+
+/// The group of these members, none of which is current.
+pub fn form(alloc: Global, journal: &Rc<Journal>) -> Result<Group, Fail> {
+    let members = members(alloc, journal)?;
+    let form = Group::new(sized(40, 12), members).ok();
+    Ok(form.ok_or("two levels")?)
+}

@@ -1,0 +1,68 @@
+//! A view of these tests among the members of a group, from its making to its end.
+
+use crate::forms::{FIRST, INNER, LABEL, LAST, LEAVES, env, form};
+use crate::probes::{Call, Journal};
+use bitflags::Flags;
+use std::process::Abort;
+use std::test::Fail;
+use tv_cells::{Point, Screen};
+use tv_event::{CommandSet, State};
+use tv_model::Id;
+use tv_palette::Chain;
+
+// The characters from a place on.
+fn reads(screen: &Screen, x: i32, y: i32, text: &str) -> bool {
+    let mut place = Point { x, y };
+    for ch in text.chars() {
+        match screen.at(place) {
+            Some(cell) if cell.ch() == ch => {}
+            _ => return false,
+        }
+        place.x = place.x.saturating_add(1);
+    }
+    true
+}
+
+// Each leaf is told to draw itself, and what the control behind it shows is on the screen.
+#[test]
+fn it_is_drawn(rt: HostRuntime) -> Result<(), Fail> {
+    let alloc = rt.alloc();
+    let journal = Journal::new(alloc)?;
+    let form = form(alloc, &journal)?;
+    let chain = Chain::of_dialog();
+    let commands = CommandSet::all();
+    let mut screen = Screen::new(alloc, 40, 12)?;
+    let canvas = screen.canvas();
+    form.draw(&mut screen, canvas, &env(&chain, &commands, &[]));
+    journal.expect(&LEAVES.map(|id| (id, Call::Drawn)))?;
+    assert!(rt; reads(&screen, 1, 1, "Amount"));
+    assert!(rt; reads(&screen, 2, 3, "[ Save ]"));
+    Ok(())
+}
+
+// The focus is told to the control that has it, wherever that stands.
+#[test]
+fn it_is_focused(rt: HostRuntime) -> Result<(), Fail> {
+    let journal = Journal::new(rt.alloc())?;
+    let mut form = form(rt.alloc(), &journal)?;
+    for id in [INNER, LAST, FIRST] {
+        assert!(rt; form.focus_to(Id(id)));
+        journal.expect(&[(id, Call::Focused)])?;
+        assert!(rt; form.state().contains(State::FOCUSED));
+    }
+    assert!(rt; !form.focus_to(Id(LABEL)));
+    journal.expect(&[])?;
+    assert!(rt; !form.state().contains(State::FOCUSED));
+    Ok(())
+}
+
+// Each is dropped with its group, and once; only then.
+#[test]
+fn it_is_dropped_once(rt: HostRuntime) -> Result<(), Fail> {
+    let journal = Journal::new(rt.alloc())?;
+    {
+        let _form = form(rt.alloc(), &journal)?;
+        journal.expect(&[])?;
+    }
+    journal.expect(&LEAVES.map(|id| (id, Call::Dropped)))
+}

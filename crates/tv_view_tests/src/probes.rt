@@ -1,0 +1,174 @@
+//! A view that passes each call on to a control, and notes what it was told.
+
+use std::alloc::{AllocError, Global};
+use std::cell::RefCell;
+use std::rc::Rc;
+use std::test::Fail;
+use tv_cells::{Canvas, Rect, Screen};
+use tv_event::{Event, Options, Phase, State};
+use tv_model::{Id, Node, Record};
+use tv_view::{Env, Reaction, Rules, View};
+
+/// What a view was told.
+#[derive(Clone, Copy, Debug, PartialEq, Eq)]
+pub enum Call {
+    /// To handle an event in a phase.
+    Handed(Event, Phase),
+    /// To draw itself.
+    Drawn,
+    /// That the focus is its own.
+    Focused,
+    /// That it is dropped.
+    Dropped,
+}
+
+/// A call, with the number of the view that was told.
+pub type Note = (u32, Call);
+
+/// The calls of all probes that share it, in order.
+#[derive(Drop)]
+pub struct Journal {
+    alloc: Global,
+    notes: RefCell<Vec<Note>>,
+}
+
+impl Journal {
+    /// A journal without notes.
+    pub fn new(alloc: Global) -> Result<Rc<Journal>, Fail> {
+        let journal = Journal {
+            alloc,
+            notes: RefCell::new(Vec::new(alloc)),
+        };
+        Ok(Rc::new(alloc, journal)?)
+    }
+
+    // A note that can't be taken is missing, and so the test that wants it fails.
+    fn note(&self, id: Id, call: Call) {
+        if let Ok(mut notes) = self.notes.try_borrow_mut() {
+            notes.push((id.0, call)).ok();
+        }
+    }
+
+    /// The notes since the last time that it was asked.
+    pub fn taken(&self) -> Result<Vec<Note>, Fail> {
+        let empty = Vec::new(self.alloc);
+        match self.notes.try_replace(empty) {
+            Ok(notes) => Ok(notes),
+            Err(_) => Err("the journal is lent".into()),
+        }
+    }
+
+    /// Fails unless these are the notes since the last time that it was asked.
+    pub fn expect(&self, notes: &[Note]) -> Result<(), Fail> {
+        let taken = self.taken()?;
+        if taken.as_slice() == notes {
+            return Ok(());
+        }
+        Err(Fail::new(format_args!("{taken:?}")))
+    }
+
+    /// Fails unless the views of these numbers were handed the event in this phase, one after the other, and no more.
+    pub fn expect_handed(&self, event: Event, phase: Phase, ids: &[u32]) -> Result<(), Fail> {
+        let mut notes = Vec::new(self.alloc);
+        for id in ids {
+            notes.push((*id, Call::Handed(event, phase)))?;
+        }
+        self.expect(&notes)
+    }
+}
+
+/// A view that is another, which it tells all that it is told itself.
+pub struct Probe<V: View> {
+    view: V,
+    journal: Rc<Journal>,
+}
+
+impl<V: View> Probe<V> {
+    /// A probe of the view, which notes its calls in the journal.
+    pub fn new(view: V, journal: &Rc<Journal>) -> Result<Probe<V>, AllocError> {
+        Ok(Probe {
+            view,
+            journal: Rc::clone(journal)?,
+        })
+    }
+
+    fn note(&self, call: Call) {
+        self.journal.note(self.view.id(), call);
+    }
+}
+
+impl<V: View> Drop for Probe<V> {
+    fn drop(self) {
+        self.note(Call::Dropped);
+        let Probe {
+            view: _,
+            journal: _,
+        } = self;
+    }
+}
+
+impl<V: View> View for Probe<V> {
+    ghost meaning = { λ probe. V.meaning probe.view };
+
+    fn id(&self) -> Id {
+        self.view.id()
+    }
+
+    fn bounds(&self) -> Rect {
+        self.view.bounds()
+    }
+
+    fn state(&self) -> State {
+        self.view.state()
+    }
+
+    fn options(&self) -> Options {
+        self.view.options()
+    }
+
+    fn handle(&mut self, event: &Event, phase: Phase, env: &Env) -> Reaction {
+        self.note(Call::Handed(*event, phase));
+        self.view.handle(event, phase, env)
+    }
+
+    fn draw(&self, screen: &mut Screen, canvas: Canvas, env: &Env) {
+        self.note(Call::Drawn);
+        self.view.draw(screen, canvas, env)
+    }
+
+    fn focus_to(&mut self, id: Id) -> bool {
+        let has_focus = self.view.focus_to(id);
+        if has_focus {
+            self.note(Call::Focused);
+        }
+        has_focus
+    }
+
+    fn press_item(&mut self, id: Id, item: u8) {
+        self.view.press_item(id, item)
+    }
+
+    fn held(&self) -> bool {
+        self.view.held()
+    }
+
+    fn first_invalid(&self) -> Option<Id> {
+        self.view.first_invalid()
+    }
+
+    fn get(&self, values: &mut Record) {
+        self.view.get(values)
+    }
+
+    fn set(&mut self, values: &Record) {
+        self.view.set(values)
+    }
+
+    fn apply(&mut self, rules: &Rules) {
+        self.view.apply(rules)
+    }
+
+    fn is_fresh(&self, node: &Node) -> bool {
+        self.view.is_fresh(node)
+    }
+}
