@@ -1,0 +1,4 @@
+pub mod Bar
+pub mod Lawful
+pub mod Line
+pub mod Spots
