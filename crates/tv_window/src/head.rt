@@ -81,6 +81,18 @@ impl Head {
         self.x == *x && self.y == *y && self.w == *w && self.h == *h
     }
 
+    pub(crate) fn id(&self) -> Id
+        ensures { result ≡ self.now.id }
+    {
+        self.id
+    }
+
+    pub(crate) fn number(&self) -> i32
+        ensures { result ≡ self.now.number }
+    {
+        self.number
+    }
+
     pub(crate) fn bounds(&self) -> Rect
         ensures is { result ≡ bounds_of self.now }
         ensures small { IsSmallRect result }

@@ -10,7 +10,7 @@ ghost use Rattle.tv_window.specs.Window.{IsFreshWindow, body_of, head_of, window
 use crate::head::Head;
 use tv_cells::{Canvas, Rect, Screen, lay};
 use tv_group::GroupOf;
-use tv_model::Node;
+use tv_model::{Id, Node};
 use tv_view::{Env, View};
 
 /// A frame with a number and a title, and the group of views that it surrounds.
@@ -46,6 +46,20 @@ impl<V> WindowOf<V> {
             Some(head) => Ok(WindowOf { head, body }),
             None => Err((WrongKind, body)),
         }
+    }
+
+    /// The line of its declaration.
+    pub fn id(&self) -> Id
+        ensures { result ≡ (head_of self.now).id }
+    {
+        self.head.id()
+    }
+
+    /// Its number, which its frame shows where it isn't 0.
+    pub fn number(&self) -> i32
+        ensures { result ≡ (head_of self.now).number }
+    {
+        self.head.number()
     }
 
     /// Its rectangle on the screen.

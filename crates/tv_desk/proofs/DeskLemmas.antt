@@ -1,0 +1,199 @@
+-- What the flat machine makes of its open windows, by the place of the one that is meant.
+use Rattle.std.proofs.Common.{◌≡◌, ◌≢◌, ℕ, suc, ◌+◌, ◌<◌, Bool, true, false, ◌&&◌, ◌==◌, ◌-◌, nat_le, if◌then◌else◌, List, [], ◌∷◌, length, reverse, find, position, Option, Some, None, ℤ, pos, refl, sym, ap, ◌∙◌, subst, arith}
+use Rattle.std.specs.List.{remove, slice_get, slice_index_or}
+use Rattle.std.specs.Ordering.{int_eq}
+use Rattle.std.proofs.lemmas.Option.{slice_get_read}
+use Rattle.tv_cells.specs.Layers.{is_in}
+use Rattle.tv_cells.specs.declared.rect.Point.{Point}
+use Rattle.tv_group.specs.Stack.{raised}
+use Rattle.tv_model.specs.Controls.Meaning.{Leaf}
+use Rattle.tv_model.specs.Screen.Layers.{window_of}
+use Rattle.tv_model.specs.declared.desc.Desc.{Desc}
+use Rattle.tv_model.specs.declared.node.Id.{Id}
+use Rattle.tv_machine.specs.Dialog.Mouse.{is_close_mark}
+use Rattle.tv_machine.specs.Session.Commands.{close_front, do_command, last_first}
+use Rattle.tv_machine.specs.Session.Desktop.{down_in_front, down_on_desktop, down_on_window, is_numbered, is_under, raise, raise_found, seen_from, window_of_digit}
+use Rattle.tv_machine.specs.State.{OpenWindow, State}
+use Rattle.tv_machine.proofs.ListLemmas.{bool_cases, id-itself, pairs-tail}
+use Rattle.tv_window.specs.DeclaredWindows.{AreDeclared}
+use Rattle.tv_window.specs.Head.{bounds_of}
+use Rattle.tv_window.specs.Window.{head_of}
+use Rattle.tv_window.specs.declared.window.WindowOf.{WindowOf}
+use Rattle.tv_desk.specs.Desk.{AreApart, IsDesk, down_at, with_close_line}
+use Rattle.tv_desk.specs.declared.desk.DeskOf.{DeskOf}
+use Rattle.tv_desk.proofs.DeclaredLemmas.{corner-same, declared-raised, id-same, number-same, one-declared, point-same, position-same, same-length}
+use Rattle.tv_desk.proofs.OrderLemmas.{apart-at, front-only, last-raised, raised-at}
+use Rattle.tv_desk.proofs.PlaceLemmas.{IsFoundAt, found-at, not-found}
+
+-- a window that comes to the front by its number changes nothing of a run but its open windows
+pub raise_found-windows : (o : Option OpenWindow) (s : State) → raise_found o s ≡ record s { windows = (raise_found o s).windows }
+raise_found-windows None s = refl
+raise_found-windows (Some w) s = refl
+
+-- the place of a digit's number
+pub digit-placed : {V : Type 0} (windows : List (WindowOf V)) (letter : ℕ) (number : ℤ) (place : Option ℕ) → place ≡ position (λ w. int_eq (head_of w).number number) windows → number ≡ pos (letter - 48)
+    → (nat_le 49 letter && nat_le letter 57) ≡ true → place ≡ (if nat_le 49 letter && nat_le letter 57 then position (λ w. int_eq (head_of w).number (pos (letter - 48))) windows else None)
+digit-placed windows letter number place is same digit =
+    is
+    ∙ (ap (λ n. position (λ w. int_eq (head_of w).number n) windows) same
+    ∙ sym (ap (λ b. if b then position (λ w. int_eq (head_of w).number (pos (letter - 48))) windows else None) digit))
+
+module _ {V : Type 0} (look : V → Leaf) (d : Desc) where
+  abbrev shown : DeskOf V → List (WindowOf V)
+  shown desk = desk.windows.items.items
+
+  -- as many windows as are open
+  pub count-same : (stack : List OpenWindow) (desk : DeskOf V) → IsDesk look d stack desk → length (shown desk) ≡ length stack
+  count-same stack desk is = same-length look d stack (shown desk) is.windows
+
+  -- the same windows
+  kept-desk : (stack : List OpenWindow) (desk after : DeskOf V) → after ≡ desk → IsDesk look d stack desk → IsDesk look d stack after
+  kept-desk stack desk after same is = subst (IsDesk look d stack) (sym same) is
+
+  -- one of them comes to the front
+  raised-desk : (stack : List OpenWindow) (desk after : DeskOf V) (place : ℕ) → place < length stack → shown after ≡ raised (shown desk) place → IsDesk look d stack desk → IsDesk look d (raised stack place) after
+  raised-desk stack desk after place within items is = record {
+    windows = subst (AreDeclared look d (raised stack place)) (sym items) (declared-raised look d stack (shown desk) place is.windows);
+    apart = apart-at stack place within is.apart;
+  }
+
+  -- ---- a digit
+
+  module _ (s : State) (desk after : DeskOf V) (is : IsDesk look d s.windows desk) (seen : List (WindowOf V)) (all : seen ≡ shown desk) (letter : ℕ) where
+    abbrev numbered : OpenWindow → Bool
+    numbered o = is_numbered (letter - 48) (window_of d o.id)
+
+    abbrev has_number : WindowOf V → Bool
+    has_number w = int_eq (head_of w).number (pos (letter - 48))
+
+    abbrev is_digit : Bool
+    is_digit = nat_le 49 letter && nat_le letter 57
+
+    numbered-same : position has_number seen ≡ position numbered s.windows
+    numbered-same =
+        ap (position has_number) all ∙ position-same look d numbered has_number (λ o w declared. number-same look d o w declared (letter - 48)) s.windows (shown desk) is.windows
+
+    pub digit-raised : (place : ℕ) → (if is_digit then position has_number seen else None) ≡ Some place → shown after ≡ raised (shown desk) place
+        → IsDesk look d (raise_found (window_of_digit d s letter) s).windows after
+    digit-raised place e items =
+        bool_cases is_digit
+        (λ b. (if b then position has_number seen else None) ≡ Some place → IsDesk look d (raise_found (if b then find numbered s.windows else None) s).windows after)
+        (λ digit f.
+        let there = found-at numbered s.windows place (sym numbered-same ∙ f) in
+        subst (λ o. IsDesk look d (raise_found o s).windows after) (sym there.found)
+        (subst (λ stack. IsDesk look d stack after) (sym (raised-at s.windows place there.item is.apart there.at)) (raised-desk s.windows desk after place there.within items is)))
+        (λ other f. absurd cc) e
+
+    pub digit-kept : (if is_digit then position has_number seen else None) ≡ None → after ≡ desk → IsDesk look d (raise_found (window_of_digit d s letter) s).windows after
+    digit-kept e same =
+        bool_cases is_digit
+        (λ b. (if b then position has_number seen else None) ≡ None → IsDesk look d (raise_found (if b then find numbered s.windows else None) s).windows after)
+        (λ digit f. subst (λ o. IsDesk look d (raise_found o s).windows after) (sym (not-found numbered s.windows (sym numbered-same ∙ f))) (kept-desk s.windows desk after same is))
+        (λ other f. kept-desk s.windows desk after same is) e
+
+  -- ---- a mouse down
+
+  -- the run with these windows, and with nothing else changed
+  abbrev Comes : State → DeskOf V → State → Type 0
+  Comes s after t = IsDesk look d t.windows after × (t ≡ record s { windows = t.windows })
+
+  module _ (s : State) (desk after : DeskOf V) (is : IsDesk look d s.windows desk) (seen : List (WindowOf V)) (all : seen ≡ shown desk) (p : Point) where
+    abbrev under : WindowOf V → Bool
+    under w = is_in (bounds_of (head_of w)) p.x p.y
+
+    under-same : position under seen ≡ position (is_under d p) s.windows
+    under-same = ap (position under) all ∙ position-same look d (is_under d p) under (λ o w declared. point-same look d o w declared p) s.windows (shown desk) is.windows
+
+    in-front : (o : OpenWindow) → slice_get s.windows 0 ≡ Some o → down_on_window d s.windows o p s ≡ down_in_front d o p s
+    in-front o at = by_windows s.windows at
+      where
+        by_windows : (stack : List OpenWindow) → slice_get stack 0 ≡ Some o → down_on_window d stack o p s ≡ down_in_front d o p s
+        by_windows [] e = absurd cc
+        by_windows (front ∷ behind) e =
+            let same : front ≡ o = cc in
+            ap (λ b. if b then down_in_front d o p s else raise o.id s) (ap (λ w. w.id.0 == o.id.0) same ∙ id-itself o.id)
+
+    further-back : (o : OpenWindow) (place : ℕ) → slice_get s.windows (suc place) ≡ Some o → down_on_window d s.windows o p s ≡ raise o.id s
+    further-back o place at = by_windows s.windows is.apart at
+      where
+        by_windows : (stack : List OpenWindow) → AreApart stack → slice_get stack (suc place) ≡ Some o → down_on_window d stack o p s ≡ raise o.id s
+        by_windows [] apart e = absurd cc
+        by_windows (front ∷ behind) apart e = ap (λ b. if b then down_in_front d o p s else raise o.id s) (front-only front behind place o apart e)
+
+    module _ (place : ℕ) (e : position under seen ≡ Some place) where
+      there : IsFoundAt (is_under d p) s.windows place
+      there = found-at (is_under d p) s.windows place (sym under-same ∙ e)
+
+      -- behind the front window
+      pub down-behind : 0 < place → shown after ≡ raised (shown desk) place → Comes s after (down_at d p s)
+      down-behind behind items =
+          let next : place ≡ suc (place - 1) = omega (arith, behind) in
+          let raises : down_at d p s ≡ record s { windows = raised s.windows place } =
+          ap (λ o. down_on_desktop d o p s) there.found
+          ∙ (further-back there.item (place - 1) (ap (slice_get s.windows) (sym next) ∙ there.at)
+          ∙ ap (λ stack. record s { windows = stack }) (raised-at s.windows place there.item is.apart there.at)) in
+          subst (Comes s after) (sym raises) (raised-desk s.windows desk after place there.within items is, refl)
+
+      module _ (first : place ≡ 0) (w : WindowOf V) (read : w ≡ slice_index_or (shown desk) place w) where
+        at : slice_get (shown desk) place ≡ Some w
+        at = slice_get_read (shown desk) (length (shown desk)) place w refl (subst (λ ws. place < length ws) all (found-at under seen place e).within) read
+
+        tests : down_at d p s ≡ (if is_close_mark (seen_from (bounds_of (head_of w)).a p) then do_command d 4 s else s)
+        tests =
+            ap (λ o. down_on_desktop d o p s) there.found
+            ∙ (in-front there.item (ap (slice_get s.windows) (sym first) ∙ there.at)
+            ∙ ap (λ corner. if is_close_mark (seen_from corner p) then do_command d 4 s else s) (sym (corner-same look d there.item w (one-declared look d s.windows (shown desk) place there.item w is.windows there.at at))))
+
+        -- on the close mark of the front window
+        pub down-mark : is_close_mark (seen_from (bounds_of (head_of w)).a p) ≡ true → down_at d p s ≡ do_command d 4 s
+        down-mark mark = tests ∙ ap (λ b. if b then do_command d 4 s else s) mark
+
+        -- elsewhere on it
+        pub down-beside : is_close_mark (seen_from (bounds_of (head_of w)).a p) ≡ false → after ≡ desk → Comes s after (down_at d p s)
+        down-beside beside same = subst (Comes s after) (sym (tests ∙ ap (λ b. if b then do_command d 4 s else s) beside)) (kept-desk s.windows desk after same is, refl)
+
+    -- on none
+    pub down-kept : position under seen ≡ None → after ≡ desk → Comes s after (down_at d p s)
+    down-kept e same =
+        subst (λ o. Comes s after (down_on_desktop d o p s)) (sym (not-found (is_under d p) s.windows (sym under-same ∙ e))) (kept-desk s.windows desk after same is, refl)
+
+  -- ---- the last comes to the front, and the first closes
+
+  pub next-desk : (stack : List OpenWindow) (desk after : DeskOf V) (place : ℕ) → place + 1 ≡ length (shown desk) → shown after ≡ raised (shown desk) place → IsDesk look d stack desk
+      → IsDesk look d (last_first (reverse stack)) after
+  next-desk stack desk after place last items is =
+      let count : place + 1 ≡ length stack = last ∙ count-same stack desk is in
+      subst (λ ws. IsDesk look d ws after) (sym (last-raised stack place count)) (raised-desk stack desk after place (omega (arith, count)) items is)
+
+  pub next-empty : (stack : List OpenWindow) (desk after : DeskOf V) → length (shown desk) ≡ 0 → after ≡ desk → IsDesk look d stack desk → IsDesk look d (last_first (reverse stack)) after
+  next-empty [] desk after none same is = kept-desk [] desk after same is
+  next-empty (o ∷ stack) desk after none same is = absurd (omega (arith, none, count-same (o ∷ stack) desk is))
+
+  pub closed-desk : (s : State) (desk after : DeskOf V) → IsDesk look d s.windows desk → shown after ≡ remove (shown desk) 0 → IsDesk look d (close_front s.windows s).windows after
+  closed-desk s desk after is items = by_windows s.windows (shown desk) refl is.windows is.apart items
+    where
+      by_windows : (stack : List OpenWindow) (windows : List (WindowOf V)) → s.windows ≡ stack → AreDeclared look d stack windows → AreApart stack → shown after ≡ remove windows 0 → IsDesk look d (close_front stack s).windows after
+      by_windows [] [] all are apart e = record {
+        windows = subst (λ ws. AreDeclared look d ws (shown after)) (sym all) (subst (AreDeclared look d []) (sym e) tt);
+        apart = is.apart;
+      }
+      by_windows [] (w ∷ windows) all are apart e = absurd are
+      by_windows (o ∷ stack) [] all are apart e = absurd are
+      by_windows (o ∷ stack) (w ∷ windows) all are apart e = record {
+        windows = subst (AreDeclared look d stack) (sym e) are.1;
+        apart = pairs-tail (λ v other. v.id.0 ≢ other.id.0) o stack apart;
+      }
+
+  pub one-closed : (s : State) (desk : DeskOf V) → IsDesk look d s.windows desk → (w : WindowOf V) (i : Id) → slice_get (shown desk) 0 ≡ Some w → i ≡ (head_of w).id
+      → close_front s.windows s ≡ with_close_line (Some i) (record s { windows = (close_front s.windows s).windows })
+  one-closed s desk is w i front kept = by_windows s.windows (shown desk) is.windows front
+    where
+      by_windows : (stack : List OpenWindow) (windows : List (WindowOf V)) → AreDeclared look d stack windows → slice_get windows 0 ≡ Some w
+          → close_front stack s ≡ with_close_line (Some i) (record s { windows = (close_front stack s).windows })
+      by_windows [] [] are e = absurd cc
+      by_windows [] (v ∷ windows) are e = absurd are
+      by_windows (o ∷ stack) [] are e = absurd are
+      by_windows (o ∷ stack) (v ∷ windows) are e =
+          let same : v ≡ w = cc in
+          let named : i ≡ o.id = kept ∙ (ap (λ u. (head_of u).id) (sym same) ∙ id-same look d o v are.0) in
+          subst (λ j. close_front (o ∷ stack) s ≡ with_close_line (Some j) (record s { windows = stack })) (sym named) refl

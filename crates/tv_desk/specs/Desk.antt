@@ -1,0 +1,55 @@
+-- The open windows of a run, and what a description has to have so that its windows can stand so.
+use Rattle.std.specs.Prelude.{◌≢◌, All, List, Option, Some, None, IfSome}
+use Rattle.std.specs.List.{AllPairs, AllZip}
+use Rattle.tv_cells.specs.declared.rect.Point.{Point}
+use Rattle.tv_model.specs.Controls.Meaning.{Leaf}
+use Rattle.tv_model.specs.declared.desc.Desc.{Desc}
+use Rattle.tv_model.specs.declared.desc.Window.{Window}
+use Rattle.tv_model.specs.declared.log.LogLine.TheVariants as lines
+use Rattle.tv_model.specs.declared.node.Id.{Id}
+use Rattle.tv_machine.specs.Session.Commands.{logged}
+use Rattle.tv_machine.specs.Session.Desktop.{down_on_desktop, window_under}
+use Rattle.tv_machine.specs.State.{OpenWindow, State}
+use Rattle.tv_window.specs.DeclaredWindows.{AreDeclared, IsTextInside}
+use Rattle.tv_window.specs.Head.{IsLimited, declared_head}
+use Rattle.tv_window.specs.Window.{IsFreshWindow}
+use Rattle.tv_window.specs.declared.window.WindowOf.{WindowOf}
+use Rattle.tv_desk.specs.declared.desk.DeskOf.{DeskOf}
+
+-- ---- what is declared
+
+-- near numbers, a short title, and static texts inside the frame
+pub record IsLawfulWindow (window : Window) : Type 0 where
+  pub head : IfSome (declared_head window.node) IsLimited
+  pub texts : All (IsTextInside window.node) window.views
+
+-- the windows of a description, of which no two have one id
+pub record AreLawfulWindows (windows : List Window) : Type 0 where
+  pub each : All IsLawfulWindow windows
+  pub apart : AllPairs (λ window other. window.node.id.0 ≢ other.node.id.0) windows
+
+-- ---- what is open
+
+-- these windows, one for one, as they are before any event
+abbrev pub AreFreshWindows : {V : Type 0} → (V → Leaf) → List Window → List (WindowOf V) → Type 0
+AreFreshWindows look declared windows = AllZip (λ one window. IsFreshWindow look one.node one.views window) declared windows
+
+-- no two open windows are one
+abbrev pub AreApart : List OpenWindow → Type 0
+AreApart stack = AllPairs (λ window other. window.id.0 ≢ other.id.0) stack
+
+-- the open windows, one for one from the front
+pub record IsDesk {V : Type 0} (look : V → Leaf) (d : Desc) (stack : List OpenWindow) (desk : DeskOf V) : Type 0 where
+  pub windows : AreDeclared look d stack desk.windows.items.items
+  pub apart : AreApart stack
+
+-- ---- what the flat machine does
+
+-- a mouse down at a point of the desktop
+abbrev pub down_at : Desc → Point → State → State
+down_at d p s = down_on_desktop d (window_under d s p) p s
+
+-- with the line that the window of an id has closed, if one has
+abbrev pub with_close_line : Option Id → State → State
+with_close_line None s = s
+with_close_line (Some i) s = logged (lines.Close i) s

@@ -1,0 +1,126 @@
+//! The open windows.
+
+ghost use Rattle.std.specs.Prelude.{◌≡◌, ◌==◌, List, length, reverse};
+ghost use Rattle.tv_machine.specs.Screen.Layers.{stack_layers};
+ghost use Rattle.tv_machine.specs.Session.Commands.{close_front, do_command, last_first};
+ghost use Rattle.tv_machine.specs.Session.Desktop.{raise_found, window_of_digit};
+ghost use Rattle.tv_machine.specs.Session.Start.{closed};
+ghost use Rattle.tv_machine.specs.State.{OpenWindow, State};
+ghost use Rattle.tv_model.specs.Controls.Meaning.{IsSmall};
+ghost use Rattle.tv_model.specs.declared.desc.Desc.{Desc};
+ghost use Rattle.tv_view.specs.Drawing.{Lays};
+ghost use Rattle.tv_window.specs.DeclaredWindows.{IsOfWindow, desktop_canvas};
+ghost use Rattle.tv_desk.specs.Desk.{AreFreshWindows, AreLawfulWindows, IsDesk, down_at, with_close_line};
+
+use crate::places::{is_on_close_mark, place_of_digit, place_under};
+use tv_cells::{Canvas, Point, Screen};
+use tv_group::Stack;
+use tv_model::Id;
+use tv_view::{Env, View};
+use tv_window::{WindowOf, draw_stack};
+
+/// The open windows of a run, the front one first.
+///
+/// It is generic in their views, as a window is; the toolkit's own has boxed ones. It never grows, and takes no memory.
+#[derive(Drop)]
+pub struct DeskOf<V> {
+    windows: Stack<WindowOf<V>>,
+}
+
+/// The open windows of a run, whose views are boxed.
+pub type Desk = DeskOf<Box<dyn View>>;
+
+/// What is left to be done of a mouse down on the desktop.
+#[derive(Clone, Copy, Debug, PartialEq, Eq)]
+pub enum Hit {
+    /// It was on the close mark of the front window, which is to be closed.
+    CloseMark,
+    /// Nothing more.
+    Done,
+}
+
+impl<V: View> DeskOf<V> {
+    /// The windows as they stand before any event. They are handed in in description order, and the later ones stand in
+    /// front.
+    pub fn new(mut windows: Vec<WindowOf<V>>) -> DeskOf<V>
+        ensures { (d : Desc) → AreLawfulWindows d.windows → AreFreshWindows V.meaning d.windows windows.items
+            → IsDesk V.meaning d (closed d).windows result }
+    {
+        windows.reverse();
+        DeskOf {
+            windows: Stack::new(windows),
+        }
+    }
+
+    /// Whether none is open.
+    pub fn is_empty(&self) -> bool
+        ensures { (d : Desc) (stack : List OpenWindow) → IsDesk V.meaning d stack self.now → result ≡ (length stack == 0) }
+    {
+        self.windows.items.is_empty()
+    }
+
+    /// Alt with a digit from 1 to 9: the window of that number comes to the front. Anything else does nothing.
+    pub fn raise_number(&mut self, letter: char)
+        ensures { (d : Desc) (s : State) → IsDesk V.meaning d s.windows self.old
+            → IsDesk V.meaning d (raise_found (window_of_digit d s letter) s).windows self.new }
+    {
+        if let Some(place) = place_of_digit(&self.windows.items, letter) {
+            self.windows.raise(place);
+        }
+    }
+
+    /// A mouse down on the desktop while neither a menu nor a dialog is open: a window that isn't the front one comes to
+    /// the front.
+    pub fn down(&mut self, point: Point) -> Hit
+        ensures kept { result ≡ Hit.CloseMark → self.new ≡ self.old }
+        ensures mark { (d : Desc) (s : State) → IsDesk V.meaning d s.windows self.old → result ≡ Hit.CloseMark
+            → down_at d point s ≡ do_command d 4 s }
+        ensures done { (d : Desc) (s : State) → IsDesk V.meaning d s.windows self.old → result ≡ Hit.Done
+            → IsDesk V.meaning d (down_at d point s).windows self.new
+            × (down_at d point s ≡ record s { windows = (down_at d point s).windows }) }
+    {
+        let Some(place) = place_under(&self.windows.items, point) else {
+            return Hit::Done;
+        };
+        if place > 0 {
+            self.windows.raise(place);
+            return Hit::Done;
+        }
+        if is_on_close_mark(self.windows.items[place].bounds(), point) {
+            Hit::CloseMark
+        } else {
+            Hit::Done
+        }
+    }
+
+    /// The rearmost one comes to the front.
+    pub fn next(&mut self)
+        ensures { (d : Desc) (stack : List OpenWindow) → IsDesk V.meaning d stack self.old
+            → IsDesk V.meaning d (last_first (reverse stack)) self.new }
+    {
+        if let Some(last) = self.windows.items.len().checked_sub(1) {
+            self.windows.raise(last);
+        }
+    }
+
+    /// The front one closes. Its id, or None where none is open.
+    pub fn close_front(&mut self) -> Option<Id>
+        ensures desk { (d : Desc) (s : State) → IsDesk V.meaning d s.windows self.old
+            → IsDesk V.meaning d (close_front s.windows s).windows self.new }
+        ensures line { (d : Desc) (s : State) → IsDesk V.meaning d s.windows self.old
+            → close_front s.windows s ≡ with_close_line result (record s { windows = (close_front s.windows s).windows }) }
+    {
+        let window = self.windows.remove(0)?;
+        Some(window.id())
+    }
+
+    /// Draws the windows with their shadows, on the desktop whose canvas is handed in. None but the front one is drawn as
+    /// active, and it only where the environment says so.
+    pub fn draw(&self, screen: &mut Screen, canvas: Canvas, env: &Env)
+        requires { IsSmall canvas.origin.x × IsSmall canvas.origin.y }
+        ensures { (d : Desc) (stack : List OpenWindow) → IsDesk V.meaning d stack self.now → IsOfWindow env.now → canvas ≡ desktop_canvas d
+            → Lays (stack_layers d env.now.is_active stack) screen.old screen.new }
+    {
+        draw_stack(&self.windows.items, screen, canvas, env);
+    }
+}

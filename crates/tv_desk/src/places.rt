@@ -1,0 +1,75 @@
+//! Which of some windows, from the front, a point or a digit means.
+
+ghost use Rattle.std.specs.Prelude.{◌≡◌, ◌-◌, ◌+ℤ◌, ◌&&◌, if◌then◌else◌, nat_le, None, pos, position};
+ghost use Rattle.std.specs.Ordering.{int_eq};
+ghost use Rattle.tv_cells.specs.Layers.{is_in};
+ghost use Rattle.tv_cells.specs.Rectangle.{IsPointNear, IsRectNear};
+ghost use Rattle.tv_machine.specs.Dialog.Mouse.{is_close_mark};
+ghost use Rattle.tv_machine.specs.Session.Desktop.{seen_from};
+ghost use Rattle.tv_model.specs.Description.Rectangles.{rect};
+ghost use Rattle.tv_window.specs.Head.{bounds_of};
+ghost use Rattle.tv_window.specs.Window.{head_of};
+
+use tv_cells::{Point, Rect};
+use tv_window::WindowOf;
+
+fn has_point<V>(window: &WindowOf<V>, point: Point) -> bool
+    ensures { result ≡ is_in (bounds_of (head_of window.now)) point.x point.y }
+{
+    window.bounds().contains(point)
+}
+
+/// The topmost window at a point.
+pub(crate) fn place_under<V>(windows: &[WindowOf<V>], point: Point) -> Option<usize>
+    ensures { result ≡ position (λ window. is_in (bounds_of (head_of window)) point.x point.y) windows.now }
+{
+    windows.iter().position(|window| has_point(window, point))
+}
+
+fn has_number<V>(window: &WindowOf<V>, number: &i32) -> bool
+    ensures { result ≡ int_eq (head_of window.now).number number.now }
+{
+    window.number() == *number
+}
+
+fn place_numbered<V>(windows: &[WindowOf<V>], number: &i32) -> Option<usize>
+    ensures { result ≡ position (λ window. int_eq (head_of window).number number.now) windows.now }
+{
+    windows.iter().position(|window| has_number(window, number))
+}
+
+/// The window of a number that is a digit from 1 to 9.
+pub(crate) fn place_of_digit<V>(windows: &[WindowOf<V>], digit: char) -> Option<usize>
+    ensures { result ≡ (if nat_le 49 digit && nat_le digit 57 then position (λ window. int_eq (head_of window).number (pos (digit - 48))) windows.now else None) }
+{
+    match digit {
+        '1'..='9' => place_numbered(windows, &(digit as i32 - '0' as i32)),
+        _ => None,
+    }
+}
+
+/// The close mark of a window with this corner: the columns 2 to 4 of its top row.
+fn close_mark(corner: &Point) -> Rect
+    requires { IsPointNear corner.now }
+    ensures { result ≡ rect (corner.now.x +ℤ pos 2) corner.now.y (pos 3) (pos 1) }
+{
+    let left = corner.x + 2;
+    Rect {
+        a: Point {
+            x: left,
+            y: corner.y,
+        },
+        b: Point {
+            x: left + 3,
+            y: corner.y + 1,
+        },
+    }
+}
+
+/// Whether the point lies on the close mark of a window with these bounds.
+pub(crate) fn is_on_close_mark(bounds: Rect, point: Point) -> bool
+    requires { IsRectNear bounds }
+    ensures { result ≡ is_close_mark (seen_from bounds.a point) }
+{
+    close_mark(&bounds.a).contains(point)
+}
