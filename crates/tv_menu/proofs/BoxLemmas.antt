@@ -1,5 +1,5 @@
 -- The item of a menu that is under a point.
-use Rattle.std.proofs.Common.{◌≡◌, ℕ, Bool, true, Option, Some, None, ℤ, pos, ◌-ℤ◌, ◌&&◌, if◌then◌else◌, ap, ◌∙◌, refl, sym}
+use Rattle.std.proofs.Common.{◌≡◌, ℕ, Bool, true, Some, None, ℤ, pos, ◌-ℤ◌, ◌&&◌, if◌then◌else◌, ap, ◌∙◌, refl, sym}
 use Rattle.tv_cells.specs.Layers.{is_in}
 use Rattle.tv_cells.specs.declared.rect.Point.{Point}
 use Rattle.tv_cells.specs.declared.rect.Rect.{Rect}

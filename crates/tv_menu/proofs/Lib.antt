@@ -1,7 +1,10 @@
 pub mod BoxLemmas
 pub mod CommandLemmas
+pub mod DrawingLemmas
+pub mod FaceLemmas
 pub mod LawfulLemmas
 pub mod LineLemmas
 pub mod PlaceLemmas
+pub mod RowLemmas
 pub mod SpotLemmas
 pub mod TitleLemmas

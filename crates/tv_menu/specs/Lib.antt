@@ -1,4 +1,5 @@
 pub mod Bar
+pub mod Cells
 pub mod Lawful
 pub mod Line
 pub mod Spots

@@ -2,6 +2,7 @@
 
 ghost use Rattle.std.specs.Prelude.{◌≡◌, ◌==◌, IfOk, None};
 ghost use Rattle.tv_machine.specs.State.{State};
+ghost use Rattle.tv_machine.specs.Session.Commands.{open_first};
 ghost use Rattle.tv_model.specs.declared.desc.Desc.{Desc as Declared};
 ghost use Rattle.tv_menu.specs.Bar.{IsBarOf, bar_offer, command_offered, made, open_of, outcome};
 ghost use Rattle.tv_menu.specs.Lawful.{AreLawfulMenus, IsLawfulScreen};
@@ -65,6 +66,16 @@ impl MenuBar {
                 self.open = None;
                 Offered::Turned(command)
             }
+        }
+    }
+
+    /// The first menu opens with its first item, if there is one.
+    pub fn open_first(&mut self)
+        ensures opened { (d : Declared) (s : State) → IsBarOf d self.old → s.menu ≡ open_of self.old → (open_first d.menus s).menu ≡ open_of self.new }
+        ensures stays { (d : Declared) → IsBarOf d self.old → IsBarOf d self.new }
+    {
+        if !self.menus.as_slice().is_empty() {
+            self.open = Some(Place { menu: 0, item: 0 });
         }
     }
 

@@ -40,35 +40,37 @@ fn longest(items: &[MenuItem], columns: usize) -> usize
     }
 }
 
-fn box_width(menu: &Menu) -> i32
+/// The columns of a menu's box.
+pub(crate) fn box_width(menu: &Menu) -> u32
     requires { IsLawfulMenu menu.now }
-    ensures is { result ≡ pos (box_width menu.now) }
-    ensures few { IsBetween (pos 0) (pos 124) result }
+    ensures is { result ≡ box_width menu.now }
+    ensures few { result ≤ 124 }
 {
-    longest(menu.items.as_slice(), 0) as i32 + 4
+    longest(menu.items.as_slice(), 0) as u32 + 4
 }
 
-fn box_height(menu: &Menu) -> i32
+/// The rows of a menu's box.
+pub(crate) fn box_height(menu: &Menu) -> u32
     requires { IsLawfulMenu menu.now }
-    ensures is { result ≡ pos (box_height menu.now) }
-    ensures few { IsBetween (pos 0) (pos 18) result }
+    ensures is { result ≡ box_height menu.now }
+    ensures few { result ≤ 18 }
 {
-    menu.items.as_slice().len() as i32 + 2
+    menu.items.as_slice().len() as u32 + 2
 }
 
 // The rectangle of a width and a height in row 1.
-fn below_bar(column: &i32, width: &i32, height: &i32) -> Rect
+fn below_bar(column: &i32, width: u32, height: u32) -> Rect
     requires column { IsBetween (pos 0) (pos 1000) column.now }
-    requires width { IsBetween (pos 0) (pos 124) width.now }
-    requires height { IsBetween (pos 0) (pos 18) height.now }
-    ensures is { result ≡ rect column.now (pos 1) width.now height.now }
+    requires width { width ≤ 124 }
+    requires height { height ≤ 18 }
+    ensures is { result ≡ rect column.now (pos 1) (pos width) (pos height) }
     ensures near { IsRectNear result }
 {
     Rect {
         a: Point { x: *column, y: 1 },
         b: Point {
-            x: *column + *width,
-            y: 1 + *height,
+            x: *column + width as i32,
+            y: 1 + height as i32,
         },
     }
 }
@@ -109,16 +111,12 @@ impl MenuBar {
     }
 
     // The box of the menu at a place; no cell where there is none.
-    fn box_of(&self, place: usize) -> Rect
+    pub(crate) fn box_of(&self, place: usize) -> Rect
         ensures is { (d : Declared) → IsBarOf d self.now → result ≡ box_of d place }
         ensures near { IsRectNear result }
     {
         match menu_at(self.menus.as_slice(), place) {
-            Some(menu) => below_bar(
-                &self.title_column(place),
-                &box_width(menu),
-                &box_height(menu),
-            ),
+            Some(menu) => below_bar(&self.title_column(place), box_width(menu), box_height(menu)),
             None => Rect {
                 a: Point { x: 0, y: 0 },
                 b: Point { x: 0, y: 0 },

@@ -2,14 +2,21 @@
 #![tactic(auto)]
 
 mod bar;
+mod bar_face;
 mod bars;
+mod box_face;
 mod boxes;
+mod colours;
+mod drawing;
 mod effect;
 mod keys;
 mod menus;
 mod offered;
+mod row;
+mod spaced_text;
 mod spot;
 mod status;
+mod status_face;
 mod titles;
 
 pub use bars::{MenuBar, StatusLine};

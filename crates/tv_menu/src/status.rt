@@ -7,7 +7,9 @@ ghost use Rattle.tv_machine.specs.Session.Step.{is_item_enabled, is_status_row, 
 ghost use Rattle.tv_machine.specs.Screen.Bars.{status_under};
 ghost use Rattle.tv_model.specs.declared.desc.Desc.{Desc as Declared};
 ghost use Rattle.tv_model.specs.Faults.Letters.{is_same_key};
+ghost use Rattle.tv_model.specs.Description.Numbers.{IsBetween};
 ghost use Rattle.tv_model.specs.Description.Rectangles.{rect};
+ghost use Rattle.tv_menu.specs.Cells.{is_item_in};
 ghost use Rattle.tv_menu.specs.Lawful.{AreLawfulStatusItems, IsLawfulScreen, IsLawfulStatusItem};
 ghost use Rattle.tv_menu.specs.Line.{AreEnabled, IsLineOf, cell_answer, down_answer, key_answer, line_answer, turned_by};
 
@@ -44,10 +46,12 @@ fn is_same_key(item: Key, key: Key) -> bool
     }
 }
 
+/// Whether the set has the command of an item.
 #[tactic(auto, using(crate::proofs::CommandLemmas::lawful_command, crate::proofs::CommandLemmas::small_command))]
-fn is_enabled(item: &StatusItem, enabled: &CommandSet) -> bool
+pub(crate) fn is_enabled(item: &StatusItem, enabled: &CommandSet) -> bool
     requires { IsLawfulStatusItem item.now }
-    ensures { (d : Declared) (s : State) → AreEnabled d s enabled.now → result ≡ is_item_enabled d s item.now }
+    ensures is { result ≡ is_item_in enabled.now item.now }
+    ensures now { (d : Declared) (s : State) → AreEnabled d s enabled.now → result ≡ is_item_enabled d s item.now }
 {
     enabled.has(item.command.command())
 }
@@ -144,8 +148,9 @@ impl StatusLine {
         point.y == self.last_row()
     }
 
-    fn last_row(&self) -> i32
-        ensures { (d : Declared) → IsLineOf d self.now → result ≡ (d.height -ℤ pos 1) }
+    pub(crate) fn last_row(&self) -> i32
+        ensures is { (d : Declared) → IsLineOf d self.now → result ≡ (d.height -ℤ pos 1) }
+        ensures few { IsBetween (pos 9) (pos 59) result }
     {
         self.height - 1
     }

@@ -5,8 +5,8 @@ use Rattle.tv_menu.proofs.bars.StatusLine.cell_answer.Goals as goal
 
 pub returns-in-Some : goal.returns-in-Some
 returns-in-Some c = λ d s of enabled. cell_turned d s (status_under d c.args.column.now) c.in-Some.item.now c.turned_by.result
-    (c.in-Some.ensures.is d of) (sym (c.is_enabled.ensures d s enabled) ∙ c.if-is_enabled.true) c.turned_by.ensures
+    (c.in-Some.ensures.is d of) (sym (c.is_enabled.ensures.now d s enabled) ∙ c.if-is_enabled.true) c.turned_by.ensures
 
 pub returns-in_default : goal.returns-in_default
 returns-in_default c = λ d s of enabled. cell_taken d s (status_under d c.args.column.now) c.in-Some.item.now
-    (c.in-Some.ensures.is d of) (sym (c.is_enabled.ensures d s enabled) ∙ c.if-is_enabled.false)
+    (c.in-Some.ensures.is d of) (sym (c.is_enabled.ensures.now d s enabled) ∙ c.if-is_enabled.false)
