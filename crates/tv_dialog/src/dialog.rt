@@ -1,6 +1,6 @@
 //! Dialogs.
 
-ghost use Rattle.std.specs.Prelude.{◌≡◌, ◌∷◌, [], IfOk, IfErr, IfSome, List, None, Some, false};
+ghost use Rattle.std.specs.Prelude.{◌≡◌, ◌≤◌, ◌∷◌, [], length, IfOk, IfErr, IfSome, List, None, Some, false};
 ghost use Rattle.tv_cells.specs.Rectangle.{IsRectNear};
 ghost use Rattle.tv_model.specs.Controls.Meaning.{IsSmall, IsSmallRect};
 ghost use Rattle.tv_view.specs.Drawing.{Lays};
@@ -157,7 +157,8 @@ impl<V> DialogOf<V> {
 
     /// The lines of the last event.
     pub fn log(&self) -> &[LogLine]
-        ensures { result.now ≡ self.now.log.items }
+        ensures lines { result.now ≡ self.now.log.items }
+        ensures few { length result.now ≤ 66 }
     {
         self.log.as_slice()
     }

@@ -1,0 +1,13 @@
+pub mod BodyLemmas
+pub mod CurrentLemmas
+pub mod DroppedLemmas
+pub mod EndLemmas
+pub mod KeptLemmas
+pub mod OpenLemmas
+pub mod PlaceLemmas
+pub mod PlacedLemmas
+pub mod RunLemmas
+pub mod SessionLemmas
+pub mod ShownLemmas
+pub mod StepLemmas
+pub mod ValueLemmas

@@ -1,0 +1,84 @@
+-- The open dialog with its shadow on the screen.
+use Rattle.std.proofs.Common.{◌≡◌, List, [], ◌∷◌, ℕ, Some, IsTrue, refl, sym, ap, subst, ◌∙◌}
+use Rattle.std.specs.Prelude.{slice_get, slice_index_or}
+use Rattle.std.proofs.lemmas.Bool.{false≢true}
+use Rattle.std.proofs.lemmas.Option.{unwrap_or-slice_get}
+use Rattle.tv_cells.specs.Layers.{Layer, Shadow, Shows}
+use Rattle.tv_cells.specs.Picture.{IsAlike, Picture}
+use Rattle.tv_cells.specs.declared.canvas.Canvas.{Canvas}
+use Rattle.tv_cells.specs.declared.rect.Rect.{Rect}
+use Rattle.tv_model.specs.declared.desc.Desc.{Desc}
+use Rattle.tv_model.specs.declared.desc.Dialog.{Dialog}
+use Rattle.tv_model.specs.declared.node.Id.{Id}
+use Rattle.tv_model.specs.declared.node.Node.{Node}
+use Rattle.tv_model.specs.declared.kind.Kind.{Kind}
+use Rattle.tv_model.specs.declared.kind.Kind.TheVariants as kinds
+use Rattle.tv_model.specs.Controls.Meaning.{Leaf}
+use Rattle.tv_model.specs.Description.Nodes.{height_of, is_dialog}
+use Rattle.tv_model.specs.Description.Rectangles.{corner_of, rect}
+use Rattle.tv_machine.specs.State.{OpenDialog, State}
+use Rattle.tv_machine.specs.Dialog.Lawful.{IsLawfulDialog}
+use Rattle.tv_machine.specs.Dialog.Modal.{Modal}
+use Rattle.tv_machine.specs.Screen.Layers.{dialog_layers, open_layers}
+use Rattle.tv_laws.specs.Runs.{HasSoundDialogs}
+use Rattle.tv_laws.proofs.WorkLemmas.{sound-at}
+use Rattle.tv_tree_screen.specs.Shown.{IsAtWork, desktop_canvas, open_bounds, shadow_layer}
+use Rattle.tv_view.specs.Drawing.{Lays}
+use Rattle.tv_view.proofs.LayingLemmas.{lays_as}
+use Rattle.tv_dialog.specs.Head.{KeptHead, bounds_of, declared_head, kept_head}
+use Rattle.tv_dialog.specs.Standing.{Stands}
+use Rattle.tv_dialog.specs.declared.dialog.DialogOf.{DialogOf}
+use Rattle.tv_dialogs.specs.Dialogs.{AreDialogs, at_work}
+use Rattle.tv_dialogs.specs.declared.kept.Kept.{Kept}
+use Rattle.tv_dialogs.specs.declared.dialogs.DialogsOf.{DialogsOf}
+use Rattle.tv_dialogs.proofs.PlacedLemmas.{place-told, read-declared, read-kept}
+
+-- a dialog's rectangle is that of its node
+bounds_are : (node : Node) (kind : Kind) → IsTrue (is_dialog kind) → (head : KeptHead) → Some head ≡ declared_head (record node { kind = kind })
+    → bounds_of head ≡ rect node.x node.y node.w (height_of kind)
+bounds_are node (kinds.Dialog own) is head e = let same : head ≡ kept_head (record node { kind = kinds.Dialog own }) own = cc in ap bounds_of same
+bounds_are node _ is head e = absurd (false≢true is)
+
+-- its corner is that of its node
+pub corner-is : (d : Dialog) (head : KeptHead) → Some head ≡ declared_head d.node → (bounds : Rect) → bounds ≡ bounds_of head → bounds.a ≡ corner_of d.node
+corner-is d head e bounds is = ap (λ r. r.a) (is ∙ bounds_are d.node d.node.kind d.own_kind head e)
+
+-- its shadow is the machine's
+pub shadow-laid : {V : Type 0} (look : V → Leaf) (desc : Desc) (d : Dialog) (o : OpenDialog) (m : Modal) (dialog : DialogOf V) (c : Canvas) (bounds : Rect) (old new : Picture)
+    → Stands look d m.leaves m dialog → o.origin ≡ corner_of d.node → c ≡ desktop_canvas desc → bounds ≡ bounds_of dialog.head
+    → IsAlike old new → ((layers : List Layer) → Shows layers old → Shows (Shadow c bounds ∷ layers) new)
+    → Lays (shadow_layer desc o d ∷ []) old new
+shadow-laid look desc d o m dialog c bounds old new s corner desktop is alike shows =
+    let same : Shadow c bounds ≡ shadow_layer desc o d =
+    ap (λ k. Shadow k bounds) desktop ∙ ap (Shadow (desktop_canvas desc)) (is ∙ bounds_are d.node d.node.kind d.own_kind dialog.head s.head
+    ∙ ap (λ p. open_bounds (record o { origin = p }) d) (sym corner)) in
+    record { size = alike; shows = λ below shown. subst (λ layer. Shows (layer ∷ below) new) same (shows below shown) }
+
+module _ {V : Type 0} (look : V → Leaf) (d : Desc) (s : State) (dialogs : DialogsOf V) (are : AreDialogs look d s dialogs) where
+  -- one is open, and is drawn as the machine's
+  pub some-shown : (o : OpenDialog) (dialog : Dialog) (old new : Picture) → s.dialog ≡ Some o → slice_get d.dialogs o.place ≡ Some dialog
+      → Lays (dialog_layers d o (slice_index_or s.overwriting o.place []) dialog) old new → Lays (open_layers d s.overwriting s.dialog) old new
+  some-shown o dialog old new some there laid =
+      let same : open_layers d s.overwriting (Some o) ≡ dialog_layers d o (slice_index_or s.overwriting o.place []) dialog = rw there refl in
+      lays_as (dialog_layers d o (slice_index_or s.overwriting o.place []) dialog) (open_layers d s.overwriting s.dialog) old new
+      (sym (ap (open_layers d s.overwriting) some ∙ same)) laid
+
+  -- what is read at its place is drawn
+  module _ (place : ℕ) (opens : dialogs.open ≡ Some place) (declared : Dialog) (kept : Kept V)
+      (reads : declared ≡ slice_index_or d.dialogs place declared) (has : kept ≡ slice_index_or dialogs.kept.items place kept) where
+    pub read-shown : (old new : Picture) → HasSoundDialogs d → ((o : OpenDialog) (overwriting : List Id) (m : Modal) → IsLawfulDialog declared
+        → Stands look declared m.leaves m kept.dialog → IsAtWork o overwriting m → o.origin ≡ corner_of declared.node
+        → Lays (dialog_layers d o overwriting declared) old new) → Lays (open_layers d s.overwriting s.dialog) old new
+    read-shown old new sound draws =
+        let told = place-told look d s dialogs are place opens in
+        let o = told.0 in
+        let among = are.at o told.1 in
+        let same = sym (read-declared look d s dialogs are place opens o told.1 declared reads) in
+        let m = at_work s o among.kept.dialog.log.items in
+        let there : slice_get d.dialogs o.place ≡ Some declared = among.there ∙ ap (λ x. Some x) same in
+        let work : IsAtWork o (slice_index_or s.overwriting o.place []) m = record { leaves = refl; focus = refl; overwriting_in = unwrap_or-slice_get s.overwriting o.place [] } in
+        some-shown o declared old new told.1 there
+        (draws o (slice_index_or s.overwriting o.place []) m (sound-at d sound o.place declared there).lawful
+        (subst (λ k. Stands look declared o.leaves m k.dialog) (sym (read-kept look d s dialogs are place opens o told.1 kept has))
+        (subst (λ x. Stands look x o.leaves m among.kept.dialog) same among.stands))
+        work (subst (λ x. o.origin ≡ corner_of x.node) same among.corner))

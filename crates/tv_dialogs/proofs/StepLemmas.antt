@@ -1,0 +1,148 @@
+-- What the open dialog makes of an event is what the machine makes of it.
+use Rattle.std.proofs.Common.{◌≡◌, ◌||◌, ◌==◌, ◌++◌, ℕ, true, false, if◌then◌else◌, [], Option, Some, None, option_map, refl, sym, ap, subst, ◌∙◌}
+use Rattle.std.specs.Prelude.{is_none, slice_get, slice_index_or, slice_set}
+use Rattle.std.specs.Bool.{then_some}
+use Rattle.std.proofs.lemmas.Option.{slice_get_within}
+use Rattle.tv_event.specs.declared.event.Event.{Event}
+use Rattle.tv_model.specs.declared.desc.Desc.{Desc}
+use Rattle.tv_model.specs.declared.desc.Dialog.{Dialog}
+use Rattle.tv_model.specs.Controls.Meaning.{Leaf}
+use Rattle.tv_model.specs.Description.Rectangles.{corner_of}
+use Rattle.tv_machine.specs.State.{OpenDialog, State}
+use Rattle.tv_machine.specs.Dialog.Ending.{fields_of}
+use Rattle.tv_machine.specs.Dialog.Modal.{Modal}
+use Rattle.tv_machine.specs.Dialog.Step.{dialog_step}
+use Rattle.tv_machine.specs.Session.Commands.{after_work, modal_of, works}
+use Rattle.tv_machine.specs.Session.Step.{event_from, to_dialog}
+use Rattle.tv_machine.proofs.ListLemmas.{option_cases}
+use Rattle.tv_group.specs.Calls.{all_gathered}
+use Rattle.tv_group.specs.Opened.{opened}
+use Rattle.tv_laws.specs.Steps.{IsGiven}
+use Rattle.tv_dialog.specs.Standing.{Stands}
+use Rattle.tv_dialog.specs.Stepping.{started}
+use Rattle.tv_dialogs.specs.Dialogs.{AreDialogs, AreOfRun, IsOpenAmong, at_work, lines_by, lines_of, kept_at}
+use Rattle.tv_dialogs.specs.Ends.{is_cancelled}
+use Rattle.tv_dialogs.specs.Handed.{is_dropped}
+use Rattle.tv_dialogs.specs.Kept.{IsReady, values_after}
+use Rattle.tv_dialogs.specs.declared.kept.Kept.{Kept}
+use Rattle.tv_dialogs.specs.declared.dialogs.DialogsOf.{DialogsOf}
+use Rattle.tv_dialogs.proofs.DroppedLemmas.{dropped-still}
+use Rattle.tv_dialogs.proofs.KeptLemmas.{has-ended, stays-open}
+use Rattle.tv_dialogs.proofs.PlaceLemmas.{get-set-same, set-itself}
+use Rattle.tv_dialogs.proofs.PlacedLemmas.{read-declared, read-kept}
+use Rattle.tv_dialogs.proofs.RunLemmas.{open-cancelled, open-ready, sound-open}
+use Rattle.tv_dialogs.proofs.ValueLemmas.{stands-values}
+
+-- ---- what is read at its place
+
+module _ {V : Type 0} (look : V → Leaf) (d : Desc) (s : State) (dialogs : DialogsOf V) (run : AreOfRun look d s dialogs) (o : OpenDialog) (is : s.dialog ≡ Some o)
+    (place : ℕ) (opens : dialogs.open ≡ Some place) (declared : Dialog) (kept : Kept V)
+    (reads : declared ≡ slice_index_or d.dialogs place declared) (has : kept ≡ slice_index_or dialogs.kept.items place kept) where
+  abbrev open_one : IsOpenAmong look d s o dialogs.kept.items
+  open_one = run.are.at o is
+
+  declared_is : declared ≡ open_one.dialog
+  declared_is = read-declared look d s dialogs run.are place opens o is declared reads
+
+  kept_is : kept ≡ open_one.kept
+  kept_is = read-kept look d s dialogs run.are place opens o is kept has
+
+  -- it may be handed an event
+  pub read-ready : IsReady look declared (at_work s o kept.dialog.log.items) kept.dialog
+  read-ready =
+      subst (λ k. IsReady look declared (at_work s o k.dialog.log.items) k.dialog) (sym kept_is)
+      (subst (λ x. IsReady look x (at_work s o open_one.kept.dialog.log.items) open_one.kept.dialog) (sym declared_is) (open-ready look d s dialogs run o is))
+
+  -- what comes of it
+  pub read-stands : (e : Event) (after : Kept V)
+      → ((m : Modal) → IsReady look declared m kept.dialog
+      → Stands look declared (dialog_step declared (event_from (corner_of declared.node) e) (started m)).leaves
+      (dialog_step declared (event_from (corner_of declared.node) e) (started m)) after.dialog)
+      → Stands look open_one.dialog (dialog_step open_one.dialog (event_from o.origin e) (modal_of s o)).leaves
+      (dialog_step open_one.dialog (event_from o.origin e) (modal_of s o)) after.dialog
+  read-stands e after steps =
+      subst (λ p. Stands look open_one.dialog (dialog_step open_one.dialog (event_from p e) (modal_of s o)).leaves
+      (dialog_step open_one.dialog (event_from p e) (modal_of s o)) after.dialog) (sym open_one.corner)
+      (subst (λ x. Stands look x (dialog_step x (event_from (corner_of x.node) e) (modal_of s o)).leaves
+      (dialog_step x (event_from (corner_of x.node) e) (modal_of s o)) after.dialog) declared_is
+      (steps (at_work s o kept.dialog.log.items) read-ready))
+
+-- ---- the machine's work
+
+-- what the machine logs of the work of its open dialog
+worked-log : (s : State) (o : OpenDialog) (m : Modal) (over : Option ℕ) → (after_work s o m over).log ≡ s.log ++ m.log
+worked-log s o m None = refl
+worked-log s o m (Some number) = refl
+
+module _ {V : Type 0} (look : V → Leaf) (d : Desc) (s : State) (old : DialogsOf V) (run : AreOfRun look d s old) (o : OpenDialog) (is : s.dialog ≡ Some o)
+    (e : Event) where
+  abbrev among : IsOpenAmong look d s o old.kept.items
+  among = run.are.at o is
+
+  -- the machine's dialog after the event
+  abbrev pub stepped : Modal
+  stepped = dialog_step among.dialog (event_from o.origin e) (modal_of s o)
+
+  -- the state after it
+  state-is : works s o (λ dialog m. dialog_step dialog (event_from o.origin e) m) (Some among.dialog) ≡ to_dialog d o e s
+  state-is = ap (works s o (λ dialog m. dialog_step dialog (event_from o.origin e) m)) (sym among.there)
+
+  pub stepped-log : (to_dialog d o e s).log ≡ s.log ++ stepped.log
+  stepped-log = sym (ap (λ t. t.log) state-is) ∙ worked-log s o stepped stepped.ended
+
+  -- ---- an event that is handed to it
+
+  module _ (new : DialogsOf V) (after : Kept V) (written : new.kept.items ≡ slice_set old.kept.items o.place after) (stands : Stands look among.dialog stepped.leaves stepped after.dialog) where
+    pub handed-log : new.last ≡ Some o.place → (to_dialog d o e s).log ≡ s.log ++ lines_of new
+    handed-log last =
+        let found : kept_at new new.last ≡ Some after =
+        ap (kept_at new) last ∙ ap (λ xs. slice_get xs o.place) written
+        ∙ get-set-same old.kept.items o.place after (slice_get_within old.kept.items o.place among.kept among.found) in
+        stepped-log ∙ ap (λ ls. s.log ++ ls) (sym stands.log ∙ sym (ap lines_by found))
+
+    module _ (lent : new.commands ≡ old.commands) (opens : new.open ≡ then_some after.dialog.is_open o.place)
+        (values : after.values ≡ values_after look among.kept.values after.dialog) where
+      values_going : after.dialog.is_open ≡ true → after.values ≡ among.kept.values
+      values_going going =
+          values ∙ ap (λ b. if b || is_cancelled after.dialog.log.items then among.kept.values else all_gathered (opened look after.dialog.body) []) going
+
+      values_ended : (number : ℕ) → after.dialog.is_open ≡ false → is_cancelled stepped.log ≡ (number == 11)
+          → after.values ≡ (if number == 11 then among.kept.values else fields_of stepped.leaves)
+      values_ended number shut cancelled =
+          values ∙ ap (λ b. if b || is_cancelled after.dialog.log.items then among.kept.values else all_gathered (opened look after.dialog.body) []) shut
+          ∙ ap (λ ls. if is_cancelled ls then among.kept.values else all_gathered (opened look after.dialog.body) []) stands.log
+          ∙ ap (λ b. if b then among.kept.values else all_gathered (opened look after.dialog.body) []) cancelled
+          ∙ ap (λ xs. if number == 11 then among.kept.values else xs)
+          (stands-values look among.dialog (sound-open look d s old run o is).lawful stepped.leaves stepped after.dialog stands)
+
+      pub handed-dialogs : IsGiven o.held e → AreDialogs look d (to_dialog d o e s) new
+      handed-dialogs given =
+          subst (λ t. AreDialogs look d t new) state-is
+          (option_cases stepped.ended (λ over. AreDialogs look d (after_work s o stepped over) new)
+          (λ none.
+          let going : after.dialog.is_open ≡ true = stands.open ∙ ap is_none none in
+          stays-open look d s old new run.are o.place among.dialog among.there among.kept after among.found written lent stepped
+          o.origin (s.log ++ stepped.log) among.corner none (opens ∙ ap (λ b. then_some b o.place) going) (values_going going)
+          (subst (λ ls. Stands look among.dialog stepped.leaves (record stepped { log = ls }) after.dialog) (sym stands.log) stands))
+          (λ number some.
+          let shut : after.dialog.is_open ≡ false = stands.open ∙ ap is_none some in
+          has-ended look d s old new run.are o.place among.dialog among.there among.kept after among.found written lent stepped
+          number (s.log ++ stepped.log) (opens ∙ ap (λ b. then_some b o.place) shut)
+          (values_ended number shut (open-cancelled look d s old run o is e given number some)) stands))
+
+  -- ---- an event that is dropped
+
+  module _ (new : DialogsOf V) (dropped : is_dropped e ≡ true) (kept : new.kept ≡ old.kept) where
+    still : stepped ≡ modal_of s o
+    still = dropped-still among.dialog o.origin e (modal_of s o) dropped
+
+    pub dropped-log : new.last ≡ None → (to_dialog d o e s).log ≡ s.log ++ lines_of new
+    dropped-log last = stepped-log ∙ ap (λ m. s.log ++ m.log) still ∙ ap (λ ls. s.log ++ ls) (sym (ap lines_by (ap (kept_at new) last)))
+
+    pub dropped-dialogs : new.commands ≡ old.commands → new.open ≡ old.open → AreDialogs look d (to_dialog d o e s) new
+    dropped-dialogs lent opens =
+        subst (λ t. AreDialogs look d t new) state-is
+        (subst (λ m. AreDialogs look d (after_work s o m m.ended) new) (sym still)
+        (stays-open look d s old new run.are o.place among.dialog among.there among.kept among.kept among.found
+        (ap (λ v. v.items) kept ∙ sym (set-itself old.kept.items o.place among.kept among.found)) lent (modal_of s o)
+        o.origin (s.log ++ []) among.corner refl (opens ∙ run.are.place ∙ ap (λ x. option_map (λ y. y.place) x) is) refl among.stands))

@@ -1,0 +1,39 @@
+use Rattle.std.proofs.Common.{◌<◌, ℕ, length, Some, refl, sym, subst}
+use Rattle.std.proofs.lemmas.Option.{slice_get_read}
+use Rattle.std.specs.Vec.{with_item}
+use Rattle.tv_dialogs.proofs.OpenLemmas.{open-fits, opened-dialogs, opened-log}
+use Rattle.tv_dialogs.proofs.PlaceLemmas.{there-is}
+use Rattle.tv_dialogs.proofs.dialogs.DialogsOf.open.Goals as goal
+
+pub reopen-requires : goal.reopen-requires
+reopen-requires g c =
+    let r = c.requires in
+    let x = there-is r.desc.dialogs c.args.place r.there in
+    let items = c.args.self.now.kept.items in
+    let less : c.args.place < length items = subst (λ (n : ℕ). c.args.place < n) (sym r.run.are.count) r.there in
+    open-fits g.V.View.meaning r.desc r.state c.args.self.now r.run c.args.place x.0 x.1 c.index_mut-kept.result.now
+    (slice_get_read items (length items) c.args.place c.index_mut-kept.result.now refl less c.index_mut-kept.ensures.value)
+
+pub returns-clause-dialogs : goal.returns-clause-dialogs
+returns-clause-dialogs g c d s run =
+    let r = c.requires in
+    let items = c.args.self.now.kept.items in
+    let less : c.args.place < length items = subst (λ (n : ℕ). c.args.place < n) (sym r.run.are.count) r.there in
+    let x = there-is d.dialogs c.args.place (subst (λ (n : ℕ). c.args.place < n) run.are.count less) in
+    opened-dialogs g.V.View.meaning d s c.args.self.now run c.args.place x.0 x.1 c.index_mut-kept.result.now
+    (slice_get_read items (length items) c.args.place c.index_mut-kept.result.now refl less c.index_mut-kept.ensures.value)
+    _ (record { dialog = c.reopen.new.self; values = c.index_mut-kept.result.now.values }) refl c.reopen.ensures.stands refl refl refl
+
+pub returns-clause-log : goal.returns-clause-log
+returns-clause-log g c d s dialog run there =
+    let r = c.requires in
+    let items = c.args.self.now.kept.items in
+    let less : c.args.place < length items = subst (λ (n : ℕ). c.args.place < n) (sym r.run.are.count) r.there in
+    opened-log g.V.View.meaning d s c.args.self.now run c.args.place dialog there c.index_mut-kept.result.now
+    (slice_get_read items (length items) c.args.place c.index_mut-kept.result.now refl less c.index_mut-kept.ensures.value)
+    (record c.args.self.now {
+      kept = with_item c.args.self.now.kept c.args.place (record { dialog = c.reopen.new.self; values = c.index_mut-kept.result.now.values });
+      «open» = Some c.args.place;
+      last = Some c.args.place;
+    })
+    (record { dialog = c.reopen.new.self; values = c.index_mut-kept.result.now.values }) refl c.reopen.ensures.stands refl

@@ -1,0 +1,76 @@
+use Rattle.std.proofs.Common.{arith, ◌∙◌, ◌<◌, length, Some, None, refl, ap, sym, subst, slice_index_or, slice_set}
+use Rattle.std.specs.Bool.{then_some}
+use Rattle.std.specs.Vec.{with_item}
+use Rattle.tv_dialogs.specs.Dialogs.{at_work}
+use Rattle.tv_dialogs.specs.Kept.{values_after}
+use Rattle.tv_dialogs.proofs.StepLemmas.{dropped-dialogs, dropped-log, handed-dialogs, handed-log, read-ready, read-stands}
+use Rattle.tv_dialogs.proofs.PlacedLemmas.{place-declared, place-kept, place-of, place-told, read-kept}
+use Rattle.tv_dialogs.proofs.dialogs.DialogsOf.step.Goals as goal
+
+pub returns-then-is_dropped-clause-dialogs : goal.returns-then-is_dropped-clause-dialogs
+returns-then-is_dropped-clause-dialogs g c s o is given run =
+    dropped-dialogs g.V.View.meaning c.args.desc.now s c.args.self.now run o is c.args.event.now _ (sym c.is_dropped.ensures ∙ c.if-is_dropped.true) refl refl refl
+
+pub returns-then-is_dropped-clause-log : goal.returns-then-is_dropped-clause-log
+returns-then-is_dropped-clause-log g c s o is run =
+    dropped-log g.V.View.meaning c.args.desc.now s c.args.self.now run o is c.args.event.now (record c.args.self.now { last = None })
+    (sym c.is_dropped.ensures ∙ c.if-is_dropped.true) refl refl
+
+declared_less : (g : _) (c : goal.After-as_slice g) → c.in-Some.place < length c.args.desc.now.dialogs
+declared_less g c = place-declared g.V.View.meaning c.args.desc.now c.requires.run.0 c.args.self.now c.requires.run.1.are c.in-Some.place c.in-Some.is
+
+pub index_mut-kept-requires : goal.index_mut-kept-requires
+index_mut-kept-requires g c =
+    let items = c.args.self.now.kept in
+    let less : c.in-Some.place < length items.items = place-kept g.V.View.meaning c.args.desc.now c.requires.run.0 c.args.self.now c.requires.run.1.are c.in-Some.place c.in-Some.is in
+    omega (arith, items.ok.0)
+
+pub offset_bounds-as_slice-place : goal.offset_bounds-as_slice-place
+offset_bounds-as_slice-place g c = let less = declared_less g c in let same = ap length c.as_slice.ensures in omega (arith, less, same, c.as_slice.type_inv.1)
+
+pub bounds-as_slice-place : goal.bounds-as_slice-place
+bounds-as_slice-place g c = subst (λ ds. c.in-Some.place < length ds) (sym c.as_slice.ensures) (declared_less g c)
+
+pub step-requires-clause-ready : goal.step-requires-clause-ready
+step-requires-clause-ready g c =
+    let s = c.requires.run.0 in
+    let run = c.requires.run.1 in
+    let told = place-told g.V.View.meaning c.args.desc.now s c.args.self.now run.are c.in-Some.place c.in-Some.is in (
+      at_work s told.0 c.index_mut-kept.result.now.dialog.log.items,
+      read-ready g.V.View.meaning c.args.desc.now s c.args.self.now run told.0 told.1 c.in-Some.place c.in-Some.is c.index-as_slice-place.result c.index_mut-kept.result.now
+          (c.index-as_slice-place.is ∙ ap (λ ds. slice_index_or ds c.in-Some.place c.index-as_slice-place.result) c.as_slice.ensures) c.index_mut-kept.ensures.value,
+    )
+
+pub returns-in-Some-clause-dialogs : goal.returns-in-Some-clause-dialogs
+returns-in-Some-clause-dialogs g c s o is given run =
+    let look = g.V.View.meaning in
+    let d = c.args.desc.now in
+    let old = c.args.self.now in
+    let e = c.args.event.now in
+    let kept = c.index_mut-kept.result.now in
+    let at = place-of look d s old run.are c.in-Some.place c.in-Some.is o is in
+    let reads = c.index-as_slice-place.is ∙ ap (λ ds. slice_index_or ds c.in-Some.place c.index-as_slice-place.result) c.as_slice.ensures in
+    let same = read-kept look d s old run.are c.in-Some.place c.in-Some.is o is kept c.index_mut-kept.ensures.value in
+    let stands = read-stands look d s old run o is c.in-Some.place c.in-Some.is c.index-as_slice-place.result kept reads c.index_mut-kept.ensures.value e c.step.new.self c.step.ensures.stands in
+    handed-dialogs look d s old run o is e _ c.step.new.self (ap (λ n. slice_set old.kept.items n c.step.new.self) at) stands refl
+    (c.then_some-self.ensures ∙ ap (λ b. then_some b c.in-Some.place) c.is_open.ensures ∙ ap (then_some c.step.new.self.dialog.is_open) at)
+    (c.step.ensures.values ∙ ap (λ k. values_after look k.values c.step.new.self.dialog) same) given
+
+pub returns-in-Some-clause-log : goal.returns-in-Some-clause-log
+returns-in-Some-clause-log g c s o is run =
+    let look = g.V.View.meaning in
+    let d = c.args.desc.now in
+    let old = c.args.self.now in
+    let e = c.args.event.now in
+    let kept = c.index_mut-kept.result.now in
+    let at = place-of look d s old run.are c.in-Some.place c.in-Some.is o is in
+    let reads = c.index-as_slice-place.is ∙ ap (λ ds. slice_index_or ds c.in-Some.place c.index-as_slice-place.result) c.as_slice.ensures in
+    let stands = read-stands look d s old run o is c.in-Some.place c.in-Some.is c.index-as_slice-place.result kept reads c.index_mut-kept.ensures.value e c.step.new.self c.step.ensures.stands in
+    handed-log look d s old run o is e
+    (record {
+      kept = with_item old.kept c.in-Some.place c.step.new.self;
+      «open» = c.then_some-self.result;
+      last = Some c.in-Some.place;
+      commands = old.commands;
+    })
+    c.step.new.self (ap (λ n. slice_set old.kept.items n c.step.new.self) at) stands (ap (λ n. Some n) at)

@@ -1,0 +1,26 @@
+use Rattle.std.proofs.Common.{◌∙◌, refl, ap, sym, subst}
+use Rattle.tv_group.specs.Calls.{HasRoomForAll, all_gathered}
+use Rattle.tv_group.specs.Opened.{opened}
+use Rattle.tv_group.specs.Outline.{IsFreshBody}
+use Rattle.tv_dialogs.proofs.ValueLemmas.{lawful-limited, new-kept, new-room}
+use Rattle.tv_dialogs.proofs.kept.Kept.new.Goals as goal
+
+pub new-requires : goal.new-requires
+new-requires g c = lawful-limited c.args.declared.now c.requires.sound.lawful
+
+pub record-requires : goal.record-requires
+record-requires g c =
+    let look = g.V.View.meaning in
+    subst (λ body. HasRoomForAll (opened look body) c.new-values.result) (sym c.in-Ok.ensures.body)
+    (subst (λ entries. HasRoomForAll (opened look c.args.body) entries) (sym c.new-values.ensures)
+    (new-room c.args.declared.now c.requires.sound look c.args.body c.requires.fresh))
+
+pub returns-in-Ok-clause-kept : goal.returns-in-Ok-clause-kept
+returns-in-Ok-clause-kept g c =
+    let look = g.V.View.meaning in
+    let declared = c.args.declared.now in
+    let views = c.as_slice-views.ensures in
+    new-kept declared c.requires.sound look c.args.body c.requires.fresh (record { dialog = c.in-Ok.dialog; values = c.record.new.values })
+    (c.in-Ok.ensures.fresh declared refl (sym views) (sym c.as_slice-rules.ensures) c.requires.sound.lawful
+    (subst (λ vs. IsFreshBody look declared.node vs c.args.body) (sym views) c.requires.fresh))
+    c.in-Ok.ensures.body (c.record.ensures ∙ ap (all_gathered (opened look c.in-Ok.dialog.body)) c.new-values.ensures)

@@ -1,0 +1,31 @@
+use Rattle.std.proofs.Common.{◌∙◌, ap, subst, sym}
+use Rattle.tv_model.specs.Description.Rectangles.{corner_of}
+use Rattle.tv_machine.specs.Dialog.Step.{dialog_step}
+use Rattle.tv_machine.specs.Session.Step.{event_from}
+use Rattle.tv_dialog.specs.Standing.{Stands}
+use Rattle.tv_dialog.specs.Stepping.{IsHandedIn, started}
+use Rattle.tv_dialogs.proofs.DroppedLemmas.{handed-in}
+use Rattle.tv_dialogs.proofs.ShownLemmas.{corner-is}
+use Rattle.tv_dialogs.proofs.ValueLemmas.{stands-room}
+use Rattle.tv_dialogs.proofs.kept.Kept.step.Goals as goal
+
+pub save-requires : goal.save-requires
+save-requires g c =
+    let look = g.V.View.meaning in
+    let d = c.args.declared.now in
+    let m = c.requires.ready.0 in
+    let r = c.requires.ready.1 in
+    let small = c.bounds.ensures.small in
+    let handed = subst IsHandedIn (sym c.event_from.ensures) (handed-in c.bounds.result.a c.args.event.now (small.left, small.top) c.requires.given c.requires.handed) in
+    stands-room look d r.lawful _ _ c.step.new.self (c.step.ensures.stands d m r.lawful c.as_slice.ensures handed r.leaf r.focus r.stands)
+
+pub returns-clause-stands : goal.returns-clause-stands
+returns-clause-stands g c m r =
+    let look = g.V.View.meaning in
+    let d = c.args.declared.now in
+    let small = c.bounds.ensures.small in
+    let handed = subst IsHandedIn (sym c.event_from.ensures) (handed-in c.bounds.result.a c.args.event.now (small.left, small.top) c.requires.given c.requires.handed) in
+    let same = c.event_from.ensures ∙ ap (λ p. event_from p c.args.event.now) (corner-is d _ r.stands.head c.bounds.result c.bounds.ensures.is) in
+    subst (λ dialog. Stands look d (dialog_step d (event_from (corner_of d.node) c.args.event.now) (started m)).leaves (dialog_step d (event_from (corner_of d.node) c.args.event.now) (started m)) dialog) (sym c.save.ensures.dialog)
+    (subst (λ e. Stands look d (dialog_step d e (started m)).leaves (dialog_step d e (started m)) c.step.new.self) same
+    (c.step.ensures.stands d m r.lawful c.as_slice.ensures handed r.leaf r.focus r.stands))

@@ -1,0 +1,29 @@
+//! The open dialog on the screen.
+
+ghost use Rattle.std.specs.Prelude.{◌≡◌};
+ghost use Rattle.tv_laws.specs.Runs.{HasSoundDialogs};
+ghost use Rattle.tv_machine.specs.Screen.Layers.{open_layers};
+ghost use Rattle.tv_machine.specs.State.{State};
+ghost use Rattle.tv_model.specs.Controls.Meaning.{IsSmall};
+ghost use Rattle.tv_tree_screen.specs.Shown.{desktop_canvas};
+ghost use Rattle.tv_view.specs.Drawing.{Lays};
+ghost use Rattle.tv_dialogs.specs.Dialogs.{AreDialogs};
+
+use crate::dialogs::DialogsOf;
+use tv_cells::{Canvas, Screen};
+use tv_model::Desc;
+use tv_view::View;
+
+impl<V: View> DialogsOf<V> {
+    /// Draws the open dialog over its shadow, through the desktop's canvas; nothing where none is open.
+    pub fn draw(&self, screen: &mut Screen, desc: &Desc, canvas: Canvas)
+        requires small { IsSmall canvas.origin.x × IsSmall canvas.origin.y }
+        requires dialogs { (s : State) × AreDialogs V.meaning desc.now s self.now }
+        ensures { (s : State) → HasSoundDialogs desc.now → AreDialogs V.meaning desc.now s self.now → canvas ≡ desktop_canvas desc.now
+            → Lays (open_layers desc.now s.overwriting s.dialog) screen.old screen.new }
+    {
+        if let Some(place) = self.open {
+            self.kept[place].draw(screen, &desc.dialogs.as_slice()[place], canvas);
+        }
+    }
+}

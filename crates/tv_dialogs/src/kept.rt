@@ -1,0 +1,131 @@
+//! A dialog, and the record that it opens with.
+
+ghost use Rattle.std.specs.Prelude.{◌≡◌, [], false, IfErr, IfOk, List, None};
+ghost use Rattle.tv_machine.specs.Dialog.Sound.{IsSoundDialog};
+ghost use Rattle.tv_machine.specs.Dialog.Modal.{Modal};
+ghost use Rattle.tv_machine.specs.Dialog.Step.{dialog_step};
+ghost use Rattle.tv_machine.specs.Screen.Layers.{dialog_layers};
+ghost use Rattle.tv_machine.specs.Session.Step.{event_from};
+ghost use Rattle.tv_machine.specs.State.{OpenDialog};
+ghost use Rattle.tv_model.specs.Controls.Meaning.{IsSmall};
+ghost use Rattle.tv_model.specs.Description.Rectangles.{corner_of};
+ghost use Rattle.tv_model.specs.declared.desc.Desc.{Desc};
+ghost use Rattle.tv_model.specs.declared.node.Id.{Id};
+ghost use Rattle.tv_group.specs.Calls.{HasRoomForAll};
+ghost use Rattle.tv_group.specs.Opened.{opened};
+ghost use Rattle.tv_group.specs.Outline.{IsFreshBody};
+ghost use Rattle.tv_machine.specs.Dialog.Lawful.{IsLawfulDialog};
+ghost use Rattle.tv_tree_screen.specs.Shown.{IsAtWork, desktop_canvas};
+ghost use Rattle.tv_view.specs.Drawing.{Lays};
+ghost use Rattle.tv_dialog.specs.Standing.{Stands};
+ghost use Rattle.tv_dialog.specs.Stepping.{started};
+ghost use Rattle.tv_dialogs.specs.Bodies.{body_of};
+ghost use Rattle.tv_dialogs.specs.Handed.{HasPointGiven, is_dropped};
+ghost use Rattle.tv_dialogs.specs.Kept.{IsKeptAs, IsReady, values_after};
+
+use crate::ends::is_cancelled;
+use crate::handed::event_from;
+use std::alloc::Global;
+use tv_cells::{Canvas, Screen, lay_shadow};
+use tv_dialog::DialogOf;
+use tv_event::{CommandSet, Event};
+use tv_group::GroupOf;
+use tv_model::{Dialog as Declared, Record};
+use tv_palette::{Chain, Owner};
+use tv_view::{Env, View};
+
+/// A dialog, and the record that it opens with.
+#[derive(Drop)]
+pub(crate) struct Kept<V> {
+    pub(crate) dialog: DialogOf<V>,
+    /// The values of its last end that was no `cancel`, else those declared.
+    pub(crate) values: Record,
+}
+
+impl<V: View> Kept<V> {
+    /// The declared dialog round a body of its views, which opens with their values.
+    ///
+    /// # Errors
+    ///
+    /// The body as it was, where there is no memory.
+    pub(crate) fn new(
+        alloc: Global,
+        declared: &Declared,
+        body: GroupOf<V>,
+    ) -> Result<Kept<V>, GroupOf<V>>
+        requires sound { IsSoundDialog declared.now }
+        requires fresh { IsFreshBody V.meaning declared.now.node declared.now.views body }
+        ensures kept { IfOk result (IsKeptAs V.meaning declared.now None []) }
+        ensures body { IfOk result (λ kept. body_of kept ≡ body) }
+        ensures back { IfErr result (λ back. back ≡ body) }
+    {
+        let views = declared.views.as_slice();
+        let rules = declared.rules.as_slice();
+        match DialogOf::new(alloc, &declared.node, views, rules, body) {
+            Ok(dialog) => {
+                let mut values = Record::new();
+                dialog.record(&mut values);
+                Ok(Kept { dialog, values })
+            }
+            Err((_, body)) => Err(body),
+        }
+    }
+
+    // Keeps the values of the dialog where it has ended, and not by `cancel`.
+    fn save(&mut self)
+        requires { HasRoomForAll (opened V.meaning self.old.dialog.body) [] }
+        ensures dialog { self.new.dialog ≡ self.old.dialog }
+        ensures values { self.new.values ≡ values_after V.meaning self.old.values self.old.dialog }
+    {
+        if !self.dialog.is_open() && !is_cancelled(self.dialog.log()) {
+            let mut values = Record::new();
+            self.dialog.record(&mut values);
+            self.values = values;
+        }
+    }
+
+    /// Hands the open dialog an event whose point is the screen's, and keeps its values where that ends it, unless by
+    /// `cancel`.
+    pub(crate) fn step(&mut self, declared: &Declared, event: &Event, commands: &CommandSet)
+        requires ready { (m : Modal) × IsReady V.meaning declared.now m self.old.dialog }
+        requires given { HasPointGiven event.now }
+        requires handed { is_dropped event.now ≡ false }
+        ensures stands { (m : Modal) → IsReady V.meaning declared.now m self.old.dialog → Stands V.meaning declared.now
+            (dialog_step declared.now (event_from (corner_of declared.now.node) event.now) (started m)).leaves
+            (dialog_step declared.now (event_from (corner_of declared.now.node) event.now) (started m)) self.new.dialog }
+        ensures values { self.new.values ≡ values_after V.meaning self.old.values self.new.dialog }
+    {
+        let corner = self.dialog.bounds().a;
+        let env = Env {
+            owner: Owner::Dialog,
+            chain: &Chain::of_dialog(),
+            views: declared.views.as_slice(),
+            commands,
+            focus: None,
+            default_now: None,
+            is_active: true,
+        };
+        self.dialog.step(&event_from(corner, event), &env);
+        self.save();
+    }
+
+    /// Draws the open dialog over its shadow, both seen from the canvas's origin.
+    pub(crate) fn draw(&self, screen: &mut Screen, declared: &Declared, canvas: Canvas)
+        requires { IsSmall canvas.origin.x × IsSmall canvas.origin.y }
+        ensures { (desc : Desc) (o : OpenDialog) (overwriting : List Id) (m : Modal) → IsLawfulDialog declared.now
+            → Stands V.meaning declared.now m.leaves m self.now.dialog → IsAtWork o overwriting m → o.origin ≡ corner_of declared.now.node
+            → canvas ≡ desktop_canvas desc → Lays (dialog_layers desc o overwriting declared.now) screen.old screen.new }
+    {
+        let env = Env {
+            owner: Owner::Dialog,
+            chain: &Chain::of_dialog(),
+            views: declared.views.as_slice(),
+            commands: self.dialog.commands(),
+            focus: None,
+            default_now: None,
+            is_active: true,
+        };
+        lay_shadow(screen, canvas, self.dialog.bounds());
+        self.dialog.draw(screen, canvas, &env);
+    }
+}

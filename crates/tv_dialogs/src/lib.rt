@@ -1,0 +1,13 @@
+//! The dialogs of a run: one may be open, and each keeps the record that it opens with.
+#![tactic(auto)]
+
+mod bodies;
+mod dialogs;
+mod drawing;
+mod ends;
+mod handed;
+mod kept;
+mod opening;
+mod stepping;
+
+pub use dialogs::{Dialogs, DialogsOf};

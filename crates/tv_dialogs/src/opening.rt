@@ -1,0 +1,61 @@
+//! Dialogs before a run, and how one opens.
+
+ghost use Rattle.std.specs.Prelude.{◌≡◌, ◌∷◌, ◌++◌, [], IfErr, IfOk, Some, slice_get};
+ghost use Rattle.tv_laws.specs.Runs.{HasSoundDialogs};
+ghost use Rattle.tv_machine.specs.Session.Commands.{open_dialog};
+ghost use Rattle.tv_machine.specs.Session.Start.{closed};
+ghost use Rattle.tv_machine.specs.State.{State};
+ghost use Rattle.tv_model.specs.declared.desc.Desc.{Desc};
+ghost use Rattle.tv_model.specs.declared.desc.Dialog.{Dialog};
+ghost use Rattle.tv_model.specs.declared.log.LogLine.TheVariants as lines;
+ghost use Rattle.tv_dialogs.specs.Bodies.{AreFreshBodies};
+ghost use Rattle.tv_dialogs.specs.Dialogs.{AreDialogs, AreOfRun, MayOpen, lines_of};
+
+use crate::bodies::keep_all;
+use crate::dialogs::DialogsOf;
+use std::alloc::{AllocError, Global};
+use tv_event::CommandSet;
+use tv_group::GroupOf;
+use tv_model::Desc as Declared;
+use tv_view::View;
+
+impl<V: View> DialogsOf<V> {
+    /// The dialogs of a description, none of which is open, round one body for each, in order.
+    ///
+    /// # Errors
+    ///
+    /// The bodies as they were, where there is no memory.
+    pub fn new(
+        alloc: Global,
+        desc: &Declared,
+        bodies: Vec<GroupOf<V>>,
+    ) -> Result<DialogsOf<V>, (AllocError, Vec<GroupOf<V>>)>
+        requires sound { HasSoundDialogs desc.now }
+        requires fresh { AreFreshBodies V.meaning desc.now.dialogs bodies.items }
+        ensures dialogs { IfOk result (AreDialogs V.meaning desc.now (closed desc.now)) }
+        ensures quiet { IfOk result (λ dialogs. lines_of dialogs ≡ []) }
+        ensures back { IfErr result (λ e. e.1.items ≡ bodies.items) }
+    {
+        let kept = keep_all(alloc, desc.dialogs.as_slice(), bodies)?;
+        Ok(DialogsOf {
+            kept,
+            open: None,
+            last: None,
+            commands: CommandSet::all(),
+        })
+    }
+
+    /// Opens the dialog at a place, counted from 0 in description order, with the values of its last end that was no
+    /// `cancel`, the first time with those declared.
+    pub fn open(&mut self, place: usize)
+        requires { MayOpen V.meaning place self.old }
+        ensures dialogs { (d : Desc) (s : State) → AreOfRun V.meaning d s self.old → AreDialogs V.meaning d (open_dialog d place s) self.new }
+        ensures log { (d : Desc) (s : State) (dialog : Dialog) → AreOfRun V.meaning d s self.old → slice_get d.dialogs place ≡ Some dialog
+            → (open_dialog d place s).log ≡ s.log ++ lines.Open dialog.node.id ∷ lines_of self.new }
+    {
+        let kept = &mut self.kept[place];
+        kept.dialog.reopen(&kept.values);
+        self.open = Some(place);
+        self.last = Some(place);
+    }
+}

@@ -1,0 +1,38 @@
+//! What the open dialog makes of an event.
+
+ghost use Rattle.std.specs.Prelude.{◌≡◌, ◌++◌, Some};
+ghost use Rattle.tv_laws.specs.Steps.{IsGiven};
+ghost use Rattle.tv_machine.specs.Session.Step.{to_dialog};
+ghost use Rattle.tv_machine.specs.State.{OpenDialog, State};
+ghost use Rattle.tv_dialogs.specs.Dialogs.{AreDialogs, AreOfRun, lines_of};
+ghost use Rattle.tv_dialogs.specs.Handed.{HasPointGiven};
+
+use crate::dialogs::DialogsOf;
+use crate::handed::is_dropped;
+use tv_event::Event;
+use tv_model::Desc;
+use tv_view::View;
+
+impl<V: View> DialogsOf<V> {
+    /// Hands the open dialog an event, whose point is the screen's; nothing where none is open. No command may come while a
+    /// view holds the mouse.
+    pub fn step(&mut self, desc: &Desc, event: &Event)
+        requires run { (s : State) × AreOfRun V.meaning desc.now s self.old }
+        requires given { HasPointGiven event.now }
+        ensures dialogs { (s : State) (o : OpenDialog) → s.dialog ≡ Some o → IsGiven o.held event.now → AreOfRun V.meaning desc.now s self.old
+            → AreDialogs V.meaning desc.now (to_dialog desc.now o event.now s) self.new }
+        ensures log { (s : State) (o : OpenDialog) → s.dialog ≡ Some o → AreOfRun V.meaning desc.now s self.old
+            → (to_dialog desc.now o event.now s).log ≡ s.log ++ lines_of self.new }
+    {
+        self.last = None;
+        if is_dropped(event) {
+            return;
+        }
+        if let Some(place) = self.open {
+            let kept = &mut self.kept[place];
+            kept.step(&desc.dialogs.as_slice()[place], event, &self.commands);
+            self.open = kept.dialog.is_open().then_some(place);
+            self.last = Some(place);
+        }
+    }
+}
