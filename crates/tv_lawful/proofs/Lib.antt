@@ -1,0 +1,4 @@
+pub mod LimitLemmas
+pub mod OwnerLemmas
+pub mod PartLemmas
+pub mod WindowLemmas

@@ -1,0 +1,65 @@
+-- What limited nodes and lawful commands are to the parts of a session.
+use Rattle.std.proofs.Common.{◌≡◌, true, [], Some, pos, refl}
+use Rattle.std.specs.Prelude.{IfSome}
+use Rattle.std.proofs.lemmas.List.Elements.{All-head}
+use Rattle.tv_model.specs.declared.command.CommandSpec.{CommandSpec}
+use Rattle.tv_model.specs.declared.command.CommandSpec.TheVariants as commands
+use Rattle.tv_model.specs.declared.kind.Kind.{Kind}
+use Rattle.tv_model.specs.declared.kind.Kind.TheVariants as kinds
+use Rattle.tv_model.specs.declared.node.Node.{Node}
+use Rattle.tv_model.specs.Description.LawfulNodes.{IsLawfulCommand, IsLimited, IsShort}
+use Rattle.tv_model.specs.Faults.Limits.{is_lawful_number}
+use Rattle.tv_dialog.specs.Head as dialog
+use Rattle.tv_faults.proofs.LetterLemmas.{between_decides}
+use Rattle.tv_lawful.specs.Parts.{HasNearCorner}
+use Rattle.tv_leaf.proofs.CoreLemmas.{limited_small}
+use Rattle.tv_window.specs.Head as window
+
+-- a lawful command, as a test
+pub command_holds : (command : CommandSpec) → IsLawfulCommand (Some command) → is_lawful_number (Some command) ≡ true
+command_holds (commands.Number n) lawful = (between_decides (pos 100) (pos 255) n).1 lawful
+command_holds _ lawful = refl
+
+-- a limited corner is near
+pub near_corner : (node : Node) → IsLimited node → HasNearCorner node
+near_corner node limited = record { x = limited.x; y = limited.y }
+
+-- what a dialog keeps of a limited node is limited
+pub dialog_head_limited : (node : Node) → IsLimited node → IfSome (dialog.declared_head node) dialog.IsLimited
+dialog_head_limited node limited = by node.kind refl
+  where
+    by : (kind : Kind) → node.kind ≡ kind → IfSome (dialog.declared_head node) dialog.IsLimited
+    by (kinds.Dialog own) is = rw is (record {
+      bounds = rw is at (limited_small node limited);
+      title = All-head IsShort own.title [] (rw is at limited.texts);
+    })
+    by (kinds.Window own) is = rw is tt
+    by (kinds.Text own) is = rw is tt
+    by (kinds.Label own) is = rw is tt
+    by (kinds.Button own) is = rw is tt
+    by (kinds.Input own) is = rw is tt
+    by (kinds.CheckBoxes own) is = rw is tt
+    by (kinds.RadioButtons own) is = rw is tt
+    by (kinds.List own) is = rw is tt
+    by (kinds.Pane own) is = rw is tt
+
+-- and what a window keeps of one
+pub window_head_limited : (node : Node) → IsLimited node → IfSome (window.declared_head node) window.IsLimited
+window_head_limited node limited = by node.kind refl
+  where
+    by : (kind : Kind) → node.kind ≡ kind → IfSome (window.declared_head node) window.IsLimited
+    by (kinds.Window own) is = let number = rw is at limited.amount in rw is (record {
+      bounds = rw is at (limited_small node limited);
+      from = number.0;
+      to = number.1;
+      title = All-head IsShort own.title [] (rw is at limited.texts);
+    })
+    by (kinds.Dialog own) is = rw is tt
+    by (kinds.Text own) is = rw is tt
+    by (kinds.Label own) is = rw is tt
+    by (kinds.Button own) is = rw is tt
+    by (kinds.Input own) is = rw is tt
+    by (kinds.CheckBoxes own) is = rw is tt
+    by (kinds.RadioButtons own) is = rw is tt
+    by (kinds.List own) is = rw is tt
+    by (kinds.Pane own) is = rw is tt
