@@ -1,0 +1,35 @@
+-- A run whose menu bar took an event.
+use Rattle.std.proofs.Common.{◌≡◌, ◌⊎◌, inl, inr, ℕ, Option, Some, None, refl, sym, ap, subst, ◌∙◌}
+use Rattle.tv_cells.specs.declared.rect.Point.{Point}
+use Rattle.tv_event.specs.declared.event.Event.TheVariants as events
+use Rattle.tv_event.specs.declared.event.Key.{Key}
+use Rattle.tv_event.specs.declared.event.Key.TheVariants as keys
+use Rattle.tv_model.specs.Controls.Meaning.{Leaf}
+use Rattle.tv_model.specs.declared.desc.Desc.{Desc}
+use Rattle.tv_machine.specs.State.{OpenMenu, State}
+use Rattle.tv_machine.specs.Session.Desktop.{alt_pressed, desktop_key, raise_found, window_of_digit}
+use Rattle.tv_machine.specs.Session.Menu.{open_menu, title_of_letter}
+use Rattle.tv_menu.specs.Bar.{IsBarOf, bar_offer, closed_key, key_offered, open_of, opening}
+use Rattle.tv_menu.specs.declared.bars.MenuBar.{MenuBar}
+use Rattle.tv_session.specs.Running.{IsAwake, IsRun}
+use Rattle.tv_session.specs.declared.run.RunOf.{RunOf}
+use Rattle.tv_session.proofs.FitLemmas.{menu_fit}
+use Rattle.tv_session.proofs.RunningLemmas.{run_menu}
+use Rattle.tv_machine.proofs.ListLemmas.{option_cases}
+
+module _ {V : Type 0} (look : V → Leaf) (d : Desc) where
+  pub offered_run : (s : State) (run : RunOf V) (bar : MenuBar) → IsAwake look d s run → IsBarOf d bar
+      → IsRun look d (record s { menu = open_of bar }) (record run { bar = bar })
+  offered_run s run bar a is =
+      run_menu look d s (record s { menu = open_of bar }) run (record run { bar = bar }) a.stands refl refl is refl refl refl refl refl a.stands.over a.stands.log
+
+  pub offered_awake : (s : State) (run : RunOf V) (bar : MenuBar) → IsAwake look d s run → s.dialog ≡ None → IsBarOf d bar
+      → IsAwake look d (record s { menu = open_of bar }) (record run { bar = bar })
+  offered_awake s run bar a none is = record {
+    stands = offered_run s run bar a is;
+    fit = menu_fit d s (open_of bar) none a.fit;
+    sound = a.sound;
+    size = a.size;
+    over = a.over;
+    empty = a.empty;
+  }

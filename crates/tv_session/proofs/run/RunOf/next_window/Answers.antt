@@ -1,0 +1,10 @@
+use Rattle.std.proofs.Common.{refl, ap, sym, ◌∙◌, ◌++◌, ◌∷◌, []}
+use Rattle.std.specs.Prelude.{reverse}
+use Rattle.tv_machine.specs.Session.Commands.{last_first}
+use Rattle.tv_session.proofs.RunningLemmas.{run_windows}
+use Rattle.tv_session.proofs.run.RunOf.next_window.Goals as goal
+
+pub returns : goal.returns
+returns g c = λ d s a.
+    run_windows g.V.View.meaning d s (record s { windows = last_first (reverse s.windows) }) c.args.self.now _ a.stands
+    (c.next.ensures d s.windows a.stands.desk) refl refl refl refl refl refl a.stands.over a.stands.log

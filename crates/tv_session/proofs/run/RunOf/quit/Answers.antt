@@ -1,0 +1,10 @@
+use Rattle.std.proofs.Common.{true, refl, ap, sym, ◌∙◌, ◌++◌, ◌∷◌, []}
+use Rattle.tv_machine.specs.Session.Commands.{logged}
+use Rattle.tv_model.specs.declared.log.LogLine.TheVariants.{Quit as QuitLine}
+use Rattle.tv_session.proofs.RunningLemmas.{run_windows, short_log}
+use Rattle.tv_session.proofs.run.RunOf.quit.Goals as goal
+
+pub returns : goal.returns
+returns g c = λ d s a.
+    run_windows g.V.View.meaning d s (logged QuitLine (record s { is_over = true })) c.args.self.now _ a.stands a.stands.desk refl refl refl refl refl refl refl
+    (c.note.ensures (short_log g.V.View.meaning d s c.args.self.now a) ∙ ap (λ ls. ls ++ QuitLine ∷ []) a.stands.log)

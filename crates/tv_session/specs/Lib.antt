@@ -1,0 +1,8 @@
+-- a run that stands as the flat machine's does
+pub mod Running
+-- which views are handed in as they are declared
+pub mod Freshness
+-- how a run begins
+pub mod Starting
+-- a session, and what it stands for
+pub mod Session

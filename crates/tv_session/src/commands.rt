@@ -1,0 +1,146 @@
+//! Commands, by whether a dialog is open.
+
+ghost use Rattle.std.specs.Prelude.{◌≡◌, ◌<◌, None, Some, true, option_copied, pos, reverse, length, slice_get};
+ghost use Rattle.tv_machine.specs.State.{State, OpenDialog};
+ghost use Rattle.tv_machine.specs.Session.Commands.{close_front, do_command, idle_command, last_first, logged, open_dialog, open_first, opener_of, own_command};
+ghost use Rattle.tv_machine.specs.Session.Step.{held_of, to_dialog};
+ghost use Rattle.tv_model.specs.declared.desc.Desc.{Desc as Declared};
+ghost use Rattle.tv_model.specs.declared.log.LogLine.TheVariants.{Quit as QuitLine};
+ghost use Rattle.tv_dialogs.specs.Handed.{HasPointGiven};
+ghost use Rattle.tv_laws.specs.Steps.{IsGiven};
+ghost use Rattle.tv_model.specs.Description.Heads.{dialog_head};
+ghost use Rattle.tv_model.specs.Faults.Starts.{is_option_number};
+ghost use Rattle.tv_session.specs.Running.{IsAwake, IsRun};
+
+use crate::log::{note, note_all};
+use crate::run::RunOf;
+use tv_event::{Command, Event};
+use tv_model::{Desc, Dialog, LogLine};
+use tv_view::View;
+
+fn is_opened_by(dialog: &Dialog, number: u8) -> bool
+    ensures { result ≡ is_option_number (pos number) (dialog_head dialog.now).opens }
+{
+    dialog.head().opens == Some(i32::from(number))
+}
+
+// The dialog that a command opens, by its place.
+fn opener_of(desc: &Desc, number: u8) -> Option<usize>
+    ensures { result ≡ opener_of desc.now number }
+{
+    desc.dialogs
+        .as_slice()
+        .iter()
+        .position(|dialog| is_opened_by(dialog, number))
+}
+
+fn dialog_at(desc: &Desc, place: usize) -> Option<&Dialog>
+    ensures { option_copied result ≡ slice_get desc.now.dialogs place }
+{
+    desc.dialogs.as_slice().get(place)
+}
+
+impl<V: View> RunOf<V> {
+    fn quit(&mut self)
+        ensures { (d : Declared) (s : State) → IsAwake V.meaning d s self.old
+            → IsRun V.meaning d (logged QuitLine (record s { is_over = true })) self.new }
+    {
+        self.is_over = true;
+        note(&mut self.log, LogLine::Quit);
+    }
+
+    // The first menu opens, if there is one.
+    fn open_menu(&mut self)
+        ensures { (d : Declared) (s : State) → IsAwake V.meaning d s self.old → s.menu ≡ None
+            → IsRun V.meaning d (open_first d.menus s) self.new }
+    {
+        self.bar.open_first();
+    }
+
+    // The front window closes, if there is one.
+    fn close_window(&mut self)
+        ensures { (d : Declared) (s : State) → IsAwake V.meaning d s self.old → IsRun V.meaning d (close_front s.windows s) self.new }
+    {
+        if let Some(id) = self.desk.close_front() {
+            note(&mut self.log, LogLine::Close(id));
+        }
+    }
+
+    // The rearmost window comes to the front.
+    fn next_window(&mut self)
+        ensures { (d : Declared) (s : State) → IsAwake V.meaning d s self.old
+            → IsRun V.meaning d (record s { windows = last_first (reverse s.windows) }) self.new }
+    {
+        self.desk.next();
+    }
+
+    /// The dialog at a place opens.
+    pub(crate) fn open_dialog(&mut self, desc: &Desc, place: usize)
+        requires there { place < length desc.now.dialogs }
+        requires awake { (s : State) × IsAwake V.meaning desc.now s self.old × (s.dialog ≡ None) }
+        ensures { (s : State) → IsAwake V.meaning desc.now s self.old → s.dialog ≡ None
+            → IsRun V.meaning desc.now (open_dialog desc.now place s) self.new }
+    {
+        let Some(dialog) = dialog_at(desc, place) else {
+            return;
+        };
+        note(&mut self.log, LogLine::Open(dialog.node.id));
+        self.dialogs.open(place);
+        note_all(&mut self.log, self.dialogs.log());
+    }
+
+    // A command of the description's own: its dialog opens, or it is logged.
+    fn own_command(&mut self, desc: &Desc, number: u8)
+        requires awake { (s : State) × IsAwake V.meaning desc.now s self.old × (s.dialog ≡ None) }
+        ensures { (s : State) → IsAwake V.meaning desc.now s self.old → s.dialog ≡ None
+            → IsRun V.meaning desc.now (own_command desc.now number (opener_of desc.now number) s) self.new }
+    {
+        match opener_of(desc, number) {
+            Some(place) => self.open_dialog(desc, place),
+            None => {
+                if number >= 100 {
+                    note(&mut self.log, LogLine::Command(number));
+                }
+            }
+        }
+    }
+
+    // A command while neither a dialog nor a menu is open.
+    fn idle_command(&mut self, desc: &Desc, command: Command)
+        requires awake { (s : State) × IsAwake V.meaning desc.now s self.old × (s.dialog ≡ None) }
+        ensures { (s : State) → IsAwake V.meaning desc.now s self.old → s.dialog ≡ None → s.menu ≡ None
+            → IsRun V.meaning desc.now (idle_command desc.now command.0 s) self.new }
+    {
+        match command {
+            Command::QUIT => self.quit(),
+            Command::MENU => self.open_menu(),
+            Command::CLOSE => self.close_window(),
+            Command::NEXT => self.next_window(),
+            Command(number) => self.own_command(desc, number),
+        }
+    }
+
+    /// The open dialog gets an event, whose point is the screen's.
+    pub(crate) fn hand_to_dialog(&mut self, desc: &Desc, event: &Event)
+        requires near { HasPointGiven event.now }
+        requires awake { (s : State) × IsAwake V.meaning desc.now s self.old }
+        ensures { (s : State) (o : OpenDialog) → IsAwake V.meaning desc.now s self.old → s.dialog ≡ Some o → IsGiven o.held event.now
+            → IsRun V.meaning desc.now (to_dialog desc.now o event.now s) self.new }
+    {
+        self.dialogs.step(desc, event);
+        note_all(&mut self.log, self.dialogs.log());
+    }
+
+    /// A command while no menu is open and nothing holds the mouse.
+    pub(crate) fn command(&mut self, desc: &Desc, command: Command)
+        requires awake { (s : State) × IsAwake V.meaning desc.now s self.old × (held_of s.dialog ≡ None) }
+        ensures { (s : State) → IsAwake V.meaning desc.now s self.old → s.menu ≡ None → held_of s.dialog ≡ None
+            → IsRun V.meaning desc.now (do_command desc.now command.0 s) self.new }
+    {
+        if self.dialogs.is_open() {
+            self.hand_to_dialog(desc, &Event::Command(command));
+        } else {
+            self.idle_command(desc, command);
+        }
+    }
+}

@@ -1,0 +1,221 @@
+//! Events, by who takes them first.
+
+ghost use Rattle.std.specs.Prelude.{◌≡◌, None, Some, true, false, is_some};
+ghost use Rattle.tv_event.specs.declared.event.Event.TheVariants.{Down as DownEvent};
+ghost use Rattle.tv_machine.specs.State.{State, OpenDialog};
+ghost use Rattle.tv_machine.specs.Session.Desktop.{desktop_down, desktop_key, down_on_desktop, window_under};
+ghost use Rattle.tv_machine.specs.Session.Step.{down_at_menu, down_at_status, down_below, emptied, held_of, key_at_menu, key_at_status, key_below, status_item_of, step, step_below, step_held};
+ghost use Rattle.tv_menu.specs.Bar.{bar_offer};
+ghost use Rattle.tv_menu.specs.Lawful.{IsLawfulScreen};
+ghost use Rattle.tv_menu.specs.Line.{IsLineOf};
+ghost use Rattle.tv_cells.specs.Layers.{is_in};
+ghost use Rattle.tv_dialogs.specs.Handed.{HasPointGiven, IsPointGiven};
+ghost use Rattle.tv_laws.specs.Runs.{HasSoundDialogs, IsFitState};
+ghost use Rattle.tv_model.specs.Description.Rectangles.{desktop};
+ghost use Rattle.tv_session.specs.Running.{IsAwake, IsRun};
+
+use crate::paint::desktop;
+use crate::run::RunOf;
+use tv_cells::Point;
+use tv_desk::Hit;
+use tv_event::{Command, CommandSet, Event, Key};
+use tv_leaf::contains;
+use tv_menu::{Offered, StatusLine};
+use tv_model::Desc;
+use tv_view::View;
+
+fn is_on_desktop(desc: &Desc, point: Point) -> bool
+    requires { IsLawfulScreen desc.now.width desc.now.height }
+    ensures { result ≡ is_in (desktop desc.now) point.x point.y }
+{
+    contains(desktop(desc), point)
+}
+
+impl<V: View> RunOf<V> {
+    // What the menu bar takes of a key or a mouse down while no dialog is open, and whether it does.
+    fn offer_bar(&mut self, desc: &Desc, event: &Event) -> bool
+        requires awake { (s : State) × IsAwake V.meaning desc.now s self.old × (s.dialog ≡ None) }
+        ensures takes { (s after : State) → IsAwake V.meaning desc.now s self.old → s.dialog ≡ None → bar_offer desc.now event.now s ≡ Some after
+            → (result ≡ true) × IsRun V.meaning desc.now after self.new }
+        ensures leaves { (s : State) → IsAwake V.meaning desc.now s self.old → s.dialog ≡ None → bar_offer desc.now event.now s ≡ None
+            → (result ≡ false) × (self.new ≡ self.old) }
+    {
+        match self.bar.offer(event, &CommandSet::all()) {
+            Offered::Left => false,
+            Offered::Taken => true,
+            Offered::Turned(command) => {
+                self.command(desc, command);
+                true
+            }
+        }
+    }
+
+    // A key while neither a menu nor a dialog is open.
+    fn desktop_key(&mut self, desc: &Desc, key: Key)
+        requires awake { (s : State) × IsAwake V.meaning desc.now s self.old × (s.dialog ≡ None) }
+        ensures { (s : State) → IsAwake V.meaning desc.now s self.old → s.dialog ≡ None → s.menu ≡ None
+            → IsRun V.meaning desc.now (desktop_key desc.now key s) self.new }
+    {
+        if self.offer_bar(desc, &Event::Key(key)) {
+            return;
+        }
+        if let Key::Alt(letter) = key {
+            self.desk.raise_number(letter);
+        }
+    }
+
+    // A key that neither a menu nor the status line takes.
+    fn key_below(&mut self, desc: &Desc, key: Key)
+        requires awake { (s : State) × IsAwake V.meaning desc.now s self.old }
+        ensures { (s : State) → IsAwake V.meaning desc.now s self.old → s.menu ≡ None
+            → IsRun V.meaning desc.now (key_below desc.now s.dialog key s) self.new }
+    {
+        if self.dialogs.is_open() {
+            self.hand_to_dialog(desc, &Event::Key(key));
+        } else {
+            self.desktop_key(desc, key);
+        }
+    }
+
+    // A key while no menu is open.
+    fn key_at_status(&mut self, desc: &Desc, line: &StatusLine, key: Key)
+        requires awake { (s : State) × IsAwake V.meaning desc.now s self.old × (held_of s.dialog ≡ None) }
+        ensures { (s : State) → IsAwake V.meaning desc.now s self.old → s.menu ≡ None → held_of s.dialog ≡ None → IsLineOf desc.now line.now
+            → IsRun V.meaning desc.now (key_at_status desc.now (status_item_of desc.now s key) key s) self.new }
+    {
+        match line.offer(&Event::Key(key), self.dialogs.commands()) {
+            Offered::Turned(command) => self.command(desc, command),
+            _ => self.key_below(desc, key),
+        }
+    }
+
+    // A key while nothing holds the mouse.
+    fn key(&mut self, desc: &Desc, line: &StatusLine, key: Key)
+        requires awake { (s : State) × IsAwake V.meaning desc.now s self.old × (held_of s.dialog ≡ None) }
+        ensures { (s : State) → IsAwake V.meaning desc.now s self.old → held_of s.dialog ≡ None → IsLineOf desc.now line.now
+            → IsRun V.meaning desc.now (key_at_menu desc.now s.menu key s) self.new }
+    {
+        if self.bar.is_open() {
+            self.offer_bar(desc, &Event::Key(key));
+        } else {
+            self.key_at_status(desc, line, key);
+        }
+    }
+
+    // A mouse down on the topmost window there.
+    fn window_down(&mut self, desc: &Desc, point: Point)
+        requires awake { (s : State) × IsAwake V.meaning desc.now s self.old × (s.dialog ≡ None) }
+        ensures { (s : State) → IsAwake V.meaning desc.now s self.old → s.dialog ≡ None → s.menu ≡ None
+            → IsRun V.meaning desc.now (down_on_desktop desc.now (window_under desc.now s point) point s) self.new }
+    {
+        match self.desk.down(point) {
+            Hit::CloseMark => self.command(desc, Command::CLOSE),
+            Hit::Done => {}
+        }
+    }
+
+    // A mouse down while neither a menu nor a dialog is open.
+    fn desktop_down(&mut self, desc: &Desc, point: Point)
+        requires awake { (s : State) × IsAwake V.meaning desc.now s self.old × (s.dialog ≡ None) }
+        ensures { (s : State) → IsAwake V.meaning desc.now s self.old → s.dialog ≡ None → s.menu ≡ None
+            → IsRun V.meaning desc.now (desktop_down desc.now point s) self.new }
+    {
+        if self.offer_bar(desc, &Event::Down(point)) {
+            return;
+        }
+        if is_on_desktop(desc, point) {
+            self.window_down(desc, point);
+        }
+    }
+
+    // A mouse down above the status line.
+    fn down_below(&mut self, desc: &Desc, point: Point)
+        requires near { IsPointGiven point }
+        requires awake { (s : State) × IsAwake V.meaning desc.now s self.old × (held_of s.dialog ≡ None) }
+        ensures { (s : State) → IsAwake V.meaning desc.now s self.old → s.menu ≡ None
+            → IsRun V.meaning desc.now (down_below desc.now s.dialog point s) self.new }
+    {
+        if self.dialogs.is_open() {
+            if is_on_desktop(desc, point) {
+                self.hand_to_dialog(desc, &Event::Down(point));
+            }
+        } else {
+            self.desktop_down(desc, point);
+        }
+    }
+
+    // A mouse down while no menu is open.
+    fn down_at_status(&mut self, desc: &Desc, line: &StatusLine, point: Point)
+        requires near { IsPointGiven point }
+        requires awake { (s : State) × IsAwake V.meaning desc.now s self.old × (held_of s.dialog ≡ None) }
+        ensures { (s : State) → IsAwake V.meaning desc.now s self.old → s.menu ≡ None → held_of s.dialog ≡ None → IsLineOf desc.now line.now
+            → IsRun V.meaning desc.now (down_at_status desc.now point s) self.new }
+    {
+        match line.offer(&Event::Down(point), self.dialogs.commands()) {
+            Offered::Turned(command) => self.command(desc, command),
+            Offered::Taken => {}
+            Offered::Left => self.down_below(desc, point),
+        }
+    }
+
+    // A mouse down while nothing holds the mouse.
+    fn down(&mut self, desc: &Desc, line: &StatusLine, point: Point)
+        requires near { IsPointGiven point }
+        requires awake { (s : State) × IsAwake V.meaning desc.now s self.old × (held_of s.dialog ≡ None) }
+        ensures { (s : State) → IsAwake V.meaning desc.now s self.old → held_of s.dialog ≡ None → IsLineOf desc.now line.now
+            → IsRun V.meaning desc.now (down_at_menu desc.now s.menu point s) self.new }
+    {
+        if self.bar.is_open() {
+            self.offer_bar(desc, &Event::Down(point));
+        } else {
+            self.down_at_status(desc, line, point);
+        }
+    }
+
+    // An event while nothing holds the mouse: moves and ups do nothing, nor do commands and broadcasts that are handed in.
+    fn free_event(&mut self, desc: &Desc, line: &StatusLine, event: &Event)
+        requires near { HasPointGiven event.now }
+        requires awake { (s : State) × IsAwake V.meaning desc.now s self.old × (held_of s.dialog ≡ None) }
+        ensures { (s : State) → IsAwake V.meaning desc.now s self.old → held_of s.dialog ≡ None → IsLineOf desc.now line.now
+            → IsRun V.meaning desc.now (step_below desc.now event.now s) self.new }
+    {
+        match event {
+            Event::Key(key) => self.key(desc, line, *key),
+            Event::Down(point) => self.down(desc, line, *point),
+            Event::Move(_) | Event::Up(_) | Event::Command(_) | Event::Broadcast(_) => {}
+        }
+    }
+
+    // An event while a leaf of the open dialog holds the mouse: moves and ups go to it, and nothing else does anything.
+    fn held_event(&mut self, desc: &Desc, event: &Event)
+        requires near { HasPointGiven event.now }
+        requires awake { (s : State) × IsAwake V.meaning desc.now s self.old }
+        ensures { (s : State) (o : OpenDialog) → IsAwake V.meaning desc.now s self.old → held_of s.dialog ≡ Some o
+            → IsRun V.meaning desc.now (step_held desc.now o event.now s) self.new }
+    {
+        match event {
+            Event::Move(_) | Event::Up(_) => self.hand_to_dialog(desc, event),
+            Event::Key(_) | Event::Down(_) | Event::Command(_) | Event::Broadcast(_) => {}
+        }
+    }
+
+    /// One event.
+    pub(crate) fn step(&mut self, desc: &Desc, line: &StatusLine, event: &Event)
+        requires near { HasPointGiven event.now }
+        requires sound { HasSoundDialogs desc.now }
+        requires size { IsLawfulScreen desc.now.width desc.now.height }
+        requires fit { (s : State) × IsRun V.meaning desc.now s self.old × IsFitState desc.now s }
+        ensures { (s : State) → IsRun V.meaning desc.now s self.old → IsFitState desc.now s → IsLineOf desc.now line.now
+            → IsRun V.meaning desc.now (step desc.now s event.now) self.new }
+    {
+        self.log.clear();
+        if self.is_over {
+            return;
+        }
+        if self.dialogs.held() {
+            self.held_event(desc, event);
+        } else {
+            self.free_event(desc, line, event);
+        }
+    }
+}

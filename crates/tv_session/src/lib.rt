@@ -1,0 +1,16 @@
+//! A run of a checked description through its views, and its screen.
+#![tactic(auto)]
+
+mod commands;
+mod events;
+mod fault;
+mod freshness;
+mod log;
+mod making;
+mod paint;
+mod run;
+mod session;
+
+pub use fault::SessionFault;
+pub use making::Refused;
+pub use session::{Session, SessionOf};

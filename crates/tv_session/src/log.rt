@@ -1,0 +1,54 @@
+//! The lines of an event.
+
+ghost use Rattle.std.specs.Prelude.{◌≡◌, ◌≤◌, ◌+◌, ◌++◌, ◌∷◌, [], length};
+
+use arrayvec::ArrayVec;
+use tv_model::{LogLine, Value};
+
+/// The lines of the last event that aren't yet taken. The most that one gives are those of a dialog, and the one of its
+/// opening.
+pub(crate) type Log = ArrayVec<LogLine, 67>;
+
+fn copy_value(value: &Value) -> Value
+    ensures { result ≡ value.now }
+{
+    match value {
+        Value::Text(text) => Value::Text(text.copy()),
+        Value::Marks(marks) => Value::Marks(*marks),
+        Value::Item(item) => Value::Item(*item),
+    }
+}
+
+fn copy_line(line: &LogLine) -> LogLine
+    ensures { result ≡ line.now }
+{
+    match line {
+        LogLine::Open(id) => LogLine::Open(*id),
+        LogLine::Focus(id) => LogLine::Focus(*id),
+        LogLine::Press(id) => LogLine::Press(*id),
+        LogLine::Invalid(id) => LogLine::Invalid(*id),
+        LogLine::Close(id) => LogLine::Close(*id),
+        LogLine::Quit => LogLine::Quit,
+        LogLine::Command(number) => LogLine::Command(*number),
+        LogLine::End(id, command) => LogLine::End(*id, *command),
+        LogLine::Field(id, value) => LogLine::Field(*id, copy_value(value)),
+    }
+}
+
+/// Adds a line.
+pub(crate) fn note(log: &mut Log, line: LogLine)
+    ensures { length log.old.items ≤ 66 → log.new.items ≡ log.old.items ++ line ∷ [] }
+{
+    if !log.is_full() {
+        log.push(line);
+    }
+}
+
+/// Adds the lines of a dialog, which are 66 at most.
+pub(crate) fn note_all(log: &mut Log, lines: &[LogLine])
+    ensures { length log.old.items + length lines.now ≤ 67 → log.new.items ≡ log.old.items ++ lines.now }
+{
+    for line in lines {
+        note(log, copy_line(line));
+    }
+}

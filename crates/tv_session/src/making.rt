@@ -1,0 +1,210 @@
+//! How a session is made.
+
+ghost use Rattle.std.specs.Prelude.{◌≡◌, ◌<◌, IfErr, IfOk, IfSome, None, length, position};
+ghost use Rattle.tv_machine.specs.Run.{started};
+ghost use Rattle.tv_machine.specs.Session.Start.{closed, start};
+ghost use Rattle.tv_menu.specs.Bar.{IsBarOf, open_of};
+ghost use Rattle.tv_menu.specs.Lawful.{AreLawfulMenus, AreLawfulStatusItems, IsLawfulScreen};
+ghost use Rattle.tv_menu.specs.Line.{IsLineOf};
+ghost use Rattle.tv_model.specs.Description.Heads.{is_named};
+ghost use Rattle.tv_model.specs.Description.Numbers.{natural};
+ghost use Rattle.tv_session.specs.Freshness.{IsFirstMismatch};
+ghost use Rattle.tv_session.specs.Running.{IsAwake, IsRun};
+ghost use Rattle.tv_session.specs.Session.{StandsFor};
+ghost use Rattle.tv_session.specs.declared.fault.SessionFault.TheVariants.{NoMemory};
+ghost use Rattle.tv_session.specs.Starting.{CanStart, Refuses, start_place};
+
+use crate::fault::SessionFault;
+use crate::freshness::first_mismatch;
+use crate::log::Log;
+use crate::run::RunOf;
+use crate::session::SessionOf;
+use std::alloc::{AllocError, Global};
+use tv_cells::{Screen, ScreenFault};
+use tv_check::Checked;
+use tv_desk::DeskOf;
+use tv_dialogs::DialogsOf;
+use tv_faces::natural;
+use tv_group::GroupOf;
+use tv_lawful::parts_are_lawful;
+use tv_menu::{MenuBar, StatusLine};
+use tv_model::{Desc, Dialog};
+use tv_view::View;
+use tv_window::WindowOf;
+
+/// What a session has beside its views.
+#[derive(Drop)]
+struct Parts {
+    bar: MenuBar,
+    line: StatusLine,
+    screen: Screen,
+}
+
+// A screen of the description's size.
+fn blank_screen(alloc: Global, desc: &Desc) -> Result<Screen, AllocError>
+    requires { IsLawfulScreen desc.now.width desc.now.height }
+    ensures { IfOk result (λ screen. (screen.width ≡ natural desc.now.width) × (screen.height ≡ natural desc.now.height)) }
+{
+    match Screen::new(alloc, natural(&desc.width), natural(&desc.height)) {
+        Ok(screen) => Ok(screen),
+        Err(ScreenFault::NoMemory) => Err(AllocError),
+        Err(ScreenFault::BadSize) => unreachable!(),
+    }
+}
+
+impl Parts {
+    fn new(alloc: Global, desc: &Desc) -> Result<Parts, AllocError>
+        requires screen { IsLawfulScreen desc.now.width desc.now.height }
+        requires menus { AreLawfulMenus desc.now.menus }
+        requires status { AreLawfulStatusItems desc.now.status }
+        ensures bar { IfOk result (λ parts. IsBarOf desc.now parts.bar) }
+        ensures closed { IfOk result (λ parts. open_of parts.bar ≡ None) }
+        ensures line { IfOk result (λ parts. IsLineOf desc.now parts.line) }
+        ensures screen { IfOk result (λ parts. (parts.screen.width ≡ natural desc.now.width) × (parts.screen.height ≡ natural desc.now.height)) }
+    {
+        Ok(Parts {
+            bar: MenuBar::new(alloc, desc)?,
+            line: StatusLine::new(alloc, desc)?,
+            screen: blank_screen(alloc, desc)?,
+        })
+    }
+}
+
+fn is_named(dialog: &Dialog, name: &[char]) -> bool
+    ensures { result ≡ is_named name.now dialog.now }
+{
+    dialog.head().name.as_slice() == name
+}
+
+fn place_named(dialogs: &[Dialog], name: &[char]) -> Option<usize>
+    ensures is { result ≡ position (is_named name.now) dialogs.now }
+    ensures there { IfSome result (λ place. place < length dialogs.now) }
+{
+    dialogs.iter().position(|dialog| is_named(dialog, name))
+}
+
+// The place of the dialog that is open at the start.
+fn start_place(desc: &Desc) -> Option<usize>
+    ensures is { result ≡ start_place desc.now }
+    ensures there { IfSome result (λ place. place < length desc.now.dialogs) }
+{
+    match &desc.start {
+        Some(name) => place_named(desc.dialogs.as_slice(), name.as_slice()),
+        None => None,
+    }
+}
+
+impl<V: View> RunOf<V> {
+    // The start: the dialog that the description names is open, if it names one.
+    fn begin(&mut self, desc: &Desc)
+        requires { IsAwake V.meaning desc.now (closed desc.now) self.old }
+        ensures { IsRun V.meaning desc.now (start desc.now) self.new }
+    {
+        if let Some(place) = start_place(desc) {
+            self.open_dialog(desc, place);
+        }
+    }
+}
+
+/// Why a session wasn't made, with what it was to be made of, unchanged.
+#[derive(Drop)]
+pub struct Refused<V> {
+    pub fault: SessionFault,
+    pub checked: Checked,
+    pub windows: Vec<WindowOf<V>>,
+    pub bodies: Vec<GroupOf<V>>,
+}
+
+impl<V: View> SessionOf<V> {
+    /// The start of a run: the windows stand one over the other, the later ones in front, and the start dialog is open.
+    ///
+    /// There is one window for each that the description declares, and one body for each dialog, both in description order.
+    ///
+    /// # Errors
+    ///
+    /// `ViewMismatch` where one of them doesn't stand as it is declared, is missing or is too many; `NoMemory`. What was handed
+    /// in comes back unchanged.
+    pub fn new(
+        alloc: Global,
+        checked: Checked,
+        windows: Vec<WindowOf<V>>,
+        bodies: Vec<GroupOf<V>>,
+    ) -> Result<SessionOf<V>, Refused<V>>
+        ensures made { IfOk result (λ session. StandsFor V.meaning session (started checked)) }
+        ensures fresh { IfOk result (λ _. IsFirstMismatch V.meaning checked windows.items bodies.items None) }
+        ensures mismatch { IfErr result (λ refused. Refuses V.meaning checked windows.items bodies.items refused.fault) }
+        ensures back { IfErr result (λ refused. (refused.checked ≡ checked) × (refused.windows.items ≡ windows.items) × (refused.bodies.items ≡ bodies.items)) }
+    {
+        match first_mismatch(checked.desc(), windows.as_slice(), bodies.as_slice()) {
+            Some(place) => Err(Refused {
+                fault: SessionFault::ViewMismatch(place),
+                checked,
+                windows,
+                bodies,
+            }),
+            None => SessionOf::make(alloc, checked, windows, bodies),
+        }
+    }
+
+    // The start over views that are as they are declared, where there is memory.
+    fn make(
+        alloc: Global,
+        checked: Checked,
+        windows: Vec<WindowOf<V>>,
+        bodies: Vec<GroupOf<V>>,
+    ) -> Result<SessionOf<V>, Refused<V>>
+        requires { IsFirstMismatch V.meaning checked windows.items bodies.items None }
+        ensures made { IfOk result (λ session. StandsFor V.meaning session (started checked)) }
+        ensures memory { IfErr result (λ refused. refused.fault ≡ NoMemory) }
+        ensures back { IfErr result (λ refused. (refused.checked ≡ checked) × (refused.windows.items ≡ windows.items) × (refused.bodies.items ≡ bodies.items)) }
+    {
+        let desc = checked.desc();
+        parts_are_lawful(desc);
+        let Ok(parts) = Parts::new(alloc, desc) else {
+            return Err(Refused {
+                fault: SessionFault::NoMemory,
+                checked,
+                windows,
+                bodies,
+            });
+        };
+        match DialogsOf::new(alloc, desc, bodies) {
+            Ok(dialogs) => Ok(SessionOf::start(checked, parts, windows, dialogs)),
+            Err((_, bodies)) => Err(Refused {
+                fault: SessionFault::NoMemory,
+                checked,
+                windows,
+                bodies,
+            }),
+        }
+    }
+
+    // The start over views that are as they are declared.
+    fn start(
+        checked: Checked,
+        parts: Parts,
+        windows: Vec<WindowOf<V>>,
+        dialogs: DialogsOf<V>,
+    ) -> SessionOf<V>
+        requires { CanStart V.meaning checked parts windows.items dialogs }
+        ensures { StandsFor V.meaning result (started checked) }
+    {
+        let mut run = RunOf {
+            desk: DeskOf::new(windows),
+            dialogs,
+            bar: parts.bar,
+            is_over: false,
+            log: Log::new(),
+        };
+        let mut screen = parts.screen;
+        let desc = checked.desc();
+        run.begin(desc);
+        run.paint(&mut screen, desc, &parts.line);
+        SessionOf {
+            checked,
+            line: parts.line,
+            run,
+            screen,
+        }
+    }
+}

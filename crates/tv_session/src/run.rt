@@ -1,0 +1,18 @@
+//! What changes while a run goes on.
+
+use crate::log::Log;
+use tv_desk::DeskOf;
+use tv_dialogs::DialogsOf;
+use tv_menu::MenuBar;
+use tv_view::View;
+
+/// What changes while a run goes on: its windows, dialogs and menus, and the lines of its last event.
+#[derive(Drop)]
+pub(crate) struct RunOf<V> {
+    pub(crate) desk: DeskOf<V>,
+    pub(crate) dialogs: DialogsOf<V>,
+    pub(crate) bar: MenuBar,
+    /// Whether the run is over, after `quit`.
+    pub(crate) is_over: bool,
+    pub(crate) log: Log,
+}
