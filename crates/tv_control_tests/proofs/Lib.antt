@@ -1,1 +1,2 @@
+mod FitLemmas
 mod RoomLemmas

@@ -1,6 +1,7 @@
 //! A control by itself, and what it answers to a script.
 
 use crate::making::{checked, first_control, plan, views};
+use crate::setting::open;
 use crate::telling::{push_face, push_reaction, push_token, push_word, value_told};
 use bitflags::Flags;
 use std::alloc::Global;
@@ -9,7 +10,7 @@ use tv_cells::{Point, Screen};
 use tv_event::{Command, CommandSet, Event, Phase};
 use tv_model::{Id, Item, Node, Record, Sequence};
 use tv_palette::{Chain, Owner};
-use tv_script::{Grammar, ScriptFault, parse_script};
+use tv_script::{ScriptFault, parse_items};
 use tv_test_support::{Question, expect_answers};
 use tv_view::{Env, Rules, View};
 
@@ -19,8 +20,8 @@ use tv_view::{Env, Rules, View};
 /// Beside the lines of scripts there are commands of its own. `focus` and `leave` move the focus to it and to the button in
 /// line 4; with `grant` it gets the focus by the event that comes next. `hide`, `show`, `disable` and `enable` are what rules
 /// come to. `pre`, `main` and `post` set the phase of the keys after them. `default` lets the control be the default now, and
-/// `enter` is the broadcast of Enter. `press N` presses an item. `facts` tells its line, its rectangle and its options, and
-/// `state` how it stands.
+/// `enter` is the broadcast of Enter. `press N` presses an item. `set` opens it with the value that follows, as long as it
+/// stands as it is declared. `facts` tells its line, its rectangle and its options, and `state` how it stands.
 #[derive(Clone, Copy)]
 pub struct Playing {
     /// The point of what the control stands in from which a script's points are seen.
@@ -141,9 +142,18 @@ impl Bench<'_> {
             [b'p', b'r', b'e', b's', b's', b' ', digit] => {
                 self.press(alloc, told, digit.saturating_sub(b'0'))?;
             }
-            _ => self.play(alloc, told, command)?,
+            _ => self.other(alloc, told, command)?,
         }
         Ok(())
+    }
+
+    // The opening with a value, and the lines of a script.
+    fn other(&mut self, alloc: Global, told: &mut String, command: &str) -> Result<(), Fail> {
+        let Some(value) = command.strip_prefix("set ") else {
+            return self.play(alloc, told, command);
+        };
+        let node = self.lent.views.get(1).ok_or("no view")?;
+        open(alloc, &mut self.view, node, value)
     }
 
     // The focus moves to a control, and the control tells whether it is that one.
@@ -264,7 +274,7 @@ impl Bench<'_> {
 }
 
 fn script_of(alloc: Global, line: &str) -> Result<Sequence<Item>, ScriptFault> {
-    parse_script(alloc, Grammar::Whole(200_000, 200_000), line.as_bytes())
+    parse_items(alloc, line.as_bytes(), 200_000, 200_000)
 }
 
 // The event where points are seen from a corner.

@@ -14,4 +14,10 @@ mod lists;
 #[cfg(test)]
 mod making;
 #[cfg(test)]
+mod sets;
+#[cfg(test)]
+mod setting;
+#[cfg(test)]
 mod telling;
+#[cfg(test)]
+mod widest;

@@ -26,6 +26,8 @@ mod queue;
 #[cfg(test)]
 mod samples;
 #[cfg(test)]
+mod stacks;
+#[cfg(test)]
 mod two_windows;
 #[cfg(test)]
 mod views;

@@ -2,26 +2,14 @@
 
 use crate::forms::{FIRST, INNER, LABEL, LAST, LEAVES, env, form};
 use crate::probes::{Call, Journal};
+use crate::samples::reads;
 use bitflags::Flags;
 use std::process::Abort;
 use std::test::Fail;
-use tv_cells::{Point, Screen};
+use tv_cells::Screen;
 use tv_event::{CommandSet, State};
 use tv_model::Id;
 use tv_palette::Chain;
-
-// The characters from a place on.
-fn reads(screen: &Screen, x: i32, y: i32, text: &str) -> bool {
-    let mut place = Point { x, y };
-    for ch in text.chars() {
-        match screen.at(place) {
-            Some(cell) if cell.ch() == ch => {}
-            _ => return false,
-        }
-        place.x = place.x.saturating_add(1);
-    }
-    true
-}
 
 // Each leaf is told to draw itself, and what the control behind it shows is on the screen.
 #[test]

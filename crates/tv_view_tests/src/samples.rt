@@ -6,7 +6,7 @@ ghost use Rattle.tv_model.specs.Controls.Meaning.{IsSmallRect};
 
 use std::alloc::Global;
 use std::test::Fail;
-use tv_cells::{Point, Rect};
+use tv_cells::{Point, Rect, Screen};
 use tv_group::{Group, Member};
 use tv_model::{Id, Kind, Node, StaticText};
 use tv_valid::Chars;
@@ -69,4 +69,17 @@ pub fn body(alloc: Global, bounds: Rect, member: Member) -> Result<Group, Fail>
     let mut members = Vec::new(alloc);
     members.push(member)?;
     Ok(Group::new(bounds, members).ok().ok_or("one level")?)
+}
+
+/// Whether the characters from a place on are these.
+pub fn reads(screen: &Screen, x: i32, y: i32, text: &str) -> bool {
+    let mut place = Point { x, y };
+    for ch in text.chars() {
+        match screen.at(place) {
+            Some(cell) if cell.ch() == ch => {}
+            _ => return false,
+        }
+        place.x = place.x.saturating_add(1);
+    }
+    true
 }
