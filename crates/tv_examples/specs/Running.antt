@@ -17,7 +17,6 @@ use Rattle.tv_script.specs.declared.script_text.ScriptFault.{ScriptFault}
 use Rattle.tv_script.specs.Reading.Scripts.{script_of}
 use Rattle.tv_model.specs.declared.script.Item.{Item}
 use Rattle.tv_model.specs.declared.desc.Desc.{Desc}
-use Rattle.tv_model.specs.Description.Numbers.{natural}
 use Rattle.tv_machine.specs.Run.{Session, started}
 use Rattle.tv_machine.specs.Output.{output, after, screen_cell, hex_byte}
 
@@ -42,7 +41,7 @@ script_output d (Err fault) = None
 
 -- the script of a text for the screen of a description
 abbrev pub read_script : Desc → List ℕ → Result (List Item) ScriptFault
-read_script d script = script_of (natural d.width) (natural d.height) script
+read_script d script = script_of d.width d.height script
 
 -- what a script writes for the description that was read, if one was
 abbrev pub run_read : Reading → List ℕ → Option (List ℕ)

@@ -9,4 +9,5 @@ pub mod RangeLemmas
 pub mod RunLemmas
 pub mod ScreenLemmas
 pub mod ScriptLemmas
+pub mod SizeLemmas
 pub mod TakeLemmas

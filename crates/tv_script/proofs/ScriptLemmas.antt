@@ -1,17 +1,16 @@
 -- A script is read just where a text spells it.
-use Rattle.std.proofs.Common.{◌≡◌, ℕ, suc, ◌+◌, ◌<◌, ◌≤◌, inl, inr, nat_le, Bool, true, false, cond, ◌&&◌, List, [], ◌∷◌, ◌++◌, length, take, Option, Some, None, Ok, Err, refl, sym, ap, ◌∙◌, add-one, add-zero, subst, arith}
+use Rattle.std.proofs.Common.{◌≡◌, ℕ, ℤ, suc, ◌+◌, ◌<◌, ◌≤◌, inl, inr, nat_le, Bool, true, false, cond, ◌&&◌, List, [], ◌∷◌, ◌++◌, length, take, Option, Some, None, Ok, Err, refl, sym, ap, ◌∙◌, add-one, add-zero, subst, arith}
 use Rattle.std.specs.Prelude.{option_and_then, IfOk, IfErr}
 use Rattle.std.proofs.lemmas.Bool.Decides.{nat_tests}
 use Rattle.tv_model.specs.declared.script.Item.{Item}
 use Rattle.tv_script.proofs.FitLemmas.{fits, from_fitting, from_script, from_shown, into_fitting, into_script, into_shown, items_push, shows, stands}
 use Rattle.tv_script.proofs.GrammarLemmas.{Test, added, begins_weaker, faulty_unspelled, lines_spelled, no_begin, spelled_lines, taken_begins, tested}
-use Rattle.tv_script.specs.declared.line.Grammar.{Grammar}
 use Rattle.tv_script.specs.declared.line.Line.{Line}
 use Rattle.tv_script.specs.declared.script_text.ScriptFault.{ScriptFault}
 use Rattle.tv_script.specs.declared.script_text.ScriptFault.TheVariants.{NoMemory, Syntax, OffScreen, TooLong}
-use Rattle.tv_script.specs.Lines.{allows, is_on_screen, items_of, items_of_line}
+use Rattle.tv_script.specs.Lines.{is_on_screen, items_of, items_of_line}
 use Rattle.tv_script.specs.Reading.Lines.{line_in}
-use Rattle.tv_script.specs.Reading.Scripts.{Answer, IsAnswered, reading, script_by, with_bytes, with_found, with_words}
+use Rattle.tv_script.specs.Reading.Scripts.{Answer, IsAnswered, reading, script_of, with_bytes, with_found, with_words}
 use Rattle.tv_script.specs.Scripts.{Gives, IsFirstFaulty, IsFitting, IsOnScreen, IsScript, Refuses, Spells, script_words}
 use Rattle.tv_words.specs.declared.word.Word.{Word}
 use Rattle.tv_words.specs.Lines.{lines_of}
@@ -21,7 +20,7 @@ use Rattle.tv_words.specs.Texts.{BeginsBy, IsFirstFault, SpellsBy}
 
 -- ---- one line
 
--- the answer at the line n, by what the tests of lines come to: that of the grammar, that of points too, and that of all
+-- the answer at the line n, by what the tests of lines come to: that of what can be spelled, that of points too, and that of all
 abbrev Tells : ℕ → Option (List Line) → Option (List Line) → Option (List Line) → Answer → Type 0
 Tells n stood shown fitted (Ok longer) = (further : List Line) × (stood ≡ Some further) × (shown ≡ Some further) × (fitted ≡ Some further) × (longer ≡ items_of further)
 Tells n stood shown fitted (Err NoMemory) = ⊥
@@ -33,19 +32,18 @@ Tells-along : (n m : ℕ) (a b c x y z : Option (List Line)) (r : Answer) → n 
 Tells-along n m a b c x y z r en ea eb ec h =
     subst (λ v. Tells m x y v r) ec (subst (λ v. Tells m x v c r) eb (subst (λ v. Tells m v b c r) ea (subst (λ v. Tells v a b c r) en h)))
 
-by_tests : (n : ℕ) (longer : List Item) (further : List Line) (a b c : Bool) → longer ≡ items_of further → Tells n (cond a (Some further) None) (cond (a && b) (Some further) None) (cond ((a && b) && c) (Some further) None) (cond a (cond b (cond c (Ok longer) (Err TooLong)) (Err (OffScreen n))) (Err (Syntax n)))
-by_tests n longer further true true true e = (further, refl, refl, refl, e)
-by_tests n longer further true true false e = ((further, refl), refl)
-by_tests n longer further true false c e = (refl, (further, refl), refl)
-by_tests n longer further false b c e = (refl, refl)
+by_tests : (n : ℕ) (longer : List Item) (further : List Line) (b c : Bool) → longer ≡ items_of further → Tells n (Some further) (cond b (Some further) None) (cond (b && c) (Some further) None) (cond b (cond c (Ok longer) (Err TooLong)) (Err (OffScreen n)))
+by_tests n longer further true true e = (further, refl, refl, refl, e)
+by_tests n longer further true false e = ((further, refl), refl)
+by_tests n longer further false c e = (refl, (further, refl), refl)
 
-module _ (grammar : Grammar) where
-  by_line : (n : ℕ) (ls : List Line) (o : Option Line) → Tells n (tested (stands grammar) ls o) (tested (shows grammar) ls o) (tested (fits grammar) ls o) (with_found grammar n (items_of ls) o)
+module _ (width height : ℤ) where
+  by_line : (n : ℕ) (ls : List Line) (o : Option Line) → Tells n (tested stands ls o) (tested (shows width height) ls o) (tested (fits width height) ls o) (with_found width height n (items_of ls) o)
   by_line n ls None = (refl, refl)
   by_line n ls (Some l) =
-      by_tests n (items_of ls ++ items_of_line l) (ls ++ l ∷ []) (allows grammar l) (is_on_screen grammar l) (nat_le (length (items_of ls ++ items_of_line l)) 100000) (sym (items_push ls l))
+      by_tests n (items_of ls ++ items_of_line l) (ls ++ l ∷ []) (is_on_screen width height l) (nat_le (length (items_of ls ++ items_of_line l)) 100000) (sym (items_push ls l))
 
-  by_words : (n : ℕ) (ls : List Line) (o : Option (List Word)) → Tells n (words_taken (added (stands grammar)) ls o) (words_taken (added (shows grammar)) ls o) (words_taken (added (fits grammar)) ls o) (with_words grammar n (items_of ls) o)
+  by_words : (n : ℕ) (ls : List Line) (o : Option (List Word)) → Tells n (words_taken (added stands) ls o) (words_taken (added (shows width height)) ls o) (words_taken (added (fits width height)) ls o) (with_words width height n (items_of ls) o)
   by_words n ls None = (refl, refl)
   by_words n ls (Some []) = (ls, refl, refl, refl, refl)
   by_words n ls (Some (w ∷ ws)) = by_line n ls (line_in (w ∷ ws))
@@ -57,22 +55,22 @@ module _ (grammar : Grammar) where
 
   -- reading on, after the line n
   abbrev went : ℕ → List (List ℕ) → Answer → Answer
-  went n rest r = elim r as (λ _. Answer) [ Err fault ↦ Err fault | Ok longer ↦ reading grammar (n + 1) longer rest ]
+  went n rest r = elim r as (λ _. Answer) [ Err fault ↦ Err fault | Ok longer ↦ reading width height (n + 1) longer rest ]
 
   abbrev Takes : List Line → List (List ℕ) → List Item → Type 0
-  Takes ls lines all = (further : List Line) × (along (fits grammar) ls lines ≡ Some further) × (all ≡ items_of further)
+  Takes ls lines all = (further : List Line) × (along (fits width height) ls lines ≡ Some further) × (all ≡ items_of further)
 
-  takes_line : (n : ℕ) (rest : List (List ℕ)) (all : List Item) (a b c : Option (List Line)) (r : Answer) → Tells n a b c r → ((m : ℕ) (further : List Line) → reading grammar m (items_of further) rest ≡ Ok all → Takes further rest all) → went n rest r ≡ Ok all → (further : List Line) × (option_and_then (λ t. along (fits grammar) t rest) c ≡ Some further) × (all ≡ items_of further)
+  takes_line : (n : ℕ) (rest : List (List ℕ)) (all : List Item) (a b c : Option (List Line)) (r : Answer) → Tells n a b c r → ((m : ℕ) (further : List Line) → reading width height m (items_of further) rest ≡ Ok all → Takes further rest all) → went n rest r ≡ Ok all → (further : List Line) × (option_and_then (λ t. along (fits width height) t rest) c ≡ Some further) × (all ≡ items_of further)
   takes_line n rest all a b c (Err fault) tells later e = absurd cc
   takes_line n rest all a b c (Ok longer) tells later e =
-      let r = later (n + 1) tells.0 (ap (λ x. reading grammar (n + 1) x rest) (sym tells.4) ∙ e) in
-      (r.0, ap (option_and_then (λ t. along (fits grammar) t rest)) tells.3 ∙ r.1, r.2)
+      let r = later (n + 1) tells.0 (ap (λ x. reading width height (n + 1) x rest) (sym tells.4) ∙ e) in
+      (r.0, ap (option_and_then (λ t. along (fits width height) t rest)) tells.3 ∙ r.1, r.2)
 
   -- the items that are read are those of the lines that are taken
-  takes : (lines : List (List ℕ)) (n : ℕ) (ls : List Line) (all : List Item) → reading grammar n (items_of ls) lines ≡ Ok all → Takes ls lines all
+  takes : (lines : List (List ℕ)) (n : ℕ) (ls : List Line) (all : List Item) → reading width height n (items_of ls) lines ≡ Ok all → Takes ls lines all
   takes [] n ls all e = (ls, refl, (let same : items_of ls ≡ all = cc in sym same))
   takes (l ∷ rest) n ls all e =
-      takes_line n rest all (line_taken (added (stands grammar)) ls l) (line_taken (added (shows grammar)) ls l) (line_taken (added (fits grammar)) ls l) (with_bytes grammar n (items_of ls) l) (by_words n ls (line_words l))
+      takes_line n rest all (line_taken (added stands) ls l) (line_taken (added (shows width height)) ls l) (line_taken (added (fits width height)) ls l) (with_bytes width height n (items_of ls) l) (by_words n ls (line_words l))
       (λ m further. takes rest m further all) e
 
   -- reading stops at a line: those before it are taken, and with it the fault is told
@@ -80,8 +78,8 @@ module _ (grammar : Grammar) where
     before : ℕ
     within : before < length lines
     longer : List Line
-    goes : along (fits grammar) ls (take before lines) ≡ Some longer
-    tells : Tells (n + before) (along (stands grammar) ls (take (before + 1) lines)) (along (shows grammar) ls (take (before + 1) lines)) (along (fits grammar) ls (take (before + 1) lines)) (Err fault)
+    goes : along (fits width height) ls (take before lines) ≡ Some longer
+    tells : Tells (n + before) (along stands ls (take (before + 1) lines)) (along (shows width height) ls (take (before + 1) lines)) (along (fits width height) ls (take (before + 1) lines)) (Err fault)
 
   alone : (o : Option (List Line)) → o ≡ option_and_then (λ t. Some t) o
   alone None = refl
@@ -90,7 +88,7 @@ module _ (grammar : Grammar) where
   one_on : (can : Test) (ls further : List Line) (l : List ℕ) (rest : List (List ℕ)) (b : ℕ) → line_taken (added can) ls l ≡ Some further → along can further (take (b + 1) rest) ≡ along can ls (take (suc b + 1) (l ∷ rest))
   one_on can ls further l rest b e = rw (add-one b, add-one (suc b), e) refl
 
-  halts_at : (n : ℕ) (ls : List Line) (l : List ℕ) (rest : List (List ℕ)) (fault : ScriptFault) (r : Answer) → Tells n (line_taken (added (stands grammar)) ls l) (line_taken (added (shows grammar)) ls l) (line_taken (added (fits grammar)) ls l) r → ((m : ℕ) (further : List Line) → reading grammar m (items_of further) rest ≡ Err fault → Halts further rest m fault) → went n rest r ≡ Err fault → Halts ls (l ∷ rest) n fault
+  halts_at : (n : ℕ) (ls : List Line) (l : List ℕ) (rest : List (List ℕ)) (fault : ScriptFault) (r : Answer) → Tells n (line_taken (added stands) ls l) (line_taken (added (shows width height)) ls l) (line_taken (added (fits width height)) ls l) r → ((m : ℕ) (further : List Line) → reading width height m (items_of further) rest ≡ Err fault → Halts further rest m fault) → went n rest r ≡ Err fault → Halts ls (l ∷ rest) n fault
   halts_at n ls l rest fault (Err found) tells later e =
       let same : found ≡ fault = cc in
       record {
@@ -98,65 +96,65 @@ module _ (grammar : Grammar) where
         within = omega arith;
         longer = ls;
         goes = refl;
-        tells = subst (λ f. Tells (n + 0) (along (stands grammar) ls (l ∷ [])) (along (shows grammar) ls (l ∷ [])) (along (fits grammar) ls (l ∷ [])) (Err f)) same
-            (Tells-along n (n + 0) _ _ _ _ _ _ (Err found) (sym (add-zero n)) (alone (line_taken (added (stands grammar)) ls l)) (alone (line_taken (added (shows grammar)) ls l)) (alone (line_taken (added (fits grammar)) ls l)) tells);
+        tells = subst (λ f. Tells (n + 0) (along stands ls (l ∷ [])) (along (shows width height) ls (l ∷ [])) (along (fits width height) ls (l ∷ [])) (Err f)) same
+            (Tells-along n (n + 0) _ _ _ _ _ _ (Err found) (sym (add-zero n)) (alone (line_taken (added stands) ls l)) (alone (line_taken (added (shows width height)) ls l)) (alone (line_taken (added (fits width height)) ls l)) tells);
       }
   halts_at n ls l rest fault (Ok longer) tells later e =
-      let r = later (n + 1) tells.0 (ap (λ x. reading grammar (n + 1) x rest) (sym tells.4) ∙ e) in
+      let r = later (n + 1) tells.0 (ap (λ x. reading width height (n + 1) x rest) (sym tells.4) ∙ e) in
       let number : n + 1 + r.before ≡ n + suc r.before = omega arith in
       record {
         before = suc r.before;
         within = omega (arith, r.within);
         longer = r.longer;
         goes = rw tells.3 r.goes;
-        tells = Tells-along (n + 1 + r.before) (n + suc r.before) _ _ _ _ _ _ (Err fault) number (one_on (stands grammar) ls tells.0 l rest r.before tells.1) (one_on (shows grammar) ls tells.0 l rest r.before tells.2) (one_on (fits grammar) ls tells.0 l rest r.before tells.3) r.tells;
+        tells = Tells-along (n + 1 + r.before) (n + suc r.before) _ _ _ _ _ _ (Err fault) number (one_on stands ls tells.0 l rest r.before tells.1) (one_on (shows width height) ls tells.0 l rest r.before tells.2) (one_on (fits width height) ls tells.0 l rest r.before tells.3) r.tells;
       }
 
-  halts : (lines : List (List ℕ)) (n : ℕ) (ls : List Line) (fault : ScriptFault) → reading grammar n (items_of ls) lines ≡ Err fault → Halts ls lines n fault
+  halts : (lines : List (List ℕ)) (n : ℕ) (ls : List Line) (fault : ScriptFault) → reading width height n (items_of ls) lines ≡ Err fault → Halts ls lines n fault
   halts [] n ls fault e = absurd cc
-  halts (l ∷ rest) n ls fault e = halts_at n ls l rest fault (with_bytes grammar n (items_of ls) l) (by_words n ls (line_words l)) (λ m further. halts rest m further fault) e
+  halts (l ∷ rest) n ls fault e = halts_at n ls l rest fault (with_bytes width height n (items_of ls) l) (by_words n ls (line_words l)) (λ m further. halts rest m further fault) e
 
   -- ---- the first faulty line
 
-  abbrev spells_fitting : (lines : List (List ℕ)) (ls : List Line) → along (fits grammar) [] lines ≡ Some ls → SpellsBy script_words (IsFitting grammar) lines ls
-  spells_fitting = lines_spelled (fits grammar) (IsFitting grammar) (into_fitting grammar) (from_fitting grammar)
+  abbrev spells_fitting : (lines : List (List ℕ)) (ls : List Line) → along (fits width height) [] lines ≡ Some ls → SpellsBy script_words (IsFitting width height) lines ls
+  spells_fitting = lines_spelled (fits width height) (IsFitting width height) (into_fitting width height) (from_fitting width height)
 
-  first : (lines : List (List ℕ)) (fault : ScriptFault) (h : Halts [] lines 1 fault) (line : ℕ) → line ≡ h.before + 1 → (BeginsBy script_words (IsFitting grammar) (take line lines) → ⊥) → IsFirstFault script_words (IsFitting grammar) lines line
+  first : (lines : List (List ℕ)) (fault : ScriptFault) (h : Halts [] lines 1 fault) (line : ℕ) → line ≡ h.before + 1 → (BeginsBy script_words (IsFitting width height) (take line lines) → ⊥) → IsFirstFault script_words (IsFitting width height) lines line
   first lines fault h line number unbegun = record {
     before = h.before;
     number = number;
     within = omega (arith, h.within);
-    begins = taken_begins (fits grammar) (IsFitting grammar) (into_fitting grammar) (from_fitting grammar) (take h.before lines) h.longer h.goes;
+    begins = taken_begins (fits width height) (IsFitting width height) (into_fitting width height) (from_fitting width height) (take h.before lines) h.longer h.goes;
     stops = λ less b. unbegun b;
     missing = λ same ls spelled. absurd (omega (arith, same, h.within));
   }
 
-  no_script : (lines : List (List ℕ)) → along (stands grammar) [] lines ≡ None → BeginsBy script_words (IsScript grammar) lines → ⊥
-  no_script = no_begin (stands grammar) (IsScript grammar) (into_script grammar) (from_script grammar)
+  no_script : (lines : List (List ℕ)) → along stands [] lines ≡ None → BeginsBy script_words IsScript lines → ⊥
+  no_script = no_begin stands IsScript into_script from_script
 
-  some_script : (lines : List (List ℕ)) (ls : List Line) → along (stands grammar) [] lines ≡ Some ls → BeginsBy script_words (IsScript grammar) lines
-  some_script = taken_begins (stands grammar) (IsScript grammar) (into_script grammar) (from_script grammar)
+  some_script : (lines : List (List ℕ)) (ls : List Line) → along stands [] lines ≡ Some ls → BeginsBy script_words IsScript lines
+  some_script = taken_begins stands IsScript into_script from_script
 
-  none_shown : (lines : List (List ℕ)) → along (shows grammar) [] lines ≡ None → BeginsBy script_words (IsOnScreen grammar) lines → ⊥
-  none_shown = no_begin (shows grammar) (IsOnScreen grammar) (into_shown grammar) (from_shown grammar)
+  none_shown : (lines : List (List ℕ)) → along (shows width height) [] lines ≡ None → BeginsBy script_words (IsOnScreen width height) lines → ⊥
+  none_shown = no_begin (shows width height) (IsOnScreen width height) (into_shown width height) (from_shown width height)
 
-  some_shown : (lines : List (List ℕ)) (ls : List Line) → along (shows grammar) [] lines ≡ Some ls → BeginsBy script_words (IsOnScreen grammar) lines
-  some_shown = taken_begins (shows grammar) (IsOnScreen grammar) (into_shown grammar) (from_shown grammar)
+  some_shown : (lines : List (List ℕ)) (ls : List Line) → along (shows width height) [] lines ≡ Some ls → BeginsBy script_words (IsOnScreen width height) lines
+  some_shown = taken_begins (shows width height) (IsOnScreen width height) (into_shown width height) (from_shown width height)
 
-  none_fitting : (lines : List (List ℕ)) → along (fits grammar) [] lines ≡ None → BeginsBy script_words (IsFitting grammar) lines → ⊥
-  none_fitting = no_begin (fits grammar) (IsFitting grammar) (into_fitting grammar) (from_fitting grammar)
+  none_fitting : (lines : List (List ℕ)) → along (fits width height) [] lines ≡ None → BeginsBy script_words (IsFitting width height) lines → ⊥
+  none_fitting = no_begin (fits width height) (IsFitting width height) (into_fitting width height) (from_fitting width height)
 
-  refused : (text : List ℕ) (fault : ScriptFault) → length text ≤ 1048576 → Halts [] (lines_of text) 1 fault → Refuses grammar text fault
+  refused : (text : List ℕ) (fault : ScriptFault) → length text ≤ 1048576 → Halts [] (lines_of text) 1 fault → Refuses width height text fault
   refused text NoMemory short h = tt
   refused text (Syntax line) short h =
       let number : line ≡ h.before + 1 = omega (arith, h.tells.0) in
       let unbegun = no_script (take line (lines_of text)) (rw number h.tells.1) in
-      (short, first (lines_of text) (Syntax line) h line number (λ b. unbegun (begins_weaker (IsFitting grammar) (IsScript grammar) (λ ls is. is.0.0) (take line (lines_of text)) b)), unbegun)
+      (short, first (lines_of text) (Syntax line) h line number (λ b. unbegun (begins_weaker (IsFitting width height) IsScript (λ ls is. is.0.0) (take line (lines_of text)) b)), unbegun)
   refused text (OffScreen line) short h =
       let number : line ≡ h.before + 1 = omega (arith, h.tells.0) in
       let unbegun = none_shown (take line (lines_of text)) (rw number h.tells.2) in (
         short,
-        first (lines_of text) (OffScreen line) h line number (λ b. unbegun (begins_weaker (IsFitting grammar) (IsOnScreen grammar) (λ ls is. is.0) (take line (lines_of text)) b)),
+        first (lines_of text) (OffScreen line) h line number (λ b. unbegun (begins_weaker (IsFitting width height) (IsOnScreen width height) (λ ls is. is.0) (take line (lines_of text)) b)),
         some_script (take line (lines_of text)) h.tells.1.0 (rw number h.tells.1.1),
         unbegun,
       )
@@ -166,43 +164,43 @@ module _ (grammar : Grammar) where
 
   -- ---- the function and the relation
 
-  spelled_if : (text : List ℕ) (script : List Item) (b : Bool) → nat_le (length text) 1048576 ≡ b → cond b (reading grammar 1 [] (lines_of text)) (Err TooLong) ≡ Ok script → Spells grammar text script
+  spelled_if : (text : List ℕ) (script : List Item) (b : Bool) → nat_le (length text) 1048576 ≡ b → cond b (reading width height 1 [] (lines_of text)) (Err TooLong) ≡ Ok script → Spells width height text script
   spelled_if text script true eb e =
       let r = takes (lines_of text) 1 [] script e in
       record { short = grind (arith, nat_tests); lines = r.0; spelled = spells_fitting (lines_of text) r.0 r.1; are = r.2 }
   spelled_if text script false eb e = absurd cc
 
   -- what is read is spelled
-  pub read_spelled : (text : List ℕ) (script : List Item) → script_by grammar text ≡ Ok script → Spells grammar text script
+  pub read_spelled : (text : List ℕ) (script : List Item) → script_of width height text ≡ Ok script → Spells width height text script
   read_spelled text script e = spelled_if text script (nat_le (length text) 1048576) refl e
 
-  refused_if : (text : List ℕ) (fault : ScriptFault) (b : Bool) → nat_le (length text) 1048576 ≡ b → cond b (reading grammar 1 [] (lines_of text)) (Err TooLong) ≡ Err fault → Refuses grammar text fault
+  refused_if : (text : List ℕ) (fault : ScriptFault) (b : Bool) → nat_le (length text) 1048576 ≡ b → cond b (reading width height 1 [] (lines_of text)) (Err TooLong) ≡ Err fault → Refuses width height text fault
   refused_if text fault true eb e = refused text fault (grind (arith, nat_tests)) (halts (lines_of text) 1 [] fault e)
   refused_if text fault false eb e =
       let same : TooLong ≡ fault = cc in
       let long : 1048576 < length text = grind (arith, nat_tests) in
-      subst (Refuses grammar text) same (inl long)
+      subst (Refuses width height text) same (inl long)
 
   -- what is refused is faulty
-  pub read_refused : (text : List ℕ) (fault : ScriptFault) → script_by grammar text ≡ Err fault → Refuses grammar text fault
+  pub read_refused : (text : List ℕ) (fault : ScriptFault) → script_of width height text ≡ Err fault → Refuses width height text fault
   read_refused text fault e = refused_if text fault (nat_le (length text) 1048576) refl e
 
-  unspelled : (text : List ℕ) (script : List Item) → Spells grammar text script → (line : ℕ) → IsFirstFaulty grammar text line → ⊥
-  unspelled text script spelled line faulty = faulty_unspelled (IsFitting grammar) (lines_of text) line faulty spelled.lines spelled.spelled
+  unspelled : (text : List ℕ) (script : List Item) → Spells width height text script → (line : ℕ) → IsFirstFaulty width height text line → ⊥
+  unspelled text script spelled line faulty = faulty_unspelled (IsFitting width height) (lines_of text) line faulty spelled.lines spelled.spelled
 
-  same_script : (text : List ℕ) (found script : List Item) → Spells grammar text found → Spells grammar text script → found ≡ script
+  same_script : (text : List ℕ) (found script : List Item) → Spells width height text found → Spells width height text script → found ≡ script
   same_script text found script a b =
-      let ea = spelled_lines (fits grammar) (IsFitting grammar) (into_fitting grammar) (from_fitting grammar) (lines_of text) a.lines a.spelled in
-      let eb = spelled_lines (fits grammar) (IsFitting grammar) (into_fitting grammar) (from_fitting grammar) (lines_of text) b.lines b.spelled in
+      let ea = spelled_lines (fits width height) (IsFitting width height) (into_fitting width height) (from_fitting width height) (lines_of text) a.lines a.spelled in
+      let eb = spelled_lines (fits width height) (IsFitting width height) (into_fitting width height) (from_fitting width height) (lines_of text) b.lines b.spelled in
       let both : Some a.lines ≡ Some b.lines = sym ea ∙ eb in
       let same : a.lines ≡ b.lines = cc in
       a.are ∙ ap items_of same ∙ sym b.are
 
-  with_memory : (text : List ℕ) (b : Bool) → cond b (reading grammar 1 [] (lines_of text)) (Err TooLong) ≡ Err NoMemory → ⊥
+  with_memory : (text : List ℕ) (b : Bool) → cond b (reading width height 1 [] (lines_of text)) (Err TooLong) ≡ Err NoMemory → ⊥
   with_memory text true e = (halts (lines_of text) 1 [] NoMemory e).tells
   with_memory text false e = absurd cc
 
-  spelled_answer : (r : Answer) (text : List ℕ) (script : List Item) → script_by grammar text ≡ r → Spells grammar text script → r ≡ Ok script
+  spelled_answer : (r : Answer) (text : List ℕ) (script : List Item) → script_of width height text ≡ r → Spells width height text script → r ≡ Ok script
   spelled_answer (Ok found) text script e spelled = ap (λ x. Ok x) (same_script text found script (read_spelled text found e) spelled)
   spelled_answer (Err NoMemory) text script e spelled = absurd (with_memory text (nat_le (length text) 1048576) e)
   spelled_answer (Err (Syntax line)) text script e spelled = absurd (unspelled text script spelled line (read_refused text (Syntax line) e).1)
@@ -211,25 +209,25 @@ module _ (grammar : Grammar) where
       absurd (elim (read_refused text TooLong e) [ inl long ↦ absurd (omega (arith, long, spelled.short)) | inr faulty ↦ unspelled text script spelled faulty.0 faulty.1 ])
 
   -- a script that is spelled is read
-  pub spelled_read : (text : List ℕ) (script : List Item) → Spells grammar text script → script_by grammar text ≡ Ok script
-  spelled_read text script spelled = spelled_answer (script_by grammar text) text script refl spelled
+  pub spelled_read : (text : List ℕ) (script : List Item) → Spells width height text script → script_of width height text ≡ Ok script
+  spelled_read text script spelled = spelled_answer (script_of width height text) text script refl spelled
 
-  -- ---- the answers of `parse_script`
+  -- ---- the answers of `parse_items`
 
-  answered : (text : List ℕ) (fault : ScriptFault) → IsAnswered fault (script_by grammar text) → Refuses grammar text fault
+  answered : (text : List ℕ) (fault : ScriptFault) → IsAnswered fault (script_of width height text) → Refuses width height text fault
   answered text NoMemory h = tt
   answered text (Syntax line) h = read_refused text (Syntax line) h
   answered text (OffScreen line) h = read_refused text (OffScreen line) h
   answered text TooLong h = read_refused text TooLong h
 
-  pub all_refused : (r : Answer) (text : List ℕ) → IfErr r (λ fault. IsAnswered fault (script_by grammar text)) → IfErr r (λ fault. Refuses grammar text fault)
+  pub all_refused : (r : Answer) (text : List ℕ) → IfErr r (λ fault. IsAnswered fault (script_of width height text)) → IfErr r (λ fault. Refuses width height text fault)
   all_refused (Ok script) text h = tt
   all_refused (Err fault) text h = answered text fault h
 
-  given : (text : List ℕ) (script : List Item) (r : Answer) → script_by grammar text ≡ r → Spells grammar text script → Gives r script
+  given : (text : List ℕ) (script : List Item) (r : Answer) → script_of width height text ≡ r → Spells width height text script → Gives r script
   given text script r e spelled = subst (λ x. Gives x script) (sym (spelled_answer r text script e spelled)) refl
 
-  pub gives : (r : Answer) (text : List ℕ) (script : List Item) → IfOk r (λ found. script_by grammar text ≡ Ok found) → IfErr r (λ fault. IsAnswered fault (script_by grammar text)) → Spells grammar text script → Gives r script
+  pub gives : (r : Answer) (text : List ℕ) (script : List Item) → IfOk r (λ found. script_of width height text ≡ Ok found) → IfErr r (λ fault. IsAnswered fault (script_of width height text)) → Spells width height text script → Gives r script
   gives (Ok found) text script value fault spelled = given text script (Ok found) value spelled
   gives (Err NoMemory) text script value fault spelled = tt
   gives (Err (Syntax line)) text script value fault spelled = given text script (Err (Syntax line)) fault spelled

@@ -1,16 +1,13 @@
--- The lines of scripts: their words, their items, and which of them a script may have.
-use Rattle.std.specs.Prelude.{◌≡◌, ℕ, ℤ, pos, List, [], ◌∷◌, Bool, true, false, ◌&&◌, map, flat_map, IsTrue, int_le, int_lt, codes, ◌==◌}
-use Rattle.std.specs.List.{list_all, list_any}
+-- The lines of scripts: their words, their items, and which of their points are on a screen.
+use Rattle.std.specs.Prelude.{◌≡◌, ℕ, ℤ, pos, List, [], ◌∷◌, Bool, true, false, ◌&&◌, map, flat_map, ◌≤ℤ◌, ◌<ℤ◌, int_le, int_lt, codes, ◌==◌}
+use Rattle.std.specs.List.{list_any}
 use Rattle.tv_cells.specs.declared.rect.Point.{Point}
 use Rattle.tv_declarations.specs.Spelling.Keys.{IsKey, key_word}
 use Rattle.tv_event.specs.declared.event.Event.{Event}
 use Rattle.tv_event.specs.declared.event.Event.TheVariants as events
-use Rattle.tv_event.specs.declared.event.Key.{Key}
 use Rattle.tv_event.specs.declared.event.Key.TheVariants as keys
 use Rattle.tv_model.specs.declared.script.Item.{Item}
 use Rattle.tv_model.specs.declared.script.Item.TheVariants as items
-use Rattle.tv_script.specs.declared.line.Grammar.{Grammar}
-use Rattle.tv_script.specs.declared.line.Grammar.TheVariants.{Thin, Whole}
 use Rattle.tv_script.specs.declared.line.Line.{Line}
 use Rattle.tv_script.specs.declared.line.Line.TheVariants as lines
 use Rattle.tv_words.specs.declared.word.Word.{Word}
@@ -71,43 +68,6 @@ items_of_line lines.Colors = items.Colors ∷ []
 abbrev pub items_of : List Line → List Item
 items_of ls = flat_map items_of_line ls
 
--- ---- thin scripts
-
--- the keys of thin scripts
-abbrev pub is_thin_key : Key → Bool
-is_thin_key keys.Tab = true
-is_thin_key keys.ShiftTab = true
-is_thin_key keys.Enter = true
-is_thin_key keys.Esc = true
-is_thin_key _ = false
-
--- a space
-abbrev pub is_space : ℕ → Bool
-is_space c = c == 32
-
--- the lines of thin scripts: one of these keys, typed spaces, or a screen
-abbrev pub is_thin_line : Line → Bool
-is_thin_line (lines.Key key) = is_thin_key key
-is_thin_line (lines.Type text) = list_all is_space text
-is_thin_line lines.Shot = true
-is_thin_line lines.Colors = true
-is_thin_line _ = false
-
--- the events of thin scripts: one of these keys, or a typed space
-abbrev pub is_thin_event : Event → Bool
-is_thin_event (events.Key (keys.Char ch)) = is_space ch
-is_thin_event (events.Key key) = is_thin_key key
-is_thin_event _ = false
-
--- an event of a thin script
-abbrev pub IsThinEvent : Event → Type 0
-IsThinEvent e = IsTrue (is_thin_event e)
-
--- a line of the grammar
-abbrev pub allows : Grammar → Line → Bool
-allows Thin l = is_thin_line l
-allows (Whole width height) l = true
-
 -- ---- the screen
 
 -- one of so many columns or rows
@@ -119,27 +79,28 @@ abbrev pub is_point_within : ℤ → ℤ → Point → Bool
 is_point_within width height p = is_within width p.x && is_within height p.y
 
 -- a line whose point, if it has one, is on the screen
-abbrev pub is_within_screen : ℤ → ℤ → Line → Bool
-is_within_screen width height (lines.Down p) = is_point_within width height p
-is_within_screen width height (lines.Move p) = is_point_within width height p
-is_within_screen width height (lines.Up p) = is_point_within width height p
-is_within_screen width height _ = true
-
--- the same of the grammar's screen
-abbrev pub is_on_screen : Grammar → Line → Bool
-is_on_screen Thin l = true
-is_on_screen (Whole width height) l = is_within_screen width height l
+abbrev pub is_on_screen : ℤ → ℤ → Line → Bool
+is_on_screen width height (lines.Down p) = is_point_within width height p
+is_on_screen width height (lines.Move p) = is_point_within width height p
+is_on_screen width height (lines.Up p) = is_point_within width height p
+is_on_screen width height _ = true
 
 -- ---- events
 
--- an event whose point, if it has one, is on the screen
-abbrev pub is_event_within : ℤ → ℤ → Event → Bool
-is_event_within width height (events.Down p) = is_point_within width height p
-is_event_within width height (events.Move p) = is_point_within width height p
-is_event_within width height (events.Up p) = is_point_within width height p
-is_event_within width height _ = true
+-- a point of the largest screen, one of 132 columns and 60 rows
+pub record IsPointOnScreen (p : Point) : Type 0 where
+  pub column : (pos 0 ≤ℤ p.x) × (p.x <ℤ pos 132)
+  pub row : (pos 0 ≤ℤ p.y) × (p.y <ℤ pos 60)
 
--- an event of the grammar's scripts
-abbrev pub IsEventOf : Grammar → Event → Type 0
-IsEventOf Thin e = IsThinEvent e
-IsEventOf (Whole width height) e = IsTrue (is_event_within width height e)
+-- an event whose point, if it has one, is of the largest screen
+abbrev pub IsEventOnScreen : Event → Type 0
+IsEventOnScreen (events.Down p) = IsPointOnScreen p
+IsEventOnScreen (events.Move p) = IsPointOnScreen p
+IsEventOnScreen (events.Up p) = IsPointOnScreen p
+IsEventOnScreen _ = Unit {0}
+
+-- an item whose event, if it is one, is such an event
+abbrev pub IsItemOnScreen : Item → Type 0
+IsItemOnScreen (items.Event e) = IsEventOnScreen e
+IsItemOnScreen items.Shot = Unit {0}
+IsItemOnScreen items.Colors = Unit {0}

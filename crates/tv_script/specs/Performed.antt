@@ -2,9 +2,7 @@
 use Rattle.std.specs.Prelude.{◌≡◌, ℕ, ◌+◌, ◌≤◌, List, ◌++◌, length, take}
 use Rattle.tv_cells.specs.Layers.{Shows}
 use Rattle.tv_cells.specs.Picture.{Picture}
-use Rattle.tv_event.specs.declared.event.Event.{Event}
 use Rattle.tv_model.specs.declared.script.Item.{Item}
-use Rattle.tv_model.specs.declared.script.Item.TheVariants as items
 use Rattle.tv_machine.specs.Screen.Layers.{layers_of}
 use Rattle.tv_machine.specs.Output.{output, after}
 use Rattle.tv_machine.specs.Run.{Session}
@@ -17,16 +15,10 @@ pub record IsScreenOf (s : Session) (p : Picture) : Type 0 where
   pub height : p.height ≡ natural s.desc.height
   pub cells : Shows (layers_of s.desc s.state) p
 
--- an item whose event, if it is one, is as wanted
-abbrev pub IsItemOf : (Event → Type 0) → Item → Type 0
-IsItemOf Wanted (items.Event e) = Wanted e
-IsItemOf Wanted items.Shot = Unit {0}
-IsItemOf Wanted items.Colors = Unit {0}
-
 -- the writer failed after so many items were begun: a proper prefix of their text was taken, with that of those before
--- the last one whole, and the session stands after their events
-pub record Stops (s : Session) (script : List Item) (begun : ℕ) (old new : Seen) (left : Session) : Type 0 where
+-- the last one whole, and what is left stands as the session does after their events
+pub record Stops (s : Session) (script : List Item) (begun : ℕ) (old new : Seen) (Left : Session → Type 0) : Type 0 where
   pub few : begun ≤ length script
   pub cut : Cuts old new (output s (take begun script))
   pub whole : (k : ℕ) → begun ≡ k + 1 → (more : List ℕ) × (cut.front ≡ output s (take k script) ++ more)
-  pub state : left ≡ after s (take begun script)
+  pub state : Left (after s (take begun script))

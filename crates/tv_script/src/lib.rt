@@ -3,12 +3,14 @@
 
 mod line;
 mod lines;
+mod performing;
 mod script;
 mod script_text;
 mod shot;
 mod stage;
 
-pub use line::{Grammar, Line};
-pub use script::perform;
-pub use script_text::{ScriptFault, parse_script};
+pub use line::Line;
+pub use performing::perform;
+pub use script::Script;
+pub use script_text::{ScriptFault, parse_items};
 pub use stage::Stage;

@@ -1,16 +1,15 @@
 //! A script, read line by line.
 
-ghost use Rattle.std.specs.Prelude.{◌≡◌, ◌++◌, [], map, All, List, IfOk, IfErr, OnOk};
+ghost use Rattle.std.specs.Prelude.{◌≡◌, ◌++◌, [], map, List, IfOk, IfErr, OnOk};
 ghost use Rattle.std.specs.List.{list_any};
 ghost use Rattle.tv_model.specs.declared.script.Item.{Item as SeenItem};
-ghost use Rattle.tv_script.specs.Lines.{IsEventOf, is_line_end, items_of_line, typed};
-ghost use Rattle.tv_script.specs.Performed.{IsItemOf};
+ghost use Rattle.tv_script.specs.Lines.{is_line_end, items_of_line, typed};
 ghost use Rattle.tv_script.specs.Reading.Lines.{key_line_in, line_in, mouse_line_in, point_in, screen_line_in, typed_in};
-ghost use Rattle.tv_script.specs.Reading.Scripts.{IsAnswered, reading, script_by, with_bytes, with_line};
+ghost use Rattle.tv_script.specs.Reading.Scripts.{IsAnswered, reading, script_of, with_bytes, with_line};
 ghost use Rattle.tv_script.specs.Scripts.{Gives, Refuses, Spells};
 ghost use Rattle.tv_words.specs.Lines.{lines_of};
 
-use crate::line::{Grammar, Line};
+use crate::line::Line;
 use std::alloc::{AllocError, Global};
 use thiserror::Error;
 use tv_cells::Point;
@@ -53,38 +52,49 @@ impl From<AllocError> for ScriptFault {
     }
 }
 
-/// The items of the script that a text spells, by the lines that a script of the grammar may have.
-pub fn parse_script(
+/// The items of the script that a text spells for a screen of so many columns and rows, which may be of any size. A script
+/// that is to be performed comes from `Script::parse`.
+pub fn parse_items(
     alloc: Global,
-    grammar: Grammar,
     text: &[u8],
+    width: i32,
+    height: i32,
 ) -> Result<Sequence<Item>, ScriptFault>
-    ensures spelled { IfOk result (λ items. Spells grammar text.now items) }
-    ensures events { IfOk result (λ items. All (IsItemOf (IsEventOf grammar)) items) }
-    ensures only { (items : List SeenItem) → Spells grammar text.now items → Gives result items }
-    ensures fault { IfErr result (λ fault. Refuses grammar text.now fault) }
+    ensures spelled { IfOk result (λ items. Spells width height text.now items) }
+    ensures only { (items : List SeenItem) → Spells width height text.now items → Gives result items }
+    ensures fault { IfErr result (λ fault. Refuses width height text.now fault) }
 {
-    read_text(alloc, grammar, text)
+    read_text(alloc, text, width, height)
 }
 
-fn read_text(alloc: Global, grammar: Grammar, text: &[u8]) -> Result<Sequence<Item>, ScriptFault>
-    ensures value { IfOk result (λ items. script_by grammar text.now ≡ Ok items) }
-    ensures fault { IfErr result (λ fault. IsAnswered fault (script_by grammar text.now)) }
+fn read_text(
+    alloc: Global,
+    text: &[u8],
+    width: i32,
+    height: i32,
+) -> Result<Sequence<Item>, ScriptFault>
+    ensures value { IfOk result (λ items. script_of width height text.now ≡ Ok items) }
+    ensures fault { IfErr result (λ fault. IsAnswered fault (script_of width height text.now)) }
 {
     if text.len() > MOST_BYTES {
         return Err(ScriptFault::TooLong);
     }
-    read_lines(alloc, grammar, text)
+    read_lines(alloc, text, width, height)
 }
 
-fn read_lines(alloc: Global, grammar: Grammar, text: &[u8]) -> Result<Sequence<Item>, ScriptFault>
-    ensures value { IfOk result (λ items. reading grammar 1 [] (lines_of text.now) ≡ Ok items) }
-    ensures fault { IfErr result (λ fault. IsAnswered fault (reading grammar 1 [] (lines_of text.now))) }
+fn read_lines(
+    alloc: Global,
+    text: &[u8],
+    width: i32,
+    height: i32,
+) -> Result<Sequence<Item>, ScriptFault>
+    ensures value { IfOk result (λ items. reading width height 1 [] (lines_of text.now) ≡ Ok items) }
+    ensures fault { IfErr result (λ fault. IsAnswered fault (reading width height 1 [] (lines_of text.now))) }
 {
     let mut items = Sequence::new(alloc);
     let mut number = 1;
     for line in Lines::new(text) {
-        items = take_line(alloc, grammar, items, line, number)?;
+        items = take_line(alloc, items, line, number, width, height)?;
         number += 1;
     }
     Ok(items)
@@ -92,13 +102,14 @@ fn read_lines(alloc: Global, grammar: Grammar, text: &[u8]) -> Result<Sequence<I
 
 fn take_line(
     alloc: Global,
-    grammar: Grammar,
     items: Sequence<Item>,
     line: &[u8],
     number: usize,
+    width: i32,
+    height: i32,
 ) -> Result<Sequence<Item>, ScriptFault>
-    ensures value { IfOk result (λ longer. with_bytes grammar number items line.now ≡ Ok longer) }
-    ensures fault { IfErr result (λ fault. IsAnswered fault (with_bytes grammar number items line.now)) }
+    ensures value { IfOk result (λ longer. with_bytes width height number items line.now ≡ Ok longer) }
+    ensures fault { IfErr result (λ fault. IsAnswered fault (with_bytes width height number items line.now)) }
 {
     let Some(list) = words_of(alloc, line)? else {
         return Err(ScriptFault::Syntax(number));
@@ -110,22 +121,20 @@ fn take_line(
     let Some(found) = line_in(alloc, words)? else {
         return Err(ScriptFault::Syntax(number));
     };
-    with_line(grammar, items, &found, number)
+    with_line(items, &found, number, width, height)
 }
 
 fn with_line(
-    grammar: Grammar,
     mut items: Sequence<Item>,
     line: &Line,
     number: usize,
+    width: i32,
+    height: i32,
 ) -> Result<Sequence<Item>, ScriptFault>
-    ensures value { IfOk result (λ longer. with_line grammar number items line.now ≡ Ok longer) }
-    ensures fault { IfErr result (λ fault. IsAnswered fault (with_line grammar number items line.now)) }
+    ensures value { IfOk result (λ longer. with_line width height number items line.now ≡ Ok longer) }
+    ensures fault { IfErr result (λ fault. IsAnswered fault (with_line width height number items line.now)) }
 {
-    if !grammar.allows(line) {
-        return Err(ScriptFault::Syntax(number));
-    }
-    if !grammar.shows(line) {
+    if !line.is_on_screen(width, height) {
         return Err(ScriptFault::OffScreen(number));
     }
     let count = line.items();

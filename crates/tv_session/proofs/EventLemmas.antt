@@ -1,6 +1,6 @@
 -- What the menu bar and the status line take, and what is left for the desktop.
-use Rattle.std.proofs.Common.{◌≡◌, ℕ, Bool, true, false, not, if◌then◌else◌, Option, Some, None, is_some, refl, sym, ap, subst, ◌∙◌}
-use Rattle.std.specs.Prelude.{pos, option_map}
+use Rattle.std.proofs.Common.{◌≡◌, ℕ, Bool, true, false, not, if◌then◌else◌, Option, Some, None, refl, sym, ap, ◌∙◌}
+use Rattle.std.specs.Prelude.{pos}
 use Rattle.std.proofs.lemmas.Bool.{true≢false}
 use Rattle.tv_cells.specs.Layers.{is_in}
 use Rattle.tv_cells.specs.declared.rect.Point.{Point}
@@ -17,7 +17,7 @@ use Rattle.tv_machine.specs.Screen.Bars.{status_under}
 use Rattle.tv_machine.specs.Session.Commands.{do_command}
 use Rattle.tv_machine.specs.Session.Desktop.{alt_pressed, desktop_down, desktop_key, down_beside_title, down_on_desktop, raise_found, window_of_digit, window_under}
 use Rattle.tv_machine.specs.Session.Menu.{menu_down, menu_key, open_menu, title_at, title_of_letter}
-use Rattle.tv_machine.specs.Session.Step.{down_at_status, down_below, is_item_enabled, is_status_row, key_at_status, status_command}
+use Rattle.tv_machine.specs.Session.Step.{down_at_status, down_below, is_item_enabled, is_status_row, status_command}
 use Rattle.tv_menu.specs.Bar.{bar_offer, closed_key, down_offered, key_offered, opening}
 use Rattle.tv_menu.specs.Line.{cell_answer, down_answer, key_answer, turned_by}
 use Rattle.tv_menu.specs.declared.offered.Offered.{Offered}

@@ -1,21 +1,14 @@
 -- A run whose menu bar took an event.
-use Rattle.std.proofs.Common.{◌≡◌, ◌⊎◌, inl, inr, ℕ, Option, Some, None, refl, sym, ap, subst, ◌∙◌}
-use Rattle.tv_cells.specs.declared.rect.Point.{Point}
-use Rattle.tv_event.specs.declared.event.Event.TheVariants as events
-use Rattle.tv_event.specs.declared.event.Key.{Key}
-use Rattle.tv_event.specs.declared.event.Key.TheVariants as keys
+use Rattle.std.proofs.Common.{◌≡◌, None, refl}
 use Rattle.tv_model.specs.Controls.Meaning.{Leaf}
 use Rattle.tv_model.specs.declared.desc.Desc.{Desc}
-use Rattle.tv_machine.specs.State.{OpenMenu, State}
-use Rattle.tv_machine.specs.Session.Desktop.{alt_pressed, desktop_key, raise_found, window_of_digit}
-use Rattle.tv_machine.specs.Session.Menu.{open_menu, title_of_letter}
-use Rattle.tv_menu.specs.Bar.{IsBarOf, bar_offer, closed_key, key_offered, open_of, opening}
+use Rattle.tv_machine.specs.State.{State}
+use Rattle.tv_menu.specs.Bar.{IsBarOf, open_of}
 use Rattle.tv_menu.specs.declared.bars.MenuBar.{MenuBar}
 use Rattle.tv_session.specs.Running.{IsAwake, IsRun}
 use Rattle.tv_session.specs.declared.run.RunOf.{RunOf}
 use Rattle.tv_session.proofs.FitLemmas.{menu_fit}
 use Rattle.tv_session.proofs.RunningLemmas.{run_menu}
-use Rattle.tv_machine.proofs.ListLemmas.{option_cases}
 
 module _ {V : Type 0} (look : V → Leaf) (d : Desc) where
   pub offered_run : (s : State) (run : RunOf V) (bar : MenuBar) → IsAwake look d s run → IsBarOf d bar

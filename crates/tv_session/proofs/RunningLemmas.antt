@@ -1,12 +1,11 @@
 -- What a run's dialogs are where other parts of the state change.
-use Rattle.std.proofs.Common.{false, arith, refl, ◌≡◌, ◌≤◌, ◌++◌, ◌∷◌, ℕ, List, [], length, Option, Some, None, sym, ap, subst, ◌∙◌}
+use Rattle.std.proofs.Common.{false, arith, refl, ◌≡◌, ◌≤◌, List, [], length, Option, Some, None, sym, ap, subst, ◌∙◌}
 use Rattle.tv_model.specs.Controls.Meaning.{Leaf}
 use Rattle.tv_model.specs.declared.desc.Desc.{Desc}
 use Rattle.tv_model.specs.declared.log.LogLine.{LogLine}
 use Rattle.tv_desk.specs.Desk.{IsDesk}
 use Rattle.tv_desk.specs.declared.desk.DeskOf.{DeskOf}
 use Rattle.tv_menu.specs.Bar.{IsBarOf, open_of}
-use Rattle.tv_menu.specs.declared.bars.MenuBar.{MenuBar}
 use Rattle.tv_machine.specs.State.{OpenWindow, State}
 use Rattle.tv_machine.specs.Session.Desktop.{raise_found}
 use Rattle.tv_machine.specs.Session.Step.{emptied}
@@ -16,7 +15,6 @@ use Rattle.tv_menu.specs.Lawful.{IsLawfulScreen}
 use Rattle.tv_session.proofs.FitLemmas.{emptied_fit}
 use Rattle.tv_dialogs.proofs.SessionLemmas.{same-dialogs}
 use Rattle.tv_dialogs.specs.Dialogs.{AreDialogs, AreOfRun}
-use Rattle.tv_dialogs.specs.declared.dialogs.DialogsOf.{DialogsOf}
 use Rattle.tv_session.specs.Running.{IsAwake, IsRun}
 use Rattle.tv_session.specs.declared.run.RunOf.{RunOf}
 

@@ -1,5 +1,5 @@
 -- Screens of one size.
-use Rattle.std.proofs.Common.{◌≡◌, subst, sym, ◌∙◌}
+use Rattle.std.proofs.Common.{◌≡◌, subst, ◌∙◌}
 use Rattle.tv_cells.specs.Layers.{Shows}
 use Rattle.tv_cells.specs.Picture.{Picture, IsAlike}
 use Rattle.tv_model.specs.Description.Numbers.{natural}

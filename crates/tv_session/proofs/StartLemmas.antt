@@ -1,11 +1,9 @@
 -- The views that are handed in, and the run before its start.
-use Rattle.std.proofs.Common.{◌≡◌, ◌⊎◌, inl, inr, refl, ℕ, zero, suc, ◌+◌, List, [], ◌∷◌, length, Option, Some, None, ap, subst, sym, ◌∙◌, false}
+use Rattle.std.proofs.Common.{◌≡◌, inl, inr, refl, ℕ, zero, suc, ◌+◌, List, [], ◌∷◌, length, Some, None, ap, subst, sym, false}
 use Rattle.std.specs.Prelude.{slice_get}
 use Rattle.std.specs.List.{AllZip}
 use Rattle.tv_model.specs.Controls.Meaning.{Leaf}
 use Rattle.tv_model.specs.declared.desc.Desc.{Desc}
-use Rattle.tv_model.specs.declared.desc.Dialog.{Dialog}
-use Rattle.tv_group.specs.Outline.{IsFreshBody}
 use Rattle.tv_group.specs.declared.group.GroupOf.{GroupOf}
 use Rattle.tv_window.specs.declared.window.WindowOf.{WindowOf}
 use Rattle.tv_desk.specs.Desk.{AreFreshWindows, IsDesk}
@@ -18,7 +16,7 @@ use Rattle.tv_machine.specs.Session.Start.{closed}
 use Rattle.tv_menu.specs.Bar.{IsBarOf, open_of}
 use Rattle.tv_menu.specs.Lawful.{IsLawfulScreen}
 use Rattle.tv_session.specs.Freshness.{IsFirstMismatch, IsFirstStale, IsFreshBodyFor, IsFreshFor}
-use Rattle.tv_session.specs.Running.{IsAwake, IsRun}
+use Rattle.tv_session.specs.Running.{IsAwake}
 use Rattle.tv_session.specs.declared.run.RunOf.{RunOf}
 use Rattle.tv_session.proofs.CommandLemmas.{none_some, same_some}
 

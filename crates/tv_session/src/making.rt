@@ -205,6 +205,7 @@ impl<V: View> SessionOf<V> {
             line: parts.line,
             run,
             screen,
+            taken: Log::new(),
         }
     }
 }

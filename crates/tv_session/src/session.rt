@@ -1,18 +1,23 @@
 //! A run of a checked description through its views.
 
 ghost use Rattle.std.specs.Prelude.{◌≡◌, option_map};
+ghost use Rattle.std.specs.Borrow.{sem};
+ghost use Rattle.std.specs.Io.BufRead.{Rests};
 ghost use Rattle.tv_machine.specs.Run.{Session as Standing, quiet, stepped};
 ghost use Rattle.tv_script.specs.Performed.{IsScreenOf};
 ghost use Rattle.tv_dialogs.specs.Handed.{HasPointGiven};
 ghost use Rattle.tv_session.specs.Session.{StandsFor};
 
+use crate::log::Log;
 use crate::run::RunOf;
+use std::mem::swap;
 use tv_cells::Screen;
 use tv_check::Checked;
 use tv_event::Event;
 use tv_lawful::parts_are_lawful;
 use tv_menu::StatusLine;
 use tv_model::{Desc, Id, LogLine};
+use tv_script::Stage;
 use tv_view::View;
 
 /// A run of a checked description through views that were made for it, and its screen.
@@ -25,12 +30,16 @@ pub struct SessionOf<V> {
     pub(crate) line: StatusLine,
     pub(crate) run: RunOf<V>,
     pub(crate) screen: Screen,
+    /// The lines that were taken last, which are lent.
+    pub(crate) taken: Log,
 }
 
 /// A session whose views are boxed.
 pub type Session = SessionOf<Box<dyn View>>;
 
 impl<V: View> SessionOf<V> {
+    ghost use Rattle.tv_session.specs.contracts.session.SessionOf.{the_row};
+
     /// One event, whose point is the screen's, and lies within -10,000 to 10,000. The log has its lines alone, and the screen
     /// shows what it left.
     pub fn step(&mut self, event: &Event)
@@ -51,18 +60,14 @@ impl<V: View> SessionOf<V> {
         &self.screen
     }
 
-    /// The lines of the last event, or of the start, that aren't yet taken.
-    pub fn log(&self) -> &[LogLine]
-        ensures { (s : Standing) → StandsFor V.meaning self.now s → result.now ≡ s.state.log }
+    /// The lines of the last event, or of the start, that aren't yet taken. They are taken by this: none are left.
+    pub fn take_log(&mut self) -> &[LogLine]
+        ensures lines { (s : Standing) → StandsFor V.meaning self.old s → result.now ≡ s.state.log }
+        ensures* none_left { sem 𝓛 (Rests (the_row V.row) self.entry (λ left. (s : Standing) → StandsFor V.meaning self.old s → StandsFor V.meaning left (quiet s))) }
     {
-        self.run.log.as_slice()
-    }
-
-    /// Takes the lines of the log: none are left.
-    pub fn forget_log(&mut self)
-        ensures { (s : Standing) → StandsFor V.meaning self.old s → StandsFor V.meaning self.new (quiet s) }
-    {
+        swap(&mut self.taken, &mut self.run.log);
         self.run.log.clear();
+        self.taken.as_slice()
     }
 
     /// The control that has the focus, while a dialog is open.
@@ -77,5 +82,32 @@ impl<V: View> SessionOf<V> {
         ensures { (s : Standing) → StandsFor V.meaning self.now s → result.now ≡ s.desc }
     {
         self.checked.desc()
+    }
+}
+
+// A script is performed by the same calls.
+impl<V: View> Stage for SessionOf<V> {
+    ghost use Rattle.tv_session.specs.Session.{StandsFor};
+
+    ghost stands = { λ session s. StandsFor V.meaning session s };
+
+    fn desc(&self) -> &Desc {
+        self.checked.desc()
+    }
+
+    fn log(&self) -> &[LogLine] {
+        self.run.log.as_slice()
+    }
+
+    fn forget_log(&mut self) {
+        self.take_log();
+    }
+
+    fn step(&mut self, event: &Event) {
+        SessionOf::step(self, event);
+    }
+
+    fn screen(&self) -> &Screen {
+        &self.screen
     }
 }

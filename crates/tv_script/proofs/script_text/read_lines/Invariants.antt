@@ -6,4 +6,4 @@ use Rattle.tv_script.proofs.script_text.read_lines.Given as goal
 
 abbrev pub invariant-loop-line : goal.invariant-loop-line
 invariant-loop-line l =
-    (reading l.grammar l.number l.items (lines_left l.line-iterator) ≡ reading l.grammar 1 [] (lines_of l.text)) × (l.number + length (lines_left l.line-iterator) ≤ length l.text + 1)
+    (reading l.width l.height l.number l.items (lines_left l.line-iterator) ≡ reading l.width l.height 1 [] (lines_of l.text)) × (l.number + length (lines_left l.line-iterator) ≤ length l.text + 1)

@@ -1,6 +1,5 @@
 use Rattle.std.proofs.Common.{ap, subst, sym, ◌∙◌}
-use Rattle.tv_event.specs.declared.event.Event.TheVariants as events
-use Rattle.tv_machine.specs.Session.Step.{held_of, to_dialog}
+use Rattle.tv_machine.specs.Session.Step.{held_of}
 use Rattle.tv_session.specs.Running.{IsRun}
 use Rattle.tv_session.proofs.CommandLemmas.{command_handed, given_command, in_idle, in_open, none_is, some_is, unheld}
 use Rattle.tv_session.proofs.run.RunOf.command.Goals as goal

@@ -1,6 +1,6 @@
 use Rattle.std.proofs.Common.{Bool, if◌then◌else◌, ap, subst, sym, ◌∙◌}
 use Rattle.tv_event.specs.declared.event.Event.TheVariants as events
-use Rattle.tv_machine.specs.Session.Desktop.{desktop_down, down_on_desktop, window_under}
+use Rattle.tv_machine.specs.Session.Desktop.{down_on_desktop, window_under}
 use Rattle.tv_menu.specs.Bar.{bar_offer}
 use Rattle.tv_session.specs.Running.{IsAwake, IsRun}
 use Rattle.tv_session.proofs.EventLemmas.{bar_down, down_after, down_left, left_none, taken_some}

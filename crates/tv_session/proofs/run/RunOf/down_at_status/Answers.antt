@@ -1,4 +1,4 @@
-use Rattle.std.proofs.Common.{subst, sym, ◌∙◌}
+use Rattle.std.proofs.Common.{subst, sym}
 use Rattle.tv_session.specs.Running.{IsRun}
 use Rattle.tv_session.proofs.EventLemmas.{status_left, status_taken, status_turned}
 use Rattle.tv_session.proofs.run.RunOf.down_at_status.Goals as goal

@@ -1,4 +1,4 @@
-use Rattle.std.proofs.Common.{ap, subst, sym, ◌∙◌}
+use Rattle.std.proofs.Common.{ap, subst, sym}
 use Rattle.tv_machine.specs.Session.Step.{key_at_status, status_item_of}
 use Rattle.tv_session.specs.Running.{IsRun}
 use Rattle.tv_session.proofs.EventLemmas.{no_item}

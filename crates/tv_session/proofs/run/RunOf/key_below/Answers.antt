@@ -1,5 +1,4 @@
 use Rattle.std.proofs.Common.{ap, subst, sym, ◌∙◌}
-use Rattle.tv_event.specs.declared.event.Event.TheVariants as events
 use Rattle.tv_machine.specs.Session.Step.{key_below}
 use Rattle.tv_laws.proofs.RunLemmas.{given_key}
 use Rattle.tv_session.specs.Running.{IsRun}

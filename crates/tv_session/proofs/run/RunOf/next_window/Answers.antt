@@ -1,4 +1,4 @@
-use Rattle.std.proofs.Common.{refl, ap, sym, ◌∙◌, ◌++◌, ◌∷◌, []}
+use Rattle.std.proofs.Common.{refl}
 use Rattle.std.specs.Prelude.{reverse}
 use Rattle.tv_machine.specs.Session.Commands.{last_first}
 use Rattle.tv_session.proofs.RunningLemmas.{run_windows}

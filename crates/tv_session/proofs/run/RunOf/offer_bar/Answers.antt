@@ -1,4 +1,4 @@
-use Rattle.std.proofs.Common.{refl, ap, subst, sym, ◌∙◌}
+use Rattle.std.proofs.Common.{refl, ap, subst, ◌∙◌}
 use Rattle.tv_machine.specs.Session.Commands.{do_command}
 use Rattle.tv_machine.specs.Session.Step.{held_of}
 use Rattle.tv_menu.specs.Bar.{open_of}

@@ -1,4 +1,4 @@
-use Rattle.std.proofs.Common.{◌≡◌, arith, refl, ap, subst, sym, ◌∙◌, ◌++◌, ◌∷◌, [], length, List, ◌≤◌, append_assoc}
+use Rattle.std.proofs.Common.{◌≡◌, arith, refl, ap, sym, ◌∙◌, ◌++◌, ◌∷◌, [], length, List, append_assoc}
 use Rattle.tv_machine.specs.Session.Commands.{open_dialog}
 use Rattle.tv_model.specs.declared.log.LogLine.{LogLine}
 use Rattle.tv_model.specs.declared.log.LogLine.TheVariants as lines

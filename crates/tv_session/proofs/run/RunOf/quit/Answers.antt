@@ -1,4 +1,4 @@
-use Rattle.std.proofs.Common.{true, refl, ap, sym, ◌∙◌, ◌++◌, ◌∷◌, []}
+use Rattle.std.proofs.Common.{true, refl, ap, ◌∙◌, ◌++◌, ◌∷◌, []}
 use Rattle.tv_machine.specs.Session.Commands.{logged}
 use Rattle.tv_model.specs.declared.log.LogLine.TheVariants.{Quit as QuitLine}
 use Rattle.tv_session.proofs.RunningLemmas.{run_windows, short_log}

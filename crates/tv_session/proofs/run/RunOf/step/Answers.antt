@@ -1,6 +1,6 @@
 use Rattle.std.proofs.Common.{Bool, if◌then◌else◌, refl, ap, subst, sym, ◌∙◌}
 use Rattle.tv_machine.specs.Session.Step.{emptied, held_of, step_at}
-use Rattle.tv_session.specs.Running.{IsAwake, IsRun}
+use Rattle.tv_session.specs.Running.{IsRun}
 use Rattle.tv_session.proofs.CommandLemmas.{held_in, none_is}
 use Rattle.tv_session.proofs.RunningLemmas.{cleared, of_run, woken}
 use Rattle.tv_session.proofs.run.RunOf.step.Goals as goal

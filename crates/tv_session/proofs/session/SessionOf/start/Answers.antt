@@ -1,4 +1,4 @@
-use Rattle.std.proofs.Common.{refl, subst, sym, ◌∙◌}
+use Rattle.std.proofs.Common.{refl, subst, sym}
 use Rattle.tv_laws.proofs.RunLemmas.{start-fit}
 use Rattle.tv_machine.specs.Dialog.Sound.{HasSoundDialogs}
 use Rattle.tv_machine.specs.Session.Start.{closed, start}

@@ -1,0 +1,8 @@
+use Rattle.tv_script.specs.ScreenText.{aspect_word, cell_text}
+use Rattle.tv_script.specs.declared.shot.Aspect.TheVariants.{Characters}
+use Rattle.tv_output.proofs.PenLemmas.{Puts-along}
+use Rattle.tv_script.proofs.ScreenLemmas.{session_text-is}
+use Rattle.tv_script.proofs.performing.put_shot.Goals as goal
+
+pub returns : goal.returns
+returns g c = λ s stands. Puts-along (session_text-is s c.screen.result.now (c.screen.ensures s stands) (aspect_word Characters) (cell_text Characters)) c.put_screen.ensures

@@ -1,0 +1,102 @@
+//! A script, performed.
+
+ghost use Rattle.std.specs.Prelude.{◌≡◌, false, All, OnOk, IfErr};
+ghost use Rattle.tv_machine.specs.Output.{event_text, event_after, item_text, item_after, shot_text, colors_text, output, after};
+ghost use Rattle.tv_machine.specs.Run.{Session};
+ghost use Rattle.tv_output.specs.Writer.{Takes};
+ghost use Rattle.tv_output.specs.Pen.{Puts};
+ghost use Rattle.tv_script.specs.Lines.{IsEventOnScreen, IsItemOnScreen};
+ghost use Rattle.tv_script.specs.Performed.{Stops};
+
+use crate::lines::put_log;
+use crate::script::Script;
+use crate::shot::{Aspect, put_screen};
+use crate::stage::Stage;
+use tv_event::Event;
+use tv_model::Item;
+use tv_output::{Pen, Writer};
+
+/// Performs the script and writes its output: the log that isn't yet taken, and then what each item writes.
+///
+/// # Errors
+///
+/// The writer failed, or took nothing; the number is that of the items that were begun, each typed character being one.
+pub fn perform<S: Stage, W: Writer>(
+    stage: &mut S,
+    script: &Script,
+    out: &mut W,
+) -> Result<(), usize>
+    requires there { (s : Session) × S.stands stage.old s }
+    ensures text { OnOk result ((s : Session) → S.stands stage.old s → Takes (W.seen out.old) (W.seen out.new) (output s script.now)) }
+    ensures state { OnOk result ((s : Session) → S.stands stage.old s → S.stands stage.new (after s script.now)) }
+    ensures stops { IfErr result (λ begun. (s : Session) → S.stands stage.old s → Stops s script.now begun (W.seen out.old) (W.seen out.new) (S.stands stage.new)) }
+{
+    let mut pen = Pen {
+        out,
+        stopped: false,
+    };
+    put_script(&mut pen, stage, script.items())
+}
+
+fn put_script<S: Stage, W: Writer>(
+    pen: &mut Pen<W>,
+    stage: &mut S,
+    script: &[Item],
+) -> Result<(), usize>
+    requires going { pen.old.stopped ≡ false }
+    requires shown { All IsItemOnScreen script.now }
+    requires there { (s : Session) × S.stands stage.old s }
+    ensures same { pen.new.out.ghost_name ≡ pen.old.out.ghost_name }
+    ensures text { OnOk result ((s : Session) → S.stands stage.old s → Takes (W.seen pen.old.out.now) (W.seen pen.new.out.now) (output s script.now)) }
+    ensures state { OnOk result ((s : Session) → S.stands stage.old s → S.stands stage.new (after s script.now)) }
+    ensures stops { IfErr result (λ begun. (s : Session) → S.stands stage.old s → Stops s script.now begun (W.seen pen.old.out.now) (W.seen pen.new.out.now) (S.stands stage.new)) }
+{
+    put_log(pen, stage.desc(), stage.log());
+    stage.forget_log();
+    if pen.stopped {
+        return Err(0);
+    }
+    for (index, item) in script.iter().enumerate() {
+        put_item(pen, stage, item);
+        if pen.stopped {
+            return Err(index + 1);
+        }
+    }
+    Ok(())
+}
+
+fn put_item<S: Stage, W: Writer>(pen: &mut Pen<W>, stage: &mut S, item: &Item)
+    requires shown { IsItemOnScreen item.now }
+    requires there { (s : Session) × S.stands stage.old s }
+    ensures text { (s : Session) → S.stands stage.old s → Puts W.seen pen.old pen.new (item_text s item.now) }
+    ensures state { (s : Session) → S.stands stage.old s → S.stands stage.new (item_after s item.now) }
+{
+    match item {
+        Item::Event(event) => put_event(pen, stage, event),
+        Item::Shot => put_shot(pen, stage),
+        Item::Colors => put_colors(pen, stage),
+    }
+}
+
+fn put_event<S: Stage, W: Writer>(pen: &mut Pen<W>, stage: &mut S, event: &Event)
+    requires shown { IsEventOnScreen event.now }
+    requires there { (s : Session) × S.stands stage.old s }
+    ensures text { (s : Session) → S.stands stage.old s → Puts W.seen pen.old pen.new (event_text s event.now) }
+    ensures state { (s : Session) → S.stands stage.old s → S.stands stage.new (event_after s event.now) }
+{
+    stage.step(event);
+    put_log(pen, stage.desc(), stage.log());
+    stage.forget_log();
+}
+
+fn put_shot<S: Stage, W: Writer>(pen: &mut Pen<W>, stage: &S)
+    ensures { (s : Session) → S.stands stage.now s → Puts W.seen pen.old pen.new (shot_text s) }
+{
+    put_screen(pen, Aspect::Characters, stage.screen());
+}
+
+fn put_colors<S: Stage, W: Writer>(pen: &mut Pen<W>, stage: &S)
+    ensures { (s : Session) → S.stands stage.now s → Puts W.seen pen.old pen.new (colors_text s) }
+{
+    put_screen(pen, Aspect::Attributes, stage.screen());
+}
