@@ -1,0 +1,8 @@
+-- that the areas of groups are small
+pub mod AreaLemmas
+-- what a node's end makes, by its kind
+pub mod EndLemmas
+-- the last of a list
+pub mod ListLemmas
+-- what follows from a fact on a result
+pub mod ResultLemmas

@@ -1,0 +1,5 @@
+use Rattle.tv_lawful.proofs.OwnerLemmas.{head_of_lawful}
+use Rattle.tv_building.proofs.begun.Begun.new.Goals as goal
+
+pub invariant_of-result : goal.invariant_of-result
+invariant_of-result g c = record { stands = c.in_ok-area.ensures.is; limited = head_of_lawful c.args.node.now c.requires }

@@ -1,0 +1,161 @@
+//! Views, put together step by step.
+
+ghost use Rattle.std.specs.Option.{ForSome};
+ghost use Rattle.std.specs.Prelude.{◌≡◌, ◌≢◌, [], false, None, IfErr, IfOk, OnOk};
+ghost use Rattle.tv_building.specs.Building.{Adds, Begins, Ends, IsMisplaced, KeepsViews, StandsWindow, begun_of, bodies_of, windows_of};
+ghost use Rattle.tv_building.specs.Groups.{is_group};
+ghost use Rattle.tv_building.specs.declared.fault.BuildFault.TheVariants.{WrongPlan};
+ghost use Rattle.tv_group.specs.declared.group.MemberOf.TheVariants as members;
+ghost use Rattle.tv_model.specs.Description.LawfulNodes.{IsLawfulNode};
+ghost use Rattle.tv_window.specs.Head.{IsLimited, declared_head};
+
+use crate::begun::Begun;
+use crate::fault::BuildFault;
+use std::alloc::Global;
+use tv_group::{GroupOf, MemberOf};
+use tv_model::{Kind, Node};
+use tv_view::View;
+use tv_window::WindowOf;
+
+/// The windows and the bodies of dialogs that a session is made of, each list in description order.
+#[derive(Drop)]
+pub struct Views<V> {
+    pub windows: Vec<WindowOf<V>>,
+    pub bodies: Vec<GroupOf<V>>,
+}
+
+/// Views that are put together step by step, as the build plan of a checked description says: a window, dialog or pane begins,
+/// and what is added and begun up to its end stands in it.
+#[derive(Drop)]
+pub struct Building<'a, V> {
+    pub(crate) views: Views<V>,
+    pub(crate) begun: Vec<Begun<'a, V>>,
+}
+
+impl<'a, V: View> Building<'a, V> {
+    /// Nothing stands, and nothing is begun.
+    pub fn new(alloc: Global) -> Building<'a, V>
+        ensures windows { windows_of result ≡ [] }
+        ensures bodies { bodies_of result ≡ [] }
+        ensures begun { begun_of result ≡ [] }
+    {
+        Building {
+            views: Views {
+                windows: Vec::new(alloc),
+                bodies: Vec::new(alloc),
+            },
+            begun: Vec::new(alloc),
+        }
+    }
+
+    /// A window, dialog or pane begins.
+    ///
+    /// # Errors
+    ///
+    /// `WrongPlan` where the node is no window's, dialog's or pane's; `NoMemory`. Nothing was begun then.
+    pub fn begin(&mut self, alloc: Global, node: &'a Node) -> Result<(), BuildFault>
+        requires { IsLawfulNode node.now }
+        ensures same { KeepsViews self.old self.new }
+        ensures begun { OnOk result (Begins node.now (begun_of self.old) (begun_of self.new)) }
+        ensures unbegun { IfErr result (λ _. begun_of self.new ≡ begun_of self.old) }
+        ensures refused { IfErr result (λ fault. fault ≡ WrongPlan → is_group node.now.kind ≡ false) }
+    {
+        let begun = Begun::new(node, Vec::new(alloc))?;
+        self.begun.push(begun)?;
+        Ok(())
+    }
+
+    /// A view stands in what was begun last, behind what stands there.
+    ///
+    /// # Errors
+    ///
+    /// `WrongPlan` where nothing is begun, `NoMemory`. The view is dropped then.
+    pub fn add(&mut self, view: V) -> Result<(), BuildFault>
+        ensures same { KeepsViews self.old self.new }
+        ensures added { OnOk result (Adds (members.Leaf view) (begun_of self.old) (begun_of self.new)) }
+        ensures refused { IfErr result (λ fault. fault ≡ WrongPlan → begun_of self.old ≡ []) }
+    {
+        add_to(&mut self.begun, MemberOf::Leaf(view))
+    }
+
+    /// What was begun last ends: a window or the body of a dialog stands, or a pane in what was begun before it.
+    ///
+    /// # Errors
+    ///
+    /// `WrongPlan` where nothing is begun, where a window or dialog ends inside another group or a pane outside any, where the node
+    /// is of another kind, and for the ninth of groups that stand in one another; `NoMemory`. What was begun last is dropped then.
+    pub fn end(&mut self) -> Result<(), BuildFault>
+        ensures ended { OnOk result (Ends V.meaning self.old self.new) }
+        ensures same { IfErr result (λ _. KeepsViews self.old self.new) }
+        ensures refused { IfErr result (λ fault. fault ≡ WrongPlan → IsMisplaced (begun_of self.old)) }
+    {
+        let Some(last) = self.begun.pop() else {
+            return Err(BuildFault::WrongPlan);
+        };
+        let node = last.node;
+        let group = last.end()?;
+        match node.kind {
+            Kind::Pane(_) => add_to(&mut self.begun, MemberOf::Pane(group)),
+            Kind::Window(_) if self.begun.is_empty() => stand_window(
+                &mut self.views.windows,
+                node,
+                group,
+            ),
+            Kind::Dialog(_) if self.begun.is_empty() => {
+                self.views.bodies.push(group)?;
+                Ok(())
+            }
+            _ => Err(BuildFault::WrongPlan),
+        }
+    }
+
+    /// The windows and bodies, once all that was begun has ended.
+    ///
+    /// # Errors
+    ///
+    /// `WrongPlan` where something was begun and hasn't ended; all is dropped then.
+    pub fn finish(self) -> Result<Views<V>, BuildFault>
+        ensures windows { IfOk result (λ views. views.windows.items ≡ windows_of self.entry) }
+        ensures bodies { IfOk result (λ views. views.bodies.items ≡ bodies_of self.entry) }
+        ensures ended { OnOk result (begun_of self.entry ≡ []) }
+        ensures refused { IfErr result (λ fault. (fault ≡ WrongPlan) × (begun_of self.entry ≢ [])) }
+    {
+        if self.begun.is_empty() {
+            Ok(self.views)
+        } else {
+            Err(BuildFault::WrongPlan)
+        }
+    }
+}
+
+// A member stands in the last of what was begun.
+fn add_to<V: View>(begun: &mut Vec<Begun<V>>, member: MemberOf<V>) -> Result<(), BuildFault>
+    ensures added { OnOk result (Adds member begun.old.items begun.new.items) }
+    ensures refused { IfErr result (λ fault. fault ≡ WrongPlan → begun.old.items ≡ []) }
+{
+    match begun.last_mut() {
+        Some(innermost) => innermost.add(member),
+        None => Err(BuildFault::WrongPlan),
+    }
+}
+
+// A window of the node stands round the body, behind the other windows.
+#[tactic(auto, using(tv_lawful::proofs::OwnerLemmas::head_fits))]
+fn stand_window<V: View>(
+    windows: &mut Vec<WindowOf<V>>,
+    node: &Node,
+    body: GroupOf<V>,
+) -> Result<(), BuildFault>
+    requires { ForSome (declared_head node.now) IsLimited }
+    ensures stands { OnOk result (StandsWindow node.now body windows.old.items windows.new.items) }
+    ensures same { IfErr result (λ _. windows.new.items ≡ windows.old.items) }
+    ensures refused { IfErr result (λ fault. fault ≡ WrongPlan → declared_head node.now ≡ None) }
+{
+    match WindowOf::new(node, body) {
+        Ok(window) => {
+            windows.push(window)?;
+            Ok(())
+        }
+        Err(_) => Err(BuildFault::WrongPlan),
+    }
+}

@@ -1,0 +1,10 @@
+//! Windows and the bodies of dialogs, put together as a build plan says.
+#![tactic(auto)]
+
+mod area;
+mod begun;
+mod building;
+mod fault;
+
+pub use building::{Building, Views};
+pub use fault::BuildFault;
