@@ -9,6 +9,21 @@ use tv_task::{NoTask, Task};
 const STATUSES: &str = "Statuses: 0 done; 1 faults, a refusal or a bad text; 2 usage; \
     3 a file, a stream or memory failed. Messages go to standard error, all else to standard output.";
 
+/// What `run` does, and the lines of its scripts.
+const SCRIPTS: &str = "\
+Performs a script of keys and pictures on a description, and prints what happens
+
+A script has one of these on each line, or nothing, or # and a comment:
+  key NAME     a key: Tab, Shift-Tab, Enter, Esc, Up, Down, Left, Right, Home,
+               End, PgUp, PgDn, Ctrl-PgUp, Ctrl-PgDn, Backspace, Del, Ins,
+               Ctrl-A to Ctrl-Z, F1 to F12, Alt-A to Alt-Z, Alt-0 to Alt-9
+  type \"TEXT\"  each character as a key; \\\" is a quote, \\\\ a backslash
+  down X Y     the mouse button goes down on a cell; the top left one is 0 0
+  move X Y     the mouse moves to a cell
+  up X Y       the mouse button goes up on a cell
+  shot         prints the characters of the screen
+  colors       prints its attributes, two hexadecimal digits a cell";
+
 fn path<'a>(alloc: Global, name: &'a str, help: &'a str) -> Arg<'a> {
     Arg::new(alloc, name)
         .required(true)
@@ -50,6 +65,7 @@ fn run<'a>(alloc: Global) -> Result<Command<'a>, AllocError> {
         "run",
         "Performs a script of keys and pictures on a description, and prints what happens",
     )?
+    .long_about(SCRIPTS)
     .arg(path(
         alloc,
         "SCRIPT",

@@ -1,8 +1,7 @@
 -- What a sound description has that can be used.
 use Rattle.std.proofs.Common.{◌≡◌, ℕ, ◌≤◌, true, false, ◌||◌, List, [], ◌∷◌, ◌++◌, length, get_or, Some, refl, sym, ap, ◌∙◌, arith}
 use Rattle.std.specs.List.{All, list_any}
-use Rattle.std.proofs.Math.Bool.{or-false}
-use Rattle.std.proofs.lemmas.List.Elements.{All-cons, All-head, All-same}
+use Rattle.std.proofs.lemmas.List.Elements.{All-cons}
 use Rattle.std.proofs.lemmas.List.Folds.{list_any-from_Any}
 use Rattle.std.proofs.lemmas.Slice.Eq.{bytes_eq-Decides}
 use Rattle.tv_model.specs.declared.node.Node.{Node}
@@ -11,7 +10,6 @@ use Rattle.tv_model.specs.declared.desc.Dialog.{Dialog}
 use Rattle.tv_model.specs.Description.Heads.{dialog_head, is_named}
 use Rattle.tv_model.specs.Description.LawfulNodes.{IsLimited, IsNarrowNode}
 use Rattle.tv_model.specs.Description.Nodes.{is_control}
-use Rattle.tv_model.specs.Description.Thin.{IsThin}
 use Rattle.tv_model.specs.Faults.{IsSound}
 use Rattle.tv_model.specs.Faults.Lines.{after_seen}
 use Rattle.tv_model.specs.Faults.Names.{dialog_named_again}
@@ -69,14 +67,3 @@ lawful_counts d sound k dialog less i view within =
     let own : Dialog = get_or d.dialogs k dialog in
     let limited : OfBody IsLimited (dialog_body own) = ((bodies d (OfBody IsLimited)).0 ((nodes_iff IsLimited d).0 (sound_says d sound).limits.nodes)).1 k dialog less in
     count_holds (get_or own.views i view) (limited.1 i view within)
-
--- ---- a description of one dialog
-
-pub only_dialog : (d : Desc) (dialog : Dialog) → d.dialogs ≡ dialog ∷ [] → IsUsable d → IsUsableDialog d dialog
-only_dialog d dialog only usable = All-head (IsUsableDialog d) dialog [] (All-same (IsUsableDialog d) (dialog ∷ []) d.dialogs (sym only) usable.dialogs)
-
-pub only_start : (d : Desc) (dialog : Dialog) → d.dialogs ≡ dialog ∷ [] → IsUsable d → (name : List ℕ) → d.start ≡ Some name → is_named name dialog ≡ true
-only_start d dialog only usable name starts = sym (or-false (is_named name dialog)) ∙ ap (list_any (is_named name)) (sym only) ∙ usable.start name starts
-
-pub sound_thin : (d : Desc) (thin : IsThin d) → IsSound d → IsUsableDialog d thin.dialog
-sound_thin d thin sound = only_dialog d thin.dialog thin.only (sound_usable d sound)

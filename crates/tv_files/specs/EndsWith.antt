@@ -1,5 +1,6 @@
 -- How the program ends.
 use Rattle.std.specs.Prelude.{◌≡◌, ℕ, List, Result, Ok, Err}
+use Rattle.tv_model.specs.declared.desc.Desc.{Desc}
 use Rattle.tv_output.specs.Writer.{Seen}
 use Rattle.tv_task.specs.declared.no_task.NoTask.{NoTask}
 use Rattle.tv_task.specs.declared.task.Task.{Task}
@@ -18,9 +19,9 @@ pub record World : Type 0 where
 
 -- The task is performed on the files, and standard output takes what it writes; then its end is told, and both streams
 -- are flushed. Where there is no task, only that is told.
-abbrev pub EndsWith : Result Task NoTask → (old new : World) → (status : ℕ) → Type 0
-EndsWith (Ok task) old new status =
-    (end : End) × (mid : Seen) × Performs task old.files new.files old.out mid end
+abbrev pub EndsWith : (Mismade : Desc → Type 0) → Result Task NoTask → (old new : World) → (status : ℕ) → Type 0
+EndsWith Mismade (Ok task) old new status =
+    (end : End) × (mid : Seen) × Performs Mismade task old.files new.files old.out mid end
     × Tells end mid new.out new.out_kept old.err new.err new.err_kept status
-EndsWith (Err no_task) old new status =
+EndsWith Mismade (Err no_task) old new status =
     (new.files ≡ old.files) × (new.out ≡ old.out) × TellsNoTask no_task old.err new.err new.err_kept status

@@ -3,17 +3,16 @@ use Rattle.std.specs.Prelude.{◌≡◌, ℕ, List, [], ◌∷◌, Some, IsNone,
 use Rattle.tv_lang.specs.declared.description.LangFault.{LangFault}
 use Rattle.tv_lang.specs.Faults.{Refuses, Spells}
 use Rattle.tv_model.specs.declared.desc.Desc.{Desc}
-use Rattle.tv_model.specs.Description.Thin.{IsThin}
 use Rattle.tv_output.specs.Writer.{Seen}
 use Rattle.tv_program.specs.declared.accept_fault.AcceptFault.{AcceptFault}
 use Rattle.tv_program.specs.declared.check_fault.CheckFault.{CheckFault}
 use Rattle.tv_program.specs.declared.fault.RunFault.{RunFault}
 use Rattle.tv_program.specs.declared.fault.RunFault.TheVariants.{NoMemory, Read}
-use Rattle.tv_program.specs.declared.thin_fault.ThinFault.{ThinFault}
+use Rattle.tv_program.specs.declared.play_fault.PlayFault.{PlayFault}
 use Rattle.tv_program.specs.CheckRun.{AcceptsTo, ChecksTo}
-use Rattle.tv_program.specs.Conversions.{accept_told, check_told, lang_told, thin_told}
+use Rattle.tv_program.specs.Conversions.{accept_told, check_told, lang_told, play_told}
+use Rattle.tv_program.specs.Playing.{RefusesDesc, RunsTo}
 use Rattle.tv_program.specs.Reading.{IsSoundText}
-use Rattle.tv_program.specs.ThinRun.{RefusesDesc, RunsTo}
 use Rattle.tv_task.specs.declared.task.Task.{Task}
 use Rattle.tv_task.specs.declared.task.Task.TheVariants.{Check, Accept, Run}
 use Rattle.tv_files.specs.declared.text_kind.TextKind.{TextKind}
@@ -81,28 +80,28 @@ abbrev pub AcceptsFiles : (files after : Known) → (file certificate : List ℕ
 AcceptsFiles files after file certificate old new end =
     OnFiles Certificate IsUnspelled IsSpelled (AcceptsAs file certificate old new end) files after file certificate old new end
 
--- the text spells no description that can be run, or one with faults
+-- the text spells no description, or one with faults
 abbrev pub IsUnsound : (text : List ℕ) → RunFault → Type 0
-IsUnsound text fault = (unsound : ThinFault) × RefusesDesc text unsound × (fault ≡ thin_told unsound)
+IsUnsound text fault = (unsound : PlayFault) × RefusesDesc text unsound × (fault ≡ play_told unsound)
 
 abbrev pub IsRunnableAs : Desc → (text : List ℕ) → Type 0
-IsRunnableAs d text = IsSoundText text d × IsThin d
+IsRunnableAs d text = IsSoundText text d
 
 abbrev pub IsRunnable : (text : List ℕ) → Type 0
 IsRunnable text = (d : Desc) × IsRunnableAs d text
 
--- what `run` answers about the texts, told as an end
-abbrev pub RunsAs : (file script : List ℕ) → (old new : Seen) → End → (text written : List ℕ) → Type 0
-RunsAs file script old new end text written =
-    (r : Result (Unit {0}) ThinFault) × RunsTo text written old new r × (end ≡ end_as thin_told file script r)
+-- what `run` answers about the texts, told as an end; the views of a description may be refused only where they are mismade
+abbrev pub RunsAs : (Mismade : Desc → Type 0) → (file script : List ℕ) → (old new : Seen) → End → (text written : List ℕ) → Type 0
+RunsAs Mismade file script old new end text written =
+    (r : Result (Unit {0}) PlayFault) × RunsTo Mismade text written old new r × (end ≡ end_as play_told file script r)
 
 -- the script is looked for once the description has passed
-abbrev pub RunsFiles : (files after : Known) → (file script : List ℕ) → (old new : Seen) → End → Type 0
-RunsFiles files after file script old new end =
-    OnFiles Script IsUnsound IsRunnable (RunsAs file script old new end) files after file script old new end
+abbrev pub RunsFiles : (Mismade : Desc → Type 0) → (files after : Known) → (file script : List ℕ) → (old new : Seen) → End → Type 0
+RunsFiles Mismade files after file script old new end =
+    OnFiles Script IsUnsound IsRunnable (RunsAs Mismade file script old new end) files after file script old new end
 
 -- a task, by what is asked for
-abbrev pub Performs : Task → (files after : Known) → (old new : Seen) → End → Type 0
-Performs (Check file) files after old new end = ChecksFile files after file.now old new end
-Performs (Accept file certificate) files after old new end = AcceptsFiles files after file.now certificate.now old new end
-Performs (Run file script) files after old new end = RunsFiles files after file.now script.now old new end
+abbrev pub Performs : (Mismade : Desc → Type 0) → Task → (files after : Known) → (old new : Seen) → End → Type 0
+Performs Mismade (Check file) files after old new end = ChecksFile files after file.now old new end
+Performs Mismade (Accept file certificate) files after old new end = AcceptsFiles files after file.now certificate.now old new end
+Performs Mismade (Run file script) files after old new end = RunsFiles Mismade files after file.now script.now old new end

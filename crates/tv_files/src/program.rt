@@ -1,31 +1,43 @@
 //! The program, from what it is asked for to its status.
 
 ghost use Rattle.tv_files.specs.EndsWith.{EndsWith};
+ghost use Rattle.tv_program.specs.Playing.{IsMismade, Makes};
 
 use crate::file_store::FileStore;
 use crate::stream::Stream;
 use crate::tasks::perform;
 use crate::telling::{finish, tell_no_task};
 use std::alloc::Global;
+use tv_building::{BuildFault, Views};
+use tv_check::Checked;
 use tv_task::{NoTask, Task};
+use tv_view::View;
 
 /// Does what is asked for with these files, or tells why nothing is: results, faults and refusals go to `out`, messages
-/// to `err`. Returns the program's status.
-pub fn run_program<F: FileStore, O: Stream, E: Stream>(
+/// to `err`. `views` makes the views of a description that is run. Returns the program's status.
+pub fn run_program<
+    V: View,
+    F: FileStore,
+    M: Fn(Global, &Checked) -> Result<Views<V>, BuildFault>,
+    O: Stream,
+    E: Stream,
+>(
     files: &mut F,
     alloc: Global,
     asked: Result<Task<'_>, NoTask>,
+    views: &M,
     out: &mut O,
     err: &mut E,
 ) -> u8
-    ensures { EndsWith asked.entry
+    requires { M.IsAlwaysCallable views.now }
+    ensures { EndsWith (IsMismade (Makes M.Fn views.now) V.meaning) asked.entry
         (record { files = F.known files.old; out = O.seen out.old; out_kept = O.kept_back out.old; err = E.seen err.old; err_kept = E.kept_back err.old })
         (record { files = F.known files.new; out = O.seen out.new; out_kept = O.kept_back out.new; err = E.seen err.new; err_kept = E.kept_back err.new })
         result }
 {
     match asked {
         Ok(task) => {
-            let answer = perform(files, alloc, task, out);
+            let answer = perform(files, alloc, task, views, out);
             finish(&answer, out, err)
         }
         Err(no_task) => tell_no_task(no_task, err),

@@ -1,8 +1,7 @@
 //! What each subcommand does with its files.
 
-ghost use Rattle.std.specs.Prelude.{[], ◌∷◌, IfOk, MatchResult};
-ghost use Rattle.tv_model.specs.Description.Thin.{IsThin};
-ghost use Rattle.tv_model.specs.Faults.{IsSound};
+ghost use Rattle.std.specs.Prelude.{[], ◌∷◌, MatchResult};
+ghost use Rattle.tv_program.specs.Playing.{IsMismade, Makes};
 ghost use Rattle.tv_files.specs.Ends.{end_of};
 ghost use Rattle.tv_files.specs.Tasks.{AcceptsFiles, ChecksFile, EndsFirst, Gives, HasRead, IsSpelledAs, IsRunnableAs, IsUnread, IsUnsound, IsUnspelled, Performs, RunsFiles};
 
@@ -11,26 +10,32 @@ use crate::file_store::FileStore;
 use crate::read_fault::ReadFault;
 use crate::text_kind::TextKind;
 use std::alloc::Global;
+use tv_building::{BuildFault, Views};
+use tv_check::Checked;
 use tv_lang::parse;
 use tv_model::Desc;
 use tv_output::Writer;
-use tv_program::thin::{read_sound, run_script};
-use tv_program::{RunFault, accept_text, check};
+use tv_program::{RunFault, accept_text, check, read_checked, run_script};
 use tv_task::Task;
+use tv_view::View;
 
 /// Does what is asked for, and writes its result.
-pub fn perform<'a, F: FileStore, W: Writer>(
-    files: &mut F,
-    alloc: Global,
-    task: Task<'a>,
-    out: &mut W,
-) -> Result<(), Failure<'a>>
-    ensures { Performs task.entry (F.known files.old) (F.known files.new) (W.seen out.old) (W.seen out.new) (end_of result) }
+///
+/// `views` makes the views of a description that is run; no other task calls it.
+pub fn perform<
+    'a,
+    V: View,
+    F: FileStore,
+    M: Fn(Global, &Checked) -> Result<Views<V>, BuildFault>,
+    W: Writer,
+>(files: &mut F, alloc: Global, task: Task<'a>, views: &M, out: &mut W) -> Result<(), Failure<'a>>
+    requires { M.IsAlwaysCallable views.now }
+    ensures { Performs (IsMismade (Makes M.Fn views.now) V.meaning) task.entry (F.known files.old) (F.known files.new) (W.seen out.old) (W.seen out.new) (end_of result) }
 {
     match task {
         Task::Check { file } => check_file(files, alloc, file, out),
         Task::Accept { file, certificate } => accept_file(files, alloc, file, certificate, out),
-        Task::Run { file, script } => run_file(files, alloc, file, script, out),
+        Task::Run { file, script } => run_file(files, alloc, file, script, views, out),
     }
 }
 
@@ -70,21 +75,29 @@ pub fn accept_file<'a, F: FileStore, W: Writer>(
     }
 }
 
-/// Performs a file's script on a file's description, and writes its output.
+/// Performs a file's script on a file's description through the views that `views` makes of it, and writes its output.
 ///
-/// The script is looked for only once the description has passed.
-pub fn run_file<'a, F: FileStore, W: Writer>(
+/// The script is looked for only once the description has passed, and the views are made only once the script has.
+pub fn run_file<
+    'a,
+    V: View,
+    F: FileStore,
+    M: Fn(Global, &Checked) -> Result<Views<V>, BuildFault>,
+    W: Writer,
+>(
     files: &mut F,
     alloc: Global,
     file: &'a str,
     script: &'a str,
+    views: &M,
     out: &mut W,
 ) -> Result<(), Failure<'a>>
-    ensures { RunsFiles (F.known files.old) (F.known files.new) file.now script.now (W.seen out.old) (W.seen out.new) (end_of result) }
+    requires { M.IsAlwaysCallable views.now }
+    ensures { RunsFiles (IsMismade (Makes M.Fn views.now) V.meaning) (F.known files.old) (F.known files.new) file.now script.now (W.seen out.old) (W.seen out.new) (end_of result) }
 {
-    let desc = runnable(files, alloc, file)?;
+    let checked = runnable(files, alloc, file)?;
     let text = read(files, alloc, script, TextKind::Script)?;
-    match run_script(alloc, desc, text.as_slice(), out) {
+    match run_script(alloc, checked, text.as_slice(), views, out) {
         Ok(()) => Ok(()),
         Err(fault) => Err(Failure::new(file, script, RunFault::from(fault))),
     }
@@ -110,21 +123,19 @@ fn described<'a, F: FileStore>(
     }
 }
 
-// The description of a file, where a script can be run on it.
+// The description of a file, checked with its own certificate, so that a script can be run on it.
 fn runnable<'a, F: FileStore>(
     files: &mut F,
     alloc: Global,
     file: &'a str,
-) -> Result<Desc, Failure<'a>>
-    ensures thin { IfOk result (λ desc. IsThin desc) }
-    ensures sound { IfOk result (λ desc. IsSound desc) }
-    ensures read { MatchResult result
-        (λ desc. HasRead (IsRunnableAs desc) (F.known files.old) (F.known files.new) file.now)
+) -> Result<Checked, Failure<'a>>
+    ensures { MatchResult result
+        (λ checked. HasRead (IsRunnableAs checked) (F.known files.old) (F.known files.new) file.now)
         (λ failure. EndsFirst IsUnsound (F.known files.old) (F.known files.new) file.now (Some (failure.fault, failure.path.now))) }
 {
     let text = read(files, alloc, file, TextKind::Description)?;
-    match read_sound(alloc, text.as_slice()) {
-        Ok(desc) => Ok(desc),
+    match read_checked(alloc, text.as_slice()) {
+        Ok(checked) => Ok(checked),
         Err(fault) => Err(Failure {
             fault: RunFault::from(fault),
             path: file,

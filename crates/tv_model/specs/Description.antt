@@ -28,5 +28,3 @@ pub mod Rules
 pub mod Owners
 -- Tab's order and the letters of a certificate
 pub mod Certificates
--- descriptions of one dialog with static texts and buttons
-pub mod Thin

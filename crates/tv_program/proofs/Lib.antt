@@ -1,2 +1,3 @@
 pub mod CheckLemmas
 pub mod RunLemmas
+pub mod LawLemmas

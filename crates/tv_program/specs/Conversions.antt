@@ -1,4 +1,6 @@
 -- Faults handed on: the fault of a part as that of the call which it ends, and that of each call as the one that is told.
+use Rattle.tv_building.specs.declared.fault.BuildFault.{BuildFault}
+use Rattle.tv_building.specs.declared.fault.BuildFault.TheVariants as unbuilt
 use Rattle.tv_check.specs.declared.acceptance.Refusal.{Refusal}
 use Rattle.tv_check.specs.declared.acceptance.Refusal.TheVariants as refusals
 use Rattle.tv_certificate.specs.declared.reading.CertificateFault.{CertificateFault}
@@ -13,10 +15,12 @@ use Rattle.tv_program.specs.declared.desc_fault.DescFault.{DescFault}
 use Rattle.tv_program.specs.declared.desc_fault.DescFault.TheVariants as descs
 use Rattle.tv_program.specs.declared.fault.RunFault.{RunFault}
 use Rattle.tv_program.specs.declared.fault.RunFault.TheVariants as told
-use Rattle.tv_program.specs.declared.thin_fault.ThinFault.{ThinFault}
-use Rattle.tv_program.specs.declared.thin_fault.ThinFault.TheVariants as runs
+use Rattle.tv_program.specs.declared.play_fault.PlayFault.{PlayFault}
+use Rattle.tv_program.specs.declared.play_fault.PlayFault.TheVariants as runs
 use Rattle.tv_script.specs.declared.script_text.ScriptFault.{ScriptFault}
 use Rattle.tv_script.specs.declared.script_text.ScriptFault.TheVariants as scripts
+use Rattle.tv_session.specs.declared.fault.SessionFault.{SessionFault}
+use Rattle.tv_session.specs.declared.fault.SessionFault.TheVariants as refused
 
 -- ---- checking
 
@@ -50,19 +54,29 @@ refusal_accepted refusal = accepts.Refused refusal
 -- ---- running
 
 -- the description is not spelled
-abbrev pub lang_run : LangFault → ThinFault
+abbrev pub lang_run : LangFault → PlayFault
 lang_run lang.NoMemory = runs.NoMemory
 lang_run fault = runs.Lang fault
 
 -- the description has faults
-abbrev pub desc_run : DescFault → ThinFault
+abbrev pub desc_run : DescFault → PlayFault
 desc_run descs.NoMemory = runs.NoMemory
 desc_run (descs.Faults list) = runs.Faults list
 
 -- the script is not spelled
-abbrev pub script_run : ScriptFault → ThinFault
+abbrev pub script_run : ScriptFault → PlayFault
 script_run scripts.NoMemory = runs.NoMemory
 script_run fault = runs.Script fault
+
+-- no views were made
+abbrev pub build_run : BuildFault → PlayFault
+build_run unbuilt.NoMemory = runs.NoMemory
+build_run unbuilt.WrongPlan = runs.View
+
+-- the views were refused
+abbrev pub session_run : SessionFault → PlayFault
+session_run refused.NoMemory = runs.NoMemory
+session_run (refused.ViewMismatch place) = runs.View
 
 -- ---- telling
 
@@ -87,10 +101,10 @@ accept_told (accepts.Refused refusal) = told.Refused refusal
 accept_told accepts.Write = told.Write
 
 -- a fault of a run
-abbrev pub thin_told : ThinFault → RunFault
-thin_told runs.NoMemory = told.NoMemory
-thin_told (runs.Lang fault) = told.Lang fault
-thin_told runs.NotYet = told.NotYet
-thin_told (runs.Faults list) = told.Faults list
-thin_told (runs.Script fault) = told.Script fault
-thin_told runs.Write = told.Write
+abbrev pub play_told : PlayFault → RunFault
+play_told runs.NoMemory = told.NoMemory
+play_told (runs.Lang fault) = told.Lang fault
+play_told (runs.Faults list) = told.Faults list
+play_told (runs.Script fault) = told.Script fault
+play_told runs.View = told.View
+play_told runs.Write = told.Write

@@ -2,9 +2,11 @@
 pub mod CheckRun
 -- Faults handed on
 pub mod Conversions
+-- What a run of a description and a script comes to
+pub mod Playing
 -- What is read of a description, and why it is refused
 pub mod Reading
 -- What is printed of a call that failed
 pub mod Report
--- What a run of a thin description and script comes to
-pub mod ThinRun
+-- What the laws say of every run of a description
+pub mod Laws

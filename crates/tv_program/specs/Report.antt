@@ -10,7 +10,7 @@ use Rattle.tv_model.specs.declared.fault.Fault.{Fault}
 use Rattle.tv_model.specs.Faults.{fault_number}
 use Rattle.tv_model.specs.Log.LogText.{line_of}
 use Rattle.tv_program.specs.declared.fault.RunFault.{RunFault}
-use Rattle.tv_program.specs.declared.fault.RunFault.TheVariants.{NoMemory, Lang, Faults, Script, Write, Read, Cert, Refused, NotYet}
+use Rattle.tv_program.specs.declared.fault.RunFault.TheVariants.{NoMemory, Lang, Faults, Script, Write, Read, Cert, Refused, View}
 use Rattle.tv_output.specs.Writer.{Seen, Takes, Cuts}
 use Rattle.tv_script.specs.declared.script_text.ScriptFault.{ScriptFault}
 use Rattle.tv_script.specs.declared.script_text.ScriptFault.TheVariants as scripts
@@ -70,7 +70,7 @@ err_text name (Script fault) = script_message name fault
 err_text name (Cert fault) = cert_message name fault
 err_text name (Refused refusals.NoMemory) = line_of (codes "tvdlg: ") (codes "no memory")
 err_text name (Refused refusal) = []
-err_text name NotYet = line_of (codes "tvdlg: ") (name ++ codes ": not yet")
+err_text name View = line_of (codes "tvdlg: ") (codes "view refused")
 err_text name Read = line_of (codes "tvdlg: ") (codes "cannot read " ++ name)
 err_text name Write = line_of (codes "tvdlg: ") (codes "cannot write")
 
@@ -98,6 +98,6 @@ status_of (Faults list) = 1
 status_of (Script fault) = script_status fault
 status_of (Cert fault) = cert_status fault
 status_of (Refused refusal) = refusal_status refusal
-status_of NotYet = 1
+status_of View = 1
 status_of Read = 3
 status_of Write = 3

@@ -2,11 +2,11 @@
 
 ghost use Rattle.std.specs.Prelude.{◌≡◌};
 ghost use Rattle.tv_program.specs.declared.fault.RunFault.TheVariants.{NoMemory};
-ghost use Rattle.tv_program.specs.Conversions.{accept_told, check_told, lang_told, thin_told};
+ghost use Rattle.tv_program.specs.Conversions.{accept_told, check_told, lang_told, play_told};
 
 use crate::accept_fault::AcceptFault;
 use crate::check_fault::CheckFault;
-use crate::thin_fault::ThinFault;
+use crate::play_fault::PlayFault;
 use std::alloc::AllocError;
 use tv_check::{CertificateFault, Refusal};
 use tv_lang::LangFault;
@@ -33,8 +33,8 @@ pub enum RunFault {
     Cert(CertificateFault),
     /// The description or its certificate is not sound.
     Refused(Refusal),
-    /// The description is spelled right, and nothing runs its kind yet: it isn't one dialog of texts and buttons.
-    NotYet,
+    /// The views that were made aren't as the description declares them, or none were made.
+    View,
 }
 
 impl From<AllocError> for RunFault {
@@ -83,17 +83,17 @@ impl From<AcceptFault> for RunFault {
     }
 }
 
-impl From<ThinFault> for RunFault {
-    ghost from_gives = { λ fault told. told ≡ thin_told fault };
+impl From<PlayFault> for RunFault {
+    ghost from_gives = { λ fault told. told ≡ play_told fault };
 
-    fn from(fault: ThinFault) -> RunFault {
+    fn from(fault: PlayFault) -> RunFault {
         match fault {
-            ThinFault::NoMemory => RunFault::NoMemory,
-            ThinFault::Lang(unread) => RunFault::Lang(unread),
-            ThinFault::NotYet => RunFault::NotYet,
-            ThinFault::Faults(list) => RunFault::Faults(list),
-            ThinFault::Script(unread) => RunFault::Script(unread),
-            ThinFault::Write => RunFault::Write,
+            PlayFault::NoMemory => RunFault::NoMemory,
+            PlayFault::Lang(unread) => RunFault::Lang(unread),
+            PlayFault::Faults(list) => RunFault::Faults(list),
+            PlayFault::Script(unread) => RunFault::Script(unread),
+            PlayFault::View => RunFault::View,
+            PlayFault::Write => RunFault::Write,
         }
     }
 }

@@ -51,7 +51,7 @@ fn status(fault: &RunFault) -> u8
         | RunFault::Script(_)
         | RunFault::Cert(_)
         | RunFault::Refused(_)
-        | RunFault::NotYet => 1,
+        | RunFault::View => 1,
     }
 }
 
@@ -128,7 +128,7 @@ fn put_message<W: Writer>(pen: &mut Pen<W>, name: &[u8], fault: &RunFault)
         RunFault::Refused(Refusal::NoMemory) => put_plain(pen, b"no memory"),
         RunFault::Refused(_) => {}
         RunFault::Script(fault) => put_script(pen, name, *fault),
-        RunFault::NotYet => put_named(pen, name, b": not yet"),
+        RunFault::View => put_plain(pen, b"view refused"),
         RunFault::Read => put_named(pen, b"cannot read ", name),
         RunFault::Write => put_plain(pen, b"cannot write"),
     }

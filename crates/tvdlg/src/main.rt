@@ -1,11 +1,14 @@
-//! Checks descriptions of text-mode dialogs, and runs them on scripts of keys and pictures.
+//! Checks descriptions of text-mode dialogs, and runs them on scripts of keys and mouse events.
 #![tactic(auto)]
 
+mod boxing;
+
+use boxing::run_with_boxes;
 use std::process::ExitCode;
 use std::rt::Env;
 use std::{env, io};
 use tv_command_line::{NoTask, read_task};
-use tv_files::{BufferedStream, DirectStream, RuntimeFiles, run_program, tell_no_memory};
+use tv_files::{BufferedStream, DirectStream, RuntimeFiles, tell_no_memory};
 
 fn main(rt: HostRuntime) -> ExitCode {
     let alloc = rt.alloc();
@@ -19,9 +22,9 @@ fn main(rt: HostRuntime) -> ExitCode {
     let status = match words(&rt) {
         Ok(words) => {
             let asked = read_task(alloc, words.as_slice());
-            run_program(&mut files, alloc, asked, &mut out, &mut err)
+            run_with_boxes(&mut files, alloc, asked, &mut out, &mut err)
         }
-        Err(no_task) => run_program(&mut files, alloc, Err(no_task), &mut out, &mut err),
+        Err(no_task) => run_with_boxes(&mut files, alloc, Err(no_task), &mut out, &mut err),
     };
     ExitCode::from(status)
 }

@@ -1,0 +1,238 @@
+-- Every run of a sound description goes by the laws.
+use Rattle.std.proofs.Common.{◌≡◌, Bool, true, false, cond, ◌&&◌, ◌||◌, ◌==◌, ℕ, zero, suc, ◌<◌, if◌then◌else◌, List, [], ◌∷◌, find, filter_map, get_or, length, Decides, Some, None, is_some, option_map, refl, sym, ap, ◌∙◌, arith}
+use Rattle.std.specs.Prelude.{All, position}
+use Rattle.std.specs.List.{Any, list_any}
+use Rattle.std.proofs.lemmas.Bool.{eqb-true, false≢true}
+use Rattle.std.proofs.lemmas.List.Elements.{All-weaker}
+use Rattle.std.proofs.lemmas.List.Quantifiers.{position-Some}
+use Rattle.tv_event.specs.declared.event.Event.TheVariants as events
+use Rattle.tv_event.specs.declared.event.Key.{Key}
+use Rattle.tv_event.specs.declared.event.Key.TheVariants as keys
+use Rattle.tv_model.specs.declared.desc.Desc.{Desc}
+use Rattle.tv_model.specs.declared.desc.Dialog.{Dialog}
+use Rattle.tv_model.specs.declared.script.Item.{Item}
+use Rattle.tv_model.specs.declared.script.Item.TheVariants as items
+use Rattle.tv_model.specs.declared.kind.Kind.{Kind}
+use Rattle.tv_model.specs.declared.kind.Kind.TheVariants as kinds
+use Rattle.tv_model.specs.Description.Letters.{is_shortcut, marked_of, marks}
+use Rattle.tv_model.specs.Description.Owners.{Owner, owner_by}
+use Rattle.tv_model.specs.Faults.{IsSound}
+use Rattle.tv_model.specs.Faults.Letters.{is_same_key}
+use Rattle.tv_machine.specs.State.{OpenDialog, State}
+use Rattle.tv_machine.specs.Dialog.Sound.{HasSoundDialogs, IsSoundDialog}
+use Rattle.tv_machine.specs.Dialog.Step.{dialog_step}
+use Rattle.tv_machine.specs.Output.{item_after, states}
+use Rattle.tv_machine.specs.Run.{Session, quiet}
+use Rattle.tv_machine.specs.Session.Commands.{works}
+use Rattle.tv_machine.specs.Session.Start.{start}
+use Rattle.tv_machine.specs.Session.Step.{emptied, event_from, held_of, is_item_enabled, key_at_menu, key_at_status, key_below, status_item_of, step, step_at, to_dialog}
+use Rattle.tv_machine.specs.Leaves.{PlacedNode}
+use Rattle.tv_machine.specs.Dialog.Shortcuts.{marker_of}
+use Rattle.tv_machine.proofs.ListLemmas.{bool_cases, find-none, option_cases}
+use Rattle.tv_faults.specs.Sound.Letters.{IsShortcut, MarksLetter}
+use Rattle.tv_faults.proofs.ExcludeLemmas.{any_decides}
+use Rattle.tv_faults.proofs.LetterLemmas.{marks_decides}
+use Rattle.tv_faults.proofs.SoundLemmas.{sound_says}
+use Rattle.tv_check.proofs.MadeLemmas.{sound_made}
+use Rattle.tv_laws.proofs.LeavingLemmas.{esc-cancels, tab-next, up-lets-go}
+use Rattle.tv_laws.proofs.OpenLemmas.{opens-fit}
+use Rattle.tv_laws.proofs.RunLemmas.{always-safe}
+use Rattle.tv_laws.proofs.StepLemmas.{stays-fit}
+use Rattle.tv_laws.proofs.TabLemmas.{tab-goes-on}
+use Rattle.tv_key_laws.proofs.ActLemmas.{acts-on-owner}
+use Rattle.tv_key_laws.proofs.CycleLemmas.{tab-goes-round}
+use Rattle.tv_key_laws.proofs.GrantLemmas.{acts-where-it-can}
+use Rattle.tv_key_laws.proofs.LetterLemmas.{alt-acts, marks-alike, own-letter-acts, typed-acts, unnamed-acts-on-none}
+use Rattle.tv_key_laws.proofs.NoneLemmas.{acts-on-none, refused-acts-on-none}
+use Rattle.tv_key_laws.proofs.OrderLemmas.{free-are-controls, refusal-stays, shift-tab-previous, stops-are-tabs}
+use Rattle.tv_key_laws.proofs.ValueLemmas.{tab-keeps-values}
+use Rattle.tv_record_laws.specs.Records.{reached}
+use Rattle.tv_record_laws.proofs.EscapeLemmas.{esc-cancels-open, reached-fit, stays-over, up-esc-cancels, up-esc-leaves, up-frees-mouse}
+use Rattle.tv_record_laws.proofs.SavedLemmas.{declare-cancel, ends-as-declared, reopens-as-saved, saves-what-it-logs, starts-as-declared}
+use Rattle.tv_record_laws.proofs.ShowLemmas.{fields-opened}
+use Rattle.tv_program.specs.Laws.{AltLettersAreFree, IsNoStatusKey, KeysReachDialog, LeavesByLaws, LettersByLaws, PlainKeysAreFree, RecordsByLaws, RunsByLaws, ScriptsReach, TabsByLaws, WorksByLaws, event_in, may_be_status_key}
+
+-- ---- scripts
+
+-- a run of the description that has come to a state
+abbrev session : Desc → State → Session
+session d s = record { desc = d; state = s }
+
+-- the log that was taken makes no difference to what comes next
+follows : (d : Desc) (s : State) (script : List Item)
+    → states item_after (quiet (session d s)) script ≡ quiet (session d (states (step d) s (filter_map event_in script)))
+follows d s [] = refl
+follows d s (items.Event e ∷ script) = follows d (step d s e) script
+follows d s (items.Shot ∷ script) = follows d s script
+follows d s (items.Colors ∷ script) = follows d s script
+
+scripts-reach : (d : Desc) → ScriptsReach d
+scripts-reach d script = follows d (start d) script
+
+-- ---- Alt with a letter that a dialog marks
+
+or-true : (b : Bool) → (b || true) ≡ true
+or-true true = refl
+or-true false = refl
+
+any-at : {A : Type 0} (p : A → Bool) (xs : List A) (i : ℕ) (d : A) → i < length xs → p (get_or xs i d) ≡ true → list_any p xs ≡ true
+any-at p [] i d less is = absurd (omega (arith, less))
+any-at p (x ∷ xs) zero d less is = ap (λ b. b || list_any p xs) is
+any-at p (x ∷ xs) (suc i) d less is = ap (λ b. p x || b) (any-at p xs i d (omega (arith, less)) is) ∙ or-true (p x)
+
+any-placed : {A : Type 0} (p : A → Bool) (xs : List A) (i : ℕ) → position p xs ≡ Some i → list_any p xs ≡ true
+any-placed p [] i e = absurd cc
+any-placed p (x ∷ xs) i e = let h = position-Some p (x ∷ xs) i x e in any-at p (x ∷ xs) i x h.0 h.1
+
+-- what is found passes a weaker test
+any-found : {A : Type 0} (p q : A → Bool) → ((x : A) → p x ≡ true → q x ≡ true) → (xs : List A) (x : A) → find p xs ≡ Some x
+    → list_any q xs ≡ true
+any-found p q weaker [] x e = absurd cc
+any-found p q weaker (y ∷ ys) x e =
+    bool_cases (p y) (λ b. cond b (Some y) (find p ys) ≡ Some x → list_any q (y ∷ ys) ≡ true)
+    (λ is f. ap (λ b. b || list_any q ys) (weaker y is)) (λ is f. ap (λ b. q y || b) (any-found p q weaker ys x f) ∙ or-true (q y)) e
+
+marks-own : (b : Bool) (o : Owner) → is_some (if b then Some o else None) ≡ true → (b || false) ≡ true
+marks-own true o is = refl
+marks-own false o is = absurd (false≢true is)
+
+marks-item : {A : Type 0} (p : A → Bool) (f : ℕ → Owner) (xs : List A) → is_some (option_map f (position p xs)) ≡ true → list_any p xs ≡ true
+marks-item p f xs is =
+    option_cases (position p xs) (λ o. position p xs ≡ o → is_some (option_map f o) ≡ true → list_any p xs ≡ true) (λ none e g. absurd (false≢true g))
+    (λ i some e g. any-placed p xs i some) refl is
+
+-- what has an owner by a letter marks it
+marks-some : (letter : ℕ) (kind : Kind) → is_some (owner_by letter kind) ≡ true → list_any (marks letter) (marked_of kind) ≡ true
+marks-some letter (kinds.Label label) is = marks-own (marks letter label.text) _ is
+marks-some letter (kinds.Button button) is = marks-own (marks letter button.text) _ is
+marks-some letter (kinds.CheckBoxes boxes) is = marks-item (marks letter) _ boxes.items is
+marks-some letter (kinds.RadioButtons radios) is = marks-item (marks letter) _ radios.items is
+marks-some letter _ is = absurd (false≢true is)
+
+shortcut-is : (letter : ℕ) (dialog : Dialog) → Decides (is_shortcut letter dialog) (IsShortcut letter dialog)
+shortcut-is letter dialog =
+    any_decides (λ node. list_any (marks letter) (marked_of node.kind)) (λ node. Any (λ text. MarksLetter text letter) (marked_of node.kind))
+    (λ node. any_decides (marks letter) (λ text. MarksLetter text letter) (marks_decides letter) (marked_of node.kind)) dialog.views
+
+shortcut-of : (letter : ℕ) (dialog : Dialog) (marker : PlacedNode) → marker_of dialog letter ≡ Some marker → IsShortcut letter dialog
+shortcut-of letter dialog marker e =
+    (shortcut-is letter dialog).0
+    (any-found (λ node. is_some (owner_by letter node.kind)) (λ node. list_any (marks letter) (marked_of node.kind)) (λ node is. marks-some letter node.kind is)
+    dialog.views marker.node (sym (marks-alike dialog letter) ∙ ap (option_map (λ leaf. leaf.node)) e))
+
+differs : (own : Key) (letter : ℕ) → (own ≡ keys.Alt letter → ⊥) → is_same_key own (keys.Alt letter) ≡ false
+differs (keys.Alt ch) letter other = bool_cases (ch == letter) (λ b. b ≡ false) (λ is. absurd (other (ap keys.Alt (eqb-true ch letter is)))) (λ is. refl)
+differs _ letter other = refl
+
+alt-letters : (d : Desc) → IsSound d → All (AltLettersAreFree d) d.dialogs
+alt-letters d sound i dialog less letter marker marked j item fewer =
+    let here = get_or d.dialogs i dialog in
+    differs (get_or d.status j item).key letter
+    (λ same. ((sound_says d sound).keys.free j item fewer letter same).dialogs i dialog less (shortcut-of letter here marker marked))
+
+-- ---- keys
+
+same-plain : (own k : Key) → may_be_status_key k ≡ false → is_same_key own k ≡ false
+same-plain own (keys.Function n) plain = absurd cc
+same-plain own (keys.Ctrl ch) plain = absurd cc
+same-plain own (keys.Alt ch) plain = absurd cc
+same-plain (keys.Function n) _ plain = refl
+same-plain (keys.Ctrl ch) _ plain = refl
+same-plain (keys.Alt ch) _ plain = refl
+same-plain _ _ plain = refl
+
+plain-keys : (d : Desc) → PlainKeysAreFree d
+plain-keys d k plain i item less = same-plain _ k plain
+
+no-item : (d : Desc) (s : State) (k : Key) → IsNoStatusKey d k → status_item_of d s k ≡ None
+no-item d s k free =
+    find-none (λ item. is_same_key item.key k && is_item_enabled d s item) d.status
+    (λ i item less. ap (λ b. b && is_item_enabled d s (get_or d.status i item)) (free i item less))
+
+-- a key that no status item has comes to the open dialog
+key-step : (d : Desc) (s : State) (o : OpenDialog) (k : Key) → s.dialog ≡ Some o → o.held ≡ None → s.menu ≡ None → s.is_over ≡ false
+    → IsNoStatusKey d k → step d s (events.Key k) ≡ to_dialog d o (events.Key k) (emptied s)
+key-step d s o k some idle menu over free =
+    ap (λ b. if b then emptied s else step_at d (held_of s.dialog) (events.Key k) (emptied s)) over
+    ∙ ap (λ x. step_at d (held_of x) (events.Key k) (emptied s)) some
+    ∙ ap (λ h. step_at d (if is_some h then Some o else None) (events.Key k) (emptied s)) idle
+    ∙ ap (λ m. key_at_menu d m k (emptied s)) menu
+    ∙ ap (λ item. key_at_status d item k (emptied s)) (no-item d (emptied s) k free)
+    ∙ ap (λ x. key_below d x k (emptied s)) some
+
+keys-reach : (d : Desc) → HasSoundDialogs d → KeysReachDialog d
+keys-reach d dialogs before o dialog k some there idle free =
+    let s = reached d before in
+    let x = (reached-fit d dialogs before).«open» o some in
+    key-step d s o k some idle x.menu x.over free
+    ∙ ap (works (emptied s) o (λ y m. dialog_step y (event_from o.origin (events.Key k)) m)) there
+
+-- ---- dialogs
+
+tabs-of : (d : Dialog) → IsSoundDialog d → TabsByLaws d
+tabs-of d sound = record {
+  stops = stops-are-tabs d sound;
+  controls = free-are-controls d sound;
+  asks_next = tab-next d;
+  asks_previous = shift-tab-previous d;
+  goes_on = tab-goes-on d sound;
+  stays = refusal-stays d sound;
+  keeps = tab-keeps-values d sound;
+  round = tab-goes-round d sound;
+}
+
+letters-of : (d : Dialog) → IsSoundDialog d → LettersByLaws d
+letters-of d sound = record {
+  alt = alt-acts d;
+  typed = typed-acts d;
+  own = own-letter-acts d sound;
+  alike = marks-alike d;
+  owner = acts-on-owner d sound;
+  does = acts-where-it-can d sound;
+  unnamed = unnamed-acts-on-none d;
+  none = acts-on-none d;
+  refused = refused-acts-on-none d;
+}
+
+works-of : (d : Dialog) → IsSoundDialog d → WorksByLaws d
+works-of d sound = record {
+  opens = opens-fit d sound;
+  shows = fields-opened d sound;
+  stays = stays-fit d sound;
+  lets_go = up-lets-go d sound;
+  cancels = esc-cancels d;
+}
+
+-- ---- runs
+
+records-of : (d : Desc) → HasSoundDialogs d → RecordsByLaws d
+records-of d dialogs = record {
+  ends = ends-as-declared d dialogs;
+  cancel = declare-cancel d dialogs;
+  saves = saves-what-it-logs d dialogs;
+  reopens = reopens-as-saved d dialogs;
+  starts = starts-as-declared d dialogs;
+}
+
+leaves-of : (d : Desc) → HasSoundDialogs d → LeavesByLaws d
+leaves-of d dialogs = record {
+  cancels = esc-cancels-open d dialogs;
+  frees = up-frees-mouse d dialogs;
+  leaves = up-esc-leaves d dialogs;
+  cancels_left = up-esc-cancels d dialogs;
+  over = stays-over d;
+}
+
+pub RunsByLaws-of : (d : Desc) → HasSoundDialogs d → IsSound d → RunsByLaws d
+RunsByLaws-of d dialogs sound = record {
+  certified = sound_made d sound;
+  scripts = scripts-reach d;
+  safe = always-safe d dialogs;
+  usable = reached-fit d dialogs;
+  keys = record { reach = keys-reach d dialogs; plain = plain-keys d; alt = alt-letters d sound };
+  tabs = All-weaker IsSoundDialog TabsByLaws tabs-of d.dialogs dialogs;
+  letters = All-weaker IsSoundDialog LettersByLaws letters-of d.dialogs dialogs;
+  dialogs = All-weaker IsSoundDialog WorksByLaws works-of d.dialogs dialogs;
+  records = records-of d dialogs;
+  leaves = leaves-of d dialogs;
+}

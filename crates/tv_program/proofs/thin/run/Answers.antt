@@ -1,4 +1,0 @@
-use Rattle.tv_program.proofs.thin.run.Goals as goal
-
-pub returns : goal.returns
-returns g c = c.run_script.ensures c.args.desc.now c.in_ok-desc.ensures.sound

@@ -1,0 +1,159 @@
+-- What the laws say of every run of a sound description: of each state that events lead to, and so of each that a script makes.
+use Rattle.std.specs.Prelude.{◌≡◌, ℕ, Bool, true, false, List, filter_map, slice_get, Option, Some, None, All}
+use Rattle.tv_event.specs.declared.event.Event.{Event}
+use Rattle.tv_event.specs.declared.event.Event.TheVariants as events
+use Rattle.tv_event.specs.declared.event.Key.{Key}
+use Rattle.tv_event.specs.declared.event.Key.TheVariants as keys
+use Rattle.tv_model.specs.declared.desc.Desc.{Desc}
+use Rattle.tv_model.specs.declared.desc.Dialog.{Dialog}
+use Rattle.tv_model.specs.declared.script.Item.{Item}
+use Rattle.tv_model.specs.declared.script.Item.TheVariants as items
+use Rattle.tv_model.specs.Faults.Letters.{is_same_key}
+use Rattle.tv_machine.specs.State.{OpenDialog, State}
+use Rattle.tv_machine.specs.Dialog.Modal.{Modal}
+use Rattle.tv_machine.specs.Dialog.Shortcuts.{marker_of}
+use Rattle.tv_machine.specs.Dialog.Step.{dialog_step}
+use Rattle.tv_machine.specs.Leaves.{PlacedNode}
+use Rattle.tv_machine.specs.Output.{after}
+use Rattle.tv_machine.specs.Run.{quiet, started}
+use Rattle.tv_machine.specs.Safe.{IsAlwaysSafe}
+use Rattle.tv_machine.specs.Session.Commands.{after_work, modal_of}
+use Rattle.tv_machine.specs.Session.Step.{emptied, step}
+use Rattle.tv_check.specs.Certificates.{IsSoundCertificate, certificate_of}
+use Rattle.tv_laws.specs.Leaving.{EscCancels, TabAsksNext, TabGoesOn, UpLetsGo}
+use Rattle.tv_laws.specs.Runs.{IsFitState}
+use Rattle.tv_laws.specs.Steps.{OpensFit, StaysFit}
+use Rattle.tv_key_laws.specs.Letters.{ActsOnNone, ActsOnOwner, ActsWhereItCan, AltActs, MarksAlike, OwnLetterActs, RefusedActsOnNone, TypedActs, UnnamedActsOnNone}
+use Rattle.tv_key_laws.specs.Order.{FreeAreControls, RefusalStays, ShiftTabAsksPrevious, StopsAreTabs, TabGoesRound, TabKeepsValues}
+use Rattle.tv_record_laws.specs.Escape.{EscCancelsOpen, UpEscCancels, UpEscLeaves, UpFreesMouse}
+use Rattle.tv_record_laws.specs.Records.{DeclareCancel, EndsAsDeclared, OpensAsSaved, ReopensAsSaved, SavesWhatItLogs, StartsAsDeclared, StaysOver, reached}
+
+-- ---- the states that are spoken of
+
+-- the event of an item, if it is one
+abbrev pub event_in : Item → Option Event
+event_in (items.Event e) = Some e
+event_in items.Shot = None
+event_in items.Colors = None
+
+-- a script leaves a run where its events lead from the start, with the log taken
+abbrev pub ScriptsReach : Desc → Type 0
+ScriptsReach d =
+    (script : List Item) → after (started d) script ≡ quiet (record { desc = d; state = reached d (filter_map event_in script) })
+
+-- each state is one in which an open dialog can be used, as the laws of dialogs ask
+abbrev pub StaysUsable : Desc → Type 0
+StaysUsable d = (events : List Event) → IsFitState d (reached d events)
+
+-- ---- which keys an open dialog gets
+
+-- no status item has the key
+abbrev pub IsNoStatusKey : Desc → Key → Type 0
+IsNoStatusKey d k = All (λ item. is_same_key item.key k ≡ false) d.status
+
+-- the state after the work of the open dialog, its log taken before: it stands as its work left it, or it ended
+abbrev pub worked_on : State → OpenDialog → Modal → State
+worked_on s o m = after_work (emptied s) o m m.ended
+
+-- so it is after a key
+abbrev pub after_key : State → OpenDialog → Dialog → Key → State
+after_key s o dialog k = worked_on s o (dialog_step dialog (events.Key k) (modal_of s o))
+
+-- wherever a run has come to an open dialog in which nothing holds the mouse, a key that no status item has is the dialog's
+abbrev pub KeysReachDialog : Desc → Type 0
+KeysReachDialog d =
+    (before : List Event) (o : OpenDialog) (dialog : Dialog) (k : Key) → (reached d before).dialog ≡ Some o
+    → slice_get d.dialogs o.place ≡ Some dialog → o.held ≡ None → IsNoStatusKey d k
+    → step d (reached d before) (events.Key k) ≡ after_key (reached d before) o dialog k
+
+-- a function key, or Ctrl or Alt with a character
+abbrev pub may_be_status_key : Key → Bool
+may_be_status_key (keys.Function n) = true
+may_be_status_key (keys.Ctrl ch) = true
+may_be_status_key (keys.Alt ch) = true
+may_be_status_key _ = false
+
+-- Tab, Esc, characters and the like are never those of status items
+abbrev pub PlainKeysAreFree : Desc → Type 0
+PlainKeysAreFree d = (k : Key) → may_be_status_key k ≡ false → IsNoStatusKey d k
+
+-- nor is Alt with a letter that the dialog marks
+abbrev pub AltLettersAreFree : Desc → Dialog → Type 0
+AltLettersAreFree d dialog =
+    (letter : ℕ) (marker : PlacedNode) → marker_of dialog letter ≡ Some marker → IsNoStatusKey d (keys.Alt letter)
+
+-- ---- what is so of each dialog
+
+-- Tab and Shift-Tab go round in the order of the certificate's `tab` lines; an input that may not be left keeps the focus
+pub record TabsByLaws (dialog : Dialog) : Type 0 where
+  pub stops : StopsAreTabs dialog
+  pub controls : FreeAreControls dialog
+  pub asks_next : TabAsksNext dialog
+  pub asks_previous : ShiftTabAsksPrevious dialog
+  pub goes_on : TabGoesOn dialog
+  pub stays : RefusalStays dialog
+  pub keeps : TabKeepsValues dialog
+  pub round : TabGoesRound dialog
+
+-- a shortcut acts on the control that the certificate's `key` line names for its letter, or on none
+pub record LettersByLaws (dialog : Dialog) : Type 0 where
+  pub alt : AltActs dialog
+  pub typed : TypedActs dialog
+  pub own : OwnLetterActs dialog
+  pub alike : MarksAlike dialog
+  pub owner : ActsOnOwner dialog
+  pub does : ActsWhereItCan dialog
+  pub unnamed : UnnamedActsOnNone dialog
+  pub none : ActsOnNone dialog
+  pub refused : RefusedActsOnNone dialog
+
+-- it opens with its focus on a free control and with what was saved of it, and stays so that it can be used, until it ends by a
+-- command that it declares; a mouse up lets the mouse go, and Esc cancels
+pub record WorksByLaws (dialog : Dialog) : Type 0 where
+  pub opens : OpensFit dialog
+  pub shows : OpensAsSaved dialog
+  pub stays : StaysFit dialog
+  pub lets_go : UpLetsGo dialog
+  pub cancels : EscCancels dialog
+
+-- ---- what is so of each run
+
+-- dialogs end by declared ends alone; the record that an end logs is the one that is saved, unless it cancels, with each value in
+-- its domain; and a dialog that opens again shows it
+pub record RecordsByLaws (d : Desc) : Type 0 where
+  pub ends : EndsAsDeclared d
+  pub cancel : DeclareCancel d
+  pub saves : SavesWhatItLogs d
+  pub reopens : ReopensAsSaved d
+  pub starts : StartsAsDeclared d
+
+-- the open dialog can be left, and nothing happens after the end of a run
+pub record LeavesByLaws (d : Desc) : Type 0 where
+  pub cancels : EscCancelsOpen d
+  pub frees : UpFreesMouse d
+  pub leaves : UpEscLeaves d
+  pub cancels_left : UpEscCancels d
+  pub over : StaysOver d
+
+-- which keys the open dialog gets, whatever status items there are
+pub record KeysByLaws (d : Desc) : Type 0 where
+  pub reach : KeysReachDialog d
+  pub plain : PlainKeysAreFree d
+  pub alt : All (AltLettersAreFree d) d.dialogs
+
+-- every run of the description, whatever events come: the focus, the order of Tab, shortcuts, ends and records are what its
+-- certificate says
+pub record RunsByLaws (d : Desc) : Type 0 where
+  -- the certificate that is made of it names its order of Tab and the owners of its letters
+  pub certified : IsSoundCertificate d (certificate_of d)
+  -- each state that a script makes is one that its events lead to
+  pub scripts : ScriptsReach d
+  -- an open dialog's focus is free, and values, saved records and ends are such as are declared
+  pub safe : IsAlwaysSafe d
+  pub usable : StaysUsable d
+  pub keys : KeysByLaws d
+  pub tabs : All TabsByLaws d.dialogs
+  pub letters : All LettersByLaws d.dialogs
+  pub dialogs : All WorksByLaws d.dialogs
+  pub records : RecordsByLaws d
+  pub leaves : LeavesByLaws d

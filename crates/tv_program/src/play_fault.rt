@@ -1,0 +1,101 @@
+//! Why a script wasn't run on a description.
+
+ghost use Rattle.std.specs.Prelude.{◌≡◌};
+ghost use Rattle.tv_program.specs.declared.play_fault.PlayFault.TheVariants.{NoMemory, Write};
+ghost use Rattle.tv_program.specs.Conversions.{build_run, desc_run, lang_run, script_run, session_run};
+
+use crate::desc_fault::DescFault;
+use std::alloc::AllocError;
+use tv_building::BuildFault;
+use tv_lang::LangFault;
+use tv_model::{Fault, Sequence};
+use tv_output::WriteFailed;
+use tv_script::ScriptFault;
+use tv_session::SessionFault;
+
+/// Why a script wasn't run to its end.
+#[derive(Debug, Drop)]
+pub enum PlayFault {
+    NoMemory,
+    /// The description is not spelled right.
+    Lang(LangFault),
+    /// The faults of a description that is spelled right, by number and then by line.
+    Faults(Sequence<Fault>),
+    /// The script is not spelled right.
+    Script(ScriptFault),
+    /// The views that were made aren't as the description declares them, or none were made.
+    View,
+    /// The writer failed, or took nothing.
+    Write,
+}
+
+impl From<AllocError> for PlayFault {
+    ghost from_gives = { λ _ fault. fault ≡ NoMemory };
+
+    fn from(_error: AllocError) -> PlayFault {
+        PlayFault::NoMemory
+    }
+}
+
+impl From<LangFault> for PlayFault {
+    ghost from_gives = { λ unread fault. fault ≡ lang_run unread };
+
+    fn from(unread: LangFault) -> PlayFault {
+        match unread {
+            LangFault::NoMemory => PlayFault::NoMemory,
+            _ => PlayFault::Lang(unread),
+        }
+    }
+}
+
+impl From<DescFault> for PlayFault {
+    ghost from_gives = { λ faulty fault. fault ≡ desc_run faulty };
+
+    fn from(faulty: DescFault) -> PlayFault {
+        match faulty {
+            DescFault::NoMemory => PlayFault::NoMemory,
+            DescFault::Faults(list) => PlayFault::Faults(list),
+        }
+    }
+}
+
+impl From<ScriptFault> for PlayFault {
+    ghost from_gives = { λ unread fault. fault ≡ script_run unread };
+
+    fn from(unread: ScriptFault) -> PlayFault {
+        match unread {
+            ScriptFault::NoMemory => PlayFault::NoMemory,
+            _ => PlayFault::Script(unread),
+        }
+    }
+}
+
+impl From<BuildFault> for PlayFault {
+    ghost from_gives = { λ unbuilt fault. fault ≡ build_run unbuilt };
+
+    fn from(unbuilt: BuildFault) -> PlayFault {
+        match unbuilt {
+            BuildFault::NoMemory => PlayFault::NoMemory,
+            BuildFault::WrongPlan => PlayFault::View,
+        }
+    }
+}
+
+impl From<SessionFault> for PlayFault {
+    ghost from_gives = { λ refused fault. fault ≡ session_run refused };
+
+    fn from(refused: SessionFault) -> PlayFault {
+        match refused {
+            SessionFault::NoMemory => PlayFault::NoMemory,
+            SessionFault::ViewMismatch(_) => PlayFault::View,
+        }
+    }
+}
+
+impl From<WriteFailed> for PlayFault {
+    ghost from_gives = { λ _ fault. fault ≡ Write };
+
+    fn from(_failed: WriteFailed) -> PlayFault {
+        PlayFault::Write
+    }
+}
