@@ -4,11 +4,14 @@ use crate::shelf::Shelf;
 use crate::sink::Sink;
 use std::alloc::Global;
 use std::test::Fail;
+use tv_button_views::buttons;
 use tv_files::{BufferedStream, DirectStream, run_program, tell_no_memory};
 use tv_task::{NoTask, Task};
 use tv_test_support::certificates::CANCEL_CERTIFICATE;
 use tv_test_support::descriptions::{CANCEL, ORDER, SHARED_LETTER, WITHOUT_CANCEL};
-use tv_test_support::large::{large_certificate, large_description, large_thin_description};
+use tv_test_support::large::{
+    large_buttons_description, large_buttons_log, large_certificate, large_description,
+};
 
 const FILE: &str = Shelf::DESCRIPTION;
 
@@ -58,7 +61,7 @@ fn status(
 ) -> Result<u8, Fail> {
     let mut out = BufferedStream::new(alloc, out)?;
     let mut err = BufferedStream::new(alloc, err)?;
-    Ok(run_program(files, alloc, asked, &mut out, &mut err))
+    Ok(run_program(files, alloc, asked, &buttons, &mut out, &mut err))
 }
 
 // The order form's certificate with two lines exchanged.
@@ -80,7 +83,7 @@ end
 ";
 
 // What is asked for, the description, the text beside it, and what is told.
-const TASKS: [(Task<'static>, &str, &str, &str); 13] = [
+const TASKS: [(Task<'static>, &str, &str, &str); 14] = [
     (
         CHECK,
         CANCEL,
@@ -146,7 +149,13 @@ const TASKS: [(Task<'static>, &str, &str, &str); 13] = [
         RUN,
         ORDER,
         "key Foo\n",
-        "tvdlg: FILE: not yet\nstatus 1\nopened 1\n",
+        "tvdlg: BESIDE: syntax at line 1\nstatus 1\nopened 12\n",
+    ),
+    (
+        RUN,
+        ORDER,
+        "key Esc\n",
+        "tvdlg: view refused\nstatus 1\nopened 12\n",
     ),
     (
         RUN,
@@ -251,8 +260,10 @@ fn large_texts(rt: HostRuntime) -> Result<(), Fail> {
     let alloc = rt.alloc();
     let description = large_description(alloc)?;
     let certificate = large_certificate(alloc)?;
-    let thin = large_thin_description(alloc)?;
+    let buttons = large_buttons_description(alloc)?;
     let script = "key Tab\n".repeat(alloc, 2000)?;
+    let log = large_buttons_log(alloc, 2000)?;
+    let run = format!(in alloc; "{log}status 0\nopened 12\n")?;
     let checked = format!(in alloc; "{certificate}status 0\nopened 1\n")?;
     for (task, texts, wanted) in [
         (CHECK, (description.as_str(), ""), checked.as_str()),
@@ -261,11 +272,7 @@ fn large_texts(rt: HostRuntime) -> Result<(), Fail> {
             (description.as_str(), certificate.as_str()),
             "accepted\nstatus 0\nopened 12\n",
         ),
-        (
-            RUN,
-            (thin.as_str(), script.as_str()),
-            "open d\nfocus c\nstatus 0\nopened 12\n",
-        ),
+        (RUN, (buttons.as_str(), script.as_str()), run.as_str()),
     ] {
         let told = ending(alloc, Ok(task), texts, AMPLE, AMPLE)?;
         assert_eq!(rt; told.as_str(), wanted, "{task:?}");

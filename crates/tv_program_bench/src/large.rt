@@ -69,8 +69,8 @@ fn add_rules(alloc: Global, text: &mut String) -> Result<()> {
     Ok(())
 }
 
-/// A sound dialog of texts and buttons, over the largest screen.
-pub fn thin(alloc: Global) -> Result<String> {
+/// A sound dialog of ten buttons, over the largest screen.
+pub fn buttons(alloc: Global) -> Result<String> {
     let mut text = String::from_str(alloc, "tvd 1\nscreen 132 60\nstart d\n")?;
     text.push_str("dialog d 0 1 132 58 \"a dialog\" ends cancel\n")?;
     add_buttons(alloc, &mut text)?;

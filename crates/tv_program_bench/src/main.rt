@@ -11,9 +11,10 @@ use sink::Sink;
 use std::alloc::Global;
 use std::rt::Clock;
 use std::time::Instant;
+use tv_button_views::buttons;
 use tv_check::{accept, certify, faults};
 use tv_lang::parse;
-use tv_program::thin;
+use tv_program::run;
 
 // Microseconds since then.
 fn micros<R: Clock>(rt: &R, start: Instant) -> Result<u128> {
@@ -48,11 +49,18 @@ fn measure_certificate<R: Clock + Eprint>(rt: &R, alloc: Global, text: &str) -> 
     Ok(())
 }
 
-// How long a script takes, the reading of both texts included.
+// How long a script takes over a dialog of buttons, the reading of both texts and the making of the views included.
 fn measure_events<R: Clock + Eprint>(rt: &R, alloc: Global, script: &str) -> Result<()> {
-    let desc = large::thin(alloc)?;
+    let desc = large::buttons(alloc)?;
     let start = Instant::now(rt)?;
-    let is_run = thin::run(alloc, desc.as_bytes(), script.as_bytes(), &mut Sink).is_ok();
+    let is_run = run(
+        alloc,
+        desc.as_bytes(),
+        script.as_bytes(),
+        &buttons,
+        &mut Sink,
+    )
+    .is_ok();
     let spent = micros(rt, start)?;
     let bytes = script.len();
     eprintln!(rt; "a script of {bytes} bytes run ({is_run}) in {spent} us")?;
@@ -76,15 +84,15 @@ fn measure_beyond<R: Clock + Eprint>(rt: &R, alloc: Global) -> Result<()> {
     measure_faults(rt, alloc, "a long picture", &beyond::long_picture(alloc)?)
 }
 
-fn run<R: Clock + Eprint + Alloc>(rt: &R, alloc: Global) -> Result<()> {
+fn measure<R: Clock + Eprint + Alloc>(rt: &R, alloc: Global) -> Result<()> {
     let largest = large::lawful(alloc)?;
     measure_faults(rt, alloc, "the largest lawful", &largest)?;
     measure_certificate(rt, alloc, &largest)?;
     measure_beyond(rt, alloc)?;
-    measure_events(rt, alloc, &"key Tab\n".repeat(alloc, 100_000)?)?;
-    measure_events(rt, alloc, &"shot\n".repeat(alloc, 2_000)?)
+    measure_events(rt, alloc, &"key Tab\n".repeat(alloc, 5_000)?)?;
+    measure_events(rt, alloc, &"shot\n".repeat(alloc, 1_000)?)
 }
 
 fn main(rt: HostRuntime) -> Result<()> {
-    run(&rt, rt.alloc())
+    measure(&rt, rt.alloc())
 }

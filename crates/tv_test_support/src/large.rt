@@ -102,12 +102,39 @@ fn texts(alloc: Global, count: usize) -> Result<String, AllocError> {
     text.repeat(alloc, count)
 }
 
-/// One dialog of sixty views, open at the start.
-pub fn large_thin_description(alloc: Global) -> Result<String, Fail> {
-    let texts = texts(alloc, 59)?;
-    Ok(format!(in alloc;
-        "tvd 1\nscreen 132 60\nstart d\ndialog d 0 1 132 58 \"\" ends cancel\n{texts}button c 1 2 10 \"~C~ancel\" cancel\nend\n"
-    )?)
+/// One dialog of sixty-four buttons, open at the start: `b0` gives the command 100 and `b62` 162, and `c` cancels it.
+pub fn large_buttons_description(alloc: Global) -> Result<String, Fail> {
+    let mut desc = String::from_str(
+        alloc,
+        "tvd 1\nscreen 132 60\nstart d\ndialog d 0 1 132 58 \"\" ends cancel\n",
+    )?;
+    for button in 0u32..63 {
+        let x = 1 + 13 * (button % 10);
+        let y = 1 + button / 10;
+        let line = format!(in alloc;
+            "button b{button} {x} {y} 10 \"a button\" {}\n",
+            100 + button
+        )?;
+        desc.push_str(&line)?;
+    }
+    desc.push_str("button c 1 20 10 \"~C~ancel\" cancel\nend\n")?;
+    Ok(desc)
+}
+
+/// What a run of these buttons logs at its start, and then at so many keys Tab.
+pub fn large_buttons_log(alloc: Global, tabs: u32) -> Result<String, Fail> {
+    let mut log = String::from_str(alloc, "open d\nfocus b0\n")?;
+    for tab in 0..tabs {
+        match tab % 64 {
+            62 => log.push_str("focus c\n")?,
+            63 => log.push_str("focus b0\n")?,
+            button => {
+                let line = format!(in alloc; "focus b{}\n", button + 1)?;
+                log.push_str(&line)?;
+            }
+        }
+    }
+    Ok(log)
 }
 
 /// The certificate of the large description.

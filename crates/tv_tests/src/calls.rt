@@ -1,11 +1,12 @@
 //! The program's calls, each made in one place, and what is told of them.
 
+use crate::makers::no_views;
 use std::alloc::Global;
 use std::test::Fail;
+use tv_button_views::buttons;
 use tv_lang::parse;
 use tv_output::Writer;
-use tv_program::thin::run;
-use tv_program::{RunFault, accept_files, accept_text, check, report};
+use tv_program::{RunFault, accept_files, accept_text, check, report, run};
 use tv_test_support::{Idle, Memory, Question, expect_answer};
 
 /// A call of the program about a text.
@@ -17,10 +18,12 @@ pub enum Call<'a> {
     AcceptFiles { desc: &'a str },
     /// The same, where the description was read before.
     AcceptText { desc: &'a str },
-    /// Runs a script on the description that the text spells.
+    /// Runs a script on the description that the text spells, through buttons.
     Run { script: &'a str },
-    /// Runs the script that the text spells on a description.
+    /// Runs the script that the text spells on a description, through buttons.
     Perform { desc: &'a str },
+    /// Runs a script on the description that the text spells, without any views.
+    RunBare { script: &'a str },
 }
 
 impl Call<'_> {
@@ -32,6 +35,7 @@ impl Call<'_> {
             Call::AcceptText { desc } => accept_text_into(alloc, desc.as_bytes(), text, out),
             Call::Run { script } => run_into(alloc, text, script.as_bytes(), out),
             Call::Perform { desc } => run_into(alloc, desc.as_bytes(), text, out),
+            Call::RunBare { script } => run_bare_into(alloc, text, script.as_bytes(), out),
         }
     }
 }
@@ -59,14 +63,23 @@ fn accept_text_into<W: Writer>(
     Ok(accept_text(alloc, desc, certificate, out)?)
 }
 
-/// Runs a script on a description.
+/// Runs a script on a description, whose controls are to be buttons.
 pub fn run_into<W: Writer>(
     alloc: Global,
     desc: &[u8],
     script: &[u8],
     out: &mut W,
 ) -> Result<(), RunFault> {
-    Ok(run(alloc, desc, script, out)?)
+    Ok(run(alloc, desc, script, &buttons, out)?)
+}
+
+fn run_bare_into<W: Writer>(
+    alloc: Global,
+    desc: &[u8],
+    script: &[u8],
+    out: &mut W,
+) -> Result<(), RunFault> {
+    Ok(run(alloc, desc, script, &no_views, out)?)
 }
 
 /// Tells of a fault. Returns the status.

@@ -1,4 +1,4 @@
-//! What the program checks, accepts and doesn't run yet, from the bytes of its files to what it prints and its status.
+//! What the program checks, accepts and refuses to run, from the bytes of its files to what it prints and its status.
 
 use crate::calls::{Call, expect_cuts, expect_stop};
 use std::alloc::Global;
@@ -215,71 +215,79 @@ fn descriptions_of_another_version(rt: HostRuntime) -> Result<(), Fail> {
     expect_acceptance(rt.alloc(), "tvd 3\n", OTHER_VERSION)
 }
 
-// A script that is no script: a description that isn't run yet is told first.
-const NO_SCRIPT: Call<'static> = Call::Run {
-    script: "key Foo\n",
-};
-
-// Descriptions that are read and aren't one dialog of texts and plain buttons; the first one is faulty too.
-const NOT_YET: &str = r#"dialog d 2 2 36 11 "" ends ok
+// Views are made once both texts have passed, and have to be those that the description declares.
+const VIEWS: &str = r#"dialog d 2 2 36 11 "" ends ok cancel
 input i 1 1 8 4 any ""
 end
-=> tvdlg: NAME: not yet
+=> tvdlg: view refused
 => status 1
 dialog d 2 2 36 11 "" ends cancel
-button c 1 1 10 "~C~" cancel default
+input i 1 1 8 4 any ""
+button c 1 2 10 "~C~" cancel
 end
-=> tvdlg: NAME: not yet
+=> tvdlg: view refused
 => status 1
-dialog d 2 2 36 11 "" ends cancel
-button c 1 1 10 "~C~" cancel grab
+dialog d 2 2 36 11 "" ends ok
+input i 1 1 8 4 any ""
 end
-=> tvdlg: NAME: not yet
+=> F10 line 3
 => status 1
-dialog d 2 2 36 11 "" opens 100 ends cancel
-button c 1 1 10 "~C~" cancel
+window w 1 1 20 5 1 ""
+text 1 1 5 1 "C"
 end
-=> tvdlg: NAME: not yet
-=> status 1
-dialog d 2 2 36 11 "" ends cancel
-button c 1 1 10 "~C~" cancel
-enable 100 when c 1
-end
-=> tvdlg: NAME: not yet
+=> tvdlg: view refused
 => status 1
 window w 1 1 20 5 1 ""
 end
-=> tvdlg: NAME: not yet
-=> status 1
+=> status 0
+dialog d 2 2 36 11 "" opens 100 ends cancel
+button c 1 1 10 "~C~" cancel default grab
+end
+=> status 0
 dialog d 2 2 36 11 "" ends cancel
 button c 1 1 10 "~C~" stop
 end
 => tvdlg: NAME: syntax at line 4
 => status 1
-dialog d 2 2 36 11 "" ends cancel
-button c 1 1 10 "~C~" cancel
-end
-=> tvdlg: NAME: syntax at line 1
-=> status 1
 "#;
 
+const NO_ITEMS: Call<'static> = Call::Run { script: "" };
+
 #[test]
-fn descriptions_not_run_yet(rt: HostRuntime) -> Result<(), Fail> {
-    expect_answers(&NO_SCRIPT, rt.alloc(), "tvd 1\nscreen 40 14\n", NOT_YET, "")
+fn views_of_another_kind(rt: HostRuntime) -> Result<(), Fail> {
+    expect_answers(&NO_ITEMS, rt.alloc(), "tvd 1\nscreen 40 14\n", VIEWS, "")
 }
 
-const NOT_YET_TOLD: &str = "tvdlg: NAME: not yet\nstatus 1\n";
+const REFUSED_VIEW: &str = "tvdlg: view refused\nstatus 1\n";
 
 #[test]
-fn examples_not_run_yet(rt: HostRuntime) -> Result<(), Fail> {
-    const ROWS: [(&str, &str); 5] = [
-        (ORDER, NOT_YET_TOLD),
-        (COLOUR, NOT_YET_TOLD),
-        (WINDOWS, NOT_YET_TOLD),
-        (MENUS, NOT_YET_TOLD),
-        (SHARED_LETTER, NOT_YET_TOLD),
+fn examples_without_their_views(rt: HostRuntime) -> Result<(), Fail> {
+    const ROWS: [(&str, &str); 6] = [
+        (ORDER, REFUSED_VIEW),
+        (COLOUR, REFUSED_VIEW),
+        (WINDOWS, REFUSED_VIEW),
+        (CANCEL, REFUSED_VIEW),
+        (MENUS, "status 0\n"),
+        (SHARED_LETTER, "F4 line 8\nstatus 1\n"),
     ];
-    expect_rows(&NO_SCRIPT, rt.alloc(), &ROWS)
+    expect_rows(&Call::RunBare { script: "" }, rt.alloc(), &ROWS)
+}
+
+// A script that is no script is told before the views are made.
+#[test]
+fn scripts_are_read_first(rt: HostRuntime) -> Result<(), Fail> {
+    let unread = "tvdlg: NAME: syntax at line 1\nstatus 1\n";
+    for call in [
+        Call::Run {
+            script: "key Foo\n",
+        },
+        Call::RunBare {
+            script: "key Foo\n",
+        },
+    ] {
+        expect_rows(&call, rt.alloc(), &[(ORDER, unread), (WINDOWS, unread)])?;
+    }
+    Ok(())
 }
 
 #[test]

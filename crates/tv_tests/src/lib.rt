@@ -2,6 +2,8 @@
 #![tactic(auto)]
 
 #[cfg(test)]
+mod building;
+#[cfg(test)]
 mod calls;
 #[cfg(test)]
 mod checks;
@@ -14,6 +16,8 @@ mod copies;
 #[cfg(test)]
 mod each_fault;
 #[cfg(test)]
+mod makers;
+#[cfg(test)]
 mod memory;
 #[cfg(test)]
 mod performing;
@@ -23,5 +27,7 @@ mod reports;
 mod runs;
 #[cfg(test)]
 mod scripts;
+#[cfg(test)]
+mod sessions;
 #[cfg(test)]
 mod texts;

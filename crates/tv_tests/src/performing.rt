@@ -1,12 +1,12 @@
 //! Scripts that are performed as far as a writer takes their output.
 
+use crate::makers::{checked, session};
 use std::alloc::Global;
 use std::test::Fail;
+use tv_button_views::buttons;
 use tv_model::Id;
-use tv_program::thin::read_sound;
-use tv_script::{Grammar, parse_script, perform};
+use tv_script::{Script, perform};
 use tv_test_support::Memory;
-use tv_thin::ThinSession;
 
 const TWO_BUTTONS: &str = r#"tvd 1
 screen 20 10
@@ -17,26 +17,32 @@ button g 2 2 10 "~G~o" 121
 end
 "#;
 
+fn script(alloc: Global, text: &str) -> Result<Script, Fail> {
+    Ok(Script::parse(alloc, text.as_bytes(), 20, 10)?)
+}
+
 // How many items of a script were begun where the writer took so many bytes, unless all was written, and the line of the control
 // that has the focus then.
-fn begun(alloc: Global, script: &str, room: usize) -> Result<(Option<usize>, Option<Id>), Fail> {
-    let Ok(desc) = read_sound(alloc, TWO_BUTTONS.as_bytes()) else {
-        return Err(Fail::new("no thin description"));
-    };
-    let Ok(items) = parse_script(alloc, Grammar::Thin, script.as_bytes()) else {
-        return Err(Fail::new("no thin script"));
-    };
-    let mut session = ThinSession::new(alloc, desc)?;
-    let mut out = Memory::new(alloc, room, 1000)?;
-    let begun = perform(&mut session, items.as_slice(), &mut out).err();
+fn begun(
+    alloc: Global,
+    script: &Script,
+    room: usize,
+    most_a_call: usize,
+) -> Result<(Option<usize>, Option<Id>), Fail> {
+    let mut out = Memory::new(alloc, room, most_a_call)?;
+    let checked = checked(alloc, TWO_BUTTONS)?;
+    let views = buttons(alloc, &checked)?;
+    let mut session = session(alloc, checked, views)?;
+    let begun = perform(&mut session, script, &mut out).err();
     Ok((begun, session.focus()))
 }
 
 // The log of the start has 15 bytes, that of Tab 8, and that of a space 20. Nothing is performed after the item at which the
-// writer failed.
+// writer failed, and it is no matter how much the writer takes at once.
 #[test]
 fn begun_items(rt: HostRuntime) -> Result<(), Fail> {
-    for (script, room, wanted, line) in [
+    for (text, room, wanted, line) in [
+        ("key Tab\ntype \"  \"\n", 0, Some(0), 5),
         ("key Tab\ntype \"  \"\n", 14, Some(0), 5),
         ("key Tab\ntype \"  \"\n", 15, Some(1), 6),
         ("key Tab\ntype \"  \"\n", 23, Some(2), 6),
@@ -48,8 +54,11 @@ fn begun_items(rt: HostRuntime) -> Result<(), Fail> {
         ("type \"  \"\nkey Tab\n", 55, Some(3), 6),
         ("type \"\"\nshot\n", 15, Some(1), 5),
     ] {
-        let found = begun(rt.alloc(), script, room)?;
-        assert_eq!(rt; found, (wanted, Some(Id(line))), "{script} at {room}");
+        let script = script(rt.alloc(), text)?;
+        for most_a_call in [1, 1000] {
+            let found = begun(rt.alloc(), &script, room, most_a_call)?;
+            assert_eq!(rt; found, (wanted, Some(Id(line))), "{text} at {room}");
+        }
     }
     Ok(())
 }

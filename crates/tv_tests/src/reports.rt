@@ -57,7 +57,7 @@ fn reports_on_texts(rt: HostRuntime) -> Result<(), Fail> {
             RunFault::Cert(CertificateFault::TooLong),
             "tvdlg: NAME: too long\n",
         ),
-        (RunFault::NotYet, "tvdlg: NAME: not yet\n"),
+        (RunFault::View, "tvdlg: view refused\n"),
     ] {
         expect_report(rt.alloc(), &fault, message, 1)?;
     }

@@ -4,7 +4,7 @@ use crate::calls::{Call, run_into};
 use std::alloc::Global;
 use std::test::Fail;
 use tv_program::RunFault;
-use tv_script::{Grammar, ScriptFault, parse_script};
+use tv_script::{Script, ScriptFault};
 use tv_test_support::descriptions::{CANCEL, WITHOUT_CANCEL};
 use tv_test_support::{Memory, Question, expect_answer, expect_answers};
 
@@ -37,28 +37,24 @@ fn fault_told(alloc: Global, fault: ScriptFault) -> Result<String, Fail> {
     }
 }
 
-// What the reader of scripts says, by the lines that a script may have.
+// What the reader of scripts says, for a screen of 20 columns and 10 rows.
 #[derive(Clone, Copy)]
-struct ReadScripts(Grammar);
+struct ReadScripts;
 
 impl Question for ReadScripts {
     fn answer(&self, alloc: Global, text: &[u8]) -> Result<String, Fail> {
-        match script_fault(alloc, self.0, text) {
+        match script_fault(alloc, text) {
             None => Ok(String::from_str(alloc, "performed\n")?),
             Some(fault) => fault_told(alloc, fault),
         }
     }
 }
 
-fn script_fault(alloc: Global, grammar: Grammar, text: &[u8]) -> Option<ScriptFault> {
-    parse_script(alloc, grammar, text).err()
+fn script_fault(alloc: Global, text: &[u8]) -> Option<ScriptFault> {
+    Script::parse(alloc, text, 20, 10).err()
 }
 
 const SCRIPTS: &str = "key Foo
-=> syntax at line 1
-type \"a\"
-=> syntax at line 1
-type \" a\"
 => syntax at line 1
 type \"\\n\"
 => syntax at line 1
@@ -66,13 +62,9 @@ type \"\u{20}
 => syntax at line 1
 type\u{20}
 => syntax at line 1
-down 1 1
-=> syntax at line 1
 key tab
 => syntax at line 1
 key \"Tab\"
-=> syntax at line 1
-key Up
 => syntax at line 1
 shot 1
 => syntax at line 1
@@ -98,7 +90,7 @@ type \"\"
 #[test]
 fn refused_scripts(rt: HostRuntime) -> Result<(), Fail> {
     expect_answers(&RunScripts, rt.alloc(), "", SCRIPTS, "")?;
-    expect_answers(&ReadScripts(Grammar::Thin), rt.alloc(), "", SCRIPTS, "")
+    expect_answers(&ReadScripts, rt.alloc(), "", SCRIPTS, "")
 }
 
 // Scripts for a screen of 20 columns and 10 rows. The first faulty line decides, and what is no line comes before what is off
@@ -152,11 +144,10 @@ key Ctrl-a
 => syntax at line 1
 "#;
 
-const WHOLE: Grammar = Grammar::Whole(20, 10);
-
 #[test]
 fn whole_scripts(rt: HostRuntime) -> Result<(), Fail> {
-    expect_answers(&ReadScripts(WHOLE), rt.alloc(), "", WHOLE_SCRIPTS, "")
+    expect_answers(&RunScripts, rt.alloc(), "", WHOLE_SCRIPTS, "")?;
+    expect_answers(&ReadScripts, rt.alloc(), "", WHOLE_SCRIPTS, "")
 }
 
 // What comes of a script that types so many spaces and goes on by this line.
@@ -185,11 +176,12 @@ fn items_of_scripts(rt: HostRuntime) -> Result<(), Fail> {
         (100_000, "key Foo", "syntax at line 2\n"),
         (100_001, "key Foo", "too long\n"),
     ] {
-        expect_typed(&RunScripts, rt.alloc(), count, line, wanted)?;
-        expect_typed(&ReadScripts(WHOLE), rt.alloc(), count, line, wanted)?;
+        expect_typed(&ReadScripts, rt.alloc(), count, line, wanted)?;
     }
     let off = "off screen at line 2\n";
-    expect_typed(&ReadScripts(WHOLE), rt.alloc(), 100_000, "down 20 0", off)
+    expect_typed(&ReadScripts, rt.alloc(), 100_000, "down 20 0", off)?;
+    let long = "too long\n";
+    expect_typed(&RunScripts, rt.alloc(), 100_000, "shot", long)
 }
 
 fn expect_comment_script<Q: Question>(

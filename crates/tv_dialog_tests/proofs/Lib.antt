@@ -1,2 +1,0 @@
-pub mod AreaLemmas
-pub mod FreshLemmas

@@ -1,0 +1,65 @@
+-- What a fresh body may be handed, and the heads of nodes.
+use Rattle.std.proofs.Common.{◌≡◌, ◌≤◌, ◌+◌, ℕ, List, [], ◌∷◌, map, length, arith, refl, sym, subst}
+use Rattle.std.specs.Prelude.{IfSome}
+use Rattle.std.proofs.lemmas.List.{length-map}
+use Rattle.std.proofs.lemmas.List.Elements.{All-head, All-map}
+use Rattle.tv_model.specs.declared.node.Node.{Node}
+use Rattle.tv_model.specs.declared.kind.Button.{Button}
+use Rattle.tv_model.specs.declared.kind.Kind.{Kind}
+use Rattle.tv_model.specs.declared.kind.Kind.TheVariants as kinds
+use Rattle.tv_model.specs.Controls.Meaning.{Leaf}
+use Rattle.tv_model.specs.Description.LawfulNodes.{IsLimited, IsShort}
+use Rattle.tv_model.specs.Log.Record.{Entries}
+use Rattle.tv_machine.specs.Leaves.{leaf_list}
+use Rattle.tv_view.specs.Calls.{Fits}
+use Rattle.tv_leaf.proofs.CoreLemmas.{limited_small}
+use Rattle.tv_group.specs.Calls.{FitsAll, HasRoomForAll}
+use Rattle.tv_group.specs.Opened.{opened}
+use Rattle.tv_group.specs.Outline.{IsFreshBody, body_bounds}
+use Rattle.tv_group.specs.declared.group.GroupOf.{GroupOf}
+use Rattle.tv_group.proofs.TreeLemmas.{fresh_placed, opened-fresh}
+use Rattle.tv_dialog.specs.Head as heads
+use Rattle.tv_dialog.specs.Head.{declared_head}
+use Rattle.tv_tree.proofs.EndingLemmas.{fewer_leaves}
+use Rattle.tv_dialog.proofs.FirstRecordLemmas.{few-room}
+use Rattle.tv_machine.proofs.LeafLemmas.{leaves-all}
+use Rattle.tv_run_tests.specs.Fitting.{FitsView, FitsViews}
+
+module _ {V : Type 0} (look : V → Leaf) (owner : Node) (views : List Node) (g : GroupOf V) (fresh : IsFreshBody look owner views g) where
+  -- a record that fits the views fits the body
+  pub fresh_fits : (entries : Entries) → FitsViews entries views → FitsAll entries (opened look g)
+  unfolding Fits
+  fresh_fits entries fit =
+      subst (FitsAll entries) (sym (opened-fresh look owner views g fresh))
+      (All-map (λ x. Fits entries x.leaf) (fresh_placed (body_bounds owner)) (leaf_list views) (leaves-all (FitsView entries) [] views fit))
+
+  -- a record has room for the values of so few views
+  pub fresh_room : length views ≤ 64 → HasRoomForAll (opened look g) []
+  fresh_room few =
+      let same : length (map (fresh_placed (body_bounds owner)) (leaf_list views)) ≡ length (leaf_list views) = length-map (leaf_list views) (fresh_placed (body_bounds owner)) in
+      let fewer = fewer_leaves [] views in
+      subst (λ xs. HasRoomForAll xs []) (sym (opened-fresh look owner views g fresh))
+      (few-room (map (fresh_placed (body_bounds owner)) (leaf_list views)) [] (omega (arith, fewer, few, same)))
+
+-- what a dialog keeps of a limited node is limited
+pub limited_head : (node : Node) → IsLimited node → IfSome (declared_head node) heads.IsLimited
+limited_head node limited = by node.kind refl
+  where
+    by : (kind : Kind) → node.kind ≡ kind → IfSome (declared_head node) heads.IsLimited
+    by (kinds.Dialog own) is = rw is (record {
+      bounds = rw is at (limited_small node limited);
+      title = All-head IsShort own.title [] (rw is at limited.texts);
+    })
+    by (kinds.Window own) is = rw is tt
+    by (kinds.Text own) is = rw is tt
+    by (kinds.Label own) is = rw is tt
+    by (kinds.Button own) is = rw is tt
+    by (kinds.Input own) is = rw is tt
+    by (kinds.CheckBoxes own) is = rw is tt
+    by (kinds.RadioButtons own) is = rw is tt
+    by (kinds.List own) is = rw is tt
+    by (kinds.Pane own) is = rw is tt
+
+-- a button's node has no head
+pub button_headless : (node : Node) (own : Button) → node.kind ≡ kinds.Button own → IfSome (declared_head node) heads.IsLimited
+button_headless node own is = rw is tt

@@ -1,0 +1,58 @@
+//! Tests of runs over boxed controls of all seven kinds, made by a loop over the plan of a checked description, and of the
+//! dialogs and groups that such controls stand in.
+#![tactic(auto)]
+
+#[cfg(test)]
+mod asked;
+#[cfg(test)]
+mod bars;
+#[cfg(test)]
+mod bodies;
+#[cfg(test)]
+mod colours;
+#[cfg(test)]
+mod constructors;
+#[cfg(test)]
+mod controls;
+#[cfg(test)]
+mod crowded;
+#[cfg(test)]
+mod desk;
+#[cfg(test)]
+mod dialogs;
+#[cfg(test)]
+mod fields;
+#[cfg(test)]
+mod fitting;
+#[cfg(test)]
+mod large;
+#[cfg(test)]
+mod lists;
+#[cfg(test)]
+mod making;
+#[cfg(test)]
+mod mismatches;
+#[cfg(test)]
+mod naming;
+#[cfg(test)]
+mod opening;
+#[cfg(test)]
+mod order;
+#[cfg(test)]
+mod panes;
+#[cfg(test)]
+mod probes;
+#[cfg(test)]
+mod running;
+#[cfg(test)]
+mod stacked;
+#[cfg(test)]
+mod steps;
+#[cfg(test)]
+mod telling;
+#[cfg(test)]
+mod walks;
+#[cfg(test)]
+mod wide;
+#[cfg(test)]
+mod writers;

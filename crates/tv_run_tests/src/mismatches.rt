@@ -1,0 +1,119 @@
+//! Views for which no session is made.
+
+use crate::bodies::{checked, first_body, first_dialog};
+use crate::making::views;
+use crate::naming::{id_of, put};
+use crate::opening::with_values;
+use std::alloc::Global;
+use std::process::Abort;
+use std::test::Fail;
+use tv_building::Views;
+use tv_check::Checked;
+use tv_model::{Record, Value};
+use tv_session::{Session, SessionFault};
+use tv_test_support::descriptions::{CANCEL, ORDER, WINDOWS};
+use tv_valid::Text;
+use tv_view::View;
+
+// What is done to the views of a description.
+#[derive(Clone, Copy, Debug)]
+enum Edit {
+    Nothing,
+    /// The only body is taken away.
+    Missing,
+    /// A second body is handed in after the only one.
+    OneTooMany,
+    /// The first window changes its place with the second.
+    Exchanged,
+}
+
+impl Edit {
+    fn make(
+        self,
+        views: &mut Views<Box<dyn View>>,
+        other: Views<Box<dyn View>>,
+    ) -> Result<(), Fail> {
+        match self {
+            Edit::Nothing => {}
+            Edit::Missing => views.bodies.clear(),
+            Edit::OneTooMany => {
+                for body in other.bodies {
+                    views.bodies.push(body)?;
+                }
+            }
+            Edit::Exchanged => {
+                if views.windows.len() < 2 {
+                    return Err("there are no two windows".into());
+                }
+                views.windows.swap(0, 1);
+            }
+        }
+        Ok(())
+    }
+}
+
+// Why no session is made over the views, if so.
+fn refusal(alloc: Global, checked: Checked, views: Views<Box<dyn View>>) -> Option<SessionFault> {
+    match Session::new(alloc, checked, views.windows, views.bodies) {
+        Ok(_) => None,
+        Err(refused) => Some(refused.fault),
+    }
+}
+
+fn refusal_after(alloc: Global, desc: &str, edit: Edit) -> Result<Option<SessionFault>, Fail> {
+    let checked = checked(alloc, desc)?;
+    let mut made = views(alloc, &checked, None)?;
+    edit.make(&mut made, views(alloc, &checked, None)?)?;
+    Ok(refusal(alloc, checked, made))
+}
+
+const EDITS: [(&str, Edit, Option<SessionFault>); 6] = [
+    (CANCEL, Edit::Nothing, None),
+    (CANCEL, Edit::Missing, Some(SessionFault::ViewMismatch(1))),
+    (ORDER, Edit::Nothing, None),
+    (ORDER, Edit::OneTooMany, Some(SessionFault::ViewMismatch(2))),
+    (WINDOWS, Edit::Nothing, None),
+    (
+        WINDOWS,
+        Edit::Exchanged,
+        Some(SessionFault::ViewMismatch(1)),
+    ),
+];
+
+#[test]
+fn mismatches(rt: HostRuntime) -> Result<(), Fail> {
+    for (desc, edit, wanted) in EDITS {
+        assert_eq!(rt;
+            refusal_after(rt.alloc(), desc, edit)?,
+            wanted,
+            "{edit:?} in {desc}"
+        );
+    }
+    Ok(())
+}
+
+// The views of the order form, whose amount has another value than it is declared with.
+fn changed_views(alloc: Global, checked: &Checked) -> Result<Views<Box<dyn View>>, Fail> {
+    let dialog = first_dialog(checked)?;
+    let body = first_body(alloc, checked)?;
+    let mut values = Record::new();
+    body.gather(&mut values);
+    let amount = Text::from_chars(&['2']).ok_or("one character")?;
+    put(&mut values, id_of(dialog, "amount")?, Value::Text(amount))?;
+    let mut bodies = Vec::new(alloc);
+    bodies.push(with_values(alloc, dialog, body, &values)?)?;
+    Ok(Views {
+        windows: Vec::new(alloc),
+        bodies,
+    })
+}
+
+#[test]
+fn a_changed_value(rt: HostRuntime) -> Result<(), Fail> {
+    let alloc = rt.alloc();
+    let checked = checked(alloc, ORDER)?;
+    let views = changed_views(alloc, &checked)?;
+    let fault = refusal(alloc, checked, views);
+    assert_eq!(rt; fault, Some(SessionFault::ViewMismatch(1)));
+    Ok(())
+}

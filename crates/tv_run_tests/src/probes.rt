@@ -1,0 +1,138 @@
+//! A view that passes each call on to a control, and notes what it is told.
+
+use std::alloc::{AllocError, Global};
+use std::cell::RefCell;
+use std::rc::Rc;
+use std::test::Fail;
+use tv_cells::{Canvas, Rect, Screen};
+use tv_event::{Event, Options, Phase, State};
+use tv_model::{Id, Node, Record};
+use tv_view::{Env, Reaction, Rules, View};
+
+/// What a view is told.
+#[derive(Clone, Copy, Debug, PartialEq, Eq)]
+pub enum Call {
+    /// To handle an event in a phase.
+    Handed(Event, Phase),
+    /// To draw itself.
+    Drawn,
+    /// That it is dropped.
+    Dropped,
+}
+
+/// The calls of all probes that share it, in order.
+#[derive(Drop)]
+pub struct Journal {
+    calls: RefCell<Vec<Call>>,
+}
+
+impl Journal {
+    /// A journal without calls.
+    pub fn new(alloc: Global) -> Result<Rc<Journal>, AllocError> {
+        let calls = RefCell::new(Vec::new(alloc));
+        Ok(Rc::new(alloc, Journal { calls })?)
+    }
+
+    // A call that can't be noted is missing, and so the test that wants it fails.
+    fn note(&self, call: Call) {
+        if let Ok(mut calls) = self.calls.try_borrow_mut() {
+            calls.push(call).ok();
+        }
+    }
+
+    /// The calls, of which none is left.
+    pub fn take(&self, alloc: Global) -> Result<Vec<Call>, Fail> {
+        match self.calls.try_replace(Vec::new(alloc)) {
+            Ok(calls) => Ok(calls),
+            Err(_) => Err("the journal is lent".into()),
+        }
+    }
+}
+
+/// A view that is another, which it tells all that it is told itself.
+pub struct Probe<V: View> {
+    view: V,
+    journal: Rc<Journal>,
+}
+
+impl<V: View> Probe<V> {
+    /// A probe of the view, which notes its calls in the journal.
+    pub fn new(view: V, journal: &Rc<Journal>) -> Result<Probe<V>, AllocError> {
+        Ok(Probe {
+            view,
+            journal: Rc::clone(journal)?,
+        })
+    }
+}
+
+impl<V: View> Drop for Probe<V> {
+    fn drop(self) {
+        self.journal.note(Call::Dropped);
+        let Probe {
+            view: _,
+            journal: _,
+        } = self;
+    }
+}
+
+impl<V: View> View for Probe<V> {
+    ghost meaning = { λ probe. V.meaning probe.view };
+
+    fn id(&self) -> Id {
+        self.view.id()
+    }
+
+    fn bounds(&self) -> Rect {
+        self.view.bounds()
+    }
+
+    fn state(&self) -> State {
+        self.view.state()
+    }
+
+    fn options(&self) -> Options {
+        self.view.options()
+    }
+
+    fn handle(&mut self, event: &Event, phase: Phase, env: &Env) -> Reaction {
+        self.journal.note(Call::Handed(*event, phase));
+        self.view.handle(event, phase, env)
+    }
+
+    fn draw(&self, screen: &mut Screen, canvas: Canvas, env: &Env) {
+        self.journal.note(Call::Drawn);
+        self.view.draw(screen, canvas, env)
+    }
+
+    fn focus_to(&mut self, id: Id) -> bool {
+        self.view.focus_to(id)
+    }
+
+    fn press_item(&mut self, id: Id, item: u8) {
+        self.view.press_item(id, item)
+    }
+
+    fn held(&self) -> bool {
+        self.view.held()
+    }
+
+    fn first_invalid(&self) -> Option<Id> {
+        self.view.first_invalid()
+    }
+
+    fn get(&self, values: &mut Record) {
+        self.view.get(values)
+    }
+
+    fn set(&mut self, values: &Record) {
+        self.view.set(values)
+    }
+
+    fn apply(&mut self, rules: &Rules) {
+        self.view.apply(rules)
+    }
+
+    fn is_fresh(&self, node: &Node) -> bool {
+        self.view.is_fresh(node)
+    }
+}

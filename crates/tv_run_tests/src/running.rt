@@ -1,0 +1,81 @@
+//! Scripts that are run on descriptions over boxed controls.
+
+use crate::making::views;
+use crate::probes::Journal;
+use std::alloc::{AllocError, Global};
+use std::rc::Rc;
+use std::test::Fail;
+use tv_check::Checked;
+use tv_output::Writer;
+use tv_program::{PlayFault, run};
+use tv_test_support::Memory;
+
+/// A run: what is read, and what is written.
+#[derive(Clone, Copy)]
+pub struct Run {
+    pub desc: &'static str,
+    pub script: &'static str,
+    pub wanted: &'static str,
+}
+
+/// Runs a script on a description over boxed controls, by the program's own call. Where there is a journal, the button `y`
+/// notes there what it is told.
+pub fn run_into<W: Writer>(
+    alloc: Global,
+    desc: &str,
+    script: &str,
+    journal: Option<&Rc<Journal>>,
+    out: &mut W,
+) -> Result<(), PlayFault> {
+    let make = |alloc: Global, checked: &Checked| views(alloc, checked, journal);
+    run(alloc, desc.as_bytes(), script.as_bytes(), &make, out)
+}
+
+// More than any of these runs writes.
+const ROOM: usize = 65_536;
+
+/// What a run writes.
+pub fn ran(alloc: Global, desc: &str, script: &str) -> Result<Memory, Fail> {
+    let mut out = Memory::new(alloc, ROOM, ROOM)?;
+    match run_into(alloc, desc, script, None, &mut out) {
+        Ok(()) => Ok(out),
+        Err(fault) => Err(Fail::new(format_args!("{fault:?} in {script}"))),
+    }
+}
+
+/// Fails where a run writes something else than this.
+pub fn expect_run(alloc: Global, desc: &str, script: &str, wanted: &str) -> Result<(), Fail> {
+    let out = ran(alloc, desc, script)?;
+    let found = str::from_utf8(out.taken())?;
+    if found == wanted {
+        return Ok(());
+    }
+    Err(Fail::new(format_args!("written:\n{found}wanted:\n{wanted}in:\n{script}")))
+}
+
+/// Fails where some run writes something else than is wanted.
+pub fn expect_runs(alloc: Global, runs: &[Run]) -> Result<(), Fail> {
+    for run in runs {
+        expect_run(alloc, run.desc, run.script, run.wanted)?;
+    }
+    Ok(())
+}
+
+/// The lines that a text gives with `; ` between them.
+pub fn lines(alloc: Global, text: &str) -> Result<String, AllocError> {
+    let mut lines = text.replace(alloc, "; ", "\n")?;
+    if !lines.is_empty() {
+        lines.push('\n')?;
+    }
+    Ok(lines)
+}
+
+/// The same with runs of one description, whose scripts and logs are given in one line each.
+pub fn expect_logs(alloc: Global, desc: &str, logs: &[(&str, &str)]) -> Result<(), Fail> {
+    for (script, wanted) in logs {
+        let script = lines(alloc, script)?;
+        let wanted = lines(alloc, wanted)?;
+        expect_run(alloc, desc, &script, &wanted)?;
+    }
+    Ok(())
+}
