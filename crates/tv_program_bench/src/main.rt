@@ -89,8 +89,8 @@ fn measure<R: Clock + Eprint + Alloc>(rt: &R, alloc: Global) -> Result<()> {
     measure_faults(rt, alloc, "the largest lawful", &largest)?;
     measure_certificate(rt, alloc, &largest)?;
     measure_beyond(rt, alloc)?;
-    measure_events(rt, alloc, &"key Tab\n".repeat(alloc, 5_000)?)?;
-    measure_events(rt, alloc, &"shot\n".repeat(alloc, 1_000)?)
+    measure_events(rt, alloc, &"key Tab\n".repeat(alloc, 100_000)?)?;
+    measure_events(rt, alloc, &"shot\n".repeat(alloc, 2_000)?)
 }
 
 fn main(rt: HostRuntime) -> Result<()> {
