@@ -21,6 +21,10 @@ mod desk;
 #[cfg(test)]
 mod dialogs;
 #[cfg(test)]
+mod example_desks;
+#[cfg(test)]
+mod example_dialogs;
+#[cfg(test)]
 mod fields;
 #[cfg(test)]
 mod fitting;

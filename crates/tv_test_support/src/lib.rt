@@ -9,6 +9,7 @@ pub mod certificates;
 mod certifying;
 pub mod descriptions;
 mod dialogs;
+pub mod examples;
 mod findings;
 pub mod large;
 mod planning;
