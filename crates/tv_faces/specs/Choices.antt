@@ -1,13 +1,14 @@
 -- How the faces of clusters and lists name what the definitions of faces speak of.
-use Rattle.std.specs.Prelude.{ℕ, ◌&&◌, Option, Some, slice_get, ◌+◌, ◌==◌}
-use Rattle.tv_cells.specs.Glyph.{shown}
+use Rattle.std.specs.Prelude.{ℕ, ◌++◌, ◌&&◌, Option, Some, slice_get, ◌+◌, ◌==◌, if◌then◌else◌}
+use Rattle.tv_cells.specs.Glyph.{Glyph, shown}
 use Rattle.tv_faces.specs.declared.cluster.ClusterFace.{ClusterFace}
 use Rattle.tv_faces.specs.declared.cluster.ClusterMarks.{ClusterMarks}
 use Rattle.tv_faces.specs.declared.cluster.ClusterMarks.TheVariants as marks
+use Rattle.tv_faces.specs.declared.cluster.ItemRow.{ItemRow}
 use Rattle.tv_faces.specs.declared.list.ListFace.{ListFace}
 use Rattle.tv_machine.specs.Controls.Contents.{text_at}
 use Rattle.tv_machine.specs.Dialog.Rules.{is_marked}
-use Rattle.tv_machine.specs.Screen.LeafFaces.{cluster_row, list_role}
+use Rattle.tv_machine.specs.Screen.LeafFaces.{cluster_row, is_mark_from, list_role}
 use Rattle.tv_model.specs.Controls.ClusterTable.{ClusterKind, Boxes, Radios}
 use Rattle.tv_model.specs.Screen.Faces.{FaceOf, text_row}
 use Rattle.tv_model.specs.declared.record.Value.{Value}
@@ -34,3 +35,7 @@ cluster_cells f x y =
 abbrev pub list_cells : ListFace → FaceOf
 list_cells f x y =
     shown (text_row (text_at f.items.now (f.top + y)) x) (colour_in f.chain.now (roles.List (list_role f.is_focused (f.chosen == f.top + y))))
+
+-- the cells of a row with an item of a cluster
+abbrev pub item_cells : ItemRow → ℕ → Glyph
+item_cells row x = shown (text_row (row.before ++ row.text.now) x) (if is_mark_from 4 row.mark x then row.letter else row.rest)

@@ -1,11 +1,16 @@
 //! Check boxes and radio buttons.
 
-ghost use Rattle.std.specs.Prelude.{◌≡◌, ◌<◌, ◌^◌, ◌+◌, ◌++◌, Some};
+ghost use Rattle.std.specs.Prelude.{◌≡◌, ◌==◌, ◌&&◌, ◌<◌, ◌≤◌, ◌^◌, ◌+◌, ◌++◌, Some, length, ℕ};
+ghost use Rattle.tv_cells.specs.Glyph.{shown};
+ghost use Rattle.tv_cells.specs.Row.{IsRow};
 ghost use Rattle.tv_machine.specs.Dialog.Rules.{is_marked};
-ghost use Rattle.tv_machine.specs.Screen.LeafFaces.{box_before, cluster_role, is_mark_from};
+ghost use Rattle.tv_machine.specs.Screen.LeafFaces.{box_before, cluster_row, is_mark_from};
 ghost use Rattle.tv_model.specs.Screen.Faces.{text_row};
 ghost use Rattle.tv_model.specs.declared.record.Value.TheVariants.{Marks};
-ghost use Rattle.tv_faces.specs.Choices.{kind_of, value_of};
+ghost use Rattle.tv_palette.specs.Palettes.{colour_in};
+ghost use Rattle.tv_palette.specs.declared.role.ClusterRole.TheVariants as cluster;
+ghost use Rattle.tv_palette.specs.declared.role.Role.TheVariants as roles;
+ghost use Rattle.tv_faces.specs.Choices.{item_cells, kind_of, value_of};
 
 use crate::row::text_char;
 use tv_cells::{Cell, Face};
@@ -66,34 +71,106 @@ impl ClusterMarks {
     }
 }
 
-fn item_char(before: [char; 4], text: &[char], x: usize) -> char
-    ensures { result ≡ text_row (before ++ text.now) x }
-{
-    match before.get(x) {
-        Some(ch) => *ch,
-        None => text_char(text, x - 4),
+// A row with an item. Its attributes are looked up once, since each look-up goes along the chain of palettes.
+#[derive(Clone, Copy)]
+struct ItemRow<'a> {
+    // The columns before the text.
+    before: [char; 4],
+    text: &'a [char],
+    mark: Option<usize>,
+    letter: u8,
+    // The attribute of all but the marked letter.
+    rest: u8,
+}
+
+impl ItemRow<'_> {
+    fn char_at(&self, x: usize) -> char
+        ensures { result ≡ text_row (self.now.before ++ self.now.text.now) x }
+    {
+        match self.before.get(x) {
+            Some(ch) => *ch,
+            None => text_char(self.text, x - 4),
+        }
+    }
+
+    // Whether the column shows the marked letter.
+    fn is_mark(&self, x: usize) -> bool
+        ensures { result ≡ is_mark_from 4 self.now.mark x }
+    {
+        match self.mark {
+            Some(place) => x >= 4 && x - 4 == place,
+            None => false,
+        }
+    }
+
+    fn cell(&self, x: usize) -> Cell
+        ensures { result ≡ item_cells self.now x }
+    {
+        let attr = if self.is_mark(x) {
+            self.letter
+        } else {
+            self.rest
+        };
+        Cell::shown(self.char_at(x), attr)
+    }
+
+    // The first column after the text and the mark: from there on all cells are alike.
+    fn end(&self) -> usize
+        ensures { (x : ℕ) → result ≤ x → x < 2 ^ 32 → item_cells self.now x ≡ shown 32 self.now.rest }
+    {
+        let after_mark = match self.mark {
+            Some(place) => place.saturating_add(1),
+            None => 0,
+        };
+        self.text.len().max(after_mark).saturating_add(4)
+    }
+
+    // Writes the cells from a column on.
+    fn write(&self, from: usize, cells: &mut [Cell])
+        requires { from + length cells.old ≤ 2 ^ 32 }
+        ensures count { length cells.new ≡ length cells.old }
+        ensures cells { IsRow (item_cells self.now) from cells.new }
+    {
+        let count = self.end().saturating_sub(from).min(cells.len());
+        let (front, back) = cells.split_at_mut(count);
+        for (i, cell) in front.iter_mut().enumerate() {
+            *cell = self.cell(from + i);
+        }
+        back.fill(Cell::shown(' ', self.rest));
     }
 }
 
-// Whether the column shows the marked letter of an item.
-fn is_mark(mark: Option<usize>, x: usize) -> bool
-    ensures { result ≡ is_mark_from 4 mark x }
-{
-    match mark {
-        Some(place) => x >= 4 && x - 4 == place,
-        None => false,
+impl ClusterFace<'_> {
+    // Whether a row is the selected one, and the cluster has the focus.
+    fn is_selected(&self, y: u32) -> bool
+        ensures { result ≡ (self.now.is_focused && (self.now.selected == y + 1)) }
+    {
+        self.is_focused && self.selected as u64 == y as u64 + 1
     }
-}
 
-fn role(is_at_letter: bool, is_selected: bool) -> ClusterRole
-    ensures { result ≡ cluster_role is_at_letter is_selected }
-{
-    if is_at_letter {
-        ClusterRole::Letter
-    } else if is_selected {
-        ClusterRole::Selected
-    } else {
-        ClusterRole::Normal
+    // The row of an item.
+    fn item_row<'b>(&self, item: &'b MarkedText, y: u32) -> ItemRow<'b>
+        ensures { (x : ℕ) → item_cells result x ≡ cluster_row (colour_in self.now.chain.now) (kind_of self.now.marks) (self.now.is_focused && (self.now.selected == y + 1)) (is_marked (value_of self.now.marks self.now.selected) (y + 1)) (Some item.now) x }
+    {
+        let rest = if self.is_selected(y) {
+            ClusterRole::Selected
+        } else {
+            ClusterRole::Normal
+        };
+        ItemRow {
+            before: self.marks.before(self.marks.has(self.selected, y)),
+            text: item.text.as_slice(),
+            mark: item.mark,
+            letter: Role::Cluster(ClusterRole::Letter).attr(self.chain),
+            rest: Role::Cluster(rest).attr(self.chain),
+        }
+    }
+
+    // A cell of a row without an item.
+    fn empty(&self) -> Cell
+        ensures { result ≡ shown 32 (colour_in self.now.chain.now (roles.Cluster cluster.Normal)) }
+    {
+        Cell::space(Role::Cluster(ClusterRole::Normal).attr(self.chain))
     }
 }
 
@@ -103,16 +180,16 @@ impl Face for ClusterFace<'_> {
     ghost face = { cluster_cells };
 
     fn at(&self, x: u32, y: u32) -> Cell {
-        let Some(item) = self.items.get(y as usize) else {
-            return Cell::space(Role::Cluster(ClusterRole::Normal).attr(self.chain));
-        };
-        let x = x as usize;
-        let is_selected = self.is_focused && self.selected as u64 == y as u64 + 1;
-        let role = role(is_mark(item.mark, x), is_selected);
-        let before = self.marks.before(self.marks.has(self.selected, y));
-        Cell::shown(
-            item_char(before, item.text.as_slice(), x),
-            Role::Cluster(role).attr(self.chain),
-        )
+        match self.items.get(y as usize) {
+            Some(item) => self.item_row(item, y).cell(x as usize),
+            None => self.empty(),
+        }
+    }
+
+    fn row(&self, y: u32, from: u32, cells: &mut [Cell]) {
+        match self.items.get(y as usize) {
+            Some(item) => self.item_row(item, y).write(from as usize, cells),
+            None => cells.fill(self.empty()),
+        }
     }
 }

@@ -1,11 +1,12 @@
 //! Lists.
 
-ghost use Rattle.std.specs.Prelude.{◌≡◌, ◌<◌, ◌^◌};
+ghost use Rattle.std.specs.Prelude.{◌≡◌, ◌==◌, ◌+◌};
 ghost use Rattle.tv_machine.specs.Controls.Contents.{text_at};
 ghost use Rattle.tv_machine.specs.Screen.LeafFaces.{list_role};
-ghost use Rattle.tv_model.specs.Screen.Faces.{text_row};
+ghost use Rattle.tv_palette.specs.Palettes.{colour_in};
+ghost use Rattle.tv_palette.specs.declared.role.Role.TheVariants as roles;
 
-use crate::row::text_char;
+use crate::row::{text_char, write_row};
 use tv_cells::{Cell, Face};
 use tv_palette::{Chain, ListRole, Role};
 use tv_valid::Chars;
@@ -23,12 +24,12 @@ pub struct ListFace<'a> {
     pub chain: &'a Chain,
 }
 
-fn item_char(items: &[Chars], item: usize, x: usize) -> char
-    ensures { result ≡ text_row (text_at items.now item) x }
+fn item_text(items: &[Chars], item: usize) -> &[char]
+    ensures { result.now ≡ text_at items.now item }
 {
     match items.get(item.saturating_sub(1)) {
-        Some(text) => text_char(text.as_slice(), x),
-        None => ' ',
+        Some(text) => text.as_slice(),
+        None => &[],
     }
 }
 
@@ -44,17 +45,36 @@ fn role(is_focused: bool, is_chosen: bool) -> ListRole
     }
 }
 
+impl ListFace<'_> {
+    // The item of a row, from 1.
+    fn item(&self, y: u32) -> usize
+        ensures { result ≡ self.now.top + y }
+    {
+        self.top as usize + y as usize
+    }
+
+    // The attribute of an item's row.
+    fn attr(&self, item: usize) -> u8
+        ensures { result ≡ colour_in self.now.chain.now (roles.List (list_role self.now.is_focused (self.now.chosen == item))) }
+    {
+        Role::List(role(self.is_focused, self.chosen as usize == item)).attr(self.chain)
+    }
+}
+
 impl Face for ListFace<'_> {
     ghost use Rattle.tv_faces.specs.Choices.{list_cells};
 
     ghost face = { list_cells };
 
     fn at(&self, x: u32, y: u32) -> Cell {
-        let item = self.top as usize + y as usize;
-        let role = role(self.is_focused, self.chosen as usize == item);
-        Cell::shown(
-            item_char(self.items, item, x as usize),
-            Role::List(role).attr(self.chain),
-        )
+        let item = self.item(y);
+        let text = item_text(self.items, item);
+        Cell::shown(text_char(text, x as usize), self.attr(item))
+    }
+
+    fn row(&self, y: u32, from: u32, cells: &mut [Cell]) {
+        let item = self.item(y);
+        let text = item_text(self.items, item);
+        write_row(text, self.attr(item), from as usize, cells);
     }
 }
