@@ -1,7 +1,7 @@
 //! Lines of a list, each judged after those before it.
 
 ghost use Rattle.std.specs.Prelude.{◌≡◌, IfOk};
-ghost use Rattle.tv_lines.specs.Each.{each_after};
+ghost use Rattle.tv_model.specs.Faults.Each.{each_after};
 
 use std::alloc::{AllocError, Global};
 

@@ -2,7 +2,7 @@
 
 ghost use Rattle.std.specs.Prelude.{◌≡◌, IfOk};
 ghost use Rattle.tv_model.specs.Faults.{dialog_has, item_has, menu_has, rule_has, status_has, view_has, window_has};
-ghost use Rattle.tv_lines.specs.Each.{each_after};
+ghost use Rattle.tv_model.specs.Faults.Each.{each_after};
 
 use crate::judge::judge_each;
 use crate::own::{OfDialogs, OfItems, OfMenus, OfRules, OfStatusItems, OfViews, OfWindows};

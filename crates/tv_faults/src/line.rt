@@ -3,7 +3,7 @@
 ghost use Rattle.std.specs.Prelude.{◌≡◌, ◌++◌, Bool, List, [], length, map, OnOk};
 ghost use Rattle.tv_model.specs.Faults.Lines.{line_if, lines_where};
 ghost use Rattle.tv_model.specs.Faults.{fault_at};
-ghost use Rattle.tv_lines.specs.Each.{each_after};
+ghost use Rattle.tv_model.specs.Faults.Each.{each_after};
 
 use std::alloc::AllocError;
 use tv_model::{Fault, FaultKind, MenuItem, Node, Rule, Sequence, StatusItem};

@@ -58,7 +58,7 @@ fn add_head(found: &mut Sequence<Fault>, kind: FaultKind, desc: &Desc) -> Result
 }
 
 // Adds the items of the menu that have the fault.
-#[tactic(auto, using(tv_lines::proofs::EachAfterLemmas::length_each_after))]
+#[tactic(auto, using(tv_model::proofs::EachAfterLemmas::length_each_after))]
 fn add_items(
     alloc: Global,
     found: &mut Sequence<Fault>,
@@ -73,7 +73,7 @@ fn add_items(
 }
 
 // Adds the status items that have the fault.
-#[tactic(auto, using(tv_lines::proofs::EachAfterLemmas::length_each_after))]
+#[tactic(auto, using(tv_model::proofs::EachAfterLemmas::length_each_after))]
 fn add_status(
     alloc: Global,
     found: &mut Sequence<Fault>,
@@ -88,7 +88,7 @@ fn add_status(
 }
 
 // Adds the views of the window or dialog that have the fault.
-#[tactic(auto, using(tv_lines::proofs::EachAfterLemmas::length_each_after))]
+#[tactic(auto, using(tv_model::proofs::EachAfterLemmas::length_each_after))]
 fn add_views(
     alloc: Global,
     found: &mut Sequence<Fault>,
@@ -104,7 +104,7 @@ fn add_views(
 }
 
 // Adds the rules of the dialog that have the fault.
-#[tactic(auto, using(tv_lines::proofs::EachAfterLemmas::length_each_after))]
+#[tactic(auto, using(tv_model::proofs::EachAfterLemmas::length_each_after))]
 fn add_rules(
     alloc: Global,
     found: &mut Sequence<Fault>,
@@ -119,7 +119,7 @@ fn add_rules(
 }
 
 // Adds the menus that have the fault, and their items.
-#[tactic(auto, using(tv_lines::proofs::EachAfterLemmas::length_each_after))]
+#[tactic(auto, using(tv_model::proofs::EachAfterLemmas::length_each_after))]
 fn add_menus(
     alloc: Global,
     found: &mut Sequence<Fault>,
@@ -138,7 +138,7 @@ fn add_menus(
 }
 
 // Adds the windows that have the fault, and their texts.
-#[tactic(auto, using(tv_lines::proofs::EachAfterLemmas::length_each_after))]
+#[tactic(auto, using(tv_model::proofs::EachAfterLemmas::length_each_after))]
 fn add_windows(
     alloc: Global,
     found: &mut Sequence<Fault>,
@@ -164,7 +164,7 @@ fn add_windows(
 }
 
 // Adds the dialogs that have the fault, and what stands in them.
-#[tactic(auto, using(tv_lines::proofs::EachAfterLemmas::length_each_after))]
+#[tactic(auto, using(tv_model::proofs::EachAfterLemmas::length_each_after))]
 fn add_dialogs(
     alloc: Global,
     found: &mut Sequence<Fault>,

@@ -15,6 +15,8 @@ use Rattle.tv_model.specs.declared.fault.FaultKind.{FaultKind}
 use Rattle.tv_model.specs.declared.fault.FaultKind.TheVariants as faults
 -- lines of declarations, each judged after those before it
 pub mod Lines
+-- items, each judged after those before it
+pub mod Each
 -- names: F1 and F6
 pub mod Names
 -- places: F2 and F3

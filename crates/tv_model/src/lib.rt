@@ -5,6 +5,7 @@ mod command;
 mod copy;
 mod desc;
 mod fault;
+mod items;
 mod kind;
 mod log;
 mod node;
@@ -15,6 +16,7 @@ mod sequence;
 pub use command::{CommandSpec, Ends};
 pub use desc::{Desc, Dialog, Effect, Menu, MenuItem, Rule, StatusItem, Version, Window, node_of};
 pub use fault::{Fault, FaultKind};
+pub use items::is_item;
 pub use kind::{
     Button, CheckBoxes, DialogHead, Input, Kind, Label, ListBox, MarkedText, Pane, RadioButtons,
     StaticText, WindowHead,

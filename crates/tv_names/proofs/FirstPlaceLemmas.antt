@@ -12,7 +12,7 @@ use Rattle.tv_model.specs.Description.Nodes.{name_of}
 use Rattle.tv_model.specs.Faults.Lines.{after_seen}
 use Rattle.tv_model.specs.Description.Names.{gives_name, is_option_named, meant}
 use Rattle.tv_names.specs.Named.{IsFirstAt, first_given}
-use Rattle.tv_lines.proofs.EachAfterLemmas.{after_push}
+use Rattle.tv_model.proofs.EachAfterLemmas.{after_push}
 
 -- ---- the pairs
 

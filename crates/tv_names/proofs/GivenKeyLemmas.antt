@@ -8,7 +8,7 @@ use Rattle.tv_model.specs.declared.desc.Desc.{Desc}
 use Rattle.tv_model.specs.declared.desc.StatusItem.{StatusItem}
 use Rattle.tv_model.specs.Faults.Letters.{has_bad_key, is_same_key, is_status_key, is_taken}
 use Rattle.tv_names.specs.Keys.{is_alt_of}
-use Rattle.tv_lines.proofs.TestLemmas.{any_same}
+use Rattle.tv_model.proofs.TestLemmas.{any_same}
 
 -- the same key, of all keys
 abbrev pub are_equal : Key → Key → Bool

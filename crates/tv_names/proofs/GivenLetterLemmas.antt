@@ -8,7 +8,7 @@ use Rattle.tv_model.specs.Faults.Lines.{after_seen}
 use Rattle.tv_model.specs.declared.kind.MarkedText.{MarkedText}
 use Rattle.tv_model.specs.declared.node.Node.{Node}
 use Rattle.tv_names.specs.Marked.{is_marked_by, is_marked_in, mark_again, marks_any}
-use Rattle.tv_lines.proofs.TestLemmas.{any_none, any_same}
+use Rattle.tv_model.proofs.TestLemmas.{any_none, any_same}
 
 module _ (text : MarkedText) (test : ℕ → Bool) where
   unmarked : letter_of text ≡ None → marks_any test text ≡ false

@@ -7,7 +7,7 @@ use Rattle.tv_model.specs.declared.node.Node.{Node}
 use Rattle.tv_model.specs.Description.Nodes.{name_of}
 use Rattle.tv_model.specs.Description.Names.{gives_name, is_option_named, shares_name}
 use Rattle.tv_model.specs.Faults.Names.{names_again}
-use Rattle.tv_lines.proofs.TestLemmas.{any_none, any_same}
+use Rattle.tv_model.proofs.TestLemmas.{any_none, any_same}
 
 -- the test of one node more
 last_first : (a b : Bool) → (a || (b || false)) ≡ cond b true a

@@ -3,7 +3,7 @@
 ghost use Rattle.std.specs.Prelude.{◌≡◌, ◌∷◌, ◌++◌, [], List, IfOk, map};
 ghost use Rattle.tv_model.specs.declared.node.Node.{Node};
 ghost use Rattle.tv_model.specs.Faults.Names.{dialog_named_again, names_again, window_named_again};
-ghost use Rattle.tv_lines.specs.Each.{each_after};
+ghost use Rattle.tv_model.specs.Faults.Each.{each_after};
 ghost use Rattle.tv_names.specs.Named.{AreNamesOf};
 
 use std::alloc::{AllocError, Global};

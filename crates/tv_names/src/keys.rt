@@ -6,7 +6,7 @@ ghost use Rattle.std.specs.List.{list_any};
 ghost use Rattle.tv_event.specs.declared.event.Key.TheVariants.{Alt};
 ghost use Rattle.tv_model.specs.Faults.Letters.{has_bad_key, is_status_key, is_taken, is_window_digit};
 ghost use Rattle.tv_model.specs.Description.Letters.{is_option_letter, is_shortcut, marks};
-ghost use Rattle.tv_lines.specs.Each.{each_after};
+ghost use Rattle.tv_model.specs.Faults.Each.{each_after};
 ghost use Rattle.tv_names.specs.Keys.{is_alt_of};
 ghost use Rattle.tv_names.specs.Marked.{is_marked_by};
 

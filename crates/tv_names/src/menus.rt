@@ -2,7 +2,7 @@
 
 ghost use Rattle.std.specs.Prelude.{◌≡◌, IfOk};
 ghost use Rattle.tv_model.specs.Faults.Letters.{item_again, numbered_again, titled_again};
-ghost use Rattle.tv_lines.specs.Each.{each_after};
+ghost use Rattle.tv_model.specs.Faults.Each.{each_after};
 
 use crate::letters::add_letter;
 use std::alloc::{AllocError, Global};

@@ -8,7 +8,7 @@ use Rattle.tv_overlaps.specs.declared.placed.Placed.{Placed}
 use Rattle.std.proofs.lemmas.Bool.{or_parts}
 use Rattle.tv_overlaps.specs.declared.span.Span.{Span}
 use Rattle.tv_overlaps.specs.Marks.{AreMarked, clash, collide_filling, covers, is_hit, meets}
-use Rattle.tv_lines.proofs.TestLemmas.{any_none, any_or, or_assoc, or_false, or_swap}
+use Rattle.tv_model.proofs.TestLemmas.{any_none, any_or, or_assoc, or_false, or_swap}
 
 any_same : (p q : Placed → Bool) (P : Placed → Type 0) → ((x : Placed) → P x → p x ≡ q x) → (xs : List Placed) → All P xs → list_any p xs ≡ list_any q xs
 any_same p q P same [] all = refl

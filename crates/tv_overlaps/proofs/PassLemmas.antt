@@ -9,7 +9,7 @@ use Rattle.tv_overlaps.specs.declared.placed.Placed.{Placed}
 use Rattle.tv_overlaps.specs.declared.span.Span.{Span}
 use Rattle.tv_overlaps.specs.Heaviest.{at_least}
 use Rattle.tv_overlaps.specs.Marks.{collide_wide, covers, is_hit}
-use Rattle.tv_lines.proofs.TestLemmas.{and_false, or_assoc, or_false, or_true}
+use Rattle.tv_model.proofs.TestLemmas.{and_false, or_assoc, or_false, or_true}
 
 -- ---- what one pass knows
 

@@ -15,13 +15,13 @@ use Rattle.tv_model.specs.Faults.Places.{need_own_places, overlaps_earlier}
 use Rattle.tv_cells.specs.declared.rect.Rect.{Rect}
 use Rattle.tv_overlaps.specs.declared.span.Span.{Span}
 use Rattle.tv_overlaps.specs.declared.placed.Placed.{Placed}
-use Rattle.tv_lines.specs.Each.{each_after}
+use Rattle.tv_model.specs.Faults.Each.{each_after}
 use Rattle.tv_overlaps.specs.Marks.{IsItem, collide_as_siblings, is_hit, meets}
 use Rattle.tv_overlaps.specs.Placing.{columns, placed_from, placed_view, rows, weight_of}
 use Rattle.tv_overlaps.specs.Standing.{AreSiblingsNumbered}
 use Rattle.tv_overlaps.proofs.AreaLemmas.{lt_says}
 use Rattle.tv_overlaps.proofs.HitLemmas.{any_filter}
-use Rattle.tv_lines.proofs.TestLemmas.{or_false}
+use Rattle.tv_model.proofs.TestLemmas.{or_false}
 
 -- ---- the list of them
 

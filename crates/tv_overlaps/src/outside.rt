@@ -3,7 +3,7 @@
 ghost use Rattle.std.specs.Prelude.{◌≡◌, ◌<◌, length, take, option_and_then, option_copied, slice_get, slice_index_or, IfOk};
 ghost use Rattle.tv_model.specs.Faults.Places.{is_off_desktop, is_outside};
 ghost use Rattle.tv_model.specs.Description.Panes.{room_in};
-ghost use Rattle.tv_lines.specs.Each.{each_after};
+ghost use Rattle.tv_model.specs.Faults.Each.{each_after};
 ghost use Rattle.tv_overlaps.specs.Standing.{IsOwner};
 
 use crate::area::Area;

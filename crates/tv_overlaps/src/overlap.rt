@@ -2,7 +2,7 @@
 
 ghost use Rattle.std.specs.Prelude.{◌≡◌, fold, length, max, zip, IfOk};
 ghost use Rattle.tv_model.specs.Faults.Places.{overlaps_earlier};
-ghost use Rattle.tv_lines.specs.Each.{each_after};
+ghost use Rattle.tv_model.specs.Faults.Each.{each_after};
 ghost use Rattle.tv_overlaps.specs.Placing.{placed_from};
 ghost use Rattle.tv_overlaps.specs.Standing.{AreSiblingsNumbered};
 

@@ -16,7 +16,7 @@ use Rattle.tv_model.specs.Faults.Lines.{after_seen}
 use Rattle.tv_rules.specs.Focus.{has_nothing_free, is_free}
 use Rattle.tv_rules.specs.declared.focus.Reach.{Reach}
 use Rattle.tv_rules.specs.Reach.{holds_at, reach_of, reach_of_effect, shown}
-use Rattle.tv_lines.proofs.ListLemmas.{any_map}
+use Rattle.tv_model.proofs.ListLemmas.{any_map}
 
 module _ (before : List Node) (node : Node) where
   abbrev ids : List Id

@@ -20,8 +20,8 @@ use Rattle.tv_rules.specs.Focus.{AreFirstShown, enables, equals_command, is_butt
 use Rattle.tv_rules.specs.Reach.{holds_at}
 use Rattle.tv_overlaps.specs.Standing.{IsOwner}
 use Rattle.tv_overlaps.proofs.OwnerLemmas.{panes_are, panes_at}
-use Rattle.tv_lines.proofs.ListLemmas.{any_map}
-use Rattle.tv_lines.proofs.TestLemmas.{any_none, any_or, any_same, or_false}
+use Rattle.tv_model.proofs.ListLemmas.{any_map}
+use Rattle.tv_model.proofs.TestLemmas.{any_none, any_or, any_same, or_false}
 
 -- ---- tests
 

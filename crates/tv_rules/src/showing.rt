@@ -4,7 +4,7 @@ ghost use Rattle.std.specs.Prelude.{◌≡◌, ◌<◌, length, take, slice_inde
 ghost use Rattle.tv_model.specs.declared.node.Node.{Node};
 ghost use Rattle.tv_model.specs.Description.Nodes.{is_cluster};
 ghost use Rattle.tv_model.specs.Faults.Rules.{shows_cluster, shows_itself};
-ghost use Rattle.tv_lines.specs.Each.{each_after};
+ghost use Rattle.tv_model.specs.Faults.Each.{each_after};
 ghost use Rattle.tv_overlaps.specs.Standing.{AreOwners};
 
 use std::alloc::{AllocError, Global};

@@ -3,10 +3,10 @@
 ghost use Rattle.std.specs.Prelude.{◌≡◌, option_copied, IfOk};
 ghost use Rattle.tv_model.specs.Description.Rules.{cluster_items, has_target};
 ghost use Rattle.tv_model.specs.Faults.Rules.{names_unknown};
-ghost use Rattle.tv_lines.specs.Each.{each_after};
+ghost use Rattle.tv_model.specs.Faults.Each.{each_after};
 
 use std::alloc::{AllocError, Global};
-use tv_lines::is_item;
+use tv_model::is_item;
 use tv_model::{Dialog, Effect, Kind, Node, Rule};
 use tv_names::Names;
 

@@ -3,7 +3,7 @@
 ghost use Rattle.std.specs.Prelude.{◌≡◌, IfOk};
 ghost use Rattle.tv_model.specs.Description.Nodes.{is_default};
 ghost use Rattle.tv_model.specs.Faults.Starts.{is_second_default};
-ghost use Rattle.tv_lines.specs.Each.{each_after};
+ghost use Rattle.tv_model.specs.Faults.Each.{each_after};
 
 use std::alloc::{AllocError, Global};
 use tv_model::{Kind, Node};

@@ -7,7 +7,7 @@ ghost use Rattle.std.specs.Ordering.{int_eq};
 ghost use Rattle.tv_model.specs.Description.Heads.{dialog_head, is_named};
 ghost use Rattle.tv_model.specs.Description.Names.{gives_name};
 ghost use Rattle.tv_model.specs.Faults.Starts.{is_option_number, opens_badly, starts_nowhere};
-ghost use Rattle.tv_lines.specs.Each.{each_after};
+ghost use Rattle.tv_model.specs.Faults.Each.{each_after};
 ghost use Rattle.tv_starts.specs.Opened.{is_bad_opening};
 
 use std::alloc::{AllocError, Global};

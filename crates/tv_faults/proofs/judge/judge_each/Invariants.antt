@@ -1,6 +1,6 @@
 use Rattle.std.proofs.Common.{◌≡◌, ◌++◌, map, take, drop}
 use Rattle.tv_model.specs.Faults.Lines.{after_seen}
-use Rattle.tv_lines.specs.Each.{each_after}
+use Rattle.tv_model.specs.Faults.Each.{each_after}
 use Rattle.tv_faults.proofs.judge.judge_each.Given as goal
 
 abbrev pub invariant-loop-i : goal.invariant-loop-i

@@ -1,7 +1,7 @@
 use Rattle.std.proofs.Common.{◌≡◌, ℕ, Bool, List, ◌++◌, map, ap, ◌∙◌}
 use Rattle.tv_model.specs.Faults.{fault_at}
 use Rattle.tv_model.specs.Faults.Lines.{line_if}
-use Rattle.tv_lines.proofs.EachAfterLemmas.{where_next}
+use Rattle.tv_model.proofs.EachAfterLemmas.{where_next}
 use Rattle.tv_faults.proofs.line.add_where.Goals as goal
 
 -- the line by its number

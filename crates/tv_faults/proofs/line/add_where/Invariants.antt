@@ -1,7 +1,7 @@
 use Rattle.std.proofs.Common.{◌≡◌, ◌++◌, [], map, take, drop}
 use Rattle.tv_model.specs.Faults.{fault_at}
 use Rattle.tv_model.specs.Faults.Lines.{lines_where}
-use Rattle.tv_lines.specs.Each.{each_after}
+use Rattle.tv_model.specs.Faults.Each.{each_after}
 use Rattle.tv_faults.proofs.line.add_where.Given as goal
 
 abbrev pub invariant-loop-i : goal.invariant-loop-i

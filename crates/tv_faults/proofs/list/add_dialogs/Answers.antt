@@ -1,8 +1,8 @@
 use Rattle.std.proofs.Common.{rules, ◌++◌, map, ap, ◌∙◌}
 use Rattle.tv_model.specs.Description.Heads.{dialog_head}
 use Rattle.tv_model.specs.Faults.{dialog_has, fault_at, rule_lines, view_lines}
-use Rattle.tv_lines.proofs.EachAfterLemmas.{parts_next}
-use Rattle.tv_lines.proofs.ListLemmas.{joined}
+use Rattle.tv_model.proofs.EachAfterLemmas.{parts_next}
+use Rattle.tv_model.proofs.ListLemmas.{joined}
 use Rattle.tv_faults.proofs.list.add_dialogs.Goals as goal
 
 pub loop-i-preserved : goal.loop-i-preserved

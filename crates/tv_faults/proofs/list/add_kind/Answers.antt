@@ -1,7 +1,7 @@
 use Rattle.std.proofs.Common.{[], ◌++◌, map, flat_map, ap, ◌∙◌}
 use Rattle.tv_model.specs.Faults.Lines.{after_seen}
 use Rattle.tv_model.specs.Faults.{fault_at, fault_lines, menu_lines, window_lines}
-use Rattle.tv_lines.proofs.ListLemmas.{five_parts}
+use Rattle.tv_model.proofs.ListLemmas.{five_parts}
 use Rattle.tv_faults.proofs.list.add_kind.Goals as goal
 
 pub returns : goal.returns

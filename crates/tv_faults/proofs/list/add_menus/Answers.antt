@@ -1,7 +1,7 @@
 use Rattle.std.proofs.Common.{rules, []}
 use Rattle.tv_model.specs.Faults.{fault_at, item_has, menu_has}
 use Rattle.tv_model.specs.Faults.Lines.{lines_where}
-use Rattle.tv_lines.proofs.EachAfterLemmas.{parts_next}
+use Rattle.tv_model.proofs.EachAfterLemmas.{parts_next}
 use Rattle.tv_faults.proofs.list.add_menus.Goals as goal
 
 pub loop-i-preserved : goal.loop-i-preserved

@@ -2,7 +2,7 @@ use Rattle.std.proofs.Common.{◌≡◌, ◌++◌, [], map, sym, ap, subst, ◌�
 use Rattle.std.specs.Prelude.{OnOk}
 use Rattle.tv_model.specs.Faults.{fault_at, rule_has}
 use Rattle.tv_model.specs.Faults.Lines.{lines_where}
-use Rattle.tv_lines.specs.Each.{each_after}
+use Rattle.tv_model.specs.Faults.Each.{each_after}
 use Rattle.tv_faults.proofs.list.add_rules.Goals as goal
 
 pub returns : goal.returns

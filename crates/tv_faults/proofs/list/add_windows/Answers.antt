@@ -1,7 +1,7 @@
 use Rattle.std.proofs.Common.{rules, ◌++◌, map, ap, ◌∙◌}
 use Rattle.tv_model.specs.Description.Commands.{no_ends}
 use Rattle.tv_model.specs.Faults.{fault_at, view_lines, window_has}
-use Rattle.tv_lines.proofs.EachAfterLemmas.{parts_next}
+use Rattle.tv_model.proofs.EachAfterLemmas.{parts_next}
 use Rattle.tv_faults.proofs.list.add_windows.Goals as goal
 
 pub loop-i-preserved : goal.loop-i-preserved

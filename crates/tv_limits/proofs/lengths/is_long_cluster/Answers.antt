@@ -1,6 +1,6 @@
 use Rattle.std.proofs.Common.{sym, ◌∙◌}
 use Rattle.tv_model.specs.Faults.Limits.{is_too_long}
-use Rattle.tv_lines.proofs.ListLemmas.{any_map}
+use Rattle.tv_model.proofs.ListLemmas.{any_map}
 use Rattle.tv_limits.proofs.lengths.is_long_cluster.Goals as goal
 
 pub returns : goal.returns

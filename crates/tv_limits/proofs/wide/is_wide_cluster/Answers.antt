@@ -1,6 +1,6 @@
 use Rattle.std.proofs.Common.{sym, ◌∙◌}
 use Rattle.tv_model.specs.Faults.Texts.{is_wide_text}
-use Rattle.tv_lines.proofs.ListLemmas.{any_map}
+use Rattle.tv_model.proofs.ListLemmas.{any_map}
 use Rattle.tv_limits.proofs.wide.is_wide_cluster.Goals as goal
 
 pub returns : goal.returns

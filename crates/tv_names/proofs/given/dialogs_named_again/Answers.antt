@@ -5,8 +5,8 @@ use Rattle.tv_model.specs.declared.desc.Desc.{Desc}
 use Rattle.tv_model.specs.declared.desc.Dialog.{Dialog}
 use Rattle.tv_model.specs.Faults.Names.{dialog_named_again, names_again}
 use Rattle.tv_model.specs.Description.Names.{gives_name, shares_name}
-use Rattle.tv_lines.proofs.EachAfterLemmas.{each_more}
-use Rattle.tv_lines.proofs.ListLemmas.{any_map, mapped_more}
+use Rattle.tv_model.proofs.EachAfterLemmas.{each_more}
+use Rattle.tv_model.proofs.ListLemmas.{any_map, mapped_more}
 use Rattle.tv_names.proofs.given.dialogs_named_again.Goals as goal
 
 -- the windows' names, and those of the dialogs before

@@ -3,7 +3,7 @@ use Rattle.std.specs.List.{list_any}
 use Rattle.std.proofs.lemmas.List.{take_more}
 use Rattle.tv_model.specs.Description.Names.{gives_name}
 use Rattle.tv_model.specs.Faults.Names.{names_again}
-use Rattle.tv_lines.proofs.EachAfterLemmas.{each_more}
+use Rattle.tv_model.proofs.EachAfterLemmas.{each_more}
 use Rattle.tv_names.proofs.given.names_again.Goals as goal
 
 pub loop-view-preserved : goal.loop-view-preserved

@@ -1,6 +1,6 @@
 use Rattle.std.proofs.Common.{◌≡◌, take}
 use Rattle.tv_model.specs.Faults.Names.{names_again}
-use Rattle.tv_lines.specs.Each.{each_after}
+use Rattle.tv_model.specs.Faults.Each.{each_after}
 use Rattle.tv_names.specs.Named.{AreNamesOf}
 use Rattle.tv_names.proofs.given.names_again.Given as goal
 

@@ -2,8 +2,8 @@ use Rattle.std.proofs.Common.{◌<◌, [], map, take, length, ap, ◌∙◌, ari
 use Rattle.std.specs.List.{list_any}
 use Rattle.tv_model.specs.Description.Names.{gives_name, shares_name}
 use Rattle.tv_model.specs.Faults.Names.{window_named_again}
-use Rattle.tv_lines.proofs.EachAfterLemmas.{each_more}
-use Rattle.tv_lines.proofs.ListLemmas.{any_map, mapped_more}
+use Rattle.tv_model.proofs.EachAfterLemmas.{each_more}
+use Rattle.tv_model.proofs.ListLemmas.{any_map, mapped_more}
 use Rattle.tv_names.proofs.given.windows_named_again.Goals as goal
 
 pub loop-window-preserved : goal.loop-window-preserved

@@ -1,6 +1,6 @@
 use Rattle.std.proofs.Common.{◌≡◌, map, take}
 use Rattle.tv_model.specs.Faults.Names.{window_named_again}
-use Rattle.tv_lines.specs.Each.{each_after}
+use Rattle.tv_model.specs.Faults.Each.{each_after}
 use Rattle.tv_names.specs.Named.{AreNamesOf}
 use Rattle.tv_names.proofs.given.windows_named_again.Given as goal
 

@@ -3,7 +3,7 @@ use Rattle.std.proofs.lemmas.Grind.{common_steps}
 use Rattle.std.specs.HashSet as set
 use Rattle.tv_model.specs.Faults.Letters.{has_bad_key, is_status_key}
 use Rattle.tv_names.specs.Keys.{is_alt_of}
-use Rattle.tv_lines.proofs.EachAfterLemmas.{each_more, passed_more}
+use Rattle.tv_model.proofs.EachAfterLemmas.{each_more, passed_more}
 use Rattle.tv_names.proofs.GivenKeyLemmas.{are_equal, has_bad_key_given}
 use Rattle.tv_names.proofs.keys.bad_keys.Goals as goal
 

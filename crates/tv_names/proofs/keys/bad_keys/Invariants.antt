@@ -3,7 +3,7 @@ use Rattle.std.specs.HashSet as set
 use Rattle.std.specs.List.{list_any}
 use Rattle.tv_event.specs.declared.event.Key.{Key}
 use Rattle.tv_model.specs.Faults.Letters.{has_bad_key}
-use Rattle.tv_lines.specs.Each.{each_after}
+use Rattle.tv_model.specs.Faults.Each.{each_after}
 use Rattle.tv_names.proofs.GivenKeyLemmas.{are_equal}
 use Rattle.tv_names.proofs.keys.bad_keys.Given as goal
 

@@ -4,7 +4,7 @@ use Rattle.std.proofs.lemmas.List.Folds.{list_any_more}
 use Rattle.std.specs.HashSet as set
 use Rattle.tv_model.specs.Faults.Letters.{marks_again}
 use Rattle.tv_names.specs.Marked.{mark_again}
-use Rattle.tv_lines.proofs.EachAfterLemmas.{each_more}
+use Rattle.tv_model.proofs.EachAfterLemmas.{each_more}
 use Rattle.tv_names.proofs.GivenLetterLemmas.{view_marks_again}
 use Rattle.tv_names.proofs.marked.marks_again.Goals as goal
 

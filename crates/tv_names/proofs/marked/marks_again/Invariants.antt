@@ -1,7 +1,7 @@
 use Rattle.std.proofs.Common.{◌≡◌, ℕ, nat_eq, take}
 use Rattle.std.specs.HashSet as set
 use Rattle.tv_model.specs.Faults.Letters.{marks_again}
-use Rattle.tv_lines.specs.Each.{each_after}
+use Rattle.tv_model.specs.Faults.Each.{each_after}
 use Rattle.tv_names.specs.Marked.{is_marked_by}
 use Rattle.tv_names.proofs.marked.marks_again.Given as goal
 

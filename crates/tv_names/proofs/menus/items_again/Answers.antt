@@ -3,7 +3,7 @@ use Rattle.std.proofs.lemmas.Grind.{common_steps}
 use Rattle.std.proofs.lemmas.List.Folds.{list_any_more}
 use Rattle.std.specs.HashSet as set
 use Rattle.tv_model.specs.Faults.Letters.{item_again}
-use Rattle.tv_lines.proofs.EachAfterLemmas.{each_more}
+use Rattle.tv_model.proofs.EachAfterLemmas.{each_more}
 use Rattle.tv_names.proofs.GivenLetterLemmas.{marks_given}
 use Rattle.tv_names.proofs.menus.items_again.Goals as goal
 

@@ -6,7 +6,7 @@ use Rattle.std.specs.Ordering.{int_eq}
 use Rattle.tv_model.specs.Description.Heads.{window_head}
 use Rattle.tv_model.specs.Faults.Letters.{numbered_again}
 use Rattle.tv_model.specs.Description.Numbers.{is_between}
-use Rattle.tv_lines.proofs.EachAfterLemmas.{each_more}
+use Rattle.tv_model.proofs.EachAfterLemmas.{each_more}
 use Rattle.tv_names.proofs.menus.numbered_again.Goals as goal
 
 pub loop-window-preserved : goal.loop-window-preserved

@@ -1,7 +1,7 @@
 use Rattle.std.proofs.Common.{◌≡◌, ◌+◌, ◌<◌, ◌++◌, ◌∷◌, [], length, map, take, drop, rules, ap, ◌∙◌}
 use Rattle.tv_model.specs.Faults.Lines.{after_seen}
 use Rattle.tv_model.specs.Faults.Places.{is_outside}
-use Rattle.tv_lines.proofs.RemainingLemmas.{each_more}
+use Rattle.tv_model.proofs.RemainingLemmas.{each_more}
 use Rattle.tv_overlaps.proofs.outside.are_outside.Goals as goal
 
 pub loop-place-preserved : goal.loop-place-preserved

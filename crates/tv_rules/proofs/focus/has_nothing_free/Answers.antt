@@ -1,7 +1,7 @@
 use Rattle.std.proofs.Common.{◌≡◌, not, take, get_or, sym, ap, ◌∙◌}
 use Rattle.std.specs.HashSet.{contains}
 use Rattle.tv_rules.specs.Focus.{equals_command, is_free}
-use Rattle.tv_lines.proofs.RemainingLemmas.{any_found, any_passed}
+use Rattle.tv_model.proofs.RemainingLemmas.{any_found, any_passed}
 use Rattle.tv_rules.proofs.ReachSetLemmas.{free_at}
 use Rattle.tv_rules.proofs.focus.has_nothing_free.Goals as goal
 

@@ -4,7 +4,7 @@ use Rattle.std.proofs.lemmas.List.Folds.{list_any_more}
 use Rattle.std.specs.HashSet as set
 use Rattle.std.specs.Ordering.{int_eq}
 use Rattle.tv_model.specs.Faults.Starts.{opens_badly}
-use Rattle.tv_lines.proofs.EachAfterLemmas.{each_more}
+use Rattle.tv_model.proofs.EachAfterLemmas.{each_more}
 use Rattle.tv_starts.proofs.GivenOpeningLemmas.{opens_badly_given}
 use Rattle.tv_starts.proofs.openings.opened_badly.Goals as goal
 

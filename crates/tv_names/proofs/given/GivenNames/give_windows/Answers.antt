@@ -1,7 +1,7 @@
 use Rattle.std.proofs.Common.{◌<◌, [], map, take, length, ap, ◌∙◌, arith}
 use Rattle.std.specs.List.{list_any}
 use Rattle.tv_model.specs.Description.Names.{gives_name}
-use Rattle.tv_lines.proofs.ListLemmas.{mapped_more}
+use Rattle.tv_model.proofs.ListLemmas.{mapped_more}
 use Rattle.tv_names.proofs.given.GivenNames.give_windows.Goals as goal
 
 pub loop-window-preserved : goal.loop-window-preserved

@@ -4,8 +4,8 @@ use Rattle.std.proofs.lemmas.List.{map-append, take_more}
 use Rattle.std.proofs.lemmas.List.Folds.{list_any-append, list_any_more}
 use Rattle.std.specs.List.{list_any}
 use Rattle.tv_model.specs.Faults.Lines.{after_seen, line_if, lines_where}
-use Rattle.tv_lines.specs.Each.{each_after}
-use Rattle.tv_lines.proofs.ListLemmas.{joined}
+use Rattle.tv_model.specs.Faults.Each.{each_after}
+use Rattle.tv_model.proofs.ListLemmas.{joined}
 
 pub after_push : {A : Type 0} (seen xs : List A) (x : A) → after_seen seen (xs ++ x ∷ []) ≡ after_seen seen xs ++ (seen ++ xs, x) ∷ []
 after_push seen [] x = ap (λ before. (before, x) ∷ []) (sym (append-nil seen))

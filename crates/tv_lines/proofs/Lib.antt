@@ -1,4 +1,0 @@
-pub mod EachAfterLemmas
-pub mod ListLemmas
-pub mod RemainingLemmas
-pub mod TestLemmas
