@@ -15,3 +15,5 @@ pub mod CommandLemmas
 pub mod RunLemmas
 pub mod LeavingLemmas
 pub mod TabLemmas
+pub mod KeyLaws
+pub mod RecordLaws

@@ -10,3 +10,11 @@ pub mod Steps
 pub mod Runs
 -- how a dialog can be left
 pub mod Leaving
+-- the order of Tab
+pub mod Order
+-- what letters act on
+pub mod Letters
+-- what a run logs and saves of a dialog that ends, and what it shows when it opens again
+pub mod Records
+-- how every run can leave the open dialog
+pub mod Escape

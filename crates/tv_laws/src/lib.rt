@@ -1,6 +1,12 @@
 //! The laws of every run of the flat machine: what each event keeps, so that a dialog can always be used and left.
 #![tactic(auto)]
 
+mod letters;
+mod order;
+mod records;
 mod runs;
 
+pub use letters::shortcuts_act;
+pub use order::tab_goes_round;
+pub use records::{dialog_shows_record, dialogs_can_be_left, records_are_kept};
 pub use runs::{dialog_stays_fit, runs_are_safe};

@@ -39,17 +39,17 @@ use Rattle.tv_laws.proofs.OpenLemmas.{opens-fit}
 use Rattle.tv_laws.proofs.RunLemmas.{always-safe}
 use Rattle.tv_laws.proofs.StepLemmas.{stays-fit}
 use Rattle.tv_laws.proofs.TabLemmas.{tab-goes-on}
-use Rattle.tv_key_laws.proofs.ActLemmas.{acts-on-owner}
-use Rattle.tv_key_laws.proofs.CycleLemmas.{tab-goes-round}
-use Rattle.tv_key_laws.proofs.GrantLemmas.{acts-where-it-can}
-use Rattle.tv_key_laws.proofs.LetterLemmas.{alt-acts, marks-alike, own-letter-acts, typed-acts, unnamed-acts-on-none}
-use Rattle.tv_key_laws.proofs.NoneLemmas.{acts-on-none, refused-acts-on-none}
-use Rattle.tv_key_laws.proofs.OrderLemmas.{free-are-controls, refusal-stays, shift-tab-previous, stops-are-tabs}
-use Rattle.tv_key_laws.proofs.ValueLemmas.{tab-keeps-values}
-use Rattle.tv_record_laws.specs.Records.{reached}
-use Rattle.tv_record_laws.proofs.EscapeLemmas.{esc-cancels-open, reached-fit, stays-over, up-esc-cancels, up-esc-leaves, up-frees-mouse}
-use Rattle.tv_record_laws.proofs.SavedLemmas.{declare-cancel, ends-as-declared, reopens-as-saved, saves-what-it-logs, starts-as-declared}
-use Rattle.tv_record_laws.proofs.ShowLemmas.{fields-opened}
+use Rattle.tv_laws.proofs.KeyLaws.ActLemmas.{acts-on-owner}
+use Rattle.tv_laws.proofs.KeyLaws.CycleLemmas.{tab-goes-round}
+use Rattle.tv_laws.proofs.KeyLaws.GrantLemmas.{acts-where-it-can}
+use Rattle.tv_laws.proofs.KeyLaws.LetterLemmas.{alt-acts, marks-alike, own-letter-acts, typed-acts, unnamed-acts-on-none}
+use Rattle.tv_laws.proofs.KeyLaws.NoneLemmas.{acts-on-none, refused-acts-on-none}
+use Rattle.tv_laws.proofs.KeyLaws.OrderLemmas.{free-are-controls, refusal-stays, shift-tab-previous, stops-are-tabs}
+use Rattle.tv_laws.proofs.KeyLaws.ValueLemmas.{tab-keeps-values}
+use Rattle.tv_laws.specs.Records.{reached}
+use Rattle.tv_laws.proofs.RecordLaws.EscapeLemmas.{esc-cancels-open, reached-fit, stays-over, up-esc-cancels, up-esc-leaves, up-frees-mouse}
+use Rattle.tv_laws.proofs.RecordLaws.SavedLemmas.{declare-cancel, ends-as-declared, reopens-as-saved, saves-what-it-logs, starts-as-declared}
+use Rattle.tv_laws.proofs.RecordLaws.ShowLemmas.{fields-opened}
 use Rattle.tv_program.specs.Laws.{AltLettersAreFree, IsNoStatusKey, KeysReachDialog, LeavesByLaws, LettersByLaws, PlainKeysAreFree, RecordsByLaws, RunsByLaws, ScriptsReach, TabsByLaws, WorksByLaws, event_in, may_be_status_key}
 
 -- ---- scripts

@@ -23,10 +23,10 @@ use Rattle.tv_check.specs.Certificates.{IsSoundCertificate, certificate_of}
 use Rattle.tv_laws.specs.Leaving.{EscCancels, TabAsksNext, TabGoesOn, UpLetsGo}
 use Rattle.tv_laws.specs.Runs.{IsFitState}
 use Rattle.tv_laws.specs.Steps.{OpensFit, StaysFit}
-use Rattle.tv_key_laws.specs.Letters.{ActsOnNone, ActsOnOwner, ActsWhereItCan, AltActs, MarksAlike, OwnLetterActs, RefusedActsOnNone, TypedActs, UnnamedActsOnNone}
-use Rattle.tv_key_laws.specs.Order.{FreeAreControls, RefusalStays, ShiftTabAsksPrevious, StopsAreTabs, TabGoesRound, TabKeepsValues}
-use Rattle.tv_record_laws.specs.Escape.{EscCancelsOpen, UpEscCancels, UpEscLeaves, UpFreesMouse}
-use Rattle.tv_record_laws.specs.Records.{DeclareCancel, EndsAsDeclared, OpensAsSaved, ReopensAsSaved, SavesWhatItLogs, StartsAsDeclared, StaysOver, reached}
+use Rattle.tv_laws.specs.Letters.{ActsOnNone, ActsOnOwner, ActsWhereItCan, AltActs, MarksAlike, OwnLetterActs, RefusedActsOnNone, TypedActs, UnnamedActsOnNone}
+use Rattle.tv_laws.specs.Order.{FreeAreControls, RefusalStays, ShiftTabAsksPrevious, StopsAreTabs, TabGoesRound, TabKeepsValues}
+use Rattle.tv_laws.specs.Escape.{EscCancelsOpen, UpEscCancels, UpEscLeaves, UpFreesMouse}
+use Rattle.tv_laws.specs.Records.{DeclareCancel, EndsAsDeclared, OpensAsSaved, ReopensAsSaved, SavesWhatItLogs, StartsAsDeclared, StaysOver, reached}
 
 -- ---- the states that are spoken of
 

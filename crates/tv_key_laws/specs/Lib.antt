@@ -1,4 +1,0 @@
--- the order of Tab
-pub mod Order
--- what letters act on
-pub mod Letters

@@ -1,5 +1,0 @@
-use Rattle.tv_record_laws.proofs.ShowLemmas.{fields-opened}
-use Rattle.tv_record_laws.proofs.records.dialog_shows_record.Goals as goal
-
-pub returns : goal.returns
-returns c = record { shows = fields-opened c.args._dialog.now c.requires.sound }
