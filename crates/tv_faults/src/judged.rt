@@ -13,7 +13,7 @@ use tv_names::{
     titled_again, unlinked_labels, windows_named_again,
 };
 use tv_overlaps::{are_outside, overlaps};
-use tv_rules::{show_themselves, unknown_names};
+use tv_names::{show_themselves, unknown_names};
 use tv_starts::{opened_badly, second_defaults};
 
 /// For each menu, whether its line has the fault.

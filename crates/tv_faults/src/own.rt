@@ -12,7 +12,7 @@ use tv_limits::{
 };
 use tv_model::{Desc, Dialog, Ends, FaultKind, Menu, MenuItem, Node, Rule, StatusItem, Window};
 use tv_overlaps::is_off_desktop;
-use tv_rules::{has_nothing_to_focus, rules_cancel};
+use tv_names::{has_nothing_to_focus, rules_cancel};
 use tv_starts::{has_no_text, lacks_cancel, lacks_end, starts_badly};
 
 /// Judges menus.

@@ -1,3 +1,5 @@
 pub mod Keys
 pub mod Marked
 pub mod Named
+pub mod Focus
+pub mod Reach

@@ -1,6 +1,8 @@
 //! Names, letters and keys that are given twice, or mean nothing: F1, F4, F5, F6 and F17.
 #![tactic(auto)]
 
+mod exits;
+mod focus;
 mod given;
 mod keys;
 mod labels;
@@ -8,7 +10,11 @@ mod letters;
 mod marked;
 mod menus;
 mod names;
+mod showing;
+mod unknown;
 
+pub use exits::rules_cancel;
+pub use focus::has_nothing_to_focus;
 pub use given::{dialogs_named_again, names_again, windows_named_again};
 pub use keys::bad_keys;
 pub use labels::unlinked_labels;
@@ -16,3 +22,5 @@ pub use letters::marks;
 pub use marked::marks_again;
 pub use menus::{items_again, numbered_again, titled_again};
 pub use names::{Names, gives_name};
+pub use showing::show_themselves;
+pub use unknown::unknown_names;

@@ -1,2 +1,0 @@
-pub mod ReachLemmas
-pub mod ReachSetLemmas
