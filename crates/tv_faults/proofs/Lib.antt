@@ -1,6 +1,7 @@
 pub mod EndLemmas
 pub mod ExcludeLemmas
 pub mod FoundLemmas
+pub mod GivenOpeningLemmas
 pub mod LackLemmas
 pub mod LawfulDialogLemmas
 pub mod LawfulFocusLemmas
@@ -14,6 +15,7 @@ pub mod PairLemmas
 pub mod RisingLemmas
 pub mod RuleLemmas
 pub mod SeenLemmas
-pub mod SoundLemmas
-pub mod UsableLemmas
 pub mod SoundDialogLemmas
+pub mod SoundLemmas
+pub mod StartTextLemmas
+pub mod UsableLemmas

@@ -2,3 +2,4 @@ pub mod Compared
 pub mod Order
 pub mod Sound
 pub mod Usable
+pub mod Opened

@@ -14,7 +14,7 @@ use tv_names::{
 };
 use tv_overlaps::{are_outside, overlaps};
 use tv_names::{show_themselves, unknown_names};
-use tv_starts::{opened_badly, second_defaults};
+use crate::{opened_badly, second_defaults};
 
 /// For each menu, whether its line has the fault.
 pub fn faulty_menus(alloc: Global, kind: FaultKind, menus: &[Menu]) -> Result<Vec<bool>, AllocError>

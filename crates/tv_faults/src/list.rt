@@ -13,9 +13,9 @@ use crate::judged::{
 };
 use crate::line::{add_if, add_where};
 use std::alloc::{AllocError, Global};
-use tv_limits::is_lawful_screen;
+use crate::is_lawful_screen;
 use tv_model::{Desc, Dialog, Ends, Fault, FaultKind, Menu, Node, Sequence, Window};
-use tv_starts::starts_nowhere;
+use crate::starts_nowhere;
 
 // The faults, in the order of their numbers.
 const KINDS: [FaultKind; 17] = [

@@ -6,14 +6,14 @@ ghost use Rattle.tv_faults.specs.Compared.{compares_dialogs, compares_items, com
 
 use crate::judge::Judge;
 use std::alloc::{AllocError, Global};
-use tv_limits::{
+use crate::{
     dialog_outside_limits, has_wide, is_wide_text, item_outside_limits, menu_outside_limits,
     rule_outside_limits, status_outside_limits, view_outside_limits, window_outside_limits,
 };
 use tv_model::{Desc, Dialog, Ends, FaultKind, Menu, MenuItem, Node, Rule, StatusItem, Window};
 use tv_overlaps::is_off_desktop;
 use tv_names::{has_nothing_to_focus, rules_cancel};
-use tv_starts::{has_no_text, lacks_cancel, lacks_end, starts_badly};
+use crate::{has_no_text, lacks_cancel, lacks_end, starts_badly};
 
 /// Judges menus.
 #[derive(Drop)]

@@ -5,7 +5,7 @@ use Rattle.std.specs.Ordering.{int_eq}
 use Rattle.tv_model.specs.Faults.Starts.{is_option_number, opens_badly}
 use Rattle.tv_model.specs.Description.Heads.{dialog_head}
 use Rattle.tv_model.specs.Faults.Each.{each_after}
-use Rattle.tv_starts.proofs.openings.opened_badly.Given as goal
+use Rattle.tv_faults.proofs.openings.opened_badly.Given as goal
 
 abbrev pub invariant-loop-dialog : goal.invariant-loop-dialog
 invariant-loop-dialog l = record {

@@ -6,7 +6,7 @@ use Rattle.tv_model.specs.declared.desc.Dialog.{Dialog}
 use Rattle.tv_model.specs.Description.Numbers.{is_between}
 use Rattle.tv_model.specs.Faults.Starts.{is_option_number, opens_badly}
 use Rattle.tv_model.specs.Description.Heads.{dialog_head}
-use Rattle.tv_starts.specs.Opened.{is_bad_opening}
+use Rattle.tv_faults.specs.Opened.{is_bad_opening}
 
 module _ (test : ℤ → Bool) (dialogs : List Dialog) (same : (n : ℤ) → test n ≡ list_any (λ dialog. is_option_number n (dialog_head dialog).opens) dialogs) where
   by_opening : (dialog : Dialog) (o : Option ℤ) → (dialog_head dialog).opens ≡ o → is_bad_opening test (dialog_head dialog).opens ≡ opens_badly dialogs dialog

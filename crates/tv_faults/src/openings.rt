@@ -8,7 +8,7 @@ ghost use Rattle.tv_model.specs.Description.Heads.{dialog_head, is_named};
 ghost use Rattle.tv_model.specs.Description.Names.{gives_name};
 ghost use Rattle.tv_model.specs.Faults.Starts.{is_option_number, opens_badly, starts_nowhere};
 ghost use Rattle.tv_model.specs.Faults.Each.{each_after};
-ghost use Rattle.tv_starts.specs.Opened.{is_bad_opening};
+ghost use Rattle.tv_faults.specs.Opened.{is_bad_opening};
 
 use std::alloc::{AllocError, Global};
 use std::collections::HashSet;

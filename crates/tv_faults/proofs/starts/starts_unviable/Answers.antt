@@ -3,8 +3,8 @@ use Rattle.std.specs.Prelude.{IfSome, IsTrue, Some, not}
 use Rattle.tv_valid.specs.Asking.{domain_of}
 use Rattle.tv_valid.specs.Deciding.{has_text}
 use Rattle.tv_model.specs.Faults.Domains.{starts_unviable}
-use Rattle.tv_starts.proofs.StartTextLemmas.{unviable}
-use Rattle.tv_starts.proofs.starts.starts_unviable.Goals as goal
+use Rattle.tv_faults.proofs.StartTextLemmas.{unviable}
+use Rattle.tv_faults.proofs.starts.starts_unviable.Goals as goal
 
 pub returns-in-Some : goal.returns-in-Some
 returns-in-Some c =

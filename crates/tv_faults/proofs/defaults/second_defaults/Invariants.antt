@@ -3,7 +3,7 @@ use Rattle.std.specs.List.{list_any}
 use Rattle.tv_model.specs.Description.Nodes.{is_default}
 use Rattle.tv_model.specs.Faults.Starts.{is_second_default}
 use Rattle.tv_model.specs.Faults.Each.{each_after}
-use Rattle.tv_starts.proofs.defaults.second_defaults.Given as goal
+use Rattle.tv_faults.proofs.defaults.second_defaults.Given as goal
 
 abbrev pub invariant-loop-view : goal.invariant-loop-view
 invariant-loop-view l = record {

@@ -3,7 +3,7 @@ use Rattle.std.proofs.lemmas.Bool.{false_from_ne_true}
 use Rattle.tv_model.specs.Description.LawfulNodes.{HasAnyText}
 use Rattle.tv_model.specs.Faults.Domains.{any_text}
 use Rattle.tv_model.proofs.DomainLemmas.{any_text_law}
-use Rattle.tv_starts.proofs.domains.domain_of.Goals as goal
+use Rattle.tv_faults.proofs.domains.domain_of.Goals as goal
 
 pub returns-in-Err-BadPicture : goal.returns-in-Err-BadPicture
 returns-in-Err-BadPicture c =

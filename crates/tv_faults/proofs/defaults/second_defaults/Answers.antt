@@ -4,7 +4,7 @@ use Rattle.std.proofs.lemmas.List.Folds.{list_any_more}
 use Rattle.tv_model.specs.Description.Nodes.{is_default}
 use Rattle.tv_model.specs.Faults.Starts.{is_second_default}
 use Rattle.tv_model.proofs.EachAfterLemmas.{each_more}
-use Rattle.tv_starts.proofs.defaults.second_defaults.Goals as goal
+use Rattle.tv_faults.proofs.defaults.second_defaults.Goals as goal
 
 pub loop-view-preserved : goal.loop-view-preserved
 loop-view-preserved c =

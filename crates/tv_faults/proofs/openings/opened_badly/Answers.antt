@@ -5,8 +5,8 @@ use Rattle.std.specs.HashSet as set
 use Rattle.std.specs.Ordering.{int_eq}
 use Rattle.tv_model.specs.Faults.Starts.{opens_badly}
 use Rattle.tv_model.proofs.EachAfterLemmas.{each_more}
-use Rattle.tv_starts.proofs.GivenOpeningLemmas.{opens_badly_given}
-use Rattle.tv_starts.proofs.openings.opened_badly.Goals as goal
+use Rattle.tv_faults.proofs.GivenOpeningLemmas.{opens_badly_given}
+use Rattle.tv_faults.proofs.openings.opened_badly.Goals as goal
 
 pub loop-dialog-preserved : goal.loop-dialog-preserved
 loop-dialog-preserved c =

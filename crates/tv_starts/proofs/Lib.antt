@@ -1,2 +1,0 @@
-pub mod GivenOpeningLemmas
-pub mod StartTextLemmas
