@@ -20,7 +20,7 @@ use Rattle.tv_dialog.specs.Standing.{Stands}
 use Rattle.tv_tree.specs.Tree.{IsSteady, tree_of}
 use Rattle.tv_tree.specs.Turns.{IsLentBy, reacted}
 use Rattle.tv_dialog.specs.declared.dialog.DialogOf.{DialogOf}
-use Rattle.tv_tree_mouse.proofs.DownLemmas.{AsksFocus, IsOver, Turn, down-turn, turn-asks, turn-over}
+use Rattle.tv_tree.proofs.Mouse.DownLemmas.{AsksFocus, IsOver, Turn, down-turn, turn-asks, turn-over}
 use Rattle.tv_machine.proofs.MarkLemmas.{hold-itself}
 use Rattle.tv_tree.proofs.RequestLemmas.{hold-request}
 use Rattle.tv_dialog.proofs.TurnCodeLemmas.{stands-handled}

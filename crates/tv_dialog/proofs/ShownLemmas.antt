@@ -33,11 +33,11 @@ use Rattle.tv_view.proofs.LayingLemmas.{lays_as}
 use Rattle.tv_dialog.specs.Drawn as drawn
 use Rattle.tv_dialog.specs.Drawn.{lent}
 use Rattle.tv_dialog.specs.Head.{KeptHead, bounds_of, declared_head}
-use Rattle.tv_tree_screen.specs.Shown.{IsShown, desktop_canvas, dialog_canvas, shadow_layer}
+use Rattle.tv_tree.specs.Shown.{IsShown, desktop_canvas, dialog_canvas, shadow_layer}
 use Rattle.tv_dialog.specs.Standing.{Stands}
 use Rattle.tv_tree.specs.Tree.{tree_of}
 use Rattle.tv_dialog.specs.declared.dialog.DialogOf.{DialogOf}
-use Rattle.tv_tree_screen.proofs.OpenDialogLemmas.{dialog-laid, dialog-tall, tree_layers}
+use Rattle.tv_tree.proofs.Screen.OpenDialogLemmas.{dialog-laid, dialog-tall, tree_layers}
 use Rattle.tv_dialog.proofs.TurnCodeLemmas.{lent-by}
 
 -- what a dialog keeps of its node

@@ -26,7 +26,7 @@ use Rattle.tv_tree.specs.Tree.{IsSteady, tree_as, tree_of}
 use Rattle.tv_tree.specs.Turns.{IsLentBy, pressed_at, reacted}
 use Rattle.tv_dialog.specs.declared.dialog.DialogOf.{DialogOf}
 use Rattle.tv_dialog.specs.declared.plan.Plan.{Plan}
-use Rattle.tv_tree_keys.proofs.EnterLemmas.{enter_target-id, id_of_leaf, is_button_leaf}
+use Rattle.tv_tree.proofs.Keys.EnterLemmas.{enter_target-id, id_of_leaf, is_button_leaf}
 use Rattle.tv_tree.proofs.FocusTreeLemmas.{steady-line}
 use Rattle.tv_machine.proofs.ListLemmas.{find-map}
 use Rattle.tv_tree.proofs.FlagLemmas.{flags-same}

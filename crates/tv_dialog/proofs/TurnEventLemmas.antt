@@ -25,13 +25,13 @@ use Rattle.tv_dialog.specs.Standing.{Stands}
 use Rattle.tv_tree.specs.Tree.{tree_of}
 use Rattle.tv_tree.specs.Turns.{IsLentBy, phases_after, phases_answer, reacted}
 use Rattle.tv_dialog.specs.declared.dialog.DialogOf.{DialogOf}
-use Rattle.tv_tree_keys.proofs.EnterLemmas.{enter_turn, group_after-broadcast}
-use Rattle.tv_tree_mouse.proofs.HeldLemmas.{move-turn}
-use Rattle.tv_tree_keys.proofs.KeyLemmas.{key_turn}
+use Rattle.tv_tree.proofs.Keys.EnterLemmas.{enter_turn, group_after-broadcast}
+use Rattle.tv_tree.proofs.Mouse.HeldLemmas.{move-turn}
+use Rattle.tv_tree.proofs.Keys.KeyLemmas.{key_turn}
 use Rattle.tv_machine.proofs.ListLemmas.{option_cases}
 use Rattle.tv_tree.proofs.FlagLemmas.{flags-same}
 use Rattle.tv_machine.proofs.MarkLemmas.{hold-itself}
-use Rattle.tv_tree_mouse.proofs.ReleaseLemmas.{up-holds, up-turn}
+use Rattle.tv_tree.proofs.Mouse.ReleaseLemmas.{up-holds, up-turn}
 use Rattle.tv_dialog.proofs.TurnCodeLemmas.{comes-handled}
 
 module _ {V : Type 0} (look : V → Leaf) (d : Dialog) (lawful : IsLawfulDialog d) (m : Modal) (env : Env) (lentby : IsLentBy d m env)

@@ -12,3 +12,6 @@ pub mod RequestLemmas
 pub mod RuledLemmas
 pub mod StandingLemmas
 pub mod TreeLemmas
+pub mod Keys
+pub mod Mouse
+pub mod Screen

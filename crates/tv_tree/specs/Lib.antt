@@ -4,3 +4,5 @@ pub mod Tree
 pub mod Ready
 -- how an event is handed to the views, and what is done with their answers
 pub mod Turns
+-- the open dialog on the screen
+pub mod Shown

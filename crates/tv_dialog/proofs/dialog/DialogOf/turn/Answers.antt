@@ -4,7 +4,7 @@ use Rattle.tv_group.specs.Opened.{opened}
 use Rattle.tv_dialog.specs.declared.dialog.DialogOf.{DialogOf}
 use Rattle.tv_dialog.specs.Settling.{ComesTo, IsReady, IsReadyForAll, turned}
 use Rattle.tv_tree.specs.Turns.{phases_after, phases_answer}
-use Rattle.tv_tree_keys.proofs.QuietLemmas.{phases_after-command, phases_answer-command}
+use Rattle.tv_tree.proofs.Keys.QuietLemmas.{phases_after-command, phases_answer-command}
 use Rattle.tv_dialog.proofs.TurnCodeLemmas.{lent-by, stands-body}
 use Rattle.tv_dialog.proofs.TurnEventLemmas.{comes-key}
 use Rattle.tv_dialog.proofs.dialog.DialogOf.turn.Goals as goal

@@ -35,11 +35,11 @@ use Rattle.tv_machine.proofs.ListLemmas.{bool_cases, option_cases}
 use Rattle.tv_machine.proofs.LeafLemmas.{IsIn, content_at-other, content_at-same, leaf_at-in}
 use Rattle.tv_tree.proofs.TreeLemmas.{steady-changed, where_id}
 use Rattle.tv_machine.proofs.MarkLemmas.{hold-itself}
-use Rattle.tv_tree_mouse.proofs.HoldLemmas.{placed-same, steady-held, tree-at}
-use Rattle.tv_tree_mouse.proofs.PlaceLemmas.{seen_point, up-seen}
-use Rattle.tv_tree_mouse.proofs.ReachLemmas.{IsPlacedWell, inside-seen, row-seen}
-use Rattle.tv_tree_mouse.proofs.TopmostLemmas.{well-in}
-use Rattle.tv_tree_mouse.proofs.TakenLemmas.{held-nothing, held-remembered, scan-held, scan_after-held, takes-up, up-answer}
+use Rattle.tv_tree.proofs.Mouse.HoldLemmas.{placed-same, steady-held, tree-at}
+use Rattle.tv_tree.proofs.Mouse.PlaceLemmas.{seen_point, up-seen}
+use Rattle.tv_tree.proofs.Mouse.ReachLemmas.{IsPlacedWell, inside-seen, row-seen}
+use Rattle.tv_tree.proofs.Mouse.TopmostLemmas.{well-in}
+use Rattle.tv_tree.proofs.Mouse.TakenLemmas.{held-nothing, held-remembered, scan-held, scan_after-held, takes-up, up-answer}
 
 -- ---- what a release makes of what a leaf holds
 

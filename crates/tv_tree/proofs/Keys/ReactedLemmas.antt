@@ -23,7 +23,7 @@ use Rattle.tv_tree.specs.Tree.{IsSteady, tree_of}
 use Rattle.tv_tree.specs.Turns.{phases_answer, pressed_at, reacted}
 use Rattle.tv_tree.proofs.EndingLemmas.{steady-command, steady-press}
 use Rattle.tv_tree.proofs.FocusTreeLemmas.{steady-line, steady-request}
-use Rattle.tv_tree_keys.proofs.KeyLemmas.{KeyTurn}
+use Rattle.tv_tree.proofs.Keys.KeyLemmas.{KeyTurn}
 use Rattle.tv_machine.proofs.ListLemmas.{bool_cases}
 use Rattle.tv_tree.proofs.RequestLemmas.{held-request}
 use Rattle.tv_tree.proofs.RuledLemmas.{held-pressed, steady-pressed}

@@ -25,7 +25,7 @@ use Rattle.tv_group.specs.Outline.{body_bounds}
 use Rattle.tv_machine.specs.Dialog.Lawful.{IsLawfulDialog, LiesIn, LiesInside}
 use Rattle.tv_tree.specs.Ready.{IsPointOf}
 use Rattle.tv_tree.specs.Tree.{around_of, leaf_as}
-use Rattle.tv_tree_mouse.proofs.PlaceLemmas.{HasCorner, IsSeen, around-cons, around_panes, column_from, gap_moved, has_all, has_all-append, le_moved, lt_moved, reaches-parts, row_from, seen, seen_point}
+use Rattle.tv_tree.proofs.Mouse.PlaceLemmas.{HasCorner, IsSeen, around-cons, around_panes, column_from, gap_moved, has_all, has_all-append, le_moved, lt_moved, reaches-parts, row_from, seen, seen_point}
 
 -- ---- rectangles
 

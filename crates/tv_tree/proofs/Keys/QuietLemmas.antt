@@ -15,10 +15,10 @@ use Rattle.tv_group.specs.Handling.{found_answer, group_after, group_answer, is_
 use Rattle.tv_group.specs.Handling.{scan_after, scan_answer, takes}
 use Rattle.tv_tree.specs.Turns.{phases_after, phases_answer}
 use Rattle.tv_tree.proofs.ChangedLemmas.{first_changed-same}
-use Rattle.tv_tree_keys.proofs.LetterLemmas.{letter-none}
+use Rattle.tv_tree.proofs.Keys.LetterLemmas.{letter-none}
 use Rattle.tv_machine.proofs.ListLemmas.{find-none}
-use Rattle.tv_tree_keys.proofs.PhaseLemmas.{phases_after-still, phases_answer-post}
-use Rattle.tv_tree_keys.proofs.TurnLemmas.{command-after, command-answer, key-after, key-answer}
+use Rattle.tv_tree.proofs.Keys.PhaseLemmas.{phases_after-still, phases_answer-post}
+use Rattle.tv_tree.proofs.Keys.TurnLemmas.{command-after, command-answer, key-after, key-answer}
 
 -- ---- one phase
 

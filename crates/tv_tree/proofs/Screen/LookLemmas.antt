@@ -21,7 +21,7 @@ use Rattle.tv_machine.specs.Dialog.Rules.{is_enabled}
 use Rattle.tv_machine.specs.Screen.Layers as screen
 use Rattle.tv_view.specs.declared.env.Env.{Env}
 use Rattle.tv_view.specs.Colours.{has_focus, is_focus, is_id, link_of, linked_by, look_of}
-use Rattle.tv_tree_screen.specs.Shown.{IsAtWork}
+use Rattle.tv_tree.specs.Shown.{IsAtWork}
 use Rattle.tv_tree.specs.Tree.{leaf_as}
 use Rattle.tv_tree.specs.Turns.{IsLentBy}
 

@@ -28,11 +28,11 @@ use Rattle.tv_machine.specs.Dialog.Lawful.{IsLawfulDialog}
 use Rattle.tv_tree.specs.Tree.{leaf_as, placed_as, tree_of}
 use Rattle.tv_tree.specs.Turns.{IsLentBy, reacted}
 use Rattle.tv_tree.proofs.LeafListLemmas.{has_leaf_id, ids_differ}
-use Rattle.tv_tree_keys.proofs.LetterLemmas.{of_kind}
+use Rattle.tv_tree.proofs.Keys.LetterLemmas.{of_kind}
 use Rattle.tv_machine.proofs.ListLemmas.{bool_cases, found-passes, id-itself, id-swap, option_cases}
-use Rattle.tv_tree_keys.proofs.QuietLemmas.{scan-quiet, scan-still}
+use Rattle.tv_tree.proofs.Keys.QuietLemmas.{scan-quiet, scan-still}
 use Rattle.tv_machine.proofs.LeafLemmas.{IsIn, found-in, leaf_at-in, leaf_at-is}
-use Rattle.tv_tree_keys.proofs.TurnLemmas.{broadcast-after, broadcast-answer, scan-turn, turn_answer}
+use Rattle.tv_tree.proofs.Keys.TurnLemmas.{broadcast-after, broadcast-answer, scan-turn, turn_answer}
 
 -- the command of the broadcast
 abbrev pub enter : Command

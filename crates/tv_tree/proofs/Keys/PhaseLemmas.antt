@@ -10,7 +10,7 @@ use Rattle.tv_view.specs.declared.reaction.Reaction.TheVariants.{Pass}
 use Rattle.tv_group.specs.Handling.{group_after, group_answer, is_pass}
 use Rattle.tv_tree.specs.Turns.{first_taken, phases_after, phases_answer}
 use Rattle.tv_machine.proofs.ListLemmas.{bool_cases}
-use Rattle.tv_tree_keys.proofs.TurnLemmas.{passed}
+use Rattle.tv_tree.proofs.Keys.TurnLemmas.{passed}
 
 first_taken-here : (r second : Reaction) → is_pass r ≡ false → first_taken r second ≡ r
 first_taken-here r second taken = ap (λ b. if b then second else r) taken

@@ -27,8 +27,8 @@ use Rattle.tv_tree.specs.Tree.{IsSteady, IsSteadyContent, held_at, leaf_as, plac
 use Rattle.tv_machine.proofs.ListLemmas.{either-same}
 use Rattle.tv_machine.proofs.LeafLemmas.{IsIn}
 use Rattle.tv_tree.proofs.TreeLemmas.{steady-changed, steady-leaf}
-use Rattle.tv_tree_mouse.proofs.HoldLemmas.{held-here, held-other, hold-kept, steady-held, tree-with_hold}
-use Rattle.tv_tree_mouse.proofs.TopmostLemmas.{after-changed, after-same, after_down, answer-topmost, content_down, down-answer, down-captured, down-kept, down_answered, topmost-in, well-in}
+use Rattle.tv_tree.proofs.Mouse.HoldLemmas.{held-here, held-other, hold-kept, steady-held, tree-with_hold}
+use Rattle.tv_tree.proofs.Mouse.TopmostLemmas.{after-changed, after-same, after_down, answer-topmost, content_down, down-answer, down-captured, down-kept, down_answered, topmost-in, well-in}
 
 -- ---- what a leaf holds that comes to hold the mouse
 

@@ -26,7 +26,7 @@ use Rattle.tv_tree.proofs.LeafListLemmas.{has_leaf_id, ids_differ}
 use Rattle.tv_machine.proofs.ListLemmas.{bool_cases, either-same, found-passes, map-itself, map-map, same-id}
 use Rattle.tv_machine.proofs.LeafLemmas.{HasLeaves, IsIn, leaf_at-in, leaves-same}
 use Rattle.tv_tree.proofs.TreeLemmas.{changed-tree, first_changed-tree, placed_with, where_id}
-use Rattle.tv_tree_keys.proofs.TurnLemmas.{key-after, key-answer, scan-turn, turn_answer}
+use Rattle.tv_tree.proofs.Keys.TurnLemmas.{key-after, key-answer, scan-turn, turn_answer}
 
 -- ---- changes of one leaf
 

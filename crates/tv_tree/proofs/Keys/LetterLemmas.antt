@@ -38,7 +38,7 @@ use Rattle.tv_tree.specs.Turns.{IsLentBy, cluster_pressed, leaf_pressed, pressed
 use Rattle.tv_tree.proofs.LeafListLemmas.{letters_differ, marks_letter}
 use Rattle.tv_machine.proofs.ListLemmas.{found-passes}
 use Rattle.tv_machine.proofs.LeafLemmas.{IsIn, found-in}
-use Rattle.tv_tree_keys.proofs.TurnLemmas.{key-answer, scan-turn, turn_answer}
+use Rattle.tv_tree.proofs.Keys.TurnLemmas.{key-answer, scan-turn, turn_answer}
 
 -- ---- letters in upper case
 

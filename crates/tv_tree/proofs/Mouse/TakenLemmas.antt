@@ -28,7 +28,7 @@ use Rattle.tv_tree.specs.Tree.{around_of, held_at, leaf_as, placed_as, tree_as, 
 use Rattle.tv_machine.proofs.ListLemmas.{any-map, any-same, find-none, find-same, found-among, id-itself, id-swap}
 use Rattle.tv_tree.proofs.TreeLemmas.{find-tree, first_changed-absent, first_changed-tree, where_id}
 use Rattle.tv_machine.proofs.LeafLemmas.{leaf_at-is, leaf_id}
-use Rattle.tv_tree_mouse.proofs.PlaceLemmas.{move-seen, seen_point, up-seen}
+use Rattle.tv_tree.proofs.Mouse.PlaceLemmas.{move-seen, seen_point, up-seen}
 
 -- ---- who holds the mouse
 

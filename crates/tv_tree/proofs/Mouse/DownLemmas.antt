@@ -37,9 +37,9 @@ use Rattle.tv_machine.proofs.ListLemmas.{bool_cases, id-itself, id-swap, option_
 use Rattle.tv_machine.proofs.MarkLemmas.{enabled-same, hold-itself, hold-then}
 use Rattle.tv_tree.proofs.FocusTreeLemmas.{steady-request}
 use Rattle.tv_tree.proofs.RequestLemmas.{focus-request, held-request, hold-request}
-use Rattle.tv_tree_mouse.proofs.HoldLemmas.{leaf-held, nothing-held}
-use Rattle.tv_tree_mouse.proofs.TopmostLemmas.{after-same, after_down, answer-topmost, down_answered, topmost-same}
-use Rattle.tv_tree_mouse.proofs.GripLemmas.{after-asked, after-disabled, after-held, answer-asks, answer-disabled, answer-holds, hold-held, in-d, steady-hold}
+use Rattle.tv_tree.proofs.Mouse.HoldLemmas.{leaf-held, nothing-held}
+use Rattle.tv_tree.proofs.Mouse.TopmostLemmas.{after-same, after_down, answer-topmost, down_answered, topmost-same}
+use Rattle.tv_tree.proofs.Mouse.GripLemmas.{after-asked, after-disabled, after-held, answer-asks, answer-disabled, answer-holds, hold-held, in-d, steady-hold}
 
 -- ---- what a down comes to
 

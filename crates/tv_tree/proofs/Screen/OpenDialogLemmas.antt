@@ -36,8 +36,8 @@ use Rattle.tv_view.proofs.SameLayerLemmas.{IsSame, lays_same, same_append}
 use Rattle.tv_machine.specs.Dialog.Lawful.{IsLawfulDialog}
 use Rattle.tv_tree.specs.Tree.{tree_of}
 use Rattle.tv_tree.specs.Turns.{IsLentBy}
-use Rattle.tv_tree_screen.specs.Shown.{IsAtWork, IsOfDialog, dialog_canvas, shadow_layer}
-use Rattle.tv_tree_screen.proofs.DrawingLemmas.{HasOneDefault, views-same}
+use Rattle.tv_tree.specs.Shown.{IsAtWork, IsOfDialog, dialog_canvas, shadow_layer}
+use Rattle.tv_tree.proofs.Screen.DrawingLemmas.{HasOneDefault, views-same}
 
 -- the height of its node is that of its head
 pub dialog-tall : (d : Dialog) → height_of d.node.kind ≡ (dialog_head d).h

@@ -30,15 +30,15 @@ use Rattle.tv_machine.specs.Dialog.Alike.{HoldSame}
 use Rattle.tv_tree.specs.Ready.{KeepsMarks, is_own}
 use Rattle.tv_tree.specs.Tree.{IsSteady, IsSteadyContent, leaf_as, tree_as, tree_of}
 use Rattle.tv_tree.specs.Turns.{IsLentBy, phases_after, phases_answer, reacted}
-use Rattle.tv_tree_keys.proofs.EnterLemmas.{press-acts}
-use Rattle.tv_tree_keys.proofs.FocusLemmas.{after-becomes, after-presses, focus-answers, focus-id}
-use Rattle.tv_tree_keys.proofs.KeyContentLemmas.{hold-keyed, key-steady, tree-keyed}
-use Rattle.tv_tree_keys.proofs.LetterLemmas.{letter_turn}
+use Rattle.tv_tree.proofs.Keys.EnterLemmas.{press-acts}
+use Rattle.tv_tree.proofs.Keys.FocusLemmas.{after-becomes, after-presses, focus-answers, focus-id}
+use Rattle.tv_tree.proofs.Keys.KeyContentLemmas.{hold-keyed, key-steady, tree-keyed}
+use Rattle.tv_tree.proofs.Keys.LetterLemmas.{letter_turn}
 use Rattle.tv_machine.proofs.ListLemmas.{option_cases}
 use Rattle.tv_machine.proofs.MarkLemmas.{hold-itself}
-use Rattle.tv_tree_keys.proofs.PhaseLemmas.{phases_after-still, phases_after-taken}
-use Rattle.tv_tree_keys.proofs.PhaseLemmas.{phases_answer-post, phases_answer-pre, phases_answer-taken}
-use Rattle.tv_tree_keys.proofs.QuietLemmas.{after-key, after-none, before-key, before-none}
+use Rattle.tv_tree.proofs.Keys.PhaseLemmas.{phases_after-still, phases_after-taken}
+use Rattle.tv_tree.proofs.Keys.PhaseLemmas.{phases_answer-post, phases_answer-pre, phases_answer-taken}
+use Rattle.tv_tree.proofs.Keys.QuietLemmas.{after-key, after-none, before-key, before-none}
 use Rattle.tv_machine.proofs.LeafLemmas.{IsIn, leaf_at-in}
 use Rattle.tv_tree.proofs.TreeLemmas.{steady-changed}
 

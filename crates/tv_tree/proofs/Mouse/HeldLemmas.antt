@@ -29,11 +29,11 @@ use Rattle.tv_machine.proofs.ListLemmas.{bool_cases, option_cases}
 use Rattle.tv_machine.proofs.LeafLemmas.{IsIn, leaf_at-in}
 use Rattle.tv_tree.proofs.TreeLemmas.{steady-changed, steady-leaf, where_id}
 use Rattle.tv_machine.proofs.MarkLemmas.{hold-itself}
-use Rattle.tv_tree_mouse.proofs.HoldLemmas.{hold-kept, tree-at, tree-with_hold}
-use Rattle.tv_tree_mouse.proofs.PlaceLemmas.{move-seen, seen_point}
-use Rattle.tv_tree_mouse.proofs.ReachLemmas.{IsPlacedWell, inside-seen, row-seen}
-use Rattle.tv_tree_mouse.proofs.TopmostLemmas.{well-in}
-use Rattle.tv_tree_mouse.proofs.TakenLemmas.{held-remembered, move-answer, scan-held, scan_after-held, takes-move}
+use Rattle.tv_tree.proofs.Mouse.HoldLemmas.{hold-kept, tree-at, tree-with_hold}
+use Rattle.tv_tree.proofs.Mouse.PlaceLemmas.{move-seen, seen_point}
+use Rattle.tv_tree.proofs.Mouse.ReachLemmas.{IsPlacedWell, inside-seen, row-seen}
+use Rattle.tv_tree.proofs.Mouse.TopmostLemmas.{well-in}
+use Rattle.tv_tree.proofs.Mouse.TakenLemmas.{held-remembered, move-answer, scan-held, scan_after-held, takes-move}
 
 -- ---- what a move makes of what a leaf holds
 

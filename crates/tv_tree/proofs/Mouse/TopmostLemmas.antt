@@ -30,8 +30,8 @@ use Rattle.tv_machine.proofs.LeafLemmas.{IsIn, leaf_at-all, leaf_at-member, leav
 use Rattle.tv_tree.proofs.TreeLemmas.{tree-apart, where_id}
 use Rattle.tv_machine.proofs.MarkLemmas.{visible-same}
 use Rattle.tv_tree.proofs.ChangedLemmas.{All-reverse, last_changed-found, last_changed-same, reverse-map}
-use Rattle.tv_tree_mouse.proofs.PlaceLemmas.{down-seen, seen_point}
-use Rattle.tv_tree_mouse.proofs.ReachLemmas.{IsPlacedWell, column-seen, placed_well, reaches-tree, row-seen}
+use Rattle.tv_tree.proofs.Mouse.PlaceLemmas.{down-seen, seen_point}
+use Rattle.tv_tree.proofs.Mouse.ReachLemmas.{IsPlacedWell, column-seen, placed_well, reaches-tree, row-seen}
 
 -- ---- a down on the tree
 

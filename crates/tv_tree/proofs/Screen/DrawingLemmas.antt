@@ -40,10 +40,10 @@ use Rattle.tv_group.proofs.ListLemmas.{reverse-step}
 use Rattle.tv_machine.specs.Dialog.Lawful.{IsLawfulDialog, LiesInside}
 use Rattle.tv_tree.specs.Tree.{around_of, leaf_as, placed_as, tree_of}
 use Rattle.tv_tree.specs.Turns.{IsLentBy}
-use Rattle.tv_tree_screen.proofs.CanvasLemmas.{IsCornerUpTo, IsPaneNear, canvas_in, clip-in, column-sum, layers-near, origin-x, origin-y, panes-reached, row-sum, view-uncut}
-use Rattle.tv_tree_screen.proofs.FaceLemmas.{faces-coloured}
-use Rattle.tv_tree_screen.specs.Shown.{IsAtWork, IsOfDialog, desktop_canvas, dialog_canvas, open_bounds}
-use Rattle.tv_tree_screen.proofs.LookLemmas.{IsOfFirst, look-seen, one-first, pairs_rest, weaken}
+use Rattle.tv_tree.proofs.Screen.CanvasLemmas.{IsCornerUpTo, IsPaneNear, canvas_in, clip-in, column-sum, layers-near, origin-x, origin-y, panes-reached, row-sum, view-uncut}
+use Rattle.tv_tree.proofs.Screen.FaceLemmas.{faces-coloured}
+use Rattle.tv_tree.specs.Shown.{IsAtWork, IsOfDialog, desktop_canvas, dialog_canvas, open_bounds}
+use Rattle.tv_tree.proofs.Screen.LookLemmas.{IsOfFirst, look-seen, one-first, pairs_rest, weaken}
 
 -- ---- the canvas of a leaf
 

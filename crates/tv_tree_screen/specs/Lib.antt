@@ -1,2 +1,0 @@
--- the open dialog on the screen
-pub mod Shown
