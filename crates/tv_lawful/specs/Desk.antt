@@ -1,2 +1,2 @@
 -- What the windows of a desk may be made of.
-pub use Rattle.tv_desk.specs.Desk.{IsLawfulWindow, AreLawfulWindows}
+pub use Rattle.tv_window.specs.Desk.{IsLawfulWindow, AreLawfulWindows}

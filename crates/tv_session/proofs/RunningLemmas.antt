@@ -3,8 +3,8 @@ use Rattle.std.proofs.Common.{false, arith, refl, ◌≡◌, ◌≤◌, List, []
 use Rattle.tv_model.specs.Controls.Meaning.{Leaf}
 use Rattle.tv_model.specs.declared.desc.Desc.{Desc}
 use Rattle.tv_model.specs.declared.log.LogLine.{LogLine}
-use Rattle.tv_desk.specs.Desk.{IsDesk}
-use Rattle.tv_desk.specs.declared.desk.DeskOf.{DeskOf}
+use Rattle.tv_window.specs.Desk.{IsDesk}
+use Rattle.tv_window.specs.declared.desk.DeskOf.{DeskOf}
 use Rattle.tv_menu.specs.Bar.{IsBarOf, open_of}
 use Rattle.tv_machine.specs.State.{OpenWindow, State}
 use Rattle.tv_machine.specs.Session.Desktop.{raise_found}

@@ -6,7 +6,7 @@ use Rattle.tv_model.specs.Controls.Meaning.{Leaf}
 use Rattle.tv_model.specs.declared.desc.Desc.{Desc}
 use Rattle.tv_group.specs.declared.group.GroupOf.{GroupOf}
 use Rattle.tv_window.specs.declared.window.WindowOf.{WindowOf}
-use Rattle.tv_desk.specs.Desk.{AreFreshWindows, IsDesk}
+use Rattle.tv_window.specs.Desk.{AreFreshWindows, IsDesk}
 use Rattle.tv_dialogs.specs.Bodies.{AreFreshBodies}
 use Rattle.tv_dialogs.specs.Dialogs.{AreDialogs}
 use Rattle.tv_laws.proofs.RunLemmas.{closed_kept}

@@ -7,7 +7,7 @@ use Rattle.tv_machine.specs.Dialog.Sound.{HasSoundDialogs}
 use Rattle.tv_laws.specs.Runs.{IsFitState}
 use Rattle.tv_menu.specs.Bar.{IsBarOf, open_of}
 use Rattle.tv_menu.specs.Lawful.{IsLawfulScreen}
-use Rattle.tv_desk.specs.Desk.{IsDesk}
+use Rattle.tv_window.specs.Desk.{IsDesk}
 use Rattle.tv_dialogs.specs.Dialogs.{AreDialogs}
 use Rattle.tv_session.specs.declared.run.RunOf.{RunOf}
 

@@ -1,6 +1,6 @@
 -- How a run begins, and why it can't.
 use Rattle.std.specs.Prelude.{◌≡◌, ℕ, List, Option, Some, None, position}
-use Rattle.tv_desk.specs.Desk.{AreFreshWindows, AreLawfulWindows}
+use Rattle.tv_window.specs.Desk.{AreFreshWindows, AreLawfulWindows}
 use Rattle.tv_dialogs.specs.Dialogs.{AreDialogs}
 use Rattle.tv_dialogs.specs.declared.dialogs.DialogsOf.{DialogsOf}
 use Rattle.tv_machine.specs.Dialog.Sound.{HasSoundDialogs}

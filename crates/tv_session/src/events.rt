@@ -17,7 +17,7 @@ ghost use Rattle.tv_session.specs.Running.{IsAwake, IsRun};
 use crate::paint::desktop;
 use crate::run::RunOf;
 use tv_cells::Point;
-use tv_desk::Hit;
+use tv_window::Hit;
 use tv_event::{Command, CommandSet, Event, Key};
 use tv_leaf::contains;
 use tv_menu::{Offered, StatusLine};

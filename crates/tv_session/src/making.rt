@@ -22,7 +22,7 @@ use crate::session::SessionOf;
 use std::alloc::{AllocError, Global};
 use tv_cells::{Screen, ScreenFault};
 use tv_check::Checked;
-use tv_desk::DeskOf;
+use tv_window::DeskOf;
 use tv_dialogs::DialogsOf;
 use tv_faces::natural;
 use tv_group::GroupOf;

@@ -1,7 +1,7 @@
 //! What changes while a run goes on.
 
 use crate::log::Log;
-use tv_desk::DeskOf;
+use tv_window::DeskOf;
 use tv_dialogs::DialogsOf;
 use tv_menu::MenuBar;
 use tv_view::View;

@@ -1,3 +1,9 @@
+pub mod DeclaredLemmas
 pub mod DeclaredWindowLemmas
-pub mod WindowDrawingLemmas
+pub mod DeskLemmas
+pub mod FreshLemmas
+pub mod MarkLemmas
+pub mod OrderLemmas
+pub mod PlaceLemmas
 pub mod StackLemmas
+pub mod WindowDrawingLemmas

@@ -1,3 +1,4 @@
 pub mod DeclaredWindows
 pub mod Head
 pub mod Window
+pub mod Desk

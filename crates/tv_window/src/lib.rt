@@ -1,10 +1,13 @@
 //! Windows and dialogs: frames round groups of views, one over the other.
 #![tactic(auto)]
 
+mod desk;
 mod head;
+mod places;
 mod stack;
 mod window;
 
+pub use desk::{Desk, DeskOf, Hit};
 pub use stack::draw_stack;
 pub use tv_dialog::{Dialog, DialogFault, DialogOf};
 pub use tv_faces::Frame;

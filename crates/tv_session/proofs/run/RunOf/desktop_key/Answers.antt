@@ -1,6 +1,6 @@
 use Rattle.std.proofs.Common.{◌≡◌, None, ap, subst, sym, ◌∙◌}
 use Rattle.tv_event.specs.declared.event.Event.TheVariants as events
-use Rattle.tv_desk.specs.Desk.{IsDesk}
+use Rattle.tv_window.specs.Desk.{IsDesk}
 use Rattle.tv_machine.specs.Session.Desktop.{desktop_key, window_of_digit}
 use Rattle.tv_menu.specs.Bar.{bar_offer, closed_key}
 use Rattle.tv_session.specs.Running.{IsRun}

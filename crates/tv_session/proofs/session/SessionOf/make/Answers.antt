@@ -1,5 +1,5 @@
 use Rattle.std.proofs.Common.{ap, subst, sym, ◌∙◌}
-use Rattle.tv_desk.specs.Desk.{AreLawfulWindows}
+use Rattle.tv_window.specs.Desk.{AreLawfulWindows}
 use Rattle.tv_dialogs.specs.Bodies.{AreFreshBodies}
 use Rattle.tv_dialogs.specs.Dialogs.{AreDialogs}
 use Rattle.tv_machine.specs.Dialog.Sound.{HasSoundDialogs}

@@ -14,7 +14,7 @@ use Rattle.tv_window.specs.DeclaredWindows.{AreDeclared, IsTextInside}
 use Rattle.tv_window.specs.Head.{IsLimited, declared_head}
 use Rattle.tv_window.specs.Window.{IsFreshWindow}
 use Rattle.tv_window.specs.declared.window.WindowOf.{WindowOf}
-use Rattle.tv_desk.specs.declared.desk.DeskOf.{DeskOf}
+use Rattle.tv_window.specs.declared.desk.DeskOf.{DeskOf}
 
 -- ---- what is declared
 

@@ -1,8 +1,8 @@
 use Rattle.std.proofs.Common.{refl, sym, ap, ◌∙◌, arith}
 use Rattle.tv_machine.specs.Dialog.Mouse.{is_close_mark}
 use Rattle.tv_machine.specs.Session.Desktop.{seen_from}
-use Rattle.tv_desk.proofs.DeskLemmas.{down-behind, down-beside, down-kept, down-mark}
-use Rattle.tv_desk.proofs.desk.DeskOf.down.Goals as goal
+use Rattle.tv_window.proofs.DeskLemmas.{down-behind, down-beside, down-kept, down-mark}
+use Rattle.tv_window.proofs.desk.DeskOf.down.Goals as goal
 
 pub returns-in_default-clause-done : goal.returns-in_default-clause-done
 returns-in_default-clause-done g c = λ d s is done.

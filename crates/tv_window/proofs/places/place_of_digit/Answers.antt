@@ -1,8 +1,8 @@
 use Rattle.std.proofs.Common.{◌≤◌, arith}
 use Rattle.std.proofs.lemmas.Bool.Decides.{nat_tests}
 use Rattle.std.proofs.lemmas.Int.{ints}
-use Rattle.tv_desk.proofs.DeskLemmas.{digit-placed}
-use Rattle.tv_desk.proofs.places.place_of_digit.Goals as goal
+use Rattle.tv_window.proofs.DeskLemmas.{digit-placed}
+use Rattle.tv_window.proofs.places.place_of_digit.Goals as goal
 
 pub returns-in-1-to-9 : goal.returns-in-1-to-9
 returns-in-1-to-9 g c =

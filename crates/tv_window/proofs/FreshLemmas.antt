@@ -11,10 +11,10 @@ use Rattle.tv_machine.specs.Session.Start.{closed, open_window}
 use Rattle.tv_machine.proofs.ListLemmas.{AreApart as AreApartIds, fails-absent, find-member, has, pairs-head, pairs-tail}
 use Rattle.tv_window.specs.DeclaredWindows.{AreDeclared}
 use Rattle.tv_window.specs.declared.window.WindowOf.{WindowOf}
-use Rattle.tv_desk.specs.Desk.{AreApart, AreFreshWindows, AreLawfulWindows, IsDesk, IsLawfulWindow}
-use Rattle.tv_desk.specs.declared.desk.DeskOf.{DeskOf}
-use Rattle.tv_desk.proofs.DeclaredLemmas.{declared-reverse}
-use Rattle.tv_desk.proofs.OrderLemmas.{numbers-differ, pairs-reverse}
+use Rattle.tv_window.specs.Desk.{AreApart, AreFreshWindows, AreLawfulWindows, IsDesk, IsLawfulWindow}
+use Rattle.tv_window.specs.declared.desk.DeskOf.{DeskOf}
+use Rattle.tv_window.proofs.DeclaredLemmas.{declared-reverse}
+use Rattle.tv_window.proofs.OrderLemmas.{numbers-differ, pairs-reverse}
 
 -- ---- each is found by its id
 

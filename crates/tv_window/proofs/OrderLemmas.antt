@@ -12,8 +12,8 @@ use Rattle.tv_model.specs.declared.node.Id.{Id}
 use Rattle.tv_machine.specs.State.{OpenWindow}
 use Rattle.tv_machine.specs.Session.Commands.{last_first, raised as raised_by_id}
 use Rattle.tv_machine.proofs.ListLemmas.{bool_cases, id-itself, pairs-head, pairs-tail}
-use Rattle.tv_desk.specs.Desk.{AreApart}
-use Rattle.tv_desk.proofs.PlaceLemmas.{all-got, got-within}
+use Rattle.tv_window.specs.Desk.{AreApart}
+use Rattle.tv_window.proofs.PlaceLemmas.{all-got, got-within}
 
 -- ---- lists
 

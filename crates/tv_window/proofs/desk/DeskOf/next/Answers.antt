@@ -1,6 +1,6 @@
 use Rattle.std.proofs.Common.{refl, arith}
-use Rattle.tv_desk.proofs.DeskLemmas.{next-desk, next-empty}
-use Rattle.tv_desk.proofs.desk.DeskOf.next.Goals as goal
+use Rattle.tv_window.proofs.DeskLemmas.{next-desk, next-empty}
+use Rattle.tv_window.proofs.desk.DeskOf.next.Goals as goal
 
 pub returns-in-Some : goal.returns-in-Some
 returns-in-Some g c = λ d stack is.

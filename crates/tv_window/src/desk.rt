@@ -10,14 +10,14 @@ ghost use Rattle.tv_model.specs.Controls.Meaning.{IsSmall};
 ghost use Rattle.tv_model.specs.declared.desc.Desc.{Desc};
 ghost use Rattle.tv_view.specs.Drawing.{Lays};
 ghost use Rattle.tv_window.specs.DeclaredWindows.{IsOfWindow, desktop_canvas};
-ghost use Rattle.tv_desk.specs.Desk.{AreFreshWindows, AreLawfulWindows, IsDesk, down_at, with_close_line};
+ghost use Rattle.tv_window.specs.Desk.{AreFreshWindows, AreLawfulWindows, IsDesk, down_at, with_close_line};
 
 use crate::places::{is_on_close_mark, place_of_digit, place_under};
 use tv_cells::{Canvas, Point, Screen};
 use tv_group::Stack;
 use tv_model::Id;
 use tv_view::{Env, View};
-use tv_window::{WindowOf, draw_stack};
+use crate::{WindowOf, draw_stack};
 
 /// The open windows of a run, the front one first.
 ///

@@ -11,7 +11,7 @@ ghost use Rattle.tv_window.specs.Head.{bounds_of};
 ghost use Rattle.tv_window.specs.Window.{head_of};
 
 use tv_cells::{Point, Rect};
-use tv_window::WindowOf;
+use crate::WindowOf;
 
 fn has_point<V>(window: &WindowOf<V>, point: Point) -> bool
     ensures { result ≡ is_in (bounds_of (head_of window.now)) point.x point.y }

@@ -19,11 +19,11 @@ use Rattle.tv_window.specs.DeclaredWindows.{AreDeclared}
 use Rattle.tv_window.specs.Head.{bounds_of}
 use Rattle.tv_window.specs.Window.{head_of}
 use Rattle.tv_window.specs.declared.window.WindowOf.{WindowOf}
-use Rattle.tv_desk.specs.Desk.{AreApart, IsDesk, down_at, with_close_line}
-use Rattle.tv_desk.specs.declared.desk.DeskOf.{DeskOf}
-use Rattle.tv_desk.proofs.DeclaredLemmas.{corner-same, declared-raised, id-same, number-same, one-declared, point-same, position-same, same-length}
-use Rattle.tv_desk.proofs.OrderLemmas.{apart-at, front-only, last-raised, raised-at}
-use Rattle.tv_desk.proofs.PlaceLemmas.{IsFoundAt, found-at, not-found}
+use Rattle.tv_window.specs.Desk.{AreApart, IsDesk, down_at, with_close_line}
+use Rattle.tv_window.specs.declared.desk.DeskOf.{DeskOf}
+use Rattle.tv_window.proofs.DeclaredLemmas.{corner-same, declared-raised, id-same, number-same, one-declared, point-same, position-same, same-length}
+use Rattle.tv_window.proofs.OrderLemmas.{apart-at, front-only, last-raised, raised-at}
+use Rattle.tv_window.proofs.PlaceLemmas.{IsFoundAt, found-at, not-found}
 
 -- a window that comes to the front by its number changes nothing of a run but its open windows
 pub raise_found-windows : (o : Option OpenWindow) (s : State) → raise_found o s ≡ record s { windows = (raise_found o s).windows }

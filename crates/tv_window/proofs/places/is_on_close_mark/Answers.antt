@@ -1,8 +1,8 @@
 use Rattle.std.proofs.Common.{ap, ◌∙◌}
 use Rattle.tv_cells.specs.Layers.{is_in}
 use Rattle.tv_leaf.proofs.PointLemmas.{is_in-test}
-use Rattle.tv_desk.proofs.MarkLemmas.{mark-seen}
-use Rattle.tv_desk.proofs.places.is_on_close_mark.Goals as goal
+use Rattle.tv_window.proofs.MarkLemmas.{mark-seen}
+use Rattle.tv_window.proofs.places.is_on_close_mark.Goals as goal
 
 pub returns : goal.returns
 returns c =

@@ -1,6 +1,6 @@
 use Rattle.std.proofs.Common.{sym, ◌∙◌}
-use Rattle.tv_desk.proofs.DeskLemmas.{closed-desk, one-closed}
-use Rattle.tv_desk.proofs.desk.DeskOf.close_front.Goals as goal
+use Rattle.tv_window.proofs.DeskLemmas.{closed-desk, one-closed}
+use Rattle.tv_window.proofs.desk.DeskOf.close_front.Goals as goal
 
 pub returns-clause-desk : goal.returns-clause-desk
 returns-clause-desk g c = λ d s is. closed-desk g.V.View.meaning d s c.args.self.now _ is c.remove.ensures.others

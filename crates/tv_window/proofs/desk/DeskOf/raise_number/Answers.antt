@@ -1,6 +1,6 @@
 use Rattle.std.proofs.Common.{refl, sym, ◌∙◌}
-use Rattle.tv_desk.proofs.DeskLemmas.{digit-kept, digit-raised}
-use Rattle.tv_desk.proofs.desk.DeskOf.raise_number.Goals as goal
+use Rattle.tv_window.proofs.DeskLemmas.{digit-kept, digit-raised}
+use Rattle.tv_window.proofs.desk.DeskOf.raise_number.Goals as goal
 
 pub returns-in-Some : goal.returns-in-Some
 returns-in-Some g c = λ d s is.
