@@ -6,3 +6,7 @@ pub mod EndLemmas
 pub mod ListLemmas
 -- what follows from a fact on a result
 pub mod ResultLemmas
+pub mod LimitLemmas
+pub mod OwnerLemmas
+pub mod PartLemmas
+pub mod WindowLemmas

@@ -5,6 +5,8 @@ mod area;
 mod begun;
 mod building;
 mod fault;
+mod parts;
 
 pub use building::{Building, Views};
 pub use fault::BuildFault;
+pub use parts::parts_are_lawful;

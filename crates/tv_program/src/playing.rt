@@ -17,7 +17,7 @@ use std::alloc::{AllocError, Global};
 use tv_building::{BuildFault, Views};
 use tv_check::{CertifyFault, Checked, Refusal, accept, certify};
 use tv_lang::parse;
-use tv_lawful::parts_are_lawful;
+use tv_building::parts_are_lawful;
 use tv_model::Desc;
 use tv_output::{WriteFailed, Writer};
 use tv_script::{Script, perform};

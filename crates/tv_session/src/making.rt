@@ -26,7 +26,7 @@ use tv_window::DeskOf;
 use tv_dialogs::DialogsOf;
 use tv_faces::natural;
 use tv_group::GroupOf;
-use tv_lawful::parts_are_lawful;
+use tv_building::parts_are_lawful;
 use tv_menu::{MenuBar, StatusLine};
 use tv_model::{Desc, Dialog};
 use tv_view::View;

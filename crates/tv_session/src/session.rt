@@ -14,7 +14,7 @@ use std::mem::swap;
 use tv_cells::Screen;
 use tv_check::Checked;
 use tv_event::Event;
-use tv_lawful::parts_are_lawful;
+use tv_building::parts_are_lawful;
 use tv_menu::StatusLine;
 use tv_model::{Desc, Id, LogLine};
 use tv_script::Stage;

@@ -1,4 +1,4 @@
-use Rattle.tv_lawful.proofs.OwnerLemmas.{head_of_lawful}
+use Rattle.tv_building.proofs.OwnerLemmas.{head_of_lawful}
 use Rattle.tv_building.proofs.begun.Begun.new.Goals as goal
 
 pub invariant_of-result : goal.invariant_of-result

@@ -20,9 +20,9 @@ use Rattle.tv_model.specs.Description.Panes.{owner_of, room_in}
 use Rattle.tv_model.specs.Description.Rectangles.{place_of_node}
 use Rattle.tv_model.specs.Faults.Lines.{after_seen}
 use Rattle.tv_window.specs.DeclaredWindows.{IsTextInside}
-use Rattle.tv_lawful.specs.Desk.{AreLawfulWindows}
-use Rattle.tv_lawful.proofs.LimitLemmas.{window_head_limited}
-use Rattle.tv_lawful.proofs.PartLemmas.{windows_limited}
+use Rattle.tv_building.specs.Desk.{AreLawfulWindows}
+use Rattle.tv_building.proofs.LimitLemmas.{window_head_limited}
+use Rattle.tv_building.proofs.PartLemmas.{windows_limited}
 
 -- ---- texts stand inside the frame
 

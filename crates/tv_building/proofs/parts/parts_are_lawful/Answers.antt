@@ -1,9 +1,9 @@
 use Rattle.tv_declarations.specs.Spelling.{IsDescription}
 use Rattle.tv_faults.specs.Sound.{Sound}
 use Rattle.tv_faults.proofs.SoundLemmas.{sound_says}
-use Rattle.tv_lawful.proofs.PartLemmas.{corners_near, heads_limited, lawful_screen, menus_lawful, starts_lawful, status_lawful}
-use Rattle.tv_lawful.proofs.WindowLemmas.{windows_lawful}
-use Rattle.tv_lawful.proofs.parts.parts_are_lawful.Goals as goal
+use Rattle.tv_building.proofs.PartLemmas.{corners_near, heads_limited, lawful_screen, menus_lawful, starts_lawful, status_lawful}
+use Rattle.tv_building.proofs.WindowLemmas.{windows_lawful}
+use Rattle.tv_building.proofs.parts.parts_are_lawful.Goals as goal
 
 pub returns : goal.returns
 returns c =

@@ -14,7 +14,7 @@ use Rattle.tv_model.specs.Description.Numbers.{IsBetween}
 use Rattle.tv_model.specs.Description.Rectangles.{rect}
 use Rattle.tv_leaf.proofs.CoreLemmas.{limited_small}
 use Rattle.tv_window.specs.Head as window
-use Rattle.tv_lawful.proofs.LimitLemmas.{window_head_limited}
+use Rattle.tv_building.proofs.LimitLemmas.{window_head_limited}
 
 -- ---- areas
 

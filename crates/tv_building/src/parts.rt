@@ -1,8 +1,8 @@
 //! What is so of every description that was checked, as a contract.
 ghost use Rattle.std.specs.Prelude.{All};
 ghost use Rattle.tv_lang.specs.CanonicalDescription.{CanBeSpelled};
-ghost use Rattle.tv_lawful.specs.Desk.{AreLawfulWindows};
-ghost use Rattle.tv_lawful.specs.Parts.{HasLimitedHead, HaveNearCorners, StartsLawfully};
+ghost use Rattle.tv_building.specs.Desk.{AreLawfulWindows};
+ghost use Rattle.tv_building.specs.Parts.{HasLimitedHead, HaveNearCorners, StartsLawfully};
 ghost use Rattle.tv_menu.specs.Lawful.{AreLawfulMenus, AreLawfulStatusItems, IsLawfulScreen};
 ghost use Rattle.tv_model.specs.Faults.{IsSound};
 

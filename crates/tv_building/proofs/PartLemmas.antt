@@ -14,8 +14,8 @@ use Rattle.tv_faults.proofs.LackLemmas.{bodies}
 use Rattle.tv_faults.proofs.LimitLemmas.{OfBody, nodes_iff}
 use Rattle.tv_laws.proofs.ComingLemmas.{declared-fit}
 use Rattle.tv_menu.specs.Lawful.{AreLawfulMenus, AreLawfulStatusItems, IsLawfulItem, IsLawfulMenu, IsLawfulScreen, IsLawfulStatusItem}
-use Rattle.tv_lawful.specs.Parts.{HasLimitedHead, HaveNearCorners, StartsLawfully}
-use Rattle.tv_lawful.proofs.LimitLemmas.{command_holds, dialog_head_limited, near_corner}
+use Rattle.tv_building.specs.Parts.{HasLimitedHead, HaveNearCorners, StartsLawfully}
+use Rattle.tv_building.proofs.LimitLemmas.{command_holds, dialog_head_limited, near_corner}
 
 module _ (d : Desc) (s : Sound d) where
   pub lawful_screen : IsLawfulScreen d.width d.height

@@ -11,7 +11,7 @@ use Rattle.tv_model.specs.Description.LawfulNodes.{IsLawfulCommand, IsLimited, I
 use Rattle.tv_model.specs.Faults.Limits.{is_lawful_number}
 use Rattle.tv_dialog.specs.Head as dialog
 use Rattle.tv_faults.proofs.LetterLemmas.{between_decides}
-use Rattle.tv_lawful.specs.Parts.{HasNearCorner}
+use Rattle.tv_building.specs.Parts.{HasNearCorner}
 use Rattle.tv_leaf.proofs.CoreLemmas.{limited_small}
 use Rattle.tv_window.specs.Head as window
 

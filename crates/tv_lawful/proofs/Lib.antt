@@ -1,4 +1,0 @@
-pub mod LimitLemmas
-pub mod OwnerLemmas
-pub mod PartLemmas
-pub mod WindowLemmas
