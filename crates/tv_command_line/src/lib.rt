@@ -4,4 +4,4 @@
 mod arguments;
 
 pub use arguments::{parse, read_task};
-pub use tv_task::{NoTask, Task};
+pub use tv_files::{NoTask, Task};

@@ -2,8 +2,8 @@
 use Rattle.std.specs.Prelude.{◌≡◌, ℕ, List, Result, Ok, Err}
 use Rattle.tv_model.specs.declared.desc.Desc.{Desc}
 use Rattle.tv_output.specs.Writer.{Seen}
-use Rattle.tv_task.specs.declared.no_task.NoTask.{NoTask}
-use Rattle.tv_task.specs.declared.task.Task.{Task}
+use Rattle.tv_files.specs.declared.no_task.NoTask.{NoTask}
+use Rattle.tv_files.specs.declared.task.Task.{Task}
 use Rattle.tv_files.specs.Ends.{End}
 use Rattle.tv_files.specs.Files.{Known}
 use Rattle.tv_files.specs.Tasks.{Performs}

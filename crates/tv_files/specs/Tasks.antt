@@ -13,8 +13,8 @@ use Rattle.tv_program.specs.CheckRun.{AcceptsTo, ChecksTo}
 use Rattle.tv_program.specs.Conversions.{accept_told, check_told, lang_told, play_told}
 use Rattle.tv_program.specs.Playing.{RefusesDesc, RunsTo}
 use Rattle.tv_program.specs.Reading.{IsSoundText}
-use Rattle.tv_task.specs.declared.task.Task.{Task}
-use Rattle.tv_task.specs.declared.task.Task.TheVariants.{Check, Accept, Run}
+use Rattle.tv_files.specs.declared.task.Task.{Task}
+use Rattle.tv_files.specs.declared.task.Task.TheVariants.{Check, Accept, Run}
 use Rattle.tv_files.specs.declared.text_kind.TextKind.{TextKind}
 use Rattle.tv_files.specs.declared.text_kind.TextKind.TheVariants.{Description, Certificate, Script}
 use Rattle.tv_files.specs.Ends.{End, end_as}

@@ -3,8 +3,8 @@ use Rattle.std.specs.Prelude.{◌≡◌, ℕ, List, [], ◌∷◌, Some, None, s
 use Rattle.tv_output.specs.Writer.{Fails, Seen, Takes}
 use Rattle.tv_program.specs.declared.fault.RunFault.TheVariants.{NoMemory, Write}
 use Rattle.tv_program.specs.Report.{IsOffered, err_text, out_text, status_of}
-use Rattle.tv_task.specs.declared.no_task.NoTask.{NoTask}
-use Rattle.tv_task.specs.declared.no_task.NoTask.TheVariants as no_tasks
+use Rattle.tv_files.specs.declared.no_task.NoTask.{NoTask}
+use Rattle.tv_files.specs.declared.no_task.NoTask.TheVariants as no_tasks
 use Rattle.tv_files.specs.Ends.{End}
 use Rattle.tv_files.specs.Streams.{IsWritten, Offers}
 

@@ -3,20 +3,24 @@
 
 mod failure;
 mod file_store;
+mod no_task;
 mod program;
 mod read_fault;
 mod runtime_files;
 mod stream;
+mod task;
 mod tasks;
 mod telling;
 mod text_kind;
 
 pub use failure::Failure;
 pub use file_store::FileStore;
+pub use no_task::NoTask;
 pub use program::run_program;
 pub use read_fault::ReadFault;
 pub use runtime_files::{RuntimeFiles, read_text};
 pub use stream::{BufferedStream, DirectStream, Stream};
+pub use task::Task;
 pub use tasks::{accept_file, check_file, perform, run_file};
 pub use telling::{finish, tell_no_memory, tell_no_task};
 pub use text_kind::TextKind;

@@ -10,7 +10,7 @@ use crate::telling::{finish, tell_no_task};
 use std::alloc::Global;
 use tv_building::{BuildFault, Views};
 use tv_check::Checked;
-use tv_task::{NoTask, Task};
+use crate::{NoTask, Task};
 use tv_view::View;
 
 /// Does what is asked for with these files, or tells why nothing is: results, faults and refusals go to `out`, messages

@@ -16,7 +16,7 @@ use tv_lang::parse;
 use tv_model::Desc;
 use tv_output::Writer;
 use tv_program::{RunFault, accept_text, check, read_checked, run_script};
-use tv_task::Task;
+use crate::Task;
 use tv_view::View;
 
 /// Does what is asked for, and writes its result.

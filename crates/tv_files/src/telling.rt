@@ -10,7 +10,7 @@ use crate::failure::Failure;
 use crate::stream::Stream;
 use tv_output::{Writer, write_all};
 use tv_program::{RunFault, report};
-use tv_task::NoTask;
+use crate::NoTask;
 
 /// The status after all was done.
 const DONE: u8 = 0;

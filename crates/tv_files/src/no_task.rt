@@ -12,7 +12,7 @@ pub enum NoTask {
 
 impl From<AllocError> for NoTask {
     ghost use Rattle.std.specs.Prelude.{◌≡◌};
-    ghost use Rattle.tv_task.specs.declared.no_task.NoTask.TheVariants.{NoMemory};
+    ghost use Rattle.tv_files.specs.declared.no_task.NoTask.TheVariants.{NoMemory};
 
     ghost from_gives = { λ _ fault. fault ≡ NoMemory };
 
