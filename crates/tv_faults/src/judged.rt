@@ -4,17 +4,17 @@ ghost use Rattle.std.specs.Prelude.{◌≡◌, IfOk};
 ghost use Rattle.tv_model.specs.Faults.{dialog_has, item_has, menu_has, rule_has, status_has, view_has, window_has};
 ghost use Rattle.tv_model.specs.Faults.Each.{each_after};
 
+use crate::defaults::second_defaults;
 use crate::judge::judge_each;
+use crate::openings::opened_badly;
 use crate::own::{OfDialogs, OfItems, OfMenus, OfRules, OfStatusItems, OfViews, OfWindows};
 use std::alloc::{AllocError, Global};
 use tv_model::{Desc, Dialog, Ends, FaultKind, Menu, MenuItem, Node, Window};
 use tv_names::{
     bad_keys, dialogs_named_again, items_again, marks_again, names_again, numbered_again,
-    titled_again, unlinked_labels, windows_named_again,
+    show_themselves, titled_again, unknown_names, unlinked_labels, windows_named_again,
 };
 use tv_overlaps::{are_outside, overlaps};
-use tv_names::{show_themselves, unknown_names};
-use crate::{opened_badly, second_defaults};
 
 /// For each menu, whether its line has the fault.
 pub fn faulty_menus(alloc: Global, kind: FaultKind, menus: &[Menu]) -> Result<Vec<bool>, AllocError>

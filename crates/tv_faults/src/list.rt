@@ -11,11 +11,11 @@ use crate::judged::{
     faulty_dialogs, faulty_items, faulty_menus, faulty_rules, faulty_status_items, faulty_views,
     faulty_windows,
 };
+use crate::limits::is_lawful_screen;
 use crate::line::{add_if, add_where};
+use crate::openings::starts_nowhere;
 use std::alloc::{AllocError, Global};
-use crate::is_lawful_screen;
 use tv_model::{Desc, Dialog, Ends, Fault, FaultKind, Menu, Node, Sequence, Window};
-use crate::starts_nowhere;
 
 // The faults, in the order of their numbers.
 const KINDS: [FaultKind; 17] = [

@@ -4,16 +4,19 @@ ghost use Rattle.std.specs.Prelude.{◌≡◌, false};
 ghost use Rattle.tv_model.specs.Faults.{dialog_has, item_has, menu_has, rule_has, status_has, view_has, window_has};
 ghost use Rattle.tv_faults.specs.Compared.{compares_dialogs, compares_items, compares_menus, compares_rules, compares_status_items, compares_views, compares_windows};
 
+use crate::domains::has_no_text;
+use crate::ends::{lacks_cancel, lacks_end};
 use crate::judge::Judge;
-use std::alloc::{AllocError, Global};
-use crate::{
-    dialog_outside_limits, has_wide, is_wide_text, item_outside_limits, menu_outside_limits,
-    rule_outside_limits, status_outside_limits, view_outside_limits, window_outside_limits,
+use crate::limits::{
+    dialog_outside_limits, item_outside_limits, menu_outside_limits, rule_outside_limits,
+    status_outside_limits, view_outside_limits, window_outside_limits,
 };
+use crate::starts::starts_badly;
+use crate::wide::{has_wide, is_wide_text};
+use std::alloc::{AllocError, Global};
 use tv_model::{Desc, Dialog, Ends, FaultKind, Menu, MenuItem, Node, Rule, StatusItem, Window};
-use tv_overlaps::is_off_desktop;
 use tv_names::{has_nothing_to_focus, rules_cancel};
-use crate::{has_no_text, lacks_cancel, lacks_end, starts_badly};
+use tv_overlaps::is_off_desktop;
 
 /// Judges menus.
 #[derive(Drop)]

@@ -9,8 +9,7 @@ ghost use Rattle.tv_model.specs.Faults.Domains.{starts_badly, starts_unviable};
 
 use crate::domains::domain_of;
 use std::alloc::{AllocError, Global};
-use tv_model::is_item;
-use tv_model::Kind;
+use tv_model::{Kind, is_item};
 use tv_valid::{Chars, Domain, Text};
 
 fn starts_among(start: &[i32], count: usize) -> bool

@@ -5,8 +5,7 @@ use crate::sink::Sink;
 use std::alloc::Global;
 use std::test::Fail;
 use tv_button_views::buttons;
-use tv_files::{BufferedStream, DirectStream, run_program, tell_no_memory};
-use tv_files::{NoTask, Task};
+use tv_files::{BufferedStream, DirectStream, NoTask, Task, run_program, tell_no_memory};
 use tv_test_support::certificates::CANCEL_CERTIFICATE;
 use tv_test_support::descriptions::{CANCEL, ORDER, SHARED_LETTER, WITHOUT_CANCEL};
 use tv_test_support::large::{

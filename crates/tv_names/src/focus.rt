@@ -10,10 +10,10 @@ ghost use Rattle.tv_model.specs.Faults.Rules.{has_nothing_to_focus};
 ghost use Rattle.tv_names.specs.Focus.{AreFirstShown, enables, equals_command, has_nothing_free, is_button_where, is_owner_shown, is_same_id, shows};
 ghost use Rattle.tv_names.specs.Reach.{reach_of};
 
+use crate::names::Names;
 use std::alloc::{AllocError, Global};
 use std::collections::HashSet;
 use tv_model::{CommandSpec, Dialog, Effect, Id, Kind, Node, Rule};
-use crate::Names;
 use tv_overlaps::owners;
 
 /// What a rule reaches.

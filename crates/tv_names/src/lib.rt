@@ -21,6 +21,6 @@ pub use labels::unlinked_labels;
 pub use letters::marks;
 pub use marked::marks_again;
 pub use menus::{items_again, numbered_again, titled_again};
-pub use names::{Names, gives_name};
+pub use names::gives_name;
 pub use showing::show_themselves;
 pub use unknown::unknown_names;

@@ -7,9 +7,9 @@ ghost use Rattle.tv_model.specs.Faults.Rules.{shows_cluster, shows_itself};
 ghost use Rattle.tv_model.specs.Faults.Each.{each_after};
 ghost use Rattle.tv_overlaps.specs.Standing.{AreOwners};
 
+use crate::names::Names;
 use std::alloc::{AllocError, Global};
 use tv_model::{Dialog, Effect, Kind, Rule};
-use crate::Names;
 use tv_overlaps::{owners, stands_over};
 
 fn is_cluster(kind: &Kind) -> bool

@@ -5,10 +5,9 @@ ghost use Rattle.tv_model.specs.Description.Rules.{cluster_items, has_target};
 ghost use Rattle.tv_model.specs.Faults.Rules.{names_unknown};
 ghost use Rattle.tv_model.specs.Faults.Each.{each_after};
 
+use crate::names::Names;
 use std::alloc::{AllocError, Global};
-use tv_model::is_item;
-use tv_model::{Dialog, Effect, Kind, Node, Rule};
-use crate::Names;
+use tv_model::{Dialog, Effect, Kind, Node, Rule, is_item};
 
 // How many items the check boxes or radio buttons have; nothing else has any.
 fn cluster_items(node: Option<&Node>) -> usize

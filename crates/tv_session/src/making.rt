@@ -20,17 +20,16 @@ use crate::log::Log;
 use crate::run::RunOf;
 use crate::session::SessionOf;
 use std::alloc::{AllocError, Global};
+use tv_building::parts_are_lawful;
 use tv_cells::{Screen, ScreenFault};
 use tv_check::Checked;
-use tv_window::DeskOf;
 use tv_dialogs::DialogsOf;
 use tv_faces::natural;
 use tv_group::GroupOf;
-use tv_building::parts_are_lawful;
 use tv_menu::{MenuBar, StatusLine};
 use tv_model::{Desc, Dialog};
 use tv_view::View;
-use tv_window::WindowOf;
+use tv_window::{DeskOf, WindowOf};
 
 /// What a session has beside its views.
 #[derive(Drop)]

@@ -1,4 +1,4 @@
-//! Windows and dialogs: frames round groups of views, one over the other.
+//! Windows: frames round groups of views, one over the other, and the open ones of a run.
 #![tactic(auto)]
 
 mod desk;
@@ -9,6 +9,5 @@ mod window;
 
 pub use desk::{Desk, DeskOf, Hit};
 pub use stack::draw_stack;
-pub use tv_dialog::{Dialog, DialogFault, DialogOf};
 pub use tv_faces::Frame;
 pub use window::{Window, WindowOf, WrongKind};
