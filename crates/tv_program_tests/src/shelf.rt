@@ -54,7 +54,7 @@ fn text_of(alloc: Global, text: &str, kind: TextKind) -> Result<Vec<u8>, ReadFau
 
 impl FileStore for Shelf<'_> {
     ghost use Rattle.std.specs.Prelude.{None};
-    ghost use Rattle.tv_file_tests.specs.Shelves.{text_at};
+    ghost use Rattle.tv_program_tests.specs.Shelves.{text_at};
 
     ghost known = { λ s. record { contents = λ path. text_at s.description.now s.beside.now path; opened = None } };
 

@@ -16,6 +16,8 @@ mod copies;
 #[cfg(test)]
 mod each_fault;
 #[cfg(test)]
+mod endings;
+#[cfg(test)]
 mod makers;
 #[cfg(test)]
 mod memory;
@@ -29,5 +31,9 @@ mod runs;
 mod scripts;
 #[cfg(test)]
 mod sessions;
+#[cfg(test)]
+mod shelf;
+#[cfg(test)]
+mod sink;
 #[cfg(test)]
 mod texts;
