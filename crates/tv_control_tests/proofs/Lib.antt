@@ -1,2 +1,3 @@
 mod FitLemmas
 mod RoomLemmas
+pub mod LawfulLemmas

@@ -2,13 +2,19 @@
 #![tactic(auto)]
 
 #[cfg(test)]
+mod bars;
+#[cfg(test)]
 mod bench;
 #[cfg(test)]
 mod buttons;
 #[cfg(test)]
 mod clusters;
 #[cfg(test)]
+mod events;
+#[cfg(test)]
 mod inputs;
+#[cfg(test)]
+mod limits;
 #[cfg(test)]
 mod lists;
 #[cfg(test)]
@@ -17,6 +23,8 @@ mod making;
 mod sets;
 #[cfg(test)]
 mod setting;
+#[cfg(test)]
+mod shots;
 #[cfg(test)]
 mod telling;
 #[cfg(test)]
