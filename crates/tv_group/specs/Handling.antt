@@ -8,7 +8,8 @@ use Rattle.tv_event.specs.declared.event.Event.TheVariants as events
 use Rattle.tv_event.specs.declared.event.Phase.{Phase}
 use Rattle.tv_event.specs.declared.event.Phase.TheVariants as phases
 use Rattle.tv_model.specs.declared.kind.Kind.{Kind}
-use Rattle.tv_model.specs.declared.kind.Kind.TheVariants as kinds
+use Rattle.tv_model.specs.Kinds.{behaviour}
+use Rattle.tv_model.specs.Controls.Shortcut.{has_marks}
 use Rattle.tv_model.specs.Controls.Meaning.{Leaf, Placed}
 use Rattle.tv_view.specs.declared.env.Env.{Env}
 use Rattle.tv_view.specs.declared.reaction.Reaction.{Reaction}
@@ -49,16 +50,7 @@ is_awake leaf = leaf.is_shown && leaf.is_enabled
 
 -- what may mark letters is asked before the current leaf and after it (ofPreProcess, ofPostProcess)
 abbrev pub marks_letters : Kind → Bool
-marks_letters (kinds.Label label) = true
-marks_letters (kinds.Button button) = true
-marks_letters (kinds.CheckBoxes boxes) = true
-marks_letters (kinds.RadioButtons radios) = true
-marks_letters (kinds.Input input) = false
-marks_letters (kinds.List list) = false
-marks_letters (kinds.Text shown) = false
-marks_letters (kinds.Window head) = false
-marks_letters (kinds.Dialog head) = false
-marks_letters (kinds.Pane pane) = false
+marks_letters kind = has_marks (behaviour kind).shortcut
 
 -- whose turn a phase is
 abbrev pub has_turn : Phase → Placed → Bool

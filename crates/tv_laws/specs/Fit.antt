@@ -1,7 +1,7 @@
 -- What every event keeps of an open dialog at work.
 use Rattle.std.specs.Prelude.{◌≡◌, ◌⊎◌, Bool, true, false, map, filter, Some, IsTrue, All, ◌==◌}
 use Rattle.tv_model.specs.declared.kind.Kind.{Kind}
-use Rattle.tv_model.specs.declared.kind.Kind.TheVariants as kinds
+use Rattle.tv_model.specs.Kinds.{facts}
 use Rattle.tv_model.specs.declared.desc.Dialog.{Dialog}
 use Rattle.tv_model.specs.Description.Nodes.{is_button}
 use Rattle.tv_machine.specs.State.{Held, Private, Editing}
@@ -16,16 +16,7 @@ use Rattle.tv_machine.specs.Safe.{IsSafeContent, IsPrivateOf}
 
 -- an input that hasn't the focus has its cursor at the start and nothing selected
 abbrev pub IsAtRest : Kind → Private → Type 0
-IsAtRest (kinds.Input input) private = private ≡ Editing 0 false
-IsAtRest (kinds.Window head) private = Unit {0}
-IsAtRest (kinds.Dialog head) private = Unit {0}
-IsAtRest (kinds.Text shown) private = Unit {0}
-IsAtRest (kinds.Label label) private = Unit {0}
-IsAtRest (kinds.Button button) private = Unit {0}
-IsAtRest (kinds.CheckBoxes boxes) private = Unit {0}
-IsAtRest (kinds.RadioButtons radios) private = Unit {0}
-IsAtRest (kinds.List list) private = Unit {0}
-IsAtRest (kinds.Pane pane) private = Unit {0}
+IsAtRest kind private = (facts kind).IsAtRest private
 
 -- what a leaf of the kind holds: a value of its kind, and beside it what its kind keeps
 pub record IsFitContent (has_focus : Bool) (kind : Kind) (c : Content) : Type 0 where

@@ -1,10 +1,9 @@
 -- The leaves of a dialog or window: its controls, labels and static texts, panes opened out.
-use Rattle.std.specs.Prelude.{[], ℕ, List, ◌∷◌, filter, find, Option, ℤ, ◌+ℤ◌, nat_lt, if◌then◌else◌}
+use Rattle.std.specs.Prelude.{[], ℕ, List, ◌∷◌, filter, ℤ, ◌+ℤ◌, nat_lt, if◌then◌else◌}
 use Rattle.tv_cells.specs.declared.rect.Point.{Point}
 use Rattle.tv_cells.specs.declared.rect.Rect.{Rect}
-use Rattle.tv_model.specs.declared.node.Id.{Id}
 use Rattle.tv_model.specs.declared.node.Node.{Node}
-use Rattle.tv_model.specs.Description.Nodes.{has_id, height_of, is_pane}
+use Rattle.tv_model.specs.Description.Nodes.{height_of, is_pane}
 use Rattle.tv_model.specs.Description.Rectangles.{rect}
 
 -- a leaf, and the panes around it from the innermost out
@@ -50,7 +49,3 @@ corner_on leaf = record { x = column_in leaf.panes leaf.node.x; y = row_in leaf.
 -- its rectangle, seen from there
 abbrev pub rect_on : PlacedNode → Rect
 rect_on leaf = rect (corner_on leaf).x (corner_on leaf).y leaf.node.w (height_of leaf.node.kind)
-
--- the leaf of an id
-abbrev pub leaf_of : List PlacedNode → Id → Option PlacedNode
-leaf_of leaves i = find (λ leaf. has_id i leaf.node) leaves

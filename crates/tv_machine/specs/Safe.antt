@@ -6,7 +6,7 @@ use Rattle.tv_valid.specs.Domain.{IsDomain, IsViableText, InDomain}
 use Rattle.tv_model.specs.declared.node.Id.{Id}
 use Rattle.tv_model.specs.declared.node.Node.{Node}
 use Rattle.tv_model.specs.declared.kind.Kind.{Kind}
-use Rattle.tv_model.specs.declared.kind.Kind.TheVariants as kinds
+use Rattle.tv_model.specs.Kinds.{facts}
 use Rattle.tv_model.specs.declared.record.Value.{Value}
 use Rattle.tv_model.specs.declared.record.Value.TheVariants as values
 use Rattle.tv_model.specs.declared.record.Entry.{Entry}
@@ -35,42 +35,15 @@ use Rattle.tv_machine.specs.Output.{states}
 
 -- whether the text may stand in an input that is declared so, or lies in its domain
 abbrev pub IsTextOf : (Domain → List ℕ → Type 0) → Kind → List ℕ → Type 0
-IsTextOf Allows (kinds.Input input) text = (domain : Domain) × IsDomain input.spec domain × Allows domain text
-IsTextOf Allows (kinds.Window head) text = ⊥
-IsTextOf Allows (kinds.Dialog head) text = ⊥
-IsTextOf Allows (kinds.Text shown) text = ⊥
-IsTextOf Allows (kinds.Label label) text = ⊥
-IsTextOf Allows (kinds.Button button) text = ⊥
-IsTextOf Allows (kinds.CheckBoxes boxes) text = ⊥
-IsTextOf Allows (kinds.RadioButtons radios) text = ⊥
-IsTextOf Allows (kinds.List list) text = ⊥
-IsTextOf Allows (kinds.Pane pane) text = ⊥
+IsTextOf Allows kind text = (facts kind).IsText Allows text
 
 -- an item, from 1, that radio buttons or a list have
 abbrev pub IsItemOf : Kind → ℕ → Type 0
-IsItemOf (kinds.RadioButtons radios) item = IsTrue (is_item (length radios.items) item)
-IsItemOf (kinds.List list) item = IsTrue (is_item (length list.items) item)
-IsItemOf (kinds.Window head) item = ⊥
-IsItemOf (kinds.Dialog head) item = ⊥
-IsItemOf (kinds.Text shown) item = ⊥
-IsItemOf (kinds.Label label) item = ⊥
-IsItemOf (kinds.Button button) item = ⊥
-IsItemOf (kinds.Input input) item = ⊥
-IsItemOf (kinds.CheckBoxes boxes) item = ⊥
-IsItemOf (kinds.Pane pane) item = ⊥
+IsItemOf kind item = (facts kind).IsItem item
 
 -- marks of items that check boxes have
 abbrev pub AreMarksOf : Kind → ℕ → Type 0
-AreMarksOf (kinds.CheckBoxes boxes) marks = marks < 2 ^ length boxes.items
-AreMarksOf (kinds.Window head) marks = ⊥
-AreMarksOf (kinds.Dialog head) marks = ⊥
-AreMarksOf (kinds.Text shown) marks = ⊥
-AreMarksOf (kinds.Label label) marks = ⊥
-AreMarksOf (kinds.Button button) marks = ⊥
-AreMarksOf (kinds.Input input) marks = ⊥
-AreMarksOf (kinds.RadioButtons radios) marks = ⊥
-AreMarksOf (kinds.List list) marks = ⊥
-AreMarksOf (kinds.Pane pane) marks = ⊥
+AreMarksOf kind marks = (facts kind).AreMarks marks
 
 -- a value that a field of the kind may have, where its texts are allowed so
 abbrev pub IsValueOf : (Domain → List ℕ → Type 0) → Kind → Value → Type 0
@@ -170,37 +143,10 @@ IsAlwaysSafe d = (events : List Event) → IsSafe d (states (step d) (start d) e
 
 -- what a leaf keeps beside its value is of its kind, and the item that check boxes have selected exists
 abbrev pub IsPrivateOf : Kind → Private → Type 0
-IsPrivateOf (kinds.Input input) (Editing cursor is_whole) = Unit {0}
-IsPrivateOf (kinds.Input input) private = ⊥
-IsPrivateOf (kinds.CheckBoxes boxes) (Selecting item) = IsTrue (is_item (length boxes.items) item)
-IsPrivateOf (kinds.CheckBoxes boxes) private = ⊥
-IsPrivateOf (kinds.List list) (Scrolled top) = Unit {0}
-IsPrivateOf (kinds.List list) private = ⊥
-IsPrivateOf (kinds.Window head) private = private ≡ Plain
-IsPrivateOf (kinds.Dialog head) private = private ≡ Plain
-IsPrivateOf (kinds.Text shown) private = private ≡ Plain
-IsPrivateOf (kinds.Label label) private = private ≡ Plain
-IsPrivateOf (kinds.Button button) private = private ≡ Plain
-IsPrivateOf (kinds.RadioButtons radios) private = private ≡ Plain
-IsPrivateOf (kinds.Pane pane) private = private ≡ Plain
-
--- of each leaf of the open dialog
-pub record IsFitDialog (d : Desc) (s : State) (o : OpenDialog) : Type 0 where
-  pub dialog : Dialog
-  pub there : slice_get d.dialogs o.place ≡ Some dialog
-  pub kept : All (λ leaf. IsPrivateOf leaf.node.kind (content_of o.leaves (overwriting_at s o.place) leaf.node.id).private) (leaf_list dialog.views)
+IsPrivateOf kind private = (facts kind).IsPrivate private
 
 -- the inputs of a dialog in which typing overwrites stand in description order
 pub record IsFitOverwriting (d : Desc) (place : ℕ) (ids : List Id) : Type 0 where
   pub dialog : Dialog
   pub there : slice_get d.dialogs place ≡ Some dialog
   pub ordered : ids ≡ filter (is_among ids) (map (λ view. view.id) dialog.views)
-
--- a safe state, with what is needed to keep it so: there is a record and a list of overwriting inputs for each dialog, these in
--- order, and what leaves keep is of their kinds
-pub record IsFit (d : Desc) (s : State) : Type 0 where
-  pub safe : IsSafe d s
-  pub dialog : (o : OpenDialog) → s.dialog ≡ Some o → IsFitDialog d s o
-  pub saved : length s.saved ≡ length d.dialogs
-  pub overwriting : length s.overwriting ≡ length d.dialogs
-  pub ordered : (place : ℕ) (ids : List Id) → slice_get s.overwriting place ≡ Some ids → IsFitOverwriting d place ids

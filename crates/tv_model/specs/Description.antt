@@ -8,6 +8,8 @@ pub mod Nodes
 pub mod Heads
 -- names and what they mean
 pub mod Names
+-- texts that mark a letter
+pub mod Marks
 -- marked letters
 pub mod Letters
 -- the texts of a declaration

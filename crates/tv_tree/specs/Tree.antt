@@ -1,9 +1,10 @@
 -- How the views of a dialog stand, where the machine's dialog stands so.
-use Rattle.std.specs.Prelude.{◌≡◌, ℕ, Bool, false, IsTrue, List, ◌∷◌, map, reverse, All, Option, Some, None, is_some, ◌==◌, if◌then◌else◌}
+use Rattle.std.specs.Prelude.{◌≡◌, ℕ, Bool, true, false, IsTrue, List, ◌∷◌, map, reverse, All, Option, Some, None, is_some, ◌==◌, if◌then◌else◌}
 use Rattle.tv_cells.specs.declared.rect.Rect.{Rect}
 use Rattle.tv_model.specs.declared.node.Id.{Id}
 use Rattle.tv_model.specs.declared.kind.Kind.{Kind}
-use Rattle.tv_model.specs.declared.kind.Kind.TheVariants as kinds
+use Rattle.tv_model.specs.Kinds.{behaviour}
+use Rattle.tv_machine.specs.Safe.{is_field}
 use Rattle.tv_model.specs.declared.record.Value.TheVariants as values
 use Rattle.tv_model.specs.declared.desc.Dialog.{Dialog}
 use Rattle.tv_model.specs.Description.Rectangles.{place_of_node}
@@ -68,18 +69,15 @@ pub record HoldsNothing (c : Content) : Type 0 where
   pub value : c.value ≡ None
   pub private : c.private ≡ Plain
 
--- what a leaf of the kind holds: every field has a value
+-- what a leaf holds, by whether it is edited and whether it is a field: every field has a value
+abbrev pub IsSteadyAs : (is_edited is_field : Bool) → Bool → Content → Type 0
+IsSteadyAs true is_field is_focused c = IsSteadyInput is_focused c
+IsSteadyAs false true is_focused c = IsTrue (is_some c.value)
+IsSteadyAs false false is_focused c = HoldsNothing c
+
+-- the same by its kind
 abbrev pub IsSteadyContent : Bool → Kind → Content → Type 0
-IsSteadyContent is_focused (kinds.Input input) c = IsSteadyInput is_focused c
-IsSteadyContent is_focused (kinds.CheckBoxes boxes) c = IsTrue (is_some c.value)
-IsSteadyContent is_focused (kinds.RadioButtons radios) c = IsTrue (is_some c.value)
-IsSteadyContent is_focused (kinds.List list) c = IsTrue (is_some c.value)
-IsSteadyContent is_focused (kinds.Window head) c = HoldsNothing c
-IsSteadyContent is_focused (kinds.Dialog head) c = HoldsNothing c
-IsSteadyContent is_focused (kinds.Text shown) c = HoldsNothing c
-IsSteadyContent is_focused (kinds.Label label) c = HoldsNothing c
-IsSteadyContent is_focused (kinds.Button button) c = HoldsNothing c
-IsSteadyContent is_focused (kinds.Pane pane) c = HoldsNothing c
+IsSteadyContent is_focused kind c = IsSteadyAs (behaviour kind).is_edited (is_field kind) is_focused c
 
 -- the same for a leaf of the machine's dialog
 abbrev pub IsSteadyLeaf : Modal → PlacedNode → Type 0

@@ -4,10 +4,11 @@ use Rattle.tv_event.specs.declared.event.Event.{Event}
 use Rattle.tv_event.specs.declared.event.Phase.TheVariants as phases
 use Rattle.tv_model.specs.declared.node.Id.{Id}
 use Rattle.tv_model.specs.declared.kind.Kind.{Kind}
-use Rattle.tv_model.specs.declared.kind.Kind.TheVariants as kinds
+use Rattle.tv_model.specs.Kinds.{behaviour}
+use Rattle.tv_model.specs.Controls.Shortcut.{Shortcut, ItemMarks}
 use Rattle.tv_model.specs.declared.desc.Dialog.{Dialog}
 use Rattle.tv_model.specs.declared.log.LogLine.TheVariants as lines
-use Rattle.tv_model.specs.Controls.ClusterTable.{ClusterKind, Boxes, Radios, is_item}
+use Rattle.tv_model.specs.Controls.ClusterTable.{ClusterKind, is_item}
 use Rattle.tv_model.specs.Controls.Meaning.{Placed}
 use Rattle.tv_machine.specs.Controls.Tables.{item_pressed}
 use Rattle.tv_machine.specs.Leaves.{PlacedNode}
@@ -51,18 +52,14 @@ phases_after e env xs =
 abbrev pub cluster_pressed : Dialog → ClusterKind → ℕ → Id → ℕ → Modal → Modal
 cluster_pressed d kind count i item m = if is_item count item then with_content d i (item_pressed kind item (content_at m i)) m else m
 
--- by kind: only clusters have items to press
+-- only clusters have items to press
+abbrev pub shortcut_pressed : Dialog → Shortcut → Id → ℕ → Modal → Modal
+shortcut_pressed d (ItemMarks kind name items) i item m = cluster_pressed d kind (length items) i item m
+shortcut_pressed d _ i item m = m
+
+-- by kind
 abbrev pub kind_pressed : Dialog → Kind → Id → ℕ → Modal → Modal
-kind_pressed d (kinds.CheckBoxes boxes) i item m = cluster_pressed d Boxes (length boxes.items) i item m
-kind_pressed d (kinds.RadioButtons radios) i item m = cluster_pressed d Radios (length radios.items) i item m
-kind_pressed d (kinds.Window head) i item m = m
-kind_pressed d (kinds.Dialog head) i item m = m
-kind_pressed d (kinds.Text shown) i item m = m
-kind_pressed d (kinds.Label label) i item m = m
-kind_pressed d (kinds.Button button) i item m = m
-kind_pressed d (kinds.Input input) i item m = m
-kind_pressed d (kinds.List list) i item m = m
-kind_pressed d (kinds.Pane pane) i item m = m
+kind_pressed d kind i item m = shortcut_pressed d (behaviour kind).shortcut i item m
 
 -- the leaf that was found
 abbrev pub leaf_pressed : Dialog → Option PlacedNode → ℕ → Modal → Modal

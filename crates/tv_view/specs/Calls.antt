@@ -1,16 +1,17 @@
 -- What the other calls of a view answer, and make of its leaf.
 use Rattle.std.specs.Prelude.{◌⊎◌, ◌<◌, ℕ, Bool, true, false, not, ◌&&◌, List, length, Option, Some, None, IsSome, IsTrue, slice_index_or, ◌+◌, ◌^◌, ◌==◌, if◌then◌else◌}
-use Rattle.tv_valid.specs.declared.domain.Domain.{Domain}
-use Rattle.tv_valid.specs.Domain.{IsDomain, IsViableText}
+use Rattle.tv_valid.specs.Domain.{IsViableText}
 use Rattle.tv_model.specs.declared.node.Id.{Id}
 use Rattle.tv_model.specs.declared.kind.Kind.{Kind}
-use Rattle.tv_model.specs.declared.kind.Kind.TheVariants as kinds
+use Rattle.tv_model.specs.declared.command.CommandSpec.{CommandSpec}
+use Rattle.tv_model.specs.Kinds.{behaviour}
+use Rattle.tv_model.specs.Controls.Shortcut.{Shortcut, ItemMarks, has_marks}
+use Rattle.tv_machine.specs.Safe as Safe
 use Rattle.tv_model.specs.declared.record.Value.{Value}
-use Rattle.tv_model.specs.declared.record.Value.TheVariants as values
 use Rattle.tv_model.specs.Description.Nodes.{is_control}
-use Rattle.tv_model.specs.Description.Commands.{command_number}
+use Rattle.tv_model.specs.Description.Commands.{command_number, command_of}
 use Rattle.tv_model.specs.Log.Record.{Entries, value_of, with_value}
-use Rattle.tv_model.specs.Controls.ClusterTable.{ClusterKind, Boxes, Radios, is_item}
+use Rattle.tv_model.specs.Controls.ClusterTable.{ClusterKind, is_item}
 use Rattle.tv_model.specs.Controls.InputTable.{Edit, entered, left}
 use Rattle.tv_model.specs.Controls.Meaning.{Leaf}
 use Rattle.tv_machine.specs.Controls.Contents.{edit_of, edit_content, opened_private}
@@ -32,16 +33,8 @@ state_bits leaf = flag_if leaf.is_shown 0x01 + (flag_if leaf.is_focused 0x60 + f
 
 -- ofSelectable with ofFirstClick for controls, ofPreProcess with ofPostProcess for what marks letters, ofValidate
 abbrev pub option_bits : Kind → ℕ
-option_bits (kinds.Label label) = 0x30
-option_bits (kinds.Button button) = 0x35
-option_bits (kinds.Input input) = 0x05 + flag_if input.validates 0x400
-option_bits (kinds.CheckBoxes boxes) = 0x35
-option_bits (kinds.RadioButtons radios) = 0x35
-option_bits (kinds.List list) = 0x05
-option_bits (kinds.Text shown) = 0
-option_bits (kinds.Window head) = 0
-option_bits (kinds.Dialog head) = 0
-option_bits (kinds.Pane pane) = 0
+option_bits kind =
+    flag_if (is_control kind) 0x05 + (flag_if (has_marks (behaviour kind).shortcut) 0x30 + flag_if (behaviour kind).validates 0x400)
 
 -- ---- the focus
 
@@ -51,16 +44,7 @@ takes_focus id leaf = is_control leaf.node.kind && (leaf.node.id.0 == id.0)
 
 -- what the coming or going of the focus makes of a leaf by its kind: of an input an edit, of other leaves nothing
 abbrev pub refocused : (Edit → Edit) → Kind → Leaf → Leaf
-refocused edit (kinds.Input input) leaf = with_content (edit_content (edit (edit_of (content_of leaf)))) leaf
-refocused edit (kinds.Window head) leaf = leaf
-refocused edit (kinds.Dialog head) leaf = leaf
-refocused edit (kinds.Text shown) leaf = leaf
-refocused edit (kinds.Label label) leaf = leaf
-refocused edit (kinds.Button button) leaf = leaf
-refocused edit (kinds.CheckBoxes boxes) leaf = leaf
-refocused edit (kinds.RadioButtons radios) leaf = leaf
-refocused edit (kinds.List list) leaf = leaf
-refocused edit (kinds.Pane pane) leaf = leaf
+refocused edit kind leaf = if (behaviour kind).is_edited then with_content (edit_content (edit (edit_of (content_of leaf)))) leaf else leaf
 
 -- an input that receives the focus has its text selected
 abbrev pub given_focus : Leaf → Leaf
@@ -80,18 +64,14 @@ focused_to id leaf = if not (takes_focus id leaf) then without_focus leaf else i
 abbrev pub cluster_pressed : ClusterKind → ℕ → ℕ → Leaf → Leaf
 cluster_pressed kind count item leaf = if is_item count item then with_content (tables.item_pressed kind item (content_of leaf)) leaf else leaf
 
--- by kind: only clusters have items to press
+-- only clusters have items to press
+abbrev pub shortcut_pressed : Shortcut → ℕ → Leaf → Leaf
+shortcut_pressed (ItemMarks kind name items) item leaf = cluster_pressed kind (length items) item leaf
+shortcut_pressed _ item leaf = leaf
+
+-- by kind
 abbrev pub kind_pressed : Kind → ℕ → Leaf → Leaf
-kind_pressed (kinds.CheckBoxes boxes) item leaf = cluster_pressed Boxes (length boxes.items) item leaf
-kind_pressed (kinds.RadioButtons radios) item leaf = cluster_pressed Radios (length radios.items) item leaf
-kind_pressed (kinds.Window head) item leaf = leaf
-kind_pressed (kinds.Dialog head) item leaf = leaf
-kind_pressed (kinds.Text shown) item leaf = leaf
-kind_pressed (kinds.Label label) item leaf = leaf
-kind_pressed (kinds.Button button) item leaf = leaf
-kind_pressed (kinds.Input input) item leaf = leaf
-kind_pressed (kinds.List list) item leaf = leaf
-kind_pressed (kinds.Pane pane) item leaf = leaf
+kind_pressed kind item leaf = shortcut_pressed (behaviour kind).shortcut item leaf
 
 -- the cluster of the id has the item selected and pressed; nothing for another id or an item that it lacks
 unfoldable pub item_pressed : Id → ℕ → Leaf → Leaf
@@ -121,22 +101,15 @@ HasRoomFor (Some value) id entries = IsSome (value_of entries id.0) ⊎ (length 
 unfoldable pub HasRoom : Leaf → Entries → Type 0
 HasRoom leaf entries = HasRoomFor leaf.value leaf.node.id entries
 
+-- a value of the record that a field of the kind may have; what is no field needs none
+abbrev pub IsValueIf : Bool → Kind → Option Value → Type 0
+IsValueIf false kind value = Unit {0}
+IsValueIf true kind None = ⊥
+IsValueIf true kind (Some value) = Safe.IsValueOf IsViableText kind value
+
 -- a value that a field of the kind may have: a viable text, marks of its items, an item that there is
 abbrev pub IsValueOf : Kind → Option Value → Type 0
-IsValueOf (kinds.Input input) (Some (values.Text text)) = (d : Domain) × IsDomain input.spec d × IsViableText d text
-IsValueOf (kinds.Input input) _ = ⊥
-IsValueOf (kinds.CheckBoxes boxes) (Some (values.Marks marks)) = marks < 2 ^ length boxes.items
-IsValueOf (kinds.CheckBoxes boxes) _ = ⊥
-IsValueOf (kinds.RadioButtons radios) (Some (values.Item item)) = IsTrue (is_item (length radios.items) item)
-IsValueOf (kinds.RadioButtons radios) _ = ⊥
-IsValueOf (kinds.List list) (Some (values.Item item)) = IsTrue (is_item (length list.items) item)
-IsValueOf (kinds.List list) _ = ⊥
-IsValueOf (kinds.Window head) value = Unit {0}
-IsValueOf (kinds.Dialog head) value = Unit {0}
-IsValueOf (kinds.Text shown) value = Unit {0}
-IsValueOf (kinds.Label label) value = Unit {0}
-IsValueOf (kinds.Button button) value = Unit {0}
-IsValueOf (kinds.Pane pane) value = Unit {0}
+IsValueOf kind value = IsValueIf (Safe.is_field kind) kind value
 
 -- the record fits: a field finds a value that it may have
 unfoldable pub Fits : Entries → Leaf → Type 0
@@ -160,18 +133,14 @@ set_from entries leaf =
 
 -- ---- rules
 
+-- enabled while its command is, and always without one
+abbrev pub is_enabled_by : List Bool → Option CommandSpec → Bool
+is_enabled_by commands None = true
+is_enabled_by commands (Some command) = slice_index_or commands (command_number command) false
+
 -- a button is enabled while its command is, all else always
 abbrev pub is_kind_enabled : List Bool → Kind → Bool
-is_kind_enabled commands (kinds.Button button) = slice_index_or commands (command_number button.command) false
-is_kind_enabled commands (kinds.Window head) = true
-is_kind_enabled commands (kinds.Dialog head) = true
-is_kind_enabled commands (kinds.Text shown) = true
-is_kind_enabled commands (kinds.Label label) = true
-is_kind_enabled commands (kinds.Input input) = true
-is_kind_enabled commands (kinds.CheckBoxes boxes) = true
-is_kind_enabled commands (kinds.RadioButtons radios) = true
-is_kind_enabled commands (kinds.List list) = true
-is_kind_enabled commands (kinds.Pane pane) = true
+is_kind_enabled commands kind = is_enabled_by commands (command_of kind)
 
 -- what the rules make of a leaf
 unfoldable pub applied : Rules → Leaf → Leaf

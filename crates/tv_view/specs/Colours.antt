@@ -1,9 +1,9 @@
 -- What a view is told of its owners: attributes, and how its leaf stands.
-use Rattle.std.specs.Prelude.{ℕ, Bool, false, not, List, Option, Some, None, option_map, ◌==◌}
+use Rattle.std.specs.Prelude.{ℕ, Bool, false, not, List, Option, Some, None, option_map, option_and_then, ◌==◌}
 use Rattle.tv_model.specs.declared.node.Id.{Id}
 use Rattle.tv_model.specs.declared.node.Node.{Node}
 use Rattle.tv_model.specs.declared.kind.Kind.{Kind}
-use Rattle.tv_model.specs.declared.kind.Kind.TheVariants as kinds
+use Rattle.tv_model.specs.Kinds.{behaviour}
 use Rattle.tv_model.specs.Controls.Meaning.{Leaf}
 use Rattle.tv_model.specs.Description.Names.{meant}
 use Rattle.tv_palette.specs.declared.role.Role.{Role}
@@ -39,16 +39,7 @@ is_focus env (Some id) = has_focus env id
 
 -- what a leaf links: a label has a link, no other kind has one
 abbrev pub linked_by : Env → Kind → Option Id
-linked_by env (kinds.Label label) = link_of env.views.now label.link
-linked_by env (kinds.Window head) = None
-linked_by env (kinds.Dialog head) = None
-linked_by env (kinds.Text shown) = None
-linked_by env (kinds.Button button) = None
-linked_by env (kinds.Input input) = None
-linked_by env (kinds.CheckBoxes boxes) = None
-linked_by env (kinds.RadioButtons radios) = None
-linked_by env (kinds.List list) = None
-linked_by env (kinds.Pane pane) = None
+linked_by env kind = option_and_then (link_of env.views.now) (behaviour kind).link
 
 -- how a leaf stands
 abbrev pub look_of : Env → Leaf → Look

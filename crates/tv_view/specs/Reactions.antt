@@ -10,14 +10,16 @@ use Rattle.tv_event.specs.declared.event.Phase.{Phase}
 use Rattle.tv_event.specs.declared.event.Phase.TheVariants as phases
 use Rattle.tv_model.specs.declared.node.Id.{Id}
 use Rattle.tv_model.specs.declared.kind.Kind.{Kind}
-use Rattle.tv_model.specs.declared.kind.Kind.TheVariants as kinds
+use Rattle.tv_model.specs.Kinds.{behaviour}
+use Rattle.tv_model.specs.Controls.Behaviour.{Down, Ignores, FocusesLink, Grips, Holds}
+use Rattle.tv_model.specs.Controls.Shortcut.{Shortcut, NoMark, LinkMark, PressMark, ItemMarks}
 use Rattle.tv_model.specs.declared.command.CommandSpec.{CommandSpec}
 use Rattle.tv_model.specs.declared.kind.MarkedText.{MarkedText}
-use Rattle.tv_model.specs.Description.Commands.{command_number}
+use Rattle.tv_model.specs.Description.Commands.{command_number, command_of}
 use Rattle.tv_model.specs.Description.Letters.{marks, upper}
 use Rattle.tv_model.specs.Description.Nodes.{is_button, is_control}
 use Rattle.tv_model.specs.Controls.ButtonTable.{item_marking}
-use Rattle.tv_model.specs.Controls.ClusterTable.{ClusterKind, Boxes, Radios, cluster_key, may_change}
+use Rattle.tv_model.specs.Controls.ClusterTable.{ClusterKind, cluster_key, may_change}
 use Rattle.tv_model.specs.Controls.Meaning.{Leaf, holds}
 use Rattle.tv_machine.specs.Controls.Contents.{Content, selected_of}
 use Rattle.tv_machine.specs.Controls.Tables.{Answer, Passed, Becomes, Presses, key_answer, up_answer}
@@ -34,18 +36,14 @@ use Rattle.tv_view.specs.Points.{is_inside, row_of}
 abbrev pub post_of : Leaf → CommandSpec → Reaction
 post_of leaf command = Post leaf.node.id (record { 0 = command_number command })
 
--- what a leaf answers where it is pressed: of other kinds nothing is asked for
+-- what a leaf answers where it is pressed: without a command nothing is asked for
+abbrev pub press_by : Leaf → Option CommandSpec → Reaction
+press_by leaf None = Done
+press_by leaf (Some command) = post_of leaf command
+
+-- the same by its kind
 abbrev pub press_of : Leaf → Kind → Reaction
-press_of leaf (kinds.Button button) = post_of leaf button.command
-press_of leaf (kinds.Window head) = Done
-press_of leaf (kinds.Dialog head) = Done
-press_of leaf (kinds.Text shown) = Done
-press_of leaf (kinds.Label label) = Done
-press_of leaf (kinds.Input input) = Done
-press_of leaf (kinds.CheckBoxes boxes) = Done
-press_of leaf (kinds.RadioButtons radios) = Done
-press_of leaf (kinds.List list) = Done
-press_of leaf (kinds.Pane pane) = Done
+press_of leaf kind = press_by leaf (command_of kind)
 
 -- the focus for a link, if there is one
 abbrev pub focus_on : Option Id → Reaction
@@ -76,17 +74,15 @@ item_call leaf None = Pass
 item_call leaf (Some item) = FocusPress leaf.node.id item
 
 -- a letter from any focus: a label asks for the focus of its link, a button is pressed, a cluster asks for the item
+abbrev pub shortcut_answer : Env → Leaf → Kind → Shortcut → Option ℕ → Reaction
+shortcut_answer env leaf kind NoMark letter = Pass
+shortcut_answer env leaf kind (LinkMark text name) letter = if calls text letter then focus_on (linked_by env leaf.node.kind) else Pass
+shortcut_answer env leaf kind (PressMark text name) letter = if calls text letter then press_of leaf kind else Pass
+shortcut_answer env leaf kind (ItemMarks cluster name items) letter = item_call leaf (called_item items letter)
+
+-- the same by its kind
 abbrev pub letter_answer : Env → Leaf → Kind → Option ℕ → Reaction
-letter_answer env leaf (kinds.Label label) letter = if calls label.text letter then focus_on (linked_by env leaf.node.kind) else Pass
-letter_answer env leaf (kinds.Button button) letter = if calls button.text letter then post_of leaf button.command else Pass
-letter_answer env leaf (kinds.CheckBoxes boxes) letter = item_call leaf (called_item boxes.items letter)
-letter_answer env leaf (kinds.RadioButtons radios) letter = item_call leaf (called_item radios.items letter)
-letter_answer env leaf (kinds.Window head) letter = Pass
-letter_answer env leaf (kinds.Dialog head) letter = Pass
-letter_answer env leaf (kinds.Text shown) letter = Pass
-letter_answer env leaf (kinds.Input input) letter = Pass
-letter_answer env leaf (kinds.List list) letter = Pass
-letter_answer env leaf (kinds.Pane pane) letter = Pass
+letter_answer env leaf kind letter = shortcut_answer env leaf kind (behaviour kind).shortcut letter
 
 -- ---- keys
 
@@ -94,18 +90,14 @@ letter_answer env leaf (kinds.Pane pane) letter = Pass
 abbrev pub may_mark : ClusterKind → List MarkedText → Key → Content → Bool
 may_mark kind items k c = may_change kind (cluster_key items (length items) (selected_of kind c) k)
 
--- the same for a leaf by its kind; only clusters have marks
+-- only clusters have marks
+abbrev pub may_mark_in : Shortcut → Key → Content → Bool
+may_mark_in (ItemMarks kind name items) k c = may_mark kind items k c
+may_mark_in _ k c = false
+
+-- the same for a leaf by its kind
 abbrev pub may_mark_by : Kind → Key → Content → Bool
-may_mark_by (kinds.CheckBoxes boxes) k c = may_mark Boxes boxes.items k c
-may_mark_by (kinds.RadioButtons radios) k c = may_mark Radios radios.items k c
-may_mark_by (kinds.Window head) k c = false
-may_mark_by (kinds.Dialog head) k c = false
-may_mark_by (kinds.Text shown) k c = false
-may_mark_by (kinds.Label label) k c = false
-may_mark_by (kinds.Button button) k c = false
-may_mark_by (kinds.Input input) k c = false
-may_mark_by (kinds.List list) k c = false
-may_mark_by (kinds.Pane pane) k c = false
+may_mark_by kind k c = may_mark_in (behaviour kind).shortcut k c
 
 -- the key was consumed, and where it may have changed a mark the rules are to be applied
 abbrev pub consumed : Leaf → Bool → Reaction
@@ -126,18 +118,16 @@ keyed_answer env leaf k phases.Post = letter_answer env leaf leaf.node.kind (cal
 
 -- ---- the mouse
 
+-- by what a mouse down asks for
+abbrev pub captures_by : Leaf → Down → Bool
+captures_by leaf Ignores = false
+captures_by leaf (FocusesLink name) = false
+captures_by leaf (Grips grabs) = not grabs || leaf.is_focused
+captures_by leaf Holds = leaf.is_focused
+
 -- whether a mouse down makes the leaf hold the mouse: a control that has the focus, or a button that doesn't want it
 abbrev pub captures : Leaf → Kind → Bool
-captures leaf (kinds.Button button) = not button.grabs || leaf.is_focused
-captures leaf (kinds.Input input) = leaf.is_focused
-captures leaf (kinds.CheckBoxes boxes) = leaf.is_focused
-captures leaf (kinds.RadioButtons radios) = leaf.is_focused
-captures leaf (kinds.List list) = leaf.is_focused
-captures leaf (kinds.Window head) = false
-captures leaf (kinds.Dialog head) = false
-captures leaf (kinds.Text shown) = false
-captures leaf (kinds.Label label) = false
-captures leaf (kinds.Pane pane) = false
+captures leaf kind = captures_by leaf (behaviour kind).down
 
 -- the focus that a mouse down asks for: a control its own, a label that of its link
 abbrev pub down_focus : Env → Leaf → Option Id

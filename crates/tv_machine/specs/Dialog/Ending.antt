@@ -2,13 +2,13 @@
 use Rattle.std.specs.Prelude.{ℕ, Bool, ◌||◌, List, ◌∷◌, ◌++◌, map, filter_map, find, Option, Some, None, option_map, ◌==◌, nat_le, if◌then◌else◌}
 use Rattle.tv_model.specs.declared.node.Id.{Id}
 use Rattle.tv_model.specs.declared.kind.Kind.{Kind}
-use Rattle.tv_model.specs.declared.kind.Kind.TheVariants as kinds
+use Rattle.tv_model.specs.declared.command.CommandSpec.{CommandSpec}
 use Rattle.tv_model.specs.declared.desc.Dialog.{Dialog}
 use Rattle.tv_model.specs.declared.record.Entry.{Entry}
 use Rattle.tv_model.specs.declared.log.LogLine.{LogLine}
 use Rattle.tv_model.specs.declared.log.LogLine.TheVariants as lines
 use Rattle.tv_model.specs.Log.Record.{Entries}
-use Rattle.tv_model.specs.Description.Commands.{command_number, is_declared}
+use Rattle.tv_model.specs.Description.Commands.{command_number, command_of, is_declared}
 use Rattle.tv_model.specs.Description.Heads.{dialog_head}
 use Rattle.tv_machine.specs.State.{LeafState}
 use Rattle.tv_machine.specs.Leaves.{PlacedNode, leaf_list}
@@ -66,18 +66,14 @@ command d number m =
     else if nat_le 100 number then with_line (lines.Command number) m
     else m
 
+-- a press is logged, and then its command is handled; without one nothing happens
+abbrev pub pressed_by : Dialog → Id → Option CommandSpec → Modal → Modal
+pressed_by d i None m = m
+pressed_by d i (Some c) m = command d (command_number c) (with_line (lines.Press i) m)
+
 -- the command that a control gives where it is pressed: a button its own
 abbrev pub pressed_kind : Dialog → Id → Kind → Modal → Modal
-pressed_kind d i (kinds.Button button) m = command d (command_number button.command) (with_line (lines.Press i) m)
-pressed_kind d i (kinds.Window head) m = m
-pressed_kind d i (kinds.Dialog head) m = m
-pressed_kind d i (kinds.Text shown) m = m
-pressed_kind d i (kinds.Label label) m = m
-pressed_kind d i (kinds.Input input) m = m
-pressed_kind d i (kinds.CheckBoxes boxes) m = m
-pressed_kind d i (kinds.RadioButtons radios) m = m
-pressed_kind d i (kinds.List list) m = m
-pressed_kind d i (kinds.Pane pane) m = m
+pressed_kind d i kind m = pressed_by d i (command_of kind) m
 
 -- a button is pressed: the press is logged, and then its command is handled
 abbrev pub press : Dialog → PlacedNode → Modal → Modal

@@ -5,7 +5,8 @@ use Rattle.tv_valid.specs.Deciding.{in_domain}
 use Rattle.tv_valid.specs.Asking.{domain_of}
 use Rattle.tv_model.specs.declared.node.Id.{Id}
 use Rattle.tv_model.specs.declared.kind.Kind.{Kind}
-use Rattle.tv_model.specs.declared.kind.Kind.TheVariants as kinds
+use Rattle.tv_model.specs.Kinds.{behaviour}
+pub use Rattle.tv_model.specs.Kinds.InputLine.{is_outside}
 use Rattle.tv_model.specs.declared.desc.Dialog.{Dialog}
 use Rattle.tv_model.specs.declared.log.LogLine.TheVariants as lines
 use Rattle.tv_machine.specs.State.{LeafState}
@@ -61,36 +62,13 @@ is_free_at d leaves i = is_free_leaf d leaves (leaf_at d i)
 
 -- ---- texts outside their domains
 
--- a text outside the domain, if there is one
-abbrev pub is_outside : Option Domain → List ℕ → Bool
-is_outside None text = false
-is_outside (Some domain) text = not (in_domain domain text)
-
 -- an input whose text lies outside its domain
 abbrev pub is_invalid : Kind → Content → Bool
-is_invalid (kinds.Input input) c = is_outside (domain_of input.spec) (text_of c.value)
-is_invalid (kinds.Window head) c = false
-is_invalid (kinds.Dialog head) c = false
-is_invalid (kinds.Text shown) c = false
-is_invalid (kinds.Label label) c = false
-is_invalid (kinds.Button button) c = false
-is_invalid (kinds.CheckBoxes boxes) c = false
-is_invalid (kinds.RadioButtons radios) c = false
-is_invalid (kinds.List list) c = false
-is_invalid (kinds.Pane pane) c = false
+is_invalid kind c = (behaviour kind).is_invalid c
 
 -- an input that the focus may leave only with a text of its domain
 abbrev pub validates : Kind → Bool
-validates (kinds.Input input) = input.validates
-validates (kinds.Window head) = false
-validates (kinds.Dialog head) = false
-validates (kinds.Text shown) = false
-validates (kinds.Label label) = false
-validates (kinds.Button button) = false
-validates (kinds.CheckBoxes boxes) = false
-validates (kinds.RadioButtons radios) = false
-validates (kinds.List list) = false
-validates (kinds.Pane pane) = false
+validates kind = (behaviour kind).validates
 
 -- ---- a focus request
 
@@ -130,16 +108,7 @@ edited_at d i edit m = with_content d i (edit_content (edit (edit_of (content_at
 
 -- what the coming or going of the focus makes of a leaf by its kind: of an input an edit, of other leaves nothing
 abbrev pub refocused_kind : Dialog → (Edit → Edit) → Id → Kind → Modal → Modal
-refocused_kind d edit i (kinds.Input input) m = edited_at d i edit m
-refocused_kind d edit i (kinds.Window head) m = m
-refocused_kind d edit i (kinds.Dialog head) m = m
-refocused_kind d edit i (kinds.Text shown) m = m
-refocused_kind d edit i (kinds.Label label) m = m
-refocused_kind d edit i (kinds.Button button) m = m
-refocused_kind d edit i (kinds.CheckBoxes boxes) m = m
-refocused_kind d edit i (kinds.RadioButtons radios) m = m
-refocused_kind d edit i (kinds.List list) m = m
-refocused_kind d edit i (kinds.Pane pane) m = m
+refocused_kind d edit i kind m = if (behaviour kind).is_edited then edited_at d i edit m else m
 
 -- the same for the leaf that was found
 abbrev pub refocused : Dialog → (Edit → Edit) → Option PlacedNode → Modal → Modal

@@ -5,7 +5,8 @@ use Rattle.std.specs.Ordering.{int_eq}
 use Rattle.tv_cells.specs.Layers.{is_in}
 use Rattle.tv_cells.specs.declared.rect.Point.{Point}
 use Rattle.tv_model.specs.declared.kind.Kind.{Kind}
-use Rattle.tv_model.specs.declared.kind.Kind.TheVariants as kinds
+use Rattle.tv_model.specs.Kinds.{behaviour}
+use Rattle.tv_model.specs.Controls.Behaviour.{Down, Ignores, FocusesLink, Grips, Holds}
 use Rattle.tv_model.specs.declared.desc.Dialog.{Dialog}
 use Rattle.tv_model.specs.Description.Names.{meant}
 use Rattle.tv_model.specs.Description.Numbers.{natural, is_between}
@@ -64,18 +65,16 @@ abbrev pub button_down : Dialog → PlacedNode → Bool → Point → Modal → 
 button_down d leaf grabs p m =
     if is_enabled d m.leaves leaf.node then (if grabs then focus_and_hold d leaf p m else hold d leaf 0 p m) else m
 
--- by the kind of the leaf: a label asks for the focus of its link, and nothing holds the mouse
+-- by what a mouse down asks for: a label asks for the focus of its link, and nothing holds the mouse
+abbrev pub down_by : Dialog → PlacedNode → Down → Point → Modal → Modal
+down_by d leaf Ignores p m = m
+down_by d leaf (FocusesLink name) p m = request_link d (meant d.views name) m
+down_by d leaf (Grips grabs) p m = button_down d leaf grabs p m
+down_by d leaf Holds p m = focus_and_hold d leaf p m
+
+-- by the kind of the leaf
 abbrev pub down_on : Dialog → PlacedNode → Kind → Point → Modal → Modal
-down_on d leaf (kinds.Text shown) p m = m
-down_on d leaf (kinds.Label label) p m = request_link d (meant d.views label.link) m
-down_on d leaf (kinds.Button button) p m = button_down d leaf button.grabs p m
-down_on d leaf (kinds.Input input) p m = focus_and_hold d leaf p m
-down_on d leaf (kinds.CheckBoxes boxes) p m = focus_and_hold d leaf p m
-down_on d leaf (kinds.RadioButtons radios) p m = focus_and_hold d leaf p m
-down_on d leaf (kinds.List list) p m = focus_and_hold d leaf p m
-down_on d leaf (kinds.Window head) p m = m
-down_on d leaf (kinds.Dialog head) p m = m
-down_on d leaf (kinds.Pane pane) p m = m
+down_on d leaf kind p m = down_by d leaf (behaviour kind).down p m
 
 -- on the topmost visible leaf, if there is one
 abbrev pub down_at : Dialog → Option PlacedNode → Point → Modal → Modal

@@ -4,7 +4,8 @@ use Rattle.std.specs.List.{list_any, list_all}
 use Rattle.tv_model.specs.declared.node.Id.{Id}
 use Rattle.tv_model.specs.declared.node.Node.{Node}
 use Rattle.tv_model.specs.declared.kind.Kind.{Kind}
-use Rattle.tv_model.specs.declared.kind.Kind.TheVariants as kinds
+use Rattle.tv_model.specs.declared.command.CommandSpec.{CommandSpec}
+pub use Rattle.tv_model.specs.Kinds.Cluster.{is_marked}
 use Rattle.tv_model.specs.declared.record.Value.{Value}
 use Rattle.tv_model.specs.declared.record.Value.TheVariants as values
 use Rattle.tv_model.specs.declared.desc.Dialog.{Dialog}
@@ -14,7 +15,7 @@ use Rattle.tv_model.specs.declared.desc.Effect.TheVariants as effects
 use Rattle.tv_model.specs.Description.Names.{meant, gives_name}
 use Rattle.tv_model.specs.Description.Nodes.{is_control}
 use Rattle.tv_model.specs.Description.Numbers.{natural}
-use Rattle.tv_model.specs.Description.Commands.{command_number}
+use Rattle.tv_model.specs.Description.Commands.{command_number, command_of}
 use Rattle.tv_machine.specs.State.{LeafState, Plain}
 use Rattle.tv_machine.specs.Controls.Contents.{Content}
 use Rattle.tv_machine.specs.Leaves.{PlacedNode}
@@ -39,13 +40,6 @@ abbrev pub content_of : List LeafState → List Id → Id → Content
 content_of leaves overwriting i = content_by (is_among overwriting i) (state_of leaves i)
 
 -- ---- rules
-
--- whether an item, from 1, is marked: bit 0 of marks is the first item
-abbrev pub is_marked : Option Value → ℕ → Bool
-is_marked None item = false
-is_marked (Some (values.Text text)) item = false
-is_marked (Some (values.Marks marks)) item = (marks / 2 ^ (item - 1)) % 2 == 1
-is_marked (Some (values.Item marked)) item = marked == item
 
 -- whether the cluster has the item marked, hidden or not
 abbrev pub is_marked_at : List LeafState → ℕ → Option Node → Bool
@@ -74,18 +68,14 @@ enables number (effects.Enable command) = command_number command == number
 abbrev pub is_command_enabled : Dialog → List LeafState → ℕ → Bool
 is_command_enabled d leaves number = list_all (λ rule. not (enables number rule.effect) || holds d leaves rule) d.rules
 
+-- enabled while its command is, and always without one
+abbrev pub is_enabled_by : Dialog → List LeafState → Option CommandSpec → Bool
+is_enabled_by d leaves None = true
+is_enabled_by d leaves (Some command) = is_command_enabled d leaves (command_number command)
+
 -- a button is enabled while its command is, and every other leaf always
 abbrev pub is_kind_enabled : Dialog → List LeafState → Kind → Bool
-is_kind_enabled d leaves (kinds.Button button) = is_command_enabled d leaves (command_number button.command)
-is_kind_enabled d leaves (kinds.Window head) = true
-is_kind_enabled d leaves (kinds.Dialog head) = true
-is_kind_enabled d leaves (kinds.Text shown) = true
-is_kind_enabled d leaves (kinds.Label label) = true
-is_kind_enabled d leaves (kinds.Input input) = true
-is_kind_enabled d leaves (kinds.CheckBoxes boxes) = true
-is_kind_enabled d leaves (kinds.RadioButtons radios) = true
-is_kind_enabled d leaves (kinds.List list) = true
-is_kind_enabled d leaves (kinds.Pane pane) = true
+is_kind_enabled d leaves kind = is_enabled_by d leaves (command_of kind)
 
 -- a button whose command is disabled is not enabled
 abbrev pub is_enabled : Dialog → List LeafState → Node → Bool

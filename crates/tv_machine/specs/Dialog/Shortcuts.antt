@@ -3,12 +3,13 @@ use Rattle.std.specs.Prelude.{ℕ, Option, Some, None, find, is_some, if◌then�
 use Rattle.tv_model.specs.declared.node.Id.{Id}
 use Rattle.tv_model.specs.declared.node.Node.{Node}
 use Rattle.tv_model.specs.declared.kind.Kind.{Kind}
-use Rattle.tv_model.specs.declared.kind.Kind.TheVariants as kinds
+use Rattle.tv_model.specs.Kinds.{behaviour}
+use Rattle.tv_model.specs.Controls.ButtonTable.{item_marking}
+use Rattle.tv_model.specs.Controls.Shortcut.{Shortcut, NoMark, LinkMark, PressMark, ItemMarks}
 use Rattle.tv_model.specs.declared.desc.Dialog.{Dialog}
 use Rattle.tv_model.specs.Description.Names.{meant}
 use Rattle.tv_model.specs.Description.Owners.{owner_by}
-use Rattle.tv_model.specs.Controls.ButtonTable.{item_marking}
-use Rattle.tv_model.specs.Controls.ClusterTable.{ClusterKind, Boxes, Radios}
+use Rattle.tv_model.specs.Controls.ClusterTable.{ClusterKind}
 use Rattle.tv_machine.specs.Leaves.{PlacedNode, leaf_list}
 use Rattle.tv_machine.specs.Controls.Tables.{item_pressed}
 use Rattle.tv_machine.specs.Dialog.Rules.{is_visible, is_enabled}
@@ -34,18 +35,16 @@ press_item d kind i (Some item) m = with_content d i (item_pressed kind item (co
 abbrev pub call_item : Dialog → ClusterKind → Id → Option ℕ → Modal → Modal
 call_item d kind i item m = request_then d i (press_item d kind i item) m
 
--- what a letter does with a marker by its kind: a label's focuses its link, a button's presses it, an item's presses the item
+-- what a letter does: a label's focuses its link, a button's presses it if it is enabled, an item's presses the item
+abbrev pub called_by : Dialog → ℕ → PlacedNode → Shortcut → Modal → Modal
+called_by d letter leaf NoMark m = m
+called_by d letter leaf (LinkMark text name) m = request_link d (meant d.views name) m
+called_by d letter leaf (PressMark text name) m = if is_enabled d m.leaves leaf.node then press d leaf m else m
+called_by d letter leaf (ItemMarks kind name items) m = call_item d kind leaf.node.id (item_marking items letter) m
+
+-- what a letter does with a marker by its kind
 abbrev pub called : Dialog → ℕ → PlacedNode → Kind → Modal → Modal
-called d letter leaf (kinds.Label label) m = request_link d (meant d.views label.link) m
-called d letter leaf (kinds.Button button) m = if is_enabled d m.leaves leaf.node then press d leaf m else m
-called d letter leaf (kinds.CheckBoxes boxes) m = call_item d Boxes leaf.node.id (item_marking boxes.items letter) m
-called d letter leaf (kinds.RadioButtons radios) m = call_item d Radios leaf.node.id (item_marking radios.items letter) m
-called d letter leaf (kinds.Window head) m = m
-called d letter leaf (kinds.Dialog head) m = m
-called d letter leaf (kinds.Text shown) m = m
-called d letter leaf (kinds.Input input) m = m
-called d letter leaf (kinds.List list) m = m
-called d letter leaf (kinds.Pane pane) m = m
+called d letter leaf kind m = called_by d letter leaf (behaviour kind).shortcut m
 
 -- the letter acts on its marker; a hidden one does nothing
 abbrev pub act : Dialog → ℕ → PlacedNode → Modal → Modal

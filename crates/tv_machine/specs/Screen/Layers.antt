@@ -7,7 +7,7 @@ use Rattle.tv_cells.specs.declared.rect.Point.{Point}
 use Rattle.tv_model.specs.declared.node.Id.{Id}
 use Rattle.tv_model.specs.declared.node.Node.{Node}
 use Rattle.tv_model.specs.declared.kind.Kind.{Kind}
-use Rattle.tv_model.specs.declared.kind.Kind.TheVariants as kinds
+use Rattle.tv_model.specs.Kinds.{behaviour}
 use Rattle.tv_model.specs.declared.desc.Desc.{Desc}
 use Rattle.tv_model.specs.declared.desc.Dialog.{Dialog}
 use Rattle.tv_model.specs.declared.desc.Menu.{Menu}
@@ -71,17 +71,13 @@ is_focus focus None = false
 is_focus focus (Some node) = has_id focus node
 
 -- a label is linked to what its link means among the views of the dialog
+abbrev pub is_linked_by : List Node → Id → Option (List ℕ) → Bool
+is_linked_by views focus None = false
+is_linked_by views focus (Some name) = is_focus focus (meant views name)
+
+-- whether what a leaf links has the focus
 abbrev pub is_linked : List Node → Id → Kind → Bool
-is_linked views focus (kinds.Label label) = is_focus focus (meant views label.link)
-is_linked views focus (kinds.Window head) = false
-is_linked views focus (kinds.Dialog head) = false
-is_linked views focus (kinds.Text shown) = false
-is_linked views focus (kinds.Button button) = false
-is_linked views focus (kinds.Input input) = false
-is_linked views focus (kinds.CheckBoxes boxes) = false
-is_linked views focus (kinds.RadioButtons radios) = false
-is_linked views focus (kinds.List list) = false
-is_linked views focus (kinds.Pane pane) = false
+is_linked views focus kind = is_linked_by views focus (behaviour kind).link
 
 -- how a leaf of the open dialog stands
 abbrev pub look_of : Dialog → OpenDialog → Node → Look

@@ -3,7 +3,7 @@ use Rattle.std.specs.Prelude.{ℕ, Bool, false, List, Option, option_map, positi
 use Rattle.tv_event.specs.declared.event.Key.{Key}
 use Rattle.tv_event.specs.declared.event.Key.TheVariants as keys
 use Rattle.tv_model.specs.declared.kind.MarkedText.{MarkedText}
-use Rattle.tv_model.specs.Description.Letters.{marks, upper}
+use Rattle.tv_model.specs.Description.Marks.{marks, upper}
 
 -- the first item that marks the letter, in either case, from 1
 abbrev pub item_marking : List MarkedText → ℕ → Option ℕ

@@ -1,9 +1,7 @@
 -- The keys and the mouse of an input line.
-use Rattle.std.specs.Prelude.{[], ◌≡◌, ◌⊎◌, ℕ, Bool, true, false, not, ◌&&◌, List, length, remove, min, ◌+◌, ◌-◌, ◌==◌, nat_lt, if◌then◌else◌}
+use Rattle.std.specs.Prelude.{[], ℕ, Bool, true, false, ◌&&◌, List, length, remove, min, ◌+◌, ◌-◌, ◌==◌, nat_lt, if◌then◌else◌}
 use Rattle.tv_event.specs.declared.event.Key.{Key}
 use Rattle.tv_event.specs.declared.event.Key.TheVariants as keys
-use Rattle.tv_valid.specs.declared.domain.Domain.{Domain}
-use Rattle.tv_valid.specs.Domain.{IsViableText, IsTyped}
 
 -- the text, the place of the cursor, whether the whole text is selected, and whether typing overwrites
 pub record Edit : Type 0 where
@@ -45,11 +43,6 @@ deleted e =
     else if nat_lt e.cursor (length e.text) then with_text (remove e.text e.cursor) e.cursor e
     else at_place e.cursor e
 
--- an edit is made, unless its text isn't viable: then nothing changes
-abbrev pub Becomes : Domain → Edit → Edit → Edit → Type 0
-Becomes d edit e after =
-    (IsViableText d edit.text × (after ≡ edit)) ⊎ ((IsViableText d edit.text → ⊥) × (after ≡ e))
-
 -- what a typed character is put into, at the cursor: nothing where the whole text is selected, and where it overwrites
 -- the text without the character at the cursor
 abbrev pub opened_up : Edit → Edit
@@ -62,32 +55,9 @@ opened_up e =
 abbrev pub place_after : Edit → List ℕ → ℕ
 place_after e out = if e.cursor == length e.text then length out else e.cursor + 1
 
--- a character is typed, and what it makes of the text is viable
-abbrev pub Takes : Domain → ℕ → Edit → List ℕ → Type 0
-Takes d ch e out = IsTyped d (opened_up e).text (opened_up e).cursor ch out
-
--- it is typed, or refused, and then nothing changes
-abbrev pub Typed : Domain → ℕ → Edit → Edit → Type 0
-Typed d ch e after =
-    ((out : List ℕ) × Takes d ch e out × (after ≡ with_text out (place_after (opened_up e) out) e))
-    ⊎ (((out : List ℕ) → Takes d ch e out → ⊥) × (after ≡ e))
-
 -- Ctrl-Y empties the text
 abbrev pub ctrl_edit : ℕ → Edit → Edit
 ctrl_edit letter e = if letter == 89 then with_text [] 0 e else e
-
--- what a key makes of an input
-abbrev pub Edited : Domain → Key → Edit → Edit → Type 0
-Edited d keys.Left e after = after ≡ at_place (e.cursor - 1) e
-Edited d keys.Right e after = after ≡ at_place (min (e.cursor + 1) (length e.text)) e
-Edited d keys.Home e after = after ≡ at_place 0 e
-Edited d keys.End e after = after ≡ at_place (length e.text) e
-Edited d keys.Insert e after = after ≡ record e { is_whole = false; overwrites = not e.overwrites }
-Edited d keys.Backspace e after = Becomes d (backspaced e) e after
-Edited d keys.Delete e after = Becomes d (deleted e) e after
-Edited d (keys.Ctrl letter) e after = Becomes d (ctrl_edit letter e) e after
-Edited d (keys.Char ch) e after = Typed d ch e after
-Edited d _ e after = after ≡ e
 
 -- the first place of the text that is shown, in an input of this width
 abbrev pub first_shown : ℕ → ℕ → ℕ

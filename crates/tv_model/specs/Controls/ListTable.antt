@@ -32,11 +32,6 @@ asked_item height count c keys.CtrlPageUp = Some 1
 asked_item height count c keys.CtrlPageDown = Some count
 asked_item height count c _ = None
 
--- the list after a key that may ask for an item
-abbrev pub chosen_or : ℕ → ℕ → Option ℕ → Chosen → Chosen
-chosen_or height count None c = c
-chosen_or height count (Some item) c = chosen height count item c
-
 -- the item of a row, or the last one
 abbrev pub item_at_row : ℕ → Chosen → ℕ → ℕ
 item_at_row count c row = min (c.top + row) count

@@ -1,8 +1,9 @@
 -- Commands by their numbers, and the commands of dialogs and buttons.
-use Rattle.std.specs.Prelude.{ℕ, Bool, false, ◌&&◌, ◌||◌, Option, Some, None, ◌==◌, true}
+use Rattle.std.specs.Prelude.{ℕ, Bool, false, ◌&&◌, ◌||◌, Option, ◌==◌, true}
 use Rattle.std.specs.Ordering.{int_eq}
 use Rattle.tv_model.specs.declared.kind.Kind.{Kind}
 use Rattle.tv_model.specs.declared.kind.Kind.TheVariants as kinds
+use Rattle.tv_model.specs.Kinds.{behaviour}
 use Rattle.tv_model.specs.declared.command.Ends.{Ends}
 use Rattle.tv_model.specs.declared.command.CommandSpec.{CommandSpec}
 use Rattle.tv_model.specs.declared.command.CommandSpec.TheVariants as commands
@@ -34,8 +35,7 @@ is_end ends number = ((number == 11) && ends.cancel) || is_declared ends number
 
 -- the command that a button gives
 abbrev pub command_of : Kind → Option CommandSpec
-command_of (kinds.Button button) = Some button.command
-command_of _ = None
+command_of kind = (behaviour kind).command
 
 -- the same word, or the same number
 abbrev pub is_same_command : CommandSpec → CommandSpec → Bool

@@ -1,12 +1,11 @@
 -- Nodes that are lawful by themselves: what a view may be made of.
 use Rattle.std.specs.Prelude.{ℕ, ◌≤◌, List, length, All, Option, Some, ℤ, pos, neg_ℤ}
 use Rattle.tv_cells.specs.Glyph.{IsNarrow}
-use Rattle.tv_valid.specs.declared.input.InputSpec.{InputSpec}
-use Rattle.tv_valid.specs.declared.domain.Domain.{Domain}
-use Rattle.tv_valid.specs.Domain.{HasText, IsDomain, IsViableText}
 use Rattle.tv_model.specs.declared.node.Node.{Node}
 use Rattle.tv_model.specs.declared.kind.Kind.{Kind}
-use Rattle.tv_model.specs.declared.kind.Kind.TheVariants as kinds
+use Rattle.tv_model.specs.Kinds.{facts}
+pub use Rattle.tv_model.specs.Kinds.InputLine.{HasAnyText, MayStand}
+pub use Rattle.tv_model.specs.Kinds.Cluster.{IsItem}
 use Rattle.tv_model.specs.declared.command.CommandSpec.{CommandSpec}
 use Rattle.tv_model.specs.declared.command.CommandSpec.TheVariants as commands
 use Rattle.tv_model.specs.Description.Commands.{command_of}
@@ -24,16 +23,11 @@ IsLawfulCommand _ = Unit {0}
 
 -- so many items as a cluster or a list may have; nothing else has items
 abbrev pub HasLawfulCount : Kind → Type 0
-HasLawfulCount (kinds.CheckBoxes boxes) = (1 ≤ length boxes.items) × (length boxes.items ≤ 16)
-HasLawfulCount (kinds.RadioButtons radios) = (1 ≤ length radios.items) × (length radios.items ≤ 16)
-HasLawfulCount (kinds.List list) = (1 ≤ length list.items) × (length list.items ≤ 100)
-HasLawfulCount _ = Unit {0}
+HasLawfulCount kind = (facts kind).HasLawfulCount
 
 -- a number that a window may have, and so many characters as an input may take
 abbrev pub HasLawfulAmount : Kind → Type 0
-HasLawfulAmount (kinds.Window head) = IsBetween (pos 0) (pos 9) head.number
-HasLawfulAmount (kinds.Input input) = IsBetween (pos 1) (pos 120) input.spec.max
-HasLawfulAmount _ = Unit {0}
+HasLawfulAmount kind = (facts kind).HasLawfulAmount
 
 -- no more characters than a text may have
 abbrev pub IsShort : List ℕ → Type 0
@@ -60,30 +54,13 @@ IsNarrowNode node = All IsNarrowText (shown_texts node.kind)
 
 -- ---- domains and starts
 
--- some text lies in the domain that the input asks for. A bad picture asks for none
-abbrev pub HasAnyText : InputSpec → Type 0
-HasAnyText spec = (d : Domain) × IsDomain spec d × HasText d
-
--- the text may stand in the input while it is typed
-abbrev pub MayStand : List ℕ → InputSpec → Type 0
-MayStand text spec = (d : Domain) × IsDomain spec d × IsViableText d text
-
 -- an input has a domain with a text
 abbrev pub HasLawfulDomain : Kind → Type 0
-HasLawfulDomain (kinds.Input input) = HasAnyText input.spec
-HasLawfulDomain _ = Unit {0}
-
--- there is an item of the number, counted from 1
-abbrev pub IsItem : ℤ → ℕ → Type 0
-IsItem n count = IsBetween (pos 1) (pos count) n
+HasLawfulDomain kind = (facts kind).HasLawfulDomain
 
 -- an input starts with a text that may stand in it, a cluster or list with items that it has
 abbrev pub HasLawfulStart : Kind → Type 0
-HasLawfulStart (kinds.Input input) = MayStand input.start input.spec
-HasLawfulStart (kinds.CheckBoxes boxes) = All (λ item. IsItem item (length boxes.items)) boxes.start
-HasLawfulStart (kinds.RadioButtons radios) = IsItem radios.start (length radios.items)
-HasLawfulStart (kinds.List list) = IsItem list.start (length list.items)
-HasLawfulStart _ = Unit {0}
+HasLawfulStart kind = (facts kind).HasLawfulStart
 
 -- ---- the whole
 

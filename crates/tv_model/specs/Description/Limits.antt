@@ -1,7 +1,7 @@
 -- How many there may be of a thing, and how small a view may be.
-use Rattle.std.specs.Prelude.{ℕ, ℤ, pos}
+use Rattle.std.specs.Prelude.{ℕ, ℤ}
 use Rattle.tv_model.specs.declared.kind.Kind.{Kind}
-use Rattle.tv_model.specs.declared.kind.Kind.TheVariants as kinds
+use Rattle.tv_model.specs.Kinds.{behaviour}
 
 -- ---- how many there may be
 
@@ -45,16 +45,8 @@ most_chars = 120
 
 -- the least width of a kind
 abbrev pub least_width : Kind → ℤ
-least_width (kinds.Dialog head) = pos 12
-least_width (kinds.Window head) = pos 12
-least_width (kinds.Button button) = pos 4
-least_width (kinds.Input input) = pos 3
-least_width (kinds.CheckBoxes boxes) = pos 5
-least_width (kinds.RadioButtons radios) = pos 5
-least_width _ = pos 1
+least_width kind = (behaviour kind).least_width
 
 -- the least height of a kind
 abbrev pub least_height : Kind → ℤ
-least_height (kinds.Dialog head) = pos 3
-least_height (kinds.Window head) = pos 3
-least_height _ = pos 1
+least_height kind = (behaviour kind).least_height

@@ -1,45 +1,23 @@
 -- What nodes have by their kind, and how they are found.
-use Rattle.std.specs.Prelude.{ℕ, Bool, true, false, List, length, Option, Some, None, ℤ, pos, ◌==◌, ◌<◌, find}
+use Rattle.std.specs.Prelude.{ℕ, Bool, true, false, List, Option, Some, None, ℤ, ◌==◌, ◌<◌, find}
 use Rattle.std.specs.List.{AllPairs}
 use Rattle.tv_model.specs.declared.node.Id.{Id}
 use Rattle.tv_model.specs.declared.node.Node.{Node}
 use Rattle.tv_model.specs.declared.kind.Kind.{Kind}
 use Rattle.tv_model.specs.declared.kind.Kind.TheVariants as kinds
+use Rattle.tv_model.specs.Kinds.{behaviour}
 
 -- the name that a declaration gives
 abbrev pub name_of : Kind → Option (List ℕ)
-name_of (kinds.Window head) = Some head.name
-name_of (kinds.Dialog head) = Some head.name
-name_of (kinds.Text shown) = None
-name_of (kinds.Label label) = None
-name_of (kinds.Button button) = Some button.name
-name_of (kinds.Input input) = Some input.name
-name_of (kinds.CheckBoxes boxes) = Some boxes.name
-name_of (kinds.RadioButtons radios) = Some radios.name
-name_of (kinds.List list) = Some list.name
-name_of (kinds.Pane pane) = Some pane.name
+name_of kind = (behaviour kind).name
 
 -- its rows: those declared, else one a row of a cluster's items, else one
 abbrev pub height_of : Kind → ℤ
-height_of (kinds.Window head) = head.h
-height_of (kinds.Dialog head) = head.h
-height_of (kinds.Text shown) = shown.h
-height_of (kinds.Label label) = pos 1
-height_of (kinds.Button button) = pos 1
-height_of (kinds.Input input) = pos 1
-height_of (kinds.CheckBoxes boxes) = pos (length boxes.items)
-height_of (kinds.RadioButtons radios) = pos (length radios.items)
-height_of (kinds.List list) = list.h
-height_of (kinds.Pane pane) = pane.h
+height_of kind = (behaviour kind).rows
 
 -- a button, an input, a cluster or a list
 abbrev pub is_control : Kind → Bool
-is_control (kinds.Button button) = true
-is_control (kinds.Input input) = true
-is_control (kinds.CheckBoxes boxes) = true
-is_control (kinds.RadioButtons radios) = true
-is_control (kinds.List list) = true
-is_control _ = false
+is_control kind = (behaviour kind).is_control
 
 -- whether a node of the kind is a button
 abbrev pub is_button : Kind → Bool
@@ -82,11 +60,7 @@ is_button_node (Some node) = is_button node.kind
 
 -- a button that is declared to be the default
 abbrev pub is_default : Node → Bool
-is_default node = declared node.kind
-  where
-    declared : Kind → Bool
-    declared (kinds.Button button) = button.is_default
-    declared _ = false
+is_default node = (behaviour node.kind).is_default
 
 -- each view has a later line than those before it
 abbrev pub AreRising : List Node → Type 0

@@ -1,5 +1,5 @@
 -- What fills the rectangle of each layer, by columns and rows from its corner.
-use Rattle.std.specs.Prelude.{[], ℕ, Bool, true, false, not, ◌&&◌, ◌||◌, List, ◌∷◌, length, take, Option, Some, None, slice_index_or, ◌+◌, ◌-◌, ◌/◌, ◌==◌, nat_le, nat_lt, if◌then◌else◌, codes}
+use Rattle.std.specs.Prelude.{[], ℕ, Bool, false, not, ◌&&◌, ◌||◌, List, ◌∷◌, length, take, Option, Some, None, slice_index_or, ◌+◌, ◌-◌, ◌/◌, ◌==◌, nat_le, nat_lt, if◌then◌else◌, codes}
 use Rattle.tv_cells.specs.Glyph.{Glyph, glyph, shown}
 use Rattle.tv_palette.specs.Attributes.{attribute_of}
 use Rattle.tv_palette.specs.declared.role.Owner.{Owner}
@@ -162,7 +162,3 @@ button_attr look letter = attribute_of (roles.Button (button_role look letter))
 -- one attribute for the marked letter, and one for the rest
 abbrev pub button_cells : ℕ → List ℕ → Option ℕ → Bool → ℕ → ℕ → FaceOf
 button_cells w text mark is_default_now letter rest x y = shown (button_row w text is_default_now x) (if is_letter w text mark x then letter else rest)
-
--- a button as it stands
-abbrev pub button_face : ℕ → List ℕ → Option ℕ → ButtonLook → FaceOf
-button_face w text mark look = button_cells w text mark look.is_default_now (button_attr look true) (button_attr look false)

@@ -1,0 +1,135 @@
+-- Check boxes and radio buttons.
+use Rattle.std.specs.Prelude.{[], ℕ, Bool, true, false, ◌&&◌, List, ◌∷◌, ◌++◌, length, map, All, Option, Some, None, IsTrue, slice_get, ℤ, pos, ◌≤◌, ◌<◌, ◌+◌, ◌-◌, ◌/◌, ◌%◌, ◌^◌, ◌==◌, bit_or, codes, if◌then◌else◌}
+use Rattle.tv_cells.specs.Glyph.{Glyph, glyph, shown}
+use Rattle.tv_event.specs.declared.event.Key.{Key}
+use Rattle.tv_palette.specs.declared.role.Role.{Role}
+use Rattle.tv_palette.specs.declared.role.Role.TheVariants as roles
+use Rattle.tv_palette.specs.declared.role.ClusterRole.{ClusterRole}
+use Rattle.tv_palette.specs.declared.role.ClusterRole.TheVariants as cluster
+use Rattle.tv_model.specs.declared.kind.CheckBoxes.{CheckBoxes}
+use Rattle.tv_model.specs.declared.kind.MarkedText.{MarkedText}
+use Rattle.tv_model.specs.declared.kind.RadioButtons.{RadioButtons}
+use Rattle.tv_model.specs.declared.record.Value.{Value}
+use Rattle.tv_model.specs.declared.record.Value.TheVariants as values
+use Rattle.tv_model.specs.Controls.Behaviour.{Behaviour, plain, Facts, plain_facts, Answer, Passed, Becomes, Holds}
+use Rattle.tv_model.specs.Controls.ClusterTable as clusters
+use Rattle.tv_model.specs.Controls.ClusterTable.{ClusterKind, Boxes, Radios, ClusterKey, cluster_key, keyed, is_item}
+use Rattle.tv_model.specs.Controls.Contents.{Content, cluster_of, with_cluster, selected_of}
+use Rattle.tv_model.specs.Controls.Look.{Look, is_mark_from}
+use Rattle.tv_model.specs.Controls.Shortcut.{ItemMarks}
+use Rattle.tv_model.specs.Description.Numbers.{natural, IsBetween}
+use Rattle.tv_model.specs.Machine.Private.{Private, Plain, Editing, Selecting, Scrolled}
+use Rattle.tv_model.specs.Screen.Faces.{FaceOf, text_row}
+
+-- ---- marks
+
+-- the marks of these items: bit 0 is the first item
+abbrev pub marks_of : List ℤ → ℕ
+marks_of [] = 0
+marks_of (item ∷ items) = bit_or (2 ^ (natural item - 1)) (marks_of items)
+
+-- whether an item, from 1, is marked: bit 0 of marks is the first item
+abbrev pub is_marked : Option Value → ℕ → Bool
+is_marked None item = false
+is_marked (Some (values.Text text)) item = false
+is_marked (Some (values.Marks marks)) item = (marks / 2 ^ (item - 1)) % 2 == 1
+is_marked (Some (values.Item marked)) item = marked == item
+
+-- there is an item of the number, counted from 1
+abbrev pub IsItem : ℤ → ℕ → Type 0
+IsItem n count = IsBetween (pos 1) (pos count) n
+
+-- check boxes keep an item that there is
+abbrev pub IsSelecting : ℕ → Private → Type 0
+IsSelecting count (Selecting item) = IsTrue (is_item count item)
+IsSelecting count _ = ⊥
+
+-- ---- keys
+
+-- what a cluster makes of one of its keys
+abbrev pub cluster_answer : ClusterKind → ClusterKey → Content → Answer
+cluster_answer kind clusters.Passed c = Passed
+cluster_answer kind key c = Becomes (with_cluster kind (keyed kind key (cluster_of kind c)) c)
+
+-- a key of a cluster's table
+abbrev pub cluster_keyed : ClusterKind → List MarkedText → Key → Content → Answer
+cluster_keyed kind items k c = cluster_answer kind (cluster_key items (length items) (selected_of kind c) k) c
+
+-- ---- the mouse
+
+-- the item of a cluster's row, from 1
+abbrev pub item_of_row : ℕ → ℕ
+item_of_row row = row + 1
+
+-- the item is selected and pressed
+abbrev pub item_pressed : ClusterKind → ℕ → Content → Content
+item_pressed kind item c = with_cluster kind (clusters.pressed kind item (cluster_of kind c)) c
+
+-- an up on a row of a cluster presses its item, if it is the one that was under the down
+abbrev pub cluster_released : ClusterKind → ℕ → ℕ → Content → Answer
+cluster_released kind item row c = if item_of_row row == item then Becomes (item_pressed kind item c) else Passed
+
+-- ---- what they show
+
+-- the four columns before an item
+abbrev pub box_before : ClusterKind → Bool → List ℕ
+box_before Boxes true = codes "[X] "
+box_before Boxes false = codes "[ ] "
+box_before Radios true = codes "(*) "
+box_before Radios false = codes "( ) "
+
+-- the role of a cell: that of the marked letter before that of the selected row
+abbrev pub cluster_role : Bool → Bool → ClusterRole
+cluster_role is_at_letter is_selected = if is_at_letter then cluster.Letter else if is_selected then cluster.Selected else cluster.Normal
+
+-- a row with an item and whether it is marked; a row past the last item is empty
+abbrev pub cluster_row : (Role → ℕ) → ClusterKind → (is_selected is_marked : Bool) → Option MarkedText → ℕ → Glyph
+cluster_row colour kind is_selected is_marked None x = glyph 32 (colour (roles.Cluster cluster.Normal))
+cluster_row colour kind is_selected is_marked (Some text) x =
+    shown (text_row (box_before kind is_marked ++ text.text) x) (colour (roles.Cluster (cluster_role (is_mark_from 4 text.mark x) is_selected)))
+
+-- an item a row
+abbrev pub cluster_face : (Role → ℕ) → ClusterKind → Look → List MarkedText → Content → FaceOf
+cluster_face colour kind look items c x y =
+    cluster_row colour kind (look.is_focused && (selected_of kind c == y + 1)) (is_marked c.value (y + 1)) (slice_get items y) x
+
+-- ---- the whole
+
+-- what check boxes and radio buttons have in common
+abbrev pub cluster_behaviour : ClusterKind → List ℕ → List MarkedText → Value → Behaviour
+cluster_behaviour kind name items start = record plain {
+  name = Some name;
+  rows = pos (length items);
+  least_width = pos 5;
+  texts = map (λ item. item.text) items;
+  shown_texts = map (λ item. item.text) items;
+  shortcut = ItemMarks kind name items;
+  is_control = true;
+  value = Some start;
+  key = cluster_keyed kind items;
+  down = Holds;
+  remembered = item_of_row;
+  up = cluster_released kind;
+  faces = λ colour owner look width c. cluster_face colour kind look items c ∷ [];
+}
+
+abbrev pub boxes_behaviour : CheckBoxes → Behaviour
+boxes_behaviour boxes = record (cluster_behaviour Boxes boxes.name boxes.items (values.Marks (marks_of boxes.start))) { opened = λ value. Selecting 1 }
+
+abbrev pub radios_behaviour : RadioButtons → Behaviour
+radios_behaviour radios = cluster_behaviour Radios radios.name radios.items (values.Item (natural radios.start))
+
+abbrev pub boxes_facts : CheckBoxes → Facts
+boxes_facts boxes = record plain_facts {
+  HasLawfulCount = (1 ≤ length boxes.items) × (length boxes.items ≤ 16);
+  HasLawfulStart = All (λ item. IsItem item (length boxes.items)) boxes.start;
+  AreMarks = λ marks. marks < 2 ^ length boxes.items;
+  IsPrivate = IsSelecting (length boxes.items);
+}
+
+abbrev pub radios_facts : RadioButtons → Facts
+radios_facts radios = record plain_facts {
+  HasLawfulCount = (1 ≤ length radios.items) × (length radios.items ≤ 16);
+  HasLawfulStart = IsItem radios.start (length radios.items);
+  IsItem = λ item. IsTrue (is_item (length radios.items) item);
+}

@@ -1,0 +1,18 @@
+-- Static texts.
+use Rattle.std.specs.Prelude.{[], ℕ, Bool, not, ◌∷◌, filter, ◌==◌}
+use Rattle.tv_palette.specs.declared.role.Role.TheVariants as roles
+use Rattle.tv_model.specs.declared.kind.StaticText.{StaticText}
+use Rattle.tv_model.specs.Controls.Behaviour.{Behaviour, plain}
+use Rattle.tv_model.specs.Screen.Faces.{text_face}
+
+-- the character that ends a line
+abbrev pub is_line_end : ℕ → Bool
+is_line_end ch = ch == 10
+
+abbrev pub static_text : StaticText → Behaviour
+static_text shown = record plain {
+  rows = shown.h;
+  texts = shown.text ∷ [];
+  shown_texts = filter (λ ch. not (is_line_end ch)) shown.text ∷ [];
+  faces = λ colour owner look width c. text_face shown.text (colour (roles.StaticText owner)) ∷ [];
+}
