@@ -6,10 +6,9 @@ use Rattle.tv_model.specs.declared.kind.DialogHead.{DialogHead}
 use Rattle.tv_model.specs.declared.kind.Pane.{Pane}
 use Rattle.tv_model.specs.declared.kind.WindowHead.{WindowHead}
 use Rattle.tv_model.specs.declared.kind.Kind.TheVariants as kinds
-use Rattle.tv_model.specs.Controls.Meaning.{IsSmall, IsSmallRect}
+use Rattle.tv_model.specs.Description.Rectangles.{IsSmall, IsSmallRect, rect}
 use Rattle.tv_model.specs.Description.LawfulNodes.{IsLimited}
 use Rattle.tv_model.specs.Description.Numbers.{IsBetween}
-use Rattle.tv_model.specs.Description.Rectangles.{rect}
 use Rattle.tv_leaf.proofs.CoreLemmas.{limited_small}
 
 small_end : (least z : ℤ) → pos 1 ≤ℤ least → IsBetween least (pos 132) z → IsSmall (pos 0 +ℤ z)

@@ -8,10 +8,9 @@ use Rattle.tv_model.specs.declared.kind.DialogHead.{DialogHead}
 use Rattle.tv_model.specs.declared.kind.Pane.{Pane}
 use Rattle.tv_model.specs.declared.kind.WindowHead.{WindowHead}
 use Rattle.tv_model.specs.declared.kind.Kind.TheVariants as kinds
-use Rattle.tv_model.specs.Controls.Meaning.{IsSmall, IsSmallRect}
+use Rattle.tv_model.specs.Description.Rectangles.{IsSmall, IsSmallRect, rect}
 use Rattle.tv_model.specs.Description.LawfulNodes.{IsLawfulNode}
 use Rattle.tv_model.specs.Description.Numbers.{IsBetween}
-use Rattle.tv_model.specs.Description.Rectangles.{rect}
 use Rattle.tv_leaf.proofs.CoreLemmas.{limited_small}
 use Rattle.tv_window.specs.Head as window
 use Rattle.tv_building.proofs.LimitLemmas.{window_head_limited}

@@ -4,7 +4,7 @@ use Rattle.tv_group.specs.Opened.{members_level}
 use Rattle.tv_group.specs.declared.group.GroupOf.{GroupOf}
 use Rattle.tv_group.specs.declared.group.MemberOf.{MemberOf}
 use Rattle.tv_group.specs.declared.group.MemberOf.TheVariants as members
-use Rattle.tv_model.specs.Controls.Meaning.{Leaf}
+use Rattle.tv_view.specs.Meaning.{Leaf}
 use Rattle.tv_model.specs.declared.kind.Kind.{Kind}
 use Rattle.tv_model.specs.declared.kind.Kind.TheVariants as kinds
 use Rattle.tv_model.specs.declared.node.Node.{Node}

@@ -5,7 +5,7 @@ use Rattle.tv_group.specs.Opened.{bounds_of, joined, opened, opened_member}
 use Rattle.tv_group.specs.Outline.{has_body}
 use Rattle.tv_group.specs.declared.group.GroupOf.{GroupOf}
 use Rattle.tv_group.specs.declared.group.MemberOf.{MemberOf}
-use Rattle.tv_model.specs.Controls.Meaning.{Leaf, inside}
+use Rattle.tv_view.specs.Meaning.{Leaf, inside}
 use Rattle.tv_model.specs.Description.Nodes.{height_of, is_pane}
 use Rattle.tv_model.specs.Description.Rectangles.{rect}
 use Rattle.tv_model.specs.declared.kind.Kind.{Kind}

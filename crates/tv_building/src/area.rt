@@ -3,9 +3,8 @@
 ghost use Rattle.std.specs.Prelude.{◌≡◌, false, IfOk, IfErr};
 ghost use Rattle.tv_building.specs.Groups.{area_of, is_group};
 ghost use Rattle.tv_building.specs.declared.fault.BuildFault.TheVariants.{WrongPlan};
-ghost use Rattle.tv_model.specs.Controls.Meaning.{IsSmallRect};
+ghost use Rattle.tv_model.specs.Description.Rectangles.{IsSmallRect, rect};
 ghost use Rattle.tv_model.specs.Description.LawfulNodes.{IsLawfulNode};
-ghost use Rattle.tv_model.specs.Description.Rectangles.{rect};
 
 use crate::fault::BuildFault;
 use tv_cells::Rect;

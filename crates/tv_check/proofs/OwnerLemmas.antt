@@ -10,8 +10,9 @@ use Rattle.tv_model.specs.declared.kind.MarkedText.{MarkedText}
 use Rattle.tv_model.specs.declared.kind.Kind.{Kind}
 use Rattle.tv_model.specs.declared.kind.Kind.TheVariants as kinds
 use Rattle.tv_model.specs.declared.desc.Dialog.{Dialog}
-use Rattle.tv_model.specs.Description.Owners.{Owner, control, item_at, marker_of, owner_by, owners_of}
-use Rattle.tv_model.specs.Description.Letters.{marks}
+use Rattle.tv_model.specs.Controls.Owner.{Owner, control, item_at}
+use Rattle.tv_model.specs.Description.Owners.{marker_of, owner_by, owners_of}
+use Rattle.tv_model.specs.Description.Marks.{marks}
 use Rattle.tv_model.specs.Faults.Limits.{is_lawful_count}
 use Rattle.tv_declarations.specs.Spelling.Nodes.{IsKind}
 use Rattle.tv_words.specs.Fields.{IsName, IsNumber}

@@ -13,7 +13,8 @@ use Rattle.tv_model.specs.declared.desc.Desc.{Desc}
 use Rattle.tv_model.specs.declared.desc.Dialog.{Dialog}
 use Rattle.tv_model.specs.Description.Nodes.{is_dialog, name_of}
 use Rattle.tv_model.specs.Description.Heads.{dialog_head_of}
-use Rattle.tv_model.specs.Description.Owners.{Owner, owners_of}
+use Rattle.tv_model.specs.Controls.Owner.{Owner}
+use Rattle.tv_model.specs.Description.Owners.{owners_of}
 use Rattle.tv_model.specs.Description.Certificates.{dialog_name, letters, tabs_of}
 use Rattle.tv_model.specs.Faults.Lines.{after_seen}
 use Rattle.tv_model.specs.Description.Names.{is_option_named, shares_name}

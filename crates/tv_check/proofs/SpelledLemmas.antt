@@ -10,7 +10,8 @@ use Rattle.tv_model.specs.declared.kind.Kind.TheVariants as kinds
 use Rattle.tv_model.specs.declared.desc.Dialog.{Dialog}
 use Rattle.tv_model.specs.Description.Nodes.{is_control, is_dialog}
 use Rattle.tv_model.specs.Description.Heads.{dialog_head_of}
-use Rattle.tv_model.specs.Description.Owners.{Owner, marker_of, owner_by, owners_of}
+use Rattle.tv_model.specs.Controls.Owner.{Owner}
+use Rattle.tv_model.specs.Description.Owners.{marker_of, owner_by, owners_of}
 use Rattle.tv_model.specs.Description.Certificates.{control_name, letters}
 use Rattle.tv_declarations.specs.Spelling.Nodes.{IsKind}
 use Rattle.tv_words.specs.Fields.{IsName}

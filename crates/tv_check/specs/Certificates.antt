@@ -2,7 +2,8 @@
 use Rattle.std.specs.Prelude.{◌≡◌, ℕ, ◌==◌, List, IfSome, map, filter, flat_map, All, bytes_eq}
 use Rattle.tv_model.specs.declared.desc.Desc.{Desc}
 use Rattle.tv_model.specs.declared.desc.Dialog.{Dialog}
-use Rattle.tv_model.specs.Description.Owners.{Owner, owners_of}
+use Rattle.tv_model.specs.Controls.Owner.{Owner}
+use Rattle.tv_model.specs.Description.Owners.{owners_of}
 use Rattle.tv_model.specs.Description.Certificates.{dialog_name, letters, tab_order, tabs_of}
 use Rattle.tv_words.specs.Fields.{IsNumber}
 use Rattle.tv_model.specs.declared.desc.Version.TheVariants as versions

@@ -3,8 +3,9 @@
 ghost use Rattle.std.specs.Prelude.{◌≡◌, ◌↔◌, IsTrue, option_copied, option_map, option_to_list, is_some, position};
 ghost use Rattle.tv_check.specs.Certificates.{FitsKeyLine, owner_named};
 ghost use Rattle.tv_check.specs.Lent.{item_number, lent_owner};
-ghost use Rattle.tv_model.specs.Description.Letters.{marks};
-ghost use Rattle.tv_model.specs.Description.Owners.{control, item_at, marker_of, owner_by, owners_of};
+ghost use Rattle.tv_model.specs.Description.Marks.{marks};
+ghost use Rattle.tv_model.specs.Controls.Owner.{control, item_at};
+ghost use Rattle.tv_model.specs.Description.Owners.{marker_of, owner_by, owners_of};
 
 use tv_certificate::KeyLine;
 use tv_faults::marks;

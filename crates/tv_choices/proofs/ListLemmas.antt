@@ -5,7 +5,7 @@ use Rattle.tv_choices.specs.Choices.{is_list}
 use Rattle.tv_event.specs.declared.event.Key.{Key}
 use Rattle.tv_event.specs.declared.event.Phase.{Phase}
 use Rattle.tv_event.specs.declared.event.Phase.TheVariants as phases
-use Rattle.tv_model.specs.Controls.Meaning.{Leaf}
+use Rattle.tv_view.specs.Meaning.{Leaf}
 use Rattle.tv_model.specs.declared.kind.Kind.{Kind}
 use Rattle.tv_model.specs.declared.kind.Kind.TheVariants as kinds
 use Rattle.tv_view.specs.Reactions.{called, captures, down_answer, down_focus, focus_on, keyed_answer, letter_answer}

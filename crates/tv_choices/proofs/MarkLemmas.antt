@@ -5,9 +5,9 @@ use Rattle.std.proofs.lemmas.Int.{ints}
 use Rattle.std.proofs.lemmas.List.Elements.{All-weaker}
 use Rattle.std.proofs.lemmas.Nat.{or_comm}
 use Rattle.std.specs.List.{All}
-use Rattle.tv_model.specs.Description.LawfulNodes.{IsItem}
+use Rattle.tv_model.specs.Controls.Contents.{IsItem}
 use Rattle.tv_model.specs.Description.Numbers.{natural}
-use Rattle.tv_model.specs.Machine.State.{marks_of}
+use Rattle.tv_model.specs.Kinds.Cluster.{marks_of}
 
 -- of no items
 pub marks-none : (items : List ℤ) → marks_of (drop (length items) items) ≡ 0

@@ -4,10 +4,10 @@ use Rattle.tv_choices.specs.declared.cluster.ClusterKey.{ClusterKey as SeenKey}
 use Rattle.tv_choices.specs.declared.cluster.ClusterKey.TheVariants as seen
 use Rattle.tv_choices.specs.declared.chosen.Chosen.{Chosen as SeenChosen}
 use Rattle.tv_leaf.specs.Core.{Core, leaf_with}
-use Rattle.tv_machine.specs.State.{Plain, Scrolled, Selecting}
-use Rattle.tv_model.specs.Controls.ClusterTable.{ClusterKey, Passed, Presses, Selects}
-use Rattle.tv_model.specs.Controls.ListTable.{Chosen}
-use Rattle.tv_model.specs.Controls.Meaning.{Leaf}
+use Rattle.tv_model.specs.Controls.Private.{Plain, Scrolled, Selecting}
+use Rattle.tv_model.specs.Kinds.Cluster.{ClusterKey, Passed, Presses, Selects}
+use Rattle.tv_model.specs.Kinds.ListBox.{Chosen}
+use Rattle.tv_view.specs.Meaning.{Leaf}
 use Rattle.tv_model.specs.declared.kind.Kind.{Kind}
 use Rattle.tv_model.specs.declared.kind.Kind.TheVariants as kinds
 use Rattle.tv_model.specs.declared.record.Value.TheVariants as values

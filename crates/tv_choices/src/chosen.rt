@@ -1,7 +1,7 @@
 //! What a list has chosen, and from which item on it shows its items.
 
 ghost use Rattle.std.specs.Prelude.{◌≡◌, ◌≤◌, ◌<◌, ◌+◌, ◌-◌, max};
-ghost use Rattle.tv_model.specs.Controls.ListTable.{asked_item, chosen, item_at_row, top_for, within};
+ghost use Rattle.tv_model.specs.Kinds.ListBox.{asked_item, chosen, item_at_row, top_for, within};
 ghost use Rattle.tv_choices.specs.Choices.{choice_of};
 
 use tv_event::Key;

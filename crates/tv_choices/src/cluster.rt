@@ -3,10 +3,12 @@
 ghost use Rattle.std.specs.Prelude.{◌≡◌, ◌<◌, ◌≤◌, ◌==◌, ◌+◌, ◌+ℤ◌, ◌≤ℤ◌, IfSome, None, Some, length, pos, position, if◌then◌else◌};
 ghost use Rattle.std.specs.Int.{int_gap};
 ghost use Rattle.tv_cells.specs.Layers.{is_in};
-ghost use Rattle.tv_model.specs.Controls.ButtonTable.{item_marking};
-ghost use Rattle.tv_model.specs.Controls.ClusterTable.{cluster_key, is_item, item_after, item_before};
-ghost use Rattle.tv_model.specs.Controls.Meaning.{IsSmallRect, Leaf};
-ghost use Rattle.tv_model.specs.Description.Letters.{marks};
+ghost use Rattle.tv_model.specs.Controls.Shortcut.{item_marking};
+ghost use Rattle.tv_model.specs.Kinds.Cluster.{cluster_key, item_after, item_before};
+ghost use Rattle.tv_model.specs.Controls.Contents.{is_item};
+ghost use Rattle.tv_model.specs.Description.Rectangles.{IsSmallRect};
+ghost use Rattle.tv_view.specs.Meaning.{Leaf};
+ghost use Rattle.tv_model.specs.Description.Marks.{marks};
 ghost use Rattle.tv_view.specs.Reactions.{called, called_item, item_call};
 ghost use Rattle.tv_choices.specs.Choices.{key_item, key_of};
 

@@ -4,11 +4,10 @@ ghost use Rattle.std.specs.Prelude.{◌≡◌, ◌↔◌, ◌≤◌, ◌≤ℤ�
 ghost use Rattle.tv_cells.specs.declared.rect.Point.{Point};
 ghost use Rattle.tv_choices.specs.Choices.{is_list, list_leaf};
 ghost use Rattle.tv_event.specs.declared.event.Phase.TheVariants as phases;
-ghost use Rattle.tv_machine.specs.Controls.Contents.{chosen_of, with_chosen};
-ghost use Rattle.tv_machine.specs.Controls.Tables.{row_chosen};
-ghost use Rattle.tv_model.specs.Controls.ListTable.{chosen};
-ghost use Rattle.tv_model.specs.Controls.Meaning.{fresh};
-ghost use Rattle.tv_model.specs.Description.LawfulNodes.{IsItem, IsLawfulNode};
+ghost use Rattle.tv_model.specs.Kinds.ListBox.{chosen_of, with_chosen, row_chosen, chosen};
+ghost use Rattle.tv_view.specs.Meaning.{fresh};
+ghost use Rattle.tv_model.specs.Controls.Contents.{IsItem};
+ghost use Rattle.tv_model.specs.Description.LawfulNodes.{IsLawfulNode};
 ghost use Rattle.tv_model.specs.Description.Numbers.{natural};
 ghost use Rattle.tv_model.specs.declared.kind.Kind.TheVariants as kinds;
 ghost use Rattle.tv_model.specs.declared.kind.ListBox.{ListBox as Declared};

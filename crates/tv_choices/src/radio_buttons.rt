@@ -4,8 +4,9 @@ ghost use Rattle.std.specs.Prelude.{◌≡◌, ◌↔◌, ◌≤◌, IfOk, IsErr
 ghost use Rattle.tv_cells.specs.declared.rect.Point.{Point};
 ghost use Rattle.tv_choices.specs.Choices.{is_radios, radios_leaf};
 ghost use Rattle.tv_event.specs.declared.event.Phase.TheVariants as phases;
-ghost use Rattle.tv_model.specs.Controls.Meaning.{fresh};
-ghost use Rattle.tv_model.specs.Description.LawfulNodes.{IsItem, IsLawfulNode};
+ghost use Rattle.tv_view.specs.Meaning.{fresh};
+ghost use Rattle.tv_model.specs.Controls.Contents.{IsItem};
+ghost use Rattle.tv_model.specs.Description.LawfulNodes.{IsLawfulNode};
 ghost use Rattle.tv_model.specs.Description.Numbers.{natural};
 ghost use Rattle.tv_model.specs.declared.kind.Kind.TheVariants as kinds;
 ghost use Rattle.tv_model.specs.declared.kind.RadioButtons.{RadioButtons as Declared};

@@ -3,7 +3,7 @@ use Rattle.std.proofs.Common.{◌≡◌, ◌==◌, ◌∙◌, if◌then◌else�
 use Rattle.std.proofs.lemmas.Bool.Decides.{nat_tests}
 use Rattle.tv_model.specs.declared.node.Node.{Node}
 use Rattle.tv_model.specs.declared.record.Value.{Value}
-use Rattle.tv_model.specs.Controls.Meaning.{Leaf, fresh}
+use Rattle.tv_view.specs.Meaning.{Leaf, fresh}
 use Rattle.tv_model.specs.Log.Record.{Entries, value_of}
 use Rattle.tv_view.specs.Calls.{Fits, IsValueOf}
 

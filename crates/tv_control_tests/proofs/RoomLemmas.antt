@@ -2,7 +2,7 @@
 use Rattle.std.proofs.Common.{arith, inr, ◌≡◌, [], Option, Some, None, subst, sym}
 use Rattle.tv_model.specs.declared.node.Id.{Id}
 use Rattle.tv_model.specs.declared.record.Value.{Value}
-use Rattle.tv_model.specs.Controls.Meaning.{Leaf}
+use Rattle.tv_view.specs.Meaning.{Leaf}
 use Rattle.tv_model.specs.Log.Record.{Entries}
 use Rattle.tv_view.specs.Calls.{HasRoom, HasRoomFor}
 

@@ -1,9 +1,9 @@
 //! Opening a control with a value.
 
 ghost use Rattle.std.specs.Prelude.{◌≡◌, ◌<◌, ◌^◌, IfOk, IsTrue, Some};
-ghost use Rattle.tv_model.specs.Controls.ClusterTable.{is_item};
-ghost use Rattle.tv_model.specs.Controls.Meaning.{fresh};
-ghost use Rattle.tv_model.specs.Description.LawfulNodes.{MayStand};
+ghost use Rattle.tv_model.specs.Controls.Contents.{is_item};
+ghost use Rattle.tv_view.specs.Meaning.{fresh};
+ghost use Rattle.tv_model.specs.Kinds.InputLine.{MayStand};
 ghost use Rattle.tv_view.specs.Calls.{IsValueOf};
 
 use std::alloc::Global;

@@ -10,7 +10,7 @@ use Rattle.tv_cells.specs.Rectangle.{sized}
 use Rattle.tv_cells.specs.declared.canvas.Canvas.{Canvas}
 use Rattle.tv_model.specs.declared.kind.Kind.{Kind}
 use Rattle.tv_model.specs.declared.kind.Kind.TheVariants as kinds
-use Rattle.tv_model.specs.Controls.InputTable.{Edit}
+use Rattle.tv_model.specs.Kinds.InputLine.{Edit, edit_content, input_cell, input_face}
 use Rattle.tv_model.specs.Description.Numbers.{natural}
 use Rattle.tv_model.specs.Screen.Faces.{FaceOf}
 use Rattle.tv_palette.specs.Palettes.{colour_in}
@@ -19,8 +19,7 @@ use Rattle.tv_palette.specs.declared.role.InputRole.TheVariants as input
 use Rattle.tv_palette.specs.declared.role.Role.TheVariants as roles
 use Rattle.tv_faces.specs.declared.input.InputColours.{InputColours}
 use Rattle.tv_faces.specs.Inputs.{attr_of, colours_of, input_cells, seen_edit}
-use Rattle.tv_machine.specs.Controls.Contents.{edit_content}
-use Rattle.tv_machine.specs.Screen.LeafFaces.{Look, input_cell, input_face}
+use Rattle.tv_model.specs.Controls.Look.{Look}
 use Rattle.tv_view.specs.Colours.{colour, has_focus, look_of}
 use Rattle.tv_view.specs.Drawing.{Lays, leaf_layers}
 use Rattle.tv_view.specs.declared.env.Env.{Env}

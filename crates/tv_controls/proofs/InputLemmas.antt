@@ -10,13 +10,14 @@ use Rattle.tv_model.specs.declared.kind.Kind.{Kind}
 use Rattle.tv_model.specs.declared.kind.Kind.TheVariants as kinds
 use Rattle.tv_model.specs.declared.record.Value.{Value}
 use Rattle.tv_model.specs.declared.record.Value.TheVariants as values
-use Rattle.tv_model.specs.Controls.InputTable.{Edit, is_edit_key}
-use Rattle.tv_model.specs.Controls.Meaning.{Leaf}
+use Rattle.tv_model.specs.Kinds.InputLine.{Edit, is_edit_key, edit_content, edited, edited_in}
+use Rattle.tv_view.specs.Meaning.{Leaf}
 use Rattle.tv_model.specs.Log.Record.{Entries, value_of}
-use Rattle.tv_model.specs.Machine.State.{Private, Editing}
-use Rattle.tv_machine.specs.Controls.Contents.{Content, edit_content, opened_private}
-use Rattle.tv_machine.specs.Controls.Editing.{edited, edited_in}
-use Rattle.tv_machine.specs.Controls.Tables.{Becomes, Passed, key_answer}
+use Rattle.tv_model.specs.Controls.Private.{Private, Editing}
+use Rattle.tv_model.specs.Controls.Contents.{Content}
+use Rattle.tv_machine.specs.Controls.Declared.{opened_private}
+use Rattle.tv_model.specs.Controls.Behaviour.{Becomes, Passed}
+use Rattle.tv_machine.specs.Controls.Tables.{key_answer}
 use Rattle.tv_view.specs.Calls.{Fits, IsValueOf, opened_with, set_from}
 use Rattle.tv_view.specs.Effects.{keyed, with_answer}
 use Rattle.tv_view.specs.Fields.{content_of, with_content}

@@ -8,7 +8,7 @@ use Rattle.tv_event.specs.declared.event.Phase.TheVariants as phases
 use Rattle.tv_model.specs.declared.kind.Label.{Label}
 use Rattle.tv_model.specs.declared.kind.Kind.{Kind}
 use Rattle.tv_model.specs.declared.kind.Kind.TheVariants as kinds
-use Rattle.tv_model.specs.Controls.Meaning.{Leaf}
+use Rattle.tv_view.specs.Meaning.{Leaf}
 use Rattle.tv_machine.specs.Controls.Tables.{key_answer}
 use Rattle.tv_view.specs.Fields.{content_of}
 use Rattle.tv_view.specs.Colours.{linked_by}

@@ -4,7 +4,7 @@ use Rattle.tv_event.specs.declared.event.Key.{Key}
 use Rattle.tv_event.specs.declared.event.Phase.{Phase}
 use Rattle.tv_event.specs.declared.event.Phase.TheVariants as phases
 use Rattle.tv_model.specs.declared.kind.Button.{Button}
-use Rattle.tv_model.specs.Controls.ButtonTable.{is_press}
+use Rattle.tv_model.specs.Kinds.Button.{is_press}
 use Rattle.tv_view.specs.Reactions.{called, calls}
 
 -- Space in the focus, and its letter before and after that, with Alt and without

@@ -9,9 +9,8 @@ use Rattle.tv_model.specs.declared.kind.Kind.{Kind}
 use Rattle.tv_model.specs.declared.kind.Kind.TheVariants as kinds
 use Rattle.tv_model.specs.declared.record.Value.{Value}
 use Rattle.tv_model.specs.declared.record.Value.TheVariants as values
-use Rattle.tv_model.specs.Controls.InputTable.{Edit, is_edit_key}
-use Rattle.tv_model.specs.Controls.Meaning.{Leaf}
-use Rattle.tv_machine.specs.Controls.Contents.{edit_content}
+use Rattle.tv_model.specs.Kinds.InputLine.{Edit, is_edit_key, edit_content}
+use Rattle.tv_view.specs.Meaning.{Leaf}
 use Rattle.tv_leaf.specs.Core.{Core, leaf_with}
 
 -- the kind of an input line

@@ -3,8 +3,8 @@ use Rattle.std.specs.Prelude.{ℕ, Bool, true, false, List, ℤ, None}
 use Rattle.tv_model.specs.declared.node.Id.{Id}
 use Rattle.tv_model.specs.declared.kind.Kind.{Kind}
 use Rattle.tv_model.specs.declared.kind.Kind.TheVariants as kinds
-use Rattle.tv_model.specs.Machine.State.{Plain}
-use Rattle.tv_model.specs.Controls.Meaning.{Leaf}
+use Rattle.tv_model.specs.Controls.Private.{Plain}
+use Rattle.tv_view.specs.Meaning.{Leaf}
 
 -- the kind of a static text
 abbrev pub is_text : Kind → Bool

@@ -1,10 +1,10 @@
 //! Buttons.
 
 ghost use Rattle.std.specs.Prelude.{◌≡◌, ◌↔◌, IfOk, IsErrOf, IsTrue, Some, false, if◌then◌else◌};
-ghost use Rattle.tv_model.specs.Description.Letters.{marks, upper};
+ghost use Rattle.tv_model.specs.Description.Marks.{marks, upper};
 ghost use Rattle.tv_model.specs.Description.LawfulNodes.{IsLawfulCommand, IsLawfulNode};
 ghost use Rattle.tv_model.specs.Description.Nodes.{is_button};
-ghost use Rattle.tv_model.specs.Controls.Meaning.{fresh};
+ghost use Rattle.tv_view.specs.Meaning.{fresh};
 ghost use Rattle.tv_model.specs.declared.kind.Button.{Button as Declared};
 ghost use Rattle.tv_model.specs.declared.kind.Kind.TheVariants as kinds;
 ghost use Rattle.tv_cells.specs.declared.rect.Point.{Point};

@@ -2,8 +2,9 @@
 
 ghost use Rattle.std.specs.Prelude.{◌≡◌, ◌↔◌, ◌≤◌, IfOk, IsErrOf, IsTrue, Some, false, if◌then◌else◌, length};
 ghost use Rattle.tv_valid.specs.Asking.{domain_of};
-ghost use Rattle.tv_model.specs.Controls.Meaning.{fresh, holds};
-ghost use Rattle.tv_model.specs.Description.LawfulNodes.{HasAnyText, IsLawfulNode, MayStand};
+ghost use Rattle.tv_view.specs.Meaning.{fresh, holds};
+ghost use Rattle.tv_model.specs.Kinds.InputLine.{HasAnyText, MayStand};
+ghost use Rattle.tv_model.specs.Description.LawfulNodes.{IsLawfulNode};
 ghost use Rattle.tv_model.specs.Log.Record.{value_of};
 ghost use Rattle.tv_model.specs.declared.kind.Input.{Input as Declared};
 ghost use Rattle.tv_model.specs.declared.kind.Kind.TheVariants as kinds;

@@ -3,7 +3,7 @@
 ghost use Rattle.std.specs.Prelude.{◌≡◌, ◌↔◌, IfOk, IsErrOf, IsTrue, None, false, if◌then◌else◌, option_copied};
 ghost use Rattle.tv_model.specs.Description.LawfulNodes.{IsLawfulNode};
 ghost use Rattle.tv_model.specs.Description.Names.{gives_name, meant};
-ghost use Rattle.tv_model.specs.Controls.Meaning.{fresh};
+ghost use Rattle.tv_view.specs.Meaning.{fresh};
 ghost use Rattle.tv_model.specs.declared.kind.Label.{Label as Declared};
 ghost use Rattle.tv_model.specs.declared.kind.Kind.TheVariants as kinds;
 ghost use Rattle.tv_view.specs.Colours.{is_focus, link_of, linked_by};

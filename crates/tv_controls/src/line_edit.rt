@@ -1,8 +1,7 @@
 //! The text of an input line, and what keys and the mouse make of it.
 
 ghost use Rattle.std.specs.Prelude.{◌≡◌, ◌↔◌, ◌<◌, ◌≤◌, IsTrue, false, length, remove};
-ghost use Rattle.tv_model.specs.Controls.InputTable.{at_place, backspaced, clicked, deleted, entered, is_edit_key, left, opened_up, place_after, with_text};
-ghost use Rattle.tv_machine.specs.Controls.Editing.{becomes, edited, typed};
+ghost use Rattle.tv_model.specs.Kinds.InputLine.{at_place, backspaced, clicked, deleted, entered, is_edit_key, left, opened_up, place_after, with_text, becomes, edited, typed};
 ghost use Rattle.tv_controls.specs.InputLine.{opened};
 
 use std::marker::Model;
@@ -20,7 +19,7 @@ pub(crate) struct LineEdit {
 
 impl Model for LineEdit {
     ghost use Rattle.std.specs.Prelude.{◌≤◌, length};
-    ghost use Rattle.tv_model.specs.Controls.InputTable.{Edit};
+    ghost use Rattle.tv_model.specs.Kinds.InputLine.{Edit};
 
     ghost Value = { Edit };
 

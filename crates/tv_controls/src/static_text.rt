@@ -1,8 +1,8 @@
 //! Static texts.
 
 ghost use Rattle.std.specs.Prelude.{◌≡◌, ◌↔◌, IfOk, IsErrOf, false};
-ghost use Rattle.tv_model.specs.Description.Rectangles.{place_of_node};
-ghost use Rattle.tv_model.specs.Controls.Meaning.{IsSmallRect, fresh};
+ghost use Rattle.tv_model.specs.Description.Rectangles.{place_of_node, IsSmallRect};
+ghost use Rattle.tv_view.specs.Meaning.{fresh};
 ghost use Rattle.tv_controls.specs.StaticText.{is_text, text_leaf};
 
 use bitflags::Flags;
@@ -31,8 +31,7 @@ pub struct StaticText {
 }
 
 impl Model for StaticText {
-    ghost use Rattle.tv_model.specs.Description.Rectangles.{rect};
-    ghost use Rattle.tv_model.specs.Controls.Meaning.{IsSmallRect};
+    ghost use Rattle.tv_model.specs.Description.Rectangles.{rect, IsSmallRect};
     ghost use Rattle.tv_controls.specs.StaticText.{TextState};
 
     ghost Value = { TextState };

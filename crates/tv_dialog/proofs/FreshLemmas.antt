@@ -7,12 +7,12 @@ use Rattle.tv_model.specs.declared.kind.Kind.{Kind}
 use Rattle.tv_model.specs.declared.kind.Kind.TheVariants as kinds
 use Rattle.tv_model.specs.declared.record.Value.{Value}
 use Rattle.tv_model.specs.declared.desc.Dialog.{Dialog}
-use Rattle.tv_model.specs.Controls.Meaning.{Placed, fresh}
+use Rattle.tv_view.specs.Meaning.{Placed, fresh}
 use Rattle.tv_model.specs.Log.Record.{Entries, value_of}
-use Rattle.tv_model.specs.Machine.State.{declared_leaf, declared_value}
-use Rattle.tv_machine.specs.State.{LeafState, Private}
+use Rattle.tv_machine.specs.Controls.Declared.{declared_leaf, declared_value, opened_private}
+use Rattle.tv_machine.specs.State.{LeafState}
+use Rattle.tv_model.specs.Controls.Private.{Private}
 use Rattle.tv_machine.specs.Leaves.{PlacedNode, leaf_list}
-use Rattle.tv_machine.specs.Controls.Contents.{opened_private}
 use Rattle.tv_machine.specs.Dialog.Modal.{Modal}
 use Rattle.tv_machine.specs.Dialog.Opening.{first_focus, opened, opened_leaves, unfocused}
 use Rattle.tv_machine.specs.Dialog.Rules.{is_among}

@@ -20,7 +20,8 @@ use Rattle.tv_machine.specs.State.{LeafState}
 use Rattle.tv_machine.specs.Leaves.{PlacedNode, leaf_list, leaves_in, open_after, open_at}
 use Rattle.tv_machine.specs.Dialog.Ending.{fields_of}
 use Rattle.tv_machine.specs.Dialog.Modal.{Modal, leaf_at}
-use Rattle.tv_machine.specs.Dialog.Rules.{content_of, enables, holds, is_among, is_command_enabled, is_marked, is_marked_at, is_visible, shows, state_of}
+use Rattle.tv_machine.specs.Dialog.Rules.{content_of, enables, holds, is_among, is_command_enabled, is_marked_at, is_visible, shows, state_of}
+use Rattle.tv_model.specs.Kinds.Cluster.{is_marked}
 use Rattle.tv_view.specs.declared.env.Rules.{Rules}
 use Rattle.tv_machine.specs.Dialog.Lawful.{IsLawfulDialog, NamesCluster}
 use Rattle.tv_dialog.specs.Plan.{blocks, condition_of, gate_by, gate_of, is_enabled_by, is_met, is_shown_by, leaf_plan, plan_of, shown_by, value_at}

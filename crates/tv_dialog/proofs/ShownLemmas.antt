@@ -13,12 +13,12 @@ use Rattle.tv_model.specs.declared.kind.Kind.{Kind}
 use Rattle.tv_model.specs.declared.kind.Kind.TheVariants as kinds
 use Rattle.tv_model.specs.declared.desc.Desc.{Desc}
 use Rattle.tv_model.specs.declared.desc.Dialog.{Dialog}
-use Rattle.tv_model.specs.Controls.Meaning.{IsSmall, Leaf}
+use Rattle.tv_model.specs.Description.Rectangles.{IsSmall, rect}
+use Rattle.tv_view.specs.Meaning.{Leaf}
 use Rattle.tv_model.specs.Description.Heads.{dialog_head, dialog_head_of}
 use Rattle.tv_model.specs.Description.LawfulNodes as lawful
 use Rattle.tv_model.specs.Description.Nodes.{height_of, is_dialog}
 use Rattle.tv_model.specs.Description.Numbers.{natural}
-use Rattle.tv_model.specs.Description.Rectangles.{rect}
 use Rattle.tv_model.specs.Screen.Faces.{frame_face, frame_look}
 use Rattle.tv_palette.specs.Palettes.{colour_in}
 use Rattle.tv_palette.specs.declared.role.Owner.TheVariants as owners

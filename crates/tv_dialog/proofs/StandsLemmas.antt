@@ -9,8 +9,8 @@ use Rattle.tv_model.specs.declared.kind.Kind.{Kind}
 use Rattle.tv_model.specs.declared.kind.Kind.TheVariants as kinds
 use Rattle.tv_model.specs.declared.desc.Dialog.{Dialog}
 use Rattle.tv_model.specs.declared.log.LogLine.TheVariants as lines
-use Rattle.tv_model.specs.Controls.InputTable.{entered, left}
-use Rattle.tv_model.specs.Controls.Meaning.{Leaf}
+use Rattle.tv_model.specs.Kinds.InputLine.{entered, left}
+use Rattle.tv_view.specs.Meaning.{Leaf}
 use Rattle.tv_model.specs.Description.Heads.{dialog_head, dialog_head_of}
 use Rattle.tv_model.specs.Description.Nodes.{is_dialog}
 use Rattle.tv_machine.specs.State.{LeafState}

@@ -4,7 +4,7 @@ use Rattle.std.proofs.lemmas.List.{length-append}
 use Rattle.tv_model.specs.declared.node.Id.{Id}
 use Rattle.tv_model.specs.declared.desc.Dialog.{Dialog}
 use Rattle.tv_model.specs.declared.log.LogLine.TheVariants as lines
-use Rattle.tv_model.specs.Controls.Meaning.{Leaf}
+use Rattle.tv_view.specs.Meaning.{Leaf}
 use Rattle.tv_machine.specs.State.{LeafState}
 use Rattle.tv_machine.specs.Leaves.{PlacedNode, leaf_list}
 use Rattle.tv_machine.specs.Dialog.Focus.{Request, Same, NotFree, Refused, Moved, after_request, is_granted, request, request_then, requested}

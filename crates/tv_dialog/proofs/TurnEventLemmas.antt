@@ -7,7 +7,7 @@ use Rattle.tv_event.specs.declared.event.Event.TheVariants as events
 use Rattle.tv_event.specs.declared.event.Key.{Key}
 use Rattle.tv_event.specs.declared.event.Phase.TheVariants as phases
 use Rattle.tv_model.specs.declared.desc.Dialog.{Dialog}
-use Rattle.tv_model.specs.Controls.Meaning.{Leaf}
+use Rattle.tv_view.specs.Meaning.{Leaf}
 use Rattle.tv_machine.specs.State.{LeafState}
 use Rattle.tv_machine.specs.Dialog.Keys.{enter_target, key, press_enabled}
 use Rattle.tv_machine.specs.Dialog.Lawful.{IsLawfulDialog}

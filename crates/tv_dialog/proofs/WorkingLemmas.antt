@@ -11,7 +11,8 @@ use Rattle.tv_model.specs.Description.Names.{meant}
 use Rattle.tv_model.specs.Description.Numbers.{natural}
 use Rattle.tv_machine.specs.Leaves.{PlacedNode, leaf_list}
 use Rattle.tv_machine.specs.Dialog.Ending.{fields_of}
-use Rattle.tv_machine.specs.Dialog.Rules.{enables, holds, is_among, is_command_enabled, is_marked, is_marked_at, is_visible, shows}
+use Rattle.tv_machine.specs.Dialog.Rules.{enables, holds, is_among, is_command_enabled, is_marked_at, is_visible, shows}
+use Rattle.tv_model.specs.Kinds.Cluster.{is_marked}
 use Rattle.tv_machine.specs.Dialog.Modal.{Modal}
 use Rattle.tv_machine.specs.Dialog.Lawful.{IsLawfulDialog}
 use Rattle.tv_dialog.specs.declared.condition.Condition.{Condition}

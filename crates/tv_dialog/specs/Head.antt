@@ -7,8 +7,7 @@ use Rattle.tv_model.specs.declared.node.Node.{Node}
 use Rattle.tv_model.specs.declared.kind.Kind.{Kind}
 use Rattle.tv_model.specs.declared.kind.Kind.TheVariants as kinds
 use Rattle.tv_model.specs.declared.kind.DialogHead.{DialogHead}
-use Rattle.tv_model.specs.Description.Rectangles.{rect}
-use Rattle.tv_model.specs.Controls.Meaning.{IsSmallRect}
+use Rattle.tv_model.specs.Description.Rectangles.{rect, IsSmallRect}
 
 -- a dialog's rectangle, title and ends
 pub record KeptHead : Type 0 where

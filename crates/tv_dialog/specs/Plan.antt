@@ -13,7 +13,8 @@ use Rattle.tv_model.specs.Description.Numbers.{natural}
 use Rattle.tv_model.specs.Description.Commands.{command_number}
 use Rattle.tv_model.specs.Log.Record.{Entries, value_of}
 use Rattle.tv_machine.specs.Leaves.{PlacedNode, leaf_list}
-use Rattle.tv_machine.specs.Dialog.Rules.{is_marked, shows}
+use Rattle.tv_model.specs.Kinds.Cluster.{is_marked}
+use Rattle.tv_machine.specs.Dialog.Rules.{shows}
 use Rattle.tv_dialog.specs.declared.condition.Condition.{Condition}
 use Rattle.tv_dialog.specs.declared.plan.Gate.{Gate}
 use Rattle.tv_dialog.specs.declared.plan.LeafPlan.{LeafPlan}

@@ -1,6 +1,6 @@
 -- A dialog that may be open or not, and the rules of which may not have been applied yet: all that opening it needs.
 use Rattle.std.specs.Prelude.{◌≡◌, true, List, map, Some}
-use Rattle.tv_model.specs.Controls.Meaning.{Leaf, Placed}
+use Rattle.tv_view.specs.Meaning.{Leaf, Placed}
 use Rattle.tv_model.specs.declared.desc.Dialog.{Dialog}
 use Rattle.tv_machine.specs.Dialog.Modal.{Modal}
 use Rattle.tv_group.specs.Opened.{opened}

@@ -8,8 +8,8 @@ use Rattle.tv_event.specs.declared.event.Key.{Key}
 use Rattle.tv_event.specs.declared.event.Key.TheVariants as keys
 use Rattle.tv_model.specs.declared.desc.Dialog.{Dialog}
 use Rattle.tv_model.specs.declared.log.LogLine.TheVariants as lines
-use Rattle.tv_model.specs.Controls.Meaning.{Leaf}
-use Rattle.tv_model.specs.Description.Letters.{upper}
+use Rattle.tv_view.specs.Meaning.{Leaf}
+use Rattle.tv_model.specs.Description.Marks.{upper}
 use Rattle.tv_machine.specs.Dialog.Ending.{command}
 use Rattle.tv_machine.specs.Dialog.Focus.{is_free_at}
 use Rattle.tv_machine.specs.Dialog.Keys.{enter_target, key, press_enabled}

@@ -5,7 +5,7 @@ use Rattle.tv_event.specs.declared.event.Event.TheVariants as events
 use Rattle.tv_event.specs.declared.event.Key.{Key}
 use Rattle.tv_event.specs.declared.event.Key.TheVariants as keys
 use Rattle.tv_model.specs.declared.desc.Dialog.{Dialog}
-use Rattle.tv_model.specs.Description.Letters.{upper}
+use Rattle.tv_model.specs.Description.Marks.{upper}
 use Rattle.tv_machine.specs.Dialog.Focus.{request}
 use Rattle.tv_machine.specs.Dialog.Modal.{Modal}
 use Rattle.tv_machine.specs.Dialog.Mouse.{is_close_mark}

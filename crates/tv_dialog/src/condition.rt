@@ -1,7 +1,7 @@
 //! Conditions of rules.
 
 ghost use Rattle.std.specs.Prelude.{◌≡◌, ◌-◌, ◌/◌, ◌%◌, ◌^◌, ◌==◌, Some};
-ghost use Rattle.tv_machine.specs.Dialog.Rules.{is_marked};
+ghost use Rattle.tv_model.specs.Kinds.Cluster.{is_marked};
 ghost use Rattle.tv_dialog.specs.Plan.{is_met};
 
 use tv_model::{Id, Record, Value};

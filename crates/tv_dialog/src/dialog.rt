@@ -2,7 +2,7 @@
 
 ghost use Rattle.std.specs.Prelude.{◌≡◌, ◌≤◌, ◌∷◌, [], length, IfOk, IfErr, IfSome, List, None, Some, false};
 ghost use Rattle.tv_cells.specs.Rectangle.{IsRectNear};
-ghost use Rattle.tv_model.specs.Controls.Meaning.{IsSmall, IsSmallRect};
+ghost use Rattle.tv_model.specs.Description.Rectangles.{IsSmall, IsSmallRect};
 ghost use Rattle.tv_view.specs.Drawing.{Lays};
 ghost use Rattle.tv_group.specs.Calls.{HasRoomForAll, all_gathered, any_holds};
 ghost use Rattle.tv_group.specs.Opened.{opened};

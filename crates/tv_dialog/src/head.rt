@@ -3,7 +3,7 @@
 ghost use Rattle.std.specs.Prelude.{◌≡◌, IfSome};
 ghost use Rattle.tv_cells.specs.Rectangle.{IsRectNear};
 ghost use Rattle.tv_model.specs.Screen.Faces.{frame_look};
-ghost use Rattle.tv_model.specs.Controls.Meaning.{IsSmallRect};
+ghost use Rattle.tv_model.specs.Description.Rectangles.{IsSmallRect};
 ghost use Rattle.tv_model.specs.Description.Commands.{is_declared};
 ghost use Rattle.tv_model.specs.Description.Numbers.{natural};
 ghost use Rattle.tv_faces.specs.Looks.{frame_look_of};

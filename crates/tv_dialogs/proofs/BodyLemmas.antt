@@ -5,7 +5,7 @@ use Rattle.std.proofs.lemmas.Option.{slice_get_read}
 use Rattle.std.proofs.lemmas.List.{length-append, length-map, length-reverse, reverse-append}
 use Rattle.tv_model.specs.declared.desc.Desc.{Desc}
 use Rattle.tv_model.specs.declared.desc.Dialog.{Dialog}
-use Rattle.tv_model.specs.Controls.Meaning.{Leaf}
+use Rattle.tv_view.specs.Meaning.{Leaf}
 use Rattle.tv_machine.specs.Session.Commands.{overwriting_at}
 use Rattle.tv_machine.specs.Session.Start.{closed}
 use Rattle.tv_group.specs.Outline.{IsFreshBody}

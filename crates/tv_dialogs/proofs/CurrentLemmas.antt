@@ -2,7 +2,7 @@
 use Rattle.std.proofs.Common.{◌≡◌, ◌<◌, ℕ, false, List, Option, Some, None, is_some, option_map, refl, sym, ap, ◌∙◌}
 use Rattle.std.specs.Prelude.{slice_index_or}
 use Rattle.tv_model.specs.declared.desc.Desc.{Desc}
-use Rattle.tv_model.specs.Controls.Meaning.{Leaf}
+use Rattle.tv_view.specs.Meaning.{Leaf}
 use Rattle.tv_machine.specs.State.{OpenDialog, State}
 use Rattle.tv_machine.specs.Session.Enabled.{enabled_by, enabled_in, is_enabled_now}
 use Rattle.tv_machine.specs.Session.Step.{held_of}

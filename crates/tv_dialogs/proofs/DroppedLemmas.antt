@@ -10,15 +10,16 @@ use Rattle.tv_event.specs.declared.event.Event.{Event}
 use Rattle.tv_event.specs.declared.event.Event.TheVariants as events
 use Rattle.tv_event.specs.declared.event.Key.{Key}
 use Rattle.tv_event.specs.declared.event.Key.TheVariants as keys
-use Rattle.tv_model.specs.Controls.Meaning.{IsSmall}
+use Rattle.tv_model.specs.Description.Rectangles.{IsSmall}
 use Rattle.tv_model.specs.declared.kind.Kind.{Kind}
 use Rattle.tv_model.specs.declared.kind.Kind.TheVariants as kinds
 use Rattle.tv_model.specs.declared.kind.MarkedText.{MarkedText}
 use Rattle.tv_model.specs.declared.desc.Dialog.{Dialog}
-use Rattle.tv_model.specs.Description.Letters.{is_option_letter, marks, upper}
-use Rattle.tv_model.specs.Description.Owners.{Owner, control, owner_by}
+use Rattle.tv_model.specs.Description.Marks.{is_option_letter, marks, upper}
+use Rattle.tv_model.specs.Controls.Owner.{Owner, control}
+use Rattle.tv_model.specs.Description.Owners.{owner_by}
 use Rattle.tv_machine.specs.Leaves.{PlacedNode, leaf_list}
-use Rattle.tv_machine.specs.Controls.Contents.{Content}
+use Rattle.tv_model.specs.Controls.Contents.{Content}
 use Rattle.tv_machine.specs.Controls.Tables.{key_answer}
 use Rattle.tv_machine.specs.Dialog.Keys.{alt_keyed, answered, keyed}
 use Rattle.tv_machine.specs.Dialog.Modal.{Modal, content_at, leaf_at}

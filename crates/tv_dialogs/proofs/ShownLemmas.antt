@@ -13,7 +13,7 @@ use Rattle.tv_model.specs.declared.node.Id.{Id}
 use Rattle.tv_model.specs.declared.node.Node.{Node}
 use Rattle.tv_model.specs.declared.kind.Kind.{Kind}
 use Rattle.tv_model.specs.declared.kind.Kind.TheVariants as kinds
-use Rattle.tv_model.specs.Controls.Meaning.{Leaf}
+use Rattle.tv_view.specs.Meaning.{Leaf}
 use Rattle.tv_model.specs.Description.Nodes.{height_of, is_dialog}
 use Rattle.tv_model.specs.Description.Rectangles.{corner_of, rect}
 use Rattle.tv_machine.specs.State.{OpenDialog, State}

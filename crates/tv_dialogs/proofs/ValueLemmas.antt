@@ -12,10 +12,10 @@ use Rattle.tv_model.specs.declared.kind.Kind.TheVariants as kinds
 use Rattle.tv_model.specs.declared.record.Value.{Value}
 use Rattle.tv_model.specs.declared.record.Value.TheVariants as values
 use Rattle.tv_model.specs.declared.desc.Dialog.{Dialog}
-use Rattle.tv_model.specs.Controls.Meaning.{Leaf}
+use Rattle.tv_view.specs.Meaning.{Leaf}
 use Rattle.tv_model.specs.Description.LawfulNodes as lawful_nodes
 use Rattle.tv_model.specs.Log.Record.{Entries, value_of}
-use Rattle.tv_model.specs.Machine.State.{declared_value}
+use Rattle.tv_machine.specs.Controls.Declared.{declared_value}
 use Rattle.tv_machine.specs.State.{LeafState}
 use Rattle.tv_machine.specs.Leaves.{PlacedNode, leaf_list}
 use Rattle.tv_machine.specs.Safe.{HasValueOf, IsSafeRecord, field_ids}

@@ -4,7 +4,7 @@ use Rattle.std.specs.Option.{option_and_then}
 use Rattle.tv_model.specs.declared.desc.Desc.{Desc}
 use Rattle.tv_model.specs.declared.desc.Dialog.{Dialog}
 use Rattle.tv_model.specs.declared.log.LogLine.{LogLine}
-use Rattle.tv_model.specs.Controls.Meaning.{Leaf}
+use Rattle.tv_view.specs.Meaning.{Leaf}
 use Rattle.tv_model.specs.Description.Rectangles.{corner_of}
 use Rattle.tv_machine.specs.State.{OpenDialog, State}
 use Rattle.tv_machine.specs.Dialog.Modal.{Modal}

@@ -4,7 +4,7 @@ ghost use Rattle.std.specs.Prelude.{◌≡◌};
 ghost use Rattle.tv_laws.specs.Runs.{HasSoundDialogs};
 ghost use Rattle.tv_machine.specs.Screen.Layers.{open_layers};
 ghost use Rattle.tv_machine.specs.State.{State};
-ghost use Rattle.tv_model.specs.Controls.Meaning.{IsSmall};
+ghost use Rattle.tv_model.specs.Description.Rectangles.{IsSmall};
 ghost use Rattle.tv_tree.specs.Shown.{desktop_canvas};
 ghost use Rattle.tv_view.specs.Drawing.{Lays};
 ghost use Rattle.tv_dialogs.specs.Dialogs.{AreDialogs};

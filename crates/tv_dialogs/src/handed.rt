@@ -3,7 +3,7 @@
 ghost use Rattle.std.specs.Prelude.{◌≡◌};
 ghost use Rattle.tv_machine.specs.Session.Desktop.{seen_from};
 ghost use Rattle.tv_machine.specs.Session.Step.{event_from};
-ghost use Rattle.tv_model.specs.Controls.Meaning.{IsSmall};
+ghost use Rattle.tv_model.specs.Description.Rectangles.{IsSmall};
 ghost use Rattle.tv_dialogs.specs.Handed.{HasPointGiven, IsPointGiven, is_dropped};
 
 use tv_cells::Point;

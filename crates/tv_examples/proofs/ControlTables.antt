@@ -7,9 +7,11 @@ use Rattle.tv_model.specs.declared.kind.Kind.{Kind}
 use Rattle.tv_model.specs.declared.kind.Kind.TheVariants as kinds
 use Rattle.tv_model.specs.declared.record.Value.{Value}
 use Rattle.tv_model.specs.declared.record.Value.TheVariants as values
-use Rattle.tv_machine.specs.State.{Scrolled}
-use Rattle.tv_machine.specs.Controls.Contents.{Content, opened_private}
-use Rattle.tv_machine.specs.Controls.Tables.{Answer, Passed, Becomes, Presses, key_answer, down_content}
+use Rattle.tv_model.specs.Controls.Private.{Scrolled}
+use Rattle.tv_model.specs.Controls.Contents.{Content}
+use Rattle.tv_machine.specs.Controls.Declared.{opened_private}
+use Rattle.tv_model.specs.Controls.Behaviour.{Answer, Passed, Becomes, Presses}
+use Rattle.tv_machine.specs.Controls.Tables.{key_answer, down_content}
 
 -- what a control that answers so holds
 abbrev answered : Content → Answer → Content

@@ -6,10 +6,11 @@ use Rattle.tv_faces.specs.declared.cluster.ClusterMarks.{ClusterMarks}
 use Rattle.tv_faces.specs.declared.cluster.ClusterMarks.TheVariants as marks
 use Rattle.tv_faces.specs.declared.cluster.ItemRow.{ItemRow}
 use Rattle.tv_faces.specs.declared.list.ListFace.{ListFace}
-use Rattle.tv_machine.specs.Controls.Contents.{text_at}
-use Rattle.tv_machine.specs.Dialog.Rules.{is_marked}
-use Rattle.tv_machine.specs.Screen.LeafFaces.{cluster_row, is_mark_from, list_role}
-use Rattle.tv_model.specs.Controls.ClusterTable.{ClusterKind, Boxes, Radios}
+use Rattle.tv_model.specs.Controls.Contents.{text_at}
+use Rattle.tv_model.specs.Kinds.Cluster.{is_marked, cluster_row}
+use Rattle.tv_model.specs.Controls.Look.{is_mark_from}
+use Rattle.tv_model.specs.Kinds.ListBox.{list_role}
+use Rattle.tv_model.specs.Controls.Shortcut.{ClusterKind, Boxes, Radios}
 use Rattle.tv_model.specs.Screen.Faces.{FaceOf, text_row}
 use Rattle.tv_model.specs.declared.record.Value.{Value}
 use Rattle.tv_model.specs.declared.record.Value.TheVariants as values

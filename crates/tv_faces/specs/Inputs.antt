@@ -5,9 +5,8 @@ use Rattle.tv_palette.specs.Palettes.{colour_in}
 use Rattle.tv_palette.specs.declared.role.InputRole.{InputRole}
 use Rattle.tv_palette.specs.declared.role.InputRole.TheVariants as input
 use Rattle.tv_palette.specs.declared.role.Role.TheVariants as roles
-use Rattle.tv_model.specs.Controls.InputTable.{Edit}
+use Rattle.tv_model.specs.Kinds.InputLine.{Edit, input_cell}
 use Rattle.tv_model.specs.Screen.Faces.{FaceOf}
-use Rattle.tv_machine.specs.Screen.LeafFaces.{input_cell}
 use Rattle.tv_faces.specs.declared.input.InputColours.{InputColours}
 
 -- the attributes to which a chain leads

@@ -3,8 +3,8 @@
 ghost use Rattle.std.specs.Prelude.{◌≡◌, ◌==◌, ◌&&◌, ◌<◌, ◌≤◌, ◌^◌, ◌+◌, ◌++◌, Some, length, ℕ};
 ghost use Rattle.tv_cells.specs.Glyph.{shown};
 ghost use Rattle.tv_cells.specs.Row.{IsRow};
-ghost use Rattle.tv_machine.specs.Dialog.Rules.{is_marked};
-ghost use Rattle.tv_machine.specs.Screen.LeafFaces.{box_before, cluster_row, is_mark_from};
+ghost use Rattle.tv_model.specs.Kinds.Cluster.{is_marked, box_before, cluster_row};
+ghost use Rattle.tv_model.specs.Controls.Look.{is_mark_from};
 ghost use Rattle.tv_model.specs.Screen.Faces.{text_row};
 ghost use Rattle.tv_model.specs.declared.record.Value.TheVariants.{Marks};
 ghost use Rattle.tv_palette.specs.Palettes.{colour_in};

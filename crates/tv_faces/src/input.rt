@@ -1,8 +1,7 @@
 //! Input lines.
 
 ghost use Rattle.std.specs.Prelude.{◌≡◌, ◌≤◌};
-ghost use Rattle.tv_model.specs.Controls.InputTable.{first_shown};
-ghost use Rattle.tv_machine.specs.Screen.LeafFaces.{arrow_cell, input_cell, text_role};
+ghost use Rattle.tv_model.specs.Kinds.InputLine.{first_shown, arrow_cell, input_cell, text_role};
 
 use crate::row::text_char;
 use tv_cells::{Cell, Face};

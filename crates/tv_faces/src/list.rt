@@ -1,8 +1,8 @@
 //! Lists.
 
 ghost use Rattle.std.specs.Prelude.{◌≡◌, ◌==◌, ◌+◌};
-ghost use Rattle.tv_machine.specs.Controls.Contents.{text_at};
-ghost use Rattle.tv_machine.specs.Screen.LeafFaces.{list_role};
+ghost use Rattle.tv_model.specs.Controls.Contents.{text_at};
+ghost use Rattle.tv_model.specs.Kinds.ListBox.{list_role};
 ghost use Rattle.tv_palette.specs.Palettes.{colour_in};
 ghost use Rattle.tv_palette.specs.declared.role.Role.TheVariants as roles;
 

@@ -1,8 +1,7 @@
 //! The rectangles that declarations give.
 
 ghost use Rattle.std.specs.Prelude.{◌≡◌, ◌<◌, ◌^◌, ◌+ℤ◌, ◌≤ℤ◌, ◌<ℤ◌, neg_ℤ, pos};
-ghost use Rattle.tv_model.specs.Description.Rectangles.{rect};
-ghost use Rattle.tv_model.specs.Controls.Meaning.{IsSmallRect};
+ghost use Rattle.tv_model.specs.Description.Rectangles.{rect, IsSmallRect};
 ghost use Rattle.tv_model.specs.Description.Numbers.{natural};
 
 use tv_cells::{Point, Rect};

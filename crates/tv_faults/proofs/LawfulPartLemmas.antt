@@ -11,10 +11,12 @@ use Rattle.tv_model.specs.declared.kind.MarkedText.{MarkedText}
 use Rattle.tv_model.specs.declared.desc.Rule.{Rule}
 use Rattle.tv_model.specs.declared.desc.Effect.{Effect}
 use Rattle.tv_model.specs.declared.desc.Effect.TheVariants as effects
-use Rattle.tv_model.specs.Description.Letters.{marked_of, marks}
+use Rattle.tv_model.specs.Description.Letters.{marked_of}
+use Rattle.tv_model.specs.Description.Marks.{marks}
 use Rattle.tv_model.specs.Description.Names.{meant}
 use Rattle.tv_model.specs.Description.Nodes.{is_cluster}
-use Rattle.tv_model.specs.Description.Owners.{Owner, owner_by}
+use Rattle.tv_model.specs.Controls.Owner.{Owner}
+use Rattle.tv_model.specs.Description.Owners.{owner_by}
 use Rattle.tv_machine.specs.Dialog.Lawful.{Marks, NamesCluster}
 use Rattle.tv_machine.specs.Dialog.Lawful as machine
 use Rattle.tv_faults.specs.Sound.Letters.{MarkOtherLetters, marked_texts}

@@ -18,7 +18,8 @@ use Rattle.tv_model.specs.declared.desc.Effect.{Effect}
 use Rattle.tv_model.specs.declared.desc.Effect.TheVariants as effects
 use Rattle.tv_model.specs.declared.fault.FaultKind.TheVariants as faults
 use Rattle.tv_model.specs.Description.Heads.{window_head}
-use Rattle.tv_model.specs.Description.Letters.{is_capital, is_digit, is_option_letter, is_shortcut, letter_of, marked_of, marks, shares_letter}
+use Rattle.tv_model.specs.Description.Letters.{is_capital, is_digit, is_shortcut, marked_of}
+use Rattle.tv_model.specs.Description.Marks.{is_option_letter, letter_of, marks, shares_letter}
 use Rattle.tv_model.specs.Description.Numbers.{IsBetween, is_between}
 use Rattle.tv_model.specs.Faults.{menu_has, status_has, window_has}
 use Rattle.tv_model.specs.Faults.Lines.{after_seen}

@@ -20,7 +20,8 @@ use Rattle.tv_model.specs.declared.desc.Effect.TheVariants as effects
 use Rattle.tv_model.specs.declared.fault.FaultKind.TheVariants as faults
 use Rattle.tv_model.specs.Description.Commands.{command_of}
 use Rattle.tv_model.specs.Description.Heads.{all_nodes, dialog_nodes, window_nodes}
-use Rattle.tv_model.specs.Description.LawfulNodes.{HasLawfulAmount, HasLawfulCount, HasLawfulDomain, HasLawfulStart, IsItem, IsLawfulCommand, IsLimited, IsNarrowNode, IsNarrowText, IsShort}
+use Rattle.tv_model.specs.Description.LawfulNodes.{HasLawfulAmount, HasLawfulCount, HasLawfulDomain, HasLawfulStart, IsLawfulCommand, IsLimited, IsNarrowNode, IsNarrowText, IsShort}
+use Rattle.tv_model.specs.Controls.Contents.{IsItem}
 use Rattle.tv_model.specs.Description.Limits.{least_height, least_width, most_chars}
 use Rattle.tv_model.specs.Description.Nodes.{height_of, is_dialog, is_pane, is_window}
 use Rattle.tv_model.specs.Description.Numbers.{IsBetween, is_between}

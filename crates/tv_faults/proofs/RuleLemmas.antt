@@ -16,7 +16,7 @@ use Rattle.tv_model.specs.declared.desc.Effect.{Effect}
 use Rattle.tv_model.specs.declared.desc.Effect.TheVariants as effects
 use Rattle.tv_model.specs.declared.fault.FaultKind.TheVariants as faults
 use Rattle.tv_model.specs.Description.Commands.{is_button_of, is_same_command}
-use Rattle.tv_model.specs.Description.LawfulNodes.{IsItem}
+use Rattle.tv_model.specs.Controls.Contents.{IsItem}
 use Rattle.tv_model.specs.Description.Names.{meant}
 use Rattle.tv_model.specs.Description.Nodes.{has_id, is_cluster, is_control, is_pane}
 use Rattle.tv_model.specs.Description.Panes.{panes_around}

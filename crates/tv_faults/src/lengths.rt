@@ -2,7 +2,8 @@
 
 ghost use Rattle.std.specs.Prelude.{◌≡◌, map};
 ghost use Rattle.std.specs.List.{list_any};
-ghost use Rattle.tv_model.specs.Description.Texts.{domain_texts, texts_of};
+ghost use Rattle.tv_model.specs.Kinds.InputLine.{domain_texts};
+ghost use Rattle.tv_model.specs.Description.Texts.{texts_of};
 ghost use Rattle.tv_model.specs.Faults.Limits.{is_too_long};
 
 use tv_model::{Kind, MarkedText};

@@ -7,10 +7,10 @@ use crate::file_store::FileStore;
 use crate::stream::Stream;
 use crate::tasks::perform;
 use crate::telling::{finish, tell_no_task};
+use crate::{NoTask, Task};
 use std::alloc::Global;
 use tv_building::{BuildFault, Views};
 use tv_check::Checked;
-use crate::{NoTask, Task};
 use tv_view::View;
 
 /// Does what is asked for with these files, or tells why nothing is: results, faults and refusals go to `out`, messages

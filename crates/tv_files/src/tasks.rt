@@ -5,6 +5,7 @@ ghost use Rattle.tv_program.specs.Playing.{IsMismade, Makes};
 ghost use Rattle.tv_files.specs.Ends.{end_of};
 ghost use Rattle.tv_files.specs.Tasks.{AcceptsFiles, ChecksFile, EndsFirst, Gives, HasRead, IsSpelledAs, IsRunnableAs, IsUnread, IsUnsound, IsUnspelled, Performs, RunsFiles};
 
+use crate::Task;
 use crate::failure::Failure;
 use crate::file_store::FileStore;
 use crate::read_fault::ReadFault;
@@ -16,7 +17,6 @@ use tv_lang::parse;
 use tv_model::Desc;
 use tv_output::Writer;
 use tv_program::{RunFault, accept_text, check, read_checked, run_script};
-use crate::Task;
 use tv_view::View;
 
 /// Does what is asked for, and writes its result.

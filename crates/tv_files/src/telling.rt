@@ -6,11 +6,11 @@ ghost use Rattle.tv_files.specs.Ends.{end_of};
 ghost use Rattle.tv_files.specs.Streams.{Offers};
 ghost use Rattle.tv_files.specs.Telling.{Tells, TellsNoTask, TellsUsage, err_told, no_memory, out_told, status_told};
 
+use crate::NoTask;
 use crate::failure::Failure;
 use crate::stream::Stream;
 use tv_output::{Writer, write_all};
 use tv_program::{RunFault, report};
-use crate::NoTask;
 
 /// The status after all was done.
 const DONE: u8 = 0;

@@ -5,7 +5,7 @@ use Rattle.std.specs.Option.{option_or}
 use Rattle.std.proofs.lemmas.List.Folds.{list_any-append}
 use Rattle.tv_cells.specs.declared.rect.Rect.{Rect}
 use Rattle.tv_model.specs.declared.node.Id.{Id}
-use Rattle.tv_model.specs.Controls.Meaning.{Leaf, Placed, inside, kept, unmarked}
+use Rattle.tv_view.specs.Meaning.{Leaf, Placed, inside, kept, unmarked}
 use Rattle.tv_group.specs.Calls.{first_some}
 use Rattle.tv_group.specs.Current.{is_at}
 use Rattle.tv_group.specs.Opened.{opened, opened_member}

@@ -2,7 +2,7 @@
 use Rattle.std.proofs.Common.{◌≡◌, ℕ, zero, suc, Bool, true, false, ◌&&◌, ◌||◌, ◌==◌, nat_lt, List, [], ◌∷◌, ◌++◌, ◌+◌, ◌<◌, ◌≤◌, length, get_or, map, refl, sym, ap, ◌∙◌, arith, Option, Some, None}
 use Rattle.std.proofs.lemmas.Bool.Decides.{nat_tests}
 use Rattle.tv_cells.specs.declared.rect.Rect.{Rect}
-use Rattle.tv_model.specs.Controls.Meaning.{Leaf, Placed, has_current, inside, kept, unmarked}
+use Rattle.tv_view.specs.Meaning.{Leaf, Placed, has_current, inside, kept, unmarked}
 use Rattle.tv_group.specs.Current.{is_at}
 use Rattle.tv_group.specs.Opened.{opened, opened_member, joined}
 use Rattle.tv_group.specs.declared.group.MemberOf.{MemberOf}

@@ -4,7 +4,7 @@ use Rattle.std.specs.Prelude.{option_map}
 use Rattle.tv_cells.specs.Layers.{is_in}
 use Rattle.tv_cells.specs.declared.rect.Point.{Point}
 use Rattle.tv_event.specs.declared.event.Phase.{Phase}
-use Rattle.tv_model.specs.Controls.Meaning.{Leaf, Placed, alone, inside, kept}
+use Rattle.tv_view.specs.Meaning.{Leaf, Placed, alone, inside, kept}
 use Rattle.tv_view.specs.declared.env.Env.{Env}
 use Rattle.tv_view.specs.declared.reaction.Reaction.{Reaction}
 use Rattle.tv_view.specs.Points.{point_into}

@@ -3,7 +3,7 @@ use Rattle.std.proofs.Common.{◌≡◌, ℕ, true, false, List, [], ◌++◌, �
 use Rattle.tv_cells.specs.Picture.{Picture}
 use Rattle.tv_cells.specs.Canvas.{sub}
 use Rattle.tv_cells.specs.declared.canvas.Canvas.{Canvas}
-use Rattle.tv_model.specs.Controls.Meaning.{Leaf, kept}
+use Rattle.tv_view.specs.Meaning.{Leaf, kept}
 use Rattle.tv_view.specs.declared.env.Env.{Env}
 use Rattle.tv_view.specs.Drawing.{Lays, is_near, leaf_layers, leaves_layers}
 use Rattle.tv_view.proofs.LayingLemmas.{lays_none, lays_then, lays_as, layers-kept, layers-append, layers-inside, layers-far}

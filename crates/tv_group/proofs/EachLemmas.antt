@@ -3,7 +3,7 @@ use Rattle.std.proofs.Common.{◌≡◌, ℕ, Bool, true, false, List, [], ◌�
 use Rattle.std.proofs.lemmas.List.{append-nil, map-append, take_all, with_items_is}
 use Rattle.std.specs.Vec.{with_items}
 use Rattle.tv_cells.specs.declared.rect.Rect.{Rect}
-use Rattle.tv_model.specs.Controls.Meaning.{Leaf, Placed, alone, inside, kept, unmarked}
+use Rattle.tv_view.specs.Meaning.{Leaf, Placed, alone, inside, kept, unmarked}
 use Rattle.tv_group.specs.Calls.{in_place, in_place_unmarked}
 use Rattle.tv_group.specs.Current.{is_at}
 use Rattle.tv_group.specs.Opened.{opened, opened_member, joined}

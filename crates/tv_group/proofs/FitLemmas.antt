@@ -2,7 +2,7 @@
 use Rattle.std.proofs.Common.{◌≡◌, ℕ, Bool, true, false, List, [], ◌∷◌, ◌++◌, ◌+◌, ◌<◌, length, get_or, map, set, sym, subst, Option}
 use Rattle.std.proofs.lemmas.List.Elements.{All-nil, All-cons, All-head, All-tail}
 use Rattle.tv_cells.specs.declared.rect.Rect.{Rect}
-use Rattle.tv_model.specs.Controls.Meaning.{Leaf, Placed, alone, inside, kept, unmarked}
+use Rattle.tv_view.specs.Meaning.{Leaf, Placed, alone, inside, kept, unmarked}
 use Rattle.tv_model.specs.Log.Record.{Entries}
 use Rattle.tv_view.specs.Calls.{Fits}
 use Rattle.tv_group.specs.Calls.{FitsAll}

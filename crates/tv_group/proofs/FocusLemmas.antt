@@ -1,6 +1,5 @@
 -- The focus goes through the members of a group.
-use Rattle.std.proofs.Common.{◌≡◌, ℕ, suc, Bool, true, false, not, ◌&&◌, ◌||◌, ◌==◌, List, [], ◌∷◌, ◌++◌, ◌+◌, ◌<◌, ◌≤◌, length}
-use Rattle.std.proofs.Common.{get_or, drop, drop-cons, add-one, map, set, take, refl, sym, ap, ◌∙◌, arith, Option, Some, None, is_some}
+use Rattle.std.proofs.Common.{◌≡◌, ℕ, suc, Bool, true, false, not, ◌&&◌, ◌||◌, ◌==◌, List, [], ◌∷◌, ◌++◌, ◌+◌, ◌<◌, ◌≤◌, length, get_or, drop, drop-cons, add-one, map, set, take, refl, sym, ap, ◌∙◌, arith, Option, Some, None, is_some}
 use Rattle.std.proofs.Math.Bool.{or-false, or_assoc}
 use Rattle.std.proofs.lemmas.Bool.Decides.{nat_tests}
 use Rattle.std.proofs.lemmas.List.{drop-set-lt, get_or_default, length-map, length-take-le, take_all, with_items_is}
@@ -10,7 +9,7 @@ use Rattle.std.specs.Option.{option_or}
 use Rattle.std.specs.Vec.{with_items}
 use Rattle.tv_cells.specs.declared.rect.Rect.{Rect}
 use Rattle.tv_model.specs.declared.node.Id.{Id}
-use Rattle.tv_model.specs.Controls.Meaning.{Leaf, Placed, alone, inside, kept, unmarked}
+use Rattle.tv_view.specs.Meaning.{Leaf, Placed, alone, inside, kept, unmarked}
 use Rattle.tv_view.specs.Calls.{focused_to, takes_focus}
 use Rattle.tv_group.specs.Calls.{all_focused, focused_from, has_control}
 use Rattle.tv_group.specs.Current.{is_at}
@@ -18,8 +17,7 @@ use Rattle.tv_group.specs.Opened.{joined, opened, opened_member}
 use Rattle.tv_group.specs.declared.group.GroupOf.{GroupOf, roll-GroupOf}
 use Rattle.tv_group.specs.declared.group.MemberOf.{MemberOf}
 use Rattle.tv_group.specs.declared.group.MemberOf.TheVariants.{Pane as PaneM}
-use Rattle.tv_group.proofs.OpenedLemmas.{opened-rolled, opened_member-pane, opened_to, opened_to-none, opened_to-more}
-use Rattle.tv_group.proofs.OpenedLemmas.{opened_to-next, opened_to-whole}
+use Rattle.tv_group.proofs.OpenedLemmas.{opened-rolled, opened_member-pane, opened_to, opened_to-none, opened_to-more, opened_to-next, opened_to-whole}
 
 -- ---- whether a control has the id
 

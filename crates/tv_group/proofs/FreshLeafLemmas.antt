@@ -5,7 +5,7 @@ use Rattle.tv_cells.specs.Canvas.{sub}
 use Rattle.tv_cells.specs.Layers.{Layer}
 use Rattle.tv_cells.specs.declared.canvas.Canvas.{Canvas}
 use Rattle.tv_model.specs.declared.node.Node.{Node}
-use Rattle.tv_model.specs.Controls.Meaning.{Leaf, LeafAt, PaneAt, Outlined, Placed, alone, fresh, kept}
+use Rattle.tv_view.specs.Meaning.{Leaf, LeafAt, PaneAt, Outlined, Placed, alone, fresh, kept}
 use Rattle.tv_model.specs.Description.Nodes.{is_pane}
 use Rattle.tv_view.specs.declared.env.Env.{Env}
 use Rattle.tv_view.specs.Drawing.{is_near, leaf_layers, leaves_layers}

@@ -5,7 +5,7 @@ use Rattle.std.proofs.lemmas.Bool.Decides.{nat_tests}
 use Rattle.tv_cells.specs.declared.rect.Rect.{Rect}
 use Rattle.tv_model.specs.declared.node.Id.{Id}
 use Rattle.tv_model.specs.declared.record.Value.{Value}
-use Rattle.tv_model.specs.Controls.Meaning.{Leaf, Placed, inside, kept, unmarked}
+use Rattle.tv_view.specs.Meaning.{Leaf, Placed, inside, kept, unmarked}
 use Rattle.tv_model.specs.Log.Record.{Entries, value_of}
 use Rattle.tv_view.specs.Calls.{HasRoom, HasRoomFor, gathered, with_field}
 use Rattle.tv_group.specs.Calls.{HasRoomForAll, all_gathered, gathered_within, has_room}

@@ -6,7 +6,7 @@ use Rattle.tv_cells.specs.declared.rect.Rect.{Rect}
 use Rattle.tv_model.specs.declared.kind.Kind.{Kind}
 use Rattle.tv_model.specs.declared.kind.Kind.TheVariants as kinds
 use Rattle.tv_model.specs.declared.record.Value.{Value}
-use Rattle.tv_model.specs.Controls.Meaning.{Leaf, Placed, alone, inside, kept, unmarked}
+use Rattle.tv_view.specs.Meaning.{Leaf, Placed, alone, inside, kept, unmarked}
 use Rattle.tv_model.specs.Description.Nodes.{is_button}
 use Rattle.tv_model.specs.Log.Record.{Entries, value_of}
 use Rattle.tv_view.specs.Calls.{Fits, IsValueOf}

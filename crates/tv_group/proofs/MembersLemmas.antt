@@ -2,7 +2,7 @@
 use Rattle.std.proofs.Common.{◌≡◌, ℕ, List, [], ◌∷◌, ◌++◌, ◌+◌, ◌<◌, ◌≤◌, length, get_or, take, drop, map, set, refl, sym, ap, ◌∙◌, arith, Option}
 use Rattle.std.proofs.lemmas.List.{drop_all, drop-set, length-set, length-take-le, set-get_or, take-append-drop, take-set, take_all}
 use Rattle.std.proofs.Math.Seq.{map-set_same}
-use Rattle.tv_model.specs.Controls.Meaning.{Leaf, Placed, inside, kept}
+use Rattle.tv_view.specs.Meaning.{Leaf, Placed, inside, kept}
 use Rattle.tv_group.specs.Current.{is_at}
 use Rattle.tv_group.specs.Opened.{opened, opened_member, joined}
 use Rattle.tv_group.specs.declared.group.MemberOf.{MemberOf}

@@ -1,7 +1,7 @@
 -- The equations of `opened`, and the leaves of the first members.
 use Rattle.std.proofs.Common.{◌≡◌, ℕ, suc, List, [], ◌∷◌, ◌++◌, ◌+◌, ◌<◌, ◌≤◌, length, get_or, take, map, set, refl, sym, ap, ◌∙◌, arith, append_assoc, Option}
 use Rattle.std.proofs.lemmas.List.{set-get_or, take_more_set, length-take-le, take_all}
-use Rattle.tv_model.specs.Controls.Meaning.{Leaf, Placed, alone, inside, kept}
+use Rattle.tv_view.specs.Meaning.{Leaf, Placed, alone, inside, kept}
 use Rattle.tv_group.specs.Current.{is_at}
 use Rattle.tv_group.specs.Opened.{opened, opened_member, joined, member_step, group_step}
 use Rattle.tv_group.specs.declared.group.MemberOf.{MemberOf}

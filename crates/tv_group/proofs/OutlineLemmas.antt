@@ -3,7 +3,7 @@ use Rattle.std.proofs.Common.{◌≡◌, ℕ, suc, Bool, false, List, [], ◌∷
 use Rattle.std.proofs.lemmas.Bool.Decides.{nat_tests}
 use Rattle.std.proofs.lemmas.List.{drop_all}
 use Rattle.tv_model.specs.declared.node.Node.{Node}
-use Rattle.tv_model.specs.Controls.Meaning.{Leaf, Outlined, LeafAt, PaneAt}
+use Rattle.tv_view.specs.Meaning.{Leaf, Outlined, LeafAt, PaneAt}
 use Rattle.tv_group.specs.Outline.{Outline, Follows, all_at, declared, members_outline, outline, outline_member, outlined, part_step, whole_step}
 use Rattle.tv_group.specs.declared.group.MemberOf.{MemberOf}
 use Rattle.tv_group.specs.declared.group.GroupOf.{GroupOf}

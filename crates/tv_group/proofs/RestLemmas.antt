@@ -1,7 +1,7 @@
 -- The leaves of the members from the i-th on.
 use Rattle.std.proofs.Common.{◌≡◌, ℕ, suc, List, [], ◌++◌, ◌+◌, ◌<◌, ◌≤◌, length, get_or, drop, map, set, sym, ap, ◌∙◌, arith, add-one, drop-cons, Option}
 use Rattle.std.proofs.lemmas.List.{drop_all, drop-set-lt}
-use Rattle.tv_model.specs.Controls.Meaning.{Leaf, Placed, inside, kept}
+use Rattle.tv_view.specs.Meaning.{Leaf, Placed, inside, kept}
 use Rattle.tv_group.specs.Current.{is_at}
 use Rattle.tv_group.specs.Opened.{opened, opened_member, joined}
 use Rattle.tv_group.specs.declared.group.MemberOf.{MemberOf}

@@ -1,10 +1,9 @@
 -- What a search through leaves comes to.
-use Rattle.std.proofs.Common.{◌≡◌, ℕ, Bool, true, false, List, [], ◌∷◌, ◌++◌, ◌+◌, ◌-◌, ◌<◌, ◌≤◌, length, get_or, map, reverse}
-use Rattle.std.proofs.Common.{find, refl, sym, ap, ◌∙◌, Some, option_map, if◌then◌else◌, cond, arith}
+use Rattle.std.proofs.Common.{◌≡◌, ℕ, Bool, true, false, List, [], ◌∷◌, ◌++◌, ◌+◌, ◌-◌, ◌<◌, ◌≤◌, length, get_or, map, reverse, find, refl, sym, ap, ◌∙◌, Some, option_map, if◌then◌else◌, cond, arith}
 use Rattle.std.proofs.lemmas.List.{get_or_default, map-append, reverse-append}
 use Rattle.tv_cells.specs.declared.rect.Rect.{Rect}
 use Rattle.tv_model.specs.declared.node.Id.{Id}
-use Rattle.tv_model.specs.Controls.Meaning.{Leaf, Placed, alone, inside, kept, unmarked}
+use Rattle.tv_view.specs.Meaning.{Leaf, Placed, alone, inside, kept, unmarked}
 use Rattle.tv_group.specs.Calls.{after_current, first_free, first_in, is_free, next_in, ordered}
 use Rattle.tv_group.specs.Current.{is_at}
 use Rattle.tv_group.specs.Opened.{opened, opened_member}

@@ -7,7 +7,7 @@ use Rattle.std.proofs.lemmas.List.{append-nil, map-append}
 use Rattle.std.proofs.lemmas.List.Elements.{All-nil, All-cons, All-head, All-tail}
 use Rattle.tv_cells.specs.declared.rect.Rect.{Rect}
 use Rattle.tv_model.specs.declared.node.Node.{Node}
-use Rattle.tv_model.specs.Controls.Meaning.{Leaf, LeafAt, Part, PaneAt, Outlined, Placed, alone, fresh, has_current, inside, kept, unmarked}
+use Rattle.tv_view.specs.Meaning.{Leaf, LeafAt, Part, PaneAt, Outlined, Placed, alone, fresh, has_current, inside, kept, unmarked}
 use Rattle.tv_model.specs.Description.Nodes.{is_pane}
 use Rattle.tv_model.specs.Description.Rectangles.{place_of_node}
 use Rattle.tv_machine.specs.Leaves.{PlacedNode, leaf_list, leaves_in, open_at}

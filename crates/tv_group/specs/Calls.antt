@@ -3,7 +3,7 @@ use Rattle.std.specs.Prelude.{ℕ, Bool, false, not, ◌&&◌, ◌||◌, List, [
 use Rattle.std.specs.List.{list_any}
 use Rattle.std.specs.Option.{option_or}
 use Rattle.tv_model.specs.declared.node.Id.{Id}
-use Rattle.tv_model.specs.Controls.Meaning.{Leaf, Placed, holds}
+use Rattle.tv_view.specs.Meaning.{Leaf, Placed, holds}
 use Rattle.tv_model.specs.Description.Nodes.{is_control}
 use Rattle.tv_model.specs.Log.Record.{Entries, value_of}
 use Rattle.tv_machine.specs.Dialog.Focus.{validates}

@@ -1,7 +1,7 @@
 -- The leaves of a group, its panes opened out.
 use Rattle.std.specs.Prelude.{ℕ, List, [], ◌∷◌, ◌++◌, ◌+◌, map, max, Option}
 use Rattle.tv_cells.specs.declared.rect.Rect.{Rect}
-use Rattle.tv_model.specs.Controls.Meaning.{Leaf, Placed, alone, inside, kept}
+use Rattle.tv_view.specs.Meaning.{Leaf, Placed, alone, inside, kept}
 use Rattle.tv_group.specs.Current.{is_at}
 use Rattle.tv_group.specs.declared.group.MemberOf.{MemberOf, out-MemberOf}
 use Rattle.tv_group.specs.declared.group.GroupOf.{GroupOf}

@@ -6,7 +6,7 @@ use Rattle.tv_model.specs.declared.kind.Kind.{Kind}
 use Rattle.tv_model.specs.declared.kind.Kind.TheVariants as kinds
 use Rattle.tv_model.specs.Description.Nodes.{height_of, is_pane}
 use Rattle.tv_model.specs.Description.Rectangles.{place_of_node, rect}
-use Rattle.tv_model.specs.Controls.Meaning.{Leaf, fresh, has_current, Part, LeafAt, PaneAt, Outlined}
+use Rattle.tv_view.specs.Meaning.{Leaf, fresh, has_current, Part, LeafAt, PaneAt, Outlined}
 use Rattle.tv_group.specs.declared.group.MemberOf.{MemberOf}
 use Rattle.tv_group.specs.declared.group.GroupOf.{GroupOf}
 use Rattle.tv_group.specs.declared.group.MemberOf.TheOpen.{MemberOf-F, GroupOf-F, Leaf as LeafHere, Pane as PaneHere}

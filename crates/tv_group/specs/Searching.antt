@@ -1,7 +1,7 @@
 -- What a search through leaves comes to.
 use Rattle.std.specs.Prelude.{ℕ, Bool, true, false, List, [], ◌∷◌, ◌-◌, Option, Some, None, if◌then◌else◌}
 use Rattle.tv_model.specs.declared.node.Id.{Id}
-use Rattle.tv_model.specs.Controls.Meaning.{Placed}
+use Rattle.tv_view.specs.Meaning.{Placed}
 use Rattle.tv_group.specs.Calls.{is_free}
 use Rattle.tv_group.specs.declared.focus.Dir.{Dir}
 use Rattle.tv_group.specs.declared.focus.Dir.TheVariants as dirs

@@ -2,7 +2,7 @@
 
 ghost use Rattle.std.specs.Prelude.{◌≡◌};
 ghost use Rattle.tv_cells.specs.Rectangle.{IsRectNear};
-ghost use Rattle.tv_model.specs.Controls.Meaning.{IsSmallRect};
+ghost use Rattle.tv_model.specs.Description.Rectangles.{IsSmallRect};
 
 use std::marker::Model;
 use tv_cells::Rect;
@@ -15,7 +15,7 @@ pub(crate) struct Bounds {
 
 impl Model for Bounds {
     ghost use Rattle.tv_cells.specs.declared.rect.Rect.{Rect};
-    ghost use Rattle.tv_model.specs.Controls.Meaning.{IsSmallRect};
+    ghost use Rattle.tv_model.specs.Description.Rectangles.{IsSmallRect};
 
     ghost Value = { Rect };
 

@@ -1,7 +1,7 @@
 //! Calls that change every leaf of a group.
 
 ghost use Rattle.std.specs.Prelude.{◌≡◌, map};
-ghost use Rattle.tv_model.specs.Controls.Meaning.{unmarked};
+ghost use Rattle.tv_view.specs.Meaning.{unmarked};
 ghost use Rattle.tv_group.specs.Opened.{bounds_of, level_of, opened, opened_member};
 ghost use Rattle.tv_group.specs.Calls.{FitsAll, all_applied, all_pressed, all_set};
 

@@ -1,7 +1,7 @@
 //! The focus in a group.
 
 ghost use Rattle.std.specs.Prelude.{◌≡◌, false, map, true};
-ghost use Rattle.tv_model.specs.Controls.Meaning.{unmarked};
+ghost use Rattle.tv_view.specs.Meaning.{unmarked};
 ghost use Rattle.tv_group.specs.Calls.{advanced, all_focused, first_in, focused_at, focused_from, has_control, next_in};
 
 use crate::group::{GroupOf, MemberOf};

@@ -2,7 +2,7 @@
 
 ghost use Rattle.std.specs.Prelude.{◌≡◌, ◌↔◌, ◌≤◌, ◌∷◌, ◌+◌, ◌+ℤ◌, [], IfSome, IfNone, IsTrue, List, map};
 ghost use Rattle.tv_model.specs.Description.Rectangles.{rect};
-ghost use Rattle.tv_model.specs.Controls.Meaning.{LeafAt, PaneAt, has_current};
+ghost use Rattle.tv_view.specs.Meaning.{LeafAt, PaneAt, has_current};
 ghost use Rattle.tv_model.specs.declared.node.Node.{Node};
 ghost use Rattle.tv_group.specs.Outline.{Follows, IsFreshBody, body_bounds, declared, has_body, members_outline, outline_member, outlined, part_of};
 

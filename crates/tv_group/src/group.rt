@@ -1,7 +1,8 @@
 //! Members and groups of them.
 
 ghost use Rattle.std.specs.Prelude.{◌≡◌, ◌≤◌, ◌+◌, IfOk, IfErr, None, map};
-ghost use Rattle.tv_model.specs.Controls.Meaning.{IsSmallRect, inside};
+ghost use Rattle.tv_model.specs.Description.Rectangles.{IsSmallRect};
+ghost use Rattle.tv_view.specs.Meaning.{inside};
 ghost use Rattle.tv_group.specs.Opened.{bounds_of, joined, level_of, member_level, members_level, opened, opened_member};
 
 use crate::bounds::Bounds;

@@ -2,10 +2,9 @@
 
 ghost use Rattle.std.specs.Prelude.{◌≡◌, ◌∷◌, []};
 ghost use Rattle.tv_cells.specs.Layers.{is_in};
-ghost use Rattle.tv_model.specs.Controls.Meaning.{alone};
+ghost use Rattle.tv_view.specs.Meaning.{alone};
 ghost use Rattle.tv_view.specs.Points.{moved_into, point_into};
-ghost use Rattle.tv_group.specs.Handling.{group_after, group_answer, scan_after, scan_answer};
-ghost use Rattle.tv_group.specs.Handling.{has_turn, is_awake, is_hit, is_offered, is_pass};
+ghost use Rattle.tv_group.specs.Handling.{group_after, group_answer, scan_after, scan_answer, has_turn, is_awake, is_hit, is_offered, is_pass};
 ghost use Rattle.tv_group.specs.Current.{is_at};
 ghost use Rattle.tv_group.specs.Opened.{bounds_of, level_of, opened, opened_member};
 ghost use Rattle.tv_group.specs.Turns.{down_after, down_here, is_asked};

@@ -1,7 +1,7 @@
 //! Searching a group for a free control.
 
 ghost use Rattle.std.specs.Prelude.{◌≡◌, ◌<◌};
-ghost use Rattle.tv_model.specs.Controls.Meaning.{alone};
+ghost use Rattle.tv_view.specs.Meaning.{alone};
 ghost use Rattle.tv_group.specs.Calls.{first_in, is_free, next_in, ordered};
 ghost use Rattle.tv_group.specs.Current.{is_at};
 ghost use Rattle.tv_group.specs.Searching.{found_in, looks_at, place_in, searched, searched_on};

@@ -3,10 +3,10 @@ use Rattle.std.proofs.Common.{Bool, true, false, length, Option, refl, arith}
 use Rattle.tv_model.specs.declared.kind.Kind.{Kind}
 use Rattle.tv_model.specs.declared.kind.Kind.TheVariants as kinds
 use Rattle.tv_model.specs.declared.record.Value.{Value}
-use Rattle.tv_model.specs.Controls.InputTable.{entered, left}
+use Rattle.tv_model.specs.Kinds.InputLine.{entered, left, edit_of}
 use Rattle.tv_model.specs.Description.LawfulNodes.{HasLawfulCount, HasLawfulStart}
-use Rattle.tv_model.specs.Machine.State.{declared_value}
-use Rattle.tv_machine.specs.Controls.Contents.{Content, edit_of, opened_private}
+use Rattle.tv_machine.specs.Controls.Declared.{declared_value, opened_private}
+use Rattle.tv_model.specs.Controls.Contents.{Content}
 use Rattle.tv_machine.specs.Safe.{HasValueOf}
 use Rattle.tv_laws.specs.Fit.{IsAtRest, IsFitContent}
 use Rattle.tv_machine.proofs.RefocusLemmas.{moved_content, refocused_content}

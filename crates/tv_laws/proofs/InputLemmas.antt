@@ -23,10 +23,8 @@ use Rattle.tv_valid.proofs.AskingLemmas.{domain_law}
 use Rattle.tv_valid.proofs.DecidingLemmas.{viable_law}
 use Rattle.tv_valid.proofs.Filling.{viable_more}
 use Rattle.tv_valid.proofs.TypingLemmas.{typed_law}
-use Rattle.tv_model.specs.Controls.InputTable.{Edit, at_place, backspaced, clicked, ctrl_edit, deleted, entered, opened_up, place_after, with_text}
+use Rattle.tv_model.specs.Kinds.InputLine.{Edit, at_place, backspaced, clicked, ctrl_edit, deleted, entered, opened_up, place_after, with_text, domain_texts, becomes, edited, edited_by, edited_in, typed, typed_into}
 use Rattle.tv_model.specs.Description.LawfulNodes.{IsNarrowText}
-use Rattle.tv_model.specs.Description.Texts.{domain_texts}
-use Rattle.tv_machine.specs.Controls.Editing.{becomes, edited, edited_by, edited_in, typed, typed_into}
 use Rattle.tv_machine.proofs.ListLemmas.{bool_cases, option_cases}
 
 -- ---- lengths

@@ -11,13 +11,12 @@ use Rattle.std.proofs.Math.Pow.{ones_lt, pow-lt}
 use Rattle.tv_event.specs.declared.event.Key.{Key}
 use Rattle.tv_event.specs.declared.event.Key.TheVariants as keys
 use Rattle.tv_model.specs.declared.kind.MarkedText.{MarkedText}
-use Rattle.tv_model.specs.Controls.ButtonTable.{item_marking}
-use Rattle.tv_model.specs.Controls.ClusterTable.{ClusterKey, Passed, Presses, Selects, cluster_key, is_item, item_after, item_before, of_letter}
-use Rattle.tv_model.specs.Controls.ListTable.{within}
-use Rattle.tv_model.specs.Description.LawfulNodes.{IsItem}
-use Rattle.tv_model.specs.Description.Letters.{marks, upper}
+use Rattle.tv_model.specs.Controls.Shortcut.{item_marking}
+use Rattle.tv_model.specs.Kinds.Cluster.{ClusterKey, Passed, Presses, Selects, cluster_key, item_after, item_before, of_letter, marks_of}
+use Rattle.tv_model.specs.Controls.Contents.{is_item, IsItem}
+use Rattle.tv_model.specs.Kinds.ListBox.{within}
+use Rattle.tv_model.specs.Description.Marks.{marks, upper}
 use Rattle.tv_model.specs.Description.Numbers.{natural}
-use Rattle.tv_model.specs.Machine.State.{marks_of}
 use Rattle.tv_machine.proofs.ListLemmas.{bool_cases, option_cases}
 
 -- an item that there is

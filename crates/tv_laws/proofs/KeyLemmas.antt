@@ -8,16 +8,17 @@ use Rattle.tv_model.specs.declared.node.Node.{Node}
 use Rattle.tv_model.specs.declared.kind.Kind.{Kind}
 use Rattle.tv_model.specs.declared.kind.Kind.TheVariants as kinds
 use Rattle.tv_model.specs.declared.desc.Dialog.{Dialog}
-use Rattle.tv_model.specs.Controls.ButtonTable.{item_marking}
-use Rattle.tv_model.specs.Controls.ClusterTable.{Boxes, Radios}
+use Rattle.tv_model.specs.Controls.Shortcut.{item_marking, Boxes, Radios}
 use Rattle.tv_model.specs.Description.LawfulNodes.{HasLawfulCount, IsLimited, IsNarrowNode, IsNarrowText}
-use Rattle.tv_model.specs.Description.Letters.{upper}
+use Rattle.tv_model.specs.Description.Marks.{upper}
 use Rattle.tv_model.specs.Description.Owners.{owner_by}
 use Rattle.tv_model.specs.Description.Names.{meant}
 use Rattle.tv_model.specs.Description.Texts.{shown_texts}
 use Rattle.tv_machine.specs.Leaves.{PlacedNode}
-use Rattle.tv_machine.specs.Controls.Contents.{Content}
-use Rattle.tv_machine.specs.Controls.Tables.{Answer, Becomes, Passed, Presses, item_pressed, key_answer}
+use Rattle.tv_model.specs.Controls.Contents.{Content}
+use Rattle.tv_model.specs.Controls.Behaviour.{Answer, Becomes, Passed, Presses}
+use Rattle.tv_model.specs.Kinds.Cluster.{item_pressed}
+use Rattle.tv_machine.specs.Controls.Tables.{key_answer}
 use Rattle.tv_machine.specs.Dialog.Ending.{press}
 use Rattle.tv_machine.specs.Dialog.Focus.{next_free, previous_free, request, stops_of}
 use Rattle.tv_machine.specs.Dialog.Keys.{alt_keyed, answered, enter_target, focus_keyed, key, keyed, passed_on, press_enabled}

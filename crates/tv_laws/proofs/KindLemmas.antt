@@ -14,18 +14,19 @@ use Rattle.tv_model.specs.declared.kind.ListBox.{ListBox}
 use Rattle.tv_model.specs.declared.kind.RadioButtons.{RadioButtons}
 use Rattle.tv_model.specs.declared.record.Value.{Value}
 use Rattle.tv_model.specs.declared.record.Value.TheVariants as values
-use Rattle.tv_model.specs.Controls.ButtonTable.{is_press}
-use Rattle.tv_model.specs.Controls.ClusterTable as clusters
-use Rattle.tv_model.specs.Controls.ClusterTable.{Boxes, Radios, ClusterKey, ClusterKind, cluster_key, flipped}
-use Rattle.tv_model.specs.Controls.InputTable.{Edit, clicked, is_edit_key}
-use Rattle.tv_model.specs.Controls.ListTable.{asked_item, chosen, item_at_row}
+use Rattle.tv_model.specs.Kinds.Button.{is_press}
+use Rattle.tv_model.specs.Kinds.Cluster as clusters
+use Rattle.tv_model.specs.Controls.Shortcut.{Boxes, Radios, ClusterKind}
+use Rattle.tv_model.specs.Kinds.Cluster.{ClusterKey, cluster_key, flipped, held_marks, selected_of, selecting_of, cluster_answer, item_of_row, item_pressed}
+use Rattle.tv_model.specs.Kinds.InputLine.{Edit, clicked, is_edit_key, domain_texts, cursor_of, edit_content, edit_of, edited_by}
+use Rattle.tv_model.specs.Kinds.ListBox.{asked_item, chosen, item_at_row, chosen_of, with_chosen, list_answer}
 use Rattle.tv_model.specs.Description.LawfulNodes.{HasLawfulCount, IsNarrowText}
 use Rattle.tv_model.specs.Description.Numbers.{natural}
-use Rattle.tv_model.specs.Description.Texts.{domain_texts, shown_texts}
-use Rattle.tv_machine.specs.State.{Private, Editing, Plain, Scrolled, Selecting}
-use Rattle.tv_machine.specs.Controls.Contents.{Content, chosen_of, cursor_of, edit_content, edit_of, item_of, marks_of, selected_of, selecting_of, text_of, with_chosen}
-use Rattle.tv_machine.specs.Controls.Editing.{edited_by}
-use Rattle.tv_machine.specs.Controls.Tables.{Answer, Becomes, Passed, Presses, cluster_answer, down_content, item_of_row, item_pressed, key_answer, list_answer, move_content, up_answer}
+use Rattle.tv_model.specs.Description.Texts.{shown_texts}
+use Rattle.tv_model.specs.Controls.Private.{Private, Editing, Plain, Scrolled, Selecting}
+use Rattle.tv_model.specs.Controls.Contents.{Content, item_of, text_of}
+use Rattle.tv_model.specs.Controls.Behaviour.{Answer, Becomes, Passed, Presses}
+use Rattle.tv_machine.specs.Controls.Tables.{down_content, key_answer, move_content, up_answer}
 use Rattle.tv_machine.specs.Safe.{HasValueOf, IsPrivateOf, IsTextOf}
 use Rattle.tv_laws.specs.Fit.{IsFitContent}
 use Rattle.tv_laws.proofs.InputLemmas.{IsGoodEdit, clicked-good, edited_by-good}
@@ -80,7 +81,7 @@ boxes_item boxes (Editing cursor is_whole) h = absurd h
 boxes_item boxes (Scrolled top) h = absurd h
 
 boxes_marks : (boxes : CheckBoxes) (v : Option Value) → HasValueOf (kinds.CheckBoxes boxes) v
-    → HasValueOf (kinds.CheckBoxes boxes) (Some (marks_of v))
+    → HasValueOf (kinds.CheckBoxes boxes) (Some (held_marks v))
 boxes_marks boxes None h = absurd (true≢false h)
 boxes_marks boxes (Some value) h = h
 
@@ -94,13 +95,13 @@ boxes-pressed : (has_focus : Bool) (boxes : CheckBoxes) (item : ℕ) (c : Conten
     → IsFitContent has_focus (kinds.CheckBoxes boxes) c
     → IsFitContent has_focus (kinds.CheckBoxes boxes) (item_pressed Boxes item c)
 boxes-pressed has_focus boxes item c is fit =
-    boxes-fit has_focus boxes (Some (flipped (marks_of c.value) item)) item c.overwrites (boxes_flipped boxes (marks_of c.value) item is (boxes_marks boxes c.value fit.safe.value)) is
+    boxes-fit has_focus boxes (Some (flipped (held_marks c.value) item)) item c.overwrites (boxes_flipped boxes (held_marks c.value) item is (boxes_marks boxes c.value fit.safe.value)) is
 
 boxes-key : (has_focus : Bool) (boxes : CheckBoxes) (key : ClusterKey) (c : Content) → KeyItem (length boxes.items) key
     → IsFitContent has_focus (kinds.CheckBoxes boxes) c
     → IsFitAnswer has_focus (kinds.CheckBoxes boxes) (cluster_answer Boxes key c)
 boxes-key has_focus boxes clusters.Passed c is fit = tt
-boxes-key has_focus boxes (clusters.Selects item) c is fit = boxes-fit has_focus boxes (Some (marks_of c.value)) item c.overwrites (boxes_marks boxes c.value fit.safe.value) is
+boxes-key has_focus boxes (clusters.Selects item) c is fit = boxes-fit has_focus boxes (Some (held_marks c.value)) item c.overwrites (boxes_marks boxes c.value fit.safe.value) is
 boxes-key has_focus boxes (clusters.Presses item) c is fit = boxes-pressed has_focus boxes item c is fit
 
 -- ---- radio buttons

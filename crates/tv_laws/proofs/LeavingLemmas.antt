@@ -12,7 +12,8 @@ use Rattle.tv_model.specs.declared.log.LogLine.TheVariants as lines
 use Rattle.tv_model.specs.Description.Commands.{command_number, is_declared}
 use Rattle.tv_model.specs.Description.Heads.{dialog_head}
 use Rattle.tv_machine.specs.Leaves.{PlacedNode}
-use Rattle.tv_machine.specs.Controls.Tables.{Answer, Becomes, Passed, Presses, up_answer}
+use Rattle.tv_model.specs.Controls.Behaviour.{Answer, Becomes, Passed, Presses}
+use Rattle.tv_machine.specs.Controls.Tables.{up_answer}
 use Rattle.tv_machine.specs.Dialog.Ending.{command, end_by, ended, first_invalid, pressed_kind, shown_invalid}
 use Rattle.tv_machine.specs.Dialog.Focus.{focus_moved, is_free_at}
 use Rattle.tv_machine.specs.Dialog.Modal.{Modal, content_at, leaf_at, with_line}

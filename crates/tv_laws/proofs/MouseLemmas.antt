@@ -16,8 +16,9 @@ use Rattle.tv_model.specs.Description.Names.{meant}
 use Rattle.tv_model.specs.Description.Nodes.{height_of, is_button, is_cluster}
 use Rattle.tv_machine.specs.State.{Held}
 use Rattle.tv_machine.specs.Leaves.{PlacedNode, corner_on, leaf_list, rect_on}
-use Rattle.tv_machine.specs.Controls.Contents.{Content}
-use Rattle.tv_machine.specs.Controls.Tables.{Answer, Becomes, Passed, Presses, down_content, move_content, remembered, up_answer}
+use Rattle.tv_model.specs.Controls.Contents.{Content}
+use Rattle.tv_model.specs.Controls.Behaviour.{Answer, Becomes, Passed, Presses}
+use Rattle.tv_machine.specs.Controls.Tables.{down_content, move_content, remembered, up_answer}
 use Rattle.tv_machine.specs.Dialog.Ending.{command}
 use Rattle.tv_machine.specs.Dialog.Modal.{Modal, content_at, leaf_at, with_content}
 use Rattle.tv_machine.specs.Dialog.Mouse.{button_down, column_of, down, down_at, down_on, first_before, focus_and_hold, held_moved, held_up, hold, is_close_mark, is_inside, moved_on, released, row_of, topmost}

@@ -15,7 +15,7 @@ use Rattle.tv_model.specs.declared.record.Value.TheVariants as values
 use Rattle.tv_model.specs.Description.LawfulNodes.{HasLawfulStart}
 use Rattle.tv_model.specs.Description.Nodes.{node_of}
 use Rattle.tv_model.specs.Log.Record.{Entries, value_of}
-use Rattle.tv_model.specs.Machine.State.{declared_value}
+use Rattle.tv_machine.specs.Controls.Declared.{declared_value}
 use Rattle.tv_machine.specs.State.{LeafState}
 use Rattle.tv_machine.specs.Leaves.{PlacedNode, leaf_list}
 use Rattle.tv_machine.specs.Dialog.Focus.{is_free_at, is_free_leaf, stop_of, stops_of}

@@ -18,11 +18,13 @@ use Rattle.tv_model.specs.declared.record.Value.{Value}
 use Rattle.tv_model.specs.declared.record.Value.TheVariants as values
 use Rattle.tv_model.specs.Description.Nodes.{node_of}
 use Rattle.tv_model.specs.Log.Record.{Entries}
-use Rattle.tv_machine.specs.State.{LeafState, Private}
+use Rattle.tv_machine.specs.State.{LeafState}
+use Rattle.tv_model.specs.Controls.Private.{Private}
 use Rattle.tv_machine.specs.Leaves.{PlacedNode, leaf_list}
-use Rattle.tv_machine.specs.Controls.Contents.{Content}
+use Rattle.tv_model.specs.Controls.Contents.{Content}
 use Rattle.tv_machine.specs.Dialog.Ending.{entry_of, fields_of, first_invalid, is_invalid_leaf}
-use Rattle.tv_machine.specs.Dialog.Focus.{is_invalid, is_outside}
+use Rattle.tv_machine.specs.Dialog.Focus.{is_invalid}
+use Rattle.tv_model.specs.Kinds.InputLine.{is_outside}
 use Rattle.tv_machine.specs.Dialog.Modal.{Modal, content_at}
 use Rattle.tv_machine.specs.Dialog.Rules.{content_by, is_among, state_of}
 use Rattle.tv_machine.specs.Safe.{HasValueOf, IsSafeEntry, IsSafeRecord, IsTextOf, IsValueOf, is_field}

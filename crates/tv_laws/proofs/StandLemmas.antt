@@ -9,16 +9,17 @@ use Rattle.tv_model.specs.declared.kind.Kind.TheVariants as kinds
 use Rattle.tv_model.specs.declared.desc.Dialog.{Dialog}
 use Rattle.tv_model.specs.declared.desc.Rule.{Rule}
 use Rattle.tv_model.specs.declared.log.LogLine.{LogLine}
-use Rattle.tv_model.specs.Controls.InputTable.{Edit, entered, left}
+use Rattle.tv_model.specs.Kinds.InputLine.{Edit, entered, left}
 use Rattle.tv_model.specs.Description.Names.{gives_name, meant}
 use Rattle.tv_model.specs.Description.Nodes.{is_cluster, is_control}
 use Rattle.tv_model.specs.Description.Numbers.{natural}
 use Rattle.tv_machine.specs.State.{Held, LeafState}
 use Rattle.tv_machine.specs.Leaves.{PlacedNode}
-use Rattle.tv_machine.specs.Controls.Contents.{Content}
+use Rattle.tv_model.specs.Controls.Contents.{Content}
 use Rattle.tv_machine.specs.Dialog.Focus.{focus_moved, is_free_at, is_free_leaf, refocused}
 use Rattle.tv_machine.specs.Dialog.Modal.{Modal, content_at, holding, leaf_at, overwrites_after, with_content}
-use Rattle.tv_machine.specs.Dialog.Rules.{content_by, holds, is_among, is_enabled, is_free, is_kind_enabled, is_marked, is_marked_at, is_visible, shows, state_of}
+use Rattle.tv_machine.specs.Dialog.Rules.{content_by, holds, is_among, is_enabled, is_free, is_kind_enabled, is_marked_at, is_visible, shows, state_of}
+use Rattle.tv_model.specs.Kinds.Cluster.{is_marked}
 use Rattle.tv_laws.specs.Fit.{IsFitContent, IsFitLeaf, IsFitModal, IsStanding}
 use Rattle.tv_laws.specs.Sound.{IsSoundDialog}
 use Rattle.tv_laws.proofs.ComingLemmas.{moved-fit}

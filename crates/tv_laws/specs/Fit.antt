@@ -4,9 +4,10 @@ use Rattle.tv_model.specs.declared.kind.Kind.{Kind}
 use Rattle.tv_model.specs.Kinds.{facts}
 use Rattle.tv_model.specs.declared.desc.Dialog.{Dialog}
 use Rattle.tv_model.specs.Description.Nodes.{is_button}
-use Rattle.tv_machine.specs.State.{Held, Private, Editing}
+use Rattle.tv_machine.specs.State.{Held}
+use Rattle.tv_model.specs.Controls.Private.{Private}
 use Rattle.tv_machine.specs.Leaves.{PlacedNode, leaf_list}
-use Rattle.tv_machine.specs.Controls.Contents.{Content}
+use Rattle.tv_model.specs.Controls.Contents.{Content}
 use Rattle.tv_machine.specs.Dialog.Rules.{is_among, is_visible, is_enabled}
 use Rattle.tv_machine.specs.Dialog.Modal.{Modal, content_at, leaf_at}
 use Rattle.tv_machine.specs.Dialog.Focus.{is_free_at}

@@ -10,16 +10,18 @@ use Rattle.tv_model.specs.declared.kind.Kind.TheVariants as kinds
 use Rattle.tv_model.specs.declared.desc.Dialog.{Dialog}
 use Rattle.tv_model.specs.declared.log.LogLine.{LogLine}
 use Rattle.tv_model.specs.declared.log.LogLine.TheVariants as lines
-use Rattle.tv_model.specs.Controls.ButtonTable.{item_marking}
-use Rattle.tv_model.specs.Controls.ClusterTable.{ClusterKind, Boxes, Radios}
-use Rattle.tv_model.specs.Description.Letters.{upper}
+use Rattle.tv_model.specs.Controls.Shortcut.{item_marking, ClusterKind, Boxes, Radios}
+use Rattle.tv_model.specs.Description.Marks.{upper}
 use Rattle.tv_model.specs.Description.Names.{gives_name, meant}
 use Rattle.tv_model.specs.Description.Nodes.{is_button, name_of}
 use Rattle.tv_model.specs.Description.Owners as owners
-use Rattle.tv_model.specs.Description.Owners.{Owner, owners_of}
+use Rattle.tv_model.specs.Controls.Owner.{Owner}
+use Rattle.tv_model.specs.Description.Owners.{owners_of}
 use Rattle.tv_machine.specs.State.{LeafState}
 use Rattle.tv_machine.specs.Leaves.{PlacedNode, leaf_list}
-use Rattle.tv_machine.specs.Controls.Tables.{Passed, item_pressed, key_answer}
+use Rattle.tv_model.specs.Controls.Behaviour.{Passed}
+use Rattle.tv_model.specs.Kinds.Cluster.{item_pressed}
+use Rattle.tv_machine.specs.Controls.Tables.{key_answer}
 use Rattle.tv_machine.specs.Dialog.Ending.{first_invalid}
 use Rattle.tv_machine.specs.Dialog.Focus.{Refused, is_free_at, keeps_focus, requested}
 use Rattle.tv_machine.specs.Dialog.Modal.{Modal, content_at, leaf_at, with_line}

@@ -10,7 +10,7 @@ use Rattle.tv_model.specs.declared.log.LogLine.TheVariants as lines
 use Rattle.tv_model.specs.Description.Commands.{is_end}
 use Rattle.tv_model.specs.Description.Heads.{dialog_head}
 use Rattle.tv_model.specs.Log.Record.{Entries}
-use Rattle.tv_model.specs.Machine.State.{declared_value}
+use Rattle.tv_machine.specs.Controls.Declared.{declared_value}
 use Rattle.tv_machine.specs.State.{OpenDialog, State}
 use Rattle.tv_machine.specs.Leaves.{PlacedNode, leaf_list}
 use Rattle.tv_machine.specs.Dialog.Ending.{field_line, fields_of}

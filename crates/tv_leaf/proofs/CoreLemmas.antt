@@ -5,12 +5,11 @@ use Rattle.std.proofs.lemmas.Int.{ints}
 use Rattle.tv_model.specs.declared.node.Node.{Node}
 use Rattle.tv_model.specs.declared.kind.Kind.{Kind}
 use Rattle.tv_model.specs.declared.kind.Kind.TheVariants as kinds
-use Rattle.tv_model.specs.Controls.Meaning.{IsSmall, IsSmallRect}
+use Rattle.tv_model.specs.Description.Rectangles.{IsSmall, IsSmallRect, place_of_node}
 use Rattle.tv_model.specs.Description.LawfulNodes.{HasLawfulCount, IsLimited}
 use Rattle.tv_model.specs.Description.Limits.{least_height, least_width}
 use Rattle.tv_model.specs.Description.Nodes.{height_of, is_cluster}
 use Rattle.tv_model.specs.Description.Numbers.{IsBetween}
-use Rattle.tv_model.specs.Description.Rectangles.{place_of_node}
 
 near_corner : (z : ℤ) → IsBetween (neg_ℤ (pos 132)) (pos 132) z → IsSmall z
 near_corner z h = record { low = omega (arith, ints, h.0, h.1); high = omega (arith, ints, h.0, h.1) }

@@ -1,9 +1,9 @@
 -- What every control keeps, and the leaf that it is with a value.
 use Rattle.std.specs.Prelude.{ℕ, Bool, true, false, Option, None}
 use Rattle.tv_model.specs.declared.node.Node.{Node}
-use Rattle.tv_model.specs.Controls.Meaning.{Leaf}
-use Rattle.tv_machine.specs.State.{Plain}
-use Rattle.tv_machine.specs.Controls.Contents.{Content}
+use Rattle.tv_view.specs.Meaning.{Leaf}
+use Rattle.tv_model.specs.Controls.Private.{Plain}
+use Rattle.tv_model.specs.Controls.Contents.{Content}
 use Rattle.tv_machine.specs.Dialog.Rules.{is_among}
 use Rattle.tv_view.specs.declared.env.Rules.{Rules}
 use Rattle.tv_view.specs.Calls.{is_kind_enabled}

@@ -1,11 +1,11 @@
 //! The part that all controls have in common.
 
 ghost use Rattle.std.specs.Prelude.{◌≡◌, ◌↔◌, ◌==◌, ◌+ℤ◌, ◌≤ℤ◌, IfOk, IsTrue, None, Some, false, pos};
-ghost use Rattle.tv_model.specs.Controls.Meaning.{IsSmallRect, has_item};
+ghost use Rattle.tv_model.specs.Description.Rectangles.{IsSmallRect, place_of_node};
+ghost use Rattle.tv_view.specs.Meaning.{has_item};
 ghost use Rattle.tv_model.specs.Description.LawfulNodes.{HasLawfulCount, IsLawfulCommand, IsLawfulNode};
 ghost use Rattle.tv_model.specs.Description.Commands.{command_of};
 ghost use Rattle.tv_model.specs.Description.Nodes.{height_of, is_cluster};
-ghost use Rattle.tv_model.specs.Description.Rectangles.{place_of_node};
 ghost use Rattle.tv_leaf.specs.Core.{fresh_core, plain_leaf, ruled};
 ghost use Rattle.tv_view.specs.Calls.{is_kind_enabled, state_bits};
 

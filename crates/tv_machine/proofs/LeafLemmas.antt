@@ -8,7 +8,7 @@ use Rattle.tv_model.specs.declared.desc.Dialog.{Dialog}
 use Rattle.tv_model.specs.Description.Nodes.{is_pane}
 use Rattle.tv_machine.specs.State.{LeafState}
 use Rattle.tv_machine.specs.Leaves.{PlacedNode, leaf_list, leaves_in, open_after, open_at}
-use Rattle.tv_machine.specs.Controls.Contents.{Content}
+use Rattle.tv_model.specs.Controls.Contents.{Content}
 use Rattle.tv_machine.specs.Dialog.Rules.{content_by, is_among, state_of}
 use Rattle.tv_machine.specs.Dialog.Modal.{Modal, content_at, holding, leaf_at, overwrites_after, with_content}
 use Rattle.tv_machine.specs.Dialog.Lawful.{IsLawfulDialog}

@@ -13,8 +13,9 @@ use Rattle.tv_model.specs.Description.Nodes.{is_cluster, is_control}
 use Rattle.tv_model.specs.Description.Numbers.{natural}
 use Rattle.tv_machine.specs.State.{LeafState}
 use Rattle.tv_machine.specs.Leaves.{PlacedNode}
-use Rattle.tv_machine.specs.Controls.Contents.{Content}
-use Rattle.tv_machine.specs.Dialog.Rules.{content_by, enables, holds, is_among, is_command_enabled, is_enabled, is_free, is_kind_enabled, is_marked, is_marked_at, is_visible, shows, state_of}
+use Rattle.tv_model.specs.Controls.Contents.{Content}
+use Rattle.tv_machine.specs.Dialog.Rules.{content_by, enables, holds, is_among, is_command_enabled, is_enabled, is_free, is_kind_enabled, is_marked_at, is_visible, shows, state_of}
+use Rattle.tv_model.specs.Kinds.Cluster.{is_marked}
 use Rattle.tv_machine.specs.Dialog.Modal.{Modal, content_at, holding, leaf_at, with_content}
 use Rattle.tv_machine.specs.Dialog.Alike.{HoldSame}
 use Rattle.tv_machine.specs.Dialog.Lawful.{IsLawfulDialog}

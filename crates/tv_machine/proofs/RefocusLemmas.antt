@@ -4,10 +4,10 @@ use Rattle.tv_model.specs.declared.node.Id.{Id}
 use Rattle.tv_model.specs.declared.kind.Kind.{Kind}
 use Rattle.tv_model.specs.declared.kind.Kind.TheVariants as kinds
 use Rattle.tv_model.specs.declared.desc.Dialog.{Dialog}
-use Rattle.tv_model.specs.Controls.InputTable.{Edit, entered, left}
+use Rattle.tv_model.specs.Kinds.InputLine.{Edit, entered, left, edit_content, edit_of}
 use Rattle.tv_model.specs.Description.Nodes.{is_cluster}
 use Rattle.tv_machine.specs.Leaves.{PlacedNode, leaf_list}
-use Rattle.tv_machine.specs.Controls.Contents.{Content, edit_content, edit_of}
+use Rattle.tv_model.specs.Controls.Contents.{Content}
 use Rattle.tv_machine.specs.Dialog.Focus.{focus_moved, refocused, refocused_kind}
 use Rattle.tv_machine.specs.Dialog.Modal.{Modal, content_at, leaf_at, with_content}
 use Rattle.tv_machine.specs.Dialog.Alike.{HoldSame}

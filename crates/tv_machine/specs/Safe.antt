@@ -1,8 +1,8 @@
 -- What holds at the start of a run and after each event.
-use Rattle.std.specs.Prelude.{◌≡◌, ◌≤◌, ◌<◌, ℕ, Bool, false, true, List, map, filter, length, slice_get, Option, Some, None, IsTrue, All, ◌^◌, is_some}
+use Rattle.std.specs.Prelude.{◌≡◌, ◌≤◌, ℕ, Bool, false, true, List, map, filter, length, slice_get, Option, Some, None, All, is_some}
 use Rattle.tv_event.specs.declared.event.Event.{Event}
 use Rattle.tv_valid.specs.declared.domain.Domain.{Domain}
-use Rattle.tv_valid.specs.Domain.{IsDomain, IsViableText, InDomain}
+use Rattle.tv_valid.specs.Domain.{IsViableText, InDomain}
 use Rattle.tv_model.specs.declared.node.Id.{Id}
 use Rattle.tv_model.specs.declared.node.Node.{Node}
 use Rattle.tv_model.specs.declared.kind.Kind.{Kind}
@@ -17,11 +17,12 @@ use Rattle.tv_model.specs.declared.log.LogLine.TheVariants as lines
 use Rattle.tv_model.specs.Description.Commands.{is_end}
 use Rattle.tv_model.specs.Description.Heads.{dialog_head}
 use Rattle.tv_model.specs.Description.Nodes.{node_of}
-use Rattle.tv_model.specs.Controls.ClusterTable.{is_item}
+use Rattle.tv_model.specs.Controls.Contents.{Content, text_of}
 use Rattle.tv_model.specs.Log.Record.{Entries}
-use Rattle.tv_model.specs.Machine.State.{declared_value}
-use Rattle.tv_machine.specs.State.{State, OpenDialog, Held, Private, Plain, Editing, Selecting, Scrolled}
-use Rattle.tv_machine.specs.Controls.Contents.{Content, text_of, cursor_of}
+use Rattle.tv_machine.specs.Controls.Declared.{declared_value}
+use Rattle.tv_machine.specs.State.{State, OpenDialog, Held}
+use Rattle.tv_model.specs.Controls.Private.{Private}
+use Rattle.tv_model.specs.Kinds.InputLine.{cursor_of}
 use Rattle.tv_machine.specs.Leaves.{PlacedNode, leaf_list}
 use Rattle.tv_machine.specs.Dialog.Rules.{content_of, is_among, is_visible, is_enabled}
 use Rattle.tv_machine.specs.Dialog.Modal.{leaf_at}

@@ -5,8 +5,7 @@ use Rattle.tv_model.specs.declared.node.Id.{Id}
 use Rattle.tv_model.specs.declared.record.Value.{Value}
 use Rattle.tv_model.specs.declared.log.LogLine.{LogLine}
 use Rattle.tv_model.specs.Log.Record.{Entries}
--- what a leaf keeps besides its value: views keep the same
-pub use Rattle.tv_model.specs.Machine.State.{Private, Plain, Editing, Selecting, Scrolled}
+use Rattle.tv_model.specs.Controls.Private.{Private}
 
 -- a leaf of the open dialog: a field has a value, another leaf has none
 pub record LeafState : Type 0 where

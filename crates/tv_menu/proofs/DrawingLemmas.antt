@@ -14,7 +14,7 @@ use Rattle.tv_cells.proofs.RectangleLemmas.{point_is}
 use Rattle.tv_model.specs.declared.desc.Desc.{Desc}
 use Rattle.tv_model.specs.declared.desc.StatusItem.{StatusItem}
 use Rattle.tv_model.specs.Description.Numbers.{natural}
-use Rattle.tv_model.specs.Screen.Layers.{canvas_at, whole_screen}
+use Rattle.tv_machine.specs.Screen.Bodies.{canvas_at, whole_screen}
 use Rattle.tv_machine.specs.State.{State}
 use Rattle.tv_machine.specs.Screen.Bars.{spot_in, status_cell, status_face, status_text}
 use Rattle.tv_machine.specs.Screen.Layers.{status_layer}

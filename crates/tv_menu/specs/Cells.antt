@@ -6,7 +6,7 @@ use Rattle.tv_model.specs.declared.desc.StatusItem.{StatusItem}
 use Rattle.tv_model.specs.Description.Commands.{command_number}
 use Rattle.tv_model.specs.Screen.Faces.{text_row}
 use Rattle.tv_machine.specs.Screen.Bars.{Spot, marked_cell, is_place, status_cell}
-use Rattle.tv_machine.specs.Screen.LeafFaces.{is_mark_from}
+use Rattle.tv_model.specs.Controls.Look.{is_mark_from}
 use Rattle.tv_menu.specs.declared.spaced_text.SpacedText.{SpacedText}
 
 -- each cell of a row, the first of which stands in a column, becomes f of what it was

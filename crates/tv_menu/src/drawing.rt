@@ -9,7 +9,7 @@ ghost use Rattle.tv_machine.specs.Screen.Bars.{box_face, box_height, box_width};
 ghost use Rattle.tv_machine.specs.Screen.Layers.{bar_layer, box_layers, open_place, status_layer};
 ghost use Rattle.tv_model.specs.declared.desc.Desc.{Desc as Declared};
 ghost use Rattle.tv_model.specs.Description.Rectangles.{desktop};
-ghost use Rattle.tv_model.specs.Screen.Layers.{canvas_at, whole_screen};
+ghost use Rattle.tv_machine.specs.Screen.Bodies.{canvas_at, whole_screen};
 ghost use Rattle.tv_view.specs.Drawing.{Lays};
 ghost use Rattle.tv_menu.specs.Bar.{IsBarOf, open_of};
 ghost use Rattle.tv_menu.specs.Lawful.{IsLawfulMenu};

@@ -3,7 +3,7 @@
 ghost use Rattle.std.specs.Prelude.{◌≡◌, All, IfOk, IfSome, option_copied, position, slice_get};
 ghost use Rattle.tv_machine.specs.Session.Menu.{item_of_letter, place_after, place_before};
 ghost use Rattle.tv_model.specs.Description.Commands.{command_number};
-ghost use Rattle.tv_model.specs.Description.Letters.{marks, upper};
+ghost use Rattle.tv_model.specs.Description.Marks.{marks, upper};
 ghost use Rattle.tv_menu.specs.Lawful.{IsLawfulItem, IsLawfulMenu};
 
 use std::alloc::{AllocError, Global};

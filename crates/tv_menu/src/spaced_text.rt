@@ -2,7 +2,7 @@
 
 ghost use Rattle.std.specs.Prelude.{◌≡◌, ◌+◌, ◌∷◌, ◌<◌, ◌≤◌, ◌^◌, ℕ, length};
 ghost use Rattle.tv_machine.specs.Screen.Bars.{columns_of, marked_cell};
-ghost use Rattle.tv_machine.specs.Screen.LeafFaces.{is_mark_from};
+ghost use Rattle.tv_model.specs.Controls.Look.{is_mark_from};
 ghost use Rattle.tv_model.specs.Screen.Faces.{text_row};
 
 use crate::colours::bar_colour;

@@ -12,7 +12,7 @@ use Rattle.tv_valid.specs.Deciding.{has_text, viable}
 use Rattle.tv_valid.proofs.AskingLemmas.{domain_law}
 use Rattle.tv_valid.proofs.DecidingLemmas.{viable_law}
 use Rattle.tv_valid.proofs.HasTextLemmas.{has_text_law}
-use Rattle.tv_model.specs.Description.LawfulNodes.{HasAnyText, MayStand}
+use Rattle.tv_model.specs.Kinds.InputLine.{HasAnyText, MayStand}
 use Rattle.tv_model.specs.Faults.Domains.{any_text, may_stand}
 
 -- the input asks for a domain that is so

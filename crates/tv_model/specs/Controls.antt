@@ -1,19 +1,9 @@
--- What keys and the mouse do to controls, and what a view means.
+-- What controls are made of.
 
--- letters, and the keys of a button
-pub mod ButtonTable
--- check boxes and radio buttons
-pub mod ClusterTable
--- input lines
-pub mod InputTable
--- lists
-pub mod ListTable
--- the leaves of a view
-pub mod Meaning
 -- what a leaf holds
 pub mod Contents
--- what a key makes of an input
-pub mod Editing
+-- what a leaf keeps besides its value
+pub mod Private
 -- how a leaf stands on the screen
 pub mod Look
 -- what a letter acts on

@@ -9,7 +9,6 @@ use Rattle.tv_model.specs.Kinds.InputLine.{input_behaviour, input_facts}
 use Rattle.tv_model.specs.Kinds.Cluster.{boxes_behaviour, boxes_facts, radios_behaviour, radios_facts}
 use Rattle.tv_model.specs.Kinds.ListBox.{list_behaviour, list_facts}
 use Rattle.tv_model.specs.Kinds.Groups.{window_behaviour, window_facts, dialog_behaviour, pane_behaviour}
-
 pub mod StaticText
 pub mod Label
 pub mod Button

@@ -2,5 +2,3 @@
 
 -- what fills the rectangle of a layer
 pub mod Faces
--- the layers, from the top
-pub mod Layers

@@ -130,7 +130,7 @@ pub struct Pane {
 }
 
 impl MarkedText {
-    ghost use Rattle.tv_model.specs.Description.Letters.{letter_of, marks};
+    ghost use Rattle.tv_model.specs.Description.Marks.{letter_of, marks};
 
     /// The letter that it marks, in upper case.
     pub fn letter(&self) -> Option<char>

@@ -2,7 +2,8 @@
 use Rattle.std.proofs.Common.{◌≡◌, ℕ, Bool, false, ◌||◌, List, [], refl, sym, ap, ◌∙◌}
 use Rattle.std.specs.List.{list_any}
 use Rattle.std.specs.Prelude.{Option, Some, None}
-use Rattle.tv_model.specs.Description.Letters.{letter_of, marked_of, marks, shares_letter}
+use Rattle.tv_model.specs.Description.Marks.{letter_of, marks, shares_letter}
+use Rattle.tv_model.specs.Description.Letters.{marked_of}
 use Rattle.tv_model.specs.Faults.Letters.{marks_again}
 use Rattle.tv_model.specs.Faults.Lines.{after_seen}
 use Rattle.tv_model.specs.declared.kind.MarkedText.{MarkedText}

@@ -5,7 +5,8 @@ use Rattle.std.specs.Option.{option_map_or}
 use Rattle.tv_model.specs.declared.kind.MarkedText.{MarkedText}
 use Rattle.tv_model.specs.declared.node.Node.{Node}
 use Rattle.tv_model.specs.Faults.Lines.{after_seen}
-use Rattle.tv_model.specs.Description.Letters.{letter_of, marked_of, marks, shares_letter}
+use Rattle.tv_model.specs.Description.Marks.{letter_of, marks, shares_letter}
+use Rattle.tv_model.specs.Description.Letters.{marked_of}
 
 -- the letter is marked in one of the texts
 abbrev pub is_marked_in : List MarkedText → ℕ → Bool

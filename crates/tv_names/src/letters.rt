@@ -2,7 +2,8 @@
 
 ghost use Rattle.std.specs.Prelude.{◌≡◌, ◌||◌, ℕ, nat_eq, IfOk, OnOk};
 ghost use Rattle.std.specs.HashSet as set;
-ghost use Rattle.tv_model.specs.Description.Letters.{letter_of, marked_of, marks};
+ghost use Rattle.tv_model.specs.Description.Marks.{letter_of, marks};
+ghost use Rattle.tv_model.specs.Description.Letters.{marked_of};
 ghost use Rattle.tv_names.specs.Marked.{is_marked_in, mark_again, marks_any};
 
 use std::alloc::{AllocError, Global};

@@ -14,8 +14,10 @@ use Rattle.tv_model.specs.declared.script.Item.{Item}
 use Rattle.tv_model.specs.declared.script.Item.TheVariants as items
 use Rattle.tv_model.specs.declared.kind.Kind.{Kind}
 use Rattle.tv_model.specs.declared.kind.Kind.TheVariants as kinds
-use Rattle.tv_model.specs.Description.Letters.{is_shortcut, marked_of, marks}
-use Rattle.tv_model.specs.Description.Owners.{Owner, owner_by}
+use Rattle.tv_model.specs.Description.Letters.{is_shortcut, marked_of}
+use Rattle.tv_model.specs.Description.Marks.{marks}
+use Rattle.tv_model.specs.Controls.Owner.{Owner}
+use Rattle.tv_model.specs.Description.Owners.{owner_by}
 use Rattle.tv_model.specs.Faults.{IsSound}
 use Rattle.tv_model.specs.Faults.Letters.{is_same_key}
 use Rattle.tv_machine.specs.State.{OpenDialog, State}

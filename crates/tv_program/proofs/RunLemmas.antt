@@ -6,7 +6,7 @@ use Rattle.tv_faults.proofs.SoundDialogLemmas.{sound_dialogs}
 use Rattle.tv_lang.specs.Faults.{Spells}
 use Rattle.tv_machine.specs.Output.{output}
 use Rattle.tv_machine.specs.Run.{started}
-use Rattle.tv_model.specs.Controls.Meaning.{Leaf}
+use Rattle.tv_view.specs.Meaning.{Leaf}
 use Rattle.tv_model.specs.declared.desc.Desc.{Desc}
 use Rattle.tv_model.specs.declared.script.Item.{Item}
 use Rattle.tv_output.specs.Writer.{Cuts, Seen}

@@ -7,7 +7,7 @@ use Rattle.tv_model.specs.declared.node.Node.{Node}
 use Rattle.tv_model.specs.declared.kind.Button.{Button}
 use Rattle.tv_model.specs.declared.kind.Kind.{Kind}
 use Rattle.tv_model.specs.declared.kind.Kind.TheVariants as kinds
-use Rattle.tv_model.specs.Controls.Meaning.{Leaf}
+use Rattle.tv_view.specs.Meaning.{Leaf}
 use Rattle.tv_model.specs.Description.LawfulNodes.{IsLimited, IsShort}
 use Rattle.tv_model.specs.Log.Record.{Entries}
 use Rattle.tv_machine.specs.Leaves.{leaf_list}

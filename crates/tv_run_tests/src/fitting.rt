@@ -3,7 +3,7 @@
 ghost use Rattle.std.specs.Prelude.{◌≡◌, ◌<◌, ◌^◌, IfOk, IsTrue, Some, option_copied};
 ghost use Rattle.tv_model.specs.declared.kind.Kind.TheVariants as kinds;
 ghost use Rattle.tv_model.specs.declared.record.Value.TheVariants as values;
-ghost use Rattle.tv_model.specs.Controls.ClusterTable.{is_item};
+ghost use Rattle.tv_model.specs.Controls.Contents.{is_item};
 ghost use Rattle.tv_view.specs.Calls.{IsValueOf};
 ghost use Rattle.tv_run_tests.specs.Fitting.{FitsViews};
 

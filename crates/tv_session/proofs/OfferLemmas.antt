@@ -1,6 +1,6 @@
 -- A run whose menu bar took an event.
 use Rattle.std.proofs.Common.{◌≡◌, None, refl}
-use Rattle.tv_model.specs.Controls.Meaning.{Leaf}
+use Rattle.tv_view.specs.Meaning.{Leaf}
 use Rattle.tv_model.specs.declared.desc.Desc.{Desc}
 use Rattle.tv_machine.specs.State.{State}
 use Rattle.tv_menu.specs.Bar.{IsBarOf, open_of}

@@ -1,6 +1,6 @@
 -- What a run's dialogs are where other parts of the state change.
 use Rattle.std.proofs.Common.{false, arith, refl, ◌≡◌, ◌≤◌, List, [], length, Option, Some, None, sym, ap, subst, ◌∙◌}
-use Rattle.tv_model.specs.Controls.Meaning.{Leaf}
+use Rattle.tv_view.specs.Meaning.{Leaf}
 use Rattle.tv_model.specs.declared.desc.Desc.{Desc}
 use Rattle.tv_model.specs.declared.log.LogLine.{LogLine}
 use Rattle.tv_window.specs.Desk.{IsDesk}

@@ -1,6 +1,6 @@
 -- Which of the views handed in is the first that doesn't stand as the description declares it.
 use Rattle.std.specs.Prelude.{◌≡◌, ◌⊎◌, ℕ, ◌+◌, List, [], ◌∷◌, length, Option, Some, None}
-use Rattle.tv_model.specs.Controls.Meaning.{Leaf}
+use Rattle.tv_view.specs.Meaning.{Leaf}
 use Rattle.tv_model.specs.declared.desc.Desc.{Desc}
 use Rattle.tv_model.specs.declared.desc.Dialog.{Dialog}
 use Rattle.tv_model.specs.declared.desc.Window.{Window}

@@ -1,6 +1,6 @@
 -- A run that stands as the flat machine's does.
 use Rattle.std.specs.Prelude.{◌≡◌, false, []}
-use Rattle.tv_model.specs.Controls.Meaning.{Leaf}
+use Rattle.tv_view.specs.Meaning.{Leaf}
 use Rattle.tv_model.specs.declared.desc.Desc.{Desc}
 use Rattle.tv_machine.specs.State.{State}
 use Rattle.tv_machine.specs.Dialog.Sound.{HasSoundDialogs}

@@ -3,7 +3,7 @@ use Rattle.std.specs.Prelude.{◌≡◌}
 use Rattle.tv_laws.specs.Runs.{IsFitState}
 use Rattle.tv_machine.specs.Run.{Session}
 use Rattle.tv_menu.specs.Line.{IsLineOf}
-use Rattle.tv_model.specs.Controls.Meaning.{Leaf}
+use Rattle.tv_view.specs.Meaning.{Leaf}
 use Rattle.tv_script.specs.Performed.{IsScreenOf}
 use Rattle.tv_session.specs.Running.{IsRun}
 use Rattle.tv_session.specs.declared.session.SessionOf.{SessionOf}

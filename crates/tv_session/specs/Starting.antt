@@ -10,7 +10,7 @@ use Rattle.tv_menu.specs.Lawful.{IsLawfulScreen}
 use Rattle.tv_menu.specs.Line.{IsLineOf}
 use Rattle.tv_model.specs.Description.Numbers.{natural}
 use Rattle.tv_session.specs.declared.making.Parts.{Parts}
-use Rattle.tv_model.specs.Controls.Meaning.{Leaf}
+use Rattle.tv_view.specs.Meaning.{Leaf}
 use Rattle.tv_model.specs.Description.Heads.{is_named}
 use Rattle.tv_model.specs.declared.desc.Desc.{Desc}
 use Rattle.tv_group.specs.declared.group.GroupOf.{GroupOf}

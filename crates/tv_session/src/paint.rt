@@ -9,7 +9,7 @@ ghost use Rattle.tv_machine.specs.State.{State};
 ghost use Rattle.tv_menu.specs.Lawful.{IsLawfulScreen};
 ghost use Rattle.tv_menu.specs.Line.{IsLineOf};
 ghost use Rattle.tv_model.specs.Description.Rectangles.{desktop};
-ghost use Rattle.tv_model.specs.Screen.Layers.{background_layer, canvas_at, whole_screen};
+ghost use Rattle.tv_machine.specs.Screen.Bodies.{background_layer, canvas_at, whole_screen};
 ghost use Rattle.tv_session.specs.Running.{IsRun};
 ghost use Rattle.tv_view.specs.Drawing.{Lays};
 

@@ -1,10 +1,10 @@
 //! What changes while a run goes on.
 
 use crate::log::Log;
-use tv_window::DeskOf;
 use tv_dialogs::DialogsOf;
 use tv_menu::MenuBar;
 use tv_view::View;
+use tv_window::DeskOf;
 
 /// What changes while a run goes on: its windows, dialogs and menus, and the lines of its last event.
 #[derive(Drop)]

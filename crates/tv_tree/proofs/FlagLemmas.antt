@@ -1,7 +1,7 @@
 -- A tree where every rule holds as with other leaves.
 use Rattle.std.proofs.Common.{◌≡◌, Bool, ◌==◌, List, get_or, ap, ◌∙◌}
 use Rattle.tv_model.specs.declared.desc.Dialog.{Dialog}
-use Rattle.tv_model.specs.Controls.Meaning.{Placed}
+use Rattle.tv_view.specs.Meaning.{Placed}
 use Rattle.tv_machine.specs.State.{LeafState}
 use Rattle.tv_machine.specs.Leaves.{PlacedNode, leaf_list}
 use Rattle.tv_machine.specs.Dialog.Alike.{HoldSame}

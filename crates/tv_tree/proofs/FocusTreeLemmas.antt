@@ -6,12 +6,12 @@ use Rattle.tv_model.specs.declared.node.Id.{Id}
 use Rattle.tv_model.specs.declared.desc.Dialog.{Dialog}
 use Rattle.tv_model.specs.declared.log.LogLine.{LogLine}
 use Rattle.tv_model.specs.declared.log.LogLine.TheVariants as lines
-use Rattle.tv_model.specs.Controls.InputTable.{entered, left}
-use Rattle.tv_model.specs.Controls.Meaning.{Leaf, Placed}
+use Rattle.tv_model.specs.Kinds.InputLine.{entered, left}
+use Rattle.tv_view.specs.Meaning.{Leaf, Placed}
 use Rattle.tv_model.specs.Description.Nodes.{is_control}
 use Rattle.tv_machine.specs.State.{LeafState}
 use Rattle.tv_machine.specs.Leaves.{PlacedNode, leaf_list}
-use Rattle.tv_machine.specs.Controls.Contents.{Content}
+use Rattle.tv_model.specs.Controls.Contents.{Content}
 use Rattle.tv_machine.specs.Dialog.Focus.{Request, Same, NotFree, Refused, Moved, after_request, focus_moved, is_free_at, is_free_leaf, is_invalid, keeps_focus, request, requested, validates}
 use Rattle.tv_machine.specs.Dialog.Rules.{is_among, is_enabled, is_free, is_visible}
 use Rattle.tv_machine.specs.Dialog.Modal.{Modal, content_at, leaf_at, with_line}

@@ -10,12 +10,13 @@ use Rattle.tv_model.specs.declared.kind.Kind.TheVariants as kinds
 use Rattle.tv_model.specs.declared.record.Value.{Value}
 use Rattle.tv_model.specs.declared.record.Value.TheVariants as values
 use Rattle.tv_model.specs.declared.desc.Dialog.{Dialog}
-use Rattle.tv_model.specs.Controls.Meaning.{Placed}
+use Rattle.tv_view.specs.Meaning.{Placed}
 use Rattle.tv_model.specs.Log.Record.{Entries, value_of}
-use Rattle.tv_model.specs.Machine.State.{declared_value}
-use Rattle.tv_machine.specs.State.{LeafState, Private, Plain}
+use Rattle.tv_machine.specs.Controls.Declared.{declared_value, opened_private}
+use Rattle.tv_machine.specs.State.{LeafState}
+use Rattle.tv_model.specs.Controls.Private.{Private, Plain}
 use Rattle.tv_machine.specs.Leaves.{PlacedNode, leaf_list}
-use Rattle.tv_machine.specs.Controls.Contents.{Content, opened_private}
+use Rattle.tv_model.specs.Controls.Contents.{Content}
 use Rattle.tv_machine.specs.Dialog.Focus.{first_free, is_free_at, is_free_leaf, stop_of, stops_of}
 use Rattle.tv_machine.specs.Dialog.Opening.{first_focus, opened, opened_leaf, opened_leaves, recorded, unfocused}
 use Rattle.tv_machine.specs.Dialog.Rules.{content_by, is_among, is_free, state_of}

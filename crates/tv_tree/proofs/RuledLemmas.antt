@@ -8,15 +8,15 @@ use Rattle.tv_model.specs.declared.kind.Kind.TheVariants as kinds
 use Rattle.tv_model.specs.declared.command.CommandSpec.{CommandSpec}
 use Rattle.tv_model.specs.declared.command.CommandSpec.TheVariants as commands
 use Rattle.tv_model.specs.declared.desc.Dialog.{Dialog}
-use Rattle.tv_model.specs.Controls.ClusterTable.{ClusterKind, Boxes, Radios, is_item}
-use Rattle.tv_model.specs.Controls.Meaning.{Leaf, Placed}
+use Rattle.tv_model.specs.Controls.Shortcut.{ClusterKind, Boxes, Radios}
+use Rattle.tv_model.specs.Controls.Contents.{is_item, Content}
+use Rattle.tv_view.specs.Meaning.{Leaf, Placed}
 use Rattle.tv_model.specs.Description.Commands.{command_number, command_of}
 use Rattle.tv_model.specs.Description.LawfulNodes.{IsLawfulCommand, IsLimited}
 use Rattle.tv_model.specs.Description.Numbers.{natural}
 use Rattle.tv_machine.specs.State.{LeafState}
 use Rattle.tv_machine.specs.Leaves.{PlacedNode, leaf_list}
-use Rattle.tv_machine.specs.Controls.Contents.{Content}
-use Rattle.tv_machine.specs.Controls.Tables.{item_pressed}
+use Rattle.tv_model.specs.Kinds.Cluster.{item_pressed}
 use Rattle.tv_machine.specs.Dialog.Rules.{is_among, is_command_enabled, is_kind_enabled, is_visible}
 use Rattle.tv_machine.specs.Dialog.Modal.{Modal, content_at, leaf_at, with_content}
 use Rattle.tv_view.specs.declared.env.Rules.{Rules}

@@ -7,11 +7,12 @@ use Rattle.tv_model.specs.declared.kind.Kind.TheVariants as kinds
 use Rattle.tv_model.specs.declared.record.Value.{Value}
 use Rattle.tv_model.specs.declared.record.Value.TheVariants as values
 use Rattle.tv_model.specs.declared.desc.Dialog.{Dialog}
-use Rattle.tv_model.specs.Controls.InputTable.{Edit, entered, left}
-use Rattle.tv_model.specs.Controls.Meaning.{Leaf, Placed}
-use Rattle.tv_machine.specs.State.{LeafState, Private, Editing}
+use Rattle.tv_model.specs.Kinds.InputLine.{Edit, entered, left, edit_content, edit_of}
+use Rattle.tv_view.specs.Meaning.{Leaf, Placed}
+use Rattle.tv_machine.specs.State.{LeafState}
+use Rattle.tv_model.specs.Controls.Private.{Private, Editing}
 use Rattle.tv_machine.specs.Leaves.{PlacedNode}
-use Rattle.tv_machine.specs.Controls.Contents.{Content, edit_content, edit_of, text_of}
+use Rattle.tv_model.specs.Controls.Contents.{Content, text_of}
 use Rattle.tv_machine.specs.Dialog.Focus.{focus_moved}
 use Rattle.tv_machine.specs.Dialog.Rules.{is_enabled, is_visible}
 use Rattle.tv_machine.specs.Dialog.Modal.{Modal, content_at}

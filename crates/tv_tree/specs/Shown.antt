@@ -9,7 +9,7 @@ use Rattle.tv_model.specs.declared.desc.Desc.{Desc}
 use Rattle.tv_model.specs.declared.desc.Dialog.{Dialog}
 use Rattle.tv_model.specs.Description.Nodes.{height_of}
 use Rattle.tv_model.specs.Description.Rectangles.{corner_of, desktop, rect}
-use Rattle.tv_model.specs.Screen.Layers.{canvas_at}
+use Rattle.tv_machine.specs.Screen.Bodies.{canvas_at}
 use Rattle.tv_palette.specs.Chain.{coloured}
 use Rattle.tv_palette.specs.Palettes.{owners_of_part}
 use Rattle.tv_palette.specs.declared.role.Owner.TheVariants as owners

@@ -8,9 +8,10 @@ use Rattle.tv_machine.specs.Safe.{is_field}
 use Rattle.tv_model.specs.declared.record.Value.TheVariants as values
 use Rattle.tv_model.specs.declared.desc.Dialog.{Dialog}
 use Rattle.tv_model.specs.Description.Rectangles.{place_of_node}
-use Rattle.tv_model.specs.Controls.Meaning.{Leaf, Placed}
-use Rattle.tv_machine.specs.State.{LeafState, Held, Plain, Editing}
-use Rattle.tv_machine.specs.Controls.Contents.{Content}
+use Rattle.tv_view.specs.Meaning.{Leaf, Placed}
+use Rattle.tv_machine.specs.State.{LeafState, Held}
+use Rattle.tv_model.specs.Controls.Private.{Plain, Editing}
+use Rattle.tv_model.specs.Controls.Contents.{Content}
 use Rattle.tv_machine.specs.Leaves.{PlacedNode, leaf_list}
 use Rattle.tv_machine.specs.Dialog.Rules.{is_enabled, is_visible}
 use Rattle.tv_machine.specs.Dialog.Modal.{Modal, content_at}

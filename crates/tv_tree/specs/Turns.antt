@@ -5,12 +5,12 @@ use Rattle.tv_event.specs.declared.event.Phase.TheVariants as phases
 use Rattle.tv_model.specs.declared.node.Id.{Id}
 use Rattle.tv_model.specs.declared.kind.Kind.{Kind}
 use Rattle.tv_model.specs.Kinds.{behaviour}
-use Rattle.tv_model.specs.Controls.Shortcut.{Shortcut, ItemMarks}
+use Rattle.tv_model.specs.Controls.Shortcut.{Shortcut, ItemMarks, ClusterKind}
 use Rattle.tv_model.specs.declared.desc.Dialog.{Dialog}
 use Rattle.tv_model.specs.declared.log.LogLine.TheVariants as lines
-use Rattle.tv_model.specs.Controls.ClusterTable.{ClusterKind, is_item}
-use Rattle.tv_model.specs.Controls.Meaning.{Placed}
-use Rattle.tv_machine.specs.Controls.Tables.{item_pressed}
+use Rattle.tv_model.specs.Controls.Contents.{is_item}
+use Rattle.tv_view.specs.Meaning.{Placed}
+use Rattle.tv_model.specs.Kinds.Cluster.{item_pressed}
 use Rattle.tv_machine.specs.Leaves.{PlacedNode}
 use Rattle.tv_machine.specs.Dialog.Ending.{command}
 use Rattle.tv_machine.specs.Dialog.Focus.{request, request_then}

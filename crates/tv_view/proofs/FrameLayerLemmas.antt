@@ -10,7 +10,7 @@ use Rattle.tv_cells.specs.declared.canvas.Canvas.{Canvas}
 use Rattle.tv_cells.proofs.RectangleLemmas.{point_is}
 use Rattle.tv_model.specs.Description.Numbers.{natural}
 use Rattle.tv_model.specs.Description.Rectangles.{desktop, rect}
-use Rattle.tv_model.specs.Screen.Layers.{canvas_at}
+use Rattle.tv_machine.specs.Screen.Bodies.{canvas_at}
 use Rattle.tv_model.specs.declared.desc.Desc.{Desc}
 use Rattle.tv_view.proofs.SameLayerLemmas.{IsSame, covers_sub, painted_same, resized, shadow_same, sub_covers, unsized}
 

@@ -5,7 +5,7 @@ use Rattle.tv_cells.specs.Canvas.{sub}
 use Rattle.tv_cells.specs.Layers.{Layer}
 use Rattle.tv_cells.specs.declared.rect.Rect.{Rect}
 use Rattle.tv_cells.specs.declared.canvas.Canvas.{Canvas}
-use Rattle.tv_model.specs.Controls.Meaning.{Placed, inside, kept, unmarked}
+use Rattle.tv_view.specs.Meaning.{Placed, inside, kept, unmarked}
 use Rattle.tv_view.specs.declared.env.Env.{Env}
 use Rattle.tv_view.specs.Drawing.{Lays, is_near, layers_in, leaves_layers}
 

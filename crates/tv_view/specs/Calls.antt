@@ -1,21 +1,21 @@
 -- What the other calls of a view answer, and make of its leaf.
-use Rattle.std.specs.Prelude.{◌⊎◌, ◌<◌, ℕ, Bool, true, false, not, ◌&&◌, List, length, Option, Some, None, IsSome, IsTrue, slice_index_or, ◌+◌, ◌^◌, ◌==◌, if◌then◌else◌}
+use Rattle.std.specs.Prelude.{◌⊎◌, ◌<◌, ℕ, Bool, true, false, not, ◌&&◌, List, length, Option, Some, None, IsSome, slice_index_or, ◌+◌, ◌==◌, if◌then◌else◌}
 use Rattle.tv_valid.specs.Domain.{IsViableText}
 use Rattle.tv_model.specs.declared.node.Id.{Id}
 use Rattle.tv_model.specs.declared.kind.Kind.{Kind}
 use Rattle.tv_model.specs.declared.command.CommandSpec.{CommandSpec}
 use Rattle.tv_model.specs.Kinds.{behaviour}
-use Rattle.tv_model.specs.Controls.Shortcut.{Shortcut, ItemMarks, has_marks}
+use Rattle.tv_model.specs.Controls.Shortcut.{Shortcut, ItemMarks, has_marks, ClusterKind}
 use Rattle.tv_machine.specs.Safe as Safe
 use Rattle.tv_model.specs.declared.record.Value.{Value}
 use Rattle.tv_model.specs.Description.Nodes.{is_control}
 use Rattle.tv_model.specs.Description.Commands.{command_number, command_of}
 use Rattle.tv_model.specs.Log.Record.{Entries, value_of, with_value}
-use Rattle.tv_model.specs.Controls.ClusterTable.{ClusterKind, is_item}
-use Rattle.tv_model.specs.Controls.InputTable.{Edit, entered, left}
-use Rattle.tv_model.specs.Controls.Meaning.{Leaf}
-use Rattle.tv_machine.specs.Controls.Contents.{edit_of, edit_content, opened_private}
-use Rattle.tv_machine.specs.Controls.Tables as tables
+use Rattle.tv_model.specs.Controls.Contents.{is_item}
+use Rattle.tv_model.specs.Kinds.InputLine.{Edit, entered, left, edit_of, edit_content}
+use Rattle.tv_view.specs.Meaning.{Leaf}
+use Rattle.tv_machine.specs.Controls.Declared.{opened_private}
+use Rattle.tv_model.specs.Kinds.Cluster as clusters
 use Rattle.tv_machine.specs.Dialog.Focus.{is_invalid}
 use Rattle.tv_machine.specs.Dialog.Rules.{is_among}
 use Rattle.tv_view.specs.declared.env.Rules.{Rules}
@@ -62,7 +62,7 @@ focused_to id leaf = if not (takes_focus id leaf) then without_focus leaf else i
 
 -- a cluster of so many items with the item pressed, if it has it
 abbrev pub cluster_pressed : ClusterKind → ℕ → ℕ → Leaf → Leaf
-cluster_pressed kind count item leaf = if is_item count item then with_content (tables.item_pressed kind item (content_of leaf)) leaf else leaf
+cluster_pressed kind count item leaf = if is_item count item then with_content (clusters.item_pressed kind item (content_of leaf)) leaf else leaf
 
 -- only clusters have items to press
 abbrev pub shortcut_pressed : Shortcut → ℕ → Leaf → Leaf

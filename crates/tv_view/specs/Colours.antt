@@ -4,11 +4,11 @@ use Rattle.tv_model.specs.declared.node.Id.{Id}
 use Rattle.tv_model.specs.declared.node.Node.{Node}
 use Rattle.tv_model.specs.declared.kind.Kind.{Kind}
 use Rattle.tv_model.specs.Kinds.{behaviour}
-use Rattle.tv_model.specs.Controls.Meaning.{Leaf}
+use Rattle.tv_view.specs.Meaning.{Leaf}
 use Rattle.tv_model.specs.Description.Names.{meant}
 use Rattle.tv_palette.specs.declared.role.Role.{Role}
 use Rattle.tv_palette.specs.Palettes.{colour_in}
-use Rattle.tv_machine.specs.Screen.LeafFaces.{Look}
+use Rattle.tv_model.specs.Controls.Look.{Look}
 use Rattle.tv_view.specs.declared.env.Env.{Env}
 
 -- the attribute of a role, by the view's palette and those of its owners

@@ -10,7 +10,7 @@ use Rattle.tv_cells.specs.declared.canvas.Canvas.{Canvas}
 use Rattle.tv_model.specs.Description.Numbers.{natural}
 use Rattle.tv_model.specs.Description.Nodes.{height_of}
 use Rattle.tv_model.specs.Screen.Faces.{FaceOf}
-use Rattle.tv_model.specs.Controls.Meaning.{Leaf, Placed, bounds_of}
+use Rattle.tv_view.specs.Meaning.{Leaf, Placed, bounds_of}
 use Rattle.tv_machine.specs.Screen.LeafFaces.{leaf_faces}
 use Rattle.tv_view.specs.declared.env.Env.{Env}
 use Rattle.tv_view.specs.Colours.{colour, look_of}

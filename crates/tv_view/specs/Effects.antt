@@ -7,10 +7,10 @@ use Rattle.tv_event.specs.declared.event.Key.{Key}
 use Rattle.tv_event.specs.declared.event.Phase.{Phase}
 use Rattle.tv_event.specs.declared.event.Phase.TheVariants as phases
 use Rattle.tv_model.specs.Description.Numbers.{natural}
-use Rattle.tv_model.specs.Controls.InputTable.{first_shown}
-use Rattle.tv_model.specs.Controls.Meaning.{Leaf, holds}
-use Rattle.tv_machine.specs.Controls.Contents.{cursor_of}
-use Rattle.tv_machine.specs.Controls.Tables.{Answer, Passed, Becomes, Presses, key_answer, remembered, down_content, move_content, up_answer}
+use Rattle.tv_model.specs.Kinds.InputLine.{first_shown, cursor_of}
+use Rattle.tv_view.specs.Meaning.{Leaf, holds}
+use Rattle.tv_model.specs.Controls.Behaviour.{Answer, Passed, Becomes, Presses}
+use Rattle.tv_machine.specs.Controls.Tables.{key_answer, remembered, down_content, move_content, up_answer}
 use Rattle.tv_view.specs.declared.env.Env.{Env}
 use Rattle.tv_view.specs.declared.reaction.Reaction.{Reaction}
 use Rattle.tv_view.specs.declared.reaction.Reaction.TheVariants.{Pass}

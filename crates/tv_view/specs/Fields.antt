@@ -1,6 +1,6 @@
 -- What a leaf holds, as the machine's tables of the controls see it.
-use Rattle.tv_model.specs.Controls.Meaning.{Leaf}
-use Rattle.tv_machine.specs.Controls.Contents.{Content}
+use Rattle.tv_view.specs.Meaning.{Leaf}
+use Rattle.tv_model.specs.Controls.Contents.{Content}
 
 -- its value, what it keeps beside it, and whether typing overwrites
 abbrev pub content_of : Leaf → Content

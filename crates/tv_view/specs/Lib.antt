@@ -3,5 +3,7 @@ pub mod Colours
 pub mod Drawing
 pub mod Effects
 pub mod Fields
+-- what a view means: its leaves
+pub mod Meaning
 pub mod Points
 pub mod Reactions

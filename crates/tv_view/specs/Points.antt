@@ -6,7 +6,7 @@ use Rattle.tv_cells.specs.declared.rect.Point.{Point}
 use Rattle.tv_cells.specs.declared.rect.Rect.{Rect}
 use Rattle.tv_event.specs.declared.event.Event.{Event}
 use Rattle.tv_event.specs.declared.event.Event.TheVariants as events
-use Rattle.tv_model.specs.Controls.Meaning.{Leaf, bounds_of}
+use Rattle.tv_view.specs.Meaning.{Leaf, bounds_of}
 
 -- ---- leaves
 

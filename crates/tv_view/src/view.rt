@@ -2,7 +2,8 @@
 
 ghost use Rattle.std.specs.Prelude.{◌≡◌, ◌↔◌, IsTrue};
 ghost use Rattle.tv_cells.specs.Rectangle.{IsPointNear};
-ghost use Rattle.tv_model.specs.Controls.Meaning.{Leaf, IsSmallRect, bounds_of, fresh, holds};
+ghost use Rattle.tv_view.specs.Meaning.{Leaf, bounds_of, fresh, holds};
+ghost use Rattle.tv_model.specs.Description.Rectangles.{IsSmallRect};
 ghost use Rattle.tv_view.specs.Calls.{Fits, HasRoom, applied, focused_to, gathered, invalid_id, item_pressed, option_bits, set_from, state_bits, takes_focus};
 ghost use Rattle.tv_view.specs.Drawing.{Lays, leaf_layers};
 ghost use Rattle.tv_view.specs.Effects.{StaysWherePassed, handled};

@@ -9,7 +9,7 @@ use Rattle.tv_valid.specs.declared.domain.Kind.TheVariants.{Any}
 use Rattle.tv_valid.specs.declared.domain.Domain.{Domain}
 use Rattle.tv_valid.specs.Asking.{domain_with}
 use Rattle.tv_valid.specs.Domain.{Fits, IsDomain, IsKind}
-use Rattle.tv_model.specs.Description.LawfulNodes.{HasAnyText, MayStand}
+use Rattle.tv_model.specs.Kinds.InputLine.{HasAnyText, MayStand}
 
 module _ (spec : InputSpec) (any : spec.domain ≡ asked.Any) (room : pos 0 ≤ℤ spec.max) where
   abbrev own : Domain

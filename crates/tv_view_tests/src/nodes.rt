@@ -2,7 +2,8 @@
 
 ghost use Rattle.std.specs.Prelude.{◌≡◌, ◌≤◌, ◌≤ℤ◌, [], pos, length, All, IfOk, Some};
 ghost use Rattle.tv_cells.specs.Glyph.{IsNarrow};
-ghost use Rattle.tv_model.specs.Description.LawfulNodes.{HasAnyText, IsLawfulCommand, IsLawfulNode, MayStand};
+ghost use Rattle.tv_model.specs.Kinds.InputLine.{HasAnyText, MayStand};
+ghost use Rattle.tv_model.specs.Description.LawfulNodes.{IsLawfulCommand, IsLawfulNode};
 ghost use Rattle.tv_model.specs.Description.Numbers.{IsBetween};
 ghost use Rattle.tv_valid.specs.declared.input.DomainSpec.TheVariants as asked;
 

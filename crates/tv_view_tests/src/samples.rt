@@ -1,8 +1,7 @@
 //! Nodes and groups that several tests use.
 
 ghost use Rattle.std.specs.Prelude.{◌≤◌, ◌≤ℤ◌, pos, length, IfOk};
-ghost use Rattle.tv_model.specs.Description.Rectangles.{place_of_node};
-ghost use Rattle.tv_model.specs.Controls.Meaning.{IsSmallRect};
+ghost use Rattle.tv_model.specs.Description.Rectangles.{place_of_node, IsSmallRect};
 
 use std::alloc::Global;
 use std::test::Fail;

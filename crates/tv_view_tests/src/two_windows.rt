@@ -1,8 +1,7 @@
 //! Two windows over groups of boxed texts, one over the other.
 
 ghost use Rattle.std.specs.Prelude.{◌≤ℤ◌, pos, IfOk, IfSome};
-ghost use Rattle.tv_model.specs.Description.Rectangles.{place_of_node};
-ghost use Rattle.tv_model.specs.Controls.Meaning.{IsSmallRect};
+ghost use Rattle.tv_model.specs.Description.Rectangles.{place_of_node, IsSmallRect};
 ghost use Rattle.tv_window.specs.Head.{IsLimited, declared_head};
 
 use crate::samples::{body, chars, sized, text_node};

@@ -1,8 +1,7 @@
 //! Views in groups, among them one that is made here.
 
 ghost use Rattle.std.specs.Prelude.{IfOk};
-ghost use Rattle.tv_model.specs.Description.Rectangles.{place_of_node};
-ghost use Rattle.tv_model.specs.Controls.Meaning.{IsSmallRect};
+ghost use Rattle.tv_model.specs.Description.Rectangles.{place_of_node, IsSmallRect};
 
 use crate::samples::{body, chars, rows_node, sized, text_node};
 use std::alloc::Global;

@@ -9,11 +9,11 @@ use Rattle.std.proofs.lemmas.Int.{ints}
 use Rattle.tv_cells.specs.Layers.{is_in}
 use Rattle.tv_cells.specs.declared.rect.Point.{Point}
 use Rattle.tv_group.specs.Stack.{raised}
-use Rattle.tv_model.specs.Controls.Meaning.{Leaf}
+use Rattle.tv_view.specs.Meaning.{Leaf}
 use Rattle.tv_model.specs.Description.Heads.{window_head}
 use Rattle.tv_model.specs.Description.Nodes.{has_id, is_window}
 use Rattle.tv_model.specs.Description.Rectangles.{rect}
-use Rattle.tv_model.specs.Screen.Layers.{window_of}
+use Rattle.tv_machine.specs.Screen.Bodies.{window_of}
 use Rattle.tv_model.specs.declared.desc.Desc.{Desc}
 use Rattle.tv_model.specs.declared.desc.Window.{Window}
 use Rattle.tv_model.specs.declared.kind.Kind.{Kind}

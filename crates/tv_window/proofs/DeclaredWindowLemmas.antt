@@ -13,10 +13,10 @@ use Rattle.tv_cells.proofs.RectangleLemmas.{in_cut, point_is}
 use Rattle.tv_model.specs.Screen.Faces.{FaceOf, frame_look, frame_role, static_text, text_face}
 use Rattle.tv_model.specs.Description.Nodes.{is_pane}
 use Rattle.tv_model.specs.Description.Rectangles.{corner_of, desktop, interior, place_of_node, rect}
-use Rattle.tv_model.specs.Screen.Layers.{canvas_at}
+use Rattle.tv_machine.specs.Screen.Bodies.{canvas_at}
 use Rattle.tv_machine.specs.Leaves.{PlacedNode, leaf_list}
 use Rattle.tv_machine.specs.Screen.Layers.{window_leaf}
-use Rattle.tv_model.specs.Controls.Meaning.{fresh}
+use Rattle.tv_view.specs.Meaning.{fresh}
 use Rattle.tv_model.specs.Description.Numbers.{natural}
 use Rattle.tv_model.specs.declared.desc.Desc.{Desc}
 use Rattle.tv_model.specs.declared.desc.Window.{Window}

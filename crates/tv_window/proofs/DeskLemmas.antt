@@ -6,8 +6,8 @@ use Rattle.std.proofs.lemmas.Option.{slice_get_read}
 use Rattle.tv_cells.specs.Layers.{is_in}
 use Rattle.tv_cells.specs.declared.rect.Point.{Point}
 use Rattle.tv_group.specs.Stack.{raised}
-use Rattle.tv_model.specs.Controls.Meaning.{Leaf}
-use Rattle.tv_model.specs.Screen.Layers.{window_of}
+use Rattle.tv_view.specs.Meaning.{Leaf}
+use Rattle.tv_machine.specs.Screen.Bodies.{window_of}
 use Rattle.tv_model.specs.declared.desc.Desc.{Desc}
 use Rattle.tv_model.specs.declared.node.Id.{Id}
 use Rattle.tv_machine.specs.Dialog.Mouse.{is_close_mark}

@@ -2,8 +2,8 @@
 use Rattle.std.proofs.Common.{◌≡◌, ◌≢◌, false, List, [], ◌∷◌, map, reverse, Some, All, AllPairs, refl, sym, ◌∙◌, subst, arith}
 use Rattle.std.proofs.lemmas.List.Elements.{All-head, All-map, All-tail, All-weaker}
 use Rattle.std.proofs.lemmas.List.Kept.{AllPairs-cons}
-use Rattle.tv_model.specs.Controls.Meaning.{Leaf}
-use Rattle.tv_model.specs.Screen.Layers.{window_of}
+use Rattle.tv_view.specs.Meaning.{Leaf}
+use Rattle.tv_machine.specs.Screen.Bodies.{window_of}
 use Rattle.tv_model.specs.declared.desc.Desc.{Desc}
 use Rattle.tv_model.specs.declared.desc.Window.{Window}
 use Rattle.tv_model.specs.declared.node.Id.{Id}

@@ -13,10 +13,10 @@ use Rattle.tv_cells.specs.declared.rect.Rect.{Rect}
 use Rattle.tv_cells.specs.declared.canvas.Canvas.{Canvas}
 use Rattle.tv_model.specs.Screen.Faces.{FaceOf, FrameLook, frame_face, frame_look}
 use Rattle.tv_model.specs.Description.Heads.{window_head}
-use Rattle.tv_model.specs.Description.Rectangles.{corner_of, interior, rect}
+use Rattle.tv_model.specs.Description.Rectangles.{corner_of, interior, rect, IsSmall, IsSmallRect}
 use Rattle.tv_machine.specs.Leaves.{leaf_list}
 use Rattle.tv_machine.specs.Screen.Layers.{stack_layers as declared_layers, window_layers as declared_window, window_leaf}
-use Rattle.tv_model.specs.Controls.Meaning.{Leaf, IsSmall, IsSmallRect}
+use Rattle.tv_view.specs.Meaning.{Leaf}
 use Rattle.tv_machine.specs.State.{OpenWindow}
 use Rattle.tv_model.proofs.HeadLemmas.{window_head_of-Window}
 use Rattle.tv_model.specs.Description.Nodes.{height_of, is_pane, is_window}

@@ -8,7 +8,7 @@ use Rattle.tv_cells.specs.Rectangle.{IsNear, IsPointNear}
 use Rattle.tv_cells.specs.declared.rect.Rect.{Rect}
 use Rattle.tv_cells.specs.declared.canvas.Canvas.{Canvas}
 use Rattle.tv_model.specs.Screen.Faces.{FrameLook, frame_face}
-use Rattle.tv_model.specs.Controls.Meaning.{IsSmall, IsSmallRect}
+use Rattle.tv_model.specs.Description.Rectangles.{IsSmall, IsSmallRect}
 use Rattle.tv_view.specs.Drawing.{Lays}
 
 -- one layer, and then layers on top of it

@@ -3,8 +3,8 @@ use Rattle.std.specs.Prelude.{◌≡◌, ℤ, ℕ, All, List, [], ◌∷◌, Som
 use Rattle.tv_cells.specs.Rectangle.{IsIn}
 use Rattle.tv_cells.specs.declared.canvas.Canvas.{Canvas}
 use Rattle.tv_model.specs.Description.Rectangles.{corner_of, desktop, interior, place_of_node}
-use Rattle.tv_model.specs.Screen.Layers.{canvas_at, window_of}
-use Rattle.tv_model.specs.Controls.Meaning.{Leaf}
+use Rattle.tv_machine.specs.Screen.Bodies.{canvas_at, window_of}
+use Rattle.tv_view.specs.Meaning.{Leaf}
 use Rattle.tv_machine.specs.State.{OpenWindow}
 use Rattle.tv_model.specs.declared.desc.Desc.{Desc}
 use Rattle.tv_model.specs.declared.desc.Window.{Window}

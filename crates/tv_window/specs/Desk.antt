@@ -2,7 +2,7 @@
 use Rattle.std.specs.Prelude.{◌≢◌, All, List, Option, Some, None, IfSome}
 use Rattle.std.specs.List.{AllPairs, AllZip}
 use Rattle.tv_cells.specs.declared.rect.Point.{Point}
-use Rattle.tv_model.specs.Controls.Meaning.{Leaf}
+use Rattle.tv_view.specs.Meaning.{Leaf}
 use Rattle.tv_model.specs.declared.desc.Desc.{Desc}
 use Rattle.tv_model.specs.declared.desc.Window.{Window}
 use Rattle.tv_model.specs.declared.log.LogLine.TheVariants as lines

@@ -6,8 +6,7 @@ use Rattle.tv_model.specs.declared.node.Node.{Node}
 use Rattle.tv_model.specs.declared.kind.Kind.{Kind}
 use Rattle.tv_model.specs.declared.kind.Kind.TheVariants as kinds
 use Rattle.tv_model.specs.declared.kind.WindowHead.{WindowHead}
-use Rattle.tv_model.specs.Description.Rectangles.{rect}
-use Rattle.tv_model.specs.Controls.Meaning.{IsSmallRect}
+use Rattle.tv_model.specs.Description.Rectangles.{rect, IsSmallRect}
 
 -- a window's rectangle, number and title
 pub record KeptHead : Type 0 where

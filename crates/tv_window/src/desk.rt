@@ -6,18 +6,18 @@ ghost use Rattle.tv_machine.specs.Session.Commands.{close_front, do_command, las
 ghost use Rattle.tv_machine.specs.Session.Desktop.{raise_found, window_of_digit};
 ghost use Rattle.tv_machine.specs.Session.Start.{closed};
 ghost use Rattle.tv_machine.specs.State.{OpenWindow, State};
-ghost use Rattle.tv_model.specs.Controls.Meaning.{IsSmall};
+ghost use Rattle.tv_model.specs.Description.Rectangles.{IsSmall};
 ghost use Rattle.tv_model.specs.declared.desc.Desc.{Desc};
 ghost use Rattle.tv_view.specs.Drawing.{Lays};
 ghost use Rattle.tv_window.specs.DeclaredWindows.{IsOfWindow, desktop_canvas};
 ghost use Rattle.tv_window.specs.Desk.{AreFreshWindows, AreLawfulWindows, IsDesk, down_at, with_close_line};
 
 use crate::places::{is_on_close_mark, place_of_digit, place_under};
+use crate::{WindowOf, draw_stack};
 use tv_cells::{Canvas, Point, Screen};
 use tv_group::Stack;
 use tv_model::Id;
 use tv_view::{Env, View};
-use crate::{WindowOf, draw_stack};
 
 /// The open windows of a run, the front one first.
 ///

@@ -10,8 +10,8 @@ ghost use Rattle.tv_model.specs.Description.Rectangles.{rect};
 ghost use Rattle.tv_window.specs.Head.{bounds_of};
 ghost use Rattle.tv_window.specs.Window.{head_of};
 
-use tv_cells::{Point, Rect};
 use crate::WindowOf;
+use tv_cells::{Point, Rect};
 
 fn has_point<V>(window: &WindowOf<V>, point: Point) -> bool
     ensures { result ≡ is_in (bounds_of (head_of window.now)) point.x point.y }

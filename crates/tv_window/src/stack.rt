@@ -2,7 +2,7 @@
 
 ghost use Rattle.std.specs.Prelude.{◌≡◌, List};
 ghost use Rattle.tv_machine.specs.Screen.Layers.{stack_layers as declared_layers};
-ghost use Rattle.tv_model.specs.Controls.Meaning.{IsSmall};
+ghost use Rattle.tv_model.specs.Description.Rectangles.{IsSmall};
 ghost use Rattle.tv_machine.specs.State.{OpenWindow};
 ghost use Rattle.tv_model.specs.declared.desc.Desc.{Desc};
 ghost use Rattle.tv_view.specs.Drawing.{Lays};

@@ -10,7 +10,8 @@ use Rattle.tv_model.specs.declared.desc.Dialog.{Dialog}
 use Rattle.tv_model.specs.declared.desc.Window.{Window}
 use Rattle.tv_model.specs.declared.desc.Effect.TheVariants as effects
 use Rattle.tv_model.specs.Description.Heads.{window_head}
-use Rattle.tv_model.specs.Description.Letters.{letter_of, marked_of}
+use Rattle.tv_model.specs.Description.Marks.{letter_of}
+use Rattle.tv_model.specs.Description.Letters.{marked_of}
 use Rattle.tv_model.specs.Description.Numbers.{IsBetween}
 use Rattle.tv_faults.specs.Sound.Bodies.{EachBody}
 

@@ -10,7 +10,7 @@ use Rattle.tv_model.specs.declared.desc.Rule.{Rule}
 use Rattle.tv_model.specs.declared.desc.Effect.{Effect}
 use Rattle.tv_model.specs.declared.desc.Effect.TheVariants as effects
 use Rattle.tv_model.specs.Faults.Lines.{after_seen}
-use Rattle.tv_model.specs.Description.LawfulNodes.{IsItem}
+use Rattle.tv_model.specs.Controls.Contents.{IsItem}
 use Rattle.tv_model.specs.Description.Names.{gives_name, meant}
 use Rattle.tv_model.specs.Description.Nodes.{is_cluster, is_control, is_pane}
 use Rattle.tv_model.specs.Description.Panes.{panes_around}

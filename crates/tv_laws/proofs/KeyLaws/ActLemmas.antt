@@ -13,15 +13,14 @@ use Rattle.tv_model.specs.declared.log.LogLine.{LogLine}
 use Rattle.tv_model.specs.declared.log.LogLine.TheVariants as lines
 use Rattle.tv_model.specs.declared.record.Value.{Value}
 use Rattle.tv_model.specs.declared.record.Value.TheVariants as values
-use Rattle.tv_model.specs.Controls.ButtonTable.{item_marking}
-use Rattle.tv_model.specs.Controls.ClusterTable.{ClusterKind, Boxes, Radios}
-use Rattle.tv_model.specs.Controls.InputTable.{Edit, entered, left}
+use Rattle.tv_model.specs.Controls.Shortcut.{item_marking, ClusterKind, Boxes, Radios}
+use Rattle.tv_model.specs.Kinds.InputLine.{Edit, entered, left, edit_of}
 use Rattle.tv_model.specs.Description.Commands.{command_number, is_declared}
 use Rattle.tv_model.specs.Description.Heads.{dialog_head}
 use Rattle.tv_model.specs.Description.Nodes.{is_button}
 use Rattle.tv_machine.specs.Leaves.{PlacedNode, leaf_list}
-use Rattle.tv_machine.specs.Controls.Contents.{Content, edit_of, text_of}
-use Rattle.tv_machine.specs.Controls.Tables.{item_pressed}
+use Rattle.tv_model.specs.Controls.Contents.{Content, text_of}
+use Rattle.tv_model.specs.Kinds.Cluster.{item_pressed}
 use Rattle.tv_machine.specs.Dialog.Ending.{command, end_by, ended, field_line, fields_of, first_invalid, press, pressed_kind, shown_invalid}
 use Rattle.tv_machine.specs.Dialog.Focus.{Moved, NotFree, Refused, Request, Same, after_request, focus_moved, is_free_at, is_granted, refocused, request, requested}
 use Rattle.tv_machine.specs.Dialog.Modal.{Modal, content_at, leaf_at, with_content, with_line}

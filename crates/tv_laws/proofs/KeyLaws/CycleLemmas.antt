@@ -9,7 +9,7 @@ use Rattle.tv_model.specs.declared.node.Id.{Id}
 use Rattle.tv_model.specs.declared.kind.Kind.{Kind}
 use Rattle.tv_model.specs.declared.kind.Kind.TheVariants as kinds
 use Rattle.tv_model.specs.declared.desc.Dialog.{Dialog}
-use Rattle.tv_machine.specs.Controls.Contents.{Content}
+use Rattle.tv_model.specs.Controls.Contents.{Content}
 use Rattle.tv_machine.specs.Dialog.Focus.{Moved, NotFree, Refused, Same, Stop, after_request, focus_moved, is_free_at, is_invalid, keeps_focus, next_free, previous_free, request, stop_of, stops_of, validates}
 use Rattle.tv_machine.specs.Dialog.Modal.{Modal, content_at, leaf_at}
 use Rattle.tv_machine.specs.Dialog.Step.{dialog_step}

@@ -10,18 +10,18 @@ use Rattle.tv_model.specs.declared.kind.MarkedText.{MarkedText}
 use Rattle.tv_model.specs.declared.desc.Dialog.{Dialog}
 use Rattle.tv_model.specs.declared.log.LogLine.{LogLine}
 use Rattle.tv_model.specs.declared.log.LogLine.TheVariants as lines
-use Rattle.tv_model.specs.Controls.ButtonTable.{item_marking}
-use Rattle.tv_model.specs.Controls.ClusterTable.{ClusterKind, Boxes, Radios}
-use Rattle.tv_model.specs.Controls.InputTable.{Edit, entered, left}
+use Rattle.tv_model.specs.Controls.Shortcut.{item_marking, ClusterKind, Boxes, Radios}
+use Rattle.tv_model.specs.Kinds.InputLine.{Edit, entered, left}
 use Rattle.tv_model.specs.Description.Commands.{command_number, is_declared}
 use Rattle.tv_model.specs.Description.Heads.{dialog_head}
-use Rattle.tv_model.specs.Description.Letters.{marks}
+use Rattle.tv_model.specs.Description.Marks.{marks}
 use Rattle.tv_model.specs.Description.Names.{meant}
 use Rattle.tv_model.specs.Description.Nodes.{is_button, is_cluster, is_control}
-use Rattle.tv_model.specs.Description.Owners.{item_at, owner_by}
+use Rattle.tv_model.specs.Controls.Owner.{item_at}
+use Rattle.tv_model.specs.Description.Owners.{owner_by}
 use Rattle.tv_machine.specs.Leaves.{PlacedNode, leaf_list}
-use Rattle.tv_machine.specs.Controls.Contents.{Content}
-use Rattle.tv_machine.specs.Controls.Tables.{item_pressed}
+use Rattle.tv_model.specs.Controls.Contents.{Content}
+use Rattle.tv_model.specs.Kinds.Cluster.{item_pressed}
 use Rattle.tv_machine.specs.Dialog.Ending.{command, end_by, ended, field_line, fields_of, first_invalid, press, pressed_kind, shown_invalid}
 use Rattle.tv_machine.specs.Dialog.Focus.{Moved, NotFree, Refused, Same, after_request, focus_moved, is_free_at, is_free_leaf, is_granted, keeps_focus, refocused, request, requested}
 use Rattle.tv_machine.specs.Dialog.Modal.{Modal, content_at, leaf_at, with_line}

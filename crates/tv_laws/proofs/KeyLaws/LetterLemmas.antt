@@ -13,17 +13,19 @@ use Rattle.tv_model.specs.declared.kind.Kind.{Kind}
 use Rattle.tv_model.specs.declared.kind.Kind.TheVariants as kinds
 use Rattle.tv_model.specs.declared.kind.MarkedText.{MarkedText}
 use Rattle.tv_model.specs.declared.desc.Dialog.{Dialog}
-use Rattle.tv_model.specs.Controls.ButtonTable.{item_marking}
-use Rattle.tv_model.specs.Controls.ClusterTable as clusters
-use Rattle.tv_model.specs.Controls.ClusterTable.{ClusterKind, Boxes, Radios, of_letter}
-use Rattle.tv_model.specs.Description.Letters.{is_option_letter, marks, upper}
+use Rattle.tv_model.specs.Controls.Shortcut.{item_marking, ClusterKind, Boxes, Radios}
+use Rattle.tv_model.specs.Kinds.Cluster as clusters
+use Rattle.tv_model.specs.Kinds.Cluster.{of_letter, selected_of, cluster_answer}
+use Rattle.tv_model.specs.Description.Marks.{is_option_letter, marks, upper}
 use Rattle.tv_model.specs.Description.Names.{gives_name, is_option_named, meant}
 use Rattle.tv_model.specs.Description.Nodes.{is_control, is_pane, name_of}
 use Rattle.tv_model.specs.Description.Owners as owners
-use Rattle.tv_model.specs.Description.Owners.{Owner, control, item_at, owner_by, owners_of}
+use Rattle.tv_model.specs.Controls.Owner.{Owner, control, item_at}
+use Rattle.tv_model.specs.Description.Owners.{owner_by, owners_of}
 use Rattle.tv_machine.specs.Leaves.{PlacedNode, leaf_list, leaves_in, open_after, open_at}
-use Rattle.tv_machine.specs.Controls.Contents.{Content, selected_of}
-use Rattle.tv_machine.specs.Controls.Tables.{Passed, cluster_answer, key_answer}
+use Rattle.tv_model.specs.Controls.Contents.{Content}
+use Rattle.tv_model.specs.Controls.Behaviour.{Passed}
+use Rattle.tv_machine.specs.Controls.Tables.{key_answer}
 use Rattle.tv_machine.specs.Dialog.Focus.{Moved, NotFree, Refused, Same, after_request, is_free_at, is_free_leaf, is_granted, keeps_focus, requested}
 use Rattle.tv_machine.specs.Dialog.Keys.{alt_keyed, answered, keyed}
 use Rattle.tv_machine.specs.Dialog.Modal.{Modal, content_at, leaf_at}

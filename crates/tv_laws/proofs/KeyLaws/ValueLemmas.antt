@@ -10,7 +10,7 @@ use Rattle.tv_model.specs.declared.record.Value.{Value}
 use Rattle.tv_model.specs.declared.record.Value.TheVariants as values
 use Rattle.tv_machine.specs.State.{LeafState}
 use Rattle.tv_machine.specs.Leaves.{leaf_list}
-use Rattle.tv_machine.specs.Controls.Contents.{Content, text_of}
+use Rattle.tv_model.specs.Controls.Contents.{Content, text_of}
 use Rattle.tv_machine.specs.Dialog.Focus.{Moved, NotFree, Refused, Request, Same, after_request, focus_moved, next_free, previous_free, requested, stops_of}
 use Rattle.tv_machine.specs.Dialog.Modal.{Modal, content_at}
 use Rattle.tv_machine.specs.Dialog.Rules.{content_by, is_among, state_of}

@@ -13,7 +13,7 @@ use Rattle.tv_model.specs.declared.desc.MenuItem.{MenuItem}
 use Rattle.tv_model.specs.declared.log.LogLine.{LogLine}
 use Rattle.tv_model.specs.declared.log.LogLine.TheVariants as lines
 use Rattle.tv_model.specs.Description.Commands.{command_number}
-use Rattle.tv_model.specs.Description.Letters.{upper}
+use Rattle.tv_model.specs.Description.Marks.{upper}
 use Rattle.tv_model.specs.Description.Rectangles.{corner_of, desktop}
 use Rattle.tv_machine.specs.State.{OpenDialog, OpenMenu, OpenWindow, State}
 use Rattle.tv_machine.specs.Dialog.Ending.{fields_of}

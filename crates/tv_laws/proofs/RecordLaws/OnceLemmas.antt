@@ -14,16 +14,16 @@ use Rattle.tv_model.specs.declared.kind.Kind.TheVariants as kinds
 use Rattle.tv_model.specs.declared.desc.Dialog.{Dialog}
 use Rattle.tv_model.specs.declared.log.LogLine.{LogLine}
 use Rattle.tv_model.specs.declared.log.LogLine.TheVariants as lines
-use Rattle.tv_model.specs.Controls.ButtonTable.{item_marking}
-use Rattle.tv_model.specs.Controls.ClusterTable.{Boxes, ClusterKind, Radios}
-use Rattle.tv_model.specs.Controls.InputTable.{Edit, entered, left}
+use Rattle.tv_model.specs.Controls.Shortcut.{item_marking, Boxes, ClusterKind, Radios}
+use Rattle.tv_model.specs.Kinds.InputLine.{Edit, entered, left}
 use Rattle.tv_model.specs.Description.Commands.{command_number, is_declared}
 use Rattle.tv_model.specs.Description.Heads.{dialog_head}
-use Rattle.tv_model.specs.Description.Letters.{upper}
+use Rattle.tv_model.specs.Description.Marks.{upper}
 use Rattle.tv_model.specs.Description.Names.{meant}
 use Rattle.tv_machine.specs.State.{Held, LeafState}
 use Rattle.tv_machine.specs.Leaves.{PlacedNode}
-use Rattle.tv_machine.specs.Controls.Tables.{Answer, Becomes, Passed, Presses, key_answer, move_content, up_answer}
+use Rattle.tv_model.specs.Controls.Behaviour.{Answer, Becomes, Passed, Presses}
+use Rattle.tv_machine.specs.Controls.Tables.{key_answer, move_content, up_answer}
 use Rattle.tv_machine.specs.Dialog.Ending.{command, end_by, ended, first_invalid, press, pressed_kind, shown_invalid}
 use Rattle.tv_machine.specs.Dialog.Focus.{Moved, NotFree, Refused, Request, Same, after_request, focus_moved, is_free_at, is_granted, next_free, previous_free, refocused, request, request_then, requested, stops_of}
 use Rattle.tv_machine.specs.Dialog.Keys.{alt_keyed, answered, enter_target, focus_keyed, key, keyed, passed_on, press_enabled}

@@ -12,11 +12,11 @@ use Rattle.tv_model.specs.declared.desc.Dialog.{Dialog}
 use Rattle.tv_model.specs.declared.record.Entry.{Entry}
 use Rattle.tv_model.specs.declared.record.Value.{Value}
 use Rattle.tv_model.specs.declared.record.Value.TheVariants as values
-use Rattle.tv_model.specs.Controls.InputTable.{entered, left}
+use Rattle.tv_model.specs.Kinds.InputLine.{entered, left}
 use Rattle.tv_model.specs.Log.Record.{Entries, value_of}
-use Rattle.tv_model.specs.Machine.State.{declared_value}
+use Rattle.tv_machine.specs.Controls.Declared.{declared_value}
 use Rattle.tv_machine.specs.Leaves.{PlacedNode, leaf_list}
-use Rattle.tv_machine.specs.Controls.Contents.{Content, text_of}
+use Rattle.tv_model.specs.Controls.Contents.{Content, text_of}
 use Rattle.tv_machine.specs.Dialog.Ending.{entry_of, fields_of}
 use Rattle.tv_machine.specs.Dialog.Focus.{focus_moved}
 use Rattle.tv_machine.specs.Dialog.Modal.{Modal, content_at}

@@ -4,9 +4,7 @@ use Rattle.tv_event.specs.declared.event.Key.{Key}
 use Rattle.tv_model.specs.declared.kind.Kind.{Kind}
 use Rattle.tv_model.specs.Kinds.{behaviour}
 use Rattle.tv_model.specs.Controls.Contents.{Content}
-pub use Rattle.tv_model.specs.Controls.Behaviour.{Answer, Passed, Becomes, Presses}
-pub use Rattle.tv_model.specs.Kinds.Cluster.{cluster_answer, cluster_keyed, item_of_row, item_pressed, cluster_released}
-pub use Rattle.tv_model.specs.Kinds.ListBox.{list_answer, row_chosen}
+use Rattle.tv_model.specs.Controls.Behaviour.{Answer}
 
 -- a key of the focused control
 abbrev pub key_answer : Kind → Key → Content → Answer

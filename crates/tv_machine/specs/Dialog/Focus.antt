@@ -1,18 +1,14 @@
 -- Where the focus goes: the next and the previous control, and what a focus request comes to.
 use Rattle.std.specs.Prelude.{ℕ, Bool, true, false, not, ◌&&◌, List, ◌++◌, map, find, position, reverse, take, drop, length, Option, Some, None, option_map, unwrap_or, ◌+◌, ◌==◌, if◌then◌else◌}
-use Rattle.tv_valid.specs.declared.domain.Domain.{Domain}
-use Rattle.tv_valid.specs.Deciding.{in_domain}
-use Rattle.tv_valid.specs.Asking.{domain_of}
 use Rattle.tv_model.specs.declared.node.Id.{Id}
 use Rattle.tv_model.specs.declared.kind.Kind.{Kind}
 use Rattle.tv_model.specs.Kinds.{behaviour}
-pub use Rattle.tv_model.specs.Kinds.InputLine.{is_outside}
 use Rattle.tv_model.specs.declared.desc.Dialog.{Dialog}
 use Rattle.tv_model.specs.declared.log.LogLine.TheVariants as lines
 use Rattle.tv_machine.specs.State.{LeafState}
 use Rattle.tv_machine.specs.Leaves.{PlacedNode, leaf_list}
-use Rattle.tv_model.specs.Controls.InputTable.{Edit, entered, left}
-use Rattle.tv_machine.specs.Controls.Contents.{Content, text_of, edit_of, edit_content}
+use Rattle.tv_model.specs.Kinds.InputLine.{Edit, entered, left, edit_of, edit_content}
+use Rattle.tv_model.specs.Controls.Contents.{Content}
 use Rattle.tv_machine.specs.Dialog.Rules.{is_free}
 use Rattle.tv_machine.specs.Dialog.Modal.{Modal, with_line, content_at, with_content, leaf_at}
 

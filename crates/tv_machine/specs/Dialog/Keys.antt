@@ -4,10 +4,11 @@ use Rattle.std.specs.Option.{option_or}
 use Rattle.tv_event.specs.declared.event.Key.{Key}
 use Rattle.tv_event.specs.declared.event.Key.TheVariants as keys
 use Rattle.tv_model.specs.declared.desc.Dialog.{Dialog}
-use Rattle.tv_model.specs.Description.Letters.{upper}
+use Rattle.tv_model.specs.Description.Marks.{upper}
 use Rattle.tv_model.specs.Description.Nodes.{is_button, is_default}
 use Rattle.tv_machine.specs.Leaves.{PlacedNode, leaf_list}
-use Rattle.tv_machine.specs.Controls.Tables.{Answer, Passed, Becomes, Presses, key_answer}
+use Rattle.tv_model.specs.Controls.Behaviour.{Answer, Passed, Becomes, Presses}
+use Rattle.tv_machine.specs.Controls.Tables.{key_answer}
 use Rattle.tv_machine.specs.Dialog.Rules.{is_enabled}
 use Rattle.tv_machine.specs.Dialog.Focus.{stops_of, next_free, previous_free, request}
 use Rattle.tv_machine.specs.Dialog.Ending.{command, press}

@@ -5,7 +5,7 @@ use Rattle.tv_model.specs.declared.desc.Dialog.{Dialog}
 use Rattle.tv_model.specs.declared.log.LogLine.{LogLine}
 use Rattle.tv_machine.specs.State.{LeafState, Held}
 use Rattle.tv_machine.specs.Leaves.{PlacedNode, leaf_list}
-use Rattle.tv_machine.specs.Controls.Contents.{Content}
+use Rattle.tv_model.specs.Controls.Contents.{Content}
 use Rattle.tv_machine.specs.Dialog.Rules.{content_of, is_among}
 
 -- a dialog while an event is handled

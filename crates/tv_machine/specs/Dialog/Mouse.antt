@@ -6,14 +6,13 @@ use Rattle.tv_cells.specs.Layers.{is_in}
 use Rattle.tv_cells.specs.declared.rect.Point.{Point}
 use Rattle.tv_model.specs.declared.kind.Kind.{Kind}
 use Rattle.tv_model.specs.Kinds.{behaviour}
-use Rattle.tv_model.specs.Controls.Behaviour.{Down, Ignores, FocusesLink, Grips, Holds}
+use Rattle.tv_model.specs.Controls.Behaviour.{Down, Ignores, FocusesLink, Grips, Holds, Answer, Passed, Becomes, Presses}
 use Rattle.tv_model.specs.declared.desc.Dialog.{Dialog}
 use Rattle.tv_model.specs.Description.Names.{meant}
 use Rattle.tv_model.specs.Description.Numbers.{natural, is_between}
-use Rattle.tv_model.specs.Controls.InputTable.{first_shown}
+use Rattle.tv_model.specs.Kinds.InputLine.{first_shown, cursor_of}
 use Rattle.tv_machine.specs.Leaves.{PlacedNode, leaf_list, rect_on}
-use Rattle.tv_machine.specs.Controls.Contents.{cursor_of}
-use Rattle.tv_machine.specs.Controls.Tables.{Answer, Passed, Becomes, Presses, remembered, down_content, move_content, up_answer}
+use Rattle.tv_machine.specs.Controls.Tables.{remembered, down_content, move_content, up_answer}
 use Rattle.tv_machine.specs.Dialog.Rules.{is_visible, is_enabled}
 use Rattle.tv_machine.specs.Dialog.Focus.{request_then}
 use Rattle.tv_machine.specs.Dialog.Ending.{command, press}

@@ -6,10 +6,9 @@ use Rattle.tv_model.specs.declared.node.Node.{Node}
 use Rattle.tv_model.specs.declared.record.Value.{Value}
 use Rattle.tv_model.specs.declared.desc.Dialog.{Dialog}
 use Rattle.tv_model.specs.Log.Record.{Entries, value_of}
-use Rattle.tv_model.specs.Machine.State.{declared_value}
+use Rattle.tv_machine.specs.Controls.Declared.{declared_value, opened_private}
 use Rattle.tv_machine.specs.State.{LeafState}
 use Rattle.tv_machine.specs.Leaves.{leaf_list}
-use Rattle.tv_machine.specs.Controls.Contents.{opened_private}
 use Rattle.tv_machine.specs.Dialog.Focus.{stops_of, first_free, focus_moved}
 use Rattle.tv_machine.specs.Dialog.Modal.{Modal}
 

@@ -1,13 +1,11 @@
 -- What the marks of a dialog's clusters show, enable and leave free to focus.
-use Rattle.std.specs.Prelude.{[], ℕ, Bool, true, false, not, ◌&&◌, ◌||◌, List, ◌∷◌, find, Option, Some, None, ◌-◌, ◌/◌, ◌%◌, ◌^◌, ◌==◌}
+use Rattle.std.specs.Prelude.{[], ℕ, Bool, true, false, not, ◌&&◌, ◌||◌, List, ◌∷◌, find, Option, Some, None, ◌==◌}
 use Rattle.std.specs.List.{list_any, list_all}
 use Rattle.tv_model.specs.declared.node.Id.{Id}
 use Rattle.tv_model.specs.declared.node.Node.{Node}
 use Rattle.tv_model.specs.declared.kind.Kind.{Kind}
 use Rattle.tv_model.specs.declared.command.CommandSpec.{CommandSpec}
-pub use Rattle.tv_model.specs.Kinds.Cluster.{is_marked}
-use Rattle.tv_model.specs.declared.record.Value.{Value}
-use Rattle.tv_model.specs.declared.record.Value.TheVariants as values
+use Rattle.tv_model.specs.Kinds.Cluster.{is_marked}
 use Rattle.tv_model.specs.declared.desc.Dialog.{Dialog}
 use Rattle.tv_model.specs.declared.desc.Rule.{Rule}
 use Rattle.tv_model.specs.declared.desc.Effect.{Effect}
@@ -16,8 +14,9 @@ use Rattle.tv_model.specs.Description.Names.{meant, gives_name}
 use Rattle.tv_model.specs.Description.Nodes.{is_control}
 use Rattle.tv_model.specs.Description.Numbers.{natural}
 use Rattle.tv_model.specs.Description.Commands.{command_number, command_of}
-use Rattle.tv_machine.specs.State.{LeafState, Plain}
-use Rattle.tv_machine.specs.Controls.Contents.{Content}
+use Rattle.tv_machine.specs.State.{LeafState}
+use Rattle.tv_model.specs.Controls.Private.{Plain}
+use Rattle.tv_model.specs.Controls.Contents.{Content}
 use Rattle.tv_machine.specs.Leaves.{PlacedNode}
 
 -- ---- what leaves hold

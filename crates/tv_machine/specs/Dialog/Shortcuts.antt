@@ -4,14 +4,12 @@ use Rattle.tv_model.specs.declared.node.Id.{Id}
 use Rattle.tv_model.specs.declared.node.Node.{Node}
 use Rattle.tv_model.specs.declared.kind.Kind.{Kind}
 use Rattle.tv_model.specs.Kinds.{behaviour}
-use Rattle.tv_model.specs.Controls.ButtonTable.{item_marking}
-use Rattle.tv_model.specs.Controls.Shortcut.{Shortcut, NoMark, LinkMark, PressMark, ItemMarks}
+use Rattle.tv_model.specs.Controls.Shortcut.{item_marking, Shortcut, NoMark, LinkMark, PressMark, ItemMarks, ClusterKind}
 use Rattle.tv_model.specs.declared.desc.Dialog.{Dialog}
 use Rattle.tv_model.specs.Description.Names.{meant}
 use Rattle.tv_model.specs.Description.Owners.{owner_by}
-use Rattle.tv_model.specs.Controls.ClusterTable.{ClusterKind}
 use Rattle.tv_machine.specs.Leaves.{PlacedNode, leaf_list}
-use Rattle.tv_machine.specs.Controls.Tables.{item_pressed}
+use Rattle.tv_model.specs.Kinds.Cluster.{item_pressed}
 use Rattle.tv_machine.specs.Dialog.Rules.{is_visible, is_enabled}
 use Rattle.tv_machine.specs.Dialog.Focus.{request, request_then}
 use Rattle.tv_machine.specs.Dialog.Ending.{press}

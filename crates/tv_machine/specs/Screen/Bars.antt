@@ -21,7 +21,7 @@ use Rattle.tv_palette.specs.declared.role.BarRole.{BarRole}
 use Rattle.tv_palette.specs.declared.role.BarRole.TheVariants as bar
 use Rattle.tv_palette.specs.declared.role.StatusRole.{StatusRole}
 use Rattle.tv_palette.specs.declared.role.StatusRole.TheVariants as status
-use Rattle.tv_machine.specs.Screen.LeafFaces.{is_mark_from}
+use Rattle.tv_model.specs.Controls.Look.{is_mark_from}
 
 -- ---- texts side by side
 

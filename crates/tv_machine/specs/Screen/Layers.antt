@@ -18,14 +18,15 @@ use Rattle.tv_model.specs.Description.Nodes.{has_id, height_of}
 use Rattle.tv_model.specs.Description.Numbers.{natural}
 use Rattle.tv_model.specs.Description.Rectangles.{desktop}
 use Rattle.tv_model.specs.Screen.Faces.{FaceOf}
-use Rattle.tv_model.specs.Screen.Layers.{canvas_at, whole_screen, background_layer, is_default_now, body_layers, window_body_layers, window_of}
+use Rattle.tv_machine.specs.Screen.Bodies.{canvas_at, whole_screen, background_layer, is_default_now, body_layers, window_body_layers, window_of}
 use Rattle.tv_palette.specs.Attributes.{attribute_of}
 use Rattle.tv_palette.specs.declared.role.Owner.TheVariants as owners
 use Rattle.tv_machine.specs.State.{State, OpenDialog, OpenMenu, OpenWindow}
 use Rattle.tv_machine.specs.Leaves.{PlacedNode, leaf_list, corner_on}
 use Rattle.tv_machine.specs.Dialog.Rules.{is_visible, is_enabled, content_of, content_by}
 use Rattle.tv_machine.specs.Session.Enabled.{is_enabled_now}
-use Rattle.tv_machine.specs.Screen.LeafFaces.{Look, leaf_faces}
+use Rattle.tv_model.specs.Controls.Look.{Look}
+use Rattle.tv_machine.specs.Screen.LeafFaces.{leaf_faces}
 use Rattle.tv_machine.specs.Screen.Bars.{bar_face, box_face, box_of, box_width, box_height, status_face}
 
 -- ---- the bar, the status line and the box of an open menu

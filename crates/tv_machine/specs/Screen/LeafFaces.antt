@@ -6,12 +6,7 @@ use Rattle.tv_model.specs.Controls.Contents.{Content}
 use Rattle.tv_model.specs.Screen.Faces.{FaceOf}
 use Rattle.tv_palette.specs.declared.role.Owner.{Owner}
 use Rattle.tv_palette.specs.declared.role.Role.{Role}
-pub use Rattle.tv_model.specs.Controls.Look.{Look, is_mark_from}
-pub use Rattle.tv_model.specs.Kinds.Label.{label_role, label_face}
-pub use Rattle.tv_model.specs.Kinds.Button.{button_look, button_colour, button_face}
-pub use Rattle.tv_model.specs.Kinds.Cluster.{box_before, cluster_role, cluster_row, cluster_face}
-pub use Rattle.tv_model.specs.Kinds.ListBox.{list_role, list_row, list_face}
-pub use Rattle.tv_model.specs.Kinds.InputLine.{InputCell, text_role, arrow_cell, input_cell, input_face}
+use Rattle.tv_model.specs.Controls.Look.{Look}
 
 -- the face of a leaf of this width in a window or a dialog, in the colours of its roles. Windows, dialogs and panes have none
 abbrev pub leaf_faces : (Role → ℕ) → Owner → Look → ℕ → Kind → Content → List FaceOf

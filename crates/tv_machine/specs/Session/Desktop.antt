@@ -10,7 +10,7 @@ use Rattle.tv_model.specs.declared.desc.Desc.{Desc}
 use Rattle.tv_model.specs.declared.desc.Window.{Window}
 use Rattle.tv_model.specs.Description.Heads.{window_head}
 use Rattle.tv_model.specs.Description.Rectangles.{rect, desktop}
-use Rattle.tv_model.specs.Screen.Layers.{window_of}
+use Rattle.tv_machine.specs.Screen.Bodies.{window_of}
 use Rattle.tv_machine.specs.State.{State, OpenWindow}
 use Rattle.tv_machine.specs.Dialog.Mouse.{is_close_mark}
 use Rattle.tv_machine.specs.Session.Commands.{raised, do_command}

@@ -7,7 +7,7 @@ use Rattle.tv_event.specs.declared.event.Key.TheVariants as keys
 use Rattle.tv_model.specs.declared.desc.Desc.{Desc}
 use Rattle.tv_model.specs.declared.desc.Menu.{Menu}
 use Rattle.tv_model.specs.declared.desc.MenuItem.{MenuItem}
-use Rattle.tv_model.specs.Description.Letters.{marks, upper}
+use Rattle.tv_model.specs.Description.Marks.{marks, upper}
 use Rattle.tv_model.specs.Description.Commands.{command_number}
 use Rattle.tv_machine.specs.State.{State, OpenMenu}
 use Rattle.tv_machine.specs.Screen.Bars.{title_under, item_under}

@@ -10,7 +10,7 @@ use Rattle.tv_model.specs.declared.record.Value.{Value}
 use Rattle.tv_model.specs.Controls.Contents.{Content}
 use Rattle.tv_model.specs.Controls.Look.{Look}
 use Rattle.tv_model.specs.Controls.Shortcut.{Shortcut, NoMark}
-use Rattle.tv_model.specs.Machine.Private.{Private, Plain}
+use Rattle.tv_model.specs.Controls.Private.{Private, Plain}
 use Rattle.tv_model.specs.Screen.Faces.{FaceOf}
 
 -- what a control does with a key, or with the release of the mouse
@@ -41,12 +41,11 @@ pub record Behaviour : Type 0 where
   pub rows : ℤ
   pub least_width : ℤ
   pub least_height : ℤ
-  -- all that the declaration quotes, without marks, and what of it takes one column a character
+  -- all that the declaration quotes, without marks, and what of these texts has to take one column a character
   pub texts : List (List ℕ)
-  pub shown_texts : List (List ℕ)
+  pub shown_texts : List (List ℕ) → List (List ℕ)
   -- the letters that call it from any focus
   pub shortcut : Shortcut
-
   -- ---- what it is
   -- whether it can have the focus
   pub is_control : Bool
@@ -58,7 +57,6 @@ pub record Behaviour : Type 0 where
   -- whether it is edited, and the focus may leave it only with a text of its domain
   pub is_edited : Bool
   pub validates : Bool
-
   -- ---- what it holds
   -- the value that it has by its declaration, if it is a field
   pub value : Option Value
@@ -66,7 +64,6 @@ pub record Behaviour : Type 0 where
   pub opened : Option Value → Private
   -- whether its text lies outside its domain
   pub is_invalid : Content → Bool
-
   -- ---- keys and the mouse
   -- a key, where it has the focus
   pub key : Key → Content → Answer
@@ -77,7 +74,6 @@ pub record Behaviour : Type 0 where
   -- a move to a row, and an up on a row with the item that it remembered
   pub move_content : ℕ → Content → Content
   pub up : ℕ → ℕ → Content → Answer
-
   -- ---- what it shows
   -- its faces in the colours of roles, in a window or a dialog, by how it stands and its width
   pub faces : (Role → ℕ) → Owner → Look → ℕ → Content → List FaceOf
@@ -90,7 +86,7 @@ plain = record {
   least_width = pos 1;
   least_height = pos 1;
   texts = [];
-  shown_texts = [];
+  shown_texts = λ texts. texts;
   shortcut = NoMark;
   is_control = false;
   command = None;
@@ -119,7 +115,6 @@ pub record Facts : Type 1 where
   -- it has a domain with a text, and starts with a text that may stand there, or with items that there are
   pub HasLawfulDomain : Type 0
   pub HasLawfulStart : Type 0
-
   -- ---- what it holds
   -- a text that it may hold, where its domain allows it so; an item; marks
   pub IsText : (Domain → List ℕ → Type 0) → List ℕ → Type 0

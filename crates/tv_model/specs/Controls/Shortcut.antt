@@ -1,9 +1,13 @@
 -- The letters that call a view from any focus, and what they act on.
-use Rattle.std.specs.Prelude.{[], ℕ, Bool, true, false, List, ◌∷◌, length, Option, Some, None, option_map, position, if◌then◌else◌}
+use Rattle.std.specs.Prelude.{[], ℕ, Bool, true, false, List, ◌∷◌, ◌+◌, Option, Some, None, option_map, position, if◌then◌else◌}
 use Rattle.tv_model.specs.declared.kind.MarkedText.{MarkedText}
-use Rattle.tv_model.specs.Controls.ClusterTable.{ClusterKind}
 use Rattle.tv_model.specs.Controls.Owner.{Owner, control, item_at}
-use Rattle.tv_model.specs.Description.Marks.{marks}
+use Rattle.tv_model.specs.Description.Marks.{marks, upper}
+
+-- check boxes have any of their items marked, radio buttons the selected one
+pub data ClusterKind : Type 0 where
+  Boxes : ClusterKind
+  Radios : ClusterKind
 
 -- what marks a letter in a declaration, and what the letter does
 pub data Shortcut : Type 0 where
@@ -36,3 +40,7 @@ has_marks NoMark = false
 has_marks (LinkMark text name) = true
 has_marks (PressMark text name) = true
 has_marks (ItemMarks cluster name items) = true
+
+-- the first item that marks the letter, in either case, from 1
+abbrev pub item_marking : List MarkedText → ℕ → Option ℕ
+item_marking items ch = option_map (λ place. place + 1) (position (marks (upper ch)) items)

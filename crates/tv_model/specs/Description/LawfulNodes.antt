@@ -1,11 +1,9 @@
 -- Nodes that are lawful by themselves: what a view may be made of.
-use Rattle.std.specs.Prelude.{ℕ, ◌≤◌, List, length, All, Option, Some, ℤ, pos, neg_ℤ}
+use Rattle.std.specs.Prelude.{ℕ, ◌≤◌, List, length, All, Option, Some, pos, neg_ℤ}
 use Rattle.tv_cells.specs.Glyph.{IsNarrow}
 use Rattle.tv_model.specs.declared.node.Node.{Node}
 use Rattle.tv_model.specs.declared.kind.Kind.{Kind}
 use Rattle.tv_model.specs.Kinds.{facts}
-pub use Rattle.tv_model.specs.Kinds.InputLine.{HasAnyText, MayStand}
-pub use Rattle.tv_model.specs.Kinds.Cluster.{IsItem}
 use Rattle.tv_model.specs.declared.command.CommandSpec.{CommandSpec}
 use Rattle.tv_model.specs.declared.command.CommandSpec.TheVariants as commands
 use Rattle.tv_model.specs.Description.Commands.{command_of}

@@ -6,7 +6,7 @@ use Rattle.tv_model.specs.declared.kind.MarkedText.{MarkedText}
 use Rattle.tv_model.specs.declared.desc.Dialog.{Dialog}
 use Rattle.tv_model.specs.Controls.Shortcut.{marked_in}
 use Rattle.tv_model.specs.Kinds.{behaviour}
-pub use Rattle.tv_model.specs.Description.Marks.{upper, letter_of, is_option_letter, marks, shares_letter}
+use Rattle.tv_model.specs.Description.Marks.{marks}
 
 -- the texts of a declaration in which a letter may be marked
 abbrev pub marked_of : Kind → List MarkedText

@@ -5,7 +5,7 @@ use Rattle.tv_model.specs.declared.kind.Kind.{Kind}
 use Rattle.tv_model.specs.declared.desc.Dialog.{Dialog}
 use Rattle.tv_model.specs.Controls.Shortcut.{owner_in}
 use Rattle.tv_model.specs.Kinds.{behaviour}
-pub use Rattle.tv_model.specs.Controls.Owner.{Owner, control, item_at}
+use Rattle.tv_model.specs.Controls.Owner.{Owner}
 
 -- what the letter acts on, where a declaration of the kind marks it: a label's letter on the control that the label names
 abbrev pub owner_by : ℕ → Kind → Option Owner

@@ -1,5 +1,5 @@
 -- Rectangles of the desktop and of views, and what two rectangles have in common.
-use Rattle.std.specs.Prelude.{Bool, not, ◌&&◌, ◌||◌, ℤ, pos, ◌+ℤ◌, ◌-ℤ◌, int_le, int_lt}
+use Rattle.std.specs.Prelude.{Bool, not, ◌&&◌, ◌||◌, ℤ, pos, neg_ℤ, ◌+ℤ◌, ◌-ℤ◌, ◌≤ℤ◌, int_le, int_lt}
 use Rattle.tv_cells.specs.declared.rect.Point.{Point}
 use Rattle.tv_cells.specs.declared.rect.Rect.{Rect}
 use Rattle.tv_model.specs.declared.node.Node.{Node}
@@ -41,3 +41,17 @@ is_within r s = not (has_points r) || ((int_le s.a.x r.a.x && int_le r.b.x s.b.x
 -- some point lies in both
 abbrev pub overlap : Rect → Rect → Bool
 overlap r s = (has_points r && has_points s) && ((int_lt r.a.x s.b.x && int_lt s.a.x r.b.x) && (int_lt r.a.y s.b.y && int_lt s.a.y r.b.y))
+
+-- ---- where views may stand
+
+-- a coordinate that the bounds of a view may have
+pub record IsSmall (z : ℤ) : Type 0 where
+  pub low : neg_ℤ (pos 300) ≤ℤ z
+  pub high : z ≤ℤ pos 300
+
+-- a rectangle that the bounds of a view may be
+pub record IsSmallRect (r : Rect) : Type 0 where
+  pub left : IsSmall r.a.x
+  pub top : IsSmall r.a.y
+  pub right : IsSmall r.b.x
+  pub bottom : IsSmall r.b.y

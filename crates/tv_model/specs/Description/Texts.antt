@@ -2,8 +2,6 @@
 use Rattle.std.specs.Prelude.{ℕ, List}
 use Rattle.tv_model.specs.declared.kind.Kind.{Kind}
 use Rattle.tv_model.specs.Kinds.{behaviour}
-pub use Rattle.tv_model.specs.Kinds.InputLine.{domain_texts}
-pub use Rattle.tv_model.specs.Kinds.StaticText.{is_line_end}
 
 -- all that the declaration quotes, without marks
 abbrev pub texts_of : Kind → List (List ℕ)
@@ -11,4 +9,4 @@ texts_of kind = (behaviour kind).texts
 
 -- those that have to take one column a character: all, but for the line ends of a static text
 abbrev pub shown_texts : Kind → List (List ℕ)
-shown_texts kind = (behaviour kind).shown_texts
+shown_texts kind = (behaviour kind).shown_texts (behaviour kind).texts

@@ -15,7 +15,8 @@ use Rattle.tv_model.specs.declared.desc.Rule.{Rule}
 use Rattle.tv_model.specs.declared.desc.Effect.{Effect}
 use Rattle.tv_model.specs.declared.desc.Effect.TheVariants as effects
 use Rattle.tv_model.specs.Faults.Lines.{after_seen}
-use Rattle.tv_model.specs.Description.Letters.{marked_of, marks, shares_letter, is_capital, is_digit, is_shortcut}
+use Rattle.tv_model.specs.Description.Letters.{marked_of, is_capital, is_digit, is_shortcut}
+use Rattle.tv_model.specs.Description.Marks.{marks, shares_letter}
 use Rattle.tv_model.specs.Description.Heads.{window_head}
 
 -- ---- marks

@@ -1,14 +1,20 @@
 -- Buttons: Space, a letter and a release of the mouse press them, and then their command is given.
-use Rattle.std.specs.Prelude.{[], ℕ, Bool, true, false, ◌∷◌, Some, pos, if◌then◌else◌}
+use Rattle.std.specs.Prelude.{[], ℕ, Bool, true, false, ◌∷◌, Some, pos, ◌==◌, if◌then◌else◌}
+use Rattle.tv_event.specs.declared.event.Key.{Key}
+use Rattle.tv_event.specs.declared.event.Key.TheVariants as keys
 use Rattle.tv_palette.specs.declared.role.Role.{Role}
 use Rattle.tv_palette.specs.declared.role.Role.TheVariants as roles
 use Rattle.tv_model.specs.declared.kind.Button.{Button}
 use Rattle.tv_model.specs.declared.kind.MarkedText.{MarkedText}
 use Rattle.tv_model.specs.Controls.Behaviour.{Behaviour, plain, Passed, Presses, Grips}
-use Rattle.tv_model.specs.Controls.ButtonTable.{is_press}
 use Rattle.tv_model.specs.Controls.Look.{Look}
 use Rattle.tv_model.specs.Controls.Shortcut.{PressMark}
 use Rattle.tv_model.specs.Screen.Faces.{FaceOf, ButtonLook, button_role, button_cells}
+
+-- a space presses the button that has the focus
+abbrev pub is_press : Key → Bool
+is_press (keys.Char ch) = ch == 32
+is_press _ = false
 
 -- a button stands as a leaf does
 abbrev pub button_look : Look → ButtonLook
@@ -28,7 +34,6 @@ button_behaviour button = record plain {
   name = Some button.name;
   least_width = pos 4;
   texts = button.text.text ∷ [];
-  shown_texts = button.text.text ∷ [];
   shortcut = PressMark button.text button.name;
   is_control = true;
   command = Some button.command;

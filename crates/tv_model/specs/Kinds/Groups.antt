@@ -13,7 +13,6 @@ window_behaviour head = record plain {
   least_width = pos 12;
   least_height = pos 3;
   texts = head.title ∷ [];
-  shown_texts = head.title ∷ [];
 }
 
 -- a number that a window may have
@@ -27,7 +26,6 @@ dialog_behaviour head = record plain {
   least_width = pos 12;
   least_height = pos 3;
   texts = head.title ∷ [];
-  shown_texts = head.title ∷ [];
 }
 
 abbrev pub pane_behaviour : Pane → Behaviour

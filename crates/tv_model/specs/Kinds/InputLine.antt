@@ -1,6 +1,8 @@
--- Input lines.
-use Rattle.std.specs.Prelude.{[], ◌≡◌, ℕ, Bool, true, false, not, ◌&&◌, List, ◌∷◌, length, Option, Some, None, pos, ◌+◌, ◌-◌, ◌==◌, nat_lt, if◌then◌else◌}
+-- Input lines: their text, its domain, what keys and the mouse make of it, and what they show.
+use Rattle.std.specs.Prelude.{[], ◌≡◌, ℕ, Bool, true, false, not, ◌&&◌, List, ◌∷◌, length, remove, min, Option, Some, None, pos, ◌+◌, ◌-◌, ◌==◌, nat_lt, if◌then◌else◌}
 use Rattle.tv_cells.specs.Glyph.{shown}
+use Rattle.tv_event.specs.declared.event.Key.{Key}
+use Rattle.tv_event.specs.declared.event.Key.TheVariants as keys
 use Rattle.tv_palette.specs.declared.role.Role.{Role}
 use Rattle.tv_palette.specs.declared.role.Role.TheVariants as roles
 use Rattle.tv_palette.specs.declared.role.InputRole.{InputRole}
@@ -10,18 +12,44 @@ use Rattle.tv_valid.specs.declared.input.DomainSpec.{DomainSpec}
 use Rattle.tv_valid.specs.declared.input.DomainSpec.TheVariants as domains
 use Rattle.tv_valid.specs.declared.input.InputSpec.{InputSpec}
 use Rattle.tv_valid.specs.Asking.{domain_of}
-use Rattle.tv_valid.specs.Deciding.{in_domain}
+use Rattle.tv_valid.specs.Deciding.{in_domain, viable}
 use Rattle.tv_valid.specs.Domain.{HasText, IsDomain, IsViableText}
+use Rattle.tv_valid.specs.Typing.{typed_of}
 use Rattle.tv_model.specs.declared.kind.Input.{Input}
 use Rattle.tv_model.specs.declared.record.Value.TheVariants as values
 use Rattle.tv_model.specs.Controls.Behaviour.{Behaviour, plain, Facts, plain_facts, Passed, Becomes, Holds}
-use Rattle.tv_model.specs.Controls.Contents.{Content, text_of, edit_of, edit_content}
-use Rattle.tv_model.specs.Controls.Editing.{edited_by}
-use Rattle.tv_model.specs.Controls.InputTable.{Edit, is_edit_key, clicked, first_shown}
+use Rattle.tv_model.specs.Controls.Contents.{Content, text_of}
 use Rattle.tv_model.specs.Controls.Look.{Look}
+use Rattle.tv_model.specs.Controls.Private.{Private, Editing}
 use Rattle.tv_model.specs.Description.Numbers.{IsBetween}
-use Rattle.tv_model.specs.Machine.Private.{Private, Plain, Editing, Selecting, Scrolled}
 use Rattle.tv_model.specs.Screen.Faces.{FaceOf, text_row}
+
+-- ---- what it holds
+
+-- the text, the place of the cursor, whether the whole text is selected, and whether typing overwrites
+pub record Edit : Type 0 where
+  pub text : List ℕ
+  pub cursor : ℕ
+  pub is_whole : Bool
+  pub overwrites : Bool
+
+-- the place of the cursor
+abbrev pub cursor_of : Private → ℕ
+cursor_of (Editing cursor is_whole) = cursor
+cursor_of _ = 0
+
+-- whether the whole text is selected
+abbrev pub is_whole_of : Private → Bool
+is_whole_of (Editing cursor is_whole) = is_whole
+is_whole_of _ = false
+
+-- what an input holds
+abbrev pub edit_of : Content → Edit
+edit_of c = record { text = text_of c.value; cursor = cursor_of c.private; is_whole = is_whole_of c.private; overwrites = c.overwrites }
+
+-- an input that holds this
+abbrev pub edit_content : Edit → Content
+edit_content e = record { value = Some (values.Text e.text); private = Editing e.cursor e.is_whole; overwrites = e.overwrites }
 
 -- ---- its domain
 
@@ -48,6 +76,108 @@ MayStand text spec = (d : Domain) × IsDomain spec d × IsViableText d text
 abbrev pub IsEditing : Private → Type 0
 IsEditing (Editing cursor is_whole) = Unit {0}
 IsEditing _ = ⊥
+
+-- ---- keys and the mouse
+
+-- the keys of the table; it passes all others on
+abbrev pub is_edit_key : Key → Bool
+is_edit_key keys.Left = true
+is_edit_key keys.Right = true
+is_edit_key keys.Home = true
+is_edit_key keys.End = true
+is_edit_key keys.Insert = true
+is_edit_key keys.Backspace = true
+is_edit_key keys.Delete = true
+-- Y
+is_edit_key (keys.Ctrl letter) = letter == 89
+is_edit_key (keys.Char ch) = true
+is_edit_key _ = false
+
+-- the cursor at a place, and nothing selected
+abbrev pub at_place : ℕ → Edit → Edit
+at_place place e = record e { cursor = place; is_whole = false }
+
+-- another text, with the cursor at a place and nothing selected
+abbrev pub with_text : List ℕ → ℕ → Edit → Edit
+with_text text place e = record e { text = text; cursor = place; is_whole = false }
+
+-- the character before the cursor goes, if there is one
+abbrev pub backspaced : Edit → Edit
+backspaced e = if e.cursor == 0 then at_place 0 e else with_text (remove e.text (e.cursor - 1)) (e.cursor - 1) e
+
+-- the whole text goes where it is selected, else the character at the cursor, if there is one
+abbrev pub deleted : Edit → Edit
+deleted e =
+    if e.is_whole then with_text [] 0 e
+    else if nat_lt e.cursor (length e.text) then with_text (remove e.text e.cursor) e.cursor e
+    else at_place e.cursor e
+
+-- what a typed character is put into, at the cursor: nothing where the whole text is selected, and where it overwrites
+-- the text without the character at the cursor
+abbrev pub opened_up : Edit → Edit
+opened_up e =
+    if e.is_whole then with_text [] 0 e
+    else if e.overwrites && nat_lt e.cursor (length e.text) then with_text (remove e.text e.cursor) e.cursor e
+    else e
+
+-- where the cursor stands after a character: after it, or at the end of what it was filled up to
+abbrev pub place_after : Edit → List ℕ → ℕ
+place_after e out = if e.cursor == length e.text then length out else e.cursor + 1
+
+-- Ctrl-Y empties the text
+abbrev pub ctrl_edit : ℕ → Edit → Edit
+ctrl_edit letter e = if letter == 89 then with_text [] 0 e else e
+
+-- the first place of the text that is shown, in an input of this width
+abbrev pub first_shown : ℕ → ℕ → ℕ
+first_shown width cursor = cursor - (width - 3)
+
+-- a mouse down on a column, where this place is the first shown
+abbrev pub clicked : ℕ → ℕ → Edit → Edit
+clicked first column e = at_place (min (first + column - 1) (length e.text)) e
+
+-- the focus comes: the whole text is selected, if there is one, with the cursor at its end. It goes: nothing is selected
+abbrev pub entered : Edit → Edit
+entered e = record e { cursor = length e.text; is_whole = nat_lt 0 (length e.text) }
+
+-- the focus goes: nothing is selected, and the cursor is at the start
+abbrev pub left : Edit → Edit
+left e = record e { cursor = 0; is_whole = false }
+
+-- an edit is made, unless its text isn't viable: then nothing changes
+abbrev pub becomes : Domain → Edit → Edit → Edit
+becomes d edit e = if viable d edit.text then edit else e
+
+-- what a typed character made of the text, with the cursor after it; nothing changes where it is refused
+abbrev pub typed_into : Edit → Option (List ℕ) → Edit
+typed_into e None = e
+typed_into e (Some text) = with_text text (place_after (opened_up e) text) e
+
+-- a character is typed: into nothing where the whole text is selected, over a character, or between two
+abbrev pub typed : Domain → ℕ → Edit → Edit
+typed d ch e = typed_into e (typed_of d (opened_up e).text (opened_up e).cursor ch)
+
+-- what a key makes of an input of the domain
+abbrev pub edited : Domain → Key → Edit → Edit
+edited d keys.Left e = at_place (e.cursor - 1) e
+edited d keys.Right e = at_place (min (e.cursor + 1) (length e.text)) e
+edited d keys.Home e = at_place 0 e
+edited d keys.End e = at_place (length e.text) e
+edited d keys.Insert e = record e { is_whole = false; overwrites = not e.overwrites }
+edited d keys.Backspace e = becomes d (backspaced e) e
+edited d keys.Delete e = becomes d (deleted e) e
+edited d (keys.Ctrl letter) e = becomes d (ctrl_edit letter e) e
+edited d (keys.Char ch) e = typed d ch e
+edited d _ e = e
+
+-- the same for the domain that a description asks for; without one nothing changes
+abbrev pub edited_in : Option Domain → Key → Edit → Edit
+edited_in None k e = e
+edited_in (Some d) k e = edited d k e
+
+-- what a key makes of an input that is declared so
+abbrev pub edited_by : InputSpec → Key → Edit → Edit
+edited_by spec k e = edited_in (domain_of spec) k e
 
 -- ---- what it shows
 
@@ -91,7 +221,6 @@ input_behaviour i = record plain {
   name = Some i.name;
   least_width = pos 3;
   texts = i.start ∷ domain_texts i.spec.domain;
-  shown_texts = i.start ∷ domain_texts i.spec.domain;
   is_control = true;
   is_edited = true;
   validates = i.validates;

@@ -23,7 +23,6 @@ label_face colour look text x y = shown (text_row text.text x) (colour (roles.La
 abbrev pub label_behaviour : Label → Behaviour
 label_behaviour l = record plain {
   texts = l.text.text ∷ [];
-  shown_texts = l.text.text ∷ [];
   shortcut = LinkMark l.text l.link;
   link = Some l.link;
   down = FocusesLink l.link;

@@ -1,6 +1,8 @@
--- List boxes.
-use Rattle.std.specs.Prelude.{[], ℕ, Bool, true, not, List, ◌∷◌, length, max, Option, Some, None, IsTrue, ◌≤◌, ◌+◌, ◌-◌, ◌==◌, if◌then◌else◌}
+-- List boxes: what their keys and the mouse make of them, and what they show. Items count from 1.
+use Rattle.std.specs.Prelude.{[], ℕ, Bool, true, not, List, ◌∷◌, length, max, min, Option, Some, None, IsTrue, ◌≤◌, ◌+◌, ◌-◌, ◌==◌, nat_le, nat_lt, if◌then◌else◌}
 use Rattle.tv_cells.specs.Glyph.{Glyph, shown}
+use Rattle.tv_event.specs.declared.event.Key.{Key}
+use Rattle.tv_event.specs.declared.event.Key.TheVariants as keys
 use Rattle.tv_palette.specs.declared.role.Role.{Role}
 use Rattle.tv_palette.specs.declared.role.Role.TheVariants as roles
 use Rattle.tv_palette.specs.declared.role.ListRole.{ListRole}
@@ -8,14 +10,31 @@ use Rattle.tv_palette.specs.declared.role.ListRole.TheVariants as list
 use Rattle.tv_model.specs.declared.kind.ListBox.{ListBox}
 use Rattle.tv_model.specs.declared.record.Value.TheVariants as values
 use Rattle.tv_model.specs.Controls.Behaviour.{Behaviour, plain, Facts, plain_facts, Answer, Passed, Becomes, Holds}
-use Rattle.tv_model.specs.Controls.ClusterTable.{is_item}
-use Rattle.tv_model.specs.Controls.Contents.{Content, item_of, chosen_of, with_chosen, text_at}
-use Rattle.tv_model.specs.Controls.ListTable.{asked_item, chosen, item_at_row}
+use Rattle.tv_model.specs.Controls.Contents.{Content, item_of, text_at, is_item, IsItem}
 use Rattle.tv_model.specs.Controls.Look.{Look}
+use Rattle.tv_model.specs.Controls.Private.{Private, Scrolled}
 use Rattle.tv_model.specs.Description.Numbers.{natural}
-use Rattle.tv_model.specs.Kinds.Cluster.{IsItem}
-use Rattle.tv_model.specs.Machine.Private.{Private, Plain, Editing, Selecting, Scrolled}
 use Rattle.tv_model.specs.Screen.Faces.{FaceOf, text_row}
+
+-- ---- what it holds
+
+-- the chosen item, and the one of the top row
+pub record Chosen : Type 0 where
+  pub item : ℕ
+  pub top : ℕ
+
+-- the item of the top row
+abbrev pub top_of : Private → ℕ
+top_of (Scrolled top) = top
+top_of _ = 1
+
+-- what a list holds
+abbrev pub chosen_of : Content → Chosen
+chosen_of c = record { item = item_of c.value; top = top_of c.private }
+
+-- a list that holds this
+abbrev pub with_chosen : Chosen → Content → Content
+with_chosen held c = record c { value = Some (values.Item held.item); private = Scrolled held.top }
 
 -- it keeps the item of its top row
 abbrev pub IsScrolled : Private → Type 0
@@ -23,6 +42,34 @@ IsScrolled (Scrolled top) = Unit {0}
 IsScrolled _ = ⊥
 
 -- ---- keys and the mouse
+
+-- the top moves by the least amount that shows the item
+abbrev pub top_for : ℕ → ℕ → ℕ → ℕ
+top_for height item top = if nat_lt item top then item else if nat_le (top + height) item then item + 1 - height else top
+
+-- an item is chosen, or the nearest that there is
+abbrev pub within : ℕ → ℕ → ℕ
+within count item = max 1 (min item count)
+
+-- the list with an item chosen, or the nearest that there is
+abbrev pub chosen : ℕ → ℕ → ℕ → Chosen → Chosen
+chosen height count item c = record { item = within count item; top = top_for height (within count item) c.top }
+
+-- the item that a key asks for; those of other keys are passed on
+abbrev pub asked_item : ℕ → ℕ → Chosen → Key → Option ℕ
+asked_item height count c keys.Up = Some (c.item - 1)
+asked_item height count c keys.Down = Some (c.item + 1)
+asked_item height count c keys.PageUp = Some (c.item - height)
+asked_item height count c keys.PageDown = Some (c.item + height)
+asked_item height count c keys.Home = Some c.top
+asked_item height count c keys.End = Some (c.top + height - 1)
+asked_item height count c keys.CtrlPageUp = Some 1
+asked_item height count c keys.CtrlPageDown = Some count
+asked_item height count c _ = None
+
+-- the item of a row, or the last one
+abbrev pub item_at_row : ℕ → Chosen → ℕ → ℕ
+item_at_row count c row = min (c.top + row) count
 
 -- what a list makes of the item that a key asks for
 abbrev pub list_answer : ℕ → ℕ → Option ℕ → Content → Answer
@@ -54,7 +101,6 @@ list_behaviour l = record plain {
   name = Some l.name;
   rows = l.h;
   texts = l.items;
-  shown_texts = l.items;
   is_control = true;
   value = Some (values.Item (natural l.start));
   opened = λ value. Scrolled (max 1 (item_of value + 1 - natural l.h));

@@ -1,6 +1,5 @@
 -- What the focused control holds after a key of its own: still what its kind holds, and the same marks where no key may change one.
-use Rattle.std.proofs.Common.{◌≡◌, ℕ, Bool, true, false, ◌==◌, length, Option, Some, None, is_some}
-use Rattle.std.proofs.Common.{if◌then◌else◌, refl, sym, ap, subst, ◌∙◌}
+use Rattle.std.proofs.Common.{◌≡◌, ℕ, Bool, true, false, ◌==◌, length, Option, Some, None, is_some, if◌then◌else◌, refl, sym, ap, subst, ◌∙◌}
 use Rattle.tv_event.specs.declared.event.Key.{Key}
 use Rattle.tv_model.specs.declared.kind.Kind.{Kind}
 use Rattle.tv_model.specs.declared.kind.Kind.TheVariants as kinds
@@ -8,18 +7,17 @@ use Rattle.tv_model.specs.declared.record.Value.{Value}
 use Rattle.tv_model.specs.declared.desc.Dialog.{Dialog}
 use Rattle.tv_model.specs.Description.Nodes.{is_cluster}
 use Rattle.tv_model.specs.Description.Numbers.{natural}
-use Rattle.tv_model.specs.Controls.ButtonTable.{is_press}
-use Rattle.tv_model.specs.Controls.ClusterTable as clusters
-use Rattle.tv_model.specs.Controls.ClusterTable.{Cluster, ClusterKind, Boxes, Radios, ClusterKey, cluster_key, may_change}
-use Rattle.tv_model.specs.Controls.InputTable.{Edit, is_edit_key}
-use Rattle.tv_model.specs.Controls.ListTable.{asked_item, chosen}
+use Rattle.tv_model.specs.Kinds.Button.{is_press}
+use Rattle.tv_model.specs.Kinds.Cluster as clusters
+use Rattle.tv_model.specs.Kinds.Cluster.{Cluster, ClusterKey, cluster_key, may_change, cluster_of, held_marks, selected_of, with_cluster, cluster_answer, is_marked}
+use Rattle.tv_model.specs.Controls.Shortcut.{ClusterKind, Boxes, Radios}
+use Rattle.tv_model.specs.Kinds.InputLine.{Edit, is_edit_key, edit_content, edit_of, edited_by}
+use Rattle.tv_model.specs.Kinds.ListBox.{asked_item, chosen, chosen_of, with_chosen, list_answer}
 use Rattle.tv_machine.specs.Leaves.{PlacedNode}
-use Rattle.tv_machine.specs.Controls.Contents.{Content, chosen_of, cluster_of, edit_content, edit_of, marks_of, selected_of}
-use Rattle.tv_machine.specs.Controls.Contents.{with_chosen, with_cluster}
-use Rattle.tv_machine.specs.Controls.Editing.{edited_by}
-use Rattle.tv_machine.specs.Controls.Tables.{Passed, Becomes, Presses, cluster_answer, key_answer, list_answer}
+use Rattle.tv_model.specs.Controls.Contents.{Content}
+use Rattle.tv_model.specs.Controls.Behaviour.{Passed, Becomes, Presses}
+use Rattle.tv_machine.specs.Controls.Tables.{key_answer}
 use Rattle.tv_machine.specs.Dialog.Modal.{Modal, content_at, with_content}
-use Rattle.tv_machine.specs.Dialog.Rules.{is_marked}
 use Rattle.tv_view.specs.Reactions.{may_mark_by}
 use Rattle.tv_machine.specs.Dialog.Lawful.{IsLawfulDialog}
 use Rattle.tv_machine.specs.Dialog.Alike.{HoldSame}
@@ -81,7 +79,7 @@ key-steady (kinds.Pane pane) k before c is = absurd cc
 
 -- ---- its marks
 
-some-marks : (value : Option Value) → is_some value ≡ true → value ≡ Some (marks_of value)
+some-marks : (value : Option Value) → is_some value ≡ true → value ≡ Some (held_marks value)
 some-marks None h = absurd cc
 some-marks (Some value) h = refl
 

@@ -9,11 +9,12 @@ use Rattle.tv_event.specs.declared.event.Phase.TheVariants as phases
 use Rattle.tv_model.specs.declared.kind.Kind.{Kind}
 use Rattle.tv_model.specs.declared.kind.Kind.TheVariants as kinds
 use Rattle.tv_model.specs.declared.desc.Dialog.{Dialog}
-use Rattle.tv_model.specs.Controls.Meaning.{Leaf}
-use Rattle.tv_model.specs.Description.Letters.{upper}
+use Rattle.tv_view.specs.Meaning.{Leaf}
+use Rattle.tv_model.specs.Description.Marks.{upper}
 use Rattle.tv_machine.specs.Leaves.{PlacedNode}
-use Rattle.tv_machine.specs.Controls.Contents.{Content}
-use Rattle.tv_machine.specs.Controls.Tables.{Answer, Passed, Becomes, Presses, key_answer}
+use Rattle.tv_model.specs.Controls.Contents.{Content}
+use Rattle.tv_model.specs.Controls.Behaviour.{Answer, Passed, Becomes, Presses}
+use Rattle.tv_machine.specs.Controls.Tables.{key_answer}
 use Rattle.tv_machine.specs.Dialog.Focus.{is_free_at, is_free_leaf}
 use Rattle.tv_machine.specs.Dialog.Keys as machine
 use Rattle.tv_machine.specs.Dialog.Keys.{alt_keyed, answered, focus_keyed, key, passed_on}
@@ -36,8 +37,7 @@ use Rattle.tv_tree.proofs.Keys.KeyContentLemmas.{hold-keyed, key-steady, tree-ke
 use Rattle.tv_tree.proofs.Keys.LetterLemmas.{letter_turn}
 use Rattle.tv_machine.proofs.ListLemmas.{option_cases}
 use Rattle.tv_machine.proofs.MarkLemmas.{hold-itself}
-use Rattle.tv_tree.proofs.Keys.PhaseLemmas.{phases_after-still, phases_after-taken}
-use Rattle.tv_tree.proofs.Keys.PhaseLemmas.{phases_answer-post, phases_answer-pre, phases_answer-taken}
+use Rattle.tv_tree.proofs.Keys.PhaseLemmas.{phases_after-still, phases_after-taken, phases_answer-post, phases_answer-pre, phases_answer-taken}
 use Rattle.tv_tree.proofs.Keys.QuietLemmas.{after-key, after-none, before-key, before-none}
 use Rattle.tv_machine.proofs.LeafLemmas.{IsIn, leaf_at-in}
 use Rattle.tv_tree.proofs.TreeLemmas.{steady-changed}

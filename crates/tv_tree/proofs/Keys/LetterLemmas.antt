@@ -1,6 +1,5 @@
 -- What a letter that any focus leaves to others makes of a dialog, through the views as in the machine.
-use Rattle.std.proofs.Common.{◌≡◌, ℕ, Bool, true, false, ◌&&◌, not, ◌+◌, ◌-◌, ◌<◌, nat_le, List, [], length, Option, Some, None, is_some}
-use Rattle.std.proofs.Common.{option_map, if◌then◌else◌, refl, sym, ap, ◌∙◌, arith}
+use Rattle.std.proofs.Common.{◌≡◌, ℕ, Bool, true, false, ◌&&◌, not, ◌+◌, ◌-◌, ◌<◌, nat_le, List, [], length, Option, Some, None, is_some, option_map, if◌then◌else◌, refl, sym, ap, ◌∙◌, arith}
 use Rattle.std.specs.List.{position}
 use Rattle.std.proofs.lemmas.Bool.{and_parts, not-true}
 use Rattle.std.proofs.lemmas.Bool.Decides.{nat_tests}
@@ -14,13 +13,14 @@ use Rattle.tv_model.specs.declared.kind.Kind.{Kind}
 use Rattle.tv_model.specs.declared.kind.Kind.TheVariants as kinds
 use Rattle.tv_model.specs.declared.kind.MarkedText.{MarkedText}
 use Rattle.tv_model.specs.declared.desc.Dialog.{Dialog}
-use Rattle.tv_model.specs.Description.Letters.{marks, upper}
+use Rattle.tv_model.specs.Description.Marks.{marks, upper}
 use Rattle.tv_model.specs.Description.Names.{meant}
-use Rattle.tv_model.specs.Description.Owners.{Owner, control, item_at, owner_by}
-use Rattle.tv_model.specs.Controls.ButtonTable.{item_marking}
-use Rattle.tv_model.specs.Controls.ClusterTable.{ClusterKind, Boxes, Radios, is_item}
-use Rattle.tv_model.specs.Controls.Meaning.{Leaf, Placed}
-use Rattle.tv_machine.specs.Controls.Tables.{item_pressed}
+use Rattle.tv_model.specs.Controls.Owner.{Owner, control, item_at}
+use Rattle.tv_model.specs.Description.Owners.{owner_by}
+use Rattle.tv_model.specs.Controls.Shortcut.{item_marking, ClusterKind, Boxes, Radios}
+use Rattle.tv_model.specs.Controls.Contents.{is_item}
+use Rattle.tv_view.specs.Meaning.{Leaf, Placed}
+use Rattle.tv_model.specs.Kinds.Cluster.{item_pressed}
 use Rattle.tv_machine.specs.Leaves.{PlacedNode, leaf_list}
 use Rattle.tv_machine.specs.Dialog.Focus.{request, request_then, requested, is_granted}
 use Rattle.tv_machine.specs.Dialog.Modal.{Modal, content_at, leaf_at, with_content}

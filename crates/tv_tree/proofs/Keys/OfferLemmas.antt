@@ -6,7 +6,7 @@ use Rattle.tv_event.specs.declared.event.Event.{Event}
 use Rattle.tv_event.specs.declared.event.Event.TheVariants as events
 use Rattle.tv_event.specs.declared.event.Phase.{Phase}
 use Rattle.tv_event.specs.declared.event.Phase.TheVariants as phases
-use Rattle.tv_model.specs.Controls.Meaning.{Placed}
+use Rattle.tv_view.specs.Meaning.{Placed}
 use Rattle.tv_view.specs.declared.env.Env.{Env}
 use Rattle.tv_group.specs.Handling.{first_changed, found_answer, group_after, group_answer, is_offered, is_pass, placed_after, scan_after, scan_answer, takes}
 use Rattle.tv_tree.specs.Turns.{phases_after, phases_answer}

@@ -7,12 +7,11 @@ use Rattle.tv_event.specs.declared.event.Event.TheVariants as events
 use Rattle.tv_event.specs.declared.event.Key.{Key}
 use Rattle.tv_event.specs.declared.event.Phase.{Phase}
 use Rattle.tv_event.specs.declared.event.Phase.TheVariants as phases
-use Rattle.tv_model.specs.Controls.Meaning.{Placed}
+use Rattle.tv_view.specs.Meaning.{Placed}
 use Rattle.tv_view.specs.declared.env.Env.{Env}
 use Rattle.tv_view.specs.declared.reaction.Reaction.TheVariants.{Pass}
 use Rattle.tv_view.specs.Reactions.{called, letter_answer}
-use Rattle.tv_group.specs.Handling.{found_answer, group_after, group_answer, is_offered, is_pass, placed_after, placed_answer}
-use Rattle.tv_group.specs.Handling.{scan_after, scan_answer, takes}
+use Rattle.tv_group.specs.Handling.{found_answer, group_after, group_answer, is_offered, is_pass, placed_after, placed_answer, scan_after, scan_answer, takes}
 use Rattle.tv_tree.specs.Turns.{phases_after, phases_answer}
 use Rattle.tv_tree.proofs.ChangedLemmas.{first_changed-same}
 use Rattle.tv_tree.proofs.Keys.LetterLemmas.{letter-none}

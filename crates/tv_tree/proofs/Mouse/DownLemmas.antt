@@ -8,13 +8,13 @@ use Rattle.tv_model.specs.declared.kind.Kind.TheVariants as kinds
 use Rattle.tv_model.specs.declared.node.Id.{Id}
 use Rattle.tv_model.specs.declared.node.Node.{Node}
 use Rattle.tv_model.specs.declared.desc.Dialog.{Dialog}
-use Rattle.tv_model.specs.Controls.InputTable.{first_shown}
-use Rattle.tv_model.specs.Controls.Meaning.{Leaf}
+use Rattle.tv_model.specs.Kinds.InputLine.{first_shown, cursor_of}
+use Rattle.tv_view.specs.Meaning.{Leaf}
 use Rattle.tv_model.specs.Description.Names.{meant}
 use Rattle.tv_model.specs.Description.Nodes.{is_control}
 use Rattle.tv_model.specs.Description.Numbers.{natural}
 use Rattle.tv_machine.specs.Leaves.{PlacedNode}
-use Rattle.tv_machine.specs.Controls.Contents.{Content, cursor_of}
+use Rattle.tv_model.specs.Controls.Contents.{Content}
 use Rattle.tv_machine.specs.Controls.Tables.{down_content, remembered}
 use Rattle.tv_machine.specs.Dialog.Focus.{Request, Same, NotFree, Refused, Moved, after_request, is_free_at, is_granted, keeps_focus, request, requested}
 use Rattle.tv_machine.specs.Dialog.Modal.{Modal, content_at, leaf_at, with_content}

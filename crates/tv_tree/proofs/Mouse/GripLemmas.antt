@@ -6,10 +6,10 @@ use Rattle.tv_event.specs.declared.event.Phase.TheVariants as phases
 use Rattle.tv_model.specs.declared.kind.Kind.{Kind}
 use Rattle.tv_model.specs.declared.kind.Kind.TheVariants as kinds
 use Rattle.tv_model.specs.declared.desc.Dialog.{Dialog}
-use Rattle.tv_model.specs.Controls.Meaning.{Leaf, Placed}
+use Rattle.tv_view.specs.Meaning.{Leaf, Placed}
 use Rattle.tv_model.specs.Description.Nodes.{is_cluster}
 use Rattle.tv_machine.specs.Leaves.{PlacedNode}
-use Rattle.tv_machine.specs.Controls.Contents.{Content}
+use Rattle.tv_model.specs.Controls.Contents.{Content}
 use Rattle.tv_machine.specs.Controls.Tables.{down_content, remembered}
 use Rattle.tv_machine.specs.Dialog.Modal.{Modal, content_at, with_content}
 use Rattle.tv_machine.specs.Dialog.Mouse as mouse

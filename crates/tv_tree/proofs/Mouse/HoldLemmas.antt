@@ -2,13 +2,14 @@
 use Rattle.std.proofs.Common.{◌≡◌, ℕ, Bool, true, false, ◌==◌, if◌then◌else◌, List, map, Option, Some, None, is_some, refl, sym, ap, ◌∙◌}
 use Rattle.tv_model.specs.declared.node.Id.{Id}
 use Rattle.tv_model.specs.declared.desc.Dialog.{Dialog}
-use Rattle.tv_model.specs.Controls.Meaning.{Placed}
+use Rattle.tv_view.specs.Meaning.{Placed}
 use Rattle.tv_model.specs.Description.Nodes.{is_cluster}
 use Rattle.tv_machine.specs.State.{LeafState, Held}
 use Rattle.tv_machine.specs.Leaves.{PlacedNode, leaf_list}
-use Rattle.tv_machine.specs.Controls.Contents.{Content}
+use Rattle.tv_model.specs.Controls.Contents.{Content}
 use Rattle.tv_machine.specs.Dialog.Modal.{Modal, content_at, leaf_at, with_content}
-use Rattle.tv_machine.specs.Dialog.Rules.{is_enabled, is_marked, is_visible}
+use Rattle.tv_machine.specs.Dialog.Rules.{is_enabled, is_visible}
+use Rattle.tv_model.specs.Kinds.Cluster.{is_marked}
 use Rattle.tv_view.specs.Fields as fields
 use Rattle.tv_machine.specs.Dialog.Lawful.{IsLawfulDialog}
 use Rattle.tv_machine.specs.Dialog.Alike.{HoldSame}

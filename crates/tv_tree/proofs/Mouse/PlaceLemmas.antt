@@ -11,7 +11,7 @@ use Rattle.tv_cells.specs.declared.rect.Point.{Point}
 use Rattle.tv_cells.specs.declared.rect.Rect.{Rect}
 use Rattle.tv_event.specs.declared.event.Event.TheVariants as events
 use Rattle.tv_model.specs.declared.node.Node.{Node}
-use Rattle.tv_model.specs.Controls.Meaning.{Leaf}
+use Rattle.tv_view.specs.Meaning.{Leaf}
 use Rattle.tv_model.specs.Description.Rectangles.{place_of_node}
 use Rattle.tv_machine.specs.Leaves.{column_in, row_in}
 use Rattle.tv_view.specs.Points as points

@@ -7,12 +7,14 @@ use Rattle.tv_model.specs.declared.kind.Kind.{Kind}
 use Rattle.tv_model.specs.declared.kind.Kind.TheVariants as kinds
 use Rattle.tv_model.specs.declared.node.Id.{Id}
 use Rattle.tv_model.specs.declared.desc.Dialog.{Dialog}
-use Rattle.tv_model.specs.Controls.Meaning.{Leaf, Placed}
-use Rattle.tv_model.specs.Controls.ClusterTable.{ClusterKind, Boxes, Radios}
+use Rattle.tv_view.specs.Meaning.{Leaf, Placed}
+use Rattle.tv_model.specs.Controls.Shortcut.{ClusterKind, Boxes, Radios}
 use Rattle.tv_machine.specs.State.{Held}
 use Rattle.tv_machine.specs.Leaves.{PlacedNode}
-use Rattle.tv_machine.specs.Controls.Contents.{Content}
-use Rattle.tv_machine.specs.Controls.Tables.{Answer, Passed, Becomes, Presses, item_pressed, item_of_row, up_answer}
+use Rattle.tv_model.specs.Controls.Contents.{Content}
+use Rattle.tv_model.specs.Controls.Behaviour.{Answer, Passed, Becomes, Presses}
+use Rattle.tv_model.specs.Kinds.Cluster.{item_pressed, item_of_row}
+use Rattle.tv_machine.specs.Controls.Tables.{up_answer}
 use Rattle.tv_machine.specs.Dialog.Ending.{pressed_kind}
 use Rattle.tv_machine.specs.Dialog.Modal.{Modal, content_at, leaf_at, with_content}
 use Rattle.tv_machine.specs.Dialog.Mouse as mouse

@@ -10,10 +10,11 @@ use Rattle.tv_model.specs.declared.kind.Kind.{Kind}
 use Rattle.tv_model.specs.declared.kind.Kind.TheVariants as kinds
 use Rattle.tv_model.specs.declared.node.Id.{Id}
 use Rattle.tv_model.specs.declared.desc.Dialog.{Dialog}
-use Rattle.tv_model.specs.Controls.Meaning.{Leaf, has_item, holds}
+use Rattle.tv_view.specs.Meaning.{Leaf, has_item, holds}
 use Rattle.tv_machine.specs.State.{LeafState, Held}
 use Rattle.tv_machine.specs.Leaves.{PlacedNode, leaf_list}
-use Rattle.tv_machine.specs.Controls.Tables.{Answer, Passed, Becomes, Presses, up_answer}
+use Rattle.tv_model.specs.Controls.Behaviour.{Answer, Passed, Becomes, Presses}
+use Rattle.tv_machine.specs.Controls.Tables.{up_answer}
 use Rattle.tv_machine.specs.Dialog.Modal.{Modal, leaf_at}
 use Rattle.tv_view.specs.declared.env.Env.{Env}
 use Rattle.tv_view.specs.declared.reaction.Reaction.TheVariants.{Pass, Done, Release}

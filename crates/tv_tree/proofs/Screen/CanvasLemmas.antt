@@ -12,7 +12,7 @@ use Rattle.tv_cells.specs.declared.rect.Rect.{Rect}
 use Rattle.tv_cells.specs.declared.canvas.Canvas.{Canvas}
 use Rattle.tv_cells.proofs.RectangleLemmas.{in_cut}
 use Rattle.tv_model.specs.declared.node.Node.{Node}
-use Rattle.tv_model.specs.Controls.Meaning.{Leaf}
+use Rattle.tv_view.specs.Meaning.{Leaf}
 use Rattle.tv_model.specs.Description.Rectangles.{has_points, interior, is_within, place_of_node, whole_area}
 use Rattle.tv_machine.specs.Leaves.{column_in, row_in}
 use Rattle.tv_view.specs.declared.env.Env.{Env}

@@ -15,13 +15,12 @@ use Rattle.tv_model.specs.declared.desc.Desc.{Desc}
 use Rattle.tv_model.specs.declared.desc.Dialog.{Dialog}
 use Rattle.tv_model.specs.declared.node.Id.{Id}
 use Rattle.tv_model.specs.declared.node.Node.{Node}
-use Rattle.tv_model.specs.Controls.Meaning.{IsSmall}
+use Rattle.tv_model.specs.Description.Rectangles.{IsSmall, desktop, place_of_node}
 use Rattle.tv_model.specs.Description.Nodes.{AreRising, height_of, is_default, is_pane}
 use Rattle.tv_model.specs.Description.LawfulNodes.{IsLimited}
 use Rattle.tv_model.specs.Description.Numbers.{natural}
-use Rattle.tv_model.specs.Description.Rectangles.{desktop, place_of_node}
 use Rattle.tv_model.specs.Screen.Faces.{FaceOf}
-use Rattle.tv_model.specs.Screen.Layers.{canvas_at}
+use Rattle.tv_machine.specs.Screen.Bodies.{canvas_at}
 use Rattle.tv_palette.specs.Attributes.{attribute_of}
 use Rattle.tv_palette.specs.declared.role.Owner.TheVariants as owners
 use Rattle.tv_machine.specs.State.{OpenDialog}

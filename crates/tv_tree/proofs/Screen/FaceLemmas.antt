@@ -4,7 +4,7 @@ use Rattle.tv_cells.specs.Glyph.{glyph, shown}
 use Rattle.tv_model.specs.declared.kind.Kind.{Kind}
 use Rattle.tv_model.specs.declared.kind.Kind.TheVariants as kinds
 use Rattle.tv_model.specs.declared.kind.MarkedText.{MarkedText}
-use Rattle.tv_model.specs.Controls.ClusterTable.{ClusterKind, Boxes, Radios}
+use Rattle.tv_model.specs.Controls.Shortcut.{ClusterKind, Boxes, Radios}
 use Rattle.tv_model.specs.Screen.Faces.{button_cells, button_role, text_face, text_row}
 use Rattle.tv_palette.proofs.ColourLemmas.{leads_through}
 use Rattle.tv_palette.specs.Attributes.{attribute_of}
@@ -13,9 +13,14 @@ use Rattle.tv_palette.specs.Palettes.{colour_in, owners_of_part}
 use Rattle.tv_palette.specs.declared.role.Owner.TheVariants as owners
 use Rattle.tv_palette.specs.declared.role.Role.TheVariants as roles
 use Rattle.tv_palette.specs.declared.role.ClusterRole.TheVariants as cluster
-use Rattle.tv_machine.specs.Controls.Contents.{Content, chosen_of, edit_of, selected_of, text_at}
-use Rattle.tv_machine.specs.Dialog.Rules.{is_marked}
-use Rattle.tv_machine.specs.Screen.LeafFaces.{Look, box_before, button_face, button_look, cluster_face, cluster_role, cluster_row, input_cell, input_face, is_mark_from, label_face, label_role, leaf_faces, list_face, list_role}
+use Rattle.tv_model.specs.Controls.Contents.{Content, text_at}
+use Rattle.tv_model.specs.Kinds.ListBox.{chosen_of, list_face, list_role}
+use Rattle.tv_model.specs.Kinds.InputLine.{edit_of, input_cell, input_face}
+use Rattle.tv_model.specs.Kinds.Cluster.{selected_of, is_marked, box_before, cluster_face, cluster_role, cluster_row}
+use Rattle.tv_model.specs.Controls.Look.{Look, is_mark_from}
+use Rattle.tv_model.specs.Kinds.Button.{button_face, button_look}
+use Rattle.tv_model.specs.Kinds.Label.{label_face, label_role}
+use Rattle.tv_machine.specs.Screen.LeafFaces.{leaf_faces}
 
 module _ (chain : List (List ℕ)) (of_dialog : coloured chain ≡ owners_of_part owners.Dialog) where
   label-same : (look : Look) (text : MarkedText) → label_face (colour_in chain) look text ≡ label_face attribute_of look text

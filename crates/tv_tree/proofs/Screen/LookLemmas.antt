@@ -12,7 +12,7 @@ use Rattle.tv_model.specs.declared.kind.Kind.TheVariants as kinds
 use Rattle.tv_model.specs.declared.desc.Dialog.{Dialog}
 use Rattle.tv_model.specs.Description.Names.{meant}
 use Rattle.tv_model.specs.Description.Nodes.{AreRising, has_id, is_button, is_button_node, is_default, is_pane, node_of}
-use Rattle.tv_model.specs.Screen.Layers.{is_default_now}
+use Rattle.tv_machine.specs.Screen.Bodies.{is_default_now}
 use Rattle.tv_machine.specs.State.{OpenDialog}
 use Rattle.tv_machine.specs.Leaves.{PlacedNode, leaf_list, leaves_in, open_after, open_at}
 use Rattle.tv_machine.specs.Dialog.Keys.{declared_default, if_button}

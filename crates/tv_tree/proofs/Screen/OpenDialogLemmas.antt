@@ -10,7 +10,7 @@ use Rattle.tv_model.specs.declared.desc.Dialog.{Dialog}
 use Rattle.tv_model.specs.declared.node.Id.{Id}
 use Rattle.tv_model.specs.declared.kind.Kind.{Kind}
 use Rattle.tv_model.specs.declared.kind.Kind.TheVariants as kinds
-use Rattle.tv_model.specs.Controls.Meaning.{IsSmall}
+use Rattle.tv_model.specs.Description.Rectangles.{IsSmall}
 use Rattle.tv_model.specs.Description.Heads.{dialog_head}
 use Rattle.tv_model.specs.Description.Nodes.{height_of, is_dialog}
 use Rattle.tv_model.specs.Description.Numbers.{natural}

@@ -2,7 +2,7 @@ use Rattle.std.proofs.Common.{◌≡◌, length, rules, subst, sym}
 use Rattle.std.specs.List.{All}
 use Rattle.tv_choices.proofs.MarkLemmas.{items-few}
 use Rattle.tv_choices.proofs.check_boxes.first_marks.Goals as goal
-use Rattle.tv_model.specs.Description.LawfulNodes.{IsItem}
+use Rattle.tv_model.specs.Controls.Contents.{IsItem}
 
 pub marks_of-requires : goal.marks_of-requires
 marks_of-requires c =

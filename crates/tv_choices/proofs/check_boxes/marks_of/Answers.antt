@@ -1,7 +1,7 @@
 use Rattle.std.proofs.Common.{◌≡◌, ◌∙◌, ◌-◌, ◌<◌, ap, bit_or, drop, length, rules, suc}
 use Rattle.tv_choices.proofs.MarkLemmas.{marks-more}
 use Rattle.tv_choices.proofs.check_boxes.marks_of.Goals as goal
-use Rattle.tv_model.specs.Machine.State.{marks_of}
+use Rattle.tv_model.specs.Kinds.Cluster.{marks_of}
 
 pub loop-i-preserved : goal.loop-i-preserved
 loop-i-preserved c =

@@ -1,5 +1,5 @@
 use Rattle.std.proofs.Common.{rules, ◌≡◌, ◌∙◌, ◌+◌, None, ap, option_map, position}
-use Rattle.tv_model.specs.Description.Letters.{marks, upper}
+use Rattle.tv_model.specs.Description.Marks.{marks, upper}
 use Rattle.tv_choices.proofs.cluster.item_marking.Goals as goal
 
 pub returns-in_err-place-clause-is : goal.returns-in_err-place-clause-is

@@ -1,6 +1,6 @@
 use Rattle.std.proofs.Common.{rules}
 use Rattle.std.proofs.lemmas.Bool.{false_from_ne_true}
-use Rattle.tv_model.specs.Description.LawfulNodes.{HasAnyText}
+use Rattle.tv_model.specs.Kinds.InputLine.{HasAnyText}
 use Rattle.tv_model.specs.Faults.Domains.{any_text}
 use Rattle.tv_model.proofs.DomainLemmas.{any_text_law}
 use Rattle.tv_faults.proofs.domains.domain_of.Goals as goal

@@ -1,6 +1,6 @@
 use Rattle.std.proofs.Common.{rules, arith, ◌≡◌, ◌+◌, ◌-◌, ◌<◌, ◌≤◌, ◌∷◌, [], length, ap, sym, ◌∙◌, refl}
 use Rattle.tv_cells.specs.Layers.{is_in}
-use Rattle.tv_model.specs.Controls.Meaning.{alone}
+use Rattle.tv_view.specs.Meaning.{alone}
 use Rattle.tv_view.specs.Points.{point_into}
 use Rattle.tv_group.specs.Opened.{opened, opened_member}
 use Rattle.tv_group.specs.Turns.{down_after, down_here}

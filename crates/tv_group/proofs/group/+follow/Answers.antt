@@ -1,5 +1,5 @@
 use Rattle.std.proofs.Common.{arith, ◌<◌, ◌≤◌, ◌∷◌, [], ◌+◌, length, ap}
-use Rattle.tv_model.specs.Controls.Meaning.{PaneAt}
+use Rattle.tv_view.specs.Meaning.{PaneAt}
 use Rattle.tv_group.specs.Outline.{members_outline, outlined}
 use Rattle.tv_group.proofs.OpenedLemmas.{item_at}
 use Rattle.tv_group.proofs.OutlineLemmas.{left-all, left-next, left-none, left-end, outline-leaf, outline-pane, some-join, none-join, follows-split}

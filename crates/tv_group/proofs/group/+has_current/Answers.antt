@@ -1,5 +1,5 @@
 use Rattle.std.proofs.Common.{arith, ◌<◌, ◌≤◌, length, sym, ap, ◌∙◌}
-use Rattle.tv_model.specs.Controls.Meaning.{has_current}
+use Rattle.tv_view.specs.Meaning.{has_current}
 use Rattle.tv_group.proofs.OpenedLemmas.{member-leaf, member-pane}
 use Rattle.tv_group.proofs.CurrentLemmas.{lt_false, current-none, current-at, current-past}
 use Rattle.tv_group.proofs.group.+has_current.Goals as goal

@@ -1,5 +1,5 @@
 use Rattle.std.proofs.Common.{arith, ◌<◌, ◌≤◌, length, ap, ◌∙◌}
-use Rattle.tv_model.specs.Controls.Meaning.{holds}
+use Rattle.tv_view.specs.Meaning.{holds}
 use Rattle.tv_group.specs.Calls.{any_holds}
 use Rattle.tv_group.specs.Opened.{opened}
 use Rattle.tv_group.proofs.OpenedLemmas.{item_at}

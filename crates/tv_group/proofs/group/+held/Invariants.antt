@@ -1,5 +1,5 @@
 use Rattle.std.proofs.Common.{◌≡◌}
-use Rattle.tv_model.specs.Controls.Meaning.{holds}
+use Rattle.tv_view.specs.Meaning.{holds}
 use Rattle.tv_group.specs.Opened.{opened}
 use Rattle.tv_group.proofs.AskedLemmas.{any_leaf}
 use Rattle.tv_group.proofs.RestLemmas.{opened_from}

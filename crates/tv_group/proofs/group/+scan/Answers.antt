@@ -1,6 +1,6 @@
 use Rattle.std.proofs.Common.{rules, arith, ◌<◌, ◌≤◌, ◌∷◌, [], length, ap, sym, ◌∙◌, refl}
 use Rattle.std.proofs.lemmas.List.{length-set, with_items_is}
-use Rattle.tv_model.specs.Controls.Meaning.{alone}
+use Rattle.tv_view.specs.Meaning.{alone}
 use Rattle.tv_view.specs.Points.{moved_into}
 use Rattle.tv_group.specs.Handling.{scan_after, scan_answer}
 use Rattle.tv_group.specs.Opened.{opened}

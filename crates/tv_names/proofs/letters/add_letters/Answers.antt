@@ -3,7 +3,7 @@ use Rattle.std.proofs.lemmas.Grind.{common_steps}
 use Rattle.std.proofs.lemmas.List.Folds.{list_any_more}
 use Rattle.std.specs.HashSet as set
 use Rattle.std.specs.List.{list_any}
-use Rattle.tv_model.specs.Description.Letters.{shares_letter}
+use Rattle.tv_model.specs.Description.Marks.{shares_letter}
 use Rattle.tv_names.specs.Marked.{mark_again, marks_any}
 use Rattle.tv_model.proofs.EachAfterLemmas.{any_more}
 use Rattle.tv_names.proofs.GivenLetterLemmas.{marks_given_on_line}

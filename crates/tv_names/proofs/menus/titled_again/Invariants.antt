@@ -1,7 +1,7 @@
 use Rattle.std.proofs.Common.{◌≡◌, ℕ, nat_eq, take}
 use Rattle.std.specs.HashSet as set
 use Rattle.std.specs.List.{list_any}
-use Rattle.tv_model.specs.Description.Letters.{marks}
+use Rattle.tv_model.specs.Description.Marks.{marks}
 use Rattle.tv_model.specs.Faults.Letters.{titled_again}
 use Rattle.tv_model.specs.Faults.Each.{each_after}
 use Rattle.tv_names.proofs.menus.titled_again.Given as goal

@@ -1,5 +1,5 @@
 use Rattle.std.proofs.Common.{◌≡◌, ◌∙◌, true, false, rules, sym, ap, if◌then◌else◌}
-use Rattle.tv_machine.specs.Controls.Editing.{edited}
+use Rattle.tv_model.specs.Kinds.InputLine.{edited}
 use Rattle.tv_view.specs.declared.reaction.Reaction.TheVariants.{Done, Pass}
 use Rattle.tv_controls.specs.InputLine.{input_leaf}
 use Rattle.tv_controls.proofs.InputLemmas.{input_answer, input_keyed}

@@ -1,5 +1,5 @@
 use Rattle.std.proofs.Common.{None, map, ap, ◌∙◌, ◌+◌}
-use Rattle.tv_model.specs.Controls.Meaning.{inside}
+use Rattle.tv_view.specs.Meaning.{inside}
 use Rattle.tv_group.specs.Opened.{joined, opened_member}
 use Rattle.tv_group.proofs.OpenedLemmas.{opened-rolled}
 use Rattle.tv_group.proofs.group.GroupOf.new.Goals as goal

@@ -1,7 +1,6 @@
 use Rattle.std.proofs.Common.{◌≡◌, ◌+ℤ◌, ◌≤ℤ◌, IsTrue, pos, rules, sym, subst}
-use Rattle.tv_model.specs.Controls.Meaning.{IsSmallRect}
+use Rattle.tv_model.specs.Description.Rectangles.{IsSmallRect, place_of_node}
 use Rattle.tv_model.specs.Description.Nodes.{is_cluster}
-use Rattle.tv_model.specs.Description.Rectangles.{place_of_node}
 use Rattle.tv_leaf.proofs.CoreLemmas.{cluster_rows, limited_small}
 use Rattle.tv_leaf.proofs.leaf_core.LeafCore.bounds.Goals as goal
 

@@ -1,11 +1,12 @@
 -- What a view means: its leaves, one after the other.
-use Rattle.std.specs.Prelude.{[], ℕ, Bool, true, false, List, ◌∷◌, map, Option, Some, None, ℤ, pos, neg_ℤ, ◌≤ℤ◌, if◌then◌else◌}
+use Rattle.std.specs.Prelude.{[], ℕ, Bool, true, false, List, ◌∷◌, map, Option, Some, None, if◌then◌else◌}
 use Rattle.std.specs.List.{list_any}
 use Rattle.tv_cells.specs.declared.rect.Rect.{Rect}
 use Rattle.tv_model.specs.declared.node.Node.{Node}
 use Rattle.tv_model.specs.declared.record.Value.{Value}
 use Rattle.tv_model.specs.Description.Rectangles.{place_of_node}
-use Rattle.tv_model.specs.Machine.State.{Private, declared_leaf}
+use Rattle.tv_model.specs.Controls.Private.{Private}
+use Rattle.tv_machine.specs.Controls.Declared.{declared_leaf}
 
 -- ---- leaves
 
@@ -41,18 +42,6 @@ fresh node = record {
 -- its rectangle, seen from the corner of what it stands in
 abbrev pub bounds_of : Leaf → Rect
 bounds_of leaf = place_of_node leaf.node
-
--- a coordinate that the bounds of a view may have
-pub record IsSmall (z : ℤ) : Type 0 where
-  pub low : neg_ℤ (pos 300) ≤ℤ z
-  pub high : z ≤ℤ pos 300
-
--- a rectangle that the bounds of a view may be
-pub record IsSmallRect (r : Rect) : Type 0 where
-  pub left : IsSmall r.a.x
-  pub top : IsSmall r.a.y
-  pub right : IsSmall r.b.x
-  pub bottom : IsSmall r.b.y
 
 -- ---- leaves in their places
 
