@@ -3,18 +3,17 @@ use Rattle.std.proofs.Common.{◌≡◌, Bool, false, not, ◌&&◌, ◌||◌, �
 use Rattle.std.proofs.lemmas.Bool.{false≢true, false_from_ne_true}
 use Rattle.tv_model.specs.declared.node.Id.{Id}
 use Rattle.tv_model.specs.declared.node.Node.{Node}
-use Rattle.tv_model.specs.declared.kind.Kind.{Kind}
-use Rattle.tv_model.specs.declared.kind.Kind.TheVariants as kinds
+use Rattle.tv_model.specs.declared.command.CommandSpec.{CommandSpec}
 use Rattle.tv_model.specs.declared.desc.Dialog.{Dialog}
 use Rattle.tv_model.specs.declared.desc.Rule.{Rule}
-use Rattle.tv_model.specs.Description.Commands.{command_number}
+use Rattle.tv_model.specs.Description.Commands.{command_number, command_of}
 use Rattle.tv_model.specs.Description.Names.{gives_name, meant}
 use Rattle.tv_model.specs.Description.Nodes.{is_cluster, is_control}
 use Rattle.tv_model.specs.Description.Numbers.{natural}
 use Rattle.tv_machine.specs.State.{LeafState}
 use Rattle.tv_machine.specs.Leaves.{PlacedNode}
 use Rattle.tv_model.specs.Controls.Contents.{Content}
-use Rattle.tv_machine.specs.Dialog.Rules.{content_by, enables, holds, is_among, is_command_enabled, is_enabled, is_free, is_kind_enabled, is_marked_at, is_visible, shows, state_of}
+use Rattle.tv_machine.specs.Dialog.Rules.{content_by, enables, holds, is_among, is_command_enabled, is_enabled, is_enabled_by, is_free, is_marked_at, is_visible, shows, state_of}
 use Rattle.tv_model.specs.Kinds.Cluster.{is_marked}
 use Rattle.tv_machine.specs.Dialog.Modal.{Modal, content_at, holding, leaf_at, with_content}
 use Rattle.tv_machine.specs.Dialog.Alike.{HoldSame}
@@ -43,20 +42,12 @@ module _ (d : Dialog) (leaves other : List LeafState) (same : HoldSame d leaves 
       (λ rule. not (enables number rule.effect) || holds d other rule) d.rules
       (λ k e h. ap (λ b. not (enables number (get_or d.rules k e).effect) || b) (same k e h))
 
-  kind-same : (k : Kind) → is_kind_enabled d leaves k ≡ is_kind_enabled d other k
-  kind-same (kinds.Button button) = command-same (command_number button.command)
-  kind-same (kinds.Window head) = refl
-  kind-same (kinds.Dialog head) = refl
-  kind-same (kinds.Text shown) = refl
-  kind-same (kinds.Label label) = refl
-  kind-same (kinds.Input input) = refl
-  kind-same (kinds.CheckBoxes boxes) = refl
-  kind-same (kinds.RadioButtons radios) = refl
-  kind-same (kinds.List list) = refl
-  kind-same (kinds.Pane pane) = refl
+  given-same : (command : Option CommandSpec) → is_enabled_by d leaves command ≡ is_enabled_by d other command
+  given-same None = refl
+  given-same (Some command) = command-same (command_number command)
 
   pub enabled-same : (node : Node) → is_enabled d leaves node ≡ is_enabled d other node
-  enabled-same node = kind-same node.kind
+  enabled-same node = given-same (command_of node.kind)
 
   pub free-same : (leaf : PlacedNode) → is_free d leaves leaf ≡ is_free d other leaf
   free-same leaf =

@@ -1,14 +1,16 @@
 -- What the coming and going of the focus makes of what leaves hold.
-use Rattle.std.proofs.Common.{◌≡◌, Bool, false, ◌==◌, if◌then◌else◌, Option, Some, None, refl, sym, ap, ◌∙◌}
+use Rattle.std.proofs.Common.{◌≡◌, Bool, true, false, ◌==◌, if◌then◌else◌, Option, Some, None, refl, sym, ap, ◌∙◌}
+use Rattle.std.proofs.lemmas.Bool.{false≢true}
 use Rattle.tv_model.specs.declared.node.Id.{Id}
 use Rattle.tv_model.specs.declared.kind.Kind.{Kind}
 use Rattle.tv_model.specs.declared.kind.Kind.TheVariants as kinds
+use Rattle.tv_model.specs.Kinds.{behaviour}
 use Rattle.tv_model.specs.declared.desc.Dialog.{Dialog}
 use Rattle.tv_model.specs.Kinds.InputLine.{Edit, entered, left, edit_content, edit_of}
 use Rattle.tv_model.specs.Description.Nodes.{is_cluster}
 use Rattle.tv_machine.specs.Leaves.{PlacedNode, leaf_list}
 use Rattle.tv_model.specs.Controls.Contents.{Content}
-use Rattle.tv_machine.specs.Dialog.Focus.{focus_moved, refocused, refocused_kind}
+use Rattle.tv_machine.specs.Dialog.Focus.{edited_at, focus_moved, refocused}
 use Rattle.tv_machine.specs.Dialog.Modal.{Modal, content_at, leaf_at, with_content}
 use Rattle.tv_machine.specs.Dialog.Alike.{HoldSame}
 use Rattle.tv_machine.specs.Dialog.Lawful.{IsLawfulDialog}
@@ -18,22 +20,19 @@ use Rattle.tv_machine.proofs.LeafLemmas.{HasLeaves, IsIn, content_at-changed, le
 
 -- what it makes of what a leaf of the kind holds
 abbrev pub refocused_content : (Edit → Edit) → Kind → Content → Content
-refocused_content edit (kinds.Input input) c = edit_content (edit (edit_of c))
-refocused_content edit (kinds.Window head) c = c
-refocused_content edit (kinds.Dialog head) c = c
-refocused_content edit (kinds.Text shown) c = c
-refocused_content edit (kinds.Label label) c = c
-refocused_content edit (kinds.Button button) c = c
-refocused_content edit (kinds.CheckBoxes boxes) c = c
-refocused_content edit (kinds.RadioButtons radios) c = c
-refocused_content edit (kinds.List list) c = c
-refocused_content edit (kinds.Pane pane) c = c
+refocused_content edit k c = if (behaviour k).is_edited then edit_content (edit (edit_of c)) else c
 
 -- what a leaf of the kind holds after the focus has moved, where it has received or lost it
 abbrev pub moved_content : (to from : Bool) → Kind → Content → Content
 moved_content to from k c =
     if to then refocused_content entered k (if from then refocused_content left k c else c)
     else if from then refocused_content left k c else c
+
+-- no cluster is edited
+edited-unclustered : (k : Kind) → (behaviour k).is_edited ≡ true → is_cluster k ≡ false
+edited-unclustered (kinds.CheckBoxes boxes) is = absurd (false≢true is)
+edited-unclustered (kinds.RadioButtons radios) is = absurd (false≢true is)
+edited-unclustered _ is = refl
 
 -- ---- the machine's dialog
 
@@ -42,19 +41,11 @@ pub refocused-keeps : (P : Modal → Type 0) (d : Dialog) → ((i : Id) (c : Con
     → (edit : Edit → Edit) (o : Option PlacedNode) (m : Modal)
     → P m → P (refocused d edit o m)
 refocused-keeps P d keeps edit None m p = p
-refocused-keeps P d keeps edit (Some leaf) m p = of leaf.node.kind
+refocused-keeps P d keeps edit (Some leaf) m p = of (behaviour leaf.node.kind).is_edited
   where
-    of : (k : Kind) → P (refocused_kind d edit leaf.node.id k m)
-    of (kinds.Input input) = keeps leaf.node.id (edit_content (edit (edit_of (content_at m leaf.node.id)))) m p
-    of (kinds.Window head) = p
-    of (kinds.Dialog head) = p
-    of (kinds.Text shown) = p
-    of (kinds.Label label) = p
-    of (kinds.Button button) = p
-    of (kinds.CheckBoxes boxes) = p
-    of (kinds.RadioButtons radios) = p
-    of (kinds.List list) = p
-    of (kinds.Pane pane) = p
+    of : (is_edited : Bool) → P (if is_edited then edited_at d leaf.node.id edit m else m)
+    of true = keeps leaf.node.id (edit_content (edit (edit_of (content_at m leaf.node.id)))) m p
+    of false = p
 
 module _ (d : Dialog) (lawful : IsLawfulDialog d) where
   pub leaves-refocused : (edit : Edit → Edit) (o : Option PlacedNode) (m : Modal) → HasLeaves d m → HasLeaves d (refocused d edit o m)
@@ -64,24 +55,17 @@ module _ (d : Dialog) (lawful : IsLawfulDialog d) where
   held-refocused edit o m = refocused-keeps (λ n. n.held ≡ m.held) d (λ i c n p. p) edit o m refl
 
   module _ (edit : Edit → Edit) (m : Modal) (leaves : HasLeaves d m) (leaf : PlacedNode) (e : IsIn d leaf) where
-    of_kind : (k : Kind) (i : Id)
-        → content_at (refocused_kind d edit i k m) leaf.node.id
-        ≡ (if leaf.node.id.0 == i.0 then refocused_content edit k (content_at m leaf.node.id) else content_at m leaf.node.id)
-    of_kind (kinds.Input input) i =
+    of_edited : (is_edited : Bool) (i : Id)
+        → content_at (if is_edited then edited_at d i edit m else m) leaf.node.id
+        ≡ (if leaf.node.id.0 == i.0 then if is_edited then edit_content (edit (edit_of (content_at m leaf.node.id))) else content_at m leaf.node.id
+        else content_at m leaf.node.id)
+    of_edited true i =
         content_at-changed d lawful m leaves i (edit_content (edit (edit_of (content_at m i)))) leaf e
         ∙ bool_cases (leaf.node.id.0 == i.0)
         (λ b. (if b then edit_content (edit (edit_of (content_at m i))) else content_at m leaf.node.id)
         ≡ (if b then edit_content (edit (edit_of (content_at m leaf.node.id))) else content_at m leaf.node.id))
         (λ here. ap (λ id. edit_content (edit (edit_of (content_at m id)))) (sym (same-id leaf.node.id i here))) (λ there. refl)
-    of_kind (kinds.Window head) i = sym (either-same (leaf.node.id.0 == i.0) (content_at m leaf.node.id))
-    of_kind (kinds.Dialog head) i = sym (either-same (leaf.node.id.0 == i.0) (content_at m leaf.node.id))
-    of_kind (kinds.Text shown) i = sym (either-same (leaf.node.id.0 == i.0) (content_at m leaf.node.id))
-    of_kind (kinds.Label label) i = sym (either-same (leaf.node.id.0 == i.0) (content_at m leaf.node.id))
-    of_kind (kinds.Button button) i = sym (either-same (leaf.node.id.0 == i.0) (content_at m leaf.node.id))
-    of_kind (kinds.CheckBoxes boxes) i = sym (either-same (leaf.node.id.0 == i.0) (content_at m leaf.node.id))
-    of_kind (kinds.RadioButtons radios) i = sym (either-same (leaf.node.id.0 == i.0) (content_at m leaf.node.id))
-    of_kind (kinds.List list) i = sym (either-same (leaf.node.id.0 == i.0) (content_at m leaf.node.id))
-    of_kind (kinds.Pane pane) i = sym (either-same (leaf.node.id.0 == i.0) (content_at m leaf.node.id))
+    of_edited false i = sym (either-same (leaf.node.id.0 == i.0) (content_at m leaf.node.id))
 
     abbrev after : Id → Kind → Content
     after i k = if leaf.node.id.0 == i.0 then refocused_content edit k (content_at m leaf.node.id) else content_at m leaf.node.id
@@ -95,7 +79,7 @@ module _ (d : Dialog) (lawful : IsLawfulDialog d) where
         sym
         (ap (λ b. if b then refocused_content edit leaf.node.kind (content_at m leaf.node.id) else content_at m leaf.node.id) other))
         (λ x found.
-        of_kind x.node.kind x.node.id ∙ ap (λ id. after id x.node.kind) (leaf_at-is d i x found)
+        of_edited (behaviour x.node.kind).is_edited x.node.id ∙ ap (λ id. after id x.node.kind) (leaf_at-is d i x found)
         ∙ bool_cases (leaf.node.id.0 == i.0)
         (λ b. (if b then refocused_content edit x.node.kind (content_at m leaf.node.id) else content_at m leaf.node.id)
         ≡ (if b then refocused_content edit leaf.node.kind (content_at m leaf.node.id) else content_at m leaf.node.id))
@@ -125,26 +109,19 @@ module _ (d : Dialog) (lawful : IsLawfulDialog d) where
 
   -- ---- marks stay
 
-  hold-kind : (edit : Edit → Edit) (m : Modal) → HasLeaves d m → (leaf : PlacedNode) → leaf_at d leaf.node.id ≡ Some leaf → (k : Kind)
-      → leaf.node.kind ≡ k
-      → HoldSame d m.leaves (refocused_kind d edit leaf.node.id k m).leaves
-  hold-kind edit m leaves leaf e (kinds.Input input) is =
-      hold-unclustered d lawful m leaves leaf.node.id (edit_content (edit (edit_of (content_at m leaf.node.id)))) leaf e (ap is_cluster is)
-  hold-kind edit m leaves leaf e (kinds.Window head) is = hold-itself d m.leaves
-  hold-kind edit m leaves leaf e (kinds.Dialog head) is = hold-itself d m.leaves
-  hold-kind edit m leaves leaf e (kinds.Text shown) is = hold-itself d m.leaves
-  hold-kind edit m leaves leaf e (kinds.Label label) is = hold-itself d m.leaves
-  hold-kind edit m leaves leaf e (kinds.Button button) is = hold-itself d m.leaves
-  hold-kind edit m leaves leaf e (kinds.CheckBoxes boxes) is = hold-itself d m.leaves
-  hold-kind edit m leaves leaf e (kinds.RadioButtons radios) is = hold-itself d m.leaves
-  hold-kind edit m leaves leaf e (kinds.List list) is = hold-itself d m.leaves
-  hold-kind edit m leaves leaf e (kinds.Pane pane) is = hold-itself d m.leaves
+  hold-edited : (edit : Edit → Edit) (m : Modal) → HasLeaves d m → (leaf : PlacedNode) → leaf_at d leaf.node.id ≡ Some leaf → (is_edited : Bool)
+      → (behaviour leaf.node.kind).is_edited ≡ is_edited
+      → HoldSame d m.leaves (if is_edited then edited_at d leaf.node.id edit m else m).leaves
+  hold-edited edit m leaves leaf e true is =
+      hold-unclustered d lawful m leaves leaf.node.id (edit_content (edit (edit_of (content_at m leaf.node.id)))) leaf e
+      (edited-unclustered leaf.node.kind is)
+  hold-edited edit m leaves leaf e false is = hold-itself d m.leaves
 
   pub hold-refocused : (edit : Edit → Edit) (m : Modal) → HasLeaves d m → (i : Id)
       → HoldSame d m.leaves (refocused d edit (leaf_at d i) m).leaves
   hold-refocused edit m leaves i =
       option_cases (leaf_at d i) (λ o. HoldSame d m.leaves (refocused d edit o m).leaves) (λ none. hold-itself d m.leaves)
-      (λ leaf found. hold-kind edit m leaves leaf (leaf_at-in d lawful i leaf found) leaf.node.kind refl)
+      (λ leaf found. hold-edited edit m leaves leaf (leaf_at-in d lawful i leaf found) (behaviour leaf.node.kind).is_edited refl)
 
   pub hold-moved : (m : Modal) (i : Id) → HasLeaves d m → HoldSame d m.leaves (focus_moved d i m).leaves
   hold-moved m i leaves =
