@@ -1,18 +1,17 @@
 -- Commands and pressed buttons: the dialog goes on, or it ends as it should.
-use Rattle.std.proofs.Common.{◌≡◌, true, false, ◌&&◌, ◌||◌, ◌==◌, ℕ, if◌then◌else◌, ◌∷◌, ◌++◌, map, Some, refl, ap, subst, IsTrue}
+use Rattle.std.proofs.Common.{◌≡◌, true, false, ◌&&◌, ◌||◌, ◌==◌, ℕ, if◌then◌else◌, ◌∷◌, ◌++◌, map, Option, Some, None, refl, ap, subst, IsTrue}
 use Rattle.std.specs.Prelude.{nat_le}
 use Rattle.std.proofs.lemmas.Bool.{or_right, true≢false}
 use Rattle.std.proofs.lemmas.List.Elements.{All-append, All-cons, All-map}
 use Rattle.tv_model.specs.declared.node.Id.{Id}
-use Rattle.tv_model.specs.declared.kind.Kind.{Kind}
-use Rattle.tv_model.specs.declared.kind.Kind.TheVariants as kinds
+use Rattle.tv_model.specs.declared.command.CommandSpec.{CommandSpec}
 use Rattle.tv_model.specs.declared.desc.Dialog.{Dialog}
 use Rattle.tv_model.specs.declared.log.LogLine.{LogLine}
 use Rattle.tv_model.specs.declared.log.LogLine.TheVariants as lines
-use Rattle.tv_model.specs.Description.Commands.{command_number, is_declared, is_end}
+use Rattle.tv_model.specs.Description.Commands.{command_number, command_of, is_declared, is_end}
 use Rattle.tv_model.specs.Description.Heads.{dialog_head}
 use Rattle.tv_machine.specs.Leaves.{PlacedNode}
-use Rattle.tv_machine.specs.Dialog.Ending.{command, end_by, ended, field_line, fields_of, first_invalid, press, pressed_kind, shown_invalid}
+use Rattle.tv_machine.specs.Dialog.Ending.{command, end_by, ended, field_line, fields_of, first_invalid, press, pressed_by, shown_invalid}
 use Rattle.tv_machine.specs.Dialog.Focus.{focus_moved, is_free_at}
 use Rattle.tv_machine.specs.Dialog.Modal.{Modal, with_line}
 use Rattle.tv_machine.specs.Safe.{IsSafeRecord}
@@ -78,18 +77,10 @@ module _ (d : Dialog) (sound : IsSoundDialog d) where
       (λ none. bool_cases (nat_le 100 number) (λ b. IsDone d (if b then with_line (lines.Command number) m else m))
       (λ own. free-done d (with_line (lines.Command number) m) (free-line d sound (lines.Command number) m tt f)) (λ low. free-done d m f)))
 
-  pressed_done : (i : Id) (k : Kind) (m : Modal) → IsFree d m → IsDone d (pressed_kind d i k m)
-  pressed_done i (kinds.Button button) m f = command-done (command_number button.command) (with_line (lines.Press i) m) (free-line d sound (lines.Press i) m tt f)
-  pressed_done i (kinds.Window head) m f = free-done d m f
-  pressed_done i (kinds.Dialog head) m f = free-done d m f
-  pressed_done i (kinds.Text shown) m f = free-done d m f
-  pressed_done i (kinds.Label label) m f = free-done d m f
-  pressed_done i (kinds.Input input) m f = free-done d m f
-  pressed_done i (kinds.CheckBoxes boxes) m f = free-done d m f
-  pressed_done i (kinds.RadioButtons radios) m f = free-done d m f
-  pressed_done i (kinds.List list) m f = free-done d m f
-  pressed_done i (kinds.Pane pane) m f = free-done d m f
+  pressed_done : (i : Id) (given : Option CommandSpec) (m : Modal) → IsFree d m → IsDone d (pressed_by d i given m)
+  pressed_done i None m f = free-done d m f
+  pressed_done i (Some given) m f = command-done (command_number given) (with_line (lines.Press i) m) (free-line d sound (lines.Press i) m tt f)
 
   -- a button is pressed
   pub press-done : (leaf : PlacedNode) (m : Modal) → IsFree d m → IsDone d (press d leaf m)
-  press-done leaf m f = pressed_done leaf.node.id leaf.node.kind m f
+  press-done leaf m f = pressed_done leaf.node.id (command_of leaf.node.kind) m f

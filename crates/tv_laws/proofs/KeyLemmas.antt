@@ -5,10 +5,9 @@ use Rattle.tv_event.specs.declared.event.Key.{Key}
 use Rattle.tv_event.specs.declared.event.Key.TheVariants as keys
 use Rattle.tv_model.specs.declared.node.Id.{Id}
 use Rattle.tv_model.specs.declared.node.Node.{Node}
-use Rattle.tv_model.specs.declared.kind.Kind.{Kind}
-use Rattle.tv_model.specs.declared.kind.Kind.TheVariants as kinds
+use Rattle.tv_model.specs.Kinds.{behaviour}
 use Rattle.tv_model.specs.declared.desc.Dialog.{Dialog}
-use Rattle.tv_model.specs.Controls.Shortcut.{item_marking, Boxes, Radios}
+use Rattle.tv_model.specs.Controls.Shortcut.{item_marking, Shortcut, NoMark, LinkMark, PressMark, ItemMarks}
 use Rattle.tv_model.specs.Description.LawfulNodes.{HasLawfulCount, IsLimited, IsNarrowNode, IsNarrowText}
 use Rattle.tv_model.specs.Description.Marks.{upper}
 use Rattle.tv_model.specs.Description.Owners.{owner_by}
@@ -24,14 +23,14 @@ use Rattle.tv_machine.specs.Dialog.Focus.{next_free, previous_free, request, sto
 use Rattle.tv_machine.specs.Dialog.Keys.{alt_keyed, answered, enter_target, focus_keyed, key, keyed, passed_on, press_enabled}
 use Rattle.tv_machine.specs.Dialog.Modal.{Modal, content_at, leaf_at, with_content}
 use Rattle.tv_machine.specs.Dialog.Rules.{is_enabled, is_visible}
-use Rattle.tv_machine.specs.Dialog.Shortcuts.{act, act_on, called, marker_of, press_item, request_link}
+use Rattle.tv_machine.specs.Dialog.Shortcuts.{act, act_on, called, called_by, marker_of, press_item, request_link}
 use Rattle.tv_laws.specs.Ends.{IsDone}
 use Rattle.tv_laws.specs.Fit.{IsFitContent}
 use Rattle.tv_laws.specs.Sound.{IsSoundDialog}
 use Rattle.tv_laws.proofs.EndLemmas.{command-done, press-done}
 use Rattle.tv_laws.proofs.FreeLemmas.{IsFree, free-done, free-focus, free-request, request-then}
 use Rattle.tv_laws.proofs.ItemLemmas.{marking-item}
-use Rattle.tv_laws.proofs.KindLemmas.{IsFitAnswer, boxes-called, key-fit, radios-called}
+use Rattle.tv_laws.proofs.KindLemmas.{IsFitAnswer, item-called, key-fit}
 use Rattle.tv_machine.proofs.LeafLemmas.{IsIn, found-in, leaf_at-in, leaf_at-is, leaf_at-node}
 use Rattle.tv_machine.proofs.ListLemmas.{bool_cases, id-itself, option_cases}
 use Rattle.tv_laws.proofs.StandLemmas.{standing-leaf}
@@ -70,42 +69,25 @@ module _ (d : Dialog) (sound : IsSoundDialog d) where
   link-done link m f = free-done d (request_link d link m) (link_free link m f)
 
   -- the item of a marker is pressed once the focus is there
-  boxes_called_free : (m : Modal) (leaf : PlacedNode) (letter : ℕ) (k : Kind) → IsIn d leaf → leaf.node.kind ≡ k → IsFree d m
-      → IsDone d (called d letter leaf k m)
-  boxes_called_free m leaf letter (kinds.CheckBoxes boxes) e is f =
-      request-then d sound (IsDone d) m leaf.node.id (press_item d Boxes leaf.node.id (item_marking boxes.items letter)) f (λ n g. free-done d n g)
-      (λ n g at marks. option_cases (item_marking boxes.items letter) (λ o. IsDone d (press_item d Boxes leaf.node.id o n)) (λ none. free-done d n g)
-      (λ item found.
-      let fits : IsFitContent true (kinds.CheckBoxes boxes) (content_at n leaf.node.id) =
-      subst (λ x. IsFitContent true x (content_at n leaf.node.id)) is (focus-content n leaf g (ap (leaf_at d) at ∙ e)) in
-      let after = item_pressed Boxes item (content_at n leaf.node.id) in
-      free-done d (with_content d leaf.node.id after n)
-      (focus-becomes n after leaf g e at
-      (subst (λ x. IsFitContent true x after) (sym is) (boxes-called true boxes item (content_at n leaf.node.id) (marking-item boxes.items letter item found) fits)))))
-  boxes_called_free m leaf letter (kinds.RadioButtons radios) e is f =
-      request-then d sound (IsDone d) m leaf.node.id (press_item d Radios leaf.node.id (item_marking radios.items letter)) f (λ n g. free-done d n g)
-      (λ n g at marks. option_cases (item_marking radios.items letter) (λ o. IsDone d (press_item d Radios leaf.node.id o n)) (λ none. free-done d n g)
-      (λ item found.
-      let fits : IsFitContent true (kinds.RadioButtons radios) (content_at n leaf.node.id) =
-      subst (λ x. IsFitContent true x (content_at n leaf.node.id)) is (focus-content n leaf g (ap (leaf_at d) at ∙ e)) in
-      let after = item_pressed Radios item (content_at n leaf.node.id) in
-      free-done d (with_content d leaf.node.id after n)
-      (focus-becomes n after leaf g e at
-      (subst (λ x. IsFitContent true x after) (sym is) (radios-called true radios item (content_at n leaf.node.id) (marking-item radios.items letter item found) fits)))))
-  boxes_called_free m leaf letter (kinds.Label label) e is f = link-done (meant d.views label.link) m f
-  boxes_called_free m leaf letter (kinds.Button button) e is f =
+  called_done : (m : Modal) (leaf : PlacedNode) (letter : ℕ) (shortcut : Shortcut) → IsIn d leaf → (behaviour leaf.node.kind).shortcut ≡ shortcut
+      → IsFree d m → IsDone d (called_by d letter leaf shortcut m)
+  called_done m leaf letter NoMark e is f = free-done d m f
+  called_done m leaf letter (LinkMark text name) e is f = link-done (meant d.views name) m f
+  called_done m leaf letter (PressMark text name) e is f =
       bool_cases (is_enabled d m.leaves leaf.node) (λ b. IsDone d (if b then press d leaf m else m)) (λ enabled. press-done d sound leaf m f) (λ disabled. free-done d m f)
-  boxes_called_free m leaf letter (kinds.Window head) e is f = free-done d m f
-  boxes_called_free m leaf letter (kinds.Dialog head) e is f = free-done d m f
-  boxes_called_free m leaf letter (kinds.Text shown) e is f = free-done d m f
-  boxes_called_free m leaf letter (kinds.Input input) e is f = free-done d m f
-  boxes_called_free m leaf letter (kinds.List list) e is f = free-done d m f
-  boxes_called_free m leaf letter (kinds.Pane pane) e is f = free-done d m f
+  called_done m leaf letter (ItemMarks cluster name items) e is f =
+      request-then d sound (IsDone d) m leaf.node.id (press_item d cluster leaf.node.id (item_marking items letter)) f (λ n g. free-done d n g)
+      (λ n g at marks. option_cases (item_marking items letter) (λ o. IsDone d (press_item d cluster leaf.node.id o n)) (λ none. free-done d n g)
+      (λ item found.
+      let c = content_at n leaf.node.id in
+      free-done d (with_content d leaf.node.id (item_pressed cluster item c) n)
+      (focus-becomes n (item_pressed cluster item c) leaf g e at
+      (item-called leaf.node.kind cluster name items item c is (marking-item items letter item found) (focus-content n leaf g (ap (leaf_at d) at ∙ e))))))
 
   act_done : (letter : ℕ) (leaf : PlacedNode) (m : Modal) → IsIn d leaf → IsFree d m → IsDone d (act d letter leaf m)
   act_done letter leaf m e f =
       bool_cases (is_visible d m.leaves leaf) (λ b. IsDone d (if b then called d letter leaf leaf.node.kind m else m))
-      (λ shown. boxes_called_free m leaf letter leaf.node.kind e refl f) (λ hidden. free-done d m f)
+      (λ shown. called_done m leaf letter (behaviour leaf.node.kind).shortcut e refl f) (λ hidden. free-done d m f)
 
   marker_done : (letter : ℕ) (m : Modal) → IsFree d m → IsDone d (act_on d letter (marker_of d letter) m)
   marker_done letter m f =

@@ -1,5 +1,5 @@
 -- What keys and the mouse make of a control by its kind: what it holds stays fit.
-use Rattle.std.proofs.Common.{◌≡◌, Bool, true, false, ◌+◌, ◌≤◌, ◌<◌, ◌==◌, ℕ, if◌then◌else◌, length, Option, Some, None, sym, subst, All, arith}
+use Rattle.std.proofs.Common.{◌≡◌, Bool, true, false, ◌+◌, ◌≤◌, ◌<◌, ◌==◌, ℕ, if◌then◌else◌, length, List, Option, Some, None, sym, subst, All, arith}
 use Rattle.std.proofs.lemmas.Bool.{true≢false}
 use Rattle.std.proofs.lemmas.Bool.Decides.{nat_tests}
 use Rattle.std.proofs.lemmas.List.Elements.{All-tail}
@@ -10,13 +10,15 @@ use Rattle.tv_model.specs.declared.kind.CheckBoxes.{CheckBoxes}
 use Rattle.tv_model.specs.declared.kind.Input.{Input}
 use Rattle.tv_model.specs.declared.kind.Kind.{Kind}
 use Rattle.tv_model.specs.declared.kind.Kind.TheVariants as kinds
+use Rattle.tv_model.specs.Kinds.{behaviour}
+use Rattle.tv_model.specs.declared.kind.MarkedText.{MarkedText}
 use Rattle.tv_model.specs.declared.kind.ListBox.{ListBox}
 use Rattle.tv_model.specs.declared.kind.RadioButtons.{RadioButtons}
 use Rattle.tv_model.specs.declared.record.Value.{Value}
 use Rattle.tv_model.specs.declared.record.Value.TheVariants as values
 use Rattle.tv_model.specs.Kinds.Button.{is_press}
 use Rattle.tv_model.specs.Kinds.Cluster as clusters
-use Rattle.tv_model.specs.Controls.Shortcut.{Boxes, Radios, ClusterKind}
+use Rattle.tv_model.specs.Controls.Shortcut.{Boxes, Radios, ClusterKind, ItemMarks}
 use Rattle.tv_model.specs.Kinds.Cluster.{ClusterKey, cluster_key, flipped, held_marks, selected_of, selecting_of, cluster_answer, item_of_row, item_pressed}
 use Rattle.tv_model.specs.Kinds.InputLine.{Edit, clicked, is_edit_key, domain_texts, cursor_of, edit_content, edit_of, edited_by}
 use Rattle.tv_model.specs.Kinds.ListBox.{asked_item, chosen, item_at_row, chosen_of, with_chosen, list_answer}
@@ -203,16 +205,20 @@ move-fit has_focus (kinds.RadioButtons radios) row c count fit = fit
 move-fit has_focus (kinds.List list) row c count fit = list-chosen has_focus list (item_at_row (length list.items) (chosen_of c) row) c count.0
 move-fit has_focus (kinds.Pane pane) row c count fit = fit
 
--- an item that is pressed
-pub boxes-called : (has_focus : Bool) (boxes : CheckBoxes) (item : ℕ) (c : Content) → Item (length boxes.items) item
-    → IsFitContent has_focus (kinds.CheckBoxes boxes) c
-    → IsFitContent has_focus (kinds.CheckBoxes boxes) (item_pressed Boxes item c)
-boxes-called has_focus boxes item c is fit = boxes-pressed has_focus boxes item c is fit
-
-pub radios-called : (has_focus : Bool) (radios : RadioButtons) (item : ℕ) (c : Content) → Item (length radios.items) item
-    → IsFitContent has_focus (kinds.RadioButtons radios) c
-    → IsFitContent has_focus (kinds.RadioButtons radios) (item_pressed Radios item c)
-radios-called has_focus radios item c is fit = radios-fit has_focus radios item c is fit.private
+-- an item that is pressed by its mark
+pub item-called : (kind : Kind) (cluster : ClusterKind) (name : List ℕ) (items : List MarkedText) (item : ℕ) (c : Content)
+    → (behaviour kind).shortcut ≡ ItemMarks cluster name items → Item (length items) item → IsFitContent true kind c
+    → IsFitContent true kind (item_pressed cluster item c)
+item-called (kinds.CheckBoxes boxes) cluster name items item c marked is fit =
+    let same : Boxes ≡ cluster = cc in
+    let own : items ≡ boxes.items = cc in
+    subst (λ x. IsFitContent true (kinds.CheckBoxes boxes) (item_pressed x item c)) same (boxes-pressed true boxes item c (subst (λ xs. Item (length xs) item) own is) fit)
+item-called (kinds.RadioButtons radios) cluster name items item c marked is fit =
+    let same : Radios ≡ cluster = cc in
+    let own : items ≡ radios.items = cc in
+    subst (λ x. IsFitContent true (kinds.RadioButtons radios) (item_pressed x item c)) same
+    (radios-fit true radios item c (subst (λ xs. Item (length xs) item) own is) fit.private)
+item-called _ cluster name items item c marked is fit = absurd cc
 
 -- so many rows as a cluster has
 abbrev pub HasRow : Kind → ℕ → Type 0

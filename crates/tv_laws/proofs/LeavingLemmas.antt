@@ -5,16 +5,15 @@ use Rattle.tv_cells.specs.declared.rect.Point.{Point}
 use Rattle.tv_event.specs.declared.event.Event.TheVariants as events
 use Rattle.tv_event.specs.declared.event.Key.TheVariants as keys
 use Rattle.tv_model.specs.declared.node.Id.{Id}
-use Rattle.tv_model.specs.declared.kind.Kind.{Kind}
-use Rattle.tv_model.specs.declared.kind.Kind.TheVariants as kinds
+use Rattle.tv_model.specs.declared.command.CommandSpec.{CommandSpec}
 use Rattle.tv_model.specs.declared.desc.Dialog.{Dialog}
 use Rattle.tv_model.specs.declared.log.LogLine.TheVariants as lines
-use Rattle.tv_model.specs.Description.Commands.{command_number, is_declared}
+use Rattle.tv_model.specs.Description.Commands.{command_number, command_of, is_declared}
 use Rattle.tv_model.specs.Description.Heads.{dialog_head}
 use Rattle.tv_machine.specs.Leaves.{PlacedNode}
 use Rattle.tv_model.specs.Controls.Behaviour.{Answer, Becomes, Passed, Presses}
 use Rattle.tv_machine.specs.Controls.Tables.{up_answer}
-use Rattle.tv_machine.specs.Dialog.Ending.{command, end_by, ended, first_invalid, pressed_kind, shown_invalid}
+use Rattle.tv_machine.specs.Dialog.Ending.{command, end_by, ended, first_invalid, pressed_by, shown_invalid}
 use Rattle.tv_machine.specs.Dialog.Focus.{focus_moved, is_free_at}
 use Rattle.tv_machine.specs.Dialog.Modal.{Modal, content_at, leaf_at, with_line}
 use Rattle.tv_machine.specs.Dialog.Mouse.{held_up, is_inside, released, row_of}
@@ -56,24 +55,16 @@ module _ (d : Dialog) (sound : IsSoundDialog d) where
       (λ is. end_held number (first_invalid d m) m)
       (λ none. bool_cases (nat_le 100 number) (λ b. Held_as m (if b then with_line (lines.Command number) m else m)) (λ own. refl) (λ low. refl)))
 
-  pressed_held : (i : Id) (k : Kind) (m : Modal) → Held_as m (pressed_kind d i k m)
-  pressed_held i (kinds.Button button) m = command_held (command_number button.command) (with_line (lines.Press i) m)
-  pressed_held i (kinds.Window head) m = refl
-  pressed_held i (kinds.Dialog head) m = refl
-  pressed_held i (kinds.Text shown) m = refl
-  pressed_held i (kinds.Label label) m = refl
-  pressed_held i (kinds.Input input) m = refl
-  pressed_held i (kinds.CheckBoxes boxes) m = refl
-  pressed_held i (kinds.RadioButtons radios) m = refl
-  pressed_held i (kinds.List list) m = refl
-  pressed_held i (kinds.Pane pane) m = refl
+  pressed_held : (i : Id) (given : Option CommandSpec) (m : Modal) → Held_as m (pressed_by d i given m)
+  pressed_held i None m = refl
+  pressed_held i (Some given) m = command_held (command_number given) (with_line (lines.Press i) m)
 
   -- ---- up
 
   released_held : (leaf : PlacedNode) (a : Answer) (m : Modal) → Held_as m (released d leaf a m)
   released_held leaf Passed m = refl
   released_held leaf (Becomes c) m = refl
-  released_held leaf Presses m = pressed_held leaf.node.id leaf.node.kind m
+  released_held leaf Presses m = pressed_held leaf.node.id (command_of leaf.node.kind) m
 
   up_held : (o : Option PlacedNode) (item : ℕ) (p : Point) (m : Modal) → (held_up d o item p m).held ≡ None
   up_held None item p m = refl

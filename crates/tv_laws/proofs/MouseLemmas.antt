@@ -11,18 +11,20 @@ use Rattle.tv_valid.proofs.DecidingLemmas.{int_le_decides, int_lt_decides}
 use Rattle.tv_model.specs.declared.node.Id.{Id}
 use Rattle.tv_model.specs.declared.kind.Kind.{Kind}
 use Rattle.tv_model.specs.declared.kind.Kind.TheVariants as kinds
+use Rattle.tv_model.specs.Kinds.{behaviour}
 use Rattle.tv_model.specs.declared.desc.Dialog.{Dialog}
+use Rattle.tv_model.specs.Description.Commands.{command_of}
 use Rattle.tv_model.specs.Description.Names.{meant}
 use Rattle.tv_model.specs.Description.Nodes.{height_of, is_button, is_cluster}
 use Rattle.tv_machine.specs.State.{Held}
 use Rattle.tv_machine.specs.Leaves.{PlacedNode, corner_on, leaf_list, rect_on}
 use Rattle.tv_model.specs.Controls.Contents.{Content}
-use Rattle.tv_model.specs.Controls.Behaviour.{Answer, Becomes, Passed, Presses}
+use Rattle.tv_model.specs.Controls.Behaviour.{Answer, Becomes, Passed, Presses, Down, Ignores, FocusesLink, Grips, Holds}
 use Rattle.tv_machine.specs.Controls.Tables.{down_content, move_content, remembered, up_answer}
 use Rattle.tv_machine.specs.Dialog.Ending.{command}
 use Rattle.tv_machine.specs.Dialog.Modal.{Modal, content_at, leaf_at, with_content}
-use Rattle.tv_machine.specs.Dialog.Mouse.{button_down, column_of, down, down_at, down_on, first_before, focus_and_hold, held_moved, held_up, hold, is_close_mark, is_inside, moved_on, released, row_of, topmost}
-use Rattle.tv_machine.specs.Dialog.Rules.{is_enabled, is_kind_enabled, is_visible}
+use Rattle.tv_machine.specs.Dialog.Mouse.{button_down, column_of, down, down_at, down_by, first_before, focus_and_hold, held_moved, held_up, hold, is_close_mark, is_inside, moved_on, released, row_of, topmost}
+use Rattle.tv_machine.specs.Dialog.Rules.{is_enabled, is_enabled_by, is_visible}
 use Rattle.tv_laws.specs.Ends.{IsDone, IsOpen}
 use Rattle.tv_laws.specs.Fit.{IsFitContent, IsFitHold, IsFitModal}
 use Rattle.tv_laws.specs.Sound.{IsSoundDialog}
@@ -55,6 +57,18 @@ row-within : (leaf : PlacedNode) (p : Point) (k : Kind) → leaf.node.kind ≡ k
 row-within leaf p (kinds.CheckBoxes boxes) is inside = rows_within leaf p (length boxes.items) (ap height_of is) inside
 row-within leaf p (kinds.RadioButtons radios) is inside = rows_within leaf p (length radios.items) (ap height_of is) inside
 row-within leaf p _ is inside = tt
+
+-- ---- what a mouse down asks for
+
+-- what grips the mouse is a button
+grips-button : (k : Kind) (grabs : Bool) → (behaviour k).down ≡ Grips grabs → IsTrue (is_button k)
+grips-button (kinds.Button button) grabs e = refl
+grips-button _ grabs e = absurd cc
+
+-- what asks for the focus and holds the mouse gives no command
+holds-ungiven : (k : Kind) → (behaviour k).down ≡ Holds → command_of k ≡ None
+holds-ungiven (kinds.Button button) e = absurd cc
+holds-ungiven _ e = refl
 
 -- ---- the topmost leaf
 
@@ -144,18 +158,12 @@ module _ (d : Dialog) (sound : IsSoundDialog d) where
       unchanged (kinds.Button own) is fits = fits
       unchanged _ is fits = absurd (false≢true is)
 
-  down_kind : (m : Modal) (leaf : PlacedNode) (p : Point) (k : Kind) → leaf.node.kind ≡ k → IsFree d m → IsIn d leaf
-      → is_visible d m.leaves leaf ≡ true → IsDone d (down_on d leaf k p m)
-  down_kind m leaf p (kinds.Text shown) is f e visible = free-done d m f
-  down_kind m leaf p (kinds.Label label) is f e visible = link-done d sound (meant d.views label.link) m f
-  down_kind m leaf p (kinds.Button button) is f e visible = button_done m leaf button.grabs p f e visible (ap is_button is)
-  down_kind m leaf p (kinds.Input input) is f e visible = hold_done m leaf p f e visible (ap (is_kind_enabled d m.leaves) is)
-  down_kind m leaf p (kinds.CheckBoxes boxes) is f e visible = hold_done m leaf p f e visible (ap (is_kind_enabled d m.leaves) is)
-  down_kind m leaf p (kinds.RadioButtons radios) is f e visible = hold_done m leaf p f e visible (ap (is_kind_enabled d m.leaves) is)
-  down_kind m leaf p (kinds.List list) is f e visible = hold_done m leaf p f e visible (ap (is_kind_enabled d m.leaves) is)
-  down_kind m leaf p (kinds.Window head) is f e visible = free-done d m f
-  down_kind m leaf p (kinds.Dialog head) is f e visible = free-done d m f
-  down_kind m leaf p (kinds.Pane pane) is f e visible = free-done d m f
+  down_asked : (m : Modal) (leaf : PlacedNode) (p : Point) (asks : Down) → (behaviour leaf.node.kind).down ≡ asks → IsFree d m → IsIn d leaf
+      → is_visible d m.leaves leaf ≡ true → IsDone d (down_by d leaf asks p m)
+  down_asked m leaf p Ignores is f e visible = free-done d m f
+  down_asked m leaf p (FocusesLink name) is f e visible = link-done d sound (meant d.views name) m f
+  down_asked m leaf p (Grips grabs) is f e visible = button_done m leaf grabs p f e visible (grips-button leaf.node.kind grabs is)
+  down_asked m leaf p Holds is f e visible = hold_done m leaf p f e visible (ap (is_enabled_by d m.leaves) (holds-ungiven leaf.node.kind is))
 
   -- a mouse down while nothing holds the mouse
   pub down-done : (p : Point) (m : Modal) → IsFree d m → IsDone d (down d p m)
@@ -164,7 +172,7 @@ module _ (d : Dialog) (sound : IsSoundDialog d) where
       (λ inside. option_cases (topmost d m p) (λ o. IsDone d (down_at d o p m)) (λ none. free-done d m f)
       (λ leaf found.
       let test : PlacedNode → Bool = λ x. is_visible d m.leaves x && is_inside x p in
-      down_kind m leaf p leaf.node.kind refl f
+      down_asked m leaf p (behaviour leaf.node.kind).down refl f
       (found-all (IsIn d) test (reverse (leaf_list d.views)) leaf (All-reverse (IsIn d) (leaf_list d.views) (leaf_at-member d sound.lawful)) found)
       (and_parts (is_visible d m.leaves leaf) (is_inside leaf p) (found-passes test (reverse (leaf_list d.views)) leaf found)).0))
 

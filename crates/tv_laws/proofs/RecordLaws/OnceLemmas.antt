@@ -9,28 +9,28 @@ use Rattle.tv_event.specs.declared.event.Key.{Key}
 use Rattle.tv_event.specs.declared.event.Key.TheVariants as keys
 use Rattle.tv_model.specs.declared.node.Id.{Id}
 use Rattle.tv_model.specs.declared.node.Node.{Node}
-use Rattle.tv_model.specs.declared.kind.Kind.{Kind}
-use Rattle.tv_model.specs.declared.kind.Kind.TheVariants as kinds
+use Rattle.tv_model.specs.Kinds.{behaviour}
+use Rattle.tv_model.specs.declared.command.CommandSpec.{CommandSpec}
 use Rattle.tv_model.specs.declared.desc.Dialog.{Dialog}
 use Rattle.tv_model.specs.declared.log.LogLine.{LogLine}
 use Rattle.tv_model.specs.declared.log.LogLine.TheVariants as lines
-use Rattle.tv_model.specs.Controls.Shortcut.{item_marking, Boxes, ClusterKind, Radios}
+use Rattle.tv_model.specs.Controls.Shortcut.{item_marking, ClusterKind, Shortcut, NoMark, LinkMark, PressMark, ItemMarks}
 use Rattle.tv_model.specs.Kinds.InputLine.{Edit, entered, left}
-use Rattle.tv_model.specs.Description.Commands.{command_number, is_declared}
+use Rattle.tv_model.specs.Description.Commands.{command_number, command_of, is_declared}
 use Rattle.tv_model.specs.Description.Heads.{dialog_head}
 use Rattle.tv_model.specs.Description.Marks.{upper}
 use Rattle.tv_model.specs.Description.Names.{meant}
 use Rattle.tv_machine.specs.State.{Held, LeafState}
 use Rattle.tv_machine.specs.Leaves.{PlacedNode}
-use Rattle.tv_model.specs.Controls.Behaviour.{Answer, Becomes, Passed, Presses}
+use Rattle.tv_model.specs.Controls.Behaviour.{Answer, Becomes, Passed, Presses, Down, Ignores, FocusesLink, Grips, Holds}
 use Rattle.tv_machine.specs.Controls.Tables.{key_answer, move_content, up_answer}
-use Rattle.tv_machine.specs.Dialog.Ending.{command, end_by, ended, first_invalid, press, pressed_kind, shown_invalid}
+use Rattle.tv_machine.specs.Dialog.Ending.{command, end_by, ended, first_invalid, press, pressed_by, shown_invalid}
 use Rattle.tv_machine.specs.Dialog.Focus.{Moved, NotFree, Refused, Request, Same, after_request, focus_moved, is_free_at, is_granted, next_free, previous_free, refocused, request, request_then, requested, stops_of}
 use Rattle.tv_machine.specs.Dialog.Keys.{alt_keyed, answered, enter_target, focus_keyed, key, keyed, passed_on, press_enabled}
 use Rattle.tv_machine.specs.Dialog.Modal.{Modal, content_at, leaf_at, with_content, with_line}
-use Rattle.tv_machine.specs.Dialog.Mouse.{button_down, down, down_at, down_on, first_before, focus_and_hold, held_moved, held_up, hold, is_close_mark, is_inside, released, row_of, topmost}
+use Rattle.tv_machine.specs.Dialog.Mouse.{button_down, down, down_at, down_by, first_before, focus_and_hold, held_moved, held_up, hold, is_close_mark, is_inside, released, row_of, topmost}
 use Rattle.tv_machine.specs.Dialog.Rules.{is_enabled, is_visible}
-use Rattle.tv_machine.specs.Dialog.Shortcuts.{act_on, call_item, called, marker_of, press_item, request_link}
+use Rattle.tv_machine.specs.Dialog.Shortcuts.{act_on, call_item, called, called_by, marker_of, press_item, request_link}
 use Rattle.tv_machine.specs.Dialog.Step.{dialog_step, free_step, held_step, step_by}
 use Rattle.tv_laws.specs.Records.{IsNoEnd}
 use Rattle.tv_machine.proofs.RefocusLemmas.{refocused-keeps}
@@ -108,12 +108,12 @@ module _ (d : Dialog) where
       (λ none. bool_cases (nat_le 100 number) (λ b. EndsLast d m.leaves (if b then with_line (lines.Command number) m else m))
       (λ own. inl (quiet_line (lines.Command number) m tt q)) (λ low. inl q)))
 
-  last_kind : (i : Id) (k : Kind) (m : Modal) → IsQuiet m → EndsLast d m.leaves (pressed_kind d i k m)
-  last_kind i (kinds.Button button) m q = last-command (command_number button.command) (with_line (lines.Press i) m) (quiet_line (lines.Press i) m tt q)
-  last_kind i _ m q = inl q
+  last_given : (i : Id) (given : Option CommandSpec) (m : Modal) → IsQuiet m → EndsLast d m.leaves (pressed_by d i given m)
+  last_given i None m q = inl q
+  last_given i (Some given) m q = last-command (command_number given) (with_line (lines.Press i) m) (quiet_line (lines.Press i) m tt q)
 
   last_press : (leaf : PlacedNode) (m : Modal) → IsQuiet m → EndsLast d m.leaves (press d leaf m)
-  last_press leaf m q = last_kind leaf.node.id leaf.node.kind m q
+  last_press leaf m q = last_given leaf.node.id (command_of leaf.node.kind) m q
 
   last_enabled : (leaf : PlacedNode) (m : Modal) → IsQuiet m → EndsLast d m.leaves (if is_enabled d m.leaves leaf.node then press d leaf m else m)
   last_enabled leaf m q =
@@ -132,18 +132,17 @@ module _ (d : Dialog) where
   quiet_call : (kind : ClusterKind) (i : Id) (item : Option ℕ) (m : Modal) → IsQuiet m → IsQuiet (call_item d kind i item m)
   quiet_call kind i item m q = quiet_then i (press_item d kind i item) (quiet_item kind i item) m q
 
-  last_called : (letter : ℕ) (leaf : PlacedNode) (k : Kind) (m : Modal) → IsQuiet m → EndsLast d m.leaves (called d letter leaf k m)
-  last_called letter leaf (kinds.Label label) m q = inl (quiet_link (meant d.views label.link) m q)
-  last_called letter leaf (kinds.Button button) m q = last_enabled leaf m q
-  last_called letter leaf (kinds.CheckBoxes boxes) m q = inl (quiet_call Boxes leaf.node.id (item_marking boxes.items letter) m q)
-  last_called letter leaf (kinds.RadioButtons radios) m q = inl (quiet_call Radios leaf.node.id (item_marking radios.items letter) m q)
-  last_called letter leaf _ m q = inl q
+  last_called : (letter : ℕ) (leaf : PlacedNode) (shortcut : Shortcut) (m : Modal) → IsQuiet m → EndsLast d m.leaves (called_by d letter leaf shortcut m)
+  last_called letter leaf NoMark m q = inl q
+  last_called letter leaf (LinkMark text name) m q = inl (quiet_link (meant d.views name) m q)
+  last_called letter leaf (PressMark text name) m q = last_enabled leaf m q
+  last_called letter leaf (ItemMarks kind name items) m q = inl (quiet_call kind leaf.node.id (item_marking items letter) m q)
 
   last_act : (letter : ℕ) (marker : Option PlacedNode) (m : Modal) → IsQuiet m → EndsLast d m.leaves (act_on d letter marker m)
   last_act letter None m q = inl q
   last_act letter (Some leaf) m q =
       bool_cases (is_visible d m.leaves leaf) (λ b. EndsLast d m.leaves (if b then called d letter leaf leaf.node.kind m else m))
-      (λ shown. last_called letter leaf leaf.node.kind m q) (λ hidden. inl q)
+      (λ shown. last_called letter leaf (behaviour leaf.node.kind).shortcut m q) (λ hidden. inl q)
 
   -- ---- keys
 
@@ -189,18 +188,15 @@ module _ (d : Dialog) where
       bool_cases (is_enabled d m.leaves leaf.node) (λ b. IsQuiet (if b then (if grabs then focus_and_hold d leaf p m else hold d leaf 0 p m) else m))
       (λ enabled. bool_cases grabs (λ b. IsQuiet (if b then focus_and_hold d leaf p m else hold d leaf 0 p m)) (λ grab. quiet_hold leaf p m q) (λ stay. q)) (λ disabled. q)
 
-  quiet_down : (leaf : PlacedNode) (k : Kind) (p : Point) (m : Modal) → IsQuiet m → IsQuiet (down_on d leaf k p m)
-  quiet_down leaf (kinds.Label label) p m q = quiet_link (meant d.views label.link) m q
-  quiet_down leaf (kinds.Button button) p m q = quiet_button leaf button.grabs p m q
-  quiet_down leaf (kinds.Input input) p m q = quiet_hold leaf p m q
-  quiet_down leaf (kinds.CheckBoxes boxes) p m q = quiet_hold leaf p m q
-  quiet_down leaf (kinds.RadioButtons radios) p m q = quiet_hold leaf p m q
-  quiet_down leaf (kinds.List list) p m q = quiet_hold leaf p m q
-  quiet_down leaf _ p m q = q
+  quiet_down : (leaf : PlacedNode) (asks : Down) (p : Point) (m : Modal) → IsQuiet m → IsQuiet (down_by d leaf asks p m)
+  quiet_down leaf Ignores p m q = q
+  quiet_down leaf (FocusesLink name) p m q = quiet_link (meant d.views name) m q
+  quiet_down leaf (Grips grabs) p m q = quiet_button leaf grabs p m q
+  quiet_down leaf Holds p m q = quiet_hold leaf p m q
 
   quiet_at : (leaf : Option PlacedNode) (p : Point) (m : Modal) → IsQuiet m → IsQuiet (down_at d leaf p m)
   quiet_at None p m q = q
-  quiet_at (Some leaf) p m q = quiet_down leaf leaf.node.kind p m q
+  quiet_at (Some leaf) p m q = quiet_down leaf (behaviour leaf.node.kind).down p m q
 
   last_down : (p : Point) (m : Modal) → IsQuiet m → EndsLast d m.leaves (down d p m)
   last_down p m q =
