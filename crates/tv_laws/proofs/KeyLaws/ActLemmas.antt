@@ -8,31 +8,32 @@ use Rattle.tv_model.specs.declared.node.Node.{Node}
 use Rattle.tv_model.specs.declared.kind.Input.{Input}
 use Rattle.tv_model.specs.declared.kind.Kind.{Kind}
 use Rattle.tv_model.specs.declared.kind.Kind.TheVariants as kinds
+use Rattle.tv_model.specs.Kinds.{behaviour}
+use Rattle.tv_model.specs.declared.command.CommandSpec.{CommandSpec}
 use Rattle.tv_model.specs.declared.desc.Dialog.{Dialog}
 use Rattle.tv_model.specs.declared.log.LogLine.{LogLine}
 use Rattle.tv_model.specs.declared.log.LogLine.TheVariants as lines
 use Rattle.tv_model.specs.declared.record.Value.{Value}
 use Rattle.tv_model.specs.declared.record.Value.TheVariants as values
-use Rattle.tv_model.specs.Controls.Shortcut.{item_marking, ClusterKind, Boxes, Radios}
+use Rattle.tv_model.specs.Controls.Shortcut.{item_marking, ClusterKind, Shortcut, NoMark, LinkMark, PressMark, ItemMarks}
 use Rattle.tv_model.specs.Kinds.InputLine.{Edit, entered, left, edit_of}
-use Rattle.tv_model.specs.Description.Commands.{command_number, is_declared}
+use Rattle.tv_model.specs.Description.Commands.{command_number, command_of, is_declared}
 use Rattle.tv_model.specs.Description.Heads.{dialog_head}
-use Rattle.tv_model.specs.Description.Nodes.{is_button}
 use Rattle.tv_machine.specs.Leaves.{PlacedNode, leaf_list}
 use Rattle.tv_model.specs.Controls.Contents.{Content, text_of}
 use Rattle.tv_model.specs.Kinds.Cluster.{item_pressed}
-use Rattle.tv_machine.specs.Dialog.Ending.{command, end_by, ended, field_line, fields_of, first_invalid, press, pressed_kind, shown_invalid}
+use Rattle.tv_machine.specs.Dialog.Ending.{command, end_by, ended, field_line, fields_of, first_invalid, press, pressed_by, shown_invalid}
 use Rattle.tv_machine.specs.Dialog.Focus.{Moved, NotFree, Refused, Request, Same, after_request, focus_moved, is_free_at, is_granted, refocused, request, requested}
 use Rattle.tv_machine.specs.Dialog.Modal.{Modal, content_at, leaf_at, with_content, with_line}
 use Rattle.tv_machine.specs.Dialog.Rules.{is_enabled, is_visible}
-use Rattle.tv_machine.specs.Dialog.Shortcuts.{call_item, called, press_item, request_link}
+use Rattle.tv_machine.specs.Dialog.Shortcuts.{act, call_item, called_by, press_item, request_link}
 use Rattle.tv_machine.specs.Safe.{HasValueOf}
 use Rattle.tv_laws.specs.Fit.{IsStanding}
-use Rattle.tv_laws.specs.Letters.{ActsOnOwner, IsActOn, IsFocusAfter, IsPressOf, KeepsOthers, control_by}
+use Rattle.tv_laws.specs.Letters.{ActsOnOwner, IsActOn, IsFocusAfter, IsPressOf, KeepsOthers}
 use Rattle.tv_laws.specs.Sound.{IsSoundDialog}
 use Rattle.tv_machine.proofs.RefocusLemmas.{content_at-moved, leaves-moved, moved_content, refocused-keeps, refocused_content}
 use Rattle.tv_machine.proofs.LeafLemmas.{HasLeaves, IsIn, content_at-other, leaves-are}
-use Rattle.tv_laws.proofs.KeyLaws.LetterLemmas.{is-owner}
+use Rattle.tv_laws.proofs.KeyLaws.LetterLemmas.{control-in, control_in, is-owner, is_press_mark, press-mark}
 use Rattle.tv_machine.proofs.ListLemmas.{bool_cases, option_cases}
 use Rattle.tv_laws.proofs.StandLemmas.{standing-leaf}
 
@@ -48,15 +49,7 @@ text_value input (Some (values.Item item)) h = absurd h
 refocused_value : (edit : Edit → Edit) → ((e : Edit) → (edit e).text ≡ e.text) → (k : Kind) (c : Content) → HasValueOf k c.value
     → (refocused_content edit k c).value ≡ c.value
 refocused_value edit keeps (kinds.Input input) c fits = ap (λ text. Some (values.Text text)) (keeps (edit_of c)) ∙ text_value input c.value fits
-refocused_value edit keeps (kinds.Window head) c fits = refl
-refocused_value edit keeps (kinds.Dialog head) c fits = refl
-refocused_value edit keeps (kinds.Text shown) c fits = refl
-refocused_value edit keeps (kinds.Label label) c fits = refl
-refocused_value edit keeps (kinds.Button button) c fits = refl
-refocused_value edit keeps (kinds.CheckBoxes boxes) c fits = refl
-refocused_value edit keeps (kinds.RadioButtons radios) c fits = refl
-refocused_value edit keeps (kinds.List list) c fits = refl
-refocused_value edit keeps (kinds.Pane pane) c fits = refl
+refocused_value edit keeps _ c fits = refl
 
 left_value : (k : Kind) (c : Content) → HasValueOf k c.value → (refocused_content left k c).value ≡ c.value
 left_value k c fits = refocused_value left (λ e. refl) k c fits
@@ -247,17 +240,9 @@ module _ (d : Dialog) (sound : IsSoundDialog d) where
         (λ none. bool_cases (nat_le 100 number) (λ b. IsPressed (if b then with_line (lines.Command number) pressed else pressed))
         (λ own. line_pressed (lines.Command number) tt) (λ low. as_pressed)))
 
-    press_act : (k : Kind) → IsPressed (pressed_kind d i k m)
-    press_act (kinds.Button button) = command_pressed (command_number button.command)
-    press_act (kinds.Window head) = idle_act true i m
-    press_act (kinds.Dialog head) = idle_act true i m
-    press_act (kinds.Text shown) = idle_act true i m
-    press_act (kinds.Label label) = idle_act true i m
-    press_act (kinds.Input input) = idle_act true i m
-    press_act (kinds.CheckBoxes boxes) = idle_act true i m
-    press_act (kinds.RadioButtons radios) = idle_act true i m
-    press_act (kinds.List list) = idle_act true i m
-    press_act (kinds.Pane pane) = idle_act true i m
+    press_act : (given : Option CommandSpec) → IsPressed (pressed_by d i given m)
+    press_act None = idle_act true i m
+    press_act (Some given) = command_pressed (command_number given)
 
   -- ---- acts
 
@@ -265,33 +250,30 @@ module _ (d : Dialog) (sound : IsSoundDialog d) where
       → IsActOn d true marker.node.id m (if is_enabled d m.leaves marker.node then press d marker m else m)
   button_act marker m s =
       bool_cases (is_enabled d m.leaves marker.node) (λ b. IsActOn d true marker.node.id m (if b then press d marker m else m))
-      (λ enabled. press_act m marker.node.id s marker.node.kind) (λ disabled. idle_act true marker.node.id m)
+      (λ enabled. press_act m marker.node.id s (command_of marker.node.kind)) (λ disabled. idle_act true marker.node.id m)
 
   -- a marker that is its own control
   on_itself : (is_press : Bool) (marker control : Node) (m n : Modal) → Some marker ≡ Some control → IsActOn d is_press marker.id m n
       → IsActOn d is_press control.id m n
   on_itself is_press marker control m n e is = let same : marker ≡ control = cc in subst (λ node. IsActOn d is_press node.id m n) same is
 
-  called_act : (m : Modal) (letter : ℕ) (marker : PlacedNode) (control : Node) (k : Kind) → IsStanding d m → control_by d marker.node k ≡ Some control
-      → IsActOn d (is_button k) control.id m (called d letter marker k m)
-  called_act m letter marker control (kinds.Label label) s e =
+  called_act : (m : Modal) (letter : ℕ) (marker : PlacedNode) (control : Node) (shortcut : Shortcut) → IsStanding d m
+      → control_in d marker.node shortcut ≡ Some control → IsActOn d (is_press_mark shortcut) control.id m (called_by d letter marker shortcut m)
+  called_act m letter marker control NoMark s e = idle_act false control.id m
+  called_act m letter marker control (LinkMark text name) s e =
       subst (λ o. IsActOn d false control.id m (request_link d o m)) (sym e) (asked_act control.id m (request d control.id m) (asked control.id m s))
-  called_act m letter marker control (kinds.Button button) s e =
-      on_itself true marker.node control m (called d letter marker (kinds.Button button) m) e (button_act marker m s)
-  called_act m letter marker control (kinds.CheckBoxes boxes) s e =
-      on_itself false marker.node control m (called d letter marker (kinds.CheckBoxes boxes) m) e (item_act Boxes marker.node.id (item_marking boxes.items letter) m s)
-  called_act m letter marker control (kinds.RadioButtons radios) s e =
-      on_itself false marker.node control m (called d letter marker (kinds.RadioButtons radios) m) e (item_act Radios marker.node.id (item_marking radios.items letter) m s)
-  called_act m letter marker control (kinds.Window head) s e = idle_act false control.id m
-  called_act m letter marker control (kinds.Dialog head) s e = idle_act false control.id m
-  called_act m letter marker control (kinds.Text shown) s e = idle_act false control.id m
-  called_act m letter marker control (kinds.Input input) s e = idle_act false control.id m
-  called_act m letter marker control (kinds.List list) s e = idle_act false control.id m
-  called_act m letter marker control (kinds.Pane pane) s e = idle_act false control.id m
+  called_act m letter marker control (PressMark text name) s e =
+      on_itself true marker.node control m (called_by d letter marker (PressMark text name) m) e (button_act marker m s)
+  called_act m letter marker control (ItemMarks kind name items) s e =
+      on_itself false marker.node control m (called_by d letter marker (ItemMarks kind name items) m) e (item_act kind marker.node.id (item_marking items letter) m s)
 
   pub acts-on-owner : ActsOnOwner d
-  acts-on-owner m letter marker control fit there e = (
-    is-owner d letter marker control there e,
-    bool_cases (is_visible d m.leaves marker) (λ b. IsActOn d (is_button marker.node.kind) control.id m (if b then called d letter marker marker.node.kind m else m))
-        (λ shown. called_act m letter marker control marker.node.kind fit.standing e) (λ hidden. idle_act (is_button marker.node.kind) control.id m),
-  )
+  acts-on-owner m letter marker control fit there e =
+      let shortcut = (behaviour marker.node.kind).shortcut in (
+        is-owner d letter marker control there e,
+        subst (λ b. IsActOn d b control.id m (act d letter marker m)) (sym (press-mark marker.node.kind))
+            (bool_cases (is_visible d m.leaves marker)
+            (λ b. IsActOn d (is_press_mark shortcut) control.id m (if b then called_by d letter marker shortcut m else m))
+            (λ shown. called_act m letter marker control shortcut fit.standing (sym (control-in d marker.node marker.node.kind) ∙ e))
+            (λ hidden. idle_act (is_press_mark shortcut) control.id m)),
+      )

@@ -76,15 +76,7 @@ invalid-input true true (kinds.Input input) c = refl
 invalid-input true false (kinds.Input input) c = refl
 invalid-input false true (kinds.Input input) c = refl
 invalid-input false false (kinds.Input input) c = refl
-invalid-input to from (kinds.Window head) c = refl
-invalid-input to from (kinds.Dialog head) c = refl
-invalid-input to from (kinds.Text shown) c = refl
-invalid-input to from (kinds.Label label) c = refl
-invalid-input to from (kinds.Button button) c = refl
-invalid-input to from (kinds.CheckBoxes boxes) c = refl
-invalid-input to from (kinds.RadioButtons radios) c = refl
-invalid-input to from (kinds.List list) c = refl
-invalid-input to from (kinds.Pane pane) c = refl
+invalid-input to from _ c = refl
 
 abbrev stop_at : Id → Bool → Stop
 stop_at i free = record { id = i; is_free = free }

@@ -11,14 +11,15 @@ use Rattle.tv_event.specs.declared.event.Key.TheVariants as keys
 use Rattle.tv_model.specs.declared.node.Node.{Node}
 use Rattle.tv_model.specs.declared.kind.Kind.{Kind}
 use Rattle.tv_model.specs.declared.kind.Kind.TheVariants as kinds
+use Rattle.tv_model.specs.Kinds.{behaviour}
 use Rattle.tv_model.specs.declared.kind.MarkedText.{MarkedText}
 use Rattle.tv_model.specs.declared.desc.Dialog.{Dialog}
-use Rattle.tv_model.specs.Controls.Shortcut.{item_marking, ClusterKind, Boxes, Radios}
+use Rattle.tv_model.specs.Controls.Shortcut.{item_marking, ClusterKind, Boxes, Radios, Shortcut, LinkMark, PressMark}
 use Rattle.tv_model.specs.Kinds.Cluster as clusters
 use Rattle.tv_model.specs.Kinds.Cluster.{of_letter, selected_of, cluster_answer}
 use Rattle.tv_model.specs.Description.Marks.{is_option_letter, marks, upper}
 use Rattle.tv_model.specs.Description.Names.{gives_name, is_option_named, meant}
-use Rattle.tv_model.specs.Description.Nodes.{is_control, is_pane, name_of}
+use Rattle.tv_model.specs.Description.Nodes.{is_button, is_control, is_pane, name_of}
 use Rattle.tv_model.specs.Description.Owners as owners
 use Rattle.tv_model.specs.Controls.Owner.{Owner, control, item_at}
 use Rattle.tv_model.specs.Description.Owners.{owner_by, owners_of}
@@ -80,6 +81,26 @@ only_found p (x ∷ xs) pairs =
     bool_cases (p x) (λ b. p x ≡ b → cond b (Some x) (find p xs) ≡ Some (get_or xs k e))
     (λ first f. absurd (pairs-head (λ y z. IsTrue (p y) → IsTrue (p z) → ⊥) x xs pairs k e h first is))
     (λ later f. only_found p xs (pairs-tail (λ y z. IsTrue (p y) → IsTrue (p z) → ⊥) x xs pairs) k e h is) refl)
+
+-- ---- what a marker acts on, by what marks its letter
+
+-- a label's letter is for the control of the name, any other for the marker itself
+abbrev pub control_in : Dialog → Node → Shortcut → Option Node
+control_in d marker (LinkMark text name) = meant d.views name
+control_in d marker _ = Some marker
+
+pub control-in : (d : Dialog) (marker : Node) (k : Kind) → control_by d marker k ≡ control_in d marker (behaviour k).shortcut
+control-in d marker (kinds.Label label) = refl
+control-in d marker _ = refl
+
+-- whether the letter presses the marker: a button's alone
+abbrev pub is_press_mark : Shortcut → Bool
+is_press_mark (PressMark text name) = true
+is_press_mark _ = false
+
+pub press-mark : (k : Kind) → is_button k ≡ is_press_mark (behaviour k).shortcut
+press-mark (kinds.Button button) = refl
+press-mark _ = refl
 
 -- ---- the marker is the certificate's
 
@@ -217,17 +238,10 @@ module _ (d : Dialog) where
 
   -- ---- shortcuts
 
+  -- no control takes a letter with Alt
   alt_passed : (k : Kind) (letter : ℕ) (c : Content) → key_answer k (keys.Alt letter) c ≡ Passed
-  alt_passed (kinds.Window head) letter c = refl
-  alt_passed (kinds.Dialog head) letter c = refl
-  alt_passed (kinds.Text shown) letter c = refl
-  alt_passed (kinds.Label label) letter c = refl
-  alt_passed (kinds.Button button) letter c = refl
   alt_passed (kinds.Input input) letter c = refl
-  alt_passed (kinds.CheckBoxes boxes) letter c = refl
-  alt_passed (kinds.RadioButtons radios) letter c = refl
-  alt_passed (kinds.List list) letter c = refl
-  alt_passed (kinds.Pane pane) letter c = refl
+  alt_passed _ letter c = refl
 
   -- a letter with Alt that no view marks does nothing
   alt_nothing : (letter : ℕ) (o : Option PlacedNode) (m : Modal) → keyed d (keys.Alt letter) o m ≡ m

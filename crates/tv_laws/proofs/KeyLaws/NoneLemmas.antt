@@ -5,20 +5,21 @@ use Rattle.tv_model.specs.declared.node.Id.{Id}
 use Rattle.tv_model.specs.declared.node.Node.{Node}
 use Rattle.tv_model.specs.declared.kind.Kind.{Kind}
 use Rattle.tv_model.specs.declared.kind.Kind.TheVariants as kinds
+use Rattle.tv_model.specs.Kinds.{behaviour}
 use Rattle.tv_model.specs.declared.desc.Dialog.{Dialog}
 use Rattle.tv_model.specs.declared.log.LogLine.TheVariants as lines
-use Rattle.tv_model.specs.Controls.Shortcut.{item_marking, ClusterKind, Boxes, Radios}
+use Rattle.tv_model.specs.Controls.Shortcut.{item_marking, ClusterKind, Shortcut, NoMark, LinkMark, PressMark, ItemMarks}
 use Rattle.tv_model.specs.Description.Commands.{command_number}
 use Rattle.tv_model.specs.Description.Names.{meant}
-use Rattle.tv_model.specs.Description.Nodes.{is_button}
 use Rattle.tv_machine.specs.Leaves.{PlacedNode}
 use Rattle.tv_machine.specs.Dialog.Ending.{press}
 use Rattle.tv_machine.specs.Dialog.Focus.{Moved, NotFree, Refused, Same, after_request, is_free_at, is_granted, keeps_focus, request, requested}
 use Rattle.tv_machine.specs.Dialog.Modal.{Modal, leaf_at, with_line}
 use Rattle.tv_machine.specs.Dialog.Rules.{is_command_enabled, is_kind_enabled, is_visible}
-use Rattle.tv_machine.specs.Dialog.Shortcuts.{call_item, called, press_item, request_link}
-use Rattle.tv_laws.specs.Letters.{ActsOnNone, RefusedActsOnNone, control_by, has_link, is_free_link}
+use Rattle.tv_machine.specs.Dialog.Shortcuts.{call_item, called, called_by, press_item, request_link}
+use Rattle.tv_laws.specs.Letters.{ActsOnNone, RefusedActsOnNone, has_link, is_free_link}
 use Rattle.tv_machine.proofs.ListLemmas.{and-true, bool_cases}
+use Rattle.tv_laws.proofs.KeyLaws.LetterLemmas.{control-in, control_in, is_press_mark, press-mark}
 
 module _ (d : Dialog) where
   -- ---- what can't act
@@ -45,12 +46,7 @@ module _ (d : Dialog) where
       disabled_same m marker (kinds.Button button) is (sym (and-true (is_command_enabled d m.leaves (command_number button.command))) ∙ none)
   called_same m letter marker (kinds.CheckBoxes boxes) is none = absurd (true≢false none)
   called_same m letter marker (kinds.RadioButtons radios) is none = absurd (true≢false none)
-  called_same m letter marker (kinds.Window head) is none = refl
-  called_same m letter marker (kinds.Dialog head) is none = refl
-  called_same m letter marker (kinds.Text shown) is none = refl
-  called_same m letter marker (kinds.Input input) is none = refl
-  called_same m letter marker (kinds.List list) is none = refl
-  called_same m letter marker (kinds.Pane pane) is none = refl
+  called_same m letter marker _ is none = refl
 
   pub acts-on-none : ActsOnNone d
   acts-on-none m letter marker =
@@ -74,23 +70,20 @@ module _ (d : Dialog) where
       → requested d m marker.id ≡ Refused
   itself marker control m e refused = let same : control ≡ marker = cc in ap (λ x. requested d m x.id) (sym same) ∙ refused
 
-  called_refused : (m : Modal) (letter : ℕ) (marker : PlacedNode) (control : Node) (k : Kind) → control_by d marker.node k ≡ Some control
-      → is_button k ≡ false → requested d m control.id ≡ Refused → IsRefusal m (called d letter marker k m)
-  called_refused m letter marker control (kinds.Label label) e other refused =
+  called_refused : (m : Modal) (letter : ℕ) (marker : PlacedNode) (control : Node) (shortcut : Shortcut)
+      → control_in d marker.node shortcut ≡ Some control → is_press_mark shortcut ≡ false → requested d m control.id ≡ Refused
+      → IsRefusal m (called_by d letter marker shortcut m)
+  called_refused m letter marker control NoMark e other refused = inl refl
+  called_refused m letter marker control (LinkMark text name) e other refused =
       inr (ap (λ o. request_link d o m) e ∙ ap (λ r. after_request d control.id r m) refused)
-  called_refused m letter marker control (kinds.Button button) e other refused = absurd (true≢false other)
-  called_refused m letter marker control (kinds.CheckBoxes boxes) e other refused =
-      inr (item_refused Boxes marker.node.id (item_marking boxes.items letter) m (itself marker.node control m e refused))
-  called_refused m letter marker control (kinds.RadioButtons radios) e other refused =
-      inr (item_refused Radios marker.node.id (item_marking radios.items letter) m (itself marker.node control m e refused))
-  called_refused m letter marker control (kinds.Window head) e other refused = inl refl
-  called_refused m letter marker control (kinds.Dialog head) e other refused = inl refl
-  called_refused m letter marker control (kinds.Text shown) e other refused = inl refl
-  called_refused m letter marker control (kinds.Input input) e other refused = inl refl
-  called_refused m letter marker control (kinds.List list) e other refused = inl refl
-  called_refused m letter marker control (kinds.Pane pane) e other refused = inl refl
+  called_refused m letter marker control (PressMark text name) e other refused = absurd (true≢false other)
+  called_refused m letter marker control (ItemMarks kind name items) e other refused =
+      inr (item_refused kind marker.node.id (item_marking items letter) m (itself marker.node control m e refused))
 
   pub refused-acts-on-none : RefusedActsOnNone d
   refused-acts-on-none m letter marker control e other refused =
       bool_cases (is_visible d m.leaves marker) (λ b. IsRefusal m (if b then called d letter marker marker.node.kind m else m))
-      (λ shown. called_refused m letter marker control marker.node.kind e other refused) (λ hidden. inl refl)
+      (λ shown.
+      called_refused m letter marker control (behaviour marker.node.kind).shortcut (sym (control-in d marker.node marker.node.kind) ∙ e)
+      (sym (press-mark marker.node.kind) ∙ other) refused)
+      (λ hidden. inl refl)

@@ -1,63 +1,24 @@
 -- Tab and Shift-Tab leave every value as it was.
-use Rattle.std.proofs.Common.{◌≡◌, Bool, true, false, ◌==◌, if◌then◌else◌, List, [], ◌∷◌, map, Option, Some, None, refl, sym, ap, subst, ◌∙◌, All, true≢false}
+use Rattle.std.proofs.Common.{◌≡◌, false, List, [], ◌∷◌, map, Option, Some, refl, sym, ap, subst, ◌∙◌, All}
 use Rattle.std.proofs.lemmas.List.Elements.{All-head, All-tail}
 use Rattle.tv_model.specs.declared.node.Id.{Id}
-use Rattle.tv_model.specs.declared.kind.Input.{Input}
-use Rattle.tv_model.specs.declared.kind.Kind.{Kind}
-use Rattle.tv_model.specs.declared.kind.Kind.TheVariants as kinds
 use Rattle.tv_model.specs.declared.desc.Dialog.{Dialog}
 use Rattle.tv_model.specs.declared.record.Value.{Value}
-use Rattle.tv_model.specs.declared.record.Value.TheVariants as values
 use Rattle.tv_machine.specs.State.{LeafState}
 use Rattle.tv_machine.specs.Leaves.{leaf_list}
-use Rattle.tv_model.specs.Controls.Contents.{Content, text_of}
 use Rattle.tv_machine.specs.Dialog.Focus.{Moved, NotFree, Refused, Request, Same, after_request, focus_moved, next_free, previous_free, requested, stops_of}
 use Rattle.tv_machine.specs.Dialog.Modal.{Modal, content_at}
 use Rattle.tv_machine.specs.Dialog.Rules.{content_by, is_among, state_of}
-use Rattle.tv_machine.specs.Safe.{HasValueOf}
 use Rattle.tv_laws.specs.Fit.{IsStanding}
 use Rattle.tv_laws.specs.Order.{TabKeepsValues, values_of}
 use Rattle.tv_laws.specs.Sound.{IsSoundDialog}
-use Rattle.tv_machine.proofs.RefocusLemmas.{content_at-moved, leaves-moved, moved_content}
+use Rattle.tv_machine.proofs.RefocusLemmas.{leaves-moved}
 use Rattle.tv_machine.proofs.LeafLemmas.{HasLeaves, ids-apart, leaf_id, leaves-same, state_id}
+use Rattle.tv_laws.proofs.KeyLaws.ActLemmas.{moved-value}
 use Rattle.tv_laws.proofs.LeavingLemmas.{tab-next}
 use Rattle.tv_machine.proofs.ListLemmas.{AreApart, find-member, map-map}
 use Rattle.tv_machine.proofs.MarkLemmas.{value_by}
 use Rattle.tv_laws.proofs.KeyLaws.OrderLemmas.{shift-tab-previous}
-use Rattle.tv_laws.proofs.StandLemmas.{standing-leaf}
-
--- ---- a value
-
-text-value : (input : Input) (v : Option Value) → HasValueOf (kinds.Input input) v → Some (values.Text (text_of v)) ≡ v
-text-value input None h = absurd (true≢false h)
-text-value input (Some (values.Text text)) h = refl
-text-value input (Some (values.Marks marks)) h = absurd h
-text-value input (Some (values.Item item)) h = absurd h
-
-same-value : (to from : Bool) (c : Content) → (if to then if from then c else c else if from then c else c).value ≡ c.value
-same-value true true c = refl
-same-value true false c = refl
-same-value false true c = refl
-same-value false false c = refl
-
-input-value : (to from : Bool) (input : Input) (c : Content) → HasValueOf (kinds.Input input) c.value
-    → (moved_content to from (kinds.Input input) c).value ≡ c.value
-input-value true true input c h = text-value input c.value h
-input-value true false input c h = text-value input c.value h
-input-value false true input c h = text-value input c.value h
-input-value false false input c h = refl
-
-moved-value : (to from : Bool) (k : Kind) (c : Content) → HasValueOf k c.value → (moved_content to from k c).value ≡ c.value
-moved-value to from (kinds.Input input) c h = input-value to from input c h
-moved-value to from (kinds.Window head) c h = same-value to from c
-moved-value to from (kinds.Dialog head) c h = same-value to from c
-moved-value to from (kinds.Text shown) c h = same-value to from c
-moved-value to from (kinds.Label label) c h = same-value to from c
-moved-value to from (kinds.Button button) c h = same-value to from c
-moved-value to from (kinds.CheckBoxes boxes) c h = same-value to from c
-moved-value to from (kinds.RadioButtons radios) c h = same-value to from c
-moved-value to from (kinds.List list) c h = same-value to from c
-moved-value to from (kinds.Pane pane) c h = same-value to from c
 
 -- ---- all values
 
@@ -87,9 +48,7 @@ module _ (d : Dialog) (sound : IsSoundDialog d) where
       let n = focus_moved d to m in
       values-are n (leaves-moved d sound.lawful m to s.leaves)
       ∙ leaves-same d sound.lawful (λ leaf. (content_at n leaf.node.id).value) (λ leaf. (content_at m leaf.node.id).value)
-      (λ leaf e.
-      ap (λ c. c.value) (content_at-moved d sound.lawful m to s.leaves leaf e)
-      ∙ moved-value (leaf.node.id.0 == to.0) (leaf.node.id.0 == m.focus.0) leaf.node.kind (content_at m leaf.node.id) (standing-leaf d sound m s leaf e).safe.value)
+      (moved-value d sound m to s)
       ∙ sym (values-are m s.leaves)
 
   values-asked : (m : Modal) (to : Id) (r : Request) → IsStanding d m → values_of (after_request d to r m).leaves ≡ values_of m.leaves
