@@ -5,8 +5,8 @@ use Rattle.tv_event.specs.declared.event.Event.{Event}
 use Rattle.tv_event.specs.declared.event.Event.TheVariants as events
 use Rattle.tv_event.specs.declared.event.Phase.{Phase}
 use Rattle.tv_event.specs.declared.event.Phase.TheVariants as phases
-use Rattle.tv_model.specs.declared.kind.Kind.{Kind}
-use Rattle.tv_model.specs.declared.kind.Kind.TheVariants as kinds
+use Rattle.tv_model.specs.declared.command.CommandSpec.{CommandSpec}
+use Rattle.tv_model.specs.Description.Commands.{command_of}
 use Rattle.tv_view.specs.Meaning.{Leaf, holds}
 use Rattle.tv_model.specs.Controls.Behaviour.{Answer, Passed, Becomes, Presses}
 use Rattle.tv_machine.specs.Controls.Tables.{key_answer, up_answer}
@@ -15,29 +15,21 @@ use Rattle.tv_view.specs.declared.reaction.Reaction.TheVariants.{Pass, Done, Cap
 use Rattle.tv_view.specs.Effects.{StaysWherePassed, handled, with_answer, captured, lifted}
 use Rattle.tv_view.specs.Fields.{content_of}
 use Rattle.tv_view.specs.Points.{is_inside, row_of}
-use Rattle.tv_view.specs.Reactions.{answer, press_of, consumed, focus_answer, captures, focus_on, down_focus, release_answer, lifted_answer, may_mark_by}
+use Rattle.tv_view.specs.Reactions.{answer, press_by, consumed, focus_answer, captures, focus_on, down_focus, release_answer, lifted_answer, may_mark_by}
 
 -- what is consumed isn't passed on
 consumes : (leaf : Leaf) (marks : Bool) → consumed leaf marks ≡ Pass → ⊥
 consumes leaf true e = cc
 consumes leaf false e = cc
 
-press_consumes : (leaf : Leaf) (kind : Kind) → press_of leaf kind ≡ Pass → ⊥
-press_consumes leaf (kinds.Button button) e = cc
-press_consumes leaf (kinds.Window head) e = cc
-press_consumes leaf (kinds.Dialog head) e = cc
-press_consumes leaf (kinds.Text shown) e = cc
-press_consumes leaf (kinds.Label label) e = cc
-press_consumes leaf (kinds.Input input) e = cc
-press_consumes leaf (kinds.CheckBoxes boxes) e = cc
-press_consumes leaf (kinds.RadioButtons radios) e = cc
-press_consumes leaf (kinds.List list) e = cc
-press_consumes leaf (kinds.Pane pane) e = cc
+press_consumes : (leaf : Leaf) (o : Option CommandSpec) → press_by leaf o ≡ Pass → ⊥
+press_consumes leaf None e = cc
+press_consumes leaf (Some command) e = cc
 
 release_consumes : (leaf : Leaf) (a : Answer) → release_answer leaf a ≡ Pass → ⊥
 release_consumes leaf Passed e = cc
 release_consumes leaf (Becomes content) e = cc
-release_consumes leaf Presses e = press_consumes leaf leaf.node.kind e
+release_consumes leaf Presses e = press_consumes leaf (command_of leaf.node.kind) e
 
 -- ---- by event
 
