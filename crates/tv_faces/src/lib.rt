@@ -14,7 +14,7 @@ mod place;
 mod row;
 mod static_text;
 
-pub use background::{Background, EmptyBar};
+pub use background::Background;
 pub use button::ButtonFace;
 pub use cluster::{ClusterFace, ClusterMarks};
 pub use frame::Frame;

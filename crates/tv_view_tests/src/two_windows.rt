@@ -11,13 +11,19 @@ use std::test::Fail;
 use tv_cells::{Canvas, Point, Rect, Screen, lay};
 use tv_controls::StaticText;
 use tv_event::CommandSet;
-use tv_faces::{Background, EmptyBar};
+use tv_faces::{Background, TextFace};
 use tv_group::{Group, Member};
 use tv_model::{Id, Kind, Node, WindowHead};
 use tv_palette::{Chain, Owner};
 use tv_valid::Chars;
 use tv_view::Env;
 use tv_window::{Window, draw_stack};
+
+// The bar and the status line, with nothing in them.
+const BAR: TextFace<'static> = TextFace {
+    text: &[],
+    attr: 0x70,
+};
 
 /// The characters of the screen, row by row.
 const SHOT: [&str; 10] = [
@@ -118,9 +124,9 @@ fn rows(from: i32, to: i32) -> Canvas {
 fn two_windows(rt: HostRuntime) -> Result<(), Fail> {
     let alloc = rt.alloc();
     let mut screen = Screen::new(alloc, 24, 10)?;
-    lay(&mut screen, rows(0, 1), 24, 1, &EmptyBar);
+    lay(&mut screen, rows(0, 1), 24, 1, &BAR);
     lay(&mut screen, rows(1, 9), 24, 8, &Background);
-    lay(&mut screen, rows(9, 10), 24, 1, &EmptyBar);
+    lay(&mut screen, rows(9, 10), 24, 1, &BAR);
     let desktop = Canvas {
         clip: rows(1, 9).clip,
         origin: Point { x: 0, y: 0 },

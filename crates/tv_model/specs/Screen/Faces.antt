@@ -5,7 +5,6 @@ use Rattle.tv_palette.specs.Attributes.{attribute_of}
 use Rattle.tv_palette.specs.declared.role.Owner.{Owner}
 use Rattle.tv_palette.specs.declared.role.Role.{Role}
 use Rattle.tv_palette.specs.declared.role.Role.TheVariants as roles
-use Rattle.tv_palette.specs.declared.role.BarRole.TheVariants as bar
 use Rattle.tv_palette.specs.declared.role.FrameRole.{FrameRole}
 use Rattle.tv_palette.specs.declared.role.FrameRole.TheVariants as frame
 use Rattle.tv_palette.specs.declared.role.ButtonRole.{ButtonRole}
@@ -29,15 +28,11 @@ text_row text x = slice_index_or text x 32
 abbrev pub over_row : ℕ → ℕ → Row → Row → Row
 over_row from count row below x = if nat_le from x && nat_lt x (from + count) then row (x - from) else below x
 
--- ---- the desktop, the bar and the status line
+-- ---- the desktop
 
 -- the desktop where nothing stands on it
 abbrev pub background : FaceOf
 background x y = shown 46 (attribute_of roles.Background)
-
--- the menu bar without menus, and the status line without items
-abbrev pub empty_bar : FaceOf
-empty_bar x y = glyph 32 (attribute_of (roles.Bar bar.Normal))
 
 -- ---- frames
 
