@@ -1,4 +1,5 @@
-//! Tests of the controls, each by itself: what it answers to events, what it becomes and what it shows.
+//! Tests of the controls, each by itself: what it answers to events, what it becomes and what it shows. And of the menu bar and
+//! the status line.
 #![tactic(auto)]
 
 #[cfg(test)]

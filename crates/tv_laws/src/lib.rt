@@ -1,4 +1,5 @@
-//! The laws of every run of the flat machine: what each event keeps, so that a dialog can always be used and left.
+//! The laws of every run of the flat machine: what each event keeps, so that a dialog can always be used and left; the order of
+//! Tab, and what letters act on; what is logged, saved and shown again.
 #![tactic(auto)]
 
 mod letters;

@@ -1,4 +1,5 @@
-//! What a description says, what a run's records and log hold, and, in specs/, what a run does.
+//! What a description says, what a run's records and log hold, and, in specs/, what each kind of view is and does and what a
+//! description must not do.
 #![tactic(auto)]
 
 mod command;

@@ -1,4 +1,4 @@
-//! Names, letters and keys that are given twice, or mean nothing: F1, F4, F5, F6 and F17.
+//! Names, letters and keys that are given twice or mean nothing, and what rules name, show and reach: F1, F4 to F9 and F17.
 #![tactic(auto)]
 
 mod exits;

@@ -17,8 +17,9 @@ use tv_model::{Id, Node, Record};
 
 /// A control, a label or a static text.
 ///
-/// What a view is stands in its meaning, a leaf: the node of its declaration, and how it stands. Each call is told by
-/// it, by the node's kind, so that a view type of any crate may stand in for the toolkit's own if it meets these clauses.
+/// What a view is stands in its meaning, a leaf: the node of its declaration, and how it stands. Each call's clauses speak of
+/// that leaf, by the node's kind. So a view type of any crate may stand in for the toolkit's own, but it answers and shows what
+/// a view of that kind does.
 /// Points and rectangles are seen from the corner of what the view stands in.
 pub trait View: Drop {
     ghost meaning: { Self → Leaf };

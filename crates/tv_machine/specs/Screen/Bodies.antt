@@ -1,4 +1,4 @@
--- The layers of the screen, from the top.
+-- The background, and the bodies of windows and dialogs with their shadows.
 use Rattle.std.specs.Prelude.{[], ℕ, Bool, true, List, ◌∷◌, find, Option, ℤ, pos, ◌==◌, if◌then◌else◌}
 use Rattle.tv_cells.specs.Layers.{Layer, Painted, Shadow}
 use Rattle.tv_cells.specs.Rectangle.{sized}
@@ -75,5 +75,3 @@ window_body_layers d is_active origin window =
 -- the window of an id
 abbrev pub window_of : Desc → Id → Option Window
 window_of d i = find (λ window. has_id i window.node) d.windows
-
--- ---- the screen
