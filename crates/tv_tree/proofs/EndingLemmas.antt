@@ -6,19 +6,18 @@ use Rattle.std.proofs.lemmas.Bool.{or_right}
 use Rattle.std.proofs.lemmas.List.Elements.{All-head, All-tail}
 use Rattle.tv_model.specs.declared.node.Id.{Id}
 use Rattle.tv_model.specs.declared.node.Node.{Node}
-use Rattle.tv_model.specs.declared.kind.Kind.{Kind}
-use Rattle.tv_model.specs.declared.kind.Kind.TheVariants as kinds
+use Rattle.tv_model.specs.declared.command.CommandSpec.{CommandSpec}
 use Rattle.tv_model.specs.declared.record.Entry.{Entry}
 use Rattle.tv_model.specs.declared.record.Value.{Value}
 use Rattle.tv_model.specs.declared.desc.Dialog.{Dialog}
 use Rattle.tv_model.specs.declared.log.LogLine.TheVariants as lines
-use Rattle.tv_model.specs.Description.Commands.{command_number, is_declared}
+use Rattle.tv_model.specs.Description.Commands.{command_number, command_of, is_declared}
 use Rattle.tv_model.specs.Description.Heads.{dialog_head}
 use Rattle.tv_model.specs.Description.Nodes.{is_pane}
 use Rattle.tv_model.specs.Log.Record.{Entries, value_of, with_value}
 use Rattle.tv_machine.specs.State.{LeafState}
 use Rattle.tv_machine.specs.Leaves.{PlacedNode, leaf_list, leaves_in, open_after, open_at}
-use Rattle.tv_machine.specs.Dialog.Ending.{command, end_by, ended, entry_of, fields_of, first_invalid, is_invalid_leaf, press, pressed_kind, shown_invalid}
+use Rattle.tv_machine.specs.Dialog.Ending.{command, end_by, ended, entry_of, fields_of, first_invalid, is_invalid_leaf, press, pressed_by, shown_invalid}
 use Rattle.tv_machine.specs.Dialog.Focus.{focus_moved, is_free_at}
 use Rattle.tv_machine.specs.Dialog.Rules.{content_by, is_among, state_of}
 use Rattle.tv_machine.specs.Dialog.Modal.{Modal, content_at, with_line}
@@ -187,18 +186,10 @@ module _ (d : Dialog) (lawful : IsLawfulDialog d) where
       (steady-end_by number (first_invalid d m) m steady)
       (steady_if (nat_le 100 number) (with_line (lines.Command number) m) m (steady-line d lawful (lines.Command number) m steady) steady))
 
-  steady_pressed_kind : (i : Id) (k : Kind) (m : Modal) → IsSteady d m → IsSteady d (pressed_kind d i k m)
-  steady_pressed_kind i (kinds.Button button) m steady =
-      steady-command (command_number button.command) (with_line (lines.Press i) m) (steady-line d lawful (lines.Press i) m steady)
-  steady_pressed_kind i (kinds.Window head) m steady = steady
-  steady_pressed_kind i (kinds.Dialog head) m steady = steady
-  steady_pressed_kind i (kinds.Text shown) m steady = steady
-  steady_pressed_kind i (kinds.Label label) m steady = steady
-  steady_pressed_kind i (kinds.Input input) m steady = steady
-  steady_pressed_kind i (kinds.CheckBoxes boxes) m steady = steady
-  steady_pressed_kind i (kinds.RadioButtons radios) m steady = steady
-  steady_pressed_kind i (kinds.List list) m steady = steady
-  steady_pressed_kind i (kinds.Pane pane) m steady = steady
+  steady_pressed_by : (i : Id) (o : Option CommandSpec) (m : Modal) → IsSteady d m → IsSteady d (pressed_by d i o m)
+  steady_pressed_by i None m steady = steady
+  steady_pressed_by i (Some c) m steady =
+      steady-command (command_number c) (with_line (lines.Press i) m) (steady-line d lawful (lines.Press i) m steady)
 
   pub steady-press : (leaf : PlacedNode) (m : Modal) → IsSteady d m → IsSteady d (press d leaf m)
-  steady-press leaf m steady = steady_pressed_kind leaf.node.id leaf.node.kind m steady
+  steady-press leaf m steady = steady_pressed_by leaf.node.id (command_of leaf.node.kind) m steady

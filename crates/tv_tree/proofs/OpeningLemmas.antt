@@ -7,6 +7,7 @@ use Rattle.std.proofs.lemmas.Bool.{true≢false, false≢true}
 use Rattle.tv_model.specs.declared.node.Id.{Id}
 use Rattle.tv_model.specs.declared.kind.Kind.{Kind}
 use Rattle.tv_model.specs.declared.kind.Kind.TheVariants as kinds
+use Rattle.tv_model.specs.Kinds.{behaviour}
 use Rattle.tv_model.specs.declared.record.Value.{Value}
 use Rattle.tv_model.specs.declared.record.Value.TheVariants as values
 use Rattle.tv_model.specs.declared.desc.Dialog.{Dialog}
@@ -26,7 +27,7 @@ use Rattle.tv_view.specs.declared.env.Rules.{Rules}
 use Rattle.tv_view.specs.Calls as calls
 use Rattle.tv_group.specs.Calls.{FitsAll, all_applied, all_focused, all_set, in_place_unmarked}
 use Rattle.tv_machine.specs.Dialog.Lawful.{IsLawfulDialog}
-use Rattle.tv_tree.specs.Tree.{HoldsNothing, IsSteady, IsSteadyContent, IsSteadyLeaf, around_of, held_at, placed_as, tree_as, tree_of}
+use Rattle.tv_tree.specs.Tree.{HoldsNothing, IsSteady, IsSteadyAs, IsSteadyContent, IsSteadyLeaf, around_of, held_at, placed_as, tree_as, tree_of}
 use Rattle.tv_machine.proofs.ListLemmas.{All-unmap, any-found, bool_cases, find-map, found-passes, has, map-map, on_found, option_cases}
 use Rattle.tv_tree.proofs.FocusTreeLemmas.{focused-tree}
 use Rattle.tv_tree.proofs.RuledLemmas.{AreRulesOf, applied-tree}
@@ -85,22 +86,27 @@ none_is : {A : Type 0} (o : Option A) → is_some o ≡ false → o ≡ None
 none_is None e = refl
 none_is (Some x) e = absurd (true≢false e)
 
+some_or : (o : Option Value) (value : Value) → is_some (option_or o (Some value)) ≡ true
+some_or None value = refl
+some_or (Some found) value = refl
+
 held_field : (o : Option Value) → calls.is_field o ≡ is_some o
 held_field None = refl
 held_field (Some value) = refl
 
+-- what is edited is a field
+edited_field : (k : Kind) → (behaviour k).is_edited ≡ true → is_field k ≡ true
+edited_field (kinds.Input input) e = refl
+edited_field _ e = absurd (false≢true e)
+
 -- a field has a value, and nothing else does
 pub steady_field : (is_focused : Bool) (k : Kind) (c : Content) → IsSteadyContent is_focused k c → is_some c.value ≡ is_field k
-steady_field is_focused (kinds.Input input) c s = ap is_some s.value
-steady_field is_focused (kinds.CheckBoxes boxes) c s = s
-steady_field is_focused (kinds.RadioButtons radios) c s = s
-steady_field is_focused (kinds.List list) c s = s
-steady_field is_focused (kinds.Window head) c s = ap is_some s.value
-steady_field is_focused (kinds.Dialog head) c s = ap is_some s.value
-steady_field is_focused (kinds.Text shown) c s = ap is_some s.value
-steady_field is_focused (kinds.Label label) c s = ap is_some s.value
-steady_field is_focused (kinds.Button button) c s = ap is_some s.value
-steady_field is_focused (kinds.Pane pane) c s = ap is_some s.value
+steady_field is_focused k c = of (behaviour k).is_edited (is_field k) (edited_field k)
+  where
+    of : (edited field : Bool) → (edited ≡ true → field ≡ true) → IsSteadyAs edited field is_focused c → is_some c.value ≡ field
+    of true field has s = ap is_some s.value ∙ sym (has refl)
+    of false true has s = s
+    of false false has s = ap is_some s.value
 
 -- what is no field opens as it always stands
 still_plain : (c : Content) (k : Kind) → HoldsNothing c → declared_value k ≡ None → opened_private k None ≡ Plain
@@ -116,12 +122,7 @@ plain_opens is_focused (kinds.Input input) c s e = absurd (true≢false e)
 plain_opens is_focused (kinds.CheckBoxes boxes) c s e = absurd (true≢false e)
 plain_opens is_focused (kinds.RadioButtons radios) c s e = absurd (true≢false e)
 plain_opens is_focused (kinds.List list) c s e = absurd (true≢false e)
-plain_opens is_focused (kinds.Window head) c s e = still_plain c (kinds.Window head) s refl refl
-plain_opens is_focused (kinds.Dialog head) c s e = still_plain c (kinds.Dialog head) s refl refl
-plain_opens is_focused (kinds.Text shown) c s e = still_plain c (kinds.Text shown) s refl refl
-plain_opens is_focused (kinds.Label label) c s e = still_plain c (kinds.Label label) s refl refl
-plain_opens is_focused (kinds.Button button) c s e = still_plain c (kinds.Button button) s refl refl
-plain_opens is_focused (kinds.Pane pane) c s e = still_plain c (kinds.Pane pane) s refl refl
+plain_opens is_focused k c s e = still_plain c k s refl refl
 
 -- ---- where values are set
 
@@ -206,28 +207,13 @@ module _ (d : Dialog) (lawful : IsLawfulDialog d) (entries : Entries) (fields : 
   opens_input : (is_focused : Bool) (k : Kind) (found : Option Value) (overwrites : Bool) → calls.IsValueOf k found
       → is_some found ≡ is_field k
       → IsSteadyContent is_focused k (open_content k found overwrites)
-  opens_input is_focused (kinds.Input input) None overwrites fits there = absurd fits
   opens_input is_focused (kinds.Input input) (Some (values.Text text)) overwrites fits there =
       record { text = text; cursor = 0; is_whole = false; value = refl; private = refl; rested = λ e. refl }
-  opens_input is_focused (kinds.Input input) (Some (values.Marks marks)) overwrites fits there = absurd fits
-  opens_input is_focused (kinds.Input input) (Some (values.Item item)) overwrites fits there = absurd fits
-  opens_input is_focused (kinds.CheckBoxes boxes) None overwrites fits there = refl
-  opens_input is_focused (kinds.CheckBoxes boxes) (Some value) overwrites fits there = refl
-  opens_input is_focused (kinds.RadioButtons radios) None overwrites fits there = refl
-  opens_input is_focused (kinds.RadioButtons radios) (Some value) overwrites fits there = refl
-  opens_input is_focused (kinds.List list) None overwrites fits there = refl
-  opens_input is_focused (kinds.List list) (Some value) overwrites fits there = refl
-  opens_input is_focused (kinds.Window head) found overwrites fits there =
-      record { value = ap (λ o. option_or o None) (none_is found there); private = refl }
-  opens_input is_focused (kinds.Dialog head) found overwrites fits there =
-      record { value = ap (λ o. option_or o None) (none_is found there); private = refl }
-  opens_input is_focused (kinds.Text shown) found overwrites fits there =
-      record { value = ap (λ o. option_or o None) (none_is found there); private = refl }
-  opens_input is_focused (kinds.Label label) found overwrites fits there =
-      record { value = ap (λ o. option_or o None) (none_is found there); private = refl }
-  opens_input is_focused (kinds.Button button) found overwrites fits there =
-      record { value = ap (λ o. option_or o None) (none_is found there); private = refl }
-  opens_input is_focused (kinds.Pane pane) found overwrites fits there =
+  opens_input is_focused (kinds.Input input) _ overwrites fits there = absurd fits
+  opens_input is_focused (kinds.CheckBoxes boxes) found overwrites fits there = some_or found _
+  opens_input is_focused (kinds.RadioButtons radios) found overwrites fits there = some_or found _
+  opens_input is_focused (kinds.List list) found overwrites fits there = some_or found _
+  opens_input is_focused _ found overwrites fits there =
       record { value = ap (λ o. option_or o None) (none_is found there); private = refl }
 
   -- the record fits each leaf

@@ -8,7 +8,7 @@ use Rattle.tv_model.specs.declared.kind.Kind.TheVariants as kinds
 use Rattle.tv_model.specs.declared.command.CommandSpec.{CommandSpec}
 use Rattle.tv_model.specs.declared.command.CommandSpec.TheVariants as commands
 use Rattle.tv_model.specs.declared.desc.Dialog.{Dialog}
-use Rattle.tv_model.specs.Controls.Shortcut.{ClusterKind, Boxes, Radios}
+use Rattle.tv_model.specs.Controls.Shortcut.{Shortcut, ItemMarks, ClusterKind, Boxes, Radios}
 use Rattle.tv_model.specs.Controls.Contents.{is_item, Content}
 use Rattle.tv_view.specs.Meaning.{Leaf, Placed}
 use Rattle.tv_model.specs.Description.Commands.{command_number, command_of}
@@ -16,15 +16,16 @@ use Rattle.tv_model.specs.Description.LawfulNodes.{IsLawfulCommand, IsLimited}
 use Rattle.tv_model.specs.Description.Numbers.{natural}
 use Rattle.tv_machine.specs.State.{LeafState}
 use Rattle.tv_machine.specs.Leaves.{PlacedNode, leaf_list}
+use Rattle.tv_model.specs.Kinds.{behaviour}
 use Rattle.tv_model.specs.Kinds.Cluster.{item_pressed}
-use Rattle.tv_machine.specs.Dialog.Rules.{is_among, is_command_enabled, is_kind_enabled, is_visible}
+use Rattle.tv_machine.specs.Dialog.Rules.{is_among, is_command_enabled, is_enabled_by, is_visible}
 use Rattle.tv_machine.specs.Dialog.Modal.{Modal, content_at, leaf_at, with_content}
 use Rattle.tv_view.specs.declared.env.Rules.{Rules}
 use Rattle.tv_view.specs.Calls as calls
 use Rattle.tv_group.specs.Calls.{all_applied, all_pressed, in_place}
 use Rattle.tv_machine.specs.Dialog.Lawful.{IsLawfulDialog}
 use Rattle.tv_tree.specs.Tree.{IsSteady, IsSteadyContent, IsSteadyLeaf, around_of, held_at, placed_as, tree_as, tree_of}
-use Rattle.tv_tree.specs.Turns.{cluster_pressed, kind_pressed, leaf_pressed, pressed_at}
+use Rattle.tv_tree.specs.Turns.{cluster_pressed, leaf_pressed, pressed_at, shortcut_pressed}
 use Rattle.tv_machine.proofs.ListLemmas.{bool_cases, either-same, has, map-map, none-fails, option_cases, same-id}
 use Rattle.tv_tree.proofs.FlagLemmas.{flagged}
 use Rattle.tv_tree.proofs.StandingLemmas.{standing, standing_leaf}
@@ -54,20 +55,11 @@ command-below (commands.Number n) lawful = of n lawful.1
     of (pos k) h = omega (arith, ints)
     of (negsuc k) h = omega arith
 
-enabled_kind : (d : Dialog) (leaves : List LeafState) (rules : Rules) → AreRulesOf d leaves rules → (k : Kind)
-    → IsLawfulCommand (command_of k)
-    → calls.is_kind_enabled rules.commands.now k ≡ is_kind_enabled d leaves k
-enabled_kind d leaves rules are (kinds.Button button) lawful =
-    are.enabled (command_number button.command) (command-below button.command lawful)
-enabled_kind d leaves rules are (kinds.Window head) lawful = refl
-enabled_kind d leaves rules are (kinds.Dialog head) lawful = refl
-enabled_kind d leaves rules are (kinds.Text shown) lawful = refl
-enabled_kind d leaves rules are (kinds.Label label) lawful = refl
-enabled_kind d leaves rules are (kinds.Input input) lawful = refl
-enabled_kind d leaves rules are (kinds.CheckBoxes boxes) lawful = refl
-enabled_kind d leaves rules are (kinds.RadioButtons radios) lawful = refl
-enabled_kind d leaves rules are (kinds.List list) lawful = refl
-enabled_kind d leaves rules are (kinds.Pane pane) lawful = refl
+enabled_same : (d : Dialog) (leaves : List LeafState) (rules : Rules) → AreRulesOf d leaves rules → (o : Option CommandSpec)
+    → IsLawfulCommand o
+    → calls.is_enabled_by rules.commands.now o ≡ is_enabled_by d leaves o
+enabled_same d leaves rules are None lawful = refl
+enabled_same d leaves rules are (Some c) lawful = are.enabled (command_number c) (command-below c lawful)
 
 module _ (d : Dialog) (lawful : IsLawfulDialog d) where
   pub applied-as : (rules : Rules) (ruled leaves : List LeafState) (m : Modal) → AreRulesOf d leaves rules
@@ -81,7 +73,8 @@ module _ (d : Dialog) (lawful : IsLawfulDialog d) where
       ap (λ b. flagged d ruled m leaf b (calls.is_kind_enabled rules.commands.now leaf.node.kind))
       (leaf_at-all
       (λ other. is_among rules.shown.now other.node.id ≡ is_visible d leaves other) d leaf.node.id leaf are.shown e)
-      ∙ ap (flagged d ruled m leaf (is_visible d leaves leaf)) (enabled_kind d leaves rules are leaf.node.kind command.command))
+      ∙ ap (flagged d ruled m leaf (is_visible d leaves leaf))
+      (enabled_same d leaves rules are (command_of leaf.node.kind) command.command))
 
   -- the rules of its own marks
   pub applied-tree : (rules : Rules) (ruled : List LeafState) (m : Modal) → AreRulesOf d m.leaves rules
@@ -90,18 +83,14 @@ module _ (d : Dialog) (lawful : IsLawfulDialog d) where
 
 -- ---- pressed items
 
--- what a leaf of the kind holds after its item was pressed
+-- what a leaf holds after its item was pressed: only clusters have items
+abbrev pub marked_content : Shortcut → ℕ → Content → Content
+marked_content (ItemMarks kind name items) item c = if is_item (length items) item then item_pressed kind item c else c
+marked_content _ item c = c
+
+-- the same by its kind
 abbrev pub pressed_content : Kind → ℕ → Content → Content
-pressed_content (kinds.CheckBoxes boxes) item c = if is_item (length boxes.items) item then item_pressed Boxes item c else c
-pressed_content (kinds.RadioButtons radios) item c = if is_item (length radios.items) item then item_pressed Radios item c else c
-pressed_content (kinds.Window head) item c = c
-pressed_content (kinds.Dialog head) item c = c
-pressed_content (kinds.Text shown) item c = c
-pressed_content (kinds.Label label) item c = c
-pressed_content (kinds.Button button) item c = c
-pressed_content (kinds.Input input) item c = c
-pressed_content (kinds.List list) item c = c
-pressed_content (kinds.Pane pane) item c = c
+pressed_content k item c = marked_content (behaviour k).shortcut item c
 
 module _ (d : Dialog) (ruled : List LeafState) (leaf : PlacedNode) (c : Content) (is_focused : Bool) (held : Option ℕ) (item : ℕ) where
   abbrev stands : Content → Leaf
@@ -117,16 +106,11 @@ module _ (d : Dialog) (ruled : List LeafState) (leaf : PlacedNode) (c : Content)
 
   -- the view's is the same
   pub pressed-standing : (k : Kind) → calls.kind_pressed k item (stands c) ≡ stands (pressed_content k item c)
-  pressed-standing (kinds.CheckBoxes boxes) = cluster_standing Boxes (length boxes.items)
-  pressed-standing (kinds.RadioButtons radios) = cluster_standing Radios (length radios.items)
-  pressed-standing (kinds.Window head) = refl
-  pressed-standing (kinds.Dialog head) = refl
-  pressed-standing (kinds.Text shown) = refl
-  pressed-standing (kinds.Label label) = refl
-  pressed-standing (kinds.Button button) = refl
-  pressed-standing (kinds.Input input) = refl
-  pressed-standing (kinds.List list) = refl
-  pressed-standing (kinds.Pane pane) = refl
+  pressed-standing k = of (behaviour k).shortcut
+    where
+      of : (s : Shortcut) → calls.shortcut_pressed s item (stands c) ≡ stands (marked_content s item c)
+      of (ItemMarks kind name items) = cluster_standing kind (length items)
+      of _ = refl
 
 abbrev put : Dialog → PlacedNode → Bool → Leaf → Placed
 put d leaf is_current l = record { leaf = l; around = around_of d leaf; is_current = is_current }
@@ -146,7 +130,7 @@ pub pressed-keeps : (P : Modal → Type 0) (d : Dialog) → ((i : Id) (c : Conte
     → (o : Option PlacedNode) (item : ℕ) (m : Modal)
     → P m → P (leaf_pressed d o item m)
 pressed-keeps P d keeps None item m p = p
-pressed-keeps P d keeps (Some leaf) item m p = of leaf.node.kind
+pressed-keeps P d keeps (Some leaf) item m p = of (behaviour leaf.node.kind).shortcut
   where
     cluster : (kind : ClusterKind) (count : ℕ) → P (cluster_pressed d kind count leaf.node.id item m)
     cluster kind count =
@@ -154,38 +138,25 @@ pressed-keeps P d keeps (Some leaf) item m p = of leaf.node.kind
         (λ b. P (if b then with_content d leaf.node.id (item_pressed kind item (content_at m leaf.node.id)) m else m))
         (λ is. keeps leaf.node.id (item_pressed kind item (content_at m leaf.node.id)) m p) (λ is. p)
 
-    of : (k : Kind) → P (kind_pressed d k leaf.node.id item m)
-    of (kinds.CheckBoxes boxes) = cluster Boxes (length boxes.items)
-    of (kinds.RadioButtons radios) = cluster Radios (length radios.items)
-    of (kinds.Window head) = p
-    of (kinds.Dialog head) = p
-    of (kinds.Text shown) = p
-    of (kinds.Label label) = p
-    of (kinds.Button button) = p
-    of (kinds.Input input) = p
-    of (kinds.List list) = p
-    of (kinds.Pane pane) = p
+    of : (s : Shortcut) → P (shortcut_pressed d s leaf.node.id item m)
+    of (ItemMarks kind name items) = cluster kind (length items)
+    of _ = p
 
-steady_cluster : (kind : ClusterKind) (item : ℕ) (c : Content) → is_some (item_pressed kind item c).value ≡ true
-steady_cluster Boxes item c = refl
-steady_cluster Radios item c = refl
+steady_cluster : (kind : ClusterKind) (count item : ℕ) (c : Content) → is_some c.value ≡ true
+    → is_some (if is_item count item then item_pressed kind item c else c).value ≡ true
+steady_cluster kind count item c s =
+    bool_cases (is_item count item) (λ b. is_some (if b then item_pressed kind item c else c).value ≡ true)
+    (λ is. of kind) (λ is. s)
+  where
+    of : (pressed : ClusterKind) → is_some (item_pressed pressed item c).value ≡ true
+    of Boxes = refl
+    of Radios = refl
 
 steady_pressed : (is_focused : Bool) (k : Kind) (item : ℕ) (c : Content) → IsSteadyContent is_focused k c
     → IsSteadyContent is_focused k (pressed_content k item c)
-steady_pressed is_focused (kinds.CheckBoxes boxes) item c s =
-    bool_cases (is_item (length boxes.items) item) (λ b. is_some (if b then item_pressed Boxes item c else c).value ≡ true)
-    (λ is. steady_cluster Boxes item c) (λ is. s)
-steady_pressed is_focused (kinds.RadioButtons radios) item c s =
-    bool_cases (is_item (length radios.items) item) (λ b. is_some (if b then item_pressed Radios item c else c).value ≡ true)
-    (λ is. steady_cluster Radios item c) (λ is. s)
-steady_pressed is_focused (kinds.Window head) item c s = s
-steady_pressed is_focused (kinds.Dialog head) item c s = s
-steady_pressed is_focused (kinds.Text shown) item c s = s
-steady_pressed is_focused (kinds.Label label) item c s = s
-steady_pressed is_focused (kinds.Button button) item c s = s
-steady_pressed is_focused (kinds.Input input) item c s = s
-steady_pressed is_focused (kinds.List list) item c s = s
-steady_pressed is_focused (kinds.Pane pane) item c s = s
+steady_pressed is_focused (kinds.CheckBoxes boxes) item c s = steady_cluster Boxes (length boxes.items) item c s
+steady_pressed is_focused (kinds.RadioButtons radios) item c s = steady_cluster Radios (length radios.items) item c s
+steady_pressed is_focused _ item c s = s
 
 module _ (d : Dialog) (lawful : IsLawfulDialog d) (item : ℕ) (m : Modal) where
   pub focus-pressed : (i : Id) → (pressed_at d i item m).focus ≡ m.focus
@@ -216,17 +187,10 @@ module _ (d : Dialog) (lawful : IsLawfulDialog d) (item : ℕ) (m : Modal) where
         (λ here. ap (λ id. item_pressed kind item (content_at m id)) (sym (same-id leaf.node.id i here))) (λ there. refl))
         (λ is. sym (either-same (leaf.node.id.0 == i.0) (content_at m leaf.node.id)))
 
-    of_kind : (k : Kind) (i : Id) → content_at (kind_pressed d k i item m) leaf.node.id ≡ held_then i (pressed_content k item)
-    of_kind (kinds.CheckBoxes boxes) i = of_cluster Boxes (length boxes.items) i
-    of_kind (kinds.RadioButtons radios) i = of_cluster Radios (length radios.items) i
-    of_kind (kinds.Window head) i = sym (either-same (leaf.node.id.0 == i.0) (content_at m leaf.node.id))
-    of_kind (kinds.Dialog head) i = sym (either-same (leaf.node.id.0 == i.0) (content_at m leaf.node.id))
-    of_kind (kinds.Text shown) i = sym (either-same (leaf.node.id.0 == i.0) (content_at m leaf.node.id))
-    of_kind (kinds.Label label) i = sym (either-same (leaf.node.id.0 == i.0) (content_at m leaf.node.id))
-    of_kind (kinds.Button button) i = sym (either-same (leaf.node.id.0 == i.0) (content_at m leaf.node.id))
-    of_kind (kinds.Input input) i = sym (either-same (leaf.node.id.0 == i.0) (content_at m leaf.node.id))
-    of_kind (kinds.List list) i = sym (either-same (leaf.node.id.0 == i.0) (content_at m leaf.node.id))
-    of_kind (kinds.Pane pane) i = sym (either-same (leaf.node.id.0 == i.0) (content_at m leaf.node.id))
+    of_shortcut : (s : Shortcut) (i : Id)
+        → content_at (shortcut_pressed d s i item m) leaf.node.id ≡ held_then i (marked_content s item)
+    of_shortcut (ItemMarks kind name items) i = of_cluster kind (length items) i
+    of_shortcut _ i = sym (either-same (leaf.node.id.0 == i.0) (content_at m leaf.node.id))
 
     pub content_at-pressed : (i : Id) → content_at (pressed_at d i item m) leaf.node.id ≡ held_then i (pressed_content leaf.node.kind item)
     content_at-pressed i =
@@ -237,7 +201,8 @@ module _ (d : Dialog) (lawful : IsLawfulDialog d) (item : ℕ) (m : Modal) where
         leaf_at-all (λ x. has leaf_id i x ≡ false) d leaf.node.id leaf (none-fails (has leaf_id i) (leaf_list d.views) none) e in
         sym (ap (λ b. if b then pressed_content leaf.node.kind item (content_at m leaf.node.id) else content_at m leaf.node.id) other))
         (λ x found.
-        of_kind x.node.kind x.node.id ∙ ap (λ id. held_then id (pressed_content x.node.kind item)) (leaf_at-is d i x found)
+        of_shortcut (behaviour x.node.kind).shortcut x.node.id
+        ∙ ap (λ id. held_then id (pressed_content x.node.kind item)) (leaf_at-is d i x found)
         ∙ bool_cases (leaf.node.id.0 == i.0)
         (λ b. (if b then pressed_content x.node.kind item (content_at m leaf.node.id) else content_at m leaf.node.id)
         ≡ (if b then pressed_content leaf.node.kind item (content_at m leaf.node.id) else content_at m leaf.node.id))

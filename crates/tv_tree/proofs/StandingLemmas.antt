@@ -50,15 +50,7 @@ pub refocused-standing : (d : Dialog) (ruled : List LeafState) (leaf : PlacedNod
     → calls.refocused edit k (standing_leaf d ruled leaf c is_focused held)
     ≡ standing_leaf d ruled leaf (refocused_content edit k c) is_focused held
 refocused-standing d ruled leaf c is_focused held edit (kinds.Input input) = refl
-refocused-standing d ruled leaf c is_focused held edit (kinds.Window head) = refl
-refocused-standing d ruled leaf c is_focused held edit (kinds.Dialog head) = refl
-refocused-standing d ruled leaf c is_focused held edit (kinds.Text shown) = refl
-refocused-standing d ruled leaf c is_focused held edit (kinds.Label label) = refl
-refocused-standing d ruled leaf c is_focused held edit (kinds.Button button) = refl
-refocused-standing d ruled leaf c is_focused held edit (kinds.CheckBoxes boxes) = refl
-refocused-standing d ruled leaf c is_focused held edit (kinds.RadioButtons radios) = refl
-refocused-standing d ruled leaf c is_focused held edit (kinds.List list) = refl
-refocused-standing d ruled leaf c is_focused held edit (kinds.Pane pane) = refl
+refocused-standing d ruled leaf c is_focused held edit _ = refl
 
 input_with : Option Value → Private → Bool → Content
 input_with value private overwrites = record { value = value; private = private; overwrites = overwrites }
@@ -73,29 +65,13 @@ rests_input c s =
 -- an input without the focus is at rest already
 pub left-rests : (k : Kind) (c : Content) → IsSteadyContent false k c → refocused_content left k c ≡ c
 left-rests (kinds.Input input) c s = rests_input c s
-left-rests (kinds.Window head) c s = refl
-left-rests (kinds.Dialog head) c s = refl
-left-rests (kinds.Text shown) c s = refl
-left-rests (kinds.Label label) c s = refl
-left-rests (kinds.Button button) c s = refl
-left-rests (kinds.CheckBoxes boxes) c s = refl
-left-rests (kinds.RadioButtons radios) c s = refl
-left-rests (kinds.List list) c s = refl
-left-rests (kinds.Pane pane) c s = refl
+left-rests _ c s = refl
 
 pub steady-left : (k : Kind) (c : Content) (is_focused : Bool) → IsSteadyContent is_focused k c
     → IsSteadyContent false k (refocused_content left k c)
 steady-left (kinds.Input input) c is_focused s =
     record { text = text_of c.value; cursor = 0; is_whole = false; value = refl; private = refl; rested = λ e. refl }
-steady-left (kinds.Window head) c is_focused s = s
-steady-left (kinds.Dialog head) c is_focused s = s
-steady-left (kinds.Text shown) c is_focused s = s
-steady-left (kinds.Label label) c is_focused s = s
-steady-left (kinds.Button button) c is_focused s = s
-steady-left (kinds.CheckBoxes boxes) c is_focused s = s
-steady-left (kinds.RadioButtons radios) c is_focused s = s
-steady-left (kinds.List list) c is_focused s = s
-steady-left (kinds.Pane pane) c is_focused s = s
+steady-left _ c is_focused s = s
 
 pub steady-entered : (k : Kind) (c : Content) (is_focused : Bool) → IsSteadyContent is_focused k c
     → IsSteadyContent true k (refocused_content entered k c)
@@ -107,15 +83,7 @@ steady-entered (kinds.Input input) c is_focused s = record {
   private = refl;
   rested = λ e. absurd (true≢false e);
 }
-steady-entered (kinds.Window head) c is_focused s = s
-steady-entered (kinds.Dialog head) c is_focused s = s
-steady-entered (kinds.Text shown) c is_focused s = s
-steady-entered (kinds.Label label) c is_focused s = s
-steady-entered (kinds.Button button) c is_focused s = s
-steady-entered (kinds.CheckBoxes boxes) c is_focused s = s
-steady-entered (kinds.RadioButtons radios) c is_focused s = s
-steady-entered (kinds.List list) c is_focused s = s
-steady-entered (kinds.Pane pane) c is_focused s = s
+steady-entered _ c is_focused s = s
 
 steady_moved_to : (to from : Bool) (k : Kind) (c : Content) → IsSteadyContent from k c → IsSteadyContent to k (moved_content to from k c)
 steady_moved_to true true k c s = steady-entered k (refocused_content left k c) false (steady-left k c true s)

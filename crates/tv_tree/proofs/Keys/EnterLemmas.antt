@@ -9,11 +9,13 @@ use Rattle.tv_event.specs.declared.event.Phase.TheVariants as phases
 use Rattle.tv_model.specs.declared.node.Id.{Id}
 use Rattle.tv_model.specs.declared.kind.Kind.{Kind}
 use Rattle.tv_model.specs.declared.kind.Kind.TheVariants as kinds
+use Rattle.tv_model.specs.declared.command.CommandSpec.{CommandSpec}
 use Rattle.tv_model.specs.declared.desc.Dialog.{Dialog}
+use Rattle.tv_model.specs.Description.Commands.{command_of}
 use Rattle.tv_model.specs.Description.Nodes.{is_button, is_default}
 use Rattle.tv_view.specs.Meaning.{Leaf, Placed}
 use Rattle.tv_machine.specs.Leaves.{PlacedNode, leaf_list}
-use Rattle.tv_machine.specs.Dialog.Ending.{pressed_kind}
+use Rattle.tv_machine.specs.Dialog.Ending.{pressed_by, pressed_kind}
 use Rattle.tv_machine.specs.Dialog.Keys.{declared_default, enter_target, if_button, press_enabled}
 use Rattle.tv_machine.specs.Dialog.Modal.{Modal, leaf_at}
 use Rattle.tv_machine.specs.Dialog.Rules.{is_enabled}
@@ -21,7 +23,7 @@ use Rattle.tv_view.specs.declared.env.Env.{Env}
 use Rattle.tv_view.specs.declared.reaction.Reaction.{Reaction}
 use Rattle.tv_view.specs.declared.reaction.Reaction.TheVariants.{Pass}
 use Rattle.tv_view.specs.Colours.{is_default_now, is_id}
-use Rattle.tv_view.specs.Reactions.{press_of}
+use Rattle.tv_view.specs.Reactions.{press_by, press_of}
 use Rattle.tv_group.specs.Handling.{group_after, group_answer, is_pass, placed_answer, takes}
 use Rattle.tv_machine.specs.Dialog.Lawful.{IsLawfulDialog}
 use Rattle.tv_tree.specs.Tree.{leaf_as, placed_as, tree_of}
@@ -41,15 +43,7 @@ enter = record { 0 = 14 }
 
 default-button : (leaf : PlacedNode) (kind : Kind) → is_default (of_kind leaf kind).node ≡ true → is_button kind ≡ true
 default-button leaf (kinds.Button button) h = refl
-default-button leaf (kinds.Window head) h = h
-default-button leaf (kinds.Dialog head) h = h
-default-button leaf (kinds.Text shown) h = h
-default-button leaf (kinds.Label label) h = h
-default-button leaf (kinds.Input input) h = h
-default-button leaf (kinds.CheckBoxes boxes) h = h
-default-button leaf (kinds.RadioButtons radios) h = h
-default-button leaf (kinds.List list) h = h
-default-button leaf (kinds.Pane pane) h = h
+default-button leaf _ h = h
 
 -- it is a leaf of the dialog, and a button
 pub record IsPressable (d : Dialog) (t : PlacedNode) : Type 0 where
@@ -82,16 +76,11 @@ module _ (d : Dialog) (lawful : IsLawfulDialog d) (m : Modal) where
 
 pub press-acts : (d : Dialog) (m : Modal) (leaf : Leaf) (kind : Kind)
     → reacted d (press_of leaf kind) m ≡ pressed_kind d leaf.node.id kind m
-press-acts d m leaf (kinds.Button button) = refl
-press-acts d m leaf (kinds.Window head) = refl
-press-acts d m leaf (kinds.Dialog head) = refl
-press-acts d m leaf (kinds.Text shown) = refl
-press-acts d m leaf (kinds.Label label) = refl
-press-acts d m leaf (kinds.Input input) = refl
-press-acts d m leaf (kinds.CheckBoxes boxes) = refl
-press-acts d m leaf (kinds.RadioButtons radios) = refl
-press-acts d m leaf (kinds.List list) = refl
-press-acts d m leaf (kinds.Pane pane) = refl
+press-acts d m leaf kind = of (command_of kind)
+  where
+    of : (o : Option CommandSpec) → reacted d (press_by leaf o) m ≡ pressed_by d leaf.node.id o m
+    of None = refl
+    of (Some c) = refl
 
 enabled_acts : (d : Dialog) (m : Modal) (leaf : Leaf) (kind : Kind) (b : Bool)
     → reacted d (if b then press_of leaf kind else Pass) m ≡ (if b then pressed_kind d leaf.node.id kind m else m)

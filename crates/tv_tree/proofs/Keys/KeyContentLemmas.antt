@@ -71,11 +71,7 @@ key-steady (kinds.RadioButtons radios) k before c is =
 key-steady (kinds.List list) k before c is =
     list_steady (natural list.h) (length list.items) (asked_item (natural list.h) (length list.items) (chosen_of before) k) before c is
 key-steady (kinds.Button button) k before c is = absurd (press-keeps (is_press k) c is)
-key-steady (kinds.Window head) k before c is = absurd cc
-key-steady (kinds.Dialog head) k before c is = absurd cc
-key-steady (kinds.Text shown) k before c is = absurd cc
-key-steady (kinds.Label label) k before c is = absurd cc
-key-steady (kinds.Pane pane) k before c is = absurd cc
+key-steady _ k before c is = absurd cc
 
 -- ---- its marks
 
@@ -104,14 +100,7 @@ key-marks (kinds.CheckBoxes boxes) k focused before c cluster steady is may =
     boxes_marks (cluster_key boxes.items (length boxes.items) (selected_of Boxes before) k) before c steady is may
 key-marks (kinds.RadioButtons radios) k focused before c cluster steady is may =
     radios_marks (cluster_key radios.items (length radios.items) (selected_of Radios before) k) before c is may
-key-marks (kinds.Input input) k focused before c cluster steady is may = absurd cc
-key-marks (kinds.List list) k focused before c cluster steady is may = absurd cc
-key-marks (kinds.Button button) k focused before c cluster steady is may = absurd cc
-key-marks (kinds.Window head) k focused before c cluster steady is may = absurd cc
-key-marks (kinds.Dialog head) k focused before c cluster steady is may = absurd cc
-key-marks (kinds.Text shown) k focused before c cluster steady is may = absurd cc
-key-marks (kinds.Label label) k focused before c cluster steady is may = absurd cc
-key-marks (kinds.Pane pane) k focused before c cluster steady is may = absurd cc
+key-marks _ k focused before c cluster steady is may = absurd cc
 
 module _ (d : Dialog) (lawful : IsLawfulDialog d) (m : Modal) (S : IsSteady d m) (leaf : PlacedNode) (found : IsIn d leaf)
     (k : Key) (c : Content) (is : key_answer leaf.node.kind k (content_at m leaf.node.id) ≡ Becomes c) where

@@ -8,8 +8,10 @@ use Rattle.tv_event.specs.declared.event.Phase.{Phase}
 use Rattle.tv_event.specs.declared.event.Phase.TheVariants as phases
 use Rattle.tv_model.specs.declared.kind.Kind.{Kind}
 use Rattle.tv_model.specs.declared.kind.Kind.TheVariants as kinds
+use Rattle.tv_model.specs.declared.command.CommandSpec.{CommandSpec}
 use Rattle.tv_model.specs.declared.desc.Dialog.{Dialog}
 use Rattle.tv_view.specs.Meaning.{Leaf}
+use Rattle.tv_model.specs.Description.Commands.{command_of}
 use Rattle.tv_model.specs.Description.Marks.{upper}
 use Rattle.tv_machine.specs.Leaves.{PlacedNode}
 use Rattle.tv_model.specs.Controls.Contents.{Content}
@@ -24,7 +26,7 @@ use Rattle.tv_machine.specs.Dialog.Shortcuts.{act_on, marker_of}
 use Rattle.tv_view.specs.declared.env.Env.{Env}
 use Rattle.tv_view.specs.declared.reaction.Reaction.{Reaction}
 use Rattle.tv_view.specs.declared.reaction.Reaction.TheVariants.{Pass}
-use Rattle.tv_view.specs.Reactions.{called, consumed, focus_answer, may_mark_by, press_of}
+use Rattle.tv_view.specs.Reactions.{called, consumed, focus_answer, may_mark_by, press_by, press_of}
 use Rattle.tv_group.specs.Handling.{group_answer, is_pass}
 use Rattle.tv_machine.specs.Dialog.Lawful.{IsLawfulDialog}
 use Rattle.tv_machine.specs.Dialog.Alike.{HoldSame}
@@ -76,30 +78,14 @@ consumed-acts : (d : Dialog) (m : Modal) (leaf : Leaf) (marks : Bool) → reacte
 consumed-acts d m leaf true = refl
 consumed-acts d m leaf false = refl
 
-press-taken : (leaf : Leaf) (kind : Kind) → is_pass (press_of leaf kind) ≡ false
-press-taken leaf (kinds.Button button) = refl
-press-taken leaf (kinds.Window head) = refl
-press-taken leaf (kinds.Dialog head) = refl
-press-taken leaf (kinds.Text shown) = refl
-press-taken leaf (kinds.Label label) = refl
-press-taken leaf (kinds.Input input) = refl
-press-taken leaf (kinds.CheckBoxes boxes) = refl
-press-taken leaf (kinds.RadioButtons radios) = refl
-press-taken leaf (kinds.List list) = refl
-press-taken leaf (kinds.Pane pane) = refl
+press-taken : (leaf : Leaf) (o : Option CommandSpec) → is_pass (press_by leaf o) ≡ false
+press-taken leaf None = refl
+press-taken leaf (Some c) = refl
 
 -- no control has a key with Alt
 alt-passed : (kind : Kind) (letter : ℕ) (c : Content) → key_answer kind (keys.Alt letter) c ≡ Passed
 alt-passed (kinds.Button button) letter c = refl
-alt-passed (kinds.Window head) letter c = refl
-alt-passed (kinds.Dialog head) letter c = refl
-alt-passed (kinds.Text shown) letter c = refl
-alt-passed (kinds.Label label) letter c = refl
-alt-passed (kinds.Input input) letter c = refl
-alt-passed (kinds.CheckBoxes boxes) letter c = refl
-alt-passed (kinds.RadioButtons radios) letter c = refl
-alt-passed (kinds.List list) letter c = refl
-alt-passed (kinds.Pane pane) letter c = refl
+alt-passed _ letter c = refl
 
 module _ (d : Dialog) (lawful : IsLawfulDialog d) (m : Modal) (env : Env) (E : IsLentBy d m env) (S : IsSteady d m) where
   -- what a key is answered in a phase
@@ -166,7 +152,7 @@ module _ (d : Dialog) (lawful : IsLawfulDialog d) (m : Modal) (env : Env) (E : I
       presses-turn : own k ≡ Presses → KeyTurn d m env k
       presses-turn is =
           let pressed = press_of seen leaf.node.kind in
-          let taken : is_pass (press_of seen leaf.node.kind) ≡ false = press-taken seen leaf.node.kind in
+          let taken : is_pass (press_of seen leaf.node.kind) ≡ false = press-taken seen (command_of leaf.node.kind) in
           still-turn k
           (phases_after-taken (events.Key k) env (tree_of d m) before pressed (focus-is k Presses is) taken
           ∙ after-presses d lawful m env k leaf at «free» (own-taken k Presses is taken) is)

@@ -17,7 +17,8 @@ use Rattle.tv_model.specs.Description.Marks.{marks, upper}
 use Rattle.tv_model.specs.Description.Names.{meant}
 use Rattle.tv_model.specs.Controls.Owner.{Owner, control, item_at}
 use Rattle.tv_model.specs.Description.Owners.{owner_by}
-use Rattle.tv_model.specs.Controls.Shortcut.{item_marking, ClusterKind, Boxes, Radios}
+use Rattle.tv_model.specs.Kinds.{behaviour}
+use Rattle.tv_model.specs.Controls.Shortcut.{item_marking, owner_in, Shortcut, NoMark, LinkMark, PressMark, ItemMarks, ClusterKind, Boxes, Radios}
 use Rattle.tv_model.specs.Controls.Contents.{is_item}
 use Rattle.tv_view.specs.Meaning.{Leaf, Placed}
 use Rattle.tv_model.specs.Kinds.Cluster.{item_pressed}
@@ -30,7 +31,7 @@ use Rattle.tv_view.specs.declared.env.Env.{Env}
 use Rattle.tv_view.specs.declared.reaction.Reaction.{Reaction}
 use Rattle.tv_view.specs.declared.reaction.Reaction.TheVariants.{Pass}
 use Rattle.tv_view.specs.Colours.{linked_by}
-use Rattle.tv_view.specs.Reactions.{focus_on, item_call, keyed_answer, letter_answer, post_of}
+use Rattle.tv_view.specs.Reactions.{focus_on, item_call, keyed_answer, letter_answer, post_of, press_of, shortcut_answer}
 use Rattle.tv_group.specs.Handling.{group_answer, is_awake, is_offered, is_pass, marks_letters, placed_answer, takes}
 use Rattle.tv_machine.specs.Dialog.Lawful.{IsLawfulDialog}
 use Rattle.tv_tree.specs.Tree.{leaf_as, placed_as, tree_of}
@@ -76,30 +77,23 @@ module _ (env : Env) (leaf : Leaf) where
   -- only a view that marks the letter answers to it
   letter-marks : (kind : Kind) (ch : ℕ) → is_pass (letter_answer env leaf kind (Some ch)) ≡ false
       → is_some (owner_by (upper ch) kind) ≡ true
-  letter-marks (kinds.Label label) ch h =
-      marked_if (marks (upper ch) label.text) (control label.link) (focus_on (linked_by env leaf.node.kind)) h
-  letter-marks (kinds.Button button) ch h = marked_if (marks (upper ch) button.text) (control button.name) (post_of leaf button.command) h
-  letter-marks (kinds.CheckBoxes boxes) ch h = marked_item leaf boxes.name (position (marks (upper ch)) boxes.items) h
-  letter-marks (kinds.RadioButtons radios) ch h = marked_item leaf radios.name (position (marks (upper ch)) radios.items) h
-  letter-marks (kinds.Window head) ch h = sym h
-  letter-marks (kinds.Dialog head) ch h = sym h
-  letter-marks (kinds.Text shown) ch h = sym h
-  letter-marks (kinds.Input input) ch h = sym h
-  letter-marks (kinds.List list) ch h = sym h
-  letter-marks (kinds.Pane pane) ch h = sym h
+  letter-marks kind ch = of (behaviour kind).shortcut
+    where
+      of : (s : Shortcut) → is_pass (shortcut_answer env leaf kind s (Some ch)) ≡ false → is_some (owner_in (upper ch) s) ≡ true
+      of NoMark h = sym h
+      of (LinkMark text name) h = marked_if (marks (upper ch) text) (control name) (focus_on (linked_by env leaf.node.kind)) h
+      of (PressMark text name) h = marked_if (marks (upper ch) text) (control name) (press_of leaf kind) h
+      of (ItemMarks cluster name items) h = marked_item leaf name (position (marks (upper ch)) items) h
 
   -- without a letter nobody answers
   pub letter-none : (kind : Kind) → letter_answer env leaf kind None ≡ Pass
-  letter-none (kinds.Label label) = refl
-  letter-none (kinds.Button button) = refl
-  letter-none (kinds.CheckBoxes boxes) = refl
-  letter-none (kinds.RadioButtons radios) = refl
-  letter-none (kinds.Window head) = refl
-  letter-none (kinds.Dialog head) = refl
-  letter-none (kinds.Text shown) = refl
-  letter-none (kinds.Input input) = refl
-  letter-none (kinds.List list) = refl
-  letter-none (kinds.Pane pane) = refl
+  letter-none kind = of (behaviour kind).shortcut
+    where
+      of : (s : Shortcut) → shortcut_answer env leaf kind s None ≡ Pass
+      of NoMark = refl
+      of (LinkMark text name) = refl
+      of (PressMark text name) = refl
+      of (ItemMarks cluster name items) = refl
 
 -- ---- what its answer comes to, by kind
 
@@ -182,12 +176,7 @@ module _ (d : Dialog) (m : Modal) where
     kind_acts leaf (kinds.RadioButtons radios) ch at there =
         cluster_acts Radios radios.items (seen (of_kind leaf (kinds.RadioButtons radios))) (λ item n. ap (λ o. leaf_pressed d o item n) at)
         radios.name ch there
-    kind_acts leaf (kinds.Window head) ch at there = cc
-    kind_acts leaf (kinds.Dialog head) ch at there = cc
-    kind_acts leaf (kinds.Text shown) ch at there = cc
-    kind_acts leaf (kinds.Input input) ch at there = cc
-    kind_acts leaf (kinds.List list) ch at there = cc
-    kind_acts leaf (kinds.Pane pane) ch at there = cc
+    kind_acts leaf _ ch at there = cc
 
     -- ---- the marker of the letter
 

@@ -3,14 +3,13 @@ use Rattle.std.proofs.Common.{◌≡◌, ℕ, ◌||◌, ◌==◌, nat_le, Option
 use Rattle.tv_event.specs.declared.event.Event.TheVariants as events
 use Rattle.tv_event.specs.declared.event.Key.{Key}
 use Rattle.tv_model.specs.declared.node.Id.{Id}
-use Rattle.tv_model.specs.declared.kind.Kind.{Kind}
-use Rattle.tv_model.specs.declared.kind.Kind.TheVariants as kinds
+use Rattle.tv_model.specs.declared.command.CommandSpec.{CommandSpec}
 use Rattle.tv_model.specs.declared.desc.Dialog.{Dialog}
 use Rattle.tv_model.specs.declared.log.LogLine.TheVariants as lines
-use Rattle.tv_model.specs.Description.Commands.{command_number, is_declared}
+use Rattle.tv_model.specs.Description.Commands.{command_number, command_of, is_declared}
 use Rattle.tv_model.specs.Description.Heads.{dialog_head}
 use Rattle.tv_machine.specs.Leaves.{PlacedNode}
-use Rattle.tv_machine.specs.Dialog.Ending.{command, end_by, ended, first_invalid, press, pressed_kind, shown_invalid}
+use Rattle.tv_machine.specs.Dialog.Ending.{command, end_by, ended, first_invalid, press, pressed_by, shown_invalid}
 use Rattle.tv_machine.specs.Dialog.Focus.{focus_moved, is_free_at, is_granted, request, request_then, requested}
 use Rattle.tv_machine.specs.Dialog.Keys.{key, press_enabled}
 use Rattle.tv_machine.specs.Dialog.Modal.{Modal, with_line}
@@ -119,20 +118,12 @@ module _ (d : Dialog) (lawful : IsLawfulDialog d) where
         bool_cases (is_enabled d m.leaves leaf.node) (λ b. IsSteady d (if b then press d leaf m else m))
         (λ is. steady-press d lawful leaf m steady) (λ isnt. steady)
 
-    held_pressed : (i : Id) (kind : Kind) → (pressed_kind d i kind m).held ≡ m.held
-    held_pressed i (kinds.Button button) = held-command (command_number button.command) (with_line (lines.Press i) m)
-    held_pressed i (kinds.Window head) = refl
-    held_pressed i (kinds.Dialog head) = refl
-    held_pressed i (kinds.Text shown) = refl
-    held_pressed i (kinds.Label label) = refl
-    held_pressed i (kinds.Input input) = refl
-    held_pressed i (kinds.CheckBoxes boxes) = refl
-    held_pressed i (kinds.RadioButtons radios) = refl
-    held_pressed i (kinds.List list) = refl
-    held_pressed i (kinds.Pane pane) = refl
+    held_pressed : (i : Id) (o : Option CommandSpec) → (pressed_by d i o m).held ≡ m.held
+    held_pressed i None = refl
+    held_pressed i (Some c) = held-command (command_number c) (with_line (lines.Press i) m)
 
     pub held-enter : (o : Option PlacedNode) → (press_enabled d o m).held ≡ m.held
     held-enter None = refl
     held-enter (Some leaf) =
         bool_cases (is_enabled d m.leaves leaf.node) (λ b. (if b then press d leaf m else m).held ≡ m.held)
-        (λ is. held_pressed leaf.node.id leaf.node.kind) (λ isnt. refl)
+        (λ is. held_pressed leaf.node.id (command_of leaf.node.kind)) (λ isnt. refl)

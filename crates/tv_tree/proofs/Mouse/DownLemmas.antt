@@ -274,14 +274,6 @@ module _ (d : Dialog) (lawful : IsLawfulDialog d) (p : Point) (at : IsPointOf p)
   button_turn false enabled control wants same = loose (wants (leaf_as d m.leaves m leaf)) enabled same
 
   kind_turn : (kind : Kind) → leaf.node.kind ≡ kind → Turn d m env p (down_on d leaf kind p m)
-  kind_turn (kinds.Text shown) is = quiet (λ look. ap (captures look) is) (ap (is_kind_enabled d m.leaves) is) (ap is_control is)
-      (ap (linked_by env) is)
-  kind_turn (kinds.Window head) is = quiet (λ look. ap (captures look) is) (ap (is_kind_enabled d m.leaves) is) (ap is_control is)
-      (ap (linked_by env) is)
-  kind_turn (kinds.Dialog head) is = quiet (λ look. ap (captures look) is) (ap (is_kind_enabled d m.leaves) is) (ap is_control is)
-      (ap (linked_by env) is)
-  kind_turn (kinds.Pane pane) is = quiet (λ look. ap (captures look) is) (ap (is_kind_enabled d m.leaves) is) (ap is_control is)
-      (ap (linked_by env) is)
   kind_turn (kinds.Label label) is =
       linking (λ look. ap (captures look) is) (ap (is_kind_enabled d m.leaves) is) (ap is_control is) label.link (ap (linked_by env) is)
   kind_turn (kinds.Button button) is =
@@ -296,6 +288,8 @@ module _ (d : Dialog) (lawful : IsLawfulDialog d) (p : Point) (at : IsPointOf p)
   kind_turn (kinds.RadioButtons radios) is = grabbing (ap is_control is) (λ look. ap (captures look) is)
       (ap (is_kind_enabled d m.leaves) is)
   kind_turn (kinds.List list) is = grabbing (ap is_control is) (λ look. ap (captures look) is) (ap (is_kind_enabled d m.leaves) is)
+  kind_turn _ is = quiet (λ look. ap (captures look) is) (ap (is_kind_enabled d m.leaves) is) (ap is_control is)
+      (ap (linked_by env) is)
 
   leaf_turn : Turn d m env p (down_on d leaf leaf.node.kind p m)
   leaf_turn = kind_turn leaf.node.kind refl

@@ -35,26 +35,14 @@ use Rattle.tv_tree.proofs.Mouse.TopmostLemmas.{after-changed, after-same, after_
 -- a cluster's value stays
 pub down-value : (kind : Kind) (first column row : ℕ) (c : Content) → is_cluster kind ≡ true
     → (down_content kind first column row c).value ≡ c.value
-down-value (kinds.Window head) first column row c e = refl
-down-value (kinds.Dialog head) first column row c e = refl
-down-value (kinds.Text shown) first column row c e = refl
-down-value (kinds.Label label) first column row c e = refl
-down-value (kinds.Button button) first column row c e = refl
 down-value (kinds.Input input) first column row c e = absurd cc
-down-value (kinds.CheckBoxes boxes) first column row c e = refl
-down-value (kinds.RadioButtons radios) first column row c e = refl
 down-value (kinds.List list) first column row c e = absurd cc
-down-value (kinds.Pane pane) first column row c e = refl
+down-value _ first column row c e = refl
 
 -- an input holds the mouse with the focus alone
 pub down-steady : (leaf : Leaf) (kind : Kind) (first column row : ℕ) (c : Content) → captures leaf kind ≡ true
     → IsSteadyContent leaf.is_focused kind c
     → IsSteadyContent leaf.is_focused kind (down_content kind first column row c)
-down-steady leaf (kinds.Window head) first column row c takes s = s
-down-steady leaf (kinds.Dialog head) first column row c takes s = s
-down-steady leaf (kinds.Text shown) first column row c takes s = s
-down-steady leaf (kinds.Label label) first column row c takes s = s
-down-steady leaf (kinds.Button button) first column row c takes s = s
 down-steady leaf (kinds.Input input) first column row c takes s = record {
   text = _;
   cursor = _;
@@ -63,10 +51,8 @@ down-steady leaf (kinds.Input input) first column row c takes s = record {
   private = refl;
   rested = λ e. absurd cc;
 }
-down-steady leaf (kinds.CheckBoxes boxes) first column row c takes s = s
-down-steady leaf (kinds.RadioButtons radios) first column row c takes s = s
 down-steady leaf (kinds.List list) first column row c takes s = refl
-down-steady leaf (kinds.Pane pane) first column row c takes s = s
+down-steady leaf _ first column row c takes s = s
 
 -- ---- the topmost leaf
 

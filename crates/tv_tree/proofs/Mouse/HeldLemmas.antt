@@ -38,29 +38,13 @@ use Rattle.tv_tree.proofs.Mouse.TakenLemmas.{held-remembered, move-answer, scan-
 -- ---- what a move makes of what a leaf holds
 
 pub move-value : (kind : Kind) (row : ℕ) (c : Content) → is_cluster kind ≡ true → (move_content kind row c).value ≡ c.value
-move-value (kinds.Window head) row c e = refl
-move-value (kinds.Dialog head) row c e = refl
-move-value (kinds.Text shown) row c e = refl
-move-value (kinds.Label label) row c e = refl
-move-value (kinds.Button button) row c e = refl
-move-value (kinds.Input input) row c e = refl
-move-value (kinds.CheckBoxes boxes) row c e = refl
-move-value (kinds.RadioButtons radios) row c e = refl
 move-value (kinds.List list) row c e = absurd cc
-move-value (kinds.Pane pane) row c e = refl
+move-value _ row c e = refl
 
 pub move-steady : (f : Bool) (kind : Kind) (row : ℕ) (c : Content) → IsSteadyContent f kind c
     → IsSteadyContent f kind (move_content kind row c)
-move-steady f (kinds.Window head) row c s = s
-move-steady f (kinds.Dialog head) row c s = s
-move-steady f (kinds.Text shown) row c s = s
-move-steady f (kinds.Label label) row c s = s
-move-steady f (kinds.Button button) row c s = s
-move-steady f (kinds.Input input) row c s = s
-move-steady f (kinds.CheckBoxes boxes) row c s = s
-move-steady f (kinds.RadioButtons radios) row c s = s
 move-steady f (kinds.List list) row c s = refl
-move-steady f (kinds.Pane pane) row c s = s
+move-steady f _ row c s = s
 
 -- ---- the leaf that holds the mouse
 

@@ -15,7 +15,6 @@ use Rattle.tv_model.specs.Controls.Contents.{Content}
 use Rattle.tv_model.specs.Controls.Behaviour.{Answer, Passed, Becomes, Presses}
 use Rattle.tv_model.specs.Kinds.Cluster.{item_pressed, item_of_row}
 use Rattle.tv_machine.specs.Controls.Tables.{up_answer}
-use Rattle.tv_machine.specs.Dialog.Ending.{pressed_kind}
 use Rattle.tv_machine.specs.Dialog.Modal.{Modal, content_at, leaf_at, with_content}
 use Rattle.tv_machine.specs.Dialog.Mouse as mouse
 use Rattle.tv_machine.specs.Dialog.Mouse.{held_up, released}
@@ -35,6 +34,7 @@ use Rattle.tv_tree.specs.Tree.{IsSteady, IsSteadyContent, around_of, held_at, le
 use Rattle.tv_tree.specs.Turns.{reacted}
 use Rattle.tv_machine.proofs.ListLemmas.{bool_cases, option_cases}
 use Rattle.tv_machine.proofs.LeafLemmas.{IsIn, content_at-other, content_at-same, leaf_at-in}
+use Rattle.tv_tree.proofs.Keys.EnterLemmas.{press-acts}
 use Rattle.tv_tree.proofs.TreeLemmas.{steady-changed, where_id}
 use Rattle.tv_machine.proofs.MarkLemmas.{hold-itself}
 use Rattle.tv_tree.proofs.Mouse.HoldLemmas.{placed-same, steady-held, tree-at}
@@ -61,28 +61,7 @@ up-steady f (kinds.CheckBoxes boxes) item row c content e = released_steady f Bo
     (item_of_row row == item) content e
 up-steady f (kinds.RadioButtons radios) item row c content e = released_steady f Radios (kinds.RadioButtons radios) c (λ x s. s) item
     (item_of_row row == item) content e
-up-steady f (kinds.Window head) item row c content e = absurd cc
-up-steady f (kinds.Dialog head) item row c content e = absurd cc
-up-steady f (kinds.Text shown) item row c content e = absurd cc
-up-steady f (kinds.Label label) item row c content e = absurd cc
-up-steady f (kinds.Button button) item row c content e = absurd cc
-up-steady f (kinds.Input input) item row c content e = absurd cc
-up-steady f (kinds.List list) item row c content e = absurd cc
-up-steady f (kinds.Pane pane) item row c content e = absurd cc
-
--- what a pressed leaf asks for is what the machine does
-pub press-reacted : (d : Dialog) (leaf : Leaf) (kind : Kind) (m : Modal)
-    → reacted d (press_of leaf kind) m ≡ pressed_kind d leaf.node.id kind m
-press-reacted d leaf (kinds.Button button) m = refl
-press-reacted d leaf (kinds.Window head) m = refl
-press-reacted d leaf (kinds.Dialog head) m = refl
-press-reacted d leaf (kinds.Text shown) m = refl
-press-reacted d leaf (kinds.Label label) m = refl
-press-reacted d leaf (kinds.Input input) m = refl
-press-reacted d leaf (kinds.CheckBoxes boxes) m = refl
-press-reacted d leaf (kinds.RadioButtons radios) m = refl
-press-reacted d leaf (kinds.List list) m = refl
-press-reacted d leaf (kinds.Pane pane) m = refl
+up-steady f _ item row c content e = absurd cc
 
 -- ---- what an up comes to
 
@@ -240,7 +219,7 @@ module _ (d : Dialog) (lawful : IsLawfulDialog d) (p : Point) (at : IsPointOf p)
   by_answer Passed is asks e = plainly Release (let_go m) asks refl e
   by_answer (Becomes content) is asks e = becoming content is asks e
   by_answer Presses is asks e = plainly (press_of here leaf.node.kind) (mouse.released d leaf Presses (let_go m)) asks
-      (press-reacted d here leaf.node.kind (let_go m)) e
+      (press-acts d (let_go m) here leaf.node.kind) e
 
   leaf_released : Comes (mouse.up_on d leaf held.item p m)
   leaf_released =

@@ -6,10 +6,10 @@ use Rattle.tv_cells.specs.declared.rect.Point.{Point}
 use Rattle.tv_event.specs.declared.event.Event.{Event}
 use Rattle.tv_event.specs.declared.event.Event.TheVariants as events
 use Rattle.tv_event.specs.declared.event.Phase.{Phase}
-use Rattle.tv_model.specs.declared.kind.Kind.{Kind}
-use Rattle.tv_model.specs.declared.kind.Kind.TheVariants as kinds
+use Rattle.tv_model.specs.declared.command.CommandSpec.{CommandSpec}
 use Rattle.tv_model.specs.declared.node.Id.{Id}
 use Rattle.tv_model.specs.declared.desc.Dialog.{Dialog}
+use Rattle.tv_model.specs.Description.Commands.{command_of}
 use Rattle.tv_view.specs.Meaning.{Leaf, has_item, holds}
 use Rattle.tv_machine.specs.State.{LeafState, Held}
 use Rattle.tv_machine.specs.Leaves.{PlacedNode, leaf_list}
@@ -20,7 +20,7 @@ use Rattle.tv_view.specs.declared.env.Env.{Env}
 use Rattle.tv_view.specs.declared.reaction.Reaction.TheVariants.{Pass, Done, Release}
 use Rattle.tv_view.specs.Fields.{content_of}
 use Rattle.tv_view.specs.Points as points
-use Rattle.tv_view.specs.Reactions.{answer, lifted_answer, press_of, release_answer}
+use Rattle.tv_view.specs.Reactions.{answer, lifted_answer, press_by, release_answer}
 use Rattle.tv_group.specs.Calls.{any_holds}
 use Rattle.tv_group.specs.Handling.{found_answer, group_after, group_answer, is_pass, placed_after, placed_answer, scan_after, scan_answer, takes}
 use Rattle.tv_machine.specs.Dialog.Lawful.{IsLawfulDialog}
@@ -61,22 +61,14 @@ takes_move : (b : Bool) → not (is_pass (if b then Done else Pass)) ≡ b
 takes_move true = refl
 takes_move false = refl
 
-takes_press : (leaf : Leaf) (kind : Kind) → not (is_pass (press_of leaf kind)) ≡ true
-takes_press leaf (kinds.Button button) = refl
-takes_press leaf (kinds.Window head) = refl
-takes_press leaf (kinds.Dialog head) = refl
-takes_press leaf (kinds.Text shown) = refl
-takes_press leaf (kinds.Label label) = refl
-takes_press leaf (kinds.Input input) = refl
-takes_press leaf (kinds.CheckBoxes boxes) = refl
-takes_press leaf (kinds.RadioButtons radios) = refl
-takes_press leaf (kinds.List list) = refl
-takes_press leaf (kinds.Pane pane) = refl
+takes_press : (leaf : Leaf) (o : Option CommandSpec) → not (is_pass (press_by leaf o)) ≡ true
+takes_press leaf None = refl
+takes_press leaf (Some c) = refl
 
 takes_release : (leaf : Leaf) (a : Answer) → not (is_pass (release_answer leaf a)) ≡ true
 takes_release leaf Passed = refl
 takes_release leaf (Becomes content) = refl
-takes_release leaf Presses = takes_press leaf leaf.node.kind
+takes_release leaf Presses = takes_press leaf (command_of leaf.node.kind)
 
 takes_up : (leaf : Leaf) (q : Point) (o : Option ℕ) → not (is_pass (lifted_answer leaf q o)) ≡ has_item o
 takes_up leaf q None = refl

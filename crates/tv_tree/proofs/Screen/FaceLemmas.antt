@@ -68,6 +68,4 @@ module _ (chain : List (List ℕ)) (of_dialog : coloured chain ≡ owners_of_par
   faces-coloured look width (kinds.CheckBoxes boxes) c = ap (λ f. f ∷ []) (cluster-same Boxes look boxes.items c)
   faces-coloured look width (kinds.RadioButtons radios) c = ap (λ f. f ∷ []) (cluster-same Radios look radios.items c)
   faces-coloured look width (kinds.List list) c = ap (λ f. f ∷ []) (list-same look list.items c)
-  faces-coloured look width (kinds.Window head) c = refl
-  faces-coloured look width (kinds.Dialog head) c = refl
-  faces-coloured look width (kinds.Pane pane) c = refl
+  faces-coloured look width _ c = refl

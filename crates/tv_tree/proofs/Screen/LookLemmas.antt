@@ -1,6 +1,6 @@
 -- How a leaf of the open dialog stands: what the dialog lends its views says what the machine says.
 use Rattle.std.proofs.Common.{◌≡◌, ℕ, suc, Bool, true, false, cond, not, IsTrue, ◌==◌, ◌<◌, List, [], ◌∷◌, All, AllPairs, find, Option, Some, None, option_map, refl, sym, ap, ◌∙◌, arith}
-use Rattle.std.specs.Prelude.{if◌then◌else◌}
+use Rattle.std.specs.Prelude.{if◌then◌else◌, option_and_then}
 use Rattle.std.specs.Option.{option_or}
 use Rattle.std.proofs.lemmas.Bool.{eqb-true}
 use Rattle.std.proofs.lemmas.Bool.Decides.{nat_tests}
@@ -11,6 +11,7 @@ use Rattle.tv_model.specs.declared.kind.Kind.{Kind}
 use Rattle.tv_model.specs.declared.kind.Kind.TheVariants as kinds
 use Rattle.tv_model.specs.declared.desc.Dialog.{Dialog}
 use Rattle.tv_model.specs.Description.Names.{meant}
+use Rattle.tv_model.specs.Kinds.{behaviour}
 use Rattle.tv_model.specs.Description.Nodes.{AreRising, has_id, is_button, is_button_node, is_default, is_pane, node_of}
 use Rattle.tv_machine.specs.Screen.Bodies.{is_default_now}
 use Rattle.tv_machine.specs.State.{OpenDialog}
@@ -95,15 +96,7 @@ among_buttons (Some node) = if is_button node.kind then Some node else None
 
 no_button : (k : Kind) → is_pane k ≡ true → is_button k ≡ false
 no_button (kinds.Button button) e = absurd cc
-no_button (kinds.Input input) e = refl
-no_button (kinds.CheckBoxes boxes) e = refl
-no_button (kinds.RadioButtons radios) e = refl
-no_button (kinds.List list) e = refl
-no_button (kinds.Label label) e = refl
-no_button (kinds.Text shown) e = refl
-no_button (kinds.Window head) e = refl
-no_button (kinds.Dialog head) e = refl
-no_button (kinds.Pane pane) e = refl
+no_button _ e = refl
 
 map_if : (b : Bool) (leaf : PlacedNode) → option_map (λ x. x.node) (if b then Some leaf else None) ≡ (if b then Some leaf.node else None)
 map_if true leaf = refl
@@ -248,16 +241,12 @@ module _ (d : Dialog) (o : OpenDialog) (overwriting : List Id) (m : Modal) (work
   link-seen (Some node) = focus-seen node.id
 
   linked-seen : (k : Kind) → is_focus env (linked_by env k) ≡ screen.is_linked d.views o.focus k
-  linked-seen (kinds.Label label) = ap (λ views. is_focus env (link_of views label.link)) lent.views ∙ link-seen (meant d.views label.link)
-  linked-seen (kinds.Window head) = refl
-  linked-seen (kinds.Dialog head) = refl
-  linked-seen (kinds.Text shown) = refl
-  linked-seen (kinds.Button button) = refl
-  linked-seen (kinds.Input input) = refl
-  linked-seen (kinds.CheckBoxes boxes) = refl
-  linked-seen (kinds.RadioButtons radios) = refl
-  linked-seen (kinds.List list) = refl
-  linked-seen (kinds.Pane pane) = refl
+  linked-seen k = of (behaviour k).link
+    where
+      of : (link : Option (List ℕ))
+          → is_focus env (option_and_then (link_of env.views.now) link) ≡ screen.is_linked_by d.views o.focus link
+      of None = refl
+      of (Some name) = ap (λ views. is_focus env (link_of views name)) lent.views ∙ link-seen (meant d.views name)
 
   default-seen : AreRising d.views → (leaf : PlacedNode) → IsOfFirst is_default (leaf_list d.views) leaf
       → is_id env.default_now leaf.node.id ≡ is_default_now d.views o.focus leaf.node
