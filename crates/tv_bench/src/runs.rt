@@ -1,0 +1,7 @@
+//! How long a session takes over keys and full repaints, on a screen of 80 by 25 with one large dialog of boxed views.
+
+mod form;
+mod measure;
+mod views;
+
+pub use views::run;
