@@ -24,30 +24,14 @@ left-fit : (from : Bool) (kind : Kind) (c : Content) → IsFitContent from kind 
 left-fit from (kinds.Input input) c fit =
     let edit = input-edit from input c fit in
     input-fit false input (left (edit_of c)) (record { domain = edit.domain; is = edit.is; good = (edit.good.0, omega arith) }) (λ e. refl)
-left-fit from (kinds.Window head) c fit = again false from (kinds.Window head) c tt fit
-left-fit from (kinds.Dialog head) c fit = again false from (kinds.Dialog head) c tt fit
-left-fit from (kinds.Text shown) c fit = again false from (kinds.Text shown) c tt fit
-left-fit from (kinds.Label label) c fit = again false from (kinds.Label label) c tt fit
-left-fit from (kinds.Button button) c fit = again false from (kinds.Button button) c tt fit
-left-fit from (kinds.CheckBoxes boxes) c fit = again false from (kinds.CheckBoxes boxes) c tt fit
-left-fit from (kinds.RadioButtons radios) c fit = again false from (kinds.RadioButtons radios) c tt fit
-left-fit from (kinds.List list) c fit = again false from (kinds.List list) c tt fit
-left-fit from (kinds.Pane pane) c fit = again false from (kinds.Pane pane) c tt fit
+left-fit from kind c fit = again false from kind c tt fit
 
 entered-fit : (from : Bool) (kind : Kind) (c : Content) → IsFitContent from kind c
     → IsFitContent true kind (refocused_content entered kind c)
 entered-fit from (kinds.Input input) c fit =
     let edit = input-edit from input c fit in
     focused-input input (entered (edit_of c)) (record { domain = edit.domain; is = edit.is; good = entered-good edit.domain (edit_of c) edit.good })
-entered-fit from (kinds.Window head) c fit = again true from (kinds.Window head) c tt fit
-entered-fit from (kinds.Dialog head) c fit = again true from (kinds.Dialog head) c tt fit
-entered-fit from (kinds.Text shown) c fit = again true from (kinds.Text shown) c tt fit
-entered-fit from (kinds.Label label) c fit = again true from (kinds.Label label) c tt fit
-entered-fit from (kinds.Button button) c fit = again true from (kinds.Button button) c tt fit
-entered-fit from (kinds.CheckBoxes boxes) c fit = again true from (kinds.CheckBoxes boxes) c tt fit
-entered-fit from (kinds.RadioButtons radios) c fit = again true from (kinds.RadioButtons radios) c tt fit
-entered-fit from (kinds.List list) c fit = again true from (kinds.List list) c tt fit
-entered-fit from (kinds.Pane pane) c fit = again true from (kinds.Pane pane) c tt fit
+entered-fit from kind c fit = again true from kind c tt fit
 
 -- after the focus has moved
 pub moved-fit : (to from : Bool) (kind : Kind) (c : Content) → IsFitContent from kind c
@@ -65,13 +49,7 @@ pub opened-fit : (has_focus : Bool) (kind : Kind) (value : Option Value) (overwr
 opened-fit has_focus (kinds.Input input) value overwrites count fits = record { safe = record { value = fits; cursor = omega arith }; private = tt; rests = λ e. refl }
 opened-fit has_focus (kinds.CheckBoxes boxes) value overwrites count fits = boxes-fit has_focus boxes value 1 overwrites fits (item-from (length boxes.items) 1 (omega arith) count.0)
 opened-fit has_focus (kinds.List list) value overwrites count fits = record { safe = record { value = fits; cursor = omega arith }; private = tt; rests = λ e. tt }
-opened-fit has_focus (kinds.Window head) value overwrites count fits = record { safe = record { value = fits; cursor = omega arith }; private = refl; rests = λ e. tt }
-opened-fit has_focus (kinds.Dialog head) value overwrites count fits = record { safe = record { value = fits; cursor = omega arith }; private = refl; rests = λ e. tt }
-opened-fit has_focus (kinds.Text shown) value overwrites count fits = record { safe = record { value = fits; cursor = omega arith }; private = refl; rests = λ e. tt }
-opened-fit has_focus (kinds.Label label) value overwrites count fits = record { safe = record { value = fits; cursor = omega arith }; private = refl; rests = λ e. tt }
-opened-fit has_focus (kinds.Button button) value overwrites count fits = record { safe = record { value = fits; cursor = omega arith }; private = refl; rests = λ e. tt }
-opened-fit has_focus (kinds.RadioButtons radios) value overwrites count fits = record { safe = record { value = fits; cursor = omega arith }; private = refl; rests = λ e. tt }
-opened-fit has_focus (kinds.Pane pane) value overwrites count fits = record { safe = record { value = fits; cursor = omega arith }; private = refl; rests = λ e. tt }
+opened-fit has_focus _ value overwrites count fits = record { safe = record { value = fits; cursor = omega arith }; private = refl; rests = λ e. tt }
 
 -- the declared value is one that the leaf may have
 pub declared-fit : (kind : Kind) → HasLawfulStart kind → HasValueOf kind (declared_value kind)
@@ -79,9 +57,4 @@ declared-fit (kinds.Input input) start = start
 declared-fit (kinds.CheckBoxes boxes) start = declared-marks (length boxes.items) boxes.start start
 declared-fit (kinds.RadioButtons radios) start = declared-item (length radios.items) radios.start start
 declared-fit (kinds.List list) start = declared-item (length list.items) list.start start
-declared-fit (kinds.Window head) start = refl
-declared-fit (kinds.Dialog head) start = refl
-declared-fit (kinds.Text shown) start = refl
-declared-fit (kinds.Label label) start = refl
-declared-fit (kinds.Button button) start = refl
-declared-fit (kinds.Pane pane) start = refl
+declared-fit _ start = refl

@@ -162,10 +162,6 @@ input_answer input k c narrow fit =
 -- a key of the control that has the focus
 pub key-fit : (kind : Kind) (k : Key) (c : Content) → All IsNarrowText (shown_texts kind) → HasLawfulCount kind
     → IsFitContent true kind c → IsFitAnswer true kind (key_answer kind k c)
-key-fit (kinds.Window head) k c narrow count fit = tt
-key-fit (kinds.Dialog head) k c narrow count fit = tt
-key-fit (kinds.Text shown) k c narrow count fit = tt
-key-fit (kinds.Label label) k c narrow count fit = tt
 key-fit (kinds.Button button) k c narrow count fit = press_answer k (kinds.Button button)
 key-fit (kinds.Input input) k c narrow count fit = input_answer input k c narrow fit
 key-fit (kinds.CheckBoxes boxes) k c narrow count fit =
@@ -173,37 +169,22 @@ key-fit (kinds.CheckBoxes boxes) k c narrow count fit =
 key-fit (kinds.RadioButtons radios) k c narrow count fit =
     radios-key true radios (cluster_key radios.items (length radios.items) (selected_of Radios c) k) c (key-item radios.items (item_of c.value) k (radios_item radios c.value fit.safe.value)) fit
 key-fit (kinds.List list) k c narrow count fit = list-key true list (asked_item (natural list.h) (length list.items) (chosen_of c) k) c count.0
-key-fit (kinds.Pane pane) k c narrow count fit = tt
+key-fit _ k c narrow count fit = tt
 
 -- a mouse down on a control that has the focus
 pub down-fit : (kind : Kind) (first column row : ℕ) (c : Content) → HasLawfulCount kind → IsFitContent true kind c
     → IsFitContent true kind (down_content kind first column row c)
-down-fit (kinds.Window head) first column row c count fit = fit
-down-fit (kinds.Dialog head) first column row c count fit = fit
-down-fit (kinds.Text shown) first column row c count fit = fit
-down-fit (kinds.Label label) first column row c count fit = fit
-down-fit (kinds.Button button) first column row c count fit = fit
 down-fit (kinds.Input input) first column row c count fit =
     let edit = input-edit true input c fit in
     focused-input input (clicked first column (edit_of c)) (record { domain = edit.domain; is = edit.is; good = clicked-good edit.domain first column (edit_of c) edit.good })
-down-fit (kinds.CheckBoxes boxes) first column row c count fit = fit
-down-fit (kinds.RadioButtons radios) first column row c count fit = fit
 down-fit (kinds.List list) first column row c count fit = list-chosen true list (item_at_row (length list.items) (chosen_of c) row) c count.0
-down-fit (kinds.Pane pane) first column row c count fit = fit
+down-fit _ first column row c count fit = fit
 
 -- a move over a control that holds the mouse
 pub move-fit : (has_focus : Bool) (kind : Kind) (row : ℕ) (c : Content) → HasLawfulCount kind → IsFitContent has_focus kind c
     → IsFitContent has_focus kind (move_content kind row c)
-move-fit has_focus (kinds.Window head) row c count fit = fit
-move-fit has_focus (kinds.Dialog head) row c count fit = fit
-move-fit has_focus (kinds.Text shown) row c count fit = fit
-move-fit has_focus (kinds.Label label) row c count fit = fit
-move-fit has_focus (kinds.Button button) row c count fit = fit
-move-fit has_focus (kinds.Input input) row c count fit = fit
-move-fit has_focus (kinds.CheckBoxes boxes) row c count fit = fit
-move-fit has_focus (kinds.RadioButtons radios) row c count fit = fit
 move-fit has_focus (kinds.List list) row c count fit = list-chosen has_focus list (item_at_row (length list.items) (chosen_of c) row) c count.0
-move-fit has_focus (kinds.Pane pane) row c count fit = fit
+move-fit has_focus _ row c count fit = fit
 
 -- an item that is pressed by its mark
 pub item-called : (kind : Kind) (cluster : ClusterKind) (name : List ℕ) (items : List MarkedText) (item : ℕ) (c : Content)
@@ -235,17 +216,10 @@ same_item row item e = grind (arith, nat_tests)
 -- an up on a control that holds the mouse
 pub up-fit : (has_focus : Bool) (kind : Kind) (item row : ℕ) (c : Content) → HasRow kind row → IsFitContent has_focus kind c
     → IsFitAnswer has_focus kind (up_answer kind item row c)
-up-fit has_focus (kinds.Window head) item row c within fit = tt
-up-fit has_focus (kinds.Dialog head) item row c within fit = tt
-up-fit has_focus (kinds.Text shown) item row c within fit = tt
-up-fit has_focus (kinds.Label label) item row c within fit = tt
-up-fit has_focus (kinds.Button button) item row c within fit = tt
-up-fit has_focus (kinds.Input input) item row c within fit = tt
 up-fit has_focus (kinds.CheckBoxes boxes) item row c within fit =
     bool_cases (item_of_row row == item) (λ b. IsFitAnswer has_focus (kinds.CheckBoxes boxes) (if b then Becomes (item_pressed Boxes item c) else Passed))
     (λ is. boxes-pressed has_focus boxes item c (subst (Item (length boxes.items)) (same_item row item is) (row_item (length boxes.items) row within)) fit) (λ other. tt)
 up-fit has_focus (kinds.RadioButtons radios) item row c within fit =
     bool_cases (item_of_row row == item) (λ b. IsFitAnswer has_focus (kinds.RadioButtons radios) (if b then Becomes (item_pressed Radios item c) else Passed))
     (λ is. radios-fit has_focus radios item c (subst (Item (length radios.items)) (same_item row item is) (row_item (length radios.items) row within)) fit.private) (λ other. tt)
-up-fit has_focus (kinds.List list) item row c within fit = tt
-up-fit has_focus (kinds.Pane pane) item row c within fit = tt
+up-fit has_focus _ item row c within fit = tt
