@@ -14,3 +14,5 @@ mod session;
 pub use fault::SessionFault;
 pub use making::Refused;
 pub use session::{Session, SessionOf};
+pub use tv_dialog::{Dialog, DialogFault, DialogOf};
+pub use tv_window::{Window, WindowOf};
