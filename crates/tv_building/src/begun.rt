@@ -26,7 +26,7 @@ pub(crate) struct Begun<'a, V> {
 
 impl<'a, V: View> Begun<'a, V> {
     // Nothing stands in it.
-    #[tactic(auto, using(tv_building::proofs::OwnerLemmas::head_of_lawful))]
+    #[tactic(auto, using(crate::proofs::OwnerLemmas::head_of_lawful))]
     pub(crate) fn new(node: &'a Node, members: Vec<MemberOf<V>>) -> Result<Begun<'a, V>, BuildFault>
         requires { IsLawfulNode node.now }
         ensures node { IfOk result (λ begun. begun.node.now ≡ node.now) }

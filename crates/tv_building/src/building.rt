@@ -140,7 +140,7 @@ fn add_to<V: View>(begun: &mut Vec<Begun<V>>, member: MemberOf<V>) -> Result<(),
 }
 
 // A window of the node stands round the body, behind the other windows.
-#[tactic(auto, using(tv_building::proofs::OwnerLemmas::head_fits))]
+#[tactic(auto, using(crate::proofs::OwnerLemmas::head_fits))]
 fn stand_window<V: View>(
     windows: &mut Vec<WindowOf<V>>,
     node: &Node,
