@@ -1,6 +1,6 @@
 -- What lent values stand for.
 use Rattle.std.specs.Prelude.{ℕ, ◌+◌, ℤ, pos, List, option_map}
-use Rattle.tv_model.specs.Description.Owners as owners
+use Rattle.tv_model.specs.Controls.Owner as owners
 use Rattle.tv_check.specs.declared.owner.Owner.{Owner}
 use Rattle.tv_check.specs.declared.acceptance_tabs.Tab.{Tab}
 

@@ -11,7 +11,7 @@ use std::test::Fail;
 use tv_cells::{Canvas, Point, Rect, Screen, lay};
 use tv_controls::StaticText;
 use tv_event::CommandSet;
-use tv_faces::{Background, TextFace};
+use tv_faces::{Background, LabelFace};
 use tv_group::{Group, Member};
 use tv_model::{Id, Kind, Node, WindowHead};
 use tv_palette::{Chain, Owner};
@@ -20,9 +20,11 @@ use tv_view::Env;
 use tv_window::{Window, draw_stack};
 
 // The bar and the status line, with nothing in them.
-const BAR: TextFace<'static> = TextFace {
+const BAR: LabelFace<'static> = LabelFace {
     text: &[],
-    attr: 0x70,
+    mark: None,
+    letter: 0x70,
+    rest: 0x70,
 };
 
 /// The characters of the screen, row by row.

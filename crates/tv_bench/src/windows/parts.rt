@@ -6,15 +6,17 @@ use anyhow::Result;
 use std::alloc::Global;
 use tv_cells::{Canvas, Point, Rect};
 use tv_controls::StaticText;
-use tv_faces::TextFace;
+use tv_faces::LabelFace;
 use tv_group::MemberOf;
 use tv_model::{Id, Kind, Node, StaticText as DeclaredText};
 use tv_valid::Chars;
 
 /// The bar and the status line, with nothing in them.
-pub const BAR: TextFace<'static> = TextFace {
+pub const BAR: LabelFace<'static> = LabelFace {
     text: &[],
-    attr: 0x70,
+    mark: None,
+    letter: 0x70,
+    rest: 0x70,
 };
 
 /// A text in one row, seen from the corner of what it stands in.
