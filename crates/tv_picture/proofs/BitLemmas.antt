@@ -57,3 +57,9 @@ none_left n k never = same_from_bits (n / 2 ^ k) 0 (λ i. ap (λ x. x % 2) (shr-
   where
     unset : (i : ℕ) → k ≤ i → bit_at n i ≡ 0
     unset i above = not_one (bit_at n i) (bit_at-lt n i) (λ e. never i above (bit_is_set n i e))
+
+-- a number shifted down has the bits from a place on
+pub shifted_bits : (n p k : ℕ) → IsBitSet (n / 2 ^ p) k ↔ IsBitSet n (p + k)
+shifted_bits n p k =
+    let e : bit_at (n / 2 ^ p) k ≡ bit_at n (p + k) = ap (λ (x : ℕ). x % 2) (shr-shr n p k) in
+    ((λ h. bit_is_set n (p + k) (sym e ∙ bit_is_one (n / 2 ^ p) k h)), (λ h. bit_is_set (n / 2 ^ p) k (e ∙ bit_is_one n (p + k) h)))

@@ -1,6 +1,6 @@
 -- Rows and tables of a pattern from those of its parts.
 use Rattle.std.proofs.Common.{suc, zero, ◌≡◌, ◌≢◌, ◌⊎◌, inl, inr, ◌↔◌, ℕ, ◌+◌, ◌-◌, ◌*◌, ◌<◌, ◌≤◌, List, [], ◌∷◌, ◌++◌, length, drop, arith, refl, ◌∙◌, sym, ap, subst, append_assoc, length-append, Bool, true, false, ◌==◌, cond, get_or}
-use Rattle.std.proofs.lemmas.List.{get_or-set_same, get_or-set_other}
+use Rattle.std.proofs.lemmas.List.{get_or-set_same, get_or-set_other, set-get_or}
 use Rattle.std.proofs.Math.ListN.{set}
 use Rattle.std.proofs.Math.Seq.{drop-cons, drop-length}
 use Rattle.std.proofs.lemmas.Bool.Decides.{eqb_tells}
@@ -136,6 +136,23 @@ gathers_more places table start stop first row result order has ends follow g = 
     fewer : (a b : Pattern) (text : List ℕ) (from c : ℕ) → Follows a (drop from text) c ⊎ FollowsFrom places b text start (stop + 1) c → (Follows a (drop from text) c ⊎ FollowsFrom places b text start stop c) ⊎ Follows b (drop stop text) c
     fewer a b text from c (inl f) = inl (inl f)
     fewer a b text from c (inr (r, above, below, at, f)) = elim (dec r stop) [ inl e ↦ inr (subst (λ (i : ℕ). Follows b (drop i text) c) e f) | inr n ↦ inl (inr (r, above, omega arith, at, f)) ]
+
+-- the places from one on, counted from it
+abbrev pub IsRest : Places → Places → ℕ → Type 0
+IsRest places rest place = (k : ℕ) → Has rest k ↔ Has places (place + k)
+
+pub rest_here : (places rest : Places) (place : ℕ) → IsRest places rest place → Has rest 0 ↔ Has places place
+rest_here places rest place h = subst (λ (i : ℕ). Has rest 0 ↔ Has places i) (omega arith) (h 0)
+
+pub rest_more : (places rest next : Places) (place : ℕ) → IsRest places rest place → ((k : ℕ) → Has next k ↔ Has rest (1 + k)) → IsRest places next (place + 1)
+rest_more places rest next place h step k =
+    let e : place + (1 + k) ≡ place + 1 + k = omega arith in
+    ((λ has. subst (Has places) e ((h (1 + k)).0 ((step k).0 has))), (λ has. (step k).1 ((h (1 + k)).1 (subst (Has places) (sym e) has))))
+
+pub rest_none : (places rest : Places) (place : ℕ) → IsRest places rest place → ((k : ℕ) → 0 ≤ k → Has rest k → ⊥) → (k : ℕ) → place ≤ k → Has places k → ⊥
+rest_none places rest place h none k above has =
+    let e : k ≡ place + (k - place) = omega arith in
+    none (k - place) (omega arith) ((h (k - place)).1 (subst (Has places) e has))
 
 -- ---- tables
 
@@ -388,6 +405,62 @@ rows_before a text table from start stop row fits next_to h here = record {
   ];
 }
 
+-- ---- tables changed in place
+
+-- from a place on, the rows are as they were
+pub record IsKept (old new : Table) (from : ℕ) : Type 0 where
+  pub at : (p : ℕ) → from ≤ p → row_at new p ≡ row_at old p
+
+pub kept_all : (table : Table) (from : ℕ) → IsKept table table from
+kept_all table from = record { at = λ p above. refl }
+
+pub kept_more : (old new : Table) (from : ℕ) (row : Row) → IsKept old new from → IsKept old (record { rows = set new.rows from row }) (from + 1)
+kept_more old new from row h = record { at = λ p above. let other : p ≢ from = λ e. omega arith in get_or-set_other new.rows from p row no_row other ∙ h.at p (omega arith) }
+
+-- up to a place, the rows are as they were
+pub record IsKeptTo (old new : Table) (to : ℕ) : Type 0 where
+  pub at : (p : ℕ) → p < to → row_at new p ≡ row_at old p
+
+pub kept_to_all : (table : Table) (to : ℕ) → IsKeptTo table table to
+kept_to_all table to = record { at = λ p below. refl }
+
+pub kept_to_fewer : (old new : Table) (to from : ℕ) (row : Row) → to ≡ from + 1 → IsKeptTo old new to → IsKeptTo old (record { rows = set new.rows from row }) from
+kept_to_fewer old new to from row next_to h = record { at = λ p below. let other : p ≢ from = λ e. omega arith in get_or-set_other new.rows from p row no_row other ∙ h.at p (omega arith) }
+
+-- a row put where it stands
+pub set_same : (table : Table) (from : ℕ) (row : Row) → row ≡ row_at table from → record { rows = set table.rows from row } ≡ table
+set_same table from row e = ap (λ (r : Row). record { rows = set table.rows from r }) e ∙ ap (λ (rs : List Row). record { rows = rs }) (set-get_or table.rows from no_row)
+
+-- what the kept rows of one table gather, those of the other do
+pub gathers_kept : (places : Places) (old new : Table) (start stop : ℕ) (first result : Row) → IsKept old new start → Gathers places new start stop first result → Gathers places old start stop first result
+gathers_kept places old new start stop first result same g = record {
+  ends = λ k. ((λ h. forth k ((g.ends k).0 h)), (λ h. (g.ends k).1 (back k h)));
+  next = λ a b text from names each. g.next a b text from names (λ r above below has. subst (λ (x : Row). Names (Follows b (drop r text)) x.next) (sym (same.at r above)) (each r above below has));
+}
+  where
+    forth : (k : ℕ) → Has first.ends k ⊎ AnyRow places new start stop k → Has first.ends k ⊎ AnyRow places old start stop k
+    forth k (inl h) = inl h
+    forth k (inr (r, above, below, has, ends)) = inr (r, above, below, has, subst (λ (x : Row). Has x.ends k) (same.at r above) ends)
+
+    back : (k : ℕ) → Has first.ends k ⊎ AnyRow places old start stop k → Has first.ends k ⊎ AnyRow places new start stop k
+    back k (inl h) = inl h
+    back k (inr (r, above, below, has, ends)) = inr (r, above, below, has, subst (λ (x : Row). Has x.ends k) (sym (same.at r above)) ends)
+
+abbrev pub unended : Row → Row
+unended row = record { ends = blank_ends; next = row.next }
+
+-- the row of a sequence, where the first part's row still stands
+pub row_sequence_from : (a b : Pattern) (text : List ℕ) (A B : Table) (from len : ℕ) (row first result : Row) → length text ≡ len → from < len + 1 → Covers a text A → Covers b text B → row ≡ row_at A from → first ≡ unended row → Gathers row.ends B from (len + 1) first result → IsRow (sequence a b) (drop from text) from result
+row_sequence_from a b text A B from len row first result same within ca cb stands none g =
+    row_sequence a b text A B from first result (omega arith) ca cb (λ k h. no_place k (subst (λ (f : Row). Has f.ends k) none h)) (ap (λ (f : Row). f.next) none ∙ ap (λ (r : Row). r.next) stands)
+    (subst (λ (n : ℕ). Gathers (row_at A from).ends B from (n + 1) first result) (sym same) (subst (λ (r : Row). Gathers r.ends B from (len + 1) first result) stands g))
+
+-- the row of a repetition, where its part's row still stands
+pub row_many_from : (a : Pattern) (text : List ℕ) (A T : Table) (from len : ℕ) (row first result : Row) → length text ≡ len → from ≤ len → Covers a text A → IsRows (many a) text T (from + 1) (len + 1) → row ≡ row_at A from → ((k : ℕ) → Has first.ends k ↔ (k ≡ from)) → first.next ≡ row.next → Gathers row.ends T (from + 1) (len + 1) first result → IsRow (many a) (drop from text) from result
+row_many_from a text A T from len row first result same within ca later stands own follow g =
+    row_many a text A T from first result (omega arith) ca (λ p above inside. later.at p (omega arith) (omega arith) inside) own (follow ∙ ap (λ (r : Row). r.next) stands)
+    (subst (λ (n : ℕ). Gathers (row_at A from).ends T (from + 1) (n + 1) first result) (sym same) (subst (λ (r : Row). Gathers r.ends T (from + 1) (len + 1) first result) stands g))
+
 pub covers_rows : (a : Pattern) (text : List ℕ) (table : Table) (stop : ℕ) → length text < stop → IsRows a text table 0 stop → Covers a text table
 covers_rows a text table stop enough h = record { at = λ from within. h.at from (omega arith) (omega arith) within }
 
@@ -459,3 +532,16 @@ all_at_once i j h n some e = apart h some e
     apart : (k : ℕ) → 1 ≤ k → i + (j + j) * k ≡ n → i + (j + j * (k + k - 1)) ≡ n
     apart zero low f = absurd (omega arith)
     apart (suc k) low f = let g : suc k + suc k - 1 ≡ k + k + 1 = omega arith in ap (λ (x : ℕ). i + (j + j * x)) g ∙ grind (arith, f)
+
+-- the table so far and its power, for so many squarings that are left
+abbrev pub Left : Table → Table → Table → ℕ → ℕ → ℕ → Type 0
+Left base table power len h n = (i : ℕ) × (j : ℕ) × (i + (j + j) * h ≡ n) × Powers base table power len i j
+
+pub left_odd : (base table power result : Table) (len left h n i j : ℕ) → left ≡ h + h + 1 → i + j * left ≡ n → Joins table power len result → Powers base table power len i j → Left base result power len h n
+left_odd base table power result len left h n i j e f joins g = (i + j, j, odd_half i j h left n e f, powers_added base table power result len i j joins g)
+
+pub left_even : (base table power : Table) (len left h n i j : ℕ) → left ≡ h + h → i + j * left ≡ n → Powers base table power len i j → Left base table power len h n
+left_even base table power len left h n i j e f g = (i, j, even_half i j h left n e f, g)
+
+pub no_more : (i j h n : ℕ) → h ≡ 0 → i + (j + j) * h ≡ n → i + j * h ≡ n
+no_more i j h n e f = let g : i + (j + j) * 0 ≡ n = subst (λ (x : ℕ). i + (j + j) * x ≡ n) e f in subst (λ (x : ℕ). i + j * x ≡ n) (sym e) (omega arith)

@@ -5,15 +5,14 @@ ghost use Rattle.tv_picture.specs.Pattern.{Pattern, Member, Begins, IsStatus, Is
 ghost use Rattle.tv_picture.specs.Spelling.{spelled, IsPicture, Refuses};
 ghost use Rattle.tv_picture.specs.Parsing.{picture_of};
 ghost use Rattle.tv_picture.specs.Matching.{status_of, next_literal_of, shortest_length};
-ghost use Rattle.tv_picture.specs.Table.{Covers};
+ghost use Rattle.tv_picture.specs.Table.{IsRow};
 
 use crate::code::Op;
 use crate::fault::PictureFault;
 use crate::parser::Parser;
 use crate::reading::read;
-use crate::row::Next;
+use crate::row::{Next, Row};
 use crate::shortest::shortest;
-use crate::table::Table;
 use std::alloc::{AllocError, Global};
 use std::marker::Model;
 
@@ -89,10 +88,10 @@ impl Picture {
         }
     }
 
-    /// Where the picture's members stand in the text.
-    fn table(&self, text: &[char]) -> Table
+    /// Where the picture's members that begin the text end in it, and what may follow the text.
+    fn row(&self, text: &[char]) -> Row
         requires { length text.now ≤ 120 }
-        ensures { Covers self.now text.now result }
+        ensures { IsRow self.now text.now 0 result }
     {
         read(&self.code, text)
     }
@@ -108,7 +107,7 @@ impl Picture {
         ensures beginnings { result ≢ Status.Error → (k : ℕ) → Begins self.now (take k text.now) }
         ensures computed { result ≡ status_of self.now text.now }
     {
-        let row = self.table(text).rows[0];
+        let row = self.row(text);
         if row.ends.has(text.len()) {
             return Status::Complete;
         }
@@ -126,7 +125,7 @@ impl Picture {
         ensures literal { IfSome result (λ c. Contains (spelled self.now) c) }
         ensures computed { result ≡ next_literal_of self.now text.now }
     {
-        let row = self.table(text).rows[0];
+        let row = self.row(text);
         if text.len() == 120 || row.ends.has(text.len()) {
             return None;
         }

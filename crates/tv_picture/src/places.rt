@@ -1,6 +1,6 @@
 //! Sets of places of a text.
 
-ghost use Rattle.std.specs.Prelude.{◌≡◌, ◌↔◌, ◌<◌, ◌≤◌, ◌⊎◌, ℕ, IsTrue};
+ghost use Rattle.std.specs.Prelude.{◌≡◌, ◌↔◌, ◌+◌, ◌<◌, ◌≤◌, ◌⊎◌, ℕ, IsTrue};
 ghost use Rattle.tv_picture.specs.Table.{Has};
 
 /// A set of places, each below 128.
@@ -34,6 +34,17 @@ impl Places {
     {
         Places {
             bits: self.bits | other.bits,
+        }
+    }
+
+    /// The places from this one on, counted from it.
+    #[inline(always)]
+    pub fn past(self, place: usize) -> Places
+        requires { place < 128 }
+        ensures { (k : ℕ) → Has result k ↔ Has self (place + k) }
+    {
+        Places {
+            bits: self.bits >> place,
         }
     }
 

@@ -1,76 +1,109 @@
 //! A text read by a picture's code.
 
-ghost use Rattle.std.specs.Prelude.{◌≡◌, ◌+◌, ◌<◌, ◌≤◌, ℕ, List, length, Some, IsSome};
+ghost use Rattle.std.specs.Prelude.{◌≡◌, ◌+◌, ◌<◌, ◌≤◌, ℕ, List, length, Some, IsSome, IfSome};
 ghost use Rattle.tv_picture.specs.Pattern.{Pattern};
 ghost use Rattle.tv_picture.specs.Code.{step, height_after, height_from, pattern_of};
-ghost use Rattle.tv_picture.specs.Machine.{Made, Stands};
-ghost use Rattle.tv_picture.specs.Table.{Covers};
+ghost use Rattle.tv_picture.specs.Machine.{Stands, IsWithin};
+ghost use Rattle.tv_picture.specs.Table.{Covers, IsRow};
 
 use crate::code::{HEIGHT, Op};
+use crate::row::Row;
 use crate::table::Table;
 
-/// The tables of the patterns on the stack, the top one last.
-#[derive(Drop)]
-struct Stack {
-    tables: [Table; HEIGHT],
-    height: usize,
-    ghost bounded: { height ≤ 20 },
+/// The height of the stack after an operation.
+fn after(height: usize, op: Op) -> usize
+    requires { IsSome (height_after height op) }
+    ensures { height_after height op ≡ Some result }
+{
+    match op {
+        Op::Empty | Op::One(_) => height + 1,
+        Op::Sequence | Op::Either => height - 1,
+        Op::Optional | Op::Group | Op::Many | Op::Times(_) => height,
+    }
 }
 
-impl Stack {
-    /// What the operation makes for the text, and the place where it goes.
-    fn made(&self, op: Op, text: &[char]) -> (usize, Table)
-        requires few { length text.now ≤ 120 }
-        requires fits { IsSome (height_after self.now.height op) }
-        ensures place { height_after self.now.height op ≡ Some (result.0 + 1) }
-        ensures bound { result.0 < 20 }
-        ensures table { (ps : List Pattern) → Stands (λ p t. Covers p text.now t) self.now.tables self.now.height ps → Made (λ p t. Covers p text.now t) self.now.tables result.0 result.1 (step ps op) }
-    {
-        let len = text.len();
-        let height = self.height;
-        match op {
-            Op::Empty => (height, Table::empty()),
-            Op::One(mark) => (height, Table::one(mark, text)),
-            Op::Sequence => (
-                height - 2,
-                self.tables[height - 2].then(&self.tables[height - 1], len),
-            ),
-            Op::Either => (
-                height - 2,
-                self.tables[height - 2].or(&self.tables[height - 1]),
-            ),
-            Op::Optional => (height - 1, self.tables[height - 1].optional()),
-            Op::Group => (height - 1, self.tables[height - 1]),
-            Op::Many => (height - 1, self.tables[height - 1].many(len)),
-            Op::Times(count) => (height - 1, self.tables[height - 1].times(count, len)),
+/// The most patterns that stand on the stack at once.
+fn most(code: &[Op]) -> usize
+    requires { height_from 0 code.now ≡ Some 1 }
+    ensures { (n : ℕ) → result ≤ n → IsWithin n 0 code.now }
+{
+    let mut height = 0;
+    let mut most = 0;
+    for op in code {
+        height = after(height, *op);
+        most = most.max(height);
+    }
+    most
+}
+
+/// Does an operation for the text on the tables of the patterns on the stack, the top one last.
+fn apply(tables: &mut [Table], height: usize, op: Op, text: &[char])
+    requires few { length text.now ≤ 120 }
+    requires fits { IsSome (height_after height op) }
+    requires room { IfSome (height_after height op) (λ h. h ≤ length tables.old) }
+    requires within { height ≤ length tables.old }
+    ensures count { length tables.new ≡ length tables.old }
+    ensures tables { (ps : List Pattern) (h : ℕ) → height_after height op ≡ Some h → Stands (λ p t. Covers p text.now t) tables.old height ps → Stands (λ p t. Covers p text.now t) tables.new h (step ps op) }
+{
+    let len = text.len();
+    match op {
+        Op::Empty => tables[height].set_empty(len),
+        Op::One(mark) => tables[height].set_one(mark, text),
+        Op::Sequence => {
+            let (before, last) = tables.split_at_mut(height - 1);
+            before[height - 2].then(&last[0], len);
         }
-    }
-
-    /// Does an operation for the text.
-    fn apply(&mut self, op: Op, text: &[char])
-        requires few { length text.now ≤ 120 }
-        requires fits { IsSome (height_after self.old.height op) }
-        ensures height { height_after self.old.height op ≡ Some self.new.height }
-        ensures tables { (ps : List Pattern) → Stands (λ p t. Covers p text.now t) self.old.tables self.old.height ps → Stands (λ p t. Covers p text.now t) self.new.tables self.new.height (step ps op) }
-    {
-        let (place, table) = self.made(op, text);
-        self.tables[place] = table;
-        self.height = place + 1;
+        Op::Either => {
+            let (before, last) = tables.split_at_mut(height - 1);
+            before[height - 2].or(&last[0], len);
+        }
+        Op::Optional => tables[height - 1].set_optional(len),
+        Op::Group => {}
+        Op::Many => tables[height - 1].repeat(len),
+        Op::Times(count) => tables[height - 1].repeat_times(count, len),
     }
 }
 
-/// The table of a text for the pattern of the code.
-pub fn read(code: &[Op], text: &[char]) -> Table
+/// The first row of the text's table for the pattern of the code. There is a table for each pattern that stands on the stack at
+/// once.
+fn run(code: &[Op], text: &[char], tables: &mut [Table]) -> Row
     requires few { length text.now ≤ 120 }
     requires whole { height_from 0 code.now ≡ Some 1 }
-    ensures { Covers (pattern_of code.now) text.now result }
+    requires room { IsWithin (length tables.old) 0 code.now }
+    ensures { IsRow (pattern_of code.now) text.now 0 result }
 {
-    let mut stack = Stack {
-        tables: [Table::BLANK; HEIGHT],
-        height: 0,
-    };
+    let mut height = 0;
     for op in code {
-        stack.apply(*op, text);
+        apply(tables, height, *op, text);
+        height = after(height, *op);
     }
-    stack.tables[0]
+    tables[0].rows[0]
+}
+
+/// The first row, with so many tables.
+fn read_with<const N: usize>(code: &[Op], text: &[char]) -> Row
+    requires few { length text.now ≤ 120 }
+    requires whole { height_from 0 code.now ≡ Some 1 }
+    requires room { IsWithin N 0 code.now }
+    requires fits { N ≤ 20 }
+    ensures { IsRow (pattern_of code.now) text.now 0 result }
+{
+    let mut tables = [Table::BLANK; N];
+    run(code, text, &mut tables)
+}
+
+/// The first row of the text's table for the pattern of the code.
+///
+/// To blank a table takes longer than most operations, so there are fewer than twice as many as the code needs.
+pub fn read(code: &[Op], text: &[char]) -> Row
+    requires few { length text.now ≤ 120 }
+    requires whole { height_from 0 code.now ≡ Some 1 }
+    ensures { IsRow (pattern_of code.now) text.now 0 result }
+{
+    match most(code) {
+        0..=2 => read_with::<2>(code, text),
+        3..=4 => read_with::<4>(code, text),
+        5..=8 => read_with::<8>(code, text),
+        _ => read_with::<HEIGHT>(code, text),
+    }
 }

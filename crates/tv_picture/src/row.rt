@@ -1,6 +1,6 @@
 //! What is known of a pattern from one place of a text on.
 
-ghost use Rattle.std.specs.Prelude.{◌≡◌, ◌↔◌, ◌⊎◌, ℕ};
+ghost use Rattle.std.specs.Prelude.{◌≡◌, ◌↔◌, ◌⊎◌, ℕ, IsTrue};
 ghost use Rattle.tv_picture.specs.Table.{Has, joined};
 
 use crate::places::Places;
@@ -39,6 +39,24 @@ impl Row {
         ends: Places::NONE,
         next: Next::Nothing,
     };
+
+    /// What may follow alone, without the ends.
+    #[inline(always)]
+    pub fn unended(self) -> Row
+        ensures { result ≡ record { ends = record { bits = 0 }; next = self.next } }
+    {
+        Row {
+            ends: Places::NONE,
+            next: self.next,
+        }
+    }
+
+    #[inline(always)]
+    pub fn is(self, other: Row) -> bool
+        ensures { IsTrue result → self ≡ other }
+    {
+        self == other
+    }
 
     /// What either row has.
     #[inline(always)]

@@ -11,8 +11,9 @@ use crate::row::{Next, Row};
 /// How many places a text of 120 characters has.
 const PLACES: usize = 121;
 
-/// A row for each place of a text of at most 120 characters.
-#[derive(Clone, Copy, PartialEq, Eq)]
+/// A row for each place of a text of at most 120 characters. What is done to a table for a text of `len` characters is done in
+/// place, and to rows 0 to `len` alone: the others are never read.
+#[derive(Clone, Copy)]
 pub struct Table {
     pub rows: [Row; PLACES],
 }
@@ -22,28 +23,26 @@ impl Table {
         rows: [Row::NONE; PLACES],
     };
 
-    /// The table of the empty sequence.
-    pub fn empty() -> Table
-        ensures { (text : List ℕ) → length text ≤ 120 → Covers empty text result }
+    /// Makes it the table of the empty sequence.
+    pub fn set_empty(&mut self, len: usize)
+        requires { len ≤ 120 }
+        ensures { (text : List ℕ) → length text ≡ len → Covers empty text self.new }
     {
-        let mut table = Table::BLANK;
-        for place in 0..PLACES {
-            table.rows[place] = Row {
+        for place in 0..len + 1 {
+            self.rows[place] = Row {
                 ends: Places::only(place),
                 next: Next::Nothing,
             };
         }
-        table
     }
 
-    /// The table of one character.
-    pub fn one(mark: Mark, text: &[char]) -> Table
+    /// Makes it the table of one character.
+    pub fn set_one(&mut self, mark: Mark, text: &[char])
         requires { length text.now ≤ 120 }
-        ensures { Covers (one mark) text.now result }
+        ensures { Covers (one mark) text.now self.new }
     {
-        let mut table = Table::BLANK;
         for (place, ch) in text.iter().enumerate() {
-            table.rows[place] = Row {
+            self.rows[place] = Row {
                 ends: if mark.allows(*ch) {
                     Places::only(place + 1)
                 } else {
@@ -52,28 +51,38 @@ impl Table {
                 next: Next::Nothing,
             };
         }
-        table.rows[text.len()] = Row {
+        self.rows[text.len()] = Row {
             ends: Places::NONE,
             next: mark.next(),
         };
-        table
     }
 
-    /// The table of a sequence: this one, then the other.
-    pub fn then(&self, other: &Table, len: usize) -> Table
+    /// Makes it the table of a sequence: itself, then the other.
+    pub fn then(&mut self, other: &Table, len: usize)
         requires { len ≤ 120 }
-        ensures { (a b : Pattern) (text : List ℕ) → length text ≡ len → Covers a text self.now → Covers b text other.now → Covers (sequence a b) text result }
+        ensures { (a b : Pattern) (text : List ℕ) → length text ≡ len → Covers a text self.old → Covers b text other.now → Covers (sequence a b) text self.new }
     {
-        let mut table = Table::BLANK;
         for from in 0..len + 1 {
             let row = self.rows[from];
-            let first = Row {
-                ends: Places::NONE,
-                next: row.next,
-            };
-            table.rows[from] = other.gather(row.ends, from, len + 1, first);
+            self.rows[from] = other.gather(row.ends, from, len + 1, row.unended());
         }
-        table
+    }
+
+    /// Makes it the table of a sequence of itself and itself, and says whether that left it as it was. A row needs its own and
+    /// those of later places alone.
+    fn square(&mut self, len: usize) -> bool
+        requires { len ≤ 120 }
+        ensures joins { (a b : Pattern) (text : List ℕ) → length text ≡ len → Covers a text self.old → Covers b text self.old → Covers (sequence a b) text self.new }
+        ensures same { IsTrue result → self.new ≡ self.old }
+    {
+        let mut same = true;
+        for from in 0..len + 1 {
+            let row = self.rows[from];
+            let squared = self.gather(row.ends, from, len + 1, row.unended());
+            same = same && squared.is(row);
+            self.rows[from] = squared;
+        }
+        same
     }
 
     /// The row, and those of the table at these places from `start` on below `stop`.
@@ -83,49 +92,48 @@ impl Table {
         ensures { Gathers places self.now start stop first result }
     {
         let mut row = first;
+        let mut rest = places.past(start);
         for place in start..stop {
-            if places.is_below(place) {
+            if rest.is_below(0) {
                 return row;
             }
-            if places.has(place) {
+            if rest.has(0) {
                 row = row.join(self.rows[place]);
             }
+            rest = rest.past(1);
         }
         row
     }
 
-    /// The table of alternatives.
-    pub fn or(&self, other: &Table) -> Table
-        ensures { (a b : Pattern) (text : List ℕ) → length text ≤ 120 → Covers a text self.now → Covers b text other.now → Covers (either a b) text result }
+    /// Makes it the table of alternatives: itself, or the other.
+    pub fn or(&mut self, other: &Table, len: usize)
+        requires { len ≤ 120 }
+        ensures { (a b : Pattern) (text : List ℕ) → length text ≡ len → Covers a text self.old → Covers b text other.now → Covers (either a b) text self.new }
     {
-        let mut table = Table::BLANK;
-        for place in 0..PLACES {
-            table.rows[place] = self.rows[place].join(other.rows[place]);
+        for place in 0..len + 1 {
+            self.rows[place] = self.rows[place].join(other.rows[place]);
         }
-        table
     }
 
-    /// The table of an option.
-    pub fn optional(&self) -> Table
-        ensures { (a : Pattern) (text : List ℕ) → length text ≤ 120 → Covers a text self.now → Covers (optional a) text result }
+    /// Makes it the table of an option.
+    pub fn set_optional(&mut self, len: usize)
+        requires { len ≤ 120 }
+        ensures { (a : Pattern) (text : List ℕ) → length text ≡ len → Covers a text self.old → Covers (optional a) text self.new }
     {
-        let mut table = Table::BLANK;
-        for place in 0..PLACES {
+        for place in 0..len + 1 {
             let stays = Row {
                 ends: Places::only(place),
                 next: Next::Nothing,
             };
-            table.rows[place] = self.rows[place].join(stays);
+            self.rows[place] = self.rows[place].join(stays);
         }
-        table
     }
 
-    /// The table of a repetition any number of times. A row needs those of later places alone.
-    pub fn many(&self, len: usize) -> Table
+    /// Makes it the table of a repetition any number of times. A row needs those of later places alone.
+    pub fn repeat(&mut self, len: usize)
         requires { len ≤ 120 }
-        ensures { (a : Pattern) (text : List ℕ) → length text ≡ len → Covers a text self.now → Covers (many a) text result }
+        ensures { (a : Pattern) (text : List ℕ) → length text ≡ len → Covers a text self.old → Covers (many a) text self.new }
     {
-        let mut table = Table::BLANK;
         for done in 0..len + 1 {
             let from = len - done;
             let row = self.rows[from];
@@ -133,38 +141,27 @@ impl Table {
                 ends: Places::only(from),
                 next: row.next,
             };
-            table.rows[from] = table.gather(row.ends, from + 1, len + 1, first);
+            self.rows[from] = self.gather(row.ends, from + 1, len + 1, first);
         }
-        table
     }
 
-    fn is(&self, other: &Table) -> bool
-        ensures { IsTrue result → self.now ≡ other.now }
-    {
-        self == other
-    }
-
-    /// The table of a repetition so many times, by squaring.
-    pub fn times(&self, count: u8, len: usize) -> Table
+    /// Makes it the table of a repetition so many times, by squaring.
+    pub fn repeat_times(&mut self, count: u8, len: usize)
         requires { len ≤ 120 }
-        ensures { (a : Pattern) (text : List ℕ) → length text ≡ len → Covers a text self.now → Covers (times count a) text result }
+        ensures { (a : Pattern) (text : List ℕ) → length text ≡ len → Covers a text self.old → Covers (times count a) text self.new }
     {
-        let mut table = Table::empty();
         let mut power = *self;
+        self.set_empty(len);
         let mut left = count;
         while left > 0 {
             if left % 2 == 1 {
-                table = table.then(&power, len);
+                self.then(&power, len);
             }
             left /= 2;
-            if left > 0 {
-                let square = power.then(&power, len);
-                if square.is(&power) {
-                    return table.then(&power, len);
-                }
-                power = square;
+            if left > 0 && power.square(len) {
+                self.then(&power, len);
+                return;
             }
         }
-        table
     }
 }
