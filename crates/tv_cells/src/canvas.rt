@@ -22,7 +22,7 @@ pub struct Canvas {
     pub origin: Point,
 }
 
-/// Columns and rows of a screen, from the first on and before the second.
+/// Columns of a screen from `left` on and before `right`, and rows from `top` on and before `bottom`.
 #[derive(Clone, Copy)]
 pub(crate) struct Area {
     pub(crate) left: u32,
@@ -32,7 +32,8 @@ pub(crate) struct Area {
 }
 
 impl Canvas {
-    /// The canvas of a rectangle that is seen from the origin: the clip cut by it, the origin at its corner.
+    /// Makes the canvas of a rectangle that is seen from the origin: cuts the clip to it, and moves the origin to its
+    /// corner.
     pub fn sub(self, rect: Rect) -> Canvas
         requires origin { IsPointNear self.origin }
         requires rect { IsRectNear rect }
@@ -54,7 +55,8 @@ impl Canvas {
         }
     }
 
-    /// Gives the cells of a rectangle that is seen from the origin attribute 08. Their characters stay.
+    /// Gives attribute 08, that of shadows, to the cells of a rectangle that is seen from the origin. Their characters
+    /// stay.
     pub fn shade(self, screen: &mut Screen, rect: Rect)
         ensures { Changes (Covers self rect) (λ _ _ under. shaded under) screen.old screen.new }
     {
@@ -68,7 +70,7 @@ impl Canvas {
         }
     }
 
-    /// Shades what the shadow of a rectangle falls on, where the rectangle is seen from the origin.
+    /// Shades the cells on which the shadow of a rectangle falls. The rectangle is seen from the origin.
     pub fn cast_shadow(self, screen: &mut Screen, rect: Rect)
         requires { IsRectNear rect }
         ensures { Changes (IsShadow self rect) (λ _ _ under. shaded under) screen.old screen.new }

@@ -32,15 +32,18 @@ impl Model for Cell {
 
 /// Whether the character takes exactly one column.
 #[inline]
+#[tactic(auto, using(crate::proofs::NarrowLemmas::ascii_narrow))]
 pub fn is_narrow(ch: char) -> bool
     ensures fact { IsTrue result ↔ IsNarrow ch }
     ensures test { result ≡ is_narrow ch }
 {
-    ch.width() == Some(1)
+    // Most characters are printable ASCII ones, for which no table is asked.
+    matches!(ch, ' '..='~') || ch.width() == Some(1)
 }
 
 impl Cell {
-    /// A cell, where the character takes exactly one column, as `unicode_width` counts them.
+    /// Makes a cell, or returns `None` where the character doesn't take exactly one column, as `unicode_width` counts
+    /// them.
     pub fn new(ch: char, attr: u8) -> Option<Cell>
         ensures variant { IsSome result ↔ IsNarrow ch }
         ensures value { IfSome result (λ cell. cell ≡ glyph ch attr) }
@@ -53,7 +56,7 @@ impl Cell {
         }
     }
 
-    /// A space.
+    /// Makes the cell of a space.
     #[inline]
     pub fn space(attr: u8) -> Cell
         ensures { result ≡ glyph 32 attr }
@@ -62,7 +65,7 @@ impl Cell {
         Cell { ch: ' ', attr }
     }
 
-    /// The cell of a character, or of a space in its place where the character doesn't take one column.
+    /// Makes the cell of a character, or of a space where the character doesn't take one column.
     #[inline]
     pub fn shown(ch: char, attr: u8) -> Cell
         ensures { result ≡ shown ch attr }
@@ -75,7 +78,7 @@ impl Cell {
         }
     }
 
-    /// The cell of a character that takes one column, which isn't tested again.
+    /// Makes the cell of a character that is known to take one column, without a second test.
     #[inline]
     pub fn of(ch: NarrowChar, attr: u8) -> Cell
         ensures { result ≡ glyph ch attr }
@@ -85,7 +88,7 @@ impl Cell {
         Cell { ch, attr }
     }
 
-    /// The character.
+    /// Returns the character.
     pub fn ch(self) -> char
         ensures value { result ≡ self.ch }
         ensures width { IsNarrow result }
@@ -93,14 +96,14 @@ impl Cell {
         self.ch
     }
 
-    /// The attribute.
+    /// Returns the attribute.
     pub fn attr(self) -> u8
         ensures { result ≡ self.attr }
     {
         self.attr as u8
     }
 
-    /// The same character in a shadow, which has attribute 08.
+    /// Returns the same character in a shadow, which has attribute 08.
     pub fn shaded(self) -> Cell
         ensures { result ≡ shaded self }
     {

@@ -16,13 +16,14 @@ use crate::screen::Screen;
 pub trait Face {
     ghost face: { Self → ℕ → ℕ → Glyph };
 
-    /// The cell in a column and a row of the face.
+    /// Returns the cell in a column and a row of the face.
     fn at(&self, x: u32, y: u32) -> Cell
         ensures { result ≡ face self.now x y };
 
-    /// Writes the cells of a row of the face, from a column on.
+    /// Writes the cells of row `y` of the face, from column `from` on.
     ///
-    /// The provided body asks for each cell. A face that knows what is alike along a row writes that at once.
+    /// The provided body asks for one cell after another. A face that knows which cells of a row are alike writes those
+    /// at once.
     fn row(&self, y: u32, from: u32, cells: &mut [Cell])
         requires { from + length cells.old ≤ 2 ^ 32 }
         ensures count { length cells.new ≡ length cells.old }

@@ -9,10 +9,10 @@ use arrayvec::ArrayVec;
 use std::marker::Model;
 use thiserror::Error;
 
-/// Why a text is refused. Where several hold, the first in this order is answered.
+/// Why a text is refused. Where several faults hold, the first in this order is returned.
 #[derive(Clone, Copy, Debug, Drop, PartialEq, Eq, Error)]
 pub enum HotTextFault {
-    /// The first character that doesn't take one column, by its place among the characters, `~` counted.
+    /// The place of the first character that doesn't take one column. It counts all characters before it, `~` too.
     #[error("the character at {0} does not take one column")]
     BadWidth(usize),
     #[error("`~` is used otherwise than once round a letter or a digit")]
@@ -97,7 +97,7 @@ impl HotText {
         })
     }
 
-    /// The same text again.
+    /// Copies the text with its mark.
     pub fn copy(&self) -> HotText
         ensures { result ≡ self.now }
     {
@@ -107,7 +107,7 @@ impl HotText {
         }
     }
 
-    /// The characters, without the mark.
+    /// Returns the characters, without the mark.
     pub fn text(&self) -> &[char]
         ensures value { result.now ≡ self.now.text }
         ensures sound { IsHot self.now }
@@ -116,14 +116,14 @@ impl HotText {
         self.text.as_slice()
     }
 
-    /// Where the marked letter stands among the characters.
+    /// Returns where the marked letter stands among the characters, from 0, or `None` where nothing is marked.
     pub fn place(&self) -> Option<usize>
         ensures { result ≡ self.now.place }
     {
         self.place
     }
 
-    /// The marked letter in upper case, or the marked digit.
+    /// Returns the marked letter in upper case, or the marked digit, or `None` where nothing is marked.
     pub fn letter(&self) -> Option<char>
         ensures { result ≡ letter_of self.now }
     {

@@ -4,7 +4,7 @@ ghost use Rattle.std.specs.Int.{int_gap, int_max, int_min};
 ghost use Rattle.std.specs.Prelude.{◌^◌, ◌↔◌, ◌≡◌, ◌≤◌, ◌<◌, ◌≤ℤ◌, ◌<ℤ◌, IfSome, IfNone, IsTrue, ℕ, pos};
 ghost use Rattle.tv_cells.specs.Canvas.{IsAlong};
 
-// Whether a coordinate lies from one end on and before the other.
+// Whether a coordinate lies at or after one end and before the other.
 pub(crate) fn is_between(from: &i32, at: &i32, to: &i32) -> bool
     ensures { IsTrue result ↔ ((from.now ≤ℤ at.now) × (at.now <ℤ to.now)) }
 {
@@ -23,7 +23,7 @@ pub(crate) fn lesser(a: &i32, b: &i32) -> i32
     (*a).min(*b)
 }
 
-// How far a coordinate is above another, or 0.
+// How far a coordinate lies after another, or 0.
 pub(crate) fn gap(from: &i32, to: &i32) -> u32
     ensures { result ≡ int_gap from.now to.now }
 {
@@ -51,7 +51,7 @@ pub(crate) fn place(from: &i32, to: &i32, length: u32, origin: &i32, distance: &
     }
 }
 
-// The places on a line of this length that lie in two parts of the line: from the first on and before the second.
+// The range of the places of a line of this length that lie between `from` and `to` and between `start` and `end`.
 pub(crate) fn visible(from: &i32, to: &i32, length: u32, start: &i64, end: &i64) -> (u32, u32)
     ensures within { (result.0 ≤ result.1) × (result.1 ≤ length) }
     ensures places { (p : ℕ) → p < length → ((result.0 ≤ p) × (p < result.1)) ↔ ((from.now ≤ℤ pos p) × (pos p <ℤ to.now) × (start.now ≤ℤ pos p) × (pos p <ℤ end.now)) }

@@ -28,7 +28,7 @@ impl Model for NarrowChar {
 }
 
 impl NarrowChar {
-    /// A space.
+    /// Makes a space.
     #[inline]
     pub fn space() -> NarrowChar
         ensures { result ≡ 32 }
@@ -36,7 +36,7 @@ impl NarrowChar {
         NarrowChar { ch: ' ' }
     }
 
-    /// The character, or a space in its place where it doesn't take one column.
+    /// Makes the character, or a space where it doesn't take one column.
     #[inline]
     pub fn shown(ch: char) -> NarrowChar
         ensures { result ≡ shown_char ch }
@@ -48,7 +48,7 @@ impl NarrowChar {
         }
     }
 
-    /// The character itself.
+    /// Returns the character itself.
     #[inline]
     pub fn get(self) -> char
         ensures value { result ≡ self }
@@ -73,7 +73,7 @@ impl Model for NarrowText {
 }
 
 impl NarrowText {
-    /// The characters of a text as they are shown.
+    /// Makes the text that a screen shows for these characters.
     pub fn shown(alloc: Global, text: &[char]) -> Result<NarrowText, AllocError>
         ensures { IfOk result (λ shown. shown ≡ map shown_char text.now) }
     {
@@ -81,7 +81,7 @@ impl NarrowText {
         Ok(NarrowText { chars })
     }
 
-    /// Its characters.
+    /// Returns the characters.
     pub fn as_slice(&self) -> &[NarrowChar]
         ensures { result.now ≡ self.now }
     {
@@ -89,7 +89,7 @@ impl NarrowText {
     }
 }
 
-/// Writes the characters of a text from a column on, where it begins in column 0, and spaces behind them.
+/// Writes the cells of a row from column `from` on: those of a text that begins in column 0, and spaces after it.
 pub fn write_text(text: &[NarrowChar], attr: u8, from: usize, cells: &mut [Cell])
     ensures count { length cells.new ≡ length cells.old }
     ensures cells { IsRow (λ x. glyph (slice_index_or text.now x 32) attr) from cells.new }

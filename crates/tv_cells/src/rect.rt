@@ -14,7 +14,7 @@ pub struct Point {
 }
 
 impl Point {
-    /// The point moved by the coordinates of another.
+    /// Returns the point, moved by the coordinates of another.
     pub fn shift(&self, by: Point) -> Point
         requires point { IsPointNear self.now }
         requires by { IsPointNear by }
@@ -29,7 +29,7 @@ impl Point {
 
 /// A rectangle, half open: it has the column of `a` and lacks that of `b`, and its rows likewise.
 ///
-/// Where a coordinate of `b` isn't above that of `a` the rectangle is empty.
+/// Where a coordinate of `b` isn't greater than that of `a`, the rectangle is empty.
 #[derive(Clone, Copy, Debug, PartialEq, Eq)]
 pub struct Rect {
     pub a: Point,
@@ -44,7 +44,7 @@ impl Rect {
         is_between(&self.a.x, &point.x, &self.b.x) && is_between(&self.a.y, &point.y, &self.b.y)
     }
 
-    /// The points of both rectangles.
+    /// Returns the rectangle of the points that lie in both.
     pub fn intersect(&self, other: Rect) -> Rect
         ensures corners { result ≡ cut self.now other }
         ensures points { (x y : ℤ) → IsIn result x y ↔ (IsIn self.now x y × IsIn other x y) }
@@ -61,7 +61,7 @@ impl Rect {
         }
     }
 
-    /// The rectangle moved by the coordinates of a point.
+    /// Returns the rectangle, moved by the coordinates of a point.
     pub fn shift(&self, by: Point) -> Rect
         requires rect { IsRectNear self.now }
         requires by { IsPointNear by }
@@ -74,14 +74,14 @@ impl Rect {
         }
     }
 
-    /// The number of its columns, 0 where it is empty across.
+    /// Returns how many columns the rectangle has, which is 0 where `b` isn't right of `a`.
     pub fn width(&self) -> u32
         ensures { result ≡ int_gap self.now.a.x self.now.b.x }
     {
         gap(&self.a.x, &self.b.x)
     }
 
-    /// The number of its rows, 0 where it is empty down.
+    /// Returns how many rows the rectangle has, which is 0 where `b` isn't below `a`.
     pub fn height(&self) -> u32
         ensures { result ≡ int_gap self.now.a.y self.now.b.y }
     {

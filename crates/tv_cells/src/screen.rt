@@ -55,11 +55,12 @@ impl Model for Screen {
 }
 
 impl Screen {
-    /// A blank screen, all spaces with attribute 00.
+    /// Makes a blank screen, all spaces with attribute 00.
     ///
     /// # Errors
     ///
-    /// `BadSize` outside 20 to 132 columns and 10 to 60 rows, else `NoMemory` where there is none for the cells.
+    /// `BadSize` unless there are 20 to 132 columns and 10 to 60 rows, else `NoMemory` where there is none for the
+    /// cells.
     pub fn new(alloc: Global, width: u32, height: u32) -> Result<Screen, ScreenFault>
         ensures size { IfOk result (λ screen. (screen.width ≡ width) × (screen.height ≡ height)) }
         ensures blank { IfOk result (λ screen. Shows [] screen) }
@@ -76,7 +77,7 @@ impl Screen {
         })
     }
 
-    /// The number of columns.
+    /// Returns the number of columns.
     pub fn width(&self) -> u32
         ensures is { result ≡ self.now.width }
         ensures small { (20 ≤ result) × (result ≤ 132) }
@@ -84,7 +85,7 @@ impl Screen {
         self.width
     }
 
-    /// The number of rows.
+    /// Returns the number of rows.
     pub fn height(&self) -> u32
         ensures is { result ≡ self.now.height }
         ensures small { (10 ≤ result) × (result ≤ 60) }
@@ -92,7 +93,7 @@ impl Screen {
         self.height
     }
 
-    /// The canvas of the whole screen, with the origin in its corner.
+    /// Makes the canvas of the whole screen, with the origin in its corner.
     pub fn canvas(&self) -> Canvas
         ensures { result ≡ whole self.now.width self.now.height }
     {
@@ -107,7 +108,7 @@ impl Screen {
         }
     }
 
-    /// The cell at a point, where the point is on the screen.
+    /// Returns the cell at a point, or `None` where the point isn't on the screen.
     pub fn at(&self, point: Point) -> Option<Cell>
         ensures found { IsSome result ↔ IsIn (sized self.now.width self.now.height) point.x point.y }
         ensures value { IfSome result (λ cell. (column row : ℕ) → point.x ≡ pos column → point.y ≡ pos row → cell ≡ cell_at self.now column row) }
@@ -121,7 +122,7 @@ impl Screen {
         Some(self.get(column, row))
     }
 
-    /// The cell in a column and a row.
+    /// Returns the cell in a column and a row.
     #[inline]
     pub fn get(&self, column: u32, row: u32) -> Cell
         requires { IsOn self.now column row }
@@ -148,7 +149,8 @@ impl Screen {
         self.cells[index] = cell;
     }
 
-    // Writes cells of a row of a face, those from a column of the face on, from one column of the screen on and before another.
+    // Writes row `y` of a face, from its column `from` on, into a row of the screen, from column `left` on and before
+    // `right`.
     pub(crate) fn paint_row<F: Face>(
         &mut self,
         face: &F,
@@ -168,7 +170,7 @@ impl Screen {
         face.row(y, from, &mut self.cells[start..end]);
     }
 
-    // Shades the cells of a row, from one column of the screen on and before another.
+    // Shades the cells of a row, from column `left` on and before `right`.
     pub(crate) fn shade_row(&mut self, row: u32, left: u32, right: u32)
         requires across { (left ≤ right) × (right ≤ self.old.width) }
         requires down { row < self.old.height }

@@ -1,12 +1,12 @@
 -- The cells of an input line, and their attributes.
-use Rattle.std.specs.Prelude.{ℕ, Bool, false, List}
-use Rattle.tv_cells.specs.Glyph.{shown}
+use Rattle.std.specs.Prelude.{ℕ, Bool, false, List, length, nat_lt, ◌&&◌, if◌then◌else◌}
+use Rattle.tv_cells.specs.Glyph.{Glyph, shown}
 use Rattle.tv_palette.specs.Palettes.{colour_in}
 use Rattle.tv_palette.specs.declared.role.InputRole.{InputRole}
 use Rattle.tv_palette.specs.declared.role.InputRole.TheVariants as input
 use Rattle.tv_palette.specs.declared.role.Role.TheVariants as roles
 use Rattle.tv_model.specs.Kinds.InputLine.{Edit, input_cell}
-use Rattle.tv_model.specs.Screen.Faces.{FaceOf}
+use Rattle.tv_model.specs.Screen.Faces.{FaceOf, text_row}
 use Rattle.tv_faces.specs.declared.input.InputColours.{InputColours}
 
 -- the attributes to which a chain leads
@@ -28,6 +28,11 @@ attr_of colours input.Cursor = colours.cursor
 -- what is shown of an edit
 abbrev pub seen_edit : List ℕ → ℕ → Bool → Edit
 seen_edit text cursor is_whole = record { text = text; cursor = cursor; is_whole = is_whole; overwrites = false }
+
+-- a place of the text or after it, as it is where the cursor isn't
+abbrev pub place_cell : InputColours → Bool → Edit → ℕ → Glyph
+place_cell colours is_focused e place =
+    shown (text_row e.text place) (if is_focused && (e.is_whole && nat_lt place (length e.text)) then colours.selected else colours.normal)
 
 -- the text round the cursor
 abbrev pub input_cells : InputColours → ℕ → Bool → Edit → FaceOf

@@ -1,6 +1,6 @@
 //! Buttons.
 
-ghost use Rattle.std.specs.Prelude.{◌≡◌, ◌<◌, ◌+◌, ◌-◌, ◌/◌, ◌^◌, length};
+ghost use Rattle.std.specs.Prelude.{◌≡◌, ◌≢◌, ◌<◌, ◌≤◌, ◌+◌, ◌-◌, ◌/◌, ◌^◌, ℕ, length, slice_index_or};
 ghost use Rattle.tv_palette.specs.Chain.{coloured};
 ghost use Rattle.tv_palette.specs.Palettes.{colour_in, owners_of_part};
 ghost use Rattle.tv_palette.specs.declared.role.Owner.TheVariants.{Dialog};
@@ -9,7 +9,7 @@ ghost use Rattle.tv_model.specs.Screen.Faces.{button_attr, button_role, button_t
 ghost use Rattle.tv_faces.specs.Looks.{button_look_of};
 
 use crate::look::ButtonLook;
-use crate::row::text_char;
+use crate::row::{put, text_char, write_over};
 use tv_cells::{Cell, Face};
 use tv_palette::{ButtonRole, Chain, Role};
 
@@ -98,6 +98,31 @@ fn button_char(width: usize, text: &[char], is_default_now: bool, x: usize) -> c
     }
 }
 
+impl ButtonFace<'_> {
+    ghost use Rattle.tv_cells.specs.Glyph.{blank};
+    ghost use Rattle.tv_model.specs.Screen.Faces.{button_cells};
+
+    // The text with its letter. The columns of the brackets are left to be written.
+    fn write_text(&self, from: usize, cells: &mut [Cell])
+        requires { from + length cells.old ≤ 2 ^ 32 }
+        ensures count { length cells.new ≡ length cells.old }
+        ensures cells { (i : ℕ) → i < length cells.new → 0 < from + i → from + i + 1 ≢ self.now.width
+            → slice_index_or cells.new i blank ≡ button_cells self.now.width self.now.text.now self.now.mark self.now.is_default_now self.now.letter self.now.rest (from + i) 0 }
+    {
+        let width = self.width as usize;
+        let shown = cut(width, self.text);
+        let start = button_start(width, shown);
+        cells.fill(Cell::space(self.rest));
+        write_over(shown, self.rest, start, from, cells);
+        if let Some(mark) = self.mark {
+            if mark < shown.len() {
+                let letter = Cell::shown(text_char(shown, mark), self.letter);
+                put(letter, start + mark, from, cells);
+            }
+        }
+    }
+}
+
 impl Face for ButtonFace<'_> {
     ghost use Rattle.tv_model.specs.Screen.Faces.{button_cells};
 
@@ -113,5 +138,15 @@ impl Face for ButtonFace<'_> {
             self.rest
         };
         Cell::shown(button_char(width, self.text, self.is_default_now, x), attr)
+    }
+
+    fn row(&self, y: u32, from: u32, cells: &mut [Cell]) {
+        let start = from as usize;
+        self.write_text(start, cells);
+        put(self.at(0, y), 0, start, cells);
+        if self.width > 0 {
+            let last = self.width - 1;
+            put(self.at(last, y), last as usize, start, cells);
+        }
     }
 }

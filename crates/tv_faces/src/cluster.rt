@@ -1,6 +1,6 @@
 //! Check boxes and radio buttons.
 
-ghost use Rattle.std.specs.Prelude.{◌≡◌, ◌==◌, ◌&&◌, ◌<◌, ◌≤◌, ◌^◌, ◌+◌, ◌++◌, Some, length, ℕ};
+ghost use Rattle.std.specs.Prelude.{◌≡◌, ◌==◌, ◌&&◌, ◌≤◌, ◌^◌, ◌+◌, ◌++◌, Some, length, ℕ};
 ghost use Rattle.tv_cells.specs.Glyph.{shown};
 ghost use Rattle.tv_cells.specs.Row.{IsRow};
 ghost use Rattle.tv_model.specs.Kinds.Cluster.{is_marked, box_before, cluster_row};
@@ -12,7 +12,7 @@ ghost use Rattle.tv_palette.specs.declared.role.ClusterRole.TheVariants as clust
 ghost use Rattle.tv_palette.specs.declared.role.Role.TheVariants as roles;
 ghost use Rattle.tv_faces.specs.Choices.{item_cells, kind_of, value_of};
 
-use crate::row::text_char;
+use crate::row::{put, text_char, write_over};
 use tv_cells::{Cell, Face};
 use tv_model::MarkedText;
 use tv_palette::{Chain, ClusterRole, Role};
@@ -114,15 +114,15 @@ impl ItemRow<'_> {
         Cell::shown(self.char_at(x), attr)
     }
 
-    // The first column after the text and the mark: from there on all cells are alike.
-    fn end(&self) -> usize
-        ensures { (x : ℕ) → result ≤ x → x < 2 ^ 32 → item_cells self.now x ≡ shown 32 self.now.rest }
+    // Writes the cells from a column on as they are without the marked letter.
+    fn write_rest(&self, from: usize, cells: &mut [Cell])
+        requires { from + length cells.old ≤ 2 ^ 32 }
+        ensures count { length cells.new ≡ length cells.old }
+        ensures cells { IsRow (λ x. shown (text_row (self.now.before ++ self.now.text.now) x) self.now.rest) from cells.new }
     {
-        let after_mark = match self.mark {
-            Some(place) => place.saturating_add(1),
-            None => 0,
-        };
-        self.text.len().max(after_mark).saturating_add(4)
+        cells.fill(Cell::space(self.rest));
+        write_over(&self.before, self.rest, 0, from, cells);
+        write_over(self.text, self.rest, 4, from, cells);
     }
 
     // Writes the cells from a column on.
@@ -131,12 +131,11 @@ impl ItemRow<'_> {
         ensures count { length cells.new ≡ length cells.old }
         ensures cells { IsRow (item_cells self.now) from cells.new }
     {
-        let count = self.end().saturating_sub(from).min(cells.len());
-        let (front, back) = cells.split_at_mut(count);
-        for (i, cell) in front.iter_mut().enumerate() {
-            *cell = self.cell(from + i);
+        self.write_rest(from, cells);
+        if let Some(place) = self.mark {
+            let letter = Cell::shown(text_char(self.text, place), self.letter);
+            put(letter, place.saturating_add(4), from, cells);
         }
-        back.fill(Cell::shown(' ', self.rest));
     }
 }
 

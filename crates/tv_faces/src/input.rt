@@ -1,9 +1,9 @@
 //! Input lines.
 
-ghost use Rattle.std.specs.Prelude.{◌≡◌, ◌≤◌};
+ghost use Rattle.std.specs.Prelude.{◌≡◌, ◌≢◌, ◌+◌, ◌<◌, ◌≤◌, ◌^◌, ℕ, length, slice_index_or};
 ghost use Rattle.tv_model.specs.Kinds.InputLine.{first_shown, arrow_cell, input_cell, text_role};
 
-use crate::row::text_char;
+use crate::row::{put, text_char, write_over};
 use tv_cells::{Cell, Face};
 use tv_palette::{Chain, InputRole, Role};
 
@@ -79,7 +79,9 @@ fn arrow(is_hidden: bool, ch: char) -> (char, InputRole)
 }
 
 impl InputFace<'_> {
-    ghost use Rattle.tv_faces.specs.Inputs.{seen_edit};
+    ghost use Rattle.std.specs.Prelude.{◌&&◌, ◌-◌, if◌then◌else◌};
+    ghost use Rattle.tv_cells.specs.Glyph.{blank};
+    ghost use Rattle.tv_faces.specs.Inputs.{input_cells, place_cell, seen_edit};
 
     fn text_role(&self, place: usize) -> InputRole
         ensures { result ≡ text_role self.now.is_focused (seen_edit self.now.text.now self.now.cursor self.now.is_whole) place }
@@ -90,6 +92,45 @@ impl InputFace<'_> {
             InputRole::SelectedText
         } else {
             InputRole::Normal
+        }
+    }
+
+    // The attribute of the text, which a cursor on it doesn't have.
+    fn text_attr(&self) -> u8
+        ensures { result ≡ (if self.now.is_focused && self.now.is_whole then self.now.colours.selected else self.now.colours.normal) }
+    {
+        if self.is_focused && self.is_whole {
+            self.colours.selected
+        } else {
+            self.colours.normal
+        }
+    }
+
+    // The text from a place in column 1 on, without a cursor. Column 0 is left to be written.
+    fn write_places(&self, first: usize, from: usize, cells: &mut [Cell])
+        requires { from + length cells.old ≤ 2 ^ 32 }
+        ensures count { length cells.new ≡ length cells.old }
+        ensures cells { (i : ℕ) → i < length cells.new → 0 < from + i
+            → slice_index_or cells.new i blank ≡ place_cell self.now.colours self.now.is_focused (seen_edit self.now.text.now self.now.cursor self.now.is_whole) (first + (from + i) - 1) }
+    {
+        let shown = &self.text[first.min(self.text.len())..];
+        cells.fill(Cell::space(self.colours.normal));
+        write_over(shown, self.text_attr(), 1, from, cells);
+    }
+
+    // The text and the cursor. The columns of the arrows are left to be written.
+    fn write_text(&self, from: usize, cells: &mut [Cell])
+        requires { from + length cells.old ≤ 2 ^ 32 }
+        ensures count { length cells.new ≡ length cells.old }
+        ensures cells { (i : ℕ) → i < length cells.new → 0 < from + i → from + i + 1 ≢ self.now.width
+            → slice_index_or cells.new i blank ≡ input_cells self.now.colours self.now.width self.now.is_focused (seen_edit self.now.text.now self.now.cursor self.now.is_whole) (from + i) 0 }
+    {
+        let first = first_shown(self.width, self.cursor) as usize;
+        self.write_places(first, from, cells);
+        if self.is_focused {
+            let cursor = self.cursor as usize;
+            let cell = Cell::shown(text_char(self.text, cursor), self.colours.cursor);
+            put(cell, cursor + 1 - first, from, cells);
         }
     }
 
@@ -122,5 +163,15 @@ impl Face for InputFace<'_> {
         let _row = y;
         let (ch, role) = self.cell(x);
         Cell::shown(ch, self.colours.attr(role))
+    }
+
+    fn row(&self, y: u32, from: u32, cells: &mut [Cell]) {
+        let start = from as usize;
+        self.write_text(start, cells);
+        put(self.at(0, y), 0, start, cells);
+        if self.width > 0 {
+            let last = self.width - 1;
+            put(self.at(last, y), last as usize, start, cells);
+        }
     }
 }

@@ -3,7 +3,7 @@
 ghost use Rattle.std.specs.Prelude.{◌≡◌};
 ghost use Rattle.tv_faces.specs.Labels.{is_mark};
 
-use crate::row::text_char;
+use crate::row::{put, text_char, write_row};
 use tv_cells::{Cell, Face};
 
 /// A label of a dialog.
@@ -40,5 +40,14 @@ impl Face for LabelFace<'_> {
             self.rest
         };
         Cell::shown(text_char(self.text, x), attr)
+    }
+
+    fn row(&self, _y: u32, from: u32, cells: &mut [Cell]) {
+        let from = from as usize;
+        write_row(self.text, self.rest, from, cells);
+        if let Some(place) = self.mark {
+            let letter = Cell::shown(text_char(self.text, place), self.letter);
+            put(letter, place, from, cells);
+        }
     }
 }

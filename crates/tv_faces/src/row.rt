@@ -1,7 +1,7 @@
 //! Rows of characters.
 
-ghost use Rattle.std.specs.Prelude.{◌≡◌, ◌+◌, ◌≤◌, ◌^◌, ◌∷◌, length};
-ghost use Rattle.tv_cells.specs.Glyph.{shown};
+ghost use Rattle.std.specs.Prelude.{◌≡◌, ◌≢◌, ◌+◌, ◌-◌, ◌<◌, ◌≤◌, ◌^◌, ◌∷◌, ℕ, length, slice_index_or};
+ghost use Rattle.tv_cells.specs.Glyph.{blank, shown};
 ghost use Rattle.tv_cells.specs.Row.{IsRow};
 ghost use Rattle.tv_model.specs.Screen.Faces.{text_row};
 
@@ -36,4 +36,36 @@ pub(crate) fn write_row(text: &[char], attr: u8, from: usize, cells: &mut [Cell]
         *cell = Cell::shown(text[from + i], attr);
     }
     back.fill(Cell::shown(' ', attr));
+}
+
+/// Puts a cell in a column, where it is among the cells from a column on.
+pub(crate) fn put(cell: Cell, x: usize, from: usize, cells: &mut [Cell])
+    ensures count { length cells.new ≡ length cells.old }
+    ensures put { (i : ℕ) → i < length cells.new → from + i ≡ x → slice_index_or cells.new i blank ≡ cell }
+    ensures kept { (i : ℕ) → i < length cells.new → from + i ≢ x → slice_index_or cells.new i blank ≡ slice_index_or cells.old i blank }
+{
+    if from <= x && x - from < cells.len() {
+        cells[x - from] = cell;
+    }
+}
+
+/// Writes the characters of a text that begins in column `start` over cells from a column on. The other cells stay.
+pub(crate) fn write_over(text: &[char], attr: u8, start: usize, from: usize, cells: &mut [Cell])
+    requires column { from + length cells.old ≤ 2 ^ 32 }
+    requires start { start < 2 ^ 32 }
+    ensures count { length cells.new ≡ length cells.old }
+    ensures written { (i : ℕ) → i < length cells.new → start ≤ from + i → from + i < start + length text.now
+        → slice_index_or cells.new i blank ≡ shown (slice_index_or text.now (from + i - start) 32) attr }
+    ensures before { (i : ℕ) → i < length cells.new → from + i < start → slice_index_or cells.new i blank ≡ slice_index_or cells.old i blank }
+    ensures after { (i : ℕ) → i < length cells.new → start + length text.now ≤ from + i → slice_index_or cells.new i blank ≡ slice_index_or cells.old i blank }
+{
+    let first = start.saturating_sub(from);
+    let last = text
+        .len()
+        .saturating_add(start)
+        .saturating_sub(from)
+        .min(cells.len());
+    for i in first..last {
+        cells[i] = Cell::shown(text[from + i - start], attr);
+    }
 }
