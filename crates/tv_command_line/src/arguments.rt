@@ -5,7 +5,7 @@ use clap::{Arg, ArgAction, ArgMatches, Command, Error};
 use std::alloc::{AllocError, Global};
 use tv_files::{NoTask, Task};
 
-/// What is told below the help of the program and of each subcommand.
+/// The text below the help of the program and of each subcommand.
 const STATUSES: &str = "Statuses: 0 done; 1 faults, a refusal or a bad text; 2 usage; \
     3 a file, a stream or memory failed. Messages go to standard error, all else to standard output.";
 
@@ -83,7 +83,8 @@ fn command<'a>(alloc: Global) -> Result<Command<'a>, AllocError> {
         .subcommand(run(alloc)?)
 }
 
-/// Reads the words of the command line, of which the first is the program's own: the task, or what to tell of them.
+/// Reads the task from the words of a command line, of which the first names the program, or returns what to report
+/// instead.
 pub fn read_task<'a>(alloc: Global, words: &'a [String]) -> Result<Task<'a>, NoTask> {
     match parse(alloc, words) {
         Ok(task) => Ok(task),
@@ -92,7 +93,7 @@ pub fn read_task<'a>(alloc: Global, words: &'a [String]) -> Result<Task<'a>, NoT
     }
 }
 
-/// Reads the words of the command line. Help is an error too: what is wanted is its text.
+/// Reads the words of the command line. Help is an error too, and carries its text.
 pub fn parse<'a>(alloc: Global, words: &'a [String]) -> Result<Task<'a>, Error> {
     let matches = command(alloc)?.try_get_matches_from(words)?;
     match matches.subcommand() {

@@ -1,6 +1,6 @@
 -- What tasks come to, by what each step of them came to.
 use Rattle.std.proofs.Common.{◌≡◌, ℕ, List, [], ◌∷◌, Some, Result, Ok, Err, IsErrAnd, refl}
-use Rattle.tv_output.specs.Writer.{Seen}
+use Rattle.tv_io.specs.Writer.{Seen}
 use Rattle.tv_program.specs.declared.fault.RunFault.{RunFault}
 use Rattle.tv_files.specs.declared.failure.Failure.{Failure}
 use Rattle.tv_files.specs.declared.text_kind.TextKind.{TextKind}

@@ -1,6 +1,6 @@
 -- What was offered to a stream that was flushed well.
 use Rattle.std.proofs.Common.{◌≡◌, ℕ, List, inl, inr, ◌∙◌, sym, arith}
-use Rattle.tv_output.specs.Writer.{HasRisen, Seen, Takes}
+use Rattle.tv_io.specs.Writer.{HasRisen, Seen, Takes}
 use Rattle.tv_program.specs.Report.{IsOffered}
 use Rattle.tv_files.specs.Streams.{IsWritten}
 

@@ -1,7 +1,7 @@
 -- How the program ends.
 use Rattle.std.specs.Prelude.{◌≡◌, ℕ, List, Result, Ok, Err}
 use Rattle.tv_model.specs.declared.desc.Desc.{Desc}
-use Rattle.tv_output.specs.Writer.{Seen}
+use Rattle.tv_io.specs.Writer.{Seen}
 use Rattle.tv_files.specs.declared.no_task.NoTask.{NoTask}
 use Rattle.tv_files.specs.declared.task.Task.{Task}
 use Rattle.tv_files.specs.Ends.{End}

@@ -1,7 +1,7 @@
 -- What a flush leaves, and a row of texts.
 use Rattle.std.specs.Prelude.{◌≡◌, ℕ, ◌⊎◌, List, [], ◌∷◌, Result, Ok, Err}
 use Rattle.std.specs.Io.KnownBytes.{Keeps}
-use Rattle.tv_output.specs.Writer.{Fails, Seen}
+use Rattle.tv_io.specs.Writer.{Fails, Seen}
 use Rattle.tv_program.specs.Report.{IsOffered}
 
 -- all that the stream took is written, and no call of it has ever failed

@@ -3,7 +3,7 @@ use Rattle.std.specs.Prelude.{◌≡◌, ℕ, List, [], ◌∷◌, Some, IsNone,
 use Rattle.tv_lang.specs.declared.description.LangFault.{LangFault}
 use Rattle.tv_lang.specs.Faults.{Refuses, Spells}
 use Rattle.tv_model.specs.declared.desc.Desc.{Desc}
-use Rattle.tv_output.specs.Writer.{Seen}
+use Rattle.tv_io.specs.Writer.{Seen}
 use Rattle.tv_program.specs.declared.accept_fault.AcceptFault.{AcceptFault}
 use Rattle.tv_program.specs.declared.check_fault.CheckFault.{CheckFault}
 use Rattle.tv_program.specs.declared.fault.RunFault.{RunFault}

@@ -1,6 +1,6 @@
 -- What is told of how a task ended, and the status.
 use Rattle.std.specs.Prelude.{◌≡◌, ℕ, List, [], ◌∷◌, Some, None, string_bytes}
-use Rattle.tv_output.specs.Writer.{Fails, Seen, Takes}
+use Rattle.tv_io.specs.Writer.{Fails, Seen, Takes}
 use Rattle.tv_program.specs.declared.fault.RunFault.TheVariants.{NoMemory, Write}
 use Rattle.tv_program.specs.Report.{IsOffered, err_text, out_text, status_of}
 use Rattle.tv_files.specs.declared.no_task.NoTask.{NoTask}

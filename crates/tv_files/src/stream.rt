@@ -1,13 +1,13 @@
 //! Streams: writers that may keep bytes back.
 
-ghost use Rattle.std.specs.Prelude.{◌≡◌, ℕ, List, [], IfOk};
+ghost use Rattle.std.specs.Prelude.{◌≡◌, ℕ, false, List, [], IfOk};
 ghost use Rattle.std.specs.Io.KnownBytes.{Keeps};
-ghost use Rattle.tv_output.specs.Device.{device_seen, kept_back as device_kept_back};
+ghost use Rattle.tv_io.specs.Device.{device_seen, kept_back as device_kept_back};
 ghost use Rattle.tv_files.specs.Streams.{Flushes};
 
 use std::alloc::{AllocError, Global};
 use std::io::Write;
-use tv_output::{Device, WriteFailed, Writer};
+use tv_io::{Device, WriteFailed, Writer};
 
 /// A writer that may keep back what it took.
 pub trait Stream: Writer {
@@ -18,11 +18,15 @@ pub trait Stream: Writer {
         ensures { Flushes (Self.seen self.old) (Self.seen self.new) (kept_back self.new) result };
 }
 
-/// A stream to which the bytes go in large pieces.
+/// A stream to which the bytes go in large pieces, or when they are passed on.
 #[derive(Drop)]
 pub struct BufferedStream<W: Write + Drop> {
     device: Device<W>,
     failures: u64,
+    /// What it took couldn't be passed on. It takes no more, and its flush fails.
+    is_broken: bool,
+    // no failure of the device goes untold
+    ghost told: { failures ≡ 0 → is_broken ≡ false → device.failures ≡ 0 },
 }
 
 impl<W: Write + Drop> BufferedStream<W> {
@@ -35,6 +39,7 @@ impl<W: Write + Drop> BufferedStream<W> {
         Ok(BufferedStream {
             device,
             failures: 0,
+            is_broken: false,
         })
     }
 }
@@ -43,12 +48,19 @@ impl<W: Write + Drop> Writer for BufferedStream<W> {
     ghost seen = { λ s. record { taken = (device_seen W.contents s.device).taken; failures = s.failures } };
 
     fn write(&mut self, bytes: &[u8]) -> Option<usize> {
-        match self.device.write(bytes) {
-            Some(count) if count > 0 => Some(count),
-            _ => {
-                self.failures = self.failures.saturating_add(1);
-                None
-            }
+        if !self.is_broken
+            && let Some(count) = self.device.write(bytes)
+            && count > 0
+        {
+            return Some(count);
+        }
+        self.failures = self.failures.saturating_add(1);
+        None
+    }
+
+    fn pass_on(&mut self) {
+        if !self.is_broken && self.device.flush().is_err() {
+            self.is_broken = true;
         }
     }
 }
@@ -57,7 +69,7 @@ impl<W: Write + Drop> Stream for BufferedStream<W> {
     ghost kept_back = { λ s. device_kept_back s.device };
 
     fn flush(&mut self) -> Result<(), WriteFailed> {
-        if self.failures == 0 && self.device.flush().is_ok() {
+        if !self.is_broken && self.failures == 0 && self.device.flush().is_ok() {
             return Ok(());
         }
         self.failures = self.failures.saturating_add(1);
@@ -70,6 +82,8 @@ impl<W: Write + Drop> Stream for BufferedStream<W> {
 pub struct DirectStream<W: Write + Drop> {
     writer: W,
     failures: u64,
+    /// What it took couldn't be passed on. It takes no more, and its flush fails.
+    is_broken: bool,
 }
 
 impl<W: Write + Drop> DirectStream<W> {
@@ -81,6 +95,7 @@ impl<W: Write + Drop> DirectStream<W> {
         DirectStream {
             writer,
             failures: 0,
+            is_broken: false,
         }
     }
 }
@@ -89,12 +104,19 @@ impl<W: Write + Drop> Writer for DirectStream<W> {
     ghost seen = { λ s. record { taken = W.contents s.writer; failures = s.failures } };
 
     fn write(&mut self, bytes: &[u8]) -> Option<usize> {
-        match self.writer.write(bytes) {
-            Ok(count) if count > 0 => Some(count),
-            _ => {
-                self.failures = self.failures.saturating_add(1);
-                None
-            }
+        if !self.is_broken
+            && let Ok(count) = self.writer.write(bytes)
+            && count > 0
+        {
+            return Some(count);
+        }
+        self.failures = self.failures.saturating_add(1);
+        None
+    }
+
+    fn pass_on(&mut self) {
+        if !self.is_broken && self.writer.flush().is_err() {
+            self.is_broken = true;
         }
     }
 }
@@ -103,7 +125,7 @@ impl<W: Write + Drop> Stream for DirectStream<W> {
     ghost kept_back = { λ _. [] };
 
     fn flush(&mut self) -> Result<(), WriteFailed> {
-        if self.failures == 0 && self.writer.flush().is_ok() {
+        if !self.is_broken && self.failures == 0 && self.writer.flush().is_ok() {
             return Ok(());
         }
         self.failures = self.failures.saturating_add(1);

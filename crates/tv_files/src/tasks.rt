@@ -13,9 +13,9 @@ use crate::text_kind::TextKind;
 use std::alloc::Global;
 use tv_building::{BuildFault, Views};
 use tv_check::Checked;
+use tv_io::Writer;
 use tv_lang::parse;
 use tv_model::Desc;
-use tv_output::Writer;
 use tv_program::{RunFault, accept_text, check, read_checked, run_script};
 use tv_view::View;
 

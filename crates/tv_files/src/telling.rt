@@ -9,7 +9,7 @@ ghost use Rattle.tv_files.specs.Telling.{Tells, TellsNoTask, TellsUsage, err_tol
 use crate::NoTask;
 use crate::failure::Failure;
 use crate::stream::Stream;
-use tv_output::{Writer, write_all};
+use tv_io::{Writer, write_all};
 use tv_program::{RunFault, report};
 
 /// The status after all was done.

@@ -11,7 +11,7 @@ use Rattle.tv_program.specs.declared.desc_fault.DescFault.TheVariants as descs
 use Rattle.tv_program.specs.CheckRun.{AcceptsTo, ChecksTo, Fit, accepted, certificate_text}
 use Rattle.tv_program.specs.Conversions.{desc_checked}
 use Rattle.tv_program.specs.Reading.{IsFaulty, IsSoundText}
-use Rattle.tv_output.specs.Writer.{Cuts, Seen}
+use Rattle.tv_io.specs.Writer.{Cuts, Seen}
 
 -- ---- checking
 

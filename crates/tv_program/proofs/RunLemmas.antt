@@ -9,7 +9,7 @@ use Rattle.tv_machine.specs.Run.{started}
 use Rattle.tv_view.specs.Meaning.{Leaf}
 use Rattle.tv_model.specs.declared.desc.Desc.{Desc}
 use Rattle.tv_model.specs.declared.script.Item.{Item}
-use Rattle.tv_output.specs.Writer.{Cuts, Seen}
+use Rattle.tv_io.specs.Writer.{Cuts, Seen}
 use Rattle.tv_program.specs.declared.desc_fault.DescFault.{DescFault}
 use Rattle.tv_program.specs.declared.desc_fault.DescFault.TheVariants as descs
 use Rattle.tv_program.specs.declared.play_fault.PlayFault.{PlayFault}

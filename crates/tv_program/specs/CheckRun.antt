@@ -15,7 +15,7 @@ use Rattle.tv_program.specs.declared.accept_fault.AcceptFault.TheVariants as acc
 use Rattle.tv_program.specs.declared.check_fault.CheckFault.{CheckFault}
 use Rattle.tv_program.specs.declared.check_fault.CheckFault.TheVariants as checks
 use Rattle.tv_program.specs.Reading.{HasFaults, IsNoDescription, IsSoundText}
-use Rattle.tv_output.specs.Writer.{Seen, Takes, Cuts}
+use Rattle.tv_io.specs.Writer.{Seen, Takes, Cuts}
 
 -- the text of the certificate of a sound description
 abbrev pub certificate_text : Desc → List ℕ

@@ -11,7 +11,7 @@ use Rattle.tv_machine.specs.Run.{started}
 use Rattle.tv_view.specs.Meaning.{Leaf}
 use Rattle.tv_model.specs.declared.desc.Desc.{Desc}
 use Rattle.tv_model.specs.declared.script.Item.{Item}
-use Rattle.tv_output.specs.Writer.{Seen, Takes, Cuts}
+use Rattle.tv_io.specs.Writer.{Seen, Takes, Cuts}
 use Rattle.tv_program.specs.declared.play_fault.PlayFault.{PlayFault}
 use Rattle.tv_program.specs.declared.play_fault.PlayFault.TheVariants.{NoMemory, Lang, Faults, Script, View, Write}
 use Rattle.tv_program.specs.Laws.{RunsByLaws}

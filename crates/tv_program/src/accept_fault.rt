@@ -5,8 +5,8 @@ ghost use Rattle.tv_program.specs.declared.accept_fault.AcceptFault.TheVariants.
 ghost use Rattle.tv_program.specs.Conversions.{certificate_accepted, lang_accepted, refusal_accepted};
 
 use tv_check::{CertificateFault, Refusal};
+use tv_io::WriteFailed;
 use tv_lang::LangFault;
-use tv_output::WriteFailed;
 
 /// Why a description and its certificate weren't accepted.
 #[derive(Debug, Drop)]

@@ -6,9 +6,9 @@ ghost use Rattle.tv_program.specs.Conversions.{desc_checked, lang_checked};
 
 use crate::desc_fault::DescFault;
 use std::alloc::AllocError;
+use tv_io::WriteFailed;
 use tv_lang::LangFault;
 use tv_model::{Fault, Sequence};
-use tv_output::WriteFailed;
 
 /// Why a description wasn't checked to its end.
 #[derive(Debug, Drop)]

@@ -11,9 +11,9 @@ use crate::check_fault::CheckFault;
 use crate::reading::look_for_faults;
 use std::alloc::{AllocError, Global};
 use tv_check::{Certificate, CertifyFault, accept, certify};
+use tv_io::{Writer, write_all};
 use tv_lang::parse;
 use tv_model::Desc;
-use tv_output::{Writer, write_all};
 
 /// Writes the certificate of a description that has no faults.
 ///

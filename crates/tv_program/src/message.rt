@@ -2,14 +2,14 @@
 
 ghost use Rattle.std.specs.Prelude.{◌≡◌, ◌++◌, ◌∷◌, [], codes, flat_map, decimal, encode_utf8};
 ghost use Rattle.tv_model.specs.Log.LogText.{line_of};
-ghost use Rattle.tv_output.specs.Pen.{Puts};
+ghost use Rattle.tv_io.specs.Pen.{Puts};
 ghost use Rattle.tv_program.specs.Report.{IsOffered, cert_message, fault_line, lang_message, lang_status, line_message, out_text, err_text, refusal_text, script_message, status_of};
 
 use crate::fault::RunFault;
 use tv_check::{CertificateFault, Refusal};
+use tv_io::{Pen, Writer};
 use tv_lang::LangFault;
 use tv_model::Fault;
-use tv_output::{Pen, Writer};
 use tv_script::ScriptFault;
 
 const SYNTAX: &[u8] = b": syntax at line ";

@@ -7,9 +7,9 @@ ghost use Rattle.tv_program.specs.Conversions.{build_run, desc_run, lang_run, sc
 use crate::desc_fault::DescFault;
 use std::alloc::AllocError;
 use tv_building::BuildFault;
+use tv_io::WriteFailed;
 use tv_lang::LangFault;
 use tv_model::{Fault, Sequence};
-use tv_output::WriteFailed;
 use tv_script::ScriptFault;
 use tv_session::SessionFault;
 

@@ -4,8 +4,8 @@ use crate::makers::no_views;
 use std::alloc::Global;
 use std::test::Fail;
 use tv_button_views::buttons;
+use tv_io::Writer;
 use tv_lang::parse;
-use tv_output::Writer;
 use tv_program::{RunFault, accept_files, accept_text, check, report, run};
 use tv_test_support::{Idle, Memory, Question, expect_answer};
 

@@ -22,6 +22,8 @@ mod makers;
 #[cfg(test)]
 mod memory;
 #[cfg(test)]
+mod passing_on;
+#[cfg(test)]
 mod performing;
 #[cfg(test)]
 mod reports;

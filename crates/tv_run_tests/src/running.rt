@@ -6,7 +6,7 @@ use std::alloc::{AllocError, Global};
 use std::rc::Rc;
 use std::test::Fail;
 use tv_check::Checked;
-use tv_output::Writer;
+use tv_io::Writer;
 use tv_program::{PlayFault, run};
 use tv_test_support::Memory;
 

@@ -5,8 +5,8 @@ use Rattle.tv_model.specs.declared.script.Item.{Item}
 use Rattle.tv_model.specs.Log.LogText.{log_text}
 use Rattle.tv_machine.specs.Output.{states, texts, item_text, item_after, output}
 use Rattle.tv_machine.specs.Run.{Session, quiet}
-use Rattle.tv_output.specs.Writer.{Seen, Cuts}
-use Rattle.tv_output.proofs.WriterLemmas.{Cuts-longer, Cuts-along}
+use Rattle.tv_io.specs.Writer.{Seen, Cuts}
+use Rattle.tv_io.proofs.WriterLemmas.{Cuts-longer, Cuts-along}
 
 texts-append : {S E : Type 0} (next : S → E → S) (text : S → E → List ℕ) (s : S) (es fs : List E) → texts next text s (es ++ fs) ≡ texts next text s es ++ texts next text (states next s es) fs
 texts-append next text s [] fs = refl

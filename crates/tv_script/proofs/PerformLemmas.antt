@@ -6,9 +6,9 @@ use Rattle.tv_machine.specs.Run.{Session, quiet}
 use Rattle.tv_model.specs.Log.LogText.{log_text}
 use Rattle.tv_machine.specs.Output.{output, after, item_text, item_after, texts}
 use Rattle.tv_script.proofs.RunLemmas.{states-take_more, texts-take_more}
-use Rattle.tv_output.specs.Writer.{Seen, Takes, Cuts}
+use Rattle.tv_io.specs.Writer.{Seen, Takes, Cuts}
 use Rattle.tv_script.specs.Performed.{Stops}
-use Rattle.tv_output.proofs.WriterLemmas.{Takes-then, Cuts-longer, Cuts-after, Cuts-along}
+use Rattle.tv_io.proofs.WriterLemmas.{Takes-then, Cuts-longer, Cuts-after, Cuts-along}
 
 -- items, one more
 module _ (s : Session) (items : List Item) (i : ℕ) (d : Item) (lt : i < length items) where

@@ -7,7 +7,7 @@ use Rattle.tv_machine.specs.Screen.Layers.{layers_of}
 use Rattle.tv_machine.specs.Output.{output, after}
 use Rattle.tv_machine.specs.Run.{Session}
 use Rattle.tv_model.specs.Description.Numbers.{natural}
-use Rattle.tv_output.specs.Writer.{Seen, Cuts}
+use Rattle.tv_io.specs.Writer.{Seen, Cuts}
 
 -- the picture is the session's screen
 pub record IsScreenOf (s : Session) (p : Picture) : Type 0 where

@@ -5,11 +5,11 @@ ghost use Rattle.tv_model.specs.declared.log.LogLine.TheVariants as lines;
 ghost use Rattle.tv_model.specs.Description.Nodes.{node_of};
 ghost use Rattle.tv_model.specs.Description.Heads.{all_nodes};
 ghost use Rattle.tv_model.specs.Log.LogText.{name_of_node, log_line, log_text, name_text, end_word, line_of, value_text, marks_text, is_marked, quoted_text, escaped};
-ghost use Rattle.tv_output.specs.Pen.{Puts};
+ghost use Rattle.tv_io.specs.Pen.{Puts};
 
 use tv_event::Command;
+use tv_io::{Pen, Writer};
 use tv_model::{Desc, Id, LogLine, Value};
-use tv_output::{Pen, Writer};
 use tv_valid::Chars;
 
 /// Writes lines of the log.

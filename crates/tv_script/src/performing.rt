@@ -3,8 +3,8 @@
 ghost use Rattle.std.specs.Prelude.{◌≡◌, false, All, OnOk, IfErr};
 ghost use Rattle.tv_machine.specs.Output.{event_text, event_after, item_text, item_after, shot_text, colors_text, output, after};
 ghost use Rattle.tv_machine.specs.Run.{Session};
-ghost use Rattle.tv_output.specs.Writer.{Takes};
-ghost use Rattle.tv_output.specs.Pen.{Puts};
+ghost use Rattle.tv_io.specs.Writer.{Takes};
+ghost use Rattle.tv_io.specs.Pen.{Puts};
 ghost use Rattle.tv_script.specs.Lines.{IsEventOnScreen, IsItemOnScreen};
 ghost use Rattle.tv_script.specs.Performed.{Stops};
 
@@ -13,8 +13,8 @@ use crate::script::Script;
 use crate::shot::{Aspect, put_screen};
 use crate::stage::Stage;
 use tv_event::Event;
+use tv_io::{Pen, Writer};
 use tv_model::Item;
-use tv_output::{Pen, Writer};
 
 /// Performs the script and writes its output: the log that isn't yet taken, and then what each item writes.
 ///

@@ -5,11 +5,11 @@ ghost use Rattle.std.specs.List.{range_with_len};
 ghost use Rattle.tv_cells.specs.Picture.{cell_at};
 ghost use Rattle.tv_model.specs.Log.LogText.{line_of};
 ghost use Rattle.tv_machine.specs.Output.{cells_text, hex_byte, hex_digit, row_text, screen_text};
-ghost use Rattle.tv_output.specs.Pen.{Puts};
+ghost use Rattle.tv_io.specs.Pen.{Puts};
 ghost use Rattle.tv_script.specs.ScreenText.{aspect_word, cell_text};
 
 use tv_cells::{Cell, Screen};
-use tv_output::{Pen, Writer};
+use tv_io::{Pen, Writer};
 
 /// What is shown of each cell.
 #[derive(Clone, Copy)]

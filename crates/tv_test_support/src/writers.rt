@@ -1,7 +1,7 @@
 //! Writers in place of a device.
 
 use std::alloc::{AllocError, Global};
-use tv_output::Writer;
+use tv_io::Writer;
 
 /// A writer in memory. It takes the bytes for which it has room, at most so many a call, and then fails.
 #[derive(Drop)]

@@ -13,7 +13,7 @@ use tv_leaf::ControlFault;
 use tv_model::{Kind, Node};
 use tv_view::View;
 
-/// Does what is asked for, as `run_program` says, with the toolkit's own controls where a description is run.
+/// Carries out what is asked for, as `run_program` says, with the toolkit's own controls where a description is run.
 pub fn run_with_boxes<F: FileStore, O: Stream, E: Stream>(
     files: &mut F,
     alloc: Global,

@@ -29,7 +29,7 @@ fn main(rt: HostRuntime) -> ExitCode {
     ExitCode::from(status)
 }
 
-// The words of the command line. Of one that isn't text nothing is told.
+// The words of the command line. Where one isn't text, the message is empty.
 fn words<R: Env + AllocGlobal>(rt: &R) -> Result<Vec<String>, NoTask> {
     match env::args(rt) {
         Ok(words) => Ok(words.collect::<Vec<String>>(rt.alloc())?),

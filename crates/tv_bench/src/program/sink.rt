@@ -1,6 +1,6 @@
 //! A writer that keeps nothing.
 
-use tv_output::Writer;
+use tv_io::Writer;
 
 /// Takes all bytes, and forgets them.
 #[derive(Drop)]

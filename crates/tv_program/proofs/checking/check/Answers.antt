@@ -1,5 +1,5 @@
 use Rattle.std.proofs.Common.{◌∙◌, subst}
-use Rattle.tv_output.specs.Writer.{Takes}
+use Rattle.tv_io.specs.Writer.{Takes}
 use Rattle.tv_program.proofs.CheckLemmas.{cut-ChecksTo, faulty-ChecksTo, memory-ChecksTo}
 use Rattle.tv_program.proofs.checking.check.Goals as goal
 

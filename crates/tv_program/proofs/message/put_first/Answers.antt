@@ -1,4 +1,4 @@
-use Rattle.tv_output.proofs.PenLemmas.{Puts-then}
+use Rattle.tv_io.proofs.PenLemmas.{Puts-then}
 use Rattle.tv_program.proofs.message.put_first.Goals as goal
 
 pub returns : goal.returns

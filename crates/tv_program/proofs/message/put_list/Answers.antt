@@ -1,5 +1,5 @@
 use Rattle.tv_program.specs.Report.{fault_line}
-use Rattle.tv_output.proofs.PenLemmas.{Puts-more}
+use Rattle.tv_io.proofs.PenLemmas.{Puts-more}
 use Rattle.tv_program.proofs.message.put_list.Goals as goal
 
 pub loop-fault-preserved : goal.loop-fault-preserved

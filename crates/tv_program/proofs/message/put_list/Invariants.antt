@@ -1,5 +1,5 @@
 use Rattle.std.proofs.Common.{flat_map, take}
-use Rattle.tv_output.specs.Pen.{Puts}
+use Rattle.tv_io.specs.Pen.{Puts}
 use Rattle.tv_program.specs.Report.{fault_line}
 use Rattle.tv_program.proofs.message.put_list.Given as goal
 

@@ -1,5 +1,5 @@
 use Rattle.tv_model.specs.Log.LogText.{line_of}
-use Rattle.tv_output.proofs.PenLemmas.{Puts-then}
+use Rattle.tv_io.proofs.PenLemmas.{Puts-then}
 use Rattle.tv_program.proofs.message.put_plain.Goals as goal
 
 pub returns : goal.returns

@@ -1,6 +1,6 @@
 use Rattle.std.proofs.Common.{ap, decimal}
 use Rattle.tv_model.specs.Log.LogText.{line_of}
-use Rattle.tv_output.proofs.PenLemmas.{Puts-then, Puts-along}
+use Rattle.tv_io.proofs.PenLemmas.{Puts-then, Puts-along}
 use Rattle.tv_script.proofs.lines.put_command.Goals as goal
 
 pub returns : goal.returns

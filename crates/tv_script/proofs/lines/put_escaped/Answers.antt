@@ -1,6 +1,6 @@
 use Rattle.std.proofs.Common.{ap}
 use Rattle.tv_model.specs.Log.LogText.{escaped}
-use Rattle.tv_output.proofs.PenLemmas.{Puts-more, Puts-along}
+use Rattle.tv_io.proofs.PenLemmas.{Puts-more, Puts-along}
 use Rattle.tv_script.proofs.lines.put_escaped.Goals as goal
 
 pub loop-ch-preserved : goal.loop-ch-preserved

@@ -1,7 +1,7 @@
 use Rattle.std.proofs.Common.{take}
 use Rattle.std.specs.List.{flat_map}
 use Rattle.tv_model.specs.Log.LogText.{escaped}
-use Rattle.tv_output.specs.Pen.{Puts}
+use Rattle.tv_io.specs.Pen.{Puts}
 use Rattle.tv_script.proofs.lines.put_escaped.Given as goal
 
 abbrev pub invariant-loop-ch : goal.invariant-loop-ch

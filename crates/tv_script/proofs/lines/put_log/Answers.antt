@@ -1,6 +1,6 @@
 use Rattle.std.proofs.Common.{ap}
 use Rattle.tv_model.specs.Log.LogText.{log_line}
-use Rattle.tv_output.proofs.PenLemmas.{Puts-more, Puts-along}
+use Rattle.tv_io.proofs.PenLemmas.{Puts-more, Puts-along}
 use Rattle.tv_script.proofs.lines.put_log.Goals as goal
 
 pub loop-line-preserved : goal.loop-line-preserved

@@ -1,6 +1,6 @@
 use Rattle.std.proofs.Common.{◌≡◌, sym, ap, ◌∙◌, length, ◌==◌, true, false, arith}
 use Rattle.tv_model.specs.Log.LogText.{is_marked}
-use Rattle.tv_output.proofs.PenLemmas.{Puts-then, Puts-along, Puts-none}
+use Rattle.tv_io.proofs.PenLemmas.{Puts-then, Puts-along, Puts-none}
 use Rattle.tv_script.proofs.MarkLemmas.{joined, separator, words_below, joined-first, separator-first, joined-marked, separator-marked, joined-unmarked, separator-unmarked, marks_text-none, marks_text-some}
 use Rattle.tv_script.proofs.lines.put_marks.Goals.{then-is_marked, else-is_marked}
 use Rattle.tv_script.proofs.lines.put_marks.Goals as goal

@@ -1,5 +1,5 @@
 use Rattle.std.proofs.Common.{◌≡◌}
-use Rattle.tv_output.specs.Pen.{Puts}
+use Rattle.tv_io.specs.Pen.{Puts}
 use Rattle.tv_script.proofs.MarkLemmas.{joined, separator, words_below}
 use Rattle.tv_script.proofs.lines.put_marks.Given as goal
 

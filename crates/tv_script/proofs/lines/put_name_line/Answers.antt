@@ -1,6 +1,6 @@
 use Rattle.std.proofs.Common.{ap}
 use Rattle.tv_model.specs.Log.LogText.{bytes_of, line_of}
-use Rattle.tv_output.proofs.PenLemmas.{Puts-then, Puts-along}
+use Rattle.tv_io.proofs.PenLemmas.{Puts-then, Puts-along}
 use Rattle.tv_script.proofs.lines.put_name_line.Goals as goal
 
 pub returns : goal.returns

@@ -1,6 +1,6 @@
 use Rattle.tv_script.specs.ScreenText.{aspect_word, cell_text}
 use Rattle.tv_script.specs.declared.shot.Aspect.TheVariants.{Attributes}
-use Rattle.tv_output.proofs.PenLemmas.{Puts-along}
+use Rattle.tv_io.proofs.PenLemmas.{Puts-along}
 use Rattle.tv_script.proofs.ScreenLemmas.{session_text-is}
 use Rattle.tv_script.proofs.performing.put_colors.Goals as goal
 

@@ -1,7 +1,7 @@
 use Rattle.std.proofs.Common.{ap, ◌∙◌}
 use Rattle.tv_machine.specs.Run.{stepped}
 use Rattle.tv_model.specs.Log.LogText.{log_text}
-use Rattle.tv_output.proofs.PenLemmas.{Puts-along}
+use Rattle.tv_io.proofs.PenLemmas.{Puts-along}
 use Rattle.tv_script.proofs.performing.put_event.Goals as goal
 
 pub returns-clause-text : goal.returns-clause-text

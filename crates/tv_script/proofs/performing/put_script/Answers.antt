@@ -1,6 +1,6 @@
 use Rattle.std.proofs.Common.{◌∙◌, subst, take}
 use Rattle.tv_machine.specs.Output.{after}
-use Rattle.tv_output.proofs.PenLemmas.{Cuts-from_stopped, Takes-from_went_on}
+use Rattle.tv_io.proofs.PenLemmas.{Cuts-from_stopped, Takes-from_went_on}
 use Rattle.tv_script.proofs.PerformLemmas.{after-more, more_takes, more_stops}
 use Rattle.tv_script.proofs.performing.put_script.Goals as goal
 

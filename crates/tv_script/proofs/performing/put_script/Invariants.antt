@@ -1,7 +1,7 @@
 use Rattle.std.proofs.Common.{◌≡◌, take, false}
 use Rattle.tv_machine.specs.Output.{output, after}
 use Rattle.tv_machine.specs.Run.{Session}
-use Rattle.tv_output.specs.Writer.{Takes}
+use Rattle.tv_io.specs.Writer.{Takes}
 use Rattle.tv_script.proofs.performing.put_script.Given as goal
 
 abbrev pub invariant-loop-index : goal.invariant-loop-index

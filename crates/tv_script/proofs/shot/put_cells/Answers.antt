@@ -1,7 +1,7 @@
 use Rattle.std.proofs.Common.{ap, ℕ, List}
 use Rattle.tv_cells.specs.Picture.{cell_at}
 use Rattle.tv_script.specs.ScreenText.{cell_text}
-use Rattle.tv_output.proofs.PenLemmas.{Puts-then, Puts-along}
+use Rattle.tv_io.proofs.PenLemmas.{Puts-then, Puts-along}
 use Rattle.tv_script.proofs.RangeLemmas.{flat_map-range-more}
 use Rattle.tv_script.proofs.shot.put_cells.Goals as goal
 

@@ -1,6 +1,6 @@
 use Rattle.tv_cells.specs.Picture.{cell_at}
 use Rattle.tv_machine.specs.Output.{cells_text}
-use Rattle.tv_output.specs.Pen.{Puts}
+use Rattle.tv_io.specs.Pen.{Puts}
 use Rattle.tv_script.specs.ScreenText.{cell_text}
 use Rattle.tv_script.proofs.shot.put_cells.Given as goal
 

@@ -1,6 +1,6 @@
 use Rattle.std.proofs.Common.{ap, ◌∙◌, ◌∷◌, [], ◌/◌}
 use Rattle.tv_machine.specs.Output.{hex_digit}
-use Rattle.tv_output.proofs.PenLemmas.{Puts-along}
+use Rattle.tv_io.proofs.PenLemmas.{Puts-along}
 use Rattle.tv_script.proofs.shot.put_hex.Goals as goal
 
 pub returns : goal.returns

@@ -3,7 +3,7 @@ use Rattle.tv_cells.specs.Picture.{cell_at}
 use Rattle.tv_model.specs.Log.LogText.{line_of}
 use Rattle.tv_machine.specs.Output.{cells_text}
 use Rattle.tv_script.specs.ScreenText.{cell_text}
-use Rattle.tv_output.proofs.PenLemmas.{Puts-then, Puts-along}
+use Rattle.tv_io.proofs.PenLemmas.{Puts-then, Puts-along}
 use Rattle.tv_script.proofs.shot.put_row.Goals as goal
 
 pub returns : goal.returns

@@ -4,7 +4,7 @@ use Rattle.tv_cells.specs.Picture.{cell_at}
 use Rattle.tv_model.specs.Log.LogText.{line_of}
 use Rattle.tv_machine.specs.Output.{row_text}
 use Rattle.tv_script.specs.ScreenText.{aspect_word, cell_text}
-use Rattle.tv_output.proofs.PenLemmas.{Puts-then, Puts-along}
+use Rattle.tv_io.proofs.PenLemmas.{Puts-then, Puts-along}
 use Rattle.tv_script.proofs.RangeLemmas.{flat_map-range-more}
 use Rattle.tv_script.proofs.shot.put_screen.Goals as goal
 

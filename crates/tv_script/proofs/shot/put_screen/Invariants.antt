@@ -2,7 +2,7 @@ use Rattle.std.proofs.Common.{flat_map}
 use Rattle.tv_cells.specs.Picture.{cell_at}
 use Rattle.std.specs.List.{range_with_len}
 use Rattle.std.proofs.Common.{decimal, codes, ◌++◌}
-use Rattle.tv_output.specs.Pen.{Puts}
+use Rattle.tv_io.specs.Pen.{Puts}
 use Rattle.tv_script.specs.ScreenText.{aspect_word, cell_text}
 use Rattle.tv_model.specs.Log.LogText.{line_of}
 use Rattle.tv_machine.specs.Output.{row_text}

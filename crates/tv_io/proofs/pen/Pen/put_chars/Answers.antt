@@ -1,6 +1,6 @@
 use Rattle.std.proofs.Common.{ap, encode_utf8}
-use Rattle.tv_output.proofs.PenLemmas.{Puts-more, Puts-along}
-use Rattle.tv_output.proofs.pen.Pen.put_chars.Goals as goal
+use Rattle.tv_io.proofs.PenLemmas.{Puts-more, Puts-along}
+use Rattle.tv_io.proofs.pen.Pen.put_chars.Goals as goal
 
 pub loop-ch-preserved : goal.loop-ch-preserved
 loop-ch-preserved g c =

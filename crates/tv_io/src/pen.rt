@@ -1,7 +1,7 @@
 //! A pen writes texts one after another, and nothing more once its writer failed.
 
 ghost use Rattle.std.specs.Prelude.{◌≡◌, ◌∷◌, [], decimal, encode_utf8, flat_map};
-ghost use Rattle.tv_output.specs.Pen.{Puts};
+ghost use Rattle.tv_io.specs.Pen.{Puts};
 
 use crate::writer::{Writer, write_all};
 use itoa::Buffer;

@@ -1,5 +1,5 @@
-use Rattle.tv_output.proofs.WriterLemmas.{Takes-more}
-use Rattle.tv_output.proofs.writer.write_all.Goals as goal
+use Rattle.tv_io.proofs.WriterLemmas.{Takes-more}
+use Rattle.tv_io.proofs.writer.write_all.Goals as goal
 
 pub loop-taken-preserved : goal.loop-taken-preserved
 loop-taken-preserved g c =

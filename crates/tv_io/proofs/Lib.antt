@@ -1,2 +1,3 @@
 pub mod PenLemmas
+pub mod ReaderLemmas
 pub mod WriterLemmas

@@ -3,9 +3,9 @@ use Rattle.std.proofs.Common.{◌≡◌, ℕ, ◌<◌, ◌≤◌, ◌+◌, ◌-�
 use Rattle.std.proofs.lemmas.List.{append-nil, take_all}
 use Rattle.std.proofs.Math.Seq.{take-add}
 use Rattle.std.specs.Io.KnownBytes.{Appends, Keeps}
-use Rattle.tv_output.specs.Writer.{Seen, Takes, Fails, Cuts, HasRisen}
+use Rattle.tv_io.specs.Writer.{Seen, Takes, Fails, Cuts, HasRisen}
 
-Appends-none : (a : Option (List ℕ)) → Appends a a []
+pub Appends-none : (a : Option (List ℕ)) → Appends a a []
 Appends-none None = tt
 Appends-none (Some xs) = sym (append-nil xs)
 

@@ -3,10 +3,10 @@ use Rattle.std.proofs.Common.{◌≡◌, ℕ, ◌<◌, ◌+◌, Bool, true, fals
 use Rattle.std.proofs.lemmas.List.{append-nil, take_more}
 use Rattle.std.proofs.lemmas.List.Concat.{flat_map-append}
 use Rattle.std.specs.List.{flat_map}
-use Rattle.tv_output.specs.declared.pen.Pen.{Pen}
-use Rattle.tv_output.specs.Writer.{Seen, Takes, Cuts}
-use Rattle.tv_output.specs.Pen.{Puts, PutsBy}
-use Rattle.tv_output.proofs.WriterLemmas.{Takes-none, Takes-then, Cuts-longer, Cuts-after}
+use Rattle.tv_io.specs.declared.pen.Pen.{Pen}
+use Rattle.tv_io.specs.Writer.{Seen, Takes, Cuts}
+use Rattle.tv_io.specs.Pen.{Puts, PutsBy}
+use Rattle.tv_io.proofs.WriterLemmas.{Takes-none, Takes-then, Cuts-longer, Cuts-after}
 
 PutsBy-none : (a : Seen) (s : Bool) → PutsBy a s a s []
 PutsBy-none a true = (refl, refl)

@@ -21,6 +21,11 @@ pub record Fails (old new : Seen) : Type 0 where
   pub bytes : Keeps old.taken new.taken
   pub count : HasRisen old.failures new.failures
 
+-- the bytes that were taken stay, and no call failed
+pub record IsSame (old new : Seen) : Type 0 where
+  pub bytes : Keeps old.taken new.taken
+  pub count : new.failures ≡ old.failures
+
 -- a proper prefix of the text was taken, and then a call failed
 pub record Cuts (old new : Seen) (text : List ℕ) : Type 0 where
   pub front : List ℕ

@@ -4,3 +4,7 @@ pub mod Device
 pub mod Pen
 -- What a writer takes, cuts and fails at
 pub mod Writer
+-- What a reader gives
+pub mod Reader
+-- What a reader over a file gives
+pub mod FileReader

@@ -2,7 +2,7 @@
 
 ghost use Rattle.std.specs.Prelude.{◌≡◌, [], IfOk, OnOk, MatchResult};
 ghost use Rattle.std.specs.Io.KnownBytes.{Keeps};
-ghost use Rattle.tv_output.specs.Writer.{HasRisen};
+ghost use Rattle.tv_io.specs.Writer.{HasRisen};
 
 use crate::writer::{WriteFailed, Writer};
 use std::alloc::{AllocError, Global};
@@ -16,7 +16,7 @@ pub struct Device<W: Write + Drop> {
 }
 
 impl<W: Write + Drop> Device<W> {
-    ghost use Rattle.tv_output.specs.Device.{device_seen, kept_back};
+    ghost use Rattle.tv_io.specs.Device.{device_seen, kept_back};
 
     /// Over the writer, with room for what is kept back. Where there is no memory for it, the writer is dropped.
     pub fn new(alloc: Global, writer: W) -> Result<Device<W>, AllocError>
@@ -51,7 +51,7 @@ impl<W: Write + Drop> Device<W> {
 }
 
 impl<W: Write + Drop> Writer for Device<W> {
-    ghost use Rattle.tv_output.specs.Device.{device_seen};
+    ghost use Rattle.tv_io.specs.Device.{device_seen};
 
     ghost seen = { device_seen W.contents };
 
