@@ -2,6 +2,7 @@ pub mod OptionLemmas
 pub mod CommandLemmas
 pub mod MarkLemmas
 pub mod KeyLemmas
+pub mod LongKeyLemmas
 pub mod PlaceLemmas
 pub mod NodeLemmas
 pub mod InputLemmas

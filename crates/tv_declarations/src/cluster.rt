@@ -10,7 +10,7 @@ use tv_model::{CheckBoxes, Kind, ListBox, MarkedText, Node, RadioButtons, Sequen
 use tv_valid::Chars;
 use tv_words::Word;
 
-/// The check boxes of these fields.
+/// Reads the check boxes that these fields declare; `None` where they declare none.
 pub fn checks(alloc: Global, at: Position, fields: &[Word]) -> Result<Option<Node>, AllocError>
     ensures { IfOk result (λ found. found ≡ checks_in at fields.now) }
 {
@@ -28,7 +28,7 @@ pub fn checks(alloc: Global, at: Position, fields: &[Word]) -> Result<Option<Nod
     Ok(Some(place.node(at, kind)))
 }
 
-/// The radio buttons of these fields.
+/// Reads the radio buttons that these fields declare; `None` where they declare none.
 pub fn radios(alloc: Global, at: Position, fields: &[Word]) -> Result<Option<Node>, AllocError>
     ensures { IfOk result (λ found. found ≡ radios_in at fields.now) }
 {
@@ -46,7 +46,7 @@ pub fn radios(alloc: Global, at: Position, fields: &[Word]) -> Result<Option<Nod
     Ok(Some(place.node(at, kind)))
 }
 
-/// The list of these fields.
+/// Reads the list that these fields declare; `None` where they declare none.
 pub fn list(alloc: Global, at: Position, fields: &[Word]) -> Result<Option<Node>, AllocError>
     ensures { IfOk result (λ found. found ≡ list_in at fields.now) }
 {

@@ -20,7 +20,7 @@ const NAMED: [CommandSpec; 8] = [
     CommandSpec::No,
 ];
 
-/// The command that a word names.
+/// Reads the command that a word names; `None` where it names none.
 pub fn command(word: &Word) -> Option<CommandSpec>
     ensures { result ≡ command_in word.now }
 {
@@ -44,7 +44,7 @@ fn first_named<'a>(commands: &'a [CommandSpec], word: &Word) -> Option<&'a Comma
         .find(|command| word.is(command_name(**command)))
 }
 
-/// The word of a command that has one. A command with a number has none, and gets the empty text.
+/// Returns the word of a command. A command with a number has none, and gets the empty text.
 pub fn command_name(command: CommandSpec) -> &'static [u8]
     ensures { result.now ≡ command_name command }
 {
@@ -61,7 +61,8 @@ pub fn command_name(command: CommandSpec) -> &'static [u8]
     }
 }
 
-/// The commands that the words list, each at most once and in the order ok, cancel, yes, no.
+/// Reads the commands that the words list, each at most once and in the order ok, cancel, yes, no; `None` for other
+/// words.
 pub fn ends(words: &[Word]) -> Option<Ends>
     ensures { result ≡ ends_in words.now }
 {
@@ -77,7 +78,7 @@ pub fn ends(words: &[Word]) -> Option<Ends>
     })
 }
 
-/// Whether a button is the default, and whether it grabs the focus.
+/// Reads whether a button is the default, and whether it grabs the focus; `None` for other words.
 pub fn button_options(words: &[Word]) -> Option<(bool, bool)>
     ensures { result ≡ button_options_in words.now }
 {
@@ -86,7 +87,7 @@ pub fn button_options(words: &[Word]) -> Option<(bool, bool)>
     words.is_empty().then_some((is_default, grabs))
 }
 
-/// Whether the keyword comes first, and the words after it.
+/// Skips the keyword where it comes first. Returns whether it did, and the words that are left.
 pub fn skip<'a>(words: &'a [Word], keyword: &[u8]) -> (bool, &'a [Word])
     ensures found { result.0 ≡ is_next keyword.now words.now }
     ensures rest { result.1.now ≡ after_next keyword.now words.now }

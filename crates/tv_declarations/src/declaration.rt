@@ -33,7 +33,7 @@ pub enum Declaration {
     End,
 }
 
-/// The declaration that the words of a line at this position spell, or `None` where they spell none.
+/// Reads the declaration that the words of a line at this position spell, or returns `None` where they spell none.
 pub fn declared(
     alloc: Global,
     at: Position,

@@ -27,7 +27,7 @@ struct Options {
     fill: bool,
 }
 
-/// The input line of these fields.
+/// Reads the input line that these fields declare; `None` where they declare none.
 pub fn input(alloc: Global, at: Position, fields: &[Word]) -> Result<Option<Node>, AllocError>
     ensures { IfOk result (λ found. found ≡ input_in at fields.now) }
 {

@@ -12,7 +12,7 @@ use tv_model::{MarkedText, Sequence};
 use tv_valid::Chars;
 use tv_words::Word;
 
-/// The texts of items, and the numbers after `start`, where it was there.
+/// The texts of items, and the numbers after `start` where that word was given.
 #[derive(Drop)]
 pub struct Items {
     pub texts: Sequence<Chars>,
@@ -20,7 +20,7 @@ pub struct Items {
 }
 
 impl Items {
-    /// The items that the words say.
+    /// Reads the texts of items and, after `start`, numbers; `None` for other words.
     pub fn read(alloc: Global, words: &[Word]) -> Result<Option<Items>, AllocError>
         ensures { IfOk result (λ found. found ≡ items_in words.now) }
     {
@@ -37,7 +37,7 @@ impl Items {
         Ok(Some(items))
     }
 
-    // With one word more, or `None` where it can't stand there.
+    // Takes one word more, or returns `None` where it can't stand there.
     fn take(self, alloc: Global, word: &Word) -> Result<Option<Items>, AllocError>
         ensures { IfOk result (λ further. further ≡ item_taken self word.now) }
     {
@@ -86,7 +86,7 @@ fn text_taken(
     }
 }
 
-/// The marked texts, of which there must be one at least.
+/// Reads the mark of each text; `None` where there is no text, or a `~` that marks nothing.
 pub fn marks(alloc: Global, texts: &[Chars]) -> Result<Option<Sequence<MarkedText>>, AllocError>
     ensures { IfOk result (λ found. found ≡ marks_in texts.now) }
 {

@@ -2,10 +2,12 @@
 
 ghost use Rattle.std.specs.Prelude.{◌≡◌, option_copied};
 ghost use Rattle.tv_declarations.specs.Spelling.Keys.{key_name};
-ghost use Rattle.tv_declarations.specs.Reading.Keys.{first_named, named_key, control_key, control_letter, is_control, alt_key, alt_letter, is_alt, function_in, function_key, key_of, lettered_key, key_in};
+ghost use Rattle.tv_declarations.specs.Reading.Keys.{first_named, named_key, control_key, control_letter, is_control, alt_key, alt_letter, is_alt, function_in, function_key, key_of, key_in};
+ghost use Rattle.tv_words.specs.declared.word.Word.TheVariants.{Bare};
+ghost use Rattle.tv_words.specs.Tokens.{bare_of, token_word};
 
 use tv_event::Key;
-use tv_words::{Word, number};
+use tv_words::{BareText, Token, Word, is_same, number};
 
 /// The keys that have a name of their own.
 const NAMED: [Key; 17] = [
@@ -32,22 +34,51 @@ const NAMED: [Key; 17] = [
 pub fn key(word: &Word) -> Option<Key>
     ensures { result ≡ key_in word.now }
 {
-    match lettered_key(word) {
-        Some(key) => Some(key),
-        None => named_key(word),
+    match word {
+        Word::Bare(text) => key_of(text.as_slice()),
+        Word::Quoted(_) => None,
     }
 }
 
-fn named_key(word: &Word) -> Option<Key>
-    ensures { result ≡ named_key word.now }
+/// The key that a token names.
+pub fn token_key(token: &Token<'_>) -> Option<Key>
+    ensures { result ≡ key_in (token_word token.now) }
 {
-    first_named(&NAMED, word).copied()
+    match token {
+        Token::Bare(text) => short_key(text),
+        Token::Quoted(_) => None,
+    }
 }
 
-fn first_named<'a>(keys: &'a [Key], word: &Word) -> Option<&'a Key>
-    ensures { option_copied result ≡ first_named keys.now word.now }
+fn short_key(text: &BareText<'_>) -> Option<Key>
+    ensures { result ≡ key_in (Bare (bare_of text.now)) }
 {
-    keys.iter().find(|key| word.is(key_name(**key)))
+    match text.short() {
+        Some(chars) => key_of(chars.as_slice()),
+        None => None,
+    }
+}
+
+/// The key that the bare word of these characters names.
+pub fn key_of(text: &[char]) -> Option<Key>
+    ensures { result ≡ key_in (Bare text.now) }
+{
+    match lettered_key(text) {
+        Some(key) => Some(key),
+        None => named_key(text),
+    }
+}
+
+fn named_key(text: &[char]) -> Option<Key>
+    ensures { result ≡ named_key (Bare text.now) }
+{
+    first_named(&NAMED, text).copied()
+}
+
+fn first_named<'a>(keys: &'a [Key], text: &[char]) -> Option<&'a Key>
+    ensures { option_copied result ≡ first_named keys.now (Bare text.now) }
+{
+    keys.iter().find(|key| is_same(text, key_name(**key)))
 }
 
 /// The name of a key that has one of its own. A key with a letter, a digit or a number has none, and gets the empty
@@ -77,17 +108,8 @@ pub fn key_name(key: Key) -> &'static [u8]
     }
 }
 
-fn lettered_key(word: &Word) -> Option<Key>
-    ensures { result ≡ lettered_key word.now }
-{
-    match word {
-        Word::Bare(text) => key_of(text.as_slice()),
-        Word::Quoted(_) => None,
-    }
-}
-
 // `Ctrl-` or `Alt-` and a letter or digit, or `F` and a number.
-fn key_of(text: &[char]) -> Option<Key>
+fn lettered_key(text: &[char]) -> Option<Key>
     ensures { result ≡ key_of text.now }
 {
     if let Some(letter) = control_letter(text) {

@@ -70,7 +70,7 @@ pub const VALIDATE: &[u8] = b"validate";
 /// After the start of an input line for which the empty text is right too.
 pub const OPTIONAL: &[u8] = b"optional";
 
-/// After the start of an input line that writes what has to follow.
+/// After the start of an input line that adds the literals that must follow.
 pub const FILL: &[u8] = b"fill";
 
 /// Before what check boxes declare.

@@ -14,5 +14,5 @@ mod place;
 
 pub use command::command_name;
 pub use declaration::{Declaration, declared};
-pub use keys::{key, key_name};
+pub use keys::{key, key_name, key_of, token_key};
 pub use place::Position;

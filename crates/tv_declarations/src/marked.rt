@@ -11,7 +11,7 @@ use std::alloc::{AllocError, Global};
 use tv_model::MarkedText;
 use tv_valid::Chars;
 
-/// The text and its mark, two `~` around a letter or digit, or `None` where another `~` stands in it.
+/// Reads a text and its mark, two `~` around a letter or digit; `None` where another `~` stands in it.
 pub fn marked(alloc: Global, text: &[char]) -> Result<Option<MarkedText>, AllocError>
     ensures { IfOk result (λ found. found ≡ marked_in text.now) }
 {

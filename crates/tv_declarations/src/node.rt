@@ -18,7 +18,7 @@ use tv_model::{
 };
 use tv_words::Word;
 
-/// The marked text of a quoted word.
+/// Reads a quoted word as a text that may have a mark; `None` for other words.
 pub fn mark(alloc: Global, word: &Word) -> Result<Option<MarkedText>, AllocError>
     ensures { IfOk result (λ found. found ≡ mark_in word.now) }
 {
@@ -28,7 +28,7 @@ pub fn mark(alloc: Global, word: &Word) -> Result<Option<MarkedText>, AllocError
     }
 }
 
-/// The window, dialog or view that the line of this keyword declares.
+/// Reads the window, dialog or view that the line of this keyword declares; `None` where it declares none.
 pub fn node(
     alloc: Global,
     at: Position,

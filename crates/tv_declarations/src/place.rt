@@ -22,7 +22,7 @@ pub struct Place {
 }
 
 impl Place {
-    /// The place that the three numbers say.
+    /// Reads the place that three numbers give; `None` where a word is no number.
     pub fn read(x: &Word, y: &Word, w: &Word) -> Option<Place>
         ensures { result ≡ place_in x.now y.now w.now }
     {
@@ -33,7 +33,7 @@ impl Place {
         })
     }
 
-    /// A node of the kind at this place.
+    /// Makes a node of the kind at this place.
     pub fn node(&self, at: Position, kind: Kind) -> Node
         ensures { result ≡ node_at at self.now kind }
     {

@@ -2,6 +2,8 @@ pub mod LineLemmas
 pub mod ScanLemmas
 pub mod WordLemmas
 pub mod LineWordLemmas
+pub mod TokenLemmas
+pub mod LineTokenLemmas
 pub mod CanonicalLineLemmas
 pub mod CanonicalTextLemmas
 pub mod NumberLemmas

@@ -39,7 +39,7 @@ found_words line None spelled only = not_found line (line_words line) refl only
 
 -- what was scanned, at a line that is no comment
 module _ (line text : List ℕ) (same : text ≡ line) (utf8 : IsUtf8 line) (clean : list_any is_control (chars text) ≡ false) (words : is_comment (chars text) ≡ false) where
-  scanned : line_words line ≡ read_on (at [] Between) (chars text)
+  pub scanned : line_words line ≡ read_on (at [] Between) (chars text)
   scanned = rw (← same, is_utf8-from_IsUtf8 text (rw same utf8), clean, words) refl
 
   pub scanned_spelled : (found : Option (List Word)) → found ≡ read_on (at [] Between) (chars text) → IfSome found (λ ws. SpellsWords line ws)

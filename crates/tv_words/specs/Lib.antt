@@ -6,4 +6,6 @@ pub mod Canonical
 pub mod Names
 pub mod Fields
 pub mod Texts
+pub mod TokenTexts
+pub mod Tokens
 pub mod Reading

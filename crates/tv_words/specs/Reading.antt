@@ -3,4 +3,5 @@
 pub mod Steps
 pub mod Scan
 pub mod LineWords
+pub mod LineTokens
 pub mod Numbers

@@ -112,13 +112,13 @@ fn first_visible(text: &str) -> Option<char>
     text.chars().find(|ch| *ch != ' ')
 }
 
-fn is_comment(text: &str) -> bool
+pub(crate) fn is_comment(text: &str) -> bool
     ensures { result ≡ is_comment (chars text.now) }
 {
     first_visible(text).is_some_and(|ch| ch == '#')
 }
 
-fn has_control(text: &str) -> bool
+pub(crate) fn has_control(text: &str) -> bool
     ensures { result ≡ list_any is_control (chars text.now) }
 {
     text.chars().any(|ch| ch.is_control())

@@ -64,7 +64,8 @@ impl Word {
     }
 }
 
-fn is_same(chars: &[char], ascii: &[u8]) -> bool
+/// Whether the characters are these of ASCII.
+pub fn is_same(chars: &[char], ascii: &[u8]) -> bool
     ensures { result ≡ bytes_eq chars.now ascii.now }
 {
     chars.len() == ascii.len()
