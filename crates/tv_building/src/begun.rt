@@ -1,4 +1,4 @@
-//! What was begun and hasn't ended.
+//! Groups that were begun and haven't ended.
 
 ghost use Rattle.std.specs.Option.{ForSome};
 ghost use Rattle.std.specs.Prelude.{◌≡◌, ◌≤◌, ◌++◌, ◌∷◌, [], false, IfErr, IfOk, OnOk};
@@ -25,7 +25,7 @@ pub(crate) struct Begun<'a, V> {
 }
 
 impl<'a, V: View> Begun<'a, V> {
-    // Nothing stands in it.
+    // Begins a group that has these members so far.
     #[tactic(auto, using(crate::proofs::OwnerLemmas::head_of_lawful))]
     pub(crate) fn new(node: &'a Node, members: Vec<MemberOf<V>>) -> Result<Begun<'a, V>, BuildFault>
         requires { IsLawfulNode node.now }
@@ -41,7 +41,7 @@ impl<'a, V: View> Begun<'a, V> {
         })
     }
 
-    // One member more, behind the others.
+    // Adds a member after the others.
     pub(crate) fn add(&mut self, member: MemberOf<V>) -> Result<(), BuildFault>
         ensures node { self.new.node.now ≡ self.old.node.now }
         ensures added { OnOk result (self.new.members.items ≡ self.old.members.items ++ member ∷ []) }
@@ -51,7 +51,7 @@ impl<'a, V: View> Begun<'a, V> {
         Ok(())
     }
 
-    // The group of its members.
+    // Makes the group of its members.
     pub(crate) fn end(self) -> Result<GroupOf<V>, BuildFault>
         ensures is { IfOk result (λ group. IsGroupOf V.meaning self.entry.node.now self.entry.members.items group) }
         ensures refused { IfErr result (λ fault. 8 ≤ members_level self.entry.members.items) }

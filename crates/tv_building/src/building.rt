@@ -24,8 +24,8 @@ pub struct Views<V> {
     pub bodies: Vec<GroupOf<V>>,
 }
 
-/// Views that are put together step by step, as the build plan of a checked description says: a window, dialog or pane begins,
-/// and what is added and begun up to its end stands in it.
+/// Views that are put together step by step, as the build plan of a checked description says. A window, dialog or pane
+/// begins, and what is added and begun before its end stands in it.
 #[derive(Drop)]
 pub struct Building<'a, V> {
     pub(crate) views: Views<V>,
@@ -33,7 +33,7 @@ pub struct Building<'a, V> {
 }
 
 impl<'a, V: View> Building<'a, V> {
-    /// Nothing stands, and nothing is begun.
+    /// Starts with no views, and nothing begun.
     pub fn new(alloc: Global) -> Building<'a, V>
         ensures windows { windows_of result ≡ [] }
         ensures bodies { bodies_of result ≡ [] }
@@ -48,11 +48,11 @@ impl<'a, V: View> Building<'a, V> {
         }
     }
 
-    /// A window, dialog or pane begins.
+    /// Begins a window, a dialog or a pane.
     ///
     /// # Errors
     ///
-    /// `WrongPlan` where the node is no window's, dialog's or pane's; `NoMemory`. Nothing was begun then.
+    /// `WrongPlan` where the node isn't that of a window, dialog or pane; `NoMemory`. Nothing is begun then.
     pub fn begin(&mut self, alloc: Global, node: &'a Node) -> Result<(), BuildFault>
         requires { IsLawfulNode node.now }
         ensures same { KeepsViews self.old self.new }
@@ -65,7 +65,7 @@ impl<'a, V: View> Building<'a, V> {
         Ok(())
     }
 
-    /// A view stands in what was begun last, behind what stands there.
+    /// Adds a view to the innermost open group, after what stands there.
     ///
     /// # Errors
     ///
@@ -78,12 +78,13 @@ impl<'a, V: View> Building<'a, V> {
         add_to(&mut self.begun, MemberOf::Leaf(view))
     }
 
-    /// What was begun last ends: a window or the body of a dialog stands, or a pane in what was begun before it.
+    /// Ends the innermost open group: adds it to the windows, the bodies or its parent.
     ///
     /// # Errors
     ///
-    /// `WrongPlan` where nothing is begun, where a window or dialog ends inside another group or a pane outside any, where the node
-    /// is of another kind, and for the ninth of groups that stand in one another; `NoMemory`. What was begun last is dropped then.
+    /// `WrongPlan` where nothing is begun, where a window or dialog ends inside another group or a pane outside of any,
+    /// where the node is of another kind, and where nine groups would stand one in another; `NoMemory`. The innermost
+    /// open group is dropped then.
     pub fn end(&mut self) -> Result<(), BuildFault>
         ensures ended { OnOk result (Ends V.meaning self.old self.new) }
         ensures same { IfErr result (λ _. KeepsViews self.old self.new) }
@@ -109,7 +110,7 @@ impl<'a, V: View> Building<'a, V> {
         }
     }
 
-    /// The windows and bodies, once all that was begun has ended.
+    /// Returns the windows and bodies, once all that was begun has ended.
     ///
     /// # Errors
     ///
@@ -128,7 +129,7 @@ impl<'a, V: View> Building<'a, V> {
     }
 }
 
-// A member stands in the last of what was begun.
+// Adds a member to the innermost open group.
 fn add_to<V: View>(begun: &mut Vec<Begun<V>>, member: MemberOf<V>) -> Result<(), BuildFault>
     ensures added { OnOk result (Adds member begun.old.items begun.new.items) }
     ensures refused { IfErr result (λ fault. fault ≡ WrongPlan → begun.old.items ≡ []) }
@@ -139,7 +140,7 @@ fn add_to<V: View>(begun: &mut Vec<Begun<V>>, member: MemberOf<V>) -> Result<(),
     }
 }
 
-// A window of the node stands round the body, behind the other windows.
+// Adds the window of the node round the body, after the other windows.
 #[tactic(auto, using(crate::proofs::OwnerLemmas::head_fits))]
 fn stand_window<V: View>(
     windows: &mut Vec<WindowOf<V>>,

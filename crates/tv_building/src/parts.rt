@@ -1,4 +1,4 @@
-//! What is so of every description that was checked, as a contract.
+//! What holds of every description that was checked, as a contract.
 ghost use Rattle.std.specs.Prelude.{All};
 ghost use Rattle.tv_lang.specs.CanonicalDescription.{CanBeSpelled};
 ghost use Rattle.tv_building.specs.Desk.{AreLawfulWindows};
@@ -8,7 +8,7 @@ ghost use Rattle.tv_model.specs.Faults.{IsSound};
 
 use tv_model::Desc;
 
-/// Promises that a sound description that a text can spell has what a run of it asks for; there is nothing to do.
+/// A theorem, as a function without a body: a sound description that a text can spell has what a run of it asks for.
 pub fn parts_are_lawful(_desc: &Desc)
     requires spelled { CanBeSpelled _desc.now }
     requires sound { IsSound _desc.now }

@@ -3,7 +3,7 @@
 ghost use Rattle.std.specs.Prelude.{◌≡◌};
 ghost use Rattle.tv_model.specs.Description.Certificates.{letters};
 
-/// The letters that a text can mark, in the order of a certificate.
+/// Returns the letters that a text can mark, in the order of a certificate.
 pub fn letters() -> &'static [char]
     ensures { result.now ≡ letters }
 {

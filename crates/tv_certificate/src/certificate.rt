@@ -35,7 +35,7 @@ pub struct KeyLine {
 }
 
 impl Certificate {
-    /// The blocks, in the order of the text.
+    /// Returns the blocks, in the order of the text.
     pub fn blocks(&self) -> &[Block]
         ensures { result.now ≡ self.now.blocks }
     {

@@ -13,7 +13,7 @@ use tv_printing::Line;
 use tv_valid::Chars;
 use tv_words::Word;
 
-// The text with a line of a keyword and a name.
+// Adds a line of a keyword and a name to the text.
 fn with_name(alloc: Global, text: String, kind: &[u8], name: &Chars) -> Result<String, AllocError>
     ensures { IfOk result (λ longer. string_bytes longer ≡ string_bytes text ++ ended_line (Word.Bare kind.now ∷ Word.Bare name.now ∷ [])) }
 {
@@ -100,7 +100,7 @@ fn canonical(alloc: Global, version: Version, blocks: &[Block]) -> Result<String
 }
 
 impl Certificate {
-    /// The canonical text: each line with one space between its words and a line end after it.
+    /// Writes the canonical text: each line with one space between its words and a line end after it.
     pub fn print(&self, alloc: Global) -> Result<String, AllocError>
         ensures text { IfOk result (λ printed. string_bytes printed ≡ canonical_text (certificate_lines self.now)) }
         ensures spelled { (text : List ℕ) → Spells text self.now → IfOk result (λ printed. Spells (string_bytes printed) self.now) }

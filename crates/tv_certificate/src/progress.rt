@@ -32,7 +32,7 @@ pub enum Stage {
 }
 
 impl Progress {
-    /// Goes on by the declaration, or gives `None` where it can't come here.
+    /// Takes the declaration that the words spell, or returns `None` where it can't come here.
     pub fn take(self, alloc: Global, words: &[Word]) -> Result<Option<Progress>, AllocError>
         ensures { IfOk result (λ further. further ≡ taken self words.now) }
     {
@@ -42,7 +42,7 @@ impl Progress {
         }
     }
 
-    /// The certificate, where it is read to its end.
+    /// Returns the certificate, or `None` where it isn't read to its end.
     pub fn finish(self) -> Option<Certificate>
         ensures { result ≡ finished self }
     {
@@ -61,7 +61,7 @@ fn begun(alloc: Global, version: Version) -> Progress
     Progress::Begun(Certificate { version, blocks }, Stage::Between)
 }
 
-// After the first line.
+// Takes a declaration after the first line.
 fn further(
     alloc: Global,
     read: Certificate,

@@ -39,7 +39,7 @@ impl From<AllocError> for CertificateFault {
 const LONGEST: usize = 262_144;
 
 impl Certificate {
-    /// The certificate that a text of at most 262,144 bytes spells.
+    /// Reads the certificate that a text of at most 262,144 bytes spells.
     pub fn read(alloc: Global, text: &[u8]) -> Result<Certificate, CertificateFault>
         ensures spelled { IfOk result (λ certificate. Spells text.now certificate) }
         ensures only { (certificate : SeenCertificate) → Spells text.now certificate → length text.now ≤ 262144 → Gives result certificate }

@@ -1,4 +1,4 @@
-//! The versions of certificates, as their first line tells them.
+//! The versions of certificates, as their first line names them.
 
 ghost use Rattle.std.specs.Prelude.{◌≡◌};
 ghost use Rattle.tv_certificate.specs.CertificateTexts.{version_number};
@@ -7,7 +7,7 @@ ghost use Rattle.tv_certificate.specs.CertificateReading.{version_in, version_of
 use tv_model::Version;
 use tv_words::Word;
 
-/// The word that stands for the version.
+/// Returns the word that stands for the version.
 pub fn version_number(version: Version) -> &'static [u8]
     ensures { result.now ≡ version_number version }
 {
@@ -26,7 +26,7 @@ fn version_of(word: &Word) -> Option<Version>
     }
 }
 
-/// The version that a certificate's first line names.
+/// Reads the version that a certificate's first line names, or returns `None` where it names none.
 pub fn version_in(words: &[Word]) -> Option<Version>
     ensures { result ≡ version_in words.now }
 {

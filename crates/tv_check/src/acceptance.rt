@@ -25,7 +25,7 @@ pub enum Refusal {
     /// The description isn't sound: its first fault, by number and then by line.
     #[error("the description has a fault")]
     Faulty(Fault),
-    /// The first place, counted from 1, at which the tab lines aren't the order of Tab.
+    /// The first place, counted from 1, at which the tab lines differ from the order of Tab.
     #[error("tab line {0} is not in the order of Tab")]
     TabOrder(usize),
     /// The least letter, in the first dialog that differs, whose key lines don't name its owner.
@@ -44,7 +44,7 @@ impl From<AllocError> for Refusal {
     }
 }
 
-/// A sound description that a text can spell. It can be had from `accept` alone.
+/// A sound description that a text can spell. Only `accept` makes one.
 #[derive(Debug, Drop)]
 pub struct Checked {
     desc: Desc,
@@ -63,8 +63,8 @@ impl Model for Checked {
 }
 
 impl Checked {
-    /// The description that was accepted. Each of its dialogs has what the modal dialog asks of it (`lawful`), and what the
-    /// laws of every run ask (`sound_dialogs`).
+    /// Returns the description that was accepted. Each of its dialogs has what the modal dialog asks of it (`lawful`),
+    /// and what the laws of every run ask (`sound_dialogs`).
     pub fn desc(&self) -> &Desc
         ensures value { result.now ≡ self.now }
         ensures spelled { CanBeSpelled result.now }
@@ -102,10 +102,10 @@ fn look(alloc: Global, desc: &Desc, certificate: &Certificate) -> Result<(), Ref
     }
 }
 
-/// Says yes exactly where the description is sound and the certificate is sound for it. Else the description comes back
-/// unchanged, with the first reason.
+/// Accepts the description exactly where it is sound and the certificate is sound for it. Otherwise hands it back
+/// unchanged, with the first reason to refuse it.
 ///
-/// The description is one that a text can spell, as `parse` gives it.
+/// The description must be one that a text can spell, as those of `parse` are.
 pub fn accept(
     alloc: Global,
     desc: Desc,

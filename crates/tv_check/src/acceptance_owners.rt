@@ -65,7 +65,8 @@ fn first_letter(lines: &[&KeyLine], dialog: &Dialog) -> Option<char>
     None
 }
 
-/// The first letter that doesn't have its owner, in the first dialog that has one.
+/// Finds the first dialog with a letter whose key lines don't name its owner. Returns the first such letter of that
+/// dialog.
 pub fn first_owner(alloc: Global, desc: &Desc, blocks: &[Block]) -> Result<Option<char>, AllocError>
     ensures { IfOk result (λ letter. MatchOption letter (All (NamesOwners blocks.now) desc.now.dialogs) (IsFirstOwner desc.now blocks.now)) }
 {

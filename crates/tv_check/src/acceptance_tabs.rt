@@ -102,7 +102,7 @@ fn first_difference(given: &[Tab], order: &[Tab]) -> Option<usize>
     None
 }
 
-/// The first place, counted from 1, at which the tab lines aren't the order of Tab.
+/// Finds the first place, counted from 1, at which the tab lines differ from the order of Tab.
 pub fn first_tab(alloc: Global, desc: &Desc, blocks: &[Block]) -> Result<Option<usize>, AllocError>
     ensures { IfOk result (λ place. MatchOption place (tab_lines blocks.now ≡ tab_order desc.now) (DifferFirst (tab_lines blocks.now) (tab_order desc.now))) }
 {

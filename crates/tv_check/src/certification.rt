@@ -40,14 +40,14 @@ impl From<AllocError> for CertifyFault {
     }
 }
 
-/// A text with the same characters.
+/// Copies a text.
 pub fn copy(alloc: Global, text: &Chars) -> Result<Chars, AllocError>
     ensures { IfOk result (λ copy. copy ≡ text.now) }
 {
     Chars::from_slice(alloc, text.as_slice())
 }
 
-/// The name of a control.
+/// Returns the name of a control, or `None` for another node.
 pub fn control_name(kind: &Kind) -> Option<&Chars>
     ensures { option_copied result ≡ control_name kind.now }
 {
@@ -115,7 +115,7 @@ fn certificate_of(alloc: Global, desc: &Desc) -> Result<Certificate, AllocError>
     })
 }
 
-/// The first fault of the description, by number and then by line.
+/// Finds the first fault of the description, by number and then by line.
 pub fn first_fault(alloc: Global, desc: &Desc) -> Result<Option<Fault>, AllocError>
     ensures { IfOk result (λ fault. MatchOption fault (IsSound desc.now) (IsFirstFault desc.now)) }
 {
@@ -132,7 +132,8 @@ fn first_of(found: &[Fault]) -> Option<Fault>
     }
 }
 
-/// The certificate of a sound description that a text can spell: a block for each dialog, in description order.
+/// Makes the certificate of a description, where that is sound: a block for each dialog, in the order of the
+/// description.
 pub fn certify(alloc: Global, desc: &Desc) -> Result<Certificate, CertifyFault>
     requires { CanBeSpelled desc.now }
     ensures value { IfOk result (λ certificate. certificate ≡ certificate_of desc.now) }

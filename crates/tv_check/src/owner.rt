@@ -34,7 +34,7 @@ impl<'a> Owner<'a> {
         line.owner.is(self.name) && is_number_of(line.item, self.place)
     }
 
-    /// The number of the item, counted from 1.
+    /// Returns the number of the item, counted from 1, or `None` for the control itself.
     pub fn item(&self) -> Option<i32>
         requires { FitsKeyLine (lent_owner self.now) }
         ensures { result ≡ option_map item_number self.now.place }
@@ -98,7 +98,7 @@ fn marker_of(dialog: &Dialog, letter: char) -> Option<&Node>
         .find(|node| is_marker(node, letter))
 }
 
-/// What the letter acts on in the dialog.
+/// Finds what the letter acts on in the dialog.
 pub fn owner_of(dialog: &Dialog, letter: char) -> Option<Owner>
     ensures { option_to_list (option_map lent_owner result) ≡ owners_of dialog.now letter }
 {

@@ -17,7 +17,7 @@ pub enum BuildStep<'a> {
     Open(&'a Node),
     /// A control, label or static text.
     Leaf(&'a Node),
-    /// The one that was opened last and isn't closed ends.
+    /// The innermost window, dialog or pane that is open ends.
     Close,
 }
 
@@ -93,7 +93,7 @@ fn plan_of(alloc: Global, desc: &Desc) -> Result<Vec<BuildStep>, AllocError>
 }
 
 impl Checked {
-    /// The steps of making all views: windows first, then dialogs, each in description order.
+    /// Lists the steps of making all views: windows first, then dialogs, each in the order of the description.
     pub fn build_plan(&self, alloc: Global) -> Result<Vec<BuildStep>, AllocError>
         ensures plan { IfOk result (λ plan. map lent_step plan.items ≡ plan_of self.now) }
         ensures nodes { IfOk result (λ plan. filter_map node_in (map lent_step plan.items) ≡ all_nodes self.now) }

@@ -71,7 +71,7 @@ fn first_marks(declared: &Declared) -> u16
 }
 
 impl CheckBoxes {
-    /// The check boxes of a node, as sound descriptions have them.
+    /// Makes the check boxes of a node, which must be one that sound descriptions may have.
     ///
     /// # Errors
     ///

@@ -46,7 +46,7 @@ fn first_top(height: u32, item: u8) -> u8
 }
 
 impl Chosen {
-    /// What a list of so many rows that opens with the item has chosen.
+    /// Starts a list of so many rows with the item chosen and in view.
     pub(crate) fn opened(height: u32, item: u8) -> Chosen
         requires { 1 ≤ height }
         ensures item { result.item ≡ item }
@@ -58,7 +58,7 @@ impl Chosen {
         }
     }
 
-    /// The item, or the nearest of so many, chosen instead.
+    /// Chooses the item instead, or the nearest of so many.
     pub(crate) fn with(self, height: u32, count: usize, item: u32) -> Chosen
         requires one { 1 ≤ height }
         requires low { height ≤ 60 }
@@ -72,7 +72,7 @@ impl Chosen {
         }
     }
 
-    /// The item that a key asks for.
+    /// Returns the item that a key asks for, or `None` for another key.
     pub(crate) fn asked_item(self, height: u32, count: usize, key: Key) -> Option<u32>
         requires low { height ≤ 60 }
         requires count { count < 256 }
@@ -93,7 +93,7 @@ impl Chosen {
         }
     }
 
-    /// The item of a row, or the last one.
+    /// Returns the item of a row, or the last one where the row lies below it.
     pub(crate) fn item_at_row(self, count: usize, row: u32) -> u32
         requires { count < 256 }
         ensures { result ≡ item_at_row count (choice_of self) row }

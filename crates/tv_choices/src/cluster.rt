@@ -60,7 +60,7 @@ fn item_marking(items: &[MarkedText], ch: char) -> Option<u8>
     Some(place as u8 + 1)
 }
 
-/// What a key does to a cluster of these items, where the one is selected.
+/// Returns what a key does to a cluster of these items, of which item `at` is selected.
 pub(crate) fn cluster_key(items: &[MarkedText], at: u8, key: Key) -> ClusterKey
     requires { length items.now < 256 }
     ensures is { key_of result ≡ cluster_key items.now (length items.now) at key }
@@ -102,7 +102,8 @@ fn called_item(items: &[MarkedText], letter: Option<char>) -> Option<u8>
     item_marking(items, letter?)
 }
 
-/// What the cluster of the id answers to a key before or after the focus gets it: a letter asks for the focus and its item.
+/// Returns what the cluster of the id answers to a key before or after the focus gets it: a letter asks for the focus
+/// and its item.
 pub(crate) fn letter_answer(id: Id, items: &[MarkedText], key: Key, phase: Phase) -> Reaction
     requires { length items.now < 256 }
     ensures { (leaf : Leaf) → leaf.node.id ≡ id → result ≡ item_call leaf (called_item items.now (called phase key)) }
@@ -120,7 +121,7 @@ pub(crate) fn is_item(count: usize, item: u8) -> bool
     1 <= item && item as usize <= count
 }
 
-/// The item of the row of a point, from 1; the first for a point above the rectangle.
+/// Returns the item of the row of a point, from 1, or the first one for a point above the rectangle.
 pub(crate) fn row_item(bounds: Rect, point: Point) -> u32
     requires { IsSmallRect bounds }
     ensures { result ≡ int_gap bounds.a.y point.y + 1 }
@@ -128,7 +129,8 @@ pub(crate) fn row_item(bounds: Rect, point: Point) -> u32
     row_of(bounds, point) + 1
 }
 
-/// The item that is pressed where the mouse goes up: that of the row, if the cluster remembers it.
+/// Returns the item that is pressed where the mouse goes up: that of the row, if it is the one that the cluster
+/// remembers.
 pub(crate) fn item_released(bounds: Rect, point: Point, item: u32) -> Option<u8>
     requires small { IsSmallRect bounds }
     requires rows { bounds.b.y ≤ℤ (bounds.a.y +ℤ pos 16) }

@@ -1,4 +1,4 @@
-//! Check boxes, radio buttons and lists, each of which is its table.
+//! Check boxes, radio buttons and lists, each of which does what its kind's table says.
 #![tactic(auto)]
 
 mod check_boxes;

@@ -45,7 +45,7 @@ fn first_chosen(declared: &Declared) -> Chosen
 }
 
 impl ListBox {
-    /// The list of a node, as sound descriptions have them.
+    /// Makes the list of a node, which must be one that sound descriptions may have.
     ///
     /// # Errors
     ///

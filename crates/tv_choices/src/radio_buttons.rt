@@ -41,7 +41,7 @@ fn first_marked(declared: &Declared) -> u8
 }
 
 impl RadioButtons {
-    /// The radio buttons of a node, as sound descriptions have them.
+    /// Makes the radio buttons of a node, which must be one that sound descriptions may have.
     ///
     /// # Errors
     ///

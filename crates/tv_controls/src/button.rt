@@ -32,7 +32,7 @@ pub struct Button {
 }
 
 impl Button {
-    /// The button of a node, as sound descriptions have them.
+    /// Makes the button of a node, which must be one that sound descriptions may have.
     ///
     /// # Errors
     ///

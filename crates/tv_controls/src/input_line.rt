@@ -77,7 +77,7 @@ fn is_own_key(phase: Phase, key: Key) -> bool
 }
 
 impl InputLine {
-    /// The input line of a node, as sound descriptions have them, with the text that it starts with.
+    /// Makes the input line of a node, with its start text. The node must be one that sound descriptions may have.
     ///
     /// # Errors
     ///
@@ -161,7 +161,7 @@ impl InputLine {
         Reaction::Release
     }
 
-    // The text of its field in the record.
+    // Opens with the text of its field in the record.
     fn open(&mut self, values: &Record)
         requires { Fits values.now (input_leaf self.old.core self.old.edit) }
         ensures { input_leaf self.new.core self.new.edit ≡ set_from values.now (input_leaf self.old.core self.old.edit) }

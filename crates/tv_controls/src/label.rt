@@ -104,7 +104,7 @@ fn called(phase: Phase, key: Key) -> Option<char>
 }
 
 impl Label {
-    /// The label of a node, as sound descriptions have them.
+    /// Makes the label of a node, which must be one that sound descriptions may have.
     ///
     /// # Errors
     ///

@@ -1,4 +1,4 @@
-//! Static texts, labels, buttons and input lines, each of which is its table.
+//! Static texts, labels, buttons and input lines, each of which does what its kind's table says.
 #![tactic(auto)]
 
 mod button;

@@ -28,7 +28,7 @@ impl Model for LineEdit {
     ghost invariant = { λ e. e.cursor ≤ length e.text };
 }
 
-/// Whether the key is one of an input's; it passes all others on.
+/// Whether an input handles the key. It passes all others on.
 pub(crate) fn is_edit_key(key: Key) -> bool
     ensures { result ≡ is_edit_key key }
 {
@@ -42,7 +42,7 @@ pub(crate) fn is_edit_key(key: Key) -> bool
 }
 
 impl LineEdit {
-    /// The text, with the cursor before it and nothing selected.
+    /// Starts with a text: the cursor stands before it, and nothing is selected.
     pub fn new(text: Text) -> LineEdit
         ensures { result ≡ opened text false }
     {
@@ -54,14 +54,14 @@ impl LineEdit {
         }
     }
 
-    /// The text.
+    /// Returns the text.
     pub fn text(&self) -> &Text
         ensures { result.now ≡ self.now.text }
     {
         &self.text
     }
 
-    /// The place of the cursor.
+    /// Returns the place of the cursor.
     pub fn cursor(&self) -> u32
         ensures value { result ≡ self.now.cursor }
         ensures within { self.now.cursor ≤ length self.now.text }
@@ -77,21 +77,21 @@ impl LineEdit {
         self.is_whole
     }
 
-    /// Whether it stands before any key with these characters.
+    /// Whether it is as at the start, before any key, with these characters.
     pub fn is_start(&self, start: &[char]) -> bool
         ensures { IsTrue result ↔ (self.now ≡ opened start.now false) }
     {
         self.text.as_slice() == start && self.cursor == 0 && !self.is_whole && !self.overwrites
     }
 
-    /// Another text, with the cursor before it and nothing selected.
+    /// Takes another text, with the cursor before it and nothing selected.
     pub fn open(&mut self, text: Text)
         ensures { self.new ≡ opened text self.old.overwrites }
     {
         self.put(text, 0);
     }
 
-    // The cursor goes to a place.
+    // Moves the cursor to a place, with nothing selected.
     fn go(&mut self, place: usize)
         requires { place ≤ length self.old.text }
         ensures { self.new ≡ at_place place self.old }
@@ -100,7 +100,7 @@ impl LineEdit {
         self.is_whole = false;
     }
 
-    // Another text, with the cursor at a place.
+    // Takes another text, with the cursor at a place.
     fn put(&mut self, text: Text, place: usize)
         requires { place ≤ length text }
         ensures { self.new ≡ with_text text place self.old }
@@ -110,7 +110,7 @@ impl LineEdit {
         self.is_whole = false;
     }
 
-    // Another text, if it is viable.
+    // Takes another text, if it is viable.
     fn try_put(&mut self, domain: &Domain, text: Text, place: usize)
         requires { place ≤ length text }
         ensures { self.new ≡ becomes domain.now (with_text text place self.old) self.old }
@@ -211,7 +211,7 @@ impl LineEdit {
         }
     }
 
-    /// What a key makes of it, where a text that isn't viable is refused.
+    /// Edits the text by a key. A key that would leave a text that isn't viable changes nothing.
     pub fn edit(&mut self, domain: &Domain, key: Key)
         ensures { self.new ≡ edited domain.now key self.old }
     {
@@ -234,7 +234,8 @@ impl LineEdit {
         }
     }
 
-    /// A mouse down on a column of the input, where a place is the first shown.
+    /// Moves the cursor to where the mouse goes down: at a column of the input, of which `first` is the first place
+    /// shown.
     pub fn click(&mut self, first: usize, column: u32)
         requires { first ≤ length self.old.text }
         ensures { self.new ≡ clicked first column self.old }
@@ -244,7 +245,7 @@ impl LineEdit {
         self.go(place.min(len));
     }
 
-    /// The focus comes: the whole text is selected.
+    /// Selects the whole text, as the focus comes.
     pub fn enter(&mut self)
         ensures { self.new ≡ entered self.old }
     {
@@ -252,7 +253,7 @@ impl LineEdit {
         self.is_whole = !self.text.is_empty();
     }
 
-    /// The focus goes: nothing is selected.
+    /// Selects nothing and moves the cursor to the start, as the focus goes.
     pub fn leave(&mut self)
         ensures { self.new ≡ left self.old }
     {

@@ -42,7 +42,7 @@ impl Model for StaticText {
 }
 
 impl StaticText {
-    /// The static text of a node whose rectangle lies within -300 to 300, as those of descriptions do.
+    /// Makes the static text of a node, whose rectangle must lie within -300 to 300, as those of descriptions do.
     ///
     /// # Errors
     ///

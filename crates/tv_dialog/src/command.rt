@@ -52,7 +52,7 @@ impl<V: View> DialogOf<V> {
         self.is_open = false;
     }
 
-    // The focus goes to an input that refuses the end, without asking the one that has it.
+    // Moves the focus to an input that refuses the end, without asking the control that has it.
     fn show_invalid(&mut self, id: Id)
         ensures stands { (d : Dialog) (m : Modal) → IsLawfulDialog d → length m.log ≤ 1 → Stands V.meaning d m.leaves m self.old
             → Stands V.meaning d (shown_invalid d id (with_line (lines.Invalid id) m)).leaves (shown_invalid d id (with_line (lines.Invalid id) m)) self.new }
@@ -76,7 +76,7 @@ impl<V: View> DialogOf<V> {
         }
     }
 
-    // What the dialog itself does with a command that its views passed on.
+    // Handles a command that the views passed on.
     pub(crate) fn command(&mut self, command: Command)
         ensures stands { (d : Dialog) (m : Modal) → IsLawfulDialog d → length m.log ≤ 1
             → Stands V.meaning d m.leaves m self.old → Stands V.meaning d (commanded d command.0 m).leaves (commanded d command.0 m) self.new }

@@ -6,7 +6,7 @@ ghost use Rattle.tv_dialog.specs.Plan.{is_met};
 
 use tv_model::{Id, Record, Value};
 
-/// That an item of a cluster is marked.
+/// The condition that an item of a cluster is marked.
 #[derive(Clone, Copy, Debug)]
 pub(crate) struct Condition {
     /// Where the description has no such cluster, the condition is never met.

@@ -47,7 +47,7 @@ pub struct DialogOf<V> {
     pub(crate) plan: Plan,
     pub(crate) body: GroupOf<V>,
     pub(crate) is_open: bool,
-    /// While it is open; the dialog's own id stands for none.
+    /// The control that has the focus, while the dialog is open. The dialog's own id stands for none.
     pub(crate) focus: Id,
     pub(crate) ruled: Ruled,
     /// The values by which the rules were last applied.
@@ -88,13 +88,14 @@ impl Kept {
 }
 
 impl<V: View> DialogOf<V> {
-    /// The dialog of a node with these views, panes opened out, and rules, round a body that stands as they declare it. It
-    /// is closed. The title has at most 120 characters, and the rectangle lies within -300 to 300, as those of sound
-    /// descriptions do.
+    /// Makes the dialog of a node with these views, panes opened out, and rules, round a body that is as they declare
+    /// it. The dialog is closed. Its title has at most 120 characters, and its rectangle lies within -300 to 300, as
+    /// those of sound descriptions do.
     ///
     /// # Errors
     ///
-    /// `WrongKind` for a node that isn't a dialog's, else `NoMemory` where there is none, both with the body as it was.
+    /// `WrongKind` for a node that isn't a dialog's, else `NoMemory` where there is none. Both hand the body back as it
+    /// was.
     pub fn new(
         alloc: Global,
         node: &Node,
@@ -132,7 +133,7 @@ impl<V: View> DialogOf<V> {
 }
 
 impl<V> DialogOf<V> {
-    /// Its rectangle, seen from the corner of what it stands in.
+    /// Returns its rectangle, seen from the corner of what it stands in.
     pub fn bounds(&self) -> Rect
         ensures is { result ≡ bounds_of self.now.head }
         ensures small { IsSmallRect result }
@@ -148,14 +149,14 @@ impl<V> DialogOf<V> {
         self.is_open
     }
 
-    /// The control that has the focus, while it is open.
+    /// Returns the control that has the focus, while the dialog is open.
     pub fn focus(&self) -> Id
         ensures { result ≡ self.now.focus }
     {
         self.focus
     }
 
-    /// The lines of the last event.
+    /// Returns the log lines of the last event.
     pub fn log(&self) -> &[LogLine]
         ensures lines { result.now ≡ self.now.log.items }
         ensures few { length result.now ≤ 66 }
@@ -163,7 +164,7 @@ impl<V> DialogOf<V> {
         self.log.as_slice()
     }
 
-    /// The enabled commands; all of them while it is closed.
+    /// Returns the enabled commands, which are all of them while the dialog is closed.
     pub fn commands(&self) -> &CommandSet
         ensures { result.now ≡ self.now.ruled.commands }
     {
@@ -180,7 +181,7 @@ impl<V> DialogOf<V> {
         body
     }
 
-    /// What Enter presses: the focus if it is a button, else the declared default button.
+    /// Returns what Enter presses: the focus if it is a button, else the declared default button.
     fn default_now(&self) -> Option<Id>
         ensures { result ≡ default_now self.now.plan self.now.focus }
     {
@@ -191,7 +192,7 @@ impl<V> DialogOf<V> {
         }
     }
 
-    /// What its views are lent: who has the focus, and what Enter presses.
+    /// Makes the environment that it lends its views: adds who has the focus, and what Enter presses.
     pub(crate) fn lent<'a>(&self, env: &Env<'a>) -> Env<'a>
         ensures { result ≡ lent self.now.plan self.now.focus env.now }
     {
@@ -219,9 +220,9 @@ impl<V: View> DialogOf<V> {
         self.body.get(values);
     }
 
-    /// Draws the frame, the space in it, and the views on top, all seen from the canvas's origin. The environment is what
-    /// the dialog is lent; who has the focus and what Enter presses it tells its views itself. The shadow isn't drawn; where it
-    /// was before, the screen then shows the flat machine's layers of the open dialog.
+    /// Draws the frame, the space in it, and the views on top, all seen from the canvas's origin. `env` is what the
+    /// dialog's owner lends it; the dialog itself adds who has the focus and what Enter presses. Doesn't draw the
+    /// shadow: if that was drawn before, the screen then shows the flat machine's layers of the open dialog.
     pub fn draw(&self, screen: &mut Screen, canvas: Canvas, env: &Env)
         requires { IsSmall canvas.origin.x × IsSmall canvas.origin.y }
         ensures layers { Lays (dialog_layers V.meaning env.now canvas self.now) screen.old screen.new }

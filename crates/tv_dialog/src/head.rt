@@ -43,7 +43,7 @@ impl Model for Head {
 }
 
 impl Head {
-    /// That of a dialog's node, and none of another's.
+    /// Makes the head of a dialog's node, or returns `None` for another node.
     pub(crate) fn of(node: &Node) -> Option<Head>
         requires { IfSome (declared_head node.now) IsLimited }
         ensures { result ≡ declared_head node.now }
@@ -88,7 +88,7 @@ impl Head {
         }
     }
 
-    /// The face of the frame, in the colours that the dialog's views are lent.
+    /// Returns the face of the frame, in the colours that the dialog's views are lent.
     pub(crate) fn frame(&self, env: &Env) -> Frame<'_>
         ensures width { result.width ≡ natural self.now.w }
         ensures height { result.height ≡ natural self.now.h }

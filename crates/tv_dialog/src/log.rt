@@ -5,7 +5,7 @@ ghost use Rattle.std.specs.Prelude.{◌≡◌, ◌<◌, ◌++◌, ◌∷◌, [],
 use arrayvec::ArrayVec;
 use tv_model::LogLine;
 
-/// The lines of the last event. The most that one gives are a press, an end and 64 fields.
+/// The lines of the last event. One event gives at most a press, an end and 64 fields.
 pub(crate) type Log = ArrayVec<LogLine, 66>;
 
 /// Adds a line, for which there is room unless the dialog has more fields than descriptions may have.

@@ -17,7 +17,7 @@ use tv_model::Record;
 use tv_view::View;
 
 impl<V: View> DialogOf<V> {
-    /// Opens it with these values, with the focus on the first free control. Where typing overwrites, it still does.
+    /// Opens it with these values and the focus on the first free control. Inputs in which typing overwrites stay so.
     pub fn reopen(&mut self, values: &Record)
         requires { FitsAll values.now (opened V.meaning self.old.body) }
         ensures stands { (d : Dialog) (m : Modal) → IsLawfulDialog d → map (λ entry. entry.id) values.now ≡ field_ids d

@@ -39,12 +39,12 @@ pub(crate) struct Plan {
     /// In description order.
     pub(crate) leaves: Sequence<LeafPlan>,
     pub(crate) gates: Sequence<Gate>,
-    /// The declared one, hidden or not.
+    /// The declared default button, hidden or not.
     pub(crate) default_button: Option<Id>,
 }
 
 impl LeafPlan {
-    /// Whether all that it depends on is marked.
+    /// Whether every condition on showing it is met.
     pub(crate) fn is_shown(&self, marks: &Record) -> bool
         ensures { result ≡ is_shown_by marks.now self.now }
     {
@@ -216,7 +216,7 @@ fn leaf_of(leaves: &[LeafPlan], id: Id) -> Option<&LeafPlan>
 }
 
 impl Plan {
-    /// That of these views and rules.
+    /// Makes the plan of these views and rules.
     pub(crate) fn of(alloc: Global, views: &[Node], rules: &[Rule]) -> Result<Plan, AllocError>
         ensures { IfOk result (λ plan. plan ≡ plan_of views.now rules.now) }
     {

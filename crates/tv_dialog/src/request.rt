@@ -17,7 +17,7 @@ use tv_model::{Id, LogLine};
 use tv_view::View;
 
 impl<V: View> DialogOf<V> {
-    // The focus goes to another control, without asking the one that has it.
+    // Moves the focus to another control, without asking the one that has it.
     pub(crate) fn move_focus(&mut self, id: Id)
         ensures stands { (d : Dialog) (m : Modal) → IsLawfulDialog d → length m.log < 66 → (id.0 == m.focus.0) ≡ false → is_free_at d m.leaves id ≡ true
             → Stands V.meaning d m.leaves m self.old → Stands V.meaning d (focus_moved d id m).leaves (focus_moved d id m) self.new }
@@ -29,7 +29,7 @@ impl<V: View> DialogOf<V> {
         note(&mut self.log, LogLine::Focus(id));
     }
 
-    // The control of the id asks for the focus. Whether it has it then.
+    // Asks for the focus for the control of the id. Returns whether that control has it then.
     pub(crate) fn request(&mut self, id: Id) -> bool
         ensures stands { (d : Dialog) (m : Modal) → IsLawfulDialog d → length m.log < 66
             → Stands V.meaning d m.leaves m self.old → Stands V.meaning d (asked d id m).leaves (asked d id m) self.new }
@@ -60,7 +60,7 @@ impl<V: View> DialogOf<V> {
         }
     }
 
-    // That control asks for the focus.
+    // Asks for the focus for the next free control in a direction.
     pub(crate) fn advance(&mut self, dir: Dir)
         ensures stands { (d : Dialog) (m : Modal) → IsLawfulDialog d → length m.log < 66
             → Stands V.meaning d m.leaves m self.old → Stands V.meaning d (asked d (stop_in d m dir) m).leaves (asked d (stop_in d m dir) m) self.new }

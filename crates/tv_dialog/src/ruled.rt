@@ -1,4 +1,4 @@
-//! What rules come to.
+//! What rules show and enable.
 
 ghost use Rattle.std.specs.Prelude.{◌≡◌, ◌≤◌, ◌<◌, ◌+◌, ◌++◌, ◌&&◌, ℕ, true, false, length, slice_index_or};
 ghost use Rattle.tv_dialog.specs.Plan.{is_enabled_by, passes_all, shown_among, shown_by};
@@ -8,7 +8,7 @@ use arrayvec::ArrayVec;
 use tv_event::{Command, CommandSet};
 use tv_model::{Id, Record};
 
-/// Which leaves are shown and which commands are enabled, as the rules last came to.
+/// Which leaves are shown and which commands are enabled, as the rules were last applied.
 #[derive(Debug, Drop)]
 pub(crate) struct Ruled {
     /// In description order.
@@ -40,7 +40,7 @@ fn disable_blocked(commands: &mut CommandSet, gates: &[Gate], marks: &Record)
 }
 
 impl Ruled {
-    /// With nothing shown and every command enabled.
+    /// Starts with nothing shown and every command enabled.
     pub(crate) fn new() -> Ruled
         ensures { (number : ℕ) → number < 256 → slice_index_or result.commands number false ≡ true }
     {
@@ -58,7 +58,7 @@ impl Ruled {
         self.commands = CommandSet::all();
     }
 
-    /// What the plan's rules come to where these items are marked. Takes no memory.
+    /// Notes what the plan's rules show and enable with these items marked. Takes no memory.
     pub(crate) fn update(&mut self, plan: &Plan, marks: &Record)
         ensures shown { length plan.now.leaves ≤ 64 → self.new.shown.items ≡ shown_by plan.now marks.now }
         ensures commands { (number : ℕ) → number < 256 → slice_index_or self.new.commands number false ≡ is_enabled_by plan.now marks.now number }

@@ -76,7 +76,7 @@ fn posted(is_held: bool, event: &Event) -> Option<Event>
 }
 
 impl<V: View> DialogOf<V> {
-    // The keys that lead from control to control.
+    // Handles the keys that lead from control to control.
     fn walk(&mut self, event: &Event)
         ensures stands { (d : Dialog) (m : Modal) → IsLawfulDialog d → length m.log < 66
             → Stands V.meaning d m.leaves m self.old → Stands V.meaning d (walked d event.now m).leaves (walked d event.now m) self.new }
@@ -89,8 +89,8 @@ impl<V: View> DialogOf<V> {
         }
     }
 
-    /// Handles an event, whose point is seen from the dialog's corner. The environment is what the dialog is lent, with
-    /// its views; who has the focus and what Enter presses it tells its views itself.
+    /// Handles an event, whose point is seen from the dialog's corner. `env` is what the dialog's owner lends it, with
+    /// the dialog's own views; the dialog itself adds who has the focus and what Enter presses.
     pub fn step(&mut self, event: &Event, env: &Env)
         requires { self.old.is_open ≡ true }
         ensures stands { (d : Dialog) (m : Modal) → IsLawfulDialog d → env.now.views.now ≡ d.views → IsHandedIn event.now → HoldsLeaf d m

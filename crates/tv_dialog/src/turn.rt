@@ -1,4 +1,4 @@
-//! What a posted event comes to.
+//! How a posted event is handled.
 
 ghost use Rattle.std.specs.Prelude.{◌≡◌, ◌≤◌, ◌∷◌, [], List, length, None};
 ghost use Rattle.tv_cells.specs.declared.rect.Point.{Point};
@@ -78,7 +78,7 @@ impl<V: View> DialogOf<V> {
         }
     }
 
-    // A mouse down. A view that asked for the focus, and got it, is handed it once more.
+    // Handles a mouse down. A view that asks for the focus, and gets it, is handed the mouse down once more.
     fn press(&mut self, event: &Event, env: &Env)
         requires { self.old.pending ≡ [] }
         ensures stands { (d : Dialog) (m : Modal) → IsLawfulDialog d → IsLentBy d m env.now → (p : Point) → event.now ≡ events.Down p
@@ -96,7 +96,7 @@ impl<V: View> DialogOf<V> {
         }
     }
 
-    // An event that goes to every view.
+    // Hands an event to every view.
     fn tell(&mut self, event: &Event, env: &Env)
         requires { self.old.pending ≡ [] }
         ensures stands { (d : Dialog) (m : Modal) → IsLawfulDialog d → IsLentBy d m env.now → IsReadyForAll d m event.now
@@ -107,7 +107,7 @@ impl<V: View> DialogOf<V> {
         self.react(reaction);
     }
 
-    // A posted event, with one environment for all that it comes to.
+    // Handles a posted event, with one environment for all that follows from it.
     fn turn(&mut self, event: &Event, env: &Env)
         requires { self.old.pending ≡ [] }
         ensures stands { (d : Dialog) (m : Modal) → IsLawfulDialog d → env.now.views.now ≡ d.views → IsReady d m event.now
@@ -131,7 +131,7 @@ impl<V: View> DialogOf<V> {
         }
     }
 
-    // The event that waited longest, if one does.
+    // Handles the event that has waited longest, if one does.
     fn turn_next(&mut self, env: &Env)
         requires { length self.old.pending ≤ 1 }
         ensures stands { (d : Dialog) (m : Modal) (e : Event) → IsLawfulDialog d → env.now.views.now ≡ d.views → IsReady d m e
@@ -145,7 +145,8 @@ impl<V: View> DialogOf<V> {
         }
     }
 
-    /// Handles the posted event, and what it posts: a key, a press or a release may post a command, and that nothing.
+    /// Handles the posted event, and what that posts: a key, a press or a release may post a command, which posts
+    /// nothing.
     pub(crate) fn settle(&mut self, env: &Env)
         requires { length self.old.pending ≤ 1 }
         ensures stands { (d : Dialog) (m : Modal) (e : Event) → IsLawfulDialog d → env.now.views.now ≡ d.views → IsReady d m e

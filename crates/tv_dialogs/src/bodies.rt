@@ -21,11 +21,11 @@ fn give_back<V: View>(mut kept: Vec<Kept<V>>, bodies: &mut Vec<GroupOf<V>>)
     }
 }
 
-/// The dialogs round these bodies, in order.
+/// Makes the dialogs round these bodies, in order.
 ///
 /// # Errors
 ///
-/// The bodies as they were, where there is no memory.
+/// `AllocError`, with the bodies as they were.
 pub(crate) fn keep_all<V: View>(
     alloc: Global,
     dialogs: &[Declared],

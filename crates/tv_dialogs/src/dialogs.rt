@@ -14,8 +14,8 @@ use tv_view::View;
 
 /// The dialogs of a description, of which one may be open.
 ///
-/// Each is opened with the values of its last end that was no `cancel`, the first time with those declared. It is generic in
-/// its views, as a dialog is; the toolkit's own has boxed ones.
+/// Each opens with the values of its last end other than `cancel`, and before any such end with those declared. It is
+/// generic in its views, as a dialog is; the toolkit's own has boxed ones.
 #[derive(Drop)]
 pub struct DialogsOf<V> {
     /// In description order.
@@ -24,7 +24,7 @@ pub struct DialogsOf<V> {
     pub(crate) open: Option<usize>,
     /// The place of the one that worked last.
     pub(crate) last: Option<usize>,
-    /// All of them, which are lent while no dialog is open.
+    /// All commands, which are lent while no dialog is open.
     pub(crate) commands: CommandSet,
 }
 
@@ -32,7 +32,7 @@ pub struct DialogsOf<V> {
 pub type Dialogs = DialogsOf<Box<dyn View>>;
 
 impl<V> DialogsOf<V> {
-    // The one at a place, if it is told.
+    // The one at a place, if a place is given.
     fn at(&self, place: Option<usize>) -> Option<&Kept<V>>
         ensures { option_copied result ≡ kept_at self.now place }
     {
@@ -42,7 +42,7 @@ impl<V> DialogsOf<V> {
         }
     }
 
-    /// The lines of the dialog that worked last: those of its last event, or of its opening.
+    /// Returns the lines of the dialog that worked last: those of its last event, or of its opening.
     pub fn log(&self) -> &[LogLine]
         ensures lines { result.now ≡ lines_of self.now }
         ensures few { length result.now ≤ 66 }
@@ -55,14 +55,14 @@ impl<V> DialogsOf<V> {
 }
 
 impl<V: View> DialogsOf<V> {
-    /// Whether one is open.
+    /// Whether a dialog is open.
     pub fn is_open(&self) -> bool
         ensures { (d : Desc) (s : State) → AreDialogs V.meaning d s self.now → result ≡ is_some s.dialog }
     {
         self.open.is_some()
     }
 
-    /// The control of the open one that has the focus.
+    /// Returns the control of the open dialog that has the focus.
     pub fn focus(&self) -> Option<Id>
         ensures { (d : Desc) (s : State) → AreDialogs V.meaning d s self.now → result ≡ option_map (λ o. o.focus) s.dialog }
     {
@@ -72,7 +72,7 @@ impl<V: View> DialogsOf<V> {
         }
     }
 
-    /// Whether a view of the open one holds the mouse.
+    /// Whether a view of the open dialog holds the mouse.
     pub fn held(&self) -> bool
         ensures { (d : Desc) (s : State) → AreOfRun V.meaning d s self.now → result ≡ is_some (held_of s.dialog) }
     {
@@ -82,7 +82,7 @@ impl<V: View> DialogsOf<V> {
         }
     }
 
-    /// The commands that the open one enables; all of them while none is open.
+    /// Returns the commands that the open dialog enables, which are all of them while none is open.
     pub fn commands(&self) -> &CommandSet
         ensures { (d : Desc) (s : State) → AreDialogs V.meaning d s self.now
             → (number : ℕ) → number < 256 → slice_index_or result.now number false ≡ is_enabled_now d s number }

@@ -15,7 +15,7 @@ use tv_model::Desc;
 use tv_view::View;
 
 impl<V: View> DialogsOf<V> {
-    /// Draws the open dialog over its shadow, through the desktop's canvas; nothing where none is open.
+    /// Draws the open dialog over its shadow, through the desktop's canvas. Draws nothing where none is open.
     pub fn draw(&self, screen: &mut Screen, desc: &Desc, canvas: Canvas)
         requires small { IsSmall canvas.origin.x × IsSmall canvas.origin.y }
         requires dialogs { (s : State) × AreDialogs V.meaning desc.now s self.now }

@@ -21,7 +21,7 @@ fn seen_from(corner: Point, point: Point) -> Point
     }
 }
 
-/// The event with its point seen from a corner.
+/// Returns the event with its point seen from a corner.
 pub(crate) fn event_from(corner: Point, event: &Event) -> Event
     requires corner { IsSmall corner.x × IsSmall corner.y }
     requires given { HasPointGiven event.now }

@@ -37,12 +37,12 @@ use tv_view::{Env, View};
 #[derive(Drop)]
 pub(crate) struct Kept<V> {
     pub(crate) dialog: DialogOf<V>,
-    /// The values of its last end that was no `cancel`, else those declared.
+    /// The values of its last end other than `cancel`, else those declared.
     pub(crate) values: Record,
 }
 
 impl<V: View> Kept<V> {
-    /// The declared dialog round a body of its views, which opens with their values.
+    /// Makes the declared dialog round a body of its views, to open with the values that they have.
     ///
     /// # Errors
     ///
@@ -83,8 +83,8 @@ impl<V: View> Kept<V> {
         }
     }
 
-    /// Hands the open dialog an event whose point is the screen's, and keeps its values where that ends it, unless by
-    /// `cancel`.
+    /// Hands the open dialog an event, whose point is in screen coordinates. Keeps the dialog's values where that ends
+    /// it by another command than `cancel`.
     pub(crate) fn step(&mut self, declared: &Declared, event: &Event, commands: &CommandSet)
         requires ready { (m : Modal) × IsReady V.meaning declared.now m self.old.dialog }
         requires given { HasPointGiven event.now }

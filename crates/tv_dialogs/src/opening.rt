@@ -20,11 +20,11 @@ use tv_model::Desc as Declared;
 use tv_view::View;
 
 impl<V: View> DialogsOf<V> {
-    /// The dialogs of a description, none of which is open, round one body for each, in order.
+    /// Makes the dialogs of a description, of which none is open, round one body for each, in order.
     ///
     /// # Errors
     ///
-    /// The bodies as they were, where there is no memory.
+    /// `AllocError`, with the bodies as they were.
     pub fn new(
         alloc: Global,
         desc: &Declared,
@@ -45,8 +45,8 @@ impl<V: View> DialogsOf<V> {
         })
     }
 
-    /// Opens the dialog at a place, counted from 0 in description order, with the values of its last end that was no
-    /// `cancel`, the first time with those declared.
+    /// Opens the dialog at a place, counted from 0 in description order, with the values of its last end other than
+    /// `cancel`, and before any such end with those declared.
     pub fn open(&mut self, place: usize)
         requires { MayOpen V.meaning place self.old }
         ensures dialogs { (d : Desc) (s : State) → AreOfRun V.meaning d s self.old → AreDialogs V.meaning d (open_dialog d place s) self.new }

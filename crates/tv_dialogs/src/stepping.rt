@@ -14,8 +14,8 @@ use tv_model::Desc;
 use tv_view::View;
 
 impl<V: View> DialogsOf<V> {
-    /// Hands the open dialog an event, whose point is the screen's; nothing where none is open. No command may come while a
-    /// view holds the mouse.
+    /// Hands the open dialog an event, whose point is in screen coordinates. Does nothing where none is open. No
+    /// command may come while a view holds the mouse.
     pub fn step(&mut self, desc: &Desc, event: &Event)
         requires run { (s : State) × AreOfRun V.meaning desc.now s self.old }
         requires given { HasPointGiven event.now }

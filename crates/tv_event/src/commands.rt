@@ -21,7 +21,7 @@ impl Model for CommandSet {
 }
 
 impl CommandSet {
-    /// Every command.
+    /// Makes the set of all commands.
     pub fn all() -> CommandSet
         ensures { (number : ℕ) → number < 256 → Has result number }
     {

@@ -46,21 +46,21 @@ impl Flags for Mask {
 }
 
 impl Mask {
-    /// What a view takes by default: mouse downs, keys and commands.
+    /// Returns what a view takes by default: mouse downs, keys and commands.
     pub fn of_view() -> Mask
         ensures { result.0 ≡ 0x0111 }
     {
         Mask::MOUSE_DOWN.union(Mask::KEY_DOWN).union(Mask::COMMAND)
     }
 
-    /// Every kind.
+    /// Returns every kind, which is what a group takes.
     pub fn of_group() -> Mask
         ensures { result.0 ≡ 0x0317 }
     {
         Mask::all()
     }
 
-    /// The kind of an event.
+    /// Returns the kind of an event.
     pub fn of_event(event: &Event) -> Mask
         ensures { result.0 ≡ bit_of event.now }
     {

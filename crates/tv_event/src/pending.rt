@@ -7,7 +7,7 @@ use circular_buffer::HeapCircularBuffer;
 use std::alloc::{AllocError, Global};
 use std::marker::Model;
 
-/// The queue of posted events, with room for 4. Contracts see the list of them, that which waits longest first.
+/// The queue of posted events, with room for 4. Contracts see them as a list, the one that has waited longest first.
 #[derive(Drop)]
 pub struct Pending {
     events: HeapCircularBuffer<Event>,
@@ -45,7 +45,7 @@ impl Pending {
         self.events.push_back(event);
     }
 
-    /// Takes the event that waited longest.
+    /// Takes the event that has waited longest, or returns `None` where none waits.
     pub fn next(&mut self) -> Option<Event>
         ensures first { result ≡ slice_get self.old 0 }
         ensures rest { self.new ≡ drop 1 self.old }

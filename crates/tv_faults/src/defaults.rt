@@ -17,7 +17,7 @@ fn is_default(node: &Node) -> bool
     }
 }
 
-/// For each view whether it is a default button after another one.
+/// Returns for each view whether it is a default button after another one.
 pub fn second_defaults(alloc: Global, views: &[Node]) -> Result<Vec<bool>, AllocError>
     ensures { IfOk result (λ second. second.items ≡ each_after is_second_default views.now) }
 {

@@ -9,7 +9,8 @@ use std::alloc::{AllocError, Global};
 use tv_model::Kind;
 use tv_valid::{Domain, DomainFault, InputSpec};
 
-/// The domain that the input asks for, where its picture is right and some text lies in it.
+/// Makes the domain that the input asks for, or returns `None` where its picture isn't well-formed or no text lies in
+/// it.
 pub fn domain_of(alloc: Global, spec: &InputSpec) -> Result<Option<Domain>, AllocError>
     ensures some { IfOk result (λ found. IfSome found (λ domain. (domain_of spec.now ≡ Some domain) × IsTrue (has_text domain))) }
     ensures none { IfOk result (λ found. IfNone found (any_text spec.now ≡ false)) }

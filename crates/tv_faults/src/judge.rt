@@ -14,7 +14,7 @@ pub trait Judge {
 
     ghost judges: { Self → List Self.Line → Self.Line → Bool };
 
-    /// Whether it is so of the line, after those before it.
+    /// Whether what is asked holds of the line, given the lines before it.
     fn judge(
         &self,
         alloc: Global,
@@ -24,7 +24,7 @@ pub trait Judge {
         ensures { IfOk result (λ is_so. is_so ≡ judges self.now before.now line.now) };
 }
 
-/// For each of the lines, whether it is so.
+/// Returns for each of the lines whether what is asked holds of it.
 pub fn judge_each<J: Judge>(
     alloc: Global,
     judge: &J,

@@ -1,4 +1,5 @@
-//! For each line of a list, whether it has the fault: which faults compare a line with others, and by which call.
+//! Searches each list for the lines that have a fault. Where that compares a line with others, another crate has the
+//! search.
 
 ghost use Rattle.std.specs.Prelude.{◌≡◌, IfOk};
 ghost use Rattle.tv_model.specs.Faults.{dialog_has, item_has, menu_has, rule_has, status_has, view_has, window_has};
@@ -16,7 +17,7 @@ use tv_names::{
 };
 use tv_overlaps::{are_outside, overlaps};
 
-/// For each menu, whether its line has the fault.
+/// Returns for each menu whether its line has the fault.
 pub fn faulty_menus(alloc: Global, kind: FaultKind, menus: &[Menu]) -> Result<Vec<bool>, AllocError>
     ensures { IfOk result (λ faulty. faulty.items ≡ each_after (menu_has kind) menus.now) }
 {
@@ -26,7 +27,7 @@ pub fn faulty_menus(alloc: Global, kind: FaultKind, menus: &[Menu]) -> Result<Ve
     }
 }
 
-/// For each item of a menu, whether its line has the fault.
+/// Returns for each item of a menu whether its line has the fault.
 pub fn faulty_items(
     alloc: Global,
     kind: FaultKind,
@@ -40,7 +41,7 @@ pub fn faulty_items(
     }
 }
 
-/// For each status item, whether its line has the fault.
+/// Returns for each status item whether its line has the fault.
 pub fn faulty_status_items(
     alloc: Global,
     kind: FaultKind,
@@ -54,7 +55,7 @@ pub fn faulty_status_items(
     }
 }
 
-/// For each window, whether its own line has the fault.
+/// Returns for each window whether its own line has the fault.
 pub fn faulty_windows(
     alloc: Global,
     kind: FaultKind,
@@ -69,7 +70,7 @@ pub fn faulty_windows(
     }
 }
 
-/// For each dialog, whether its own line has the fault.
+/// Returns for each dialog whether its own line has the fault.
 pub fn faulty_dialogs(alloc: Global, kind: FaultKind, desc: &Desc) -> Result<Vec<bool>, AllocError>
     ensures { IfOk result (λ faulty. faulty.items ≡ each_after (dialog_has kind desc.now) desc.now.dialogs) }
 {
@@ -80,7 +81,7 @@ pub fn faulty_dialogs(alloc: Global, kind: FaultKind, desc: &Desc) -> Result<Vec
     }
 }
 
-/// For each view of a window or dialog with these ends, whether its line has the fault.
+/// Returns for each view of a window or dialog with these ends whether its line has the fault.
 pub fn faulty_views(
     alloc: Global,
     kind: FaultKind,
@@ -110,7 +111,7 @@ pub fn faulty_views(
     }
 }
 
-/// For each rule of a dialog, whether its line has the fault.
+/// Returns for each rule of a dialog whether its line has the fault.
 pub fn faulty_rules(
     alloc: Global,
     kind: FaultKind,

@@ -73,7 +73,7 @@ fn is_lawful_count(kind: &Kind) -> bool
     }
 }
 
-// Whether a window's number, or the most characters of an input, is one that may be.
+// Whether a window's number, or the most characters of an input, is within the limits.
 fn is_lawful_amount(kind: &Kind) -> bool
     ensures { result ≡ is_lawful_amount kind.now }
 {
@@ -121,49 +121,49 @@ pub fn is_lawful_screen(desc: &Desc) -> bool
     (20..=132).contains(&desc.width) && (10..=60).contains(&desc.height)
 }
 
-/// Whether the menu's title is too long, or the menu the first that is too many.
+/// Whether the menu's title is too long, or the menu is the first one too many.
 pub fn menu_outside_limits(before: &[Menu], menu: &Menu) -> bool
     ensures { result ≡ menu_outside_limits before.now menu.now }
 {
     is_too_long(menu.title.text.as_slice()) || before.len() == 8
 }
 
-/// Whether the item's command or text is outside the limits, or the item the first that is too many.
+/// Whether the item's command or text is outside the limits, or the item is the first one too many.
 pub fn item_outside_limits(before: &[MenuItem], item: &MenuItem) -> bool
     ensures { result ≡ item_outside_limits before.now item.now }
 {
     !is_lawful_command(item.command) || is_too_long(item.text.text.as_slice()) || before.len() == 16
 }
 
-/// Whether the item's command or text is outside the limits, or the item the first that is too many.
+/// Whether the item's command or text is outside the limits, or the item is the first one too many.
 pub fn status_outside_limits(before: &[StatusItem], item: &StatusItem) -> bool
     ensures { result ≡ status_outside_limits before.now item.now }
 {
     !is_lawful_command(item.command) || is_too_long(item.text.as_slice()) || before.len() == 8
 }
 
-/// Whether the window's own line is outside the limits, or the window the first that is too many.
+/// Whether the window's own line is outside the limits, or the window is the first one too many.
 pub fn window_outside_limits(before: &[Window], window: &Window) -> bool
     ensures { result ≡ window_outside_limits before.now window.now }
 {
     !is_lawful(&window.node) || before.len() == 9
 }
 
-/// Whether the dialog's own line is outside the limits, or the dialog the first that is too many.
+/// Whether the dialog's own line is outside the limits, or the dialog is the first one too many.
 pub fn dialog_outside_limits(before: &[Dialog], dialog: &Dialog) -> bool
     ensures { result ≡ dialog_outside_limits before.now dialog.now }
 {
     !is_lawful(&dialog.node) || before.len() == 16
 }
 
-/// Whether the view is outside the limits, the first that is too many, or a pane in too many others.
+/// Whether the view is outside the limits, is the first one too many, or is a pane in too many others.
 pub fn view_outside_limits(before: &[Node], node: &Node) -> bool
     ensures { result ≡ view_outside_limits before.now node.now }
 {
     !is_lawful(node) || before.len() == 64 || (node.kind.is_pane() && node.depth == 4)
 }
 
-/// Whether the rule's command is outside the limits, or the rule the first that is too many.
+/// Whether the rule's command is outside the limits, or the rule is the first one too many.
 pub fn rule_outside_limits(before: &[Rule], rule: &Rule) -> bool
     ensures { result ≡ rule_outside_limits before.now rule.now }
 {

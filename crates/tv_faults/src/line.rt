@@ -14,7 +14,7 @@ pub trait Line {
 
     ghost number: { Self → ℕ };
 
-    /// The number of its line.
+    /// Returns the number of its line.
     fn number(&self) -> u32
         ensures { result ≡ number self.now };
 }
@@ -51,7 +51,7 @@ impl Line for Rule {
     }
 }
 
-/// Adds the fault of the line if it is one.
+/// Adds the fault of the line, where it has the fault.
 pub fn add_if(
     found: &mut Sequence<Fault>,
     is_fault: bool,

@@ -208,7 +208,7 @@ fn add_kind(
     Ok(())
 }
 
-/// The faults of the description, by number and then by line.
+/// Finds all faults of the description, ordered by number and then by line.
 #[tactic(auto, unfolding(tv_model::specs::Faults::faults_of))]
 pub fn faults(alloc: Global, desc: &Desc) -> Result<Sequence<Fault>, AllocError>
     ensures value { IfOk result (λ list. list ≡ faults_of desc.now) }

@@ -16,7 +16,7 @@ use tv_model::{Desc, Dialog, Window};
 use tv_names::gives_name;
 use tv_valid::Chars;
 
-// Whether the dialog's opening command is outside 100 to 255, or one of the commands, to which it is added.
+// Adds the dialog's opening command. Returns whether it is outside 100 to 255, or was among the commands before.
 fn add_opening(commands: &mut HashSet<i32>, dialog: &Dialog) -> Result<bool, AllocError>
     ensures bad { IfOk result (λ bad. bad ≡ is_bad_opening (set.contains int_eq commands.old) (dialog_head dialog.now).opens) }
     ensures added { OnOk result ((n : ℤ) → set.contains int_eq commands.new n ≡ (set.contains int_eq commands.old n || is_option_number n (dialog_head dialog.now).opens)) }
@@ -30,7 +30,7 @@ fn add_opening(commands: &mut HashSet<i32>, dialog: &Dialog) -> Result<bool, All
     }
 }
 
-/// For each dialog whether its opening command is outside 100 to 255, or opens one before it.
+/// Returns for each dialog whether its opening command is outside 100 to 255, or opens one before it.
 pub fn opened_badly(alloc: Global, dialogs: &[Dialog]) -> Result<Vec<bool>, AllocError>
     ensures { IfOk result (λ badly. badly.items ≡ each_after opens_badly dialogs.now) }
 {

@@ -1,4 +1,4 @@
-//! What shows on a line itself, or by how many stand before it: one judge for each list.
+//! Faults that show on a line by itself, or by how many lines stand before it: one judge for each list.
 
 ghost use Rattle.std.specs.Prelude.{◌≡◌, false};
 ghost use Rattle.tv_model.specs.Faults.{dialog_has, item_has, menu_has, rule_has, status_has, view_has, window_has};

@@ -18,7 +18,7 @@ fn starts_among(start: &[i32], count: usize) -> bool
     start.iter().any(|item| !is_item(item, count))
 }
 
-// Whether the declaration starts with an item that there isn't.
+// Whether the declaration starts with an item that it doesn't have.
 fn starts_outside(kind: &Kind) -> bool
     ensures { result ≡ starts_outside kind.now }
 {
@@ -55,7 +55,7 @@ fn starts_unviable(alloc: Global, kind: &Kind) -> Result<bool, AllocError>
     }
 }
 
-/// Whether it starts with a text that isn't viable, or with an item that there isn't.
+/// Whether the declaration starts with a text that isn't viable, or with an item that it doesn't have.
 pub fn starts_badly(alloc: Global, kind: &Kind) -> Result<bool, AllocError>
     ensures { IfOk result (λ bad. bad ≡ starts_badly kind.now) }
 {

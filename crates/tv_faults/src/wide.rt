@@ -60,7 +60,7 @@ fn is_wide_list(items: &[Chars]) -> bool
     items.iter().any(|item| is_wide_text(item.as_slice()))
 }
 
-/// Whether the declaration has a character that doesn't take one column. A line end in a static text is none.
+/// Whether the declaration has a character that doesn't take one column. Line ends in a static text don't count.
 pub fn has_wide(node: &Node) -> bool
     ensures { result ≡ has_wide node.now }
 {

@@ -113,7 +113,7 @@ impl<V: View> GroupOf<V> {
         false
     }
 
-    /// The id of the first input whose text lies outside its domain.
+    /// Returns the id of the first input whose text lies outside its domain.
     #[cycle(first_invalid)]
     pub fn first_invalid(&self) -> Option<Id>
         ensures { result ≡ first_invalid_in (opened V.meaning self.now) }
@@ -126,7 +126,7 @@ impl<V: View> GroupOf<V> {
         None
     }
 
-    /// The id of the current leaf, where it is an input that the focus may not leave with its text.
+    /// Returns the id of the current leaf, if it is an input that the focus may not leave with its text.
     #[cycle(refuses)]
     pub fn refuses(&self) -> Option<Id>
         ensures { result ≡ refused_in (opened V.meaning self.now) }
@@ -134,7 +134,7 @@ impl<V: View> GroupOf<V> {
         self.members.get(self.current?)?.refuses()
     }
 
-    /// Whether the id has a control that is shown and enabled.
+    /// Whether the control of the id is shown and enabled.
     #[cycle(is_free)]
     pub fn is_free(&self, id: Id) -> bool
         ensures { result ≡ is_free_id id (opened V.meaning self.now) }
@@ -159,7 +159,7 @@ impl<V: View> GroupOf<V> {
         false
     }
 
-    /// Its flags: always visible, and selected and focused where a leaf of it has the focus.
+    /// Returns its flags: always visible, and selected and focused where a leaf of it has the focus.
     pub fn state(&self) -> State
         ensures { result.0 ≡ group_state_bits (opened V.meaning self.now) }
     {
@@ -170,7 +170,7 @@ impl<V: View> GroupOf<V> {
         }
     }
 
-    /// What it asks of its owner: to be selectable, and asked before the current member and after it.
+    /// Returns what it asks of its owner: to be selectable, and to be asked before and after the current member.
     pub fn options(&self) -> Options
         ensures { result.0 ≡ group_option_bits }
     {

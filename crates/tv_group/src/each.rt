@@ -30,7 +30,7 @@ impl<V: View> MemberOf<V> {
         }
     }
 
-    // A leaf by itself is marked, so what it becomes is told without its mark.
+    // A leaf by itself is marked as current, so the contract leaves that mark out.
     #[cycle(set)]
     fn set(&mut self, values: &Record)
         requires { FitsAll values.now (opened_member V.meaning self.old) }
@@ -44,7 +44,7 @@ impl<V: View> MemberOf<V> {
 }
 
 impl<V: View> GroupOf<V> {
-    /// Selects and presses an item, from 1, of the clusters of the id, where they have it.
+    /// Selects and presses an item, counted from 1, of each cluster of the id that has the item.
     #[cycle(press_item)]
     pub fn press_item(&mut self, id: Id, item: u8)
         ensures leaves { opened V.meaning self.new ≡ all_pressed id item (opened V.meaning self.old) }
@@ -55,7 +55,7 @@ impl<V: View> GroupOf<V> {
         }
     }
 
-    /// Shows or hides, enables or disables the leaves.
+    /// Shows or hides the leaves, and enables or disables them, as the rules say.
     #[cycle(apply)]
     pub fn apply(&mut self, rules: &Rules)
         ensures leaves { opened V.meaning self.new ≡ all_applied rules.now (opened V.meaning self.old) }
@@ -66,7 +66,7 @@ impl<V: View> GroupOf<V> {
         }
     }
 
-    /// Opens the leaves with their values of the record. No member is current then, in panes neither.
+    /// Opens the leaves with their values in the record. No member is current then, and none in its panes.
     #[cycle(set)]
     pub fn set(&mut self, values: &Record)
         requires { FitsAll values.now (opened V.meaning self.old) }

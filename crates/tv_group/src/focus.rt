@@ -47,8 +47,8 @@ impl<V: View> MemberOf<V> {
 impl<V: View> GroupOf<V> {
     ghost use Rattle.tv_group.specs.Opened.{bounds_of, level_of, opened};
 
-    /// The focus goes to the first control of the id, every other leaf loses it, and the members that lead to the control
-    /// are current. Whether there is one; without one no member is current.
+    /// Moves the focus to the first control of the id: every other leaf loses it, and the members that lead to the
+    /// control become current. Returns whether there is such a control; without one no member is current.
     #[cycle(focus_to)]
     pub fn focus_to(&mut self, id: Id) -> bool
         ensures found { result ≡ has_control id (opened V.meaning self.old) }
@@ -64,8 +64,8 @@ impl<V: View> GroupOf<V> {
         current.is_some()
     }
 
-    /// Moves the focus to the next free control in a direction; from the last one it stays, as it does where no leaf is
-    /// current.
+    /// Moves the focus to the next free control in a direction. At the last one it stays, and where no leaf is current
+    /// nothing moves.
     pub fn advance(&mut self, dir: Dir) -> Advanced
         ensures answer { result ≡ advanced (next_in dir (opened V.meaning self.old)) }
         ensures leaves { opened V.meaning self.new ≡ focused_at (next_in dir (opened V.meaning self.old)) (opened V.meaning self.old) }
@@ -80,7 +80,7 @@ impl<V: View> GroupOf<V> {
         }
     }
 
-    /// Moves the focus to the first free control in a direction, wherever it was. Its id.
+    /// Moves the focus to the first free control in a direction, wherever it was, and returns that control's id.
     pub fn enter(&mut self, dir: Dir) -> Option<Id>
         ensures answer { result ≡ first_in dir (opened V.meaning self.old) }
         ensures leaves { opened V.meaning self.new ≡ focused_at (first_in dir (opened V.meaning self.old)) (opened V.meaning self.old) }

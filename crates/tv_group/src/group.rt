@@ -41,7 +41,7 @@ pub type Group = GroupOf<Box<dyn View>>;
 pub struct TooDeep;
 
 impl<V> MemberOf<V> {
-    /// 0 for a leaf, a pane's own level.
+    /// Returns 0 for a leaf, and a pane's own level.
     pub fn level(&self) -> u8
         ensures { result ≡ member_level self.now }
     {
@@ -53,14 +53,14 @@ impl<V> MemberOf<V> {
 }
 
 impl<V> GroupOf<V> {
-    /// The number of groups one in another, itself the outermost: 1 without panes.
+    /// Returns how many groups stand one in another, with this one as the outermost: 1 without panes.
     pub fn level(&self) -> u8
         ensures { result ≡ level_of self.now }
     {
         self.level
     }
 
-    /// Its rectangle, seen from the corner of what it stands in.
+    /// Returns its rectangle, seen from the corner of what it stands in.
     pub fn bounds(&self) -> Rect
         ensures is { result ≡ bounds_of self.now }
         ensures small { IsSmallRect result }
@@ -70,7 +70,7 @@ impl<V> GroupOf<V> {
 }
 
 impl<V: View> GroupOf<V> {
-    /// The group of these members, of which none is current. Its bounds lie within -300 to 300.
+    /// Makes the group of these members, of which none is current. Its bounds must lie within -300 to 300.
     ///
     /// # Errors
     ///

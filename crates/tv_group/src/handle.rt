@@ -164,7 +164,7 @@ impl<V: View> MemberOf<V> {
 }
 
 impl<V: View> GroupOf<V> {
-    // The leaves in order, until one doesn't pass the event on.
+    // Hands the event to the leaves in order, until one doesn't pass it on.
     #[cycle(scan)]
     fn scan(&mut self, event: &Event, phase: Phase, env: &Env) -> Reaction
         ensures reaction { result ≡ scan_answer event.now phase env.now (opened V.meaning self.old) }
@@ -185,7 +185,8 @@ impl<V: View> GroupOf<V> {
         Reaction::Pass
     }
 
-    // The last of the shown leaves that have the point. `None` where none has it, so that what lies below is looked at.
+    // Hands a mouse down to the last of the shown leaves that have the point. Returns `None` where none has it, so that
+    // what lies below is asked.
     #[cycle(down)]
     fn down(&mut self, point: Point, phase: Phase, env: &Env) -> Option<Reaction>
         ensures reaction { result ≡ down_here point phase env.now (opened V.meaning self.old) }
@@ -205,8 +206,8 @@ impl<V: View> GroupOf<V> {
         None
     }
 
-    /// Hands an event to its leaves in a phase. A mouse down goes to the topmost shown leaf at the point, and to no other
-    /// where that one is disabled; another event goes from leaf to leaf, until one doesn't pass it on.
+    /// Hands an event to its leaves in a phase. A mouse down goes to the topmost shown leaf at the point, and to no
+    /// other even if that one is disabled. Any other event goes from leaf to leaf, until one doesn't pass it on.
     pub fn handle(&mut self, event: &Event, phase: Phase, env: &Env) -> Reaction
         ensures reaction { result ≡ group_answer event.now phase env.now (opened V.meaning self.old) }
         ensures after { opened V.meaning self.new ≡ group_after event.now phase env.now (opened V.meaning self.old) }

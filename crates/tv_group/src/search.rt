@@ -108,7 +108,7 @@ impl<V: View> GroupOf<V> {
         }
     }
 
-    // What a search that has come so far comes to in these leaves.
+    // Goes on with a search through these leaves.
     #[cycle(search)]
     fn search(&self, dir: Dir, from: Search) -> Search
         ensures { result ≡ searched from (ordered dir (opened V.meaning self.now)) }
@@ -123,14 +123,15 @@ impl<V: View> GroupOf<V> {
         search
     }
 
-    /// The first free control in a direction, panes opened out.
+    /// Finds the first free control in a direction, panes opened out.
     pub fn first(&self, dir: Dir) -> Option<Id>
         ensures { result ≡ first_in dir (opened V.meaning self.now) }
     {
         self.search(dir, Search::Passed).found()
     }
 
-    /// The next free control behind the current leaf in a direction, up to the edge; `None` where no leaf is current.
+    /// Finds the next free control after the current leaf in a direction, up to the edge. Finds none where no leaf is
+    /// current.
     pub fn next(&self, dir: Dir) -> Option<Id>
         ensures { result ≡ next_in dir (opened V.meaning self.now) }
     {

@@ -25,14 +25,14 @@ pub struct Stack<T> {
 }
 
 impl<T> Stack<T> {
-    /// Items in their order.
+    /// Makes a stack of the items in their order.
     pub fn new(items: Vec<T>) -> Stack<T>
         ensures { result.items.items ≡ items.items }
     {
         Stack { items }
     }
 
-    /// Takes the item at a place out, and no other. None where there is no such place.
+    /// Removes the item at a place, and no other. Returns it, or `None` where there is no such place.
     pub fn remove(&mut self, place: usize) -> Option<T>
         ensures item { result ≡ slice_get self.old.items.items place }
         ensures others { self.new.items.items ≡ remove self.old.items.items place }

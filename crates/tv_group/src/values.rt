@@ -10,7 +10,7 @@ use crate::group::{GroupOf, MemberOf};
 use tv_model::{Id, Record};
 use tv_view::View;
 
-// The fields that a record holds at most.
+// The most fields that a record holds.
 const MOST: usize = 64;
 
 fn has_room_for(values: &Record, id: Id) -> bool

@@ -41,7 +41,7 @@ impl From<AllocError> for LangFault {
 /// The most bytes of a description.
 const LONGEST: usize = 262_144;
 
-/// The description that a text of at most 262,144 bytes spells.
+/// Reads the description that a text of at most 262,144 bytes spells.
 pub fn parse(alloc: Global, text: &[u8]) -> Result<Desc, LangFault>
     ensures spelled { IfOk result (λ desc. Spells text.now desc) }
     ensures can_be_spelled { IfOk result (λ desc. CanBeSpelled desc) }

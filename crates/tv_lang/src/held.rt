@@ -18,7 +18,7 @@ impl<T> Model for Held<T> {
 }
 
 impl<T: Drop> Held<T> {
-    /// The value, moved to the heap.
+    /// Moves the value to the heap.
     pub fn new(alloc: Global, value: T) -> Result<Held<T>, AllocError>
         ensures { IfOk result (λ held. held ≡ value) }
     {
@@ -26,7 +26,7 @@ impl<T: Drop> Held<T> {
         Ok(Held { value })
     }
 
-    /// The value, moved out.
+    /// Moves the value out of the heap.
     pub fn into_inner(self) -> T
         ensures { result ≡ self }
     {

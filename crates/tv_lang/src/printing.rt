@@ -8,8 +8,8 @@ use std::alloc::{AllocError, Global};
 use tv_model::Desc;
 use tv_printing::description_text;
 
-/// The canonical text of a description: each declaration on a line, one space between words, no comments. Where any
-/// text spells the description, this one does, and spells no other.
+/// Writes the canonical text of a description: each declaration on a line, one space between words, no comments. Where
+/// any text spells the description, this one does, and it spells no other.
 pub fn print(alloc: Global, desc: &Desc) -> Result<String, AllocError>
     ensures text { IfOk result (λ text. string_bytes text ≡ description_text desc.now) }
     ensures spelled { IfOk result (λ text. CanBeSpelled desc.now → SpellsOnly (string_bytes text) desc.now) }

@@ -20,7 +20,7 @@ pub struct Progress {
 }
 
 impl Progress {
-    /// Nothing is read.
+    /// Starts with nothing read.
     pub fn new(alloc: Global) -> Progress
         ensures { result ≡ fresh }
     {
@@ -51,7 +51,7 @@ impl Progress {
         }
     }
 
-    /// Goes on by the declaration that the words are, or gives `None` where it can't come here.
+    /// Takes the declaration that the words spell, or returns `None` where it can't come here.
     pub fn take(self, alloc: Global, words: &[Word]) -> Result<Option<Progress>, AllocError>
         requires { self.next + 1 < 2 ^ 32 }
         ensures { IfOk result (λ further. further ≡ taken self words.now) }
@@ -76,7 +76,7 @@ impl Progress {
         }
     }
 
-    // Goes on by the declaration, which stands on the next line.
+    // Takes the declaration, which stands on the next line.
     fn go(self, alloc: Global, declaration: Declaration) -> Result<Option<Progress>, AllocError>
         requires { self.next + 1 < 2 ^ 32 }
         ensures { IfOk result (λ further. further ≡ option_map (progress (self.next + 1)) (taken_at self.stage self.desc declaration)) }
@@ -102,7 +102,7 @@ impl Progress {
         self.desc
     }
 
-    /// The description, where it is read to its end.
+    /// Returns the description, or `None` where it isn't read to its end.
     pub fn finish(self) -> Option<Desc>
         ensures { result ≡ finished self }
     {

@@ -24,7 +24,7 @@ pub enum Stage {
     InMenu(Held<Menu>),
     /// The texts of this window.
     InWindow(Held<Window>),
-    /// The views of this dialog, after those that are there and inside so many panes; or its rules.
+    /// More views of this dialog, inside as many panes as are open; or its rules.
     InViews { dialog: Held<Dialog>, panes: u8 },
     /// The rules of this dialog.
     InRules(Held<Dialog>),
@@ -37,7 +37,7 @@ pub enum Stage {
 type Further = Option<Stage>;
 
 impl Stage {
-    /// How many panes are open.
+    /// Returns how many panes are open.
     pub fn open_panes(&self) -> u8
         ensures { result ≡ open_panes self.now }
     {
@@ -54,7 +54,7 @@ impl Stage {
         matches!(self, Stage::Between)
     }
 
-    /// Goes on by the declaration, or gives `None` where it can't come here.
+    /// Takes the declaration, or returns `None` where it can't come here.
     pub fn take(
         self,
         alloc: Global,

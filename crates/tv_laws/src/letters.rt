@@ -5,8 +5,8 @@ ghost use Rattle.tv_laws.specs.Sound.{IsSoundDialog};
 
 use tv_model::Dialog;
 
-/// Promises that a shortcut of a sound dialog acts on the control that a sound certificate names for its letter, or on none;
-/// there is nothing to do.
+/// A theorem, as a function without a body: in a sound dialog a shortcut acts on the control that a sound certificate
+/// names for its letter, or on none.
 pub fn shortcuts_act(_dialog: &Dialog)
     requires sound { IsSoundDialog _dialog.now }
     ensures alt { AltActs _dialog.now }

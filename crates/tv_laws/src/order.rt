@@ -5,9 +5,8 @@ ghost use Rattle.tv_laws.specs.Sound.{IsSoundDialog};
 
 use tv_model::Dialog;
 
-/// Promises that Tab goes through the free controls of a sound dialog in the order of its certificate, round and round, and
-/// Shift-Tab the other way, that both leave every value as it was, and that only an input may keep the focus; there is nothing
-/// to do.
+/// A theorem, as a function without a body: Tab goes round the free controls of a sound dialog in the order of its
+/// certificate, and Shift-Tab the other way. Both leave every value as it was, and only an input may keep the focus.
 pub fn tab_goes_round(_dialog: &Dialog)
     requires sound { IsSoundDialog _dialog.now }
     ensures stops { StopsAreTabs _dialog.now }

@@ -7,8 +7,8 @@ ghost use Rattle.tv_laws.specs.Sound.{IsSoundDialog};
 
 use tv_model::{Desc, Dialog};
 
-/// Promises that every run ends dialogs as they declare, saves what it logs of them and shows it when they open again; there is
-/// nothing to do.
+/// A theorem, as a function without a body: every run ends dialogs as they declare, saves what it logs of them, and
+/// shows that when they open again.
 pub fn records_are_kept(_desc: &Desc)
     requires sound { HasSoundDialogs _desc.now }
     ensures ends { EndsAsDeclared _desc.now }
@@ -18,7 +18,8 @@ pub fn records_are_kept(_desc: &Desc)
     ensures starts { StartsAsDeclared _desc.now }
 {}
 
-/// Promises that every run can leave the dialog that is open, and that nothing happens once it is over; there is nothing to do.
+/// A theorem, as a function without a body: every run can leave the dialog that is open, and nothing happens once it is
+/// over.
 pub fn dialogs_can_be_left(_desc: &Desc)
     requires sound { HasSoundDialogs _desc.now }
     ensures cancels { EscCancelsOpen _desc.now }
@@ -28,7 +29,7 @@ pub fn dialogs_can_be_left(_desc: &Desc)
     ensures over { StaysOver _desc.now }
 {}
 
-/// Promises that a sound dialog opens with what was saved of it; there is nothing to do.
+/// A theorem, as a function without a body: a sound dialog opens with what was saved of it.
 pub fn dialog_shows_record(_dialog: &Dialog)
     requires sound { IsSoundDialog _dialog.now }
     ensures shows { OpensAsSaved _dialog.now }

@@ -1,4 +1,4 @@
-//! What is so of every run and of every open dialog, as contracts.
+//! What holds of every run and of every open dialog, as contracts.
 ghost use Rattle.tv_machine.specs.Safe.{IsAlwaysSafe};
 ghost use Rattle.tv_laws.specs.Leaving.{EscCancels, TabGoesOn, UpLetsGo};
 ghost use Rattle.tv_laws.specs.Runs.{HasSoundDialogs};
@@ -7,13 +7,13 @@ ghost use Rattle.tv_laws.specs.Steps.{OpensFit, StaysFit};
 
 use tv_model::{Desc, Dialog};
 
-/// Promises that every run of a description whose dialogs are sound is safe; there is nothing to do.
+/// A theorem, as a function without a body: every run of a description whose dialogs are sound is safe.
 pub fn runs_are_safe(_desc: &Desc)
     requires sound { HasSoundDialogs _desc.now }
     ensures safe { IsAlwaysSafe _desc.now }
 {}
 
-/// Promises that a sound dialog opens, stays usable and can be left; there is nothing to do.
+/// A theorem, as a function without a body: a sound dialog opens, stays usable and can be left.
 pub fn dialog_stays_fit(_dialog: &Dialog)
     requires sound { IsSoundDialog _dialog.now }
     ensures opens { OpensFit _dialog.now }

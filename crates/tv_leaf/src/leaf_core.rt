@@ -18,8 +18,8 @@ use tv_faces::rect_at;
 use tv_model::{Id, Kind, Node};
 use tv_view::Rules;
 
-/// What every control keeps: its declaration, whether it is shown, enabled and focused, and what it remembers while it holds
-/// the mouse. What a control holds besides, its kind keeps itself.
+/// What every control keeps: its declaration, whether it is shown, enabled and focused, and what it remembers while it
+/// holds the mouse. Each kind keeps for itself what else it holds.
 #[derive(Drop)]
 pub struct LeafCore {
     node: Node,
@@ -67,11 +67,11 @@ fn is_kind_enabled(commands: &CommandSet, kind: &Kind) -> bool
 }
 
 impl LeafCore {
-    /// The core of a control that is made of the node, before any event.
+    /// Makes the core of a control from its node, as it is before any event.
     ///
     /// # Errors
     ///
-    /// Where there is no memory for a copy of the node.
+    /// `AllocError` where there is no memory for a copy of the node.
     pub fn new(alloc: Global, node: &Node) -> Result<LeafCore, AllocError>
         requires { IsLawfulNode node.now }
         ensures { IfOk result (λ core. core ≡ fresh_core node.now) }
@@ -85,7 +85,7 @@ impl LeafCore {
         })
     }
 
-    /// Its declaration.
+    /// Returns its declaration.
     pub fn node(&self) -> &Node
         ensures node { result.now ≡ self.now.node }
         ensures lawful { IsLawfulNode result.now }
@@ -93,14 +93,14 @@ impl LeafCore {
         &self.node
     }
 
-    /// The line of its declaration.
+    /// Returns the line of its declaration.
     pub fn id(&self) -> Id
         ensures { result ≡ self.now.node.id }
     {
         self.node.id
     }
 
-    /// Its rectangle, seen from the corner of what it stands in.
+    /// Returns its rectangle, seen from the corner of what it stands in.
     pub fn bounds(&self) -> Rect
         ensures is { result ≡ place_of_node self.now.node }
         ensures small { IsSmallRect result }
@@ -131,7 +131,7 @@ impl LeafCore {
         self.is_enabled
     }
 
-    /// What it remembers while it holds the mouse.
+    /// Returns what it remembers while it holds the mouse.
     pub fn held(&self) -> Option<u32>
         ensures { result ≡ self.now.held }
     {
@@ -145,7 +145,7 @@ impl LeafCore {
         self.held.is_some()
     }
 
-    /// Its flags as it stands: visible, selected and focused, disabled.
+    /// Returns its flags as they are now: visible, selected and focused, disabled.
     pub fn state(&self) -> State
         ensures { result.0 ≡ state_bits (plain_leaf self.now) }
     {
@@ -163,7 +163,8 @@ impl LeafCore {
         state
     }
 
-    /// Tells it to which control the focus moves. Returns whether that is this one, which only a control may be.
+    /// Moves the focus to control `id`. Returns whether this is that control; otherwise it loses the focus. For
+    /// controls only.
     pub fn focus_to(&mut self, id: Id) -> bool
         ensures found { result ≡ (self.old.node.id.0 == id.0) }
         ensures core { self.new ≡ record self.old { is_focused = result } }
@@ -194,7 +195,7 @@ impl LeafCore {
         self.held = None;
     }
 
-    /// Shows or hides it, enables or disables it.
+    /// Shows or hides it, and enables or disables it, as the rules say.
     pub fn apply(&mut self, rules: &Rules)
         ensures { self.new ≡ ruled rules.now self.old }
     {

@@ -1,4 +1,5 @@
-//! What every control keeps: its node, its flags, the focus and the hold of the mouse; and what it asks of what it is lent.
+//! What every control keeps: its node, its flags, the focus and the hold of the mouse; and questions about what owners
+//! lend it.
 #![tactic(auto)]
 
 mod fault;

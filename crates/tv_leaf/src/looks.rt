@@ -1,4 +1,4 @@
-//! How a control stands by what it is lent.
+//! What a control's environment says of it.
 
 ghost use Rattle.std.specs.Prelude.{◌≡◌};
 ghost use Rattle.tv_view.specs.Colours.{has_focus, is_default_now, is_id};

@@ -23,14 +23,14 @@ fn gap(from: &i32, to: &i32) -> u32
     }
 }
 
-/// The column of a point, from 0; 0 for a point left of the rectangle.
+/// Returns the column of a point, from 0, or 0 for a point left of the rectangle.
 pub fn column_of(rect: Rect, point: Point) -> u32
     ensures { result ≡ int_gap rect.a.x point.x }
 {
     gap(&rect.a.x, &point.x)
 }
 
-/// The row of a point, from 0; 0 for a point above the rectangle.
+/// Returns the row of a point, from 0, or 0 for a point above the rectangle.
 pub fn row_of(rect: Rect, point: Point) -> u32
     ensures { result ≡ int_gap rect.a.y point.y }
 {

@@ -23,11 +23,11 @@ fn is_menu(command: Command) -> bool
 }
 
 impl MenuBar {
-    /// The bar of a description whose numbers, counts and texts lie within the limits, with no menu open.
+    /// Makes the bar of a description whose numbers, counts and texts lie within the limits, with no menu open.
     ///
     /// # Errors
     ///
-    /// Where there is no memory for its texts.
+    /// `AllocError` where there is no memory for its texts.
     pub fn new(alloc: Global, desc: &Desc) -> Result<MenuBar, AllocError>
         requires screen { IsLawfulScreen desc.now.width desc.now.height }
         requires menus { AreLawfulMenus desc.now.menus }
@@ -42,8 +42,8 @@ impl MenuBar {
         })
     }
 
-    /// What the bar makes of an event. While a menu is open it takes keys and mouse downs; without one it takes what opens a
-    /// menu, and leaves all else. The items of menus are enabled whatever commands are.
+    /// Offers the bar an event. While a menu is open the bar takes keys and mouse downs; otherwise it takes what opens
+    /// a menu, and leaves all else. The items of menus are always enabled, whatever commands are.
     pub fn offer(&mut self, event: &Event, _enabled: &CommandSet) -> Offered
         ensures answer { (d : Declared) (s : State) → IsBarOf d self.old → s.menu ≡ open_of self.old
             → outcome d result (open_of self.new) s ≡ bar_offer d event.now s }
@@ -69,7 +69,7 @@ impl MenuBar {
         }
     }
 
-    /// The first menu opens with its first item, if there is one.
+    /// Opens the first menu with its first item, if there is a menu.
     pub fn open_first(&mut self)
         ensures opened { (d : Declared) (s : State) → IsBarOf d self.old → s.menu ≡ open_of self.old → (open_first d.menus s).menu ≡ open_of self.new }
         ensures stays { (d : Declared) → IsBarOf d self.old → IsBarOf d self.new }
@@ -90,7 +90,7 @@ impl MenuBar {
         }
     }
 
-    // The first menu opens, if there is one.
+    // What a command does: `menu` opens the first menu, if there is one.
     fn command_effect(&self, command: Command) -> Effect
         ensures { (d : Declared) (s : State) → IsBarOf d self.now → made d result s ≡ command_offered d command s }
     {

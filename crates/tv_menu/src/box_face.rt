@@ -40,7 +40,7 @@ fn write_sides(width: usize, side: Cell, from: usize, cells: &mut [Cell])
     }
 }
 
-// The first row of a box of so many columns, and the last one.
+// Writes the first row of a box of so many columns, or the last one.
 fn write_edge(width: usize, from: usize, cells: &mut [Cell])
     requires { from + length cells.old ≤ 2 ^ 32 }
     ensures count { length cells.new ≡ length cells.old }
@@ -51,7 +51,7 @@ fn write_edge(width: usize, from: usize, cells: &mut [Cell])
     write_sides(width, Cell::shown('+', attr), from, cells);
 }
 
-// What stands between the sides of the other rows: an item, if there is one.
+// Writes what stands between the sides of any other row: an item, if there is one.
 fn write_inside(item: Option<&MenuItem>, is_current: bool, from: usize, cells: &mut [Cell])
     requires { from + length cells.old ≤ 2 ^ 32 }
     ensures count { length cells.new ≡ length cells.old }
@@ -67,7 +67,7 @@ fn write_inside(item: Option<&MenuItem>, is_current: bool, from: usize, cells: &
     }
 }
 
-// A row of the box with its sides.
+// Writes a row of the box with its sides.
 fn write_item(
     item: Option<&MenuItem>,
     is_current: bool,

@@ -26,7 +26,7 @@ fn text_columns(item: &MenuItem) -> usize
     item.text.text.as_slice().len()
 }
 
-// The columns of the longest item, or so many.
+// The columns of the longest item, or `columns` where that is more.
 #[tactic(auto, using(crate::proofs::LawfulLemmas::menu_items_behind, crate::proofs::LawfulLemmas::menu_item_ahead))]
 fn longest(items: &[MenuItem], columns: usize) -> usize
     requires lawful { All IsLawfulItem items.now }
@@ -40,7 +40,7 @@ fn longest(items: &[MenuItem], columns: usize) -> usize
     }
 }
 
-/// The columns of a menu's box.
+/// Returns how many columns a menu's box has.
 pub(crate) fn box_width(menu: &Menu) -> u32
     requires { IsLawfulMenu menu.now }
     ensures is { result ≡ box_width menu.now }
@@ -49,7 +49,7 @@ pub(crate) fn box_width(menu: &Menu) -> u32
     longest(menu.items.as_slice(), 0) as u32 + 4
 }
 
-/// The rows of a menu's box.
+/// Returns how many rows a menu's box has.
 pub(crate) fn box_height(menu: &Menu) -> u32
     requires { IsLawfulMenu menu.now }
     ensures is { result ≡ box_height menu.now }
@@ -99,8 +99,8 @@ fn natural(number: &i64) -> usize
 }
 
 impl MenuBar {
-    /// The box of the open menu, without its shadow, on the screen; none exactly while no menu is open. The screen need not
-    /// have room for it.
+    /// Returns the box of the open menu on the screen, without its shadow, or `None` exactly while no menu is open. The
+    /// screen need not have room for it.
     pub fn box_bounds(&self) -> Option<Rect>
         ensures { (d : Declared) → IsBarOf d self.now → result ≡ option_map (λ current. box_of d current.menu) (open_of self.now) }
     {
@@ -132,7 +132,8 @@ impl MenuBar {
         1 + columns_before(self.menus.as_slice(), place, 0) as i32
     }
 
-    /// The item of the menu at a place, where the point is in its row between the sides of the box, on the desktop.
+    /// Finds the item of the menu at a place in whose row the point lies, between the sides of the box and on the
+    /// desktop.
     pub(crate) fn item_under(&self, place: usize, point: Point) -> Option<usize>
         ensures { (d : Declared) → IsBarOf d self.now → result ≡ item_under d place point }
     {
@@ -144,7 +145,7 @@ impl MenuBar {
         }
     }
 
-    // Between the first and the last row.
+    // Whether the point lies between the first and the last row.
     fn is_on_desktop(&self, point: Point) -> bool
         ensures { (d : Declared) → IsBarOf d self.now → result ≡ is_in (desktop d) point.x point.y }
     {

@@ -14,8 +14,8 @@ fn colour(role: Role) -> u8
     Palette::application().entry(role.palette().entry(role.place()))
 }
 
-/// The attribute of a cell of the bar or of a menu's box, by whether its title or item is the open or the current one, and
-/// whether its letter is marked.
+/// Returns the attribute of a cell of the bar or of a menu's box, by whether its title is open or its item current, and
+/// whether it shows the marked letter.
 pub(crate) fn bar_colour(is_selected: bool, is_at_letter: bool) -> u8
     ensures { result ≡ attribute_of (Role.Bar (bar_role is_selected is_at_letter)) }
 {
@@ -28,7 +28,7 @@ pub(crate) fn bar_colour(is_selected: bool, is_at_letter: bool) -> u8
     colour(Role::Bar(role))
 }
 
-/// The attribute of an item of the status line, by whether it is enabled.
+/// Returns the attribute of an item of the status line, by whether the item is enabled.
 pub(crate) fn status_colour(is_enabled: bool) -> u8
     ensures { result ≡ attribute_of (Role.Status (status_role is_enabled)) }
 {

@@ -54,7 +54,7 @@ fn sized(width: u32, height: u32) -> Rect
     }
 }
 
-// The box of a menu with its current item, over its shadow, with its corner at the canvas's origin.
+// Draws the box of a menu with its current item, over its shadow, with its corner at the canvas's origin.
 fn lay_box(screen: &mut Screen, canvas: Canvas, menu: &Menu, current: usize)
     requires { IsLawfulMenu menu.now }
     ensures { Lays (Painted canvas (box_width menu.now) (box_height menu.now) (box_face menu.now current) ∷ Shadow canvas (sized (box_width menu.now) (box_height menu.now)) ∷ []) screen.old screen.new }
@@ -78,7 +78,7 @@ impl MenuBar {
         self.open.is_some()
     }
 
-    /// Draws the bar into the first row of the screen, whose whole canvas this is to be.
+    /// Draws the bar into the first row of the screen. The canvas must be that of the whole screen.
     pub fn draw(&self, screen: &mut Screen, canvas: Canvas)
         ensures size { IsAlike screen.old screen.new }
         ensures layers { (d : Declared) → IsBarOf d self.now → canvas ≡ canvas_at (whole_screen d) (pos 0) (pos 0)
@@ -100,8 +100,8 @@ impl MenuBar {
         }
     }
 
-    /// Draws the box of the open menu, and its shadow below it, where the canvas is to be the desktop's, with its origin in
-    /// the screen's corner. Draws nothing while no menu is open.
+    /// Draws the box of the open menu over its shadow. The canvas must be the desktop's, with its origin in the
+    /// screen's corner. Draws nothing while no menu is open.
     pub fn draw_box(&self, screen: &mut Screen, canvas: Canvas)
         requires { IsPointNear canvas.origin }
         ensures size { IsAlike screen.old screen.new }
@@ -119,8 +119,8 @@ impl MenuBar {
 }
 
 impl StatusLine {
-    /// Draws the line into the last row of the screen, whose whole canvas this is to be. Items whose commands are not in the
-    /// set are shown as disabled.
+    /// Draws the line into the last row of the screen. The canvas must be that of the whole screen. Items whose
+    /// commands are not in the set are shown as disabled.
     pub fn draw(&self, screen: &mut Screen, canvas: Canvas, enabled: &CommandSet)
         requires { IsPointNear canvas.origin }
         ensures size { IsAlike screen.old screen.new }

@@ -14,7 +14,7 @@ pub(crate) struct Place {
 pub(crate) enum Effect {
     /// Nothing: the event is for another.
     Leaves,
-    /// Nothing, but the event is no one else's.
+    /// Nothing, but nobody else gets the event.
     Stays,
     /// The menu is open, with this item.
     Shows(Place),

@@ -30,7 +30,7 @@ pub(crate) fn copy_menu(menu: &Menu, alloc: Global) -> Result<Menu, AllocError>
     })
 }
 
-/// The menu at a place of lawful ones.
+/// Returns the menu at a place of lawful ones.
 pub(crate) fn menu_at(menus: &[Menu], place: usize) -> Option<&Menu>
     requires { All IsLawfulMenu menus.now }
     ensures is { option_copied result ≡ slice_get menus.now place }
@@ -39,7 +39,7 @@ pub(crate) fn menu_at(menus: &[Menu], place: usize) -> Option<&Menu>
     menus.get(place)
 }
 
-/// The item at a place of lawful ones.
+/// Returns the item at a place of lawful ones.
 pub(crate) fn item_at(items: &[MenuItem], place: usize) -> Option<&MenuItem>
     requires { All IsLawfulItem items.now }
     ensures is { option_copied result ≡ slice_get items.now place }
@@ -48,7 +48,7 @@ pub(crate) fn item_at(items: &[MenuItem], place: usize) -> Option<&MenuItem>
     items.get(place)
 }
 
-/// The command that an item gives.
+/// Returns the command that an item gives.
 #[tactic(auto, using(crate::proofs::CommandLemmas::lawful_command))]
 pub(crate) fn command_of(item: &MenuItem) -> Command
     requires { IsLawfulItem item.now }
@@ -57,7 +57,7 @@ pub(crate) fn command_of(item: &MenuItem) -> Command
     item.command.command()
 }
 
-/// The place before one of so many, cyclically.
+/// Returns the place before one of so many, cyclically.
 pub(crate) fn place_before(count: usize, place: usize) -> usize
     ensures { result ≡ place_before count place }
 {
@@ -68,7 +68,7 @@ pub(crate) fn place_before(count: usize, place: usize) -> usize
     }
 }
 
-/// The place after one of so many, cyclically.
+/// Returns the place after one of so many, cyclically.
 pub(crate) fn place_after(count: usize, place: usize) -> usize
     ensures { result ≡ place_after count place }
 {
@@ -79,21 +79,21 @@ pub(crate) fn place_after(count: usize, place: usize) -> usize
     }
 }
 
-/// The place of the first item that marks a letter, which is to be in upper case.
+/// Finds the place of the first item that marks a letter, which is given in upper case.
 pub(crate) fn item_of_letter(items: &[MenuItem], letter: char) -> Option<usize>
     ensures { result ≡ item_of_letter items.now letter }
 {
     items.iter().position(|item| item.text.marks(letter))
 }
 
-/// The place of the first menu whose title marks a letter, which is to be in upper case.
+/// Finds the place of the first menu whose title marks a letter, which is given in upper case.
 pub(crate) fn title_of_letter(menus: &[Menu], letter: char) -> Option<usize>
     ensures { result ≡ position (λ menu. marks letter menu.title) menus.now }
 {
     menus.iter().position(|menu| menu.title.marks(letter))
 }
 
-/// An ASCII letter in upper case.
+/// Returns the character, in upper case if it is an ASCII letter.
 pub(crate) fn upper(letter: char) -> char
     ensures { result ≡ upper letter }
 {

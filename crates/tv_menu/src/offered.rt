@@ -1,4 +1,4 @@
-//! What is answered to an event that is offered.
+//! Answers to an event that is offered.
 
 use tv_event::Command;
 

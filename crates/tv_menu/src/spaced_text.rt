@@ -1,4 +1,4 @@
-//! A text behind a space, in the row of a face.
+//! A text after a space, in the row of a face.
 
 ghost use Rattle.std.specs.Prelude.{◌≡◌, ◌+◌, ◌∷◌, ◌<◌, ◌≤◌, ◌^◌, ℕ, length};
 ghost use Rattle.tv_machine.specs.Screen.Bars.{columns_of, marked_cell};
@@ -45,7 +45,7 @@ fn is_mark(mark: Option<usize>, column: usize) -> bool
 impl<'a> SpacedText<'a> {
     ghost use Rattle.tv_menu.specs.Cells.{ChangesRow, over_columns, spaced_cell};
 
-    /// A title of the bar or an item of a menu's box, by whether it is the open or the current one.
+    /// Makes a title of the bar or an item of a menu's box, by whether it is the open or the current one.
     pub(crate) fn of_bar(text: &'a MarkedText, is_selected: bool) -> SpacedText<'a>
         ensures cells { (column : ℕ) → spaced_cell result column ≡ marked_cell is_selected text.now column }
         ensures text { result.text.now ≡ text.now.text }
@@ -69,8 +69,8 @@ impl<'a> SpacedText<'a> {
         Cell::shown(char_after_space(self.text, column), attr)
     }
 
-    /// Writes so many of its columns into a row from the column `first` on, where the first of the cells stands in the
-    /// column `from`.
+    /// Writes `count` of its columns into a row, from column `first` on. The first of the cells stands in column
+    /// `from`.
     pub(crate) fn write(&self, first: usize, count: usize, from: usize, cells: &mut [Cell])
         requires columns { first + count < 2 ^ 64 }
         requires cells { from + length cells.old < 2 ^ 64 }

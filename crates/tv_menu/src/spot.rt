@@ -17,7 +17,7 @@ pub(crate) struct Spot<'a> {
     pub(crate) column: usize,
 }
 
-/// The columns of a text and the spaces at both sides.
+/// Returns how many columns a text takes with a space at both sides.
 pub(crate) fn columns_of(text: &[char]) -> usize
     ensures { result ≡ columns_of text.now }
 {
@@ -31,7 +31,7 @@ pub(crate) fn has_column(column: &i32, width: &i32) -> bool
     0 <= *column && *column < *width
 }
 
-/// What stands in a column, which is counted from the first column of the first item, whose place is given.
+/// Finds what stands in a column. Columns count from the first one of the first item, which has the given place.
 #[tactic(auto, using(crate::proofs::LawfulLemmas::items_behind, crate::proofs::LawfulLemmas::item_ahead))]
 pub(crate) fn spot_in(items: &[StatusItem], place: usize, column: usize) -> Option<Spot>
     requires places { place + length items.now < 2 ^ 64 }

@@ -85,11 +85,11 @@ fn turned_by(item: &StatusItem) -> Offered
 }
 
 impl StatusLine {
-    /// The status line of a description whose numbers, counts and texts lie within the limits.
+    /// Makes the status line of a description whose numbers, counts and texts lie within the limits.
     ///
     /// # Errors
     ///
-    /// Where there is no memory for its texts.
+    /// `AllocError` where there is no memory for its texts.
     pub fn new(alloc: Global, desc: &Desc) -> Result<StatusLine, AllocError>
         requires screen { IsLawfulScreen desc.now.width desc.now.height }
         requires items { AreLawfulStatusItems desc.now.status }
@@ -102,8 +102,8 @@ impl StatusLine {
         })
     }
 
-    /// What the line makes of an event, where these commands are enabled: an enabled item's key, and a mouse down on its
-    /// cells, become its command. Any other mouse down on the last row or off the screen is taken and does nothing.
+    /// Offers the line an event, with these commands enabled. An enabled item's key, and a mouse down on its cells,
+    /// become its command. Any other mouse down on the last row or off the screen is taken and does nothing.
     pub fn offer(&self, event: &Event, enabled: &CommandSet) -> Offered
         ensures { (d : Declared) (s : State) → IsLineOf d self.now → AreEnabled d s enabled.now → result ≡ line_answer d s event.now }
     {
@@ -155,7 +155,7 @@ impl StatusLine {
         self.height - 1
     }
 
-    // A mouse down in a column of the last row.
+    // What a mouse down in a column of the last row does.
     fn cell_answer(&self, column: &i32, enabled: &CommandSet) -> Offered
         ensures { (d : Declared) (s : State) → IsLineOf d self.now → AreEnabled d s enabled.now
             → result ≡ cell_answer d s (status_under d column.now) }

@@ -33,7 +33,7 @@ fn title_in(menus: &[Menu], place: usize, column: usize) -> Option<usize>
     }
 }
 
-/// The menu whose title's cells have a column of the bar, where titles begin in column 1.
+/// Finds the menu whose title's cells have a column of the bar. Titles begin in column 1.
 #[tactic(auto, using(crate::proofs::TitleLemmas::before_titles))]
 pub(crate) fn title_in_bar(menus: &[Menu], column: usize) -> Option<usize>
     requires few { length menus.now ≤ most_menus }
@@ -47,7 +47,7 @@ pub(crate) fn title_in_bar(menus: &[Menu], column: usize) -> Option<usize>
     }
 }
 
-/// So many columns and those of the titles before a place.
+/// Adds the columns of the titles before a place to `columns`, and returns the sum.
 #[tactic(auto, using(crate::proofs::LawfulLemmas::menus_behind, crate::proofs::LawfulLemmas::menu_ahead))]
 pub(crate) fn columns_before(menus: &[Menu], place: usize, columns: usize) -> usize
     requires lawful { All IsLawfulMenu menus.now }

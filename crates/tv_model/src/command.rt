@@ -6,7 +6,7 @@ ghost use Rattle.tv_model.specs.Description.LawfulNodes.{IsLawfulCommand};
 
 use tv_event::Command;
 
-/// A command as a description names it: by a word, or by a number, which is to be 100 to 255.
+/// A command as a description names it: by a word, or by a number, which is 100 to 255 in sound descriptions.
 #[derive(Clone, Copy, Debug, PartialEq, Eq, Hash)]
 pub enum CommandSpec {
     Quit,
@@ -21,7 +21,7 @@ pub enum CommandSpec {
 }
 
 impl CommandSpec {
-    /// The command that is named. A number is to be 100 to 255, as in sound descriptions.
+    /// Returns the command that is named. A number must be 100 to 255, as in sound descriptions.
     pub fn command(&self) -> Command
         requires { IsLawfulCommand (Some self.now) }
         ensures { result.0 ≡ command_number self.now }

@@ -35,7 +35,7 @@ pub struct Desc {
 impl Desc {
     ghost use Rattle.tv_model.specs.Description.Heads.{all_nodes};
 
-    /// The node of the id: a window, a dialog or a view of one.
+    /// Finds the node of the id: a window, a dialog or a view of one.
     pub fn node(&self, id: Id) -> Option<&Node>
         ensures { option_copied result ≡ node_of (all_nodes self.now) id }
     {
@@ -56,7 +56,7 @@ impl Desc {
 impl Window {
     ghost use Rattle.tv_model.specs.Description.Heads.{window_head, window_nodes};
 
-    /// What its own line declares: its name, its number and its title.
+    /// Returns what its own line declares: its name, its number and its title.
     pub fn head(&self) -> &WindowHead
         ensures { result.now ≡ window_head self.now }
     {
@@ -66,7 +66,7 @@ impl Window {
         }
     }
 
-    /// The node of the id: the window itself or a text of it.
+    /// Finds the node of the id: the window itself or a text of it.
     pub fn node(&self, id: Id) -> Option<&Node>
         ensures { option_copied result ≡ node_of (window_nodes self.now) id }
     {
@@ -81,7 +81,7 @@ impl Window {
 impl Dialog {
     ghost use Rattle.tv_model.specs.Description.Heads.{dialog_head, dialog_nodes};
 
-    /// What its own line declares: its name, its title, the command that opens it and its ends.
+    /// Returns what its own line declares: its name, its title, the command that opens it and its ends.
     pub fn head(&self) -> &DialogHead
         ensures { result.now ≡ dialog_head self.now }
     {
@@ -91,7 +91,7 @@ impl Dialog {
         }
     }
 
-    /// The node of the id: the dialog itself or a view of it.
+    /// Finds the node of the id: the dialog itself or a view of it.
     pub fn node(&self, id: Id) -> Option<&Node>
         ensures { option_copied result ≡ node_of (dialog_nodes self.now) id }
     {
@@ -155,7 +155,7 @@ pub struct Dialog {
     ghost own_kind: { IsTrue (is_dialog node.kind) },
 }
 
-/// What holds while an item of a cluster is marked.
+/// What is shown or enabled only while an item of a cluster is marked.
 #[derive(Debug, Drop)]
 pub struct Rule {
     pub id: Id,

@@ -3,7 +3,7 @@
 ghost use Rattle.std.specs.Prelude.{◌≡◌};
 ghost use Rattle.tv_model.specs.Faults.{fault_number};
 
-/// A fault of a description that is spelled right, with the line of the canonical text that it names.
+/// A fault of a well-formed description, with the line of the canonical text that it names.
 #[derive(Clone, Copy, Debug, PartialEq, Eq)]
 pub struct Fault {
     pub kind: FaultKind,
@@ -50,7 +50,7 @@ pub enum FaultKind {
 }
 
 impl FaultKind {
-    /// The number by which the fault is told, 1 to 17.
+    /// Returns the number by which the fault is reported, 1 to 17.
     pub fn number(self) -> u8
         ensures { result ≡ fault_number self }
     {

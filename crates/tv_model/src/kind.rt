@@ -132,7 +132,7 @@ pub struct Pane {
 impl MarkedText {
     ghost use Rattle.tv_model.specs.Description.Marks.{letter_of, marks};
 
-    /// The letter that it marks, in upper case.
+    /// Returns the letter that it marks, in upper case, or `None` where it marks none.
     pub fn letter(&self) -> Option<char>
         ensures { result ≡ letter_of self.now }
     {
@@ -140,7 +140,7 @@ impl MarkedText {
         Some(letter.to_ascii_uppercase())
     }
 
-    /// Whether it marks the letter, which is to be in upper case.
+    /// Whether it marks the letter, which is given in upper case.
     pub fn marks(&self, letter: char) -> bool
         ensures { result ≡ marks letter self.now }
     {
@@ -152,7 +152,7 @@ impl MarkedText {
 }
 
 impl Kind {
-    /// The name that the declaration gives; static texts and labels have none.
+    /// Returns the name that the declaration gives; static texts and labels have none.
     pub fn name(&self) -> Option<&Chars>
         ensures { option_copied result ≡ name_of self.now }
     {

@@ -4,7 +4,7 @@ use crate::node::Id;
 use crate::record::Value;
 use tv_event::Command;
 
-/// What a run tells of an event.
+/// What a run logs of an event.
 #[derive(Debug, Drop, Default)]
 pub enum LogLine {
     /// A dialog opened.

@@ -8,9 +8,9 @@ pub struct Id(pub u32);
 
 /// A window, a dialog, or a view of one, as a description declares it.
 ///
-/// `x`, `y` and `w` are columns and rows. A window's or a dialog's corner is that on the screen, a view's is seen from
-/// the corner of its pane, or of its window or dialog. What is one row high, or as many rows as it has items, has no
-/// height of its own.
+/// `x`, `y` and `w` are columns and rows. The corner of a window or dialog is a place on the screen; that of a view is
+/// seen from the corner of its pane, or of its window or dialog. A node that is one row high, or as many rows as it has
+/// items, declares no height.
 #[derive(Debug, Drop)]
 pub struct Node {
     pub id: Id,

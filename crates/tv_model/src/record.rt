@@ -54,7 +54,7 @@ impl Model for Record {
 }
 
 impl Record {
-    /// The record without values.
+    /// Makes a record without values.
     pub fn new() -> Record
         ensures { result ≡ [] }
     {
@@ -63,7 +63,7 @@ impl Record {
         }
     }
 
-    /// The number of values.
+    /// Returns the number of values.
     pub fn len(&self) -> usize
         ensures value { result ≡ length self.now }
         ensures within { length self.now ≤ 64 }
@@ -77,7 +77,7 @@ impl Record {
         self.entries.iter().position(|entry| entry.id == id)
     }
 
-    /// The value of a field.
+    /// Finds the value of a field.
     pub fn value(&self, id: Id) -> Option<&Value>
         ensures { option_copied result ≡ value_of self.now id.0 }
     {

@@ -20,7 +20,7 @@ impl<T> Model for Sequence<T> {
 }
 
 impl<T> Sequence<T> {
-    /// No items. Takes no memory.
+    /// Makes a sequence without items. Takes no memory.
     pub fn new(alloc: Global) -> Sequence<T>
         ensures { result ≡ [] }
     {
@@ -29,14 +29,14 @@ impl<T> Sequence<T> {
         }
     }
 
-    /// The items of the vector, which takes no memory.
+    /// Makes a sequence of the vector's items. Takes no memory.
     pub fn from_vec(items: Vec<T>) -> Sequence<T>
         ensures { result ≡ items.items }
     {
         Sequence { items }
     }
 
-    /// The items as a vector, which takes no memory.
+    /// Returns the items as a vector. Takes no memory.
     pub fn into_vec(self) -> Vec<T>
         ensures { result.items ≡ self }
     {
@@ -44,7 +44,7 @@ impl<T> Sequence<T> {
         items
     }
 
-    /// The items.
+    /// Returns the items.
     pub fn as_slice(&self) -> &[T]
         ensures { result.now ≡ self.now }
     {

@@ -5,7 +5,7 @@ ghost use Rattle.tv_model.specs.Faults.Letters.{rules_cancel};
 
 use tv_model::{CommandSpec, Effect, Rule};
 
-/// Whether the rule would disable the ways out of a dialog or a window.
+/// Whether the rule could disable the way out of a dialog or a window: `cancel` or `close`.
 pub fn rules_cancel(rule: &Rule) -> bool
     ensures { result ≡ rules_cancel rule.now }
 {

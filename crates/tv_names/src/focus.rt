@@ -53,7 +53,7 @@ fn reaches(alloc: Global, dialog: &Dialog) -> Result<Vec<Reach>, AllocError>
     Ok(list)
 }
 
-// The views that are shown, without those that stand in them.
+// The views that rules show, without those that stand in them.
 fn shown_views(alloc: Global, reaches: &[Reach]) -> Result<HashSet<Id>, AllocError>
     ensures { IfOk result (λ shown. (i : Id) → contains is_same_id shown i ≡ list_any (shows i) reaches.now) }
 {
@@ -66,7 +66,7 @@ fn shown_views(alloc: Global, reaches: &[Reach]) -> Result<HashSet<Id>, AllocErr
     Ok(shown)
 }
 
-// The commands that are enabled.
+// The commands that rules enable.
 fn enabled_commands(alloc: Global, reaches: &[Reach]) -> Result<HashSet<CommandSpec>, AllocError>
     ensures { IfOk result (λ enabled. (command : CommandSpec) → contains equals_command enabled command ≡ list_any (enables command) reaches.now) }
 {
@@ -79,7 +79,7 @@ fn enabled_commands(alloc: Global, reaches: &[Reach]) -> Result<HashSet<CommandS
     Ok(enabled)
 }
 
-// Whether the view is among the targets, or its owner is shown or stands in what is. That is known of the owner.
+// Whether a rule shows the view or a pane around it: the view is a target, or that is known of its owner.
 fn is_shown(targets: &HashSet<Id>, shown: &[bool], owner: Option<usize>, view: &Node) -> bool
     requires { IfSome owner (λ pane. pane < length shown.now) }
     ensures { result ≡ (contains is_same_id targets.now view.now.id || is_owner_shown shown.now owner) }
@@ -93,7 +93,7 @@ fn is_shown(targets: &HashSet<Id>, shown: &[bool], owner: Option<usize>, view: &
     }
 }
 
-// For each view whether it is shown, or a pane around it.
+// For each view whether a rule shows it or a pane around it.
 fn are_shown(alloc: Global, reaches: &[Reach], views: &[Node]) -> Result<Vec<bool>, AllocError>
     ensures len { IfOk result (λ shown. length shown.items ≡ length views.now) }
     ensures each { IfOk result (λ shown. AreFirstShown reaches.now views.now shown.items) }
@@ -107,7 +107,7 @@ fn are_shown(alloc: Global, reaches: &[Reach], views: &[Node]) -> Result<Vec<boo
     Ok(shown)
 }
 
-// Whether it is a button of a command that is enabled.
+// Whether it is a button whose command a rule enables.
 fn is_enabled(enabled: &HashSet<CommandSpec>, kind: &Kind) -> bool
     ensures { result ≡ is_button_where (contains equals_command enabled.now) kind.now }
 {
@@ -117,14 +117,14 @@ fn is_enabled(enabled: &HashSet<CommandSpec>, kind: &Kind) -> bool
     }
 }
 
-// Whether it is a control that isn't shown and isn't enabled.
+// Whether it is a control that no rule shows or enables.
 fn is_free(enabled: &HashSet<CommandSpec>, is_shown: bool, view: &Node) -> bool
     ensures { result ≡ (is_control view.now.kind && (not is_shown && not (is_button_where (contains equals_command enabled.now) view.now.kind))) }
 {
     view.kind.is_control() && !is_shown && !is_enabled(enabled, &view.kind)
 }
 
-// Whether each control is reached.
+// Whether rules reach every control.
 fn has_nothing_free(alloc: Global, reaches: &[Reach], views: &[Node]) -> Result<bool, AllocError>
     ensures { IfOk result (λ lacking. lacking ≡ has_nothing_free reaches.now views.now) }
 {

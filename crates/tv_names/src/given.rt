@@ -25,7 +25,7 @@ impl<'a> GivenNames<'a> {
         }
     }
 
-    // Whether the declaration gives a name that was given before it. From then on its name is given.
+    // Notes the name that the declaration gives. Returns whether it was given before.
     fn give(&mut self, node: &'a Node) -> Result<bool, AllocError>
         ensures { (before : List Node) → AreNamesOf before self.old.names → IfOk result (λ again.
             (again ≡ names_again before node.now) × AreNamesOf (before ++ node.now ∷ []) self.new.names) }
@@ -50,7 +50,7 @@ impl<'a> GivenNames<'a> {
     }
 }
 
-/// For each view whether it gives a name that was given before it.
+/// Returns for each view whether it gives a name that was given before it.
 pub fn names_again(alloc: Global, views: &[Node]) -> Result<Vec<bool>, AllocError>
     ensures { IfOk result (λ again. again.items ≡ each_after names_again views.now) }
 {
@@ -62,7 +62,7 @@ pub fn names_again(alloc: Global, views: &[Node]) -> Result<Vec<bool>, AllocErro
     Ok(again)
 }
 
-/// For each window whether it has the name of one before it.
+/// Returns for each window whether it has the name of one before it.
 pub fn windows_named_again(alloc: Global, windows: &[Window]) -> Result<Vec<bool>, AllocError>
     ensures { IfOk result (λ again. again.items ≡ each_after window_named_again windows.now) }
 {
@@ -74,7 +74,7 @@ pub fn windows_named_again(alloc: Global, windows: &[Window]) -> Result<Vec<bool
     Ok(again)
 }
 
-/// For each dialog whether it has the name of a window, or of a dialog before it.
+/// Returns for each dialog whether it has the name of a window, or of a dialog before it.
 pub fn dialogs_named_again(alloc: Global, desc: &Desc) -> Result<Vec<bool>, AllocError>
     ensures { IfOk result (λ again. again.items ≡ each_after (dialog_named_again desc.now) desc.now.dialogs) }
 {

@@ -102,7 +102,7 @@ fn is_alt_of(taken: &HashSet<char>, key: Key) -> bool
     }
 }
 
-/// For each status item whether its key isn't one that it may have, or already means something else.
+/// Returns for each status item whether its key isn't one that it may have, or already means something else.
 pub fn bad_keys(alloc: Global, desc: &Desc) -> Result<Vec<bool>, AllocError>
     ensures { IfOk result (λ bad. bad.items ≡ each_after (has_bad_key desc.now) desc.now.status) }
 {

@@ -21,7 +21,7 @@ fn links_nothing(names: &Names, node: &Node) -> bool
     }
 }
 
-/// For each view whether it is a label that is linked to no control.
+/// Returns for each view whether it is a label that is linked to no control.
 pub fn unlinked_labels(alloc: Global, views: &[Node]) -> Result<Vec<bool>, AllocError>
     ensures { IfOk result (λ unlinked. unlinked.items ≡ each_after (λ _. links_nothing views.now) views.now) }
 {

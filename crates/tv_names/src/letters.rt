@@ -19,7 +19,7 @@ fn letter_of(marked: &MarkedText) -> Option<char>
     Some(letter.to_ascii_uppercase())
 }
 
-/// The texts of the declaration in which a letter may be marked.
+/// Returns the texts of the declaration in which a letter may be marked.
 pub fn marked_of(kind: &Kind) -> &[MarkedText]
     ensures { result.now ≡ marked_of kind.now }
 {
@@ -42,7 +42,7 @@ pub fn marks(letter: char, text: &MarkedText) -> bool
     }
 }
 
-/// Whether the text marks one of the letters, to which its own is added.
+/// Adds the letter that the text marks. Returns whether it was among the letters before.
 pub fn add_letter(letters: &mut HashSet<char>, text: &MarkedText) -> Result<bool, AllocError>
     ensures again { IfOk result (λ again. again ≡ marks_any (set.contains nat_eq letters.old) text.now) }
     ensures added { OnOk result ((ch : ℕ) → set.contains nat_eq letters.new ch ≡ (set.contains nat_eq letters.old ch || marks ch text.now)) }
@@ -53,7 +53,7 @@ pub fn add_letter(letters: &mut HashSet<char>, text: &MarkedText) -> Result<bool
     }
 }
 
-/// Whether one of the texts marks one of the letters or a letter of a text before it. Their own are added.
+/// Adds the letters that the texts mark. Returns whether one of them was among the letters before, or is marked twice.
 pub fn add_letters(letters: &mut HashSet<char>, texts: &[MarkedText]) -> Result<bool, AllocError>
     ensures again { IfOk result (λ again. again ≡ mark_again (set.contains nat_eq letters.old) texts.now) }
     ensures added { OnOk result ((ch : ℕ) → set.contains nat_eq letters.new ch ≡ (set.contains nat_eq letters.old ch || is_marked_in texts.now ch)) }

@@ -9,7 +9,7 @@ use std::alloc::{AllocError, Global};
 use std::collections::HashSet;
 use tv_model::Node;
 
-/// For each view whether it marks a letter that was marked before, on an earlier line or on its own.
+/// Returns for each view whether it marks a letter that was marked before, on an earlier line or on its own.
 pub fn marks_again(alloc: Global, views: &[Node]) -> Result<Vec<bool>, AllocError>
     ensures { IfOk result (λ again. again.items ≡ each_after marks_again views.now) }
 {

@@ -9,7 +9,7 @@ use std::alloc::{AllocError, Global};
 use std::collections::HashSet;
 use tv_model::{Menu, MenuItem, Window};
 
-/// For each menu whether its title marks the letter of one before it.
+/// Returns for each menu whether its title marks the letter of one before it.
 pub fn titled_again(alloc: Global, menus: &[Menu]) -> Result<Vec<bool>, AllocError>
     ensures { IfOk result (λ again. again.items ≡ each_after titled_again menus.now) }
 {
@@ -21,7 +21,7 @@ pub fn titled_again(alloc: Global, menus: &[Menu]) -> Result<Vec<bool>, AllocErr
     Ok(again)
 }
 
-/// For each item of a menu whether it marks the letter of one before it.
+/// Returns for each item of a menu whether it marks the letter of one before it.
 pub fn items_again(alloc: Global, items: &[MenuItem]) -> Result<Vec<bool>, AllocError>
     ensures { IfOk result (λ again. again.items ≡ each_after item_again items.now) }
 {
@@ -33,7 +33,7 @@ pub fn items_again(alloc: Global, items: &[MenuItem]) -> Result<Vec<bool>, Alloc
     Ok(again)
 }
 
-/// For each window whether it has a number from 1 to 9 that one before it has.
+/// Returns for each window whether it has a number from 1 to 9 that one before it has.
 pub fn numbered_again(alloc: Global, windows: &[Window]) -> Result<Vec<bool>, AllocError>
     ensures { IfOk result (λ again. again.items ≡ each_after numbered_again windows.now) }
 {

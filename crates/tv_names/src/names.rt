@@ -69,7 +69,7 @@ fn places_of<'a>(alloc: Global, views: &'a [Node]) -> Result<HashMap<&'a [char],
 }
 
 impl<'a> Names<'a> {
-    /// The names that the views give.
+    /// Collects the names that the views give.
     pub fn new(alloc: Global, views: &'a [Node]) -> Result<Names<'a>, AllocError>
         ensures { IfOk result (λ names. names ≡ views.now) }
     {
@@ -77,21 +77,21 @@ impl<'a> Names<'a> {
         Ok(Names { views, places })
     }
 
-    /// The views, in their order.
+    /// Returns the views, in their order.
     pub fn views(&self) -> &'a [Node]
         ensures { result.now ≡ self.now }
     {
         self.views
     }
 
-    /// The place of the first view that gives the name.
+    /// Finds the place of the first view that gives the name.
     pub fn place(&self, name: &Chars) -> Option<usize>
         ensures { MatchOption result (first_given self.now name.now ≡ None) (IsFirstAt self.now name.now) }
     {
         self.places.get(name.as_slice()).copied()
     }
 
-    /// What the name means: the first view that gives it.
+    /// Finds what the name means: the first view that gives it.
     pub fn meant(&self, name: &Chars) -> Option<&'a Node>
         ensures { option_copied result ≡ meant self.now name.now }
     {

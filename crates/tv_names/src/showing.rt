@@ -45,7 +45,7 @@ fn shows_itself(names: &Names, owners: &[Option<usize>], rule: &Rule) -> bool
     }
 }
 
-/// For each rule of the dialog whether it shows its own cluster or a pane around it.
+/// Returns for each rule of the dialog whether it shows its own cluster or a pane around it.
 pub fn show_themselves(alloc: Global, dialog: &Dialog) -> Result<Vec<bool>, AllocError>
     ensures { IfOk result (λ showing. showing.items ≡ each_after (λ _. shows_itself dialog.now.views) dialog.now.rules) }
 {

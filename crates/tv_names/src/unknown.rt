@@ -41,7 +41,7 @@ fn names_unknown(names: &Names, rule: &Rule) -> bool
         || !is_item(&rule.item, cluster_items(names.meant(&rule.cluster)))
 }
 
-/// For each rule of the dialog whether it names a view or an item that isn't there.
+/// Returns for each rule of the dialog whether it names a view or an item that isn't there.
 pub fn unknown_names(alloc: Global, dialog: &Dialog) -> Result<Vec<bool>, AllocError>
     ensures { IfOk result (λ unknown. unknown.items ≡ each_after (λ _. names_unknown dialog.now.views) dialog.now.rules) }
 {

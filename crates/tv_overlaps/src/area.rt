@@ -30,7 +30,7 @@ impl Model for Area {
     ghost inverse = { λ r. record { left = r.a.x; top = r.a.y; right = r.b.x; bottom = r.b.y } };
 }
 
-/// How many rows a node has.
+/// Returns how many rows a node has.
 pub fn height(kind: &Kind) -> i128
     ensures value { result ≡ height_of kind.now }
     ensures low { neg_ℤ (pos 2147483648) ≤ℤ result }
@@ -49,7 +49,7 @@ pub fn height(kind: &Kind) -> i128
 }
 
 impl Area {
-    /// The place of a node, seen from its owner.
+    /// Returns the place of a node, seen from its owner.
     pub fn of_node(node: &Node) -> Area
         ensures { result ≡ place_of_node node.now }
     {
@@ -63,7 +63,7 @@ impl Area {
         }
     }
 
-    /// A dialog or window without its frame, as its views see it.
+    /// Returns a dialog or window without its frame, as its views see it.
     pub fn interior(node: &Node) -> Area
         ensures { result ≡ interior node.now }
     {
@@ -75,7 +75,7 @@ impl Area {
         }
     }
 
-    /// All of a pane, as its views see it.
+    /// Returns all of a pane, as its views see it.
     pub fn whole(node: &Node) -> Area
         ensures { result ≡ whole_area node.now }
     {
@@ -87,7 +87,7 @@ impl Area {
         }
     }
 
-    /// The screen without its first and last row.
+    /// Returns the screen without its first and last row.
     pub fn desktop(desc: &Desc) -> Area
         ensures { result ≡ desktop desc.now }
     {
@@ -99,7 +99,7 @@ impl Area {
         }
     }
 
-    /// The rows of it.
+    /// Returns its rows.
     pub fn rows(&self) -> Span
         ensures { result ≡ rows self.now }
     {
@@ -109,7 +109,7 @@ impl Area {
         }
     }
 
-    /// The columns of it.
+    /// Returns its columns.
     pub fn columns(&self) -> Span
         ensures { result ≡ columns self.now }
     {
@@ -126,7 +126,7 @@ impl Area {
         self.left < self.right && self.top < self.bottom
     }
 
-    /// Whether every point of it lies in the other, as none of an empty one fails to.
+    /// Whether every point of it lies in the other. An empty one lies in all.
     pub fn is_within(&self, other: &Area) -> bool
         ensures value { result ≡ is_within self.now other.now }
         ensures points { IsTrue result ↔ ((x y : ℤ) → IsIn self.now x y → IsIn other.now x y) }

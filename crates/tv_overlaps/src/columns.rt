@@ -9,7 +9,7 @@ use crate::placed::Placed;
 use crate::span::Span;
 use std::alloc::{AllocError, Global};
 
-// What may lie on one point.
+// The weight that one point has room for.
 const ROOM: u8 = 3;
 
 // Marks the items that clash with an earlier one, where one of the two fills the rows, and one the columns.

@@ -3,7 +3,7 @@
 ghost use Rattle.std.specs.Prelude.{◌≡◌, max, true, false, ◌&&◌, if◌then◌else◌};
 ghost use Rattle.tv_overlaps.specs.Heaviest.{at_least};
 
-/// The greatest weight of the views passed so far, of all of them and of those that stretch far enough; 0 where there
+/// The greatest weights of the views passed so far: of all of them, and of those that stretch far enough; 0 where there
 /// is none.
 #[derive(Clone, Copy)]
 pub struct Heaviest {
@@ -14,7 +14,7 @@ pub struct Heaviest {
 }
 
 impl Heaviest {
-    /// Before the first.
+    /// Starts before the first view.
     pub fn none() -> Heaviest
         ensures { result ≡ record { any = 0; filling = 0; wide = 0; both = 0 } }
     {
@@ -26,7 +26,8 @@ impl Heaviest {
         }
     }
 
-    /// The heaviest of those with which one of the two fills, and one of the two is wide.
+    /// Returns the greatest weight of the passed views that go with the view at hand: those that fill, unless that one
+    /// does, and that are wide, unless that one is.
     pub fn beside(&self, fills: bool, wide: bool) -> u8
         ensures { result ≡ (if fills then (if wide then self.now.any else self.now.wide) else (if wide then self.now.filling else self.now.both)) }
     {
@@ -38,7 +39,7 @@ impl Heaviest {
         }
     }
 
-    /// One more is passed.
+    /// Passes one more view.
     pub fn pass(&mut self, weight: u8, fills: bool, wide: bool)
         ensures any { self.new.any ≡ max (at_least true weight) self.old.any }
         ensures filling { self.new.filling ≡ max (at_least fills weight) self.old.filling }

@@ -45,7 +45,7 @@ fn is_outside(frame: &Node, views: &[Node], owner: Option<usize>, place: usize) 
     !Area::of_node(&views[place]).is_within(&room)
 }
 
-/// For each view whether it isn't within its pane, or within the frame of its window or dialog.
+/// Returns for each view whether it isn't within its pane, or within the frame of its window or dialog.
 pub fn are_outside(alloc: Global, frame: &Node, views: &[Node]) -> Result<Vec<bool>, AllocError>
     ensures { IfOk result (λ outside. outside.items ≡ each_after (is_outside frame.now) views.now) }
 {

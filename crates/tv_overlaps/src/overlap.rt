@@ -60,9 +60,9 @@ fn overlaps_among(
     Ok(marks)
 }
 
-/// For each view whether it overlaps an earlier sibling and may not.
+/// Returns for each view whether it overlaps an earlier sibling and may not.
 ///
-/// Takes some n log² n steps for n views, where comparing all pairs would take n².
+/// Takes about n log² n steps for n views, where comparing all pairs would take n².
 pub fn overlaps(alloc: Global, views: &[Node]) -> Result<Vec<bool>, AllocError>
     ensures { IfOk result (λ found. found.items ≡ each_after overlaps_earlier views.now) }
 {

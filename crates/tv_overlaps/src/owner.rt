@@ -41,7 +41,7 @@ fn owner_at(owners: &[Option<usize>], views: &[Node], place: usize) -> Option<us
     }
 }
 
-/// For each view the place of the pane in which it stands; `None` where that is its window or dialog.
+/// Returns for each view the place of the pane in which it stands, or `None` where that is its window or dialog.
 pub fn owners(alloc: Global, views: &[Node]) -> Result<Vec<Option<usize>>, AllocError>
     ensures { IfOk result (λ owners. AreOwners owners.items views.now) }
 {
@@ -68,8 +68,8 @@ fn first_sibling(owners: &[Option<usize>], firsts: &[usize], views: &[Node], pla
     }
 }
 
-/// For each view the place of the first of its siblings, the views that have the same owner; its own place where it is
-/// the first.
+/// Returns for each view the place of the first of its siblings, the views that have the same owner. For the first one
+/// that is its own place.
 pub fn siblings(alloc: Global, views: &[Node]) -> Result<Vec<usize>, AllocError>
     ensures siblings { IfOk result (λ firsts. AreSiblingsNumbered firsts.items views.now) }
     ensures first { IfOk result (λ firsts. AreFirstPlaces firsts.items) }

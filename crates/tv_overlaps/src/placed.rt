@@ -12,7 +12,7 @@ use tv_model::Kind;
 pub struct Placed {
     /// The view's place among all views.
     pub place: usize,
-    /// The same number for siblings only.
+    /// A number that siblings share, and no other views.
     pub owner: usize,
     pub rows: Span,
     pub columns: Span,
@@ -20,7 +20,7 @@ pub struct Placed {
     pub weight: u8,
 }
 
-/// What such a view weighs.
+/// Returns what a view of this kind weighs.
 pub fn weight(kind: &Kind) -> u8
     ensures { result ≡ weight_of kind.now }
 {
@@ -33,7 +33,7 @@ pub fn weight(kind: &Kind) -> u8
     }
 }
 
-/// The columns of all items and those between.
+/// Returns the columns of all items and those between.
 pub fn columns_of(items: &[Placed]) -> Span
     ensures { result ≡ fold (λ span item. around span item.columns) nowhere items.now }
 {
@@ -44,7 +44,7 @@ pub fn columns_of(items: &[Placed]) -> Span
     columns
 }
 
-/// The rows of all items and those between.
+/// Returns the rows of all items and those between.
 pub fn rows_of(items: &[Placed]) -> Span
     ensures { result ≡ fold (λ span item. around span item.rows) nowhere items.now }
 {

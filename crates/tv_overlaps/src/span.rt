@@ -11,7 +11,7 @@ pub struct Span {
 }
 
 impl Span {
-    /// It has nothing.
+    /// The span without columns or rows.
     pub const EMPTY: Span = Span {
         low: i128::MAX,
         high: i128::MIN,
@@ -31,14 +31,14 @@ impl Span {
         self.low < other.high && other.low < self.high
     }
 
-    /// Whether it has something in a half of the whole, and not all of the whole.
+    /// Whether it has something of this half of the whole, but not all of the whole.
     pub fn enters(&self, whole: &Span, half: &Span) -> bool
         ensures { result ≡ enters whole.now half.now self.now }
     {
         !self.covers(whole) && half.meets(self)
     }
 
-    /// Its two halves; `None` where it has one column or row at most.
+    /// Returns its two halves, or `None` where it has at most one column or row.
     pub fn halves(&self) -> Option<(Span, Span)>
         ensures { MatchOption result (self.now.high ≤ℤ (self.now.low +ℤ pos 1)) (λ halves. AreHalves self.now halves.0 halves.1) }
     {
@@ -57,7 +57,7 @@ impl Span {
         Some((lower, upper))
     }
 
-    /// The least that contains both.
+    /// Returns the least span that contains both.
     pub fn around(&self, other: &Span) -> Span
         ensures { result ≡ around self.now other.now }
     {

@@ -27,7 +27,7 @@ impl Model for Chain {
 }
 
 impl Chain {
-    /// No palettes: each number is its own attribute.
+    /// Makes the chain without palettes, in which each number is its own attribute.
     pub fn new() -> Chain
         ensures { result ≡ [] }
     {
@@ -36,7 +36,7 @@ impl Chain {
         }
     }
 
-    /// The chain of what a window owns.
+    /// Makes the chain of what a window owns.
     pub fn of_window() -> Chain
         ensures { result ≡ window ∷ application ∷ [] }
     {
@@ -45,7 +45,7 @@ impl Chain {
             .extended(Palette::window())
     }
 
-    /// The chain of what a dialog owns.
+    /// Makes the chain of what a dialog owns.
     pub fn of_dialog() -> Chain
         ensures { result ≡ dialog ∷ application ∷ [] }
     {
@@ -61,7 +61,7 @@ impl Chain {
         self.palettes.is_full()
     }
 
-    /// The chain of a view with this palette, which the last view of the chain owns.
+    /// Makes the chain of a view that has palette `own` and that the last view of this chain owns.
     pub fn extended(&self, own: Palette) -> Chain
         requires { length self.now < 16 }
         ensures { result ≡ own.entries.now ∷ self.now }
@@ -74,7 +74,7 @@ impl Chain {
         Chain { palettes }
     }
 
-    /// The attribute of a view's number: what it becomes from palette to palette.
+    /// Looks a view's number up in one palette after another, and returns the attribute that it becomes.
     pub fn attr(&self, index: u8) -> u8
         ensures { result ≡ attr_of self.now index }
     {

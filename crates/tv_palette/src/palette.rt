@@ -4,7 +4,7 @@ ghost use Rattle.std.specs.Prelude.{◌≡◌, ◌≤◌, length, []};
 ghost use Rattle.tv_palette.specs.Chain.{entry};
 ghost use Rattle.tv_palette.specs.Palettes.{application, window, dialog};
 
-/// How a view's own numbers of its colours become its owner's, or, for the application, become attributes.
+/// How a view's own colour numbers become those of its owner or, in the application's palette, attributes.
 ///
 /// Numbers count the entries from 1. A view without a palette has the empty one, which passes each number on.
 #[derive(Clone, Copy, Debug)]
@@ -14,7 +14,7 @@ pub struct Palette {
 }
 
 impl Palette {
-    /// The palette with these entries.
+    /// Makes the palette with these entries.
     pub fn new(entries: &'static [u8]) -> Palette
         requires { length entries.now ≤ 32 }
         ensures { result.entries.now ≡ entries.now }
@@ -22,14 +22,14 @@ impl Palette {
         Palette { entries }
     }
 
-    /// The palette of a view that has none, as of a group.
+    /// Returns the palette of a view that has none of its own, such as a group.
     pub fn empty() -> Palette
         ensures { result.entries.now ≡ [] }
     {
         Palette { entries: &[] }
     }
 
-    /// The attributes that all other palettes lead to.
+    /// Returns the application's palette, whose entries are the attributes that all others lead to.
     pub fn application() -> Palette
         ensures { result.entries.now ≡ application }
     {
@@ -42,7 +42,7 @@ impl Palette {
         }
     }
 
-    /// What a window's frame and texts are looked up in.
+    /// Returns the palette of a window, for its frame and texts.
     pub fn window() -> Palette
         ensures { result.entries.now ≡ window }
     {
@@ -51,7 +51,7 @@ impl Palette {
         }
     }
 
-    /// What a dialog's frame, texts and controls are looked up in.
+    /// Returns the palette of a dialog, for its frame, texts and controls.
     pub fn dialog() -> Palette
         ensures { result.entries.now ≡ dialog }
     {
@@ -62,7 +62,7 @@ impl Palette {
         }
     }
 
-    /// What the number becomes: the entry that it counts to, and 0 where the palette lacks it.
+    /// Returns what a number becomes: the entry that it counts to, or 0 where the palette lacks it.
     pub fn entry(self, index: u8) -> u8
         ensures { result ≡ entry self.entries.now index }
     {

@@ -103,7 +103,7 @@ pub enum ListRole {
 }
 
 impl Role {
-    /// The palette of a view that has the role.
+    /// Returns the palette of a view that has the role.
     pub fn palette(self) -> Palette
         ensures { result.entries.now ≡ palette_of self }
     {
@@ -123,7 +123,7 @@ impl Role {
         }
     }
 
-    /// The place of the role in its view's palette, from 1.
+    /// Returns the place of the role in its view's palette, from 1.
     pub fn place(self) -> u8
         ensures { result ≡ place_of self }
     {
@@ -140,9 +140,9 @@ impl Role {
         }
     }
 
-    /// The attribute of the role's cells, for a view that the last view of the chain owns.
+    /// Returns the attribute of the role's cells, for a view that the last view of the chain owns.
     ///
-    /// With the toolkit's own palettes it is that of the table, however many groups are around the view.
+    /// With the toolkit's own palettes that is the role's one attribute, however many groups are around the view.
     #[tactic(auto, using(crate::proofs::ColourLemmas::leads_through))]
     pub fn attr(self, owners: &Chain) -> u8
         ensures chain { result ≡ colour_in owners.now self }

@@ -28,7 +28,7 @@ impl Model for Line {
 }
 
 impl Line {
-    /// A line without words. Takes no memory.
+    /// Makes a line without words. Takes no memory.
     pub fn new(alloc: Global) -> Line
         ensures { result ≡ [] }
     {
@@ -38,7 +38,7 @@ impl Line {
         }
     }
 
-    /// The line with the word after it.
+    /// Adds a word to the line.
     pub fn word(mut self, word: Word) -> Result<Line, AllocError>
         ensures { IfOk result (λ line. line ≡ self ++ word ∷ []) }
     {
@@ -46,7 +46,7 @@ impl Line {
         Ok(self)
     }
 
-    /// The line with a bare word of these ASCII characters.
+    /// Adds a bare word of these ASCII characters.
     pub fn keyword(self, text: &[u8]) -> Result<Line, AllocError>
         ensures { IfOk result (λ line. line ≡ self ++ Word.Bare text.now ∷ []) }
     {
@@ -54,14 +54,14 @@ impl Line {
         self.word(word)
     }
 
-    /// The line with the keyword, where it is wanted.
+    /// Adds the keyword, where it is wanted.
     pub fn keyword_if(self, wanted: bool, text: &[u8]) -> Result<Line, AllocError>
         ensures { IfOk result (λ line. line ≡ self ++ word_if wanted text.now) }
     {
         if wanted { self.keyword(text) } else { Ok(self) }
     }
 
-    /// The line with a name, or another bare word of these characters.
+    /// Adds a name, or another bare word of these characters.
     pub fn name(self, name: &Chars) -> Result<Line, AllocError>
         ensures { IfOk result (λ line. line ≡ self ++ Word.Bare name.now ∷ []) }
     {
@@ -69,7 +69,7 @@ impl Line {
         self.word(word)
     }
 
-    /// The line with a quoted text.
+    /// Adds a quoted text.
     pub fn text(self, text: &Chars) -> Result<Line, AllocError>
         ensures { IfOk result (λ line. line ≡ self ++ Word.Quoted text.now ∷ []) }
     {
@@ -77,7 +77,7 @@ impl Line {
         self.word(word)
     }
 
-    /// The line with a number in decimal.
+    /// Adds a number in decimal.
     pub fn number(self, number: i32) -> Result<Line, AllocError>
         ensures { IfOk result (λ line. line ≡ self ++ number_word number ∷ []) }
     {
@@ -85,7 +85,7 @@ impl Line {
         self.keyword(digits.as_bytes())
     }
 
-    /// The line with these numbers in decimal.
+    /// Adds these numbers in decimal.
     pub fn numbers(mut self, numbers: &[i32]) -> Result<Line, AllocError>
         ensures { IfOk result (λ line. line ≡ self ++ map number_word numbers.now) }
     {
@@ -95,7 +95,7 @@ impl Line {
         Ok(self)
     }
 
-    /// The text with this line as one more.
+    /// Adds this line to the text.
     pub fn write(&self, text: String) -> Result<String, AllocError>
         ensures { IfOk result (λ longer. string_bytes longer ≡ string_bytes text ++ ended_line self.now) }
     {
@@ -103,7 +103,7 @@ impl Line {
     }
 }
 
-/// The characters of an ASCII text.
+/// Returns the characters of an ASCII text.
 pub fn ascii(alloc: Global, text: &[u8]) -> Result<Chars, AllocError>
     ensures { IfOk result (λ chars. chars ≡ text.now) }
 {

@@ -7,7 +7,7 @@ ghost use Rattle.tv_words.specs.Canonical.{canonical_line, ended_line};
 use std::alloc::AllocError;
 use tv_words::Word;
 
-/// The text with the words as one more line, with one space between them and a line end after them.
+/// Adds a line to the text: the words with one space between them, and a line end after them.
 #[tactic(auto, unfolding(tv_words::specs::Canonical::ended_line))]
 pub fn with_line(mut text: String, words: &[Word]) -> Result<String, AllocError>
     ensures { IfOk result (λ longer. string_bytes longer ≡ string_bytes text ++ ended_line words.now) }

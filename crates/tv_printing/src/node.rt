@@ -12,7 +12,7 @@ use tv_model::{Button, CheckBoxes, DialogHead, Input, Kind, ListBox, Node, Radio
 use tv_valid::{Chars, DomainSpec};
 use tv_words::Word;
 
-/// The words that declare the node.
+/// Makes the line that declares the node.
 pub fn node_line(alloc: Global, node: &Node) -> Result<Line, AllocError>
     ensures { IfOk result (λ line. line ≡ node_words node.now) }
 {
@@ -63,7 +63,7 @@ fn unnamed(alloc: Global, keyword: &[u8], node: &Node) -> Result<Line, AllocErro
 }
 
 impl Line {
-    // The column, the row and the width of the node.
+    // Adds the node's column, row and width.
     fn place(self, node: &Node) -> Result<Line, AllocError>
         ensures { IfOk result (λ line. line ≡ self ++ number_word node.now.x ∷ number_word node.now.y ∷ number_word node.now.w ∷ []) }
     {

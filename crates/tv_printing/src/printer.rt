@@ -12,7 +12,7 @@ use tv_declarations::{Declaration, keywords};
 use tv_model::{Desc, Menu, MenuItem, StatusItem, Version};
 use tv_valid::Chars;
 
-/// The canonical text of a description: each declaration on a line, one space between words, no comments.
+/// Writes the canonical text of a description: each declaration on a line, one space between words, no comments.
 #[tactic(auto, using(crate::proofs::PrintTextLemmas::texts_joined))]
 pub fn description_text(alloc: Global, desc: &Desc) -> Result<String, AllocError>
     ensures { IfOk result (λ text. string_bytes text ≡ description_text desc.now) }
@@ -51,7 +51,7 @@ impl Printer {
         }
     }
 
-    /// The text with the line after it.
+    /// Adds a line to the text.
     pub fn line(self, line: &Line) -> Result<Printer, AllocError>
         ensures { IfOk result (λ printer. printer ≡ self ++ canonical_text (line.now ∷ [])) }
     {
@@ -60,7 +60,7 @@ impl Printer {
         Ok(Printer { alloc, text })
     }
 
-    /// The text with the line that ends a menu, a window, a dialog or a pane.
+    /// Adds the line that ends a menu, a window, a dialog or a pane.
     pub fn end(self) -> Result<Printer, AllocError>
         ensures { IfOk result (λ printer. printer ≡ self ++ declarations_text (Declaration.End ∷ [])) }
     {

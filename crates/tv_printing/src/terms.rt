@@ -13,7 +13,7 @@ use tv_valid::Chars;
 use tv_words::Word;
 
 impl Line {
-    /// The line with the word of a command.
+    /// Adds the word of a command.
     pub(crate) fn command(self, command: CommandSpec) -> Result<Line, AllocError>
         ensures { IfOk result (λ line. line ≡ self ++ command_word command ∷ []) }
     {
@@ -23,7 +23,7 @@ impl Line {
         }
     }
 
-    /// The line with the commands by which a dialog may end.
+    /// Adds the commands by which a dialog may end.
     pub(crate) fn ends(self, ends: Ends) -> Result<Line, AllocError>
         ensures { IfOk result (λ line. line ≡ self ++ ends_words ends) }
     {
@@ -33,7 +33,7 @@ impl Line {
             .keyword_if(ends.no, command_name(CommandSpec::No))
     }
 
-    /// The line with the name of a key.
+    /// Adds the name of a key.
     pub(crate) fn key(self, key: Key) -> Result<Line, AllocError>
         ensures { IfOk result (λ line. line ≡ self ++ key_word key ∷ []) }
     {
@@ -61,7 +61,7 @@ impl Line {
         self.keyword(name.as_bytes())
     }
 
-    /// The line with a quoted text that may have a mark.
+    /// Adds a quoted text that may have a mark.
     pub(crate) fn marked(self, marked: &MarkedText) -> Result<Line, AllocError>
         ensures { IfOk result (λ line. line ≡ self ++ marked_word marked.now ∷ []) }
     {
@@ -69,7 +69,7 @@ impl Line {
         self.word(Word::Quoted(text))
     }
 
-    /// The line with these marked texts.
+    /// Adds these marked texts.
     pub(crate) fn marked_items(mut self, items: &[MarkedText]) -> Result<Line, AllocError>
         ensures { IfOk result (λ line. line ≡ self ++ map marked_word items.now) }
     {

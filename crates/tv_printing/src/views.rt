@@ -115,7 +115,7 @@ impl Printer {
 }
 
 impl Line {
-    // The line with what a rule does.
+    // Adds what a rule does.
     fn effect(self, effect: &Effect) -> Result<Line, AllocError>
         ensures { IfOk result (λ line. line ≡ self ++ effect_words effect.now []) }
     {

@@ -49,7 +49,7 @@ impl<V: View> RunOf<V> {
         note(&mut self.log, LogLine::Quit);
     }
 
-    // The first menu opens, if there is one.
+    // Opens the first menu, if there is one.
     fn open_menu(&mut self)
         ensures { (d : Declared) (s : State) → IsAwake V.meaning d s self.old → s.menu ≡ None
             → IsRun V.meaning d (open_first d.menus s) self.new }
@@ -57,7 +57,7 @@ impl<V: View> RunOf<V> {
         self.bar.open_first();
     }
 
-    // The front window closes, if there is one.
+    // Closes the front window, if there is one.
     fn close_window(&mut self)
         ensures { (d : Declared) (s : State) → IsAwake V.meaning d s self.old → IsRun V.meaning d (close_front s.windows s) self.new }
     {
@@ -66,7 +66,7 @@ impl<V: View> RunOf<V> {
         }
     }
 
-    // The rearmost window comes to the front.
+    // Brings the rearmost window to the front.
     fn next_window(&mut self)
         ensures { (d : Declared) (s : State) → IsAwake V.meaning d s self.old
             → IsRun V.meaning d (record s { windows = last_first (reverse s.windows) }) self.new }
@@ -74,7 +74,7 @@ impl<V: View> RunOf<V> {
         self.desk.next();
     }
 
-    /// The dialog at a place opens.
+    /// Opens the dialog at a place.
     pub(crate) fn open_dialog(&mut self, desc: &Desc, place: usize)
         requires there { place < length desc.now.dialogs }
         requires awake { (s : State) × IsAwake V.meaning desc.now s self.old × (s.dialog ≡ None) }
@@ -89,7 +89,7 @@ impl<V: View> RunOf<V> {
         note_all(&mut self.log, self.dialogs.log());
     }
 
-    // A command of the description's own: its dialog opens, or it is logged.
+    // Handles a command of the description's own: opens its dialog, or logs the command.
     fn own_command(&mut self, desc: &Desc, number: u8)
         requires awake { (s : State) × IsAwake V.meaning desc.now s self.old × (s.dialog ≡ None) }
         ensures { (s : State) → IsAwake V.meaning desc.now s self.old → s.dialog ≡ None
@@ -105,7 +105,7 @@ impl<V: View> RunOf<V> {
         }
     }
 
-    // A command while neither a dialog nor a menu is open.
+    // Handles a command while neither a dialog nor a menu is open.
     fn idle_command(&mut self, desc: &Desc, command: Command)
         requires awake { (s : State) × IsAwake V.meaning desc.now s self.old × (s.dialog ≡ None) }
         ensures { (s : State) → IsAwake V.meaning desc.now s self.old → s.dialog ≡ None → s.menu ≡ None
@@ -120,7 +120,7 @@ impl<V: View> RunOf<V> {
         }
     }
 
-    /// The open dialog gets an event, whose point is the screen's.
+    /// Hands the open dialog an event, whose point is in screen coordinates.
     pub(crate) fn hand_to_dialog(&mut self, desc: &Desc, event: &Event)
         requires near { HasPointGiven event.now }
         requires awake { (s : State) × IsAwake V.meaning desc.now s self.old }
@@ -131,7 +131,7 @@ impl<V: View> RunOf<V> {
         note_all(&mut self.log, self.dialogs.log());
     }
 
-    /// A command while no menu is open and nothing holds the mouse.
+    /// Handles a command while no menu is open and nothing holds the mouse.
     pub(crate) fn command(&mut self, desc: &Desc, command: Command)
         requires awake { (s : State) × IsAwake V.meaning desc.now s self.old × (held_of s.dialog ≡ None) }
         ensures { (s : State) → IsAwake V.meaning desc.now s self.old → s.menu ≡ None → held_of s.dialog ≡ None

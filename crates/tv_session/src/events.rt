@@ -32,7 +32,7 @@ fn is_on_desktop(desc: &Desc, point: Point) -> bool
 }
 
 impl<V: View> RunOf<V> {
-    // What the menu bar takes of a key or a mouse down while no dialog is open, and whether it does.
+    // Offers the menu bar a key or a mouse down while no dialog is open. Returns whether the bar took it.
     fn offer_bar(&mut self, desc: &Desc, event: &Event) -> bool
         requires awake { (s : State) × IsAwake V.meaning desc.now s self.old × (s.dialog ≡ None) }
         ensures takes { (s after : State) → IsAwake V.meaning desc.now s self.old → s.dialog ≡ None → bar_offer desc.now event.now s ≡ Some after
@@ -50,7 +50,7 @@ impl<V: View> RunOf<V> {
         }
     }
 
-    // A key while neither a menu nor a dialog is open.
+    // Handles a key while neither a menu nor a dialog is open.
     fn desktop_key(&mut self, desc: &Desc, key: Key)
         requires awake { (s : State) × IsAwake V.meaning desc.now s self.old × (s.dialog ≡ None) }
         ensures { (s : State) → IsAwake V.meaning desc.now s self.old → s.dialog ≡ None → s.menu ≡ None
@@ -64,7 +64,7 @@ impl<V: View> RunOf<V> {
         }
     }
 
-    // A key that neither a menu nor the status line takes.
+    // Handles a key that neither a menu nor the status line takes.
     fn key_below(&mut self, desc: &Desc, key: Key)
         requires awake { (s : State) × IsAwake V.meaning desc.now s self.old }
         ensures { (s : State) → IsAwake V.meaning desc.now s self.old → s.menu ≡ None
@@ -77,7 +77,7 @@ impl<V: View> RunOf<V> {
         }
     }
 
-    // A key while no menu is open.
+    // Handles a key while no menu is open.
     fn key_at_status(&mut self, desc: &Desc, line: &StatusLine, key: Key)
         requires awake { (s : State) × IsAwake V.meaning desc.now s self.old × (held_of s.dialog ≡ None) }
         ensures { (s : State) → IsAwake V.meaning desc.now s self.old → s.menu ≡ None → held_of s.dialog ≡ None → IsLineOf desc.now line.now
@@ -89,7 +89,7 @@ impl<V: View> RunOf<V> {
         }
     }
 
-    // A key while nothing holds the mouse.
+    // Handles a key while nothing holds the mouse.
     fn key(&mut self, desc: &Desc, line: &StatusLine, key: Key)
         requires awake { (s : State) × IsAwake V.meaning desc.now s self.old × (held_of s.dialog ≡ None) }
         ensures { (s : State) → IsAwake V.meaning desc.now s self.old → held_of s.dialog ≡ None → IsLineOf desc.now line.now
@@ -102,7 +102,7 @@ impl<V: View> RunOf<V> {
         }
     }
 
-    // A mouse down on the topmost window there.
+    // Handles a mouse down on the topmost window there.
     fn window_down(&mut self, desc: &Desc, point: Point)
         requires awake { (s : State) × IsAwake V.meaning desc.now s self.old × (s.dialog ≡ None) }
         ensures { (s : State) → IsAwake V.meaning desc.now s self.old → s.dialog ≡ None → s.menu ≡ None
@@ -114,7 +114,7 @@ impl<V: View> RunOf<V> {
         }
     }
 
-    // A mouse down while neither a menu nor a dialog is open.
+    // Handles a mouse down while neither a menu nor a dialog is open.
     fn desktop_down(&mut self, desc: &Desc, point: Point)
         requires awake { (s : State) × IsAwake V.meaning desc.now s self.old × (s.dialog ≡ None) }
         ensures { (s : State) → IsAwake V.meaning desc.now s self.old → s.dialog ≡ None → s.menu ≡ None
@@ -128,7 +128,7 @@ impl<V: View> RunOf<V> {
         }
     }
 
-    // A mouse down above the status line.
+    // Handles a mouse down above the status line.
     fn down_below(&mut self, desc: &Desc, point: Point)
         requires near { IsPointGiven point }
         requires awake { (s : State) × IsAwake V.meaning desc.now s self.old × (held_of s.dialog ≡ None) }
@@ -144,7 +144,7 @@ impl<V: View> RunOf<V> {
         }
     }
 
-    // A mouse down while no menu is open.
+    // Handles a mouse down while no menu is open.
     fn down_at_status(&mut self, desc: &Desc, line: &StatusLine, point: Point)
         requires near { IsPointGiven point }
         requires awake { (s : State) × IsAwake V.meaning desc.now s self.old × (held_of s.dialog ≡ None) }
@@ -158,7 +158,7 @@ impl<V: View> RunOf<V> {
         }
     }
 
-    // A mouse down while nothing holds the mouse.
+    // Handles a mouse down while nothing holds the mouse.
     fn down(&mut self, desc: &Desc, line: &StatusLine, point: Point)
         requires near { IsPointGiven point }
         requires awake { (s : State) × IsAwake V.meaning desc.now s self.old × (held_of s.dialog ≡ None) }
@@ -172,7 +172,8 @@ impl<V: View> RunOf<V> {
         }
     }
 
-    // An event while nothing holds the mouse: moves and ups do nothing, nor do commands and broadcasts that are handed in.
+    // Handles an event while nothing holds the mouse: moves and ups do nothing, nor do commands and broadcasts from
+    // outside.
     fn free_event(&mut self, desc: &Desc, line: &StatusLine, event: &Event)
         requires near { HasPointGiven event.now }
         requires awake { (s : State) × IsAwake V.meaning desc.now s self.old × (held_of s.dialog ≡ None) }
@@ -186,7 +187,7 @@ impl<V: View> RunOf<V> {
         }
     }
 
-    // An event while a leaf of the open dialog holds the mouse: moves and ups go to it, and nothing else does anything.
+    // Handles an event while a leaf of the open dialog holds the mouse: hands it moves and ups, and ignores all else.
     fn held_event(&mut self, desc: &Desc, event: &Event)
         requires near { HasPointGiven event.now }
         requires awake { (s : State) × IsAwake V.meaning desc.now s self.old }
@@ -199,7 +200,7 @@ impl<V: View> RunOf<V> {
         }
     }
 
-    /// One event.
+    /// Handles one event.
     pub(crate) fn step(&mut self, desc: &Desc, line: &StatusLine, event: &Event)
         requires near { HasPointGiven event.now }
         requires sound { HasSoundDialogs desc.now }

@@ -27,7 +27,7 @@ fn first_stale_window<V: View>(
     }
 }
 
-// The same of the bodies of dialogs.
+// The same for the bodies of dialogs.
 fn first_stale_body<V: View>(
     declared: &[Dialog],
     bodies: &[GroupOf<V>],
@@ -46,8 +46,8 @@ fn first_stale_body<V: View>(
     }
 }
 
-/// The first view, counted from 1, windows before bodies, that isn't as the description declares it, is missing or is one too
-/// many.
+/// Finds the first view, counted from 1, windows before bodies, that isn't as the description declares it, is missing
+/// or is one too many.
 pub(crate) fn first_mismatch<V: View>(
     desc: &Desc,
     windows: &[WindowOf<V>],

@@ -5,7 +5,7 @@ ghost use Rattle.std.specs.Prelude.{◌≡◌, ◌≤◌, ◌+◌, ◌++◌, ◌
 use arrayvec::ArrayVec;
 use tv_model::{LogLine, Value};
 
-/// The lines of the last event that aren't yet taken. The most that one gives are those of a dialog, and the one of its
+/// The lines of the last event that aren't yet taken. One event gives at most those of a dialog, and the one of its
 /// opening.
 pub(crate) type Log = ArrayVec<LogLine, 67>;
 
@@ -44,7 +44,7 @@ pub(crate) fn note(log: &mut Log, line: LogLine)
     }
 }
 
-/// Adds the lines of a dialog, which are 66 at most.
+/// Adds the lines of a dialog, which are at most 66.
 pub(crate) fn note_all(log: &mut Log, lines: &[LogLine])
     ensures { length log.old.items + length lines.now ≤ 67 → log.new.items ≡ log.old.items ++ lines.now }
 {

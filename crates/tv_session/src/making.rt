@@ -94,7 +94,7 @@ fn start_place(desc: &Desc) -> Option<usize>
 }
 
 impl<V: View> RunOf<V> {
-    // The start: the dialog that the description names is open, if it names one.
+    // Opens the dialog that the description names as its start, if it names one.
     fn begin(&mut self, desc: &Desc)
         requires { IsAwake V.meaning desc.now (closed desc.now) self.old }
         ensures { IsRun V.meaning desc.now (start desc.now) self.new }
@@ -115,14 +115,14 @@ pub struct Refused<V> {
 }
 
 impl<V: View> SessionOf<V> {
-    /// The start of a run: the windows stand one over the other, the later ones in front, and the start dialog is open.
+    /// Starts a run: the windows stand one over the other, the later ones in front, and the start dialog is open.
     ///
     /// There is one window for each that the description declares, and one body for each dialog, both in description order.
     ///
     /// # Errors
     ///
-    /// `ViewMismatch` where one of them doesn't stand as it is declared, is missing or is too many; `NoMemory`. What was handed
-    /// in comes back unchanged.
+    /// `ViewMismatch` where a window or body isn't as it is declared, is missing or is one too many; `NoMemory`. What
+    /// was handed in comes back unchanged.
     pub fn new(
         alloc: Global,
         checked: Checked,
@@ -145,7 +145,7 @@ impl<V: View> SessionOf<V> {
         }
     }
 
-    // The start over views that are as they are declared, where there is memory.
+    // Starts over views that are as they are declared, where there is memory.
     fn make(
         alloc: Global,
         checked: Checked,
@@ -178,7 +178,7 @@ impl<V: View> SessionOf<V> {
         }
     }
 
-    // The start over views that are as they are declared.
+    // Starts over views that are as they are declared.
     fn start(
         checked: Checked,
         parts: Parts,

@@ -22,7 +22,7 @@ use tv_model::Desc;
 use tv_palette::{Chain, Owner};
 use tv_view::{Env, View};
 
-/// The rows between the menu bar and the status line.
+/// Returns the rows between the menu bar and the status line.
 pub(crate) fn desktop(desc: &Desc) -> Rect
     requires { IsLawfulScreen desc.now.width desc.now.height }
     ensures { result ≡ desktop desc.now }

@@ -30,7 +30,7 @@ pub struct SessionOf<V> {
     pub(crate) line: StatusLine,
     pub(crate) run: RunOf<V>,
     pub(crate) screen: Screen,
-    /// The lines that were taken last, which are lent.
+    /// The lines that were taken last, which `take_log` lends.
     pub(crate) taken: Log,
 }
 
@@ -40,8 +40,8 @@ pub type Session = SessionOf<Box<dyn View>>;
 impl<V: View> SessionOf<V> {
     ghost use Rattle.tv_session.specs.contracts.session.SessionOf.{the_row};
 
-    /// One event, whose point is the screen's, and lies within -10,000 to 10,000. The log has its lines alone, and the screen
-    /// shows what it left.
+    /// Handles one event. Its point is in screen coordinates, at most 10,000 from the origin. Afterwards the log holds
+    /// this event's lines only, and the screen shows what the event left.
     pub fn step(&mut self, event: &Event)
         requires near { HasPointGiven event.now }
         requires there { (s : Standing) × StandsFor V.meaning self.old s }
@@ -53,14 +53,14 @@ impl<V: View> SessionOf<V> {
             .paint(&mut self.screen, self.checked.desc(), &self.line);
     }
 
-    /// The screen after the last event.
+    /// Returns the screen after the last event.
     pub fn screen(&self) -> &Screen
         ensures { (s : Standing) → StandsFor V.meaning self.now s → IsScreenOf s result.now }
     {
         &self.screen
     }
 
-    /// The lines of the last event, or of the start, that aren't yet taken. They are taken by this: none are left.
+    /// Takes the lines of the last event, or of the start, that aren't yet taken, and leaves none.
     pub fn take_log(&mut self) -> &[LogLine]
         ensures lines { (s : Standing) → StandsFor V.meaning self.old s → result.now ≡ s.state.log }
         ensures* none_left { sem 𝓛 (Rests (the_row V.row) self.entry (λ left. (s : Standing) → StandsFor V.meaning self.old s → StandsFor V.meaning left (quiet s))) }
@@ -70,14 +70,14 @@ impl<V: View> SessionOf<V> {
         self.taken.as_slice()
     }
 
-    /// The control that has the focus, while a dialog is open.
+    /// Returns the control that has the focus, while a dialog is open.
     pub fn focus(&self) -> Option<Id>
         ensures { (s : Standing) → StandsFor V.meaning self.now s → result ≡ option_map (λ o. o.focus) s.state.dialog }
     {
         self.run.dialogs.focus()
     }
 
-    /// The description.
+    /// Returns the description.
     pub fn desc(&self) -> &Desc
         ensures { (s : Standing) → StandsFor V.meaning self.now s → result.now ≡ s.desc }
     {

@@ -1,3 +1,3 @@
-//! How the views of a dialog stand where the flat machine's dialog does: the definition, and lemmas of what becomes of
-//! them. They stand in specs/ and proofs/.
+//! What the views of a dialog must be for a state of the flat machine's dialog: the definition in specs/, and lemmas in
+//! proofs/ of what events make of them.
 #![tactic(auto)]

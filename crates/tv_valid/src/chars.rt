@@ -20,7 +20,7 @@ impl Model for Chars {
 }
 
 impl Chars {
-    /// No characters. Takes no memory.
+    /// Makes a text without characters. Takes no memory.
     pub fn new(alloc: Global) -> Chars
         ensures { result ≡ [] }
     {
@@ -29,7 +29,7 @@ impl Chars {
         }
     }
 
-    /// These characters.
+    /// Makes a text of copies of these characters.
     pub fn from_slice(alloc: Global, chars: &[char]) -> Result<Chars, AllocError>
         ensures { IfOk result (λ copy. copy ≡ chars.now) }
     {
@@ -38,14 +38,14 @@ impl Chars {
         })
     }
 
-    /// The characters of the vector, which takes no memory.
+    /// Makes a text of the vector's characters. Takes no memory.
     pub fn from_vec(chars: Vec<char>) -> Chars
         ensures { result ≡ chars.items }
     {
         Chars { chars }
     }
 
-    /// The characters as a vector, which takes no memory.
+    /// Returns the characters as a vector. Takes no memory.
     pub fn into_vec(self) -> Vec<char>
         ensures { result.items ≡ self }
     {
@@ -62,7 +62,7 @@ impl Chars {
         Ok(())
     }
 
-    /// The characters.
+    /// Returns the characters.
     pub fn as_slice(&self) -> &[char]
         ensures { result.now ≡ self.now }
     {

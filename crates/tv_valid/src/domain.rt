@@ -18,7 +18,7 @@ use thiserror::Error;
 use tv_picture::{Picture, PictureFault, Status};
 use unicode_width::UnicodeWidthChar;
 
-/// What lies in a domain, its picture read.
+/// Which texts lie in a domain. Its picture is read already.
 #[derive(Debug, Drop)]
 pub enum Kind {
     Any,
@@ -97,7 +97,7 @@ impl Kind {
 }
 
 impl Domain {
-    /// Reads the picture, and refuses a domain in which no text lies.
+    /// Makes the domain that an input declares: reads its picture, and refuses a domain in which no text lies.
     pub fn new(alloc: Global, spec: &InputSpec) -> Result<Domain, DomainFault>
         ensures ok { IfOk result (λ domain. IsDomain spec.now domain × HasText domain) }
         ensures err { IfErr result (λ fault. Refuses spec.now fault) }
@@ -144,9 +144,10 @@ impl Domain {
         self.fits(chars) && (self.is_complete(chars) || (self.optional && chars.is_empty()))
     }
 
-    /// Whether the text may stand in the input while it is typed. What may stand there can be taken back from its end.
+    /// Whether the text may stand in the input while it is typed. So may what is left of it when its end is deleted.
     ///
-    /// It needn't be the beginning of a text of the domain: a picture's may need more than the input's length.
+    /// It needn't be the beginning of a text of the domain: each text of a picture that begins so may be too long for
+    /// the input.
     pub fn viable(&self, text: &Text) -> bool
         ensures viable { IsTrue result ↔ IsViableText self.now text.now }
         ensures beginnings { IsTrue result → (k : ℕ) → IsViableText self.now (take k text.now) }
@@ -156,10 +157,10 @@ impl Domain {
         self.fits(chars) && self.may_become(chars)
     }
 
-    /// The text after the character was typed before the one at the place, or `None` where that isn't viable.
+    /// Returns the text after `ch` was typed before the character at `at`, or `None` where that gives no viable text.
     ///
-    /// For a picture a letter is tried in its other case too; and where the input fills up, the literals that must
-    /// follow what was typed at the end are there as well.
+    /// For a picture, the other case of a letter is tried where its own isn't viable. With `fill`, the literals that
+    /// must follow a character typed at the end are added, as long as there is room.
     pub fn typed(&self, text: &Text, at: usize, ch: char) -> Option<Text>
         requires { at ≤ length text.now }
         ensures some { IfSome result (λ out. IsTyped self.now text.now at ch out) }
@@ -267,7 +268,7 @@ fn is_within(len: usize, max: &i32) -> bool
     len as i64 <= i64::from(*max)
 }
 
-/// How many characters the text may have, or `None` where not even none.
+/// Returns how many characters the text may have, or `None` where it may not even be empty.
 fn room(max: &i32) -> Option<usize>
     ensures some { IfSome result (λ room. (room ≤ 120) × ((n : ℕ) → (n ≤ room) ↔ ((n ≤ 120) × (pos n ≤ℤ max.now)))) }
     ensures none { IfNone result ((n : ℕ) → pos n ≤ℤ max.now → ⊥) }
@@ -294,7 +295,7 @@ fn in_other_case(ch: char) -> char
     }
 }
 
-/// The text with the literals that must follow it, as long as there is room.
+/// Adds the literals that must follow the text, as long as there is room.
 fn filled(picture: &Picture, max: &i32, text: Text) -> Text
     ensures filled { IsFilledTo max.now picture.now text result }
     ensures viable { All IsNarrow (spelled picture.now) → FitsIn max.now text → Begins picture.now text → FitsIn max.now result × Begins picture.now result }

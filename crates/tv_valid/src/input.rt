@@ -5,7 +5,7 @@ ghost use Rattle.std.specs.Prelude.{◌≡◌, ◌↔◌, IfOk, IsTrue};
 use crate::chars::Chars;
 use std::alloc::{AllocError, Global};
 
-/// The domain of an input, as a description gives it. No text is looked into yet.
+/// The domain of an input, as a description gives it. A picture isn't read yet.
 #[derive(Debug, Drop)]
 pub enum DomainSpec {
     /// Every text.
@@ -26,7 +26,7 @@ pub struct InputSpec {
     pub domain: DomainSpec,
     /// Whether the empty text lies in the domain too.
     pub optional: bool,
-    /// Whether the literals that must follow are typed by themselves; without effect but for a picture.
+    /// Whether literals that must follow are added by themselves. Only a picture has such literals.
     pub fill: bool,
 }
 

@@ -3,10 +3,11 @@
 ghost use Rattle.std.specs.Prelude.{◌≡◌, ◌↔◌, ◌+◌, ◌^◌, ◌≤◌, ◌<◌, ◌≤ℤ◌, ◌<ℤ◌, min, ℕ, List, length, pos, neg_ℤ, unsigned_abs, IsTrue, IfSome, IfNone};
 ghost use Rattle.tv_valid.specs.Domain.{whole, IsDigits, IsBetween, InRange, IsRangeChar, HasNumber};
 
-/// What a sum of digits is bounded by: more than any bound of a range.
+/// The bound on a sum of digits: more than any bound of a range.
 const LARGE: u64 = 10_000_000_000;
 
-/// The value of the digits, or `LARGE` where it is larger; `None` where there are none, or a character is no digit.
+/// Returns the value of the digits, or `LARGE` where that is less; `None` where there are none, or a character is no
+/// digit.
 fn magnitude(digits: &[char]) -> Option<u64>
     ensures some { IfSome result (λ sum. IsDigits digits.now × (sum ≡ min (whole digits.now) 10000000000)) }
     ensures none { IfNone result (IsDigits digits.now → ⊥) }
@@ -52,7 +53,7 @@ fn is_negative_at_most(sum: u64, greatest: &i32) -> bool
     -(sum as i64) <= i64::from(*greatest)
 }
 
-/// Whether the digits are a number's in the range.
+/// Whether the digits write a number in the range.
 fn digits_in_range(least: &i32, greatest: &i32, digits: &[char]) -> bool
     ensures { IsTrue result ↔ (IsDigits digits.now × IsBetween least.now (pos (whole digits.now)) greatest.now) }
 {
@@ -62,7 +63,7 @@ fn digits_in_range(least: &i32, greatest: &i32, digits: &[char]) -> bool
     }
 }
 
-/// Whether the digits after a `-` are a number's in the range.
+/// Whether the digits after a `-` write a number in the range.
 fn negative_in_range(least: &i32, greatest: &i32, digits: &[char]) -> bool
     ensures { IsTrue result ↔ (IsDigits digits.now × (least.now <ℤ pos 0) × IsBetween least.now (neg_ℤ (pos (whole digits.now))) greatest.now) }
 {
@@ -74,7 +75,7 @@ fn negative_in_range(least: &i32, greatest: &i32, digits: &[char]) -> bool
     }
 }
 
-/// Whether the text is a number's in the range.
+/// Whether the text writes a number in the range.
 pub fn in_range(least: &i32, greatest: &i32, text: &[char]) -> bool
     ensures { IsTrue result ↔ InRange least.now greatest.now text.now }
 {
@@ -85,14 +86,14 @@ pub fn in_range(least: &i32, greatest: &i32, text: &[char]) -> bool
     }
 }
 
-/// Whether the character may stand in such a text.
+/// Whether the character may stand in the text of a number that is at least `least`.
 pub fn is_range_char(least: &i32, ch: char) -> bool
     ensures { IsTrue result ↔ IsRangeChar least.now ch }
 {
     ch == '+' || ch.is_ascii_digit() || (ch == '-' && *least < 0)
 }
 
-/// Whether so many digits can write the number.
+/// Whether so many digits are enough for the number.
 fn has_digits(number: u64, digits: usize) -> bool
     requires { digits ≤ 120 }
     ensures { IsTrue result ↔ (number < 10 ^ digits) }
@@ -110,7 +111,7 @@ fn size(number: &i32) -> u64
     u64::from(number.unsigned_abs())
 }
 
-/// Whether a text of so many characters is a number's in the range.
+/// Whether a text of at most `room` characters writes a number in the range.
 pub fn has_text(least: &i32, greatest: &i32, room: usize) -> bool
     requires { room ≤ 120 }
     ensures { IsTrue result ↔ HasNumber least.now greatest.now room }

@@ -25,7 +25,7 @@ impl Text {
     /// The most characters of a text.
     pub const CAPACITY: usize = 120;
 
-    /// The empty text.
+    /// Makes the empty text.
     pub fn new() -> Text
         ensures { result ≡ [] }
     {
@@ -34,7 +34,7 @@ impl Text {
         }
     }
 
-    /// The text of these characters, where they fit.
+    /// Makes a text of these characters, or returns `None` where there are more than 120.
     pub fn from_chars(chars: &[char]) -> Option<Text>
         ensures variant { IsSome result ↔ (length chars.now ≤ 120) }
         ensures value { IfSome result (λ text. text ≡ chars.now) }
@@ -45,7 +45,7 @@ impl Text {
         }
     }
 
-    /// The same text again.
+    /// Copies the text.
     pub fn copy(&self) -> Text
         ensures { result ≡ self.now }
     {
@@ -88,7 +88,7 @@ impl Text {
         self.chars.push(ch);
     }
 
-    /// Puts a character before the one at the place.
+    /// Inserts a character before the one at `at`.
     pub fn insert(&mut self, at: usize, ch: char)
         requires in_bounds { at ≤ length self.old }
         requires room { length self.old < 120 }
@@ -97,7 +97,7 @@ impl Text {
         self.chars.insert(at, ch);
     }
 
-    /// Takes out the character at the place.
+    /// Removes the character at `at`, and returns it.
     pub fn remove(&mut self, at: usize) -> char
         requires { at < length self.old }
         ensures text { self.new ≡ remove self.old at }

@@ -7,7 +7,7 @@ use tv_event::CommandSet;
 use tv_model::{Id, Node};
 use tv_palette::{Chain, Owner};
 
-/// What a view is told of its owners for one call.
+/// What a view knows of its owners during one call.
 #[derive(Clone, Copy, Debug)]
 pub struct Env<'a> {
     /// Whether it stands in a window or in a dialog.
@@ -26,7 +26,7 @@ pub struct Env<'a> {
     pub is_active: bool,
 }
 
-/// What the rules of a dialog come to.
+/// What the rules of a dialog show and enable.
 #[derive(Clone, Copy, Debug)]
 pub struct Rules<'a> {
     /// The views that are shown: every rule over them and over the panes around them holds.

@@ -10,13 +10,14 @@ use tv_model::Id;
 pub enum Reaction {
     /// The event was not consumed.
     Pass,
-    /// It was, and nothing is asked for.
+    /// It was consumed, and nothing is asked for.
     Done,
-    /// The control is to receive the focus, if it is free. Where a mouse down was answered so and the focus was granted, the
-    /// same down goes once more, under the same environment, to the topmost leaf at the point: the one that answered, and not
-    /// the control that got the focus, which may be a label's link. A `Focus` that it answers then asks for nothing.
+    /// The control is to receive the focus, if it is free. If a mouse down gets this answer and the focus is granted,
+    /// the same down goes once more, with the same environment, to the topmost leaf at the point. That is the leaf that
+    /// answered, and not the control that got the focus, which may be a label's link. If it answers `Focus` again,
+    /// nothing more happens.
     Focus(Id),
-    /// The same, and if the focus was granted the item of the cluster is to be selected and pressed.
+    /// As `Focus`; if the focus is granted, the item of the cluster is then to be selected and pressed.
     FocusPress(Id, u8),
     /// The button was pressed, and its command is to be handled.
     Post(Id, Command),

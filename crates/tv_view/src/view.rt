@@ -17,49 +17,49 @@ use tv_model::{Id, Node, Record};
 
 /// A control, a label or a static text.
 ///
-/// What a view is stands in its meaning, a leaf: the node of its declaration, and how it stands. Each call's clauses speak of
-/// that leaf, by the node's kind. So a view type of any crate may stand in for the toolkit's own, but it answers and shows what
-/// a view of that kind does.
-/// Points and rectangles are seen from the corner of what the view stands in.
+/// The meaning of a view is a leaf: the node of its declaration, and how it stands now. The clauses of each call speak
+/// of that leaf, and go by the node's kind. So a view type of any crate may take the place of the toolkit's own, but it
+/// has to answer and show what a view of that kind does. Points and rectangles are seen from the corner of what the
+/// view stands in.
 pub trait View: Drop {
     ghost meaning: { Self → Leaf };
 
-    /// The line of its declaration.
+    /// Returns the line of its declaration.
     fn id(&self) -> Id
         ensures { result ≡ (meaning self.now).node.id };
 
-    /// Its rectangle, seen from the corner of what it stands in.
+    /// Returns its rectangle, seen from the corner of what it stands in.
     fn bounds(&self) -> Rect
         ensures is { result ≡ bounds_of (meaning self.now) }
         ensures small { IsSmallRect result };
 
-    /// Its flags as it stands: visible, selected and focused, disabled.
+    /// Returns its flags as they are now: visible, selected and focused, disabled.
     fn state(&self) -> State
         ensures { result.0 ≡ state_bits (meaning self.now) };
 
-    /// What it asks of its owner, which its kind decides.
+    /// Returns what it asks of its owner, which its kind decides.
     fn options(&self) -> Options
         ensures { result.0 ≡ option_bits (meaning self.now).node.kind };
 
-    /// Handles an event in a phase. Its owner hands it only what it is to get: a mouse down where it is the topmost
-    /// visible view, moves and ups while it holds the mouse, and keys and commands while it is shown and enabled. A point
-    /// may be any. A view that passes an event on stays as it is.
+    /// Handles an event in a phase, and returns what it asks of its owner. The owner hands it only what it should get:
+    /// a mouse down where it is the topmost visible view, moves and ups while it holds the mouse, and keys and commands
+    /// while it is shown and enabled. A point may lie anywhere. A view that passes an event on stays as it is.
     fn handle(&mut self, event: &Event, phase: Phase, env: &Env) -> Reaction
         ensures reaction { result ≡ answer event.now phase env.now (meaning self.old) }
         ensures after { meaning self.new ≡ handled event.now phase env.now (meaning self.old) }
         ensures passed { StaysWherePassed result (meaning self.old) (meaning self.new) };
 
-    /// Draws its face in its rectangle, which is seen from the canvas's origin; nothing while it is hidden.
+    /// Draws its face in its rectangle, which is seen from the canvas's origin. Draws nothing while it is hidden.
     fn draw(&self, screen: &mut Screen, canvas: Canvas, env: &Env)
         requires { IsPointNear canvas.origin }
         ensures { Lays (leaf_layers env.now canvas (meaning self.now)) screen.old screen.new };
 
-    /// The focus moves to the control of the id. Whether that is this one; if it isn't, it loses the focus.
+    /// Moves the focus to control `id`. Returns whether this is that control; every other view loses the focus.
     fn focus_to(&mut self, id: Id) -> bool
         ensures found { result ≡ takes_focus id (meaning self.old) }
         ensures moved { meaning self.new ≡ focused_to id (meaning self.old) };
 
-    /// Selects and presses an item, from 1, where it is the cluster of the id and has the item.
+    /// Selects and presses an item, counted from 1, if the view is the cluster of the id and has the item.
     fn press_item(&mut self, id: Id, item: u8)
         ensures { meaning self.new ≡ item_pressed id item (meaning self.old) };
 
@@ -67,21 +67,21 @@ pub trait View: Drop {
     fn held(&self) -> bool
         ensures { result ≡ holds (meaning self.now) };
 
-    /// Its id, where it is an input whose text lies outside its domain.
+    /// Returns its id, if it is an input whose text lies outside its domain.
     fn first_invalid(&self) -> Option<Id>
         ensures { result ≡ invalid_id (meaning self.now) };
 
-    /// Puts its value into the record, where it is a field.
+    /// Puts its value into the record, if it is a field.
     fn get(&self, values: &mut Record)
         requires { HasRoom (meaning self.now) values.old }
         ensures { values.new ≡ gathered (meaning self.now) values.old };
 
-    /// Opens it with its value of the record: it has no focus and holds no mouse.
+    /// Opens it with its value in the record. It then has neither the focus nor the mouse.
     fn set(&mut self, values: &Record)
         requires { Fits values.now (meaning self.old) }
         ensures { meaning self.new ≡ set_from values.now (meaning self.old) };
 
-    /// Shows or hides, enables or disables it.
+    /// Shows or hides it, and enables or disables it, as the rules say.
     fn apply(&mut self, rules: &Rules)
         ensures { meaning self.new ≡ applied rules.now (meaning self.old) };
 

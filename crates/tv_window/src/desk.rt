@@ -30,7 +30,7 @@ pub struct DeskOf<V> {
 /// The open windows of a run, whose views are boxed.
 pub type Desk = DeskOf<Box<dyn View>>;
 
-/// What is left to be done of a mouse down on the desktop.
+/// What is left to be done after a mouse down on the desktop.
 #[derive(Clone, Copy, Debug, PartialEq, Eq)]
 pub enum Hit {
     /// It was on the close mark of the front window, which is to be closed.
@@ -40,8 +40,8 @@ pub enum Hit {
 }
 
 impl<V: View> DeskOf<V> {
-    /// The windows as they stand before any event. They are handed in in description order, and the later ones stand in
-    /// front.
+    /// Makes the desk of the windows as they stand before any event. They come in description order, and later ones
+    /// stand in front.
     pub fn new(mut windows: Vec<WindowOf<V>>) -> DeskOf<V>
         ensures { (d : Desc) → AreLawfulWindows d.windows → AreFreshWindows V.meaning d.windows windows.items
             → IsDesk V.meaning d (closed d).windows result }
@@ -52,14 +52,15 @@ impl<V: View> DeskOf<V> {
         }
     }
 
-    /// Whether none is open.
+    /// Whether no window is open.
     pub fn is_empty(&self) -> bool
         ensures { (d : Desc) (stack : List OpenWindow) → IsDesk V.meaning d stack self.now → result ≡ (length stack == 0) }
     {
         self.windows.items.is_empty()
     }
 
-    /// Alt with a digit from 1 to 9: the window of that number comes to the front. Anything else does nothing.
+    /// Raises the window of a number to the front, as Alt with a digit from 1 to 9 asks. Does nothing for any other
+    /// character.
     pub fn raise_number(&mut self, letter: char)
         ensures { (d : Desc) (s : State) → IsDesk V.meaning d s.windows self.old
             → IsDesk V.meaning d (raise_found (window_of_digit d s letter) s).windows self.new }
@@ -69,8 +70,8 @@ impl<V: View> DeskOf<V> {
         }
     }
 
-    /// A mouse down on the desktop while neither a menu nor a dialog is open: a window that isn't the front one comes to
-    /// the front.
+    /// Handles a mouse down on the desktop while neither a menu nor a dialog is open: brings a window that isn't the
+    /// front one to the front. Returns what is left to be done.
     pub fn down(&mut self, point: Point) -> Hit
         ensures kept { result ≡ Hit.CloseMark → self.new ≡ self.old }
         ensures mark { (d : Desc) (s : State) → IsDesk V.meaning d s.windows self.old → result ≡ Hit.CloseMark
@@ -93,7 +94,7 @@ impl<V: View> DeskOf<V> {
         }
     }
 
-    /// The rearmost one comes to the front.
+    /// Brings the rearmost window to the front.
     pub fn next(&mut self)
         ensures { (d : Desc) (stack : List OpenWindow) → IsDesk V.meaning d stack self.old
             → IsDesk V.meaning d (last_first (reverse stack)) self.new }
@@ -103,7 +104,7 @@ impl<V: View> DeskOf<V> {
         }
     }
 
-    /// The front one closes. Its id, or None where none is open.
+    /// Closes the front window. Returns its id, or `None` where no window is open.
     pub fn close_front(&mut self) -> Option<Id>
         ensures desk { (d : Desc) (s : State) → IsDesk V.meaning d s.windows self.old
             → IsDesk V.meaning d (close_front s.windows s).windows self.new }
@@ -114,8 +115,8 @@ impl<V: View> DeskOf<V> {
         Some(window.id())
     }
 
-    /// Draws the windows with their shadows, on the desktop whose canvas is handed in. None but the front one is drawn as
-    /// active, and it only where the environment says so.
+    /// Draws the windows with their shadows on the desktop, whose canvas is handed in. Only the front one is drawn as
+    /// active, and only where the environment says so.
     pub fn draw(&self, screen: &mut Screen, canvas: Canvas, env: &Env)
         requires { IsSmall canvas.origin.x × IsSmall canvas.origin.y }
         ensures { (d : Desc) (stack : List OpenWindow) → IsDesk V.meaning d stack self.now → IsOfWindow env.now → canvas ≡ desktop_canvas d

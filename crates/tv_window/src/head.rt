@@ -41,7 +41,7 @@ impl Model for Head {
 }
 
 impl Head {
-    /// That of a window's node, and none of another's.
+    /// Makes the head of a window's node, or returns `None` for another node.
     pub(crate) fn of(node: &Node) -> Option<Head>
         requires { IfSome (declared_head node.now) IsLimited }
         ensures { result ≡ declared_head node.now }
@@ -60,7 +60,7 @@ impl Head {
         }
     }
 
-    /// Whether it is that of the node.
+    /// Whether it is the head of this node.
     pub(crate) fn is_of(&self, node: &Node) -> bool
         ensures { IsTrue result ↔ (Some self.now ≡ declared_head node.now) }
     {
@@ -101,7 +101,7 @@ impl Head {
         rect_at(&self.x, &self.y, &self.w, &self.h)
     }
 
-    /// The face of the frame, in the colours that the window's views are lent.
+    /// Returns the face of the frame, in the colours that the window's views are lent.
     pub(crate) fn frame(&self, env: &Env) -> Frame<'_>
         ensures width { result.width ≡ natural self.now.w }
         ensures height { result.height ≡ natural self.now.h }

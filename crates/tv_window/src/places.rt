@@ -1,4 +1,4 @@
-//! Which of some windows, from the front, a point or a digit means.
+//! Which of the windows, from the front, a point or a digit means.
 
 ghost use Rattle.std.specs.Prelude.{◌≡◌, ◌-◌, ◌+ℤ◌, ◌&&◌, if◌then◌else◌, nat_le, None, pos, position};
 ghost use Rattle.std.specs.Ordering.{int_eq};
@@ -19,7 +19,7 @@ fn has_point<V>(window: &WindowOf<V>, point: Point) -> bool
     window.bounds().contains(point)
 }
 
-/// The topmost window at a point.
+/// Finds the topmost window at a point.
 pub(crate) fn place_under<V>(windows: &[WindowOf<V>], point: Point) -> Option<usize>
     ensures { result ≡ position (λ window. is_in (bounds_of (head_of window)) point.x point.y) windows.now }
 {
@@ -38,7 +38,7 @@ fn place_numbered<V>(windows: &[WindowOf<V>], number: &i32) -> Option<usize>
     windows.iter().position(|window| has_number(window, number))
 }
 
-/// The window of a number that is a digit from 1 to 9.
+/// Finds the window of a number that is a digit from 1 to 9.
 pub(crate) fn place_of_digit<V>(windows: &[WindowOf<V>], digit: char) -> Option<usize>
     ensures { result ≡ (if nat_le 49 digit && nat_le digit 57 then position (λ window. int_eq (head_of window).number (pos (digit - 48))) windows.now else None) }
 {
@@ -48,7 +48,7 @@ pub(crate) fn place_of_digit<V>(windows: &[WindowOf<V>], digit: char) -> Option<
     }
 }
 
-/// The close mark of a window with this corner: the columns 2 to 4 of its top row.
+/// Returns the close mark of a window with this corner: columns 2 to 4 of its top row.
 fn close_mark(corner: &Point) -> Rect
     requires { IsPointNear corner.now }
     ensures { result ≡ rect (corner.now.x +ℤ pos 2) corner.now.y (pos 3) (pos 1) }

@@ -13,8 +13,8 @@ use crate::window::WindowOf;
 use tv_cells::{Canvas, Screen, lay_shadow};
 use tv_view::{Env, View};
 
-/// Draws windows, the front one first in the list, each over its shadow and that over all windows behind it. None but the
-/// front one is drawn as active, and it only where the environment says so.
+/// Draws windows, of which the list has the front one first. Each stands over its shadow, and that over all windows
+/// behind it. Only the front one is drawn as active, and only where the environment says so.
 ///
 /// Windows as a description declares them, drawn on its desktop, show what the flat machine's layers of the open windows show.
 pub fn draw_stack<V: View>(windows: &[WindowOf<V>], screen: &mut Screen, canvas: Canvas, env: &Env)

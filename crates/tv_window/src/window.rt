@@ -30,8 +30,9 @@ pub type Window = WindowOf<Box<dyn View>>;
 pub struct WrongKind;
 
 impl<V> WindowOf<V> {
-    /// The window of a node round a body, whose bounds are to be 0 0 and the node's width and height. The title has at
-    /// most 120 characters, the number one digit, and the rectangle lies within -300 to 300, as those of sound descriptions do.
+    /// Makes the window of a node round a body, whose bounds should be 0 0 and the node's width and height. The title
+    /// has at most 120 characters, the number one digit, and the rectangle lies within -300 to 300, as those of sound
+    /// descriptions do.
     ///
     /// # Errors
     ///
@@ -48,21 +49,21 @@ impl<V> WindowOf<V> {
         }
     }
 
-    /// The line of its declaration.
+    /// Returns the line of its declaration.
     pub fn id(&self) -> Id
         ensures { result ≡ (head_of self.now).id }
     {
         self.head.id()
     }
 
-    /// Its number, which its frame shows where it isn't 0.
+    /// Returns its number, which its frame shows where it isn't 0.
     pub fn number(&self) -> i32
         ensures { result ≡ (head_of self.now).number }
     {
         self.head.number()
     }
 
-    /// Its rectangle on the screen.
+    /// Returns its rectangle on the screen.
     pub fn bounds(&self) -> Rect
         ensures is { result ≡ bounds_of (head_of self.now) }
         ensures small { IsSmallRect result }
@@ -73,16 +74,16 @@ impl<V> WindowOf<V> {
 }
 
 impl<V: View> WindowOf<V> {
-    /// Whether it stands as the window's node and those of its views declare it, panes opened out, before any event. Its
-    /// name isn't looked at: a window keeps none.
+    /// Whether it stands as the window's node and those of its views, panes opened out, declare it before any event.
+    /// Its name isn't compared, since a window keeps none.
     pub fn is_fresh(&self, node: &Node, views: &[Node]) -> bool
         ensures { IsTrue result ↔ IsFreshWindow V.meaning node.now views.now self.now }
     {
         self.head.is_of(node) && self.body.is_fresh(node, views)
     }
 
-    /// Draws the frame, the space in it, and the views on top, all seen from the canvas's origin. The environment is what
-    /// the window's views are lent. The shadow isn't drawn: `draw_stack` does that.
+    /// Draws the frame, the space in it, and the views on top, all seen from the canvas's origin. `env` is what the
+    /// window's views are lent. Doesn't draw the shadow, which is for `draw_stack` to do.
     pub fn draw(&self, screen: &mut Screen, canvas: Canvas, env: &Env)
         requires { IsSmall canvas.origin.x × IsSmall canvas.origin.y }
         ensures { Lays (window_layers V.meaning env.now canvas self.now) screen.old screen.new }
