@@ -49,7 +49,8 @@ impl Line {
     }
 }
 
-fn is_within(at: i32, size: i32) -> bool
+/// Tells whether a place is one of so many columns or rows.
+pub(crate) fn is_within(at: i32, size: i32) -> bool
     ensures { result ≡ is_within size at }
 {
     0 <= at && at < size

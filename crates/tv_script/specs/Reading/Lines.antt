@@ -10,6 +10,7 @@ use Rattle.tv_script.specs.declared.line.Line.TheVariants as lines
 use Rattle.tv_script.specs.Lines.{is_line_end}
 use Rattle.tv_words.specs.declared.word.Word.{Word}
 use Rattle.tv_words.specs.Fields.{is_bare_word, text_in}
+use Rattle.tv_words.specs.Reading.LineWords.{line_words}
 use Rattle.tv_words.specs.Reading.Numbers.{number_in}
 
 -- the line of one word
@@ -53,3 +54,13 @@ line_in (k ∷ []) = screen_line_in k
 line_in (k ∷ w ∷ []) = key_line_in k w
 line_in (k ∷ x ∷ y ∷ []) = mouse_line_in k (point_in x y)
 line_in _ = None
+
+-- what a line of these words comes to: none where it is faulty, and no line where it has no words
+abbrev pub words_read : Option (List Word) → Option (Option Line)
+words_read None = None
+words_read (Some []) = Some None
+words_read (Some (w ∷ ws)) = option_map Some (line_in (w ∷ ws))
+
+-- the same of a line of bytes
+abbrev pub line_read : List ℕ → Option (Option Line)
+line_read line = words_read (line_words line)

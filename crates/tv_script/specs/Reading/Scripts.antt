@@ -37,6 +37,12 @@ with_words width height n items (Some (w ∷ ws)) = with_found width height n it
 abbrev pub with_bytes : (width height : ℤ) → ℕ → List Item → List ℕ → Answer
 with_bytes width height n items l = with_words width height n items (line_words l)
 
+-- the same by what the line is read as: faulty, without words, or a line
+abbrev pub with_read : (width height : ℤ) → ℕ → List Item → Option (Option Line) → Answer
+with_read width height n items None = Err (Syntax n)
+with_read width height n items (Some None) = Ok items
+with_read width height n items (Some (Some l)) = with_line width height n items l
+
 -- reading on, from the line n
 abbrev pub reading : (width height : ℤ) → ℕ → List Item → List (List ℕ) → Answer
 reading width height n items [] = Ok items
