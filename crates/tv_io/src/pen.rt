@@ -24,6 +24,16 @@ impl<'a, W: Writer> Pen<'a, W> {
         }
     }
 
+    /// Passes on what the writer took and keeps back, unless it failed before.
+    pub fn pass_on(&mut self)
+        ensures { Puts W.seen self.old self.new [] }
+    {
+        if !self.stopped {
+            let out = &mut *self.out;
+            out.pass_on();
+        }
+    }
+
     /// Writes the characters in UTF-8.
     pub fn put_chars(&mut self, chars: &[char])
         ensures { Puts W.seen self.old self.new (flat_map encode_utf8 chars.now) }

@@ -34,7 +34,7 @@ module _ (width height : ℤ) (columns : width ≤ℤ pos 132) (rows : height �
       let both = and_parts (is_within width p.x) (is_within height p.y) is in
       record { column = within width (pos 132) p.x columns both.0; row = within height (pos 60) p.y rows both.1 }
 
-  shown_line : (l : Line) → IsTrue (is_on_screen width height l) → All IsItemOnScreen (items_of_line l)
+  pub shown_line : (l : Line) → IsTrue (is_on_screen width height l) → All IsItemOnScreen (items_of_line l)
   shown_line (lines.Key key) is = single (items.Event (events.Key key)) tt
   shown_line (lines.Type text) is = all_typed text
   shown_line (lines.Down p) is = single (items.Event (events.Down p)) (shown_point p is)

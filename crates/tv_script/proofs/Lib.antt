@@ -1,4 +1,6 @@
+pub mod EndedLemmas
 pub mod EventLemmas
+pub mod FeedLemmas
 pub mod FitLemmas
 pub mod GrammarLemmas
 pub mod LineLemmas
@@ -9,5 +11,7 @@ pub mod RangeLemmas
 pub mod RunLemmas
 pub mod ScreenLemmas
 pub mod ScriptLemmas
+pub mod ScriptLineLemmas
 pub mod SizeLemmas
+pub mod StreamLemmas
 pub mod TakeLemmas

@@ -1,13 +1,15 @@
 -- One item more, and a writer that fails at one.
-use Rattle.std.proofs.Common.{◌≡◌, ℕ, ◌+◌, ◌<◌, List, [], ◌++◌, Result, IfErr, length, get_or, take, refl, sym, ap, subst, ◌∙◌, append_assoc, arith}
+use Rattle.std.proofs.Common.{◌≡◌, ℕ, ◌+◌, ◌<◌, List, [], ◌∷◌, ◌++◌, Result, IfErr, length, get_or, take, refl, sym, ap, subst, ◌∙◌, append_assoc, arith, length-append}
 use Rattle.std.proofs.lemmas.List.{append-nil}
+use Rattle.std.proofs.Math.Seq.{take-append-add, take-append_seam}
 use Rattle.tv_model.specs.declared.script.Item.{Item}
 use Rattle.tv_machine.specs.Run.{Session, quiet}
 use Rattle.tv_model.specs.Log.LogText.{log_text}
 use Rattle.tv_machine.specs.Output.{output, after, item_text, item_after, texts}
-use Rattle.tv_script.proofs.RunLemmas.{states-take_more, texts-take_more}
+use Rattle.tv_script.proofs.RunLemmas.{states-push, states-take_more, texts-push, texts-take_more}
 use Rattle.tv_io.specs.Writer.{Seen, Takes, Cuts}
 use Rattle.tv_script.specs.Performed.{Stops}
+use Rattle.tv_script.specs.Streams.{Performs}
 use Rattle.tv_io.proofs.WriterLemmas.{Takes-then, Cuts-longer, Cuts-after, Cuts-along}
 
 -- items, one more
@@ -33,6 +35,30 @@ module _ (s : Session) (items : List Item) (i : ℕ) (d : Item) (lt : i < length
     whole = λ k f. let same : i ≡ k = omega arith in rw (← same) (q.front, refl);
     state = subst Left after-more stands;
   }
+
+-- items, one more at their end
+module _ (s : Session) (items : List Item) (item : Item) where
+  output-push : output s (items ++ item ∷ []) ≡ output s items ++ item_text (after s items) item
+  output-push =
+      ap (λ x. log_text s.desc s.state.log ++ x) (texts-push item_after item_text (quiet s) items item)
+      ∙ sym (append_assoc (log_text s.desc s.state.log) (texts item_after item_text (quiet s) items) (item_text (after s items) item))
+
+  pub performs_push : {a b c : Seen} (Before Left : Session → Type 0) → Performs s items a b Before → Takes b c (item_text (after s items) item) → Left (item_after (after s items) item) → Performs s (items ++ item ∷ []) a c Left
+  performs_push Before Left performed takes left = record {
+    written = rw output-push (Takes-then _ _ performed.written takes);
+    left = subst Left (sym (states-push item_after (quiet s) items item)) left;
+  }
+
+  pub stops_push : {a b c : Seen} (Before Left : Session → Type 0) (more : List Item) → Performs s items a b Before → Cuts b c (item_text (after s items) item) → Left (item_after (after s items) item) → Stops s (items ++ item ∷ more) (length items + 1) a c Left
+  stops_push Before Left more performed cut left =
+      let front : take (length items + 1) (items ++ item ∷ more) ≡ items ++ item ∷ [] = take-append-add items (item ∷ more) 1 in
+      record {
+        few = omega (arith, length-append items (item ∷ more));
+        cut = Cuts-along (sym (ap (output s) front ∙ output-push)) (Cuts-after (output s items) (item_text (after s items) item) performed.written cut);
+        whole = λ k f. let same : length items ≡ k = omega arith in
+            (cut.front, ap (λ x. x ++ cut.front) (ap (output s) (sym (ap (λ n. take n (items ++ item ∷ more)) (sym same) ∙ take-append_seam items (item ∷ more)))));
+        state = subst Left (sym (ap (after s) front ∙ states-push item_after (quiet s) items item)) left;
+      }
 
 pub first_stops : (s : Session) (items : List Item) {a b : Seen} (Left : Session → Type 0) → Left (quiet s) → Cuts a b (log_text s.desc s.state.log) → Stops s items 0 a b Left
 first_stops s items Left stands p = record { few = omega arith; cut = Cuts-longer (log_text s.desc s.state.log) [] p; whole = λ k e. absurd (omega arith); state = stands }

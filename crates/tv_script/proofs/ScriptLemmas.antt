@@ -1,7 +1,8 @@
 -- A script is read just where a text spells it.
-use Rattle.std.proofs.Common.{◌≡◌, ℕ, ℤ, suc, ◌+◌, ◌<◌, ◌≤◌, inl, inr, nat_le, Bool, true, false, cond, ◌&&◌, List, [], ◌∷◌, ◌++◌, length, take, Option, Some, None, Ok, Err, refl, sym, ap, ◌∙◌, add-one, add-zero, subst, arith}
+use Rattle.std.proofs.Common.{◌≡◌, ℕ, ℤ, suc, ◌+◌, ◌<◌, ◌≤◌, inl, inr, nat_le, Bool, true, false, cond, ◌&&◌, List, [], ◌∷◌, ◌++◌, length, take, Option, Some, None, Ok, Err, refl, sym, ap, ◌∙◌, add-one, add-zero, subst, arith, length-append}
 use Rattle.std.specs.Prelude.{option_and_then, IfOk, IfErr}
 use Rattle.std.proofs.lemmas.Bool.Decides.{nat_tests}
+use Rattle.std.proofs.Math.Seq.{take-append-add, take-append_seam}
 use Rattle.tv_model.specs.declared.script.Item.{Item}
 use Rattle.tv_script.proofs.FitLemmas.{fits, from_fitting, from_script, from_shown, into_fitting, into_script, into_shown, items_push, shows, stands}
 use Rattle.tv_script.proofs.GrammarLemmas.{Test, added, begins_weaker, faulty_unspelled, lines_spelled, no_begin, spelled_lines, taken_begins, tested}
@@ -12,6 +13,8 @@ use Rattle.tv_script.specs.Lines.{is_on_screen, items_of, items_of_line}
 use Rattle.tv_script.specs.Reading.Lines.{line_in}
 use Rattle.tv_script.specs.Reading.Scripts.{Answer, IsAnswered, reading, script_of, with_bytes, with_found, with_words}
 use Rattle.tv_script.specs.Scripts.{Gives, IsFirstFaulty, IsFitting, IsOnScreen, IsScript, Refuses, Spells, script_words}
+use Rattle.tv_script.specs.Streams.{HasItems, IsLeft}
+use Rattle.tv_words.proofs.TextLemmas.{steps_append}
 use Rattle.tv_words.specs.declared.word.Word.{Word}
 use Rattle.tv_words.specs.Lines.{lines_of}
 use Rattle.tv_words.specs.Reading.LineWords.{line_taken, line_words, words_taken}
@@ -57,21 +60,31 @@ module _ (width height : ℤ) where
   abbrev went : ℕ → List (List ℕ) → Answer → Answer
   went n rest r = elim r as (λ _. Answer) [ Err fault ↦ Err fault | Ok longer ↦ reading width height (n + 1) longer rest ]
 
-  abbrev Takes : List Line → List (List ℕ) → List Item → Type 0
-  Takes ls lines all = (further : List Line) × (along (fits width height) ls lines ≡ Some further) × (all ≡ items_of further)
+  -- the lines are taken, whichever test they are put to, and have these items
+  record Takes (ls : List Line) (lines : List (List ℕ)) (all : List Item) : Type 0 where
+    further : List Line
+    stood : along stands ls lines ≡ Some further
+    shown : along (shows width height) ls lines ≡ Some further
+    fitted : along (fits width height) ls lines ≡ Some further
+    are : all ≡ items_of further
 
-  takes_line : (n : ℕ) (rest : List (List ℕ)) (all : List Item) (a b c : Option (List Line)) (r : Answer) → Tells n a b c r → ((m : ℕ) (further : List Line) → reading width height m (items_of further) rest ≡ Ok all → Takes further rest all) → went n rest r ≡ Ok all → (further : List Line) × (option_and_then (λ t. along (fits width height) t rest) c ≡ Some further) × (all ≡ items_of further)
-  takes_line n rest all a b c (Err fault) tells later e = absurd cc
-  takes_line n rest all a b c (Ok longer) tells later e =
+  takes_line : (n : ℕ) (ls : List Line) (l : List ℕ) (rest : List (List ℕ)) (all : List Item) (r : Answer) → Tells n (line_taken (added stands) ls l) (line_taken (added (shows width height)) ls l) (line_taken (added (fits width height)) ls l) r → ((m : ℕ) (further : List Line) → reading width height m (items_of further) rest ≡ Ok all → Takes further rest all) → went n rest r ≡ Ok all → Takes ls (l ∷ rest) all
+  takes_line n ls l rest all (Err fault) tells later e = absurd cc
+  takes_line n ls l rest all (Ok longer) tells later e =
       let r = later (n + 1) tells.0 (ap (λ x. reading width height (n + 1) x rest) (sym tells.4) ∙ e) in
-      (r.0, ap (option_and_then (λ t. along (fits width height) t rest)) tells.3 ∙ r.1, r.2)
+      record {
+        further = r.further;
+        stood = ap (option_and_then (λ t. along stands t rest)) tells.1 ∙ r.stood;
+        shown = ap (option_and_then (λ t. along (shows width height) t rest)) tells.2 ∙ r.shown;
+        fitted = ap (option_and_then (λ t. along (fits width height) t rest)) tells.3 ∙ r.fitted;
+        are = r.are;
+      }
 
   -- the items that are read are those of the lines that are taken
   takes : (lines : List (List ℕ)) (n : ℕ) (ls : List Line) (all : List Item) → reading width height n (items_of ls) lines ≡ Ok all → Takes ls lines all
-  takes [] n ls all e = (ls, refl, (let same : items_of ls ≡ all = cc in sym same))
+  takes [] n ls all e = record { further = ls; stood = refl; shown = refl; fitted = refl; are = (let same : items_of ls ≡ all = cc in sym same) }
   takes (l ∷ rest) n ls all e =
-      takes_line n rest all (line_taken (added stands) ls l) (line_taken (added (shows width height)) ls l) (line_taken (added (fits width height)) ls l) (with_bytes width height n (items_of ls) l) (by_words n ls (line_words l))
-      (λ m further. takes rest m further all) e
+      takes_line n ls l rest all (with_bytes width height n (items_of ls) l) (by_words n ls (line_words l)) (λ m further. takes rest m further all) e
 
   -- reading stops at a line: those before it are taken, and with it the fault is told
   record Halts (ls : List Line) (lines : List (List ℕ)) (n : ℕ) (fault : ScriptFault) : Type 0 where
@@ -162,12 +175,73 @@ module _ (width height : ℤ) where
       let unbegun = none_fitting (take (h.before + 1) (lines_of text)) h.tells.1 in
       inr (h.before + 1, first (lines_of text) TooLong h (h.before + 1) refl unbegun, some_shown (take (h.before + 1) (lines_of text)) h.tells.0.0 h.tells.0.1)
 
+  -- ---- lines that were read, and one that is refused after them
+
+  -- the lines that were read are those of a script with these items
+  pub read_items : (lines : List (List ℕ)) (items : List Item) → reading width height 1 [] lines ≡ Ok items → HasItems width height lines items
+  read_items lines items e = let r = takes lines 1 [] items e in record { script = r.further; spelled = spells_fitting lines r.further r.fitted; are = r.are }
+
+  faulty_at : (text : List ℕ) (fault : ScriptFault) → length text ≤ 1048576 → (h : Halts [] (lines_of text) 1 fault) → IsFirstFaulty width height text (h.before + 1)
+  faulty_at text NoMemory short h = absurd h.tells
+  faulty_at text (Syntax line) short h =
+      let number : line ≡ h.before + 1 = omega (arith, h.tells.0) in
+      subst (IsFirstFaulty width height text) number (refused text (Syntax line) short h).1
+  faulty_at text (OffScreen line) short h =
+      let number : line ≡ h.before + 1 = omega (arith, h.tells.0) in
+      subst (IsFirstFaulty width height text) number (refused text (OffScreen line) short h).1
+  faulty_at text TooLong short h =
+      let unbegun = none_fitting (take (h.before + 1) (lines_of text)) h.tells.1 in
+      first (lines_of text) TooLong h (h.before + 1) refl unbegun
+
+  -- a text that is read up to a line is left there
+  left_there : (text : List ℕ) (fault : ScriptFault) → length text ≤ 1048576 → (h : Halts [] (lines_of text) 1 fault) → IsLeft width height text (items_of h.longer) fault
+  left_there text fault short h = record {
+    refused = refused text fault short h;
+    before = h.before;
+    faulty = faulty_at text fault short h;
+    performed = record { script = h.longer; spelled = spells_fitting (take h.before (lines_of text)) h.longer h.goes; are = refl };
+  }
+
+  -- one line more
+  along_push : (can : Test) (lines : List (List ℕ)) (l : List ℕ) (ls : List Line) → along can [] lines ≡ Some ls → along can [] (lines ++ l ∷ []) ≡ line_taken (added can) ls l
+  along_push can lines l ls e = steps_append (line_taken (added can)) lines (l ∷ []) [] ∙ ap (option_and_then (λ t. along can t (l ∷ []))) e ∙ sym (alone (line_taken (added can) ls l))
+
+  halts_after : (all lines : List (List ℕ)) (l : List ℕ) (more : List (List ℕ)) (fault : ScriptFault) (items : List Item) → all ≡ lines ++ l ∷ more → (taken : Takes [] lines items) → with_bytes width height (length lines + 1) (items_of taken.further) l ≡ Err fault → Halts [] all 1 fault
+  halts_after all lines l more fault items are taken refused =
+      let ls = taken.further in
+      let front : take (length lines) all ≡ lines = ap (take (length lines)) are ∙ take-append_seam lines (l ∷ more) in
+      let longer : take (length lines + 1) all ≡ lines ++ l ∷ [] = ap (take (length lines + 1)) are ∙ take-append-add lines (l ∷ more) 1 in
+      let number : length lines + 1 ≡ 1 + length lines = omega arith in
+      record {
+        before = length lines;
+        within = omega (arith, ap length are, length-append lines (l ∷ more));
+        longer = ls;
+        goes = ap (along (fits width height) []) front ∙ taken.fitted;
+        tells = Tells-along (length lines + 1) (1 + length lines) _ _ _ _ _ _ (Err fault) number
+            (sym (ap (along stands []) longer ∙ along_push stands lines l ls taken.stood))
+            (sym (ap (along (shows width height) []) longer ∙ along_push (shows width height) lines l ls taken.shown))
+            (sym (ap (along (fits width height) []) longer ∙ along_push (fits width height) lines l ls taken.fitted))
+            (subst (Tells (length lines + 1) (line_taken (added stands) ls l) (line_taken (added (shows width height)) ls l) (line_taken (added (fits width height)) ls l)) refused
+            (by_words (length lines + 1) ls (line_words l)));
+      }
+
+  left_by : (text : List ℕ) (lines : List (List ℕ)) (l : List ℕ) (more : List (List ℕ)) (fault : ScriptFault) (items : List Item) → lines_of text ≡ lines ++ l ∷ more → length text ≤ 1048576 → (taken : Takes [] lines items) → with_bytes width height (length lines + 1) (items_of taken.further) l ≡ Err fault → IsLeft width height text items fault
+  unfolding halts_after
+  left_by text lines l more fault items are short taken refused =
+      subst (λ x. IsLeft width height text x fault) (sym taken.are) (left_there text fault short (halts_after (lines_of text) lines l more fault items are taken refused))
+
+  -- where lines were read and the next one is refused, a text that has them is left there
+  pub read_left : (text : List ℕ) (lines : List (List ℕ)) (l : List ℕ) (more : List (List ℕ)) (fault : ScriptFault) (items : List Item) → lines_of text ≡ lines ++ l ∷ more → length text ≤ 1048576 → reading width height 1 [] lines ≡ Ok items → with_bytes width height (length lines + 1) items l ≡ Err fault → IsLeft width height text items fault
+  read_left text lines l more fault items are short e refused =
+      let taken = takes lines 1 [] items e in
+      left_by text lines l more fault items are short taken (ap (λ x. with_bytes width height (length lines + 1) x l) (sym taken.are) ∙ refused)
+
   -- ---- the function and the relation
 
   spelled_if : (text : List ℕ) (script : List Item) (b : Bool) → nat_le (length text) 1048576 ≡ b → cond b (reading width height 1 [] (lines_of text)) (Err TooLong) ≡ Ok script → Spells width height text script
   spelled_if text script true eb e =
       let r = takes (lines_of text) 1 [] script e in
-      record { short = grind (arith, nat_tests); lines = r.0; spelled = spells_fitting (lines_of text) r.0 r.1; are = r.2 }
+      record { short = grind (arith, nat_tests); lines = r.further; spelled = spells_fitting (lines_of text) r.further r.fitted; are = r.are }
   spelled_if text script false eb e = absurd cc
 
   -- what is read is spelled

@@ -1,10 +1,14 @@
 -- The lines of scripts
 pub mod Lines
+-- Lines that are judged in place: what they mean, and which of their items are left
+pub mod ScriptLines
 -- The scripts that texts spell, and why a text is refused
 pub mod Scripts
 -- How a script is read, line by line
 pub mod Reading
 -- What a script leaves, and what a failed writer leaves of one
 pub mod Performed
+-- What performing a script that is read in pieces comes to
+pub mod Streams
 -- What is shown of a screen
 pub mod ScreenText

@@ -1,13 +1,19 @@
 -- What a script leaves, and what a failed writer leaves of one.
-use Rattle.std.specs.Prelude.{◌≡◌, ℕ, ◌+◌, ◌≤◌, List, ◌++◌, length, take}
+use Rattle.std.specs.Prelude.{◌≡◌, ℕ, ◌+◌, ◌≤◌, ◌≤ℤ◌, pos, List, ◌++◌, length, take}
 use Rattle.tv_cells.specs.Layers.{Shows}
 use Rattle.tv_cells.specs.Picture.{Picture}
+use Rattle.tv_model.specs.declared.desc.Desc.{Desc}
 use Rattle.tv_model.specs.declared.script.Item.{Item}
 use Rattle.tv_machine.specs.Screen.Layers.{layers_of}
 use Rattle.tv_machine.specs.Output.{output, after}
 use Rattle.tv_machine.specs.Run.{Session}
 use Rattle.tv_model.specs.Description.Numbers.{natural}
 use Rattle.tv_io.specs.Writer.{Seen, Cuts}
+
+-- a description whose screen is no larger than the largest, one of 132 columns and 60 rows
+pub record FitsLargestScreen (d : Desc) : Type 0 where
+  pub columns : d.width ≤ℤ pos 132
+  pub rows : d.height ≤ℤ pos 60
 
 -- the picture is the session's screen
 pub record IsScreenOf (s : Session) (p : Picture) : Type 0 where

@@ -2,3 +2,4 @@
 -- give what the public contract says.
 pub mod Lines
 pub mod Scripts
+pub mod Streams

@@ -1,16 +1,23 @@
-//! Scripts: read from a text, and performed on what a run shows and logs.
+//! Scripts: read from a text, whole or in pieces, and performed on what a run shows and logs.
 #![tactic(auto)]
 
+mod feed;
+mod feeding;
 mod line;
 mod lines;
 mod performing;
 mod script;
+mod script_line;
 mod script_text;
 mod shot;
 mod stage;
+mod stream_fault;
+mod streaming;
 
 pub use line::Line;
 pub use performing::perform;
 pub use script::Script;
 pub use script_text::{ScriptFault, parse_items};
 pub use stage::Stage;
+pub use stream_fault::StreamFault;
+pub use streaming::perform_from;

@@ -1,17 +1,24 @@
 //! A script, performed.
 
-ghost use Rattle.std.specs.Prelude.{◌≡◌, false, All, OnOk, IfErr};
+ghost use Rattle.std.specs.Prelude.{◌≡◌, ◌≤◌, ◌+◌, ◌++◌, false, length, All, List, OnOk, IfErr, IfOk, MatchResult, ℕ};
 ghost use Rattle.tv_machine.specs.Output.{event_text, event_after, item_text, item_after, shot_text, colors_text, output, after};
-ghost use Rattle.tv_machine.specs.Run.{Session};
-ghost use Rattle.tv_io.specs.Writer.{Takes};
+ghost use Rattle.tv_machine.specs.Run.{Session, quiet};
+ghost use Rattle.tv_model.specs.Log.LogText.{log_text};
+ghost use Rattle.tv_io.specs.Writer.{Seen, Takes};
 ghost use Rattle.tv_io.specs.Pen.{Puts};
-ghost use Rattle.tv_script.specs.Lines.{IsEventOnScreen, IsItemOnScreen};
+ghost use Rattle.tv_model.specs.declared.script.Item.{Item as SeenItem};
+ghost use Rattle.tv_script.specs.declared.stream_fault.StreamFault.TheVariants.{Write};
+ghost use Rattle.tv_script.specs.Lines.{IsEventOnScreen, IsItemOnScreen, items_of_line};
 ghost use Rattle.tv_script.specs.Performed.{Stops};
+ghost use Rattle.tv_script.specs.ScriptLines.{meant};
+ghost use Rattle.tv_script.specs.Streams.{Performs};
 
 use crate::lines::put_log;
 use crate::script::Script;
+use crate::script_line::ScriptLine;
 use crate::shot::{Aspect, put_screen};
 use crate::stage::Stage;
+use crate::stream_fault::StreamFault;
 use tv_event::Event;
 use tv_io::{Pen, Writer};
 use tv_model::Item;
@@ -51,8 +58,7 @@ fn put_script<S: Stage, W: Writer>(
     ensures state { OnOk result ((s : Session) → S.stands stage.old s → S.stands stage.new (after s script.now)) }
     ensures stops { IfErr result (λ begun. (s : Session) → S.stands stage.old s → Stops s script.now begun (W.seen pen.old.out.now) (W.seen pen.new.out.now) (S.stands stage.new)) }
 {
-    put_log(pen, stage.desc(), stage.log());
-    stage.forget_log();
+    put_waiting_log(pen, stage);
     if pen.stopped {
         return Err(0);
     }
@@ -63,6 +69,38 @@ fn put_script<S: Stage, W: Writer>(
         }
     }
     Ok(())
+}
+
+/// Performs a line of a script before which so many items were begun. Returns how many were begun after it.
+pub(crate) fn perform_line<S: Stage, W: Writer>(
+    pen: &mut Pen<W>,
+    stage: &mut S,
+    line: &ScriptLine<'_>,
+    before: usize,
+) -> Result<usize, StreamFault>
+    requires going { pen.old.stopped ≡ false }
+    requires shown { All IsItemOnScreen (items_of_line (meant line.now)) }
+    requires few { before + length (items_of_line (meant line.now)) ≤ 100000 }
+    requires there { (s : Session) × S.stands stage.old s }
+    ensures same { pen.new.out.ghost_name ≡ pen.old.out.ghost_name }
+    ensures going { OnOk result (pen.new.stopped ≡ false) }
+    ensures there { (s : Session) × S.stands stage.new s }
+    ensures count { IfOk result (λ count. count ≡ before + length (items_of_line (meant line.now))) }
+    ensures performed { (s : Session) (from : Seen) (items : List SeenItem) → before ≡ length items
+        → Performs s items from (W.seen pen.old.out.now) (S.stands stage.old)
+        → MatchResult result
+        (λ _. Performs s (items ++ items_of_line (meant line.now)) from (W.seen pen.new.out.now) (S.stands stage.new))
+        (λ fault. (begun : ℕ) × (fault ≡ Write begun) × Stops s (items ++ items_of_line (meant line.now)) begun from (W.seen pen.new.out.now) (S.stands stage.new)) }
+{
+    let mut begun = before;
+    for item in line.items() {
+        put_item(pen, stage, &item);
+        begun += 1;
+        if pen.stopped {
+            return Err(StreamFault::Write(begun));
+        }
+    }
+    Ok(begun)
 }
 
 fn put_item<S: Stage, W: Writer>(pen: &mut Pen<W>, stage: &mut S, item: &Item)
@@ -85,6 +123,14 @@ fn put_event<S: Stage, W: Writer>(pen: &mut Pen<W>, stage: &mut S, event: &Event
     ensures state { (s : Session) → S.stands stage.old s → S.stands stage.new (event_after s event.now) }
 {
     stage.step(event);
+    put_waiting_log(pen, stage);
+}
+
+/// Writes the log that isn't yet taken, and takes it.
+pub(crate) fn put_waiting_log<S: Stage, W: Writer>(pen: &mut Pen<W>, stage: &mut S)
+    ensures text { (s : Session) → S.stands stage.old s → Puts W.seen pen.old pen.new (log_text s.desc s.state.log) }
+    ensures state { (s : Session) → S.stands stage.old s → S.stands stage.new (quiet s) }
+{
     put_log(pen, stage.desc(), stage.log());
     stage.forget_log();
 }

@@ -20,10 +20,10 @@ use tv_valid::Chars;
 use tv_words::{Lines, Word, words_of};
 
 /// The most bytes of a script.
-const MOST_BYTES: usize = 1_048_576;
+pub(crate) const MOST_BYTES: usize = 1_048_576;
 
 /// The most items of a script.
-const MOST_ITEMS: usize = 100_000;
+pub(crate) const MOST_ITEMS: usize = 100_000;
 
 /// Why a text is no script. Lines count from 1; of the first faulty line the first of these reasons is told.
 #[derive(Clone, Copy, Debug, PartialEq, Eq, Error)]
