@@ -1,3 +1,4 @@
+pub mod CutLemmas
 pub mod EndedLemmas
 pub mod EventLemmas
 pub mod FeedLemmas

@@ -1,5 +1,5 @@
 -- A script in pieces: one line more, one byte more, and what its faults say of the whole.
-use Rattle.std.proofs.Common.{◌≡◌, ℕ, ℤ, ◌+◌, ◌<◌, ◌≤◌, inl, inr, nat_le, Bool, true, false, cond, List, [], ◌∷◌, ◌++◌, length, take, Result, Ok, Err, IsErrAnd, refl, sym, ap, ◌∙◌, append_assoc, subst, arith, length-append}
+use Rattle.std.proofs.Common.{◌≡◌, ◌≢◌, ℕ, ℤ, ◌+◌, ◌<◌, ◌≤◌, inl, inr, nat_le, Bool, true, false, cond, List, [], ◌∷◌, ◌++◌, length, take, Result, Ok, Err, IsErrAnd, refl, sym, ap, ◌∙◌, append_assoc, subst, arith, length-append}
 use Rattle.std.specs.List.{AllByRecursion}
 use Rattle.std.specs.Prelude.{MatchResult}
 use Rattle.std.proofs.lemmas.Bool.Decides.{nat_tests}
@@ -59,35 +59,35 @@ module _ (s : Session) (from now : Seen) (Left : Session → Type 0) where
   abbrev h : ℤ
   h = s.desc.height
 
-  comes_left : (stream : List ℕ) (items : List Item) (fault : ScriptFault) → IsLeft w h (judged stream) items fault → ComesTo w h stream items (Err fault)
-  comes_left stream items scripts.NoMemory is = is
-  comes_left stream items (scripts.Syntax line) is = is
-  comes_left stream items (scripts.OffScreen line) is = is
-  comes_left stream items scripts.TooLong is = inr is
+  comes_left : (stream : List ℕ) (items : List Item) (fault : ScriptFault) → fault ≢ scripts.NoMemory → IsLeft w h (judged stream) items fault → ComesTo w h stream items (Err fault)
+  comes_left stream items scripts.NoMemory other is = absurd (other refl)
+  comes_left stream items (scripts.Syntax line) other is = is
+  comes_left stream items (scripts.OffScreen line) other is = is
+  comes_left stream items scripts.TooLong other is = inr is
 
   -- the bytes are the lines up to the refused one, each with its end
-  refused_mid : (lines : List (List ℕ)) (line given : List ℕ) (fault : ScriptFault) → given ≡ (ended lines ++ line) ++ 10 ∷ [] → length given ≤ 1048576 → AllByRecursion IsOpen lines → IsOpen line → IsRefusedLine s lines line from now Left fault → Decides s given false from now Left (Err fault)
-  refused_mid lines line given fault are few whole is refused = record {
+  refused_mid : (lines : List (List ℕ)) (line given : List ℕ) (fault : ScriptFault) → fault ≢ scripts.NoMemory → given ≡ (ended lines ++ line) ++ 10 ∷ [] → length given ≤ 1048576 → AllByRecursion IsOpen lines → IsOpen line → IsRefusedLine s lines line from now Left fault → Decides s given false from now Left (Err fault)
+  refused_mid lines line given fault other are few whole is refused = record {
     items = refused.played.items;
     comes = λ rest alone.
         let all : given ≡ ended (lines ++ line ∷ []) = are ∙ sym (ended_push lines line) in
         let begins = begins_judged (lines ++ line ∷ []) rest (nat_le (length (ended (lines ++ line ∷ []) ++ rest)) 1048576) refl (all_push lines line whole is) (subst (λ x. length x ≤ 1048576) all few) in
-        comes_left (given ++ rest) refused.played.items fault
+        comes_left (given ++ rest) refused.played.items fault other
         (subst (λ x. IsLeft w h (judged (x ++ rest)) refused.played.items fault) (sym all)
         (read_left w h (judged (ended (lines ++ line ∷ []) ++ rest)) lines line begins.more fault refused.played.items (begins.lines_are ∙ append_assoc lines (line ∷ []) begins.more) begins.short refused.played.read refused.refused));
     performs = refused.played.performs;
   }
 
   -- the last line has no end
-  refused_last : (lines : List (List ℕ)) (c : ℕ) (cs given : List ℕ) (fault : ScriptFault) → given ≡ ended lines ++ c ∷ cs → length given ≤ 1048576 → AllByRecursion IsOpen lines → IsOpen (c ∷ cs) → IsRefusedLine s lines (c ∷ cs) from now Left fault → Decides s given true from now Left (Err fault)
-  refused_last lines c cs given fault are few whole is refused =
+  refused_last : (lines : List (List ℕ)) (c : ℕ) (cs given : List ℕ) (fault : ScriptFault) → fault ≢ scripts.NoMemory → given ≡ ended lines ++ c ∷ cs → length given ≤ 1048576 → AllByRecursion IsOpen lines → IsOpen (c ∷ cs) → IsRefusedLine s lines (c ∷ cs) from now Left fault → Decides s given true from now Left (Err fault)
+  refused_last lines c cs given fault other are few whole is refused =
       let split : lines_of given ≡ lines ++ (c ∷ cs) ∷ [] = ap lines_of are ∙ lines_of_ended lines (c ∷ cs) whole ∙ ap (λ x. lines ++ x) (last_line c cs is) in
       let left = read_left w h given lines (c ∷ cs) [] fault refused.played.items split few refused.played.read refused.refused in
       record {
         items = refused.played.items;
         comes = λ rest alone.
             subst (λ x. ComesTo w h (given ++ x) refused.played.items (Err fault)) (sym (alone refl))
-            (comes_left (given ++ []) refused.played.items fault (subst (λ x. IsLeft w h x refused.played.items fault) (sym (judged_whole given few)) left));
+            (comes_left (given ++ []) refused.played.items fault other (subst (λ x. IsLeft w h x refused.played.items fault) (sym (judged_whole given few)) left));
         performs = refused.played.performs;
       }
 
@@ -126,17 +126,17 @@ module _ (s : Session) (from now : Seen) (Left : Session → Type 0) where
   pub breaks_mid : (fault : StreamFault) (lines : List (List ℕ)) (line given : List ℕ) → given ≡ (ended lines ++ line) ++ 10 ∷ [] → length given ≤ 1048576 → AllByRecursion IsOpen lines → IsOpen line → IsUnplayed s lines line from now Left fault → Breaks s given false from now Left fault
   breaks_mid streams.NoMemory lines line given are few whole is un = absurd un
   breaks_mid streams.Read lines line given are few whole is un = absurd un
-  breaks_mid (streams.Syntax n) lines line given are few whole is un = refused_mid lines line given (scripts.Syntax n) are few whole is un
-  breaks_mid (streams.OffScreen n) lines line given are few whole is un = refused_mid lines line given (scripts.OffScreen n) are few whole is un
-  breaks_mid streams.TooLong lines line given are few whole is un = refused_mid lines line given scripts.TooLong are few whole is un
+  breaks_mid (streams.Syntax n) lines line given are few whole is un = refused_mid lines line given (scripts.Syntax n) (λ e. absurd cc) are few whole is un
+  breaks_mid (streams.OffScreen n) lines line given are few whole is un = refused_mid lines line given (scripts.OffScreen n) (λ e. absurd cc) are few whole is un
+  breaks_mid streams.TooLong lines line given are few whole is un = refused_mid lines line given scripts.TooLong (λ e. absurd cc) are few whole is un
   breaks_mid (streams.Write begun) lines line given are few whole is un = cut_mid lines line given un.0 begun are few whole is un.1 un.2
 
   breaks_last : (fault : StreamFault) (lines : List (List ℕ)) (c : ℕ) (cs given : List ℕ) → given ≡ ended lines ++ c ∷ cs → length given ≤ 1048576 → AllByRecursion IsOpen lines → IsOpen (c ∷ cs) → IsUnplayed s lines (c ∷ cs) from now Left fault → Breaks s given true from now Left fault
   breaks_last streams.NoMemory lines c cs given are few whole is un = absurd un
   breaks_last streams.Read lines c cs given are few whole is un = absurd un
-  breaks_last (streams.Syntax n) lines c cs given are few whole is un = refused_last lines c cs given (scripts.Syntax n) are few whole is un
-  breaks_last (streams.OffScreen n) lines c cs given are few whole is un = refused_last lines c cs given (scripts.OffScreen n) are few whole is un
-  breaks_last streams.TooLong lines c cs given are few whole is un = refused_last lines c cs given scripts.TooLong are few whole is un
+  breaks_last (streams.Syntax n) lines c cs given are few whole is un = refused_last lines c cs given (scripts.Syntax n) (λ e. absurd cc) are few whole is un
+  breaks_last (streams.OffScreen n) lines c cs given are few whole is un = refused_last lines c cs given (scripts.OffScreen n) (λ e. absurd cc) are few whole is un
+  breaks_last streams.TooLong lines c cs given are few whole is un = refused_last lines c cs given scripts.TooLong (λ e. absurd cc) are few whole is un
   breaks_last (streams.Write begun) lines c cs given are few whole is un = cut_last lines c cs given un.0 begun are few whole is un.1 un.2
 
   -- the same of a line that has some bytes

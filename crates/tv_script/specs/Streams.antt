@@ -55,6 +55,7 @@ pub record IsTooLong (width height : ℤ) (stream : List ℕ) (items : List Item
 -- the items of a stream that are performed, and why it is left, or that it comes to its end
 abbrev pub ComesTo : (width height : ℤ) → (stream : List ℕ) → List Item → Result (Unit {0}) ScriptFault → Type 0
 ComesTo width height stream items (Ok _) = Spells width height stream items
+ComesTo width height stream items (Err scripts.NoMemory) = ⊥
 ComesTo width height stream items (Err scripts.TooLong) =
     IsTooLong width height stream items ⊎ IsLeft width height (judged stream) items scripts.TooLong
 ComesTo width height stream items (Err fault) = IsLeft width height (judged stream) items fault
@@ -63,6 +64,10 @@ ComesTo width height stream items (Err fault) = IsLeft width height (judged stre
 abbrev pub OfEach : (given : List ℕ) (ended : Bool) → (List ℕ → Type 0) → Type 0
 OfEach given ended Holds = (rest : List ℕ) → (ended ≡ true → rest ≡ []) → Holds (given ++ rest)
 
+-- the bytes that came decide the items that are performed and the answer, whatever follows them
+abbrev pub IsDecided : (width height : ℤ) → (given : List ℕ) (ended : Bool) → List Item → Result (Unit {0}) ScriptFault → Type 0
+IsDecided width height given ended items answer = OfEach given ended (λ stream. ComesTo width height stream items answer)
+
 -- ---- what was performed
 
 -- the items were performed: their output was written, whole, and their log is taken
@@ -70,10 +75,10 @@ pub record Performs (s : Session) (items : List Item) (old new : Seen) (Left : S
   pub written : Takes old new (output s items)
   pub left : Left (after s items)
 
--- the bytes that came decide the answer, whatever follows them, and the items that were performed
+-- the answer is the one that the bytes decide, and so are the items that were performed
 pub record Decides (s : Session) (given : List ℕ) (ended : Bool) (old new : Seen) (Left : Session → Type 0) (answer : Result (Unit {0}) ScriptFault) : Type 0 where
   pub items : List Item
-  pub comes : OfEach given ended (λ stream. ComesTo s.desc.width s.desc.height stream items answer)
+  pub comes : IsDecided s.desc.width s.desc.height given ended items answer
   pub performs : Performs s items old new Left
 
 -- the writer failed at an item of the first so many lines
@@ -99,6 +104,21 @@ StreamsTo s given ended old new Left (Err NoMemory) = (given ≡ []) × Performs
 StreamsTo s given ended old new Left (Err Read) =
     (items : List Item) × HasItems s.desc.width s.desc.height (lines_of (up_to_last_end given)) items × Performs s items old new Left
 StreamsTo s given ended old new Left (Err fault) = Breaks s given ended old new Left fault
+
+-- the stream goes on from the bytes; it ends with them, where the reader is at its end
+pub record IsBegunBy (stream given : List ℕ) (ended : Bool) : Type 0 where
+  pub rest : List ℕ
+  pub parts : stream ≡ given ++ rest
+  pub alone : ended ≡ true → rest ≡ []
+
+-- The bytes of a stream decide, and not how they were cut into pieces: two runs on it answer alike, and perform the same items.
+-- So they write the same text, and leave the same session.
+abbrev pub CutsDecideNothing : Type 0
+CutsDecideNothing =
+    (width height : ℤ) (stream given given' : List ℕ) (ended ended' : Bool) (items items' : List Item) (answer answer' : Result (Unit {0}) ScriptFault)
+    → IsBegunBy stream given ended → IsBegunBy stream given' ended'
+    → IsDecided width height given ended items answer → IsDecided width height given' ended' items' answer'
+    → (answer ≡ answer') × (items ≡ items')
 
 -- ---- the reader
 

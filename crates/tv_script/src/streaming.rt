@@ -6,7 +6,7 @@ ghost use Rattle.tv_io.specs.Writer.{Seen};
 ghost use Rattle.tv_machine.specs.Run.{Session};
 ghost use Rattle.tv_script.specs.Performed.{FitsLargestScreen};
 ghost use Rattle.tv_script.specs.Reading.Streams.{IsFed};
-ghost use Rattle.tv_script.specs.Streams.{ComesFrom};
+ghost use Rattle.tv_script.specs.Streams.{ComesFrom, CutsDecideNothing};
 
 use crate::feed::Feed;
 use crate::performing::put_waiting_log;
@@ -84,3 +84,10 @@ fn perform_all<S: Stage, R: Reader, W: Writer>(
         feed.take_piece(pen, stage, &room[..count])?;
     }
 }
+
+/// A theorem, as a function without a body: what a script in pieces comes to depends on its bytes alone, and not on how they
+/// were cut. Two runs whose readers gave beginnings of one stream, and the whole of it where they are at their end, answer
+/// alike and perform the same items, wherever the answer is `Ok`, `Syntax`, `OffScreen` or `TooLong`.
+pub fn cuts_decide_nothing()
+    ensures { CutsDecideNothing }
+{}
