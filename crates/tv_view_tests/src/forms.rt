@@ -1,6 +1,8 @@
 //! A group of probes with a pane in it, by which several tests go.
 
 ghost use Rattle.std.specs.Prelude.{◌≤ℤ◌, pos};
+ghost use Rattle.tv_model.specs.Description.LawfulNodes.{IsLawfulNode};
+ghost use Rattle.tv_model.specs.Description.Rectangles.{place_of_node, IsSmallRect};
 
 use crate::nodes::{button_node, input_node, label_node};
 use crate::probes::{Journal, Probe};
@@ -44,41 +46,69 @@ pub fn env<'a>(chain: &'a Chain, commands: &'a CommandSet, views: &'a [Node]) ->
     }
 }
 
+// The members of a node, by functions of their own: no node is then alive over a call that may fail, where each such call
+// would be one more path on which all that a node may hold is dropped.
+
+fn button_of(alloc: Global, node: &Node, journal: &Rc<Journal>) -> Result<Member, Fail>
+    requires { IsLawfulNode node.now }
+{
+    let probe = Probe::new(Button::new(alloc, node)?, journal)?;
+    Ok(Member::Leaf(Box::new(alloc, probe)?))
+}
+
+fn label_of(alloc: Global, node: &Node, journal: &Rc<Journal>) -> Result<Member, Fail>
+    requires { IsLawfulNode node.now }
+{
+    let probe = Probe::new(Label::new(alloc, node)?, journal)?;
+    Ok(Member::Leaf(Box::new(alloc, probe)?))
+}
+
+fn input_of(alloc: Global, node: &Node, journal: &Rc<Journal>) -> Result<Member, Fail>
+    requires { IsLawfulNode node.now }
+{
+    let probe = Probe::new(InputLine::new(alloc, node)?, journal)?;
+    Ok(Member::Leaf(Box::new(alloc, probe)?))
+}
+
+fn text_of(alloc: Global, node: &Node, journal: &Rc<Journal>) -> Result<Member, Fail>
+    requires { IsSmallRect (place_of_node node.now) }
+{
+    let probe = Probe::new(StaticText::new(alloc, node)?, journal)?;
+    Ok(Member::Leaf(Box::new(alloc, probe)?))
+}
+
 // A button at the left edge, which gives a command of its own.
 fn button(alloc: Global, id: u32, y: i32, text: &str, journal: &Rc<Journal>) -> Result<Member, Fail>
     requires { (pos 0 ≤ℤ y) × (y ≤ℤ pos 50) }
 {
     let node = button_node(alloc, id, Point { x: 1, y }, text, CommandSpec::Number(120))?;
-    let probe = Probe::new(Button::new(alloc, &node)?, journal)?;
-    Ok(Member::Leaf(Box::new(alloc, probe)?))
+    button_of(alloc, &node, journal)
 }
 
 fn label(alloc: Global, journal: &Rc<Journal>) -> Result<Member, Fail> {
     let node = label_node(alloc, LABEL, Point { x: 1, y: 1 }, "Amount", "amount")?;
-    let probe = Probe::new(Label::new(alloc, &node)?, journal)?;
-    Ok(Member::Leaf(Box::new(alloc, probe)?))
+    label_of(alloc, &node, journal)
 }
 
 fn input(alloc: Global, journal: &Rc<Journal>) -> Result<Member, Fail> {
     let node = input_node(alloc, INPUT, Point { x: 1, y: 7 })?;
-    let probe = Probe::new(InputLine::new(alloc, &node)?, journal)?;
-    Ok(Member::Leaf(Box::new(alloc, probe)?))
+    input_of(alloc, &node, journal)
 }
 
-fn text(alloc: Global, journal: &Rc<Journal>) -> Result<Member, Fail> {
+/// A text in 9 columns that notes what it is told.
+pub fn text(alloc: Global, id: u32, text: &str, journal: &Rc<Journal>) -> Result<Member, Fail> {
     let node = Node {
-        id: Id(TEXT),
-        ..text_node(alloc, 9, "ab")?
+        id: Id(id),
+        ..text_node(alloc, 9, text)?
     };
-    let probe = Probe::new(StaticText::new(alloc, &node)?, journal)?;
-    Ok(Member::Leaf(Box::new(alloc, probe)?))
+    text_of(alloc, &node, journal)
 }
 
 // A pane with a button and a text.
 fn pane(alloc: Global, journal: &Rc<Journal>) -> Result<Member, Fail> {
     let mut members = Vec::new(alloc);
     members.push(button(alloc, INNER, 0, "Save", journal)?)?;
-    members.push(text(alloc, journal)?)?;
+    members.push(text(alloc, TEXT, "ab", journal)?)?;
     let bounds = Rect {
         a: Point { x: 1, y: 3 },
         b: Point { x: 21, y: 6 },

@@ -3,15 +3,15 @@
 ghost use Rattle.std.specs.Prelude.{◌≤◌, ◌≤ℤ◌, pos, IfSome};
 ghost use Rattle.tv_window.specs.Head.{IsLimited, declared_head};
 
-use crate::probes::{Call, Journal, Probe};
-use crate::samples::{body, reads, sized, text_node};
+use crate::forms::text;
+use crate::probes::{Call, Journal};
+use crate::samples::{body, reads, sized};
 use std::alloc::Global;
 use std::rc::Rc;
 use std::test::Fail;
 use tv_cells::{Point, Screen};
-use tv_controls::StaticText;
 use tv_event::CommandSet;
-use tv_group::{Group, Member, Stack};
+use tv_group::{Group, Stack};
 use tv_model::{Id, Kind, Node, WindowHead};
 use tv_palette::{Chain, Owner};
 use tv_valid::Chars;
@@ -75,14 +75,8 @@ fn node(alloc: Global, number: i32, corner: Point) -> Node
 }
 
 // The group that a window stands round: a text that notes what it is told.
-fn body_of(alloc: Global, leaf: u32, text: &str, journal: &Rc<Journal>) -> Result<Group, Fail> {
-    let text = Node {
-        id: Id(leaf),
-        ..text_node(alloc, 9, text)?
-    };
-    let probe = Probe::new(StaticText::new(alloc, &text)?, journal)?;
-    let member = Member::Leaf(Box::new(alloc, probe)?);
-    body(alloc, sized(12, 4), member)
+fn body_of(alloc: Global, leaf: u32, shown: &str, journal: &Rc<Journal>) -> Result<Group, Fail> {
+    body(alloc, sized(12, 4), text(alloc, leaf, shown, journal)?)
 }
 
 // The window at a place: those further back stand further to the right and down.

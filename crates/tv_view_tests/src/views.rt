@@ -85,12 +85,19 @@ impl View for Tally {
     }
 }
 
-fn new_tally(alloc: Global) -> Result<Tally, Fail> {
-    let node = text_node(alloc, 9, "ab")?;
+fn tally_of(alloc: Global, node: &Node) -> Result<Tally, Fail>
+    requires { IsSmallRect (place_of_node node.now) }
+{
     Ok(Tally {
-        text: StaticText::new(alloc, &node)?,
+        text: StaticText::new(alloc, node)?,
         events: 0,
     })
+}
+
+// The node is alive over no call that may fail, as in `forms`.
+fn new_tally(alloc: Global) -> Result<Tally, Fail> {
+    let node = text_node(alloc, 9, "ab")?;
+    tally_of(alloc, &node)
 }
 
 fn env<'a>(chain: &'a Chain, commands: &'a CommandSet) -> Env<'a> {
