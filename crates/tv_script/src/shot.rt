@@ -1,6 +1,6 @@
 //! The lines of a screen, written.
 
-ghost use Rattle.std.specs.Prelude.{◌≡◌, ◌++◌, ◌<◌, codes, decimal, flat_map};
+ghost use Rattle.std.specs.Prelude.{◌≡◌, ◌++◌, ◌+◌, ◌<◌, ◌≤◌, codes, decimal, flat_map, length};
 ghost use Rattle.std.specs.List.{range_with_len};
 ghost use Rattle.tv_cells.specs.Picture.{cell_at};
 ghost use Rattle.tv_model.specs.Log.LogText.{line_of};
@@ -8,8 +8,12 @@ ghost use Rattle.tv_machine.specs.Output.{cells_text, hex_byte, hex_digit, row_t
 ghost use Rattle.tv_io.specs.Pen.{Puts};
 ghost use Rattle.tv_script.specs.ScreenText.{aspect_word, cell_text};
 
+use arrayvec::ArrayString;
 use tv_cells::{Cell, Screen};
 use tv_io::{Pen, Writer};
+
+/// The most bytes of a row: 132 characters of at most four bytes each, two colons and the line end.
+const ROW: usize = 531;
 
 /// What is shown of each cell.
 #[derive(Clone, Copy)]
@@ -52,39 +56,48 @@ fn put_row<W: Writer>(pen: &mut Pen<W>, aspect: Aspect, screen: &Screen, row: u3
     requires { row < screen.now.height }
     ensures { Puts W.seen pen.old pen.new (row_text (cell_text aspect) screen.now.width (cell_at screen.now) row) }
 {
-    pen.put(b":");
-    put_cells(pen, aspect, screen, row);
-    pen.put(b":\n");
+    let mut text: ArrayString<ROW> = ArrayString::new();
+    text.push_str(":");
+    push_cells(&mut text, aspect, screen, row);
+    text.push_str(":\n");
+    pen.put(text.as_str().as_bytes());
 }
 
-fn put_cells<W: Writer>(pen: &mut Pen<W>, aspect: Aspect, screen: &Screen, row: u32)
-    requires { row < screen.now.height }
-    ensures { Puts W.seen pen.old pen.new (cells_text (cell_text aspect) screen.now.width (cell_at screen.now) row) }
+fn push_cells(text: &mut ArrayString<ROW>, aspect: Aspect, screen: &Screen, row: u32)
+    requires on { row < screen.now.height }
+    requires room { length text.old.bytes ≤ 1 }
+    ensures text { text.new.bytes ≡ text.old.bytes ++ cells_text (cell_text aspect) screen.now.width (cell_at screen.now) row }
+    ensures room { length text.new.bytes ≤ 529 }
 {
     for column in 0..screen.width() {
-        put_cell(pen, aspect, screen.get(column, row));
+        push_cell(text, aspect, screen.get(column, row));
     }
 }
 
-fn put_cell<W: Writer>(pen: &mut Pen<W>, aspect: Aspect, cell: Cell)
-    ensures { Puts W.seen pen.old pen.new (cell_text aspect cell) }
+fn push_cell(text: &mut ArrayString<ROW>, aspect: Aspect, cell: Cell)
+    requires { length text.old.bytes + 4 ≤ 531 }
+    ensures text { text.new.bytes ≡ text.old.bytes ++ cell_text aspect cell }
+    ensures room { length text.new.bytes ≤ length text.old.bytes + 4 }
 {
     match aspect {
-        Aspect::Characters => pen.put_char(cell.ch()),
-        Aspect::Attributes => put_hex(pen, cell.attr()),
+        Aspect::Characters => text.push(cell.ch()),
+        Aspect::Attributes => push_hex(text, cell.attr()),
     }
 }
 
-// Writes the byte in two lower case hexadecimal digits.
-fn put_hex<W: Writer>(pen: &mut Pen<W>, byte: u8)
-    ensures { Puts W.seen pen.old pen.new (hex_byte byte) }
+// Adds the byte in two lower case hexadecimal digits.
+fn push_hex(text: &mut ArrayString<ROW>, byte: u8)
+    requires { length text.old.bytes + 2 ≤ 531 }
+    ensures { text.new.bytes ≡ text.old.bytes ++ hex_byte byte }
 {
-    pen.put(&[hex_digit(byte / 16), hex_digit(byte % 16)]);
+    text.push(char::from(hex_digit(byte / 16)));
+    text.push(char::from(hex_digit(byte % 16)));
 }
 
 fn hex_digit(value: u8) -> u8
     requires { value < 16 }
-    ensures { result ≡ hex_digit value }
+    ensures is { result ≡ hex_digit value }
+    ensures ascii { result < 128 }
 {
     if value < 10 {
         b'0' + value
