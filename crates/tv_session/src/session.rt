@@ -100,7 +100,7 @@ impl<V: View> Stage for SessionOf<V> {
     }
 
     fn forget_log(&mut self) {
-        self.take_log();
+        self.run.log.clear();
     }
 
     fn step(&mut self, event: &Event) {
