@@ -1,27 +1,32 @@
--- Why nothing is run, and what was written where something was.
-use Rattle.std.proofs.Common.{◌≡◌, ℕ, List, Result, Ok, Err, IfErr, IsErrAnd, inr, refl}
+-- Why nothing is run, and how a run that was begun is left.
+use Rattle.std.proofs.Common.{◌≡◌, ℕ, Bool, List, Result, Ok, Err, IfErr, IsErrAnd, inr, ap, pos, refl, subst}
 use Rattle.tv_building.specs.declared.building.Views.{Views}
 use Rattle.tv_building.specs.declared.fault.BuildFault.{BuildFault}
 use Rattle.tv_faults.proofs.SoundDialogLemmas.{sound_dialogs}
+use Rattle.tv_io.specs.Reader.{Given}
+use Rattle.tv_io.specs.Writer.{Seen}
 use Rattle.tv_lang.specs.Faults.{Spells}
-use Rattle.tv_machine.specs.Output.{output}
-use Rattle.tv_machine.specs.Run.{started}
-use Rattle.tv_view.specs.Meaning.{Leaf}
+use Rattle.tv_machine.specs.Run.{Session, started}
 use Rattle.tv_model.specs.declared.desc.Desc.{Desc}
 use Rattle.tv_model.specs.declared.script.Item.{Item}
-use Rattle.tv_io.specs.Writer.{Cuts, Seen}
+use Rattle.tv_model.specs.Description.Numbers.{IsBetween}
 use Rattle.tv_program.specs.declared.desc_fault.DescFault.{DescFault}
 use Rattle.tv_program.specs.declared.desc_fault.DescFault.TheVariants as descs
 use Rattle.tv_program.specs.declared.play_fault.PlayFault.{PlayFault}
-use Rattle.tv_program.specs.declared.play_fault.PlayFault.TheVariants.{NoMemory, Lang, Faults, Script, View, Write}
-use Rattle.tv_program.specs.Conversions.{desc_run, session_run}
-use Rattle.tv_program.specs.Playing.{IsMismade, IsNoScript, IsNoStart, RefusesDesc, Runs, RunsTo}
+use Rattle.tv_program.specs.Conversions.{desc_run, session_run, stream_run}
+use Rattle.tv_program.specs.Playing.{IsLawfulText, IsMismade, IsNoStart, RefusesDesc, RunsTo}
+use Rattle.tv_program.specs.Playing.RunsTo.{refused, unbegun, stopped}
 use Rattle.tv_program.specs.Reading.{IsFaulty, IsSoundText}
 use Rattle.tv_program.proofs.LawLemmas.{RunsByLaws-of}
-use Rattle.tv_script.specs.Scripts.{Spells as SpellsScript}
+use Rattle.tv_script.specs.declared.script_text.ScriptFault.{ScriptFault}
+use Rattle.tv_script.specs.declared.stream_fault.StreamFault.{StreamFault}
+use Rattle.tv_script.specs.declared.stream_fault.StreamFault.TheVariants as streams
+use Rattle.tv_script.specs.Performed.{FitsLargestScreen, Stops}
+use Rattle.tv_script.specs.Streams.{ComesFrom, Decides, IsCutOff, Performs, StreamsTo}
 use Rattle.tv_session.specs.Starting.{Refuses}
 use Rattle.tv_session.specs.declared.fault.SessionFault.{SessionFault}
-use Rattle.tv_session.specs.declared.fault.SessionFault.TheVariants as refused
+use Rattle.tv_session.specs.declared.fault.SessionFault.TheVariants as sessions
+use Rattle.tv_view.specs.Meaning.{Leaf}
 
 -- ---- descriptions
 
@@ -34,56 +39,71 @@ pub faulty-RefusesDesc : {T : Type 0} (text : List ℕ) (d : Desc) → Spells te
 faulty-RefusesDesc text d spelled fault is (Ok x) told = absurd told
 faulty-RefusesDesc text d spelled fault is (Err other) told = rw told (desc_run-RefusesDesc text d spelled fault is)
 
+-- the laws of every run of what the text spells
+pub lawful : (text : List ℕ) → IsLawfulText text
+lawful text = λ d read. RunsByLaws-of d (sound_dialogs d read.spelled.can read.sound) read.sound
+
 -- ---- views
 
 module _ {V : Type 0} (Answers : Desc → Result (Views V) BuildFault → Type 0) (look : V → Leaf) (d : Desc) where
   -- the views were refused
   pub refused-IsNoStart : (views : Views V) → Answers d (Ok views) → (fault : SessionFault) → Refuses look d views.windows.items views.bodies.items fault → IsNoStart (IsMismade Answers look) d (session_run fault)
-  refused-IsNoStart views answer refused.NoMemory mismatch = tt
-  refused-IsNoStart views answer (refused.ViewMismatch place) mismatch = inr (views, place, answer, mismatch)
+  refused-IsNoStart views answer sessions.NoMemory mismatch = tt
+  refused-IsNoStart views answer (sessions.ViewMismatch place) mismatch = inr (views, place, answer, mismatch)
 
 -- ---- runs
 
--- what the texts of a run spell
-abbrev pub spelled_run : (text script : List ℕ) (d : Desc) (items : List Item) → IsSoundText text d → SpellsScript d.width d.height script items → Runs text script
-spelled_run text script d items described scripted =
-    record {
-      desc = d;
-      items = items;
-      described = described;
-      scripted = scripted;
-      laws = RunsByLaws-of d (sound_dialogs d described.spelled.can described.sound) described.sound;
-    }
+-- a description whose screen is lawful fits the largest screen
+pub fits : (d shown : Desc) → shown ≡ d → IsBetween (pos 20) (pos 132) shown.width → IsBetween (pos 10) (pos 60) shown.height → FitsLargestScreen d
+fits d shown same columns rows = subst FitsLargestScreen same (record { columns = columns.1; rows = rows.1 })
 
-module _ (Mismade : Desc → Type 0) (text script : List ℕ) where
-  IsNoScript-RunsTo : (T : Type 0) (seen : Seen) (d : Desc) → IsSoundText text d → (fault : PlayFault) → IsNoScript d script fault → RunsTo {T = T} Mismade text script seen seen (Err fault)
-  IsNoScript-RunsTo T seen d sound NoMemory unspelled = refl
-  IsNoScript-RunsTo T seen d sound (Script fault) unspelled = (d, sound, unspelled, refl)
-  IsNoScript-RunsTo T seen d sound (Lang fault) unspelled = absurd unspelled
-  IsNoScript-RunsTo T seen d sound (Faults list) unspelled = absurd unspelled
-  IsNoScript-RunsTo T seen d sound View unspelled = absurd unspelled
-  IsNoScript-RunsTo T seen d sound Write unspelled = absurd unspelled
+-- what a run left is of no matter
+module _ (s : Session) (given : List ℕ) (ended : Bool) (old new : Seen) (Left : Session → Type 0) where
+  abbrev Gone : Session → Type 0
+  Gone left = Unit {0}
 
-  -- the script wasn't read
-  pub unread-RunsTo : {T : Type 0} (seen : Seen) (d : Desc) → IsSoundText text d → (fault : PlayFault) → IsNoScript d script fault → (r : Result T PlayFault) → IsErrAnd r (λ told. told ≡ fault) → RunsTo Mismade text script seen seen r
-  unread-RunsTo {T} seen d sound fault unspelled (Ok x) told = absurd told
-  unread-RunsTo {T} seen d sound fault unspelled (Err other) told = rw told (IsNoScript-RunsTo T seen d sound fault unspelled)
+  Performs-gone : (items : List Item) → Performs s items old new Left → Performs s items old new Gone
+  Performs-gone items p = record { written = p.written; left = tt }
 
-  module _ (run : Runs text script) where
-    IsNoStart-RunsTo : (T : Type 0) (seen : Seen) (fault : PlayFault) → IsNoStart Mismade run.desc fault → RunsTo {T = T} Mismade text script seen seen (Err fault)
-    IsNoStart-RunsTo T seen NoMemory unmade = refl
-    IsNoStart-RunsTo T seen View unmade = (run, unmade, refl)
-    IsNoStart-RunsTo T seen (Script fault) unmade = absurd unmade
-    IsNoStart-RunsTo T seen (Lang fault) unmade = absurd unmade
-    IsNoStart-RunsTo T seen (Faults list) unmade = absurd unmade
-    IsNoStart-RunsTo T seen Write unmade = absurd unmade
+  Decides-gone : (answer : Result (Unit {0}) ScriptFault) → Decides s given ended old new Left answer → Decides s given ended old new Gone answer
+  Decides-gone answer p = record { items = p.items; comes = p.comes; performs = Performs-gone p.items p.performs }
 
+  Stops-gone : (items : List Item) (begun : ℕ) → Stops s items begun old new Left → Stops s items begun old new Gone
+  Stops-gone items begun p = record { few = p.few; cut = p.cut; whole = p.whole; state = tt }
+
+  IsCutOff-gone : (begun : ℕ) → IsCutOff s given ended begun old new Left → IsCutOff s given ended begun old new Gone
+  IsCutOff-gone begun p = record { items = p.items; lines = p.lines; has = p.has; stops = Stops-gone p.items begun p.stops }
+
+  StreamsTo-gone : (fault : StreamFault) → StreamsTo s given ended old new Left (Err fault) → StreamsTo s given ended old new Gone (Err fault)
+  StreamsTo-gone streams.NoMemory p = (p.0, Performs-gone _ p.1)
+  StreamsTo-gone streams.Read p = (p.0, p.1, Performs-gone _ p.2)
+  StreamsTo-gone (streams.Syntax line) p = Decides-gone _ p
+  StreamsTo-gone (streams.OffScreen line) p = Decides-gone _ p
+  StreamsTo-gone streams.TooLong p = Decides-gone _ p
+  StreamsTo-gone (streams.Write begun) p = IsCutOff-gone begun p
+
+ComesFrom-gone : (s : Session) (reader left : Given) (old new : Seen) (Left : Session → Type 0) (fault : StreamFault) → ComesFrom s reader left old new Left (Err fault) → ComesFrom s reader left old new (λ s. Unit {0}) (Err fault)
+ComesFrom-gone s reader left old new Left fault p = record {
+  given = p.given;
+  few = p.few;
+  gave = p.gave;
+  comes = StreamsTo-gone s p.given left.is_ended old new Left fault p.comes;
+}
+
+err-is : {T : Type 0} (fault : PlayFault) (r : Result T PlayFault) → IsErrAnd r (λ told. told ≡ fault) → r ≡ Err fault
+err-is fault (Ok x) told = absurd told
+err-is fault (Err other) told = ap Err told
+
+module _ {T : Type 0} (Mismade : Desc → Type 0) (Stands : T → Session → Type 0) (text : List ℕ) (reader : Given) (seen : Seen) where
+  -- the description is refused
+  pub refused-RunsTo : (fault : PlayFault) → RefusesDesc text fault → (r : Result T PlayFault) → IsErrAnd r (λ told. told ≡ fault) → RunsTo Mismade Stands text reader reader seen seen r
+  refused-RunsTo fault is r told = refused fault is (record { unread = refl; unwritten = refl }) (err-is fault r told)
+
+  module _ (d : Desc) (read : IsSoundText text d) where
     -- no views were made, or they were refused
-    pub unmade-RunsTo : {T : Type 0} (seen : Seen) (fault : PlayFault) → IsNoStart Mismade run.desc fault → (r : Result T PlayFault) → IsErrAnd r (λ told. told ≡ fault) → RunsTo Mismade text script seen seen r
-    unmade-RunsTo {T} seen fault unmade (Ok x) told = absurd told
-    unmade-RunsTo {T} seen fault unmade (Err other) told = rw told (IsNoStart-RunsTo T seen fault unmade)
+    pub unbegun-RunsTo : (fault : PlayFault) → IsNoStart Mismade d fault → (r : Result T PlayFault) → IsErrAnd r (λ told. told ≡ fault) → RunsTo Mismade Stands text reader reader seen seen r
+    unbegun-RunsTo fault unmade r told = unbegun d fault read unmade (record { unread = refl; unwritten = refl }) (err-is fault r told)
 
-    -- the writer failed
-    pub cut-RunsTo : {T : Type 0} (old new : Seen) → Cuts old new (output (started run.desc) run.items) → (r : Result T PlayFault) → IsErrAnd r (λ told. told ≡ Write) → RunsTo Mismade text script old new r
-    cut-RunsTo {T} old new cut (Ok x) told = absurd told
-    cut-RunsTo {T} old new cut (Err other) told = rw told (run, cut)
+    -- the script was left
+    pub stopped-RunsTo : (left : Given) (new : Seen) (Left : Session → Type 0) (fault : StreamFault) → ComesFrom (started d) reader left seen new Left (Err fault) → (r : Result T PlayFault) → IsErrAnd r (λ told. told ≡ stream_run fault) → RunsTo Mismade Stands text reader left seen new r
+    stopped-RunsTo left new Left fault comes r told = stopped d fault read (ComesFrom-gone (started d) reader left seen new Left fault comes) (err-is (stream_run fault) r told)

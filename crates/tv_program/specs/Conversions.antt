@@ -17,8 +17,9 @@ use Rattle.tv_program.specs.declared.fault.RunFault.{RunFault}
 use Rattle.tv_program.specs.declared.fault.RunFault.TheVariants as told
 use Rattle.tv_program.specs.declared.play_fault.PlayFault.{PlayFault}
 use Rattle.tv_program.specs.declared.play_fault.PlayFault.TheVariants as runs
-use Rattle.tv_script.specs.declared.script_text.ScriptFault.{ScriptFault}
 use Rattle.tv_script.specs.declared.script_text.ScriptFault.TheVariants as scripts
+use Rattle.tv_script.specs.declared.stream_fault.StreamFault.{StreamFault}
+use Rattle.tv_script.specs.declared.stream_fault.StreamFault.TheVariants as streams
 use Rattle.tv_session.specs.declared.fault.SessionFault.{SessionFault}
 use Rattle.tv_session.specs.declared.fault.SessionFault.TheVariants as refused
 
@@ -63,11 +64,6 @@ abbrev pub desc_run : DescFault → PlayFault
 desc_run descs.NoMemory = runs.NoMemory
 desc_run (descs.Faults list) = runs.Faults list
 
--- the script is not spelled
-abbrev pub script_run : ScriptFault → PlayFault
-script_run scripts.NoMemory = runs.NoMemory
-script_run fault = runs.Script fault
-
 -- no views were made
 abbrev pub build_run : BuildFault → PlayFault
 build_run unbuilt.NoMemory = runs.NoMemory
@@ -77,6 +73,15 @@ build_run unbuilt.WrongPlan = runs.View
 abbrev pub session_run : SessionFault → PlayFault
 session_run refused.NoMemory = runs.NoMemory
 session_run (refused.ViewMismatch place) = runs.View
+
+-- the script was left before its end
+abbrev pub stream_run : StreamFault → PlayFault
+stream_run streams.NoMemory = runs.NoMemory
+stream_run (streams.Syntax line) = runs.Script (scripts.Syntax line)
+stream_run (streams.OffScreen line) = runs.Script (scripts.OffScreen line)
+stream_run streams.TooLong = runs.Script scripts.TooLong
+stream_run streams.Read = runs.Read
+stream_run (streams.Write begun) = runs.Write
 
 -- ---- telling
 
@@ -107,4 +112,5 @@ play_told (runs.Lang fault) = told.Lang fault
 play_told (runs.Faults list) = told.Faults list
 play_told (runs.Script fault) = told.Script fault
 play_told runs.View = told.View
+play_told runs.Read = told.Read
 play_told runs.Write = told.Write

@@ -93,6 +93,7 @@ impl From<PlayFault> for RunFault {
             PlayFault::Faults(list) => RunFault::Faults(list),
             PlayFault::Script(unread) => RunFault::Script(unread),
             PlayFault::View => RunFault::View,
+            PlayFault::Read => RunFault::Read,
             PlayFault::Write => RunFault::Write,
         }
     }

@@ -1,4 +1,4 @@
-//! What the program does, as calls over bytes and writers.
+//! What the program does, as calls over bytes, readers and writers.
 #![tactic(auto)]
 
 mod accept_fault;
@@ -18,5 +18,5 @@ pub use desc_fault::DescFault;
 pub use fault::RunFault;
 pub use message::report;
 pub use play_fault::PlayFault;
-pub use playing::{read_checked, read_script, run, run_script};
+pub use playing::{read_checked, run, run_from};
 pub use reading::look_for_faults;

@@ -1,19 +1,19 @@
-//! Why a script wasn't run on a description.
+//! Why a script wasn't run on a description, or not to its end.
 
 ghost use Rattle.std.specs.Prelude.{◌≡◌};
-ghost use Rattle.tv_program.specs.declared.play_fault.PlayFault.TheVariants.{NoMemory, Write};
-ghost use Rattle.tv_program.specs.Conversions.{build_run, desc_run, lang_run, script_run, session_run};
+ghost use Rattle.tv_program.specs.declared.play_fault.PlayFault.TheVariants.{NoMemory};
+ghost use Rattle.tv_program.specs.Conversions.{build_run, desc_run, lang_run, session_run, stream_run};
 
 use crate::desc_fault::DescFault;
 use std::alloc::AllocError;
 use tv_building::BuildFault;
-use tv_io::WriteFailed;
 use tv_lang::LangFault;
 use tv_model::{Fault, Sequence};
-use tv_script::ScriptFault;
+use tv_script::{ScriptFault, StreamFault};
 use tv_session::SessionFault;
 
-/// Why a script wasn't run to its end.
+/// Why a script wasn't run to its end: a fault of the description or of the views, before anything of the script is read, or
+/// one that came while the script was performed.
 #[derive(Debug, Drop)]
 pub enum PlayFault {
     NoMemory,
@@ -21,10 +21,12 @@ pub enum PlayFault {
     Lang(LangFault),
     /// The faults of a description that is spelled right, by number and then by line.
     Faults(Sequence<Fault>),
-    /// The script is not spelled right.
-    Script(ScriptFault),
     /// The views that were made aren't as the description declares them, or none were made.
     View,
+    /// The script is not spelled right; the lines before the fault were performed.
+    Script(ScriptFault),
+    /// The reader of the script failed.
+    Read,
     /// The writer failed, or took nothing.
     Write,
 }
@@ -59,17 +61,6 @@ impl From<DescFault> for PlayFault {
     }
 }
 
-impl From<ScriptFault> for PlayFault {
-    ghost from_gives = { λ unread fault. fault ≡ script_run unread };
-
-    fn from(unread: ScriptFault) -> PlayFault {
-        match unread {
-            ScriptFault::NoMemory => PlayFault::NoMemory,
-            _ => PlayFault::Script(unread),
-        }
-    }
-}
-
 impl From<BuildFault> for PlayFault {
     ghost from_gives = { λ unbuilt fault. fault ≡ build_run unbuilt };
 
@@ -92,10 +83,17 @@ impl From<SessionFault> for PlayFault {
     }
 }
 
-impl From<WriteFailed> for PlayFault {
-    ghost from_gives = { λ _ fault. fault ≡ Write };
+impl From<StreamFault> for PlayFault {
+    ghost from_gives = { λ left fault. fault ≡ stream_run left };
 
-    fn from(_failed: WriteFailed) -> PlayFault {
-        PlayFault::Write
+    fn from(left: StreamFault) -> PlayFault {
+        match left {
+            StreamFault::NoMemory => PlayFault::NoMemory,
+            StreamFault::Syntax(line) => PlayFault::Script(ScriptFault::Syntax(line)),
+            StreamFault::OffScreen(line) => PlayFault::Script(ScriptFault::OffScreen(line)),
+            StreamFault::TooLong => PlayFault::Script(ScriptFault::TooLong),
+            StreamFault::Read => PlayFault::Read,
+            StreamFault::Write(_) => PlayFault::Write,
+        }
     }
 }

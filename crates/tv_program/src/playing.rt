@@ -1,14 +1,11 @@
-//! A script run on a description, from bytes to bytes.
+//! A script performed on a description, as it comes.
 
-ghost use Rattle.std.specs.Prelude.{◌≡◌, IfErr, IfOk, List, MatchResult, ℕ};
+ghost use Rattle.std.specs.Prelude.{◌≡◌, IfErr, IfOk, List, ℕ};
 ghost use Rattle.tv_lang.specs.CanonicalDescription.{CanBeSpelled};
-ghost use Rattle.tv_machine.specs.Output.{output};
-ghost use Rattle.tv_machine.specs.Run.{Session, started};
+ghost use Rattle.tv_machine.specs.Run.{started};
 ghost use Rattle.tv_model.specs.Faults.{IsSound};
-ghost use Rattle.tv_io.specs.Writer.{Cuts, Takes};
-ghost use Rattle.tv_program.specs.Playing.{IsMismade, IsNoScript, IsNoStart, Makes, RefusesDesc, RunsTo};
+ghost use Rattle.tv_program.specs.Playing.{IsLawfulText, IsMismade, IsNoStart, Makes, RefusesDesc, RunsTo};
 ghost use Rattle.tv_program.specs.Reading.{IsSoundText};
-ghost use Rattle.tv_script.specs.Scripts.{Spells as SpellsScript};
 ghost use Rattle.tv_session.specs.Session.{StandsFor};
 
 use crate::play_fault::PlayFault;
@@ -16,53 +13,75 @@ use crate::reading::look_for_faults;
 use std::alloc::{AllocError, Global};
 use tv_building::{BuildFault, Views, parts_are_lawful};
 use tv_check::{CertifyFault, Checked, Refusal, accept, certify};
-use tv_io::{WriteFailed, Writer};
+use tv_io::{Reader, Writer};
 use tv_lang::parse;
 use tv_model::Desc;
-use tv_script::{Script, perform};
+use tv_script::perform_from;
 use tv_session::SessionOf;
 use tv_view::View;
 
-/// Runs a script on a description through views that are made for it, and writes its output: the log and the screens that
-/// it asks for.
+/// Runs a script on a description through views that are made for it, as the script's bytes come. Writes the log and the
+/// screens that it asks for, and hands back the session as the script left it.
 ///
-/// The description is read first, then its faults are looked for, then the script is read, and then the views are made;
-/// nothing is written before all of them have passed.
-pub fn run<V: View, F: Fn(Global, &Checked) -> Result<Views<V>, BuildFault>, W: Writer>(
+/// The description is read first, then its faults are looked for, then the views are made and the session is begun; nothing
+/// is written, and nothing of the script is read, before all of them have passed. Then the log is written, and each line of
+/// the script is performed as soon as its end has come, or the reader is at its end. What was written is passed on before
+/// each read.
+///
+/// # Errors
+///
+/// The first that comes of these.
+///
+/// - `Lang`, `Faults`: of the description.
+/// - `View`: the views aren't as the description declares them.
+/// - `Script`: of the script's first faulty line, or with a byte too many.
+/// - `Read`, `Write`: the reader or the writer failed.
+/// - `NoMemory`: nothing of the script was read, and no more than the log was written.
+///
+/// With `Script` and `Read` the lines before were performed, and their output was written, whole.
+pub fn run<V: View, F: Fn(Global, &Checked) -> Result<Views<V>, BuildFault>, R: Reader, W: Writer>(
     alloc: Global,
     desc: &[u8],
-    script: &[u8],
+    script: &mut R,
     make: &F,
     out: &mut W,
-) -> Result<(), PlayFault>
+) -> Result<SessionOf<V>, PlayFault>
     requires { F.IsAlwaysCallable make.now }
-    ensures { RunsTo (IsMismade (Makes F.Fn make.now) V.meaning) desc.now script.now (W.seen out.old) (W.seen out.new) result }
+    ensures output { RunsTo (IsMismade (Makes F.Fn make.now) V.meaning) (λ session s. StandsFor V.meaning session s) desc.now
+        (R.seen script.old) (R.seen script.new) (W.seen out.old) (W.seen out.new) result }
+    ensures laws { IsLawfulText desc.now }
 {
     let checked = read_checked(alloc, desc)?;
-    run_script(alloc, checked, script, make, out)
+    run_from(alloc, checked, script, make, out)
 }
 
-/// Runs a script on a description that was read by `read_checked`, and writes its output.
+/// Runs a script on a description that was read by `read_checked`. The run is that of `run` on the description's text.
 ///
-/// So a caller can look for the script once its description has passed. The run is that of `run` on both texts.
-pub fn run_script<V: View, F: Fn(Global, &Checked) -> Result<Views<V>, BuildFault>, W: Writer>(
+/// So a caller can look at a description before it opens the script.
+pub fn run_from<
+    V: View,
+    F: Fn(Global, &Checked) -> Result<Views<V>, BuildFault>,
+    R: Reader,
+    W: Writer,
+>(
     alloc: Global,
     checked: Checked,
-    script: &[u8],
+    script: &mut R,
     make: &F,
     out: &mut W,
-) -> Result<(), PlayFault>
+) -> Result<SessionOf<V>, PlayFault>
     requires { F.IsAlwaysCallable make.now }
     ensures { (text : List ℕ) → IsSoundText text checked
-        → RunsTo (IsMismade (Makes F.Fn make.now) V.meaning) text script.now (W.seen out.old) (W.seen out.new) result }
+        → RunsTo (IsMismade (Makes F.Fn make.now) V.meaning) (λ session s. StandsFor V.meaning session s) text
+        (R.seen script.old) (R.seen script.new) (W.seen out.old) (W.seen out.new) result }
 {
-    let script = read_script(alloc, &checked, script)?;
+    parts_are_lawful(checked.desc());
     let mut session = begin(alloc, checked, make)?;
-    play(&mut session, &script, out)?;
-    Ok(())
+    perform_from(alloc, &mut session, script, out)?;
+    Ok(session)
 }
 
-/// The description that a text spells, where it has no faults.
+/// Reads the description that a text spells, where it has no faults.
 ///
 /// The errors are those of the text, then its faults.
 pub fn read_checked(alloc: Global, text: &[u8]) -> Result<Checked, PlayFault>
@@ -75,18 +94,7 @@ pub fn read_checked(alloc: Global, text: &[u8]) -> Result<Checked, PlayFault>
     Ok(checked)
 }
 
-/// The script that a text spells, its points on the description's screen.
-pub fn read_script(alloc: Global, checked: &Checked, text: &[u8]) -> Result<Script, PlayFault>
-    ensures spelled { IfOk result (λ items. SpellsScript checked.now.width checked.now.height text.now items) }
-    ensures fault { IfErr result (λ fault. IsNoScript checked.now text.now fault) }
-{
-    let desc = checked.desc();
-    parts_are_lawful(desc);
-    let script = Script::parse(alloc, text, desc.width, desc.height)?;
-    Ok(script)
-}
-
-// What the checker gives for a sound description and the certificate that it makes of it.
+// Makes the certificate of a sound description, and returns what the checker gives for both.
 fn accept_sound(alloc: Global, desc: Desc) -> Result<Checked, AllocError>
     requires spelled { CanBeSpelled desc }
     requires sound { IsSound desc }
@@ -104,7 +112,7 @@ fn accept_sound(alloc: Global, desc: Desc) -> Result<Checked, AllocError>
     }
 }
 
-// The start of a run through the views that are made for the description.
+// Begins a run through the views that are made for the description.
 fn begin<V: View, F: Fn(Global, &Checked) -> Result<Views<V>, BuildFault>>(
     alloc: Global,
     checked: Checked,
@@ -118,22 +126,5 @@ fn begin<V: View, F: Fn(Global, &Checked) -> Result<Views<V>, BuildFault>>(
     match SessionOf::new(alloc, checked, views.windows, views.bodies) {
         Ok(session) => Ok(session),
         Err(refused) => Err(PlayFault::from(refused.fault)),
-    }
-}
-
-// Performs a script on a session.
-fn play<V: View, W: Writer>(
-    session: &mut SessionOf<V>,
-    script: &Script,
-    out: &mut W,
-) -> Result<(), WriteFailed>
-    requires { (s : Session) × StandsFor V.meaning session.old s }
-    ensures { (s : Session) → StandsFor V.meaning session.old s → MatchResult result
-        (λ _. Takes (W.seen out.old) (W.seen out.new) (output s script.now))
-        (λ _. Cuts (W.seen out.old) (W.seen out.new) (output s script.now)) }
-{
-    match perform(session, script, out) {
-        Ok(()) => Ok(()),
-        Err(_) => Err(WriteFailed),
     }
 }
