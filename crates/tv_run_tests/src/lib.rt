@@ -33,6 +33,8 @@ mod large;
 #[cfg(test)]
 mod lists;
 #[cfg(test)]
+mod long_scripts;
+#[cfg(test)]
 mod making;
 #[cfg(test)]
 mod mismatches;
@@ -45,6 +47,8 @@ mod order;
 #[cfg(test)]
 mod panes;
 #[cfg(test)]
+mod pieces;
+#[cfg(test)]
 mod probes;
 #[cfg(test)]
 mod running;
@@ -52,6 +56,8 @@ mod running;
 mod stacked;
 #[cfg(test)]
 mod steps;
+#[cfg(test)]
+mod streams;
 #[cfg(test)]
 mod telling;
 #[cfg(test)]

@@ -6,7 +6,7 @@ use std::alloc::{AllocError, Global};
 use std::rc::Rc;
 use std::test::Fail;
 use tv_check::Checked;
-use tv_io::Writer;
+use tv_io::{FileReader, Reader, Writer};
 use tv_program::{PlayFault, run};
 use tv_test_support::Memory;
 
@@ -27,8 +27,21 @@ pub fn run_into<W: Writer>(
     journal: Option<&Rc<Journal>>,
     out: &mut W,
 ) -> Result<(), PlayFault> {
+    let mut script = FileReader::new(script.as_bytes());
+    run_on(alloc, desc, &mut script, journal, out)
+}
+
+/// The same, with a script that comes from a reader.
+pub fn run_on<R: Reader, W: Writer>(
+    alloc: Global,
+    desc: &str,
+    script: &mut R,
+    journal: Option<&Rc<Journal>>,
+    out: &mut W,
+) -> Result<(), PlayFault> {
     let make = |alloc: Global, checked: &Checked| views(alloc, checked, journal);
-    run(alloc, desc.as_bytes(), script.as_bytes(), &make, out)
+    run(alloc, desc.as_bytes(), script, &make, out)?;
+    Ok(())
 }
 
 // More than any of these runs writes.

@@ -7,8 +7,8 @@ use tv_program::PlayFault;
 use tv_test_support::descriptions::{CANCEL, ORDER};
 use tv_test_support::{Idle, Memory};
 
-// The order form, until it has a gift, a note and a quantity.
-const GIFTS: &str = "\
+/// The order form, until it has a gift, a note and a quantity.
+pub const GIFTS: &str = "\
 key F2
 key Alt-G
 key F2
@@ -21,7 +21,8 @@ type \"07\"
 key F2
 ";
 
-const GIFTS_LOG: &str = "\
+/// What a run of it writes.
+pub const GIFTS_LOG: &str = "\
 open b
 focus amount
 focus opts

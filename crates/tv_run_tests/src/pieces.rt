@@ -1,0 +1,138 @@
+//! Readers that give a script in pieces, and a writer that shows what it was asked to pass on.
+
+use std::cell::Cell;
+use tv_io::{Reader, Writer};
+
+/// A reader that gives a text in pieces of so many bytes, where there is room for them.
+#[derive(Drop)]
+pub struct Pieces<'a> {
+    left: &'a [u8],
+    piece: usize,
+    /// The read that fails, counted from 1; none does at 0.
+    failing: usize,
+    /// How often it was called.
+    pub reads: usize,
+    /// The bytes that it was asked for.
+    pub asked: usize,
+    failures: u64,
+    is_ended: bool,
+}
+
+impl<'a> Pieces<'a> {
+    /// Begins before the text.
+    pub fn new(text: &'a str, piece: usize) -> Pieces<'a> {
+        Pieces::failing_at(text, piece, 0)
+    }
+
+    /// Begins before the text, with a read that fails, counted from 1.
+    pub fn failing_at(text: &'a str, piece: usize, failing: usize) -> Pieces<'a> {
+        Pieces {
+            left: text.as_bytes(),
+            piece,
+            failing,
+            reads: 0,
+            asked: 0,
+            failures: 0,
+            is_ended: false,
+        }
+    }
+}
+
+impl Reader for Pieces<'_> {
+    ghost use Rattle.std.specs.Prelude.{None};
+
+    ghost seen = { λ r. record { given = None; left = None; failures = r.failures; is_ended = r.is_ended } };
+
+    fn read(&mut self, room: &mut [u8]) -> Option<usize> {
+        self.reads = self.reads.saturating_add(1);
+        self.asked = self.asked.saturating_add(room.len());
+        if self.reads == self.failing {
+            self.failures = self.failures.saturating_add(1);
+            return None;
+        }
+        let count = room.len().min(self.piece).min(self.left.len());
+        let (piece, left) = self.left.split_at(count);
+        room[..count].copy_from_slice(piece);
+        self.left = left;
+        self.is_ended = count == 0;
+        Some(count)
+    }
+}
+
+/// A reader that looks, at each read, how many bytes were passed on.
+#[derive(Drop)]
+pub struct Watching<'a> {
+    script: Pieces<'a>,
+    passed_on: &'a Cell<usize>,
+    wanted: &'a [usize],
+    /// The first read, counted from 1, at which others were passed on than is wanted.
+    pub odd: Option<usize>,
+}
+
+impl<'a> Watching<'a> {
+    /// Over a script in pieces. At each read so many bytes are to have been passed on.
+    pub fn new(
+        script: Pieces<'a>,
+        passed_on: &'a Cell<usize>,
+        wanted: &'a [usize],
+    ) -> Watching<'a> {
+        Watching {
+            script,
+            passed_on,
+            wanted,
+            odd: None,
+        }
+    }
+
+    /// Returns how often it was called.
+    pub fn reads(&self) -> usize {
+        self.script.reads
+    }
+}
+
+impl Reader for Watching<'_> {
+    ghost use Rattle.std.specs.Prelude.{None};
+
+    ghost seen = { λ r. record { given = None; left = None; failures = r.script.failures; is_ended = r.script.is_ended } };
+
+    fn read(&mut self, room: &mut [u8]) -> Option<usize> {
+        let number = self.script.reads;
+        let is_wanted = self.wanted.get(number) == Some(&self.passed_on.get());
+        if !is_wanted && self.odd.is_none() {
+            self.odd = Some(number.saturating_add(1));
+        }
+        self.script.read(room)
+    }
+}
+
+/// A writer that takes everything. What it took can be seen only once it was passed on.
+#[derive(Drop)]
+pub struct Held<'a> {
+    taken: usize,
+    passed_on: &'a Cell<usize>,
+}
+
+impl<'a> Held<'a> {
+    /// Begins with nothing taken.
+    pub fn new(passed_on: &'a Cell<usize>) -> Held<'a> {
+        Held {
+            taken: 0,
+            passed_on,
+        }
+    }
+}
+
+impl Writer for Held<'_> {
+    ghost use Rattle.std.specs.Prelude.{None};
+
+    ghost seen = { λ w. record { taken = None; failures = 0 } };
+
+    fn write(&mut self, bytes: &[u8]) -> Option<usize> {
+        self.taken = self.taken.saturating_add(bytes.len());
+        Some(bytes.len())
+    }
+
+    fn pass_on(&mut self) {
+        self.passed_on.set(self.taken);
+    }
+}
