@@ -22,7 +22,11 @@ A script has one of these on each line, or nothing, or # and a comment:
   move X Y     the mouse moves to a cell
   up X Y       the mouse button goes up on a cell
   shot         prints the characters of the screen
-  colors       prints its attributes, two hexadecimal digits a cell";
+  colors       prints its attributes, two hexadecimal digits a cell
+
+Each line is performed when its end has come, and what it prints is passed on
+before more is read. So SCRIPT may be a pipe or a terminal, as /dev/stdin. At a
+faulty line the script is left; the lines before it were performed.";
 
 fn path<'a>(alloc: Global, name: &'a str, help: &'a str) -> Arg<'a> {
     Arg::new(alloc, name)

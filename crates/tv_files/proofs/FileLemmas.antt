@@ -1,10 +1,14 @@
--- One file after another.
-use Rattle.std.proofs.Common.{ℕ, List, [], ◌∷◌, ◌++◌, Option, Some, None, ap, ◌∙◌, append_assoc}
-use Rattle.tv_files.specs.declared.text_kind.TextKind.{TextKind}
+-- One file after another, and what was read of one.
+use Rattle.std.proofs.Common.{◌≡◌, ℕ, ◌+◌, List, [], ◌∷◌, ◌++◌, take, Option, Some, None, IfSome, ap, subst, ◌∙◌, append_assoc}
+use Rattle.tv_io.specs.Reader.{Given}
 use Rattle.tv_files.specs.Ends.{End}
-use Rattle.tv_files.specs.Files.{Extends, Known, Opens}
-use Rattle.tv_files.specs.Tasks.{Gives, IsUnread}
-use Rattle.tv_files.specs.Tasks.IsUnread.{memory, missing}
+use Rattle.tv_files.specs.Files.{Extends, IsFileOf, IsRead, Known, Opens, longest}
+use Rattle.tv_files.specs.Tasks.{BreaksOffIn, Gives, IsUngiven, IsUnopened, IsUnread}
+use Rattle.tv_files.specs.Tasks.IsUngiven.{memory as ungiven_memory, broken as ungiven_broken}
+use Rattle.tv_files.specs.Tasks.IsUnopened.{memory, missing}
+use Rattle.tv_files.specs.Tasks.IsUnread.{unopened, broken}
+
+-- ---- opening
 
 Extends-then : (a b c : Option (List (List ℕ))) (x y : List (List ℕ)) → Extends a b x → Extends b c y → Extends a c (x ++ y)
 Extends-then None b c x y p q = tt
@@ -18,15 +22,48 @@ Opens-then {a} {b} {c} x y p q = record {
   same = λ path. q.same path ∙ p.same path;
 }
 
+-- what is known of the second file was known before the first one was opened
+module _ {files mid : Known} (file beside : List ℕ) (opens : Opens files mid (file ∷ [])) where
+  pub IsFileOf-then : {reader : Given} → IsFileOf mid beside reader → IsFileOf files beside reader
+  IsFileOf-then is = record { left = rw (opens.same beside) at is.left; going = is.going; unfailed = is.unfailed }
+
+  BreaksOffIn-then : BreaksOffIn mid beside → BreaksOffIn files beside
+  BreaksOffIn-then breaks = record { reader = breaks.reader; left = breaks.left; file = IsFileOf-then breaks.file; breaks = breaks.breaks }
+
 module _ {files mid after : Known} (file beside : List ℕ) (opens : Opens files mid (file ∷ [])) where
+  -- the second file was opened
+  pub Opens-both : Opens mid after (beside ∷ []) → Opens files after (file ∷ beside ∷ [])
+  Opens-both = Opens-then (file ∷ []) (beside ∷ []) opens
+
   -- the second file was read
-  pub Gives-then : {kind : TextKind} {text : List ℕ} → Gives mid after (beside ∷ []) beside kind text → Gives files after (file ∷ beside ∷ []) beside kind text
+  pub Gives-then : {text : List ℕ} → Gives mid after (beside ∷ []) beside text → Gives files after (file ∷ beside ∷ []) beside text
   Gives-then gives = record {
-    opens = Opens-then (file ∷ []) (beside ∷ []) opens gives.opens;
+    opens = Opens-both gives.opens;
     text_of = rw (opens.same beside) at gives.text_of;
   }
 
+  -- the second file wasn't opened
+  pub IsUnopened-then : {end : End} → IsUnopened mid after (beside ∷ []) beside end → IsUnopened files after (file ∷ beside ∷ []) beside end
+  IsUnopened-then (memory is) = memory is
+  IsUnopened-then (missing opened none is) = missing (Opens-both opened) (rw (opens.same beside) at none) is
+
   -- the second file wasn't read
   pub IsUnread-then : {end : End} → IsUnread mid after (beside ∷ []) beside end → IsUnread files after (file ∷ beside ∷ []) beside end
-  IsUnread-then (memory is) = memory is
-  IsUnread-then (missing opened none is) = missing (Opens-then (file ∷ []) (beside ∷ []) opens opened) (rw (opens.same beside) at none) is
+  IsUnread-then (unopened is) = unopened (IsUnopened-then is)
+  IsUnread-then (broken opened breaks is) = broken (Opens-both opened) (BreaksOffIn-then file beside opens breaks) is
+
+-- ---- reading
+
+text-of : (contents left : Option (List ℕ)) (text : List ℕ) → IfSome contents (λ whole. left ≡ Some whole) → IfSome left (λ all. text ≡ take (longest + 1) all) → IfSome contents (λ whole. text ≡ take (longest + 1) whole)
+text-of None left text is first = tt
+text-of (Some whole) left text is first = subst (λ given. IfSome given (λ all. text ≡ take (longest + 1) all)) is first
+
+module _ {files after : Known} {opened : List (List ℕ)} (path : List ℕ) (reader left : Given) (opens : Opens files after opened) (is : IsFileOf files path reader) where
+  -- the file's text was read
+  pub IsRead-Gives : (text : List ℕ) → IsRead reader left text → Gives files after opened path text
+  IsRead-Gives text read = record { opens = opens; text_of = text-of (files.contents path) reader.left text is.left read.first }
+
+  -- it wasn't
+  pub IsUngiven-IsUnread : {end : End} → IsUngiven reader left path end → IsUnread files after opened path end
+  IsUngiven-IsUnread (ungiven_memory told) = unopened (memory told)
+  IsUngiven-IsUnread (ungiven_broken breaks told) = broken opens (record { reader = reader; left = left; file = is; breaks = breaks }) told

@@ -1,3 +1,4 @@
 pub mod FileLemmas
+pub mod ReadingLemmas
 pub mod TaskLemmas
 pub mod TellingLemmas

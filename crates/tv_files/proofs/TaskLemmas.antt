@@ -1,32 +1,72 @@
 -- What tasks come to, by what each step of them came to.
-use Rattle.std.proofs.Common.{◌≡◌, ℕ, List, [], ◌∷◌, Some, Result, Ok, Err, IsErrAnd, refl}
+use Rattle.std.proofs.Common.{◌≡◌, ℕ, List, [], ◌∷◌, Some, Result, Ok, Err, IsErrAnd, ap, refl}
+use Rattle.tv_io.specs.Reader.{Given}
 use Rattle.tv_io.specs.Writer.{Seen}
+use Rattle.tv_machine.specs.Run.{Session, started}
+use Rattle.tv_model.specs.declared.desc.Desc.{Desc}
 use Rattle.tv_program.specs.declared.fault.RunFault.{RunFault}
+use Rattle.tv_program.specs.declared.play_fault.PlayFault.{PlayFault}
+use Rattle.tv_program.specs.Playing.{RunsTo}
+use Rattle.tv_program.specs.Playing.RunsTo.{refused, unbegun, stopped, done as done_run}
+use Rattle.tv_script.specs.Streams.{ComesFrom}
 use Rattle.tv_files.specs.declared.failure.Failure.{Failure}
-use Rattle.tv_files.specs.declared.text_kind.TextKind.{TextKind}
-use Rattle.tv_files.specs.declared.text_kind.TextKind.TheVariants.{Description}
 use Rattle.tv_files.specs.Ends.{End, end_of, path_of}
-use Rattle.tv_files.specs.Files.{Known}
-use Rattle.tv_files.specs.Tasks.{EndsFirst, Gives, IsUnread, OnFiles}
+use Rattle.tv_files.specs.Files.{IsFileOf, IsRead, Known, Opens}
+use Rattle.tv_files.specs.Tasks.{EndsFirst, Gives, IsUnread, OnFiles, OnStream}
 use Rattle.tv_files.specs.Tasks.OnFiles.{first, unread, done}
-use Rattle.tv_files.proofs.FileLemmas.{Gives-then, IsUnread-then}
+use Rattle.tv_files.specs.Tasks.OnStream.{done as done_both}
+use Rattle.tv_files.proofs.FileLemmas.{Gives-then, IsFileOf-then, IsRead-Gives, IsUnread-then, Opens-both}
 
 -- a fault, told of its file
 pub end_as-Some : (fault told : RunFault) (path : List ℕ) (answered : RunFault) (file beside : List ℕ) → fault ≡ told → path ≡ path_of told file beside → told ≡ answered → ◌≡◌ {A = End} (Some (fault, path)) (Some (answered, path_of answered file beside))
 end_as-Some fault told path answered file beside same at is = rw (same, at, is) refl
 
-module _ (kind : TextKind) (refuses : (text : List ℕ) → RunFault → Type 0) (passes : (text : List ℕ) → Type 0) (files after : Known) (file beside : List ℕ) (seen : Seen) (failure : Failure) where
+-- a fault of a run, told of its file
+pub end_of_run-Some : (fault told : RunFault) (path of : List ℕ) → fault ≡ told → path ≡ of → ◌≡◌ {A = End} (Some (fault, path)) (Some (told, of))
+end_of_run-Some fault told path of same at = rw (same, at) refl
+
+module _ (refuses : (text : List ℕ) → RunFault → Type 0) (passes : (text : List ℕ) → Type 0) (files after : Known) (file beside : List ℕ) (seen : Seen) (failure : Failure) where
   -- the description wasn't read, or was refused
-  pub first-OnFiles : {T : Type 0} (comes : End → (text written : List ℕ) → Type 0) → EndsFirst refuses files after file (Some (failure.fault, failure.path.now)) → (r : Result T Failure) → IsErrAnd r (λ told. told ≡ failure) → OnFiles kind refuses passes (comes (end_of r)) files after file beside seen seen (end_of r)
+  pub first-OnFiles : {T : Type 0} (comes : End → (text written : List ℕ) → Type 0) → EndsFirst refuses files after file (Some (failure.fault, failure.path.now)) → (r : Result T Failure) → IsErrAnd r (λ told. told ≡ failure) → OnFiles refuses passes (comes (end_of r)) files after file beside seen seen (end_of r)
   first-OnFiles comes ends (Ok x) told = absurd told
   first-OnFiles comes ends (Err other) told = rw told (first ends refl)
 
   -- the file beside it wasn't read
-  pub unread-OnFiles : {T : Type 0} (comes : End → (text written : List ℕ) → Type 0) (mid : Known) (text : List ℕ) → Gives files mid (file ∷ []) file Description text → passes text → IsUnread mid after (beside ∷ []) beside (Some (failure.fault, failure.path.now)) → (r : Result T Failure) → IsErrAnd r (λ told. told ≡ failure) → OnFiles kind refuses passes (comes (end_of r)) files after file beside seen seen (end_of r)
+  pub unread-OnFiles : {T : Type 0} (comes : End → (text written : List ℕ) → Type 0) (mid : Known) (text : List ℕ) → Gives files mid (file ∷ []) file text → passes text → IsUnread mid after (beside ∷ []) beside (Some (failure.fault, failure.path.now)) → (r : Result T Failure) → IsErrAnd r (λ told. told ≡ failure) → OnFiles refuses passes (comes (end_of r)) files after file beside seen seen (end_of r)
   unread-OnFiles comes mid text gives passed ends (Ok x) told = absurd told
   unread-OnFiles comes mid text gives passed ends (Err other) told = rw told (unread text gives.text_of passed (IsUnread-then file beside gives.opens ends) refl)
 
 -- both were read
-pub done-OnFiles : (kind : TextKind) (refuses : (text : List ℕ) → RunFault → Type 0) (passes : (text : List ℕ) → Type 0) (comes : (text written : List ℕ) → Type 0) (files mid after : Known) (file beside : List ℕ) (old new : Seen) (end : End) (text written : List ℕ) → Gives files mid (file ∷ []) file Description text → passes text → Gives mid after (beside ∷ []) beside kind written → comes text written → OnFiles kind refuses passes comes files after file beside old new end
-done-OnFiles kind refuses passes comes files mid after file beside old new end text written gives passed gives_beside came =
+pub done-OnFiles : (refuses : (text : List ℕ) → RunFault → Type 0) (passes : (text : List ℕ) → Type 0) (comes : (text written : List ℕ) → Type 0) (files mid after : Known) (file beside : List ℕ) (old new : Seen) (end : End) (text written : List ℕ) → Gives files mid (file ∷ []) file text → passes text → Gives mid after (beside ∷ []) beside written → comes text written → OnFiles refuses passes comes files after file beside old new end
+done-OnFiles refuses passes comes files mid after file beside old new end text written gives passed gives_beside came =
     done text written gives.text_of passed (Gives-then file beside gives.opens gives_beside) came
+
+-- ---- runs
+
+-- the description was read, and the script was performed as it came
+pub done-OnStream : (comes : (text : List ℕ) (reader left : Given) → Type 0) (files mid after : Known) (file script : List ℕ) (old new : Seen) (end : End) (description description_left reader left : Given) (text : List ℕ) → Opens files mid (file ∷ []) → IsFileOf files file description → Opens mid after (script ∷ []) → IsFileOf mid script reader → IsRead description description_left text → comes text reader left → OnStream comes files after file script old new end
+done-OnStream comes files mid after file script old new end description description_left reader left text opens is opened script_is read came =
+    done_both text reader left (IsRead-Gives file description description_left (Opens-both file script opens opened) is text read) (IsFileOf-then file script opens script_is) came
+
+-- an answer without its value
+abbrev pub gone : {T E : Type 0} → Result T E → Result (Unit {0}) E
+gone (Ok x) = Ok tt
+gone (Err e) = Err e
+
+ComesFrom-gone : (s : Session) (reader left : Given) (old new : Seen) (Left : Session → Type 0) → ComesFrom s reader left old new Left (Ok tt) → ComesFrom s reader left old new (λ s. Unit {0}) (Ok tt)
+ComesFrom-gone s reader left old new Left p =
+    let decides = p.comes.1 in
+    record {
+      given = p.given;
+      few = p.few;
+      gave = p.gave;
+      comes = (p.comes.0, record { items = decides.items; comes = decides.comes; performs = record { written = decides.performs.written; left = tt } });
+    }
+
+-- what stands for the run after the script is of no matter
+pub RunsTo-gone : {T : Type 0} (Mismade : Desc → Type 0) (Stands : T → Session → Type 0) (text : List ℕ) (reader left : Given) (old new : Seen) (r : Result T PlayFault) → RunsTo Mismade Stands text reader left old new r → RunsTo Mismade (λ (done : Unit {0}) s. Unit {0}) text reader left old new (gone r)
+RunsTo-gone Mismade Stands text reader left old new r (refused fault is untouched told) = refused fault is untouched (ap gone told)
+RunsTo-gone Mismade Stands text reader left old new r (unbegun d fault read why untouched told) = unbegun d fault read why untouched (ap gone told)
+RunsTo-gone Mismade Stands text reader left old new r (stopped d fault read comes told) = stopped d fault read comes (ap gone told)
+RunsTo-gone Mismade Stands text reader left old new r (done_run d run read comes told) =
+    done_run d tt read (ComesFrom-gone (started d) reader left old new (Stands run) comes) (ap gone told)

@@ -1,8 +1,13 @@
 -- How a task ends.
 use Rattle.std.specs.Prelude.{ℕ, List, Option, Some, None, Result, Ok, Err}
 use Rattle.tv_program.specs.declared.fault.RunFault.{RunFault}
-use Rattle.tv_program.specs.declared.fault.RunFault.TheVariants.{Script, Cert}
+use Rattle.tv_program.specs.declared.fault.RunFault.TheVariants.{NoMemory, Read, Cert}
+use Rattle.tv_program.specs.declared.play_fault.PlayFault.{PlayFault}
+use Rattle.tv_program.specs.declared.play_fault.PlayFault.TheVariants as runs
+use Rattle.tv_program.specs.Conversions.{play_told}
 use Rattle.tv_files.specs.declared.failure.Failure.{Failure}
+use Rattle.tv_files.specs.declared.read_fault.ReadFault.{ReadFault}
+use Rattle.tv_files.specs.declared.read_fault.ReadFault.TheVariants as unread
 
 -- the fault, with the path of the file that it is told of; none where all was done
 abbrev pub End : Type 0
@@ -13,13 +18,28 @@ abbrev pub end_of : {T : Type 0} → Result T Failure → End
 end_of (Ok _) = None
 end_of (Err failure) = Some (failure.fault, failure.path.now)
 
--- the file that a fault is in: the description, or the script or certificate beside it
+-- the file that a fault is in: the description, or the certificate beside it
 abbrev pub path_of : RunFault → (file beside : List ℕ) → List ℕ
-path_of (Script line) file beside = beside
 path_of (Cert fault) file beside = beside
 path_of _ file beside = file
+
+-- the file that a fault of a run is in: the description, or the script where that is at fault or can't be read
+abbrev pub path_of_run : PlayFault → (file script : List ℕ) → List ℕ
+path_of_run (runs.Script fault) file script = script
+path_of_run runs.Read file script = script
+path_of_run _ file script = file
+
+-- why the bytes of a file aren't there
+abbrev pub file_told : ReadFault → RunFault
+file_told unread.NoMemory = NoMemory
+file_told unread.Read = Read
 
 -- the end where a call of the program answered this
 abbrev pub end_as : {T F : Type 0} → (F → RunFault) → (file beside : List ℕ) → Result T F → End
 end_as told file beside (Ok _) = None
 end_as told file beside (Err fault) = Some (told fault, path_of (told fault) file beside)
+
+-- the end where a run answered this
+abbrev pub end_of_run : {T : Type 0} → (file script : List ℕ) → Result T PlayFault → End
+end_of_run file script (Ok _) = None
+end_of_run file script (Err fault) = Some (play_told fault, path_of_run fault file script)

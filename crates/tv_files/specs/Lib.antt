@@ -2,7 +2,7 @@
 pub mod EndsWith
 -- How a task ends
 pub mod Ends
--- What is known of files, and what reading one comes to
+-- What is known of files, and what opening and reading one comes to
 pub mod Files
 -- What a flush leaves
 pub mod Streams

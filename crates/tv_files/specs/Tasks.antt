@@ -3,6 +3,7 @@ use Rattle.std.specs.Prelude.{◌≡◌, ℕ, List, [], ◌∷◌, Some, IsNone,
 use Rattle.tv_lang.specs.declared.description.LangFault.{LangFault}
 use Rattle.tv_lang.specs.Faults.{Refuses, Spells}
 use Rattle.tv_model.specs.declared.desc.Desc.{Desc}
+use Rattle.tv_io.specs.Reader.{Given}
 use Rattle.tv_io.specs.Writer.{Seen}
 use Rattle.tv_program.specs.declared.accept_fault.AcceptFault.{AcceptFault}
 use Rattle.tv_program.specs.declared.check_fault.CheckFault.{CheckFault}
@@ -10,47 +11,63 @@ use Rattle.tv_program.specs.declared.fault.RunFault.{RunFault}
 use Rattle.tv_program.specs.declared.fault.RunFault.TheVariants.{NoMemory, Read}
 use Rattle.tv_program.specs.declared.play_fault.PlayFault.{PlayFault}
 use Rattle.tv_program.specs.CheckRun.{AcceptsTo, ChecksTo}
-use Rattle.tv_program.specs.Conversions.{accept_told, check_told, lang_told, play_told}
-use Rattle.tv_program.specs.Playing.{RefusesDesc, RunsTo}
-use Rattle.tv_program.specs.Reading.{IsSoundText}
+use Rattle.tv_program.specs.Conversions.{accept_told, check_told, lang_told}
+use Rattle.tv_program.specs.Playing.{RunsTo}
 use Rattle.tv_files.specs.declared.task.Task.{Task}
 use Rattle.tv_files.specs.declared.task.Task.TheVariants.{Check, Accept, Run}
-use Rattle.tv_files.specs.declared.text_kind.TextKind.{TextKind}
-use Rattle.tv_files.specs.declared.text_kind.TextKind.TheVariants.{Description, Certificate, Script}
-use Rattle.tv_files.specs.Ends.{End, end_as}
-use Rattle.tv_files.specs.Files.{IsTextOf, Known, Opens}
+use Rattle.tv_files.specs.Ends.{End, end_as, end_of_run}
+use Rattle.tv_files.specs.Files.{BreaksOff, IsFileOf, IsTextOf, Known, Opens}
 
--- the task ended at a file that can't be read, the last one that was opened, or because memory ran out
+-- the task ended at a file that can't be opened, the last one that was asked for, or because memory ran out
+pub data IsUnopened (files after : Known) (opened : List (List ℕ)) (path : List ℕ) (end : End) : Type 0 where
+  memory : end ≡ Some (NoMemory, path) → IsUnopened files after opened path end
+  missing : Opens files after opened → IsNone (files.contents path) → end ≡ Some (Read, path) → IsUnopened files after opened path end
+
+-- the text of an open file isn't there: a call of its reader failed, or memory ran out
+pub data IsUngiven (old new : Given) (path : List ℕ) (end : End) : Type 0 where
+  memory : end ≡ Some (NoMemory, path) → IsUngiven old new path end
+  broken : BreaksOff old new → end ≡ Some (Read, path) → IsUngiven old new path end
+
+-- a call of the file's reader failed before its text was read
+pub record BreaksOffIn (files : Known) (path : List ℕ) : Type 0 where
+  pub reader : Given
+  pub left : Given
+  pub file : IsFileOf files path reader
+  pub breaks : BreaksOff reader left
+
+-- the task ended at a file that can't be opened, or can't be read to its end
 pub data IsUnread (files after : Known) (opened : List (List ℕ)) (path : List ℕ) (end : End) : Type 0 where
-  memory : end ≡ Some (NoMemory, path) → IsUnread files after opened path end
-  missing : Opens files after opened → IsNone (files.contents path) → end ≡ Some (Read, path) → IsUnread files after opened path end
+  unopened : IsUnopened files after opened path end → IsUnread files after opened path end
+  broken : Opens files after opened → BreaksOffIn files path → end ≡ Some (Read, path) → IsUnread files after opened path end
 
 -- the file was opened and gave the text
-pub record Gives (files after : Known) (opened : List (List ℕ)) (path : List ℕ) (kind : TextKind) (text : List ℕ) : Type 0 where
+pub record Gives (files after : Known) (opened : List (List ℕ)) (path : List ℕ) (text : List ℕ) : Type 0 where
   pub opens : Opens files after opened
-  pub text_of : IsTextOf files path kind text
+  pub text_of : IsTextOf files path text
 
 -- a task on one file: the file is opened, and what follows of its text is by `comes`
 pub data OnFile (comes : (text : List ℕ) → Type 0) (files after : Known) (file : List ℕ) (old new : Seen) (end : End) : Type 0 where
   unread : IsUnread files after (file ∷ []) file end → new ≡ old → OnFile comes files after file old new end
-  done : (text : List ℕ) → Gives files after (file ∷ []) file Description text → comes text → OnFile comes files after file old new end
+  done : (text : List ℕ) → Gives files after (file ∷ []) file text → comes text → OnFile comes files after file old new end
 
 -- a task that ends before the file beside the description is looked for: the description can't be read, or it is refused
 pub data EndsFirst (refuses : (text : List ℕ) → RunFault → Type 0) (files after : Known) (file : List ℕ) (end : End) : Type 0 where
   unread : IsUnread files after (file ∷ []) file end → EndsFirst refuses files after file end
-  refused : (text : List ℕ) (fault : RunFault) → Gives files after (file ∷ []) file Description text → refuses text fault → end ≡ Some (fault, file) → EndsFirst refuses files after file end
+  refused : (text : List ℕ) (fault : RunFault) → Gives files after (file ∷ []) file text → refuses text fault → end ≡ Some (fault, file) → EndsFirst refuses files after file end
 
 -- a task on a description and the file beside it, which is opened only once the description has passed
-pub data OnFiles (kind : TextKind) (refuses : (text : List ℕ) → RunFault → Type 0) (passes : (text : List ℕ) → Type 0) (comes : (text written : List ℕ) → Type 0) (files after : Known) (file beside : List ℕ) (old new : Seen) (end : End) : Type 0 where
-  first : EndsFirst refuses files after file end → new ≡ old → OnFiles kind refuses passes comes files after file beside old new end
-  unread : (text : List ℕ) → IsTextOf files file Description text → passes text → IsUnread files after (file ∷ beside ∷ []) beside end → new ≡ old → OnFiles kind refuses passes comes files after file beside old new end
-  done : (text written : List ℕ) → IsTextOf files file Description text → passes text → Gives files after (file ∷ beside ∷ []) beside kind written → comes text written → OnFiles kind refuses passes comes files after file beside old new end
+pub data OnFiles (refuses : (text : List ℕ) → RunFault → Type 0) (passes : (text : List ℕ) → Type 0) (comes : (text written : List ℕ) → Type 0) (files after : Known) (file beside : List ℕ) (old new : Seen) (end : End) : Type 0 where
+  first : EndsFirst refuses files after file end → new ≡ old → OnFiles refuses passes comes files after file beside old new end
+  unread : (text : List ℕ) → IsTextOf files file text → passes text → IsUnread files after (file ∷ beside ∷ []) beside end → new ≡ old → OnFiles refuses passes comes files after file beside old new end
+  done : (text written : List ℕ) → IsTextOf files file text → passes text → Gives files after (file ∷ beside ∷ []) beside written → comes text written → OnFiles refuses passes comes files after file beside old new end
 
 -- a description that was read, and what follows of its text
 pub record HasRead (follows : (text : List ℕ) → Type 0) (files after : Known) (file : List ℕ) : Type 0 where
   pub text : List ℕ
-  pub gives : Gives files after (file ∷ []) file Description text
+  pub gives : Gives files after (file ∷ []) file text
   pub follows_text : follows text
+
+-- ---- a check
 
 -- what `check` answers about the text, told as an end
 abbrev pub ChecksAs : (file : List ℕ) → (old new : Seen) → End → (text : List ℕ) → Type 0
@@ -59,6 +76,8 @@ ChecksAs file old new end text = (r : Result (Unit {0}) CheckFault) × ChecksTo 
 abbrev pub ChecksFile : (files after : Known) → (file : List ℕ) → (old new : Seen) → End → Type 0
 ChecksFile files after file old new end =
     OnFile (ChecksAs file old new end) files after file old new end
+
+-- ---- an acceptance
 
 -- the text spells no description
 abbrev pub IsUnspelled : (text : List ℕ) → RunFault → Type 0
@@ -78,27 +97,29 @@ AcceptsAs file certificate old new end text written =
 -- the certificate is looked for once the description is spelled
 abbrev pub AcceptsFiles : (files after : Known) → (file certificate : List ℕ) → (old new : Seen) → End → Type 0
 AcceptsFiles files after file certificate old new end =
-    OnFiles Certificate IsUnspelled IsSpelled (AcceptsAs file certificate old new end) files after file certificate old new end
+    OnFiles IsUnspelled IsSpelled (AcceptsAs file certificate old new end) files after file certificate old new end
 
--- the text spells no description, or one with faults
-abbrev pub IsUnsound : (text : List ℕ) → RunFault → Type 0
-IsUnsound text fault = (unsound : PlayFault) × RefusesDesc text unsound × (fault ≡ play_told unsound)
+-- ---- a run
 
-abbrev pub IsRunnableAs : Desc → (text : List ℕ) → Type 0
-IsRunnableAs d text = IsSoundText text d
+-- The description and its script, the files of these paths. Both are opened before anything is read, the description first;
+-- then the description is read, and what follows of its text and of the script, as it comes, is by `comes`.
+pub data OnStream (comes : (text : List ℕ) (reader left : Given) → Type 0) (files after : Known) (file script : List ℕ) (old new : Seen) (end : End) : Type 0 where
+  unopened : IsUnopened files after (file ∷ []) file end → new ≡ old → OnStream comes files after file script old new end
+  beside : IsUnopened files after (file ∷ script ∷ []) script end → new ≡ old → OnStream comes files after file script old new end
+  unread : IsUnread files after (file ∷ script ∷ []) file end → new ≡ old → OnStream comes files after file script old new end
+  done : (text : List ℕ) (reader left : Given) → Gives files after (file ∷ script ∷ []) file text → IsFileOf files script reader → comes text reader left → OnStream comes files after file script old new end
 
-abbrev pub IsRunnable : (text : List ℕ) → Type 0
-IsRunnable text = (d : Desc) × IsRunnableAs d text
+-- what `run` answers, told as an end; the views of a description may be refused only where they are mismade
+abbrev pub RunsAs : (Mismade : Desc → Type 0) → (file script : List ℕ) → (old new : Seen) → End → (text : List ℕ) (reader left : Given) → Type 0
+RunsAs Mismade file script old new end text reader left =
+    (r : Result (Unit {0}) PlayFault) × RunsTo Mismade (λ done s. Unit {0}) text reader left old new r × (end ≡ end_of_run file script r)
 
--- what `run` answers about the texts, told as an end; the views of a description may be refused only where they are mismade
-abbrev pub RunsAs : (Mismade : Desc → Type 0) → (file script : List ℕ) → (old new : Seen) → End → (text written : List ℕ) → Type 0
-RunsAs Mismade file script old new end text written =
-    (r : Result (Unit {0}) PlayFault) × RunsTo Mismade text written old new r × (end ≡ end_as play_told file script r)
-
--- the script is looked for once the description has passed
+-- the description is read once the script is opened, and the script once the description's views are made
 abbrev pub RunsFiles : (Mismade : Desc → Type 0) → (files after : Known) → (file script : List ℕ) → (old new : Seen) → End → Type 0
 RunsFiles Mismade files after file script old new end =
-    OnFiles Script IsUnsound IsRunnable (RunsAs Mismade file script old new end) files after file script old new end
+    OnStream (RunsAs Mismade file script old new end) files after file script old new end
+
+-- ---- all tasks
 
 -- a task, by what is asked for
 abbrev pub Performs : (Mismade : Desc → Type 0) → Task → (files after : Known) → (old new : Seen) → End → Type 0

@@ -1,18 +1,19 @@
 //! Where files come from.
 
-ghost use Rattle.tv_files.specs.Files.{Known, Reads};
+ghost use Rattle.tv_files.specs.Files.{Known, OpensAs};
 
 use crate::read_fault::ReadFault;
-use crate::text_kind::TextKind;
-use std::alloc::Global;
+use tv_io::Reader;
 
 /// Where files come from. Contracts see what the file of each path holds and which paths were opened, in order, where
 /// these are known.
 pub trait FileStore {
+    /// A file that was opened, and is read from its first byte on.
+    type File: Reader + Drop;
+
     ghost known: { Self → Known };
 
-    /// Opens the file of a path and reads it. Past the limit of its kind one byte more is read, which shows that there
-    /// are too many.
-    fn read(&mut self, alloc: Global, path: &str, kind: TextKind) -> Result<Vec<u8>, ReadFault>
-        ensures { Reads (known self.old) (known self.new) path.now kind result };
+    /// Opens the file of a path. Reads nothing of it.
+    fn open(&mut self, path: &str) -> Result<Self::File, ReadFault>
+        ensures { OpensAs Self.File.seen (known self.old) (known self.new) path.now result };
 }

@@ -1,5 +1,6 @@
 //! Why the bytes of a file aren't there.
 
+use std::alloc::AllocError;
 use std::io;
 use std::io::ErrorKind;
 use thiserror::Error;
@@ -11,6 +12,17 @@ pub enum ReadFault {
     NoMemory,
     #[error("cannot read")]
     Read,
+}
+
+impl From<AllocError> for ReadFault {
+    ghost use Rattle.std.specs.Prelude.{◌≡◌};
+    ghost use Rattle.tv_files.specs.declared.read_fault.ReadFault.TheVariants.{NoMemory};
+
+    ghost from_gives = { λ _ fault. fault ≡ NoMemory };
+
+    fn from(_error: AllocError) -> ReadFault {
+        ReadFault::NoMemory
+    }
 }
 
 impl From<io::Error> for ReadFault {

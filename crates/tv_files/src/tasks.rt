@@ -1,22 +1,22 @@
 //! What each subcommand does with its files.
 
-ghost use Rattle.std.specs.Prelude.{[], ◌∷◌, MatchResult};
+ghost use Rattle.std.specs.Prelude.{[], ◌∷◌, MatchResult, Some};
 ghost use Rattle.tv_program.specs.Playing.{IsMismade, Makes};
 ghost use Rattle.tv_files.specs.Ends.{end_of};
-ghost use Rattle.tv_files.specs.Tasks.{AcceptsFiles, ChecksFile, EndsFirst, Gives, HasRead, IsSpelledAs, IsRunnableAs, IsUnread, IsUnsound, IsUnspelled, Performs, RunsFiles};
+ghost use Rattle.tv_files.specs.Files.{IsFileOf, IsRead, Opens};
+ghost use Rattle.tv_files.specs.Tasks.{AcceptsFiles, ChecksFile, EndsFirst, Gives, HasRead, IsSpelledAs, IsUngiven, IsUnopened, IsUnread, IsUnspelled, Performs, RunsFiles};
 
 use crate::Task;
 use crate::failure::Failure;
 use crate::file_store::FileStore;
-use crate::read_fault::ReadFault;
-use crate::text_kind::TextKind;
+use crate::reading::read_text;
 use std::alloc::Global;
 use tv_building::{BuildFault, Views};
 use tv_check::Checked;
-use tv_io::Writer;
+use tv_io::{Reader, Writer};
 use tv_lang::parse;
 use tv_model::Desc;
-use tv_program::{RunFault, accept_text, check, read_checked, run_script};
+use tv_program::{RunFault, accept_text, check, run};
 use tv_view::View;
 
 /// Does what is asked for, and writes its result.
@@ -48,7 +48,7 @@ pub fn check_file<'a, F: FileStore, W: Writer>(
 ) -> Result<(), Failure<'a>>
     ensures { ChecksFile (F.known files.old) (F.known files.new) file.now (W.seen out.old) (W.seen out.new) (end_of result) }
 {
-    let text = read(files, alloc, file, TextKind::Description)?;
+    let text = read_file(files, alloc, file)?;
     match check(alloc, text.as_slice(), out) {
         Ok(()) => Ok(()),
         Err(fault) => Err(Failure::new(file, file, RunFault::from(fault))),
@@ -68,7 +68,7 @@ pub fn accept_file<'a, F: FileStore, W: Writer>(
     ensures { AcceptsFiles (F.known files.old) (F.known files.new) file.now certificate.now (W.seen out.old) (W.seen out.new) (end_of result) }
 {
     let desc = described(files, alloc, file)?;
-    let text = read(files, alloc, certificate, TextKind::Certificate)?;
+    let text = read_file(files, alloc, certificate)?;
     match accept_text(alloc, desc, text.as_slice(), out) {
         Ok(()) => Ok(()),
         Err(fault) => Err(Failure::new(file, certificate, RunFault::from(fault))),
@@ -77,7 +77,11 @@ pub fn accept_file<'a, F: FileStore, W: Writer>(
 
 /// Performs a file's script on a file's description through the views that `views` makes of it, and writes its output.
 ///
-/// The script is looked for only once the description has passed, and the views are made only once the script has.
+/// Both files are opened before anything is read, the description first. Then the description is read to its end; the script
+/// is read only once the description has passed and its views are made, and performed as it comes: each line when its end
+/// has come, with what was written before passed on. So the script may be a pipe or a terminal.
+///
+/// Where the script is at fault, or can't be read any more, what the lines before it wrote was written.
 pub fn run_file<
     'a,
     V: View,
@@ -95,15 +99,16 @@ pub fn run_file<
     requires { M.IsAlwaysCallable views.now }
     ensures { RunsFiles (IsMismade (Makes M.Fn views.now) V.meaning) (F.known files.old) (F.known files.new) file.now script.now (W.seen out.old) (W.seen out.new) (end_of result) }
 {
-    let checked = runnable(files, alloc, file)?;
-    let text = read(files, alloc, script, TextKind::Script)?;
-    match run_script(alloc, checked, text.as_slice(), views, out) {
-        Ok(()) => Ok(()),
-        Err(fault) => Err(Failure::new(file, script, RunFault::from(fault))),
+    let mut description = open(files, file)?;
+    let mut events = open(files, script)?;
+    let text = read(alloc, &mut description, file)?;
+    match run(alloc, text.as_slice(), &mut events, views, out) {
+        Ok(_) => Ok(()),
+        Err(fault) => Err(Failure::of_run(file, script, fault)),
     }
 }
 
-// The description of a file.
+// Reads the description of a file.
 fn described<'a, F: FileStore>(
     files: &mut F,
     alloc: Global,
@@ -113,7 +118,7 @@ fn described<'a, F: FileStore>(
         (λ desc. HasRead (IsSpelledAs desc) (F.known files.old) (F.known files.new) file.now)
         (λ failure. EndsFirst IsUnspelled (F.known files.old) (F.known files.new) file.now (Some (failure.fault, failure.path.now))) }
 {
-    let text = read(files, alloc, file, TextKind::Description)?;
+    let text = read_file(files, alloc, file)?;
     match parse(alloc, text.as_slice()) {
         Ok(desc) => Ok(desc),
         Err(fault) => Err(Failure {
@@ -123,40 +128,40 @@ fn described<'a, F: FileStore>(
     }
 }
 
-// The description of a file, checked with its own certificate, so that a script can be run on it.
-fn runnable<'a, F: FileStore>(
-    files: &mut F,
-    alloc: Global,
-    file: &'a str,
-) -> Result<Checked, Failure<'a>>
-    ensures { MatchResult result
-        (λ checked. HasRead (IsRunnableAs checked) (F.known files.old) (F.known files.new) file.now)
-        (λ failure. EndsFirst IsUnsound (F.known files.old) (F.known files.new) file.now (Some (failure.fault, failure.path.now))) }
-{
-    let text = read(files, alloc, file, TextKind::Description)?;
-    match read_checked(alloc, text.as_slice()) {
-        Ok(checked) => Ok(checked),
-        Err(fault) => Err(Failure {
-            fault: RunFault::from(fault),
-            path: file,
-        }),
-    }
-}
-
-fn read<'a, F: FileStore>(
+// Opens a file and reads its text.
+fn read_file<'a, F: FileStore>(
     files: &mut F,
     alloc: Global,
     path: &'a str,
-    kind: TextKind,
 ) -> Result<Vec<u8>, Failure<'a>>
     ensures { MatchResult result
-        (λ text. Gives (F.known files.old) (F.known files.new) (path.now ∷ []) path.now kind text.items)
+        (λ text. Gives (F.known files.old) (F.known files.new) (path.now ∷ []) path.now text.items)
         (λ failure. IsUnread (F.known files.old) (F.known files.new) (path.now ∷ []) path.now (Some (failure.fault, failure.path.now))) }
 {
-    let fault = match files.read(alloc, path, kind) {
-        Ok(bytes) => return Ok(bytes),
-        Err(ReadFault::NoMemory) => RunFault::NoMemory,
-        Err(ReadFault::Read) => RunFault::Read,
-    };
-    Err(Failure { fault, path })
+    let mut file = open(files, path)?;
+    read(alloc, &mut file, path)
+}
+
+// Opens a file.
+fn open<'a, F: FileStore>(files: &mut F, path: &'a str) -> Result<F::File, Failure<'a>>
+    ensures { MatchResult result
+        (λ file. Opens (F.known files.old) (F.known files.new) (path.now ∷ []) × IsFileOf (F.known files.old) path.now (F.File.seen file))
+        (λ failure. IsUnopened (F.known files.old) (F.known files.new) (path.now ∷ []) path.now (Some (failure.fault, failure.path.now))) }
+{
+    match files.open(path) {
+        Ok(file) => Ok(file),
+        Err(unread) => Err(Failure::of_file(path, unread)),
+    }
+}
+
+// Reads the text of a file that was opened.
+fn read<'a, R: Reader>(alloc: Global, file: &mut R, path: &'a str) -> Result<Vec<u8>, Failure<'a>>
+    ensures { MatchResult result
+        (λ text. IsRead (R.seen file.old) (R.seen file.new) text.items)
+        (λ failure. IsUngiven (R.seen file.old) (R.seen file.new) path.now (Some (failure.fault, failure.path.now))) }
+{
+    match read_text(alloc, file) {
+        Ok(text) => Ok(text),
+        Err(unread) => Err(Failure::of_file(path, unread)),
+    }
 }

@@ -4,7 +4,7 @@ use crate::makers::no_views;
 use std::alloc::Global;
 use std::test::Fail;
 use tv_button_views::buttons;
-use tv_io::Writer;
+use tv_io::{FileReader, Writer};
 use tv_lang::parse;
 use tv_program::{RunFault, accept_files, accept_text, check, report, run};
 use tv_test_support::{Idle, Memory, Question, expect_answer};
@@ -70,7 +70,8 @@ pub fn run_into<W: Writer>(
     script: &[u8],
     out: &mut W,
 ) -> Result<(), RunFault> {
-    Ok(run(alloc, desc, script, &buttons, out)?)
+    run(alloc, desc, &mut FileReader::new(script), &buttons, out)?;
+    Ok(())
 }
 
 fn run_bare_into<W: Writer>(
@@ -79,7 +80,8 @@ fn run_bare_into<W: Writer>(
     script: &[u8],
     out: &mut W,
 ) -> Result<(), RunFault> {
-    Ok(run(alloc, desc, script, &no_views, out)?)
+    run(alloc, desc, &mut FileReader::new(script), &no_views, out)?;
+    Ok(())
 }
 
 /// Tells of a fault. Returns the status.
@@ -87,23 +89,20 @@ pub fn report_into<W: Writer, E: Writer>(fault: &RunFault, out: &mut W, err: &mu
     report(fault, "NAME", out, err)
 }
 
-/// What stands on standard output, then what stands on standard error, then the status. A call that failed wrote nothing.
+/// What stands on standard output, then what stands on standard error, then the status.
 impl Question for Call<'_> {
     fn answer(&self, alloc: Global, text: &[u8]) -> Result<String, Fail> {
         let mut out = Memory::ample(alloc)?;
-        let Err(fault) = self.make(alloc, text, &mut out) else {
-            return streams_told(alloc, out.taken(), b"", 0);
-        };
-        if !out.taken().is_empty() {
-            return Err(Fail::new("a call that failed has written"));
+        match self.make(alloc, text, &mut out) {
+            Ok(()) => streams_told(alloc, out.taken(), b"", 0),
+            Err(fault) => fault_told(alloc, out, &fault),
         }
-        fault_told(alloc, &fault)
     }
 }
 
-// What is told of a fault: what stands on standard output, then what stands on standard error, then the status.
-fn fault_told(alloc: Global, fault: &RunFault) -> Result<String, Fail> {
-    let mut out = Memory::ample(alloc)?;
+// What is told of a fault, on what was written before: what stands on standard output, then what stands on standard error,
+// then the status.
+fn fault_told(alloc: Global, mut out: Memory, fault: &RunFault) -> Result<String, Fail> {
     let mut err = Memory::ample(alloc)?;
     let status = report_into(fault, &mut out, &mut err);
     streams_told(alloc, out.taken(), err.taken(), status)
@@ -133,7 +132,7 @@ fn told<W: Writer>(
 ) -> Result<String, Fail> {
     match call.make(alloc, text.as_bytes(), out) {
         Ok(()) => Ok(String::from_str(alloc, "made\n")?),
-        Err(fault) => fault_told(alloc, &fault),
+        Err(fault) => fault_told(alloc, Memory::ample(alloc)?, &fault),
     }
 }
 

@@ -273,10 +273,9 @@ fn examples_without_their_views(rt: HostRuntime) -> Result<(), Fail> {
     expect_rows(&Call::RunBare { script: "" }, rt.alloc(), &ROWS)
 }
 
-// A script that is no script is told before the views are made.
+// A script that is no script isn't looked at where the views are refused.
 #[test]
-fn scripts_are_read_first(rt: HostRuntime) -> Result<(), Fail> {
-    let unread = "tvdlg: NAME: syntax at line 1\nstatus 1\n";
+fn scripts_are_read_last(rt: HostRuntime) -> Result<(), Fail> {
     for call in [
         Call::Run {
             script: "key Foo\n",
@@ -285,7 +284,8 @@ fn scripts_are_read_first(rt: HostRuntime) -> Result<(), Fail> {
             script: "key Foo\n",
         },
     ] {
-        expect_rows(&call, rt.alloc(), &[(ORDER, unread), (WINDOWS, unread)])?;
+        let rows = [(ORDER, REFUSED_VIEW), (WINDOWS, REFUSED_VIEW)];
+        expect_rows(&call, rt.alloc(), &rows)?;
     }
     Ok(())
 }

@@ -42,9 +42,20 @@ fn ending(
     err_room: Room,
 ) -> Result<String, Fail> {
     let mut files = Shelf::new(texts.0, texts.1);
+    ending_of(alloc, asked, &mut files, out_room, err_room)
+}
+
+// The same, with these files.
+fn ending_of(
+    alloc: Global,
+    asked: Result<Task<'_>, NoTask>,
+    files: &mut Shelf<'_>,
+    out_room: Room,
+    err_room: Room,
+) -> Result<String, Fail> {
     let mut out = Sink::new(alloc, out_room.0, out_room.1);
     let mut err = Sink::new(alloc, err_room.0, err_room.1);
-    let status = status(alloc, asked, &mut files, &mut out, &mut err)?;
+    let status = status(alloc, asked, files, &mut out, &mut err)?;
     let text = str::from_utf8(out.taken())?;
     let message = str::from_utf8(err.taken())?;
     let opened = files.opened();
@@ -135,20 +146,20 @@ const TASKS: [(Task<'static>, &str, &str, &str); 14] = [
     (
         RUN,
         CANCEL,
-        "key Foo\n",
-        "tvdlg: BESIDE: syntax at line 1\nstatus 1\nopened 12\n",
+        "key Tab\nkey Foo\nkey Esc\n",
+        "open a\nfocus c\ntvdlg: BESIDE: syntax at line 2\nstatus 1\nopened 12\n",
     ),
     (
         RUN,
         WITHOUT_CANCEL,
         "key Foo\n",
-        "F10 line 4\nstatus 1\nopened 1\n",
+        "F10 line 4\nstatus 1\nopened 12\n",
     ),
     (
         RUN,
         ORDER,
         "key Foo\n",
-        "tvdlg: BESIDE: syntax at line 1\nstatus 1\nopened 12\n",
+        "tvdlg: view refused\nstatus 1\nopened 12\n",
     ),
     (
         RUN,
@@ -160,7 +171,7 @@ const TASKS: [(Task<'static>, &str, &str, &str); 14] = [
         RUN,
         "tvd 1\n",
         "key Foo\n",
-        "tvdlg: FILE: syntax at line 2\nstatus 1\nopened 1\n",
+        "tvdlg: FILE: syntax at line 2\nstatus 1\nopened 12\n",
     ),
 ];
 
@@ -213,10 +224,67 @@ fn missing_files(rt: HostRuntime) -> Result<(), Fail> {
         (
             no_script,
             WITHOUT_CANCEL,
-            "F10 line 4\nstatus 1\nopened 1\n",
+            "tvdlg: cannot read NONE\nstatus 3\nopened 13\n",
         ),
     ] {
         let told = ending(rt.alloc(), Ok(task), (description, ""), AMPLE, AMPLE)?;
+        assert_eq!(rt; told.as_str(), wanted, "{task:?}");
+    }
+    Ok(())
+}
+
+// The description, the file beside it, which of them breaks off at its end, and what is told. What the lines before wrote of a
+// script that breaks off was written, and the line that has no end isn't performed.
+const TORN: [(Task<'static>, &str, &str, &str, &str); 6] = [
+    (
+        CHECK,
+        CANCEL,
+        "",
+        FILE,
+        "tvdlg: cannot read FILE\nstatus 3\nopened 1\n",
+    ),
+    (
+        ACCEPT,
+        CANCEL,
+        CANCEL_CERTIFICATE,
+        BESIDE,
+        "tvdlg: cannot read BESIDE\nstatus 3\nopened 12\n",
+    ),
+    (
+        RUN,
+        CANCEL,
+        "key Esc\n",
+        FILE,
+        "tvdlg: cannot read FILE\nstatus 3\nopened 12\n",
+    ),
+    (
+        RUN,
+        CANCEL,
+        "",
+        BESIDE,
+        "open a\nfocus c\ntvdlg: cannot read BESIDE\nstatus 3\nopened 12\n",
+    ),
+    (
+        RUN,
+        CANCEL,
+        "key Tab\nkey Esc\nkey Foo",
+        BESIDE,
+        "open a\nfocus c\nend a cancel\ntvdlg: cannot read BESIDE\nstatus 3\nopened 12\n",
+    ),
+    (
+        RUN,
+        CANCEL,
+        "key Foo\n",
+        BESIDE,
+        "open a\nfocus c\ntvdlg: BESIDE: syntax at line 1\nstatus 1\nopened 12\n",
+    ),
+];
+
+#[test]
+fn files_that_break_off(rt: HostRuntime) -> Result<(), Fail> {
+    for (task, description, beside, path, wanted) in TORN {
+        let mut files = Shelf::torn(description, beside, path);
+        let told = ending_of(rt.alloc(), Ok(task), &mut files, AMPLE, AMPLE)?;
         assert_eq!(rt; told.as_str(), wanted, "{task:?}");
     }
     Ok(())
@@ -243,7 +311,7 @@ fn long_texts(rt: HostRuntime) -> Result<(), Fail> {
             (
                 RUN,
                 (CANCEL, script.as_str()),
-                "tvdlg: BESIDE: too long\nstatus 1\nopened 12\n",
+                "open a\nfocus c\ntvdlg: BESIDE: too long\nstatus 1\nopened 12\n",
             ),
         ] {
             let told = ending(alloc, Ok(task), texts, AMPLE, AMPLE)?;

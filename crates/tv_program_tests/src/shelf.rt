@@ -1,17 +1,39 @@
 //! Files in memory.
 
-ghost use Rattle.std.specs.Prelude.{◌≡◌, ◌+◌, IfErr, IfOk, take};
-ghost use Rattle.tv_files.specs.Files.{limit_of};
-ghost use Rattle.tv_files.specs.declared.read_fault.ReadFault.TheVariants.{NoMemory};
+ghost use Rattle.std.specs.Prelude.{◌≡◌, false};
 
-use std::alloc::Global;
-use tv_files::{FileStore, ReadFault, TextKind, read_text};
+use std::io;
+use std::io::{ErrorKind, Read};
+use tv_files::{FileStore, ReadFault};
+use tv_io::FileReader;
+
+/// What is left of a file in memory.
+#[derive(Drop)]
+pub struct Page<'a> {
+    left: &'a [u8],
+    /// It breaks off: once all was given, a read fails.
+    is_torn: bool,
+}
+
+impl Read for Page<'_> {
+    ghost use Rattle.std.specs.Prelude.{Some};
+
+    ghost remaining = { λ page. Some page.left.now };
+
+    fn read(&mut self, room: &mut [u8]) -> io::Result<usize> {
+        if self.is_torn && self.left.is_empty() {
+            return Err(io::Error::from(ErrorKind::Other));
+        }
+        self.left.read(room)
+    }
+}
 
 /// A description and the file beside it. No other path has a file.
 #[derive(Drop)]
 pub struct Shelf<'a> {
     description: &'a str,
     beside: &'a str,
+    torn: Option<&'a str>,
     opened: u32,
 }
 
@@ -22,16 +44,27 @@ impl<'a> Shelf<'a> {
     /// The path of the file beside it.
     pub const BESIDE: &'static str = "BESIDE";
 
-    /// The two files with these texts. None of them was opened.
+    /// Puts up the two files with these texts. None of them was opened.
     pub fn new(description: &'a str, beside: &'a str) -> Shelf<'a> {
         Shelf {
             description,
             beside,
+            torn: None,
             opened: 0,
         }
     }
 
-    /// What was opened, a digit for each call: 1 for the description, 2 for the file beside it, 3 for any other.
+    /// Puts up the two files with these texts, of which that of a path breaks off at its end.
+    pub fn torn(description: &'a str, beside: &'a str, path: &'a str) -> Shelf<'a> {
+        Shelf {
+            description,
+            beside,
+            torn: Some(path),
+            opened: 0,
+        }
+    }
+
+    /// Returns what was opened, a digit for each call: 1 for the description, 2 for the file beside it, 3 for any other.
     pub fn opened(&self) -> u32 {
         self.opened
     }
@@ -42,35 +75,35 @@ impl<'a> Shelf<'a> {
     {
         self.opened = self.opened.saturating_mul(10).saturating_add(digit);
     }
+
+    // The file of a path, with this text.
+    fn page(&self, path: &str, text: &'a str) -> FileReader<Page<'a>>
+        ensures left { result.reader.left.now ≡ text.now }
+        ensures going { result.is_ended ≡ false }
+        ensures unfailed { result.failures ≡ 0 }
+    {
+        FileReader::new(Page {
+            left: text.as_bytes(),
+            is_torn: self.torn == Some(path),
+        })
+    }
 }
 
-// The text of a file, to one byte past its limit.
-fn text_of(alloc: Global, text: &str, kind: TextKind) -> Result<Vec<u8>, ReadFault>
-    ensures text { IfOk result (λ bytes. bytes.items ≡ take (limit_of kind + 1) text.now) }
-    ensures fault { IfErr result (λ fault. fault ≡ NoMemory) }
-{
-    read_text(alloc, text.as_bytes(), kind).map_err(|_| ReadFault::NoMemory)
-}
-
-impl FileStore for Shelf<'_> {
+impl<'a> FileStore for Shelf<'a> {
     ghost use Rattle.std.specs.Prelude.{None};
     ghost use Rattle.tv_program_tests.specs.Shelves.{text_at};
 
+    type File = FileReader<Page<'a>>;
+
     ghost known = { λ s. record { contents = λ path. text_at s.description.now s.beside.now path; opened = None } };
 
-    fn read(&mut self, alloc: Global, path: &str, kind: TextKind) -> Result<Vec<u8>, ReadFault> {
+    fn open(&mut self, path: &str) -> Result<FileReader<Page<'a>>, ReadFault> {
         if path == "FILE" {
             self.note(1);
-            match text_of(alloc, self.description, kind) {
-                Ok(bytes) => Ok(bytes),
-                Err(_) => Err(ReadFault::NoMemory),
-            }
+            Ok(self.page(path, self.description))
         } else if path == "BESIDE" {
             self.note(2);
-            match text_of(alloc, self.beside, kind) {
-                Ok(bytes) => Ok(bytes),
-                Err(_) => Err(ReadFault::NoMemory),
-            }
+            Ok(self.page(path, self.beside))
         } else {
             self.note(3);
             Err(ReadFault::Read)
