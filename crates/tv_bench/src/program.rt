@@ -12,6 +12,7 @@ use std::rt::Clock;
 use std::time::Instant;
 use tv_button_views::buttons;
 use tv_check::{accept, certify, faults};
+use tv_io::FileReader;
 use tv_lang::parse;
 use tv_program::run as run_program;
 
@@ -55,7 +56,7 @@ fn measure_events<R: Clock + Eprint>(rt: &R, alloc: Global, script: &str) -> Res
     let is_run = run_program(
         alloc,
         desc.as_bytes(),
-        script.as_bytes(),
+        &mut FileReader::new(script.as_bytes()),
         &buttons,
         &mut Sink,
     )
