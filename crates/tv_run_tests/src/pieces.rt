@@ -59,6 +59,44 @@ impl Reader for Pieces<'_> {
     }
 }
 
+/// A reader that gives a line again and again, at each read once.
+#[derive(Drop)]
+pub struct Repeated<'a> {
+    line: &'a str,
+    left: usize,
+    is_ended: bool,
+}
+
+impl<'a> Repeated<'a> {
+    /// Begins before the first of so many lines. A read has room for one, or gives a part of it.
+    pub fn new(line: &'a str, times: usize) -> Repeated<'a> {
+        Repeated {
+            line,
+            left: times,
+            is_ended: false,
+        }
+    }
+}
+
+impl Reader for Repeated<'_> {
+    ghost use Rattle.std.specs.Prelude.{None};
+
+    ghost seen = { λ r. record { given = None; left = None; failures = 0; is_ended = r.is_ended } };
+
+    fn read(&mut self, room: &mut [u8]) -> Option<usize> {
+        if self.left == 0 {
+            self.is_ended = true;
+            return Some(0);
+        }
+        self.left -= 1;
+        let count = room.len().min(self.line.len());
+        let (line, _) = self.line.as_bytes().split_at(count);
+        room[..count].copy_from_slice(line);
+        self.is_ended = count == 0;
+        Some(count)
+    }
+}
+
 /// A reader that looks, at each read, how many bytes were passed on.
 #[derive(Drop)]
 pub struct Watching<'a> {

@@ -69,9 +69,9 @@ fn readers_that_fail_at_each_read(rt: HostRuntime) -> Result<(), Fail> {
     Ok(())
 }
 
-// This refuses a run that gathers its script first, and one that doesn't pass on what it wrote before it waits for more.
+// Refuses a run that gathers its script first, and one that doesn't pass on what it wrote before it waits for more.
 #[test]
-fn lines_are_answered_before_the_next(rt: HostRuntime) -> Result<(), Fail> {
+fn gathers_whole_script(rt: HostRuntime) -> Result<(), Fail> {
     let passed_on = Cell::new(0);
     let mut script = Watching::new(Pieces::new(GIFTS, 7), &passed_on, &WRITTEN);
     let mut out = Held::new(&passed_on);
