@@ -2,7 +2,7 @@
 use Rattle.std.proofs.Common.{◌≡◌, ◌≢◌, ℕ, suc, ◌+◌, ◌<◌, List, [], ◌∷◌, ◌++◌, length, take, drop, get_or, Option, Some, None, Result, Ok, Err, IfErr, All, refl, sym, ap, add-one, length-append, arith}
 use Rattle.std.proofs.lemmas.List.Elements.{All-nil, All-cons, All-head, All-tail, All-append, All-take, All-drop}
 use Rattle.tv_cells.specs.Glyph.{IsNarrow}
-use Rattle.tv_cells.specs.HotText.{Hot, IsHot, IsAround, IsUnmarkable, Refuses, hot_of, char_at, spelled}
+use Rattle.tv_cells.specs.HotText.{Hot, IsHot, IsAround, IsUnmarkable, RefusesHotText, hot_of, char_at, spelled_hot_text}
 use Rattle.tv_cells.specs.declared.hot_text.HotTextFault.{HotTextFault}
 use Rattle.tv_cells.specs.declared.hot_text.HotTextFault.TheVariants.{BadMark, TooLong}
 
@@ -30,7 +30,7 @@ drop_past (x ∷ xs) ys y = drop_past xs ys y
 
 -- ---- marked texts
 
-pub spelled_of : (before : List ℕ) (letter : ℕ) (after : List ℕ) → spelled (hot_of before letter after) ≡ before ++ 126 ∷ letter ∷ 126 ∷ after
+pub spelled_of : (before : List ℕ) (letter : ℕ) (after : List ℕ) → spelled_hot_text (hot_of before letter after) ≡ before ++ 126 ∷ letter ∷ 126 ∷ after
 spelled_of before letter after = rw (take_front before (letter ∷ after), read_after before after letter, add-one, drop_past before after letter)
 
 -- the characters of a text stand in its parts
@@ -48,7 +48,7 @@ hot_around {text = text} {before = before} {letter = letter} {after = after} aro
     }
 
 -- a text that can't be taken apart is not the spelling of any
-refuse_at : (text : List ℕ) → IsUnmarkable text → (hot : Hot) (place : Option ℕ) → hot.place ≡ place → IsHot hot → spelled hot ≡ text → ⊥
+refuse_at : (text : List ℕ) → IsUnmarkable text → (hot : Hot) (place : Option ℕ) → hot.place ≡ place → IsHot hot → spelled_hot_text hot ≡ text → ⊥
 refuse_at text wild hot None e is spell =
     let same : hot.text ≡ text = rw e at spell in
     wild.not_plain (rw same at is.free)
@@ -61,11 +61,11 @@ refuse_at text wild hot (Some place) e is spell =
       free_after = All-drop (λ ch. ch ≢ 126) (place + 1) hot.text is.free;
     })
 
-pub refuse_mark : (text : List ℕ) → All IsNarrow text → IsUnmarkable text → Refuses text BadMark
+pub refuse_mark : (text : List ℕ) → All IsNarrow text → IsUnmarkable text → RefusesHotText text BadMark
 refuse_mark text narrow wild = (narrow, λ hot is spell. refuse_at text wild hot hot.place refl is spell)
 
 -- a text that is too long
-pub refuse_long : (text : List ℕ) (hot : Hot) → All IsNarrow text → IsHot hot → spelled hot ≡ text → 120 < length hot.text → Refuses text TooLong
+pub refuse_long : (text : List ℕ) (hot : Hot) → All IsNarrow text → IsHot hot → spelled_hot_text hot ≡ text → 120 < length hot.text → RefusesHotText text TooLong
 refuse_long text hot narrow is spell long = (narrow, hot, is, spell, long)
 
 -- ---- results
@@ -73,6 +73,6 @@ refuse_long text hot narrow is spell long = (narrow, hot, is, spell, long)
 pub hot_is : (text spelt : List ℕ) (place at : Option ℕ) → text ≡ spelt → place ≡ at → ◌≡◌ {A = Hot} record { text = text; place = place } record { text = spelt; place = at }
 hot_is text spelt place at e f = cc
 
-pub long_refused : {text : List ℕ} {Long : Type 0} (r : Result Hot HotTextFault) → IfErr r (λ fault. (fault ≡ TooLong) × Long) → (Long → Refuses text TooLong) → IfErr r (λ fault. Refuses text fault)
+pub long_refused : {text : List ℕ} {Long : Type 0} (r : Result Hot HotTextFault) → IfErr r (λ fault. (fault ≡ TooLong) × Long) → (Long → RefusesHotText text TooLong) → IfErr r (λ fault. RefusesHotText text fault)
 long_refused (Ok hot) h f = tt
 long_refused (Err fault) h f = rw h.0 (f h.1)

@@ -4,7 +4,7 @@ use Rattle.std.specs.Char.{is_ascii_alphanumeric}
 use Rattle.std.proofs.lemmas.List.{drop_more, take-append-drop, length-take-le}
 use Rattle.std.proofs.lemmas.List.Elements.{All-cons, All-append, All-take, All-drop, All-get_or}
 use Rattle.tv_cells.specs.Glyph.{IsNarrow}
-use Rattle.tv_cells.specs.HotText.{Hot, IsHot, Refuses, char_at, spelled, spelled_at}
+use Rattle.tv_cells.specs.HotText.{Hot, IsHot, RefusesHotText, char_at, spelled_hot_text, spelled_at}
 use Rattle.tv_cells.specs.declared.hot_text.HotTextFault.{HotTextFault}
 use Rattle.tv_cells.specs.declared.hot_text.HotTextFault.TheVariants.{BadWidth, BadMark, TooLong}
 use Rattle.tv_cells.proofs.HotTextLemmas.{hot_is}
@@ -41,13 +41,13 @@ unique_at text other (Some i) (Some j) f g l m e =
     let places : i ≡ j = sym (length-take-le i text (omega (arith, l.0))) ∙ ap length parts.0 ∙ length-take-le j other (omega (arith, m.0)) in
     (rejoined text i l.0 ∙ wholes ∙ sym (rejoined other j m.0), ap Some places)
 
-unique : (hot other : Hot) → IsHot hot → IsHot other → spelled hot ≡ spelled other → hot ≡ other
+unique : (hot other : Hot) → IsHot hot → IsHot other → spelled_hot_text hot ≡ spelled_hot_text other → hot ≡ other
 unique hot other h k e =
     let parts = unique_at hot.text other.text hot.place other.place h.free k.free h.letter k.letter e in
     hot_is hot.text other.text hot.place other.place parts.0 parts.1
 
 -- what spells a marked text that is not too long isn't refused
-pub not_refused : (text : List ℕ) (fault : HotTextFault) → Refuses text fault → (hot : Hot) → IsHot hot → length hot.text ≤ 120 → spelled hot ≡ text → ⊥
+pub not_refused : (text : List ℕ) (fault : HotTextFault) → RefusesHotText text fault → (hot : Hot) → IsHot hot → length hot.text ≤ 120 → spelled_hot_text hot ≡ text → ⊥
 not_refused text (BadWidth place) h hot is short e =
     let narrow : All IsNarrow text = rw e at (narrow_at hot.text hot.place is.narrow is.letter) in
     h.2 (All-get_or IsNarrow text place 0 h.0 narrow)
@@ -57,6 +57,6 @@ not_refused text TooLong h hot is short e =
     omega (arith, short, h.4, ap (λ (k : Hot). length k.text) same)
 
 -- a result that is a known text, or refuses
-pub only_known : (text : List ℕ) (known : Hot) → IsHot known → spelled known ≡ text → (r : Result Hot HotTextFault) → IfOk r (λ hot. (hot ≡ known) × (length hot.text ≤ 120)) → IfErr r (λ fault. Refuses text fault) → (hot : Hot) → IsHot hot → length hot.text ≤ 120 → spelled hot ≡ text → r ≡ Ok hot
+pub only_known : (text : List ℕ) (known : Hot) → IsHot known → spelled_hot_text known ≡ text → (r : Result Hot HotTextFault) → IfOk r (λ hot. (hot ≡ known) × (length hot.text ≤ 120)) → IfErr r (λ fault. RefusesHotText text fault) → (hot : Hot) → IsHot hot → length hot.text ≤ 120 → spelled_hot_text hot ≡ text → r ≡ Ok hot
 only_known text known k spell (Ok found) ok fault hot is short e = ap Ok (ok.0 ∙ unique known hot k is (spell ∙ sym e))
 only_known text known k spell (Err why) ok fault hot is short e = absurd (not_refused text why fault hot is short e)

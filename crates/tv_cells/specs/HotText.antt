@@ -21,8 +21,8 @@ abbrev pub spelled_at : List ℕ → Option ℕ → List ℕ
 spelled_at text None = text
 spelled_at text (Some place) = take place text ++ 126 ∷ char_at text place ∷ 126 ∷ drop (place + 1) text
 
-abbrev pub spelled : Hot → List ℕ
-spelled hot = spelled_at hot.text hot.place
+abbrev pub spelled_hot_text : Hot → List ℕ
+spelled_hot_text hot = spelled_at hot.text hot.place
 
 -- the marked letter in upper case
 abbrev pub letter_at : List ℕ → Option ℕ → Option ℕ
@@ -39,10 +39,10 @@ pub record IsHot (hot : Hot) : Type 0 where
   pub letter : IfSome hot.place (λ place. (place < length hot.text) × IsTrue (is_ascii_alphanumeric (char_at hot.text place)))
 
 -- when a text is refused, the first that holds
-abbrev pub Refuses : List ℕ → HotTextFault → Type 0
-Refuses text (BadWidth place) = (place < length text) × All IsNarrow (take place text) × (IsNarrow (char_at text place) → ⊥)
-Refuses text BadMark = All IsNarrow text × ((hot : Hot) → IsHot hot → spelled hot ≡ text → ⊥)
-Refuses text TooLong = All IsNarrow text × (hot : Hot) × IsHot hot × (spelled hot ≡ text) × (120 < length hot.text)
+abbrev pub RefusesHotText : List ℕ → HotTextFault → Type 0
+RefusesHotText text (BadWidth place) = (place < length text) × All IsNarrow (take place text) × (IsNarrow (char_at text place) → ⊥)
+RefusesHotText text BadMark = All IsNarrow text × ((hot : Hot) → IsHot hot → spelled_hot_text hot ≡ text → ⊥)
+RefusesHotText text TooLong = All IsNarrow text × (hot : Hot) × IsHot hot × (spelled_hot_text hot ≡ text) × (120 < length hot.text)
 
 -- ---- how a text is taken apart
 

@@ -16,7 +16,7 @@ pub record IsScreenSize (width height : ℕ) : Type 0 where
   pub most_height : height ≤ 60
 
 -- there is a cell for each column of each row
-pub record IsPicture (width height : ℕ) (cells : List Glyph) : Type 0 where
+pub record IsPictureOf (width height : ℕ) (cells : List Glyph) : Type 0 where
   pub size : IsScreenSize width height
   pub full : length cells ≡ width * height
 

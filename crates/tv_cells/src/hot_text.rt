@@ -2,7 +2,7 @@
 
 ghost use Rattle.std.specs.Prelude.{◌≡◌, ◌≢◌, ◌<◌, ◌≤◌, ◌+◌, ◌++◌, [], ◌∷◌, length, chars, All, IfOk, IfErr, IfSome, IfNone, OnOk};
 ghost use Rattle.tv_cells.specs.Glyph.{IsNarrow};
-ghost use Rattle.tv_cells.specs.HotText.{Hot, IsApart, IsHot, IsUnmarkable, Refuses, hot_of, letter_of, spelled, unmarked};
+ghost use Rattle.tv_cells.specs.HotText.{Hot, IsApart, IsHot, IsUnmarkable, RefusesHotText, hot_of, letter_of, spelled_hot_text, unmarked};
 
 use crate::cell::is_narrow;
 use arrayvec::ArrayVec;
@@ -47,10 +47,10 @@ impl HotText {
     /// `BadWidth` for the first character that doesn't take one column, else `BadMark` for another use of `~`, else
     /// `TooLong` for more than 120 characters, the two `~` not counted.
     pub fn parse(text: &str) -> Result<HotText, HotTextFault>
-        ensures spelled { IfOk result (λ hot. spelled hot ≡ chars text.now) }
+        ensures spelled { IfOk result (λ hot. spelled_hot_text hot ≡ chars text.now) }
         ensures sound { IfOk result (λ hot. IsHot hot × (length hot.text ≤ 120)) }
-        ensures only { (hot : Hot) → IsHot hot → length hot.text ≤ 120 → spelled hot ≡ chars text.now → result ≡ Ok hot }
-        ensures fault { IfErr result (λ fault. Refuses (chars text.now) fault) }
+        ensures only { (hot : Hot) → IsHot hot → length hot.text ≤ 120 → spelled_hot_text hot ≡ chars text.now → result ≡ Ok hot }
+        ensures fault { IfErr result (λ fault. RefusesHotText (chars text.now) fault) }
     {
         if let Some(place) = first_wide(text) {
             return Err(HotTextFault::BadWidth(place));
@@ -152,7 +152,7 @@ fn split_tilde(text: &str) -> Option<(&str, &str)>
 
 // The place of the first character that doesn't take one column.
 fn first_wide(text: &str) -> Option<usize>
-    ensures some { IfSome result (λ place. Refuses (chars text.now) (HotTextFault.BadWidth place)) }
+    ensures some { IfSome result (λ place. RefusesHotText (chars text.now) (HotTextFault.BadWidth place)) }
     ensures none { IfNone result (All IsNarrow (chars text.now)) }
 {
     let mut place = 0;

@@ -45,13 +45,13 @@ pub struct Screen {
 }
 
 impl Model for Screen {
-    ghost use Rattle.tv_cells.specs.Picture.{Picture, IsPicture};
+    ghost use Rattle.tv_cells.specs.Picture.{Picture, IsPictureOf};
 
     ghost Value = { Picture };
 
     ghost view = { λ s. record { width = s.width; height = s.height; cells = s.cells.items } };
 
-    ghost invariant = { λ s. IsPicture s.width s.height s.cells.items };
+    ghost invariant = { λ s. IsPictureOf s.width s.height s.cells.items };
 }
 
 impl Screen {

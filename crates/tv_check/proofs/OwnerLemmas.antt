@@ -10,7 +10,7 @@ use Rattle.tv_model.specs.declared.kind.MarkedText.{MarkedText}
 use Rattle.tv_model.specs.declared.kind.Kind.{Kind}
 use Rattle.tv_model.specs.declared.kind.Kind.TheVariants as kinds
 use Rattle.tv_model.specs.declared.desc.Dialog.{Dialog}
-use Rattle.tv_model.specs.Controls.Owner.{Owner, control, item_at}
+use Rattle.tv_model.specs.Controls.Owner.{LetterOwner, control, item_at}
 use Rattle.tv_model.specs.Description.Owners.{marker_of, owner_by, owners_of}
 use Rattle.tv_model.specs.Description.Marks.{marks}
 use Rattle.tv_model.specs.Faults.Limits.{is_lawful_count}
@@ -21,7 +21,7 @@ use Rattle.tv_check.specs.Certificates.{FitsKeyLine}
 use Rattle.tv_check.proofs.DialogLemmas.{ViewKind}
 
 -- what an owner is by every view that may give it, it is by the dialog
-module _ (Q : Kind → Type 0) (P : Owner → Type 0) (letter : ℕ) (each : (kind : Kind) → Q kind → IfSome (owner_by letter kind) P) where
+module _ (Q : Kind → Type 0) (P : LetterOwner → Type 0) (letter : ℕ) (each : (kind : Kind) → Q kind → IfSome (owner_by letter kind) P) where
   abbrev Has : Node → Type 0
   Has view = Q view.kind
 
@@ -37,24 +37,24 @@ module _ (Q : Kind → Type 0) (P : Owner → Type 0) (letter : ℕ) (each : (ki
   given None is = tt
   given (Some view) is = each view.kind is
 
-  in_list : (o : Option Owner) → IfSome o P → AllByRecursion P (option_to_list o)
+  in_list : (o : Option LetterOwner) → IfSome o P → AllByRecursion P (option_to_list o)
   in_list None is = tt
   in_list (Some owner) is = (is, tt)
 
   owners_have : (dialog : Dialog) → AllByRecursion Has dialog.views → AllByRecursion P (owners_of dialog letter)
   owners_have dialog are = in_list (option_and_then (λ node. owner_by letter node.kind) (marker_of dialog letter)) (given (marker_of dialog letter) (found (λ node. is_some (owner_by letter node.kind)) dialog.views are))
 
-owner_if : (P : Owner → Type 0) (b : Bool) (owner : Owner) → P owner → IfSome (cond b (Some owner) None) P
+owner_if : (P : LetterOwner → Type 0) (b : Bool) (owner : LetterOwner) → P owner → IfSome (cond b (Some owner) None) P
 owner_if P true owner is = is
 owner_if P false owner is = tt
 
-item_if : (P : Owner → Type 0) (name : List ℕ) (o : Option ℕ) → ((place : ℕ) → o ≡ Some place → P (item_at name place)) → IfSome (option_map (item_at name) o) P
+item_if : (P : LetterOwner → Type 0) (name : List ℕ) (o : Option ℕ) → ((place : ℕ) → o ≡ Some place → P (item_at name place)) → IfSome (option_map (item_at name) o) P
 item_if P name None each = tt
 item_if P name (Some place) each = each place refl
 
 -- ---- names
 
-abbrev pub HasName : Owner → Type 0
+abbrev pub HasName : LetterOwner → Type 0
 HasName owner = IsName owner.name
 
 kind_named : (letter : ℕ) (kind : Kind) → IsKind kind → IfSome (owner_by letter kind) HasName

@@ -13,7 +13,7 @@ use Rattle.tv_model.specs.declared.desc.Desc.{Desc}
 use Rattle.tv_model.specs.declared.desc.Dialog.{Dialog}
 use Rattle.tv_model.specs.Description.Nodes.{is_dialog, name_of}
 use Rattle.tv_model.specs.Description.Heads.{dialog_head_of}
-use Rattle.tv_model.specs.Controls.Owner.{Owner}
+use Rattle.tv_model.specs.Controls.Owner.{LetterOwner}
 use Rattle.tv_model.specs.Description.Owners.{owners_of}
 use Rattle.tv_model.specs.Description.Certificates.{dialog_name, letters, tabs_of}
 use Rattle.tv_model.specs.Faults.Lines.{after_seen}
@@ -43,7 +43,7 @@ both P Q R f (x ∷ xs) p q = (f x p.0 q.0, both P Q R f xs p.1 q.1)
 
 -- ---- key lines of letters
 
-module _ (owners : ℕ → List Owner) where
+module _ (owners : ℕ → List LetterOwner) where
   abbrev pub lines_for : List ℕ → List KeyLine
   lines_for ls = flat_map (λ letter. map (key_line letter) (owners letter)) ls
 
@@ -51,7 +51,7 @@ module _ (owners : ℕ → List Owner) where
   alike a b = a == b
 
   -- lines of another letter
-  passed_over : (l letter : ℕ) (os : List Owner) (rest : List KeyLine) → l == letter ≡ false → owners_in (map (key_line l) os ++ rest) letter ≡ owners_in rest letter
+  passed_over : (l letter : ℕ) (os : List LetterOwner) (rest : List KeyLine) → l == letter ≡ false → owners_in (map (key_line l) os ++ rest) letter ≡ owners_in rest letter
   passed_over l letter [] rest other = refl
   passed_over l letter (o ∷ os) rest other = rw other (passed_over l letter os rest other)
 
@@ -59,7 +59,7 @@ module _ (owners : ℕ → List Owner) where
   no_line letter [] apart = refl
   no_line letter (l ∷ ls) apart = passed_over l letter (owners l) (lines_for ls) apart.0.1 ∙ no_line letter ls apart.1
 
-  here : (letter : ℕ) (os : List Owner) (rest : List KeyLine) → letter == letter ≡ true → owners_in rest letter ≡ [] → owners_in (map (key_line letter) os ++ rest) letter ≡ os
+  here : (letter : ℕ) (os : List LetterOwner) (rest : List KeyLine) → letter == letter ≡ true → owners_in rest letter ≡ [] → owners_in (map (key_line letter) os ++ rest) letter ≡ os
   here letter [] rest same none = none
   here letter (o ∷ os) rest same none = rw same (ap (λ others. o ∷ others) (here letter os rest same none))
 

@@ -10,7 +10,7 @@ use Rattle.tv_model.specs.declared.kind.Kind.TheVariants as kinds
 use Rattle.tv_model.specs.declared.desc.Dialog.{Dialog}
 use Rattle.tv_model.specs.Description.Nodes.{is_control, is_dialog}
 use Rattle.tv_model.specs.Description.Heads.{dialog_head_of}
-use Rattle.tv_model.specs.Controls.Owner.{Owner}
+use Rattle.tv_model.specs.Controls.Owner.{LetterOwner}
 use Rattle.tv_model.specs.Description.Owners.{marker_of, owner_by, owners_of}
 use Rattle.tv_model.specs.Description.Certificates.{control_name, letters}
 use Rattle.tv_declarations.specs.Spelling.Nodes.{IsKind}
@@ -70,8 +70,8 @@ some_tabs views some e = let none = no_control views e in absurd cc
 
 -- ---- key lines
 
-module _ (owners : ℕ → List Owner) (named : (letter : ℕ) → AllByRecursion HasName (owners letter)) (fits : (letter : ℕ) → AllByRecursion FitsKeyLine (owners letter)) where
-  lines_of_letter : (letter : ℕ) (os : List Owner) (lines : List KeyLine) → IsTrue (is_letter letter) → AllByRecursion HasName os → AllByRecursion FitsKeyLine os → AllByRecursion IsKeyLine lines → AllByRecursion IsKeyLine (map (key_line letter) os ++ lines)
+module _ (owners : ℕ → List LetterOwner) (named : (letter : ℕ) → AllByRecursion HasName (owners letter)) (fits : (letter : ℕ) → AllByRecursion FitsKeyLine (owners letter)) where
+  lines_of_letter : (letter : ℕ) (os : List LetterOwner) (lines : List KeyLine) → IsTrue (is_letter letter) → AllByRecursion HasName os → AllByRecursion FitsKeyLine os → AllByRecursion IsKeyLine lines → AllByRecursion IsKeyLine (map (key_line letter) os ++ lines)
   lines_of_letter letter [] lines is have fit are = are
   lines_of_letter letter (o ∷ os) lines is have fit are = (record { letter = is; owner = have.0; item = fit.0 }, lines_of_letter letter os lines is have.1 fit.1 are)
 
@@ -99,11 +99,11 @@ below_more before line (l ∷ ls) e f =
     rw (here, below_more before line ls h.1 k.1) refl
 
 -- no letter has more than one owner
-module _ (owner : ℕ → Option Owner) where
+module _ (owner : ℕ → Option LetterOwner) where
   abbrev lines_left : List ℕ → List KeyLine
   lines_left ls = lines_for (λ letter. option_to_list (owner letter)) ls
 
-  next : (before : List KeyLine) (letter : ℕ) (o : Option Owner) (ls : List ℕ) → is_below before letter ≡ true → list_all (is_below before) ls ≡ true → list_all (λ later. nat_lt letter later) ls ≡ true
+  next : (before : List KeyLine) (letter : ℕ) (o : Option LetterOwner) (ls : List ℕ) → is_below before letter ≡ true → list_all (is_below before) ls ≡ true → list_all (λ later. nat_lt letter later) ls ≡ true
       → ((seen : List KeyLine) → list_all (is_below seen) ls ≡ true → AreRising seen (lines_left ls)) → AreRising before (map (key_line letter) (option_to_list o) ++ lines_left ls)
   next before letter None ls here all later rest = rest before all
   next before letter (Some found) ls here all later rest = (here, rest (before ++ key_line letter found ∷ []) (below_more before (key_line letter found) ls all later))
@@ -115,7 +115,7 @@ module _ (owner : ℕ → Option Owner) where
       let h = and_parts (is_below before l) (list_all (is_below before) ls) e in
       next before l (owner l) ls h.0 h.1 s.0 (λ seen below. lines_rise ls s.1 seen below)
 
-abbrev owner_of : Dialog → ℕ → Option Owner
+abbrev owner_of : Dialog → ℕ → Option LetterOwner
 owner_of dialog letter = option_and_then (λ node. owner_by letter node.kind) (marker_of dialog letter)
 
 -- ---- the certificate

@@ -2,7 +2,7 @@
 use Rattle.std.specs.Prelude.{◌≡◌, ℕ, ◌==◌, List, IfSome, map, filter, flat_map, All, bytes_eq}
 use Rattle.tv_model.specs.declared.desc.Desc.{Desc}
 use Rattle.tv_model.specs.declared.desc.Dialog.{Dialog}
-use Rattle.tv_model.specs.Controls.Owner.{Owner}
+use Rattle.tv_model.specs.Controls.Owner.{LetterOwner}
 use Rattle.tv_model.specs.Description.Owners.{owners_of}
 use Rattle.tv_model.specs.Description.Certificates.{dialog_name, letters, tab_order, tabs_of}
 use Rattle.tv_words.specs.Fields.{IsNumber}
@@ -14,7 +14,7 @@ use Rattle.tv_certificate.specs.declared.certificate.KeyLine.{KeyLine}
 -- ---- what a certificate tells
 
 -- the control that a key line names
-abbrev pub owner_named : KeyLine → Owner
+abbrev pub owner_named : KeyLine → LetterOwner
 owner_named line = record { name = line.owner; item = line.item }
 
 -- its tab lines, each beside the name of its dialog, all blocks as one list
@@ -26,7 +26,7 @@ abbrev pub key_lines : List Block → List ℕ → List KeyLine
 key_lines blocks dialog = flat_map (λ block. block.keys) (filter (λ block. bytes_eq block.dialog dialog) blocks)
 
 -- the owners that some key lines give to a letter
-abbrev pub owners_in : List KeyLine → ℕ → List Owner
+abbrev pub owners_in : List KeyLine → ℕ → List LetterOwner
 owners_in lines letter = map owner_named (filter (λ line. line.letter == letter) lines)
 
 -- ---- sound certificates
@@ -47,11 +47,11 @@ pub record IsSoundCertificate (d : Desc) (certificate : Certificate) : Type 0 wh
 -- ---- the certificate that is made of a description
 
 -- the number of its item, if any, is one that a text can have
-abbrev pub FitsKeyLine : Owner → Type 0
+abbrev pub FitsKeyLine : LetterOwner → Type 0
 FitsKeyLine owner = IfSome owner.item IsNumber
 
 -- the key line that names an owner of the letter
-abbrev pub key_line : ℕ → Owner → KeyLine
+abbrev pub key_line : ℕ → LetterOwner → KeyLine
 key_line letter owner = record { letter = letter; owner = owner.name; item = owner.item }
 
 -- a key line for each owner of a letter, in the order of the letters

@@ -9,7 +9,7 @@ abbrev pub item_number : ℕ → ℤ
 item_number place = pos (place + 1)
 
 -- what a letter acts on
-abbrev pub lent_owner : Owner → owners.Owner
+abbrev pub lent_owner : Owner → owners.LetterOwner
 lent_owner o = record { name = o.name.now; item = option_map item_number o.place }
 
 -- the name of a dialog and that of a control

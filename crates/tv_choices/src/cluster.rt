@@ -5,7 +5,7 @@ ghost use Rattle.std.specs.Int.{int_gap};
 ghost use Rattle.tv_cells.specs.Layers.{is_in};
 ghost use Rattle.tv_model.specs.Controls.Shortcut.{item_marking};
 ghost use Rattle.tv_model.specs.Kinds.Cluster.{cluster_key, item_after, item_before};
-ghost use Rattle.tv_model.specs.Controls.Contents.{is_item};
+ghost use Rattle.tv_model.specs.Controls.Contents.{is_item_place};
 ghost use Rattle.tv_model.specs.Description.Rectangles.{IsSmallRect};
 ghost use Rattle.tv_view.specs.Meaning.{Leaf};
 ghost use Rattle.tv_model.specs.Description.Marks.{marks};
@@ -116,7 +116,7 @@ pub(crate) fn letter_answer(id: Id, items: &[MarkedText], key: Key, phase: Phase
 
 /// Whether a cluster or a list of so many items has the item.
 pub(crate) fn is_item(count: usize, item: u8) -> bool
-    ensures { result ≡ is_item count item }
+    ensures { result ≡ is_item_place count item }
 {
     1 <= item && item as usize <= count
 }

@@ -1,7 +1,7 @@
 //! Opening a control with a value.
 
 ghost use Rattle.std.specs.Prelude.{◌≡◌, ◌<◌, ◌^◌, IfOk, IsTrue, Some};
-ghost use Rattle.tv_model.specs.Controls.Contents.{is_item};
+ghost use Rattle.tv_model.specs.Controls.Contents.{is_item_place};
 ghost use Rattle.tv_view.specs.Meaning.{fresh};
 ghost use Rattle.tv_model.specs.Kinds.InputLine.{MayStand};
 ghost use Rattle.tv_view.specs.Calls.{IsValueOf};
@@ -82,7 +82,7 @@ fn are_marks(count: usize, marks: u16) -> bool
 }
 
 fn is_item(count: usize, item: u8) -> bool
-    ensures { IsTrue result → IsTrue (is_item count item) }
+    ensures { IsTrue result → IsTrue (is_item_place count item) }
 {
     1 <= item && usize::from(item) <= count
 }

@@ -1,7 +1,7 @@
 //! The text of an input line, and what keys and the mouse make of it.
 
 ghost use Rattle.std.specs.Prelude.{◌≡◌, ◌↔◌, ◌<◌, ◌≤◌, IsTrue, false, length, remove};
-ghost use Rattle.tv_model.specs.Kinds.InputLine.{at_place, backspaced, clicked, deleted, entered, is_edit_key, left, opened_up, place_after, with_text, becomes, edited, typed};
+ghost use Rattle.tv_model.specs.Kinds.InputLine.{at_place, backspaced, clicked, deleted, entered, is_edit_key, left, opened_up, cursor_after, with_text, becomes, edited, typed};
 ghost use Rattle.tv_controls.specs.InputLine.{opened};
 
 use std::marker::Model;
@@ -192,7 +192,7 @@ impl LineEdit {
 
     // Where the cursor stands after a character was typed.
     fn place_after(&self, text: &Text) -> usize
-        ensures { result ≡ place_after self.now text.now }
+        ensures { result ≡ cursor_after self.now text.now }
     {
         if self.cursor == self.text.len() {
             text.len()

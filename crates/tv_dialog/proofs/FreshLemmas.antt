@@ -14,7 +14,7 @@ use Rattle.tv_machine.specs.State.{LeafState}
 use Rattle.tv_model.specs.Controls.Private.{Private}
 use Rattle.tv_machine.specs.Leaves.{PlacedNode, leaf_list}
 use Rattle.tv_machine.specs.Dialog.Modal.{Modal}
-use Rattle.tv_machine.specs.Dialog.Opening.{first_focus, opened, opened_leaves, unfocused}
+use Rattle.tv_machine.specs.Dialog.Opening.{first_focus, opened_dialog, opened_leaves, unfocused}
 use Rattle.tv_machine.specs.Dialog.Rules.{is_among}
 use Rattle.tv_machine.specs.Safe.{field_ids}
 use Rattle.tv_view.specs.declared.env.Rules.{Rules}
@@ -174,7 +174,7 @@ module _ (d : Dialog) (lawful : IsLawfulDialog d) where
       → AreAlike xs (tree_as d ruled m) → IsSteady d m → OverwritesAlike d overwriting m → FitsAll entries xs
       → AreRulesOf d (opened_leaves d (Some entries)) rules
       → all_focused (first_focus d (opened_leaves d (Some entries))) (all_applied rules (all_set entries xs))
-      ≡ tree_of d (opened d (Some entries) overwriting)
+      ≡ tree_of d (opened_dialog d (Some entries) overwriting)
   opened-alike entries fields overwriting rules xs ruled m alike steady overwrites fits are =
       ap (all_focused (first_focus d (opened_leaves d (Some entries))))
       (applied-alike rules (all_set entries xs) (all_set entries (tree_as d ruled m)) (set-alike entries xs (tree_as d ruled m) alike))

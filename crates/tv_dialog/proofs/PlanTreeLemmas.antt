@@ -20,7 +20,7 @@ use Rattle.tv_machine.specs.State.{LeafState}
 use Rattle.tv_machine.specs.Leaves.{PlacedNode, leaf_list, leaves_in, open_after, open_at}
 use Rattle.tv_machine.specs.Dialog.Ending.{fields_of}
 use Rattle.tv_machine.specs.Dialog.Modal.{Modal, leaf_at}
-use Rattle.tv_machine.specs.Dialog.Rules.{content_of, enables, holds, is_among, is_command_enabled, is_marked_at, is_visible, shows, state_of}
+use Rattle.tv_machine.specs.Dialog.Rules.{content_held, enables, holds, is_among, is_command_enabled, is_marked_at, is_visible, shows, state_of}
 use Rattle.tv_model.specs.Kinds.Cluster.{is_marked}
 use Rattle.tv_view.specs.declared.env.Rules.{Rules}
 use Rattle.tv_machine.specs.Dialog.Lawful.{IsLawfulDialog, NamesCluster}
@@ -104,7 +104,7 @@ leaves_have panes (view ∷ views) =
 
 -- the record has the values that these leaves have
 abbrev pub AreMarksOf : Dialog → List LeafState → Entries → Type 0
-AreMarksOf d leaves marks = (leaf : PlacedNode) → IsIn d leaf → value_of marks leaf.node.id.0 ≡ (content_of leaves [] leaf.node.id).value
+AreMarksOf d leaves marks = (leaf : PlacedNode) → IsIn d leaf → value_of marks leaf.node.id.0 ≡ (content_held leaves [] leaf.node.id).value
 
 gate_is : (a b : Bool) → not (a && not b) ≡ (not a || b)
 gate_is true true = refl
@@ -114,17 +114,17 @@ gate_is false b = refl
 module _ (d : Dialog) (lawful : IsLawfulDialog d) (leaves : List LeafState) (marks : Entries) (same : AreMarksOf d leaves marks) where
   -- a cluster that a rule names is a leaf
   value_is : (rule : Rule) (node : Node) → meant d.views rule.cluster ≡ Some node → is_cluster node.kind ≡ true
-      → value_of marks node.id.0 ≡ (content_of leaves [] node.id).value
+      → value_of marks node.id.0 ≡ (content_held leaves [] node.id).value
   value_is rule node named cluster =
       let here : is_among (map leaf_id (leaf_list d.views)) node.id ≡ true =
       found-all (IsHere (leaf_list d.views)) (gives_name rule.cluster) d.views node (leaves_have [] d.views) named
       (cluster_no_pane node.kind cluster) in
-      option_cases (leaf_at d node.id) (λ o. is_some o ≡ true → value_of marks node.id.0 ≡ (content_of leaves [] node.id).value)
+      option_cases (leaf_at d node.id) (λ o. is_some o ≡ true → value_of marks node.id.0 ≡ (content_held leaves [] node.id).value)
       (λ none f. absurd (false≢true f))
       (λ leaf found f.
       let is : leaf.node.id ≡ node.id = leaf_at-is d node.id leaf found in
       ap (λ id. value_of marks id.0) (sym is) ∙ same leaf (leaf_at-in d lawful node.id leaf found)
-      ∙ ap (λ id. (content_of leaves [] id).value) is)
+      ∙ ap (λ id. (content_held leaves [] id).value) is)
       (found-among leaf_id (leaf_list d.views) node.id ∙ here)
 
   met_is : (rule : Rule) → NamesCluster d.views rule → is_met marks (condition_of d.views rule) ≡ holds d leaves rule

@@ -9,7 +9,7 @@ use Rattle.tv_view.specs.Meaning.{Leaf, Placed}
 use Rattle.tv_machine.specs.Dialog.Focus.{is_granted, request, requested}
 use Rattle.tv_machine.specs.Dialog.Lawful.{IsLawfulDialog}
 use Rattle.tv_machine.specs.Dialog.Modal.{Modal}
-use Rattle.tv_machine.specs.Dialog.Mouse.{down_at, topmost}
+use Rattle.tv_machine.specs.Dialog.Mouse.{down_at, topmost_leaf}
 use Rattle.tv_view.specs.declared.env.Env.{Env}
 use Rattle.tv_view.specs.declared.reaction.Reaction.{Reaction}
 use Rattle.tv_view.specs.declared.reaction.Reaction.TheVariants.{Focus, Pass, Capture}
@@ -36,7 +36,7 @@ module _ (d : Dialog) (lawful : IsLawfulDialog d) (m : Modal) (env : Env) (p : P
     (steady : IsSteady d m) where
   -- what the machine makes of it
   abbrev pub pressed : Modal
-  pressed = down_at d (topmost d m p) p m
+  pressed = down_at d (topmost_leaf d m p) p m
 
   pub press-turn : Turn d m env p pressed
   press-turn = down-turn d lawful p ready.at m steady ready.free env lentby
@@ -60,7 +60,7 @@ module _ {V : Type 0} (look : V → Leaf) (d : Dialog) (lawful : IsLawfulDialog 
     (lentby : IsLentBy d m env) (old mid asked : DialogOf V) (s : Stands look d m.leaves m old) (i : Id)
     (answers : answer_down env p (opened look old.body) ≡ Focus i) (same : mid ≡ record old { body = mid.body })
     (leaves : opened look mid.body ≡ leaves_down env p (opened look old.body)) where
-  abbrev pub asks : AsksFocus d m env p i (down_at d (topmost d m p) p m)
+  abbrev pub asks : AsksFocus d m env p i (down_at d (topmost_leaf d m p) p m)
   asks = press-asks d lawful m env p ready lentby s.steady i (ap (answer_down env p) (sym s.tree) ∙ answers)
 
   -- the view that asks stays as it is
@@ -70,13 +70,13 @@ module _ {V : Type 0} (look : V → Leaf) (d : Dialog) (lawful : IsLawfulDialog 
       (leaves ∙ ap (leaves_down env p) s.tree ∙ asks.tree)
 
   pub stands-refused : is_granted (requested d m i) ≡ false → Stands look d (request d i m).leaves (request d i m) asked
-      → Stands look d (down_at d (topmost d m p) p m).leaves (down_at d (topmost d m p) p m) asked
+      → Stands look d (down_at d (topmost_leaf d m p) p m).leaves (down_at d (topmost_leaf d m p) p m) asked
   stands-refused refused there = subst (λ t. Stands look d t.leaves t asked) (asks.refused refused) there
 
   pub stands-again : is_granted (requested d m i) ≡ true → Stands look d (request d i m).leaves (request d i m) asked
       → (new : DialogOf V) → new ≡ record asked { body = new.body } → opened look new.body ≡ leaves_down env p (opened look asked.body)
-      → Stands look d (down_at d (topmost d m p) p m).leaves (down_at d (topmost d m p) p m) new
+      → Stands look d (down_at d (topmost_leaf d m p) p m).leaves (down_at d (topmost_leaf d m p) p m) new
   stands-again granted there new rest changed =
-      stands-handled look d (request d i m) (down_at d (topmost d m p) p m) asked new asks.like asks.steady
+      stands-handled look d (request d i m) (down_at d (topmost_leaf d m p) p m) asked new asks.like asks.steady
       (λ k e h. sym (hold-request d lawful m i s.steady.leaves k e h) ∙ asks.holds k e h) there rest
       (changed ∙ ap (leaves_down env p) there.tree ∙ asks.again granted)

@@ -16,7 +16,7 @@ use Rattle.tv_machine.specs.Dialog.Ending.{fields_of}
 use Rattle.tv_machine.specs.Dialog.Focus.{first_free, focus_moved, is_free_at, is_free_leaf, stops_of}
 use Rattle.tv_machine.specs.Dialog.Lawful.{IsLawfulDialog}
 use Rattle.tv_machine.specs.Dialog.Modal.{Modal, leaf_at}
-use Rattle.tv_machine.specs.Dialog.Opening.{first_focus, opened as opens, opened_leaf, opened_leaves, opened_with, unfocused}
+use Rattle.tv_machine.specs.Dialog.Opening.{first_focus, opened_dialog as opens, opened_leaf, opened_leaves, opened_with, unfocused}
 use Rattle.tv_machine.specs.Dialog.Rules.{is_among, is_command_enabled, is_visible}
 use Rattle.tv_view.specs.declared.env.Rules.{Rules}
 use Rattle.tv_view.specs.Calls.{gathered}

@@ -10,7 +10,7 @@ use Rattle.tv_machine.specs.Dialog.Ending.{command}
 use Rattle.tv_machine.specs.Dialog.Focus.{is_free_at}
 use Rattle.tv_machine.specs.Dialog.Keys.{key}
 use Rattle.tv_machine.specs.Dialog.Modal.{Modal}
-use Rattle.tv_machine.specs.Dialog.Mouse.{down_at, is_close_mark, topmost}
+use Rattle.tv_machine.specs.Dialog.Mouse.{down_at, is_close_mark, topmost_leaf}
 use Rattle.tv_machine.specs.Dialog.Step.{dialog_step, free_step, held_step, step_by}
 use Rattle.tv_tree.specs.Ready.{HoldsLeaf}
 use Rattle.tv_dialog.specs.Settling.{IsFresh, IsReady, turned}
@@ -39,9 +39,9 @@ module _ (d : Dialog) (m : Modal) (fresh : IsFresh m) (focus : is_free_at d m.le
   comes_free none (events.Key k) one handed is = comes_key k one handed is
   comes_free none (events.Down p) one handed is =
       bool_cases (is_close_mark p)
-      (λ b. (if b then Some (events.Command (record { 0 = 4 })) else Some (events.Down p)) ≡ Some one → Comes (if b then command d 4 m else down_at d (topmost d m p) p m) one)
+      (λ b. (if b then Some (events.Command (record { 0 = 4 })) else Some (events.Down p)) ≡ Some one → Comes (if b then command d 4 m else down_at d (topmost_leaf d m p) p m) one)
       (λ mark e. through (Comes (command d 4 m)) (events.Command (record { 0 = 4 })) one e (short, refl))
-      (λ other e. through (Comes (down_at d (topmost d m p) p m)) (events.Down p) one e (record { fresh = fresh; at = handed; free = none }, refl))
+      (λ other e. through (Comes (down_at d (topmost_leaf d m p) p m)) (events.Down p) one e (record { fresh = fresh; at = handed; free = none }, refl))
       is
   comes_free none (events.Up p) one handed is = absurd cc
   comes_free none (events.Move p) one handed is = absurd cc

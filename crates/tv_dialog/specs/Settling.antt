@@ -14,7 +14,7 @@ use Rattle.tv_machine.specs.Dialog.Ending.{command}
 use Rattle.tv_machine.specs.Dialog.Focus.{is_free_at}
 use Rattle.tv_machine.specs.Dialog.Keys.{enter_target, key, press_enabled}
 use Rattle.tv_machine.specs.Dialog.Modal.{Modal, with_line}
-use Rattle.tv_machine.specs.Dialog.Mouse.{down_at, topmost}
+use Rattle.tv_machine.specs.Dialog.Mouse.{down_at, topmost_leaf}
 use Rattle.tv_machine.specs.Dialog.Step.{dialog_step}
 use Rattle.tv_view.specs.declared.reaction.Reaction.{Reaction}
 use Rattle.tv_view.specs.declared.reaction.Reaction.TheVariants as reactions
@@ -65,7 +65,7 @@ reacted_first d reactions.Release m = m
 -- after an event of those that are posted
 abbrev pub turned : Dialog → Event → Modal → Modal
 turned d (events.Key k) m = key d k m
-turned d (events.Down p) m = down_at d (topmost d m p) p m
+turned d (events.Down p) m = down_at d (topmost_leaf d m p) p m
 turned d (events.Up p) m = dialog_step d (events.Up p) m
 turned d (events.Move p) m = dialog_step d (events.Move p) m
 turned d (events.Command c) m = command d c.0 m

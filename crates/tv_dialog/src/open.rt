@@ -5,7 +5,7 @@ ghost use Rattle.tv_model.specs.declared.desc.Dialog.{Dialog};
 ghost use Rattle.tv_machine.specs.Safe.{field_ids};
 ghost use Rattle.tv_machine.specs.Dialog.Lawful.{IsLawfulDialog};
 ghost use Rattle.tv_machine.specs.Dialog.Modal.{Modal};
-ghost use Rattle.tv_machine.specs.Dialog.Opening.{opened as opens};
+ghost use Rattle.tv_machine.specs.Dialog.Opening.{opened_dialog as opens};
 ghost use Rattle.tv_group.specs.Calls.{FitsAll};
 ghost use Rattle.tv_group.specs.Opened.{opened};
 ghost use Rattle.tv_dialog.specs.Resting.{Rests};

@@ -16,14 +16,14 @@ use Rattle.tv_model.specs.declared.kind.Kind.TheVariants as kinds
 use Rattle.tv_model.specs.declared.kind.MarkedText.{MarkedText}
 use Rattle.tv_model.specs.declared.desc.Dialog.{Dialog}
 use Rattle.tv_model.specs.Description.Marks.{is_option_letter, marks, upper}
-use Rattle.tv_model.specs.Controls.Owner.{Owner, control}
+use Rattle.tv_model.specs.Controls.Owner.{LetterOwner, control}
 use Rattle.tv_model.specs.Description.Owners.{owner_by}
 use Rattle.tv_machine.specs.Leaves.{PlacedNode, leaf_list}
 use Rattle.tv_model.specs.Controls.Contents.{Content}
 use Rattle.tv_machine.specs.Controls.Tables.{key_answer}
 use Rattle.tv_machine.specs.Dialog.Keys.{alt_keyed, answered, keyed}
 use Rattle.tv_machine.specs.Dialog.Modal.{Modal, content_at, leaf_at}
-use Rattle.tv_machine.specs.Dialog.Shortcuts.{marker_of}
+use Rattle.tv_machine.specs.Dialog.Shortcuts.{marking_leaf}
 use Rattle.tv_machine.specs.Dialog.Step.{dialog_step, step_by}
 use Rattle.tv_machine.specs.Session.Step.{event_from}
 use Rattle.tv_machine.proofs.ListLemmas.{bool_cases, find-none, option_cases}
@@ -61,7 +61,7 @@ module _ (letter : ℕ) (small : is_small_letter letter ≡ true) where
   nothing : MarkedText
   nothing = record { text = []; mark = None }
 
-  unmarked-items : (items : List MarkedText) (f : ℕ → Owner) → is_some (option_map f (position (marks letter) items)) ≡ false
+  unmarked-items : (items : List MarkedText) (f : ℕ → LetterOwner) → is_some (option_map f (position (marks letter) items)) ≡ false
   unmarked-items items f =
       option_cases (position (marks letter) items) (λ o. is_some (option_map f o) ≡ false) (λ none. refl)
       (λ place found. absurd (unmarked (get_or items place nothing) (position-Some (marks letter) items place nothing found).1))
@@ -81,7 +81,7 @@ module _ (letter : ℕ) (small : is_small_letter letter ≡ true) where
   -- ---- the dialog
 
   module _ (d : Dialog) (m : Modal) where
-    no-marker : marker_of d letter ≡ None
+    no-marker : marking_leaf d letter ≡ None
     no-marker = find-none (λ leaf. is_some (owner_by letter leaf.node.kind)) (leaf_list d.views) (λ k e h. unowned (get_or (leaf_list d.views) k e).node.kind)
 
     unanswered : (leaf : PlacedNode) (k : Kind) (c : Content) → answered d (keys.Alt letter) leaf (key_answer k (keys.Alt letter) c) m ≡ m

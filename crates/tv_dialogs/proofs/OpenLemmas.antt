@@ -11,7 +11,7 @@ use Rattle.tv_machine.specs.State.{State}
 use Rattle.tv_machine.specs.Safe.{field_ids}
 use Rattle.tv_machine.specs.Dialog.Lawful.{IsLawfulDialog}
 use Rattle.tv_machine.specs.Dialog.Modal.{Modal}
-use Rattle.tv_machine.specs.Dialog.Opening.{first_focus, opened as opens, opened_leaves, unfocused}
+use Rattle.tv_machine.specs.Dialog.Opening.{first_focus, opened_dialog as opens, opened_leaves, unfocused}
 use Rattle.tv_machine.specs.Session.Commands.{open_dialog, open_found, opened_at, overwriting_at, saved_at}
 use Rattle.tv_group.specs.Calls.{FitsAll}
 use Rattle.tv_group.specs.Opened.{opened}

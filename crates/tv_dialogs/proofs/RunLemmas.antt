@@ -15,10 +15,10 @@ use Rattle.tv_machine.specs.Dialog.Sound.{IsSoundDialog}
 use Rattle.tv_machine.specs.Dialog.Step.{dialog_step}
 use Rattle.tv_machine.specs.Session.Commands.{modal_of, saved_at}
 use Rattle.tv_machine.specs.Session.Step.{event_from}
-use Rattle.tv_laws.specs.Ends.{IsDone, IsLineOf}
+use Rattle.tv_laws.specs.Ends.{IsDone, NamesEndOf}
 use Rattle.tv_laws.specs.Fit.{IsFitModal}
 use Rattle.tv_laws.specs.Runs.{IsFitState}
-use Rattle.tv_laws.specs.Steps.{IsGiven, IsSafeSave}
+use Rattle.tv_laws.specs.Steps.{RespectsHold, IsSafeSave}
 use Rattle.tv_laws.proofs.StepLemmas.{stays-fit}
 use Rattle.tv_laws.proofs.WorkLemmas.{saved_safe, sound-at}
 use Rattle.tv_dialogs.specs.Dialogs.{AreOfRun, IsOpenAmong, at_work}
@@ -41,7 +41,7 @@ module _ (d : Desc) (s : State) (o : OpenDialog) (is : s.dialog ≡ Some o) (fit
 
 -- ---- events
 
-given-moved : (held : Option Held) (corner : Point) (e : Event) → IsGiven held e → IsGiven held (event_from corner e)
+given-moved : (held : Option Held) (corner : Point) (e : Event) → RespectsHold held e → RespectsHold held (event_from corner e)
 given-moved None corner e given = tt
 given-moved (Some held) corner (events.Down p) given = tt
 given-moved (Some held) corner (events.Up p) given = tt
@@ -75,11 +75,11 @@ module _ {V : Type 0} (look : V → Leaf) (d : Desc) (s : State) (dialogs : Dial
       stands = among.stands;
     }
 
-    module _ (e : Event) (given : IsGiven o.held e) where
+    module _ (e : Event) (given : RespectsHold o.held e) where
       done : IsDone among.dialog (dialog_step among.dialog (event_from o.origin e) (modal_of s o))
       done =
           stays-fit among.dialog sound-open (modal_of s o) (event_from o.origin e)
-          (record { fit = open-fit d s o is run.fit among.dialog among.there; log = All-nil (IsLineOf among.dialog); going = refl })
+          (record { fit = open-fit d s o is run.fit among.dialog among.there; log = All-nil (NamesEndOf among.dialog); going = refl })
           (given-moved o.held o.origin e given)
 
       -- the command by which it ends stands in its log

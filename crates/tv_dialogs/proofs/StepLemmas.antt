@@ -17,7 +17,7 @@ use Rattle.tv_machine.specs.Session.Step.{event_from, to_dialog}
 use Rattle.tv_machine.proofs.ListLemmas.{option_cases}
 use Rattle.tv_group.specs.Calls.{all_gathered}
 use Rattle.tv_group.specs.Opened.{opened}
-use Rattle.tv_laws.specs.Steps.{IsGiven}
+use Rattle.tv_laws.specs.Steps.{RespectsHold}
 use Rattle.tv_dialog.specs.Standing.{Stands}
 use Rattle.tv_dialog.specs.Stepping.{started}
 use Rattle.tv_dialogs.specs.Dialogs.{AreDialogs, AreOfRun, IsOpenAmong, at_work, lines_by, lines_of, kept_at}
@@ -115,7 +115,7 @@ module _ {V : Type 0} (look : V → Leaf) (d : Desc) (s : State) (old : DialogsO
           ∙ ap (λ xs. if number == 11 then among.kept.values else xs)
           (stands-values look among.dialog (sound-open look d s old run o is).lawful stepped.leaves stepped after.dialog stands)
 
-      pub handed-dialogs : IsGiven o.held e → AreDialogs look d (to_dialog d o e s) new
+      pub handed-dialogs : RespectsHold o.held e → AreDialogs look d (to_dialog d o e s) new
       handed-dialogs given =
           subst (λ t. AreDialogs look d t new) state-is
           (option_cases stepped.ended (λ over. AreDialogs look d (after_work s o stepped over) new)

@@ -22,7 +22,7 @@ use Rattle.tv_machine.specs.Safe.{HasValueOf, IsSafeRecord, field_ids}
 use Rattle.tv_machine.specs.Dialog.Ending.{fields_of}
 use Rattle.tv_machine.specs.Dialog.Lawful.{IsLawfulDialog}
 use Rattle.tv_machine.specs.Dialog.Modal.{Modal}
-use Rattle.tv_machine.specs.Dialog.Opening.{opened as opens, unfocused}
+use Rattle.tv_machine.specs.Dialog.Opening.{opened_dialog as opens, unfocused}
 use Rattle.tv_machine.specs.Dialog.Sound.{IsSoundDialog}
 use Rattle.tv_machine.proofs.LeafLemmas.{IsIn, leaf_at-all, leaves-all, leaves-are}
 use Rattle.tv_machine.proofs.ListLemmas.{option_cases}

@@ -1,7 +1,7 @@
 //! What the open dialog makes of an event.
 
 ghost use Rattle.std.specs.Prelude.{◌≡◌, ◌++◌, Some};
-ghost use Rattle.tv_laws.specs.Steps.{IsGiven};
+ghost use Rattle.tv_laws.specs.Steps.{RespectsHold};
 ghost use Rattle.tv_machine.specs.Session.Step.{to_dialog};
 ghost use Rattle.tv_machine.specs.State.{OpenDialog, State};
 ghost use Rattle.tv_dialogs.specs.Dialogs.{AreDialogs, AreOfRun, lines_of};
@@ -19,7 +19,7 @@ impl<V: View> DialogsOf<V> {
     pub fn step(&mut self, desc: &Desc, event: &Event)
         requires run { (s : State) × AreOfRun V.meaning desc.now s self.old }
         requires given { HasPointGiven event.now }
-        ensures dialogs { (s : State) (o : OpenDialog) → s.dialog ≡ Some o → IsGiven o.held event.now → AreOfRun V.meaning desc.now s self.old
+        ensures dialogs { (s : State) (o : OpenDialog) → s.dialog ≡ Some o → RespectsHold o.held event.now → AreOfRun V.meaning desc.now s self.old
             → AreDialogs V.meaning desc.now (to_dialog desc.now o event.now s) self.new }
         ensures log { (s : State) (o : OpenDialog) → s.dialog ≡ Some o → AreOfRun V.meaning desc.now s self.old
             → (to_dialog desc.now o event.now s).log ≡ s.log ++ lines_of self.new }

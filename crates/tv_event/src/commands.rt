@@ -1,7 +1,7 @@
 //! Sets of commands.
 
 ghost use Rattle.std.specs.Prelude.{◌↔◌, ◌≢◌, ℕ, ◌<◌, IsTrue};
-ghost use Rattle.tv_event.specs.Commands.{Has};
+ghost use Rattle.tv_event.specs.Commands.{HasCommand};
 
 use crate::event::Command;
 use std::marker::Model;
@@ -23,30 +23,30 @@ impl Model for CommandSet {
 impl CommandSet {
     /// Makes the set of all commands.
     pub fn all() -> CommandSet
-        ensures { (number : ℕ) → number < 256 → Has result number }
+        ensures { (number : ℕ) → number < 256 → HasCommand result number }
     {
         CommandSet { has: [true; 256] }
     }
 
     /// Whether the command is in the set.
     pub fn has(&self, command: Command) -> bool
-        ensures { IsTrue result ↔ Has self.now command.0 }
+        ensures { IsTrue result ↔ HasCommand self.now command.0 }
     {
         self.has[command.0 as usize]
     }
 
     /// Puts the command into the set.
     pub fn enable(&mut self, command: Command)
-        ensures added { Has self.new command.0 }
-        ensures others { (other : ℕ) → other ≢ command.0 → (Has self.new other ↔ Has self.old other) }
+        ensures added { HasCommand self.new command.0 }
+        ensures others { (other : ℕ) → other ≢ command.0 → (HasCommand self.new other ↔ HasCommand self.old other) }
     {
         self.has[command.0 as usize] = true;
     }
 
     /// Takes the command out of the set.
     pub fn disable(&mut self, command: Command)
-        ensures removed { ¬ Has self.new command.0 }
-        ensures others { (other : ℕ) → other ≢ command.0 → (Has self.new other ↔ Has self.old other) }
+        ensures removed { ¬ HasCommand self.new command.0 }
+        ensures others { (other : ℕ) → other ≢ command.0 → (HasCommand self.new other ↔ HasCommand self.old other) }
     {
         self.has[command.0 as usize] = false;
     }

@@ -4,13 +4,13 @@ use Rattle.std.specs.Prelude.{◌≡◌, ℕ, List, [], Option, Some, None, opti
 use Rattle.std.proofs.Common.{refl}
 use Rattle.tv_picture.specs.declared.picture.Status.{Status}
 use Rattle.tv_picture.specs.declared.picture.Status.TheVariants.{Complete, Viable, Error}
-use Rattle.tv_picture.specs.Matching.{status_of, next_literal_of, shortest_length}
+use Rattle.tv_picture.specs.Matching.{match_status, next_literal_of, shortest_length}
 use Rattle.tv_picture.specs.Parsing.{picture_of}
 use Rattle.tv_examples.specs.Running.{written}
 
 -- how a text stands in a picture
 abbrev status : String → List ℕ → Option Status
-status picture text = option_map (λ p. status_of p text) (picture_of (codes picture))
+status picture text = option_map (λ p. match_status p text) (picture_of (codes picture))
 
 -- the only character after which it is a member, or begins one
 abbrev next : String → List ℕ → Option (Option ℕ)

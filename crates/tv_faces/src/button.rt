@@ -5,7 +5,7 @@ ghost use Rattle.tv_palette.specs.Chain.{coloured};
 ghost use Rattle.tv_palette.specs.Palettes.{colour_in, owners_of_part};
 ghost use Rattle.tv_palette.specs.declared.role.Owner.TheVariants.{Dialog};
 ghost use Rattle.tv_palette.specs.declared.role.Role.TheVariants.{Button};
-ghost use Rattle.tv_model.specs.Screen.Faces.{button_attr, button_role, button_text, button_row, is_letter};
+ghost use Rattle.tv_model.specs.Screen.Faces.{button_attr, button_role, button_text, button_row, is_letter_column};
 ghost use Rattle.tv_faces.specs.Looks.{button_look_of};
 
 use crate::look::ButtonLook;
@@ -69,7 +69,7 @@ fn button_start(width: usize, cut: &[char]) -> usize
 
 fn is_letter(width: usize, text: &[char], mark: Option<usize>, x: usize) -> bool
     requires { width < 2 ^ 32 }
-    ensures { result ≡ is_letter width text.now mark x }
+    ensures { result ≡ is_letter_column width text.now mark x }
 {
     let shown = cut(width, text);
     match mark {

@@ -15,7 +15,7 @@ use Rattle.tv_model.specs.Description.Letters.{marked_of}
 use Rattle.tv_model.specs.Description.Marks.{marks}
 use Rattle.tv_model.specs.Description.Names.{meant}
 use Rattle.tv_model.specs.Description.Nodes.{is_cluster}
-use Rattle.tv_model.specs.Controls.Owner.{Owner}
+use Rattle.tv_model.specs.Controls.Owner.{LetterOwner}
 use Rattle.tv_model.specs.Description.Owners.{owner_by}
 use Rattle.tv_machine.specs.Dialog.Lawful.{Marks, NamesCluster}
 use Rattle.tv_machine.specs.Dialog.Lawful as machine
@@ -66,7 +66,7 @@ any_found p f xs some =
     (λ is less some. absurd (false≢true some))
     refl some
 
-any_own : (b : Bool) (o : Owner) → is_some (if b then Some o else None) ≡ true → (b || false) ≡ true
+any_own : (b : Bool) (o : LetterOwner) → is_some (if b then Some o else None) ≡ true → (b || false) ≡ true
 any_own true o some = refl
 any_own false o some = absurd (false≢true some)
 

@@ -19,7 +19,7 @@ use Rattle.tv_model.specs.declared.desc.Effect.TheVariants as effects
 use Rattle.tv_model.specs.declared.fault.FaultKind.TheVariants as faults
 use Rattle.tv_model.specs.Description.Heads.{window_head}
 use Rattle.tv_model.specs.Description.Letters.{is_capital, is_digit, is_shortcut, marked_of}
-use Rattle.tv_model.specs.Description.Marks.{is_option_letter, letter_of, marks, shares_letter}
+use Rattle.tv_model.specs.Description.Marks.{is_option_letter, marked_letter, marks, shares_letter}
 use Rattle.tv_model.specs.Description.Numbers.{IsBetween, is_between}
 use Rattle.tv_model.specs.Faults.{menu_has, status_has, window_has}
 use Rattle.tv_model.specs.Faults.Lines.{after_seen}
@@ -39,12 +39,12 @@ lettered letter (Some other) = let same : Decides (other == letter) (other ≡ l
     (λ e. ap Some (same.0 e), λ e. let one : other ≡ letter = cc in same.1 one)
 
 pub marks_decides : (letter : ℕ) (text : MarkedText) → Decides (marks letter text) (MarksLetter text letter)
-marks_decides letter text = lettered letter (letter_of text)
+marks_decides letter text = lettered letter (marked_letter text)
 
 shares_excludes : (text other : MarkedText) → Excludes (shares_letter text other) (MarkOtherLetters other text)
-shares_excludes text other = at (letter_of text) refl
+shares_excludes text other = at (marked_letter text) refl
   where
-    at : (own : Option ℕ) → letter_of text ≡ own → Excludes (shares_letter text other) (MarkOtherLetters other text)
+    at : (own : Option ℕ) → marked_letter text ≡ own → Excludes (shares_letter text other) (MarkOtherLetters other text)
     at None e = (λ f letter has own. absurd cc, λ h. rw e refl)
     at (Some given) e = (
       λ f letter has own. let g : marks given other ≡ false = rw e at f in

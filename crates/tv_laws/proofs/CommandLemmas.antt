@@ -16,7 +16,7 @@ use Rattle.tv_machine.specs.State.{OpenDialog, OpenMenu, OpenWindow, State}
 use Rattle.tv_machine.specs.Dialog.Ending.{command}
 use Rattle.tv_machine.specs.Dialog.Mouse.{is_close_mark}
 use Rattle.tv_machine.specs.Screen.Bars.{item_under}
-use Rattle.tv_machine.specs.Session.Commands.{close_front, command_in, do_command, idle_command, last_first, logged, open_first, opener_of, own_command, raised}
+use Rattle.tv_machine.specs.Session.Commands.{close_front, command_by_dialog, do_command, idle_command, last_first, logged, open_first, opener_of, own_command, raised}
 use Rattle.tv_machine.specs.Session.Desktop.{alt_pressed, desktop_down, desktop_key, down_beside_title, down_in_front, down_on_desktop, down_on_window, raise, raise_found, seen_from, window_of_digit, window_under}
 use Rattle.tv_machine.specs.Session.Menu.{choose, choose_at, close_menu, down_on_item, down_on_title, item_of_letter, menu_down, menu_key, open_items, open_menu, title_at, title_of_letter}
 use Rattle.tv_laws.specs.Runs.{HasSoundDialogs, IsFitState, IsKept}
@@ -91,7 +91,7 @@ module _ (d : Desc) (sound : HasSoundDialogs d) where
   -- a command while no menu is open
   pub command-fit : (number : ℕ) (s : State) → IsReady s → s.menu ≡ None → IsFitState d (do_command d number s)
   command-fit number s r menu =
-      option_cases s.dialog (λ dialog. IsFitState d (command_in d number dialog s)) (λ none. idle_command_fit number s (ready-idle s r none) menu)
+      option_cases s.dialog (λ dialog. IsFitState d (command_by_dialog d number dialog s)) (λ none. idle_command_fit number s (ready-idle s r none) menu)
       (λ o some. dialog-works d sound s o (λ dialog m. command dialog number m) some r.fit
       (λ dialog is going. command-done dialog is number _ (record { fit = going.fit; log = going.log; going = going.going; idle = r.idle o some })))
 

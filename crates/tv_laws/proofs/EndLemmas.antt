@@ -15,7 +15,7 @@ use Rattle.tv_machine.specs.Dialog.Ending.{command, end_by, ended, field_line, f
 use Rattle.tv_machine.specs.Dialog.Focus.{focus_moved, is_free_at}
 use Rattle.tv_machine.specs.Dialog.Modal.{Modal, with_line}
 use Rattle.tv_machine.specs.Safe.{IsSafeRecord}
-use Rattle.tv_laws.specs.Ends.{IsDone, IsEnding, IsLineOf, IsOpen}
+use Rattle.tv_laws.specs.Ends.{IsDone, IsEnding, NamesEndOf, IsOpen}
 use Rattle.tv_laws.specs.Sound.{IsSoundDialog}
 use Rattle.tv_laws.proofs.FreeLemmas.{IsFree, free-done, free-line, free-moved}
 use Rattle.tv_machine.proofs.ListLemmas.{bool_cases, option_cases}
@@ -33,8 +33,8 @@ module _ (d : Dialog) (sound : IsSoundDialog d) where
       let fields = map field_line (fields_of m.leaves) in
       record {
         fit = fit-logged d sound m (m.log ++ end_line number ∷ fields) (Some number) o.fit;
-        log = All-append (IsLineOf d) m.log (end_line number ∷ fields) o.log
-            (All-cons (IsLineOf d) (end_line number) fields (refl, declared) (All-map (IsLineOf d) field_line (fields_of m.leaves) (λ k e h. tt)));
+        log = All-append (NamesEndOf d) m.log (end_line number ∷ fields) o.log
+            (All-cons (NamesEndOf d) (end_line number) fields (refl, declared) (All-map (NamesEndOf d) field_line (fields_of m.leaves) (λ k e h. tt)));
         ends = λ n e. let same : number ≡ n = cc in
             subst (λ x. IsEnding d x (ended d number m)) same (record { declared = declared; before = m.log; written = refl; saved = saved });
       }

@@ -10,8 +10,8 @@ use Rattle.tv_model.specs.Kinds.InputLine.{Edit, entered, left}
 use Rattle.tv_machine.specs.Leaves.{PlacedNode}
 use Rattle.tv_model.specs.Controls.Contents.{Content}
 use Rattle.tv_machine.specs.Dialog.Focus.{Moved, NotFree, Refused, Request, Same, after_request, focus_moved, is_free_at, is_granted, keeps_focus, refocused, request, request_then, requested}
-use Rattle.tv_machine.specs.Dialog.Modal.{Modal, leaf_at, with_content, with_line}
-use Rattle.tv_laws.specs.Ends.{IsDone, IsLineOf, IsOpen}
+use Rattle.tv_machine.specs.Dialog.Modal.{Modal, leaf_at, content_put, with_line}
+use Rattle.tv_laws.specs.Ends.{IsDone, NamesEndOf, IsOpen}
 use Rattle.tv_laws.specs.Fit.{IsFitContent, IsFitModal}
 use Rattle.tv_laws.specs.Sound.{IsSoundDialog}
 use Rattle.tv_machine.proofs.RefocusLemmas.{held-moved, hold-moved, refocused-keeps}
@@ -23,7 +23,7 @@ use Rattle.tv_laws.proofs.StandLemmas.{fit-focus, fit-logged, fit-moved}
 -- an open dialog in which no leaf holds the mouse
 pub record IsFree (d : Dialog) (m : Modal) : Type 0 where
   pub fit : IsFitModal d m
-  pub log : All (IsLineOf d) m.log
+  pub log : All (NamesEndOf d) m.log
   pub going : m.ended ≡ None
   pub idle : m.held ≡ None
 
@@ -41,10 +41,10 @@ pub free-done : (d : Dialog) (m : Modal) → IsFree d m → IsDone d m
 free-done d m f = open-done d m (free-open d m f)
 
 module _ (d : Dialog) (sound : IsSoundDialog d) where
-  pub free-line : (line : LogLine) (m : Modal) → IsLineOf d line → IsFree d m → IsFree d (with_line line m)
+  pub free-line : (line : LogLine) (m : Modal) → NamesEndOf d line → IsFree d m → IsFree d (with_line line m)
   free-line line m is f = record {
     fit = fit-logged d sound m (m.log ++ line ∷ []) m.ended f.fit;
-    log = All-push (IsLineOf d) m.log line f.log is;
+    log = All-push (NamesEndOf d) m.log line f.log is;
     going = f.going;
     idle = f.idle;
   }
@@ -52,7 +52,7 @@ module _ (d : Dialog) (sound : IsSoundDialog d) where
   -- ---- the focus moves
 
   abbrev IsQuiet : Modal → Type 0
-  IsQuiet m = All (IsLineOf d) m.log × (m.ended ≡ None)
+  IsQuiet m = All (NamesEndOf d) m.log × (m.ended ≡ None)
 
   quiet_refocused : (edit : Edit → Edit) (o : Option PlacedNode) (m : Modal) → IsQuiet m → IsQuiet (refocused d edit o m)
   quiet_refocused edit o m q = refocused-keeps IsQuiet d (λ i c n p. p) edit o m q
@@ -61,7 +61,7 @@ module _ (d : Dialog) (sound : IsSoundDialog d) where
   quiet-moved m i q =
       let n = refocused d entered (leaf_at d i) (refocused d left (leaf_at d m.focus) m) in
       let r = quiet_refocused entered (leaf_at d i) (refocused d left (leaf_at d m.focus) m) (quiet_refocused left (leaf_at d m.focus) m q) in
-      (All-push (IsLineOf d) n.log (lines.Focus i) r.0 tt, r.1)
+      (All-push (NamesEndOf d) n.log (lines.Focus i) r.0 tt, r.1)
 
   pub free-moved : (m : Modal) (i : Id) → is_free_at d m.leaves i ≡ true → IsFree d m → IsFree d (focus_moved d i m)
   free-moved m i is f =
@@ -103,5 +103,5 @@ module _ (d : Dialog) (sound : IsSoundDialog d) where
   -- ---- the focus holds something else
 
   pub free-focus : (m : Modal) (c : Content) (leaf : PlacedNode) → IsFree d m → leaf_at d m.focus ≡ Some leaf
-      → IsFitContent true leaf.node.kind c → IsFree d (with_content d m.focus c m)
+      → IsFitContent true leaf.node.kind c → IsFree d (content_put d m.focus c m)
   free-focus m c leaf f there fits = record { fit = fit-focus d sound m c leaf f.fit there fits f.idle; log = f.log; going = f.going; idle = f.idle }

@@ -23,7 +23,7 @@ use Rattle.tv_valid.proofs.AskingLemmas.{domain_law}
 use Rattle.tv_valid.proofs.DecidingLemmas.{viable_law}
 use Rattle.tv_valid.proofs.Filling.{viable_more}
 use Rattle.tv_valid.proofs.TypingLemmas.{typed_law}
-use Rattle.tv_model.specs.Kinds.InputLine.{Edit, at_place, backspaced, clicked, ctrl_edit, deleted, entered, opened_up, place_after, with_text, domain_texts, becomes, edited, edited_by, edited_in, typed, typed_into}
+use Rattle.tv_model.specs.Kinds.InputLine.{Edit, at_place, backspaced, clicked, ctrl_edit, deleted, entered, opened_up, cursor_after, with_text, domain_texts, becomes, edited, edited_by, edited_in, typed, typed_into}
 use Rattle.tv_model.specs.Description.LawfulNodes.{IsNarrowText}
 use Rattle.tv_machine.proofs.ListLemmas.{bool_cases, option_cases}
 
@@ -135,7 +135,7 @@ opened-within e within =
     (λ part. bool_cases (e.overwrites && nat_lt e.cursor (length e.text)) (λ b. HasCursor (if b then with_text (remove e.text e.cursor) e.cursor e else e))
     (λ less. removed_within e within (less_so e.cursor (length e.text) (and_parts e.overwrites (nat_lt e.cursor (length e.text)) less).1)) (λ more. within))
 
-placed_within : (e : Edit) (out : List ℕ) → HasCursor e → length e.text + 1 ≤ length out → place_after e out ≤ length out
+placed_within : (e : Edit) (out : List ℕ) → HasCursor e → length e.text + 1 ≤ length out → cursor_after e out ≤ length out
 placed_within e out within long =
     bool_cases (e.cursor == length e.text) (λ b. (if b then length out else e.cursor + 1) ≤ length out) (λ is. omega arith) (λ is. omega (arith, within, long))
 

@@ -13,7 +13,7 @@ use Rattle.tv_event.specs.declared.event.Key.TheVariants as keys
 use Rattle.tv_model.specs.declared.kind.MarkedText.{MarkedText}
 use Rattle.tv_model.specs.Controls.Shortcut.{item_marking}
 use Rattle.tv_model.specs.Kinds.Cluster.{ClusterKey, Passed, Presses, Selects, cluster_key, item_after, item_before, of_letter, marks_of}
-use Rattle.tv_model.specs.Controls.Contents.{is_item, IsItem}
+use Rattle.tv_model.specs.Controls.Contents.{is_item_place, IsItem}
 use Rattle.tv_model.specs.Kinds.ListBox.{within}
 use Rattle.tv_model.specs.Description.Marks.{marks, upper}
 use Rattle.tv_model.specs.Description.Numbers.{natural}
@@ -21,7 +21,7 @@ use Rattle.tv_machine.proofs.ListLemmas.{bool_cases, option_cases}
 
 -- an item that there is
 abbrev pub Item : ℕ → ℕ → Type 0
-Item count item = IsTrue (is_item count item)
+Item count item = IsTrue (is_item_place count item)
 
 pub item-parts : (count item : ℕ) → Item count item → (1 ≤ item) × (item ≤ count)
 item-parts count item e =

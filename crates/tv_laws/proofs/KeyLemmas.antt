@@ -16,14 +16,14 @@ use Rattle.tv_model.specs.Description.Texts.{shown_texts}
 use Rattle.tv_machine.specs.Leaves.{PlacedNode}
 use Rattle.tv_model.specs.Controls.Contents.{Content}
 use Rattle.tv_model.specs.Controls.Behaviour.{Answer, Becomes, Passed, Presses}
-use Rattle.tv_model.specs.Kinds.Cluster.{item_pressed}
+use Rattle.tv_model.specs.Kinds.Cluster.{cluster_item_pressed}
 use Rattle.tv_machine.specs.Controls.Tables.{key_answer}
 use Rattle.tv_machine.specs.Dialog.Ending.{press}
 use Rattle.tv_machine.specs.Dialog.Focus.{next_free, previous_free, request, stops_of}
 use Rattle.tv_machine.specs.Dialog.Keys.{alt_keyed, answered, enter_target, focus_keyed, key, keyed, passed_on, press_enabled}
-use Rattle.tv_machine.specs.Dialog.Modal.{Modal, content_at, leaf_at, with_content}
+use Rattle.tv_machine.specs.Dialog.Modal.{Modal, content_at, leaf_at, content_put}
 use Rattle.tv_machine.specs.Dialog.Rules.{is_enabled, is_visible}
-use Rattle.tv_machine.specs.Dialog.Shortcuts.{act, act_on, called, called_by, marker_of, press_item, request_link}
+use Rattle.tv_machine.specs.Dialog.Shortcuts.{act, act_on, called, called_by, marking_leaf, press_item, request_link}
 use Rattle.tv_laws.specs.Ends.{IsDone}
 use Rattle.tv_laws.specs.Fit.{IsFitContent}
 use Rattle.tv_laws.specs.Sound.{IsSoundDialog}
@@ -56,8 +56,8 @@ module _ (d : Dialog) (sound : IsSoundDialog d) where
 
   -- the focus, by its own id, holds something else
   pub focus-becomes : (m : Modal) (c : Content) (leaf : PlacedNode) → IsFree d m → IsIn d leaf → m.focus ≡ leaf.node.id
-      → IsFitContent true leaf.node.kind c → IsFree d (with_content d leaf.node.id c m)
-  focus-becomes m c leaf f e is fits = subst (λ i. IsFree d (with_content d i c m)) is (free-focus d sound m c leaf f (ap (leaf_at d) is ∙ e) fits)
+      → IsFitContent true leaf.node.kind c → IsFree d (content_put d leaf.node.id c m)
+  focus-becomes m c leaf f e is fits = subst (λ i. IsFree d (content_put d i c m)) is (free-focus d sound m c leaf f (ap (leaf_at d) is ∙ e) fits)
 
   -- ---- letters
 
@@ -80,8 +80,8 @@ module _ (d : Dialog) (sound : IsSoundDialog d) where
       (λ n g at marks. option_cases (item_marking items letter) (λ o. IsDone d (press_item d cluster leaf.node.id o n)) (λ none. free-done d n g)
       (λ item found.
       let c = content_at n leaf.node.id in
-      free-done d (with_content d leaf.node.id (item_pressed cluster item c) n)
-      (focus-becomes n (item_pressed cluster item c) leaf g e at
+      free-done d (content_put d leaf.node.id (cluster_item_pressed cluster item c) n)
+      (focus-becomes n (cluster_item_pressed cluster item c) leaf g e at
       (item-called leaf.node.kind cluster name items item c is (marking-item items letter item found) (focus-content n leaf g (ap (leaf_at d) at ∙ e))))))
 
   act_done : (letter : ℕ) (leaf : PlacedNode) (m : Modal) → IsIn d leaf → IsFree d m → IsDone d (act d letter leaf m)
@@ -89,9 +89,9 @@ module _ (d : Dialog) (sound : IsSoundDialog d) where
       bool_cases (is_visible d m.leaves leaf) (λ b. IsDone d (if b then called d letter leaf leaf.node.kind m else m))
       (λ shown. called_done m leaf letter (behaviour leaf.node.kind).shortcut e refl f) (λ hidden. free-done d m f)
 
-  marker_done : (letter : ℕ) (m : Modal) → IsFree d m → IsDone d (act_on d letter (marker_of d letter) m)
+  marker_done : (letter : ℕ) (m : Modal) → IsFree d m → IsDone d (act_on d letter (marking_leaf d letter) m)
   marker_done letter m f =
-      option_cases (marker_of d letter) (λ o. IsDone d (act_on d letter o m)) (λ none. free-done d m f)
+      option_cases (marking_leaf d letter) (λ o. IsDone d (act_on d letter o m)) (λ none. free-done d m f)
       (λ leaf found. act_done letter leaf m (found-in d sound.lawful (λ x. is_some (owner_by letter x.node.kind)) leaf found) f)
 
   -- ---- the focused control
@@ -103,7 +103,7 @@ module _ (d : Dialog) (sound : IsSoundDialog d) where
   answered_done : (k : Key) (leaf : PlacedNode) (a : Answer) (m : Modal) → IsIn d leaf → m.focus ≡ leaf.node.id
       → IsFitAnswer true leaf.node.kind a → IsFree d m → IsDone d (answered d k leaf a m)
   answered_done k leaf Passed m e at fits f = passed_done k m f
-  answered_done k leaf (Becomes c) m e at fits f = free-done d (with_content d leaf.node.id c m) (focus-becomes m c leaf f e at fits)
+  answered_done k leaf (Becomes c) m e at fits f = free-done d (content_put d leaf.node.id c m) (focus-becomes m c leaf f e at fits)
   answered_done k leaf Presses m e at fits f = press-done d sound leaf m f
 
   focus_done : (k : Key) (m : Modal) → IsFree d m → IsDone d (focus_keyed d k m)
@@ -120,9 +120,9 @@ module _ (d : Dialog) (sound : IsSoundDialog d) where
   enter_done (Some leaf) m f =
       bool_cases (is_enabled d m.leaves leaf.node) (λ b. IsDone d (if b then press d leaf m else m)) (λ enabled. press-done d sound leaf m f) (λ disabled. free-done d m f)
 
-  alt_done : (letter : ℕ) (m : Modal) → IsFree d m → IsDone d (alt_keyed d letter (marker_of d letter) m)
+  alt_done : (letter : ℕ) (m : Modal) → IsFree d m → IsDone d (alt_keyed d letter (marking_leaf d letter) m)
   alt_done letter m f =
-      option_cases (marker_of d letter) (λ o. IsDone d (alt_keyed d letter o m)) (λ none. focus_done (keys.Alt letter) m f)
+      option_cases (marking_leaf d letter) (λ o. IsDone d (alt_keyed d letter o m)) (λ none. focus_done (keys.Alt letter) m f)
       (λ leaf found. act_done letter leaf m (found-in d sound.lawful (λ x. is_some (owner_by letter x.node.kind)) leaf found) f)
 
   -- a key while nothing holds the mouse

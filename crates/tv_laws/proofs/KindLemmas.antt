@@ -19,7 +19,7 @@ use Rattle.tv_model.specs.declared.record.Value.TheVariants as values
 use Rattle.tv_model.specs.Kinds.Button.{is_press}
 use Rattle.tv_model.specs.Kinds.Cluster as clusters
 use Rattle.tv_model.specs.Controls.Shortcut.{Boxes, Radios, ClusterKind, ItemMarks}
-use Rattle.tv_model.specs.Kinds.Cluster.{ClusterKey, cluster_key, flipped, held_marks, selected_of, selecting_of, cluster_answer, item_of_row, item_pressed}
+use Rattle.tv_model.specs.Kinds.Cluster.{ClusterKey, cluster_key, flipped, held_marks, selected_of, selecting_of, cluster_answer, item_of_row, cluster_item_pressed}
 use Rattle.tv_model.specs.Kinds.InputLine.{Edit, clicked, is_edit_key, domain_texts, cursor_of, edit_content, edit_of, edited_by}
 use Rattle.tv_model.specs.Kinds.ListBox.{asked_item, chosen, item_at_row, chosen_of, with_chosen, list_answer}
 use Rattle.tv_model.specs.Description.LawfulNodes.{HasLawfulCount, IsNarrowText}
@@ -95,7 +95,7 @@ boxes_flipped boxes (values.Item marked) item is h = absurd h
 
 boxes-pressed : (has_focus : Bool) (boxes : CheckBoxes) (item : ℕ) (c : Content) → Item (length boxes.items) item
     → IsFitContent has_focus (kinds.CheckBoxes boxes) c
-    → IsFitContent has_focus (kinds.CheckBoxes boxes) (item_pressed Boxes item c)
+    → IsFitContent has_focus (kinds.CheckBoxes boxes) (cluster_item_pressed Boxes item c)
 boxes-pressed has_focus boxes item c is fit =
     boxes-fit has_focus boxes (Some (flipped (held_marks c.value) item)) item c.overwrites (boxes_flipped boxes (held_marks c.value) item is (boxes_marks boxes c.value fit.safe.value)) is
 
@@ -189,15 +189,15 @@ move-fit has_focus _ row c count fit = fit
 -- an item that is pressed by its mark
 pub item-called : (kind : Kind) (cluster : ClusterKind) (name : List ℕ) (items : List MarkedText) (item : ℕ) (c : Content)
     → (behaviour kind).shortcut ≡ ItemMarks cluster name items → Item (length items) item → IsFitContent true kind c
-    → IsFitContent true kind (item_pressed cluster item c)
+    → IsFitContent true kind (cluster_item_pressed cluster item c)
 item-called (kinds.CheckBoxes boxes) cluster name items item c marked is fit =
     let same : Boxes ≡ cluster = cc in
     let own : items ≡ boxes.items = cc in
-    subst (λ x. IsFitContent true (kinds.CheckBoxes boxes) (item_pressed x item c)) same (boxes-pressed true boxes item c (subst (λ xs. Item (length xs) item) own is) fit)
+    subst (λ x. IsFitContent true (kinds.CheckBoxes boxes) (cluster_item_pressed x item c)) same (boxes-pressed true boxes item c (subst (λ xs. Item (length xs) item) own is) fit)
 item-called (kinds.RadioButtons radios) cluster name items item c marked is fit =
     let same : Radios ≡ cluster = cc in
     let own : items ≡ radios.items = cc in
-    subst (λ x. IsFitContent true (kinds.RadioButtons radios) (item_pressed x item c)) same
+    subst (λ x. IsFitContent true (kinds.RadioButtons radios) (cluster_item_pressed x item c)) same
     (radios-fit true radios item c (subst (λ xs. Item (length xs) item) own is) fit.private)
 item-called _ cluster name items item c marked is fit = absurd cc
 
@@ -217,9 +217,9 @@ same_item row item e = grind (arith, nat_tests)
 pub up-fit : (has_focus : Bool) (kind : Kind) (item row : ℕ) (c : Content) → HasRow kind row → IsFitContent has_focus kind c
     → IsFitAnswer has_focus kind (up_answer kind item row c)
 up-fit has_focus (kinds.CheckBoxes boxes) item row c within fit =
-    bool_cases (item_of_row row == item) (λ b. IsFitAnswer has_focus (kinds.CheckBoxes boxes) (if b then Becomes (item_pressed Boxes item c) else Passed))
+    bool_cases (item_of_row row == item) (λ b. IsFitAnswer has_focus (kinds.CheckBoxes boxes) (if b then Becomes (cluster_item_pressed Boxes item c) else Passed))
     (λ is. boxes-pressed has_focus boxes item c (subst (Item (length boxes.items)) (same_item row item is) (row_item (length boxes.items) row within)) fit) (λ other. tt)
 up-fit has_focus (kinds.RadioButtons radios) item row c within fit =
-    bool_cases (item_of_row row == item) (λ b. IsFitAnswer has_focus (kinds.RadioButtons radios) (if b then Becomes (item_pressed Radios item c) else Passed))
+    bool_cases (item_of_row row == item) (λ b. IsFitAnswer has_focus (kinds.RadioButtons radios) (if b then Becomes (cluster_item_pressed Radios item c) else Passed))
     (λ is. radios-fit has_focus radios item c (subst (Item (length radios.items)) (same_item row item is) (row_item (length radios.items) row within)) fit.private) (λ other. tt)
 up-fit has_focus _ item row c within fit = tt

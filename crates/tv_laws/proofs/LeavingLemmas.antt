@@ -16,7 +16,7 @@ use Rattle.tv_machine.specs.Controls.Tables.{up_answer}
 use Rattle.tv_machine.specs.Dialog.Ending.{command, end_by, ended, first_invalid, pressed_by, shown_invalid}
 use Rattle.tv_machine.specs.Dialog.Focus.{focus_moved, is_free_at}
 use Rattle.tv_machine.specs.Dialog.Modal.{Modal, content_at, leaf_at, with_line}
-use Rattle.tv_machine.specs.Dialog.Mouse.{held_up, is_inside, released, row_of}
+use Rattle.tv_machine.specs.Dialog.Mouse.{held_up, is_inside, released, row_on}
 use Rattle.tv_machine.specs.Dialog.Step.{step_by}
 use Rattle.tv_laws.specs.Leaving.{EscCancels, TabAsksNext, UpLetsGo}
 use Rattle.tv_laws.specs.Sound.{IsSoundDialog}
@@ -70,7 +70,7 @@ module _ (d : Dialog) (sound : IsSoundDialog d) where
   up_held None item p m = refl
   up_held (Some leaf) item p m =
       let n : Modal = record m { held = None } in
-      let a = up_answer leaf.node.kind item (row_of leaf p) (content_at m leaf.node.id) in
+      let a = up_answer leaf.node.kind item (row_on leaf p) (content_at m leaf.node.id) in
       bool_cases (is_inside leaf p) (λ b. Held_as n (if b then released d leaf a n else n)) (λ inside. released_held leaf a n) (λ outside. refl)
 
   pub up-lets-go : UpLetsGo d

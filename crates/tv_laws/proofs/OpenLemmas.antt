@@ -20,10 +20,10 @@ use Rattle.tv_machine.specs.State.{LeafState}
 use Rattle.tv_machine.specs.Leaves.{PlacedNode, leaf_list}
 use Rattle.tv_machine.specs.Dialog.Focus.{is_free_at, is_free_leaf, stop_of, stops_of}
 use Rattle.tv_machine.specs.Dialog.Modal.{Modal}
-use Rattle.tv_machine.specs.Dialog.Opening.{first_focus, opened, opened_leaf, opened_leaves, recorded, unfocused}
+use Rattle.tv_machine.specs.Dialog.Opening.{first_focus, opened_dialog, opened_leaf, opened_leaves, recorded, unfocused}
 use Rattle.tv_machine.specs.Dialog.Rules.{content_by, is_among, is_free, state_of}
 use Rattle.tv_machine.specs.Safe.{HasValueOf, IsSafeEntry, IsSafeRecord, IsValueOf}
-use Rattle.tv_laws.specs.Ends.{IsLineOf, IsOpen}
+use Rattle.tv_laws.specs.Ends.{NamesEndOf, IsOpen}
 use Rattle.tv_laws.specs.Fit.{IsFitContent, IsFitLeaf, IsStanding}
 use Rattle.tv_laws.specs.Sound.{IsSoundDialog}
 use Rattle.tv_laws.specs.Steps.{IsSafeSave, OpensFit}
@@ -119,10 +119,10 @@ module _ (d : Dialog) (sound : IsSoundDialog d) where
         ap (is_free_at d leaves) first ∙ ap (is_free_leaf d leaves) (found-in d sound.lawful (is_free d leaves) leaf found)
         ∙ found-passes (is_free d leaves) (leaf_list d.views) leaf found) asked
 
-    pub opened-open : IsOpen d (opened d saved overwriting) × ((opened d saved overwriting).held ≡ None)
+    pub opened-open : IsOpen d (opened_dialog d saved overwriting) × ((opened_dialog d saved overwriting).held ≡ None)
     opened-open =
         let to = first_focus d (opened_leaves d saved) in
-        let quiet = quiet-moved d sound before to (All-nil (IsLineOf d), refl) in (
+        let quiet = quiet-moved d sound before to (All-nil (NamesEndOf d), refl) in (
           record { fit = fit-moved d sound before to standing_before (first_free_is (opened_leaves d saved)) refl; log = quiet.0; going = quiet.1 },
           held-moved d sound.lawful before to,
         )

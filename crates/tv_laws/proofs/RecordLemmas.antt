@@ -24,7 +24,7 @@ use Rattle.tv_machine.specs.Leaves.{PlacedNode, leaf_list}
 use Rattle.tv_model.specs.Controls.Contents.{Content}
 use Rattle.tv_machine.specs.Dialog.Ending.{entry_of, fields_of, first_invalid, is_invalid_leaf}
 use Rattle.tv_machine.specs.Dialog.Focus.{is_invalid}
-use Rattle.tv_model.specs.Kinds.InputLine.{is_outside}
+use Rattle.tv_model.specs.Kinds.InputLine.{is_outside_domain}
 use Rattle.tv_machine.specs.Dialog.Modal.{Modal, content_at}
 use Rattle.tv_machine.specs.Dialog.Rules.{content_by, is_among, state_of}
 use Rattle.tv_machine.specs.Safe.{HasValueOf, IsSafeEntry, IsSafeRecord, IsTextOf, IsValueOf, is_field}
@@ -49,9 +49,9 @@ value-field k (Some (values.Item item)) h = absurd h
 
 -- a text that isn't outside its domain lies in it
 text_inside : (input : Input) (text : List ℕ) → IsTextOf IsViableText (kinds.Input input) text
-    → is_outside (domain_of input.spec) text ≡ false → IsTextOf InDomain (kinds.Input input) text
+    → is_outside_domain (domain_of input.spec) text ≡ false → IsTextOf InDomain (kinds.Input input) text
 text_inside input text h e =
-    (h.0, h.1, (in_domain_law h.0 text).0 (not_not (in_domain h.0 text) (ap (λ o. is_outside o text) (sym ((domain_law input.spec h.0).1 h.1)) ∙ e)))
+    (h.0, h.1, (in_domain_law h.0 text).0 (not_not (in_domain h.0 text) (ap (λ o. is_outside_domain o text) (sym ((domain_law input.spec h.0).1 h.1)) ∙ e)))
   where
     not_not : (b : Bool) → not b ≡ false → b ≡ true
     not_not true f = refl

@@ -22,7 +22,7 @@ use Rattle.tv_machine.specs.Session.Commands.{do_command, modal_of}
 use Rattle.tv_machine.specs.Session.Start.{closed, start, started_at, started_by}
 use Rattle.tv_machine.specs.Session.Step.{down_at_menu, down_at_status, down_below, emptied, event_from, held_of, is_item_enabled, is_status_row, key_at_menu, key_at_status, key_below, status_command, status_item_of, step, step_at, step_below, step_held, to_dialog}
 use Rattle.tv_laws.specs.Runs.{HasSoundDialogs, IsFitState, IsKept, RunsFit}
-use Rattle.tv_laws.specs.Steps.{IsGiven}
+use Rattle.tv_laws.specs.Steps.{RespectsHold}
 use Rattle.tv_laws.proofs.CommandLemmas.{IsReady, command-fit, desktop_down-fit, desktop_key-fit, idle-fit, menu_down-fit, menu_key-fit, ready-idle}
 use Rattle.tv_machine.proofs.ListLemmas.{bool_cases, option_cases}
 use Rattle.tv_laws.proofs.StepLemmas.{stays-fit}
@@ -30,19 +30,19 @@ use Rattle.tv_laws.proofs.WorkLemmas.{dialog-opens, dialog-works, filter_none, n
 
 -- ---- events that may come at any time
 
-pub given_key : (held : Option Held) (k : Key) → IsGiven held (events.Key k)
+pub given_key : (held : Option Held) (k : Key) → RespectsHold held (events.Key k)
 given_key None k = tt
 given_key (Some held) k = tt
 
-pub given_down : (held : Option Held) (p : Point) → IsGiven held (events.Down p)
+pub given_down : (held : Option Held) (p : Point) → RespectsHold held (events.Down p)
 given_down None p = tt
 given_down (Some held) p = tt
 
-pub given_move : (held : Option Held) (p : Point) → IsGiven held (events.Move p)
+pub given_move : (held : Option Held) (p : Point) → RespectsHold held (events.Move p)
 given_move None p = tt
 given_move (Some held) p = tt
 
-pub given_up : (held : Option Held) (p : Point) → IsGiven held (events.Up p)
+pub given_up : (held : Option Held) (p : Point) → RespectsHold held (events.Up p)
 given_up None p = tt
 given_up (Some held) p = tt
 
@@ -54,7 +54,7 @@ module _ (d : Desc) (sound : HasSoundDialogs d) where
   -- ---- the open dialog
 
   to_dialog_fit : (s : State) (o : OpenDialog) (e : Event) → s.dialog ≡ Some o → IsFitState d s
-      → IsGiven o.held (event_from o.origin e) → IsFitState d (to_dialog d o e s)
+      → RespectsHold o.held (event_from o.origin e) → IsFitState d (to_dialog d o e s)
   to_dialog_fit s o e some f given =
       dialog-works d sound s o (λ dialog m. dialog_step dialog (event_from o.origin e) m) some f
       (λ dialog is going. stays-fit dialog is (modal_of s o) (event_from o.origin e) going given)

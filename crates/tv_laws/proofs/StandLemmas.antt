@@ -17,7 +17,7 @@ use Rattle.tv_machine.specs.State.{Held, LeafState}
 use Rattle.tv_machine.specs.Leaves.{PlacedNode}
 use Rattle.tv_model.specs.Controls.Contents.{Content}
 use Rattle.tv_machine.specs.Dialog.Focus.{focus_moved, is_free_at, is_free_leaf, refocused}
-use Rattle.tv_machine.specs.Dialog.Modal.{Modal, content_at, holding, leaf_at, overwrites_after, with_content}
+use Rattle.tv_machine.specs.Dialog.Modal.{Modal, content_at, holding, leaf_at, overwrites_after, content_put}
 use Rattle.tv_machine.specs.Dialog.Rules.{content_by, holds, is_among, is_enabled, is_free, is_kind_enabled, is_marked_at, is_visible, shows, state_of}
 use Rattle.tv_model.specs.Kinds.Cluster.{is_marked}
 use Rattle.tv_laws.specs.Fit.{IsFitContent, IsFitLeaf, IsFitModal, IsStanding}
@@ -58,10 +58,10 @@ module _ (d : Dialog) (sound : IsSoundDialog d) where
 
   pub standing-changed : (m : Modal) (i : Id) (c : Content) (leaf : PlacedNode) → IsStanding d m → leaf_at d i ≡ Some leaf
       → IsFitContent (leaf.node.id.0 == m.focus.0) leaf.node.kind c
-      → IsStanding d (with_content d i c m)
+      → IsStanding d (content_put d i c m)
   standing-changed m i c leaf s there fits = record {
     leaves = leaves-changed d sound.lawful m s.leaves i c;
-    contents = leaves-are d sound.lawful (IsFitLeaf (with_content d i c m))
+    contents = leaves-are d sound.lawful (IsFitLeaf (content_put d i c m))
         (λ other e. subst (IsFitContent (other.node.id.0 == m.focus.0) other.node.kind) (sym (content_at-changed d sound.lawful m s.leaves i c other e))
         (bool_cases (other.node.id.0 == i.0) (λ b. IsFitContent (other.node.id.0 == m.focus.0) other.node.kind (if b then c else content_at m other.node.id))
         (λ here.
@@ -76,7 +76,7 @@ module _ (d : Dialog) (sound : IsSoundDialog d) where
 
   module _ (m : Modal) (leaves : HasLeaves d m) (i : Id) (c : Content) (leaf : PlacedNode) (there : leaf_at d i ≡ Some leaf) where
     abbrev changed : List LeafState
-    changed = (with_content d i c m).leaves
+    changed = (content_put d i c m).leaves
 
     marked_other : (item : ℕ) (node : Node) → (node.id.0 == i.0) ≡ false
         → is_marked_at m.leaves item (Some node) ≡ is_marked_at changed item (Some node)
@@ -143,9 +143,9 @@ module _ (d : Dialog) (sound : IsSoundDialog d) where
   -- where every item is marked as it was
   pub fit-same : (m : Modal) (i : Id) (c : Content) (leaf : PlacedNode) → IsFitModal d m → leaf_at d i ≡ Some leaf
       → IsFitContent (leaf.node.id.0 == m.focus.0) leaf.node.kind c
-      → HoldSame d m.leaves (with_content d i c m).leaves → IsFitModal d (with_content d i c m)
+      → HoldSame d m.leaves (content_put d i c m).leaves → IsFitModal d (content_put d i c m)
   fit-same m i c leaf fit there fits same =
-      let after = (with_content d i c m).leaves in
+      let after = (content_put d i c m).leaves in
       record {
         standing = standing-changed m i c leaf fit.standing there fits;
         focus = sym (free_at-same m.leaves after m.focus same) ∙ fit.focus;
@@ -161,9 +161,9 @@ module _ (d : Dialog) (sound : IsSoundDialog d) where
   -- where the focus holds something else, and no leaf the mouse
   pub fit-focus : (m : Modal) (c : Content) (leaf : PlacedNode) → IsFitModal d m → leaf_at d m.focus ≡ Some leaf
       → IsFitContent true leaf.node.kind c → m.held ≡ None
-      → IsFitModal d (with_content d m.focus c m)
+      → IsFitModal d (content_put d m.focus c m)
   fit-focus m c leaf fit there fits idle =
-      let after = (with_content d m.focus c m).leaves in
+      let after = (content_put d m.focus c m).leaves in
       let flag : (leaf.node.id.0 == m.focus.0) ≡ true = ap (λ id. id.0 == m.focus.0) (leaf_at-is d m.focus leaf there) ∙ id-itself m.focus in
       record {
         standing = standing-changed m m.focus c leaf fit.standing there (subst (λ b. IsFitContent b leaf.node.kind c) (sym flag) fits);

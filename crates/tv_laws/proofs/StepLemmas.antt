@@ -9,7 +9,7 @@ use Rattle.tv_machine.specs.Dialog.Mouse.{held_moved}
 use Rattle.tv_machine.specs.Dialog.Step.{free_step, held_step, step_by}
 use Rattle.tv_laws.specs.Ends.{IsDone, IsOpen}
 use Rattle.tv_laws.specs.Sound.{IsSoundDialog}
-use Rattle.tv_laws.specs.Steps.{IsGiven, StaysFit}
+use Rattle.tv_laws.specs.Steps.{RespectsHold, StaysFit}
 use Rattle.tv_laws.proofs.EndLemmas.{command-done}
 use Rattle.tv_laws.proofs.FreeLemmas.{IsFree, free-done, open-done}
 use Rattle.tv_laws.proofs.KeyLemmas.{key-done}
@@ -25,7 +25,7 @@ module _ (d : Dialog) (sound : IsSoundDialog d) where
   free_done (events.Command c) m f = command-done d sound c.0 m f
   free_done (events.Broadcast c) m f = free-done d m f
 
-  held_done : (held : Held) (e : Event) (m : Modal) → m.held ≡ Some held → IsOpen d m → IsGiven (Some held) e
+  held_done : (held : Held) (e : Event) (m : Modal) → m.held ≡ Some held → IsOpen d m → RespectsHold (Some held) e
       → IsDone d (held_step d held e m)
   held_done held (events.Key k) m is o given = open-done d m o
   held_done held (events.Down p) m is o given = open-done d m o
@@ -36,5 +36,5 @@ module _ (d : Dialog) (sound : IsSoundDialog d) where
 
   pub stays-fit : StaysFit d
   stays-fit m e o =
-      option_cases m.held (λ held. IsGiven held e → IsDone d (step_by d held e m))
+      option_cases m.held (λ held. RespectsHold held e → IsDone d (step_by d held e m))
       (λ none given. free_done e m (record { fit = o.fit; log = o.log; going = o.going; idle = none })) (λ held some given. held_done held e m some o given)

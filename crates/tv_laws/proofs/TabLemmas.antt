@@ -7,7 +7,7 @@ use Rattle.tv_model.specs.declared.node.Id.{Id}
 use Rattle.tv_model.specs.declared.desc.Dialog.{Dialog}
 use Rattle.tv_machine.specs.State.{LeafState}
 use Rattle.tv_machine.specs.Leaves.{leaf_list}
-use Rattle.tv_machine.specs.Dialog.Focus.{Moved, NotFree, Refused, Same, Stop, after_request, is_free_at, is_free_leaf, keeps_focus, next_free, others, place_of, request, stop_of, stops_of}
+use Rattle.tv_machine.specs.Dialog.Focus.{Moved, NotFree, Refused, Same, Stop, after_request, is_free_at, is_free_leaf, keeps_focus, next_free, others, stop_place, request, stop_of, stops_of}
 use Rattle.tv_machine.specs.Dialog.Modal.{Modal, leaf_at}
 use Rattle.tv_machine.specs.Dialog.Step.{step_by}
 use Rattle.tv_laws.specs.Leaving.{TabGoesOn}
@@ -27,7 +27,7 @@ module _ (d : Dialog) (sound : IsSoundDialog d) where
     true_others : (focus : Id) → All IsTrueStop (others (stops_of d leaves) focus)
     true_others focus =
         let stops = stops_of d leaves in
-        let n = place_of stops focus in
+        let n = stop_place stops focus in
         All-append IsTrueStop (drop (n + 1) stops) (take n stops) (All-drop IsTrueStop (n + 1) stops true_stops) (All-take IsTrueStop n stops true_stops)
 
     -- the next free control is free

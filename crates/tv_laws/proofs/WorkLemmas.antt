@@ -13,11 +13,11 @@ use Rattle.tv_model.specs.Log.Record.{Entries}
 use Rattle.tv_machine.specs.State.{OpenDialog, OpenMenu, OpenWindow, State}
 use Rattle.tv_machine.specs.Dialog.Ending.{fields_of}
 use Rattle.tv_machine.specs.Dialog.Modal.{Modal}
-use Rattle.tv_machine.specs.Dialog.Opening.{opened}
+use Rattle.tv_machine.specs.Dialog.Opening.{opened_dialog}
 use Rattle.tv_machine.specs.Dialog.Rules.{is_among}
 use Rattle.tv_machine.specs.Safe.{HasDeclaredEnd, IsFitOverwriting, IsSafeRecord, IsSafeSaved}
 use Rattle.tv_machine.specs.Session.Commands.{after_work, in_dialog, logged, modal_of, open_dialog, open_found, overwriting_at, saved_at, saved_by, worked, works}
-use Rattle.tv_laws.specs.Ends.{IsDone, IsLineOf, IsOpen}
+use Rattle.tv_laws.specs.Ends.{IsDone, NamesEndOf, IsOpen}
 use Rattle.tv_laws.specs.Fit.{IsFitModal}
 use Rattle.tv_laws.specs.Runs.{HasSoundDialogs, IsFitOpen, IsFitState, IsKept}
 use Rattle.tv_laws.specs.Sound.{IsSoundDialog}
@@ -85,7 +85,7 @@ module _ (d : Desc) (sound : HasSoundDialogs d) where
   -- ---- the work of a dialog
 
   module _ (s : State) (k : IsKept d s) (place : ℕ) (dialog : Dialog) (there : slice_get d.dialogs place ≡ Some dialog) where
-    line_declared : (line : LogLine) → IsLineOf dialog line → HasDeclaredEnd d line
+    line_declared : (line : LogLine) → NamesEndOf dialog line → HasDeclaredEnd d line
     line_declared (lines.End i command) h = record { place = place; dialog = dialog; there = there; id = sym h.0; «end» = h.1 }
     line_declared _ h = tt
 
@@ -115,7 +115,7 @@ module _ (d : Desc) (sound : HasSoundDialogs d) where
         saved = k.saved;
         places = length_set s.overwriting place m.overwriting ∙ k.places;
         ordered = λ j ids e. at j ids (get_set s.overwriting place m.overwriting j ids e);
-        ends = All-append (HasDeclaredEnd d) s.log m.log k.ends (All-weaker (IsLineOf dialog) (HasDeclaredEnd d) line_declared m.log done.log);
+        ends = All-append (HasDeclaredEnd d) s.log m.log k.ends (All-weaker (NamesEndOf dialog) (HasDeclaredEnd d) line_declared m.log done.log);
       }
         where
           at : (j : ℕ) (ids : List Id) → ((j ≡ place) × (ids ≡ m.overwriting)) ⊎ (slice_get s.overwriting j ≡ Some ids)
@@ -173,7 +173,7 @@ module _ (d : Desc) (sound : HasSoundDialogs d) where
   dialog-works s o work e f keeps =
       let x = f.«open» o e in
       let m = work x.dialog (modal_of s o) in
-      let done = keeps x.dialog (sound-at o.place x.dialog x.there) (record { fit = x.fit; log = All-nil (IsLineOf x.dialog); going = refl }) in
+      let done = keeps x.dialog (sound-at o.place x.dialog x.there) (record { fit = x.fit; log = All-nil (NamesEndOf x.dialog); going = refl }) in
       subst (λ found. IsFitState d (works s o work found)) (sym x.there)
       (option_cases m.ended (λ over. IsFitState d (after_work s o m over)) (λ none. stands s f.kept o.place x.dialog x.there m done o.origin x.menu x.over)
       (λ number ended. ends s f.kept o.place x.dialog x.there m done number ended))
@@ -183,6 +183,6 @@ module _ (d : Desc) (sound : HasSoundDialogs d) where
   dialog-opens place s f menu over =
       option_cases (slice_get d.dialogs place) (λ found. IsFitState d (open_found s place found)) (λ none. f)
       (λ dialog there.
-      let m = opened dialog (saved_at s place) (overwriting_at s place) in
+      let m = opened_dialog dialog (saved_at s place) (overwriting_at s place) in
       let is = opens-fit dialog (sound-at place dialog there) (saved_at s place) (overwriting_at s place) (saved_safe s f.kept place dialog there) (ordered_at s f.kept place dialog there) in
       stands (logged (lines.Open dialog.node.id) s) (kept-logged (lines.Open dialog.node.id) s tt f.kept) place dialog there m (open-done dialog m is.0) (corner_of dialog.node) menu over)

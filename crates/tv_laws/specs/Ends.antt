@@ -11,9 +11,9 @@ use Rattle.tv_machine.specs.Safe.{IsSafeRecord}
 use Rattle.tv_laws.specs.Fit.{IsFitModal}
 
 -- an `end` line of the dialog names it and a command that it declares; nothing is asked of other lines
-abbrev pub IsLineOf : Dialog → LogLine → Type 0
-IsLineOf d (lines.End i command) = (i ≡ d.node.id) × IsTrue (is_end (dialog_head d).ends command.0)
-IsLineOf d _ = Unit {0}
+abbrev pub NamesEndOf : Dialog → LogLine → Type 0
+NamesEndOf d (lines.End i command) = (i ≡ d.node.id) × IsTrue (is_end (dialog_head d).ends command.0)
+NamesEndOf d _ = Unit {0}
 
 -- the dialog has ended by a command that it declares; the end and the fields, in description order, are the last lines of
 -- the log; and unless it was cancelled every text lies in its domain
@@ -26,11 +26,11 @@ pub record IsEnding (d : Dialog) (number : ℕ) (m : Modal) : Type 0 where
 -- a dialog that goes on
 pub record IsOpen (d : Dialog) (m : Modal) : Type 0 where
   pub fit : IsFitModal d m
-  pub log : All (IsLineOf d) m.log
+  pub log : All (NamesEndOf d) m.log
   pub going : m.ended ≡ None
 
 -- a dialog after an event, which may have ended it
 pub record IsDone (d : Dialog) (m : Modal) : Type 0 where
   pub fit : IsFitModal d m
-  pub log : All (IsLineOf d) m.log
+  pub log : All (NamesEndOf d) m.log
   pub ends : (number : ℕ) → m.ended ≡ Some number → IsEnding d number m

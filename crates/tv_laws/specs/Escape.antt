@@ -10,7 +10,7 @@ use Rattle.tv_machine.specs.State.{OpenDialog, State}
 use Rattle.tv_machine.specs.Dialog.Ending.{fields_of}
 use Rattle.tv_machine.specs.Output.{states}
 use Rattle.tv_machine.specs.Session.Step.{step}
-use Rattle.tv_laws.specs.Records.{end_lines, reached}
+use Rattle.tv_laws.specs.Records.{end_lines, state_after}
 
 -- the key Esc
 abbrev pub escape : Event
@@ -27,20 +27,20 @@ pub record IsCancelled (d : Desc) (s : State) (o : OpenDialog) (after : State) :
 -- wherever a run has come to an open dialog in which nothing holds the mouse, Esc cancels it
 abbrev pub EscCancelsOpen : Desc → Type 0
 EscCancelsOpen d =
-    (before : List Event) (o : OpenDialog) → (reached d before).dialog ≡ Some o → o.held ≡ None
-    → IsCancelled d (reached d before) o (step d (reached d before) escape)
+    (before : List Event) (o : OpenDialog) → (state_after d before).dialog ≡ Some o → o.held ≡ None
+    → IsCancelled d (state_after d before) o (step d (state_after d before) escape)
 
 -- wherever a run has come, nothing holds the mouse after a mouse up
 abbrev pub UpFreesMouse : Desc → Type 0
 UpFreesMouse d =
-    (before : List Event) (p : Point) (o : OpenDialog) → (step d (reached d before) (events.Up p)).dialog ≡ Some o → o.held ≡ None
+    (before : List Event) (p : Point) (o : OpenDialog) → (step d (state_after d before) (events.Up p)).dialog ≡ Some o → o.held ≡ None
 
 -- wherever a run has come, no dialog is open after a mouse up and Esc
 abbrev pub UpEscLeaves : Desc → Type 0
-UpEscLeaves d = (before : List Event) (p : Point) → (states (step d) (reached d before) (events.Up p ∷ escape ∷ [])).dialog ≡ None
+UpEscLeaves d = (before : List Event) (p : Point) → (states (step d) (state_after d before) (events.Up p ∷ escape ∷ [])).dialog ≡ None
 
 -- and one that the mouse up leaves open is cancelled
 abbrev pub UpEscCancels : Desc → Type 0
 UpEscCancels d =
-    (before : List Event) (p : Point) (o : OpenDialog) → (step d (reached d before) (events.Up p)).dialog ≡ Some o
-    → IsCancelled d (step d (reached d before) (events.Up p)) o (states (step d) (reached d before) (events.Up p ∷ escape ∷ []))
+    (before : List Event) (p : Point) (o : OpenDialog) → (step d (state_after d before) (events.Up p)).dialog ≡ Some o
+    → IsCancelled d (step d (state_after d before) (events.Up p)) o (states (step d) (state_after d before) (events.Up p ∷ escape ∷ []))

@@ -15,18 +15,18 @@ use Rattle.tv_model.specs.Description.Marks.{upper}
 use Rattle.tv_model.specs.Description.Names.{gives_name, meant}
 use Rattle.tv_model.specs.Description.Nodes.{is_button, name_of}
 use Rattle.tv_model.specs.Description.Owners as owners
-use Rattle.tv_model.specs.Controls.Owner.{Owner}
+use Rattle.tv_model.specs.Controls.Owner.{LetterOwner}
 use Rattle.tv_model.specs.Description.Owners.{owners_of}
 use Rattle.tv_machine.specs.State.{LeafState}
 use Rattle.tv_machine.specs.Leaves.{PlacedNode, leaf_list}
 use Rattle.tv_model.specs.Controls.Behaviour.{Passed}
-use Rattle.tv_model.specs.Kinds.Cluster.{item_pressed}
+use Rattle.tv_model.specs.Kinds.Cluster.{cluster_item_pressed}
 use Rattle.tv_machine.specs.Controls.Tables.{key_answer}
 use Rattle.tv_machine.specs.Dialog.Ending.{first_invalid}
 use Rattle.tv_machine.specs.Dialog.Focus.{Refused, is_free_at, keeps_focus, requested}
 use Rattle.tv_machine.specs.Dialog.Modal.{Modal, content_at, leaf_at, with_line}
 use Rattle.tv_machine.specs.Dialog.Rules.{is_kind_enabled, is_visible}
-use Rattle.tv_machine.specs.Dialog.Shortcuts.{act, act_on, marker_of}
+use Rattle.tv_machine.specs.Dialog.Shortcuts.{act, act_on, marking_leaf}
 use Rattle.tv_machine.specs.Dialog.Step.{dialog_step}
 use Rattle.tv_laws.specs.Fit.{IsFitModal}
 
@@ -34,7 +34,7 @@ use Rattle.tv_laws.specs.Fit.{IsFitModal}
 
 -- the marker of a letter is the view whose owner the certificate names
 abbrev pub MarksAlike : Dialog → Type 0
-MarksAlike d = (letter : ℕ) → option_map (λ leaf. leaf.node) (marker_of d letter) ≡ owners.marker_of d letter
+MarksAlike d = (letter : ℕ) → option_map (λ leaf. leaf.node) (marking_leaf d letter) ≡ owners.marker_of d letter
 
 -- what a marker acts on: a label on the control that its link means, any other marker on itself
 abbrev pub control_by : Dialog → Node → Kind → Option Node
@@ -54,7 +54,7 @@ HasOwnNames d =
 
 -- the one owner that a sound certificate has for the letter names the control, with the item that the letter presses
 pub record IsOwner (d : Dialog) (letter : ℕ) (marker : Node) (control : Node) : Type 0 where
-  pub owner : Owner
+  pub owner : LetterOwner
   pub named : owners_of d letter ≡ owner ∷ []
   pub name : IsTrue (gives_name owner.name control)
   -- and no other view, where no name is given twice
@@ -90,7 +90,7 @@ pub record IsActOn (d : Dialog) (is_press : Bool) (i : Id) (m : Modal) (n : Moda
 -- the marker of a letter acts on the control that the certificate names for it, and on no other
 abbrev pub ActsOnOwner : Dialog → Type 0
 ActsOnOwner d =
-    (m : Modal) (letter : ℕ) (marker : PlacedNode) (control : Node) → IsFitModal d m → marker_of d letter ≡ Some marker
+    (m : Modal) (letter : ℕ) (marker : PlacedNode) (control : Node) → IsFitModal d m → marking_leaf d letter ≡ Some marker
     → control_by d marker.node marker.node.kind ≡ Some control
     → IsOwner d letter marker.node control × IsActOn d (is_button marker.node.kind) control.id m (act d letter marker m)
 
@@ -115,7 +115,7 @@ can_act d leaves marker = is_visible d leaves marker && (is_kind_enabled d leave
 -- the item of the cluster, where it has one of the letter, is selected and pressed
 abbrev pub HasPressed : ClusterKind → Id → Option ℕ → Modal → Modal → Type 0
 HasPressed kind i None m n = ⊥
-HasPressed kind i (Some item) m n = content_at n i ≡ item_pressed kind item (content_at m i)
+HasPressed kind i (Some item) m n = content_at n i ≡ cluster_item_pressed kind item (content_at m i)
 
 -- by the kind of the marker: a button is pressed first of all; a label's control has the focus, and the value that it had; and
 -- a cluster has the focus, and its item is selected and pressed
@@ -129,7 +129,7 @@ HasActed letter _ i m n = Unit {0}
 -- a marker that can act does, unless the focus is an input that it may not leave. A button doesn't ask for the focus
 abbrev pub ActsWhereItCan : Dialog → Type 0
 ActsWhereItCan d =
-    (m : Modal) (letter : ℕ) (marker : PlacedNode) (control : Node) → IsFitModal d m → marker_of d letter ≡ Some marker
+    (m : Modal) (letter : ℕ) (marker : PlacedNode) (control : Node) → IsFitModal d m → marking_leaf d letter ≡ Some marker
     → control_by d marker.node marker.node.kind ≡ Some control → can_act d m.leaves marker ≡ true
     → (is_button marker.node.kind ≡ false → keeps_focus m (leaf_at d m.focus) ≡ false)
     → HasActed letter marker.node.kind control.id m (act d letter marker m)
@@ -138,7 +138,7 @@ ActsWhereItCan d =
 
 -- a letter for which the certificate names no control acts on nothing
 abbrev pub UnnamedActsOnNone : Dialog → Type 0
-UnnamedActsOnNone d = (m : Modal) (letter : ℕ) → owners_of d letter ≡ [] → act_on d letter (marker_of d letter) m ≡ m
+UnnamedActsOnNone d = (m : Modal) (letter : ℕ) → owners_of d letter ≡ [] → act_on d letter (marking_leaf d letter) m ≡ m
 
 -- a marker that can't act leaves everything as it was
 abbrev pub ActsOnNone : Dialog → Type 0
@@ -157,18 +157,18 @@ RefusedActsOnNone d =
 abbrev pub AltActs : Dialog → Type 0
 AltActs d =
     (m : Modal) (letter : ℕ) → m.held ≡ None
-    → dialog_step d (events.Key (keys.Alt letter)) m ≡ act_on d letter (marker_of d letter) m
+    → dialog_step d (events.Key (keys.Alt letter)) m ≡ act_on d letter (marking_leaf d letter) m
 
 -- so is a character that the focused control doesn't take, in upper case
 abbrev pub TypedActs : Dialog → Type 0
 TypedActs d =
     (m : Modal) (ch : ℕ) (focus : PlacedNode) → m.held ≡ None → leaf_at d m.focus ≡ Some focus
     → key_answer focus.node.kind (keys.Char ch) (content_at m focus.node.id) ≡ Passed
-    → dialog_step d (events.Key (keys.Char ch)) m ≡ act_on d (upper ch) (marker_of d (upper ch)) m
+    → dialog_step d (events.Key (keys.Char ch)) m ≡ act_on d (upper ch) (marking_leaf d (upper ch)) m
 
 -- and so is a letter of a focused cluster's own items, whose marker is that cluster. Space isn't one
 abbrev pub OwnLetterActs : Dialog → Type 0
 OwnLetterActs d =
     (m : Modal) (ch item : ℕ) (focus : PlacedNode) → IsFitModal d m → m.held ≡ None → leaf_at d m.focus ≡ Some focus
     → (ch == 32) ≡ false → item_by ch focus.node.kind ≡ Some item
-    → (marker_of d (upper ch) ≡ Some focus) × (dialog_step d (events.Key (keys.Char ch)) m ≡ act d (upper ch) focus m)
+    → (marking_leaf d (upper ch) ≡ Some focus) × (dialog_step d (events.Key (keys.Char ch)) m ≡ act d (upper ch) focus m)

@@ -14,7 +14,7 @@ use Rattle.tv_machine.specs.Controls.Declared.{declared_value}
 use Rattle.tv_machine.specs.State.{OpenDialog, State}
 use Rattle.tv_machine.specs.Leaves.{PlacedNode, leaf_list}
 use Rattle.tv_machine.specs.Dialog.Ending.{field_line, fields_of}
-use Rattle.tv_machine.specs.Dialog.Opening.{opened}
+use Rattle.tv_machine.specs.Dialog.Opening.{opened_dialog}
 use Rattle.tv_machine.specs.Dialog.Rules.{is_among}
 use Rattle.tv_machine.specs.Output.{states}
 use Rattle.tv_machine.specs.Safe.{HasDeclaredEnd, IsSafeRecord, field_ids}
@@ -24,14 +24,14 @@ use Rattle.tv_machine.specs.Session.Step.{emptied, step}
 use Rattle.tv_laws.specs.Steps.{IsSafeSave}
 
 -- the state to which a run has come after these events
-abbrev pub reached : Desc → List Event → State
-reached d events = states (step d) (start d) events
+abbrev pub state_after : Desc → List Event → State
+state_after d events = states (step d) (start d) events
 
 -- ---- ends
 
 -- each `end` line that a run logs names a dialog of the description and a command that it declares
 abbrev pub EndsAsDeclared : Desc → Type 0
-EndsAsDeclared d = (events : List Event) → All (HasDeclaredEnd d) (reached d events).log
+EndsAsDeclared d = (events : List Event) → All (HasDeclaredEnd d) (state_after d events).log
 
 -- each dialog declares `cancel`
 abbrev pub DeclareCancel : Desc → Type 0
@@ -49,7 +49,7 @@ abbrev pub end_lines : Dialog → ℕ → Entries → List LogLine
 end_lines dialog number entries = lines.End dialog.node.id (record { 0 = number }) ∷ map field_line entries
 
 -- the last lines of a log are these, and there is no end before them
-pub record EndsWith (log last : List LogLine) : Type 0 where
+pub record LogEndsWith (log last : List LogLine) : Type 0 where
   pub before : List LogLine
   pub endless : All IsNoEnd before
   pub written : log ≡ before ++ last
@@ -78,7 +78,7 @@ pub record IsEnd (d : Desc) (s after : State) : Type 0 where
   pub number : ℕ
   pub declared : is_end (dialog_head dialog).ends number ≡ true
   pub fields : map (λ entry. entry.id) (fields_of «open».leaves) ≡ field_ids dialog
-  pub logged : EndsWith after.log (end_lines dialog number (fields_of «open».leaves))
+  pub logged : LogEndsWith after.log (end_lines dialog number (fields_of «open».leaves))
   pub cancelled : (number == 11) ≡ true → after.saved ≡ s.saved
   pub saved : (number == 11) ≡ false → IsSavedAt «open».place dialog (fields_of «open».leaves) s after
 
@@ -86,7 +86,7 @@ pub record IsEnd (d : Desc) (s after : State) : Type 0 where
 abbrev pub SavesWhatItLogs : Desc → Type 0
 SavesWhatItLogs d =
     (events : List Event) (e : Event)
-    → IsEndless (reached d events) (step d (reached d events) e) ⊎ IsEnd d (reached d events) (step d (reached d events) e)
+    → IsEndless (state_after d events) (step d (state_after d events) e) ⊎ IsEnd d (state_after d events) (step d (state_after d events) e)
 
 -- ---- opening
 
@@ -110,14 +110,14 @@ abbrev pub OpensAsSaved : Dialog → Type 0
 OpensAsSaved dialog =
     (saved : Option Entries) (overwriting : List Id) → IsSafeSave dialog saved
     → overwriting ≡ filter (is_among overwriting) (map (λ view. view.id) dialog.views)
-    → fields_of (opened dialog saved overwriting).leaves ≡ opened_record dialog saved
+    → fields_of (opened_dialog dialog saved overwriting).leaves ≡ opened_record dialog saved
 
 -- a dialog that an event of a run opens shows what was saved of it
 abbrev pub ReopensAsSaved : Desc → Type 0
 ReopensAsSaved d =
     (events : List Event) (e : Event) (o : OpenDialog)
-    → (reached d events).dialog ≡ None → (step d (reached d events) e).dialog ≡ Some o
-    → ShowsSaved d (reached d events) o
+    → (state_after d events).dialog ≡ None → (step d (state_after d events) e).dialog ≡ Some o
+    → ShowsSaved d (state_after d events) o
 
 -- the dialog that is open at the start shows what is declared: nothing is saved yet
 abbrev pub StartsAsDeclared : Desc → Type 0

@@ -7,7 +7,7 @@ use Rattle.tv_model.specs.declared.desc.Dialog.{Dialog}
 use Rattle.tv_model.specs.Log.Record.{Entries}
 use Rattle.tv_machine.specs.State.{Held}
 use Rattle.tv_machine.specs.Dialog.Modal.{Modal}
-use Rattle.tv_machine.specs.Dialog.Opening.{opened}
+use Rattle.tv_machine.specs.Dialog.Opening.{opened_dialog}
 use Rattle.tv_machine.specs.Dialog.Rules.{is_among}
 use Rattle.tv_machine.specs.Dialog.Step.{dialog_step}
 use Rattle.tv_machine.specs.Safe.{IsSafeRecord}
@@ -24,17 +24,17 @@ abbrev pub OpensFit : Dialog → Type 0
 OpensFit d =
     (saved : Option Entries) (overwriting : List Id) → IsSafeSave d saved
     → overwriting ≡ filter (is_among overwriting) (map (λ view. view.id) d.views)
-    → IsOpen d (opened d saved overwriting) × ((opened d saved overwriting).held ≡ None)
+    → IsOpen d (opened_dialog d saved overwriting) × ((opened_dialog d saved overwriting).held ≡ None)
 
 -- ---- events
 
 -- no command comes while a leaf holds the mouse: it could move the focus away from a cluster that is held, and the up on that
 -- would then change marks by which the new focus is shown. No session hands one in
-abbrev pub IsGiven : Option Held → Event → Type 0
-IsGiven (Some held) (events.Command c) = ⊥
-IsGiven (Some held) _ = Unit {0}
-IsGiven None e = Unit {0}
+abbrev pub RespectsHold : Option Held → Event → Type 0
+RespectsHold (Some held) (events.Command c) = ⊥
+RespectsHold (Some held) _ = Unit {0}
+RespectsHold None e = Unit {0}
 
 -- every event keeps an open dialog as it must be, or it ends it by a command that the dialog declares
 abbrev pub StaysFit : Dialog → Type 0
-StaysFit d = (m : Modal) (e : Event) → IsOpen d m → IsGiven m.held e → IsDone d (dialog_step d e m)
+StaysFit d = (m : Modal) (e : Event) → IsOpen d m → RespectsHold m.held e → IsDone d (dialog_step d e m)

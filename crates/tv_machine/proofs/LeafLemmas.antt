@@ -10,7 +10,7 @@ use Rattle.tv_machine.specs.State.{LeafState}
 use Rattle.tv_machine.specs.Leaves.{PlacedNode, leaf_list, leaves_in, open_after, open_at}
 use Rattle.tv_model.specs.Controls.Contents.{Content}
 use Rattle.tv_machine.specs.Dialog.Rules.{content_by, is_among, state_of}
-use Rattle.tv_machine.specs.Dialog.Modal.{Modal, content_at, holding, leaf_at, overwrites_after, with_content}
+use Rattle.tv_machine.specs.Dialog.Modal.{Modal, content_at, holding, leaf_at, overwrites_after, content_put}
 use Rattle.tv_machine.specs.Dialog.Lawful.{IsLawfulDialog}
 use Rattle.tv_machine.proofs.ListLemmas.{AreApart, above-false, among-filter, and-true, bool_cases, fails-absent, find-map, find-member, find-same, found-all, found-among, found-id, found-member, has, id-itself, map-map, map-same, option_cases, pairs-head, pairs-tail}
 
@@ -148,14 +148,14 @@ module _ (d : Dialog) (lawful : IsLawfulDialog d) where
           (λ is. refl) (λ is. refl)
 
       overwriting-changed : (leaf : PlacedNode) → IsIn d leaf
-          → is_among (with_content d i c m).overwriting leaf.node.id
+          → is_among (content_put d i c m).overwriting leaf.node.id
           ≡ (if leaf.node.id.0 == i.0 then c.overwrites else is_among m.overwriting leaf.node.id)
       overwriting-changed leaf e =
           among-filter (overwrites_after m.overwriting i c.overwrites) (map (λ view. view.id) d.views) leaf.node.id
           ∙ ap (λ b. overwrites_after m.overwriting i c.overwrites leaf.node.id && b) (among-views leaf e)
           ∙ and-true (overwrites_after m.overwriting i c.overwrites leaf.node.id)
 
-      pub state-changed : (j : Id) → state_of (with_content d i c m).leaves j ≡ option_map (holding i c) (state_of m.leaves j)
+      pub state-changed : (j : Id) → state_of (content_put d i c m).leaves j ≡ option_map (holding i c) (state_of m.leaves j)
       state-changed j =
           find-map (holding i c) (has state_id j) m.leaves
           ∙ ap (option_map (holding i c))
@@ -170,9 +170,9 @@ module _ (d : Dialog) (lawful : IsLawfulDialog d) where
 
       -- the leaf of the id holds this, and the others what they did
       pub content_at-changed : (leaf : PlacedNode) → IsIn d leaf
-          → content_at (with_content d i c m) leaf.node.id ≡ (if leaf.node.id.0 == i.0 then c else content_at m leaf.node.id)
+          → content_at (content_put d i c m) leaf.node.id ≡ (if leaf.node.id.0 == i.0 then c else content_at m leaf.node.id)
       content_at-changed leaf e =
-          ap (λ b. content_by b (state_of (with_content d i c m).leaves leaf.node.id)) (overwriting-changed leaf e)
+          ap (λ b. content_by b (state_of (content_put d i c m).leaves leaf.node.id)) (overwriting-changed leaf e)
           ∙ ap (content_by (if leaf.node.id.0 == i.0 then c.overwrites else is_among m.overwriting leaf.node.id))
           (state-changed leaf.node.id)
           ∙ option_cases (state_of m.leaves leaf.node.id)
@@ -187,17 +187,17 @@ module _ (d : Dialog) (lawful : IsLawfulDialog d) where
           ≡ (if id.0 == i.0 then c else content_by (is_among m.overwriting leaf.node.id) (Some s))) here
           (held_so s (is_among m.overwriting leaf.node.id) (s.id.0 == i.0)))
 
-      pub content_at-same : (leaf : PlacedNode) → leaf_at d i ≡ Some leaf → content_at (with_content d i c m) i ≡ c
+      pub content_at-same : (leaf : PlacedNode) → leaf_at d i ≡ Some leaf → content_at (content_put d i c m) i ≡ c
       content_at-same leaf e =
           let is = leaf_at-is d i leaf e in
-          ap (content_at (with_content d i c m)) (sym is) ∙ content_at-changed leaf (leaf_at-in i leaf e)
+          ap (content_at (content_put d i c m)) (sym is) ∙ content_at-changed leaf (leaf_at-in i leaf e)
           ∙ ap (λ b. if b then c else content_at m leaf.node.id) (ap (λ id. id.0 == i.0) is ∙ id-itself i)
 
       pub content_at-other : (leaf : PlacedNode) → IsIn d leaf → (leaf.node.id.0 == i.0) ≡ false
-          → content_at (with_content d i c m) leaf.node.id ≡ content_at m leaf.node.id
+          → content_at (content_put d i c m) leaf.node.id ≡ content_at m leaf.node.id
       content_at-other leaf e other = content_at-changed leaf e ∙ ap (λ b. if b then c else content_at m leaf.node.id) other
 
-      pub leaves-changed : HasLeaves d (with_content d i c m)
+      pub leaves-changed : HasLeaves d (content_put d i c m)
       leaves-changed =
           map-map (holding i c) state_id m.leaves
           ∙ map-same (λ s. state_id (holding i c s)) state_id m.leaves (λ k e h. holding-id (get_or m.leaves k e)) ∙ leaves

@@ -15,7 +15,7 @@ use Rattle.tv_machine.specs.Leaves.{PlacedNode}
 use Rattle.tv_model.specs.Controls.Contents.{Content}
 use Rattle.tv_machine.specs.Dialog.Rules.{content_by, enables, holds, is_among, is_command_enabled, is_enabled, is_enabled_by, is_free, is_marked_at, is_visible, shows, state_of}
 use Rattle.tv_model.specs.Kinds.Cluster.{is_marked}
-use Rattle.tv_machine.specs.Dialog.Modal.{Modal, content_at, holding, leaf_at, with_content}
+use Rattle.tv_machine.specs.Dialog.Modal.{Modal, content_at, holding, leaf_at, content_put}
 use Rattle.tv_machine.specs.Dialog.Alike.{HoldSame}
 use Rattle.tv_machine.specs.Dialog.Lawful.{IsLawfulDialog}
 use Rattle.tv_machine.proofs.ListLemmas.{all-same, bool_cases, find-member, found-id, found-member, has, option_cases, same-id}
@@ -62,7 +62,7 @@ value_by overwrites (Some leaf) = refl
 
 module _ (d : Dialog) (lawful : IsLawfulDialog d) (m : Modal) (leaves : HasLeaves d m) (i : Id) (c : Content) where
   abbrev changed : List LeafState
-  changed = (with_content d i c m).leaves
+  changed = (content_put d i c m).leaves
 
   -- with the same items marked
   pub hold-changed : ((item : ℕ) → is_marked (content_at m i).value item ≡ is_marked c.value item) → HoldSame d m.leaves changed

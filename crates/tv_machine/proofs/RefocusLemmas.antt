@@ -11,7 +11,7 @@ use Rattle.tv_model.specs.Description.Nodes.{is_cluster}
 use Rattle.tv_machine.specs.Leaves.{PlacedNode, leaf_list}
 use Rattle.tv_model.specs.Controls.Contents.{Content}
 use Rattle.tv_machine.specs.Dialog.Focus.{edited_at, focus_moved, refocused}
-use Rattle.tv_machine.specs.Dialog.Modal.{Modal, content_at, leaf_at, with_content}
+use Rattle.tv_machine.specs.Dialog.Modal.{Modal, content_at, leaf_at, content_put}
 use Rattle.tv_machine.specs.Dialog.Alike.{HoldSame}
 use Rattle.tv_machine.specs.Dialog.Lawful.{IsLawfulDialog}
 use Rattle.tv_machine.proofs.ListLemmas.{bool_cases, either-same, has, none-fails, option_cases, same-id}
@@ -37,7 +37,7 @@ edited-unclustered _ is = refl
 -- ---- the machine's dialog
 
 -- what only contents change stays so
-pub refocused-keeps : (P : Modal → Type 0) (d : Dialog) → ((i : Id) (c : Content) (m : Modal) → P m → P (with_content d i c m))
+pub refocused-keeps : (P : Modal → Type 0) (d : Dialog) → ((i : Id) (c : Content) (m : Modal) → P m → P (content_put d i c m))
     → (edit : Edit → Edit) (o : Option PlacedNode) (m : Modal)
     → P m → P (refocused d edit o m)
 refocused-keeps P d keeps edit None m p = p

@@ -79,15 +79,15 @@ item_text s items.Shot = shot_text s
 item_text s items.Colors = colors_text s
 
 -- the session after an item
-abbrev pub item_after : Session → Item → Session
-item_after s (items.Event e) = event_after s e
-item_after s items.Shot = s
-item_after s items.Colors = s
+abbrev pub session_after : Session → Item → Session
+session_after s (items.Event e) = event_after s e
+session_after s items.Shot = s
+session_after s items.Colors = s
 
 -- the output of a script: the log not yet taken, and then each item's text
 abbrev pub output : Session → List Item → List ℕ
-output s script = log_text s.desc s.state.log ++ texts item_after item_text (quiet s) script
+output s script = log_text s.desc s.state.log ++ texts session_after item_text (quiet s) script
 
 -- the session after it, its log empty
 abbrev pub after : Session → List Item → Session
-after s script = states item_after (quiet s) script
+after s script = states session_after (quiet s) script

@@ -24,7 +24,7 @@ use Rattle.tv_machine.specs.State.{State, OpenDialog, Held}
 use Rattle.tv_model.specs.Controls.Private.{Private}
 use Rattle.tv_model.specs.Kinds.InputLine.{cursor_of}
 use Rattle.tv_machine.specs.Leaves.{PlacedNode, leaf_list}
-use Rattle.tv_machine.specs.Dialog.Rules.{content_of, is_among, is_visible, is_enabled}
+use Rattle.tv_machine.specs.Dialog.Rules.{content_held, is_among, is_visible, is_enabled}
 use Rattle.tv_machine.specs.Dialog.Modal.{leaf_at}
 use Rattle.tv_machine.specs.Dialog.Focus.{is_free_at}
 use Rattle.tv_machine.specs.Session.Commands.{overwriting_at}
@@ -77,7 +77,7 @@ pub record IsSafeHold (dialog : Dialog) (o : OpenDialog) (held : Held) : Type 0 
 
 -- what a leaf of the open dialog holds is safe
 abbrev pub IsSafeLeaf : State → OpenDialog → PlacedNode → Type 0
-IsSafeLeaf s o leaf = IsSafeContent leaf.node.kind (content_of o.leaves (overwriting_at s o.place) leaf.node.id)
+IsSafeLeaf s o leaf = IsSafeContent leaf.node.kind (content_held o.leaves (overwriting_at s o.place) leaf.node.id)
 
 -- the open dialog is one of the description, with its leaves in order; its focus is free, and no menu is open
 pub record IsSafeDialog (d : Desc) (s : State) (o : OpenDialog) : Type 0 where

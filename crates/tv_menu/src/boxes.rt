@@ -3,7 +3,7 @@
 ghost use Rattle.std.specs.Prelude.{◌≡◌, ◌≤◌, All, fold, length, map, max, option_map, pos, ◌-ℤ◌};
 ghost use Rattle.tv_cells.specs.Rectangle.{IsRectNear};
 ghost use Rattle.tv_cells.specs.Layers.{is_in};
-ghost use Rattle.tv_machine.specs.Screen.Bars.{box_height, box_of, box_width, item_text, item_under, title_column, without_edge};
+ghost use Rattle.tv_machine.specs.Screen.Bars.{box_height, box_of, box_width, menu_item_text, item_under, title_column, without_edge};
 ghost use Rattle.tv_model.specs.declared.desc.Desc.{Desc as Declared};
 ghost use Rattle.tv_model.specs.Description.Numbers.{IsBetween, natural};
 ghost use Rattle.tv_model.specs.Description.Rectangles.{desktop, rect};
@@ -20,7 +20,7 @@ use tv_model::{Menu, MenuItem};
 
 fn text_columns(item: &MenuItem) -> usize
     requires { IsLawfulItem item.now }
-    ensures is { result ≡ length (item_text item.now) }
+    ensures is { result ≡ length (menu_item_text item.now) }
     ensures few { result ≤ 120 }
 {
     item.text.text.as_slice().len()
@@ -31,7 +31,7 @@ fn text_columns(item: &MenuItem) -> usize
 fn longest(items: &[MenuItem], columns: usize) -> usize
     requires lawful { All IsLawfulItem items.now }
     requires few { columns ≤ 120 }
-    ensures is { result ≡ fold max columns (map (λ item. length (item_text item)) items.now) }
+    ensures is { result ≡ fold max columns (map (λ item. length (menu_item_text item)) items.now) }
     ensures few { result ≤ 120 }
 {
     match items.split_first() {

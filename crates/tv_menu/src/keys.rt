@@ -2,7 +2,7 @@
 
 ghost use Rattle.std.specs.Prelude.{◌≡◌, All, Some, slice_get};
 ghost use Rattle.tv_machine.specs.State.{State};
-ghost use Rattle.tv_machine.specs.Session.Menu.{choose_at, items_of, menu_key, title_at, title_of_letter};
+ghost use Rattle.tv_machine.specs.Session.Menu.{choose_at, items_of_menu, menu_key, title_at, title_of_letter};
 ghost use Rattle.tv_machine.specs.Screen.Bars.{title_under};
 ghost use Rattle.tv_model.specs.declared.desc.Desc.{Desc as Declared};
 ghost use Rattle.tv_menu.specs.Bar.{IsBarOf, down_offered, key_offered, made, open_of, opening, seen_place};
@@ -94,7 +94,7 @@ impl MenuBar {
 
     // The items of the menu at a place.
     fn items(&self, place: usize) -> &[MenuItem]
-        ensures is { (d : Declared) → IsBarOf d self.now → result.now ≡ items_of (slice_get d.menus place) }
+        ensures is { (d : Declared) → IsBarOf d self.now → result.now ≡ items_of_menu (slice_get d.menus place) }
         ensures lawful { All IsLawfulItem result.now }
     {
         match menu_at(self.menus.as_slice(), place) {

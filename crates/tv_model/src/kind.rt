@@ -130,11 +130,11 @@ pub struct Pane {
 }
 
 impl MarkedText {
-    ghost use Rattle.tv_model.specs.Description.Marks.{letter_of, marks};
+    ghost use Rattle.tv_model.specs.Description.Marks.{marked_letter, marks};
 
     /// Returns the letter that it marks, in upper case, or `None` where it marks none.
     pub fn letter(&self) -> Option<char>
-        ensures { result ≡ letter_of self.now }
+        ensures { result ≡ marked_letter self.now }
     {
         let letter = self.text.as_slice().get(self.mark?)?;
         Some(letter.to_ascii_uppercase())

@@ -2,7 +2,7 @@
 use Rattle.std.proofs.Common.{◌≡◌, ℕ, Bool, false, ◌||◌, List, [], refl, sym, ap, ◌∙◌}
 use Rattle.std.specs.List.{list_any}
 use Rattle.std.specs.Prelude.{Option, Some, None}
-use Rattle.tv_model.specs.Description.Marks.{letter_of, marks, shares_letter}
+use Rattle.tv_model.specs.Description.Marks.{marked_letter, marks, shares_letter}
 use Rattle.tv_model.specs.Description.Letters.{marked_of}
 use Rattle.tv_model.specs.Faults.Letters.{marks_again}
 use Rattle.tv_model.specs.Faults.Lines.{after_seen}
@@ -12,24 +12,24 @@ use Rattle.tv_names.specs.Marked.{is_marked_by, is_marked_in, mark_again, marks_
 use Rattle.tv_model.proofs.TestLemmas.{any_none, any_same}
 
 module _ (text : MarkedText) (test : ℕ → Bool) where
-  unmarked : letter_of text ≡ None → marks_any test text ≡ false
+  unmarked : marked_letter text ≡ None → marks_any test text ≡ false
   unmarked none = rw none refl
 
-  marked : (letter : ℕ) → letter_of text ≡ Some letter → marks_any test text ≡ test letter
+  marked : (letter : ℕ) → marked_letter text ≡ Some letter → marks_any test text ≡ test letter
   marked letter some = rw some refl
 
 module _ (text : MarkedText) where
-  unshared : letter_of text ≡ None → (other : MarkedText) → shares_letter text other ≡ false
+  unshared : marked_letter text ≡ None → (other : MarkedText) → shares_letter text other ≡ false
   unshared none other = rw none refl
 
-  shared : (letter : ℕ) → letter_of text ≡ Some letter → (other : MarkedText) → marks letter other ≡ shares_letter text other
+  shared : (letter : ℕ) → marked_letter text ≡ Some letter → (other : MarkedText) → marks letter other ≡ shares_letter text other
   shared letter some other = rw some refl
 
 -- what is asked of each item, with a letter that the text marks
 module _ {A : Type 0} (text : MarkedText) (asks : ℕ → A → Bool) (shares : A → Bool)
-    (none_shares : letter_of text ≡ None → (x : A) → shares x ≡ false)
-    (some_shares : (letter : ℕ) → letter_of text ≡ Some letter → (x : A) → asks letter x ≡ shares x) where
-  by_letter : (test : ℕ → Bool) (xs : List A) (o : Option ℕ) → letter_of text ≡ o → ((letter : ℕ) → test letter ≡ list_any (asks letter) xs) → marks_any test text ≡ list_any shares xs
+    (none_shares : marked_letter text ≡ None → (x : A) → shares x ≡ false)
+    (some_shares : (letter : ℕ) → marked_letter text ≡ Some letter → (x : A) → asks letter x ≡ shares x) where
+  by_letter : (test : ℕ → Bool) (xs : List A) (o : Option ℕ) → marked_letter text ≡ o → ((letter : ℕ) → test letter ≡ list_any (asks letter) xs) → marks_any test text ≡ list_any shares xs
   by_letter test xs None none h = unmarked text test none ∙ sym (any_none shares (none_shares none) xs)
   by_letter test xs (Some letter) some h = marked text test letter some ∙ h letter ∙ any_same (asks letter) shares (some_shares letter some) xs
 
@@ -38,7 +38,7 @@ pub marks_given : {A : Type 0} (text_of : A → MarkedText) (text : MarkedText) 
     → ((letter : ℕ) → test letter ≡ list_any (λ x. marks letter (text_of x)) xs) → marks_any test text ≡ list_any (λ x. shares_letter text (text_of x)) xs
 marks_given text_of text test xs h =
     by_letter text (λ letter x. marks letter (text_of x)) (λ x. shares_letter text (text_of x))
-    (λ none x. unshared text none (text_of x)) (λ letter some x. shared text letter some (text_of x)) test xs (letter_of text) refl h
+    (λ none x. unshared text none (text_of x)) (λ letter some x. shared text letter some (text_of x)) test xs (marked_letter text) refl h
 
 -- views with any number of texts
 marks_given_by : (test : ℕ → Bool) (views : List Node) → ((letter : ℕ) → test letter ≡ is_marked_by views letter) → (text : MarkedText)
@@ -46,7 +46,7 @@ marks_given_by : (test : ℕ → Bool) (views : List Node) → ((letter : ℕ) �
 marks_given_by test views h text =
     by_letter text (λ letter view. is_marked_in (marked_of view.kind) letter) (λ view. list_any (shares_letter text) (marked_of view.kind))
     (λ none view. any_none (shares_letter text) (unshared text none) (marked_of view.kind))
-    (λ letter some view. any_same (marks letter) (shares_letter text) (shared text letter some) (marked_of view.kind)) test views (letter_of text) refl h
+    (λ letter some view. any_same (marks letter) (shares_letter text) (shared text letter some) (marked_of view.kind)) test views (marked_letter text) refl h
 
 pub view_marks_again : (test : ℕ → Bool) (views : List Node) → ((letter : ℕ) → test letter ≡ is_marked_by views letter) → (view : Node) → mark_again test (marked_of view.kind) ≡ marks_again views view
 view_marks_again test views h view =
@@ -56,7 +56,7 @@ view_marks_again test views h view =
 
 -- some letters were marked before the texts
 module _ (text : MarkedText) (test before : ℕ → Bool) (texts : List MarkedText) where
-  on_line : (o : Option ℕ) → letter_of text ≡ o → ((letter : ℕ) → test letter ≡ (before letter || is_marked_in texts letter)) → marks_any test text ≡ (marks_any before text || list_any (shares_letter text) texts)
+  on_line : (o : Option ℕ) → marked_letter text ≡ o → ((letter : ℕ) → test letter ≡ (before letter || is_marked_in texts letter)) → marks_any test text ≡ (marks_any before text || list_any (shares_letter text) texts)
   on_line None none h =
       unmarked text test none ∙ sym (any_none (shares_letter text) (unshared text none) texts)
       ∙ ap (λ b. b || list_any (shares_letter text) texts) (sym (unmarked text before none))
@@ -66,4 +66,4 @@ module _ (text : MarkedText) (test before : ℕ → Bool) (texts : List MarkedTe
       ∙ ap (λ b. b || list_any (shares_letter text) texts) (sym (marked text before letter some))
 
   pub marks_given_on_line : ((letter : ℕ) → test letter ≡ (before letter || is_marked_in texts letter)) → marks_any test text ≡ (marks_any before text || list_any (shares_letter text) texts)
-  marks_given_on_line h = on_line (letter_of text) refl h
+  marks_given_on_line h = on_line (marked_letter text) refl h

@@ -5,7 +5,7 @@ use Rattle.std.specs.Option.{option_map_or}
 use Rattle.tv_model.specs.declared.kind.MarkedText.{MarkedText}
 use Rattle.tv_model.specs.declared.node.Node.{Node}
 use Rattle.tv_model.specs.Faults.Lines.{after_seen}
-use Rattle.tv_model.specs.Description.Marks.{letter_of, marks, shares_letter}
+use Rattle.tv_model.specs.Description.Marks.{marked_letter, marks, shares_letter}
 use Rattle.tv_model.specs.Description.Letters.{marked_of}
 
 -- the letter is marked in one of the texts
@@ -18,7 +18,7 @@ is_marked_by views letter = list_any (λ view. is_marked_in (marked_of view.kind
 
 -- the text marks a letter, and one that passes the test
 abbrev pub marks_any : (ℕ → Bool) → MarkedText → Bool
-marks_any test text = option_map_or test (letter_of text) false
+marks_any test text = option_map_or test (marked_letter text) false
 
 -- one of the texts marks a letter that passes the test, or that one before it marks
 abbrev pub mark_again : (ℕ → Bool) → List MarkedText → Bool

@@ -2,7 +2,7 @@
 
 ghost use Rattle.std.specs.Prelude.{◌≡◌, ◌||◌, ℕ, nat_eq, IfOk, OnOk};
 ghost use Rattle.std.specs.HashSet as set;
-ghost use Rattle.tv_model.specs.Description.Marks.{letter_of, marks};
+ghost use Rattle.tv_model.specs.Description.Marks.{marked_letter, marks};
 ghost use Rattle.tv_model.specs.Description.Letters.{marked_of};
 ghost use Rattle.tv_names.specs.Marked.{is_marked_in, mark_again, marks_any};
 
@@ -13,7 +13,7 @@ use tv_model::{Kind, MarkedText};
 
 // The letter that the text marks, in upper case.
 fn letter_of(marked: &MarkedText) -> Option<char>
-    ensures { result ≡ letter_of marked.now }
+    ensures { result ≡ marked_letter marked.now }
 {
     let letter = marked.text.as_slice().get(marked.mark?)?;
     Some(letter.to_ascii_uppercase())

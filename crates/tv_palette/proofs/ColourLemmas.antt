@@ -1,7 +1,7 @@
 -- Which colour a chain gives to a role.
 use Rattle.std.proofs.Common.{◌≡◌, ℕ, List, [], ◌∷◌, refl, sym, ap, ◌∙◌}
 use Rattle.tv_palette.specs.Chain.{entry, attr_of, coloured}
-use Rattle.tv_palette.specs.Palettes.{colour_in, palette_of, place_of, owners_of}
+use Rattle.tv_palette.specs.Palettes.{colour_in, palette_of, place_of, owner_palettes}
 use Rattle.tv_palette.specs.Attributes.{attribute_of}
 use Rattle.tv_palette.specs.declared.role.Owner.TheVariants as owners
 use Rattle.tv_palette.specs.declared.role.Role.{Role}
@@ -22,7 +22,7 @@ attr_of-coloured ([] ∷ owners) index = attr_of-coloured owners index
 attr_of-coloured ((first ∷ rest) ∷ owners) index = attr_of-coloured owners (entry (first ∷ rest) index)
 
 -- the palettes lead to the table
-leads : (role : Role) → colour_in (owners_of role) role ≡ attribute_of role
+leads : (role : Role) → colour_in (owner_palettes role) role ≡ attribute_of role
 leads roles.Background = refl
 leads (roles.Bar bar.Normal) = refl
 leads (roles.Bar bar.Letter) = refl
@@ -57,7 +57,7 @@ leads (roles.List list.Normal) = refl
 leads (roles.List list.Focused) = refl
 leads (roles.List list.Chosen) = refl
 
-pub leads_through : (role : Role) (chain : List (List ℕ)) → coloured chain ≡ owners_of role → colour_in chain role ≡ attribute_of role
+pub leads_through : (role : Role) (chain : List (List ℕ)) → coloured chain ≡ owner_palettes role → colour_in chain role ≡ attribute_of role
 leads_through role chain same =
     sym (attr_of-coloured chain (entry (palette_of role) (place_of role)))
     ∙ (ap (λ owners. colour_in owners role) same ∙ leads role)

@@ -79,17 +79,17 @@ abbrev pub owners_of_part : Owner → List (List ℕ)
 owners_of_part owners.Window = window ∷ application ∷ []
 owners_of_part owners.Dialog = dialog ∷ application ∷ []
 
-abbrev pub owners_of : Role → List (List ℕ)
-owners_of roles.Background = application ∷ []
-owners_of (roles.Bar role) = application ∷ []
-owners_of (roles.Status role) = application ∷ []
-owners_of (roles.Frame owner role) = owners_of_part owner
-owners_of (roles.StaticText owner) = owners_of_part owner
-owners_of (roles.Label role) = dialog ∷ application ∷ []
-owners_of (roles.Button role) = dialog ∷ application ∷ []
-owners_of (roles.Cluster role) = dialog ∷ application ∷ []
-owners_of (roles.Input role) = dialog ∷ application ∷ []
-owners_of (roles.List role) = dialog ∷ application ∷ []
+abbrev pub owner_palettes : Role → List (List ℕ)
+owner_palettes roles.Background = application ∷ []
+owner_palettes (roles.Bar role) = application ∷ []
+owner_palettes (roles.Status role) = application ∷ []
+owner_palettes (roles.Frame owner role) = owners_of_part owner
+owner_palettes (roles.StaticText owner) = owners_of_part owner
+owner_palettes (roles.Label role) = dialog ∷ application ∷ []
+owner_palettes (roles.Button role) = dialog ∷ application ∷ []
+owner_palettes (roles.Cluster role) = dialog ∷ application ∷ []
+owner_palettes (roles.Input role) = dialog ∷ application ∷ []
+owner_palettes (roles.List role) = dialog ∷ application ∷ []
 
 -- the attribute of a role, for a view whose owners have these palettes
 abbrev pub colour_in : List (List ℕ) → Role → ℕ

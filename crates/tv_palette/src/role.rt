@@ -2,7 +2,7 @@
 
 ghost use Rattle.std.specs.Prelude.{◌≡◌};
 ghost use Rattle.tv_palette.specs.Chain.{coloured};
-ghost use Rattle.tv_palette.specs.Palettes.{colour_in, palette_of, place_of, owners_of};
+ghost use Rattle.tv_palette.specs.Palettes.{colour_in, palette_of, place_of, owner_palettes};
 ghost use Rattle.tv_palette.specs.Attributes.{attribute_of};
 
 use crate::chain::Chain;
@@ -146,7 +146,7 @@ impl Role {
     #[tactic(auto, using(crate::proofs::ColourLemmas::leads_through))]
     pub fn attr(self, owners: &Chain) -> u8
         ensures chain { result ≡ colour_in owners.now self }
-        ensures table { coloured owners.now ≡ owners_of self → result ≡ attribute_of self }
+        ensures table { coloured owners.now ≡ owner_palettes self → result ≡ attribute_of self }
     {
         owners.attr(self.palette().entry(self.place()))
     }

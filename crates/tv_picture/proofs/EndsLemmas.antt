@@ -13,8 +13,8 @@ use Rattle.std.proofs.lemmas.List.Elements.{All-nil, All-cons, All-append}
 use Rattle.std.proofs.lemmas.List.Folds.{concat-append}
 use Rattle.tv_picture.specs.declared.code.Mark.{Mark}
 use Rattle.tv_picture.specs.declared.code.Mark.TheVariants.{Digit, Letter, Capital, Any, NotLower, Literal, Quoted}
-use Rattle.tv_picture.specs.Pattern.{Pattern, empty, one, sequence, either, optional, group, many, times, Allows, Member}
-use Rattle.tv_picture.specs.Matching.{allows, union, are_alike, after_one, has_end, repeated, reached, ends, matches}
+use Rattle.tv_picture.specs.Pattern.{Pattern, empty, one, sequence, either, optional, group, many, times, Allows, IsMember}
+use Rattle.tv_picture.specs.Matching.{allows, union, are_alike, after_one, has_end, repeated, places_reached, ends, matches}
 use Rattle.tv_picture.proofs.Language.{many_cons, many_parted, Parted, times_zero, times_one, times-add}
 
 -- ---- marks
@@ -152,9 +152,9 @@ module _ (f : List Bool → List Bool) where
 
 -- a member of the pattern that begins in the set ends there
 abbrev pub Ends : Pattern → List ℕ → List Bool → List ℕ → Type 0
-Ends p t s w = (u : List ℕ) × (v : List ℕ) × At t s v × Member p u × (v ≡ u ++ w)
+Ends p t s w = (u : List ℕ) × (v : List ℕ) × At t s v × IsMember p u × (v ≡ u ++ w)
 
-pub ends_as : (p q : Pattern) → ((u : List ℕ) → Member p u → Member q u) → (t : List ℕ) (s : List Bool) (w : List ℕ) → Ends p t s w → Ends q t s w
+pub ends_as : (p q : Pattern) → ((u : List ℕ) → IsMember p u → IsMember q u) → (t : List ℕ) (s : List Bool) (w : List ℕ) → Ends p t s w → Ends q t s w
 ends_as p q to t s w (u, v, at, m, e) = (u, v, at, to u m, e)
 
 ends_nothing : (t : List ℕ) (s : List Bool) (w : List ℕ) → At t s w → Ends empty t s w
@@ -180,13 +180,13 @@ ends_one m t s w = ((λ h. from (after_from m false t s w h)), (λ (h : Ends (on
 ends_sequence : (a b : Pattern) (t : List ℕ) (s r q : List Bool) → IsEnds a t s r → IsEnds b t r q → IsEnds (sequence a b) t s q
 ends_sequence a b t s r q la lb w = ((λ h. from ((lb w).0 h)), (λ (h : Ends (sequence a b) t s w). to h.0 h.1 h.2 h.3.0 h.3.1 h.3.2 h.3.3 h.3.4 h.4))
   where
-    joins : (y v : List ℕ) → At t r v → Member b y → v ≡ y ++ w → Ends a t s v → Ends (sequence a b) t s w
+    joins : (y v : List ℕ) → At t r v → IsMember b y → v ≡ y ++ w → Ends a t s v → Ends (sequence a b) t s w
     joins y v at my e (x, v', at', mx, f) = (x ++ y, v', at', (x, y, mx, my, refl), f ∙ ap (λ z. x ++ z) e ∙ sym (append_assoc x y w))
 
     from : Ends b t r w → Ends (sequence a b) t s w
     from (y, v, at, my, e) = joins y v at my e ((la v).0 at)
 
-    to : (u v : List ℕ) → At t s v → (x y : List ℕ) → Member a x → Member b y → u ≡ x ++ y → v ≡ u ++ w → At t q w
+    to : (u v : List ℕ) → At t s v → (x y : List ℕ) → IsMember a x → IsMember b y → u ≡ x ++ y → v ≡ u ++ w → At t q w
     to u v at x y mx my e f = (lb w).1 (y, y ++ w, (la (y ++ w)).1 (x, v, at, mx, f ∙ ap (λ z. z ++ w) e ∙ append_assoc x y w), my, refl)
 
 ends_either : (a b : Pattern) (t : List ℕ) (s r q : List Bool) → IsEnds a t s r → IsEnds b t s q → IsEnds (either a b) t s (union r q)
@@ -211,17 +211,17 @@ ends_optional a t s r la w = ((λ h. from (union_from t s r w h)), to)
     to (u, v, at, inl m, e) = union_to t s r w (inl (ends_empty t s w (u, v, at, m, e)))
     to (u, v, at, inr m, e) = union_to t s r w (inr ((la w).1 (u, v, at, m, e)))
 
-pub one_more : (n : ℕ) (a : Pattern) (u : List ℕ) → Member (sequence (times 1 a) (times n a)) u ↔ Member (times (suc n) a) u
+pub one_more : (n : ℕ) (a : Pattern) (u : List ℕ) → IsMember (sequence (times 1 a) (times n a)) u ↔ IsMember (times (suc n) a) u
 one_more n a u =
     let e : 1 + n ≡ suc n = omega arith in
-    ((λ m. subst (λ k. Member (times k a) u) e ((times-add 1 n a u).0 m)), (λ m. (times-add 1 n a u).1 (subst (λ k. Member (times k a) u) (sym e) m)))
+    ((λ m. subst (λ k. IsMember (times k a) u) e ((times-add 1 n a u).0 m)), (λ m. (times-add 1 n a u).1 (subst (λ k. IsMember (times k a) u) (sym e) m)))
 
-pub one_last : (n : ℕ) (a : Pattern) (u : List ℕ) → Member (sequence (times n a) (times 1 a)) u → Member (times (suc n) a) u
-one_last n a u m = let e : n + 1 ≡ suc n = omega arith in subst (λ k. Member (times k a) u) e ((times-add n 1 a u).0 m)
+pub one_last : (n : ℕ) (a : Pattern) (u : List ℕ) → IsMember (sequence (times n a) (times 1 a)) u → IsMember (times (suc n) a) u
+one_last n a u m = let e : n + 1 ≡ suc n = omega arith in subst (λ k. IsMember (times k a) u) e ((times-add n 1 a u).0 m)
 
-pub many_snoc : (a : Pattern) (u w : List ℕ) → Member (many a) u → Member a w → Member (many a) (u ++ w)
+pub many_snoc : (a : Pattern) (u w : List ℕ) → IsMember (many a) u → IsMember a w → IsMember (many a) (u ++ w)
 many_snoc a u w (pieces, all, e) m =
-    (pieces ++ w ∷ [], All-append (Member a) pieces (w ∷ []) all (All-cons (Member a) w [] m (All-nil (Member a))), ap (λ x. x ++ w) e ∙ ap (λ x. concat pieces ++ x) (sym (append-nil w)) ∙ sym (concat-append pieces (w ∷ [])))
+    (pieces ++ w ∷ [], All-append (IsMember a) pieces (w ∷ []) all (All-cons (IsMember a) w [] m (All-nil (IsMember a))), ap (λ x. x ++ w) e ∙ ap (λ x. concat pieces ++ x) (sym (append-nil w)) ∙ sym (concat-append pieces (w ∷ [])))
 
 module _ (a : Pattern) (t : List ℕ) (f : List Bool → List Bool) (law : (s : List Bool) → IsEnds a t s (f s)) where
   ends_times : (n : ℕ) (s : List Bool) → IsEnds (times n a) t s (plain f n s)
@@ -244,13 +244,13 @@ module _ (a : Pattern) (t : List ℕ) (f : List Bool → List Bool) (law : (s : 
   grown_keeps (suc n) s w h = grown_keeps n (grow s) w (union_to t s (f s) w (inl h))
 
   grown_from : (n : ℕ) (s : List Bool) (w : List ℕ) → At t (plain grow n s) w → Ends (many a) t s w
-  grown_from zero s w h = ([], w, h, ([], All-nil (Member a), refl), refl)
+  grown_from zero s w h = ([], w, h, ([], All-nil (IsMember a), refl), refl)
   grown_from (suc n) s w h = before (grown_from n (grow s) w h)
     where
-      piece : (u v : List ℕ) → Member (many a) u → v ≡ u ++ w → Ends a t s v → Ends (many a) t s w
+      piece : (u v : List ℕ) → IsMember (many a) u → v ≡ u ++ w → Ends a t s v → Ends (many a) t s w
       piece u v m e (x, v', at, mx, e') = (x ++ u, v', at, many_cons a x u mx m, e' ∙ ap (λ z. x ++ z) e ∙ sym (append_assoc x u w))
 
-      split : (u v : List ℕ) → Member (many a) u → v ≡ u ++ w → At t s v ⊎ At t (f s) v → Ends (many a) t s w
+      split : (u v : List ℕ) → IsMember (many a) u → v ≡ u ++ w → At t s v ⊎ At t (f s) v → Ends (many a) t s w
       split u v m e (inl at) = (u, v, at, m, e)
       split u v m e (inr at) = piece u v m e ((law s v).0 at)
 
@@ -278,12 +278,12 @@ ends_law (sequence a b) t s = ends_sequence a b t s (ends a t s) (ends b t (ends
 ends_law (either a b) t s = ends_either a b t s (ends a t s) (ends b t s) (ends_law a t s) (ends_law b t s)
 ends_law (optional a) t s = ends_optional a t s (ends a t s) (ends_law a t s)
 ends_law (group a) t s = ends_law a t s
-ends_law (many a) t s = ends_is (many a) t s (reached (length t) (ends a t) s) (plain (grow a t (ends a t) (ends_law a t)) (length t) s) (repeated_plain (λ x. union x (ends a t x)) (length t) s) (ends_many a t (ends a t) (ends_law a t) (length t) s (omega arith))
+ends_law (many a) t s = ends_is (many a) t s (places_reached (length t) (ends a t) s) (plain (grow a t (ends a t) (ends_law a t)) (length t) s) (repeated_plain (λ x. union x (ends a t x)) (length t) s) (ends_many a t (ends a t) (ends_law a t) (length t) s (omega arith))
 ends_law (times n a) t s = ends_is (times n a) t s (repeated n (ends a t) s) (plain (ends a t) n s) (repeated_plain (ends a t) n s) (ends_times a t (ends a t) (ends_law a t) n s)
 
 -- the function says whether the text is a member
-pub matches_law : (p : Pattern) (t : List ℕ) → Decides (matches p t) (Member p t)
+pub matches_law : (p : Pattern) (t : List ℕ) → Decides (matches p t) (IsMember p t)
 matches_law p t = ((λ e. from ((ends_law p t (true ∷ []) []).0 (end_from t (ends p t (true ∷ [])) e))), (λ m. end_to t (ends p t (true ∷ [])) ((ends_law p t (true ∷ []) []).1 (t, t, start_to t, m, sym (append-nil t)))))
   where
-    from : Ends p t (true ∷ []) [] → Member p t
-    from (u, v, at, m, e) = subst (Member p) (sym (append-nil u) ∙ sym e ∙ start_from t v at) m
+    from : Ends p t (true ∷ []) [] → IsMember p t
+    from (u, v, at, m, e) = subst (IsMember p) (sym (append-nil u) ∙ sym e ∙ start_from t v at) m

@@ -12,7 +12,7 @@ use Rattle.tv_picture.specs.declared.parser.Repeat.TheVariants.{Once, Many, Time
 use Rattle.tv_picture.specs.declared.parser.Open.{Open}
 use Rattle.tv_picture.specs.Pattern.{Pattern, empty, one, sequence, either, optional, group, many, times, IsDigit}
 use Rattle.tv_picture.specs.Spelling.{count_text, spelled, IsPlain, rank, depth, IsBase, IsMark, IsGrammatical, IsPicture}
-use Rattle.tv_picture.specs.Parsing.{Reading, finished, with_mark, opened, closed, counted_as, plain_step, text_step, text_steps, start}
+use Rattle.tv_picture.specs.Parsing.{Reading, part_finished, with_single_mark, bracket_opened, bracket_closed, counted_as, plain_step, text_step, text_steps, nothing_parsed}
 
 abbrev pub state : List Pattern → Option ℕ → List Open → Bool → Repeat → Bool → Reading
 state s h os c r q = record { built = record { stack = s; height = h }; brackets = os; choice = c; repeat = r; quoted = q }
@@ -44,12 +44,12 @@ goes_on : (r : Reading) (x y : List ℕ) (ps qs : List Pattern) (os os' : List O
 goes_on r x y ps qs os os' c c' g more = goes_then r (state ps g.0 os c Once false) x y qs os' c' g.1 (more g.0)
 
 -- a part on top of the stack goes into the sequence below it
-finished_as : (a x : Pattern) (s : List Pattern) (h : Option ℕ) (os : List Open) (c : Bool) (r : Repeat) (q : Bool) → (k : Option ℕ) × (finished (state (a ∷ x ∷ s) h os c r q) ≡ state (sequence x (repeated r a) ∷ s) k os c Once false)
+finished_as : (a x : Pattern) (s : List Pattern) (h : Option ℕ) (os : List Open) (c : Bool) (r : Repeat) (q : Bool) → (k : Option ℕ) × (part_finished (state (a ∷ x ∷ s) h os c r q) ≡ state (sequence x (repeated r a) ∷ s) k os c Once false)
 finished_as a x s h os c Once q = (_, refl)
 finished_as a x s h os c Many q = (_, refl)
 finished_as a x s h os c (Times n) q = (_, refl)
 
-marked : (m : Mark) (x : Pattern) (s : List Pattern) (h : Option ℕ) (os : List Open) (c : Bool) (r : Repeat) (q : Bool) → (k : Option ℕ) × (with_mark (state (x ∷ s) h os c r q) m ≡ state (sequence x (repeated r (one m)) ∷ s) k os c Once false)
+marked : (m : Mark) (x : Pattern) (s : List Pattern) (h : Option ℕ) (os : List Open) (c : Bool) (r : Repeat) (q : Bool) → (k : Option ℕ) × (with_single_mark (state (x ∷ s) h os c r q) m ≡ state (sequence x (repeated r (one m)) ∷ s) k os c Once false)
 marked m x s h os c r q = finished_as (one m) x s (option_and_then (λ k. Rattle.tv_picture.specs.Code.height_after k (Rattle.tv_picture.specs.declared.code.Op.TheVariants.One m)) h) os c r q
 
 -- ---- characters
@@ -77,7 +77,7 @@ below m n h = grind (arith, nat_tests)
 pub at_most : (m n : ℕ) → m ≤ n → nat_le m n ≡ true
 at_most m n h = grind (arith, nat_tests)
 
-literal_step : (r : Reading) (c : ℕ) → IsNone c → plain_step r c ≡ cond (nat_le 48 c && nat_le c 57) (counted_as r (c - 48) r.repeat) (Some (with_mark r (Literal c)))
+literal_step : (r : Reading) (c : ℕ) → IsNone c → plain_step r c ≡ cond (nat_le 48 c && nat_le c 57) (counted_as r (c - 48) r.repeat) (Some (with_single_mark r (Literal c)))
 literal_step r c n = rw (n.0, n.1, n.2, n.3, n.4, n.5, n.6, n.7, n.8, n.9, n.10, n.11) refl
 
 plain_apart : (c k n : ℕ) → IsPlain c → k < 12 → get_or (codes "#?&@!;*[]{},") k c ≡ n → (c == n) ≡ false
@@ -95,8 +95,8 @@ is_digit c = grind (arith, nat_tests)
 pub digit_step : (r : Reading) (d : ℕ) → d < 10 → plain_step r (48 + d) ≡ counted_as r d r.repeat
 digit_step r d h = literal_step r (48 + d) (digit_none d h) ∙ told (is_digit (48 + d))
   where
-    told : ((nat_le 48 (48 + d) && nat_le (48 + d) 57) ≡ true) × IsDigit (48 + d) ⊎ ((nat_le 48 (48 + d) && nat_le (48 + d) 57) ≡ false) × (IsDigit (48 + d) → ⊥) → cond (nat_le 48 (48 + d) && nat_le (48 + d) 57) (counted_as r (48 + d - 48) r.repeat) (Some (with_mark r (Literal (48 + d)))) ≡ counted_as r d r.repeat
-    told (inl e) = ap (λ t. cond t (counted_as r (48 + d - 48) r.repeat) (Some (with_mark r (Literal (48 + d))))) e.0 ∙ ap (λ (n : ℕ). counted_as r n r.repeat) (omega arith)
+    told : ((nat_le 48 (48 + d) && nat_le (48 + d) 57) ≡ true) × IsDigit (48 + d) ⊎ ((nat_le 48 (48 + d) && nat_le (48 + d) 57) ≡ false) × (IsDigit (48 + d) → ⊥) → cond (nat_le 48 (48 + d) && nat_le (48 + d) 57) (counted_as r (48 + d - 48) r.repeat) (Some (with_single_mark r (Literal (48 + d)))) ≡ counted_as r d r.repeat
+    told (inl e) = ap (λ t. cond t (counted_as r (48 + d - 48) r.repeat) (Some (with_single_mark r (Literal (48 + d))))) e.0 ∙ ap (λ (n : ℕ). counted_as r n r.repeat) (omega arith)
     told (inr e) = absurd (e.1 (omega arith, omega arith))
 
 -- ---- counts
@@ -108,7 +108,7 @@ counted_more : (r : Reading) (n d : ℕ) → n * 10 + d ≤ 120 → counted_as r
 counted_more r n d h = held (nat_le (n * 10 + d) 120) (Some (record { built = r.built; brackets = r.brackets; choice = r.choice; repeat = Times (n * 10 + d); quoted = false })) None (at_most (n * 10 + d) 120 h)
 
 one_step : (r s : Reading) (c : ℕ) → r.quoted ≡ false → plain_step r c ≡ Some s → text_steps r (c ∷ []) ≡ Some s
-one_step r s c unquoted e = ap (λ q. option_and_then (λ t. text_steps t []) (cond q (Some (with_mark r (Quoted c))) (plain_step r c))) unquoted ∙ ap (option_and_then (λ t. text_steps t [])) e
+one_step r s c unquoted e = ap (λ q. option_and_then (λ t. text_steps t []) (cond q (Some (with_single_mark r (Quoted c))) (plain_step r c))) unquoted ∙ ap (option_and_then (λ t. text_steps t [])) e
 
 first_digit : (s : List Pattern) (h : Option ℕ) (os : List Open) (c : Bool) (n : ℕ) → 0 < n → n < 10 → text_steps (state s h os c Many false) ((48 + n) ∷ []) ≡ Some (state s h os c (Times n) false)
 first_digit s h os c n low high = one_step (state s h os c Many false) (state s h os c (Times n) false) (48 + n) refl (digit_step (state s h os c Many false) n high ∙ counted_first (state s h os c Many false) n low)
@@ -171,16 +171,16 @@ base_mark NotLower plain x s h os c r deep b = let f = marked NotLower x s h os 
 base_mark (Quoted d) plain x s h os c r deep b = let f = marked (Quoted d) x s h os c r true in (f.0, ap Some f.1)
 base_mark (Literal d) plain x s h os c r deep b = cases (is_digit d) b
   where
-    go : plain_step (state (x ∷ s) h os c r false) d ≡ Some (with_mark (state (x ∷ s) h os c r false) (Literal d)) → Goes (state (x ∷ s) h os c r false) (d ∷ []) (sequence x (repeated r (one (Literal d))) ∷ s) os c
-    go e = let f = marked (Literal d) x s h os c r false in (f.0, one_step (state (x ∷ s) h os c r false) (with_mark (state (x ∷ s) h os c r false) (Literal d)) d refl e ∙ ap Some f.1)
+    go : plain_step (state (x ∷ s) h os c r false) d ≡ Some (with_single_mark (state (x ∷ s) h os c r false) (Literal d)) → Goes (state (x ∷ s) h os c r false) (d ∷ []) (sequence x (repeated r (one (Literal d))) ∷ s) os c
+    go e = let f = marked (Literal d) x s h os c r false in (f.0, one_step (state (x ∷ s) h os c r false) (with_single_mark (state (x ∷ s) h os c r false) (Literal d)) d refl e ∙ ap Some f.1)
 
     cases : ((nat_le 48 d && nat_le d 57) ≡ true) × IsDigit d ⊎ ((nat_le 48 d && nat_le d 57) ≡ false) × (IsDigit d → ⊥) → (r ≡ Once) ⊎ IsBase (one (Literal d)) → Goes (state (x ∷ s) h os c r false) (d ∷ []) (sequence x (repeated r (one (Literal d))) ∷ s) os c
-    cases (inr e) _ = go (literal_step (state (x ∷ s) h os c r false) d (plain_none d plain) ∙ skip (nat_le 48 d && nat_le d 57) (counted_as (state (x ∷ s) h os c r false) (d - 48) r) (Some (with_mark (state (x ∷ s) h os c r false) (Literal d))) e.0)
+    cases (inr e) _ = go (literal_step (state (x ∷ s) h os c r false) d (plain_none d plain) ∙ skip (nat_le 48 d && nat_le d 57) (counted_as (state (x ∷ s) h os c r false) (d - 48) r) (Some (with_single_mark (state (x ∷ s) h os c r false) (Literal d))) e.0)
     cases (inl e) (inr barred) = absurd (barred e.1)
     cases (inl e) (inl once) = go (literal_step (state (x ∷ s) h os c r false) d (plain_none d plain)
-        ∙ ap (λ t. cond t (counted_as (state (x ∷ s) h os c r false) (d - 48) r) (Some (with_mark (state (x ∷ s) h os c r false) (Literal d)))) e.0
+        ∙ ap (λ t. cond t (counted_as (state (x ∷ s) h os c r false) (d - 48) r) (Some (with_single_mark (state (x ∷ s) h os c r false) (Literal d)))) e.0
         ∙ ap (counted_as (state (x ∷ s) h os c r false) (d - 48)) once
-        ∙ ap (λ (n : ℕ). Some (with_mark (state (x ∷ s) h os c r false) (Literal n))) (let d' = e.1 in omega arith))
+        ∙ ap (λ (n : ℕ). Some (with_single_mark (state (x ∷ s) h os c r false) (Literal n))) (let d' = e.1 in omega arith))
 
 element_of_base : (a : Pattern) → Base a → Element a
 element_of_base a b x s h os c deep = b x s h os c Once deep (inl refl)
@@ -196,13 +196,13 @@ abbrev pub bracketed : Bracket → Pattern → Pattern
 bracketed Square a = optional a
 bracketed Curly a = group a
 
-opening : (b : Bracket) (s : List Pattern) (h : Option ℕ) (os : List Open) (c : Bool) (r : Repeat) → length os < 8 → (k : Option ℕ) × (opened (state s h os c r false) b ≡ Some (state (empty ∷ s) k ((record { bracket = b; repeat = r; choice = c }) ∷ os) false Once false))
+opening : (b : Bracket) (s : List Pattern) (h : Option ℕ) (os : List Open) (c : Bool) (r : Repeat) → length os < 8 → (k : Option ℕ) × (bracket_opened (state s h os c r false) b ≡ Some (state (empty ∷ s) k ((record { bracket = b; repeat = r; choice = c }) ∷ os) false Once false))
 opening b s h os c r few = (_, held (nat_lt (length os) 8) (Some (state (empty ∷ s) _ ((record { bracket = b; repeat = r; choice = c }) ∷ os) false Once false)) None (below (length os) 8 few))
 
-closing_of : (b : Bracket) (a x : Pattern) (s : List Pattern) (h : Option ℕ) (os : List Open) (c : Bool) (r : Repeat) → (k : Option ℕ) × (finished (state (bracketed b a ∷ x ∷ s) h os c r false) ≡ state (sequence x (repeated r (bracketed b a)) ∷ s) k os c Once false)
+closing_of : (b : Bracket) (a x : Pattern) (s : List Pattern) (h : Option ℕ) (os : List Open) (c : Bool) (r : Repeat) → (k : Option ℕ) × (part_finished (state (bracketed b a ∷ x ∷ s) h os c r false) ≡ state (sequence x (repeated r (bracketed b a)) ∷ s) k os c Once false)
 closing_of b a x s h os c r = finished_as (bracketed b a) x s h os c r false
 
-closing : (b : Bracket) (a x : Pattern) (s : List Pattern) (h : Option ℕ) (os : List Open) (c : Bool) (r : Repeat) → 2 ≤ rank a → (k : Option ℕ) × (closed (state (pending a (x ∷ s)) h ((record { bracket = b; repeat = r; choice = c }) ∷ os) (is_either a) Once false) b ≡ Some (state (sequence x (repeated r (bracketed b a)) ∷ s) k os c Once false))
+closing : (b : Bracket) (a x : Pattern) (s : List Pattern) (h : Option ℕ) (os : List Open) (c : Bool) (r : Repeat) → 2 ≤ rank a → (k : Option ℕ) × (bracket_closed (state (pending a (x ∷ s)) h ((record { bracket = b; repeat = r; choice = c }) ∷ os) (is_either a) Once false) b ≡ Some (state (sequence x (repeated r (bracketed b a)) ∷ s) k os c Once false))
 closing Square empty x s h os c r high = let f = closing_of Square empty x s _ os c r in (f.0, ap Some f.1)
 closing Curly empty x s h os c r high = let f = closing_of Curly empty x s _ os c r in (f.0, ap Some f.1)
 closing Square (sequence a b) x s h os c r high = let f = closing_of Square (sequence a b) x s _ os c r in (f.0, ap Some f.1)
@@ -215,7 +215,7 @@ closing d (group a) x s h os c r high = absurd (omega arith)
 closing d (many a) x s h os c r high = absurd (omega arith)
 closing d (times n a) x s h os c r high = absurd (omega arith)
 
-base_bracketed : (b : Bracket) (p q : ℕ) (a : Pattern) → ((r : Reading) → r.quoted ≡ false → text_step r p ≡ opened r b) → ((r : Reading) → r.quoted ≡ false → text_step r q ≡ closed r b) → 2 ≤ rank a → Choice a → (x : Pattern) (s : List Pattern) (h : Option ℕ) (os : List Open) (c : Bool) (r : Repeat) → depth a + 1 + length os ≤ 8 → Goes (state (x ∷ s) h os c r false) (((p ∷ []) ++ spelled a) ++ q ∷ []) (sequence x (repeated r (bracketed b a)) ∷ s) os c
+base_bracketed : (b : Bracket) (p q : ℕ) (a : Pattern) → ((r : Reading) → r.quoted ≡ false → text_step r p ≡ bracket_opened r b) → ((r : Reading) → r.quoted ≡ false → text_step r q ≡ bracket_closed r b) → 2 ≤ rank a → Choice a → (x : Pattern) (s : List Pattern) (h : Option ℕ) (os : List Open) (c : Bool) (r : Repeat) → depth a + 1 + length os ≤ 8 → Goes (state (x ∷ s) h os c r false) (((p ∷ []) ++ spelled a) ++ q ∷ []) (sequence x (repeated r (bracketed b a)) ∷ s) os c
 base_bracketed b p q a opens closes high inner x s h os c r deep =
     let o = opening b (x ∷ s) h os c r (omega arith) in
     let frame : Open = record { bracket = b; repeat = r; choice = c } in
@@ -226,7 +226,7 @@ base_bracketed b p q a opens closes high inner x s h os c r deep =
     (λ k. let e = closing b a x s k os c r high in (e.0, ap (option_and_then (λ t. text_steps t [])) (closes (state (pending a (x ∷ s)) k (frame ∷ os) (is_either a) Once false) refl ∙ e.1)))
 
 pub unquoted_step : (r : Reading) (c : ℕ) → r.quoted ≡ false → text_step r c ≡ plain_step r c
-unquoted_step r c e = skip r.quoted (Some (with_mark r (Quoted c))) (plain_step r c) e
+unquoted_step r c e = skip r.quoted (Some (with_single_mark r (Quoted c))) (plain_step r c) e
 
 base_optional : (a : Pattern) → 2 ≤ rank a → Choice a → Base (optional a)
 base_optional a high inner x s h os c r deep _ = base_bracketed Square 91 93 a (λ t e. unquoted_step t 91 e) (λ t e. unquoted_step t 93 e) high inner x s h os c r deep
@@ -316,5 +316,5 @@ complete (group a) g = base_claims (group a) refl (base_group a g.1 ((complete a
 complete (many a) g = element_claims (many a) refl (element_many a g.1 ((complete a g.0).base (is_zero a g.1)))
 complete (times n a) g = element_claims (times n a) refl (element_times n a g.2 g.3 g.1 ((complete a g.0).base (is_zero a g.1)))
 
-pub picture_goes : (p : Pattern) → IsPicture p → Goes start (spelled p) (pending p []) [] (is_either p)
+pub picture_goes : (p : Pattern) → IsPicture p → Goes nothing_parsed (spelled p) (pending p []) [] (is_either p)
 picture_goes p h = (complete p h.0).choice h.1 [] (Some 1) [] (let d = h.2 in omega arith)

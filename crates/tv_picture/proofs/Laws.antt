@@ -6,7 +6,7 @@ use Rattle.std.proofs.lemmas.List.{take-append-drop}
 use Rattle.std.proofs.lemmas.List.Elements.{All-cons, All-head, All-tail, Contains-append_left, Contains-append_right, Contains-push}
 use Rattle.tv_picture.specs.declared.code.Mark.{Mark}
 use Rattle.tv_picture.specs.declared.code.Mark.TheVariants.{Digit, Letter, Capital, Any, NotLower, Literal, Quoted}
-use Rattle.tv_picture.specs.Pattern.{Pattern, empty, one, sequence, either, optional, group, many, times, Allows, Member, Begins, IsViable, IsNextLiteral}
+use Rattle.tv_picture.specs.Pattern.{Pattern, empty, one, sequence, either, optional, group, many, times, Allows, IsMember, Begins, IsViable, IsNextLiteral}
 use Rattle.tv_picture.specs.Spelling.{spelled, count_text}
 use Rattle.tv_picture.proofs.Language.{Inside, Past, cut, Two, two_allowed, regrouped}
 
@@ -14,26 +14,26 @@ use Rattle.tv_picture.proofs.Language.{Inside, Past, cut, Two, two_allowed, regr
 
 pub begins_take : (p : Pattern) (t : List ℕ) (k : ℕ) → Begins p t → Begins p (take k t)
 begins_take p t k (more, m) =
-    (drop k t ++ more, subst (Member p) (ap (λ x. x ++ more) (sym (take-append-drop k t)) ∙ append_assoc (take k t) (drop k t) more) m)
+    (drop k t ++ more, subst (IsMember p) (ap (λ x. x ++ more) (sym (take-append-drop k t)) ∙ append_assoc (take k t) (drop k t) more) m)
 
-pub begins_whole : (p : Pattern) (t : List ℕ) → Member p t → Begins p t
-begins_whole p t m = ([], subst (Member p) (sym (append-nil t)) m)
+pub begins_whole : (p : Pattern) (t : List ℕ) → IsMember p t → Begins p t
+begins_whole p t m = ([], subst (IsMember p) (sym (append-nil t)) m)
 
-pub completed : (p : Pattern) (t : List ℕ) → IsViable p t → (more : List ℕ) × (more ≢ []) × Member p (t ++ more)
-completed p t ((more, m), unfinished) = (more, (λ e. unfinished (subst (Member p) (ap (λ x. t ++ x) e ∙ append-nil t) m)), m)
+pub completed : (p : Pattern) (t : List ℕ) → IsViable p t → (more : List ℕ) × (more ≢ []) × IsMember p (t ++ more)
+completed p t ((more, m), unfinished) = (more, (λ e. unfinished (subst (IsMember p) (ap (λ x. t ++ x) e ∙ append-nil t) m)), m)
 
 -- ---- another character in the place of one that the picture hasn't
 
 -- a member with another character there
 abbrev Other : Pattern → List ℕ → ℕ → List ℕ → Type 0
-Other p u c v = (d : ℕ) × (d ≢ c) × Member p (u ++ d ∷ v)
+Other p u c v = (d : ℕ) × (d ≢ c) × IsMember p (u ++ d ∷ v)
 
 abbrev Known : Pattern → List ℕ → ℕ → List ℕ → Type 0
 Known p u c v = Contains (spelled p) c ⊎ Other p u c v
 
 -- pieces with another character there
 abbrev OtherPieces : Pattern → ℕ → List ℕ → ℕ → List ℕ → Type 0
-OtherPieces a n u c v = (d : ℕ) × (d ≢ c) × (pieces : List (List ℕ)) × (length pieces ≡ n) × All (Member a) pieces × (u ++ d ∷ v ≡ concat pieces)
+OtherPieces a n u c v = (d : ℕ) × (d ≢ c) × (pieces : List (List ℕ)) × (length pieces ≡ n) × All (IsMember a) pieces × (u ++ d ∷ v ≡ concat pieces)
 
 alone : (u v : List ℕ) (c x : ℕ) → u ++ c ∷ v ≡ x ∷ [] → (u ≡ []) × (c ≡ x) × (v ≡ [])
 alone [] v c x e = (refl, (cc), (cc))
@@ -68,10 +68,10 @@ of_mark NotLower u c v x h e = class NotLower u c v x (two_allowed NotLower (λ 
 
 -- the character stands in the pattern, or another could stand in its place
 abbrev KnownIn : Pattern → Type 0
-KnownIn a = (u : List ℕ) (c : ℕ) (v : List ℕ) → Member a (u ++ c ∷ v) → Known a u c v
+KnownIn a = (u : List ℕ) (c : ℕ) (v : List ℕ) → IsMember a (u ++ c ∷ v) → Known a u c v
 
-of_sequence : (a b : Pattern) (u : List ℕ) (c : ℕ) (v s t : List ℕ) → KnownIn a → KnownIn b → Member a s → Member b t → Inside u (c ∷ v) s t ⊎ Past u (c ∷ v) s t → Known (sequence a b) u c v
-of_sequence a b u c v s t ka kb ma mb (inl (w, p, q)) = later (kb w c v (subst (Member b) q mb))
+of_sequence : (a b : Pattern) (u : List ℕ) (c : ℕ) (v s t : List ℕ) → KnownIn a → KnownIn b → IsMember a s → IsMember b t → Inside u (c ∷ v) s t ⊎ Past u (c ∷ v) s t → Known (sequence a b) u c v
+of_sequence a b u c v s t ka kb ma mb (inl (w, p, q)) = later (kb w c v (subst (IsMember b) q mb))
   where
     later : Known b w c v → Known (sequence a b) u c v
     later (inl stands) = inl (Contains-append_right (spelled a) (spelled b) c stands)
@@ -79,30 +79,30 @@ of_sequence a b u c v s t ka kb ma mb (inl (w, p, q)) = later (kb w c v (subst (
 of_sequence a b u c v s t ka kb ma mb (inr (f, w, p, q)) =
     let same : c ≡ f = cc in
     let rest : v ≡ w ++ t = cc in
-    first rest (ka u c w (subst (Member a) (p ∙ ap (λ x. u ++ x ∷ w) (sym same)) ma))
+    first rest (ka u c w (subst (IsMember a) (p ∙ ap (λ x. u ++ x ∷ w) (sym same)) ma))
   where
     first : v ≡ w ++ t → Known a u c w → Known (sequence a b) u c v
     first rest (inl stands) = inl (Contains-append_left (spelled a) (spelled b) c stands)
     first rest (inr (d, n, m)) = inr (d, n, (u ++ d ∷ w, t, m, mb, ap (λ x. u ++ d ∷ x) rest ∙ sym (append_assoc u (d ∷ w) t)))
 
-pieces_known : (a : Pattern) (ps : List (List ℕ)) (u : List ℕ) (c : ℕ) (v : List ℕ) → KnownIn a → All (Member a) ps → u ++ c ∷ v ≡ concat ps → Contains (spelled a) c ⊎ OtherPieces a (length ps) u c v
+pieces_known : (a : Pattern) (ps : List (List ℕ)) (u : List ℕ) (c : ℕ) (v : List ℕ) → KnownIn a → All (IsMember a) ps → u ++ c ∷ v ≡ concat ps → Contains (spelled a) c ⊎ OtherPieces a (length ps) u c v
 pieces_known a [] u c v ka all e = absurd (not_empty u c v e)
-pieces_known a (s ∷ ps) u c v ka all e = from (λ w q. pieces_known a ps w c v ka (All-tail (Member a) s ps all) (sym q)) (cut u (c ∷ v) s (concat ps) e)
+pieces_known a (s ∷ ps) u c v ka all e = from (λ w q. pieces_known a ps w c v ka (All-tail (IsMember a) s ps all) (sym q)) (cut u (c ∷ v) s (concat ps) e)
   where
     first : (w : List ℕ) → v ≡ w ++ concat ps → Known a u c w → Contains (spelled a) c ⊎ OtherPieces a (length (s ∷ ps)) u c v
     first w rest (inl stands) = inl stands
-    first w rest (inr (d, n, m)) = inr (d, n, (u ++ d ∷ w) ∷ ps, refl, All-cons (Member a) (u ++ d ∷ w) ps m (All-tail (Member a) s ps all), ap (λ x. u ++ d ∷ x) rest ∙ sym (append_assoc u (d ∷ w) (concat ps)))
+    first w rest (inr (d, n, m)) = inr (d, n, (u ++ d ∷ w) ∷ ps, refl, All-cons (IsMember a) (u ++ d ∷ w) ps m (All-tail (IsMember a) s ps all), ap (λ x. u ++ d ∷ x) rest ∙ sym (append_assoc u (d ∷ w) (concat ps)))
 
     later : (w : List ℕ) → u ≡ s ++ w → Contains (spelled a) c ⊎ OtherPieces a (length ps) w c v → Contains (spelled a) c ⊎ OtherPieces a (length (s ∷ ps)) u c v
     later w p (inl stands) = inl stands
-    later w p (inr (d, n, qs, long, each, joins)) = inr (d, n, s ∷ qs, ap suc long, All-cons (Member a) s qs (All-head (Member a) s ps all) each, ap (λ x. x ++ d ∷ v) p ∙ append_assoc s w (d ∷ v) ∙ ap (λ x. s ++ x) joins)
+    later w p (inr (d, n, qs, long, each, joins)) = inr (d, n, s ∷ qs, ap suc long, All-cons (IsMember a) s qs (All-head (IsMember a) s ps all) each, ap (λ x. x ++ d ∷ v) p ∙ append_assoc s w (d ∷ v) ∙ ap (λ x. s ++ x) joins)
 
     from : ((w : List ℕ) → concat ps ≡ w ++ c ∷ v → Contains (spelled a) c ⊎ OtherPieces a (length ps) w c v) → Inside u (c ∷ v) s (concat ps) ⊎ Past u (c ∷ v) s (concat ps) → Contains (spelled a) c ⊎ OtherPieces a (length (s ∷ ps)) u c v
     from rest_known (inl (w, p, q)) = later w p (rest_known w q)
     from rest_known (inr (f, w, p, q)) =
         let same : c ≡ f = cc in
         let rest : v ≡ w ++ concat ps = cc in
-        first w rest (ka u c w (subst (Member a) (p ∙ ap (λ x. u ++ x ∷ w) (sym same)) (All-head (Member a) s ps all)))
+        first w rest (ka u c w (subst (IsMember a) (p ∙ ap (λ x. u ++ x ∷ w) (sym same)) (All-head (IsMember a) s ps all)))
 
 known : (p : Pattern) → KnownIn p
 known empty u c v m = absurd (not_empty u c v m)
@@ -142,8 +142,8 @@ known (times k a) u c v (ps, count, all, e) = inside (pieces_known a ps u c v (k
 
 -- a text's only next character stands in the picture
 pub next_stands : (p : Pattern) (t : List ℕ) (c : ℕ) → IsNextLiteral p t c → Contains (spelled p) c
-next_stands p t c l = of_fit (known p t c l.fits.0 (subst (Member p) (regrouped t c l.fits.0) l.fits.1))
+next_stands p t c l = of_fit (known p t c l.fits.0 (subst (IsMember p) (regrouped t c l.fits.0) l.fits.1))
   where
     of_fit : Known p t c l.fits.0 → Contains (spelled p) c
     of_fit (inl stands) = stands
-    of_fit (inr (d, n, m)) = absurd (n (l.only d (l.fits.0, subst (Member p) (sym (regrouped t d l.fits.0)) m)))
+    of_fit (inr (d, n, m)) = absurd (n (l.only d (l.fits.0, subst (IsMember p) (sym (regrouped t d l.fits.0)) m)))

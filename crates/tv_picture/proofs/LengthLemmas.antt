@@ -13,7 +13,7 @@ use Rattle.tv_cells.specs.Glyph.{IsNarrow, is_narrow}
 use Rattle.unicode_width.specs.Width.{char_width}
 use Rattle.tv_picture.specs.declared.code.Mark.{Mark}
 use Rattle.tv_picture.specs.declared.code.Mark.TheVariants.{Digit, Letter, Capital, Any, NotLower, Literal, Quoted}
-use Rattle.tv_picture.specs.Pattern.{Pattern, empty, one, sequence, either, optional, group, many, times, Allows, Member, IsNarrowMember, IsShortest}
+use Rattle.tv_picture.specs.Pattern.{Pattern, empty, one, sequence, either, optional, group, many, times, Allows, IsMember, IsNarrowMember, IsShortest}
 use Rattle.tv_picture.specs.Matching.{mark_length, shortest_length}
 use Rattle.tv_picture.proofs.Language.{sample, sample_allowed}
 
@@ -25,14 +25,14 @@ all_right : (u v : List ℕ) → All IsNarrow (u ++ v) → All IsNarrow v
 all_right [] v h = h
 all_right (x ∷ u) v h = all_right u v (All-tail IsNarrow x (u ++ v) h)
 
-pub shortest_none : (p : Pattern) → Member p [] → IsShortest p 0
+pub shortest_none : (p : Pattern) → IsMember p [] → IsShortest p 0
 shortest_none p m = record { bound = omega arith; least = λ t h. omega arith; reached = λ h. ([], (m, All-nil IsNarrow), refl) }
 
 pub shortest_optional : (a : Pattern) → IsShortest (optional a) 0
 shortest_optional a = shortest_none (optional a) (inl refl)
 
 pub shortest_many : (a : Pattern) → IsShortest (many a) 0
-shortest_many a = shortest_none (many a) ([], All-nil (Member a), refl)
+shortest_many a = shortest_none (many a) ([], All-nil (IsMember a), refl)
 
 pub shortest_one : (m : Mark) (c : ℕ) → Allows m c → IsNarrow c → IsShortest (one m) 1
 shortest_one m c allows narrow = record {
@@ -61,7 +61,7 @@ shortest_wide m d only wide = record {
   reached = λ h. absurd (omega arith);
 }
 
-pub shortest_same : (p q : Pattern) (n : ℕ) → ((t : List ℕ) → Member p t ↔ Member q t) → IsShortest p n → IsShortest q n
+pub shortest_same : (p q : Pattern) (n : ℕ) → ((t : List ℕ) → IsMember p t ↔ IsMember q t) → IsShortest p n → IsShortest q n
 shortest_same p q n same h = record {
   bound = h.bound;
   least = λ t m. h.least t ((same t).1 m.0, m.1);
@@ -103,11 +103,11 @@ shortest_either a b m n ha hb = record { bound = (let h = ha.bound in omega arit
     reached few (inl h) = let x = ha.reached (omega arith) in (x.0, (inl x.1.0, x.1.1), omega (arith, x.2))
     reached few (inr h) = let x = hb.reached (omega arith) in (x.0, (inr x.1.0, x.1.1), omega (arith, x.2))
 
-pieces_least : (a : Pattern) (m : ℕ) → IsShortest a m → (pieces : List (List ℕ)) → All (Member a) pieces → All IsNarrow (concat pieces) → length pieces * m ≤ length (concat pieces)
+pieces_least : (a : Pattern) (m : ℕ) → IsShortest a m → (pieces : List (List ℕ)) → All (IsMember a) pieces → All IsNarrow (concat pieces) → length pieces * m ≤ length (concat pieces)
 pieces_least a m h [] all narrow = omega arith
 pieces_least a m h (p ∷ ps) all narrow =
-    let first : m ≤ length p = h.least p (All-head (Member a) p ps all, all_left p (concat ps) narrow) in
-    let rest : length ps * m ≤ length (concat ps) = pieces_least a m h ps (All-tail (Member a) p ps all) (all_right p (concat ps) narrow) in
+    let first : m ≤ length p = h.least p (All-head (IsMember a) p ps all, all_left p (concat ps) narrow) in
+    let rest : length ps * m ≤ length (concat ps) = pieces_least a m h ps (All-tail (IsMember a) p ps all) (all_right p (concat ps) narrow) in
     grind (arith, length-append p (concat ps))
 
 copies_narrow : (n : ℕ) (t : List ℕ) → All IsNarrow t → All IsNarrow (concat (replicate n t))
@@ -128,12 +128,12 @@ shortest_times a n m h = record { bound = omega arith; least = least; reached = 
         omega (arith, ap length e)
 
     reached : (k : ℕ) → min (k * m) 121 ≤ 120 → (t : List ℕ) × IsNarrowMember (times k a) t × (length t ≡ min (k * m) 121)
-    reached zero few = ([], (([], refl, All-nil (Member a), refl), All-nil IsNarrow), omega arith)
+    reached zero few = ([], (([], refl, All-nil (IsMember a), refl), All-nil IsNarrow), omega arith)
     reached (suc k) few =
         let within : m ≤ 120 = grind arith in
         let x = h.reached within in
         let long : length (concat (replicate (suc k) x.0)) ≡ suc k * m = copies_length (suc k) x.0 ∙ ap (λ (j : ℕ). suc k * j) x.2 in
-        (concat (replicate (suc k) x.0), ((replicate (suc k) x.0, length-replicate (suc k) x.0, All-replicate (Member a) (suc k) x.0 x.1.0, refl), copies_narrow (suc k) x.0 x.1.1), omega arith)
+        (concat (replicate (suc k) x.0), ((replicate (suc k) x.0, length-replicate (suc k) x.0, All-replicate (IsMember a) (suc k) x.0 x.1.0, refl), copies_narrow (suc k) x.0 x.1.1), omega arith)
 
 pub shortest_literal : (m : Mark) (c : ℕ) → (m ≡ Literal c) ⊎ (m ≡ Quoted c) → IsNarrow c → IsShortest (one m) 1
 shortest_literal m c (inl e) narrow = shortest_one m c (subst (λ (x : Mark). Allows x c) (sym e) refl) narrow

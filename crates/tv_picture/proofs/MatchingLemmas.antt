@@ -7,25 +7,25 @@ use Rattle.tv_picture.specs.declared.picture.Status.{Status}
 use Rattle.tv_picture.specs.declared.picture.Status.TheVariants.{Complete, Viable, Error}
 use Rattle.tv_picture.specs.declared.row.Next.{Next}
 use Rattle.tv_picture.specs.declared.row.Next.TheVariants.{Nothing, Only, Several}
-use Rattle.tv_picture.specs.Pattern.{Pattern, Member, Begins, IsNextLiteral, IsStatus}
-use Rattle.tv_picture.specs.Table.{Names, Follows}
-use Rattle.tv_picture.specs.Matching.{matches, follows, is_some_next, begins_some, only_next, next_literal_of, status_of}
+use Rattle.tv_picture.specs.Pattern.{Pattern, IsMember, Begins, IsNextLiteral, IsStatus}
+use Rattle.tv_picture.specs.Table.{NamesNext, MayFollow}
+use Rattle.tv_picture.specs.Matching.{matches, follows, is_some_next, begins_some, only_next, next_literal_of, match_status}
 use Rattle.tv_picture.proofs.Statuses.{begins_cases, follows_begins}
 use Rattle.tv_picture.proofs.EndsLemmas.{matches_law}
 use Rattle.tv_picture.proofs.FollowsLemmas.{follows_law}
 
-begins_from : (p : Pattern) (t : List ℕ) (n : Next) → Names (Follows p t) n → is_some_next n ≡ true → Begins p t
+begins_from : (p : Pattern) (t : List ℕ) (n : Next) → NamesNext (MayFollow p t) n → is_some_next n ≡ true → Begins p t
 begins_from p t Nothing h e = absurd (false≢true e)
 begins_from p t (Only c) h e = follows_begins p t c h.0
 begins_from p t Several h e = follows_begins p t h.0 h.2
 
-begins_to : (p : Pattern) (t : List ℕ) (n : Next) (c : ℕ) → Names (Follows p t) n → Follows p t c → is_some_next n ≡ true
+begins_to : (p : Pattern) (t : List ℕ) (n : Next) (c : ℕ) → NamesNext (MayFollow p t) n → MayFollow p t c → is_some_next n ≡ true
 begins_to p t Nothing c h f = absurd (h c f)
 begins_to p t (Only d) c h f = refl
 begins_to p t Several c h f = refl
 
-whole_begins : (p : Pattern) (t : List ℕ) → Member p t → Begins p t
-whole_begins p t m = ([], subst (Member p) (sym (append-nil t)) m)
+whole_begins : (p : Pattern) (t : List ℕ) → IsMember p t → Begins p t
+whole_begins p t m = ([], subst (IsMember p) (sym (append-nil t)) m)
 
 -- the function says whether the text begins a member
 pub begins_law : (p : Pattern) (t : List ℕ) → Decides (begins_some p t) (Begins p t)
@@ -35,18 +35,18 @@ begins_law p t = ((λ e. from (or_cases (matches p t) (is_some_next (follows p t
     from (inl e) = whole_begins p t ((matches_law p t).0 e)
     from (inr e) = begins_from p t (follows p t) (follows_law p t) e
 
-    to : Member p t ⊎ ((c : ℕ) × Follows p t c) → begins_some p t ≡ true
+    to : IsMember p t ⊎ ((c : ℕ) × MayFollow p t c) → begins_some p t ≡ true
     to (inl m) = or_left (matches p t) (is_some_next (follows p t)) ((matches_law p t).1 m)
     to (inr (c, f)) = or_right (matches p t) (is_some_next (follows p t)) (begins_to p t (follows p t) c (follows_law p t) f)
 
-literal_from : (p : Pattern) (t : List ℕ) (n : Next) (c : ℕ) → length t < 120 → (Member p t → ⊥) → Names (Follows p t) n → only_next n ≡ Some c → IsNextLiteral p t c
+literal_from : (p : Pattern) (t : List ℕ) (n : Next) (c : ℕ) → length t < 120 → (IsMember p t → ⊥) → NamesNext (MayFollow p t) n → only_next n ≡ Some c → IsNextLiteral p t c
 literal_from p t Nothing c few unended h e = absurd (cc)
 literal_from p t (Only d) c few unended h e =
     let same_char : d ≡ c = cc in
     subst (IsNextLiteral p t) same_char (record { viable = (follows_begins p t d h.0, unended); room = few; fits = h.0; only = h.1 })
 literal_from p t Several c few unended h e = absurd (cc)
 
-literal_to : (p : Pattern) (t : List ℕ) (n : Next) (c : ℕ) → Names (Follows p t) n → IsNextLiteral p t c → only_next n ≡ Some c
+literal_to : (p : Pattern) (t : List ℕ) (n : Next) (c : ℕ) → NamesNext (MayFollow p t) n → IsNextLiteral p t c → only_next n ≡ Some c
 literal_to p t Nothing c h l = absurd (h c l.fits)
 literal_to p t (Only d) c h l = ap Some (l.only d h.0)
 literal_to p t Several c h l = absurd (h.4 (l.only h.0 h.2 ∙ sym (l.only h.1 h.3)))
@@ -83,10 +83,10 @@ next_literal_is p t None some none = of (next_literal_of p t) refl
 -- ---- what a text is to a pattern
 
 -- the function says whether a character may follow
-pub next_law : (p : Pattern) (t : List ℕ) → Decides (is_some_next (follows p t)) ((c : ℕ) × Follows p t c)
-next_law p t = (from (follows p t) (follows_law p t), λ (h : (c : ℕ) × Follows p t c). begins_to p t (follows p t) h.0 (follows_law p t) h.1)
+pub next_law : (p : Pattern) (t : List ℕ) → Decides (is_some_next (follows p t)) ((c : ℕ) × MayFollow p t c)
+next_law p t = (from (follows p t) (follows_law p t), λ (h : (c : ℕ) × MayFollow p t c). begins_to p t (follows p t) h.0 (follows_law p t) h.1)
   where
-    from : (n : Next) → Names (Follows p t) n → is_some_next n ≡ true → (c : ℕ) × Follows p t c
+    from : (n : Next) → NamesNext (MayFollow p t) n → is_some_next n ≡ true → (c : ℕ) × MayFollow p t c
     from Nothing h e = absurd (false≢true e)
     from (Only c) h e = (c, h.0)
     from Several h e = (h.0, h.2)
@@ -96,14 +96,14 @@ abbrev by : Bool → Bool → Status
 by whole more = elim whole as (λ x. Status) [ true ↦ Complete | false ↦ elim more as (λ x. Status) [ true ↦ Viable | false ↦ Error ] ]
 
 -- what the relation says that the text is, the function says
-pub status_law : (p : Pattern) (t : List ℕ) (s : Status) → IsStatus p t s → s ≡ status_of p t
+pub status_law : (p : Pattern) (t : List ℕ) (s : Status) → IsStatus p t s → s ≡ match_status p t
 status_law p t Complete m = sym (ap (λ b. by b (is_some_next (follows p t))) ((matches_law p t).1 m))
 status_law p t Viable (b, other) = sym (ap (λ b. by b (is_some_next (follows p t))) unended ∙ ap (by false) (more (begins_cases p t b)))
   where
     unended : matches p t ≡ false
     unended = false_from_ne_true (matches p t) (λ e. other ((matches_law p t).0 e))
 
-    more : Member p t ⊎ ((c : ℕ) × Follows p t c) → is_some_next (follows p t) ≡ true
+    more : IsMember p t ⊎ ((c : ℕ) × MayFollow p t c) → is_some_next (follows p t) ≡ true
     more (inl m) = absurd (other m)
     more (inr f) = (next_law p t).1 f
 status_law p t Error none = sym (ap (λ b. by b (is_some_next (follows p t))) unended ∙ ap (by false) nothing)

@@ -10,8 +10,8 @@ use Rattle.tv_picture.specs.declared.parser.Repeat.TheVariants.{Once, Many, Time
 use Rattle.tv_picture.specs.declared.parser.Open.{Open}
 use Rattle.tv_picture.specs.Pattern.{Pattern, empty, one, sequence, either, optional, group, many, times}
 use Rattle.tv_picture.specs.Code.{pattern_of, height_from, top}
-use Rattle.tv_picture.specs.Spelling.{spelled, rank, IsPicture, BeginsPicture, IsFirstFault}
-use Rattle.tv_picture.specs.Parsing.{Built, Reading, built_by, merged, is_empty_list, is_once, is_closed, text_step, text_steps, start}
+use Rattle.tv_picture.specs.Spelling.{spelled, rank, IsPicture, BeginsPicture, IsFirstFaultyPlace}
+use Rattle.tv_picture.specs.Parsing.{Built, Reading, built_by, merged, is_empty_list, is_once, is_closed, text_step, text_steps, nothing_parsed}
 use Rattle.tv_picture.proofs.Grammar.{state, is_either, pending, steps-append, steps_then, picture_goes}
 use Rattle.tv_picture.proofs.Soundness.{steps_spell, start_fine, closes, ends}
 use Rattle.tv_picture.proofs.Spelled.{Spells}
@@ -53,9 +53,9 @@ pub record Parsed (text : List ℕ) (code : List Op) : Type 0 where
 some_is : (r s : Reading) → Some r ≡ Some s → r ≡ s
 some_is r s e = cc
 
-pub parsed : (text : List ℕ) (r : Reading) (code : List Op) → text_steps start text ≡ Some r → is_closed r ≡ true → built_by code ≡ merged r.choice r.built → Parsed text code
+pub parsed : (text : List ℕ) (r : Reading) (code : List Op) → text_steps nothing_parsed text ≡ Some r → is_closed r ≡ true → built_by code ≡ merged r.choice r.built → Parsed text code
 parsed text r code e done b =
-    let sp = steps_spell text start r start_fine e in
+    let sp = steps_spell text nothing_parsed r start_fine e in
     let same = closed_state r done in
     let cl = closes r.built.stack r.built.height r.choice text (subst (λ (x : Reading). Spells x text) same sp) in
     let whole : built_by code ≡ record { stack = cl.whole ∷ []; height = Some 1 } = b ∙ cl.built in
@@ -66,40 +66,40 @@ parsed text r code e done b =
       height = ap (λ (x : Built). x.height) whole;
       only = λ p pic sp'.
           let g = picture_goes p pic in
-          let reads : r ≡ state (pending p []) g.0 [] (is_either p) Once false = some_is r (state (pending p []) g.0 [] (is_either p) Once false) (sym e ∙ ap (text_steps start) (sym sp') ∙ g.1) in
+          let reads : r ≡ state (pending p []) g.0 [] (is_either p) Once false = some_is r (state (pending p []) g.0 [] (is_either p) Once false) (sym e ∙ ap (text_steps nothing_parsed) (sym sp') ∙ g.1) in
           ap (λ (x : Built). top x.stack) (b ∙ ap (λ (x : Reading). merged x.choice x.built) reads) ∙ ap top (merged_pending p g.0 pic.1);
     }
 
 -- ---- a text that isn't
 
 -- no picture begins with what the parser refuses
-dead : (x more : List ℕ) (p : Pattern) → text_steps start x ≡ None → IsPicture p → spelled p ≡ x ++ more → ⊥
+dead : (x more : List ℕ) (p : Pattern) → text_steps nothing_parsed x ≡ None → IsPicture p → spelled p ≡ x ++ more → ⊥
 dead x more p e pic sp =
     let g = picture_goes p pic in
-    let none : text_steps start (x ++ more) ≡ None = steps-append start x more ∙ ap (option_and_then (λ s. text_steps s more)) e in
-    let some : text_steps start (x ++ more) ≡ Some (state (pending p []) g.0 [] (is_either p) Once false) = ap (text_steps start) (sym sp) ∙ g.1 in
+    let none : text_steps nothing_parsed (x ++ more) ≡ None = steps-append nothing_parsed x more ∙ ap (option_and_then (λ s. text_steps s more)) e in
+    let some : text_steps nothing_parsed (x ++ more) ≡ Some (state (pending p []) g.0 [] (is_either p) Once false) = ap (text_steps nothing_parsed) (sym sp) ∙ g.1 in
     cc
 
-alive : (x : List ℕ) (r : Reading) → text_steps start x ≡ Some r → BeginsPicture x
+alive : (x : List ℕ) (r : Reading) → text_steps nothing_parsed x ≡ Some r → BeginsPicture x
 alive x r e =
     let t = ends r in
-    let all = steps_then start r x t.0 (Some (state t.1 t.2 [] t.3 Once false)) e t.4 in
-    let cl = closes t.1 t.2 t.3 (x ++ t.0) (steps_spell (x ++ t.0) start (state t.1 t.2 [] t.3 Once false) start_fine all) in
+    let all = steps_then nothing_parsed r x t.0 (Some (state t.1 t.2 [] t.3 Once false)) e t.4 in
+    let cl = closes t.1 t.2 t.3 (x ++ t.0) (steps_spell (x ++ t.0) nothing_parsed (state t.1 t.2 [] t.3 Once false) start_fine all) in
     (cl.whole, t.0, cl.picture, cl.spelling)
 
-one_more : (text : List ℕ) (i c : ℕ) (r : Reading) (next : Option Reading) → i < length text → c ≡ get_or text i c → text_steps start (take i text) ≡ Some r → text_step r c ≡ next → text_steps start (take (i + 1) text) ≡ next
+one_more : (text : List ℕ) (i c : ℕ) (r : Reading) (next : Option Reading) → i < length text → c ≡ get_or text i c → text_steps nothing_parsed (take i text) ≡ Some r → text_step r c ≡ next → text_steps nothing_parsed (take (i + 1) text) ≡ next
 one_more text i c r next within is e f =
     let grown : take (i + 1) text ≡ take i text ++ c ∷ [] = take_more text i c within ∙ ap (λ (x : ℕ). take i text ++ x ∷ []) (sym is) in
-    ap (text_steps start) grown ∙ steps_then start r (take i text) (c ∷ []) next e (ap (option_and_then (λ s. text_steps s [])) f ∙ single next)
+    ap (text_steps nothing_parsed) grown ∙ steps_then nothing_parsed r (take i text) (c ∷ []) next e (ap (option_and_then (λ s. text_steps s [])) f ∙ single next)
   where
     single : (o : Option Reading) → option_and_then (λ s. Some s) o ≡ o
     single None = refl
     single (Some s) = refl
 
-pub takes_more : (text : List ℕ) (i c : ℕ) (r s : Reading) → i < length text → c ≡ get_or text i c → text_steps start (take i text) ≡ Some r → text_step r c ≡ Some s → text_steps start (take (i + 1) text) ≡ Some s
+pub takes_more : (text : List ℕ) (i c : ℕ) (r s : Reading) → i < length text → c ≡ get_or text i c → text_steps nothing_parsed (take i text) ≡ Some r → text_step r c ≡ Some s → text_steps nothing_parsed (take (i + 1) text) ≡ Some s
 takes_more text i c r s within is e f = one_more text i c r (Some s) within is e f
 
-pub refuses_at : (text : List ℕ) (i c : ℕ) (r : Reading) → i < length text → c ≡ get_or text i c → text_steps start (take i text) ≡ Some r → text_step r c ≡ None → IsFirstFault text i
+pub refuses_at : (text : List ℕ) (i c : ℕ) (r : Reading) → i < length text → c ≡ get_or text i c → text_steps nothing_parsed (take i text) ≡ Some r → text_step r c ≡ None → IsFirstFaultyPlace text i
 refuses_at text i c r within is e f = record {
   within = omega arith;
   begins = alive (take i text) r e;
@@ -107,7 +107,7 @@ refuses_at text i c r within is e f = record {
   refused = λ p pic sp. dead (take (i + 1) text) (drop (i + 1) text) p stuck pic (sp ∙ sym (take-append-drop (i + 1) text));
 }
   where
-    stuck : text_steps start (take (i + 1) text) ≡ None
+    stuck : text_steps nothing_parsed (take (i + 1) text) ≡ None
     stuck = one_more text i c r None within is e f
 
     apart : (k : ℕ) → (k ≤ i) ⊎ (i + 1 ≤ k)
@@ -119,14 +119,14 @@ refuses_at text i c r within is e f = record {
         let parts : take k text ≡ take (i + 1) text ++ take (k - (i + 1)) (drop (i + 1) text) = ap (λ (n : ℕ). take n text) (omega arith) ∙ take-add (i + 1) (k - (i + 1)) text in
         absurd (dead (take (i + 1) text) (take (k - (i + 1)) (drop (i + 1) text) ++ more) p stuck pic (sp ∙ ap (λ x. x ++ more) parts ∙ append_assoc (take (i + 1) text) (take (k - (i + 1)) (drop (i + 1) text)) more))
 
-pub refuses_end : (text : List ℕ) (r : Reading) → text_steps start text ≡ Some r → is_closed r ≡ false → IsFirstFault text (length text)
+pub refuses_end : (text : List ℕ) (r : Reading) → text_steps nothing_parsed text ≡ Some r → is_closed r ≡ false → IsFirstFaultyPlace text (length text)
 refuses_end text r e waits = record {
   within = omega arith;
   begins = subst BeginsPicture (sym (take_all (length text) text (omega arith))) (alive text r e);
   longest = λ k within b. within;
   refused = λ p pic sp.
       let g = picture_goes p pic in
-      let reads : r ≡ state (pending p []) g.0 [] (is_either p) Once false = some_is r (state (pending p []) g.0 [] (is_either p) Once false) (sym e ∙ ap (text_steps start) (sym sp) ∙ g.1) in
+      let reads : r ≡ state (pending p []) g.0 [] (is_either p) Once false = some_is r (state (pending p []) g.0 [] (is_either p) Once false) (sym e ∙ ap (text_steps nothing_parsed) (sym sp) ∙ g.1) in
       let closed : is_closed r ≡ true = ap is_closed reads in
       cc;
 }

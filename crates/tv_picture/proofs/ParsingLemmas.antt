@@ -4,7 +4,7 @@ use Rattle.std.specs.Prelude.{Option, Some, None}
 use Rattle.std.specs.Option.{option_and_then}
 use Rattle.tv_picture.specs.declared.code.Op.{Op}
 use Rattle.tv_picture.specs.Pattern.{Pattern}
-use Rattle.tv_picture.specs.Code.{step, run, run-append, height_after, height_from}
+use Rattle.tv_picture.specs.Code.{patterns_after, run, run-append, height_after, height_from}
 use Rattle.tv_picture.specs.Parsing.{Built, built_by, with_op}
 
 height_push : (xs : List Op) (op : Op) (h : ℕ) → height_from h (xs ++ op ∷ []) ≡ option_and_then (λ k. height_after k op) (height_from h xs)
@@ -23,7 +23,7 @@ abbrev built : List Pattern → Option ℕ → Built
 built s h = record { stack = s; height = h }
 
 pub built_push : (xs : List Op) (op : Op) → built_by (xs ++ op ∷ []) ≡ with_op (built_by xs) op
-built_push xs op = ap_pair (run [] (xs ++ op ∷ [])) (step (run [] xs) op) (height_from 0 (xs ++ op ∷ [])) (option_and_then (λ k. height_after k op) (height_from 0 xs)) (run-append xs (op ∷ []) []) (height_push xs op 0)
+built_push xs op = ap_pair (run [] (xs ++ op ∷ [])) (patterns_after (run [] xs) op) (height_from 0 (xs ++ op ∷ [])) (option_and_then (λ k. height_after k op) (height_from 0 xs)) (run-append xs (op ∷ []) []) (height_push xs op 0)
   where
     ap_pair : (s t : List Pattern) (h k : Option ℕ) → s ≡ t → h ≡ k → built s h ≡ built t k
     ap_pair s t h k e f = ap (λ x. built x h) e ∙ ap (λ y. built t y) f

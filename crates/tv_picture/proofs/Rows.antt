@@ -11,8 +11,8 @@ use Rattle.tv_picture.specs.declared.row.Next.{Next}
 use Rattle.tv_picture.specs.declared.row.Next.TheVariants.{Nothing, Only, Several}
 use Rattle.tv_picture.specs.declared.row.Row.{Row}
 use Rattle.tv_picture.specs.declared.table.Table.{Table}
-use Rattle.tv_picture.specs.Pattern.{Pattern, empty, one, sequence, either, optional, many, times, Allows, Member}
-use Rattle.tv_picture.specs.Table.{Has, Names, joined, Spans, Follows, IsRow, Covers, FollowsFrom, Gathers, row_at, no_row}
+use Rattle.tv_picture.specs.Pattern.{Pattern, empty, one, sequence, either, optional, many, times, Allows, IsMember}
+use Rattle.tv_picture.specs.Table.{HasPlace, NamesNext, either_next, Spans, MayFollow, IsTableRow, HasEachRow, FollowsFrom, Gathers, row_at, no_row}
 use Rattle.tv_picture.proofs.Language.{Through, follows_next, next_of_left, next_of_right, many_cons, many_parted, Parted, ThroughMany, follows_many, many_of_first, many_of_later, times_zero, times_one, times-add, drop_past, end_within, no_end}
 
 dec : (m n : ℕ) → (m ≡ n) ⊎ (m ≢ n)
@@ -24,20 +24,20 @@ dec m n = told (eqb_tells m n)
 
 -- ---- what follows, as none, one or more
 
-pub Names_same : (P Q : ℕ → Type 0) (n : Next) → ((c : ℕ) → P c → Q c) → ((c : ℕ) → Q c → P c) → Names P n → Names Q n
+pub Names_same : (P Q : ℕ → Type 0) (n : Next) → ((c : ℕ) → P c → Q c) → ((c : ℕ) → Q c → P c) → NamesNext P n → NamesNext Q n
 Names_same P Q Nothing to from h = λ c q. h c (from c q)
 Names_same P Q (Only x) to from h = (to x h.0, λ d q. h.1 d (from d q))
 Names_same P Q Several to from h = (h.0, h.1, to h.0 h.2, to h.1 h.3, h.4)
 
-two_names : (P Q : ℕ → Type 0) (x y : ℕ) → Names P (Only x) → Names Q (Only y) → ((x == y) ≡ true) × (x ≡ y) ⊎ ((x == y) ≡ false) × (x ≢ y) → Names (λ c. P c ⊎ Q c) (joined (Only x) (Only y))
-two_names P Q x y h k (inl (e, same)) = subst (λ (b : Bool). Names (λ c. P c ⊎ Q c) (cond b (Only x) Several)) (sym e) (inl h.0, one)
+two_names : (P Q : ℕ → Type 0) (x y : ℕ) → NamesNext P (Only x) → NamesNext Q (Only y) → ((x == y) ≡ true) × (x ≡ y) ⊎ ((x == y) ≡ false) × (x ≢ y) → NamesNext (λ c. P c ⊎ Q c) (either_next (Only x) (Only y))
+two_names P Q x y h k (inl (e, same)) = subst (λ (b : Bool). NamesNext (λ c. P c ⊎ Q c) (cond b (Only x) Several)) (sym e) (inl h.0, one)
   where
     one : (d : ℕ) → P d ⊎ Q d → d ≡ x
     one d (inl p) = h.1 d p
     one d (inr q) = k.1 d q ∙ sym same
-two_names P Q x y h k (inr (e, other)) = subst (λ (b : Bool). Names (λ c. P c ⊎ Q c) (cond b (Only x) Several)) (sym e) (x, y, inl h.0, inr k.0, other)
+two_names P Q x y h k (inr (e, other)) = subst (λ (b : Bool). NamesNext (λ c. P c ⊎ Q c) (cond b (Only x) Several)) (sym e) (x, y, inl h.0, inr k.0, other)
 
-pub Names_joined : (P Q : ℕ → Type 0) (m n : Next) → Names P m → Names Q n → Names (λ c. P c ⊎ Q c) (joined m n)
+pub Names_joined : (P Q : ℕ → Type 0) (m n : Next) → NamesNext P m → NamesNext Q n → NamesNext (λ c. P c ⊎ Q c) (either_next m n)
 Names_joined P Q Nothing n h k = Names_same Q (λ c. P c ⊎ Q c) n (λ c q. inr q) back k
   where
     back : (c : ℕ) → P c ⊎ Q c → Q c
@@ -55,112 +55,112 @@ Names_joined P Q Several n h k = (h.0, h.1, inl h.2, inl h.3, h.4)
 -- ---- rows gathered one place at a time
 
 abbrev pub AnyRow : Places → Table → ℕ → ℕ → ℕ → Type 0
-AnyRow places table start stop k = (r : ℕ) × (start ≤ r) × (r < stop) × Has places r × Has (row_at table r).ends k
+AnyRow places table start stop k = (r : ℕ) × (start ≤ r) × (r < stop) × HasPlace places r × HasPlace (row_at table r).ends k
 
 pub gathers_none : (places : Places) (table : Table) (start : ℕ) (first : Row) → Gathers places table start start first first
 gathers_none places table start first = record {
   ends = λ k. (inl, ends_back k);
-  next = λ a b text from names each. Names_same (Follows a (drop from text)) (λ c. Follows a (drop from text) c ⊎ FollowsFrom places b text start start c) first.next (λ c f. inl f) (back a b text from) names;
+  next = λ a b text from names each. Names_same (MayFollow a (drop from text)) (λ c. MayFollow a (drop from text) c ⊎ FollowsFrom places b text start start c) first.next (λ c f. inl f) (back a b text from) names;
 }
   where
-    ends_back : (k : ℕ) → Has first.ends k ⊎ AnyRow places table start start k → Has first.ends k
+    ends_back : (k : ℕ) → HasPlace first.ends k ⊎ AnyRow places table start start k → HasPlace first.ends k
     ends_back k (inl h) = h
     ends_back k (inr (r, above, below, _, _)) = absurd (omega arith)
 
-    back : (a b : Pattern) (text : List ℕ) (from c : ℕ) → Follows a (drop from text) c ⊎ FollowsFrom places b text start start c → Follows a (drop from text) c
+    back : (a b : Pattern) (text : List ℕ) (from c : ℕ) → MayFollow a (drop from text) c ⊎ FollowsFrom places b text start start c → MayFollow a (drop from text) c
     back a b text from c (inl f) = f
     back a b text from c (inr (r, above, below, _, _)) = absurd (omega arith)
 
-pub gathers_skip : (places : Places) (table : Table) (start stop : ℕ) (first row : Row) → (Has places stop → ⊥) → Gathers places table start stop first row → Gathers places table start (stop + 1) first row
+pub gathers_skip : (places : Places) (table : Table) (start stop : ℕ) (first row : Row) → (HasPlace places stop → ⊥) → Gathers places table start stop first row → Gathers places table start (stop + 1) first row
 gathers_skip places table start stop first row not_here g = record {
   ends = λ k. ((λ h. wider k ((g.ends k).0 h)), (λ h. (g.ends k).1 (narrower k h)));
-  next = λ a b text from names each. Names_same (λ c. Follows a (drop from text) c ⊎ FollowsFrom places b text start stop c) (λ c. Follows a (drop from text) c ⊎ FollowsFrom places b text start (stop + 1) c) row.next (more a b text from) (fewer a b text from) (g.next a b text from names (λ r above below has. each r above (omega arith) has));
+  next = λ a b text from names each. Names_same (λ c. MayFollow a (drop from text) c ⊎ FollowsFrom places b text start stop c) (λ c. MayFollow a (drop from text) c ⊎ FollowsFrom places b text start (stop + 1) c) row.next (more a b text from) (fewer a b text from) (g.next a b text from names (λ r above below has. each r above (omega arith) has));
 }
   where
-    wider : (k : ℕ) → Has first.ends k ⊎ AnyRow places table start stop k → Has first.ends k ⊎ AnyRow places table start (stop + 1) k
+    wider : (k : ℕ) → HasPlace first.ends k ⊎ AnyRow places table start stop k → HasPlace first.ends k ⊎ AnyRow places table start (stop + 1) k
     wider k (inl h) = inl h
     wider k (inr (r, above, below, has, ends)) = inr (r, above, omega arith, has, ends)
 
-    narrower : (k : ℕ) → Has first.ends k ⊎ AnyRow places table start (stop + 1) k → Has first.ends k ⊎ AnyRow places table start stop k
+    narrower : (k : ℕ) → HasPlace first.ends k ⊎ AnyRow places table start (stop + 1) k → HasPlace first.ends k ⊎ AnyRow places table start stop k
     narrower k (inl h) = inl h
     narrower k (inr (r, above, below, has, ends)) = inr (r, above, below_last r below has, has, ends)
       where
-        below_last : (r : ℕ) → r < stop + 1 → Has places r → r < stop
-        below_last r below has = let apart : r ≢ stop = λ e. not_here (subst (Has places) e has) in omega arith
+        below_last : (r : ℕ) → r < stop + 1 → HasPlace places r → r < stop
+        below_last r below has = let apart : r ≢ stop = λ e. not_here (subst (HasPlace places) e has) in omega arith
 
-    more : (a b : Pattern) (text : List ℕ) (from c : ℕ) → Follows a (drop from text) c ⊎ FollowsFrom places b text start stop c → Follows a (drop from text) c ⊎ FollowsFrom places b text start (stop + 1) c
+    more : (a b : Pattern) (text : List ℕ) (from c : ℕ) → MayFollow a (drop from text) c ⊎ FollowsFrom places b text start stop c → MayFollow a (drop from text) c ⊎ FollowsFrom places b text start (stop + 1) c
     more a b text from c (inl f) = inl f
     more a b text from c (inr (r, above, below, has, f)) = inr (r, above, omega arith, has, f)
 
-    fewer : (a b : Pattern) (text : List ℕ) (from c : ℕ) → Follows a (drop from text) c ⊎ FollowsFrom places b text start (stop + 1) c → Follows a (drop from text) c ⊎ FollowsFrom places b text start stop c
+    fewer : (a b : Pattern) (text : List ℕ) (from c : ℕ) → MayFollow a (drop from text) c ⊎ FollowsFrom places b text start (stop + 1) c → MayFollow a (drop from text) c ⊎ FollowsFrom places b text start stop c
     fewer a b text from c (inl f) = inl f
     fewer a b text from c (inr (r, above, below, has, f)) = inr (r, above, below_last r below has, has, f)
       where
-        below_last : (r : ℕ) → r < stop + 1 → Has places r → r < stop
-        below_last r below has = let apart : r ≢ stop = λ e. not_here (subst (Has places) e has) in omega arith
+        below_last : (r : ℕ) → r < stop + 1 → HasPlace places r → r < stop
+        below_last r below has = let apart : r ≢ stop = λ e. not_here (subst (HasPlace places) e has) in omega arith
 
-pub gathers_rest : (more stop : ℕ) (places : Places) (table : Table) (start : ℕ) (first row : Row) → ((k : ℕ) → stop ≤ k → Has places k → ⊥) → Gathers places table start stop first row → Gathers places table start (stop + more) first row
+pub gathers_rest : (more stop : ℕ) (places : Places) (table : Table) (start : ℕ) (first row : Row) → ((k : ℕ) → stop ≤ k → HasPlace places k → ⊥) → Gathers places table start stop first row → Gathers places table start (stop + more) first row
 gathers_rest zero stop places table start first row none g = subst (λ (n : ℕ). Gathers places table start n first row) (omega arith) g
 gathers_rest (suc more) stop places table start first row none g =
     subst (λ (n : ℕ). Gathers places table start n first row) (omega arith)
     (gathers_rest more (stop + 1) places table start first row (λ k above. none k (omega arith)) (gathers_skip places table start stop first row (none stop (omega arith)) g))
 
-pub gathers_more : (places : Places) (table : Table) (start stop : ℕ) (first row result : Row) → start ≤ stop → Has places stop → ((k : ℕ) → Has result.ends k ↔ (Has row.ends k ⊎ Has (row_at table stop).ends k)) → result.next ≡ joined row.next (row_at table stop).next → Gathers places table start stop first row → Gathers places table start (stop + 1) first result
+pub gathers_more : (places : Places) (table : Table) (start stop : ℕ) (first row result : Row) → start ≤ stop → HasPlace places stop → ((k : ℕ) → HasPlace result.ends k ↔ (HasPlace row.ends k ⊎ HasPlace (row_at table stop).ends k)) → result.next ≡ either_next row.next (row_at table stop).next → Gathers places table start stop first row → Gathers places table start (stop + 1) first result
 gathers_more places table start stop first row result order has ends follow g = record {
   ends = λ k. ((λ h. wider k ((ends k).0 h)), (λ h. (ends k).1 (narrower k h)));
   next = λ a b text from names each.
-      Names_same (λ c. (Follows a (drop from text) c ⊎ FollowsFrom places b text start stop c) ⊎ Follows b (drop stop text) c) (λ c. Follows a (drop from text) c ⊎ FollowsFrom places b text start (stop + 1) c) result.next (more a b text from) (fewer a b text from)
-      (subst (Names (λ c. (Follows a (drop from text) c ⊎ FollowsFrom places b text start stop c) ⊎ Follows b (drop stop text) c)) (sym follow)
-      (Names_joined (λ c. Follows a (drop from text) c ⊎ FollowsFrom places b text start stop c) (Follows b (drop stop text)) row.next (row_at table stop).next
+      Names_same (λ c. (MayFollow a (drop from text) c ⊎ FollowsFrom places b text start stop c) ⊎ MayFollow b (drop stop text) c) (λ c. MayFollow a (drop from text) c ⊎ FollowsFrom places b text start (stop + 1) c) result.next (more a b text from) (fewer a b text from)
+      (subst (NamesNext (λ c. (MayFollow a (drop from text) c ⊎ FollowsFrom places b text start stop c) ⊎ MayFollow b (drop stop text) c)) (sym follow)
+      (Names_joined (λ c. MayFollow a (drop from text) c ⊎ FollowsFrom places b text start stop c) (MayFollow b (drop stop text)) row.next (row_at table stop).next
       (g.next a b text from names (λ r above below has. each r above (omega arith) has))
       (each stop order (omega arith) has)));
 }
   where
-    wider : (k : ℕ) → Has row.ends k ⊎ Has (row_at table stop).ends k → Has first.ends k ⊎ AnyRow places table start (stop + 1) k
+    wider : (k : ℕ) → HasPlace row.ends k ⊎ HasPlace (row_at table stop).ends k → HasPlace first.ends k ⊎ AnyRow places table start (stop + 1) k
     wider k (inl h) = grown ((g.ends k).0 h)
       where
-        grown : Has first.ends k ⊎ AnyRow places table start stop k → Has first.ends k ⊎ AnyRow places table start (stop + 1) k
+        grown : HasPlace first.ends k ⊎ AnyRow places table start stop k → HasPlace first.ends k ⊎ AnyRow places table start (stop + 1) k
         grown (inl f) = inl f
         grown (inr (r, above, below, at, ends)) = inr (r, above, omega arith, at, ends)
     wider k (inr h) = inr (stop, order, omega arith, has, h)
 
-    narrower : (k : ℕ) → Has first.ends k ⊎ AnyRow places table start (stop + 1) k → Has row.ends k ⊎ Has (row_at table stop).ends k
+    narrower : (k : ℕ) → HasPlace first.ends k ⊎ AnyRow places table start (stop + 1) k → HasPlace row.ends k ⊎ HasPlace (row_at table stop).ends k
     narrower k (inl h) = inl ((g.ends k).1 (inl h))
-    narrower k (inr (r, above, below, at, ends)) = elim (dec r stop) [ inl e ↦ inr (subst (λ (i : ℕ). Has (row_at table i).ends k) e ends) | inr n ↦ inl ((g.ends k).1 (inr (r, above, omega arith, at, ends))) ]
+    narrower k (inr (r, above, below, at, ends)) = elim (dec r stop) [ inl e ↦ inr (subst (λ (i : ℕ). HasPlace (row_at table i).ends k) e ends) | inr n ↦ inl ((g.ends k).1 (inr (r, above, omega arith, at, ends))) ]
 
-    more : (a b : Pattern) (text : List ℕ) (from c : ℕ) → (Follows a (drop from text) c ⊎ FollowsFrom places b text start stop c) ⊎ Follows b (drop stop text) c → Follows a (drop from text) c ⊎ FollowsFrom places b text start (stop + 1) c
+    more : (a b : Pattern) (text : List ℕ) (from c : ℕ) → (MayFollow a (drop from text) c ⊎ FollowsFrom places b text start stop c) ⊎ MayFollow b (drop stop text) c → MayFollow a (drop from text) c ⊎ FollowsFrom places b text start (stop + 1) c
     more a b text from c (inl (inl f)) = inl f
     more a b text from c (inl (inr (r, above, below, at, f))) = inr (r, above, omega arith, at, f)
     more a b text from c (inr f) = inr (stop, order, omega arith, has, f)
 
-    fewer : (a b : Pattern) (text : List ℕ) (from c : ℕ) → Follows a (drop from text) c ⊎ FollowsFrom places b text start (stop + 1) c → (Follows a (drop from text) c ⊎ FollowsFrom places b text start stop c) ⊎ Follows b (drop stop text) c
+    fewer : (a b : Pattern) (text : List ℕ) (from c : ℕ) → MayFollow a (drop from text) c ⊎ FollowsFrom places b text start (stop + 1) c → (MayFollow a (drop from text) c ⊎ FollowsFrom places b text start stop c) ⊎ MayFollow b (drop stop text) c
     fewer a b text from c (inl f) = inl (inl f)
-    fewer a b text from c (inr (r, above, below, at, f)) = elim (dec r stop) [ inl e ↦ inr (subst (λ (i : ℕ). Follows b (drop i text) c) e f) | inr n ↦ inl (inr (r, above, omega arith, at, f)) ]
+    fewer a b text from c (inr (r, above, below, at, f)) = elim (dec r stop) [ inl e ↦ inr (subst (λ (i : ℕ). MayFollow b (drop i text) c) e f) | inr n ↦ inl (inr (r, above, omega arith, at, f)) ]
 
 -- the places from one on, counted from it
 abbrev pub IsRest : Places → Places → ℕ → Type 0
-IsRest places rest place = (k : ℕ) → Has rest k ↔ Has places (place + k)
+IsRest places rest place = (k : ℕ) → HasPlace rest k ↔ HasPlace places (place + k)
 
-pub rest_here : (places rest : Places) (place : ℕ) → IsRest places rest place → Has rest 0 ↔ Has places place
-rest_here places rest place h = subst (λ (i : ℕ). Has rest 0 ↔ Has places i) (omega arith) (h 0)
+pub rest_here : (places rest : Places) (place : ℕ) → IsRest places rest place → HasPlace rest 0 ↔ HasPlace places place
+rest_here places rest place h = subst (λ (i : ℕ). HasPlace rest 0 ↔ HasPlace places i) (omega arith) (h 0)
 
-pub rest_more : (places rest next : Places) (place : ℕ) → IsRest places rest place → ((k : ℕ) → Has next k ↔ Has rest (1 + k)) → IsRest places next (place + 1)
+pub rest_more : (places rest next : Places) (place : ℕ) → IsRest places rest place → ((k : ℕ) → HasPlace next k ↔ HasPlace rest (1 + k)) → IsRest places next (place + 1)
 rest_more places rest next place h step k =
     let e : place + (1 + k) ≡ place + 1 + k = omega arith in
-    ((λ has. subst (Has places) e ((h (1 + k)).0 ((step k).0 has))), (λ has. (step k).1 ((h (1 + k)).1 (subst (Has places) (sym e) has))))
+    ((λ has. subst (HasPlace places) e ((h (1 + k)).0 ((step k).0 has))), (λ has. (step k).1 ((h (1 + k)).1 (subst (HasPlace places) (sym e) has))))
 
-pub rest_none : (places rest : Places) (place : ℕ) → IsRest places rest place → ((k : ℕ) → 0 ≤ k → Has rest k → ⊥) → (k : ℕ) → place ≤ k → Has places k → ⊥
+pub rest_none : (places rest : Places) (place : ℕ) → IsRest places rest place → ((k : ℕ) → 0 ≤ k → HasPlace rest k → ⊥) → (k : ℕ) → place ≤ k → HasPlace places k → ⊥
 rest_none places rest place h none k above has =
     let e : k ≡ place + (k - place) = omega arith in
-    none (k - place) (omega arith) ((h (k - place)).1 (subst (Has places) e has))
+    none (k - place) (omega arith) ((h (k - place)).1 (subst (HasPlace places) e has))
 
 -- ---- tables
 
-pub Covers_same : (a b : Pattern) (text : List ℕ) (table : Table) → ((t : List ℕ) → Member a t ↔ Member b t) → Covers a text table → Covers b text table
+pub Covers_same : (a b : Pattern) (text : List ℕ) (table : Table) → ((t : List ℕ) → IsMember a t ↔ IsMember b t) → HasEachRow a text table → HasEachRow b text table
 Covers_same a b text table same h = record {
   at = λ from within. record {
     ends = λ to. ((λ has. forth from to (((h.at from within).ends to).0 has)), (λ s. ((h.at from within).ends to).1 (back from to s)));
-    next = Names_same (Follows a (drop from text)) (Follows b (drop from text)) (row_at table from).next
+    next = Names_same (MayFollow a (drop from text)) (MayFollow b (drop from text)) (row_at table from).next
         (λ c f. (f.0, (same ((drop from text ++ c ∷ []) ++ f.0)).0 f.1))
         (λ c f. (f.0, (same ((drop from text ++ c ∷ []) ++ f.0)).1 f.1))
         (h.at from within).next;
@@ -196,28 +196,28 @@ spans_met a b text from to (r, above, below, (u, v, m, e, er), (u', v', m', e', 
 abbrev pub blank_ends : Places
 blank_ends = record { bits = 0 }
 
-pub no_place : (k : ℕ) → Has blank_ends k → ⊥
+pub no_place : (k : ℕ) → HasPlace blank_ends k → ⊥
 no_place k h = h (grind (arith))
 
-through_at : (a b : Pattern) (text : List ℕ) (from c : ℕ) → from ≤ length text → Through a b (drop from text) c → (r : ℕ) × (r ≤ length text) × Spans a (drop from text) from r × Follows b (drop r text) c
+through_at : (a b : Pattern) (text : List ℕ) (from c : ℕ) → from ≤ length text → Through a b (drop from text) c → (r : ℕ) × (r ≤ length text) × Spans a (drop from text) from r × MayFollow b (drop r text) c
 through_at a b text from c within (u, v, m, e, f) =
-    (from + length u, end_within text from u v within e, (u, v, m, e, refl), subst (λ (x : List ℕ). Follows b x c) (sym (drop_past text from u v e)) f)
+    (from + length u, end_within text from u v within e, (u, v, m, e, refl), subst (λ (x : List ℕ). MayFollow b x c) (sym (drop_past text from u v e)) f)
 
-at_through : (a b : Pattern) (text : List ℕ) (from r c : ℕ) → Spans a (drop from text) from r → Follows b (drop r text) c → Through a b (drop from text) c
+at_through : (a b : Pattern) (text : List ℕ) (from r c : ℕ) → Spans a (drop from text) from r → MayFollow b (drop r text) c → Through a b (drop from text) c
 at_through a b text from r c (u, v, m, e, er) f =
     let past : drop r text ≡ v = ap (λ (k : ℕ). drop k text) er ∙ drop_past text from u v e in
-    (u, v, m, e, subst (λ (x : List ℕ). Follows b x c) past f)
+    (u, v, m, e, subst (λ (x : List ℕ). MayFollow b x c) past f)
 
 -- ---- the row of a sequence
 
-pub row_sequence : (a b : Pattern) (text : List ℕ) (A B : Table) (from : ℕ) (first result : Row) → from ≤ length text → Covers a text A → Covers b text B → ((k : ℕ) → Has first.ends k → ⊥) → first.next ≡ (row_at A from).next → Gathers (row_at A from).ends B from (length text + 1) first result → IsRow (sequence a b) (drop from text) from result
+pub row_sequence : (a b : Pattern) (text : List ℕ) (A B : Table) (from : ℕ) (first result : Row) → from ≤ length text → HasEachRow a text A → HasEachRow b text B → ((k : ℕ) → HasPlace first.ends k → ⊥) → first.next ≡ (row_at A from).next → Gathers (row_at A from).ends B from (length text + 1) first result → IsTableRow (sequence a b) (drop from text) from result
 row_sequence a b text A B from first result within ca cb none follow g = record {
   ends = λ to. ((λ h. spans_met a b text from to (met to ((g.ends to).0 h))), (λ s. (g.ends to).1 (inr (parted to (spans_parted a b text from to within s)))));
-  next = Names_same (λ c. Follows a (drop from text) c ⊎ FollowsFrom (row_at A from).ends b text from (length text + 1) c) (Follows (sequence a b) (drop from text)) result.next forth back
-      (g.next a b text from (subst (Names (Follows a (drop from text))) (sym follow) (ca.at from within).next) (λ r above below has. (cb.at r (omega arith)).next));
+  next = Names_same (λ c. MayFollow a (drop from text) c ⊎ FollowsFrom (row_at A from).ends b text from (length text + 1) c) (MayFollow (sequence a b) (drop from text)) result.next forth back
+      (g.next a b text from (subst (NamesNext (MayFollow a (drop from text))) (sym follow) (ca.at from within).next) (λ r above below has. (cb.at r (omega arith)).next));
 }
   where
-    met : (to : ℕ) → Has first.ends to ⊎ AnyRow (row_at A from).ends B from (length text + 1) to → Meets a b text from to
+    met : (to : ℕ) → HasPlace first.ends to ⊎ AnyRow (row_at A from).ends B from (length text + 1) to → Meets a b text from to
     met to (inl h) = absurd (none to h)
     met to (inr (r, above, below, at, ends)) =
         let s = ((ca.at from within).ends r).0 at in
@@ -226,31 +226,31 @@ row_sequence a b text A B from first result within ca cb none follow g = record 
     parted : (to : ℕ) → Meets a b text from to → AnyRow (row_at A from).ends B from (length text + 1) to
     parted to (r, above, below, s, s') = (r, above, omega arith, ((ca.at from within).ends r).1 s, ((cb.at r below).ends to).1 s')
 
-    forth : (c : ℕ) → Follows a (drop from text) c ⊎ FollowsFrom (row_at A from).ends b text from (length text + 1) c → Follows (sequence a b) (drop from text) c
+    forth : (c : ℕ) → MayFollow a (drop from text) c ⊎ FollowsFrom (row_at A from).ends b text from (length text + 1) c → MayFollow (sequence a b) (drop from text) c
     forth c (inl f) = next_of_left a b (drop from text) c f
     forth c (inr (r, above, below, has, f)) = next_of_right a b (drop from text) c (at_through a b text from r c (((ca.at from within).ends r).0 has) f)
 
     held : (c : ℕ) → Through a b (drop from text) c → FollowsFrom (row_at A from).ends b text from (length text + 1) c
     held c t = let p = through_at a b text from c within t in (p.0, (let e = p.2.4 in omega arith), (let h : p.0 ≤ length text = p.1 in omega arith), ((ca.at from within).ends p.0).1 p.2, p.3)
 
-    back : (c : ℕ) → Follows (sequence a b) (drop from text) c → Follows a (drop from text) c ⊎ FollowsFrom (row_at A from).ends b text from (length text + 1) c
+    back : (c : ℕ) → MayFollow (sequence a b) (drop from text) c → MayFollow a (drop from text) c ⊎ FollowsFrom (row_at A from).ends b text from (length text + 1) c
     back c f = cases (follows_next a b (drop from text) c f)
       where
-        cases : Follows a (drop from text) c ⊎ Through a b (drop from text) c → Follows a (drop from text) c ⊎ FollowsFrom (row_at A from).ends b text from (length text + 1) c
+        cases : MayFollow a (drop from text) c ⊎ Through a b (drop from text) c → MayFollow a (drop from text) c ⊎ FollowsFrom (row_at A from).ends b text from (length text + 1) c
         cases (inl h) = inl h
         cases (inr h) = inr (held c h)
 
 -- ---- the row of a repetition
 
-pub row_many : (a : Pattern) (text : List ℕ) (A T : Table) (from : ℕ) (first result : Row) → from ≤ length text → Covers a text A → ((p : ℕ) → from < p → p ≤ length text → IsRow (many a) (drop p text) p (row_at T p)) → ((k : ℕ) → Has first.ends k ↔ (k ≡ from)) → first.next ≡ (row_at A from).next → Gathers (row_at A from).ends T (from + 1) (length text + 1) first result → IsRow (many a) (drop from text) from result
+pub row_many : (a : Pattern) (text : List ℕ) (A T : Table) (from : ℕ) (first result : Row) → from ≤ length text → HasEachRow a text A → ((p : ℕ) → from < p → p ≤ length text → IsTableRow (many a) (drop p text) p (row_at T p)) → ((k : ℕ) → HasPlace first.ends k ↔ (k ≡ from)) → first.next ≡ (row_at A from).next → Gathers (row_at A from).ends T (from + 1) (length text + 1) first result → IsTableRow (many a) (drop from text) from result
 row_many a text A T from first result within ca later own follow g = record {
   ends = λ to. ((λ h. met to ((g.ends to).0 h)), (λ s. (g.ends to).1 (parted to s)));
-  next = Names_same (λ c. Follows a (drop from text) c ⊎ FollowsFrom (row_at A from).ends (many a) text (from + 1) (length text + 1) c) (Follows (many a) (drop from text)) result.next forth back
-      (g.next a (many a) text from (subst (Names (Follows a (drop from text))) (sym follow) (ca.at from within).next) (λ r above below has. (later r (omega arith) (omega arith)).next));
+  next = Names_same (λ c. MayFollow a (drop from text) c ⊎ FollowsFrom (row_at A from).ends (many a) text (from + 1) (length text + 1) c) (MayFollow (many a) (drop from text)) result.next forth back
+      (g.next a (many a) text from (subst (NamesNext (MayFollow a (drop from text))) (sym follow) (ca.at from within).next) (λ r above below has. (later r (omega arith) (omega arith)).next));
 }
   where
-    met : (to : ℕ) → Has first.ends to ⊎ AnyRow (row_at A from).ends T (from + 1) (length text + 1) to → Spans (many a) (drop from text) from to
-    met to (inl h) = ([], drop from text, ([], All-nil (Member a), refl), refl, (let e : to ≡ from = (own to).0 h in omega arith))
+    met : (to : ℕ) → HasPlace first.ends to ⊎ AnyRow (row_at A from).ends T (from + 1) (length text + 1) to → Spans (many a) (drop from text) from to
+    met to (inl h) = ([], drop from text, ([], All-nil (IsMember a), refl), refl, (let e : to ≡ from = (own to).0 h in omega arith))
     met to (inr (r, above, below, at, ends)) = joined_up (((ca.at from within).ends r).0 at) (((later r (omega arith) (omega arith)).ends to).0 ends)
       where
         joined_up : Spans a (drop from text) from r → Spans (many a) (drop r text) r to → Spans (many a) (drop from text) from to
@@ -259,10 +259,10 @@ row_many a text A T from first result within ca later own follow g = record {
             let rest : v ≡ u' ++ v' = sym past ∙ e' in
             (u ++ u', v', many_cons a u u' m m', e ∙ ap (λ x. u ++ x) rest ∙ sym (append_assoc u u' v'), omega (arith, length-append u u'))
 
-    parted : (to : ℕ) → Spans (many a) (drop from text) from to → Has first.ends to ⊎ AnyRow (row_at A from).ends T (from + 1) (length text + 1) to
+    parted : (to : ℕ) → Spans (many a) (drop from text) from to → HasPlace first.ends to ⊎ AnyRow (row_at A from).ends T (from + 1) (length text + 1) to
     parted to (w, v, m, e, eto) = cases (many_parted a w m)
       where
-        cases : (w ≡ []) ⊎ Parted a w → Has first.ends to ⊎ AnyRow (row_at A from).ends T (from + 1) (length text + 1) to
+        cases : (w ≡ []) ⊎ Parted a w → HasPlace first.ends to ⊎ AnyRow (row_at A from).ends T (from + 1) (length text + 1) to
         cases (inl none) = inl ((own to).1 (omega (arith, ap length none)))
         cases (inr (x, u, u', m', mv, ew)) =
             let whole : drop from text ≡ (x ∷ u) ++ (u' ++ v) = e ∙ ap (λ y. y ++ v) ew ∙ append_assoc (x ∷ u) u' v in
@@ -275,60 +275,60 @@ row_many a text A T from first result within ca later own follow g = record {
               ((later (from + length (x ∷ u)) (omega arith) inside).ends to).1 (u', v, mv, drop_past text from (x ∷ u) (u' ++ v) whole, omega (arith, ap length ew, length-append (x ∷ u) u')),
             )
 
-    forth : (c : ℕ) → Follows a (drop from text) c ⊎ FollowsFrom (row_at A from).ends (many a) text (from + 1) (length text + 1) c → Follows (many a) (drop from text) c
+    forth : (c : ℕ) → MayFollow a (drop from text) c ⊎ FollowsFrom (row_at A from).ends (many a) text (from + 1) (length text + 1) c → MayFollow (many a) (drop from text) c
     forth c (inl f) = many_of_first a (drop from text) c f
     forth c (inr (r, above, below, has, f)) = many_of_later a (drop from text) c (at_through a (many a) text from r c (((ca.at from within).ends r).0 has) f)
 
     held : (c : ℕ) → ThroughMany a (drop from text) c → FollowsFrom (row_at A from).ends (many a) text (from + 1) (length text + 1) c
     held c (x, u, v, m, e, f) =
         let inside : from + length (x ∷ u) ≤ length text = end_within text from (x ∷ u) v within e in
-        (from + length (x ∷ u), omega arith, omega arith, ((ca.at from within).ends (from + length (x ∷ u))).1 (x ∷ u, v, m, e, refl), subst (λ (y : List ℕ). Follows (many a) y c) (sym (drop_past text from (x ∷ u) v e)) f)
+        (from + length (x ∷ u), omega arith, omega arith, ((ca.at from within).ends (from + length (x ∷ u))).1 (x ∷ u, v, m, e, refl), subst (λ (y : List ℕ). MayFollow (many a) y c) (sym (drop_past text from (x ∷ u) v e)) f)
 
-    back : (c : ℕ) → Follows (many a) (drop from text) c → Follows a (drop from text) c ⊎ FollowsFrom (row_at A from).ends (many a) text (from + 1) (length text + 1) c
+    back : (c : ℕ) → MayFollow (many a) (drop from text) c → MayFollow a (drop from text) c ⊎ FollowsFrom (row_at A from).ends (many a) text (from + 1) (length text + 1) c
     back c f = cases (follows_many a (drop from text) c f)
       where
-        cases : Follows a (drop from text) c ⊎ ThroughMany a (drop from text) c → Follows a (drop from text) c ⊎ FollowsFrom (row_at A from).ends (many a) text (from + 1) (length text + 1) c
+        cases : MayFollow a (drop from text) c ⊎ ThroughMany a (drop from text) c → MayFollow a (drop from text) c ⊎ FollowsFrom (row_at A from).ends (many a) text (from + 1) (length text + 1) c
         cases (inl h) = inl h
         cases (inr h) = inr (held c h)
 
 -- ---- the rows of alternatives, options, the empty sequence and one character
 
-pub row_either : (a b : Pattern) (rest : List ℕ) (from : ℕ) (p q result : Row) → IsRow a rest from p → IsRow b rest from q → ((k : ℕ) → Has result.ends k ↔ (Has p.ends k ⊎ Has q.ends k)) → result.next ≡ joined p.next q.next → IsRow (either a b) rest from result
+pub row_either : (a b : Pattern) (rest : List ℕ) (from : ℕ) (p q result : Row) → IsTableRow a rest from p → IsTableRow b rest from q → ((k : ℕ) → HasPlace result.ends k ↔ (HasPlace p.ends k ⊎ HasPlace q.ends k)) → result.next ≡ either_next p.next q.next → IsTableRow (either a b) rest from result
 row_either a b rest from p q result hp hq ends follow = record {
   ends = λ to. ((λ h. forth to ((ends to).0 h)), (λ s. (ends to).1 (back to s)));
-  next = Names_same (λ c. Follows a rest c ⊎ Follows b rest c) (Follows (either a b) rest) result.next wide narrow (subst (Names (λ c. Follows a rest c ⊎ Follows b rest c)) (sym follow) (Names_joined (Follows a rest) (Follows b rest) p.next q.next hp.next hq.next));
+  next = Names_same (λ c. MayFollow a rest c ⊎ MayFollow b rest c) (MayFollow (either a b) rest) result.next wide narrow (subst (NamesNext (λ c. MayFollow a rest c ⊎ MayFollow b rest c)) (sym follow) (Names_joined (MayFollow a rest) (MayFollow b rest) p.next q.next hp.next hq.next));
 }
   where
-    forth : (to : ℕ) → Has p.ends to ⊎ Has q.ends to → Spans (either a b) rest from to
+    forth : (to : ℕ) → HasPlace p.ends to ⊎ HasPlace q.ends to → Spans (either a b) rest from to
     forth to (inl h) = let s = (hp.ends to).0 h in (s.0, s.1, inl s.2, s.3, s.4)
     forth to (inr h) = let s = (hq.ends to).0 h in (s.0, s.1, inr s.2, s.3, s.4)
 
-    back : (to : ℕ) → Spans (either a b) rest from to → Has p.ends to ⊎ Has q.ends to
+    back : (to : ℕ) → Spans (either a b) rest from to → HasPlace p.ends to ⊎ HasPlace q.ends to
     back to (u, v, inl m, e, eto) = inl ((hp.ends to).1 (u, v, m, e, eto))
     back to (u, v, inr m, e, eto) = inr ((hq.ends to).1 (u, v, m, e, eto))
 
-    wide : (c : ℕ) → Follows a rest c ⊎ Follows b rest c → Follows (either a b) rest c
+    wide : (c : ℕ) → MayFollow a rest c ⊎ MayFollow b rest c → MayFollow (either a b) rest c
     wide c (inl f) = (f.0, inl f.1)
     wide c (inr f) = (f.0, inr f.1)
 
-    narrow : (c : ℕ) → Follows (either a b) rest c → Follows a rest c ⊎ Follows b rest c
+    narrow : (c : ℕ) → MayFollow (either a b) rest c → MayFollow a rest c ⊎ MayFollow b rest c
     narrow c (more, inl m) = inl (more, m)
     narrow c (more, inr m) = inr (more, m)
 
 -- the row that stays where it is
-pub row_empty : (rest : List ℕ) (from : ℕ) (result : Row) → ((k : ℕ) → Has result.ends k ↔ (k ≡ from)) → result.next ≡ Nothing → IsRow empty rest from result
+pub row_empty : (rest : List ℕ) (from : ℕ) (result : Row) → ((k : ℕ) → HasPlace result.ends k ↔ (k ≡ from)) → result.next ≡ Nothing → IsTableRow empty rest from result
 row_empty rest from result ends follow = record {
   ends = λ to. ((λ h. let e : to ≡ from = (ends to).0 h in ([], rest, refl, refl, omega arith)), (λ s. (ends to).1 (back to s)));
-  next = subst (Names (Follows empty rest)) (sym follow) (λ c f. no_end rest c f.0 f.1);
+  next = subst (NamesNext (MayFollow empty rest)) (sym follow) (λ c f. no_end rest c f.0 f.1);
 }
   where
     back : (to : ℕ) → Spans empty rest from to → to ≡ from
     back to (u, v, m, e, eto) = omega (arith, ap length m)
 
-pub row_optional : (a : Pattern) (rest : List ℕ) (from : ℕ) (p result : Row) → IsRow a rest from p → IsRow (either a empty) rest from result → IsRow (optional a) rest from result
+pub row_optional : (a : Pattern) (rest : List ℕ) (from : ℕ) (p result : Row) → IsTableRow a rest from p → IsTableRow (either a empty) rest from result → IsTableRow (optional a) rest from result
 row_optional a rest from p result hp h = record {
   ends = λ to. ((λ has. forth to ((h.ends to).0 has)), (λ s. (h.ends to).1 (back to s)));
-  next = Names_same (Follows (either a empty) rest) (Follows (optional a) rest) result.next wide narrow h.next;
+  next = Names_same (MayFollow (either a empty) rest) (MayFollow (optional a) rest) result.next wide narrow h.next;
 }
   where
     forth : (to : ℕ) → Spans (either a empty) rest from to → Spans (optional a) rest from to
@@ -339,24 +339,24 @@ row_optional a rest from p result hp h = record {
     back to (u, v, inl m, e, eto) = (u, v, inr m, e, eto)
     back to (u, v, inr m, e, eto) = (u, v, inl m, e, eto)
 
-    wide : (c : ℕ) → Follows (either a empty) rest c → Follows (optional a) rest c
+    wide : (c : ℕ) → MayFollow (either a empty) rest c → MayFollow (optional a) rest c
     wide c (more, inl m) = (more, inr m)
     wide c (more, inr m) = (more, inl m)
 
-    narrow : (c : ℕ) → Follows (optional a) rest c → Follows (either a empty) rest c
+    narrow : (c : ℕ) → MayFollow (optional a) rest c → MayFollow (either a empty) rest c
     narrow c (more, inl m) = (more, inr m)
     narrow c (more, inr m) = (more, inl m)
 
-one_follows : (m : Mark) (rest : List ℕ) (c : ℕ) → Follows (one m) rest c → (rest ≡ []) × Allows m c
+one_follows : (m : Mark) (rest : List ℕ) (c : ℕ) → MayFollow (one m) rest c → (rest ≡ []) × Allows m c
 one_follows m [] c (more, (d, allows, e)) = (refl, (let same : c ≡ d = cc in subst (Allows m) (sym same) allows))
 one_follows m (x ∷ []) c (more, (d, allows, e)) = absurd (omega (arith, ap length e))
 one_follows m (x ∷ y ∷ rest) c (more, (d, allows, e)) = absurd (omega (arith, ap length e))
 
 -- before the end: the next character, where it is allowed
-pub row_one : (m : Mark) (x : ℕ) (rest : List ℕ) (from : ℕ) (result : Row) → ((k : ℕ) → Has result.ends k ↔ (Allows m x × (k ≡ from + 1))) → result.next ≡ Nothing → IsRow (one m) (x ∷ rest) from result
+pub row_one : (m : Mark) (x : ℕ) (rest : List ℕ) (from : ℕ) (result : Row) → ((k : ℕ) → HasPlace result.ends k ↔ (Allows m x × (k ≡ from + 1))) → result.next ≡ Nothing → IsTableRow (one m) (x ∷ rest) from result
 row_one m x rest from result ends follow = record {
   ends = λ to. ((λ h. forth to ((ends to).0 h)), (λ s. (ends to).1 (back to s)));
-  next = subst (Names (Follows (one m) (x ∷ rest))) (sym follow) (λ c f. absurd (no_cons (one_follows m (x ∷ rest) c f).0));
+  next = subst (NamesNext (MayFollow (one m) (x ∷ rest))) (sym follow) (λ c f. absurd (no_cons (one_follows m (x ∷ rest) c f).0));
 }
   where
     no_cons : x ∷ rest ≡ [] → ⊥
@@ -372,10 +372,10 @@ row_one m x rest from result ends follow = record {
         (subst (Allows m) (sym same) allows, omega (arith, ap length eu))
 
 -- at the end: nothing yet
-pub row_one_end : (m : Mark) (from : ℕ) (result : Row) → ((k : ℕ) → Has result.ends k → ⊥) → Names (Allows m) result.next → IsRow (one m) [] from result
+pub row_one_end : (m : Mark) (from : ℕ) (result : Row) → ((k : ℕ) → HasPlace result.ends k → ⊥) → NamesNext (Allows m) result.next → IsTableRow (one m) [] from result
 row_one_end m from result ends names = record {
   ends = λ to. ((λ h. absurd (ends to h)), (λ s. absurd (back to s)));
-  next = Names_same (Allows m) (Follows (one m) []) result.next (λ c allows. ([], (c, allows, refl))) (λ c f. (one_follows m [] c f).1) names;
+  next = Names_same (Allows m) (MayFollow (one m) []) result.next (λ c allows. ([], (c, allows, refl))) (λ c f. (one_follows m [] c f).1) names;
 }
   where
     back : (to : ℕ) → Spans (one m) [] from to → ⊥
@@ -384,24 +384,24 @@ row_one_end m from result ends names = record {
 -- ---- tables row by row
 
 pub record IsRows (a : Pattern) (text : List ℕ) (table : Table) (from stop : ℕ) : Type 0 where
-  pub at : (p : ℕ) → from ≤ p → p < stop → p ≤ length text → IsRow a (drop p text) p (row_at table p)
+  pub at : (p : ℕ) → from ≤ p → p < stop → p ≤ length text → IsTableRow a (drop p text) p (row_at table p)
 
 pub rows_none : (a : Pattern) (text : List ℕ) (table : Table) (k : ℕ) → IsRows a text table k k
 rows_none a text table k = record { at = λ p above below within. absurd (omega arith) }
 
-pub rows_more : (a : Pattern) (text : List ℕ) (table : Table) (from stop : ℕ) (row : Row) → stop < length table.rows → IsRows a text table from stop → (stop ≤ length text → IsRow a (drop stop text) stop row) → IsRows a text (record { rows = set table.rows stop row }) from (stop + 1)
+pub rows_more : (a : Pattern) (text : List ℕ) (table : Table) (from stop : ℕ) (row : Row) → stop < length table.rows → IsRows a text table from stop → (stop ≤ length text → IsTableRow a (drop stop text) stop row) → IsRows a text (record { rows = set table.rows stop row }) from (stop + 1)
 rows_more a text table from stop row fits h here = record {
   at = λ p above below within. elim (dec p stop) [
-    | inl e ↦ subst (λ (q : ℕ). IsRow a (drop q text) q (get_or (set table.rows stop row) q no_row)) (sym e) (subst (IsRow a (drop stop text) stop) (sym (get_or-set_same table.rows stop row no_row fits)) (here (omega arith)))
-    | inr n ↦ subst (IsRow a (drop p text) p) (sym (get_or-set_other table.rows stop p row no_row n)) (h.at p above (omega arith) within)
+    | inl e ↦ subst (λ (q : ℕ). IsTableRow a (drop q text) q (get_or (set table.rows stop row) q no_row)) (sym e) (subst (IsTableRow a (drop stop text) stop) (sym (get_or-set_same table.rows stop row no_row fits)) (here (omega arith)))
+    | inr n ↦ subst (IsTableRow a (drop p text) p) (sym (get_or-set_other table.rows stop p row no_row n)) (h.at p above (omega arith) within)
   ];
 }
 
-pub rows_before : (a : Pattern) (text : List ℕ) (table : Table) (from start stop : ℕ) (row : Row) → from < length table.rows → start ≡ from + 1 → IsRows a text table start stop → IsRow a (drop from text) from row → IsRows a text (record { rows = set table.rows from row }) from stop
+pub rows_before : (a : Pattern) (text : List ℕ) (table : Table) (from start stop : ℕ) (row : Row) → from < length table.rows → start ≡ from + 1 → IsRows a text table start stop → IsTableRow a (drop from text) from row → IsRows a text (record { rows = set table.rows from row }) from stop
 rows_before a text table from start stop row fits next_to h here = record {
   at = λ p above below within. elim (dec p from) [
-    | inl e ↦ subst (λ (q : ℕ). IsRow a (drop q text) q (get_or (set table.rows from row) q no_row)) (sym e) (subst (IsRow a (drop from text) from) (sym (get_or-set_same table.rows from row no_row fits)) here)
-    | inr n ↦ subst (IsRow a (drop p text) p) (sym (get_or-set_other table.rows from p row no_row n)) (h.at p (omega arith) below within)
+    | inl e ↦ subst (λ (q : ℕ). IsTableRow a (drop q text) q (get_or (set table.rows from row) q no_row)) (sym e) (subst (IsTableRow a (drop from text) from) (sym (get_or-set_same table.rows from row no_row fits)) here)
+    | inr n ↦ subst (IsTableRow a (drop p text) p) (sym (get_or-set_other table.rows from p row no_row n)) (h.at p (omega arith) below within)
   ];
 }
 
@@ -435,67 +435,67 @@ set_same table from row e = ap (λ (r : Row). record { rows = set table.rows fro
 pub gathers_kept : (places : Places) (old new : Table) (start stop : ℕ) (first result : Row) → IsKept old new start → Gathers places new start stop first result → Gathers places old start stop first result
 gathers_kept places old new start stop first result same g = record {
   ends = λ k. ((λ h. forth k ((g.ends k).0 h)), (λ h. (g.ends k).1 (back k h)));
-  next = λ a b text from names each. g.next a b text from names (λ r above below has. subst (λ (x : Row). Names (Follows b (drop r text)) x.next) (sym (same.at r above)) (each r above below has));
+  next = λ a b text from names each. g.next a b text from names (λ r above below has. subst (λ (x : Row). NamesNext (MayFollow b (drop r text)) x.next) (sym (same.at r above)) (each r above below has));
 }
   where
-    forth : (k : ℕ) → Has first.ends k ⊎ AnyRow places new start stop k → Has first.ends k ⊎ AnyRow places old start stop k
+    forth : (k : ℕ) → HasPlace first.ends k ⊎ AnyRow places new start stop k → HasPlace first.ends k ⊎ AnyRow places old start stop k
     forth k (inl h) = inl h
-    forth k (inr (r, above, below, has, ends)) = inr (r, above, below, has, subst (λ (x : Row). Has x.ends k) (same.at r above) ends)
+    forth k (inr (r, above, below, has, ends)) = inr (r, above, below, has, subst (λ (x : Row). HasPlace x.ends k) (same.at r above) ends)
 
-    back : (k : ℕ) → Has first.ends k ⊎ AnyRow places old start stop k → Has first.ends k ⊎ AnyRow places new start stop k
+    back : (k : ℕ) → HasPlace first.ends k ⊎ AnyRow places old start stop k → HasPlace first.ends k ⊎ AnyRow places new start stop k
     back k (inl h) = inl h
-    back k (inr (r, above, below, has, ends)) = inr (r, above, below, has, subst (λ (x : Row). Has x.ends k) (sym (same.at r above)) ends)
+    back k (inr (r, above, below, has, ends)) = inr (r, above, below, has, subst (λ (x : Row). HasPlace x.ends k) (sym (same.at r above)) ends)
 
 abbrev pub unended : Row → Row
 unended row = record { ends = blank_ends; next = row.next }
 
 -- the row of a sequence, where the first part's row still stands
-pub row_sequence_from : (a b : Pattern) (text : List ℕ) (A B : Table) (from len : ℕ) (row first result : Row) → length text ≡ len → from < len + 1 → Covers a text A → Covers b text B → row ≡ row_at A from → first ≡ unended row → Gathers row.ends B from (len + 1) first result → IsRow (sequence a b) (drop from text) from result
+pub row_sequence_from : (a b : Pattern) (text : List ℕ) (A B : Table) (from len : ℕ) (row first result : Row) → length text ≡ len → from < len + 1 → HasEachRow a text A → HasEachRow b text B → row ≡ row_at A from → first ≡ unended row → Gathers row.ends B from (len + 1) first result → IsTableRow (sequence a b) (drop from text) from result
 row_sequence_from a b text A B from len row first result same within ca cb stands none g =
-    row_sequence a b text A B from first result (omega arith) ca cb (λ k h. no_place k (subst (λ (f : Row). Has f.ends k) none h)) (ap (λ (f : Row). f.next) none ∙ ap (λ (r : Row). r.next) stands)
+    row_sequence a b text A B from first result (omega arith) ca cb (λ k h. no_place k (subst (λ (f : Row). HasPlace f.ends k) none h)) (ap (λ (f : Row). f.next) none ∙ ap (λ (r : Row). r.next) stands)
     (subst (λ (n : ℕ). Gathers (row_at A from).ends B from (n + 1) first result) (sym same) (subst (λ (r : Row). Gathers r.ends B from (len + 1) first result) stands g))
 
 -- the row of a repetition, where its part's row still stands
-pub row_many_from : (a : Pattern) (text : List ℕ) (A T : Table) (from len : ℕ) (row first result : Row) → length text ≡ len → from ≤ len → Covers a text A → IsRows (many a) text T (from + 1) (len + 1) → row ≡ row_at A from → ((k : ℕ) → Has first.ends k ↔ (k ≡ from)) → first.next ≡ row.next → Gathers row.ends T (from + 1) (len + 1) first result → IsRow (many a) (drop from text) from result
+pub row_many_from : (a : Pattern) (text : List ℕ) (A T : Table) (from len : ℕ) (row first result : Row) → length text ≡ len → from ≤ len → HasEachRow a text A → IsRows (many a) text T (from + 1) (len + 1) → row ≡ row_at A from → ((k : ℕ) → HasPlace first.ends k ↔ (k ≡ from)) → first.next ≡ row.next → Gathers row.ends T (from + 1) (len + 1) first result → IsTableRow (many a) (drop from text) from result
 row_many_from a text A T from len row first result same within ca later stands own follow g =
     row_many a text A T from first result (omega arith) ca (λ p above inside. later.at p (omega arith) (omega arith) inside) own (follow ∙ ap (λ (r : Row). r.next) stands)
     (subst (λ (n : ℕ). Gathers (row_at A from).ends T (from + 1) (n + 1) first result) (sym same) (subst (λ (r : Row). Gathers r.ends T (from + 1) (len + 1) first result) stands g))
 
-pub covers_rows : (a : Pattern) (text : List ℕ) (table : Table) (stop : ℕ) → length text < stop → IsRows a text table 0 stop → Covers a text table
+pub covers_rows : (a : Pattern) (text : List ℕ) (table : Table) (stop : ℕ) → length text < stop → IsRows a text table 0 stop → HasEachRow a text table
 covers_rows a text table stop enough h = record { at = λ from within. h.at from (omega arith) (omega arith) within }
 
-pub allowed_ends : (m : Mark) (x place : ℕ) (places : Places) → Allows m x → ((k : ℕ) → Has places k ↔ (k ≡ place + 1)) → (k : ℕ) → Has places k ↔ (Allows m x × (k ≡ place + 1))
+pub allowed_ends : (m : Mark) (x place : ℕ) (places : Places) → Allows m x → ((k : ℕ) → HasPlace places k ↔ (k ≡ place + 1)) → (k : ℕ) → HasPlace places k ↔ (Allows m x × (k ≡ place + 1))
 allowed_ends m x place places allows ends k = ((λ h. (allows, (ends k).0 h)), (λ h. (ends k).1 h.1))
 
-pub barred_ends : (m : Mark) (x place : ℕ) → (Allows m x → ⊥) → (k : ℕ) → Has blank_ends k ↔ (Allows m x × (k ≡ place + 1))
+pub barred_ends : (m : Mark) (x place : ℕ) → (Allows m x → ⊥) → (k : ℕ) → HasPlace blank_ends k ↔ (Allows m x × (k ≡ place + 1))
 barred_ends m x place barred k = ((λ h. absurd (no_place k h)), (λ h. absurd (barred h.0)))
 
-pub row_one_at : (m : Mark) (text : List ℕ) (place x : ℕ) (result : Row) → place < length text → x ≡ get_or text place x → ((k : ℕ) → Has result.ends k ↔ (Allows m x × (k ≡ place + 1))) → result.next ≡ Nothing → IsRow (one m) (drop place text) place result
+pub row_one_at : (m : Mark) (text : List ℕ) (place x : ℕ) (result : Row) → place < length text → x ≡ get_or text place x → ((k : ℕ) → HasPlace result.ends k ↔ (Allows m x × (k ≡ place + 1))) → result.next ≡ Nothing → IsTableRow (one m) (drop place text) place result
 row_one_at m text place x result within is ends follow =
     let cut : drop place text ≡ x ∷ drop (suc place) text = drop-cons text place x within ∙ ap (λ y. y ∷ drop (suc place) text) (sym is) in
-    subst (λ (r : List ℕ). IsRow (one m) r place result) (sym cut) (row_one m x (drop (suc place) text) place result ends follow)
+    subst (λ (r : List ℕ). IsTableRow (one m) r place result) (sym cut) (row_one m x (drop (suc place) text) place result ends follow)
 
-pub row_one_last : (m : Mark) (text : List ℕ) (result : Row) → ((k : ℕ) → Has result.ends k → ⊥) → Names (Allows m) result.next → IsRow (one m) (drop (length text) text) (length text) result
+pub row_one_last : (m : Mark) (text : List ℕ) (result : Row) → ((k : ℕ) → HasPlace result.ends k → ⊥) → NamesNext (Allows m) result.next → IsTableRow (one m) (drop (length text) text) (length text) result
 row_one_last m text result ends names =
-    subst (λ (r : List ℕ). IsRow (one m) r (length text) result) (sym (drop-length text)) (row_one_end m (length text) result ends names)
+    subst (λ (r : List ℕ). IsTableRow (one m) r (length text) result) (sym (drop-length text)) (row_one_end m (length text) result ends names)
 
 -- ---- counts
 
-pub Covers_add : (i j : ℕ) (a : Pattern) (text : List ℕ) (table : Table) → Covers (sequence (times i a) (times j a)) text table → Covers (times (i + j) a) text table
+pub Covers_add : (i j : ℕ) (a : Pattern) (text : List ℕ) (table : Table) → HasEachRow (sequence (times i a) (times j a)) text table → HasEachRow (times (i + j) a) text table
 Covers_add i j a text table h = Covers_same (sequence (times i a) (times j a)) (times (i + j) a) text table (times-add i j a) h
 
-pub Covers_zero : (a : Pattern) (text : List ℕ) (table : Table) → Covers empty text table → Covers (times 0 a) text table
+pub Covers_zero : (a : Pattern) (text : List ℕ) (table : Table) → HasEachRow empty text table → HasEachRow (times 0 a) text table
 Covers_zero a text table h = Covers_same empty (times 0 a) text table (times_zero a) h
 
-pub Covers_one : (a : Pattern) (text : List ℕ) (table : Table) → Covers a text table → Covers (times 1 a) text table
+pub Covers_one : (a : Pattern) (text : List ℕ) (table : Table) → HasEachRow a text table → HasEachRow (times 1 a) text table
 Covers_one a text table h = Covers_same a (times 1 a) text table (times_one a) h
 
 -- so many repetitions in one table, and so many in another
 abbrev pub Powers : Table → Table → Table → ℕ → ℕ → ℕ → Type 0
-Powers base table power len i j = (a : Pattern) (text : List ℕ) → length text ≡ len → Covers a text base → Covers (times i a) text table × Covers (times j a) text power
+Powers base table power len i j = (a : Pattern) (text : List ℕ) → length text ≡ len → HasEachRow a text base → HasEachRow (times i a) text table × HasEachRow (times j a) text power
 
 abbrev pub Joins : Table → Table → ℕ → Table → Type 0
-Joins A B len T = (a b : Pattern) (text : List ℕ) → length text ≡ len → Covers a text A → Covers b text B → Covers (sequence a b) text T
+Joins A B len T = (a b : Pattern) (text : List ℕ) → length text ≡ len → HasEachRow a text A → HasEachRow b text B → HasEachRow (sequence a b) text T
 
 pub powers_added : (base table power result : Table) (len i j : ℕ) → Joins table power len result → Powers base table power len i j → Powers base result power len (i + j) j
 powers_added base table power result len i j joins h a text same ca =
@@ -519,12 +519,12 @@ none_left i j left n e f = let g : i + j * 0 ≡ n = subst (λ (x : ℕ). i + j 
 
 -- a power that is its own square stands for each multiple of its count
 pub powers_repeated : (m : ℕ) (base table power : Table) (len i j : ℕ) → Joins power power len power → Powers base table power len i j → Powers base table power len i (j + j * m)
-powers_repeated zero base table power len i j joins h a text same ca = let one = h a text same ca in (one.0, subst (λ (n : ℕ). Covers (times n a) text power) (omega arith) one.1)
+powers_repeated zero base table power len i j joins h a text same ca = let one = h a text same ca in (one.0, subst (λ (n : ℕ). HasEachRow (times n a) text power) (omega arith) one.1)
 powers_repeated (suc m) base table power len i j joins h a text same ca =
     let rest = powers_repeated m base table power len i j joins h a text same ca in
     let one = h a text same ca in
     let e : j + (j + j * m) ≡ j + j * suc m = grind arith in
-    (one.0, subst (λ (n : ℕ). Covers (times n a) text power) e (Covers_add j (j + j * m) a text power (joins (times j a) (times (j + j * m) a) text same one.1 rest.1)))
+    (one.0, subst (λ (n : ℕ). HasEachRow (times n a) text power) e (Covers_add j (j + j * m) a text power (joins (times j a) (times (j + j * m) a) text same one.1 rest.1)))
 
 pub all_at_once : (i j h n : ℕ) → 1 ≤ h → i + (j + j) * h ≡ n → i + (j + j * (h + h - 1)) ≡ n
 all_at_once i j h n some e = apart h some e

@@ -13,7 +13,7 @@ use Rattle.tv_picture.specs.declared.parser.Open.{Open}
 use Rattle.tv_picture.specs.Pattern.{Pattern, either, optional, group, IsDigit}
 use Rattle.tv_picture.specs.Code.{height_after}
 use Rattle.tv_picture.specs.Spelling.{spelled, IsPlain, rank, depth, IsGrammatical, IsPicture}
-use Rattle.tv_picture.specs.Parsing.{Built, Reading, finished, with_mark, is_once, is_same, merged, with_op, opened, closed, closed_as, divided, starred, counted_as, quoted_next, plain_step, text_step, text_steps, start, tall}
+use Rattle.tv_picture.specs.Parsing.{Built, Reading, part_finished, with_single_mark, is_once, is_same, merged, with_op, bracket_opened, bracket_closed, closed_as, divided, starred, counted_as, quoted_next, plain_step, text_step, text_steps, nothing_parsed, tall}
 use Rattle.tv_picture.proofs.Grammar.{state, held, below, is_digit, bracketed, skip, IsNone, unquoted_step}
 use Rattle.tv_picture.proofs.Spelled.{IsFine, Spells, Built', line_text, beneath, repeat_text, open_text, before, written, IsLine, IsPart, tall_low, finish_spells, body, pushed, unquoted_text, some_same, is_once_true, mark_step, quoted_step, quote_step, chosen, no_step, star_step, below_true, digit_spells}
 
@@ -22,7 +22,7 @@ use Rattle.tv_picture.proofs.Spelled.{IsFine, Spells, Built', line_text, beneath
 abbrev opening : Reading → Bracket → Reading
 opening r b = record { built = with_op r.built op.Empty; brackets = (record { bracket = b; repeat = r.repeat; choice = r.choice }) ∷ r.brackets; choice = false; repeat = Once; quoted = false }
 
-open_step : (r s : Reading) (b : Bracket) (c : ℕ) → IsFine r → r.quoted ≡ false → open_text b ≡ c ∷ [] → opened r b ≡ Some s → Spells s (written r ++ c ∷ [])
+open_step : (r s : Reading) (b : Bracket) (c : ℕ) → IsFine r → r.quoted ≡ false → open_text b ≡ c ∷ [] → bracket_opened r b ≡ Some s → Spells s (written r ++ c ∷ [])
 open_step r s b c f unquoted text e = chosen (nat_lt (length r.brackets) 8) (Some (opening r b)) None s e
     (λ t e'. some_same (opening r b) s r (written r ++ c ∷ []) e'
     (let few : length r.brackets < 8 = below_true (length r.brackets) 8 t in record {
@@ -126,7 +126,7 @@ bracketed_text Square a x = sym (append_assoc x (codes "[" ++ spelled a) (codes 
 bracketed_text Curly a x = sym (append_assoc x (codes "{" ++ spelled a) (codes "}")) ∙ ap (λ y. y ++ codes "}") (sym (append_assoc x (codes "{") (spelled a)))
 
 abbrev closing : Bracket → Built → List Open → Open → Reading
-closing b built os o = finished (record { built = op_of b built; brackets = os; choice = o.choice; repeat = o.repeat; quoted = false })
+closing b built os o = part_finished (record { built = op_of b built; brackets = os; choice = o.choice; repeat = o.repeat; quoted = false })
 
 closed_spells : (b : Bracket) (s : List Pattern) (h : Option ℕ) (o : Open) (os : List Open) (c : Bool) → IsFine (state s h (o ∷ os) c Once false) → o.bracket ≡ b → Spells (closing b (merged c (Built' s h)) os o) (written (state s h (o ∷ os) c Once false) ++ close_text b)
 closed_spells b s h o os c f same =
@@ -135,8 +135,8 @@ closed_spells b s h o os c f same =
     let deep = m.deep in
     let e = bracketed_depth b m.whole in
     subst (λ x. Spells (closing b x os o) (written (state s h (o ∷ os) c Once false) ++ close_text b)) (sym m.built)
-    (subst (λ x. Spells (finished (record { built = x; brackets = os; choice = o.choice; repeat = o.repeat; quoted = false })) (written (state s h (o ∷ os) c Once false) ++ close_text b)) (sym (bracketed_built b m.whole (beneath c s) (tall o.choice os)))
-    (subst (Spells (finished (state (bracketed b m.whole ∷ beneath c s) (Some (tall o.choice os + 1)) os o.choice o.repeat false)))
+    (subst (λ x. Spells (part_finished (record { built = x; brackets = os; choice = o.choice; repeat = o.repeat; quoted = false })) (written (state s h (o ∷ os) c Once false) ++ close_text b)) (sym (bracketed_built b m.whole (beneath c s) (tall o.choice os)))
+    (subst (Spells (part_finished (state (bracketed b m.whole ∷ beneath c s) (Some (tall o.choice os + 1)) os o.choice o.repeat false)))
     (bracketed_text b m.whole ((before os (beneath o.choice (beneath c s)) ++ line_text o.choice (beneath c s)) ++ repeat_text o.repeat)
     ∙ ap (λ x. ((((before os (beneath o.choice (beneath c s)) ++ line_text o.choice (beneath c s)) ++ repeat_text o.repeat) ++ open_text x) ++ spelled m.whole) ++ close_text b) (sym same)
     ∙ ap (λ x. (before (o ∷ os) (beneath c s) ++ x) ++ close_text b) (sym m.spelling)
@@ -157,20 +157,20 @@ closed_op : (b : Bracket) (x : Built) → op_of b x ≡ with_op x (Rattle.tv_pic
 closed_op Square x = refl
 closed_op Curly x = refl
 
-close_parts : (b : Bracket) (t : List Pattern) (h : Option ℕ) (os : List Open) (c : Bool) (r : Repeat) (s : Reading) → IsFine (state t h os c r false) → closed (state t h os c r false) b ≡ Some s → Spells s (written (state t h os c r false) ++ close_text b)
+close_parts : (b : Bracket) (t : List Pattern) (h : Option ℕ) (os : List Open) (c : Bool) (r : Repeat) (s : Reading) → IsFine (state t h os c r false) → bracket_closed (state t h os c r false) b ≡ Some s → Spells s (written (state t h os c r false) ++ close_text b)
 close_parts b t h [] c r s f e = no_choice (is_once r) s e
 close_parts b t h (o ∷ os) c r s f e = chosen (is_once r) (closed_as (state t h (o ∷ os) c r false) b (o ∷ os)) None s e
-    (λ once e'. chosen (is_same b o.bracket) (Some (finished (record { built = with_op (merged c (Built' t h)) (Rattle.tv_picture.specs.Parsing.bracket_op b); brackets = os; choice = o.choice; repeat = o.repeat; quoted = false }))) None s e'
+    (λ once e'. chosen (is_same b o.bracket) (Some (part_finished (record { built = with_op (merged c (Built' t h)) (Rattle.tv_picture.specs.Parsing.bracket_op b); brackets = os; choice = o.choice; repeat = o.repeat; quoted = false }))) None s e'
     (λ same e''.
     let is : r ≡ Once = is_once_true r once in
-    some_same (finished (record { built = with_op (merged c (Built' t h)) (Rattle.tv_picture.specs.Parsing.bracket_op b); brackets = os; choice = o.choice; repeat = o.repeat; quoted = false })) s s (written (state t h (o ∷ os) c r false) ++ close_text b) e''
-    (subst (λ x. Spells (finished (record { built = x; brackets = os; choice = o.choice; repeat = o.repeat; quoted = false })) (written (state t h (o ∷ os) c r false) ++ close_text b)) (closed_op b (merged c (Built' t h)))
+    some_same (part_finished (record { built = with_op (merged c (Built' t h)) (Rattle.tv_picture.specs.Parsing.bracket_op b); brackets = os; choice = o.choice; repeat = o.repeat; quoted = false })) s s (written (state t h (o ∷ os) c r false) ++ close_text b) e''
+    (subst (λ x. Spells (part_finished (record { built = x; brackets = os; choice = o.choice; repeat = o.repeat; quoted = false })) (written (state t h (o ∷ os) c r false) ++ close_text b)) (closed_op b (merged c (Built' t h)))
     (subst (λ x. Spells (closing b (merged c (Built' t h)) os o) (written (state t h (o ∷ os) c x false) ++ close_text b)) (sym is)
     (closed_spells b t h o os c (subst (λ x. IsFine (state t h (o ∷ os) c x false)) is f) (same_bracket b o.bracket same)))))
     (λ _ e''. no_step s e''))
     (λ _ e'. no_step s e')
 
-close_step : (r s : Reading) (b : Bracket) → IsFine r → r.quoted ≡ false → closed r b ≡ Some s → Spells s (written r ++ close_text b)
+close_step : (r s : Reading) (b : Bracket) → IsFine r → r.quoted ≡ false → bracket_closed r b ≡ Some s → Spells s (written r ++ close_text b)
 close_step r s b f unquoted e =
     subst (λ q. Spells s (written (state r.built.stack r.built.height r.brackets r.choice r.repeat q) ++ close_text b)) (sym unquoted)
     (close_parts b r.built.stack r.built.height r.brackets r.choice r.repeat s (record { line = f.line; before = f.before; repeat = f.repeat; few = f.few; height = f.height }) e)
@@ -201,14 +201,14 @@ plain_of c n (suc (suc (suc (suc (suc (suc (suc (suc (suc (suc (suc (suc k))))))
 is_plain : (c : ℕ) → IsNone c → IsPlain c
 is_plain c n (k, within, e) = plain_of c n k within e
 
-last_spells : (r s : Reading) (c : ℕ) → IsFine r → r.quoted ≡ false → IsNone c → cond (nat_le 48 c && nat_le c 57) (counted_as r (c - 48) r.repeat) (Some (with_mark r (Literal c))) ≡ Some s → ((nat_le 48 c && nat_le c 57) ≡ true) × IsDigit c ⊎ ((nat_le 48 c && nat_le c 57) ≡ false) × (IsDigit c → ⊥) → Spells s (written r ++ c ∷ [])
+last_spells : (r s : Reading) (c : ℕ) → IsFine r → r.quoted ≡ false → IsNone c → cond (nat_le 48 c && nat_le c 57) (counted_as r (c - 48) r.repeat) (Some (with_single_mark r (Literal c))) ≡ Some s → ((nat_le 48 c && nat_le c 57) ≡ true) × IsDigit c ⊎ ((nat_le 48 c && nat_le c 57) ≡ false) × (IsDigit c → ⊥) → Spells s (written r ++ c ∷ [])
 last_spells r s c f u n e (inl (t, digit)) =
     let same : 48 + (c - 48) ≡ c = (let low = digit.0 in omega arith) in
     let small : c - 48 < 10 = (let low = digit.0 in let high = digit.1 in omega arith) in
     subst (λ (x : ℕ). Spells s (written r ++ x ∷ [])) same
-    (digit_spells r s r.repeat (c - 48) f u refl small (subst IsPlain (sym same) (is_plain c n)) (sym (held (nat_le 48 c && nat_le c 57) (counted_as r (c - 48) r.repeat) (Some (with_mark r (Literal c))) t) ∙ e))
+    (digit_spells r s r.repeat (c - 48) f u refl small (subst IsPlain (sym same) (is_plain c n)) (sym (held (nat_le 48 c && nat_le c 57) (counted_as r (c - 48) r.repeat) (Some (with_single_mark r (Literal c))) t) ∙ e))
 last_spells r s c f u n e (inr (t, barred)) =
-    mark_step r s (Literal c) c f u (is_plain c n) (inr barred) refl (sym (skip (nat_le 48 c && nat_le c 57) (counted_as r (c - 48) r.repeat) (Some (with_mark r (Literal c))) t) ∙ e)
+    mark_step r s (Literal c) c f u (is_plain c n) (inr barred) refl (sym (skip (nat_le 48 c && nat_le c 57) (counted_as r (c - 48) r.repeat) (Some (with_single_mark r (Literal c))) t) ∙ e)
 
 plain_spells : (r s : Reading) (c : ℕ) → IsFine r → r.quoted ≡ false → plain_step r c ≡ Some s → Spells s (written r ++ c ∷ [])
 plain_spells r s c f u e0 =
@@ -239,7 +239,7 @@ steps_spell (c ∷ text) r s f e = later (text_step r c) refl e (λ t g e'. step
         let first = step_spells r t c f is in
         subst (Spells s) (ap (λ x. x ++ text) first.spelling ∙ append_assoc (written r) (c ∷ []) text) (rest t first.fine e')
 
-pub start_fine : IsFine start
+pub start_fine : IsFine nothing_parsed
 start_fine = record { line = (tt, refl, omega arith); before = refl; repeat = tt; few = omega arith; height = refl }
 
 -- ---- the end of the text
@@ -268,7 +268,7 @@ closes s h c text sp =
 abbrev pub Ends : Reading → Type 0
 Ends r = (more : List ℕ) × (s : List Pattern) × (h : Option ℕ) × (c : Bool) × (text_steps r more ≡ Some (state s h [] c Once false))
 
-closes_with : (b : Bracket) → (n : ℕ) × ((r : Reading) → r.quoted ≡ false → text_step r n ≡ closed r b)
+closes_with : (b : Bracket) → (n : ℕ) × ((r : Reading) → r.quoted ≡ false → text_step r n ≡ bracket_closed r b)
 closes_with Square = (93, λ r e. unquoted_step r 93 e)
 closes_with Curly = (125, λ r e. unquoted_step r 125 e)
 
@@ -281,7 +281,7 @@ ends_brackets [] b c = ([], b.stack, b.height, c, refl)
 ends_brackets (o ∷ os) b c =
     let n = closes_with o.bracket in
     let r : Reading = record { built = b; brackets = o ∷ os; choice = c; repeat = Once; quoted = false } in
-    let t : Reading = finished (record { built = with_op (merged c b) (Rattle.tv_picture.specs.Parsing.bracket_op o.bracket); brackets = os; choice = o.choice; repeat = o.repeat; quoted = false }) in
+    let t : Reading = part_finished (record { built = with_op (merged c b) (Rattle.tv_picture.specs.Parsing.bracket_op o.bracket); brackets = os; choice = o.choice; repeat = o.repeat; quoted = false }) in
     let e : text_step r n.0 ≡ Some t = n.1 r refl ∙ held (is_same o.bracket o.bracket) (Some t) None (same_itself o.bracket) in
     let rest = ends_brackets os t.built o.choice in
     (n.0 ∷ rest.0, rest.1, rest.2, rest.3, ap (option_and_then (λ x. text_steps x rest.0)) e ∙ rest.4)
@@ -291,12 +291,12 @@ ends_after r t c e rest = (c ∷ rest.0, rest.1, rest.2, rest.3, ap (option_and_
 
 ends_unquoted : (b : Built) (os : List Open) (c : Bool) (r : Repeat) → Ends (record { built = b; brackets = os; choice = c; repeat = r; quoted = false })
 ends_unquoted b os c Once = ends_brackets os b c
-ends_unquoted b os c Many = ends_after _ (with_mark (record { built = b; brackets = os; choice = c; repeat = Many; quoted = false }) Digit) 35 refl (ends_brackets os _ c)
-ends_unquoted b os c (Times n) = ends_after _ (with_mark (record { built = b; brackets = os; choice = c; repeat = Times n; quoted = false }) Digit) 35 refl (ends_brackets os _ c)
+ends_unquoted b os c Many = ends_after _ (with_single_mark (record { built = b; brackets = os; choice = c; repeat = Many; quoted = false }) Digit) 35 refl (ends_brackets os _ c)
+ends_unquoted b os c (Times n) = ends_after _ (with_single_mark (record { built = b; brackets = os; choice = c; repeat = Times n; quoted = false }) Digit) 35 refl (ends_brackets os _ c)
 
 pub ends : (r : Reading) → Ends r
 ends r = cases r.quoted refl
   where
     cases : (q : Bool) → r.quoted ≡ q → Ends r
-    cases true e = ends_after r (with_mark r (Quoted 97)) 97 (held r.quoted (Some (with_mark r (Quoted 97))) (plain_step r 97) e) (ends_brackets r.brackets _ r.choice)
+    cases true e = ends_after r (with_single_mark r (Quoted 97)) 97 (held r.quoted (Some (with_single_mark r (Quoted 97))) (plain_step r 97) e) (ends_brackets r.brackets _ r.choice)
     cases false e = subst (λ q. Ends (record { built = r.built; brackets = r.brackets; choice = r.choice; repeat = r.repeat; quoted = q })) (sym e) (ends_unquoted r.built r.brackets r.choice r.repeat)

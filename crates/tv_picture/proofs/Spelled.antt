@@ -12,9 +12,9 @@ use Rattle.tv_picture.specs.declared.parser.Repeat.{Repeat}
 use Rattle.tv_picture.specs.declared.parser.Repeat.TheVariants.{Once, Many, Times}
 use Rattle.tv_picture.specs.declared.parser.Open.{Open}
 use Rattle.tv_picture.specs.Pattern.{Pattern, one, many, times}
-use Rattle.tv_picture.specs.Code.{step, height_after}
+use Rattle.tv_picture.specs.Code.{patterns_after, height_after}
 use Rattle.tv_picture.specs.Spelling.{mark_text, count_text, spelled, IsPlain, rank, depth, IsBase, IsMark, IsGrammatical}
-use Rattle.tv_picture.specs.Parsing.{Built, Reading, finished, with_mark, is_once, starred, counted_as, quoted_next, tall}
+use Rattle.tv_picture.specs.Parsing.{Built, Reading, part_finished, with_single_mark, is_once, starred, counted_as, quoted_next, tall}
 use Rattle.tv_picture.proofs.Grammar.{state, repeated, held, below, skip}
 
 abbrev pub Built' : List Pattern → Option ℕ → Built
@@ -88,7 +88,7 @@ record Adds (k : ℕ) (c : Bool) (s t : List Pattern) (text : List ℕ) : Type 0
   spelling : line_text c t ≡ line_text c s ++ text
   rest : beneath c t ≡ beneath c s
 
-line_added : (k : ℕ) (c : Bool) (s : List Pattern) (a : Pattern) → IsLine k c s → IsGrammatical a → rank a ≤ 1 → depth a + k ≤ 8 → Adds k c s (step (a ∷ s) op.Sequence) (spelled a)
+line_added : (k : ℕ) (c : Bool) (s : List Pattern) (a : Pattern) → IsLine k c s → IsGrammatical a → rank a ≤ 1 → depth a + k ≤ 8 → Adds k c s (patterns_after (a ∷ s) op.Sequence) (spelled a)
 line_added k false [] a l g low deep = absurd l
 line_added k false (q ∷ s) a l g low deep = let d = l.2 in record { line = ((l.0, g, l.1, low), refl, omega arith); spelling = refl; rest = refl }
 line_added k true [] a l g low deep = absurd l
@@ -116,7 +116,7 @@ repeated_grammatical Many a (g, z, inr b) n = ((g, b), omega arith, refl, refl)
 repeated_grammatical (Times m) a (g, z, inl e) n = not_once (Times m) refl e
 repeated_grammatical (Times m) a (g, z, inr b) n = ((g, b, n.0, n.1), omega arith, refl, refl)
 
-finished_state : (a : Pattern) (s : List Pattern) (h : ℕ) (os : List Open) (c : Bool) (r : Repeat) (q : Bool) → 1 ≤ h → finished (state (a ∷ s) (Some (h + 1)) os c r q) ≡ state (step (repeated r a ∷ s) op.Sequence) (Some h) os c Once false
+finished_state : (a : Pattern) (s : List Pattern) (h : ℕ) (os : List Open) (c : Bool) (r : Repeat) (q : Bool) → 1 ≤ h → part_finished (state (a ∷ s) (Some (h + 1)) os c r q) ≡ state (patterns_after (repeated r a ∷ s) op.Sequence) (Some h) os c Once false
 finished_state a s h os c r q high = cases r
   where
     joined : height_after (h + 1) op.Sequence ≡ Some h
@@ -125,10 +125,10 @@ finished_state a s h os c r q high = cases r
     same : (n : ℕ) → height_after (h + 1) (op.Times n) ≡ Some (h + 1)
     same n = held (nat_lt 0 (h + 1)) (Some (h + 1)) None (below 0 (h + 1) (omega arith))
 
-    cases : (t : Repeat) → finished (state (a ∷ s) (Some (h + 1)) os c t q) ≡ state (step (repeated t a ∷ s) op.Sequence) (Some h) os c Once false
-    cases Once = ap (λ k. state (step (a ∷ s) op.Sequence) k os c Once false) joined
-    cases Many = ap (λ k. state (step (many a ∷ s) op.Sequence) (option_and_then (λ j. height_after j op.Sequence) k) os c Once false) (same 0) ∙ ap (λ k. state (step (many a ∷ s) op.Sequence) k os c Once false) joined
-    cases (Times n) = ap (λ k. state (step (times n a ∷ s) op.Sequence) (option_and_then (λ j. height_after j op.Sequence) k) os c Once false) (same n) ∙ ap (λ k. state (step (times n a ∷ s) op.Sequence) k os c Once false) joined
+    cases : (t : Repeat) → part_finished (state (a ∷ s) (Some (h + 1)) os c t q) ≡ state (patterns_after (repeated t a ∷ s) op.Sequence) (Some h) os c Once false
+    cases Once = ap (λ k. state (patterns_after (a ∷ s) op.Sequence) k os c Once false) joined
+    cases Many = ap (λ k. state (patterns_after (many a ∷ s) op.Sequence) (option_and_then (λ j. height_after j op.Sequence) k) os c Once false) (same 0) ∙ ap (λ k. state (patterns_after (many a ∷ s) op.Sequence) k os c Once false) joined
+    cases (Times n) = ap (λ k. state (patterns_after (times n a ∷ s) op.Sequence) (option_and_then (λ j. height_after j op.Sequence) k) os c Once false) (same n) ∙ ap (λ k. state (patterns_after (times n a ∷ s) op.Sequence) k os c Once false) joined
 
 -- what a step must show: the new reading is fine, and spells the text
 pub record Spells (r : Reading) (text : List ℕ) : Type 0 where
@@ -148,7 +148,7 @@ tall_low false (o ∷ os) = let h = tall_low o.choice os in omega arith
 tall_low true (o ∷ os) = let h = tall_low o.choice os in omega arith
 
 -- a part on top of a fine stack goes into its line
-pub finish_spells : (a : Pattern) (s : List Pattern) (os : List Open) (c : Bool) (r : Repeat) (q : Bool) → IsLine (length os) c s → IsBefore os (beneath c s) → length os ≤ 8 → IsRepeat r → IsPart r a → depth a + length os ≤ 8 → Spells (finished (state (a ∷ s) (Some (tall c os + 1)) os c r q)) (((before os (beneath c s) ++ line_text c s) ++ repeat_text r) ++ spelled a)
+pub finish_spells : (a : Pattern) (s : List Pattern) (os : List Open) (c : Bool) (r : Repeat) (q : Bool) → IsLine (length os) c s → IsBefore os (beneath c s) → length os ≤ 8 → IsRepeat r → IsPart r a → depth a + length os ≤ 8 → Spells (part_finished (state (a ∷ s) (Some (tall c os + 1)) os c r q)) (((before os (beneath c s) ++ line_text c s) ++ repeat_text r) ++ spelled a)
 finish_spells a s os c r q line rest few n part deep =
     subst (λ (t : Reading). Spells t (((before os (beneath c s) ++ line_text c s) ++ repeat_text r) ++ spelled a)) (sym (finished_state a s (tall c os) os c r q (tall_high c os)))
     (let g = repeated_grammatical r a part n in
@@ -157,7 +157,7 @@ finish_spells a s os c r q line rest few n part deep =
     let adds = line_added (length os) c s (repeated r a) line g.0 low shallow in
     record {
       fine = record { line = adds.line; before = subst (IsBefore os) (sym adds.rest) rest; repeat = tt; few = few; height = refl };
-      spelling = append-nil _ ∙ append-nil _ ∙ ap (λ t. before os t ++ line_text c (step (repeated r a ∷ s) op.Sequence)) adds.rest
+      spelling = append-nil _ ∙ append-nil _ ∙ ap (λ t. before os t ++ line_text c (patterns_after (repeated r a ∷ s) op.Sequence)) adds.rest
           ∙ ap (λ t. before os (beneath c s) ++ t) (adds.spelling ∙ ap (λ t. line_text c s ++ t) g.3)
           ∙ sym (append_assoc (before os (beneath c s)) (line_text c s) (repeat_text r ++ spelled a))
           ∙ sym (append_assoc (before os (beneath c s) ++ line_text c s) (repeat_text r) (spelled a));
@@ -172,9 +172,9 @@ pub pushed : (r : Reading) → IsFine r → (o : Option ℕ) → r.built.height 
 pushed r f o e = ap (option_and_then (λ h. cond (nat_lt h 20) (Some (h + 1)) None)) e
     ∙ held (nat_lt (tall r.choice r.brackets) 20) (Some (tall r.choice r.brackets + 1)) None (below (tall r.choice r.brackets) 20 (let few = f.few in let low = tall_low r.choice r.brackets in omega arith))
 
-mark_spells : (r : Reading) (m : Mark) → IsFine r → IsMark m → (r.repeat ≡ Once) ⊎ IsBase (one m) → Spells (with_mark r m) (body r ++ mark_text m)
+mark_spells : (r : Reading) (m : Mark) → IsFine r → IsMark m → (r.repeat ≡ Once) ⊎ IsBase (one m) → Spells (with_single_mark r m) (body r ++ mark_text m)
 mark_spells r m f plain base =
-    subst (λ k. Spells (finished (state (one m ∷ r.built.stack) k r.brackets r.choice r.repeat r.quoted)) (body r ++ mark_text m)) (sym (pushed r f None f.height))
+    subst (λ k. Spells (part_finished (state (one m ∷ r.built.stack) k r.brackets r.choice r.repeat r.quoted)) (body r ++ mark_text m)) (sym (pushed r f None f.height))
     (finish_spells (one m) r.built.stack r.brackets r.choice r.repeat r.quoted f.line f.before f.few f.repeat (plain, refl, base) (let few = f.few in omega arith))
 
 pub unquoted_text : (r : Reading) → r.quoted ≡ false → written r ≡ body r
@@ -191,13 +191,13 @@ is_once_true Once e = refl
 is_once_true Many e = cc
 is_once_true (Times n) e = cc
 
-pub mark_step : (r s : Reading) (m : Mark) (c : ℕ) → IsFine r → r.quoted ≡ false → IsMark m → (r.repeat ≡ Once) ⊎ IsBase (one m) → mark_text m ≡ c ∷ [] → Some (with_mark r m) ≡ Some s → Spells s (written r ++ c ∷ [])
-mark_step r s m c f unquoted plain base text e = some_same (with_mark r m) s r (written r ++ c ∷ []) e (after_plain r (with_mark r m) (mark_text m) c unquoted text (mark_spells r m f plain base))
+pub mark_step : (r s : Reading) (m : Mark) (c : ℕ) → IsFine r → r.quoted ≡ false → IsMark m → (r.repeat ≡ Once) ⊎ IsBase (one m) → mark_text m ≡ c ∷ [] → Some (with_single_mark r m) ≡ Some s → Spells s (written r ++ c ∷ [])
+mark_step r s m c f unquoted plain base text e = some_same (with_single_mark r m) s r (written r ++ c ∷ []) e (after_plain r (with_single_mark r m) (mark_text m) c unquoted text (mark_spells r m f plain base))
 
 -- the character after `;`
-pub quoted_step : (r s : Reading) (c : ℕ) → IsFine r → r.quoted ≡ true → Some (with_mark r (Quoted c)) ≡ Some s → Spells s (written r ++ c ∷ [])
-quoted_step r s c f quoted e = some_same (with_mark r (Quoted c)) s r (written r ++ c ∷ []) e
-    (subst (Spells (with_mark r (Quoted c))) (sym (append_assoc (body r) (codes ";") (c ∷ [])) ∙ ap (λ q. (body r ++ quote_text q) ++ c ∷ []) (sym quoted))
+pub quoted_step : (r s : Reading) (c : ℕ) → IsFine r → r.quoted ≡ true → Some (with_single_mark r (Quoted c)) ≡ Some s → Spells s (written r ++ c ∷ [])
+quoted_step r s c f quoted e = some_same (with_single_mark r (Quoted c)) s r (written r ++ c ∷ []) e
+    (subst (Spells (with_single_mark r (Quoted c))) (sym (append_assoc (body r) (codes ";") (c ∷ [])) ∙ ap (λ q. (body r ++ quote_text q) ++ c ∷ []) (sym quoted))
     (mark_spells r (Quoted c) f tt (inr refl)))
 
 -- `;`

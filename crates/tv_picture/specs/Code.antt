@@ -7,21 +7,21 @@ use Rattle.tv_picture.specs.declared.code.Op.TheVariants.{Empty, One, Sequence, 
 use Rattle.tv_picture.specs.Pattern.{Pattern, empty, one, sequence, either, optional, group, many, times}
 
 -- what an operation leaves of the stack of patterns
-abbrev pub step : List Pattern → Op → List Pattern
-step ps Empty = empty ∷ ps
-step ps (One mark) = one mark ∷ ps
-step (b ∷ a ∷ ps) Sequence = sequence a b ∷ ps
-step (b ∷ a ∷ ps) Either = either a b ∷ ps
-step (a ∷ ps) Optional = optional a ∷ ps
-step (a ∷ ps) Group = group a ∷ ps
-step (a ∷ ps) Many = many a ∷ ps
-step (a ∷ ps) (Times n) = times n a ∷ ps
-step ps _ = ps
+abbrev pub patterns_after : List Pattern → Op → List Pattern
+patterns_after ps Empty = empty ∷ ps
+patterns_after ps (One mark) = one mark ∷ ps
+patterns_after (b ∷ a ∷ ps) Sequence = sequence a b ∷ ps
+patterns_after (b ∷ a ∷ ps) Either = either a b ∷ ps
+patterns_after (a ∷ ps) Optional = optional a ∷ ps
+patterns_after (a ∷ ps) Group = group a ∷ ps
+patterns_after (a ∷ ps) Many = many a ∷ ps
+patterns_after (a ∷ ps) (Times n) = times n a ∷ ps
+patterns_after ps _ = ps
 
 -- what code leaves of the stack of patterns
 abbrev pub run : List Pattern → List Op → List Pattern
 run ps [] = ps
-run ps (op ∷ ops) = run (step ps op) ops
+run ps (op ∷ ops) = run (patterns_after ps op) ops
 
 -- the pattern on top of the stack
 abbrev pub top : List Pattern → Pattern
@@ -62,7 +62,7 @@ height_from h (op ∷ ops) = option_and_then (λ k. height_from k ops) (height_a
 -- a pattern's code stands for it
 pub run-append : (xs ys : List Op) (ps : List Pattern) → run ps (xs ++ ys) ≡ run (run ps xs) ys
 run-append [] ys ps = refl
-run-append (x ∷ xs) ys ps = run-append xs ys (step ps x)
+run-append (x ∷ xs) ys ps = run-append xs ys (patterns_after ps x)
 
 after : (xs ys : List Op) (ps qs : List Pattern) → run ps xs ≡ qs → run ps (xs ++ ys) ≡ run qs ys
 after xs ys ps qs e = run-append xs ys ps ∙ ap (λ stack. run stack ys) e

@@ -5,14 +5,14 @@ use Rattle.tv_picture.specs.Code.{height_after}
 use Rattle.tv_picture.specs.Pattern.{Pattern}
 
 -- below the height stands something for each pattern, the first pattern's on top
-abbrev pub Stands : {X : Type 0} → (Pattern → X → Type 0) → List X → ℕ → List Pattern → Type 0
-Stands R xs height [] = height ≡ 0
-Stands {X} R xs height (p ∷ ps) = (below : ℕ) × (height ≡ below + 1) × ((d : X) → R p (slice_index_or xs below d)) × Stands R xs below ps
+abbrev pub StandsBelow : {X : Type 0} → (Pattern → X → Type 0) → List X → ℕ → List Pattern → Type 0
+StandsBelow R xs height [] = height ≡ 0
+StandsBelow {X} R xs height (p ∷ ps) = (below : ℕ) × (height ≡ below + 1) × ((d : X) → R p (slice_index_or xs below d)) × StandsBelow R xs below ps
 
 -- the first pattern is what was made for the place, and the others stand below it
 abbrev pub Made : {X : Type 0} → (Pattern → X → Type 0) → List X → ℕ → X → List Pattern → Type 0
 Made R xs place x [] = ⊥
-Made R xs place x (p ∷ ps) = R p x × Stands R xs place ps
+Made R xs place x (p ∷ ps) = R p x × StandsBelow R xs place ps
 
 -- the stack stays within a height while the code runs
 abbrev pub IsWithin : ℕ → ℕ → List Op → Type 0

@@ -11,7 +11,7 @@ use Rattle.tv_picture.specs.declared.picture.Status.TheVariants.{Complete, Viabl
 use Rattle.tv_picture.specs.declared.row.Next.{Next}
 use Rattle.tv_picture.specs.declared.row.Next.TheVariants.{Nothing, Only, Several}
 use Rattle.tv_picture.specs.Pattern.{Pattern, empty, one, sequence, either, optional, group, many, times}
-use Rattle.tv_picture.specs.Table.{joined}
+use Rattle.tv_picture.specs.Table.{either_next}
 
 -- the mark stands for the character
 abbrev pub allows : Mark → ℕ → Bool
@@ -66,8 +66,8 @@ repeated zero f s = s
 repeated (suc n) f s = let s' = f s in elim (are_alike s' s) [ true ↦ s | false ↦ repeated n f s' ]
 
 -- the places that n steps or fewer reach
-abbrev pub reached : ℕ → (List Bool → List Bool) → List Bool → List Bool
-reached n f s = repeated n (λ x. union x (f x)) s
+abbrev pub places_reached : ℕ → (List Bool → List Bool) → List Bool → List Bool
+places_reached n f s = repeated n (λ x. union x (f x)) s
 
 -- ---- members
 
@@ -79,20 +79,20 @@ ends (sequence a b) t s = ends b t (ends a t s)
 ends (either a b) t s = union (ends a t s) (ends b t s)
 ends (optional a) t s = union s (ends a t s)
 ends (group a) t s = ends a t s
-ends (many a) t s = reached (length t) (ends a t) s
+ends (many a) t s = places_reached (length t) (ends a t) s
 ends (times n a) t s = repeated n (ends a t) s
 
 -- the characters that may follow the text in members that begin in the set
 abbrev pub nexts : Pattern → List ℕ → List Bool → Next
 nexts empty t s = Nothing
 nexts (one m) t s = elim (has_end t s) [ true ↦ names_of m | false ↦ Nothing ]
-nexts (sequence a b) t s = joined (nexts a t s) (nexts b t (ends a t s))
-nexts (either a b) t s = joined (nexts a t s) (nexts b t s)
+nexts (sequence a b) t s = either_next (nexts a t s) (nexts b t (ends a t s))
+nexts (either a b) t s = either_next (nexts a t s) (nexts b t s)
 nexts (optional a) t s = nexts a t s
 nexts (group a) t s = nexts a t s
-nexts (many a) t s = nexts a t (reached (length t) (ends a t) s)
+nexts (many a) t s = nexts a t (places_reached (length t) (ends a t) s)
 nexts (times zero a) t s = Nothing
-nexts (times (suc n) a) t s = nexts a t (reached n (ends a t) s)
+nexts (times (suc n) a) t s = nexts a t (places_reached n (ends a t) s)
 
 -- the text is in the language of the pattern
 abbrev pub matches : Pattern → List ℕ → Bool
@@ -113,8 +113,8 @@ abbrev pub begins_some : Pattern → List ℕ → Bool
 begins_some p t = matches p t || is_some_next (follows p t)
 
 -- what the text is to the pattern
-abbrev pub status_of : Pattern → List ℕ → Status
-status_of p t = elim (matches p t) [ true ↦ Complete | false ↦ elim (is_some_next (follows p t)) [ true ↦ Viable | false ↦ Error ] ]
+abbrev pub match_status : Pattern → List ℕ → Status
+match_status p t = elim (matches p t) [ true ↦ Complete | false ↦ elim (is_some_next (follows p t)) [ true ↦ Viable | false ↦ Error ] ]
 
 -- the one character that may follow, where it is one alone
 abbrev pub only_next : Next → Option ℕ

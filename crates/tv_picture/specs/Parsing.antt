@@ -12,7 +12,7 @@ use Rattle.tv_picture.specs.declared.parser.Repeat.TheVariants.{Once, Many, Time
 use Rattle.tv_picture.specs.declared.parser.Open.{Open}
 use Rattle.tv_picture.specs.declared.parser.Parser.{Parser}
 use Rattle.tv_picture.specs.Pattern.{Pattern}
-use Rattle.tv_picture.specs.Code.{step, run, top, height_after, height_from}
+use Rattle.tv_picture.specs.Code.{patterns_after, run, top, height_after, height_from}
 
 -- what code leaves: the stack of patterns, and its height where each operation finds its parts
 pub record Built : Type 0 where
@@ -25,7 +25,7 @@ built_by code = record { stack = run [] code; height = height_from 0 code }
 
 -- and after one operation more
 abbrev pub with_op : Built → Op → Built
-with_op b op = record { stack = step b.stack op; height = option_and_then (λ h. height_after h op) b.height }
+with_op b op = record { stack = patterns_after b.stack op; height = option_and_then (λ h. height_after h op) b.height }
 
 -- what was built; the open brackets, the innermost first; whether the sequence comes after a comma; how often
 -- the next part is repeated; whether it comes after `;`
@@ -52,12 +52,12 @@ bracket_op bracket.Square = op.Optional
 bracket_op bracket.Curly = op.Group
 
 -- the part on top of the stack goes to the end of the sequence below it
-abbrev pub finished : Reading → Reading
-finished r = record { built = with_op (repeat_step r.built r.repeat) op.Sequence; brackets = r.brackets; choice = r.choice; repeat = Once; quoted = false }
+abbrev pub part_finished : Reading → Reading
+part_finished r = record { built = with_op (repeat_step r.built r.repeat) op.Sequence; brackets = r.brackets; choice = r.choice; repeat = Once; quoted = false }
 
 -- one character of a text is a part
-abbrev pub with_mark : Reading → Mark → Reading
-with_mark r mark = finished (record { built = with_op r.built (op.One mark); brackets = r.brackets; choice = r.choice; repeat = r.repeat; quoted = r.quoted })
+abbrev pub with_single_mark : Reading → Mark → Reading
+with_single_mark r mark = part_finished (record { built = with_op r.built (op.One mark); brackets = r.brackets; choice = r.choice; repeat = r.repeat; quoted = r.quoted })
 
 -- the next part is not repeated
 abbrev pub is_once : Repeat → Bool
@@ -74,8 +74,8 @@ is_empty_list [] = true
 is_empty_list (o ∷ os) = false
 
 -- a bracket opens, where fewer than 8 are open
-abbrev pub opened : Reading → Bracket → Option Reading
-opened r b = if nat_lt (length r.brackets) 8 then Some (record { built = with_op r.built op.Empty; brackets = (record { bracket = b; repeat = r.repeat; choice = r.choice }) ∷ r.brackets; choice = false; repeat = Once; quoted = false }) else None
+abbrev pub bracket_opened : Reading → Bracket → Option Reading
+bracket_opened r b = if nat_lt (length r.brackets) 8 then Some (record { built = with_op r.built op.Empty; brackets = (record { bracket = b; repeat = r.repeat; choice = r.choice }) ∷ r.brackets; choice = false; repeat = Once; quoted = false }) else None
 
 -- the brackets are of one kind
 abbrev pub is_same : Bracket → Bracket → Bool
@@ -86,11 +86,11 @@ is_same _ _ = false
 -- a bracket closes the innermost one, where that is of its kind
 abbrev pub closed_as : Reading → Bracket → List Open → Option Reading
 closed_as r b [] = None
-closed_as r b (o ∷ os) = if is_same b o.bracket then Some (finished (record { built = with_op (merged r.choice r.built) (bracket_op b); brackets = os; choice = o.choice; repeat = o.repeat; quoted = false })) else None
+closed_as r b (o ∷ os) = if is_same b o.bracket then Some (part_finished (record { built = with_op (merged r.choice r.built) (bracket_op b); brackets = os; choice = o.choice; repeat = o.repeat; quoted = false })) else None
 
 -- and where no part is waited for
-abbrev pub closed : Reading → Bracket → Option Reading
-closed r b = if is_once r.repeat then closed_as r b r.brackets else None
+abbrev pub bracket_closed : Reading → Bracket → Option Reading
+bracket_closed r b = if is_once r.repeat then closed_as r b r.brackets else None
 
 -- a comma ends an alternative
 abbrev pub divided : Reading → Option Reading
@@ -102,7 +102,7 @@ starred r = if is_once r.repeat then Some (record { built = r.built; brackets = 
 
 -- a digit stands for itself, or counts after `*`, up to 120
 abbrev pub counted_as : Reading → ℕ → Repeat → Option Reading
-counted_as r d Once = Some (with_mark r (Literal (48 + d)))
+counted_as r d Once = Some (with_single_mark r (Literal (48 + d)))
 counted_as r d Many = if nat_lt 0 d then Some (record { built = r.built; brackets = r.brackets; choice = r.choice; repeat = Times d; quoted = false }) else None
 counted_as r d (Times n) = if nat_le (n * 10 + d) 120 then Some (record { built = r.built; brackets = r.brackets; choice = r.choice; repeat = Times (n * 10 + d); quoted = false }) else None
 
@@ -113,24 +113,24 @@ quoted_next r = record { built = r.built; brackets = r.brackets; choice = r.choi
 -- what a character that isn't quoted adds
 abbrev pub plain_step : Reading → ℕ → Option Reading
 plain_step r c =
-    if c == 35 then Some (with_mark r Digit)
-    else if c == 63 then Some (with_mark r Letter)
-    else if c == 38 then Some (with_mark r Capital)
-    else if c == 64 then Some (with_mark r Any)
-    else if c == 33 then Some (with_mark r NotLower)
+    if c == 35 then Some (with_single_mark r Digit)
+    else if c == 63 then Some (with_single_mark r Letter)
+    else if c == 38 then Some (with_single_mark r Capital)
+    else if c == 64 then Some (with_single_mark r Any)
+    else if c == 33 then Some (with_single_mark r NotLower)
     else if c == 59 then Some (quoted_next r)
     else if c == 42 then starred r
-    else if c == 91 then opened r bracket.Square
-    else if c == 123 then opened r bracket.Curly
-    else if c == 93 then closed r bracket.Square
-    else if c == 125 then closed r bracket.Curly
+    else if c == 91 then bracket_opened r bracket.Square
+    else if c == 123 then bracket_opened r bracket.Curly
+    else if c == 93 then bracket_closed r bracket.Square
+    else if c == 125 then bracket_closed r bracket.Curly
     else if c == 44 then divided r
     else if nat_le 48 c && nat_le c 57 then counted_as r (c - 48) r.repeat
-    else Some (with_mark r (Literal c))
+    else Some (with_single_mark r (Literal c))
 
 -- what a character adds
 abbrev pub text_step : Reading → ℕ → Option Reading
-text_step r c = if r.quoted then Some (with_mark r (Quoted c)) else plain_step r c
+text_step r c = if r.quoted then Some (with_single_mark r (Quoted c)) else plain_step r c
 
 -- what characters add, one after the other
 abbrev pub text_steps : Reading → List ℕ → Option Reading
@@ -138,8 +138,8 @@ text_steps r [] = Some r
 text_steps r (c ∷ cs) = option_and_then (λ s. text_steps s cs) (text_step r c)
 
 -- nothing read
-abbrev pub start : Reading
-start = record { built = built_by (op.Empty ∷ []); brackets = []; choice = false; repeat = Once; quoted = false }
+abbrev pub nothing_parsed : Reading
+nothing_parsed = record { built = built_by (op.Empty ∷ []); brackets = []; choice = false; repeat = Once; quoted = false }
 
 -- how many patterns stand on the stack
 abbrev pub tall : Bool → List Open → ℕ
@@ -161,4 +161,4 @@ pattern_read r = elim (is_closed r) [ true ↦ Some (top (merged r.choice r.buil
 
 -- the pattern that a picture's text spells, or none where it is no picture's
 abbrev pub picture_of : List ℕ → Option Pattern
-picture_of text = option_and_then pattern_read (text_steps start text)
+picture_of text = option_and_then pattern_read (text_steps nothing_parsed text)

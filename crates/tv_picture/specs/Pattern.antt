@@ -42,27 +42,27 @@ Allows (Literal d) c = c ≡ d
 Allows (Quoted d) c = c ≡ d
 
 -- the text is in the language of the pattern
-abbrev pub Member : Pattern → List ℕ → Type 0
-Member empty text = text ≡ []
-Member (one mark) text = (c : ℕ) × Allows mark c × (text ≡ c ∷ [])
-Member (sequence a b) text = (u : List ℕ) × (v : List ℕ) × Member a u × Member b v × (text ≡ u ++ v)
-Member (either a b) text = Member a text ⊎ Member b text
-Member (optional a) text = (text ≡ []) ⊎ Member a text
-Member (group a) text = Member a text
-Member (many a) text = (pieces : List (List ℕ)) × All (Member a) pieces × (text ≡ concat pieces)
-Member (times n a) text = (pieces : List (List ℕ)) × (length pieces ≡ n) × All (Member a) pieces × (text ≡ concat pieces)
+abbrev pub IsMember : Pattern → List ℕ → Type 0
+IsMember empty text = text ≡ []
+IsMember (one mark) text = (c : ℕ) × Allows mark c × (text ≡ c ∷ [])
+IsMember (sequence a b) text = (u : List ℕ) × (v : List ℕ) × IsMember a u × IsMember b v × (text ≡ u ++ v)
+IsMember (either a b) text = IsMember a text ⊎ IsMember b text
+IsMember (optional a) text = (text ≡ []) ⊎ IsMember a text
+IsMember (group a) text = IsMember a text
+IsMember (many a) text = (pieces : List (List ℕ)) × All (IsMember a) pieces × (text ≡ concat pieces)
+IsMember (times n a) text = (pieces : List (List ℕ)) × (length pieces ≡ n) × All (IsMember a) pieces × (text ≡ concat pieces)
 
 -- the text is a prefix of a member: what is viable or complete
 abbrev pub Begins : Pattern → List ℕ → Type 0
-Begins p text = (more : List ℕ) × Member p (text ++ more)
+Begins p text = (more : List ℕ) × IsMember p (text ++ more)
 
 -- a prefix of a member, and not itself one
 abbrev pub IsViable : Pattern → List ℕ → Type 0
-IsViable p text = Begins p text × ¬ (Member p text)
+IsViable p text = Begins p text × ¬ (IsMember p text)
 
 -- what a text is to a pattern
 abbrev pub IsStatus : Pattern → List ℕ → Status → Type 0
-IsStatus p text Complete = Member p text
+IsStatus p text Complete = IsMember p text
 IsStatus p text Viable = IsViable p text
 IsStatus p text Error = ¬ (Begins p text)
 
@@ -75,7 +75,7 @@ pub record IsNextLiteral (p : Pattern) (text : List ℕ) (c : ℕ) : Type 0 wher
 
 -- a member whose characters all take one column
 abbrev pub IsNarrowMember : Pattern → List ℕ → Type 0
-IsNarrowMember p text = Member p text × All IsNarrow text
+IsNarrowMember p text = IsMember p text × All IsNarrow text
 
 -- the least length of such a member, or 121 where none has 120 characters or fewer
 pub record IsShortest (p : Pattern) (n : ℕ) : Type 0 where

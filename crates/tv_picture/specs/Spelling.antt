@@ -87,13 +87,13 @@ abbrev pub BeginsPicture : List ℕ → Type 0
 BeginsPicture text = (p : Pattern) × (more : List ℕ) × IsPicture p × (spelled p ≡ text ++ more)
 
 -- a picture begins with so many characters of the text and with no more, and the text is no picture
-pub record IsFirstFault (text : List ℕ) (place : ℕ) : Type 0 where
+pub record IsFirstFaultyPlace (text : List ℕ) (place : ℕ) : Type 0 where
   pub within : place ≤ length text
   pub begins : BeginsPicture (take place text)
   pub longest : (k : ℕ) → k ≤ length text → BeginsPicture (take k text) → k ≤ place
   pub refused : (p : Pattern) → IsPicture p → spelled p ≡ text → ⊥
 
 -- why a text is refused: no memory, or where it stops being the beginning of a picture
-abbrev pub Refuses : List ℕ → PictureFault → Type 0
-Refuses text NoMemory = Unit {0}
-Refuses text (Syntax place) = IsFirstFault text place
+abbrev pub RefusesPicture : List ℕ → PictureFault → Type 0
+RefusesPicture text NoMemory = Unit {0}
+RefusesPicture text (Syntax place) = IsFirstFaultyPlace text place

@@ -6,38 +6,38 @@ use Rattle.tv_picture.specs.declared.row.Next.{Next}
 use Rattle.tv_picture.specs.declared.row.Next.TheVariants.{Nothing, Only, Several}
 use Rattle.tv_picture.specs.declared.row.Row.{Row}
 use Rattle.tv_picture.specs.declared.table.Table.{Table}
-use Rattle.tv_picture.specs.Pattern.{Pattern, Member, Begins}
+use Rattle.tv_picture.specs.Pattern.{Pattern, IsMember, Begins}
 
 -- the place is in the set
-abbrev pub Has : Places → ℕ → Type 0
-Has places k = IsBitSet places.bits k
+abbrev pub HasPlace : Places → ℕ → Type 0
+HasPlace places k = IsBitSet places.bits k
 
 -- how many characters have the property: none, the one, or more
-abbrev pub Names : (ℕ → Type 0) → Next → Type 0
-Names P Nothing = (c : ℕ) → P c → ⊥
-Names P (Only c) = P c × ((d : ℕ) → P d → d ≡ c)
-Names P Several = (c : ℕ) × (d : ℕ) × P c × P d × (c ≢ d)
+abbrev pub NamesNext : (ℕ → Type 0) → Next → Type 0
+NamesNext P Nothing = (c : ℕ) → P c → ⊥
+NamesNext P (Only c) = P c × ((d : ℕ) → P d → d ≡ c)
+NamesNext P Several = (c : ℕ) × (d : ℕ) × P c × P d × (c ≢ d)
 
 -- the characters of either
-abbrev pub joined : Next → Next → Next
-joined Nothing b = b
-joined (Only c) Nothing = Only c
-joined (Only c) (Only d) = if c == d then Only c else Several
-joined (Only c) Several = Several
-joined Several b = Several
+abbrev pub either_next : Next → Next → Next
+either_next Nothing b = b
+either_next (Only c) Nothing = Only c
+either_next (Only c) (Only d) = if c == d then Only c else Several
+either_next (Only c) Several = Several
+either_next Several b = Several
 
 -- a member stands from the place at which the rest begins to another
 abbrev pub Spans : Pattern → List ℕ → ℕ → ℕ → Type 0
-Spans a rest from to = (u : List ℕ) × (v : List ℕ) × Member a u × (rest ≡ u ++ v) × (to ≡ from + length u)
+Spans a rest from to = (u : List ℕ) × (v : List ℕ) × IsMember a u × (rest ≡ u ++ v) × (to ≡ from + length u)
 
 -- the character may follow the rest
-abbrev pub Follows : Pattern → List ℕ → ℕ → Type 0
-Follows a rest c = Begins a (rest ++ c ∷ [])
+abbrev pub MayFollow : Pattern → List ℕ → ℕ → Type 0
+MayFollow a rest c = Begins a (rest ++ c ∷ [])
 
 -- the row has the places to which members stand, and the characters that may follow the rest
-pub record IsRow (a : Pattern) (rest : List ℕ) (from : ℕ) (row : Row) : Type 0 where
-  pub ends : (to : ℕ) → Has row.ends to ↔ Spans a rest from to
-  pub next : Names (Follows a rest) row.next
+pub record IsTableRow (a : Pattern) (rest : List ℕ) (from : ℕ) (row : Row) : Type 0 where
+  pub ends : (to : ℕ) → HasPlace row.ends to ↔ Spans a rest from to
+  pub next : NamesNext (MayFollow a rest) row.next
 
 -- the row of a place outside the text
 abbrev pub no_row : Row
@@ -48,18 +48,18 @@ abbrev pub row_at : Table → ℕ → Row
 row_at table place = slice_index_or table.rows place no_row
 
 -- the table has the row of each place of the text
-pub record Covers (a : Pattern) (text : List ℕ) (table : Table) : Type 0 where
-  pub at : (from : ℕ) → from ≤ length text → IsRow a (drop from text) from (row_at table from)
+pub record HasEachRow (a : Pattern) (text : List ℕ) (table : Table) : Type 0 where
+  pub at : (from : ℕ) → from ≤ length text → IsTableRow a (drop from text) from (row_at table from)
 
 -- from one of these places on, the character may follow the text
 abbrev pub FollowsFrom : Places → Pattern → List ℕ → ℕ → ℕ → ℕ → Type 0
-FollowsFrom places b text start stop c = (r : ℕ) × (start ≤ r) × (r < stop) × Has places r × Follows b (drop r text) c
+FollowsFrom places b text start stop c = (r : ℕ) × (start ≤ r) × (r < stop) × HasPlace places r × MayFollow b (drop r text) c
 
 -- the result has what the first row has, and the rows of the table at these places
 pub record Gathers (places : Places) (table : Table) (start stop : ℕ) (first result : Row) : Type 0 where
-  pub ends : (k : ℕ) → Has result.ends k ↔ (Has first.ends k ⊎ ((r : ℕ) × (start ≤ r) × (r < stop) × Has places r × Has (row_at table r).ends k))
+  pub ends : (k : ℕ) → HasPlace result.ends k ↔ (HasPlace first.ends k ⊎ ((r : ℕ) × (start ≤ r) × (r < stop) × HasPlace places r × HasPlace (row_at table r).ends k))
   pub next :
       (a b : Pattern) (text : List ℕ) (from : ℕ) →
-      Names (Follows a (drop from text)) first.next →
-      ((r : ℕ) → start ≤ r → r < stop → Has places r → Names (Follows b (drop r text)) (row_at table r).next) →
-      Names (λ c. Follows a (drop from text) c ⊎ FollowsFrom places b text start stop c) result.next
+      NamesNext (MayFollow a (drop from text)) first.next →
+      ((r : ℕ) → start ≤ r → r < stop → HasPlace places r → NamesNext (MayFollow b (drop r text)) (row_at table r).next) →
+      NamesNext (λ c. MayFollow a (drop from text) c ⊎ FollowsFrom places b text start stop c) result.next

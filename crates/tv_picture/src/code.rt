@@ -2,7 +2,7 @@
 
 ghost use Rattle.std.specs.Prelude.{◌↔◌, IsTrue};
 ghost use Rattle.tv_picture.specs.Pattern.{Allows};
-ghost use Rattle.tv_picture.specs.Table.{Names};
+ghost use Rattle.tv_picture.specs.Table.{NamesNext};
 
 use crate::row::Next;
 
@@ -45,7 +45,7 @@ impl Mark {
 
     /// The characters that it stands for.
     pub fn next(self) -> Next
-        ensures { Names (Allows self) result }
+        ensures { NamesNext (Allows self) result }
     {
         match self {
             Mark::Literal(own) | Mark::Quoted(own) => Next::Only(own),

@@ -1,7 +1,7 @@
 //! A picture read from its text.
 
 ghost use Rattle.std.specs.Prelude.{◌≡◌, ◌+◌, ◌≤◌, ◌<◌, ℕ, Some, IfOk, OnOk, MatchOption, true, false};
-ghost use Rattle.tv_picture.specs.Parsing.{reading, start, with_mark, finished, merged, opened, closed, divided, starred, counted_as, text_step, built_by, with_op, is_closed, Took};
+ghost use Rattle.tv_picture.specs.Parsing.{reading, nothing_parsed, with_single_mark, part_finished, merged, bracket_opened, bracket_closed, divided, starred, counted_as, text_step, built_by, with_op, is_closed, Took};
 
 use crate::code::{Mark, Op};
 use arrayvec::ArrayVec;
@@ -52,7 +52,7 @@ pub struct Parser {
 impl Parser {
     /// Nothing read.
     pub fn new(alloc: Global) -> Result<Parser, AllocError>
-        ensures { IfOk result (λ parser. reading parser ≡ start) }
+        ensures { IfOk result (λ parser. reading parser ≡ nothing_parsed) }
     {
         let mut code = Vec::new(alloc);
         code.push(Op::Empty)?;
@@ -75,7 +75,7 @@ impl Parser {
 
     /// The part on top of the stack goes to the end of the sequence.
     fn finish(&mut self) -> Result<(), AllocError>
-        ensures { OnOk result (reading self.new ≡ finished (reading self.old)) }
+        ensures { OnOk result (reading self.new ≡ part_finished (reading self.old)) }
     {
         match self.repeat {
             Repeat::Once => {}
@@ -89,7 +89,7 @@ impl Parser {
     }
 
     fn mark(&mut self, mark: Mark) -> Result<bool, AllocError>
-        ensures { IfOk result (λ took. Took (Some (with_mark (reading self.old) mark)) took (reading self.new)) }
+        ensures { IfOk result (λ took. Took (Some (with_single_mark (reading self.old) mark)) took (reading self.new)) }
     {
         self.emit(Op::One(mark))?;
         self.finish()?;
@@ -108,7 +108,7 @@ impl Parser {
     }
 
     fn open(&mut self, bracket: Bracket) -> Result<bool, AllocError>
-        ensures { IfOk result (λ took. Took (opened (reading self.old) bracket) took (reading self.new)) }
+        ensures { IfOk result (λ took. Took (bracket_opened (reading self.old) bracket) took (reading self.new)) }
     {
         if self.brackets.is_full() {
             return Ok(false);
@@ -126,7 +126,7 @@ impl Parser {
     }
 
     fn close(&mut self, bracket: Bracket) -> Result<bool, AllocError>
-        ensures { IfOk result (λ took. Took (closed (reading self.old) bracket) took (reading self.new)) }
+        ensures { IfOk result (λ took. Took (bracket_closed (reading self.old) bracket) took (reading self.new)) }
     {
         if self.repeat != Repeat::Once {
             return Ok(false);

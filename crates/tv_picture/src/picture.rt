@@ -1,11 +1,11 @@
 //! A parsed picture.
 
 ghost use Rattle.std.specs.Prelude.{◌≡◌, ◌≢◌, ◌≤◌, ◌++◌, ℕ, List, [], length, take, chars, Contains, Some, IfSome, IfNone, IfOk, IfErr, MatchResult};
-ghost use Rattle.tv_picture.specs.Pattern.{Pattern, Member, Begins, IsStatus, IsNextLiteral, IsShortest};
-ghost use Rattle.tv_picture.specs.Spelling.{spelled, IsPicture, Refuses};
+ghost use Rattle.tv_picture.specs.Pattern.{Pattern, IsMember, Begins, IsStatus, IsNextLiteral, IsShortest};
+ghost use Rattle.tv_picture.specs.Spelling.{spelled, IsPicture, RefusesPicture};
 ghost use Rattle.tv_picture.specs.Parsing.{picture_of};
-ghost use Rattle.tv_picture.specs.Matching.{status_of, next_literal_of, shortest_length};
-ghost use Rattle.tv_picture.specs.Table.{IsRow};
+ghost use Rattle.tv_picture.specs.Matching.{match_status, next_literal_of, shortest_length};
+ghost use Rattle.tv_picture.specs.Table.{IsTableRow};
 
 use crate::code::Op;
 use crate::fault::PictureFault;
@@ -60,7 +60,7 @@ impl Picture {
     /// Reads a picture.
     pub fn parse(alloc: Global, text: &str) -> Result<Picture, PictureFault>
         ensures ok { IfOk result (λ p. IsPicture p × (spelled p ≡ chars text.now)) }
-        ensures err { IfErr result (λ fault. Refuses (chars text.now) fault) }
+        ensures err { IfErr result (λ fault. RefusesPicture (chars text.now) fault) }
         ensures only { (p : Pattern) → IsPicture p → spelled p ≡ chars text.now → MatchResult result (λ q. q ≡ p) (λ fault. fault ≡ PictureFault.NoMemory) }
         ensures computed { IfOk result (λ p. picture_of (chars text.now) ≡ Some p) }
     {
@@ -71,7 +71,7 @@ impl Picture {
     /// Reads a picture from its characters.
     pub fn from_chars(alloc: Global, text: &[char]) -> Result<Picture, PictureFault>
         ensures ok { IfOk result (λ p. IsPicture p × (spelled p ≡ text.now)) }
-        ensures err { IfErr result (λ fault. Refuses text.now fault) }
+        ensures err { IfErr result (λ fault. RefusesPicture text.now fault) }
         ensures only { (p : Pattern) → IsPicture p → spelled p ≡ text.now → MatchResult result (λ q. q ≡ p) (λ fault. fault ≡ PictureFault.NoMemory) }
         ensures computed { IfOk result (λ p. picture_of text.now ≡ Some p) }
     {
@@ -91,7 +91,7 @@ impl Picture {
     /// Where the picture's members that begin the text end in it, and what may follow the text.
     fn row(&self, text: &[char]) -> Row
         requires { length text.now ≤ 120 }
-        ensures { IsRow self.now text.now 0 result }
+        ensures { IsTableRow self.now text.now 0 result }
     {
         read(&self.code, text)
     }
@@ -103,9 +103,9 @@ impl Picture {
     pub fn status(&self, text: &[char]) -> Status
         requires { length text.now ≤ 120 }
         ensures status { IsStatus self.now text.now result }
-        ensures completed { result ≡ Status.Viable → (more : List ℕ) × (more ≢ []) × Member self.now (text.now ++ more) }
+        ensures completed { result ≡ Status.Viable → (more : List ℕ) × (more ≢ []) × IsMember self.now (text.now ++ more) }
         ensures beginnings { result ≢ Status.Error → (k : ℕ) → Begins self.now (take k text.now) }
-        ensures computed { result ≡ status_of self.now text.now }
+        ensures computed { result ≡ match_status self.now text.now }
     {
         let row = self.row(text);
         if row.ends.has(text.len()) {

@@ -1,7 +1,7 @@
 //! Sets of places of a text.
 
 ghost use Rattle.std.specs.Prelude.{◌≡◌, ◌↔◌, ◌+◌, ◌<◌, ◌≤◌, ◌⊎◌, ℕ, IsTrue};
-ghost use Rattle.tv_picture.specs.Table.{Has};
+ghost use Rattle.tv_picture.specs.Table.{HasPlace};
 
 /// A set of places, each below 128.
 #[derive(Clone, Copy, PartialEq, Eq)]
@@ -15,7 +15,7 @@ impl Places {
     /// This place alone.
     pub fn only(place: usize) -> Places
         requires { place < 128 }
-        ensures { (k : ℕ) → Has result k ↔ (k ≡ place) }
+        ensures { (k : ℕ) → HasPlace result k ↔ (k ≡ place) }
     {
         Places { bits: 1 << place }
     }
@@ -23,14 +23,14 @@ impl Places {
     #[inline(always)]
     pub fn has(self, place: usize) -> bool
         requires { place < 128 }
-        ensures { IsTrue result ↔ Has self place }
+        ensures { IsTrue result ↔ HasPlace self place }
     {
         self.bits & (1 << place) != 0
     }
 
     #[inline(always)]
     pub fn union(self, other: Places) -> Places
-        ensures { (k : ℕ) → Has result k ↔ (Has self k ⊎ Has other k) }
+        ensures { (k : ℕ) → HasPlace result k ↔ (HasPlace self k ⊎ HasPlace other k) }
     {
         Places {
             bits: self.bits | other.bits,
@@ -41,7 +41,7 @@ impl Places {
     #[inline(always)]
     pub fn past(self, place: usize) -> Places
         requires { place < 128 }
-        ensures { (k : ℕ) → Has result k ↔ Has self (place + k) }
+        ensures { (k : ℕ) → HasPlace result k ↔ HasPlace self (place + k) }
     {
         Places {
             bits: self.bits >> place,
@@ -52,7 +52,7 @@ impl Places {
     #[inline(always)]
     pub fn is_below(self, place: usize) -> bool
         requires { place < 128 }
-        ensures { IsTrue result ↔ ((k : ℕ) → place ≤ k → Has self k → ⊥) }
+        ensures { IsTrue result ↔ ((k : ℕ) → place ≤ k → HasPlace self k → ⊥) }
     {
         self.bits >> place == 0
     }

@@ -2,9 +2,9 @@
 
 ghost use Rattle.std.specs.Prelude.{◌≡◌, ◌+◌, ◌<◌, ◌≤◌, ℕ, List, length, Some, IsSome, IfSome};
 ghost use Rattle.tv_picture.specs.Pattern.{Pattern};
-ghost use Rattle.tv_picture.specs.Code.{step, height_after, height_from, pattern_of};
-ghost use Rattle.tv_picture.specs.Machine.{Stands, IsWithin};
-ghost use Rattle.tv_picture.specs.Table.{Covers, IsRow};
+ghost use Rattle.tv_picture.specs.Code.{patterns_after, height_after, height_from, pattern_of};
+ghost use Rattle.tv_picture.specs.Machine.{StandsBelow, IsWithin};
+ghost use Rattle.tv_picture.specs.Table.{HasEachRow, IsTableRow};
 
 use crate::code::{HEIGHT, Op};
 use crate::row::Row;
@@ -43,7 +43,7 @@ fn apply(tables: &mut [Table], height: usize, op: Op, text: &[char])
     requires room { IfSome (height_after height op) (λ h. h ≤ length tables.old) }
     requires within { height ≤ length tables.old }
     ensures count { length tables.new ≡ length tables.old }
-    ensures tables { (ps : List Pattern) (h : ℕ) → height_after height op ≡ Some h → Stands (λ p t. Covers p text.now t) tables.old height ps → Stands (λ p t. Covers p text.now t) tables.new h (step ps op) }
+    ensures tables { (ps : List Pattern) (h : ℕ) → height_after height op ≡ Some h → StandsBelow (λ p t. HasEachRow p text.now t) tables.old height ps → StandsBelow (λ p t. HasEachRow p text.now t) tables.new h (patterns_after ps op) }
 {
     let len = text.len();
     match op {
@@ -70,7 +70,7 @@ fn run(code: &[Op], text: &[char], tables: &mut [Table]) -> Row
     requires few { length text.now ≤ 120 }
     requires whole { height_from 0 code.now ≡ Some 1 }
     requires room { IsWithin (length tables.old) 0 code.now }
-    ensures { IsRow (pattern_of code.now) text.now 0 result }
+    ensures { IsTableRow (pattern_of code.now) text.now 0 result }
 {
     let mut height = 0;
     for op in code {
@@ -86,7 +86,7 @@ fn read_with<const N: usize>(code: &[Op], text: &[char]) -> Row
     requires whole { height_from 0 code.now ≡ Some 1 }
     requires room { IsWithin N 0 code.now }
     requires fits { N ≤ 20 }
-    ensures { IsRow (pattern_of code.now) text.now 0 result }
+    ensures { IsTableRow (pattern_of code.now) text.now 0 result }
 {
     let mut tables = [Table::BLANK; N];
     run(code, text, &mut tables)
@@ -98,7 +98,7 @@ fn read_with<const N: usize>(code: &[Op], text: &[char]) -> Row
 pub fn read(code: &[Op], text: &[char]) -> Row
     requires few { length text.now ≤ 120 }
     requires whole { height_from 0 code.now ≡ Some 1 }
-    ensures { IsRow (pattern_of code.now) text.now 0 result }
+    ensures { IsTableRow (pattern_of code.now) text.now 0 result }
 {
     match most(code) {
         0..=2 => read_with::<2>(code, text),

@@ -1,7 +1,7 @@
 //! What is known of a pattern from one place of a text on.
 
 ghost use Rattle.std.specs.Prelude.{◌≡◌, ◌↔◌, ◌⊎◌, ℕ, IsTrue};
-ghost use Rattle.tv_picture.specs.Table.{Has, joined};
+ghost use Rattle.tv_picture.specs.Table.{HasPlace, either_next};
 
 use crate::places::Places;
 
@@ -17,7 +17,7 @@ impl Next {
     /// The characters of either.
     #[inline(always)]
     pub fn join(self, other: Next) -> Next
-        ensures { result ≡ joined self other }
+        ensures { result ≡ either_next self other }
     {
         match (self, other) {
             (Next::Nothing, next) | (next, Next::Nothing) => next,
@@ -61,8 +61,8 @@ impl Row {
     /// What either row has.
     #[inline(always)]
     pub fn join(self, other: Row) -> Row
-        ensures ends { (k : ℕ) → Has result.ends k ↔ (Has self.ends k ⊎ Has other.ends k) }
-        ensures next { result.next ≡ joined self.next other.next }
+        ensures ends { (k : ℕ) → HasPlace result.ends k ↔ (HasPlace self.ends k ⊎ HasPlace other.ends k) }
+        ensures next { result.next ≡ either_next self.next other.next }
     {
         Row {
             ends: self.ends.union(other.ends),

@@ -2,8 +2,8 @@
 
 ghost use Rattle.std.specs.Prelude.{◌≡◌, ◌+◌, ◌*◌, ◌<◌, ◌≤◌, min, ℕ, List, Some, IsSome};
 ghost use Rattle.tv_picture.specs.Pattern.{Pattern, IsShortest, one};
-ghost use Rattle.tv_picture.specs.Code.{step, height_after, height_from, pattern_of};
-ghost use Rattle.tv_picture.specs.Machine.{Made, Stands};
+ghost use Rattle.tv_picture.specs.Code.{patterns_after, height_after, height_from, pattern_of};
+ghost use Rattle.tv_picture.specs.Machine.{Made, StandsBelow};
 
 use crate::code::{HEIGHT, Mark, Op};
 use unicode_width::UnicodeWidthChar;
@@ -25,7 +25,7 @@ impl Lengths {
         requires fits { IsSome (height_after self.now.height op) }
         ensures place { height_after self.now.height op ≡ Some (result.0 + 1) }
         ensures bound { result.0 < 20 }
-        ensures length { (ps : List Pattern) → Stands IsShortest self.now.lengths self.now.height ps → Made IsShortest self.now.lengths result.0 result.1 (step ps op) }
+        ensures length { (ps : List Pattern) → StandsBelow IsShortest self.now.lengths self.now.height ps → Made IsShortest self.now.lengths result.0 result.1 (patterns_after ps op) }
     {
         let height = self.height;
         match op {
@@ -48,7 +48,7 @@ impl Lengths {
     fn apply(&mut self, op: Op)
         requires { IsSome (height_after self.old.height op) }
         ensures height { height_after self.old.height op ≡ Some self.new.height }
-        ensures lengths { (ps : List Pattern) → Stands IsShortest self.old.lengths self.old.height ps → Stands IsShortest self.new.lengths self.new.height (step ps op) }
+        ensures lengths { (ps : List Pattern) → StandsBelow IsShortest self.old.lengths self.old.height ps → StandsBelow IsShortest self.new.lengths self.new.height (patterns_after ps op) }
     {
         let (place, length) = self.made(op);
         self.lengths[place] = length;

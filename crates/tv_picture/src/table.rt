@@ -2,7 +2,7 @@
 
 ghost use Rattle.std.specs.Prelude.{◌≡◌, ◌↔◌, ◌+◌, ◌≤◌, ◌<◌, ℕ, List, length, IsTrue};
 ghost use Rattle.tv_picture.specs.Pattern.{Pattern, Allows, empty, one, sequence, either, optional, many, times};
-ghost use Rattle.tv_picture.specs.Table.{Covers, Gathers, Names};
+ghost use Rattle.tv_picture.specs.Table.{HasEachRow, Gathers, NamesNext};
 
 use crate::code::Mark;
 use crate::places::Places;
@@ -26,7 +26,7 @@ impl Table {
     /// Makes it the table of the empty sequence.
     pub fn set_empty(&mut self, len: usize)
         requires { len ≤ 120 }
-        ensures { (text : List ℕ) → length text ≡ len → Covers empty text self.new }
+        ensures { (text : List ℕ) → length text ≡ len → HasEachRow empty text self.new }
     {
         for place in 0..len + 1 {
             self.rows[place] = Row {
@@ -39,7 +39,7 @@ impl Table {
     /// Makes it the table of one character.
     pub fn set_one(&mut self, mark: Mark, text: &[char])
         requires { length text.now ≤ 120 }
-        ensures { Covers (one mark) text.now self.new }
+        ensures { HasEachRow (one mark) text.now self.new }
     {
         for (place, ch) in text.iter().enumerate() {
             self.rows[place] = Row {
@@ -60,7 +60,7 @@ impl Table {
     /// Makes it the table of a sequence: itself, then the other.
     pub fn then(&mut self, other: &Table, len: usize)
         requires { len ≤ 120 }
-        ensures { (a b : Pattern) (text : List ℕ) → length text ≡ len → Covers a text self.old → Covers b text other.now → Covers (sequence a b) text self.new }
+        ensures { (a b : Pattern) (text : List ℕ) → length text ≡ len → HasEachRow a text self.old → HasEachRow b text other.now → HasEachRow (sequence a b) text self.new }
     {
         for from in 0..len + 1 {
             let row = self.rows[from];
@@ -72,7 +72,7 @@ impl Table {
     /// those of later places alone.
     fn square(&mut self, len: usize) -> bool
         requires { len ≤ 120 }
-        ensures joins { (a b : Pattern) (text : List ℕ) → length text ≡ len → Covers a text self.old → Covers b text self.old → Covers (sequence a b) text self.new }
+        ensures joins { (a b : Pattern) (text : List ℕ) → length text ≡ len → HasEachRow a text self.old → HasEachRow b text self.old → HasEachRow (sequence a b) text self.new }
         ensures same { IsTrue result → self.new ≡ self.old }
     {
         let mut same = true;
@@ -108,7 +108,7 @@ impl Table {
     /// Makes it the table of alternatives: itself, or the other.
     pub fn or(&mut self, other: &Table, len: usize)
         requires { len ≤ 120 }
-        ensures { (a b : Pattern) (text : List ℕ) → length text ≡ len → Covers a text self.old → Covers b text other.now → Covers (either a b) text self.new }
+        ensures { (a b : Pattern) (text : List ℕ) → length text ≡ len → HasEachRow a text self.old → HasEachRow b text other.now → HasEachRow (either a b) text self.new }
     {
         for place in 0..len + 1 {
             self.rows[place] = self.rows[place].join(other.rows[place]);
@@ -118,7 +118,7 @@ impl Table {
     /// Makes it the table of an option.
     pub fn set_optional(&mut self, len: usize)
         requires { len ≤ 120 }
-        ensures { (a : Pattern) (text : List ℕ) → length text ≡ len → Covers a text self.old → Covers (optional a) text self.new }
+        ensures { (a : Pattern) (text : List ℕ) → length text ≡ len → HasEachRow a text self.old → HasEachRow (optional a) text self.new }
     {
         for place in 0..len + 1 {
             let stays = Row {
@@ -132,7 +132,7 @@ impl Table {
     /// Makes it the table of a repetition any number of times. A row needs those of later places alone.
     pub fn repeat(&mut self, len: usize)
         requires { len ≤ 120 }
-        ensures { (a : Pattern) (text : List ℕ) → length text ≡ len → Covers a text self.old → Covers (many a) text self.new }
+        ensures { (a : Pattern) (text : List ℕ) → length text ≡ len → HasEachRow a text self.old → HasEachRow (many a) text self.new }
     {
         for done in 0..len + 1 {
             let from = len - done;
@@ -148,7 +148,7 @@ impl Table {
     /// Makes it the table of a repetition so many times, by squaring.
     pub fn repeat_times(&mut self, count: u8, len: usize)
         requires { len ≤ 120 }
-        ensures { (a : Pattern) (text : List ℕ) → length text ≡ len → Covers a text self.old → Covers (times count a) text self.new }
+        ensures { (a : Pattern) (text : List ℕ) → length text ≡ len → HasEachRow a text self.old → HasEachRow (times count a) text self.new }
     {
         let mut power = *self;
         self.set_empty(len);

@@ -6,7 +6,7 @@ use Rattle.std.proofs.lemmas.List.Elements.{All-nil, All-head, All-tail, All-con
 use Rattle.std.proofs.lemmas.Bool.{eqb-true, eq-eqb}
 use Rattle.std.proofs.Math.Seq.{drop-append_seam, take-append_seam, take-length}
 use Rattle.tv_picture.specs.declared.code.Mark.{Mark}
-use Rattle.tv_picture.specs.Pattern.{Pattern, empty, one, optional, sequence, many, times, Member, Begins}
+use Rattle.tv_picture.specs.Pattern.{Pattern, empty, one, optional, sequence, many, times, IsMember, Begins}
 use Rattle.tv_picture.proofs.Language.{has_member, cut, Inside, Past, Parted, many_parted, many_cons, many_one}
 
 -- at no place from the first on below the second the text is divided between the two
@@ -58,46 +58,46 @@ is_none b t e = (
 
 -- ---- members
 
-pub sequence_divided : (a b : Pattern) (t : List ℕ) → Member (sequence a b) t → Divided (Member a) (Member b) t 0
-sequence_divided a b t (u, v, ma, mb, e) = divided (Member a) (Member b) 0 u v t (omega arith) e ma mb
+pub sequence_divided : (a b : Pattern) (t : List ℕ) → IsMember (sequence a b) t → Divided (IsMember a) (IsMember b) t 0
+sequence_divided a b t (u, v, ma, mb, e) = divided (IsMember a) (IsMember b) 0 u v t (omega arith) e ma mb
 
-pub divided_sequence : (a b : Pattern) (t : List ℕ) (k : ℕ) → Member a (take k t) → Member b (from k t) → Member (sequence a b) t
-divided_sequence a b t k ma mb = (take k t, drop k t, ma, subst (Member b) (from_drop k t) mb, sym (take-append-drop k t))
+pub divided_sequence : (a b : Pattern) (t : List ℕ) (k : ℕ) → IsMember a (take k t) → IsMember b (from k t) → IsMember (sequence a b) t
+divided_sequence a b t k ma mb = (take k t, drop k t, ma, subst (IsMember b) (from_drop k t) mb, sym (take-append-drop k t))
 
-pub many_divided : (a : Pattern) (t : List ℕ) → Member (many a) t → (t ≡ []) ⊎ Divided (Member a) (Member (many a)) t 1
+pub many_divided : (a : Pattern) (t : List ℕ) → IsMember (many a) t → (t ≡ []) ⊎ Divided (IsMember a) (IsMember (many a)) t 1
 many_divided a t m = cases (many_parted a t m)
   where
-    cases : (t ≡ []) ⊎ Parted a t → (t ≡ []) ⊎ Divided (Member a) (Member (many a)) t 1
+    cases : (t ≡ []) ⊎ Parted a t → (t ≡ []) ⊎ Divided (IsMember a) (IsMember (many a)) t 1
     cases (inl e) = inl e
-    cases (inr (x, u, v, ma, mb, e)) = inr (divided (Member a) (Member (many a)) 1 (x ∷ u) v t (omega arith) e ma mb)
+    cases (inr (x, u, v, ma, mb, e)) = inr (divided (IsMember a) (IsMember (many a)) 1 (x ∷ u) v t (omega arith) e ma mb)
 
-pub divided_many : (a : Pattern) (t : List ℕ) (k : ℕ) → Member a (take k t) → Member (many a) (from k t) → Member (many a) t
-divided_many a t k ma mb = subst (Member (many a)) (take-append-drop k t) (many_cons a (take k t) (drop k t) ma (subst (Member (many a)) (from_drop k t) mb))
+pub divided_many : (a : Pattern) (t : List ℕ) (k : ℕ) → IsMember a (take k t) → IsMember (many a) (from k t) → IsMember (many a) t
+divided_many a t k ma mb = subst (IsMember (many a)) (take-append-drop k t) (many_cons a (take k t) (drop k t) ma (subst (IsMember (many a)) (from_drop k t) mb))
 
-pub nothing_many : (a : Pattern) (t : List ℕ) → t ≡ [] → Member (many a) t
-nothing_many a t e = ([], All-nil (Member a), e)
+pub nothing_many : (a : Pattern) (t : List ℕ) → t ≡ [] → IsMember (many a) t
+nothing_many a t e = ([], All-nil (IsMember a), e)
 
-pub times_sequence : (n m : ℕ) (a : Pattern) (t : List ℕ) → m ≡ n + 1 → Member (times m a) t → Member (sequence a (times n a)) t
+pub times_sequence : (n m : ℕ) (a : Pattern) (t : List ℕ) → m ≡ n + 1 → IsMember (times m a) t → IsMember (sequence a (times n a)) t
 times_sequence n m a t h ([], len, all, e) = absurd (omega arith)
 times_sequence n m a t h (p ∷ ps, len, all, e) =
-    (p, concat ps, All-head (Member a) p ps all, (ps, omega arith, All-tail (Member a) p ps all, refl), e)
+    (p, concat ps, All-head (IsMember a) p ps all, (ps, omega arith, All-tail (IsMember a) p ps all, refl), e)
 
-pub sequence_times : (n m : ℕ) (a : Pattern) (t : List ℕ) → m ≡ n + 1 → Member (sequence a (times n a)) t → Member (times m a) t
+pub sequence_times : (n m : ℕ) (a : Pattern) (t : List ℕ) → m ≡ n + 1 → IsMember (sequence a (times n a)) t → IsMember (times m a) t
 sequence_times n m a t h (u, v, ma, (ps, len, all, f), e) =
-    (u ∷ ps, omega arith, All-cons (Member a) u ps ma all, e ∙ ap (λ x. u ++ x) f)
+    (u ∷ ps, omega arith, All-cons (IsMember a) u ps ma all, e ∙ ap (λ x. u ++ x) f)
 
-pub times_none : (a : Pattern) (t : List ℕ) → Member (times 0 a) t → t ≡ []
+pub times_none : (a : Pattern) (t : List ℕ) → IsMember (times 0 a) t → t ≡ []
 times_none a t ([], len, all, e) = e
 times_none a t (p ∷ ps, len, all, e) = absurd (omega arith)
 
 -- ---- beginnings
 
-pub sequence_begun : (a b : Pattern) (t : List ℕ) → Begins (sequence a b) t → Begins a t ⊎ Divided (Member a) (Begins b) t 0
+pub sequence_begun : (a b : Pattern) (t : List ℕ) → Begins (sequence a b) t → Begins a t ⊎ Divided (IsMember a) (Begins b) t 0
 sequence_begun a b t (more, (u, w, ma, mb, e)) = cases (cut t more u w e)
   where
-    cases : Inside t more u w ⊎ Past t more u w → Begins a t ⊎ Divided (Member a) (Begins b) t 0
-    cases (inl (v, p, q)) = inr (divided (Member a) (Begins b) 0 u v t (omega arith) p ma (more, subst (Member b) q mb))
-    cases (inr (d, v, p, q)) = inl (d ∷ v, subst (Member a) p ma)
+    cases : Inside t more u w ⊎ Past t more u w → Begins a t ⊎ Divided (IsMember a) (Begins b) t 0
+    cases (inl (v, p, q)) = inr (divided (IsMember a) (Begins b) 0 u v t (omega arith) p ma (more, subst (IsMember b) q mb))
+    cases (inr (d, v, p, q)) = inl (d ∷ v, subst (IsMember a) p ma)
 
 pub begun_first : (a b : Pattern) (t : List ℕ) → Begins a t → Begins (sequence a b) t
 begun_first a b t (more, m) = let y = has_member b in
@@ -106,29 +106,29 @@ begun_first a b t (more, m) = let y = has_member b in
 parted_more : (t more : List ℕ) (k : ℕ) → take k t ++ (drop k t ++ more) ≡ t ++ more
 parted_more t more k = sym (append_assoc (take k t) (drop k t) more) ∙ ap (λ x. x ++ more) (take-append-drop k t)
 
-pub begun_later : (a b : Pattern) (t : List ℕ) (k : ℕ) → Member a (take k t) → Begins b (from k t) → Begins (sequence a b) t
-begun_later a b t k ma (more, m) = (more, (take k t, drop k t ++ more, ma, subst (λ x. Member b (x ++ more)) (from_drop k t) m, sym (parted_more t more k)))
+pub begun_later : (a b : Pattern) (t : List ℕ) (k : ℕ) → IsMember a (take k t) → Begins b (from k t) → Begins (sequence a b) t
+begun_later a b t k ma (more, m) = (more, (take k t, drop k t ++ more, ma, subst (λ x. IsMember b (x ++ more)) (from_drop k t) m, sym (parted_more t more k)))
 
 nothing_before : (t more : List ℕ) → t ++ more ≡ [] → t ≡ []
 nothing_before [] more e = refl
 nothing_before (x ∷ t) more e = cc
 
-pub many_begun : (a : Pattern) (t : List ℕ) → Begins (many a) t → Begins a t ⊎ Divided (Member a) (Begins (many a)) t 1
+pub many_begun : (a : Pattern) (t : List ℕ) → Begins (many a) t → Begins a t ⊎ Divided (IsMember a) (Begins (many a)) t 1
 many_begun a t (more, m) = cases (many_parted a (t ++ more) m)
   where
-    parts : (x : ℕ) (u w : List ℕ) → Member a (x ∷ u) → Member (many a) w → Inside t more (x ∷ u) w ⊎ Past t more (x ∷ u) w → Begins a t ⊎ Divided (Member a) (Begins (many a)) t 1
-    parts x u w ma mb (inl (v, p, q)) = inr (divided (Member a) (Begins (many a)) 1 (x ∷ u) v t (omega arith) p ma (more, subst (Member (many a)) q mb))
-    parts x u w ma mb (inr (d, v, p, q)) = inl (d ∷ v, subst (Member a) p ma)
+    parts : (x : ℕ) (u w : List ℕ) → IsMember a (x ∷ u) → IsMember (many a) w → Inside t more (x ∷ u) w ⊎ Past t more (x ∷ u) w → Begins a t ⊎ Divided (IsMember a) (Begins (many a)) t 1
+    parts x u w ma mb (inl (v, p, q)) = inr (divided (IsMember a) (Begins (many a)) 1 (x ∷ u) v t (omega arith) p ma (more, subst (IsMember (many a)) q mb))
+    parts x u w ma mb (inr (d, v, p, q)) = inl (d ∷ v, subst (IsMember a) p ma)
 
-    cases : (t ++ more ≡ []) ⊎ Parted a (t ++ more) → Begins a t ⊎ Divided (Member a) (Begins (many a)) t 1
+    cases : (t ++ more ≡ []) ⊎ Parted a (t ++ more) → Begins a t ⊎ Divided (IsMember a) (Begins (many a)) t 1
     cases (inl e) = inl (subst (Begins a) (sym (nothing_before t more e)) (has_member a))
     cases (inr (x, u, v, ma, mb, e)) = parts x u v ma mb (cut t more (x ∷ u) v e)
 
 pub begun_many : (a : Pattern) (t : List ℕ) → Begins a t → Begins (many a) t
 begun_many a t (more, m) = (more, many_one a (t ++ more) m)
 
-pub begun_many_later : (a : Pattern) (t : List ℕ) (k : ℕ) → Member a (take k t) → Begins (many a) (from k t) → Begins (many a) t
-begun_many_later a t k ma (more, m) = (more, subst (Member (many a)) (parted_more t more k) (many_cons a (take k t) (drop k t ++ more) ma (subst (λ x. Member (many a) (x ++ more)) (from_drop k t) m)))
+pub begun_many_later : (a : Pattern) (t : List ℕ) (k : ℕ) → IsMember a (take k t) → Begins (many a) (from k t) → Begins (many a) t
+begun_many_later a t k ma (more, m) = (more, subst (IsMember (many a)) (parted_more t more k) (many_cons a (take k t) (drop k t ++ more) ma (subst (λ x. IsMember (many a) (x ++ more)) (from_drop k t) m)))
 
 pub times_begun : (n m : ℕ) (a : Pattern) (t : List ℕ) → m ≡ n + 1 → Begins (times m a) t → Begins (sequence a (times n a)) t
 times_begun n m a t h (more, x) = (more, times_sequence n m a (t ++ more) h x)
@@ -145,7 +145,7 @@ begins_nothing p t e = subst (Begins p) (sym e) (has_member p)
 pub empty_begun : (t : List ℕ) → Begins empty t → t ≡ []
 empty_begun t (more, e) = nothing_before t more e
 
-pub one_begun : (m : Mark) (t : List ℕ) → Begins (one m) t → (t ≡ []) ⊎ Member (one m) t
+pub one_begun : (m : Mark) (t : List ℕ) → Begins (one m) t → (t ≡ []) ⊎ IsMember (one m) t
 one_begun m [] h = inl refl
 one_begun m (c ∷ t) (more, (d, allowed, e)) =
     let rest : t ++ more ≡ [] = cc in
@@ -153,8 +153,8 @@ one_begun m (c ∷ t) (more, (d, allowed, e)) =
     let none : t ≡ [] = nothing_before t more rest in
     inr (d, allowed, cc)
 
-pub member_begins : (p : Pattern) (t : List ℕ) → Member p t → Begins p t
-member_begins p t m = ([], subst (Member p) (sym (append-nil t)) m)
+pub member_begins : (p : Pattern) (t : List ℕ) → IsMember p t → Begins p t
+member_begins p t m = ([], subst (IsMember p) (sym (append-nil t)) m)
 
 pub optional_begun : (a : Pattern) (t : List ℕ) → Begins (optional a) t → Begins a t
 optional_begun a t (more, inl e) = begins_nothing a t (nothing_before t more e)

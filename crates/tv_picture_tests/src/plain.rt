@@ -1,7 +1,7 @@
 //! What a picture allows, by trying each way to divide the text.
 
 ghost use Rattle.std.specs.Prelude.{◌≡◌, ◌↔◌, IsTrue};
-ghost use Rattle.tv_picture.specs.Pattern.{Member, Begins, one, sequence, many, times};
+ghost use Rattle.tv_picture.specs.Pattern.{IsMember, Begins, one, sequence, many, times};
 ghost use Rattle.tv_picture_tests.specs.Trees.{mark_of, pattern_of};
 
 use crate::tree::{Mark, Tree};
@@ -9,7 +9,7 @@ use crate::tree::{Mark, Tree};
 /// Whether the text is a member of the picture.
 #[cycle(member)]
 pub fn is_member(tree: &Tree, text: &[char]) -> bool
-    ensures { IsTrue result ↔ Member (pattern_of tree.now) text.now }
+    ensures { IsTrue result ↔ IsMember (pattern_of tree.now) text.now }
 {
     match tree {
         Tree::Empty => text.is_empty(),
@@ -24,7 +24,7 @@ pub fn is_member(tree: &Tree, text: &[char]) -> bool
 }
 
 fn is_one(mark: Mark, text: &[char]) -> bool
-    ensures { IsTrue result ↔ Member (one (mark_of mark)) text.now }
+    ensures { IsTrue result ↔ IsMember (one (mark_of mark)) text.now }
 {
     match text {
         [ch] => mark.allows(*ch),
@@ -34,7 +34,7 @@ fn is_one(mark: Mark, text: &[char]) -> bool
 
 #[cycle(member)]
 fn is_sequence(first: &Tree, second: &Tree, text: &[char]) -> bool
-    ensures { IsTrue result ↔ Member (sequence (pattern_of first.now) (pattern_of second.now)) text.now }
+    ensures { IsTrue result ↔ IsMember (sequence (pattern_of first.now) (pattern_of second.now)) text.now }
 {
     for at in 0..text.len() + 1 {
         if is_member(first, &text[..at]) && is_member(second, &text[at..]) {
@@ -46,7 +46,7 @@ fn is_sequence(first: &Tree, second: &Tree, text: &[char]) -> bool
 
 #[cycle(member)]
 fn is_many(part: &Tree, text: &[char]) -> bool
-    ensures { IsTrue result ↔ Member (many (pattern_of part.now)) text.now }
+    ensures { IsTrue result ↔ IsMember (many (pattern_of part.now)) text.now }
 {
     for at in 1..text.len() + 1 {
         if is_member(part, &text[..at]) && is_many(part, &text[at..]) {
@@ -58,7 +58,7 @@ fn is_many(part: &Tree, text: &[char]) -> bool
 
 #[cycle(member)]
 fn is_times(count: u8, part: &Tree, text: &[char]) -> bool
-    ensures { IsTrue result ↔ Member (times count (pattern_of part.now)) text.now }
+    ensures { IsTrue result ↔ IsMember (times count (pattern_of part.now)) text.now }
 {
     if count == 0 {
         return text.is_empty();

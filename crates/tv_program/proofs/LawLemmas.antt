@@ -16,20 +16,20 @@ use Rattle.tv_model.specs.declared.kind.Kind.{Kind}
 use Rattle.tv_model.specs.declared.kind.Kind.TheVariants as kinds
 use Rattle.tv_model.specs.Description.Letters.{is_shortcut, marked_of}
 use Rattle.tv_model.specs.Description.Marks.{marks}
-use Rattle.tv_model.specs.Controls.Owner.{Owner}
+use Rattle.tv_model.specs.Controls.Owner.{LetterOwner}
 use Rattle.tv_model.specs.Description.Owners.{owner_by}
 use Rattle.tv_model.specs.Faults.{IsSound}
 use Rattle.tv_model.specs.Faults.Letters.{is_same_key}
 use Rattle.tv_machine.specs.State.{OpenDialog, State}
 use Rattle.tv_machine.specs.Dialog.Sound.{HasSoundDialogs, IsSoundDialog}
 use Rattle.tv_machine.specs.Dialog.Step.{dialog_step}
-use Rattle.tv_machine.specs.Output.{item_after, states}
+use Rattle.tv_machine.specs.Output.{session_after, states}
 use Rattle.tv_machine.specs.Run.{Session, quiet}
 use Rattle.tv_machine.specs.Session.Commands.{works}
 use Rattle.tv_machine.specs.Session.Start.{start}
 use Rattle.tv_machine.specs.Session.Step.{emptied, event_from, held_of, is_item_enabled, key_at_menu, key_at_status, key_below, status_item_of, step, step_at, to_dialog}
 use Rattle.tv_machine.specs.Leaves.{PlacedNode}
-use Rattle.tv_machine.specs.Dialog.Shortcuts.{marker_of}
+use Rattle.tv_machine.specs.Dialog.Shortcuts.{marking_leaf}
 use Rattle.tv_machine.proofs.ListLemmas.{bool_cases, find-none, option_cases}
 use Rattle.tv_faults.specs.Sound.Letters.{IsShortcut, MarksLetter}
 use Rattle.tv_faults.proofs.ExcludeLemmas.{any_decides}
@@ -48,7 +48,7 @@ use Rattle.tv_laws.proofs.KeyLaws.LetterLemmas.{alt-acts, marks-alike, own-lette
 use Rattle.tv_laws.proofs.KeyLaws.NoneLemmas.{acts-on-none, refused-acts-on-none}
 use Rattle.tv_laws.proofs.KeyLaws.OrderLemmas.{free-are-controls, refusal-stays, shift-tab-previous, stops-are-tabs}
 use Rattle.tv_laws.proofs.KeyLaws.ValueLemmas.{tab-keeps-values}
-use Rattle.tv_laws.specs.Records.{reached}
+use Rattle.tv_laws.specs.Records.{state_after}
 use Rattle.tv_laws.proofs.RecordLaws.EscapeLemmas.{esc-cancels-open, reached-fit, stays-over, up-esc-cancels, up-esc-leaves, up-frees-mouse}
 use Rattle.tv_laws.proofs.RecordLaws.SavedLemmas.{declare-cancel, ends-as-declared, reopens-as-saved, saves-what-it-logs, starts-as-declared}
 use Rattle.tv_laws.proofs.RecordLaws.ShowLemmas.{fields-opened}
@@ -62,7 +62,7 @@ session d s = record { desc = d; state = s }
 
 -- the log that was taken makes no difference to what comes next
 follows : (d : Desc) (s : State) (script : List Item)
-    → states item_after (quiet (session d s)) script ≡ quiet (session d (states (step d) s (filter_map event_in script)))
+    → states session_after (quiet (session d s)) script ≡ quiet (session d (states (step d) s (filter_map event_in script)))
 follows d s [] = refl
 follows d s (items.Event e ∷ script) = follows d (step d s e) script
 follows d s (items.Shot ∷ script) = follows d s script
@@ -94,11 +94,11 @@ any-found p q weaker (y ∷ ys) x e =
     bool_cases (p y) (λ b. cond b (Some y) (find p ys) ≡ Some x → list_any q (y ∷ ys) ≡ true)
     (λ is f. ap (λ b. b || list_any q ys) (weaker y is)) (λ is f. ap (λ b. q y || b) (any-found p q weaker ys x f) ∙ or-true (q y)) e
 
-marks-own : (b : Bool) (o : Owner) → is_some (if b then Some o else None) ≡ true → (b || false) ≡ true
+marks-own : (b : Bool) (o : LetterOwner) → is_some (if b then Some o else None) ≡ true → (b || false) ≡ true
 marks-own true o is = refl
 marks-own false o is = absurd (false≢true is)
 
-marks-item : {A : Type 0} (p : A → Bool) (f : ℕ → Owner) (xs : List A) → is_some (option_map f (position p xs)) ≡ true → list_any p xs ≡ true
+marks-item : {A : Type 0} (p : A → Bool) (f : ℕ → LetterOwner) (xs : List A) → is_some (option_map f (position p xs)) ≡ true → list_any p xs ≡ true
 marks-item p f xs is =
     option_cases (position p xs) (λ o. position p xs ≡ o → is_some (option_map f o) ≡ true → list_any p xs ≡ true) (λ none e g. absurd (false≢true g))
     (λ i some e g. any-placed p xs i some) refl is
@@ -116,7 +116,7 @@ shortcut-is letter dialog =
     any_decides (λ node. list_any (marks letter) (marked_of node.kind)) (λ node. Any (λ text. MarksLetter text letter) (marked_of node.kind))
     (λ node. any_decides (marks letter) (λ text. MarksLetter text letter) (marks_decides letter) (marked_of node.kind)) dialog.views
 
-shortcut-of : (letter : ℕ) (dialog : Dialog) (marker : PlacedNode) → marker_of dialog letter ≡ Some marker → IsShortcut letter dialog
+shortcut-of : (letter : ℕ) (dialog : Dialog) (marker : PlacedNode) → marking_leaf dialog letter ≡ Some marker → IsShortcut letter dialog
 shortcut-of letter dialog marker e =
     (shortcut-is letter dialog).0
     (any-found (λ node. is_some (owner_by letter node.kind)) (λ node. list_any (marks letter) (marked_of node.kind)) (λ node is. marks-some letter node.kind is)
@@ -164,7 +164,7 @@ key-step d s o k some idle menu over free =
 
 keys-reach : (d : Desc) → HasSoundDialogs d → KeysReachDialog d
 keys-reach d dialogs before o dialog k some there idle free =
-    let s = reached d before in
+    let s = state_after d before in
     let x = (reached-fit d dialogs before).«open» o some in
     key-step d s o k some idle x.menu x.over free
     ∙ ap (works (emptied s) o (λ y m. dialog_step y (event_from o.origin (events.Key k)) m)) there

@@ -11,7 +11,7 @@ use Rattle.tv_model.specs.declared.script.Item.TheVariants as items
 use Rattle.tv_model.specs.Faults.Letters.{is_same_key}
 use Rattle.tv_machine.specs.State.{OpenDialog, State}
 use Rattle.tv_machine.specs.Dialog.Modal.{Modal}
-use Rattle.tv_machine.specs.Dialog.Shortcuts.{marker_of}
+use Rattle.tv_machine.specs.Dialog.Shortcuts.{marking_leaf}
 use Rattle.tv_machine.specs.Dialog.Step.{dialog_step}
 use Rattle.tv_machine.specs.Leaves.{PlacedNode}
 use Rattle.tv_machine.specs.Output.{after}
@@ -26,7 +26,7 @@ use Rattle.tv_laws.specs.Steps.{OpensFit, StaysFit}
 use Rattle.tv_laws.specs.Letters.{ActsOnNone, ActsOnOwner, ActsWhereItCan, AltActs, MarksAlike, OwnLetterActs, RefusedActsOnNone, TypedActs, UnnamedActsOnNone}
 use Rattle.tv_laws.specs.Order.{FreeAreControls, RefusalStays, ShiftTabAsksPrevious, StopsAreTabs, TabGoesRound, TabKeepsValues}
 use Rattle.tv_laws.specs.Escape.{EscCancelsOpen, UpEscCancels, UpEscLeaves, UpFreesMouse}
-use Rattle.tv_laws.specs.Records.{DeclareCancel, EndsAsDeclared, OpensAsSaved, ReopensAsSaved, SavesWhatItLogs, StartsAsDeclared, StaysOver, reached}
+use Rattle.tv_laws.specs.Records.{DeclareCancel, EndsAsDeclared, OpensAsSaved, ReopensAsSaved, SavesWhatItLogs, StartsAsDeclared, StaysOver, state_after}
 
 -- ---- the states that are spoken of
 
@@ -39,11 +39,11 @@ event_in items.Colors = None
 -- a script leaves a run where its events lead from the start, with the log taken
 abbrev pub ScriptsReach : Desc → Type 0
 ScriptsReach d =
-    (script : List Item) → after (started d) script ≡ quiet (record { desc = d; state = reached d (filter_map event_in script) })
+    (script : List Item) → after (started d) script ≡ quiet (record { desc = d; state = state_after d (filter_map event_in script) })
 
 -- each state is one in which an open dialog can be used, as the laws of dialogs ask
 abbrev pub StaysUsable : Desc → Type 0
-StaysUsable d = (events : List Event) → IsFitState d (reached d events)
+StaysUsable d = (events : List Event) → IsFitState d (state_after d events)
 
 -- ---- which keys an open dialog gets
 
@@ -62,9 +62,9 @@ after_key s o dialog k = worked_on s o (dialog_step dialog (events.Key k) (modal
 -- wherever a run has come to an open dialog in which nothing holds the mouse, a key that no status item has is the dialog's
 abbrev pub KeysReachDialog : Desc → Type 0
 KeysReachDialog d =
-    (before : List Event) (o : OpenDialog) (dialog : Dialog) (k : Key) → (reached d before).dialog ≡ Some o
+    (before : List Event) (o : OpenDialog) (dialog : Dialog) (k : Key) → (state_after d before).dialog ≡ Some o
     → slice_get d.dialogs o.place ≡ Some dialog → o.held ≡ None → IsNoStatusKey d k
-    → step d (reached d before) (events.Key k) ≡ after_key (reached d before) o dialog k
+    → step d (state_after d before) (events.Key k) ≡ after_key (state_after d before) o dialog k
 
 -- a function key, or Ctrl or Alt with a character
 abbrev pub may_be_status_key : Key → Bool
@@ -80,7 +80,7 @@ PlainKeysAreFree d = (k : Key) → may_be_status_key k ≡ false → IsNoStatusK
 -- nor is Alt with a letter that the dialog marks
 abbrev pub AltLettersAreFree : Desc → Dialog → Type 0
 AltLettersAreFree d dialog =
-    (letter : ℕ) (marker : PlacedNode) → marker_of dialog letter ≡ Some marker → IsNoStatusKey d (keys.Alt letter)
+    (letter : ℕ) (marker : PlacedNode) → marking_leaf dialog letter ≡ Some marker → IsNoStatusKey d (keys.Alt letter)
 
 -- ---- what is so of each dialog
 

@@ -3,7 +3,7 @@
 ghost use Rattle.std.specs.Prelude.{◌≡◌, ◌<◌, ◌^◌, IfOk, IsTrue, Some, option_copied};
 ghost use Rattle.tv_model.specs.declared.kind.Kind.TheVariants as kinds;
 ghost use Rattle.tv_model.specs.declared.record.Value.TheVariants as values;
-ghost use Rattle.tv_model.specs.Controls.Contents.{is_item};
+ghost use Rattle.tv_model.specs.Controls.Contents.{is_item_place};
 ghost use Rattle.tv_view.specs.Calls.{IsValueOf};
 ghost use Rattle.tv_run_tests.specs.Fitting.{FitsViews};
 
@@ -33,7 +33,7 @@ fn are_marks(count: usize, marks: u16) -> bool
 
 // Whether there is the item among so many.
 fn is_item(count: usize, item: u8) -> bool
-    ensures { result ≡ is_item count item }
+    ensures { result ≡ is_item_place count item }
 {
     1 <= item && usize::from(item) <= count
 }

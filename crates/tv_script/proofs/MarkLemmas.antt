@@ -3,7 +3,7 @@ use Rattle.std.proofs.Common.{◌≡◌, ℕ, ◌+◌, ◌-◌, ◌≤◌, true,
 use Rattle.std.proofs.lemmas.List.{append-nil, map-append, map-id}
 use Rattle.std.proofs.lemmas.List.FromFn.{filter_of_map_range_with_len_more}
 use Rattle.std.specs.List.{range_with_len}
-use Rattle.tv_model.specs.Log.LogText.{spaced, is_marked, marks_text}
+use Rattle.tv_model.specs.Log.LogText.{spaced, has_bit, marks_text}
 
 -- words with a space between, none for no words
 pub joined : List (List ℕ) → List ℕ
@@ -17,7 +17,7 @@ separator (word ∷ words) = 32 ∷ []
 
 -- the words of the marked items below one
 pub words_below : ℕ → ℕ → List (List ℕ)
-words_below marks item = map decimal (filter (is_marked marks) (range_with_len 1 (item - 1)))
+words_below marks item = map decimal (filter (has_bit marks) (range_with_len 1 (item - 1)))
 
 joined-push : (ws : List (List ℕ)) (w : List ℕ) → joined (ws ++ w ∷ []) ≡ joined ws ++ separator ws ++ w
 unfolding joined separator
@@ -30,11 +30,11 @@ unfolding separator
 separator-push [] w = refl
 separator-push (v ∷ ws) w = refl
 
-chosen : (marks n : ℕ) → filter (is_marked marks) (range_with_len 1 (n + 1)) ≡ filter (is_marked marks) (range_with_len 1 n) ++ cond (is_marked marks (1 + n)) ((1 + n) ∷ []) []
+chosen : (marks n : ℕ) → filter (has_bit marks) (range_with_len 1 (n + 1)) ≡ filter (has_bit marks) (range_with_len 1 n) ++ cond (has_bit marks (1 + n)) ((1 + n) ∷ []) []
 chosen marks n =
-    sym (ap (filter (is_marked marks)) (map-id (range_with_len 1 (n + 1))))
-    ∙ filter_of_map_range_with_len_more (is_marked marks) (λ x. x) 1 n (1 + n) refl
-    ∙ ap (λ xs. filter (is_marked marks) xs ++ cond (is_marked marks (1 + n)) ((1 + n) ∷ []) []) (map-id (range_with_len 1 n))
+    sym (ap (filter (has_bit marks)) (map-id (range_with_len 1 (n + 1))))
+    ∙ filter_of_map_range_with_len_more (has_bit marks) (λ x. x) 1 n (1 + n) refl
+    ∙ ap (λ xs. filter (has_bit marks) xs ++ cond (has_bit marks (1 + n)) ((1 + n) ∷ []) []) (map-id (range_with_len 1 n))
 
 module _ (marks item : ℕ) (some : 1 ≤ item) where
   before : item + 1 - 1 ≡ item - 1 + 1
@@ -43,30 +43,30 @@ module _ (marks item : ℕ) (some : 1 ≤ item) where
   here : 1 + (item - 1) ≡ item
   here = omega arith
 
-  words-more : words_below marks (item + 1) ≡ words_below marks item ++ map decimal (cond (is_marked marks item) (item ∷ []) [])
+  words-more : words_below marks (item + 1) ≡ words_below marks item ++ map decimal (cond (has_bit marks item) (item ∷ []) [])
   unfolding words_below
   words-more =
-      ap (λ n. map decimal (filter (is_marked marks) (range_with_len 1 n))) before
+      ap (λ n. map decimal (filter (has_bit marks) (range_with_len 1 n))) before
       ∙ ap (map decimal) (chosen marks (item - 1))
-      ∙ map-append decimal (filter (is_marked marks) (range_with_len 1 (item - 1))) (cond (is_marked marks (1 + (item - 1))) ((1 + (item - 1)) ∷ []) [])
-      ∙ ap (λ n. words_below marks item ++ map decimal (cond (is_marked marks n) (n ∷ []) [])) here
+      ∙ map-append decimal (filter (has_bit marks) (range_with_len 1 (item - 1))) (cond (has_bit marks (1 + (item - 1))) ((1 + (item - 1)) ∷ []) [])
+      ∙ ap (λ n. words_below marks item ++ map decimal (cond (has_bit marks n) (n ∷ []) [])) here
 
-  words-marked : is_marked marks item ≡ true → words_below marks (item + 1) ≡ words_below marks item ++ decimal item ∷ []
+  words-marked : has_bit marks item ≡ true → words_below marks (item + 1) ≡ words_below marks item ++ decimal item ∷ []
   words-marked marked = words-more ∙ ap (λ b. words_below marks item ++ map decimal (cond b (item ∷ []) [])) marked
 
-  words-unmarked : is_marked marks item ≡ false → words_below marks (item + 1) ≡ words_below marks item
+  words-unmarked : has_bit marks item ≡ false → words_below marks (item + 1) ≡ words_below marks item
   words-unmarked unmarked = words-more ∙ ap (λ b. words_below marks item ++ map decimal (cond b (item ∷ []) [])) unmarked ∙ append-nil (words_below marks item)
 
-  pub joined-marked : is_marked marks item ≡ true → joined (words_below marks (item + 1)) ≡ joined (words_below marks item) ++ separator (words_below marks item) ++ decimal item
+  pub joined-marked : has_bit marks item ≡ true → joined (words_below marks (item + 1)) ≡ joined (words_below marks item) ++ separator (words_below marks item) ++ decimal item
   joined-marked marked = ap joined (words-marked marked) ∙ joined-push (words_below marks item) (decimal item)
 
-  pub separator-marked : is_marked marks item ≡ true → separator (words_below marks (item + 1)) ≡ 32 ∷ []
+  pub separator-marked : has_bit marks item ≡ true → separator (words_below marks (item + 1)) ≡ 32 ∷ []
   separator-marked marked = ap separator (words-marked marked) ∙ separator-push (words_below marks item) (decimal item)
 
-  pub joined-unmarked : is_marked marks item ≡ false → joined (words_below marks (item + 1)) ≡ joined (words_below marks item)
+  pub joined-unmarked : has_bit marks item ≡ false → joined (words_below marks (item + 1)) ≡ joined (words_below marks item)
   joined-unmarked unmarked = ap joined (words-unmarked unmarked)
 
-  pub separator-unmarked : is_marked marks item ≡ false → separator (words_below marks (item + 1)) ≡ separator (words_below marks item)
+  pub separator-unmarked : has_bit marks item ≡ false → separator (words_below marks (item + 1)) ≡ separator (words_below marks item)
   separator-unmarked unmarked = ap separator (words-unmarked unmarked)
 
 pub joined-first : (marks : ℕ) → joined (words_below marks 1) ≡ []

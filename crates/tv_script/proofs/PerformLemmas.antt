@@ -5,7 +5,7 @@ use Rattle.std.proofs.Math.Seq.{take-append-add, take-append_seam}
 use Rattle.tv_model.specs.declared.script.Item.{Item}
 use Rattle.tv_machine.specs.Run.{Session, quiet}
 use Rattle.tv_model.specs.Log.LogText.{log_text}
-use Rattle.tv_machine.specs.Output.{output, after, item_text, item_after, texts}
+use Rattle.tv_machine.specs.Output.{output, after, item_text, session_after, texts}
 use Rattle.tv_script.proofs.RunLemmas.{states-push, states-take_more, texts-push, texts-take_more}
 use Rattle.tv_io.specs.Writer.{Seen, Takes, Cuts}
 use Rattle.tv_script.specs.Performed.{Stops}
@@ -19,16 +19,16 @@ module _ (s : Session) (items : List Item) (i : ℕ) (d : Item) (lt : i < length
 
   output-more : output s (take (i + 1) items) ≡ output s (take i items) ++ item_text here (get_or items i d)
   output-more =
-      ap (λ x. log_text s.desc s.state.log ++ x) (texts-take_more item_after item_text (quiet s) items i d lt)
-      ∙ sym (append_assoc (log_text s.desc s.state.log) (texts item_after item_text (quiet s) (take i items)) (item_text here (get_or items i d)))
+      ap (λ x. log_text s.desc s.state.log ++ x) (texts-take_more session_after item_text (quiet s) items i d lt)
+      ∙ sym (append_assoc (log_text s.desc s.state.log) (texts session_after item_text (quiet s) (take i items)) (item_text here (get_or items i d)))
 
-  pub after-more : item_after here (get_or items i d) ≡ after s (take (i + 1) items)
-  after-more = sym (states-take_more item_after (quiet s) items i d lt)
+  pub after-more : session_after here (get_or items i d) ≡ after s (take (i + 1) items)
+  after-more = sym (states-take_more session_after (quiet s) items i d lt)
 
   pub more_takes : {a b c : Seen} → Takes a b (output s (take i items)) → Takes b c (item_text here (get_or items i d)) → Takes a c (output s (take (i + 1) items))
   more_takes p q = rw output-more (Takes-then _ _ p q)
 
-  pub more_stops : {a b c : Seen} (Left : Session → Type 0) → Left (item_after here (get_or items i d)) → Takes a b (output s (take i items)) → Cuts b c (item_text here (get_or items i d)) → Stops s items (i + 1) a c Left
+  pub more_stops : {a b c : Seen} (Left : Session → Type 0) → Left (session_after here (get_or items i d)) → Takes a b (output s (take i items)) → Cuts b c (item_text here (get_or items i d)) → Stops s items (i + 1) a c Left
   more_stops Left stands p q = record {
     few = omega arith;
     cut = Cuts-along (sym output-more) (Cuts-after (output s (take i items)) (item_text here (get_or items i d)) p q);
@@ -40,16 +40,16 @@ module _ (s : Session) (items : List Item) (i : ℕ) (d : Item) (lt : i < length
 module _ (s : Session) (items : List Item) (item : Item) where
   output-push : output s (items ++ item ∷ []) ≡ output s items ++ item_text (after s items) item
   output-push =
-      ap (λ x. log_text s.desc s.state.log ++ x) (texts-push item_after item_text (quiet s) items item)
-      ∙ sym (append_assoc (log_text s.desc s.state.log) (texts item_after item_text (quiet s) items) (item_text (after s items) item))
+      ap (λ x. log_text s.desc s.state.log ++ x) (texts-push session_after item_text (quiet s) items item)
+      ∙ sym (append_assoc (log_text s.desc s.state.log) (texts session_after item_text (quiet s) items) (item_text (after s items) item))
 
-  pub performs_push : {a b c : Seen} (Before Left : Session → Type 0) → Performs s items a b Before → Takes b c (item_text (after s items) item) → Left (item_after (after s items) item) → Performs s (items ++ item ∷ []) a c Left
+  pub performs_push : {a b c : Seen} (Before Left : Session → Type 0) → Performs s items a b Before → Takes b c (item_text (after s items) item) → Left (session_after (after s items) item) → Performs s (items ++ item ∷ []) a c Left
   performs_push Before Left performed takes left = record {
     written = rw output-push (Takes-then _ _ performed.written takes);
-    left = subst Left (sym (states-push item_after (quiet s) items item)) left;
+    left = subst Left (sym (states-push session_after (quiet s) items item)) left;
   }
 
-  pub stops_push : {a b c : Seen} (Before Left : Session → Type 0) (more : List Item) → Performs s items a b Before → Cuts b c (item_text (after s items) item) → Left (item_after (after s items) item) → Stops s (items ++ item ∷ more) (length items + 1) a c Left
+  pub stops_push : {a b c : Seen} (Before Left : Session → Type 0) (more : List Item) → Performs s items a b Before → Cuts b c (item_text (after s items) item) → Left (session_after (after s items) item) → Stops s (items ++ item ∷ more) (length items + 1) a c Left
   stops_push Before Left more performed cut left =
       let front : take (length items + 1) (items ++ item ∷ more) ≡ items ++ item ∷ [] = take-append-add items (item ∷ more) 1 in
       record {
@@ -57,7 +57,7 @@ module _ (s : Session) (items : List Item) (item : Item) where
         cut = Cuts-along (sym (ap (output s) front ∙ output-push)) (Cuts-after (output s items) (item_text (after s items) item) performed.written cut);
         whole = λ k f. let same : length items ≡ k = omega arith in
             (cut.front, ap (λ x. x ++ cut.front) (ap (output s) (sym (ap (λ n. take n (items ++ item ∷ more)) (sym same) ∙ take-append_seam items (item ∷ more)))));
-        state = subst Left (sym (ap (after s) front ∙ states-push item_after (quiet s) items item)) left;
+        state = subst Left (sym (ap (after s) front ∙ states-push session_after (quiet s) items item)) left;
       }
 
 pub first_stops : (s : Session) (items : List Item) {a b : Seen} (Left : Session → Type 0) → Left (quiet s) → Cuts a b (log_text s.desc s.state.log) → Stops s items 0 a b Left

@@ -4,7 +4,7 @@ ghost use Rattle.std.specs.Prelude.{◌≡◌, ◌≤◌, ◌++◌, ◌∷◌, [
 ghost use Rattle.tv_model.specs.declared.log.LogLine.TheVariants as lines;
 ghost use Rattle.tv_model.specs.Description.Nodes.{node_of};
 ghost use Rattle.tv_model.specs.Description.Heads.{all_nodes};
-ghost use Rattle.tv_model.specs.Log.LogText.{name_of_node, log_line, log_text, name_text, end_word, line_of, value_text, marks_text, is_marked, quoted_text, escaped};
+ghost use Rattle.tv_model.specs.Log.LogText.{name_of_node, log_line, log_text, name_text, end_word, line_of, value_text, marks_text, has_bit, quoted_text, escaped_in_log};
 ghost use Rattle.tv_io.specs.Pen.{Puts};
 
 use tv_event::Command;
@@ -120,7 +120,7 @@ fn put_quoted<W: Writer>(pen: &mut Pen<W>, text: &[char])
 }
 
 fn put_escaped<W: Writer>(pen: &mut Pen<W>, text: &[char])
-    ensures { Puts W.seen pen.old pen.new (flat_map escaped text.now) }
+    ensures { Puts W.seen pen.old pen.new (flat_map escaped_in_log text.now) }
 {
     for ch in text {
         put_escaped_char(pen, *ch);
@@ -128,7 +128,7 @@ fn put_escaped<W: Writer>(pen: &mut Pen<W>, text: &[char])
 }
 
 fn put_escaped_char<W: Writer>(pen: &mut Pen<W>, ch: char)
-    ensures { Puts W.seen pen.old pen.new (escaped ch) }
+    ensures { Puts W.seen pen.old pen.new (escaped_in_log ch) }
 {
     match ch {
         '"' => pen.put(b"\\\""),
@@ -156,7 +156,7 @@ fn put_marks<W: Writer>(pen: &mut Pen<W>, marks: u16)
 
 fn is_marked(marks: u16, item: u32) -> bool
     requires { (1 ≤ item) × (item ≤ 16) }
-    ensures { result ≡ is_marked marks item }
+    ensures { result ≡ has_bit marks item }
 {
     (marks >> (item - 1)) % 2 == 1
 }

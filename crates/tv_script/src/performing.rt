@@ -1,7 +1,7 @@
 //! A script, performed.
 
 ghost use Rattle.std.specs.Prelude.{◌≡◌, ◌≤◌, ◌+◌, ◌++◌, false, length, All, List, OnOk, IfErr, IfOk, MatchResult, ℕ};
-ghost use Rattle.tv_machine.specs.Output.{event_text, event_after, item_text, item_after, shot_text, colors_text, output, after};
+ghost use Rattle.tv_machine.specs.Output.{event_text, event_after, item_text, session_after, shot_text, colors_text, output, after};
 ghost use Rattle.tv_machine.specs.Run.{Session, quiet};
 ghost use Rattle.tv_model.specs.Log.LogText.{log_text};
 ghost use Rattle.tv_io.specs.Writer.{Seen, Takes};
@@ -107,7 +107,7 @@ fn put_item<S: Stage, W: Writer>(pen: &mut Pen<W>, stage: &mut S, item: &Item)
     requires shown { IsItemOnScreen item.now }
     requires there { (s : Session) × S.stands stage.old s }
     ensures text { (s : Session) → S.stands stage.old s → Puts W.seen pen.old pen.new (item_text s item.now) }
-    ensures state { (s : Session) → S.stands stage.old s → S.stands stage.new (item_after s item.now) }
+    ensures state { (s : Session) → S.stands stage.old s → S.stands stage.new (session_after s item.now) }
 {
     match item {
         Item::Event(event) => put_event(pen, stage, event),

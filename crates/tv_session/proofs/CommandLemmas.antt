@@ -13,9 +13,9 @@ use Rattle.tv_machine.specs.State.{Held, OpenDialog, State}
 use Rattle.tv_machine.specs.Dialog.Ending.{command}
 use Rattle.tv_machine.specs.Dialog.Modal.{Modal}
 use Rattle.tv_machine.specs.Dialog.Step.{dialog_step, step_by}
-use Rattle.tv_machine.specs.Session.Commands.{after_work, command_in, do_command, idle_command, in_dialog, logged, modal_of, open_first, own_command, works}
+use Rattle.tv_machine.specs.Session.Commands.{after_work, command_by_dialog, do_command, idle_command, in_dialog, logged, modal_of, open_first, own_command, works}
 use Rattle.tv_machine.specs.Session.Step.{held_of, to_dialog}
-use Rattle.tv_laws.specs.Steps.{IsGiven}
+use Rattle.tv_laws.specs.Steps.{RespectsHold}
 use Rattle.tv_machine.proofs.ListLemmas.{bool_cases, option_cases}
 
 -- ---- what is open
@@ -73,16 +73,16 @@ command_handed d s o c none =
     (λ found. works s o (λ dialog m. dialog_step dialog (events.Command c) m) found ≡ works s o (λ dialog m. command dialog c.0 m) found)
     (λ is. refl) (λ dialog is. ap (λ x. after_work s o x x.ended) (step_command dialog o.held c (modal_of s o) none))
 
-pub given_command : (held : Option Held) (c : Command) → held ≡ None → IsGiven held (events.Command c)
-given_command held c none = subst (λ h. IsGiven h (events.Command c)) (sym none) tt
+pub given_command : (held : Option Held) (c : Command) → held ≡ None → RespectsHold held (events.Command c)
+given_command held c none = subst (λ h. RespectsHold h (events.Command c)) (sym none) tt
 
 -- a command with a dialog open, and without one
 pub in_open : (d : Desc) (number : ℕ) (s : State) (o : OpenDialog) → s.dialog ≡ Some o
     → do_command d number s ≡ in_dialog d s o (λ dialog m. command dialog number m)
-in_open d number s o is = ap (λ x. command_in d number x s) is
+in_open d number s o is = ap (λ x. command_by_dialog d number x s) is
 
 pub in_idle : (d : Desc) (number : ℕ) (s : State) → s.dialog ≡ None → do_command d number s ≡ idle_command d number s
-in_idle d number s is = ap (λ x. command_in d number x s) is
+in_idle d number s is = ap (λ x. command_by_dialog d number x s) is
 
 -- what holds the mouse is in the open dialog
 pub held_in : (o : Option OpenDialog) → is_some (held_of o) ≡ true → (x : OpenDialog) × (o ≡ Some x) × (held_of o ≡ Some x)

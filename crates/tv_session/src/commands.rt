@@ -7,7 +7,7 @@ ghost use Rattle.tv_machine.specs.Session.Step.{held_of, to_dialog};
 ghost use Rattle.tv_model.specs.declared.desc.Desc.{Desc as Declared};
 ghost use Rattle.tv_model.specs.declared.log.LogLine.TheVariants.{Quit as QuitLine};
 ghost use Rattle.tv_dialogs.specs.Handed.{HasPointGiven};
-ghost use Rattle.tv_laws.specs.Steps.{IsGiven};
+ghost use Rattle.tv_laws.specs.Steps.{RespectsHold};
 ghost use Rattle.tv_model.specs.Description.Heads.{dialog_head};
 ghost use Rattle.tv_model.specs.Faults.Starts.{is_option_number};
 ghost use Rattle.tv_session.specs.Running.{IsAwake, IsRun};
@@ -124,7 +124,7 @@ impl<V: View> RunOf<V> {
     pub(crate) fn hand_to_dialog(&mut self, desc: &Desc, event: &Event)
         requires near { HasPointGiven event.now }
         requires awake { (s : State) × IsAwake V.meaning desc.now s self.old }
-        ensures { (s : State) (o : OpenDialog) → IsAwake V.meaning desc.now s self.old → s.dialog ≡ Some o → IsGiven o.held event.now
+        ensures { (s : State) (o : OpenDialog) → IsAwake V.meaning desc.now s self.old → s.dialog ≡ Some o → RespectsHold o.held event.now
             → IsRun V.meaning desc.now (to_dialog desc.now o event.now s) self.new }
     {
         self.dialogs.step(desc, event);

@@ -19,7 +19,7 @@ use Rattle.tv_model.specs.Controls.Private.{Private, Plain}
 use Rattle.tv_machine.specs.Leaves.{PlacedNode, leaf_list}
 use Rattle.tv_model.specs.Controls.Contents.{Content}
 use Rattle.tv_machine.specs.Dialog.Focus.{first_free, is_free_at, is_free_leaf, stop_of, stops_of}
-use Rattle.tv_machine.specs.Dialog.Opening.{first_focus, opened, opened_leaf, opened_leaves, recorded, unfocused}
+use Rattle.tv_machine.specs.Dialog.Opening.{first_focus, opened_dialog, opened_leaf, opened_leaves, recorded, unfocused}
 use Rattle.tv_machine.specs.Dialog.Rules.{content_by, is_among, is_free, state_of}
 use Rattle.tv_machine.specs.Dialog.Modal.{Modal, content_at, leaf_at}
 use Rattle.tv_machine.specs.Safe.{field_ids, is_field}
@@ -241,7 +241,7 @@ module _ (d : Dialog) (lawful : IsLawfulDialog d) (entries : Entries) (fields : 
   steady-unfocused ruled m fits = steady_suited (fits_leaf ruled m fits)
 
   pub steady-opened : (ruled : List LeafState) (m : Modal) → FitsAll entries (tree_as d ruled m)
-      → IsSteady d (opened d (Some entries) overwriting)
+      → IsSteady d (opened_dialog d (Some entries) overwriting)
   steady-opened ruled m fits = steady-moved d lawful shut (first_focus d (opened_leaves d (Some entries))) (steady-unfocused ruled m fits)
 
 -- ---- the first focus
@@ -281,7 +281,7 @@ module _ (d : Dialog) (lawful : IsLawfulDialog d) (entries : Entries) (fields : 
       → FitsAll entries (tree_as d ruled m)
       → AreRulesOf d (opened_leaves d (Some entries)) rules
       → all_focused (first_focus d (opened_leaves d (Some entries))) (all_applied rules (all_set entries (tree_as d ruled m)))
-      ≡ tree_of d (opened d (Some entries) overwriting)
+      ≡ tree_of d (opened_dialog d (Some entries) overwriting)
   opened-tree rules ruled m steady alike fits are =
       let shut_now = unfocused d (Some entries) overwriting in
       let to = first_focus d (opened_leaves d (Some entries)) in

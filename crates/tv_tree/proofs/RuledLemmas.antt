@@ -9,7 +9,7 @@ use Rattle.tv_model.specs.declared.command.CommandSpec.{CommandSpec}
 use Rattle.tv_model.specs.declared.command.CommandSpec.TheVariants as commands
 use Rattle.tv_model.specs.declared.desc.Dialog.{Dialog}
 use Rattle.tv_model.specs.Controls.Shortcut.{Shortcut, ItemMarks, ClusterKind, Boxes, Radios}
-use Rattle.tv_model.specs.Controls.Contents.{is_item, Content}
+use Rattle.tv_model.specs.Controls.Contents.{is_item_place, Content}
 use Rattle.tv_view.specs.Meaning.{Leaf, Placed}
 use Rattle.tv_model.specs.Description.Commands.{command_number, command_of}
 use Rattle.tv_model.specs.Description.LawfulNodes.{IsLawfulCommand, IsLimited}
@@ -17,9 +17,9 @@ use Rattle.tv_model.specs.Description.Numbers.{natural}
 use Rattle.tv_machine.specs.State.{LeafState}
 use Rattle.tv_machine.specs.Leaves.{PlacedNode, leaf_list}
 use Rattle.tv_model.specs.Kinds.{behaviour}
-use Rattle.tv_model.specs.Kinds.Cluster.{item_pressed}
+use Rattle.tv_model.specs.Kinds.Cluster.{cluster_item_pressed}
 use Rattle.tv_machine.specs.Dialog.Rules.{is_among, is_command_enabled, is_enabled_by, is_visible}
-use Rattle.tv_machine.specs.Dialog.Modal.{Modal, content_at, leaf_at, with_content}
+use Rattle.tv_machine.specs.Dialog.Modal.{Modal, content_at, leaf_at, content_put}
 use Rattle.tv_view.specs.declared.env.Rules.{Rules}
 use Rattle.tv_view.specs.Calls as calls
 use Rattle.tv_group.specs.Calls.{all_applied, all_pressed, in_place}
@@ -85,7 +85,7 @@ module _ (d : Dialog) (lawful : IsLawfulDialog d) where
 
 -- what a leaf holds after its item was pressed: only clusters have items
 abbrev pub marked_content : Shortcut → ℕ → Content → Content
-marked_content (ItemMarks kind name items) item c = if is_item (length items) item then item_pressed kind item c else c
+marked_content (ItemMarks kind name items) item c = if is_item_place (length items) item then cluster_item_pressed kind item c else c
 marked_content _ item c = c
 
 -- the same by its kind
@@ -97,10 +97,10 @@ module _ (d : Dialog) (ruled : List LeafState) (leaf : PlacedNode) (c : Content)
   stands held_now = standing_leaf d ruled leaf held_now is_focused held
 
   cluster_standing : (kind : ClusterKind) (count : ℕ)
-      → calls.cluster_pressed kind count item (stands c) ≡ stands (if is_item count item then item_pressed kind item c else c)
-  cluster_standing kind count = of (is_item count item)
+      → calls.cluster_pressed kind count item (stands c) ≡ stands (if is_item_place count item then cluster_item_pressed kind item c else c)
+  cluster_standing kind count = of (is_item_place count item)
     where
-      of : (b : Bool) → (if b then stands (item_pressed kind item c) else stands c) ≡ stands (if b then item_pressed kind item c else c)
+      of : (b : Bool) → (if b then stands (cluster_item_pressed kind item c) else stands c) ≡ stands (if b then cluster_item_pressed kind item c else c)
       of true = refl
       of false = refl
 
@@ -126,7 +126,7 @@ pressed_place d ruled item leaf c is_focused held true =
 pressed_place d ruled item leaf c is_focused held false = refl
 
 -- what only contents change stays so
-pub pressed-keeps : (P : Modal → Type 0) (d : Dialog) → ((i : Id) (c : Content) (m : Modal) → P m → P (with_content d i c m))
+pub pressed-keeps : (P : Modal → Type 0) (d : Dialog) → ((i : Id) (c : Content) (m : Modal) → P m → P (content_put d i c m))
     → (o : Option PlacedNode) (item : ℕ) (m : Modal)
     → P m → P (leaf_pressed d o item m)
 pressed-keeps P d keeps None item m p = p
@@ -134,21 +134,21 @@ pressed-keeps P d keeps (Some leaf) item m p = of (behaviour leaf.node.kind).sho
   where
     cluster : (kind : ClusterKind) (count : ℕ) → P (cluster_pressed d kind count leaf.node.id item m)
     cluster kind count =
-        bool_cases (is_item count item)
-        (λ b. P (if b then with_content d leaf.node.id (item_pressed kind item (content_at m leaf.node.id)) m else m))
-        (λ is. keeps leaf.node.id (item_pressed kind item (content_at m leaf.node.id)) m p) (λ is. p)
+        bool_cases (is_item_place count item)
+        (λ b. P (if b then content_put d leaf.node.id (cluster_item_pressed kind item (content_at m leaf.node.id)) m else m))
+        (λ is. keeps leaf.node.id (cluster_item_pressed kind item (content_at m leaf.node.id)) m p) (λ is. p)
 
     of : (s : Shortcut) → P (shortcut_pressed d s leaf.node.id item m)
     of (ItemMarks kind name items) = cluster kind (length items)
     of _ = p
 
 steady_cluster : (kind : ClusterKind) (count item : ℕ) (c : Content) → is_some c.value ≡ true
-    → is_some (if is_item count item then item_pressed kind item c else c).value ≡ true
+    → is_some (if is_item_place count item then cluster_item_pressed kind item c else c).value ≡ true
 steady_cluster kind count item c s =
-    bool_cases (is_item count item) (λ b. is_some (if b then item_pressed kind item c else c).value ≡ true)
+    bool_cases (is_item_place count item) (λ b. is_some (if b then cluster_item_pressed kind item c else c).value ≡ true)
     (λ is. of kind) (λ is. s)
   where
-    of : (pressed : ClusterKind) → is_some (item_pressed pressed item c).value ≡ true
+    of : (pressed : ClusterKind) → is_some (cluster_item_pressed pressed item c).value ≡ true
     of Boxes = refl
     of Radios = refl
 
@@ -174,17 +174,17 @@ module _ (d : Dialog) (lawful : IsLawfulDialog d) (item : ℕ) (m : Modal) where
 
     of_cluster : (kind : ClusterKind) (count : ℕ) (i : Id)
         → content_at (cluster_pressed d kind count i item m) leaf.node.id
-        ≡ held_then i (λ c. if is_item count item then item_pressed kind item c else c)
+        ≡ held_then i (λ c. if is_item_place count item then cluster_item_pressed kind item c else c)
     of_cluster kind count i =
-        bool_cases (is_item count item)
-        (λ b. content_at (if b then with_content d i (item_pressed kind item (content_at m i)) m else m) leaf.node.id
-        ≡ held_then i (λ c. if b then item_pressed kind item c else c))
+        bool_cases (is_item_place count item)
+        (λ b. content_at (if b then content_put d i (cluster_item_pressed kind item (content_at m i)) m else m) leaf.node.id
+        ≡ held_then i (λ c. if b then cluster_item_pressed kind item c else c))
         (λ is.
-        content_at-changed d lawful m leaves i (item_pressed kind item (content_at m i)) leaf e
+        content_at-changed d lawful m leaves i (cluster_item_pressed kind item (content_at m i)) leaf e
         ∙ bool_cases (leaf.node.id.0 == i.0)
-        (λ b. (if b then item_pressed kind item (content_at m i) else content_at m leaf.node.id)
-        ≡ (if b then item_pressed kind item (content_at m leaf.node.id) else content_at m leaf.node.id))
-        (λ here. ap (λ id. item_pressed kind item (content_at m id)) (sym (same-id leaf.node.id i here))) (λ there. refl))
+        (λ b. (if b then cluster_item_pressed kind item (content_at m i) else content_at m leaf.node.id)
+        ≡ (if b then cluster_item_pressed kind item (content_at m leaf.node.id) else content_at m leaf.node.id))
+        (λ here. ap (λ id. cluster_item_pressed kind item (content_at m id)) (sym (same-id leaf.node.id i here))) (λ there. refl))
         (λ is. sym (either-same (leaf.node.id.0 == i.0) (content_at m leaf.node.id)))
 
     of_shortcut : (s : Shortcut) (i : Id)

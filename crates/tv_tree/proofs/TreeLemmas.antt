@@ -8,7 +8,7 @@ use Rattle.tv_machine.specs.State.{LeafState}
 use Rattle.tv_machine.specs.Leaves.{PlacedNode, leaf_list}
 use Rattle.tv_model.specs.Controls.Contents.{Content}
 use Rattle.tv_machine.specs.Dialog.Rules.{is_enabled, is_visible}
-use Rattle.tv_machine.specs.Dialog.Modal.{Modal, content_at, leaf_at, with_content}
+use Rattle.tv_machine.specs.Dialog.Modal.{Modal, content_at, leaf_at, content_put}
 use Rattle.tv_machine.specs.Dialog.Lawful.{IsLawfulDialog}
 use Rattle.tv_machine.proofs.ListLemmas.{AreApart, bool_cases, changed_at, find-map, map-map, same-id}
 use Rattle.tv_machine.proofs.LeafLemmas.{HasLeaves, IsIn, content_at-changed, ids-apart, leaf_at-all, leaf_at-same, leaves-are, leaves-changed, leaves-same}
@@ -63,9 +63,9 @@ module _ (d : Dialog) (lawful : IsLawfulDialog d) where
 
   -- the leaf of the id holds this, and nothing else changes
   pub changed-tree : (ruled : List LeafState) (m : Modal) (i : Id) (c : Content) → HasLeaves d m
-      → tree_as d ruled (with_content d i c m) ≡ map (where_id i (placed_with c)) (tree_as d ruled m)
+      → tree_as d ruled (content_put d i c m) ≡ map (where_id i (placed_with c)) (tree_as d ruled m)
   changed-tree ruled m i c leaves =
-      leaves-same d lawful (placed_as d ruled (with_content d i c m)) (λ leaf. where_id i (placed_with c) (placed_as d ruled m leaf))
+      leaves-same d lawful (placed_as d ruled (content_put d i c m)) (λ leaf. where_id i (placed_with c) (placed_as d ruled m leaf))
       (λ leaf e. ap (placed_holding ruled m leaf) (content_at-changed d lawful m leaves i c leaf e)
       ∙ holding-so ruled m leaf c (leaf.node.id.0 == i.0))
       ∙ sym (map-map (placed_as d ruled m) (where_id i (placed_with c)) (leaf_list d.views))
@@ -100,10 +100,10 @@ module _ (d : Dialog) (lawful : IsLawfulDialog d) where
   -- a dialog stays steady where the leaf of the id holds what its kind does
   pub steady-changed : (m : Modal) (i : Id) (c : Content) → IsSteady d m
       → ((leaf : PlacedNode) → leaf_at d i ≡ Some leaf → IsSteadyContent (leaf.node.id.0 == m.focus.0) leaf.node.kind c)
-      → IsSteady d (with_content d i c m)
+      → IsSteady d (content_put d i c m)
   steady-changed m i c steady fits = record {
     leaves = leaves-changed d lawful m steady.leaves i c;
-    contents = leaves-are d lawful (IsSteadyLeaf (with_content d i c m))
+    contents = leaves-are d lawful (IsSteadyLeaf (content_put d i c m))
         (λ leaf e. subst (IsSteadyContent (leaf.node.id.0 == m.focus.0) leaf.node.kind)
         (sym (content_at-changed d lawful m steady.leaves i c leaf e))
         (bool_cases (leaf.node.id.0 == i.0)

@@ -8,14 +8,14 @@ use Rattle.tv_model.specs.Kinds.{behaviour}
 use Rattle.tv_model.specs.Controls.Shortcut.{Shortcut, ItemMarks, ClusterKind}
 use Rattle.tv_model.specs.declared.desc.Dialog.{Dialog}
 use Rattle.tv_model.specs.declared.log.LogLine.TheVariants as lines
-use Rattle.tv_model.specs.Controls.Contents.{is_item}
+use Rattle.tv_model.specs.Controls.Contents.{is_item_place}
 use Rattle.tv_view.specs.Meaning.{Placed}
-use Rattle.tv_model.specs.Kinds.Cluster.{item_pressed}
+use Rattle.tv_model.specs.Kinds.Cluster.{cluster_item_pressed}
 use Rattle.tv_machine.specs.Leaves.{PlacedNode}
 use Rattle.tv_machine.specs.Dialog.Ending.{command}
 use Rattle.tv_machine.specs.Dialog.Focus.{request, request_then}
 use Rattle.tv_machine.specs.Dialog.Keys.{enter_target}
-use Rattle.tv_machine.specs.Dialog.Modal.{Modal, content_at, leaf_at, with_content, with_line}
+use Rattle.tv_machine.specs.Dialog.Modal.{Modal, content_at, leaf_at, content_put, with_line}
 use Rattle.tv_view.specs.declared.env.Env.{Env}
 use Rattle.tv_view.specs.declared.reaction.Reaction.{Reaction}
 use Rattle.tv_view.specs.declared.reaction.Reaction.TheVariants as reactions
@@ -50,7 +50,7 @@ phases_after e env xs =
 
 -- a cluster of so many items has the item pressed, if it has it
 abbrev pub cluster_pressed : Dialog → ClusterKind → ℕ → Id → ℕ → Modal → Modal
-cluster_pressed d kind count i item m = if is_item count item then with_content d i (item_pressed kind item (content_at m i)) m else m
+cluster_pressed d kind count i item m = if is_item_place count item then content_put d i (cluster_item_pressed kind item (content_at m i)) m else m
 
 -- only clusters have items to press
 abbrev pub shortcut_pressed : Dialog → Shortcut → Id → ℕ → Modal → Modal

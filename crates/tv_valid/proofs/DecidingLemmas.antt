@@ -16,8 +16,8 @@ use Rattle.tv_picture.proofs.MatchingLemmas.{begins_law}
 use Rattle.tv_valid.specs.declared.domain.Kind.{Kind}
 use Rattle.tv_valid.specs.declared.domain.Kind.TheVariants.{Any, Filter, Range, Picture}
 use Rattle.tv_valid.specs.declared.domain.Domain.{Domain}
-use Rattle.tv_valid.specs.Domain.{whole, FitsIn, InDomain, InKind, InRange, IsBetween, IsDigits, IsRangeChar, IsViableText, MayBecome}
-use Rattle.tv_valid.specs.Deciding.{are_digits, are_digits_within, are_negative_within, fits_in, in_domain, in_kind, in_range, is_after, is_between, is_range_char, may_become, viable}
+use Rattle.tv_valid.specs.Domain.{number_of_digits, FitsIn, InDomain, InKind, InRange, IsFromTo, IsDigits, IsRangeChar, IsViableText, MayBecome}
+use Rattle.tv_valid.specs.Deciding.{are_digits, are_digits_within, are_negative_within, fits_in, in_domain, in_kind, in_range, is_after, is_from_to, is_range_char, may_become, viable}
 
 -- ---- tests of parts
 
@@ -65,25 +65,25 @@ digit_decides c = range_decides 48 57 c
 digits_decide : (cs : List ℕ) → Decides (are_digits cs) (IsDigits cs)
 digits_decide cs = Decides-and (nat_le 1 (length cs)) (list_all is_ascii_digit cs) (le_decides 1 (length cs)) (all_decides is_ascii_digit IsDigit digit_decides cs)
 
-between_decides : (least z greatest : ℤ) → Decides (is_between least z greatest) (IsBetween least z greatest)
+between_decides : (least z greatest : ℤ) → Decides (is_from_to least z greatest) (IsFromTo least z greatest)
 between_decides least z greatest = Decides-and (int_le least z) (int_le z greatest) (int_le_decides least z) (int_le_decides z greatest)
 
 -- ---- numbers of a range
 
 module _ (least greatest : ℤ) where
   abbrev Unsigned : List ℕ → Type 0
-  Unsigned cs = IsDigits cs × IsBetween least (pos (whole cs)) greatest
+  Unsigned cs = IsDigits cs × IsFromTo least (pos (number_of_digits cs)) greatest
 
   abbrev Negative : List ℕ → Type 0
-  Negative cs = IsDigits cs × ((least <ℤ pos 0) × IsBetween least (neg_ℤ (pos (whole cs))) greatest)
+  Negative cs = IsDigits cs × ((least <ℤ pos 0) × IsFromTo least (neg_ℤ (pos (number_of_digits cs))) greatest)
 
   unsigned_decides : (cs : List ℕ) → Decides (are_digits_within least greatest cs) (Unsigned cs)
-  unsigned_decides cs = Decides-and (are_digits cs) (is_between least (pos (whole cs)) greatest) (digits_decide cs) (between_decides least (pos (whole cs)) greatest)
+  unsigned_decides cs = Decides-and (are_digits cs) (is_from_to least (pos (number_of_digits cs)) greatest) (digits_decide cs) (between_decides least (pos (number_of_digits cs)) greatest)
 
   negative_decides : (cs : List ℕ) → Decides (are_negative_within least greatest cs) (Negative cs)
   negative_decides cs =
-      Decides-and (are_digits cs) (int_lt least (pos 0) && is_between least (neg_ℤ (pos (whole cs))) greatest) (digits_decide cs)
-      (Decides-and (int_lt least (pos 0)) (is_between least (neg_ℤ (pos (whole cs))) greatest) (int_lt_decides least (pos 0)) (between_decides least (neg_ℤ (pos (whole cs))) greatest))
+      Decides-and (are_digits cs) (int_lt least (pos 0) && is_from_to least (neg_ℤ (pos (number_of_digits cs))) greatest) (digits_decide cs)
+      (Decides-and (int_lt least (pos 0)) (is_from_to least (neg_ℤ (pos (number_of_digits cs))) greatest) (int_lt_decides least (pos 0)) (between_decides least (neg_ℤ (pos (number_of_digits cs))) greatest))
 
 abbrev After : ℕ → (List ℕ → Type 0) → List ℕ → Type 0
 After sign P text = (cs : List ℕ) × P cs × (text ≡ sign ∷ cs)

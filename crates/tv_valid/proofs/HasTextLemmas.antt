@@ -14,7 +14,7 @@ use Rattle.tv_picture.proofs.LengthLemmas.{shortest_law}
 use Rattle.tv_valid.specs.declared.domain.Kind.{Kind}
 use Rattle.tv_valid.specs.declared.domain.Kind.TheVariants as kinds
 use Rattle.tv_valid.specs.declared.domain.Domain.{Domain}
-use Rattle.tv_valid.specs.Domain.{Fits, HasNumber, HasText, InKind, InRange}
+use Rattle.tv_valid.specs.Domain.{HasRoomIn, HasNumber, HasText, InKind, InRange}
 use Rattle.tv_valid.specs.Deciding.{has_number, has_number_within, has_own, has_text}
 use Rattle.tv_valid.proofs.DecidingLemmas.{int_le_decides, int_lt_decides}
 use Rattle.tv_valid.proofs.Numbers.{number_positive, number_negative, number_zero, abs_pos, abs_neg}
@@ -74,16 +74,16 @@ module _ (d : Domain) where
 
   -- a text of the kind that fits
   abbrev Own : Type 0
-  Own = (text : List ℕ) × Fits d text × InKind d.kind text
+  Own = (text : List ℕ) × HasRoomIn d text × InKind d.kind text
 
   module _ (some : pos 0 ≤ℤ d.max) where
-    fits_nil : Fits d []
+    fits_nil : HasRoomIn d []
     fits_nil = (some, omega arith, All-nil IsNarrow)
 
-    fits_room : (text : List ℕ) → length text ≤ room → All IsNarrow text → Fits d text
+    fits_room : (text : List ℕ) → length text ≤ room → All IsNarrow text → HasRoomIn d text
     fits_room text short narrow = (omega (arith, ints, short), omega (arith, short), narrow)
 
-    room_fits : (text : List ℕ) → Fits d text → length text ≤ room
+    room_fits : (text : List ℕ) → HasRoomIn d text → length text ≤ room
     room_fits text (short, few, narrow) = omega (arith, ints, short, few)
 
     own_decides : (k : Kind) → d.kind ≡ k → Decides (has_own k room) Own
@@ -106,7 +106,7 @@ module _ (d : Domain) where
         from (inl e) = ([], (fits_nil, inr (e, refl)))
         from (inr e) = let h = (own_decides d.kind refl).0 e in (h.0, (h.1, inl h.2))
 
-        to : (text : List ℕ) → Fits d text → InKind d.kind text ⊎ (IsTrue d.optional × (text ≡ [])) → (d.optional || has_own d.kind room) ≡ true
+        to : (text : List ℕ) → HasRoomIn d text → InKind d.kind text ⊎ (IsTrue d.optional × (text ≡ [])) → (d.optional || has_own d.kind room) ≡ true
         to text fits (inl h) = or_right d.optional (has_own d.kind room) ((own_decides d.kind refl).1 (text, fits, h))
         to text fits (inr h) = or_left d.optional (has_own d.kind room) h.0
 

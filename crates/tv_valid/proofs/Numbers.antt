@@ -10,15 +10,15 @@ use Rattle.tv_cells.specs.Glyph.{IsNarrow}
 use Rattle.unicode_width.specs.Width.{char_width}
 use Rattle.std.proofs.Math.Numerals.{add-one}
 use Rattle.tv_picture.specs.Pattern.{IsDigit}
-use Rattle.tv_valid.specs.Domain.{whole, HasNumber}
+use Rattle.tv_valid.specs.Domain.{number_of_digits, HasNumber}
 
-pub whole-push : (cs : List ℕ) (c : ℕ) → whole (cs ++ c ∷ []) ≡ whole cs * 10 + (c - 48)
+pub whole-push : (cs : List ℕ) (c : ℕ) → number_of_digits (cs ++ c ∷ []) ≡ number_of_digits cs * 10 + (c - 48)
 whole-push [] c = omega arith
 whole-push (d ∷ cs) c =
     let rest = whole-push cs c in
     let e : length (cs ++ c ∷ []) ≡ length cs + 1 = omega (arith, length-append cs (c ∷ [])) in
     let power : 10 ^ length (cs ++ c ∷ []) ≡ 10 ^ length cs * 10 = ap (λ (n : ℕ). 10 ^ n) (e ∙ add-one (length cs)) ∙ pow-suc 10 (length cs) in
-    ap (λ (p : ℕ). (d - 48) * p + whole (cs ++ c ∷ [])) power ∙ ap (λ (w : ℕ). (d - 48) * (10 ^ length cs * 10) + w) rest ∙ grind arith
+    ap (λ (p : ℕ). (d - 48) * p + number_of_digits (cs ++ c ∷ [])) power ∙ ap (λ (w : ℕ). (d - 48) * (10 ^ length cs * 10) + w) rest ∙ grind arith
 
 -- a sum that is cut off at each digit is cut off at the end
 pub cut_off : (v d : ℕ) → min (min v 10000000000 * 10 + d) 10000000000 ≡ min (v * 10 + d) 10000000000
@@ -38,7 +38,7 @@ cut_none n k = (
   (λ h. let g : n < 1 * 10 ^ k = omega arith in let f : n / 10 ^ k < 1 = (div-lt_iff_lt-mul (ten_power k)).1 g in omega arith),
 )
 
-pub whole_small : (cs : List ℕ) → All IsDigit cs → whole cs < 10 ^ length cs
+pub whole_small : (cs : List ℕ) → All IsDigit cs → number_of_digits cs < 10 ^ length cs
 whole_small [] all = omega arith
 whole_small (c ∷ cs) all =
     let digit = All-head IsDigit c cs all in
@@ -48,7 +48,7 @@ whole_small (c ∷ cs) all =
     omega arith
 
 abbrev Digits : ℕ → ℕ → Type 0
-Digits k n = (cs : List ℕ) × (length cs ≡ k) × All IsDigit cs × (whole cs ≡ n)
+Digits k n = (cs : List ℕ) × (length cs ≡ k) × All IsDigit cs × (number_of_digits cs ≡ n)
 
 digits_of : (k n : ℕ) → n < 10 ^ k → Digits k n
 digits_of zero n h = ([], refl, All-nil IsDigit, omega arith)
@@ -59,7 +59,7 @@ digits_of (suc k) n h =
     let rest = digits_of k (n % 10 ^ k) (mod-lt n (ten_power k)) in
     let parts : 10 ^ k * (n / 10 ^ k) + n % 10 ^ k ≡ n = div-add-mod n (10 ^ k) in
     let same : 48 + n / 10 ^ k - 48 ≡ n / 10 ^ k = omega arith in
-    let value : (48 + n / 10 ^ k - 48) * 10 ^ length rest.0 + whole rest.0 ≡ n = ap (λ (d : ℕ). d * 10 ^ length rest.0 + whole rest.0) same ∙ ap (λ (l : ℕ). n / 10 ^ k * 10 ^ l + whole rest.0) rest.1 ∙ ap (λ (w : ℕ). n / 10 ^ k * 10 ^ k + w) rest.3 ∙ (grind (arith, parts)) in
+    let value : (48 + n / 10 ^ k - 48) * 10 ^ length rest.0 + number_of_digits rest.0 ≡ n = ap (λ (d : ℕ). d * 10 ^ length rest.0 + number_of_digits rest.0) same ∙ ap (λ (l : ℕ). n / 10 ^ k * 10 ^ l + number_of_digits rest.0) rest.1 ∙ ap (λ (w : ℕ). n / 10 ^ k * 10 ^ k + w) rest.3 ∙ (grind (arith, parts)) in
     ((48 + n / 10 ^ k) ∷ rest.0, ap suc rest.1, All-cons IsDigit (48 + n / 10 ^ k) rest.0 (omega arith, omega arith) rest.2, value)
 
 narrow_ascii : (c : ℕ) → 32 ≤ c → c < 127 → IsNarrow c
@@ -84,7 +84,7 @@ number_positive m room greatest low high = (made, needed)
         let some : 1 ≤ length d.0 = filled d.0 d.3 in
         (d.0, (d.0, (some, d.2), inl (inl refl, (subst (λ (n : ℕ). pos m ≤ℤ pos n) (sym d.3) (omega (arith, ints)), subst (λ (n : ℕ). pos n ≤ℤ greatest) (sym d.3) high))), omega (arith, d.1), narrow_digits d.0 d.2)
       where
-        filled : (cs : List ℕ) → whole cs ≡ m → 1 ≤ length cs
+        filled : (cs : List ℕ) → number_of_digits cs ≡ m → 1 ≤ length cs
         filled [] e = absurd (omega arith)
         filled (c ∷ cs) e = omega arith
 
@@ -92,7 +92,7 @@ number_positive m room greatest low high = (made, needed)
     needed (text, (cs, digits, inl (form, between)), short, _) =
         let value = whole_small cs digits.1 in
         let least = between.0 in
-        let order : m ≤ whole cs = omega (arith, ints) in
+        let order : m ≤ number_of_digits cs = omega (arith, ints) in
         let fits : length cs ≤ room = (let s = signed_length text cs form in omega arith) in
         let power : 10 ^ length cs ≤ 10 ^ room = pow-le-pow_right {n = 10} (omega arith) fits in
         omega arith
@@ -107,7 +107,7 @@ number_negative m room least low some high = (made, needed)
         let some : 1 ≤ length d.0 = filled d.0 d.3 in
         (45 ∷ d.0, (d.0, (some, d.2), inr (refl, (omega (arith, ints)), (subst (λ (n : ℕ). least ≤ℤ neg_ℤ (pos n)) (sym d.3) high, subst (λ (n : ℕ). neg_ℤ (pos n) ≤ℤ neg_ℤ (pos m)) (sym d.3) (omega (arith, ints))))), omega (arith, d.1), All-cons IsNarrow 45 d.0 (narrow_ascii 45 (omega arith) (omega arith)) (narrow_digits d.0 d.2))
       where
-        filled : (cs : List ℕ) → whole cs ≡ m → 1 ≤ length cs
+        filled : (cs : List ℕ) → number_of_digits cs ≡ m → 1 ≤ length cs
         filled [] e = absurd (omega arith)
         filled (c ∷ cs) e = omega arith
 
@@ -116,7 +116,7 @@ number_negative m room least low some high = (made, needed)
     needed (text, (cs, digits, inr (form, below, between)), short, _) =
         let value = whole_small cs digits.1 in
         let greatest = between.1 in
-        let order : m ≤ whole cs = omega (arith, ints) in
+        let order : m ≤ number_of_digits cs = omega (arith, ints) in
         let fits : length cs ≤ room - 1 = omega (arith, ap length form) in
         let power : 10 ^ length cs ≤ 10 ^ (room - 1) = pow-le-pow_right {n = 10} (omega arith) fits in
         omega arith

@@ -7,7 +7,7 @@ use Rattle.tv_picture.specs.Matching.{matches, begins_some, shortest_length}
 use Rattle.tv_valid.specs.declared.domain.Kind.{Kind}
 use Rattle.tv_valid.specs.declared.domain.Kind.TheVariants.{Any, Filter, Range, Picture}
 use Rattle.tv_valid.specs.declared.domain.Domain.{Domain}
-use Rattle.tv_valid.specs.Domain.{whole}
+use Rattle.tv_valid.specs.Domain.{number_of_digits}
 
 -- ---- numbers of a range
 
@@ -16,16 +16,16 @@ abbrev pub are_digits : List ℕ → Bool
 are_digits cs = nat_le 1 (length cs) && list_all is_ascii_digit cs
 
 -- the number lies between the two, either of them included
-abbrev pub is_between : ℤ → ℤ → ℤ → Bool
-is_between least z greatest = int_le least z && int_le z greatest
+abbrev pub is_from_to : ℤ → ℤ → ℤ → Bool
+is_from_to least z greatest = int_le least z && int_le z greatest
 
 -- the digits of a number of the range
 abbrev pub are_digits_within : ℤ → ℤ → List ℕ → Bool
-are_digits_within least greatest cs = are_digits cs && is_between least (pos (whole cs)) greatest
+are_digits_within least greatest cs = are_digits cs && is_from_to least (pos (number_of_digits cs)) greatest
 
 -- the digits after the `-` of a number of the range
 abbrev pub are_negative_within : ℤ → ℤ → List ℕ → Bool
-are_negative_within least greatest cs = are_digits cs && (int_lt least (pos 0) && is_between least (neg_ℤ (pos (whole cs))) greatest)
+are_negative_within least greatest cs = are_digits cs && (int_lt least (pos 0) && is_from_to least (neg_ℤ (pos (number_of_digits cs))) greatest)
 
 -- the text is the sign, and what is right after it
 abbrev pub is_after : ℕ → (List ℕ → Bool) → List ℕ → Bool

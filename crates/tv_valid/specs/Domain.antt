@@ -1,8 +1,8 @@
 -- What an input asks of its text.
 use Rattle.std.specs.Prelude.{◌≡◌, ℕ, ◌+◌, ◌-◌, ◌*◌, ◌^◌, ◌≤◌, ◌<◌, ◌⊎◌, ◌++◌, List, [], ◌∷◌, length, take, insert, slice_index_or, All, Contains, Bool, true, if◌then◌else◌, nat_le, ◌&&◌, ◌==◌, IsTrue, ℤ, pos, neg_ℤ, ◌≤ℤ◌, ◌<ℤ◌}
 use Rattle.tv_cells.specs.Glyph.{IsNarrow}
-use Rattle.tv_picture.specs.Pattern.{Pattern, Member, Begins, IsNextLiteral, IsDigit}
-use Rattle.tv_picture.specs.Spelling.{IsPicture, spelled, IsFirstFault}
+use Rattle.tv_picture.specs.Pattern.{Pattern, IsMember, Begins, IsNextLiteral, IsDigit}
+use Rattle.tv_picture.specs.Spelling.{IsPicture, spelled, IsFirstFaultyPlace}
 use Rattle.tv_picture.specs.declared.fault.PictureFault.{PictureFault}
 use Rattle.tv_picture.specs.declared.fault.PictureFault.TheVariants as pictures
 use Rattle.tv_valid.specs.declared.input.InputSpec.{InputSpec}
@@ -15,21 +15,21 @@ use Rattle.tv_valid.specs.declared.domain.DomainFault.{DomainFault}
 use Rattle.tv_valid.specs.declared.domain.DomainFault.TheVariants.{NoMemory, BadPicture, Empty}
 
 -- the digits as a whole number, of any length
-abbrev pub whole : List ℕ → ℕ
-whole [] = 0
-whole (c ∷ cs) = (c - 48) * 10 ^ length cs + whole cs
+abbrev pub number_of_digits : List ℕ → ℕ
+number_of_digits [] = 0
+number_of_digits (c ∷ cs) = (c - 48) * 10 ^ length cs + number_of_digits cs
 
 -- one or more digits
 abbrev pub IsDigits : List ℕ → Type 0
 IsDigits cs = (1 ≤ length cs) × All IsDigit cs
 
 -- the number lies between the two, either of them included
-abbrev pub IsBetween : ℤ → ℤ → ℤ → Type 0
-IsBetween least z greatest = (least ≤ℤ z) × (z ≤ℤ greatest)
+abbrev pub IsFromTo : ℤ → ℤ → ℤ → Type 0
+IsFromTo least z greatest = (least ≤ℤ z) × (z ≤ℤ greatest)
 
 -- an optional sign and digits whose value is in the range; a `-` only where the least value is negative
 abbrev pub InRange : ℤ → ℤ → List ℕ → Type 0
-InRange least greatest text = (cs : List ℕ) × IsDigits cs × ((((text ≡ cs) ⊎ (text ≡ 43 ∷ cs)) × IsBetween least (pos (whole cs)) greatest) ⊎ ((text ≡ 45 ∷ cs) × (least <ℤ pos 0) × IsBetween least (neg_ℤ (pos (whole cs))) greatest))
+InRange least greatest text = (cs : List ℕ) × IsDigits cs × ((((text ≡ cs) ⊎ (text ≡ 43 ∷ cs)) × IsFromTo least (pos (number_of_digits cs)) greatest) ⊎ ((text ≡ 45 ∷ cs) × (least <ℤ pos 0) × IsFromTo least (neg_ℤ (pos (number_of_digits cs))) greatest))
 
 -- a character of such a text
 abbrev pub IsRangeChar : ℤ → ℕ → Type 0
@@ -40,7 +40,7 @@ abbrev pub InKind : Kind → List ℕ → Type 0
 InKind Any text = Unit {0}
 InKind (Filter set) text = All (Contains set) text
 InKind (Range least greatest) text = InRange least greatest text
-InKind (Picture p) text = Member p text
+InKind (Picture p) text = IsMember p text
 
 -- and of a text while it is typed
 abbrev pub MayBecome : Kind → List ℕ → Type 0
@@ -54,16 +54,16 @@ abbrev pub FitsIn : ℤ → List ℕ → Type 0
 FitsIn max text = (pos (length text) ≤ℤ max) × (length text ≤ 120) × All IsNarrow text
 
 -- the text has room in the input
-abbrev pub Fits : Domain → List ℕ → Type 0
-Fits d text = FitsIn d.max text
+abbrev pub HasRoomIn : Domain → List ℕ → Type 0
+HasRoomIn d text = FitsIn d.max text
 
 -- a text of the domain
 abbrev pub InDomain : Domain → List ℕ → Type 0
-InDomain d text = Fits d text × (InKind d.kind text ⊎ (IsTrue d.optional × (text ≡ [])))
+InDomain d text = HasRoomIn d text × (InKind d.kind text ⊎ (IsTrue d.optional × (text ≡ [])))
 
 -- a text that may stand in the input while it is typed
 abbrev pub IsViableText : Domain → List ℕ → Type 0
-IsViableText d text = Fits d text × MayBecome d.kind text
+IsViableText d text = HasRoomIn d text × MayBecome d.kind text
 
 -- the kind is what the description asks for; a picture is the one that is spelled
 abbrev pub IsKind : DomainSpec → Kind → Type 0
@@ -96,14 +96,14 @@ picture_fault (pictures.Syntax place) = BadPicture place
 -- why there is no kind: no memory, or a wrong picture
 abbrev pub RefusesKind : DomainSpec → DomainFault → Type 0
 RefusesKind spec NoMemory = Unit {0}
-RefusesKind spec (BadPicture place) = (text : List ℕ) × (spec ≡ asked.Picture text) × IsFirstFault text place
+RefusesKind spec (BadPicture place) = (text : List ℕ) × (spec ≡ asked.Picture text) × IsFirstFaultyPlace text place
 RefusesKind spec Empty = ⊥
 
 -- why there is no domain: its picture is wrong, or it is right and no text lies in the domain
-abbrev pub Refuses : InputSpec → DomainFault → Type 0
-Refuses spec NoMemory = Unit {0}
-Refuses spec (BadPicture place) = (text : List ℕ) × (spec.domain ≡ asked.Picture text) × IsFirstFault text place
-Refuses spec Empty = ((d : Domain) × IsDomain spec d) × ((d : Domain) → IsDomain spec d → HasText d → ⊥)
+abbrev pub RefusesDomain : InputSpec → DomainFault → Type 0
+RefusesDomain spec NoMemory = Unit {0}
+RefusesDomain spec (BadPicture place) = (text : List ℕ) × (spec.domain ≡ asked.Picture text) × IsFirstFaultyPlace text place
+RefusesDomain spec Empty = ((d : Domain) × IsDomain spec d) × ((d : Domain) → IsDomain spec d → HasText d → ⊥)
 
 -- ---- typing
 

@@ -1,7 +1,7 @@
 //! The texts that an input takes.
 
 ghost use Rattle.std.specs.Prelude.{◌≡◌, ◌↔◌, ◌<◌, ◌≤◌, ◌≤ℤ◌, ◌<ℤ◌, pos, insert, take, ℕ, length, All, Contains, IsTrue, Some, IfSome, IfNone, IfOk, IfErr};
-ghost use Rattle.tv_valid.specs.Domain.{IsDomain, IsKind, RefusesKind, HasText, InDomain, IsViableText, IsTyped, IsChosen, IsFilledTo, other_case, InKind, MayBecome, Fits, FitsIn, IsNarrowKind, Refuses};
+ghost use Rattle.tv_valid.specs.Domain.{IsDomain, IsKind, RefusesKind, HasText, InDomain, IsViableText, IsTyped, IsChosen, IsFilledTo, other_case, InKind, MayBecome, HasRoomIn, FitsIn, IsNarrowKind, RefusesDomain};
 ghost use Rattle.tv_valid.specs.Asking.{domain_of};
 ghost use Rattle.tv_valid.specs.Deciding.{in_domain, viable, has_text};
 ghost use Rattle.tv_valid.specs.Typing.{typed_of};
@@ -100,7 +100,7 @@ impl Domain {
     /// Makes the domain that an input declares: reads its picture, and refuses a domain in which no text lies.
     pub fn new(alloc: Global, spec: &InputSpec) -> Result<Domain, DomainFault>
         ensures ok { IfOk result (λ domain. IsDomain spec.now domain × HasText domain) }
-        ensures err { IfErr result (λ fault. Refuses spec.now fault) }
+        ensures err { IfErr result (λ fault. RefusesDomain spec.now fault) }
         ensures computed { IfOk result (λ domain. (domain_of spec.now ≡ Some domain) × IsTrue (has_text domain)) }
     {
         let domain = Domain {
@@ -213,7 +213,7 @@ impl Domain {
     /// Whether the text is short enough, and each character takes one column.
     fn fits(&self, text: &[char]) -> bool
         requires { length text.now ≤ 120 }
-        ensures { IsTrue result ↔ Fits self.now text.now }
+        ensures { IsTrue result ↔ HasRoomIn self.now text.now }
     {
         is_within(text.len(), &self.max) && text.iter().all(|ch| ch.width() == Some(1))
     }

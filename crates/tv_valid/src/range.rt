@@ -1,7 +1,7 @@
 //! Texts of whole numbers between two bounds.
 
 ghost use Rattle.std.specs.Prelude.{◌≡◌, ◌↔◌, ◌+◌, ◌^◌, ◌≤◌, ◌<◌, ◌≤ℤ◌, ◌<ℤ◌, min, ℕ, List, length, pos, neg_ℤ, unsigned_abs, IsTrue, IfSome, IfNone};
-ghost use Rattle.tv_valid.specs.Domain.{whole, IsDigits, IsBetween, InRange, IsRangeChar, HasNumber};
+ghost use Rattle.tv_valid.specs.Domain.{number_of_digits, IsDigits, IsFromTo, InRange, IsRangeChar, HasNumber};
 
 /// The bound on a sum of digits: more than any bound of a range.
 const LARGE: u64 = 10_000_000_000;
@@ -9,7 +9,7 @@ const LARGE: u64 = 10_000_000_000;
 /// Returns the value of the digits, or `LARGE` where that is less; `None` where there are none, or a character is no
 /// digit.
 fn magnitude(digits: &[char]) -> Option<u64>
-    ensures some { IfSome result (λ sum. IsDigits digits.now × (sum ≡ min (whole digits.now) 10000000000)) }
+    ensures some { IfSome result (λ sum. IsDigits digits.now × (sum ≡ min (number_of_digits digits.now) 10000000000)) }
     ensures none { IfNone result (IsDigits digits.now → ⊥) }
 {
     if digits.is_empty() {
@@ -55,7 +55,7 @@ fn is_negative_at_most(sum: u64, greatest: &i32) -> bool
 
 /// Whether the digits write a number in the range.
 fn digits_in_range(least: &i32, greatest: &i32, digits: &[char]) -> bool
-    ensures { IsTrue result ↔ (IsDigits digits.now × IsBetween least.now (pos (whole digits.now)) greatest.now) }
+    ensures { IsTrue result ↔ (IsDigits digits.now × IsFromTo least.now (pos (number_of_digits digits.now)) greatest.now) }
 {
     match magnitude(digits) {
         Some(sum) => is_at_least(least, sum) && is_at_most(sum, greatest),
@@ -65,7 +65,7 @@ fn digits_in_range(least: &i32, greatest: &i32, digits: &[char]) -> bool
 
 /// Whether the digits after a `-` write a number in the range.
 fn negative_in_range(least: &i32, greatest: &i32, digits: &[char]) -> bool
-    ensures { IsTrue result ↔ (IsDigits digits.now × (least.now <ℤ pos 0) × IsBetween least.now (neg_ℤ (pos (whole digits.now))) greatest.now) }
+    ensures { IsTrue result ↔ (IsDigits digits.now × (least.now <ℤ pos 0) × IsFromTo least.now (neg_ℤ (pos (number_of_digits digits.now))) greatest.now) }
 {
     match magnitude(digits) {
         Some(sum) => *least < 0

@@ -11,7 +11,7 @@ use Rattle.tv_model.specs.declared.record.Value.{Value}
 use Rattle.tv_model.specs.Description.Nodes.{is_control}
 use Rattle.tv_model.specs.Description.Commands.{command_number, command_of}
 use Rattle.tv_model.specs.Log.Record.{Entries, value_of, with_value}
-use Rattle.tv_model.specs.Controls.Contents.{is_item}
+use Rattle.tv_model.specs.Controls.Contents.{is_item_place}
 use Rattle.tv_model.specs.Kinds.InputLine.{Edit, entered, left, edit_of, edit_content}
 use Rattle.tv_view.specs.Meaning.{Leaf}
 use Rattle.tv_machine.specs.Controls.Declared.{opened_private}
@@ -62,7 +62,7 @@ focused_to id leaf = if not (takes_focus id leaf) then without_focus leaf else i
 
 -- a cluster of so many items with the item pressed, if it has it
 abbrev pub cluster_pressed : ClusterKind → ℕ → ℕ → Leaf → Leaf
-cluster_pressed kind count item leaf = if is_item count item then with_content (clusters.item_pressed kind item (content_of leaf)) leaf else leaf
+cluster_pressed kind count item leaf = if is_item_place count item then with_content (clusters.cluster_item_pressed kind item (content_of leaf)) leaf else leaf
 
 -- only clusters have items to press
 abbrev pub shortcut_pressed : Shortcut → ℕ → Leaf → Leaf

@@ -8,7 +8,7 @@ use Rattle.tv_valid.specs.declared.domain.Kind.{Kind}
 use Rattle.tv_valid.specs.declared.domain.Kind.TheVariants.{Any}
 use Rattle.tv_valid.specs.declared.domain.Domain.{Domain}
 use Rattle.tv_valid.specs.Asking.{domain_with}
-use Rattle.tv_valid.specs.Domain.{Fits, IsDomain, IsKind}
+use Rattle.tv_valid.specs.Domain.{HasRoomIn, IsDomain, IsKind}
 use Rattle.tv_model.specs.Kinds.InputLine.{HasAnyText, MayStand}
 
 module _ (spec : InputSpec) (any : spec.domain ≡ asked.Any) (room : pos 0 ≤ℤ spec.max) where
@@ -18,7 +18,7 @@ module _ (spec : InputSpec) (any : spec.domain ≡ asked.Any) (room : pos 0 ≤�
   own-domain : IsDomain spec own
   own-domain = record { max = refl; optional = refl; fill = refl; kind = subst (λ d. IsKind d Any) (sym any) tt }
 
-  empty-fits : Fits own []
+  empty-fits : HasRoomIn own []
   empty-fits = (room, omega arith, All-nil IsNarrow)
 
   pub any_text : HasAnyText spec

@@ -10,7 +10,7 @@ use Rattle.tv_cells.specs.Layers.{Layer, Painted}
 use Rattle.tv_cells.specs.Rectangle.{IsIn, cut, shifted, sized}
 use Rattle.tv_cells.specs.declared.canvas.Canvas.{Canvas}
 use Rattle.tv_cells.proofs.RectangleLemmas.{in_cut, point_is}
-use Rattle.tv_model.specs.Screen.Faces.{FaceOf, frame_look, frame_role, static_text, text_face}
+use Rattle.tv_model.specs.Screen.Faces.{FaceOf, frame_look, frame_role, static_text_face, text_face}
 use Rattle.tv_model.specs.Description.Nodes.{is_pane}
 use Rattle.tv_model.specs.Description.Rectangles.{corner_of, desktop, interior, place_of_node, rect}
 use Rattle.tv_machine.specs.Screen.Bodies.{canvas_at}
@@ -92,7 +92,7 @@ bare_list owner (n ∷ ns) texts =
 abbrev text_face_in : Env → List ℕ → FaceOf
 text_face_in env text = text_face text (colour env (roles.StaticText env.owner))
 
-text_face_same : (env : Env) → IsOfWindow env → (text : List ℕ) → text_face_in env text ≡ static_text owners.Window text
+text_face_same : (env : Env) → IsOfWindow env → (text : List ℕ) → text_face_in env text ≡ static_text_face owners.Window text
 text_face_same env lent text = rw (lent.owner, leads_through (roles.StaticText owners.Window) env.chain.now lent.chain) refl
 
 pub look_same : (env : Env) → IsOfWindow env → (number : ℕ) (is_active : Bool) → frame_look (colour_in env.chain.now) owners.Window number is_active ≡ frame_look attribute_of owners.Window number is_active
@@ -113,7 +113,7 @@ module _ (env : Env) (lent : IsOfWindow env) (d : Desc) (window : Window) (h : �
   view_drawn n height text kind = rw kind refl
 
   view_declared : (n : Node) (height : ℤ) (text : List ℕ) → n.kind ≡ kinds.Text (record { h = height; text = text })
-      → window_leaf d (corner_of window.node) (bare n) ≡ Painted (canvas_at (desktop d) (window.node.x +ℤ n.x) (window.node.y +ℤ n.y)) (natural n.w) (natural height) (static_text owners.Window text) ∷ []
+      → window_leaf d (corner_of window.node) (bare n) ≡ Painted (canvas_at (desktop d) (window.node.x +ℤ n.x) (window.node.y +ℤ n.y)) (natural n.w) (natural height) (static_text_face owners.Window text) ∷ []
   view_declared n height text kind = rw kind refl
 
   place_is : (n : Node) (height : ℤ) (text : List ℕ) → n.kind ≡ kinds.Text (record { h = height; text = text }) → place_of_node n ≡ rect n.x n.y n.w height
@@ -123,7 +123,7 @@ module _ (env : Env) (lent : IsOfWindow env) (d : Desc) (window : Window) (h : �
   view_same n is =
       let within : (p q : ℤ) → IsIn (rect n.x n.y n.w is.height) p q → IsIn (rect (pos 1) (pos 1) (window.node.w -ℤ pos 2) (h -ℤ pos 2)) p q = λ p q i. subst (λ r. IsIn r p q) tall (is.inside p q (subst (λ r. IsIn r p q) (sym (place_is n is.height is.text is.kind)) i)) in
       rw (view_drawn n is.height is.text is.kind, view_declared n is.height is.text is.kind)
-      (text_same d window.node.x window.node.y window.node.w h n.x n.y n.w is.height within (text_face_in env is.text) (static_text owners.Window is.text) (text_face_same env lent is.text))
+      (text_same d window.node.x window.node.y window.node.w h n.x n.y n.w is.height within (text_face_in env is.text) (static_text_face owners.Window is.text) (text_face_same env lent is.text))
 
   views_step : (n : Node) (ns : List Node) → shown_views (n ∷ ns) ≡ shown_views ns ++ window_leaf d (corner_of window.node) (bare n)
   views_step n ns =

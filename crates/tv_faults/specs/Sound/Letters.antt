@@ -10,7 +10,7 @@ use Rattle.tv_model.specs.declared.desc.Dialog.{Dialog}
 use Rattle.tv_model.specs.declared.desc.Window.{Window}
 use Rattle.tv_model.specs.declared.desc.Effect.TheVariants as effects
 use Rattle.tv_model.specs.Description.Heads.{window_head}
-use Rattle.tv_model.specs.Description.Marks.{letter_of}
+use Rattle.tv_model.specs.Description.Marks.{marked_letter}
 use Rattle.tv_model.specs.Description.Letters.{marked_of}
 use Rattle.tv_model.specs.Description.Numbers.{IsBetween}
 use Rattle.tv_faults.specs.Sound.Bodies.{EachBody}
@@ -19,7 +19,7 @@ use Rattle.tv_faults.specs.Sound.Bodies.{EachBody}
 
 -- the text marks the letter, told in upper case
 abbrev pub MarksLetter : MarkedText → ℕ → Type 0
-MarksLetter text letter = letter_of text ≡ Some letter
+MarksLetter text letter = marked_letter text ≡ Some letter
 
 -- no letter is marked in both
 abbrev pub MarkOtherLetters : MarkedText → MarkedText → Type 0

@@ -21,10 +21,10 @@ use Rattle.tv_model.specs.Description.Commands.{command_number, command_of, is_d
 use Rattle.tv_model.specs.Description.Heads.{dialog_head}
 use Rattle.tv_machine.specs.Leaves.{PlacedNode, leaf_list}
 use Rattle.tv_model.specs.Controls.Contents.{Content, text_of}
-use Rattle.tv_model.specs.Kinds.Cluster.{item_pressed}
+use Rattle.tv_model.specs.Kinds.Cluster.{cluster_item_pressed}
 use Rattle.tv_machine.specs.Dialog.Ending.{command, end_by, ended, field_line, fields_of, first_invalid, press, pressed_by, shown_invalid}
 use Rattle.tv_machine.specs.Dialog.Focus.{Moved, NotFree, Refused, Request, Same, after_request, focus_moved, is_free_at, is_granted, refocused, request, requested}
-use Rattle.tv_machine.specs.Dialog.Modal.{Modal, content_at, leaf_at, with_content, with_line}
+use Rattle.tv_machine.specs.Dialog.Modal.{Modal, content_at, leaf_at, content_put, with_line}
 use Rattle.tv_machine.specs.Dialog.Rules.{is_enabled, is_visible}
 use Rattle.tv_machine.specs.Dialog.Shortcuts.{act, call_item, called_by, press_item, request_link}
 use Rattle.tv_machine.specs.Safe.{HasValueOf}
@@ -148,10 +148,10 @@ module _ (d : Dialog) (sound : IsSoundDialog d) where
   asked_act : (i : Id) (m n : Modal) → IsAsked i m n → IsActOn d false i m n
   asked_act i m n a = record { focus = a.focus; values = λ k e h other. a.values k e h; presses = a.log i; ended = λ e. a.ended }
 
-  pressed_values : (i : Id) (c : Content) (m n : Modal) → IsAsked i m n → KeepsOthers d i m (with_content d i c n)
+  pressed_values : (i : Id) (c : Content) (m n : Modal) → IsAsked i m n → KeepsOthers d i m (content_put d i c n)
   pressed_values i c m n a =
-      let others : All (λ leaf. (leaf.node.id.0 == i.0) ≡ false → content_at (with_content d i c n) leaf.node.id ≡ content_at n leaf.node.id) (leaf_list d.views) =
-      leaves-are d sound.lawful (λ leaf. (leaf.node.id.0 == i.0) ≡ false → content_at (with_content d i c n) leaf.node.id ≡ content_at n leaf.node.id)
+      let others : All (λ leaf. (leaf.node.id.0 == i.0) ≡ false → content_at (content_put d i c n) leaf.node.id ≡ content_at n leaf.node.id) (leaf_list d.views) =
+      leaves-are d sound.lawful (λ leaf. (leaf.node.id.0 == i.0) ≡ false → content_at (content_put d i c n) leaf.node.id ≡ content_at n leaf.node.id)
       (λ leaf e other. content_at-other d sound.lawful n a.leaves i c leaf e other) in
       λ k e h other. ap (λ x. x.value) (others k e h other) ∙ a.values k e h
 
@@ -160,7 +160,7 @@ module _ (d : Dialog) (sound : IsSoundDialog d) where
   pressed_act kind i None m n a = asked_act i m n a
   pressed_act kind i (Some item) m n a = record {
     focus = a.focus;
-    values = pressed_values i (item_pressed kind item (content_at n i)) m n a;
+    values = pressed_values i (cluster_item_pressed kind item (content_at n i)) m n a;
     presses = a.log i;
     ended = λ e. a.ended;
   }

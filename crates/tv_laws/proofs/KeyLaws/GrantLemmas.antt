@@ -21,7 +21,7 @@ use Rattle.tv_model.specs.Controls.Owner.{item_at}
 use Rattle.tv_model.specs.Description.Owners.{owner_by}
 use Rattle.tv_machine.specs.Leaves.{PlacedNode, leaf_list}
 use Rattle.tv_model.specs.Controls.Contents.{Content}
-use Rattle.tv_model.specs.Kinds.Cluster.{item_pressed}
+use Rattle.tv_model.specs.Kinds.Cluster.{cluster_item_pressed}
 use Rattle.tv_machine.specs.Dialog.Ending.{command, end_by, ended, field_line, fields_of, first_invalid, press, pressed_kind, shown_invalid}
 use Rattle.tv_machine.specs.Dialog.Focus.{Moved, NotFree, Refused, Same, after_request, focus_moved, is_free_at, is_free_leaf, is_granted, keeps_focus, refocused, request, requested}
 use Rattle.tv_machine.specs.Dialog.Modal.{Modal, content_at, leaf_at, with_line}
@@ -152,7 +152,7 @@ module _ (d : Dialog) (sound : IsSoundDialog d) where
       subst (λ x. ((call_item d kind i x m).focus ≡ i) × HasPressed kind i x m (call_item d kind i x m)) (sym found)
       (subst (λ b. ((if b then press_item d kind i (Some item) n else n).focus ≡ i) × HasPressed kind i (Some item) m (if b then press_item d kind i (Some item) n else n)) (sym is_so) (
         there.focus,
-        content_at-same d sound.lawful n there.leaves i (item_pressed kind item (content_at n i)) leaf e ∙ ap (item_pressed kind item) (there.clusters leaf e is),
+        content_at-same d sound.lawful n there.leaves i (cluster_item_pressed kind item (content_at n i)) leaf e ∙ ap (cluster_item_pressed kind item) (there.clusters leaf e is),
       ))
 
   module _ (m : Modal) (letter : ℕ) (marker : PlacedNode) (s : IsStanding d m) (there : IsIn d marker) where

@@ -21,7 +21,7 @@ use Rattle.tv_model.specs.Description.Marks.{is_option_letter, marks, upper}
 use Rattle.tv_model.specs.Description.Names.{gives_name, is_option_named, meant}
 use Rattle.tv_model.specs.Description.Nodes.{is_button, is_control, is_pane, name_of}
 use Rattle.tv_model.specs.Description.Owners as owners
-use Rattle.tv_model.specs.Controls.Owner.{Owner, control, item_at}
+use Rattle.tv_model.specs.Controls.Owner.{LetterOwner, control, item_at}
 use Rattle.tv_model.specs.Description.Owners.{owner_by, owners_of}
 use Rattle.tv_machine.specs.Leaves.{PlacedNode, leaf_list, leaves_in, open_after, open_at}
 use Rattle.tv_model.specs.Controls.Contents.{Content}
@@ -31,7 +31,7 @@ use Rattle.tv_machine.specs.Dialog.Focus.{Moved, NotFree, Refused, Same, after_r
 use Rattle.tv_machine.specs.Dialog.Keys.{alt_keyed, answered, keyed}
 use Rattle.tv_machine.specs.Dialog.Modal.{Modal, content_at, leaf_at}
 use Rattle.tv_machine.specs.Dialog.Rules.{is_enabled, is_visible}
-use Rattle.tv_machine.specs.Dialog.Shortcuts.{act_on, call_item, called, marker_of, press_item}
+use Rattle.tv_machine.specs.Dialog.Shortcuts.{act_on, call_item, called, marking_leaf, press_item}
 use Rattle.tv_machine.specs.Dialog.Step.{step_by}
 use Rattle.tv_laws.specs.Fit.{IsFitModal}
 use Rattle.tv_laws.specs.Letters.{AltActs, HasOwnNames, IsOwner, MarksAlike, OwnLetterActs, TypedActs, UnnamedActsOnNone, control_by, item_by}
@@ -129,35 +129,35 @@ module _ (d : Dialog) where
   pub marks-alike : MarksAlike d
   marks-alike letter = same_marker letter [] d.views
 
-  marker_same : (letter : ℕ) (marker : PlacedNode) → marker_of d letter ≡ Some marker → owners.marker_of d letter ≡ Some marker.node
+  marker_same : (letter : ℕ) (marker : PlacedNode) → marking_leaf d letter ≡ Some marker → owners.marker_of d letter ≡ Some marker.node
   marker_same letter marker e = sym (marks-alike letter) ∙ ap (option_map (λ leaf. leaf.node)) e
 
-  owner_of : (letter : ℕ) (marker : PlacedNode) → marker_of d letter ≡ Some marker → owners_of d letter ≡ option_to_list (owner_by letter marker.node.kind)
+  owner_of : (letter : ℕ) (marker : PlacedNode) → marking_leaf d letter ≡ Some marker → owners_of d letter ≡ option_to_list (owner_by letter marker.node.kind)
   owner_of letter marker e = ap (λ o. option_to_list (option_and_then (λ node. owner_by letter node.kind) o)) (marker_same letter marker e)
 
   pub unnamed-acts-on-none : UnnamedActsOnNone d
   unnamed-acts-on-none m letter none =
-      option_cases (marker_of d letter) (λ o. act_on d letter o m ≡ m) (λ e. refl)
+      option_cases (marking_leaf d letter) (λ o. act_on d letter o m ≡ m) (λ e. refl)
       (λ marker e. absurd (unnamed (owner_by letter marker.node.kind) (found-passes (marks_it letter) (leaf_list d.views) marker e) (sym (owner_of letter marker e) ∙ none)))
     where
-      unnamed : (o : Option Owner) → is_some o ≡ true → option_to_list o ≡ [] → ⊥
+      unnamed : (o : Option LetterOwner) → is_some o ≡ true → option_to_list o ≡ [] → ⊥
       unnamed None is e = false≢true is
       unnamed (Some owner) is e = cc
 
   -- ---- the owner that the certificate names
 
   -- what is so of the owner of a marker of this kind
-  abbrev Names : ℕ → Kind → Node → Owner → Type 0
+  abbrev Names : ℕ → Kind → Node → LetterOwner → Type 0
   Names letter k node owner = IsTrue (gives_name owner.name node) × (owner.item ≡ option_map (λ item. pos item) (item_by letter k))
 
   its_name : (node : Node) (k : Kind) (name : List ℕ) → node.kind ≡ k → gives_name name (record node { kind = k }) ≡ gives_name name node
   its_name node k name is = ap (λ x. gives_name name (record node { kind = x })) (sym is)
 
-  one_of : (b : Bool) (x y : Owner) → (if b then Some x else None) ≡ Some y → x ≡ y
+  one_of : (b : Bool) (x y : LetterOwner) → (if b then Some x else None) ≡ Some y → x ≡ y
   one_of true x y e = cc
   one_of false x y e = absurd cc
 
-  item_of_letter : (letter : ℕ) (items : List MarkedText) (name : List ℕ) (owner : Owner)
+  item_of_letter : (letter : ℕ) (items : List MarkedText) (name : List ℕ) (owner : LetterOwner)
       → option_map (item_at name) (position (marks letter) items) ≡ Some owner
       → (name ≡ owner.name) × (owner.item ≡ option_map (λ item. pos item) (item_marking items letter))
   item_of_letter letter items name owner =
@@ -175,7 +175,7 @@ module _ (d : Dialog) where
       → IsTrue (gives_name given node)
   own_name node k name given is gives same = ap (λ n. gives_name n node) (sym same) ∙ sym (its_name node k name is) ∙ gives
 
-  names_it : (letter : ℕ) (node : Node) (k : Kind) (control : Node) (owner : Owner) → node.kind ≡ k → owner_by letter k ≡ Some owner
+  names_it : (letter : ℕ) (node : Node) (k : Kind) (control : Node) (owner : LetterOwner) → node.kind ≡ k → owner_by letter k ≡ Some owner
       → control_by d node k ≡ Some control → Names letter k control owner
   names_it letter node (kinds.Label label) other owner is named e =
       let same = one_of (marks letter label.text) (control label.link) owner named in
@@ -207,13 +207,13 @@ module _ (d : Dialog) where
       λ i j e less h one other. own i j e less h name (named_so (name_of (get_or d.views i e).kind) name one) (named_so (name_of (get_or d.views j e).kind) name other)
 
   -- the marker is what its own name means
-  own_meant : (letter : ℕ) (marker : PlacedNode) (name : List ℕ) → marker_of d letter ≡ Some marker → HasOwnNames d
+  own_meant : (letter : ℕ) (marker : PlacedNode) (name : List ℕ) → marking_leaf d letter ≡ Some marker → HasOwnNames d
       → gives_name name marker.node ≡ true → meant d.views name ≡ Some marker.node
   own_meant letter marker name e own is =
       found-all (λ node. gives_name name node ≡ true → find (gives_name name) d.views ≡ Some node) (λ node. is_some (owner_by letter node.kind)) d.views marker.node
       (only_found (gives_name name) d.views (gives_once own name)) (marker_same letter marker e) is
 
-  meant_it : (letter : ℕ) (node : Node) (k : Kind) (control : Node) (owner : Owner) → owner_by letter k ≡ Some owner → control_by d node k ≡ Some control
+  meant_it : (letter : ℕ) (node : Node) (k : Kind) (control : Node) (owner : LetterOwner) → owner_by letter k ≡ Some owner → control_by d node k ≡ Some control
       → gives_name owner.name control ≡ true → (gives_name owner.name node ≡ true → meant d.views owner.name ≡ Some node) → meant d.views owner.name ≡ Some control
   meant_it letter node (kinds.Label label) other owner named e gives itself =
       ap (λ x. meant d.views x.name) (sym (one_of (marks letter label.text) (control label.link) owner named)) ∙ e
@@ -221,7 +221,7 @@ module _ (d : Dialog) where
       let here : other ≡ node = cc in
       itself (ap (gives_name owner.name) (sym here) ∙ gives) ∙ e
 
-  pub is-owner : (letter : ℕ) (marker : PlacedNode) (control : Node) → marker_of d letter ≡ Some marker
+  pub is-owner : (letter : ℕ) (marker : PlacedNode) (control : Node) → marking_leaf d letter ≡ Some marker
       → control_by d marker.node marker.node.kind ≡ Some control → IsOwner d letter marker.node control
   is-owner letter marker other e there =
       option_cases (owner_by letter marker.node.kind) (λ o. owner_by letter marker.node.kind ≡ o → IsOwner d letter marker.node other)
@@ -253,7 +253,7 @@ module _ (d : Dialog) where
   alt_same letter (Some marker) m = refl
 
   pub alt-acts : AltActs d
-  alt-acts m letter idle = ap (λ h. step_by d h (events.Key (keys.Alt letter)) m) idle ∙ alt_same letter (marker_of d letter) m
+  alt-acts m letter idle = ap (λ h. step_by d h (events.Key (keys.Alt letter)) m) idle ∙ alt_same letter (marking_leaf d letter) m
 
   -- a character goes to the focus
   char_step : (m : Modal) (ch : ℕ) (focus : PlacedNode) → m.held ≡ None → leaf_at d m.focus ≡ Some focus
@@ -313,12 +313,12 @@ module _ (d : Dialog) where
 
 module _ (d : Dialog) (sound : IsSoundDialog d) where
   -- the marker of a letter is the leaf that marks it
-  marker_is : (letter : ℕ) (leaf : PlacedNode) → IsIn d leaf → marks_it letter leaf ≡ true → marker_of d letter ≡ Some leaf
+  marker_is : (letter : ℕ) (leaf : PlacedNode) → IsIn d leaf → marks_it letter leaf ≡ true → marking_leaf d letter ≡ Some leaf
   marker_is letter leaf e is =
       let first : owners.marker_of d letter ≡ Some leaf.node =
       leaf_at-node (λ node. is_some (owner_by letter node.kind) ≡ true → find (λ other. is_some (owner_by letter other.kind)) d.views ≡ Some node) d leaf.node.id leaf
       (only_found (λ node. is_some (owner_by letter node.kind)) d.views (sound.lawful.letters letter)) e is in
-      option_cases (marker_of d letter) (λ o. marker_of d letter ≡ o → o ≡ Some leaf)
+      option_cases (marking_leaf d letter) (λ o. marking_leaf d letter ≡ o → o ≡ Some leaf)
       (λ none f. absurd (no_marker leaf.node (sym (ap (option_map (λ x. x.node)) none) ∙ same_marker letter [] d.views ∙ first)))
       (λ marker some f.
       let both : Some marker.node ≡ Some leaf.node = sym (marker_same d letter marker some) ∙ first in

@@ -7,7 +7,7 @@ use Rattle.std.proofs.lemmas.Bool.Decides.{nat_tests}
 use Rattle.std.proofs.lemmas.List.{length-append, map-append, reverse-append}
 use Rattle.std.proofs.lemmas.List.Elements.{All-cons, All-head, All-nil, All-push, All-tail, filter-append}
 use Rattle.tv_model.specs.declared.node.Id.{Id}
-use Rattle.tv_machine.specs.Dialog.Focus.{Stop, first_free, next_free, others, place_of, previous_free}
+use Rattle.tv_machine.specs.Dialog.Focus.{Stop, first_free, next_free, others, stop_place, previous_free}
 use Rattle.tv_laws.specs.Order.{free_among}
 use Rattle.tv_machine.proofs.ListLemmas.{AreApart, bool_cases, has, id-itself, id-swap, others-fail, same-id}
 
@@ -147,7 +147,7 @@ place-after (s ∷ front) stop back all =
     (omega (arith, place-after front stop back (All-tail (λ x. has stop_id stop.id x ≡ false) s front all)))
 
 place-is : (front : List Stop) (stop : Stop) (back : List Stop) → AreApart (map stop_id (front ++ stop ∷ back))
-    → place_of (front ++ stop ∷ back) stop.id ≡ length front
+    → stop_place (front ++ stop ∷ back) stop.id ≡ length front
 place-is front stop back apart =
     let within : nat_lt (length front) (length (front ++ stop ∷ back)) ≡ true = grind (arith, nat_tests, length-append) in
     rw (place-after front stop back (front-fails front stop back apart), within) refl

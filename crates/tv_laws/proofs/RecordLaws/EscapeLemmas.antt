@@ -15,11 +15,11 @@ use Rattle.tv_machine.specs.Dialog.Ending.{ended}
 use Rattle.tv_machine.specs.Dialog.Modal.{Modal}
 use Rattle.tv_machine.specs.Dialog.Step.{dialog_step}
 use Rattle.tv_machine.specs.Output.{states}
-use Rattle.tv_machine.specs.Session.Commands.{after_work, modal_of, standing, works}
+use Rattle.tv_machine.specs.Session.Commands.{after_work, modal_of, dialog_after, works}
 use Rattle.tv_machine.specs.Session.Start.{start}
 use Rattle.tv_machine.specs.Session.Step.{emptied, event_from, held_of, is_item_enabled, key_at_menu, key_at_status, key_below, status_item_of, step, step_at, to_dialog}
 use Rattle.tv_laws.specs.Escape.{EscCancelsOpen, IsCancelled, UpEscCancels, UpEscLeaves, UpFreesMouse, escape}
-use Rattle.tv_laws.specs.Records.{StaysOver, reached}
+use Rattle.tv_laws.specs.Records.{StaysOver, state_after}
 use Rattle.tv_laws.specs.Runs.{HasSoundDialogs, IsFitState}
 use Rattle.tv_laws.proofs.LeavingLemmas.{esc-cancels, up-lets-go}
 use Rattle.tv_machine.proofs.ListLemmas.{bool_cases, find-none, option_cases}
@@ -50,7 +50,7 @@ module _ (d : Desc) (sound : HasSoundDialogs d) where
   states_fit [] s f = f
   states_fit (e ∷ es) s f = states_fit es (step d s e) (runs-fit d sound s e f)
 
-  pub reached-fit : (es : List Event) → IsFitState d (reached d es)
+  pub reached-fit : (es : List Event) → IsFitState d (state_after d es)
   reached-fit es = states_fit es (start d) (start-fit d sound)
 
   -- ---- Esc while a dialog is open
@@ -78,7 +78,7 @@ module _ (d : Desc) (sound : HasSoundDialogs d) where
       (record { dialog = x.dialog; there = x.there; closed = refl; written = refl; saved = refl })
 
   pub esc-cancels-open : EscCancelsOpen d
-  esc-cancels-open before o some idle = cancelled (reached d before) o (reached-fit before) some idle
+  esc-cancels-open before o some idle = cancelled (state_after d before) o (reached-fit before) some idle
 
   -- ---- a mouse up
 
@@ -87,7 +87,7 @@ module _ (d : Desc) (sound : HasSoundDialogs d) where
   IsLoose s = (o : OpenDialog) → s.dialog ≡ Some o → o.held ≡ None
 
   loose_work : (s : State) (o : OpenDialog) (m : Modal) (over : Option ℕ) → m.held ≡ None → IsLoose (after_work s o m over)
-  loose_work s o m None idle x e = let same : standing o m ≡ x = cc in subst (λ y. y.held ≡ None) same idle
+  loose_work s o m None idle x e = let same : dialog_after o m ≡ x = cc in subst (λ y. y.held ≡ None) same idle
   loose_work s o m (Some number) idle x e = absurd (nothing x e)
 
   loose_up : (s : State) (o : OpenDialog) (p : Point) → IsFitState d s → s.dialog ≡ Some o → IsLoose (to_dialog d o (events.Up p) (emptied s))
@@ -117,7 +117,7 @@ module _ (d : Desc) (sound : HasSoundDialogs d) where
       (λ is over x e. absurd (false≢true (sym (f.«open» x e).over ∙ over))) (λ is goes. loose_at s p f) refl
 
   pub up-frees-mouse : UpFreesMouse d
-  up-frees-mouse before p = up_loose (reached d before) p (reached-fit before)
+  up-frees-mouse before p = up_loose (state_after d before) p (reached-fit before)
 
   -- ---- a mouse up and Esc
 
@@ -136,11 +136,11 @@ module _ (d : Desc) (sound : HasSoundDialogs d) where
 
   pub up-esc-leaves : UpEscLeaves d
   up-esc-leaves before p =
-      let s = reached d before in
+      let s = state_after d before in
       esc_loose (step d s (events.Up p)) (runs-fit d sound s (events.Up p) (reached-fit before)) (up_loose s p (reached-fit before))
 
   pub up-esc-cancels : UpEscCancels d
   up-esc-cancels before p o some =
-      let s = reached d before in
+      let s = state_after d before in
       let f = reached-fit before in
       cancelled (step d s (events.Up p)) o (runs-fit d sound s (events.Up p) f) some (up_loose s p f o some)

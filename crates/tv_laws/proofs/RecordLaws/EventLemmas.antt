@@ -18,13 +18,13 @@ use Rattle.tv_machine.specs.Dialog.Modal.{Modal}
 use Rattle.tv_machine.specs.Dialog.Step.{dialog_step}
 use Rattle.tv_machine.specs.Safe.{IsSafeRecord}
 use Rattle.tv_machine.specs.Screen.Bars.{status_under}
-use Rattle.tv_machine.specs.Session.Commands.{after_work, command_in, do_command, in_dialog, modal_of, saved_by, works}
+use Rattle.tv_machine.specs.Session.Commands.{after_work, command_by_dialog, do_command, in_dialog, modal_of, saved_by, works}
 use Rattle.tv_machine.specs.Session.Step.{down_at_menu, down_at_status, down_below, emptied, event_from, held_of, is_item_enabled, is_status_row, key_at_menu, key_at_status, key_below, status_command, status_item_of, step, step_at, step_below, step_held, to_dialog}
-use Rattle.tv_laws.specs.Ends.{IsDone, IsLineOf, IsOpen}
+use Rattle.tv_laws.specs.Ends.{IsDone, NamesEndOf, IsOpen}
 use Rattle.tv_laws.specs.Records.{IsEnd, IsEndless, IsNoEnd, ShowsSaved, end_lines}
 use Rattle.tv_laws.specs.Runs.{HasSoundDialogs, IsFitState}
 use Rattle.tv_laws.specs.Sound.{IsSoundDialog}
-use Rattle.tv_laws.specs.Steps.{IsGiven}
+use Rattle.tv_laws.specs.Steps.{RespectsHold}
 use Rattle.tv_laws.proofs.EndLemmas.{command-done}
 use Rattle.tv_laws.proofs.RecordLaws.IdleLemmas.{IsBeside, IsStill, command-beside, desktop_down-beside, desktop_key-beside, menu_down-beside, menu_key-beside}
 use Rattle.tv_machine.proofs.ListLemmas.{bool_cases, option_cases}
@@ -117,10 +117,10 @@ module _ (d : Desc) (sound : HasSoundDialogs d) (s : State) (f : IsFitState d s)
         → IsTold (in_dialog d quiet o work)
     dialog_told work keeps =
         let x = f.«open» o some in
-        let r = keeps x.dialog (sound-at d sound o.place x.dialog x.there) (record { fit = x.fit; log = All-nil (IsLineOf x.dialog); going = refl }) in
+        let r = keeps x.dialog (sound-at d sound o.place x.dialog x.there) (record { fit = x.fit; log = All-nil (NamesEndOf x.dialog); going = refl }) in
         subst (λ found. IsTold (works quiet o work found)) (sym x.there) (work_told x.dialog x.there (work x.dialog (modal_of s o)) r.0 r.1)
 
-    to_dialog_told : (e : Event) → IsGiven o.held (event_from o.origin e) → IsTold (to_dialog d o e quiet)
+    to_dialog_told : (e : Event) → RespectsHold o.held (event_from o.origin e) → IsTold (to_dialog d o e quiet)
     to_dialog_told e given =
         let seen = event_from o.origin e in
         dialog_told (λ dialog m. dialog_step dialog seen m)
@@ -139,8 +139,8 @@ module _ (d : Desc) (sound : HasSoundDialogs d) (s : State) (f : IsFitState d s)
   module _ (idle : (o : OpenDialog) → s.dialog ≡ Some o → o.held ≡ None) where
     command_told : (number : ℕ) → IsTold (do_command d number quiet)
     command_told number =
-        option_cases s.dialog (λ x. s.dialog ≡ x → IsTold (command_in d number x quiet))
-        (λ is none. subst (λ x. IsTold (command_in d number x quiet)) none (idle_told _ none (command-beside d sound s f.kept number quiet (still none))))
+        option_cases s.dialog (λ x. s.dialog ≡ x → IsTold (command_by_dialog d number x quiet))
+        (λ is none. subst (λ x. IsTold (command_by_dialog d number x quiet)) none (idle_told _ none (command-beside d sound s f.kept number quiet (still none))))
         (λ o is some. dialog_told o some (λ dialog m. command dialog number m)
         (λ dialog is going. (
           command-done dialog is number (modal_of s o) (record { fit = going.fit; log = going.log; going = going.going; idle = idle o some }),

@@ -19,9 +19,9 @@ use Rattle.tv_machine.specs.State.{OpenDialog, OpenMenu, OpenWindow, State}
 use Rattle.tv_machine.specs.Dialog.Ending.{fields_of}
 use Rattle.tv_machine.specs.Dialog.Modal.{Modal}
 use Rattle.tv_machine.specs.Dialog.Mouse.{is_close_mark}
-use Rattle.tv_machine.specs.Dialog.Opening.{first_focus, opened, opened_leaves, unfocused}
+use Rattle.tv_machine.specs.Dialog.Opening.{first_focus, opened_dialog, opened_leaves, unfocused}
 use Rattle.tv_machine.specs.Screen.Bars.{item_under}
-use Rattle.tv_machine.specs.Session.Commands.{close_front, command_in, do_command, idle_command, last_first, logged, open_dialog, open_first, open_found, opener_of, overwriting_at, own_command, saved_at}
+use Rattle.tv_machine.specs.Session.Commands.{close_front, command_by_dialog, do_command, idle_command, last_first, logged, open_dialog, open_first, open_found, opener_of, overwriting_at, own_command, saved_at}
 use Rattle.tv_machine.specs.Session.Desktop.{alt_pressed, desktop_down, desktop_key, down_beside_title, down_in_front, down_on_desktop, down_on_window, raise, raise_found, seen_from, window_of_digit, window_under}
 use Rattle.tv_machine.specs.Session.Menu.{choose, choose_at, close_menu, down_on_item, down_on_title, item_of_letter, menu_down, menu_key, open_items, open_menu, title_at, title_of_letter}
 use Rattle.tv_laws.specs.Records.{IsNoEnd, ShowsSaved, opened_record}
@@ -51,10 +51,10 @@ module _ (d : Desc) (sound : HasSoundDialogs d) (s : State) (kept : IsKept d s) 
   -- ---- a dialog opens
 
   opened_fields : (place : ℕ) (dialog : Dialog) (t : State) → slice_get d.dialogs place ≡ Some dialog → IsStill t
-      → fields_of (opened dialog (saved_at t place) (overwriting_at t place)).leaves ≡ opened_record dialog (saved_at s place)
+      → fields_of (opened_dialog dialog (saved_at t place) (overwriting_at t place)).leaves ≡ opened_record dialog (saved_at s place)
   opened_fields place dialog t there i =
-      ap (λ xs. fields_of (opened dialog (unwrap_or (slice_get xs place) None) (overwriting_at t place)).leaves) i.1
-      ∙ ap (λ xs. fields_of (opened dialog (saved_at s place) (unwrap_or (slice_get xs place) [])).leaves) i.2
+      ap (λ xs. fields_of (opened_dialog dialog (unwrap_or (slice_get xs place) None) (overwriting_at t place)).leaves) i.1
+      ∙ ap (λ xs. fields_of (opened_dialog dialog (saved_at s place) (unwrap_or (slice_get xs place) [])).leaves) i.2
       ∙ fields-opened dialog (sound-at d sound place dialog there) (saved_at s place) (overwriting_at s place) (saved_safe d sound s kept place dialog there)
       (ordered_at d sound s kept place dialog there)
 
@@ -63,7 +63,7 @@ module _ (d : Desc) (sound : HasSoundDialogs d) (s : State) (kept : IsKept d s) 
       option_cases (slice_get d.dialogs place) (λ found. IsBeside d s (open_found t place found)) (λ none. still-beside t i)
       (λ dialog there.
       let before = unfocused dialog (saved_at t place) (overwriting_at t place) in
-      let m : Modal = opened dialog (saved_at t place) (overwriting_at t place) in
+      let m : Modal = opened_dialog dialog (saved_at t place) (overwriting_at t place) in
       let quiet = quiet-focus dialog (first_focus dialog (opened_leaves dialog (saved_at t place))) before (All-nil IsNoEnd, refl) in
       let o : OpenDialog = record { place = place; origin = corner_of dialog.node; leaves = m.leaves; focus = m.focus; held = m.held } in
       record {
@@ -103,7 +103,7 @@ module _ (d : Desc) (sound : HasSoundDialogs d) (s : State) (kept : IsKept d s) 
       (λ other. own_beside number (opener_of d number) t i))))
 
   pub command-beside : (number : ℕ) (t : State) → IsStill t → IsBeside d s (do_command d number t)
-  command-beside number t i = subst (λ x. IsBeside d s (command_in d number x t)) (sym i.3) (idle_beside number t i)
+  command-beside number t i = subst (λ x. IsBeside d s (command_by_dialog d number x t)) (sym i.3) (idle_beside number t i)
 
   -- ---- menus
 

@@ -27,10 +27,10 @@ use Rattle.tv_machine.specs.Controls.Tables.{key_answer, move_content, up_answer
 use Rattle.tv_machine.specs.Dialog.Ending.{command, end_by, ended, first_invalid, press, pressed_by, shown_invalid}
 use Rattle.tv_machine.specs.Dialog.Focus.{Moved, NotFree, Refused, Request, Same, after_request, focus_moved, is_free_at, is_granted, next_free, previous_free, refocused, request, request_then, requested, stops_of}
 use Rattle.tv_machine.specs.Dialog.Keys.{alt_keyed, answered, enter_target, focus_keyed, key, keyed, passed_on, press_enabled}
-use Rattle.tv_machine.specs.Dialog.Modal.{Modal, content_at, leaf_at, with_content, with_line}
-use Rattle.tv_machine.specs.Dialog.Mouse.{button_down, down, down_at, down_by, first_before, focus_and_hold, held_moved, held_up, hold, is_close_mark, is_inside, released, row_of, topmost}
+use Rattle.tv_machine.specs.Dialog.Modal.{Modal, content_at, leaf_at, content_put, with_line}
+use Rattle.tv_machine.specs.Dialog.Mouse.{button_down, down, down_at, down_by, first_before, focus_and_hold, held_moved, held_up, hold, is_close_mark, is_inside, released, row_on, topmost_leaf}
 use Rattle.tv_machine.specs.Dialog.Rules.{is_enabled, is_visible}
-use Rattle.tv_machine.specs.Dialog.Shortcuts.{act_on, call_item, called, called_by, marker_of, press_item, request_link}
+use Rattle.tv_machine.specs.Dialog.Shortcuts.{act_on, call_item, called, called_by, marking_leaf, press_item, request_link}
 use Rattle.tv_machine.specs.Dialog.Step.{dialog_step, free_step, held_step, step_by}
 use Rattle.tv_laws.specs.Records.{IsNoEnd}
 use Rattle.tv_machine.proofs.RefocusLemmas.{refocused-keeps}
@@ -147,7 +147,7 @@ module _ (d : Dialog) where
   -- ---- keys
 
   last_passed : (k : Key) (m : Modal) → IsQuiet m → EndsLast d m.leaves (passed_on d k m)
-  last_passed (keys.Char ch) m q = last_act (upper ch) (marker_of d (upper ch)) m q
+  last_passed (keys.Char ch) m q = last_act (upper ch) (marking_leaf d (upper ch)) m q
   last_passed _ m q = inl q
 
   last_answered : (k : Key) (leaf : PlacedNode) (a : Answer) (m : Modal) → IsQuiet m → EndsLast d m.leaves (answered d k leaf a m)
@@ -175,7 +175,7 @@ module _ (d : Dialog) where
   last_key keys.ShiftTab m q = inl (quiet_request (previous_free (stops_of d m.leaves) m.focus) m q)
   last_key keys.Esc m q = last-command 11 m q
   last_key keys.Enter m q = last_enter (enter_target d m) m q
-  last_key (keys.Alt letter) m q = last_alt letter (marker_of d letter) m q
+  last_key (keys.Alt letter) m q = last_alt letter (marking_leaf d letter) m q
   last_key k m q = last_focus k m q
 
   -- ---- the mouse
@@ -200,14 +200,14 @@ module _ (d : Dialog) where
 
   last_down : (p : Point) (m : Modal) → IsQuiet m → EndsLast d m.leaves (down d p m)
   last_down p m q =
-      bool_cases (is_close_mark p) (λ b. EndsLast d m.leaves (if b then command d 4 m else down_at d (topmost d m p) p m)) (λ mark. last-command 4 m q)
-      (λ inside. inl (quiet_at (topmost d m p) p m q))
+      bool_cases (is_close_mark p) (λ b. EndsLast d m.leaves (if b then command d 4 m else down_at d (topmost_leaf d m p) p m)) (λ mark. last-command 4 m q)
+      (λ inside. inl (quiet_at (topmost_leaf d m p) p m q))
 
   quiet_move : (leaf : Option PlacedNode) (p : Point) (m : Modal) → IsQuiet m → IsQuiet (held_moved d leaf p m)
   quiet_move None p m q = q
   quiet_move (Some leaf) p m q =
       bool_cases (is_inside leaf p)
-      (λ b. IsQuiet (if b then with_content d leaf.node.id (move_content leaf.node.kind (row_of leaf p) (content_at m leaf.node.id)) m else m)) (λ inside. q) (λ outside. q)
+      (λ b. IsQuiet (if b then content_put d leaf.node.id (move_content leaf.node.kind (row_on leaf p) (content_at m leaf.node.id)) m else m)) (λ inside. q) (λ outside. q)
 
   last_released : (leaf : PlacedNode) (a : Answer) (m : Modal) → IsQuiet m → EndsLast d m.leaves (released d leaf a m)
   last_released leaf Passed m q = inl q
@@ -218,7 +218,7 @@ module _ (d : Dialog) where
   last_up None item p m q = inl q
   last_up (Some leaf) item p m q =
       let n : Modal = record m { held = None } in
-      let a = up_answer leaf.node.kind item (row_of leaf p) (content_at m leaf.node.id) in
+      let a = up_answer leaf.node.kind item (row_on leaf p) (content_at m leaf.node.id) in
       bool_cases (is_inside leaf p) (λ b. EndsLast d m.leaves (if b then released d leaf a n else n)) (λ inside. last_released leaf a n q) (λ outside. inl q)
 
   -- ---- events

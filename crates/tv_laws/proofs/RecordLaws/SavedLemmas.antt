@@ -13,7 +13,7 @@ use Rattle.tv_machine.specs.Output.{states}
 use Rattle.tv_machine.specs.Session.Commands.{saved_at}
 use Rattle.tv_machine.specs.Session.Start.{closed, start, started_at, started_by}
 use Rattle.tv_machine.specs.Session.Step.{step}
-use Rattle.tv_laws.specs.Records.{DeclareCancel, EndsAsDeclared, IsEnd, IsEndless, IsNoEnd, ReopensAsSaved, SavesWhatItLogs, ShowsSaved, StartsAsDeclared, opened_record, reached}
+use Rattle.tv_laws.specs.Records.{DeclareCancel, EndsAsDeclared, IsEnd, IsEndless, IsNoEnd, ReopensAsSaved, SavesWhatItLogs, ShowsSaved, StartsAsDeclared, opened_record, state_after}
 use Rattle.tv_laws.specs.Runs.{HasSoundDialogs, IsFitState}
 use Rattle.tv_laws.specs.Sound.{IsSoundDialog}
 use Rattle.tv_laws.proofs.RecordLaws.EscapeLemmas.{reached-fit}
@@ -87,25 +87,25 @@ module _ (d : Desc) (sound : HasSoundDialogs d) where
   run_states [] s r = r
   run_states (e ∷ es) s r = run_states es (step d s e) (run_step s e r)
 
-  run_reached : (es : List Event) → IsRun (reached d es)
+  run_reached : (es : List Event) → IsRun (state_after d es)
   run_reached es =
       run_states es (start d) (record { fit = start-fit d sound; places = ap length start_beside.saved ∙ copies_length d sound (length d.dialogs) None })
 
   -- ---- each event of it
 
-  told : (es : List Event) (e : Event) → IsCalm d (reached d es) (step d (reached d es) e) ⊎ IsEnd d (reached d es) (step d (reached d es) e)
-  told es e = let r = run_reached es in event-told d sound (reached d es) r.fit r.places e
+  told : (es : List Event) (e : Event) → IsCalm d (state_after d es) (step d (state_after d es) e) ⊎ IsEnd d (state_after d es) (step d (state_after d es) e)
+  told es e = let r = run_reached es in event-told d sound (state_after d es) r.fit r.places e
 
   saves : (s after : State) → IsCalm d s after ⊎ IsEnd d s after → IsEndless s after ⊎ IsEnd d s after
   saves s after (inl b) = inl b.endless
   saves s after (inr e) = inr e
 
   pub saves-what-it-logs : SavesWhatItLogs d
-  saves-what-it-logs es e = saves (reached d es) (step d (reached d es) e) (told es e)
+  saves-what-it-logs es e = saves (state_after d es) (step d (state_after d es) e) (told es e)
 
   reopens : (s after : State) (o : OpenDialog) → s.dialog ≡ None → after.dialog ≡ Some o → IsCalm d s after ⊎ IsEnd d s after → ShowsSaved d s o
   reopens s after o none some (inl b) = b.shows o none some
   reopens s after o none some (inr e) = absurd (nothing e.«open» (sym none ∙ e.was))
 
   pub reopens-as-saved : ReopensAsSaved d
-  reopens-as-saved es e o none some = reopens (reached d es) (step d (reached d es) e) o none some (told es e)
+  reopens-as-saved es e o none some = reopens (state_after d es) (step d (state_after d es) e) o none some (told es e)

@@ -10,7 +10,7 @@ use Rattle.tv_machine.specs.Leaves.{PlacedNode, leaf_list}
 use Rattle.tv_model.specs.Kinds.InputLine.{Edit, entered, left, edit_of, edit_content}
 use Rattle.tv_model.specs.Controls.Contents.{Content}
 use Rattle.tv_machine.specs.Dialog.Rules.{is_free}
-use Rattle.tv_machine.specs.Dialog.Modal.{Modal, with_line, content_at, with_content, leaf_at}
+use Rattle.tv_machine.specs.Dialog.Modal.{Modal, with_line, content_at, content_put, leaf_at}
 
 -- ---- the next control and the previous one
 
@@ -24,12 +24,12 @@ abbrev pub first_free : List Stop → Option Id
 first_free stops = option_map (λ stop. stop.id) (find (λ stop. stop.is_free) stops)
 
 -- how many stand before the focus
-abbrev pub place_of : List Stop → Id → ℕ
-place_of stops focus = unwrap_or (position (λ stop. stop.id.0 == focus.0) stops) (length stops)
+abbrev pub stop_place : List Stop → Id → ℕ
+stop_place stops focus = unwrap_or (position (λ stop. stop.id.0 == focus.0) stops) (length stops)
 
 -- those after the focus, and then those before it, as they come cyclically
 abbrev pub others : List Stop → Id → List Stop
-others stops focus = drop (place_of stops focus + 1) stops ++ take (place_of stops focus) stops
+others stops focus = drop (stop_place stops focus + 1) stops ++ take (stop_place stops focus) stops
 
 -- the next free one after the focus, cyclically; the focus where it alone is free
 abbrev pub next_free : List Stop → Id → Id
@@ -100,7 +100,7 @@ requested d m to =
 
 -- an input holds what an edit makes of it
 abbrev pub edited_at : Dialog → Id → (Edit → Edit) → Modal → Modal
-edited_at d i edit m = with_content d i (edit_content (edit (edit_of (content_at m i)))) m
+edited_at d i edit m = content_put d i (edit_content (edit (edit_of (content_at m i)))) m
 
 -- what the coming or going of the focus makes of a leaf by its kind: of an input an edit, of other leaves nothing
 abbrev pub refocused_kind : Dialog → (Edit → Edit) → Id → Kind → Modal → Modal

@@ -12,8 +12,8 @@ use Rattle.tv_machine.specs.Controls.Tables.{key_answer}
 use Rattle.tv_machine.specs.Dialog.Rules.{is_enabled}
 use Rattle.tv_machine.specs.Dialog.Focus.{stops_of, next_free, previous_free, request}
 use Rattle.tv_machine.specs.Dialog.Ending.{command, press}
-use Rattle.tv_machine.specs.Dialog.Shortcuts.{marker_of, act_on}
-use Rattle.tv_machine.specs.Dialog.Modal.{Modal, content_at, with_content, leaf_at}
+use Rattle.tv_machine.specs.Dialog.Shortcuts.{marking_leaf, act_on}
+use Rattle.tv_machine.specs.Dialog.Modal.{Modal, content_at, content_put, leaf_at}
 
 -- ---- Enter
 
@@ -39,13 +39,13 @@ press_enabled d (Some leaf) m = if is_enabled d m.leaves leaf.node then press d 
 
 -- a character that the focused control didn't consume calls its marker, in either case; other keys do nothing
 abbrev pub passed_on : Dialog → Key → Modal → Modal
-passed_on d (keys.Char ch) m = act_on d (upper ch) (marker_of d (upper ch)) m
+passed_on d (keys.Char ch) m = act_on d (upper ch) (marking_leaf d (upper ch)) m
 passed_on d _ m = m
 
 -- what the focused control answers to a key
 abbrev pub answered : Dialog → Key → PlacedNode → Answer → Modal → Modal
 answered d k leaf Passed m = passed_on d k m
-answered d k leaf (Becomes content) m = with_content d leaf.node.id content m
+answered d k leaf (Becomes content) m = content_put d leaf.node.id content m
 answered d k leaf Presses m = press d leaf m
 
 -- a key goes to the focused control
@@ -70,5 +70,5 @@ key d keys.Tab m = request d (next_free (stops_of d m.leaves) m.focus) m
 key d keys.ShiftTab m = request d (previous_free (stops_of d m.leaves) m.focus) m
 key d keys.Esc m = command d 11 m
 key d keys.Enter m = press_enabled d (enter_target d m) m
-key d (keys.Alt letter) m = alt_keyed d letter (marker_of d letter) m
+key d (keys.Alt letter) m = alt_keyed d letter (marking_leaf d letter) m
 key d k m = focus_keyed d k m

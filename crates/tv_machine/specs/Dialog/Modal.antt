@@ -6,7 +6,7 @@ use Rattle.tv_model.specs.declared.log.LogLine.{LogLine}
 use Rattle.tv_machine.specs.State.{LeafState, Held}
 use Rattle.tv_machine.specs.Leaves.{PlacedNode, leaf_list}
 use Rattle.tv_model.specs.Controls.Contents.{Content}
-use Rattle.tv_machine.specs.Dialog.Rules.{content_of, is_among}
+use Rattle.tv_machine.specs.Dialog.Rules.{content_held, is_among}
 
 -- a dialog while an event is handled
 pub record Modal : Type 0 where
@@ -29,7 +29,7 @@ with_line line m = record m { log = m.log ++ line ∷ [] }
 
 -- what the leaf of an id holds
 abbrev pub content_at : Modal → Id → Content
-content_at m i = content_of m.leaves m.overwriting i
+content_at m i = content_held m.leaves m.overwriting i
 
 -- the leaf holds this, if it is the one of the id
 abbrev pub holding : Id → Content → LeafState → LeafState
@@ -44,8 +44,8 @@ abbrev pub overwriting_after : Dialog → List Id → Id → Bool → List Id
 overwriting_after d overwriting i overwrites = filter (overwrites_after overwriting i overwrites) (map (λ view. view.id) d.views)
 
 -- the leaf of the id holds this
-abbrev pub with_content : Dialog → Id → Content → Modal → Modal
-with_content d i c m = record m { leaves = map (holding i c) m.leaves; overwriting = overwriting_after d m.overwriting i c.overwrites }
+abbrev pub content_put : Dialog → Id → Content → Modal → Modal
+content_put d i c m = record m { leaves = map (holding i c) m.leaves; overwriting = overwriting_after d m.overwriting i c.overwrites }
 
 -- ---- its leaves
 

@@ -17,7 +17,7 @@ use Rattle.tv_machine.specs.Dialog.Rules.{is_visible, is_enabled}
 use Rattle.tv_machine.specs.Dialog.Focus.{request_then}
 use Rattle.tv_machine.specs.Dialog.Ending.{command, press}
 use Rattle.tv_machine.specs.Dialog.Shortcuts.{request_link}
-use Rattle.tv_machine.specs.Dialog.Modal.{Modal, content_at, with_content}
+use Rattle.tv_machine.specs.Dialog.Modal.{Modal, content_at, content_put}
 
 -- ---- places
 
@@ -26,28 +26,28 @@ abbrev pub is_inside : PlacedNode → Point → Bool
 is_inside leaf p = is_in (rect_on leaf) p.x p.y
 
 -- the column of a point, seen from the leaf's corner
-abbrev pub column_of : PlacedNode → Point → ℕ
-column_of leaf p = int_gap (rect_on leaf).a.x p.x
+abbrev pub column_on : PlacedNode → Point → ℕ
+column_on leaf p = int_gap (rect_on leaf).a.x p.x
 
 -- the row likewise
-abbrev pub row_of : PlacedNode → Point → ℕ
-row_of leaf p = int_gap (rect_on leaf).a.y p.y
+abbrev pub row_on : PlacedNode → Point → ℕ
+row_on leaf p = int_gap (rect_on leaf).a.y p.y
 
 -- a point of the close mark: the columns 2 to 4 of the top row
 abbrev pub is_close_mark : Point → Bool
 is_close_mark p = is_between (pos 2) (pos 4) p.x && int_eq p.y (pos 0)
 
 -- the topmost visible leaf at a point: the last that has it
-abbrev pub topmost : Dialog → Modal → Point → Option PlacedNode
-topmost d m p = find (λ leaf. is_visible d m.leaves leaf && is_inside leaf p) (reverse (leaf_list d.views))
+abbrev pub topmost_leaf : Dialog → Modal → Point → Option PlacedNode
+topmost_leaf d m p = find (λ leaf. is_visible d m.leaves leaf && is_inside leaf p) (reverse (leaf_list d.views))
 
 -- ---- down
 
 -- the leaf holds the mouse, and remembers an item
 abbrev pub hold : Dialog → PlacedNode → ℕ → Point → Modal → Modal
 hold d leaf first p m =
-    record (with_content d leaf.node.id (down_content leaf.node.kind first (column_of leaf p) (row_of leaf p) (content_at m leaf.node.id)) m) {
-      held = Some (record { id = leaf.node.id; item = remembered leaf.node.kind (row_of leaf p) });
+    record (content_put d leaf.node.id (down_content leaf.node.kind first (column_on leaf p) (row_on leaf p) (content_at m leaf.node.id)) m) {
+      held = Some (record { id = leaf.node.id; item = remembered leaf.node.kind (row_on leaf p) });
     }
 
 -- the first place of an input's text that was shown when the mouse came: without the focus its start
@@ -82,25 +82,25 @@ down_at d (Some leaf) p m = down_on d leaf leaf.node.kind p m
 
 -- a mouse down on the dialog while nothing holds the mouse: the close mark gives the command `close`
 abbrev pub down : Dialog → Point → Modal → Modal
-down d p m = if is_close_mark p then command d 4 m else down_at d (topmost d m p) p m
+down d p m = if is_close_mark p then command d 4 m else down_at d (topmost_leaf d m p) p m
 
 -- ---- move and up
 
 -- a move to a point of the leaf that holds the mouse
 abbrev pub moved_on : Dialog → PlacedNode → Point → Modal → Modal
 moved_on d leaf p m =
-    if is_inside leaf p then with_content d leaf.node.id (move_content leaf.node.kind (row_of leaf p) (content_at m leaf.node.id)) m else m
+    if is_inside leaf p then content_put d leaf.node.id (move_content leaf.node.kind (row_on leaf p) (content_at m leaf.node.id)) m else m
 
 -- the leaf that held the mouse answers to its release inside it
 abbrev pub released : Dialog → PlacedNode → Answer → Modal → Modal
 released d leaf Passed m = m
-released d leaf (Becomes content) m = with_content d leaf.node.id content m
+released d leaf (Becomes content) m = content_put d leaf.node.id content m
 released d leaf Presses m = press d leaf m
 
 -- an up: nothing holds the mouse any longer
 abbrev pub up_on : Dialog → PlacedNode → ℕ → Point → Modal → Modal
 up_on d leaf item p m =
-    if is_inside leaf p then released d leaf (up_answer leaf.node.kind item (row_of leaf p) (content_at m leaf.node.id)) (record m { held = None })
+    if is_inside leaf p then released d leaf (up_answer leaf.node.kind item (row_on leaf p) (content_at m leaf.node.id)) (record m { held = None })
     else record m { held = None }
 
 -- a move while a leaf holds the mouse

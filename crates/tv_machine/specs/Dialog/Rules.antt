@@ -35,15 +35,15 @@ content_by overwrites None = record { value = None; private = Plain; overwrites 
 content_by overwrites (Some leaf) = record { value = leaf.value; private = leaf.private; overwrites = overwrites }
 
 -- what the leaf of an id holds, where typing overwrites in these inputs
-abbrev pub content_of : List LeafState → List Id → Id → Content
-content_of leaves overwriting i = content_by (is_among overwriting i) (state_of leaves i)
+abbrev pub content_held : List LeafState → List Id → Id → Content
+content_held leaves overwriting i = content_by (is_among overwriting i) (state_of leaves i)
 
 -- ---- rules
 
 -- whether the cluster has the item marked, hidden or not
 abbrev pub is_marked_at : List LeafState → ℕ → Option Node → Bool
 is_marked_at leaves item None = false
-is_marked_at leaves item (Some cluster) = is_marked (content_of leaves [] cluster.id).value item
+is_marked_at leaves item (Some cluster) = is_marked (content_held leaves [] cluster.id).value item
 
 -- a rule holds where its cluster has its item marked
 abbrev pub holds : Dialog → List LeafState → Rule → Bool

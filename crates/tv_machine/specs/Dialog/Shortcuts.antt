@@ -9,15 +9,15 @@ use Rattle.tv_model.specs.declared.desc.Dialog.{Dialog}
 use Rattle.tv_model.specs.Description.Names.{meant}
 use Rattle.tv_model.specs.Description.Owners.{owner_by}
 use Rattle.tv_machine.specs.Leaves.{PlacedNode, leaf_list}
-use Rattle.tv_model.specs.Kinds.Cluster.{item_pressed}
+use Rattle.tv_model.specs.Kinds.Cluster.{cluster_item_pressed}
 use Rattle.tv_machine.specs.Dialog.Rules.{is_visible, is_enabled}
 use Rattle.tv_machine.specs.Dialog.Focus.{request, request_then}
 use Rattle.tv_machine.specs.Dialog.Ending.{press}
-use Rattle.tv_machine.specs.Dialog.Modal.{Modal, content_at, with_content}
+use Rattle.tv_machine.specs.Dialog.Modal.{Modal, content_at, content_put}
 
 -- the leaf that marks the letter, hidden or not
-abbrev pub marker_of : Dialog → ℕ → Option PlacedNode
-marker_of d letter = find (λ leaf. is_some (owner_by letter leaf.node.kind)) (leaf_list d.views)
+abbrev pub marking_leaf : Dialog → ℕ → Option PlacedNode
+marking_leaf d letter = find (λ leaf. is_some (owner_by letter leaf.node.kind)) (leaf_list d.views)
 
 -- a label asks for the focus of its link
 abbrev pub request_link : Dialog → Option Node → Modal → Modal
@@ -27,7 +27,7 @@ request_link d (Some link) m = request d link.id m
 -- the item of a cluster is selected and pressed
 abbrev pub press_item : Dialog → ClusterKind → Id → Option ℕ → Modal → Modal
 press_item d kind i None m = m
-press_item d kind i (Some item) m = with_content d i (item_pressed kind item (content_at m i)) m
+press_item d kind i (Some item) m = content_put d i (cluster_item_pressed kind item (content_at m i)) m
 
 -- a cluster asks for the focus, and where that is granted its item is selected and pressed
 abbrev pub call_item : Dialog → ClusterKind → Id → Option ℕ → Modal → Modal

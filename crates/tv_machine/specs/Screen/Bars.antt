@@ -74,12 +74,12 @@ status_under d column = option_map (λ spot. spot.entry) (on_screen d (status_sp
 -- ---- the box of a menu
 
 -- the text of an item of a menu
-abbrev pub item_text : MenuItem → List ℕ
-item_text item = item.text.text
+abbrev pub menu_item_text : MenuItem → List ℕ
+menu_item_text item = item.text.text
 
 -- as wide as the longest item, with a side and a space at both ends
 abbrev pub box_width : Menu → ℕ
-box_width menu = unwrap_or (reduce max (map (λ item. length (item_text item)) menu.items)) 0 + 4
+box_width menu = unwrap_or (reduce max (map (λ item. length (menu_item_text item)) menu.items)) 0 + 4
 
 -- a row for each item, between two edges
 abbrev pub box_height : Menu → ℕ

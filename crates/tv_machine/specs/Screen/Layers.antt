@@ -23,7 +23,7 @@ use Rattle.tv_palette.specs.Attributes.{attribute_of}
 use Rattle.tv_palette.specs.declared.role.Owner.TheVariants as owners
 use Rattle.tv_machine.specs.State.{State, OpenDialog, OpenMenu, OpenWindow}
 use Rattle.tv_machine.specs.Leaves.{PlacedNode, leaf_list, corner_on}
-use Rattle.tv_machine.specs.Dialog.Rules.{is_visible, is_enabled, content_of, content_by}
+use Rattle.tv_machine.specs.Dialog.Rules.{is_visible, is_enabled, content_held, content_by}
 use Rattle.tv_machine.specs.Session.Enabled.{is_enabled_now}
 use Rattle.tv_model.specs.Controls.Look.{Look}
 use Rattle.tv_machine.specs.Screen.LeafFaces.{leaf_faces}
@@ -60,8 +60,8 @@ box_layers d (Some o) = boxed (slice_get d.menus o.menu)
 -- ---- leaves
 
 -- the faces of a leaf in a window or dialog whose corner is here
-abbrev pub leaf_layers : Desc → Point → PlacedNode → List FaceOf → List Layer
-leaf_layers d origin leaf faces = map (Painted place (natural leaf.node.w) (natural (height_of leaf.node.kind))) faces
+abbrev pub layers_of_leaf : Desc → Point → PlacedNode → List FaceOf → List Layer
+layers_of_leaf d origin leaf faces = map (Painted place (natural leaf.node.w) (natural (height_of leaf.node.kind))) faces
   where
     place : Canvas
     place = canvas_at (desktop d) (origin.x +ℤ (corner_on leaf).x) (origin.y +ℤ (corner_on leaf).y)
@@ -94,7 +94,7 @@ look_of dialog o node = record {
 -- a leaf of the open dialog with what it holds, where typing overwrites in these inputs
 abbrev pub dialog_leaf : Desc → Dialog → OpenDialog → List Id → PlacedNode → List Layer
 dialog_leaf d dialog o overwriting leaf =
-    leaf_layers d o.origin leaf (leaf_faces attribute_of owners.Dialog (look_of dialog o leaf.node) (natural leaf.node.w) leaf.node.kind (content_of o.leaves overwriting leaf.node.id))
+    layers_of_leaf d o.origin leaf (leaf_faces attribute_of owners.Dialog (look_of dialog o leaf.node) (natural leaf.node.w) leaf.node.kind (content_held o.leaves overwriting leaf.node.id))
 
 -- the leaves that are visible, the last on top, the body and its shadow
 abbrev pub dialog_layers : Desc → OpenDialog → List Id → Dialog → List Layer
@@ -119,7 +119,7 @@ still = record { is_focused = false; is_default_now = false; is_disabled = false
 -- a leaf of a window, which holds nothing
 abbrev pub window_leaf : Desc → Point → PlacedNode → List Layer
 window_leaf d origin leaf =
-    leaf_layers d origin leaf (leaf_faces attribute_of owners.Window still (natural leaf.node.w) leaf.node.kind (content_by false None))
+    layers_of_leaf d origin leaf (leaf_faces attribute_of owners.Window still (natural leaf.node.w) leaf.node.kind (content_by false None))
 
 -- its texts, the last on top, the body and its shadow
 abbrev pub window_layers : Desc → Bool → Point → Window → List Layer

@@ -13,7 +13,7 @@ use Rattle.tv_model.specs.Log.Record.{Entries}
 use Rattle.tv_machine.specs.State.{State, OpenDialog, OpenWindow}
 use Rattle.tv_machine.specs.Dialog.Modal.{Modal}
 use Rattle.tv_machine.specs.Dialog.Ending.{command, fields_of}
-use Rattle.tv_machine.specs.Dialog.Opening.{opened}
+use Rattle.tv_machine.specs.Dialog.Opening.{opened_dialog}
 
 -- one line more in the log
 abbrev pub logged : LogLine → State → State
@@ -34,8 +34,8 @@ abbrev pub modal_of : State → OpenDialog → Modal
 modal_of s o = record { leaves = o.leaves; focus = o.focus; held = o.held; overwriting = overwriting_at s o.place; log = []; ended = None }
 
 -- a dialog as it stands after its work
-abbrev pub standing : OpenDialog → Modal → OpenDialog
-standing o m = record o { leaves = m.leaves; focus = m.focus; held = m.held }
+abbrev pub dialog_after : OpenDialog → Modal → OpenDialog
+dialog_after o m = record o { leaves = m.leaves; focus = m.focus; held = m.held }
 
 -- what its work leaves whether it ended or not: what it logged, and where typing overwrites
 abbrev pub worked : State → ℕ → Modal → State
@@ -47,7 +47,7 @@ saved_by place number m saved = if number == 11 then saved else slice_set saved 
 
 -- the state after the dialog's work: it stands, or it ended by a command
 abbrev pub after_work : State → OpenDialog → Modal → Option ℕ → State
-after_work s o m None = record (worked s o.place m) { dialog = Some (standing o m) }
+after_work s o m None = record (worked s o.place m) { dialog = Some (dialog_after o m) }
 after_work s o m (Some number) = record (worked s o.place m) { dialog = None; saved = saved_by o.place number m s.saved }
 
 -- the open dialog works, by its description
@@ -70,7 +70,7 @@ opened_at s place dialog m = record (worked (logged (lines.Open dialog.node.id) 
 -- a dialog at a place opens, with what the last run of it saved
 abbrev pub open_found : State → ℕ → Option Dialog → State
 open_found s place None = s
-open_found s place (Some dialog) = opened_at s place dialog (opened dialog (saved_at s place) (overwriting_at s place))
+open_found s place (Some dialog) = opened_at s place dialog (opened_dialog dialog (saved_at s place) (overwriting_at s place))
 
 -- the dialog at a place of the description opens
 abbrev pub open_dialog : Desc → ℕ → State → State
@@ -118,10 +118,10 @@ idle_command d number s =
     else own_command d number (opener_of d number) s
 
 -- a command, by whether a dialog is open
-abbrev pub command_in : Desc → ℕ → Option OpenDialog → State → State
-command_in d number None s = idle_command d number s
-command_in d number (Some o) s = in_dialog d s o (λ dialog m. command dialog number m)
+abbrev pub command_by_dialog : Desc → ℕ → Option OpenDialog → State → State
+command_by_dialog d number None s = idle_command d number s
+command_by_dialog d number (Some o) s = in_dialog d s o (λ dialog m. command dialog number m)
 
 -- a command
 abbrev pub do_command : Desc → ℕ → State → State
-do_command d number s = command_in d number s.dialog s
+do_command d number s = command_by_dialog d number s.dialog s

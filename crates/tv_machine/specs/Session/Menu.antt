@@ -34,13 +34,13 @@ title_at d p = if int_eq p.y (pos 0) then title_under d p.x else None
 -- ---- choosing
 
 -- the items of the menu at a place
-abbrev pub items_of : Option Menu → List MenuItem
-items_of None = []
-items_of (Some menu) = menu.items
+abbrev pub items_of_menu : Option Menu → List MenuItem
+items_of_menu None = []
+items_of_menu (Some menu) = menu.items
 
 -- the items of the open menu
 abbrev pub open_items : Desc → OpenMenu → List MenuItem
-open_items d o = items_of (slice_get d.menus o.menu)
+open_items d o = items_of_menu (slice_get d.menus o.menu)
 
 -- an item is chosen: the menu closes, and then its command is handled
 abbrev pub choose : Desc → Option MenuItem → State → State
@@ -65,8 +65,8 @@ abbrev pub place_after : ℕ → ℕ → ℕ
 place_after count place = if nat_le count (place + 1) then 0 else place + 1
 
 -- another item of the open menu is the current one
-abbrev pub with_item : OpenMenu → ℕ → State → State
-with_item o item s = record s { menu = Some (record o { item = item }) }
+abbrev pub item_chosen : OpenMenu → ℕ → State → State
+item_chosen o item s = record s { menu = Some (record o { item = item }) }
 
 -- ---- while a menu is open
 
@@ -74,8 +74,8 @@ with_item o item s = record s { menu = Some (record o { item = item }) }
 abbrev pub menu_key : Desc → OpenMenu → Key → State → State
 menu_key d o keys.Left s = open_menu (place_before (length d.menus) o.menu) s
 menu_key d o keys.Right s = open_menu (place_after (length d.menus) o.menu) s
-menu_key d o keys.Up s = with_item o (place_before (length (open_items d o)) o.item) s
-menu_key d o keys.Down s = with_item o (place_after (length (open_items d o)) o.item) s
+menu_key d o keys.Up s = item_chosen o (place_before (length (open_items d o)) o.item) s
+menu_key d o keys.Down s = item_chosen o (place_after (length (open_items d o)) o.item) s
 menu_key d o keys.Enter s = choose_at d o (Some o.item) s
 menu_key d o keys.Esc s = close_menu s
 menu_key d o (keys.Char ch) s = choose_at d o (item_of_letter (open_items d o) (upper ch)) s

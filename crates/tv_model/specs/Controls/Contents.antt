@@ -28,8 +28,8 @@ text_at items item = slice_index_or items (item - 1) []
 -- ---- items, which count from 1
 
 -- an item that there is
-abbrev pub is_item : ℕ → ℕ → Bool
-is_item count item = nat_le 1 item && nat_le item count
+abbrev pub is_item_place : ℕ → ℕ → Bool
+is_item_place count item = nat_le 1 item && nat_le item count
 
 -- there is an item of the number, counted from 1
 abbrev pub IsItem : ℤ → ℕ → Type 0

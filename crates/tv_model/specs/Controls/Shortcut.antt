@@ -1,7 +1,7 @@
 -- The letters that call a view from any focus, and what they act on.
 use Rattle.std.specs.Prelude.{[], ℕ, Bool, true, false, List, ◌∷◌, ◌+◌, Option, Some, None, option_map, position, if◌then◌else◌}
 use Rattle.tv_model.specs.declared.kind.MarkedText.{MarkedText}
-use Rattle.tv_model.specs.Controls.Owner.{Owner, control, item_at}
+use Rattle.tv_model.specs.Controls.Owner.{LetterOwner, control, item_at}
 use Rattle.tv_model.specs.Description.Marks.{marks, upper}
 
 -- check boxes have any of their items marked, radio buttons the selected one
@@ -28,7 +28,7 @@ marked_in (PressMark text name) = text ∷ []
 marked_in (ItemMarks cluster name items) = items
 
 -- what a letter acts on, where it is marked
-abbrev pub owner_in : ℕ → Shortcut → Option Owner
+abbrev pub owner_in : ℕ → Shortcut → Option LetterOwner
 owner_in letter NoMark = None
 owner_in letter (LinkMark text name) = if marks letter text then Some (control name) else None
 owner_in letter (PressMark text name) = if marks letter text then Some (control name) else None

@@ -7,8 +7,8 @@ abbrev pub upper : ℕ → ℕ
 upper ch = if nat_le 97 ch && nat_le ch 122 then ch - 32 else ch
 
 -- the letter that a text marks, in upper case
-abbrev pub letter_of : MarkedText → Option ℕ
-letter_of marked = option_map upper (option_and_then (slice_get marked.text) marked.mark)
+abbrev pub marked_letter : MarkedText → Option ℕ
+marked_letter marked = option_map upper (option_and_then (slice_get marked.text) marked.mark)
 
 -- whether it is this letter
 abbrev pub is_option_letter : ℕ → Option ℕ → Bool
@@ -17,11 +17,11 @@ is_option_letter letter (Some other) = other == letter
 
 -- whether the text marks the letter
 abbrev pub marks : ℕ → MarkedText → Bool
-marks letter text = is_option_letter letter (letter_of text)
+marks letter text = is_option_letter letter (marked_letter text)
 
 -- the first text marks a letter, and the second marks it too
 abbrev pub shares_letter : MarkedText → MarkedText → Bool
-shares_letter text other = marked (letter_of text)
+shares_letter text other = marked (marked_letter text)
   where
     marked : Option ℕ → Bool
     marked None = false

@@ -15,7 +15,7 @@ use Rattle.tv_model.specs.declared.record.Value.{Value}
 use Rattle.tv_model.specs.declared.record.Value.TheVariants as values
 use Rattle.tv_model.specs.Controls.Behaviour.{Behaviour, plain, Facts, plain_facts, Answer, Holds}
 use Rattle.tv_model.specs.Controls.Behaviour as answers
-use Rattle.tv_model.specs.Controls.Contents.{Content, item_of, is_item, IsItem}
+use Rattle.tv_model.specs.Controls.Contents.{Content, item_of, is_item_place, IsItem}
 use Rattle.tv_model.specs.Controls.Look.{Look, is_mark_from}
 use Rattle.tv_model.specs.Controls.Private.{Private, Selecting}
 use Rattle.tv_model.specs.Controls.Shortcut.{ClusterKind, Boxes, Radios, ItemMarks, item_marking}
@@ -43,7 +43,7 @@ is_marked (Some (values.Item marked)) item = marked == item
 
 -- check boxes keep an item that there is
 abbrev pub IsSelecting : ℕ → Private → Type 0
-IsSelecting count (Selecting item) = IsTrue (is_item count item)
+IsSelecting count (Selecting item) = IsTrue (is_item_place count item)
 IsSelecting count _ = ⊥
 
 -- what is marked; nothing without a value
@@ -115,10 +115,10 @@ cluster_key items count at (keys.Char ch) = if ch == 32 then Presses at else of_
 cluster_key items count at _ = Passed
 
 -- the cluster after a key
-abbrev pub keyed : ClusterKind → ClusterKey → Cluster → Cluster
-keyed kind Passed c = c
-keyed kind (Selects item) c = selected kind item c
-keyed kind (Presses item) c = pressed kind item c
+abbrev pub keyed_cluster : ClusterKind → ClusterKey → Cluster → Cluster
+keyed_cluster kind Passed c = c
+keyed_cluster kind (Selects item) c = selected kind item c
+keyed_cluster kind (Presses item) c = pressed kind item c
 
 -- whether a key may change a mark: all but the selecting ones of check boxes
 abbrev pub may_change : ClusterKind → ClusterKey → Bool
@@ -130,7 +130,7 @@ may_change kind (Presses item) = true
 -- what a cluster makes of one of its keys
 abbrev pub cluster_answer : ClusterKind → ClusterKey → Content → Answer
 cluster_answer kind Passed c = answers.Passed
-cluster_answer kind key c = answers.Becomes (with_cluster kind (keyed kind key (cluster_of kind c)) c)
+cluster_answer kind key c = answers.Becomes (with_cluster kind (keyed_cluster kind key (cluster_of kind c)) c)
 
 -- a key of a cluster's table
 abbrev pub cluster_keyed : ClusterKind → List MarkedText → Key → Content → Answer
@@ -143,12 +143,12 @@ abbrev pub item_of_row : ℕ → ℕ
 item_of_row row = row + 1
 
 -- the item is selected and pressed
-abbrev pub item_pressed : ClusterKind → ℕ → Content → Content
-item_pressed kind item c = with_cluster kind (pressed kind item (cluster_of kind c)) c
+abbrev pub cluster_item_pressed : ClusterKind → ℕ → Content → Content
+cluster_item_pressed kind item c = with_cluster kind (pressed kind item (cluster_of kind c)) c
 
 -- an up on a row of a cluster presses its item, if it is the one that was under the down
 abbrev pub cluster_released : ClusterKind → ℕ → ℕ → Content → Answer
-cluster_released kind item row c = if item_of_row row == item then answers.Becomes (item_pressed kind item c) else answers.Passed
+cluster_released kind item row c = if item_of_row row == item then answers.Becomes (cluster_item_pressed kind item c) else answers.Passed
 
 -- ---- what they show
 
@@ -211,5 +211,5 @@ abbrev pub radios_facts : RadioButtons → Facts
 radios_facts radios = record plain_facts {
   HasLawfulCount = (1 ≤ length radios.items) × (length radios.items ≤ 16);
   HasLawfulStart = IsItem radios.start (length radios.items);
-  IsItem = λ item. IsTrue (is_item (length radios.items) item);
+  IsItem = λ item. IsTrue (is_item_place (length radios.items) item);
 }

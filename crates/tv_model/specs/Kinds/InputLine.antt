@@ -60,9 +60,9 @@ domain_texts (domains.Picture picture) = picture ∷ []
 domain_texts _ = []
 
 -- a text outside the domain, if there is one
-abbrev pub is_outside : Option Domain → List ℕ → Bool
-is_outside None text = false
-is_outside (Some domain) text = not (in_domain domain text)
+abbrev pub is_outside_domain : Option Domain → List ℕ → Bool
+is_outside_domain None text = false
+is_outside_domain (Some domain) text = not (in_domain domain text)
 
 -- some text lies in the domain that the input asks for. A bad picture asks for none
 abbrev pub HasAnyText : InputSpec → Type 0
@@ -121,8 +121,8 @@ opened_up e =
     else e
 
 -- where the cursor stands after a character: after it, or at the end of what it was filled up to
-abbrev pub place_after : Edit → List ℕ → ℕ
-place_after e out = if e.cursor == length e.text then length out else e.cursor + 1
+abbrev pub cursor_after : Edit → List ℕ → ℕ
+cursor_after e out = if e.cursor == length e.text then length out else e.cursor + 1
 
 -- Ctrl-Y empties the text
 abbrev pub ctrl_edit : ℕ → Edit → Edit
@@ -151,7 +151,7 @@ becomes d edit e = if viable d edit.text then edit else e
 -- what a typed character made of the text, with the cursor after it; nothing changes where it is refused
 abbrev pub typed_into : Edit → Option (List ℕ) → Edit
 typed_into e None = e
-typed_into e (Some text) = with_text text (place_after (opened_up e) text) e
+typed_into e (Some text) = with_text text (cursor_after (opened_up e) text) e
 
 -- a character is typed: into nothing where the whole text is selected, over a character, or between two
 abbrev pub typed : Domain → ℕ → Edit → Edit
@@ -226,7 +226,7 @@ input_behaviour i = record plain {
   validates = i.validates;
   value = Some (values.Text i.start);
   opened = λ value. Editing 0 false;
-  is_invalid = λ c. is_outside (domain_of i.spec) (text_of c.value);
+  is_invalid = λ c. is_outside_domain (domain_of i.spec) (text_of c.value);
   key = λ k c. if is_edit_key k then Becomes (edit_content (edited_by i.spec k (edit_of c))) else Passed;
   down = Holds;
   down_content = λ first column row c. edit_content (clicked first column (edit_of c));

@@ -10,7 +10,7 @@ use Rattle.tv_palette.specs.declared.role.ListRole.TheVariants as list
 use Rattle.tv_model.specs.declared.kind.ListBox.{ListBox}
 use Rattle.tv_model.specs.declared.record.Value.TheVariants as values
 use Rattle.tv_model.specs.Controls.Behaviour.{Behaviour, plain, Facts, plain_facts, Answer, Passed, Becomes, Holds}
-use Rattle.tv_model.specs.Controls.Contents.{Content, item_of, text_at, is_item, IsItem}
+use Rattle.tv_model.specs.Controls.Contents.{Content, item_of, text_at, is_item_place, IsItem}
 use Rattle.tv_model.specs.Controls.Look.{Look}
 use Rattle.tv_model.specs.Controls.Private.{Private, Scrolled}
 use Rattle.tv_model.specs.Description.Numbers.{natural}
@@ -115,6 +115,6 @@ abbrev pub list_facts : ListBox → Facts
 list_facts l = record plain_facts {
   HasLawfulCount = (1 ≤ length l.items) × (length l.items ≤ 100);
   HasLawfulStart = IsItem l.start (length l.items);
-  IsItem = λ item. IsTrue (is_item (length l.items) item);
+  IsItem = λ item. IsTrue (is_item_place (length l.items) item);
   IsPrivate = IsScrolled;
 }

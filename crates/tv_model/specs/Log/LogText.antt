@@ -33,16 +33,16 @@ end_word number =
     else codes "no"
 
 -- a quoted text: `"` and `\` are escaped
-abbrev pub escaped : ℕ → List ℕ
-escaped ch = if ch == 34 then 92 ∷ 34 ∷ [] else if ch == 92 then 92 ∷ 92 ∷ [] else encode_utf8 ch
+abbrev pub escaped_in_log : ℕ → List ℕ
+escaped_in_log ch = if ch == 34 then 92 ∷ 34 ∷ [] else if ch == 92 then 92 ∷ 92 ∷ [] else encode_utf8 ch
 
 -- a text between quotes
 abbrev pub quoted_text : List ℕ → List ℕ
-quoted_text chars = 34 ∷ (flat_map escaped chars ++ 34 ∷ [])
+quoted_text chars = 34 ∷ (flat_map escaped_in_log chars ++ 34 ∷ [])
 
 -- the marked items in rising order, with a space between, or `-`
-abbrev pub is_marked : ℕ → ℕ → Bool
-is_marked marks item = (marks / 2 ^ (item - 1)) % 2 == 1
+abbrev pub has_bit : ℕ → ℕ → Bool
+has_bit marks item = (marks / 2 ^ (item - 1)) % 2 == 1
 
 -- words with a space between, or `-` where there are none
 abbrev pub spaced : List (List ℕ) → List ℕ
@@ -52,7 +52,7 @@ spaced (word ∷ words) = word ++ 32 ∷ spaced words
 
 -- the items that are marked
 abbrev pub marks_text : ℕ → List ℕ
-marks_text marks = spaced (map decimal (filter (is_marked marks) (range_with_len 1 16)))
+marks_text marks = spaced (map decimal (filter (has_bit marks) (range_with_len 1 16)))
 
 -- a value, as a field line has it. Only the marks of check boxes are a list
 abbrev pub value_text : Value → List ℕ

@@ -74,16 +74,16 @@ titled w [] below = below
 titled w (ch ∷ chars) below = over_row ((w - (length (ch ∷ chars) + 2)) / 2) (length (ch ∷ chars) + 2) (text_row (32 ∷ ch ∷ chars)) below
 
 -- the digit of a number in the fourth column from the end
-abbrev pub numbered : ℕ → ℕ → Row → Row
-numbered w number below x = if not (number == 0) && (x + 4 == w) then 48 + number else below x
+abbrev pub with_number : ℕ → ℕ → Row → Row
+with_number w number below x = if not (number == 0) && (x + 4 == w) then 48 + number else below x
 
 -- the close mark of an active frame in the columns 2 to 4
-abbrev pub closed : Bool → Row → Row
-closed is_active below = if is_active then over_row 2 3 (text_row (codes "[x]")) below else below
+abbrev pub with_close_mark : Bool → Row → Row
+with_close_mark is_active below = if is_active then over_row 2 3 (text_row (codes "[x]")) below else below
 
 -- the first row: corners, title, number and close mark
 abbrev pub top_row : ℕ → List ℕ → FrameLook → Row
-top_row w title look = closed look.is_active (numbered w look.number (titled w (cut_title w title) (border look.is_active w)))
+top_row w title look = with_close_mark look.is_active (with_number w look.number (titled w (cut_title w title) (border look.is_active w)))
 
 -- a frame round an empty interior
 abbrev pub frame_face : ℕ → ℕ → List ℕ → FrameLook → FaceOf
@@ -96,22 +96,22 @@ frame_face w h title look x y =
 -- ---- static texts
 
 -- the pieces of a text between its line ends
-abbrev pub onto_first : ℕ → List (List ℕ) → List (List ℕ)
-onto_first ch [] = (ch ∷ []) ∷ []
-onto_first ch (piece ∷ pieces) = (ch ∷ piece) ∷ pieces
+abbrev pub onto_first_piece : ℕ → List (List ℕ) → List (List ℕ)
+onto_first_piece ch [] = (ch ∷ []) ∷ []
+onto_first_piece ch (piece ∷ pieces) = (ch ∷ piece) ∷ pieces
 
 -- the pieces, at least one
 abbrev pub pieces_of : List ℕ → List (List ℕ)
 pieces_of [] = [] ∷ []
-pieces_of (ch ∷ chars) = if ch == 10 then [] ∷ pieces_of chars else onto_first ch (pieces_of chars)
+pieces_of (ch ∷ chars) = if ch == 10 then [] ∷ pieces_of chars else onto_first_piece ch (pieces_of chars)
 
 -- a piece a row
 abbrev pub text_face : List ℕ → ℕ → FaceOf
 text_face text attr x y = shown (text_row (slice_index_or (pieces_of text) y []) x) attr
 
 -- in a window or a dialog
-abbrev pub static_text : Owner → List ℕ → FaceOf
-static_text owner text = text_face text (attribute_of (roles.StaticText owner))
+abbrev pub static_text_face : Owner → List ℕ → FaceOf
+static_text_face owner text = text_face text (attribute_of (roles.StaticText owner))
 
 -- ---- buttons
 
@@ -137,9 +137,9 @@ button_row w text is_default_now x =
     else over_row (button_start w text) (length (button_text w text)) (text_row (button_text w text)) (λ _. 32) x
 
 -- whether the column shows the marked letter
-abbrev pub is_letter : ℕ → List ℕ → Option ℕ → ℕ → Bool
-is_letter w text None x = false
-is_letter w text (Some mark) x = nat_lt mark (length (button_text w text)) && (x == button_start w text + mark)
+abbrev pub is_letter_column : ℕ → List ℕ → Option ℕ → ℕ → Bool
+is_letter_column w text None x = false
+is_letter_column w text (Some mark) x = nat_lt mark (length (button_text w text)) && (x == button_start w text + mark)
 
 -- the role of a cell: that of a disabled button before all others
 abbrev pub button_role : ButtonLook → Bool → ButtonRole
@@ -156,4 +156,4 @@ button_attr look letter = attribute_of (roles.Button (button_role look letter))
 
 -- one attribute for the marked letter, and one for the rest
 abbrev pub button_cells : ℕ → List ℕ → Option ℕ → Bool → ℕ → ℕ → FaceOf
-button_cells w text mark is_default_now letter rest x y = shown (button_row w text is_default_now x) (if is_letter w text mark x then letter else rest)
+button_cells w text mark is_default_now letter rest x y = shown (button_row w text is_default_now x) (if is_letter_column w text mark x then letter else rest)

@@ -11,7 +11,7 @@ use Rattle.tv_machine.specs.Leaves.{PlacedNode, leaf_list}
 use Rattle.tv_model.specs.Controls.Contents.{Content}
 use Rattle.tv_model.specs.Controls.Behaviour.{Answer, Becomes, Presses}
 use Rattle.tv_machine.specs.Controls.Tables.{key_answer}
-use Rattle.tv_machine.specs.Dialog.Modal.{Modal, content_at, leaf_at, with_content}
+use Rattle.tv_machine.specs.Dialog.Modal.{Modal, content_at, leaf_at, content_put}
 use Rattle.tv_machine.specs.Dialog.Rules.{is_enabled, is_free, is_visible}
 use Rattle.tv_view.specs.declared.env.Env.{Env}
 use Rattle.tv_view.specs.declared.reaction.Reaction.{Reaction}
@@ -129,7 +129,7 @@ module _ (d : Dialog) (lawful : IsLawfulDialog d) (m : Modal) (env : Env) (k : K
 
     -- it holds what the key made of it
     pub after-becomes : HasLeaves d m → (c : Content) → key_answer leaf.node.kind k (content_at m leaf.node.id) ≡ Becomes c
-        → group_after (events.Key k) phases.Focused env (tree_of d m) ≡ tree_as d m.leaves (with_content d leaf.node.id c m)
+        → group_after (events.Key k) phases.Focused env (tree_of d m) ≡ tree_as d m.leaves (content_put d leaf.node.id c m)
     after-becomes leaves c is =
         after-changed
         ∙ changed-alike d lawful m leaf (leaf_at-in d lawful m.focus leaf at) (placed_after (events.Key k) phases.Focused env)

@@ -17,7 +17,7 @@ use Rattle.tv_machine.specs.Leaves.{PlacedNode}
 use Rattle.tv_model.specs.Controls.Contents.{Content}
 use Rattle.tv_model.specs.Controls.Behaviour.{Passed, Becomes, Presses}
 use Rattle.tv_machine.specs.Controls.Tables.{key_answer}
-use Rattle.tv_machine.specs.Dialog.Modal.{Modal, content_at, with_content}
+use Rattle.tv_machine.specs.Dialog.Modal.{Modal, content_at, content_put}
 use Rattle.tv_view.specs.Reactions.{may_mark_by}
 use Rattle.tv_machine.specs.Dialog.Lawful.{IsLawfulDialog}
 use Rattle.tv_machine.specs.Dialog.Alike.{HoldSame}
@@ -47,9 +47,9 @@ cluster_steady : (kind : ClusterKind) (key : ClusterKey) (before c : Content)
     → cluster_answer kind key before ≡ Becomes c → is_some c.value ≡ true
 cluster_steady kind clusters.Passed before c is = absurd cc
 cluster_steady kind (clusters.Selects item) before c is =
-    cluster-some kind (clusters.keyed kind (clusters.Selects item) (cluster_of kind before)) before c cc
+    cluster-some kind (clusters.keyed_cluster kind (clusters.Selects item) (cluster_of kind before)) before c cc
 cluster_steady kind (clusters.Presses item) before c is =
-    cluster-some kind (clusters.keyed kind (clusters.Presses item) (cluster_of kind before)) before c cc
+    cluster-some kind (clusters.keyed_cluster kind (clusters.Presses item) (cluster_of kind before)) before c cc
 
 list_steady : (height count : ℕ) (o : Option ℕ) (before c : Content)
     → list_answer height count o before ≡ Becomes c → is_some c.value ≡ true
@@ -83,7 +83,7 @@ boxes_marks : (key : ClusterKey) (before c : Content) → is_some before.value �
     → cluster_answer Boxes key before ≡ Becomes c → may_change Boxes key ≡ false → before.value ≡ c.value
 boxes_marks clusters.Passed before c some is may = absurd cc
 boxes_marks (clusters.Selects item) before c some is may =
-    let same : with_cluster Boxes (clusters.keyed Boxes (clusters.Selects item) (cluster_of Boxes before)) before ≡ c = cc in
+    let same : with_cluster Boxes (clusters.keyed_cluster Boxes (clusters.Selects item) (cluster_of Boxes before)) before ≡ c = cc in
     some-marks before.value some ∙ ap (λ content. content.value) same
 boxes_marks (clusters.Presses item) before c some is may = absurd cc
 
@@ -106,7 +106,7 @@ module _ (d : Dialog) (lawful : IsLawfulDialog d) (m : Modal) (S : IsSteady d m)
     (k : Key) (c : Content) (is : key_answer leaf.node.kind k (content_at m leaf.node.id) ≡ Becomes c) where
   -- the dialog whose leaf holds what the key made of it
   abbrev keyed : Modal
-  keyed = with_content d leaf.node.id c m
+  keyed = content_put d leaf.node.id c m
 
   -- rules go by the same marks where the key may change none
   pub hold-keyed : may_mark_by leaf.node.kind k (content_at m leaf.node.id) ≡ false → HoldSame d m.leaves keyed.leaves

@@ -20,9 +20,9 @@ use Rattle.tv_machine.specs.Controls.Tables.{key_answer}
 use Rattle.tv_machine.specs.Dialog.Focus.{is_free_at, is_free_leaf}
 use Rattle.tv_machine.specs.Dialog.Keys as machine
 use Rattle.tv_machine.specs.Dialog.Keys.{alt_keyed, answered, focus_keyed, key, passed_on}
-use Rattle.tv_machine.specs.Dialog.Modal.{Modal, content_at, leaf_at, with_content}
+use Rattle.tv_machine.specs.Dialog.Modal.{Modal, content_at, leaf_at, content_put}
 use Rattle.tv_machine.specs.Dialog.Rules.{is_free}
-use Rattle.tv_machine.specs.Dialog.Shortcuts.{act_on, marker_of}
+use Rattle.tv_machine.specs.Dialog.Shortcuts.{act_on, marking_leaf}
 use Rattle.tv_view.specs.declared.env.Env.{Env}
 use Rattle.tv_view.specs.declared.reaction.Reaction.{Reaction}
 use Rattle.tv_view.specs.declared.reaction.Reaction.TheVariants.{Pass}
@@ -185,12 +185,12 @@ module _ (d : Dialog) (lawful : IsLawfulDialog d) (m : Modal) (env : Env) (E : I
 
         becomes-turn : KeyTurn d m env k
         becomes-turn = record {
-          after = with_content d leaf.node.id c m;
+          after = content_put d leaf.node.id c m;
           leaves = phases_after-taken (events.Key k) env (tree_of d m) before (consumed seen (may k)) (focus-is k (Becomes c) is) taken
               ∙ after-becomes d lawful m env k leaf at «free» (own-taken k (Becomes c) is taken) S.leaves c is;
           steady = steady-changed d lawful m leaf.node.id c S fits;
-          comes = ap (λ r. reacted d r (with_content d leaf.node.id c m)) answer-is
-              ∙ consumed-acts d (with_content d leaf.node.id c m) seen (may k)
+          comes = ap (λ r. reacted d r (content_put d leaf.node.id c m)) answer-is
+              ∙ consumed-acts d (content_put d leaf.node.id c m) seen (may k)
               ∙ sym (goes ∙ machine-is k (Becomes c) is);
           holds = λ keeps. hold-keyed d lawful m S leaf found k c is (keeps-may keeps);
           ruled = λ keeps. tree-keyed d lawful m S leaf found k c is (keeps-may keeps);
@@ -220,8 +220,8 @@ module _ (d : Dialog) (lawful : IsLawfulDialog d) (m : Modal) (env : Env) (E : I
         (ap (λ r. reacted d r m)
         (phases_answer-pre (events.Key k) env (tree_of d m) (focus-is k Passed passes) (after-none k env (tree_of d m) refl))
         ∙ letter_turn d m env E lawful k phases.Pre letter (λ l. refl) (λ x. refl)
-        ∙ ap (λ c. act_on d c (marker_of d c) m) capital
-        ∙ alt-machine letter (marker_of d letter))
+        ∙ ap (λ c. act_on d c (marking_leaf d c) m) capital
+        ∙ alt-machine letter (marking_leaf d letter))
 
     -- ---- each key
 

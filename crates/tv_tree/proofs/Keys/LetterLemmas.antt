@@ -15,18 +15,18 @@ use Rattle.tv_model.specs.declared.kind.MarkedText.{MarkedText}
 use Rattle.tv_model.specs.declared.desc.Dialog.{Dialog}
 use Rattle.tv_model.specs.Description.Marks.{marks, upper}
 use Rattle.tv_model.specs.Description.Names.{meant}
-use Rattle.tv_model.specs.Controls.Owner.{Owner, control, item_at}
+use Rattle.tv_model.specs.Controls.Owner.{LetterOwner, control, item_at}
 use Rattle.tv_model.specs.Description.Owners.{owner_by}
 use Rattle.tv_model.specs.Kinds.{behaviour}
 use Rattle.tv_model.specs.Controls.Shortcut.{item_marking, owner_in, Shortcut, NoMark, LinkMark, PressMark, ItemMarks, ClusterKind, Boxes, Radios}
-use Rattle.tv_model.specs.Controls.Contents.{is_item}
+use Rattle.tv_model.specs.Controls.Contents.{is_item_place}
 use Rattle.tv_view.specs.Meaning.{Leaf, Placed}
-use Rattle.tv_model.specs.Kinds.Cluster.{item_pressed}
+use Rattle.tv_model.specs.Kinds.Cluster.{cluster_item_pressed}
 use Rattle.tv_machine.specs.Leaves.{PlacedNode, leaf_list}
 use Rattle.tv_machine.specs.Dialog.Focus.{request, request_then, requested, is_granted}
-use Rattle.tv_machine.specs.Dialog.Modal.{Modal, content_at, leaf_at, with_content}
+use Rattle.tv_machine.specs.Dialog.Modal.{Modal, content_at, leaf_at, content_put}
 use Rattle.tv_machine.specs.Dialog.Rules.{is_enabled, is_kind_enabled, is_visible}
-use Rattle.tv_machine.specs.Dialog.Shortcuts.{act_on, call_item, called, marker_of, press_item, request_link}
+use Rattle.tv_machine.specs.Dialog.Shortcuts.{act_on, call_item, called, marking_leaf, press_item, request_link}
 use Rattle.tv_view.specs.declared.env.Env.{Env}
 use Rattle.tv_view.specs.declared.reaction.Reaction.{Reaction}
 use Rattle.tv_view.specs.declared.reaction.Reaction.TheVariants.{Pass}
@@ -63,7 +63,7 @@ upper-upper ch = upper-raised ch (nat_le 97 ch) (nat_le ch 122) refl refl
 abbrev item_after : Option ℕ → Option ℕ
 item_after place = option_map (λ n. n + 1) place
 
-marked_if : (b : Bool) (owner : Owner) (r : Reaction)
+marked_if : (b : Bool) (owner : LetterOwner) (r : Reaction)
     → is_pass (if b then r else Pass) ≡ false → is_some (if b then Some owner else None) ≡ true
 marked_if true owner r h = refl
 marked_if false owner r h = sym h
@@ -101,7 +101,7 @@ module _ (env : Env) (leaf : Leaf) where
 abbrev pub of_kind : PlacedNode → Kind → PlacedNode
 of_kind leaf kind = record leaf { node = record leaf.node { kind = kind } }
 
-owner_if : (b : Bool) (owner : Owner) → is_some (if b then Some owner else None) ≡ true → b ≡ true
+owner_if : (b : Bool) (owner : LetterOwner) → is_some (if b then Some owner else None) ≡ true → b ≡ true
 owner_if true owner h = refl
 owner_if false owner h = h
 
@@ -113,7 +113,7 @@ then-same : (d : Dialog) (i : Id) (f g : Modal → Modal) (m : Modal) → ((n : 
     → request_then d i f m ≡ request_then d i g m
 then-same d i f g m same = ap (λ n. if is_granted (requested d m i) then n else request d i m) (same (request d i m))
 
-item_there : (n count : ℕ) → n < count → is_item count (n + 1) ≡ true
+item_there : (n count : ℕ) → n < count → is_item_place count (n + 1) ≡ true
 item_there n count h = grind (arith, nat_tests)
 
 module _ (d : Dialog) (m : Modal) where
@@ -138,7 +138,7 @@ module _ (d : Dialog) (m : Modal) where
         let h : n < length items = (position-Some (marks letter) items n (record { text = []; mark = None }) is).0 in
         then-same d i (pressed_at d i (n + 1)) (press_item d kind i (Some (n + 1))) m
         (λ k. has (n + 1) k
-        ∙ ap (λ b. if b then with_content d i (item_pressed kind (n + 1) (content_at k i)) k else k) (item_there n (length items) h))
+        ∙ ap (λ b. if b then content_put d i (cluster_item_pressed kind (n + 1) (content_at k i)) k else k) (item_there n (length items) h))
 
     cluster_acts : (name : List ℕ) (ch : ℕ) → is_some (option_map (item_at name) (position (marks (upper ch)) items)) ≡ true
         → reacted d (item_call leaf (item_marking items ch)) m ≡ call_item d kind leaf.node.id (item_marking items (upper ch)) m
@@ -209,7 +209,7 @@ module _ (d : Dialog) (m : Modal) where
           ∙ not-true (is_pass (answer_of leaf))
           (and_parts (is_offered (events.Key k) p (placed leaf)) (not (is_pass (answer_of leaf))) h).1)
 
-      marker_acts : (o : Option PlacedNode) → marker_of d (upper ch) ≡ o
+      marker_acts : (o : Option PlacedNode) → marking_leaf d (upper ch) ≡ o
           → reacted d (turn_answer (events.Key k) p env (option_map placed o)) m ≡ act_on d (upper ch) o m
       marker_acts None is = refl
       marker_acts (Some leaf) is =
@@ -219,10 +219,10 @@ module _ (d : Dialog) (m : Modal) where
           ∙ shown_acts leaf ch (is_visible d m.leaves leaf) (found-in d lawful (marks_letter (upper ch)) leaf is) there
 
       -- a letter acts on its marker
-      pub letter_turn : reacted d (group_answer (events.Key k) p env (tree_of d m)) m ≡ act_on d (upper ch) (marker_of d (upper ch)) m
+      pub letter_turn : reacted d (group_answer (events.Key k) p env (tree_of d m)) m ≡ act_on d (upper ch) (marking_leaf d (upper ch)) m
       unfolding group_answer
       letter_turn =
           ap (λ r. reacted d r m)
           (scan-turn (events.Key k) p env placed (marks_letter (upper ch)) (leaf_list d.views) letter_takes
           (letters_differ d lawful (upper ch)))
-          ∙ marker_acts (marker_of d (upper ch)) refl
+          ∙ marker_acts (marking_leaf d (upper ch)) refl

@@ -17,7 +17,7 @@ use Rattle.tv_machine.specs.Leaves.{PlacedNode}
 use Rattle.tv_model.specs.Controls.Contents.{Content}
 use Rattle.tv_machine.specs.Controls.Tables.{down_content, remembered}
 use Rattle.tv_machine.specs.Dialog.Focus.{Request, Same, NotFree, Refused, Moved, after_request, is_free_at, is_granted, keeps_focus, request, requested}
-use Rattle.tv_machine.specs.Dialog.Modal.{Modal, content_at, leaf_at, with_content}
+use Rattle.tv_machine.specs.Dialog.Modal.{Modal, content_at, leaf_at, content_put}
 use Rattle.tv_machine.specs.Dialog.Mouse as mouse
 use Rattle.tv_machine.specs.Dialog.Mouse.{button_down, down_at, down_on, focus_and_hold, hold}
 use Rattle.tv_machine.specs.Dialog.Rules.{is_enabled, is_kind_enabled}
@@ -73,12 +73,12 @@ Turn d m env p after = IsOver d m env p after ⊎ ((i : Id) × AsksFocus d m env
 -- ---- on a leaf
 
 module _ (d : Dialog) (lawful : IsLawfulDialog d) (p : Point) (at : IsPointOf p) (m : Modal) (steady : IsSteady d m) (free : m.held ≡ None)
-    (env : Env) (lent : IsLentBy d m env) (leaf : PlacedNode) (found : mouse.topmost d m p ≡ Some leaf) where
+    (env : Env) (lent : IsLentBy d m env) (leaf : PlacedNode) (found : mouse.topmost_leaf d m p ≡ Some leaf) where
   abbrev m1 : Modal
   m1 = request d leaf.node.id m
 
   -- the leaf is the topmost one after any request
-  found_again : (j : Id) → mouse.topmost d (request d j m) p ≡ Some leaf
+  found_again : (j : Id) → mouse.topmost_leaf d (request d j m) p ≡ Some leaf
   found_again j = sym (topmost-same d m (request d j m) p (hold-request d lawful m j steady.leaves)) ∙ found
 
   enabled_again : (j : Id) → is_enabled d m.leaves leaf.node ≡ true → is_enabled d (request d j m).leaves leaf.node ≡ true
@@ -103,7 +103,7 @@ module _ (d : Dialog) (lawful : IsLawfulDialog d) (p : Point) (at : IsPointOf p)
     tree = after-held d lawful p at m env leaf found steady free enabled takes first from;
     steady = steady-hold d lawful p at m env leaf found steady free enabled takes first;
     holds = hold-held d lawful p at m env leaf found steady free enabled takes first;
-    leaf_holds = leaf-held d leaf (in-d d lawful p at m env leaf found) (remembered leaf.node.kind (mouse.row_of leaf p))
+    leaf_holds = leaf-held d leaf (in-d d lawful p at m env leaf found) (remembered leaf.node.kind (mouse.row_on leaf p))
         (hold d leaf first p m) refl;
     like = record { focus = refl; log = refl; ended = refl };
   })
@@ -187,7 +187,7 @@ module _ (d : Dialog) (lawful : IsLawfulDialog d) (p : Point) (at : IsPointOf p)
           leaf_holds = bool_cases (is_granted (requested d m leaf.node.id))
               (λ b. is_granted (requested d m leaf.node.id) ≡ b → HoldsLeaf d (focus_and_hold d leaf p m))
               (λ is e. subst (HoldsLeaf d) (sym (granted_then e))
-              (leaf-held d leaf (in-d d lawful p at m env leaf found) (remembered leaf.node.kind (mouse.row_of leaf p))
+              (leaf-held d leaf (in-d d lawful p at m env leaf found) (remembered leaf.node.kind (mouse.row_on leaf p))
               (hold d leaf (mouse.first_before m leaf) p m1) refl))
               (λ is e. subst (HoldsLeaf d) (sym (refused_then e)) (nothing-held d m1 free1)) refl;
           like = bool_cases (is_granted (requested d m leaf.node.id))
@@ -206,11 +206,11 @@ module _ (d : Dialog) (lawful : IsLawfulDialog d) (p : Point) (at : IsPointOf p)
   -- ---- a button that doesn't want it
 
   module _ (takes : captures (leaf_as d m.leaves m leaf) leaf.node.kind ≡ true) (enabled : is_enabled d m.leaves leaf.node ≡ true)
-      (same : (first : ℕ) (c : Content) → down_content leaf.node.kind first (mouse.column_of leaf p) (mouse.row_of leaf p) c ≡ c) where
+      (same : (first : ℕ) (c : Content) → down_content leaf.node.kind first (mouse.column_on leaf p) (mouse.row_on leaf p) c ≡ c) where
     hold_any : Content → Modal
-    hold_any c = record (with_content d leaf.node.id c m) {
+    hold_any c = record (content_put d leaf.node.id c m) {
       held = Some
-          (record { id = leaf.node.id; item = remembered leaf.node.kind (mouse.row_of leaf p) });
+          (record { id = leaf.node.id; item = remembered leaf.node.kind (mouse.row_on leaf p) });
     }
 
     any_first : (first : ℕ) → hold d leaf first p m ≡ hold d leaf 0 p m
@@ -268,7 +268,7 @@ module _ (d : Dialog) (lawful : IsLawfulDialog d) (p : Point) (at : IsPointOf p)
 
   button_turn : (grabs : Bool) → is_enabled d m.leaves leaf.node ≡ true → is_control leaf.node.kind ≡ true
       → ((look : Leaf) → captures look leaf.node.kind ≡ (not grabs || look.is_focused))
-      → ((first : ℕ) (c : Content) → down_content leaf.node.kind first (mouse.column_of leaf p) (mouse.row_of leaf p) c ≡ c)
+      → ((first : ℕ) (c : Content) → down_content leaf.node.kind first (mouse.column_on leaf p) (mouse.row_on leaf p) c ≡ c)
       → Turn d m env p (if grabs then focus_and_hold d leaf p m else hold d leaf 0 p m)
   button_turn true enabled control wants same = grabbing control wants enabled
   button_turn false enabled control wants same = loose (wants (leaf_as d m.leaves m leaf)) enabled same
@@ -281,7 +281,7 @@ module _ (d : Dialog) (lawful : IsLawfulDialog d) (p : Point) (at : IsPointOf p)
       (λ b. is_enabled d m.leaves leaf.node ≡ b
       → Turn d m env p (if b then (if button.grabs then focus_and_hold d leaf p m else hold d leaf 0 p m) else m))
       (λ on e. button_turn button.grabs e (ap is_control is) (λ look. ap (captures look) is)
-      (λ first c. ap (λ k. down_content k first (mouse.column_of leaf p) (mouse.row_of leaf p) c) is))
+      (λ first c. ap (λ k. down_content k first (mouse.column_on leaf p) (mouse.row_on leaf p) c) is))
       (λ off e. still (answer-disabled d lawful p at m env leaf found e) (after-disabled d lawful p at m env leaf found e)) refl
   kind_turn (kinds.Input input) is = grabbing (ap is_control is) (λ look. ap (captures look) is) (ap (is_kind_enabled d m.leaves) is)
   kind_turn (kinds.CheckBoxes boxes) is = grabbing (ap is_control is) (λ look. ap (captures look) is) (ap (is_kind_enabled d m.leaves) is)
@@ -318,9 +318,9 @@ module _ (d : Dialog) (m : Modal) (env : Env) (p : Point) (after : Modal) where
 -- nothing holds the mouse, and the close mark isn't meant
 pub down-turn : (d : Dialog) → IsLawfulDialog d → (p : Point) → IsPointOf p → (m : Modal) → IsSteady d m → m.held ≡ None → (env : Env)
     → IsLentBy d m env
-    → Turn d m env p (down_at d (mouse.topmost d m p) p m)
+    → Turn d m env p (down_at d (mouse.topmost_leaf d m p) p m)
 down-turn d lawful p at m steady free env lent =
-    option_cases (mouse.topmost d m p) (λ o. mouse.topmost d m p ≡ o → Turn d m env p (down_at d o p m))
+    option_cases (mouse.topmost_leaf d m p) (λ o. mouse.topmost_leaf d m p ≡ o → Turn d m env p (down_at d o p m))
     (λ none e. inl (record {
       answer = inl (answer-topmost d lawful p at m env
           ∙ ap (λ o. hit_answer (events.Down p) phases.Focused env (option_map (placed_as d m.leaves m) o)) e);

@@ -11,7 +11,7 @@ use Rattle.tv_model.specs.Description.Nodes.{is_cluster}
 use Rattle.tv_machine.specs.Leaves.{PlacedNode}
 use Rattle.tv_model.specs.Controls.Contents.{Content}
 use Rattle.tv_machine.specs.Controls.Tables.{down_content, remembered}
-use Rattle.tv_machine.specs.Dialog.Modal.{Modal, content_at, with_content}
+use Rattle.tv_machine.specs.Dialog.Modal.{Modal, content_at, content_put}
 use Rattle.tv_machine.specs.Dialog.Mouse as mouse
 use Rattle.tv_machine.specs.Dialog.Rules.{is_enabled}
 use Rattle.tv_view.specs.declared.env.Env.{Env}
@@ -57,7 +57,7 @@ down-steady leaf _ first column row c takes s = s
 -- ---- the topmost leaf
 
 module _ (d : Dialog) (lawful : IsLawfulDialog d) (p : Point) (at : IsPointOf p) (m : Modal) (env : Env) (leaf : PlacedNode)
-    (found : mouse.topmost d m p ≡ Some leaf) where
+    (found : mouse.topmost_leaf d m p ≡ Some leaf) where
   abbrev here : Leaf
   here = leaf_as d m.leaves m leaf
 
@@ -119,14 +119,14 @@ module _ (d : Dialog) (lawful : IsLawfulDialog d) (p : Point) (at : IsPointOf p)
     content = content_down d p at m.leaves m env leaf (well-in d lawful p at leaf in-d) first
 
     abbrev item : ℕ
-    item = remembered leaf.node.kind (mouse.row_of leaf p)
+    item = remembered leaf.node.kind (mouse.row_on leaf p)
 
     -- the tree is that of the machine's dialog
     pub after-held : effects.first_before env here ≡ first → after_down d m env p ≡ tree_of d (mouse.hold d leaf first p m)
     after-held from =
         after-changed d lawful p at m env leaf found
         ∙ tree-with_hold d lawful m steady leaf in-d content
-        (down-value leaf.node.kind first (mouse.column_of leaf p) (mouse.row_of leaf p) (content_at m leaf.node.id))
+        (down-value leaf.node.kind first (mouse.column_on leaf p) (mouse.row_on leaf p) (content_at m leaf.node.id))
         (Some (record { id = leaf.node.id; item = item })) (hit_after (events.Down p) phases.Focused env)
         (ap (λ b. if b then placed_after (events.Down p) phases.Focused env placed else placed) enabled
         ∙ down-captured d p at m.leaves m env leaf (well-in d lawful p at leaf in-d) first takes from
@@ -140,15 +140,15 @@ module _ (d : Dialog) (lawful : IsLawfulDialog d) (p : Point) (at : IsPointOf p)
 
     pub steady-hold : IsSteady d (mouse.hold d leaf first p m)
     steady-hold =
-        steady-held d lawful (with_content d leaf.node.id content m) (Some (record { id = leaf.node.id; item = item }))
+        steady-held d lawful (content_put d leaf.node.id content m) (Some (record { id = leaf.node.id; item = item }))
         (steady-changed d lawful m leaf.node.id content steady
         (λ other is. let both : Some leaf ≡ Some other = sym in-d ∙ is in let one : leaf ≡ other = cc in
         subst (λ (y : PlacedNode). IsSteadyContent (y.node.id.0 == m.focus.0) y.node.kind content) one
-        (down-steady here leaf.node.kind first (mouse.column_of leaf p) (mouse.row_of leaf p) (content_at m leaf.node.id) takes
+        (down-steady here leaf.node.kind first (mouse.column_on leaf p) (mouse.row_on leaf p) (content_at m leaf.node.id) takes
         (steady-leaf d lawful m steady leaf in-d))))
 
     -- every rule holds as it did
     pub hold-held : HoldSame d m.leaves (mouse.hold d leaf first p m).leaves
     hold-held =
         hold-kept d lawful m steady leaf in-d content
-        (down-value leaf.node.kind first (mouse.column_of leaf p) (mouse.row_of leaf p) (content_at m leaf.node.id))
+        (down-value leaf.node.kind first (mouse.column_on leaf p) (mouse.row_on leaf p) (content_at m leaf.node.id))

@@ -12,7 +12,7 @@ use Rattle.tv_machine.specs.State.{Held}
 use Rattle.tv_machine.specs.Leaves.{PlacedNode}
 use Rattle.tv_model.specs.Controls.Contents.{Content}
 use Rattle.tv_machine.specs.Controls.Tables.{move_content}
-use Rattle.tv_machine.specs.Dialog.Modal.{Modal, content_at, leaf_at, with_content}
+use Rattle.tv_machine.specs.Dialog.Modal.{Modal, content_at, leaf_at, content_put}
 use Rattle.tv_machine.specs.Dialog.Mouse as mouse
 use Rattle.tv_machine.specs.Dialog.Mouse.{held_moved, held_up, released}
 use Rattle.tv_view.specs.declared.env.Env.{Env}
@@ -72,7 +72,7 @@ module _ (d : Dialog) (lawful : IsLawfulDialog d) (p : Point) (at : IsPointOf p)
   inside : points.is_inside here there ≡ mouse.is_inside leaf p
   inside = inside-seen d leaf p well at
 
-  row : points.row_of here there ≡ mouse.row_of leaf p
+  row : points.row_of here there ≡ mouse.row_on leaf p
   row = row-seen d leaf p well at
 
   holds_it : holds here ≡ true
@@ -88,7 +88,7 @@ module _ (d : Dialog) (lawful : IsLawfulDialog d) (p : Point) (at : IsPointOf p)
   -- ---- moves
 
   abbrev at_row : Content
-  at_row = move_content leaf.node.kind (mouse.row_of leaf p) own
+  at_row = move_content leaf.node.kind (mouse.row_on leaf p) own
 
   moved_by : Bool → Bool → ℕ → Placed
   moved_by b c n = record placed { leaf = if b && c then fields.with_content (move_content leaf.node.kind n own) here else here }
@@ -100,7 +100,7 @@ module _ (d : Dialog) (lawful : IsLawfulDialog d) (p : Point) (at : IsPointOf p)
       ∙ ap (λ b. moved_by b (points.is_inside here there) (points.row_of here there)) holds_it
       ∙ ap (λ b. moved_by true b (points.row_of here there)) inside
       ∙ ap (moved_by true (mouse.is_inside leaf p)) row
-      ∙ bool_cases (mouse.is_inside leaf p) (λ b. moved_by true b (mouse.row_of leaf p) ≡ (if b then with at_row else placed)) (λ is. refl)
+      ∙ bool_cases (mouse.is_inside leaf p) (λ b. moved_by true b (mouse.row_on leaf p) ≡ (if b then with at_row else placed)) (λ is. refl)
       (λ is. refl)
 
   move_tree : map (where_id d lawful leaf.node.id (placed_after (events.Move p) ph env)) (tree_of d m)
@@ -109,29 +109,29 @@ module _ (d : Dialog) (lawful : IsLawfulDialog d) (p : Point) (at : IsPointOf p)
       bool_cases (mouse.is_inside leaf p)
       (λ b. placed_after (events.Move p) ph env placed ≡ (if b then with at_row else placed)
       → map (where_id d lawful leaf.node.id (placed_after (events.Move p) ph env)) (tree_of d m)
-      ≡ tree_of d (if b then with_content d leaf.node.id at_row m else m))
-      (λ is e. tree-with_hold d lawful m steady leaf in-d at_row (move-value leaf.node.kind (mouse.row_of leaf p) own) m.held
+      ≡ tree_of d (if b then content_put d leaf.node.id at_row m else m))
+      (λ is e. tree-with_hold d lawful m steady leaf in-d at_row (move-value leaf.node.kind (mouse.row_on leaf p) own) m.held
       (placed_after (events.Move p) ph env) e (λ other apart. refl))
       (λ is e. unchanged (placed_after (events.Move p) ph env) e)
       move_placed
 
   move_steady : IsSteady d (mouse.moved_on d leaf p m)
   move_steady =
-      bool_cases (mouse.is_inside leaf p) (λ b. IsSteady d (if b then with_content d leaf.node.id at_row m else m))
+      bool_cases (mouse.is_inside leaf p) (λ b. IsSteady d (if b then content_put d leaf.node.id at_row m else m))
       (λ is. steady-changed d lawful m leaf.node.id at_row steady
       (λ other e. let both : Some leaf ≡ Some other = sym in-d ∙ e in let one : leaf ≡ other = cc in
       subst (λ (y : PlacedNode). IsSteadyContent (y.node.id.0 == m.focus.0) y.node.kind at_row) one
-      (move-steady (leaf.node.id.0 == m.focus.0) leaf.node.kind (mouse.row_of leaf p) own (steady-leaf d lawful m steady leaf in-d))))
+      (move-steady (leaf.node.id.0 == m.focus.0) leaf.node.kind (mouse.row_on leaf p) own (steady-leaf d lawful m steady leaf in-d))))
       (λ is. steady)
 
   move_hold : HoldSame d m.leaves (mouse.moved_on d leaf p m).leaves
   move_hold =
-      bool_cases (mouse.is_inside leaf p) (λ b. HoldSame d m.leaves (if b then with_content d leaf.node.id at_row m else m).leaves)
-      (λ is. hold-kept d lawful m steady leaf in-d at_row (move-value leaf.node.kind (mouse.row_of leaf p) own))
+      bool_cases (mouse.is_inside leaf p) (λ b. HoldSame d m.leaves (if b then content_put d leaf.node.id at_row m else m).leaves)
+      (λ is. hold-kept d lawful m steady leaf in-d at_row (move-value leaf.node.kind (mouse.row_on leaf p) own))
       (λ is. hold-itself d m.leaves)
 
   move_held : (mouse.moved_on d leaf p m).held ≡ m.held
-  move_held = bool_cases (mouse.is_inside leaf p) (λ b. (if b then with_content d leaf.node.id at_row m else m).held ≡ m.held) (λ is. refl)
+  move_held = bool_cases (mouse.is_inside leaf p) (λ b. (if b then content_put d leaf.node.id at_row m else m).held ≡ m.held) (λ is. refl)
       (λ is. refl)
 
   move_answered : group_answer (events.Move p) ph env (tree_of d m) ≡ Done
@@ -167,7 +167,7 @@ move-turn d lawful p at m steady ph env held holding is_leaf =
       tree = move_after d lawful p at m steady ph env held holding leaf e;
       steady = move_steady d lawful p at m steady ph env held holding leaf e;
       like = bool_cases (mouse.is_inside leaf p)
-          (λ b. IsLike m (if b then with_content d leaf.node.id (move_content leaf.node.kind (mouse.row_of leaf p) (content_at m leaf.node.id)) m else m))
+          (λ b. IsLike m (if b then content_put d leaf.node.id (move_content leaf.node.kind (mouse.row_on leaf p) (content_at m leaf.node.id)) m else m))
           (λ is. record { focus = refl; log = refl; ended = refl }) (λ is. record { focus = refl; log = refl; ended = refl });
       held = move_held d lawful p at m steady ph env held holding leaf e;
       holds = move_hold d lawful p at m steady ph env held holding leaf e;

@@ -7,7 +7,7 @@ use Rattle.tv_model.specs.Description.Nodes.{is_cluster}
 use Rattle.tv_machine.specs.State.{LeafState, Held}
 use Rattle.tv_machine.specs.Leaves.{PlacedNode, leaf_list}
 use Rattle.tv_model.specs.Controls.Contents.{Content}
-use Rattle.tv_machine.specs.Dialog.Modal.{Modal, content_at, leaf_at, with_content}
+use Rattle.tv_machine.specs.Dialog.Modal.{Modal, content_at, leaf_at, content_put}
 use Rattle.tv_machine.specs.Dialog.Rules.{is_enabled, is_visible}
 use Rattle.tv_model.specs.Kinds.Cluster.{is_marked}
 use Rattle.tv_view.specs.Fields as fields
@@ -74,7 +74,7 @@ module _ (d : Dialog) (lawful : IsLawfulDialog d) where
 
   -- the leaf of the id holds this and, where it is told so, the mouse
   abbrev pub with_hold : Id → Content → Option Held → Modal → Modal
-  with_hold i c held m = record (with_content d i c m) { held = held }
+  with_hold i c held m = record (content_put d i c m) { held = held }
 
   pub held-other : (i j : Id) (item : ℕ) → (j.0 == i.0) ≡ false → held_at (Some (record { id = i; item = item })) j ≡ None
   held-other i j item other = ap (λ b. if b then Some item else None) (id-swap i j ∙ other)
@@ -85,10 +85,10 @@ module _ (d : Dialog) (lawful : IsLawfulDialog d) where
   module _ (m : Modal) (steady : IsSteady d m) (leaf : PlacedNode) (in-d : IsIn d leaf) (c : Content)
       (kept : is_cluster leaf.node.kind ≡ true → c.value ≡ (content_at m leaf.node.id).value) where
     -- every rule holds as it did
-    pub hold-kept : HoldSame d m.leaves (with_content d leaf.node.id c m).leaves
+    pub hold-kept : HoldSame d m.leaves (content_put d leaf.node.id c m).leaves
     hold-kept =
         bool_cases (is_cluster leaf.node.kind)
-        (λ b. is_cluster leaf.node.kind ≡ b → HoldSame d m.leaves (with_content d leaf.node.id c m).leaves)
+        (λ b. is_cluster leaf.node.kind ≡ b → HoldSame d m.leaves (content_put d leaf.node.id c m).leaves)
         (λ is e. hold-changed d lawful m steady.leaves leaf.node.id c (λ item. ap (λ v. is_marked v item) (sym (kept e))))
         (λ is e. hold-unclustered d lawful m steady.leaves leaf.node.id c leaf in-d e) refl
 

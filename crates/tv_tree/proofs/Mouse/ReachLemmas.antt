@@ -116,13 +116,13 @@ module _ (d : Dialog) (leaf : PlacedNode) (p : Point) (well : IsPlacedWell leaf)
   seen_here : IsSeen leaf.panes p here
   seen_here = seen d.node leaf.panes p at well.panes well.few
 
-  pub column-seen : int_gap leaf.node.x here.x ≡ mouse.column_of leaf p
+  pub column-seen : int_gap leaf.node.x here.x ≡ mouse.column_on leaf p
   column-seen =
       ap (λ z. int_gap leaf.node.x z) seen_here.x
       ∙ gap_moved leaf.node.x (column_in leaf.panes (pos 0)) p.x
       ∙ ap (λ z. int_gap z p.x) (sym (column_from leaf.panes leaf.node.x))
 
-  pub row-seen : int_gap leaf.node.y here.y ≡ mouse.row_of leaf p
+  pub row-seen : int_gap leaf.node.y here.y ≡ mouse.row_on leaf p
   row-seen =
       ap (λ z. int_gap leaf.node.y z) seen_here.y
       ∙ gap_moved leaf.node.y (row_in leaf.panes (pos 0)) p.y

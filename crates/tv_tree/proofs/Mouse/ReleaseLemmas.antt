@@ -13,9 +13,9 @@ use Rattle.tv_machine.specs.State.{Held}
 use Rattle.tv_machine.specs.Leaves.{PlacedNode}
 use Rattle.tv_model.specs.Controls.Contents.{Content}
 use Rattle.tv_model.specs.Controls.Behaviour.{Answer, Passed, Becomes, Presses}
-use Rattle.tv_model.specs.Kinds.Cluster.{item_pressed, item_of_row}
+use Rattle.tv_model.specs.Kinds.Cluster.{cluster_item_pressed, item_of_row}
 use Rattle.tv_machine.specs.Controls.Tables.{up_answer}
-use Rattle.tv_machine.specs.Dialog.Modal.{Modal, content_at, leaf_at, with_content}
+use Rattle.tv_machine.specs.Dialog.Modal.{Modal, content_at, leaf_at, content_put}
 use Rattle.tv_machine.specs.Dialog.Mouse as mouse
 use Rattle.tv_machine.specs.Dialog.Mouse.{held_up, released}
 use Rattle.tv_machine.specs.Dialog.Rules.{is_enabled, is_visible}
@@ -47,12 +47,12 @@ use Rattle.tv_tree.proofs.Mouse.TakenLemmas.{held-nothing, held-remembered, scan
 
 released_steady : (f : Bool) (kind : ClusterKind) (k : Kind) (c : Content)
     → ((x : Content) → IsTrue (is_some x.value) → IsSteadyContent f k x)
-    → (item : ℕ) (b : Bool) (content : Content) → (if b then Becomes (item_pressed kind item c) else Passed) ≡ Becomes content
+    → (item : ℕ) (b : Bool) (content : Content) → (if b then Becomes (cluster_item_pressed kind item c) else Passed) ≡ Becomes content
     → IsSteadyContent f k content
-released_steady f Boxes k c fits item true content e = let same : item_pressed Boxes item c ≡ content = cc in
-    subst (IsSteadyContent f k) same (fits (item_pressed Boxes item c) refl)
-released_steady f Radios k c fits item true content e = let same : item_pressed Radios item c ≡ content = cc in
-    subst (IsSteadyContent f k) same (fits (item_pressed Radios item c) refl)
+released_steady f Boxes k c fits item true content e = let same : cluster_item_pressed Boxes item c ≡ content = cc in
+    subst (IsSteadyContent f k) same (fits (cluster_item_pressed Boxes item c) refl)
+released_steady f Radios k c fits item true content e = let same : cluster_item_pressed Radios item c ≡ content = cc in
+    subst (IsSteadyContent f k) same (fits (cluster_item_pressed Radios item c) refl)
 released_steady f kind k c fits item false content e = absurd cc
 
 pub up-steady : (f : Bool) (kind : Kind) (item row : ℕ) (c content : Content) → up_answer kind item row c ≡ Becomes content
@@ -98,7 +98,7 @@ module _ (d : Dialog) (lawful : IsLawfulDialog d) (p : Point) (at : IsPointOf p)
   change = placed_after (events.Up p) ph env
 
   abbrev answered : Answer
-  answered = up_answer leaf.node.kind held.item (mouse.row_of leaf p) own
+  answered = up_answer leaf.node.kind held.item (mouse.row_on leaf p) own
 
   in-d : IsIn d leaf
   in-d = leaf_at-in d lawful held.id leaf found
@@ -109,7 +109,7 @@ module _ (d : Dialog) (lawful : IsLawfulDialog d) (p : Point) (at : IsPointOf p)
   inside : points.is_inside here there ≡ mouse.is_inside leaf p
   inside = inside-seen d leaf p well at
 
-  row : points.row_of here there ≡ mouse.row_of leaf p
+  row : points.row_of here there ≡ mouse.row_on leaf p
   row = row-seen d leaf p well at
 
   -- ---- the answer
@@ -162,9 +162,9 @@ module _ (d : Dialog) (lawful : IsLawfulDialog d) (p : Point) (at : IsPointOf p)
 
   -- and holds something else
   tree_changed : (c : Content) → change placed ≡ record placed { leaf = record (fields.with_content c here) { held = None } }
-      → group_after (events.Up p) ph env (tree_of d m) ≡ tree_as d m.leaves (with_content d leaf.node.id c (let_go m))
+      → group_after (events.Up p) ph env (tree_of d m) ≡ tree_as d m.leaves (content_put d leaf.node.id c (let_go m))
   tree_changed c e =
-      let after : Modal = with_content d leaf.node.id c (let_go m) in
+      let after : Modal = content_put d leaf.node.id c (let_go m) in
       up_tree
       ∙ tree-at d lawful leaf change m.leaves m.leaves m after in-d
       (e ∙ placed-same d leaf c (content_at after leaf.node.id) (leaf.node.id.0 == m.focus.0) None None
@@ -198,17 +198,17 @@ module _ (d : Dialog) (lawful : IsLawfulDialog d) (p : Point) (at : IsPointOf p)
 
   becoming : (c : Content) → answered ≡ Becomes c → group_answer (events.Up p) ph env (tree_of d m) ≡ Changed leaf.node.id
       → change placed ≡ record placed { leaf = record (fields.with_content c here) { held = None } }
-      → Comes (with_content d leaf.node.id c (let_go m))
+      → Comes (content_put d leaf.node.id c (let_go m))
   becoming c is asks e = (
-    with_content d leaf.node.id c (let_go m),
+    content_put d leaf.node.id c (let_go m),
     record {
       tree = tree_changed c e;
-      reacts = ap (λ x. reacted d x (with_content d leaf.node.id c (let_go m))) asks;
+      reacts = ap (λ x. reacted d x (content_put d leaf.node.id c (let_go m))) asks;
       free = refl;
       steady = steady-changed d lawful (let_go m) leaf.node.id c (steady-held d lawful m None steady)
           (λ other f. let both : Some leaf ≡ Some other = sym in-d ∙ f in let one : leaf ≡ other = cc in
           subst (λ (y : PlacedNode). IsSteadyContent (y.node.id.0 == m.focus.0) y.node.kind c) one
-          (up-steady (leaf.node.id.0 == m.focus.0) leaf.node.kind held.item (mouse.row_of leaf p) own c is));
+          (up-steady (leaf.node.id.0 == m.focus.0) leaf.node.kind held.item (mouse.row_on leaf p) own c is));
       like = record { focus = refl; log = refl; ended = refl };
       unchanged = λ kept. absurd (kept leaf.node.id asks);
     },

@@ -46,7 +46,7 @@ after_down d m env p = group_after (events.Down p) phases.Focused env (tree_of d
 
 -- who is the topmost leaf doesn't change where rules hold as they did
 pub topmost-same : (d : Dialog) (m after : Modal) (p : Point) → HoldSame d m.leaves after.leaves
-    → mouse.topmost d m p ≡ mouse.topmost d after p
+    → mouse.topmost_leaf d m p ≡ mouse.topmost_leaf d after p
 topmost-same d m after p same =
     find-same (λ leaf. is_visible d m.leaves leaf && mouse.is_inside leaf p)
     (λ leaf. is_visible d after.leaves leaf && mouse.is_inside leaf p) (reverse (leaf_list d.views))
@@ -64,7 +64,7 @@ module _ (d : Dialog) (lawful : IsLawfulDialog d) (p : Point) (at : IsPointOf p)
       → is_hit p (placed_as d ruled m leaf) ≡ (is_visible d ruled leaf && mouse.is_inside leaf p)
   hit-tree ruled m leaf e = ap (λ b. is_visible d ruled leaf && b) (reaches-tree d ruled m leaf p (well-in leaf e) (lies-in leaf e) at)
 
-  find-hit : (m : Modal) → find (λ leaf. is_hit p (placed_as d m.leaves m leaf)) (reverse (leaf_list d.views)) ≡ mouse.topmost d m p
+  find-hit : (m : Modal) → find (λ leaf. is_hit p (placed_as d m.leaves m leaf)) (reverse (leaf_list d.views)) ≡ mouse.topmost_leaf d m p
   find-hit m =
       find-same (λ leaf. is_hit p (placed_as d m.leaves m leaf)) (λ leaf. is_visible d m.leaves leaf && mouse.is_inside leaf p)
       (reverse (leaf_list d.views))
@@ -74,13 +74,13 @@ module _ (d : Dialog) (lawful : IsLawfulDialog d) (p : Point) (at : IsPointOf p)
       (hit-tree m.leaves m)))
 
   -- the same leaf is the topmost one in the tree and in the machine
-  pub topmost-tree : (m : Modal) → groups.topmost p (tree_as d m.leaves m) ≡ option_map (placed_as d m.leaves m) (mouse.topmost d m p)
+  pub topmost-tree : (m : Modal) → groups.topmost p (tree_as d m.leaves m) ≡ option_map (placed_as d m.leaves m) (mouse.topmost_leaf d m p)
   topmost-tree m =
       ap (find (is_hit p)) (reverse-map (placed_as d m.leaves m) (leaf_list d.views))
       ∙ find-map (placed_as d m.leaves m) (is_hit p) (reverse (leaf_list d.views))
       ∙ ap (option_map (placed_as d m.leaves m)) (find-hit m)
 
-  pub topmost-in : (m : Modal) (leaf : PlacedNode) → mouse.topmost d m p ≡ Some leaf → IsIn d leaf
+  pub topmost-in : (m : Modal) (leaf : PlacedNode) → mouse.topmost_leaf d m p ≡ Some leaf → IsIn d leaf
   topmost-in m leaf e =
       found-all (IsIn d) (λ leaf. is_visible d m.leaves leaf && mouse.is_inside leaf p) (reverse (leaf_list d.views)) leaf
       (All-reverse (IsIn d) (leaf_list d.views) (leaf_at-member d lawful)) e
@@ -92,20 +92,20 @@ module _ (d : Dialog) (lawful : IsLawfulDialog d) (p : Point) (at : IsPointOf p)
     placed_here leaf = placed_as d m.leaves m leaf
 
     pub answer-topmost : down_answered d m env p
-        ≡ hit_answer (events.Down p) phases.Focused env (option_map placed_here (mouse.topmost d m p))
+        ≡ hit_answer (events.Down p) phases.Focused env (option_map placed_here (mouse.topmost_leaf d m p))
     unfolding group_answer
     answer-topmost = ap (hit_answer (events.Down p) phases.Focused env) (topmost-tree m)
 
     -- a leaf that stays as it is leaves all as they are
-    pub after-same : ((leaf : PlacedNode) → mouse.topmost d m p ≡ Some leaf
+    pub after-same : ((leaf : PlacedNode) → mouse.topmost_leaf d m p ≡ Some leaf
         → hit_after (events.Down p) phases.Focused env (placed_here leaf) ≡ placed_here leaf)
         → after_down d m env p ≡ tree_of d m
     unfolding group_after
     after-same same =
         last_changed-same (is_hit p) (hit_after (events.Down p) phases.Focused env) (tree_as d m.leaves m)
-        (λ x e. of (mouse.topmost d m p) refl x (sym (topmost-tree m) ∙ e))
+        (λ x e. of (mouse.topmost_leaf d m p) refl x (sym (topmost-tree m) ∙ e))
       where
-        of : (o : Option PlacedNode) → mouse.topmost d m p ≡ o → (x : Placed) → option_map placed_here o ≡ Some x
+        of : (o : Option PlacedNode) → mouse.topmost_leaf d m p ≡ o → (x : Placed) → option_map placed_here o ≡ Some x
             → hit_after (events.Down p) phases.Focused env x ≡ x
         of None is x e = absurd cc
         of (Some leaf) is x e =
@@ -113,7 +113,7 @@ module _ (d : Dialog) (lawful : IsLawfulDialog d) (p : Point) (at : IsPointOf p)
             ap (hit_after (events.Down p) phases.Focused env) (sym here) ∙ same leaf is ∙ here
 
     -- else it alone changes
-    pub after-changed : (leaf : PlacedNode) → mouse.topmost d m p ≡ Some leaf
+    pub after-changed : (leaf : PlacedNode) → mouse.topmost_leaf d m p ≡ Some leaf
         → after_down d m env p ≡ map (where_id d lawful leaf.node.id (hit_after (events.Down p) phases.Focused env)) (tree_as d m.leaves m)
     unfolding group_after
     after-changed leaf e =
@@ -147,20 +147,20 @@ module _ (d : Dialog) (p : Point) (at : IsPointOf p) (ruled : List LeafState) (m
 
   -- what it holds where it comes to hold the mouse
   abbrev pub content_down : ℕ → Content
-  content_down first = down_content leaf.node.kind first (mouse.column_of leaf p) (mouse.row_of leaf p) (content_at m leaf.node.id)
+  content_down first = down_content leaf.node.kind first (mouse.column_on leaf p) (mouse.row_on leaf p) (content_at m leaf.node.id)
 
   pub down-captured : (first : ℕ) → captures standing leaf.node.kind ≡ true → effects.first_before env standing ≡ first
       → placed_after (events.Down p) phases.Focused env (placed_as d ruled m leaf)
       ≡ record (placed_as d ruled m leaf) {
         leaf = record
-            (fields.with_content (content_down first) standing) { held = Some (remembered leaf.node.kind (mouse.row_of leaf p)) };
+            (fields.with_content (content_down first) standing) { held = Some (remembered leaf.node.kind (mouse.row_on leaf p)) };
       }
   down-captured first takes from =
       down-after
       ∙ ap (λ b. record (placed_as d ruled m leaf) { leaf = if b then captured env there standing else standing }) takes
       ∙ ap (λ n. stands n (points.column_of standing there) (points.row_of standing there)) from
       ∙ ap (λ n. stands first n (points.row_of standing there)) (column-seen d leaf p well at)
-      ∙ ap (λ n. stands first (mouse.column_of leaf p) n) (row-seen d leaf p well at)
+      ∙ ap (λ n. stands first (mouse.column_on leaf p) n) (row-seen d leaf p well at)
     where
       stands : ℕ → ℕ → ℕ → Placed
       stands first column row =

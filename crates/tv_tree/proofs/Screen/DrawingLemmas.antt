@@ -26,7 +26,7 @@ use Rattle.tv_palette.specs.declared.role.Owner.TheVariants as owners
 use Rattle.tv_machine.specs.State.{OpenDialog}
 use Rattle.tv_machine.specs.Leaves.{PlacedNode, corner_on, leaf_list, leaves_in, open_at}
 use Rattle.tv_machine.specs.Dialog.Modal.{Modal, content_at}
-use Rattle.tv_machine.specs.Dialog.Rules.{content_of, is_visible}
+use Rattle.tv_machine.specs.Dialog.Rules.{content_held, is_visible}
 use Rattle.tv_machine.specs.Screen.LeafFaces.{leaf_faces}
 use Rattle.tv_machine.specs.Screen.Layers.{dialog_leaf}
 use Rattle.tv_machine.specs.Screen.Layers as screen
@@ -111,7 +111,7 @@ module _ (desc : Desc) (o : OpenDialog) (d : Dialog) where
 
   -- they show the same through both
   leaf_same : (leaf : PlacedNode) → LiesInside d.node leaf → (faces : List FaceOf)
-      → IsSame (painted leaf faces) (screen.leaf_layers desc o.origin leaf faces)
+      → IsSame (painted leaf faces) (screen.layers_of_leaf desc o.origin leaf faces)
   leaf_same leaf lies faces =
       faces_same (own leaf) (declared leaf) (natural leaf.node.w) (natural (height_of leaf.node.kind)) faces
       (point_is (own leaf).origin.x (own leaf).origin.y (declared leaf).origin.x (declared leaf).origin.y (sym (seen_x leaf))
@@ -136,7 +136,7 @@ module _ (desc : Desc) (d : Dialog) (rising : AreRising d.views) (o : OpenDialog
   abbrev told_faces : PlacedNode → List FaceOf
   told_faces leaf =
       leaf_faces attribute_of owners.Dialog (screen.look_of d o leaf.node) (natural leaf.node.w) leaf.node.kind
-      (content_of o.leaves overwriting leaf.node.id)
+      (content_held o.leaves overwriting leaf.node.id)
 
   faces-told : (leaf : PlacedNode) → IsSoundLeaf d leaf → faces_of env (leaf_as d m.leaves m leaf) ≡ told_faces leaf
   faces-told leaf sound =
@@ -147,7 +147,7 @@ module _ (desc : Desc) (d : Dialog) (rising : AreRising d.views) (o : OpenDialog
       ∙ ap (λ look. leaf_faces attribute_of owners.Dialog look (natural n.w) n.kind c)
       (look-seen d o overwriting m work env lent rising leaf sound.default)
       ∙ (λ i. leaf_faces attribute_of owners.Dialog (screen.look_of d o n) (natural n.w) n.kind
-      (content_of (work.leaves i) (work.overwriting_in i) n.id))
+      (content_held (work.leaves i) (work.overwriting_in i) n.id))
 
   corner-near : IsCornerUpTo 300 (dialog_canvas desc o d).origin
   corner-near = record {

@@ -1,5 +1,5 @@
 use Rattle.std.proofs.Common.{◌≡◌, ◌↔◌, subst, ◌⊎◌, inl, inr, ◌-◌, arith, IsTrue, []}
-use Rattle.tv_picture.specs.Pattern.{Member, Begins, empty, one, sequence, many, times}
+use Rattle.tv_picture.specs.Pattern.{IsMember, Begins, empty, one, sequence, many, times}
 use Rattle.tv_picture_tests.specs.Trees.{mark_of, pattern_of}
 use Rattle.tv_picture_tests.proofs.Splits.{the_other, is_none, right_yes, begins_nothing, empty_begun, one_begun, member_begins, optional_begun, begun_optional, sequence_begun, begun_first, begun_later, many_begun, begun_many, begun_many_later, times_begun, begun_times, times_none_begun}
 use Rattle.tv_picture_tests.proofs.plain.+beginning.Goals as goal
@@ -24,7 +24,7 @@ begins-returns-else-is_empty t c = rw c.in-One.is (
   (λ h. c.is_one.ensures.1 (typed (one_begun (mark_of c.in-One.mark) c.args.text.now h))),
 )
   where
-    typed : (c.args.text.now ≡ []) ⊎ Member (one (mark_of c.in-One.mark)) c.args.text.now → Member (one (mark_of c.in-One.mark)) c.args.text.now
+    typed : (c.args.text.now ≡ []) ⊎ IsMember (one (mark_of c.in-One.mark)) c.args.text.now → IsMember (one (mark_of c.in-One.mark)) c.args.text.now
     typed (inl e) = let yes : IsTrue c.is_empty-in-One.result = (is_none c.is_empty-in-One.result c.args.text.now c.is_empty-in-One.ensures).1 e in absurd (cc)
     typed (inr m) = m
 
@@ -48,7 +48,7 @@ begins_sequence-returns t c =
     let a = pattern_of c.args.first.now in
     let b = pattern_of c.args.second.now in (
       (λ e. begun_first a b c.args.text.now (c.begins-2.ensures.0 e)),
-      (λ h. c.begins-2.ensures.1 (the_other (Begins a c.args.text.now) (Member a) (Begins b) 0 c.loop-at.at c.args.text.now (omega arith) c.loop-at.invariant (sequence_begun a b c.args.text.now h))),
+      (λ h. c.begins-2.ensures.1 (the_other (Begins a c.args.text.now) (IsMember a) (Begins b) 0 c.loop-at.at c.args.text.now (omega arith) c.loop-at.invariant (sequence_begun a b c.args.text.now h))),
     )
 
 pub begins_many-returns-then-begins_many : goal.begins_many-returns-then-begins_many
@@ -60,7 +60,7 @@ pub begins_many-returns : goal.begins_many-returns
 begins_many-returns t c =
     let a = pattern_of c.args.part.now in (
       (λ e. begun_many a c.args.text.now (c.begins.ensures.0 e)),
-      (λ h. c.begins.ensures.1 (the_other (Begins a c.args.text.now) (Member a) (Begins (many a)) 1 c.loop-at.at c.args.text.now (omega arith) c.loop-at.invariant (many_begun a c.args.text.now h))),
+      (λ h. c.begins.ensures.1 (the_other (Begins a c.args.text.now) (IsMember a) (Begins (many a)) 1 c.loop-at.at c.args.text.now (omega arith) c.loop-at.invariant (many_begun a c.args.text.now h))),
     )
 
 pub begins_times-returns-then-count-eq0 : goal.begins_times-returns-then-count-eq0
@@ -82,5 +82,5 @@ begins_times-returns t c =
     let a = pattern_of c.args.part.now in
     let b = times (c.args.count - 1) a in (
       (λ e. begun_times (c.args.count - 1) c.args.count a c.args.text.now (omega arith) (begun_first a b c.args.text.now (c.begins.ensures.0 e))),
-      (λ h. c.begins.ensures.1 (the_other (Begins a c.args.text.now) (Member a) (Begins b) 0 c.loop-at.at c.args.text.now (omega arith) c.loop-at.invariant (sequence_begun a b c.args.text.now (times_begun (c.args.count - 1) c.args.count a c.args.text.now (omega arith) h)))),
+      (λ h. c.begins.ensures.1 (the_other (Begins a c.args.text.now) (IsMember a) (Begins b) 0 c.loop-at.at c.args.text.now (omega arith) c.loop-at.invariant (sequence_begun a b c.args.text.now (times_begun (c.args.count - 1) c.args.count a c.args.text.now (omega arith) h)))),
     )

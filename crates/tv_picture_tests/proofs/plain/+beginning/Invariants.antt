@@ -1,5 +1,5 @@
 use Rattle.std.proofs.Common.{◌+◌, ◌-◌, length}
-use Rattle.tv_picture.specs.Pattern.{Member, Begins, many, times}
+use Rattle.tv_picture.specs.Pattern.{IsMember, Begins, many, times}
 use Rattle.tv_picture_tests.specs.Trees.{pattern_of}
 use Rattle.tv_picture_tests.proofs.Weights.{weight}
 use Rattle.tv_picture_tests.proofs.Splits.{NoneBelow}
@@ -18,10 +18,10 @@ abbrev pub decreases-begins_times : goal.decreases-begins_times
 decreases-begins_times l = weight l.part.now + l.count + 1 + length l.text.now
 
 abbrev pub invariant-begins_sequence-loop-at : goal.invariant-begins_sequence-loop-at
-invariant-begins_sequence-loop-at l = NoneBelow (Member (pattern_of l.first)) (Begins (pattern_of l.second)) l.text 0 l.at
+invariant-begins_sequence-loop-at l = NoneBelow (IsMember (pattern_of l.first)) (Begins (pattern_of l.second)) l.text 0 l.at
 
 abbrev pub invariant-begins_many-loop-at : goal.invariant-begins_many-loop-at
-invariant-begins_many-loop-at l = NoneBelow (Member (pattern_of l.part)) (Begins (many (pattern_of l.part))) l.text 1 l.at
+invariant-begins_many-loop-at l = NoneBelow (IsMember (pattern_of l.part)) (Begins (many (pattern_of l.part))) l.text 1 l.at
 
 abbrev pub invariant-begins_times-loop-at : goal.invariant-begins_times-loop-at
-invariant-begins_times-loop-at l = NoneBelow (Member (pattern_of l.part)) (Begins (times (l.count - 1) (pattern_of l.part))) l.text 0 l.at
+invariant-begins_times-loop-at l = NoneBelow (IsMember (pattern_of l.part)) (Begins (times (l.count - 1) (pattern_of l.part))) l.text 0 l.at

@@ -1,5 +1,5 @@
 use Rattle.std.proofs.Common.{◌+◌, ◌-◌, length}
-use Rattle.tv_picture.specs.Pattern.{Member, many, times}
+use Rattle.tv_picture.specs.Pattern.{IsMember, many, times}
 use Rattle.tv_picture_tests.specs.Trees.{pattern_of}
 use Rattle.tv_picture_tests.proofs.Weights.{weight}
 use Rattle.tv_picture_tests.proofs.Splits.{NoneBelow}
@@ -18,10 +18,10 @@ abbrev pub decreases-is_times : goal.decreases-is_times
 decreases-is_times l = weight l.part.now + l.count + 1 + length l.text.now
 
 abbrev pub invariant-is_sequence-loop-at : goal.invariant-is_sequence-loop-at
-invariant-is_sequence-loop-at l = NoneBelow (Member (pattern_of l.first)) (Member (pattern_of l.second)) l.text 0 l.at
+invariant-is_sequence-loop-at l = NoneBelow (IsMember (pattern_of l.first)) (IsMember (pattern_of l.second)) l.text 0 l.at
 
 abbrev pub invariant-is_many-loop-at : goal.invariant-is_many-loop-at
-invariant-is_many-loop-at l = NoneBelow (Member (pattern_of l.part)) (Member (many (pattern_of l.part))) l.text 1 l.at
+invariant-is_many-loop-at l = NoneBelow (IsMember (pattern_of l.part)) (IsMember (many (pattern_of l.part))) l.text 1 l.at
 
 abbrev pub invariant-is_times-loop-at : goal.invariant-is_times-loop-at
-invariant-is_times-loop-at l = NoneBelow (Member (pattern_of l.part)) (Member (times (l.count - 1) (pattern_of l.part))) l.text 0 l.at
+invariant-is_times-loop-at l = NoneBelow (IsMember (pattern_of l.part)) (IsMember (times (l.count - 1) (pattern_of l.part))) l.text 0 l.at

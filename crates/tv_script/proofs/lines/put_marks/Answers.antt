@@ -1,5 +1,5 @@
 use Rattle.std.proofs.Common.{◌≡◌, sym, ap, ◌∙◌, length, ◌==◌, true, false, arith}
-use Rattle.tv_model.specs.Log.LogText.{is_marked}
+use Rattle.tv_model.specs.Log.LogText.{has_bit}
 use Rattle.tv_io.proofs.PenLemmas.{Puts-then, Puts-along, Puts-none}
 use Rattle.tv_script.proofs.MarkLemmas.{joined, separator, words_below, joined-first, separator-first, joined-marked, separator-marked, joined-unmarked, separator-unmarked, marks_text-none, marks_text-some}
 use Rattle.tv_script.proofs.lines.put_marks.Goals.{then-is_marked, else-is_marked}
@@ -15,13 +15,13 @@ loop-item-preserved g c =
     let some = c.loop-item.auto.item in
     elim c.if-is_marked.branch [
       | then-is_marked w ↦
-          let marked : is_marked marks item ≡ true = sym c.is_marked.ensures ∙ w.if-is_marked.true in
+          let marked : has_bit marks item ≡ true = sym c.is_marked.ensures ∙ w.if-is_marked.true in
           let text = Puts-then (Puts-then c.loop-item.invariant.0 (Puts-along c.loop-item.invariant.1 w.put.ensures)) w.put_number.ensures in (
             rw w.pen-is (Puts-along (sym (joined-marked marks item some marked)) text),
             ap (λ s. s.now) w.separator-is ∙ sym (separator-marked marks item some marked),
           )
       | else-is_marked w ↦
-          let unmarked : is_marked marks item ≡ false = sym c.is_marked.ensures ∙ w.if-is_marked.false in (
+          let unmarked : has_bit marks item ≡ false = sym c.is_marked.ensures ∙ w.if-is_marked.false in (
             rw w.pen-is (Puts-along (sym (joined-unmarked marks item some unmarked)) c.loop-item.invariant.0),
             ap (λ s. s.now) w.separator-is ∙ c.loop-item.invariant.1 ∙ sym (separator-unmarked marks item some unmarked),
           )

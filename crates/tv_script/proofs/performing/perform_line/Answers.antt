@@ -1,7 +1,7 @@
 use Rattle.std.proofs.Common.{◌≡◌, ◌+◌, ◌++◌, ◌∷◌, [], length, rules, refl, sym, ap, subst, ◌∙◌, append_assoc, arith, length-append}
 use Rattle.std.proofs.lemmas.List.{append-nil}
 use Rattle.tv_io.proofs.PenLemmas.{Cuts-from_stopped, Takes-from_went_on}
-use Rattle.tv_machine.specs.Output.{after, item_after}
+use Rattle.tv_machine.specs.Output.{after, session_after}
 use Rattle.tv_script.specs.Lines.{items_of_line}
 use Rattle.tv_script.specs.Performed.{Stops}
 use Rattle.tv_script.specs.ScriptLines.{items_left, meant}
@@ -38,7 +38,7 @@ loop-item-preserved g c =
     record {
       going = c.if-pen.false;
       same = (c.put_item.ensures.text before.there.0 before.there.1).same ∙ before.same;
-      there = (item_after before.there.0 item, c.put_item.ensures.state before.there.0 before.there.1);
+      there = (session_after before.there.0 item, c.put_item.ensures.state before.there.0 before.there.1);
       done = done ++ item ∷ [];
       parts = append_assoc done (item ∷ []) left ∙ ap (λ x. done ++ x) (sym step) ∙ before.parts;
       begun = omega (arith, before.begun, length-append done (item ∷ []));

@@ -1,8 +1,8 @@
 use Rattle.std.proofs.Common.{◌≡◌, length, take, true, false, arith, subst, sym, ap, ◌∙◌}
 use Rattle.std.specs.Prelude.{MatchOption}
 use Rattle.std.proofs.lemmas.List.{take_all}
-use Rattle.tv_picture.specs.Parsing.{reading, text_step, text_steps, start, Took, is_closed, built_by, merged}
-use Rattle.tv_picture.specs.Spelling.{IsFirstFault}
+use Rattle.tv_picture.specs.Parsing.{reading, text_step, text_steps, nothing_parsed, Took, is_closed, built_by, merged}
+use Rattle.tv_picture.specs.Spelling.{IsFirstFaultyPlace}
 use Rattle.tv_picture.proofs.Parsed.{Parsed, parsed, takes_more, refuses_at, refuses_end}
 use Rattle.tv_picture.proofs.picture.Picture.from_chars.Goals as goal
 
@@ -24,7 +24,7 @@ in_some : (c : goal.In-Some) → Parsed c.args.text.now c.in-Some.code.items
 in_some c =
     let whole : take c.loop-place.place c.args.text.now ≡ c.args.text.now = take_all c.loop-place.place c.args.text.now (omega arith) in
     let h = subst (λ o. MatchOption o (is_closed (reading c.loop-place.parser) ≡ false) (λ v. (is_closed (reading c.loop-place.parser) ≡ true) × (built_by v.items ≡ merged c.loop-place.parser.choice (built_by c.loop-place.parser.code.items)))) c.in-Some.is c.in_ok-code.ensures in
-    parsed c.args.text.now (reading c.loop-place.parser) c.in-Some.code.items (ap (text_steps start) (sym whole) ∙ c.loop-place.invariant) h.0 h.1
+    parsed c.args.text.now (reading c.loop-place.parser) c.in-Some.code.items (ap (text_steps nothing_parsed) (sym whole) ∙ c.loop-place.invariant) h.0 h.1
 
 pub invariant_of-result : goal.invariant_of-result
 invariant_of-result c = (in_some c).height
@@ -35,11 +35,11 @@ returns-in-Some-clause-ok c = ((in_some c).picture, (in_some c).spelling)
 pub returns-in-Some-clause-only : goal.returns-in-Some-clause-only
 returns-in-Some-clause-only c = λ p pic sp. (in_some c).only p pic sp
 
-in_none : (c : goal.In-None) → IsFirstFault c.args.text.now (length c.args.text.now)
+in_none : (c : goal.In-None) → IsFirstFaultyPlace c.args.text.now (length c.args.text.now)
 in_none c =
     let whole : take c.loop-place.place c.args.text.now ≡ c.args.text.now = take_all c.loop-place.place c.args.text.now (omega arith) in
     let h = subst (λ o. MatchOption o (is_closed (reading c.loop-place.parser) ≡ false) (λ v. (is_closed (reading c.loop-place.parser) ≡ true) × (built_by v.items ≡ merged c.loop-place.parser.choice (built_by c.loop-place.parser.code.items)))) c.in-None.is c.in_ok-code.ensures in
-    refuses_end c.args.text.now (reading c.loop-place.parser) (ap (text_steps start) (sym whole) ∙ c.loop-place.invariant) h
+    refuses_end c.args.text.now (reading c.loop-place.parser) (ap (text_steps nothing_parsed) (sym whole) ∙ c.loop-place.invariant) h
 
 pub returns-in-None-clause-err : goal.returns-in-None-clause-err
 returns-in-None-clause-err c = in_none c

@@ -1,7 +1,7 @@
 use Rattle.std.proofs.Common.{drop, arith, sym, ◌∙◌, subst}
 use Rattle.std.proofs.lemmas.List.{length-set}
 use Rattle.tv_picture.specs.Pattern.{either}
-use Rattle.tv_picture.specs.Table.{IsRow, row_at}
+use Rattle.tv_picture.specs.Table.{IsTableRow, row_at}
 use Rattle.tv_picture.proofs.Rows.{kept_all, kept_more, rows_none, rows_more, covers_rows, row_either}
 use Rattle.tv_picture.proofs.table.Table.or.Goals as goal
 
@@ -14,7 +14,7 @@ loop-place-preserved c = (
   kept_more c.args.self.now c.loop-place.self c.loop-place.place c.join.result c.loop-place.invariant.1,
   λ a b text same ca cb. rows_more (either a b) text c.loop-place.self 0 c.loop-place.place c.join.result (omega arith) (c.loop-place.invariant.2 a b text same ca cb)
       (λ within. row_either a b (drop c.loop-place.place text) c.loop-place.place (row_at c.loop-place.self c.loop-place.place) (row_at c.args.other.now c.loop-place.place) c.join.result
-      (subst (IsRow a (drop c.loop-place.place text) c.loop-place.place) (sym (c.loop-place.invariant.1.at c.loop-place.place (omega arith))) (ca.at c.loop-place.place within))
+      (subst (IsTableRow a (drop c.loop-place.place text) c.loop-place.place) (sym (c.loop-place.invariant.1.at c.loop-place.place (omega arith))) (ca.at c.loop-place.place within))
       (cb.at c.loop-place.place within) c.join.ensures.ends c.join.ensures.next),
 )
 

@@ -1,7 +1,7 @@
 use Rattle.std.proofs.Common.{◌≡◌, ◌+◌, ◌-◌, ◌*◌, ◌/◌, ℕ, arith, sym, subst}
 use Rattle.tv_picture.specs.declared.table.Table.{Table}
 use Rattle.tv_picture.specs.Pattern.{times}
-use Rattle.tv_picture.specs.Table.{Covers}
+use Rattle.tv_picture.specs.Table.{HasEachRow}
 use Rattle.tv_picture.proofs.Rows.{Covers_zero, Covers_one, Powers, Left, left_odd, left_even, no_more, powers_added, powers_squared, none_left, powers_repeated, all_at_once, Joins}
 use Rattle.tv_picture.proofs.table.Table.repeat_times.Goals as goal
 use Rattle.tv_picture.proofs.table.Table.repeat_times.Goals.{then-left-eq1, else-left-eq1, else-left-gt0-via-then-left-gt0+else-square, else-left-gt0-via-else-left-gt0}
@@ -38,7 +38,7 @@ loop-left-preserved c =
 
 pub returns : goal.returns
 returns c = λ a text same ca.
-    subst (λ (n : ℕ). Covers (times n a) text c.loop-left.self) (none_left c.loop-left.invariant.0 c.loop-left.invariant.1 c.loop-left.left c.args.count (omega arith) c.loop-left.invariant.2)
+    subst (λ (n : ℕ). HasEachRow (times n a) text c.loop-left.self) (none_left c.loop-left.invariant.0 c.loop-left.invariant.1 c.loop-left.left c.args.count (omega arith) c.loop-left.invariant.2)
     (c.loop-left.invariant.3 a text same ca).0
 
 pub returns-then-square : goal.returns-then-square
@@ -60,4 +60,4 @@ returns-then-square c =
     let repeated = powers_repeated (h + h - 1) c.args.self.now c.if-left-eq1.self power c.args.len i j joins so_far.3 in
     let added = powers_added c.args.self.now c.if-left-eq1.self power result c.args.len i (j + j * (h + h - 1)) joined repeated in
     let whole : i + (j + j * (h + h - 1)) ≡ c.args.count = all_at_once i j h c.args.count (omega arith) so_far.2 in
-    λ a text len ca. subst (λ (n : ℕ). Covers (times n a) text result) whole (added a text len ca).0
+    λ a text len ca. subst (λ (n : ℕ). HasEachRow (times n a) text result) whole (added a text len ca).0

@@ -1,8 +1,8 @@
 use Rattle.std.proofs.Common.{◌≡◌, true, ℕ, List, length}
 use Rattle.tv_picture.specs.Pattern.{Pattern, sequence}
-use Rattle.tv_picture.specs.Table.{Covers}
+use Rattle.tv_picture.specs.Table.{HasEachRow}
 use Rattle.tv_picture.proofs.Rows.{IsRows, IsKept}
 use Rattle.tv_picture.proofs.table.Table.square.Given as goal
 
 abbrev pub invariant-loop-from : goal.invariant-loop-from
-invariant-loop-from l = (length l.self.rows ≡ 121) × IsKept l.fn.self l.self l.from × (l.same ≡ true → l.self ≡ l.fn.self) × ((a b : Pattern) (text : List ℕ) → length text ≡ l.len → Covers a text l.fn.self → Covers b text l.fn.self → IsRows (sequence a b) text l.self 0 l.from)
+invariant-loop-from l = (length l.self.rows ≡ 121) × IsKept l.fn.self l.self l.from × (l.same ≡ true → l.self ≡ l.fn.self) × ((a b : Pattern) (text : List ℕ) → length text ≡ l.len → HasEachRow a text l.fn.self → HasEachRow b text l.fn.self → IsRows (sequence a b) text l.self 0 l.from)
