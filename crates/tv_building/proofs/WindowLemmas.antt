@@ -6,7 +6,7 @@ use Rattle.std.proofs.lemmas.List.Elements.{All-from_recursion}
 use Rattle.tv_declarations.specs.Spelling.{IsDescription, IsWindow, IsWindowText, is_text}
 use Rattle.tv_faults.specs.Order.{lines_of_menu, lines_of_window, start_line}
 use Rattle.tv_faults.specs.Sound.{Sound}
-use Rattle.tv_faults.specs.Sound.Places.{AreInside, LiesIn}
+use Rattle.tv_faults.specs.Sound.Places.{AreInside, IsPartOf}
 use Rattle.tv_faults.proofs.LackLemmas.{bodies}
 use Rattle.tv_faults.proofs.PairLemmas.{Across, after_own, pairs_append, pairs_flat}
 use Rattle.tv_faults.proofs.RisingLemmas.{rising_lines}
@@ -41,7 +41,7 @@ text_kind (kinds.Text own) is = (own.h, own.text, refl)
 text_kind _ is = absurd (false≢true is)
 
 module _ (frame : Node) where
-  inside_frame : (pair : List Node × Node) → IsWindowText pair.1 → LiesIn (place_of_node pair.1) (room_in frame (owner_of pair.0 pair.1))
+  inside_frame : (pair : List Node × Node) → IsWindowText pair.1 → IsPartOf (place_of_node pair.1) (room_in frame (owner_of pair.0 pair.1))
       → IsTextInside frame pair.1
   inside_frame pair text lies =
       let kind = text_kind pair.1.kind text.kind in
@@ -49,7 +49,7 @@ module _ (frame : Node) where
         height = kind.0;
         text = kind.1;
         kind = kind.2;
-        inside = subst (λ owner. LiesIn (place_of_node pair.1) (room_in frame owner)) (no_owner pair.1.depth (reverse pair.0) text.depth) lies;
+        inside = subst (λ owner. IsPartOf (place_of_node pair.1) (room_in frame owner)) (no_owner pair.1.depth (reverse pair.0) text.depth) lies;
       }
 
   texts_inside : (views : List Node) → All IsWindowText views → AreInside frame views → All (IsTextInside frame) views

@@ -15,16 +15,16 @@ use Rattle.tv_certificate.specs.declared.progress.Progress.{Progress}
 use Rattle.tv_certificate.specs.declared.progress.Progress.TheVariants.{Fresh, Begun}
 use Rattle.tv_certificate.specs.declared.progress.Stage.{Stage}
 use Rattle.tv_certificate.specs.declared.progress.Stage.TheVariants as stages
-use Rattle.tv_certificate.specs.CertificateTexts.{AreBlocks, AreRising, IsCertificate, IsKeyLine, block_lines, certificate_lines, dialog_words, end_words, is_above, key_words, tab_words, version_words}
-use Rattle.tv_certificate.specs.CertificateReading.{after_key, after_tab, begun, finished, is_end, key_in, named_in, opened, taken, version_in, with_block, with_key}
+use Rattle.tv_certificate.specs.CertificateTexts.{AreBlocks, LettersRise, IsCertificate, IsKeyLine, block_lines, certificate_lines, dialog_words, end_words, is_above, key_words, tab_words, version_words}
+use Rattle.tv_certificate.specs.CertificateReading.{key_line_taken, after_tab, begun, finished_certificate, is_block_end, key_line_read, named_in, block_begun, certificate_line_taken, certificate_version_in, with_block, with_key}
 use Rattle.tv_certificate.proofs.WordLemmas.{end_read, key_read, named_read, read_key, read_named, read_version, version_read}
 
 -- what the machine gives for these declarations
 abbrev pub given : Progress → List (List Word) → Option Certificate
-given p wss = option_and_then finished (steps taken p wss)
+given p wss = option_and_then finished_certificate (steps certificate_line_taken p wss)
 
 abbrev went : List (List Word) → Option Progress → Option Certificate
-went wss o = option_and_then finished (option_and_then (λ p. steps taken p wss) o)
+went wss o = option_and_then finished_certificate (option_and_then (λ p. steps certificate_line_taken p wss) o)
 
 abbrev with_keys : Block → List KeyLine → Block
 with_keys block keys = record block { keys = block.keys ++ keys }
@@ -58,7 +58,7 @@ pub record KeysEnd (read : Certificate) (block : Block) (wss : List (List Word))
   value : all ≡ with_blocks read (with_keys block keys ∷ more)
   lines : wss ≡ map key_words keys ++ end_words ∷ flat_map block_lines more
   each : AllByRecursion IsKeyLine keys
-  rising : AreRising block.keys keys
+  rising : LettersRise block.keys keys
   others : AreBlocks more
 
 -- from where tab lines or key lines come
@@ -71,7 +71,7 @@ pub record TabsEnd (read : Certificate) (name : List ℕ) (tabs : List (List ℕ
   some : tabs ++ names ≢ []
   are_names : AllByRecursion IsName names
   each : AllByRecursion IsKeyLine keys
-  rising : AreRising [] keys
+  rising : LettersRise [] keys
   others : AreBlocks more
 
 -- from where blocks come
@@ -91,13 +91,13 @@ Ends Fresh wss all = (wss ≡ certificate_lines all) × IsCertificate all
 Ends (Begun read stage) wss all = EndsAt read stage wss all
 
 module _ (ws : List Word) (wss : List (List Word)) (all : Certificate) (later : (p : Progress) → given p wss ≡ Some all → Ends p wss all) where
-  version_step : (o : Option Version) → version_in ws ≡ o → went wss (option_map begun o) ≡ Some all → Ends Fresh (ws ∷ wss) all
+  version_step : (o : Option Version) → certificate_version_in ws ≡ o → went wss (option_map begun o) ≡ Some all → Ends Fresh (ws ∷ wss) all
   version_step None eo e = absurd cc
   version_step (Some version) eo e =
       let t = later (begun version) e in
       subst (λ x. Ends Fresh (ws ∷ wss) x) (sym t.value) (same_cons ws (version_words version) wss (flat_map block_lines t.more) (version_read ws version eo) t.lines, t.others)
 
-  dialog_step : (read : Certificate) (o : Option (List ℕ)) → named_in (codes "dialog") ws ≡ o → went wss (option_map (opened read) o) ≡ Some all → BlocksEnd read (ws ∷ wss) all
+  dialog_step : (read : Certificate) (o : Option (List ℕ)) → named_in (codes "dialog") ws ≡ o → went wss (option_map (block_begun read) o) ≡ Some all → BlocksEnd read (ws ∷ wss) all
   dialog_step read None eo e = absurd cc
   dialog_step read (Some name) eo e =
       let r = named_read (codes "dialog") ws name eo in
@@ -110,7 +110,7 @@ module _ (ws : List Word) (wss : List (List Word)) (all : Certificate) (later : 
         others = (record { dialog = r.1; some = t.some; tabs = t.are_names; keys = t.each; rising = t.rising }, t.others);
       }
 
-  line_step : (read : Certificate) (block : Block) (line : KeyLine) (b : Bool) → key_in ws ≡ Some line → is_above block.keys line ≡ b → went wss (cond b (Some (Begun read (stages.Keys (with_key block line)))) None) ≡ Some all → KeysEnd read block (ws ∷ wss) all
+  line_step : (read : Certificate) (block : Block) (line : KeyLine) (b : Bool) → key_line_read ws ≡ Some line → is_above block.keys line ≡ b → went wss (cond b (Some (Begun read (stages.Keys (with_key block line)))) None) ≡ Some all → KeysEnd read block (ws ∷ wss) all
   line_step read block line true el eb e =
       let r = key_read ws line el in
       let t = later (Begun read (stages.Keys (with_key block line))) e in
@@ -125,11 +125,11 @@ module _ (ws : List Word) (wss : List (List Word)) (all : Certificate) (later : 
       }
   line_step read block line false el eb e = absurd cc
 
-  maybe_line : (read : Certificate) (block : Block) (o : Option KeyLine) → key_in ws ≡ o → went wss (after_key read block o) ≡ Some all → KeysEnd read block (ws ∷ wss) all
+  maybe_line : (read : Certificate) (block : Block) (o : Option KeyLine) → key_line_read ws ≡ o → went wss (key_line_taken read block o) ≡ Some all → KeysEnd read block (ws ∷ wss) all
   maybe_line read block None eo e = absurd cc
   maybe_line read block (Some line) eo e = line_step read block line (is_above block.keys line) eo refl e
 
-  key_step : (read : Certificate) (block : Block) (b : Bool) → is_end ws ≡ b → went wss (cond b (Some (Begun (with_block read block) stages.Between)) (after_key read block (key_in ws))) ≡ Some all → KeysEnd read block (ws ∷ wss) all
+  key_step : (read : Certificate) (block : Block) (b : Bool) → is_block_end ws ≡ b → went wss (cond b (Some (Begun (with_block read block) stages.Between)) (key_line_taken read block (key_line_read ws))) ≡ Some all → KeysEnd read block (ws ∷ wss) all
   key_step read block true eb e =
       let t = later (Begun (with_block read block) stages.Between) e in
       record {
@@ -141,7 +141,7 @@ module _ (ws : List Word) (wss : List (List Word)) (all : Certificate) (later : 
         rising = tt;
         others = t.others;
       }
-  key_step read block false eb e = maybe_line read block (key_in ws) refl e
+  key_step read block false eb e = maybe_line read block (key_line_read ws) refl e
 
   some_tabs : (tab : List ℕ) (tabs : List (List ℕ)) → (tab ∷ tabs) ++ [] ≢ []
   some_tabs tab tabs e = cc
@@ -164,7 +164,7 @@ module _ (ws : List Word) (wss : List (List Word)) (all : Certificate) (later : 
       }
   tab_step read name [] None eo e = absurd cc
   tab_step read name (tab ∷ tabs) None eo e =
-      let t = key_step read (record { dialog = name; tabs = tab ∷ tabs; keys = [] }) (is_end ws) refl e in
+      let t = key_step read (record { dialog = name; tabs = tab ∷ tabs; keys = [] }) (is_block_end ws) refl e in
       record {
         names = [];
         keys = t.keys;
@@ -183,10 +183,10 @@ ends [] Fresh all e = absurd cc
 ends [] (Begun read stages.Between) all e = record { more = []; value = (let same : read ≡ all = cc in sym same ∙ ap (λ blocks. record read { blocks = blocks }) (sym (append-nil read.blocks))); lines = refl; others = tt }
 ends [] (Begun read (stages.Tabs name tabs)) all e = absurd cc
 ends [] (Begun read (stages.Keys block)) all e = absurd cc
-ends (ws ∷ wss) Fresh all e = version_step ws wss all (λ p. ends wss p all) (version_in ws) refl e
+ends (ws ∷ wss) Fresh all e = version_step ws wss all (λ p. ends wss p all) (certificate_version_in ws) refl e
 ends (ws ∷ wss) (Begun read stages.Between) all e = dialog_step ws wss all (λ p. ends wss p all) read (named_in (codes "dialog") ws) refl e
 ends (ws ∷ wss) (Begun read (stages.Tabs name tabs)) all e = tab_step ws wss all (λ p. ends wss p all) read name tabs (named_in (codes "tab") ws) refl e
-ends (ws ∷ wss) (Begun read (stages.Keys block)) all e = key_step ws wss all (λ p. ends wss p all) read block (is_end ws) refl e
+ends (ws ∷ wss) (Begun read (stages.Keys block)) all e = key_step ws wss all (λ p. ends wss p all) read block (is_block_end ws) refl e
 
 pub given_spelled : (wss : List (List Word)) (certificate : Certificate) → given Fresh wss ≡ Some certificate → (wss ≡ certificate_lines certificate) × IsCertificate certificate
 given_spelled wss certificate e = ends wss Fresh certificate e
@@ -198,7 +198,7 @@ tabs_given [] seen read name after are = ap (λ tabs. given (Begun read (stages.
 tabs_given (tab ∷ tabs) seen read name after are =
     rw (read_named (codes "tab") tab are.0) (tabs_given tabs (seen ++ tab ∷ []) read name after are.1 ∙ ap (λ all. given (Begun read (stages.Tabs name all)) after) (append_assoc seen (tab ∷ []) tabs))
 
-keys_given : (keys : List KeyLine) (read : Certificate) (block : Block) (after : List (List Word)) → AllByRecursion IsKeyLine keys → AreRising block.keys keys → given (Begun read (stages.Keys block)) (map key_words keys ++ after) ≡ given (Begun read (stages.Keys (with_keys block keys))) after
+keys_given : (keys : List KeyLine) (read : Certificate) (block : Block) (after : List (List Word)) → AllByRecursion IsKeyLine keys → LettersRise block.keys keys → given (Begun read (stages.Keys block)) (map key_words keys ++ after) ≡ given (Begun read (stages.Keys (with_keys block keys))) after
 keys_given [] read block after are rising = ap (λ keys. given (Begun read (stages.Keys (record block { keys = keys }))) after) (sym (append-nil block.keys))
 keys_given (line ∷ keys) read block after are rising =
     rw (read_key line are.0, rising.0) (keys_given keys read (with_key block line) after are.1 rising.1 ∙ ap (λ all. given (Begun read (stages.Keys (record block { keys = all }))) after) (append_assoc block.keys (line ∷ []) keys))
@@ -208,7 +208,7 @@ as_keys : (keys : List KeyLine) (read : Certificate) (name tab : List ℕ) (tabs
 as_keys [] read name tab tabs after = refl
 as_keys (line ∷ keys) read name tab tabs after = refl
 
-block_ends : (read : Certificate) (name : List ℕ) (tabs : List (List ℕ)) (keys : List KeyLine) (after : List (List Word)) → tabs ≢ [] → AllByRecursion IsKeyLine keys → AreRising [] keys → given (Begun read (stages.Tabs name tabs)) (map key_words keys ++ end_words ∷ after) ≡ given (Begun (with_block read (record { dialog = name; tabs = tabs; keys = keys })) stages.Between) after
+block_ends : (read : Certificate) (name : List ℕ) (tabs : List (List ℕ)) (keys : List KeyLine) (after : List (List Word)) → tabs ≢ [] → AllByRecursion IsKeyLine keys → LettersRise [] keys → given (Begun read (stages.Tabs name tabs)) (map key_words keys ++ end_words ∷ after) ≡ given (Begun (with_block read (record { dialog = name; tabs = tabs; keys = keys })) stages.Between) after
 block_ends read name [] keys after some are rising = absurd (some refl)
 block_ends read name (tab ∷ tabs) keys after some are rising =
     as_keys keys read name tab tabs after ∙ keys_given keys read (record { dialog = name; tabs = tab ∷ tabs; keys = [] }) (end_words ∷ after) are rising
@@ -219,7 +219,7 @@ blocks_given (block ∷ more) read are =
     let after : List (List Word) = flat_map block_lines more in
     let tail : List (List Word) = map key_words block.keys ++ end_words ∷ after in
     ap (given (Begun read stages.Between)) (block_before block after)
-    ∙ ap (λ o. went (map tab_words block.tabs ++ tail) (option_map (opened read) o)) (read_named (codes "dialog") block.dialog are.0.dialog)
+    ∙ ap (λ o. went (map tab_words block.tabs ++ tail) (option_map (block_begun read) o)) (read_named (codes "dialog") block.dialog are.0.dialog)
     ∙ tabs_given block.tabs [] read block.dialog tail are.0.tabs
     ∙ block_ends read block.dialog block.tabs block.keys after are.0.some are.0.keys are.0.rising
     ∙ blocks_given more (with_block read block) are.1

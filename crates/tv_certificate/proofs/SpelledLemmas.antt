@@ -23,7 +23,7 @@ use Rattle.tv_model.specs.declared.desc.Version.TheVariants as versions
 use Rattle.tv_certificate.specs.declared.certificate.Certificate.{Certificate}
 use Rattle.tv_certificate.specs.declared.certificate.Block.{Block}
 use Rattle.tv_certificate.specs.declared.certificate.KeyLine.{KeyLine}
-use Rattle.tv_certificate.specs.CertificateTexts.{AreBlocks, IsBlock, IsCertificate, IsKeyLine, Spells, block_lines, certificate_lines, dialog_words, end_words, is_letter, item_words, key_words, tab_words, version_words}
+use Rattle.tv_certificate.specs.CertificateTexts.{AreBlocks, IsBlock, IsCertificate, IsKeyLine, SpellsACertificate, block_lines, certificate_lines, dialog_words, end_words, is_letter, item_words, key_words, tab_words, version_words}
 
 -- ---- words
 
@@ -136,7 +136,7 @@ all_declared ([] ∷ wss) stand = absurd stand.0
 all_declared ((w ∷ ws) ∷ wss) stand = ap (λ x. (w ∷ ws) ∷ x) (all_declared wss stand.1)
 
 -- the canonical text of a certificate spells it
-pub canonical_spelled : (certificate : Certificate) → IsCertificate certificate → Spells (canonical_text (certificate_lines certificate)) certificate
+pub canonical_spelled : (certificate : Certificate) → IsCertificate certificate → SpellsACertificate (canonical_text (certificate_lines certificate)) certificate
 canonical_spelled certificate are =
     let lines : List (List Word) = certificate_lines certificate in
     let stand : AllByRecursion StandInLine lines = (version_stands certificate.version, blocks_stand certificate.blocks are) in

@@ -13,7 +13,7 @@ use Rattle.tv_model.specs.declared.desc.Version.{Version}
 use Rattle.tv_model.specs.declared.desc.Version.TheVariants as versions
 use Rattle.tv_certificate.specs.declared.certificate.KeyLine.{KeyLine}
 use Rattle.tv_certificate.specs.CertificateTexts.{IsKeyLine, end_words, is_letter, item_words, key_words, version_number, version_words}
-use Rattle.tv_certificate.specs.CertificateReading.{is_end, item_in, key_from, key_in, letter_in, named_in, version_in, version_of}
+use Rattle.tv_certificate.specs.CertificateReading.{is_block_end, key_item_in, key_line_from, key_line_read, letter_in, named_in, certificate_version_in, version_of}
 
 -- a keyword and a name
 named_if : (kind : List ℕ) (k w : Word) (name : List ℕ) (b : Bool) → is_bare_word k kind ≡ b → cond b (name_in w) None ≡ Some name → (k ∷ w ∷ [] ≡ Bare kind ∷ Bare name ∷ []) × IsName name
@@ -46,13 +46,13 @@ item_from w item None eo e = absurd cc
 item_from w None (Some n) eo e = absurd cc
 item_from w (Some m) (Some n) eo e = let same : n ≡ m = cc in let r = number_word_read w m (eo ∙ ap (λ x. Some x) same) in (ap (λ x. x ∷ []) r.0, r.1)
 
-item_read : (ws : List Word) (item : Option ℤ) → item_in ws ≡ Some item → (ws ≡ item_words item) × IfSome item IsNumber
+item_read : (ws : List Word) (item : Option ℤ) → key_item_in ws ≡ Some item → (ws ≡ item_words item) × IfSome item IsNumber
 item_read [] None e = (refl, tt)
 item_read [] (Some n) e = absurd cc
 item_read (w ∷ []) item e = item_from w item (number_in w) refl e
 item_read (a ∷ b ∷ cs) item e = absurd cc
 
-read_item : (item : Option ℤ) → IfSome item IsNumber → item_in (item_words item) ≡ Some item
+read_item : (item : Option ℤ) → IfSome item IsNumber → key_item_in (item_words item) ≡ Some item
 read_item None fits = refl
 read_item (Some n) fits = rw (read_number_word n fits) refl
 
@@ -60,7 +60,7 @@ read_item (Some n) fits = rw (read_number_word n fits) refl
 same_key : (k l o : Word) (item : List Word) (line : KeyLine) → k ≡ Bare (codes "key") → l ≡ Bare (line.letter ∷ []) → o ≡ Bare line.owner → item ≡ item_words line.item → k ∷ l ∷ o ∷ item ≡ key_words line
 same_key k l o item line ek el eo ei = rw (ek, el, eo, ei) refl
 
-key_of : (k l o : Word) (item : List Word) (line : KeyLine) (ol : Option ℕ) (oo : Option (List ℕ)) (oi : Option (Option ℤ)) → k ≡ Bare (codes "key") → letter_in l ≡ ol → name_in o ≡ oo → item_in item ≡ oi → key_from ol oo oi ≡ Some line → (k ∷ l ∷ o ∷ item ≡ key_words line) × IsKeyLine line
+key_of : (k l o : Word) (item : List Word) (line : KeyLine) (ol : Option ℕ) (oo : Option (List ℕ)) (oi : Option (Option ℤ)) → k ≡ Bare (codes "key") → letter_in l ≡ ol → name_in o ≡ oo → key_item_in item ≡ oi → key_line_from ol oo oi ≡ Some line → (k ∷ l ∷ o ∷ item ≡ key_words line) × IsKeyLine line
 key_of k l o item line None oo oi ek el eo ei e = absurd cc
 key_of k l o item line (Some letter) None oi ek el eo ei e = absurd cc
 key_of k l o item line (Some letter) (Some owner) None ek el eo ei e = absurd cc
@@ -72,21 +72,21 @@ key_of k l o item line (Some letter) (Some owner) (Some number) ek el eo ei e =
     let ri = item_read item number ei in
     subst (λ x. (k ∷ l ∷ o ∷ item ≡ key_words x) × IsKeyLine x) same (same_key k l o item made ek rl.0 ro.0 ri.0, record { letter = rl.1; owner = ro.1; item = ri.1 })
 
-key_if : (k l o : Word) (item : List Word) (line : KeyLine) (b : Bool) → is_bare_word k (codes "key") ≡ b → cond b (key_from (letter_in l) (name_in o) (item_in item)) None ≡ Some line → (k ∷ l ∷ o ∷ item ≡ key_words line) × IsKeyLine line
-key_if k l o item line true eb e = key_of k l o item line (letter_in l) (name_in o) (item_in item) (word_is k (codes "key") eb) refl refl refl e
+key_if : (k l o : Word) (item : List Word) (line : KeyLine) (b : Bool) → is_bare_word k (codes "key") ≡ b → cond b (key_line_from (letter_in l) (name_in o) (key_item_in item)) None ≡ Some line → (k ∷ l ∷ o ∷ item ≡ key_words line) × IsKeyLine line
+key_if k l o item line true eb e = key_of k l o item line (letter_in l) (name_in o) (key_item_in item) (word_is k (codes "key") eb) refl refl refl e
 key_if k l o item line false eb e = absurd cc
 
-pub key_read : (ws : List Word) (line : KeyLine) → key_in ws ≡ Some line → (ws ≡ key_words line) × IsKeyLine line
+pub key_read : (ws : List Word) (line : KeyLine) → key_line_read ws ≡ Some line → (ws ≡ key_words line) × IsKeyLine line
 key_read [] line e = absurd cc
 key_read (a ∷ []) line e = absurd cc
 key_read (a ∷ b ∷ []) line e = absurd cc
 key_read (k ∷ l ∷ o ∷ item) line e = key_if k l o item line (is_bare_word k (codes "key")) refl e
 
-pub read_key : (line : KeyLine) → IsKeyLine line → key_in (key_words line) ≡ Some line
+pub read_key : (line : KeyLine) → IsKeyLine line → key_line_read (key_words line) ≡ Some line
 read_key line is = rw (is.letter, read_name line.owner is.owner, read_item line.item is.item) refl
 
 -- the lines of fixed words
-pub end_read : (ws : List Word) → is_end ws ≡ true → ws ≡ end_words
+pub end_read : (ws : List Word) → is_block_end ws ≡ true → ws ≡ end_words
 end_read [] e = absurd cc
 end_read (k ∷ []) e = ap (λ x. x ∷ []) (word_is k (codes "end") e)
 end_read (a ∷ b ∷ cs) e = absurd cc
@@ -99,11 +99,11 @@ first_if : (k w : Word) (v : Version) (b : Bool) → is_bare_word k (codes "tvce
 first_if k w v true eb e = ap (λ x. x ∷ w ∷ []) (word_is k (codes "tvcert") eb) ∙ ap (λ x. Bare (codes "tvcert") ∷ x ∷ []) (version_if w v (is_bare_word w (version_number versions.One)) refl e)
 first_if k w v false eb e = absurd cc
 
-pub version_read : (ws : List Word) (v : Version) → version_in ws ≡ Some v → ws ≡ version_words v
+pub version_read : (ws : List Word) (v : Version) → certificate_version_in ws ≡ Some v → ws ≡ version_words v
 version_read [] v e = absurd cc
 version_read (a ∷ []) v e = absurd cc
 version_read (k ∷ w ∷ []) v e = first_if k w v (is_bare_word k (codes "tvcert")) refl e
 version_read (a ∷ b ∷ c ∷ ds) v e = absurd cc
 
-pub read_version : (v : Version) → version_in (version_words v) ≡ Some v
+pub read_version : (v : Version) → certificate_version_in (version_words v) ≡ Some v
 read_version versions.One = refl

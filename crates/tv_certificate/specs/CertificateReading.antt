@@ -32,20 +32,20 @@ letter_in (Bare text) = one_letter text
 letter_in (Quoted text) = None
 
 -- the number at the end of a key line, or its absence
-abbrev pub item_in : List Word → Option (Option ℤ)
-item_in [] = Some None
-item_in (word ∷ []) = option_map (λ item. Some item) (number_in word)
-item_in _ = None
+abbrev pub key_item_in : List Word → Option (Option ℤ)
+key_item_in [] = Some None
+key_item_in (word ∷ []) = option_map (λ item. Some item) (number_in word)
+key_item_in _ = None
 
 -- the key line of these parts
-abbrev pub key_from : Option ℕ → Option (List ℕ) → Option (Option ℤ) → Option KeyLine
-key_from (Some letter) (Some owner) (Some item) = Some (record { letter = letter; owner = owner; item = item })
-key_from _ _ _ = None
+abbrev pub key_line_from : Option ℕ → Option (List ℕ) → Option (Option ℤ) → Option KeyLine
+key_line_from (Some letter) (Some owner) (Some item) = Some (record { letter = letter; owner = owner; item = item })
+key_line_from _ _ _ = None
 
 -- the key line that words are
-abbrev pub key_in : List Word → Option KeyLine
-key_in (keyword ∷ letter ∷ owner ∷ item) = if is_bare_word keyword (codes "key") then key_from (letter_in letter) (name_in owner) (item_in item) else None
-key_in _ = None
+abbrev pub key_line_read : List Word → Option KeyLine
+key_line_read (keyword ∷ letter ∷ owner ∷ item) = if is_bare_word keyword (codes "key") then key_line_from (letter_in letter) (name_in owner) (key_item_in item) else None
+key_line_read _ = None
 
 -- the name in a line of a keyword and a name
 abbrev pub named_in : List ℕ → List Word → Option (List ℕ)
@@ -53,18 +53,18 @@ named_in kind (keyword ∷ name ∷ []) = if is_bare_word keyword kind then name
 named_in kind _ = None
 
 -- the line that ends a block
-abbrev pub is_end : List Word → Bool
-is_end (keyword ∷ []) = is_bare_word keyword (codes "end")
-is_end _ = false
+abbrev pub is_block_end : List Word → Bool
+is_block_end (keyword ∷ []) = is_bare_word keyword (codes "end")
+is_block_end _ = false
 
 -- the version that a word stands for
 abbrev pub version_of : Word → Option Version
 version_of word = if is_bare_word word (version_number versions.One) then Some versions.One else None
 
 -- the version that a first line names
-abbrev pub version_in : List Word → Option Version
-version_in (keyword ∷ version ∷ []) = if is_bare_word keyword (codes "tvcert") then version_of version else None
-version_in _ = None
+abbrev pub certificate_version_in : List Word → Option Version
+certificate_version_in (keyword ∷ version ∷ []) = if is_bare_word keyword (codes "tvcert") then version_of version else None
+certificate_version_in _ = None
 
 -- ---- declarations
 
@@ -73,12 +73,12 @@ abbrev pub begun : Version → Progress
 begun version = Begun (record { version = version; blocks = [] }) stages.Between
 
 -- a block of the dialog begins
-abbrev pub opened : Certificate → List ℕ → Progress
-opened read name = Begun read (stages.Tabs name [])
+abbrev pub block_begun : Certificate → List ℕ → Progress
+block_begun read name = Begun read (stages.Tabs name [])
 
 -- between blocks comes a dialog line
 abbrev pub dialog_taken : Certificate → List Word → Option Progress
-dialog_taken read ws = option_map (opened read) (named_in (codes "dialog") ws)
+dialog_taken read ws = option_map (block_begun read) (named_in (codes "dialog") ws)
 
 -- one block more
 abbrev pub with_block : Certificate → Block → Certificate
@@ -89,13 +89,13 @@ abbrev pub with_key : Block → KeyLine → Block
 with_key block line = record block { keys = block.keys ++ line ∷ [] }
 
 -- a key line has to be above those before it
-abbrev pub after_key : Certificate → Block → Option KeyLine → Option Progress
-after_key read block None = None
-after_key read block (Some line) = if is_above block.keys line then Some (Begun read (stages.Keys (with_key block line))) else None
+abbrev pub key_line_taken : Certificate → Block → Option KeyLine → Option Progress
+key_line_taken read block None = None
+key_line_taken read block (Some line) = if is_above block.keys line then Some (Begun read (stages.Keys (with_key block line))) else None
 
 -- in a block with its tab lines comes a key line or the end
 abbrev pub key_taken : Certificate → Block → List Word → Option Progress
-key_taken read block ws = if is_end ws then Some (Begun (with_block read block) stages.Between) else after_key read block (key_in ws)
+key_taken read block ws = if is_block_end ws then Some (Begun (with_block read block) stages.Between) else key_line_taken read block (key_line_read ws)
 
 -- a line that is no tab line can come only after one
 abbrev pub after_tab : Certificate → List ℕ → List (List ℕ) → Option (List ℕ) → List Word → Option Progress
@@ -108,15 +108,15 @@ abbrev pub tab_taken : Certificate → List ℕ → List (List ℕ) → List Wor
 tab_taken read name tabs ws = after_tab read name tabs (named_in (codes "tab") ws) ws
 
 -- one declaration more, after the first
-abbrev pub taken_at : Certificate → Stage → List Word → Option Progress
-taken_at read stages.Between ws = dialog_taken read ws
-taken_at read (stages.Tabs name tabs) ws = tab_taken read name tabs ws
-taken_at read (stages.Keys block) ws = key_taken read block ws
+abbrev pub block_line_taken : Certificate → Stage → List Word → Option Progress
+block_line_taken read stages.Between ws = dialog_taken read ws
+block_line_taken read (stages.Tabs name tabs) ws = tab_taken read name tabs ws
+block_line_taken read (stages.Keys block) ws = key_taken read block ws
 
 -- one declaration more
-abbrev pub taken : Progress → List Word → Option Progress
-taken Fresh ws = option_map begun (version_in ws)
-taken (Begun read stage) ws = taken_at read stage ws
+abbrev pub certificate_line_taken : Progress → List Word → Option Progress
+certificate_line_taken Fresh ws = option_map begun (certificate_version_in ws)
+certificate_line_taken (Begun read stage) ws = block_line_taken read stage ws
 
 -- a certificate ends between blocks
 abbrev pub finished_at : Certificate → Stage → Option Certificate
@@ -124,39 +124,39 @@ finished_at read stages.Between = Some read
 finished_at read _ = None
 
 -- the certificate, where it is read to its end
-abbrev pub finished : Progress → Option Certificate
-finished Fresh = None
-finished (Begun read stage) = finished_at read stage
+abbrev pub finished_certificate : Progress → Option Certificate
+finished_certificate Fresh = None
+finished_certificate (Begun read stage) = finished_at read stage
 
 -- ---- lines
 
 -- what reading gives: the certificate, or the number of the first faulty line
-pub data Reading : Type 0 where
-  Value : (certificate : Certificate) → Reading
-  Fault : (line : ℕ) → Reading
+pub data CertificateOutcome : Type 0 where
+  Value : (certificate : Certificate) → CertificateOutcome
+  Fault : (line : ℕ) → CertificateOutcome
 
 -- what the end gives: a line that is missing counts as one
-abbrev pub at_end : ℕ → Option Certificate → Reading
-at_end n None = Fault n
-at_end n (Some certificate) = Value certificate
+abbrev pub certificate_at_end : ℕ → Option Certificate → CertificateOutcome
+certificate_at_end n None = Fault n
+certificate_at_end n (Some certificate) = Value certificate
 
 -- reading on, from the line n
-abbrev pub reading : ℕ → Progress → List (List ℕ) → Reading
-reading n p [] = at_end n (finished p)
-reading n p (l ∷ ls) = elim (line_taken taken p l) as (λ _. Reading) [ None ↦ Fault n | Some further ↦ reading (n + 1) further ls ]
+abbrev pub certificate_from : ℕ → Progress → List (List ℕ) → CertificateOutcome
+certificate_from n p [] = certificate_at_end n (finished_certificate p)
+certificate_from n p (l ∷ ls) = elim (line_taken certificate_line_taken p l) as (λ _. CertificateOutcome) [ None ↦ Fault n | Some further ↦ certificate_from (n + 1) further ls ]
 
 -- what reading a text gives
-abbrev pub reading_of : List ℕ → Reading
-reading_of text = reading 1 Fresh (lines_of text)
+abbrev pub certificate_outcome : List ℕ → CertificateOutcome
+certificate_outcome text = certificate_from 1 Fresh (lines_of text)
 
 -- what a refusal says of a line and what it is taken to
-abbrev pub RefusesLine : CertificateFault → ℕ → Option Progress → Type 0
-RefusesLine NoMemory n further = Unit {0}
-RefusesLine (Syntax line) n further = (line ≡ n) × (further ≡ None)
-RefusesLine TooLong n further = ⊥
+abbrev pub RefusesCertificateLine : CertificateFault → ℕ → Option Progress → Type 0
+RefusesCertificateLine NoMemory n further = Unit {0}
+RefusesCertificateLine (Syntax line) n further = (line ≡ n) × (further ≡ None)
+RefusesCertificateLine TooLong n further = ⊥
 
 -- what a refusal says of what reading gives
-abbrev pub StopsAt : CertificateFault → Reading → Type 0
-StopsAt NoMemory r = Unit {0}
-StopsAt (Syntax line) r = r ≡ Fault line
-StopsAt TooLong r = ⊥
+abbrev pub CertificateStopsAt : CertificateFault → CertificateOutcome → Type 0
+CertificateStopsAt NoMemory r = Unit {0}
+CertificateStopsAt (Syntax line) r = r ≡ Fault line
+CertificateStopsAt TooLong r = ⊥

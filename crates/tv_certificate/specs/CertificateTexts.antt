@@ -5,7 +5,7 @@ use Rattle.tv_words.specs.declared.word.Word.{Word}
 use Rattle.tv_words.specs.declared.word.Word.TheVariants.{Bare}
 use Rattle.tv_words.specs.Lines.{lines_of}
 use Rattle.tv_words.specs.Fields.{IsName, IsNumber, number_word}
-use Rattle.tv_words.specs.Texts.{SpellsBy, IsFirstFault}
+use Rattle.tv_words.specs.Texts.{SpellsBy, IsFirstFaultyLine}
 use Rattle.tv_model.specs.Description.Certificates.{letters}
 use Rattle.tv_model.specs.declared.desc.Version.{Version}
 use Rattle.tv_model.specs.declared.desc.Version.TheVariants as versions
@@ -71,9 +71,9 @@ abbrev pub is_above : List KeyLine → KeyLine → Bool
 is_above before line = list_all (λ earlier. nat_lt earlier.letter line.letter) before
 
 -- each letter is above those before it, of which some were seen already
-abbrev pub AreRising : List KeyLine → List KeyLine → Type 0
-AreRising before [] = Unit {0}
-AreRising before (line ∷ lines) = IsTrue (is_above before line) × AreRising (before ++ line ∷ []) lines
+abbrev pub LettersRise : List KeyLine → List KeyLine → Type 0
+LettersRise before [] = Unit {0}
+LettersRise before (line ∷ lines) = IsTrue (is_above before line) × LettersRise (before ++ line ∷ []) lines
 
 -- a block has at least one tab line, and its letters rise, digits first
 pub record IsBlock (block : Block) : Type 0 where
@@ -81,7 +81,7 @@ pub record IsBlock (block : Block) : Type 0 where
   pub some : block.tabs ≢ []
   pub tabs : AllByRecursion IsName block.tabs
   pub keys : AllByRecursion IsKeyLine block.keys
-  pub rising : AreRising [] block.keys
+  pub rising : LettersRise [] block.keys
 
 -- blocks that can be spelled
 abbrev pub AreBlocks : List Block → Type 0
@@ -94,22 +94,22 @@ IsCertificate certificate = AreBlocks certificate.blocks
 -- ---- texts
 
 -- the text spells the certificate
-abbrev pub Spells : List ℕ → Certificate → Type 0
-Spells text certificate = SpellsBy certificate_lines IsCertificate (lines_of text) certificate
+abbrev pub SpellsACertificate : List ℕ → Certificate → Type 0
+SpellsACertificate text certificate = SpellsBy certificate_lines IsCertificate (lines_of text) certificate
 
 -- some text spells the certificate
 abbrev pub IsSpelledCertificate : Certificate → Type 0
-IsSpelledCertificate certificate = (text : List ℕ) × Spells text certificate
+IsSpelledCertificate certificate = (text : List ℕ) × SpellsACertificate text certificate
 
 -- what each refusal says of the text
 abbrev pub RefusesText : List ℕ → CertificateFault → Type 0
 RefusesText text NoMemory = Unit {0}
-RefusesText text (Syntax line) = IsFirstFault certificate_lines IsCertificate (lines_of text) line
+RefusesText text (Syntax line) = IsFirstFaultyLine certificate_lines IsCertificate (lines_of text) line
 RefusesText text TooLong = 262144 < length text
 
 -- the certificate was read, unless memory ran out
-abbrev pub Gives : Result Certificate CertificateFault → Certificate → Type 0
-Gives (Ok found) certificate = found ≡ certificate
-Gives (Err NoMemory) certificate = Unit {0}
-Gives (Err (Syntax line)) certificate = ⊥
-Gives (Err TooLong) certificate = ⊥
+abbrev pub GivesCertificate : Result Certificate CertificateFault → Certificate → Type 0
+GivesCertificate (Ok found) certificate = found ≡ certificate
+GivesCertificate (Err NoMemory) certificate = Unit {0}
+GivesCertificate (Err (Syntax line)) certificate = ⊥
+GivesCertificate (Err TooLong) certificate = ⊥

@@ -1,7 +1,7 @@
 //! How far a certificate is read, declaration by declaration.
 
 ghost use Rattle.std.specs.Prelude.{◌≡◌, IfOk, option_copied};
-ghost use Rattle.tv_certificate.specs.CertificateReading.{begun, dialog_taken, finished, is_end, item_in, key_in, key_taken, letter_in, named_in, one_letter, tab_taken, taken, taken_at};
+ghost use Rattle.tv_certificate.specs.CertificateReading.{begun, dialog_taken, finished_certificate, is_block_end, key_item_in, key_line_read, key_taken, letter_in, named_in, one_letter, tab_taken, certificate_line_taken, block_line_taken};
 ghost use Rattle.tv_certificate.specs.CertificateTexts.{is_above, is_letter};
 
 use crate::alphabet::letters;
@@ -34,7 +34,7 @@ pub enum Stage {
 impl Progress {
     /// Takes the declaration that the words spell, or returns `None` where it can't come here.
     pub fn take(self, alloc: Global, words: &[Word]) -> Result<Option<Progress>, AllocError>
-        ensures { IfOk result (λ further. further ≡ taken self words.now) }
+        ensures { IfOk result (λ further. further ≡ certificate_line_taken self words.now) }
     {
         match self {
             Progress::Fresh => Ok(version_in(words).map(|version| begun(alloc, version))),
@@ -44,7 +44,7 @@ impl Progress {
 
     /// Returns the certificate, or `None` where it isn't read to its end.
     pub fn finish(self) -> Option<Certificate>
-        ensures { result ≡ finished self }
+        ensures { result ≡ finished_certificate self }
     {
         match self {
             Progress::Begun(certificate, Stage::Between) => Some(certificate),
@@ -68,7 +68,7 @@ fn further(
     stage: Stage,
     words: &[Word],
 ) -> Result<Option<Progress>, AllocError>
-    ensures { IfOk result (λ further. further ≡ taken_at read stage words.now) }
+    ensures { IfOk result (λ further. further ≡ block_line_taken read stage words.now) }
 {
     match stage {
         Stage::Between => dialog(alloc, read, words),
@@ -119,7 +119,7 @@ fn tab(
 }
 
 fn is_end(words: &[Word]) -> bool
-    ensures { result ≡ is_end words.now }
+    ensures { result ≡ is_block_end words.now }
 {
     match words {
         [keyword] => keyword.is(b"end"),
@@ -150,7 +150,7 @@ fn key(
 }
 
 fn key_line(alloc: Global, words: &[Word]) -> Result<Option<KeyLine>, AllocError>
-    ensures { IfOk result (λ line. line ≡ key_in words.now) }
+    ensures { IfOk result (λ line. line ≡ key_line_read words.now) }
 {
     let [keyword, letter, owner, item @ ..] = words else {
         return Ok(None);
@@ -194,7 +194,7 @@ fn letter_in(word: &Word) -> Option<char>
 
 // The number at the end of a key line, where there is one.
 fn item_in(words: &[Word]) -> Option<Option<i32>>
-    ensures { result ≡ item_in words.now }
+    ensures { result ≡ key_item_in words.now }
 {
     match words {
         [] => Some(None),

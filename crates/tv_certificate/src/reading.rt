@@ -3,8 +3,8 @@
 ghost use Rattle.std.specs.Prelude.{◌≡◌, ◌↔◌, ◌<◌, ◌≤◌, length, IfOk, IfErr, Err, Some};
 ghost use Rattle.tv_words.specs.Reading.LineWords.{line_taken};
 ghost use Rattle.tv_certificate.specs.declared.certificate.Certificate.{Certificate as SeenCertificate};
-ghost use Rattle.tv_certificate.specs.CertificateReading.{RefusesLine, StopsAt, Value, reading_of, taken};
-ghost use Rattle.tv_certificate.specs.CertificateTexts.{Gives, RefusesText, Spells};
+ghost use Rattle.tv_certificate.specs.CertificateReading.{RefusesCertificateLine, CertificateStopsAt, Value, certificate_outcome, certificate_line_taken};
+ghost use Rattle.tv_certificate.specs.CertificateTexts.{GivesCertificate, RefusesText, SpellsACertificate};
 
 use crate::certificate::Certificate;
 use crate::progress::Progress;
@@ -41,8 +41,8 @@ const LONGEST: usize = 262_144;
 impl Certificate {
     /// Reads the certificate that a text of at most 262,144 bytes spells.
     pub fn read(alloc: Global, text: &[u8]) -> Result<Certificate, CertificateFault>
-        ensures spelled { IfOk result (λ certificate. Spells text.now certificate) }
-        ensures only { (certificate : SeenCertificate) → Spells text.now certificate → length text.now ≤ 262144 → Gives result certificate }
+        ensures spelled { IfOk result (λ certificate. SpellsACertificate text.now certificate) }
+        ensures only { (certificate : SeenCertificate) → SpellsACertificate text.now certificate → length text.now ≤ 262144 → GivesCertificate result certificate }
         ensures fault { IfErr result (λ fault. RefusesText text.now fault) }
         ensures too_long { (result ≡ Err CertificateFault.TooLong) ↔ (262144 < length text.now) }
     {
@@ -55,8 +55,8 @@ impl Certificate {
 
 fn read_lines(alloc: Global, text: &[u8]) -> Result<Certificate, CertificateFault>
     requires { length text.now ≤ 262144 }
-    ensures value { IfOk result (λ certificate. reading_of text.now ≡ Value certificate) }
-    ensures fault { IfErr result (λ fault. StopsAt fault (reading_of text.now)) }
+    ensures value { IfOk result (λ certificate. certificate_outcome text.now ≡ Value certificate) }
+    ensures fault { IfErr result (λ fault. CertificateStopsAt fault (certificate_outcome text.now)) }
 {
     let mut progress = Progress::Fresh;
     let mut number = 1;
@@ -73,8 +73,8 @@ fn take_line(
     line: &[u8],
     number: usize,
 ) -> Result<Progress, CertificateFault>
-    ensures value { IfOk result (λ further. line_taken taken progress line.now ≡ Some further) }
-    ensures fault { IfErr result (λ fault. RefusesLine fault number (line_taken taken progress line.now)) }
+    ensures value { IfOk result (λ further. line_taken certificate_line_taken progress line.now ≡ Some further) }
+    ensures fault { IfErr result (λ fault. RefusesCertificateLine fault number (line_taken certificate_line_taken progress line.now)) }
 {
     let Some(list) = words_of(alloc, line)? else {
         return Err(CertificateFault::Syntax(number));

@@ -2,7 +2,7 @@
 
 ghost use Rattle.std.specs.Prelude.{◌≡◌};
 ghost use Rattle.tv_certificate.specs.CertificateTexts.{version_number};
-ghost use Rattle.tv_certificate.specs.CertificateReading.{version_in, version_of};
+ghost use Rattle.tv_certificate.specs.CertificateReading.{certificate_version_in, version_of};
 
 use tv_model::Version;
 use tv_words::Word;
@@ -28,7 +28,7 @@ fn version_of(word: &Word) -> Option<Version>
 
 /// Reads the version that a certificate's first line names, or returns `None` where it names none.
 pub fn version_in(words: &[Word]) -> Option<Version>
-    ensures { result ≡ version_in words.now }
+    ensures { result ≡ certificate_version_in words.now }
 {
     match words {
         [keyword, version] if keyword.is(b"tvcert") => version_of(version),

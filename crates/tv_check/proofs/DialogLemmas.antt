@@ -7,13 +7,13 @@ use Rattle.tv_model.specs.declared.desc.Dialog.{Dialog}
 use Rattle.tv_declarations.specs.declared.declaration.Declaration.{Declaration}
 use Rattle.tv_declarations.specs.declared.declaration.Declaration.TheVariants as declared
 use Rattle.tv_lang.specs.CanonicalDescription.{CanBeSpelled}
-use Rattle.tv_declarations.specs.Spelling.{IsDescription, declarations_of, dialog_declarations, ends_of_panes, menu_declarations, open_after, start_declarations, view_declarations, window_declarations}
+use Rattle.tv_declarations.specs.Spelling.{IsDescription, declarations_of, dialog_declarations, ends_of_panes, menu_declarations, open_panes_after, start_declarations, view_declarations, window_declarations}
 use Rattle.tv_declarations.specs.Spelling.Declarations.{AreDeclarations, IsDeclaration}
-use Rattle.tv_declarations.specs.Spelling.Nodes.{IsKind}
+use Rattle.tv_declarations.specs.Spelling.Nodes.{IsSpelledKind}
 
 -- a node is of a kind that can be spelled
 abbrev HasKind : Declaration → Type 0
-HasKind (declared.Node node) = IsKind node.kind
+HasKind (declared.Node node) = IsSpelledKind node.kind
 HasKind _ = Unit {0}
 
 has_kind : (line : ℕ) (d : Declaration) → IsDeclaration line d → HasKind d
@@ -33,17 +33,17 @@ second_of [] ys have = have
 second_of (x ∷ xs) ys have = second_of xs ys have.1
 
 abbrev pub ViewKind : Node → Type 0
-ViewKind view = IsKind view.kind
+ViewKind view = IsSpelledKind view.kind
 
 view_kinds : (panes : ℕ) (views : List Node) → AllByRecursion HasKind (view_declarations panes views) → AllByRecursion ViewKind views
 view_kinds panes [] have = tt
 view_kinds panes (view ∷ views) have =
-    let here = second_of (ends_of_panes panes view.depth) (declared.Node view ∷ view_declarations (open_after view) views) have in
-    (here.0, view_kinds (open_after view) views here.1)
+    let here = second_of (ends_of_panes panes view.depth) (declared.Node view ∷ view_declarations (open_panes_after view) views) have in
+    (here.0, view_kinds (open_panes_after view) views here.1)
 
 -- a dialog whose own line and whose views can be spelled
 pub record IsSpelledDialog (dialog : Dialog) : Type 0 where
-  pub own : IsKind dialog.node.kind
+  pub own : IsSpelledKind dialog.node.kind
   pub views : AllByRecursion ViewKind dialog.views
 
 spelled_dialogs : (dialogs : List Dialog) → AllByRecursion HasKind (flat_map dialog_declarations dialogs) → AllByRecursion IsSpelledDialog dialogs

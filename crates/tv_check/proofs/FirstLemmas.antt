@@ -9,7 +9,7 @@ use Rattle.tv_certificate.specs.declared.certificate.Certificate.{Certificate}
 use Rattle.tv_check.specs.declared.acceptance.Refusal.{Refusal}
 use Rattle.tv_check.specs.declared.acceptance.Refusal.TheVariants as refusals
 use Rattle.tv_check.specs.Certificates.{IsSoundCertificate, NamesOwners}
-use Rattle.tv_check.specs.Refusals.{Accepts, IsFirstWithout, Refuses}
+use Rattle.tv_check.specs.Refusals.{Accepts, IsFirstWithout, RefusesToAccept}
 
 -- a loop over a list stops at its first item without P
 pub stops_here : {A : Type 0} (P : A → Type 0) (xs ys : List A) (i : ℕ) (x : A) → xs ≡ ys → i < length xs → x ≡ get_or xs i x → All P (take i xs) → (P x → ⊥) → IsFirstWithout P ys x
@@ -51,7 +51,7 @@ never_first P xs x all first =
     first.stops (All-contains P (first.before ++ x ∷ first.after) x (rw (← first.parts) all) (Contains-append_right first.before (x ∷ first.after) x (Contains-get_or (x ∷ first.after) 0 x (omega arith))))
 
 -- a sound description with its sound certificate is refused for want of memory alone
-pub sound_accepted : (A : Type 0) (d : Desc) (certificate : Certificate) (refusal : Refusal) (back : Desc) → Refuses d certificate refusal → IsSound d → IsSoundCertificate d certificate → Accepts {A = A} (Err (refusal, back))
+pub sound_accepted : (A : Type 0) (d : Desc) (certificate : Certificate) (refusal : Refusal) (back : Desc) → RefusesToAccept d certificate refusal → IsSound d → IsSoundCertificate d certificate → Accepts {A = A} (Err (refusal, back))
 sound_accepted A d certificate refusals.NoMemory back why sound fits = tt
 sound_accepted A d certificate (refusals.Faulty fault) back why sound fits = let clash : fault ∷ why.0 ≡ [] = sym why.1 ∙ sound in absurd cc
 sound_accepted A d certificate (refusals.TabOrder place) back why sound fits = absurd (why.1.differ (ap (λ tabs. slice_get tabs why.1.before) fits.tabs))

@@ -14,7 +14,7 @@ use Rattle.tv_model.specs.Controls.Owner.{LetterOwner, control, item_at}
 use Rattle.tv_model.specs.Description.Owners.{marker_of, owner_by, owners_of}
 use Rattle.tv_model.specs.Description.Marks.{marks}
 use Rattle.tv_model.specs.Faults.Limits.{is_lawful_count}
-use Rattle.tv_declarations.specs.Spelling.Nodes.{IsKind}
+use Rattle.tv_declarations.specs.Spelling.Nodes.{IsSpelledKind}
 use Rattle.tv_words.specs.Fields.{IsName, IsNumber}
 use Rattle.tv_faults.specs.Usable.{HasLawfulCounts}
 use Rattle.tv_check.specs.Certificates.{FitsKeyLine}
@@ -57,7 +57,7 @@ item_if P name (Some place) each = each place refl
 abbrev pub HasName : LetterOwner → Type 0
 HasName owner = IsName owner.name
 
-kind_named : (letter : ℕ) (kind : Kind) → IsKind kind → IfSome (owner_by letter kind) HasName
+kind_named : (letter : ℕ) (kind : Kind) → IsSpelledKind kind → IfSome (owner_by letter kind) HasName
 kind_named letter (kinds.Label label) own = owner_if HasName (marks letter label.text) (control label.link) own.1
 kind_named letter (kinds.Button button) own = owner_if HasName (marks letter button.text) (control button.name) own.0
 kind_named letter (kinds.CheckBoxes boxes) own = item_if HasName boxes.name (position (marks letter) boxes.items) (λ place e. own.0)
@@ -70,7 +70,7 @@ kind_named letter (kinds.Text shown) own = tt
 kind_named letter (kinds.Pane pane) own = tt
 
 pub owners_named : (dialog : Dialog) (letter : ℕ) → AllByRecursion ViewKind dialog.views → AllByRecursion HasName (owners_of dialog letter)
-owners_named dialog letter are = owners_have IsKind HasName letter (kind_named letter) dialog are
+owners_named dialog letter are = owners_have IsSpelledKind HasName letter (kind_named letter) dialog are
 
 -- ---- numbers of items
 

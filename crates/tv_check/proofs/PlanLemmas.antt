@@ -14,8 +14,8 @@ use Rattle.tv_model.specs.Description.Nodes.{is_pane}
 use Rattle.tv_model.specs.Description.Heads.{all_nodes, window_nodes, dialog_nodes}
 use Rattle.tv_declarations.specs.declared.declaration.Declaration.{Declaration}
 use Rattle.tv_declarations.specs.declared.declaration.Declaration.TheVariants as declared
-use Rattle.tv_declarations.specs.Spelling.{dialog_declarations, ends_of_panes, open_after, view_declarations, window_declarations}
-use Rattle.tv_check.specs.Plan.{Closes, IsLawfulStep, Makes, Opens, Planned, is_owner, lent_step, node_in, node_step, plan_of, step_of, steps_of}
+use Rattle.tv_declarations.specs.Spelling.{dialog_declarations, ends_of_panes, open_panes_after, view_declarations, window_declarations}
+use Rattle.tv_check.specs.Plan.{Closes, IsLawfulStep, Makes, Opens, Planned, is_owner, lent_step, planned_node, node_step, build_plan_of, step_of, steps_of}
 
 -- ---- the steps of declarations
 
@@ -36,7 +36,7 @@ steps_rules (rule ∷ rules) = steps_rules rules
 
 -- the panes end that aren't around a view, and the view follows
 pub steps_view : (panes : ℕ) (view : Node) (views : List Node)
-    → steps_of (view_declarations panes (view ∷ views)) ≡ replicate (panes - view.depth) Closes ++ (node_step view ∷ steps_of (view_declarations (open_after view) views))
+    → steps_of (view_declarations panes (view ∷ views)) ≡ replicate (panes - view.depth) Closes ++ (node_step view ∷ steps_of (view_declarations (open_panes_after view) views))
 steps_view panes view views = steps_append (ends_of_panes panes view.depth) _ ∙ rw (steps_ends (panes - view.depth)) refl
 
 pub window_steps : (window : Window) → steps_of (window_declarations window) ≡ node_step window.node ∷ (map node_step window.views ++ Closes ∷ [])
@@ -51,45 +51,45 @@ dialog_steps dialog =
 
 -- ---- the nodes that they name
 
-nodes_append : (xs ys : List Planned) → filter_map node_in (xs ++ ys) ≡ filter_map node_in xs ++ filter_map node_in ys
-nodes_append xs ys = filter_map-append node_in xs ys
+nodes_append : (xs ys : List Planned) → filter_map planned_node (xs ++ ys) ≡ filter_map planned_node xs ++ filter_map planned_node ys
+nodes_append xs ys = filter_map-append planned_node xs ys
 
-closes_none : (n : ℕ) → filter_map node_in (replicate n Closes) ≡ []
+closes_none : (n : ℕ) → filter_map planned_node (replicate n Closes) ≡ []
 closes_none zero = refl
 closes_none (suc n) = closes_none n
 
-step_named : (b : Bool) (node : Node) → node_in (cond b (Opens node) (Makes node)) ≡ Some node
+step_named : (b : Bool) (node : Node) → planned_node (cond b (Opens node) (Makes node)) ≡ Some node
 step_named true node = refl
 step_named false node = refl
 
-steps_named : (nodes : List Node) → filter_map node_in (map node_step nodes) ≡ nodes
+steps_named : (nodes : List Node) → filter_map planned_node (map node_step nodes) ≡ nodes
 steps_named [] = refl
 steps_named (node ∷ nodes) = rw (step_named (is_owner node.kind) node, steps_named nodes) refl
 
-views_named : (panes : ℕ) (views : List Node) → filter_map node_in (steps_of (view_declarations panes views)) ≡ views
-views_named panes [] = ap (filter_map node_in) (steps_ends (panes - 0)) ∙ closes_none (panes - 0)
+views_named : (panes : ℕ) (views : List Node) → filter_map planned_node (steps_of (view_declarations panes views)) ≡ views
+views_named panes [] = ap (filter_map planned_node) (steps_ends (panes - 0)) ∙ closes_none (panes - 0)
 views_named panes (view ∷ views) =
-    ap (filter_map node_in) (steps_view panes view views)
+    ap (filter_map planned_node) (steps_view panes view views)
     ∙ nodes_append (replicate (panes - view.depth) Closes) _
-    ∙ rw (closes_none (panes - view.depth), step_named (is_owner view.kind) view) (ap (λ rest. view ∷ rest) (views_named (open_after view) views))
+    ∙ rw (closes_none (panes - view.depth), step_named (is_owner view.kind) view) (ap (λ rest. view ∷ rest) (views_named (open_panes_after view) views))
 
 -- what stands between the step of a node and the end
-between_named : (node : Node) (steps : List Planned) → filter_map node_in (node_step node ∷ (steps ++ Closes ∷ [])) ≡ node ∷ filter_map node_in steps
-between_named node steps = rw (step_named (is_owner node.kind) node) (ap (λ rest. node ∷ rest) (nodes_append steps (Closes ∷ []) ∙ append-nil (filter_map node_in steps)))
+between_named : (node : Node) (steps : List Planned) → filter_map planned_node (node_step node ∷ (steps ++ Closes ∷ [])) ≡ node ∷ filter_map planned_node steps
+between_named node steps = rw (step_named (is_owner node.kind) node) (ap (λ rest. node ∷ rest) (nodes_append steps (Closes ∷ []) ∙ append-nil (filter_map planned_node steps)))
 
-window_named : (window : Window) → filter_map node_in (steps_of (window_declarations window)) ≡ window_nodes window
+window_named : (window : Window) → filter_map planned_node (steps_of (window_declarations window)) ≡ window_nodes window
 window_named window =
-    ap (filter_map node_in) (window_steps window) ∙ between_named window.node (map node_step window.views) ∙ ap (λ rest. window.node ∷ rest) (steps_named window.views)
+    ap (filter_map planned_node) (window_steps window) ∙ between_named window.node (map node_step window.views) ∙ ap (λ rest. window.node ∷ rest) (steps_named window.views)
 
-dialog_named : (dialog : Dialog) → filter_map node_in (steps_of (dialog_declarations dialog)) ≡ dialog_nodes dialog
+dialog_named : (dialog : Dialog) → filter_map planned_node (steps_of (dialog_declarations dialog)) ≡ dialog_nodes dialog
 dialog_named dialog =
-    ap (filter_map node_in) (dialog_steps dialog) ∙ between_named dialog.node (steps_of (view_declarations 0 dialog.views)) ∙ ap (λ rest. dialog.node ∷ rest) (views_named 0 dialog.views)
+    ap (filter_map planned_node) (dialog_steps dialog) ∙ between_named dialog.node (steps_of (view_declarations 0 dialog.views)) ∙ ap (λ rest. dialog.node ∷ rest) (views_named 0 dialog.views)
 
-all_named : {A : Type 0} (plan : A → List Planned) (nodes : A → List Node) → ((x : A) → filter_map node_in (plan x) ≡ nodes x) → (xs : List A) → filter_map node_in (flat_map plan xs) ≡ flat_map nodes xs
+all_named : {A : Type 0} (plan : A → List Planned) (nodes : A → List Node) → ((x : A) → filter_map planned_node (plan x) ≡ nodes x) → (xs : List A) → filter_map planned_node (flat_map plan xs) ≡ flat_map nodes xs
 all_named plan nodes each [] = refl
 all_named plan nodes each (x ∷ xs) = nodes_append (plan x) (flat_map plan xs) ∙ rw (each x, all_named plan nodes each xs) refl
 
-pub plan_names : (d : Desc) → filter_map node_in (plan_of d) ≡ all_nodes d
+pub plan_names : (d : Desc) → filter_map planned_node (build_plan_of d) ≡ all_nodes d
 plan_names d =
     nodes_append (flat_map (λ window. steps_of (window_declarations window)) d.windows) (flat_map (λ dialog. steps_of (dialog_declarations dialog)) d.dialogs)
     ∙ rw (
@@ -98,13 +98,13 @@ plan_names d =
     ) refl
 
 -- where all nodes that a plan names are lawful, each step is
-pub steps_lawful : (plan : List BuildStep) → All IsLawfulNode (filter_map node_in (map lent_step plan)) → All IsLawfulStep plan
+pub steps_lawful : (plan : List BuildStep) → All IsLawfulNode (filter_map planned_node (map lent_step plan)) → All IsLawfulStep plan
 steps_lawful [] lawful = All-nil IsLawfulStep
 steps_lawful (steps.Open node ∷ plan) lawful =
-    let nodes = filter_map node_in (map lent_step plan) in
+    let nodes = filter_map planned_node (map lent_step plan) in
     All-cons IsLawfulStep (steps.Open node) plan (All-head IsLawfulNode node.now nodes lawful) (steps_lawful plan (All-tail IsLawfulNode node.now nodes lawful))
 steps_lawful (steps.Leaf node ∷ plan) lawful =
-    let nodes = filter_map node_in (map lent_step plan) in
+    let nodes = filter_map planned_node (map lent_step plan) in
     All-cons IsLawfulStep (steps.Leaf node) plan (All-head IsLawfulNode node.now nodes lawful) (steps_lawful plan (All-tail IsLawfulNode node.now nodes lawful))
 steps_lawful (steps.Close ∷ plan) lawful = All-cons IsLawfulStep steps.Close plan tt (steps_lawful plan lawful)
 
@@ -117,7 +117,7 @@ one_closed before now n all pushed left =
     ∙ left
 
 -- the panes that are open after a view, counted
-pub counted_after : (view : Node) (b : Bool) (depth flag : ℕ) → is_pane view.kind ≡ b → depth ≡ view.depth → flag ≡ cond b 1 0 → depth + flag ≡ open_after view
+pub counted_after : (view : Node) (b : Bool) (depth flag : ℕ) → is_pane view.kind ≡ b → depth ≡ view.depth → flag ≡ cond b 1 0 → depth + flag ≡ open_panes_after view
 counted_after view true depth flag e f g = rw (e, ← f, g) refl
 counted_after view false depth flag e f g = rw (e, ← f, g) (add-zero depth)
 
@@ -125,9 +125,9 @@ counted_after view false depth flag e f g = rw (e, ← f, g) (add-zero depth)
 pub view_added : (old one two : List BuildStep) (step : BuildStep) (panes i : ℕ) (view : Node) (views : List Node) (all : List Planned) → i < length views → view ≡ get_or views i view
     → map lent_step old ++ steps_of (view_declarations panes (drop i views)) ≡ all
     → map lent_step one ≡ map lent_step old ++ replicate (panes - view.depth) Closes → two ≡ one ++ step ∷ [] → lent_step step ≡ node_step view
-    → map lent_step two ++ steps_of (view_declarations (open_after view) (drop (i + 1) views)) ≡ all
+    → map lent_step two ++ steps_of (view_declarations (open_panes_after view) (drop (i + 1) views)) ≡ all
 view_added old one two step panes i view views all less is before closed pushed same =
-    let later : List Planned = steps_of (view_declarations (open_after view) (drop (i + 1) views)) in
+    let later : List Planned = steps_of (view_declarations (open_panes_after view) (drop (i + 1) views)) in
     let first : drop i views ≡ view ∷ drop (i + 1) views = drop_more views i view less ∙ ap (λ x. x ∷ drop (i + 1) views) (sym is) in
     let next : steps_of (view_declarations panes (drop i views)) ≡ replicate (panes - view.depth) Closes ++ (node_step view ∷ later) =
     ap (λ left. steps_of (view_declarations panes left)) first ∙ steps_view panes view (drop (i + 1) views) in

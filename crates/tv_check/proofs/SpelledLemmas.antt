@@ -13,11 +13,11 @@ use Rattle.tv_model.specs.Description.Heads.{dialog_head_of}
 use Rattle.tv_model.specs.Controls.Owner.{LetterOwner}
 use Rattle.tv_model.specs.Description.Owners.{marker_of, owner_by, owners_of}
 use Rattle.tv_model.specs.Description.Certificates.{control_name, letters}
-use Rattle.tv_declarations.specs.Spelling.Nodes.{IsKind}
+use Rattle.tv_declarations.specs.Spelling.Nodes.{IsSpelledKind}
 use Rattle.tv_words.specs.Fields.{IsName}
 use Rattle.tv_certificate.specs.declared.certificate.KeyLine.{KeyLine}
 use Rattle.tv_check.specs.Certificates.{FitsKeyLine, block_of, key_line}
-use Rattle.tv_certificate.specs.CertificateTexts.{AreBlocks, AreRising, IsBlock, IsKeyLine, is_letter}
+use Rattle.tv_certificate.specs.CertificateTexts.{AreBlocks, LettersRise, IsBlock, IsKeyLine, is_letter}
 use Rattle.tv_faults.specs.Usable.{HasLawfulCounts}
 use Rattle.tv_check.proofs.SoundLemmas.{lines_for}
 use Rattle.tv_check.proofs.OwnerLemmas.{HasName, owners_fit, owners_named}
@@ -25,11 +25,11 @@ use Rattle.tv_check.proofs.DialogLemmas.{IsSpelledDialog, ViewKind}
 
 -- ---- names
 
-named_dialog : (kind : Kind) (is : IsTrue (is_dialog kind)) → IsKind kind → IsName (dialog_head_of kind is).name
+named_dialog : (kind : Kind) (is : IsTrue (is_dialog kind)) → IsSpelledKind kind → IsName (dialog_head_of kind is).name
 named_dialog (kinds.Dialog head) is own = own.0
 named_dialog _ is own = absurd (false≢true is)
 
-named_tabs : (kind : Kind) (names : List (List ℕ)) → IsKind kind → AllByRecursion IsName names → AllByRecursion IsName (cons_option (control_name kind) names)
+named_tabs : (kind : Kind) (names : List (List ℕ)) → IsSpelledKind kind → AllByRecursion IsName names → AllByRecursion IsName (cons_option (control_name kind) names)
 named_tabs (kinds.Button button) names own are = (own.0, are)
 named_tabs (kinds.Input input) names own are = (own.0, are)
 named_tabs (kinds.CheckBoxes boxes) names own are = (own.0, are)
@@ -104,11 +104,11 @@ module _ (owner : ℕ → Option LetterOwner) where
   lines_left ls = lines_for (λ letter. option_to_list (owner letter)) ls
 
   next : (before : List KeyLine) (letter : ℕ) (o : Option LetterOwner) (ls : List ℕ) → is_below before letter ≡ true → list_all (is_below before) ls ≡ true → list_all (λ later. nat_lt letter later) ls ≡ true
-      → ((seen : List KeyLine) → list_all (is_below seen) ls ≡ true → AreRising seen (lines_left ls)) → AreRising before (map (key_line letter) (option_to_list o) ++ lines_left ls)
+      → ((seen : List KeyLine) → list_all (is_below seen) ls ≡ true → LettersRise seen (lines_left ls)) → LettersRise before (map (key_line letter) (option_to_list o) ++ lines_left ls)
   next before letter None ls here all later rest = rest before all
   next before letter (Some found) ls here all later rest = (here, rest (before ++ key_line letter found ∷ []) (below_more before (key_line letter found) ls all later))
 
-  lines_rise : (ls : List ℕ) → is_sorted ls ≡ true → (before : List KeyLine) → list_all (is_below before) ls ≡ true → AreRising before (lines_left ls)
+  lines_rise : (ls : List ℕ) → is_sorted ls ≡ true → (before : List KeyLine) → list_all (is_below before) ls ≡ true → LettersRise before (lines_left ls)
   lines_rise [] sorted before e = tt
   lines_rise (l ∷ ls) sorted before e =
       let s = and_parts (list_all (λ later. nat_lt l later) ls) (is_sorted ls) sorted in

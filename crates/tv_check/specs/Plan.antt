@@ -30,10 +30,10 @@ IsLawfulStep (steps.Leaf node) = IsLawfulNode node.now
 IsLawfulStep steps.Close = Unit {0}
 
 -- the node that a step names
-abbrev pub node_in : Planned → Option Node
-node_in (Opens node) = Some node
-node_in (Makes node) = Some node
-node_in Closes = None
+abbrev pub planned_node : Planned → Option Node
+planned_node (Opens node) = Some node
+planned_node (Makes node) = Some node
+planned_node Closes = None
 
 -- what has views of its own: a window, a dialog or a pane
 abbrev pub is_owner : Kind → Bool
@@ -53,5 +53,5 @@ abbrev pub steps_of : List Declaration → List Planned
 steps_of declarations = filter_map step_of declarations
 
 -- windows first, then dialogs, each in description order, and each from its own line to its `end`
-abbrev pub plan_of : Desc → List Planned
-plan_of d = flat_map (λ window. steps_of (window_declarations window)) d.windows ++ flat_map (λ dialog. steps_of (dialog_declarations dialog)) d.dialogs
+abbrev pub build_plan_of : Desc → List Planned
+build_plan_of d = flat_map (λ window. steps_of (window_declarations window)) d.windows ++ flat_map (λ dialog. steps_of (dialog_declarations dialog)) d.dialogs

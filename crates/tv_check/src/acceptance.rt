@@ -6,7 +6,7 @@ ghost use Rattle.tv_machine.specs.Dialog.Lawful.{IsLawfulDialog};
 ghost use Rattle.tv_machine.specs.Dialog.Sound.{HasSoundDialogs};
 ghost use Rattle.tv_model.specs.Faults.{IsSound};
 ghost use Rattle.tv_check.specs.Certificates.{IsSoundCertificate};
-ghost use Rattle.tv_check.specs.Refusals.{Accepts, Refuses};
+ghost use Rattle.tv_check.specs.Refusals.{Accepts, RefusesToAccept};
 
 use crate::acceptance_owners::first_owner;
 use crate::acceptance_tabs::first_tab;
@@ -79,7 +79,7 @@ impl Checked {
 // The first reason to refuse a sound description's certificate: the order of Tab, then the letters.
 fn compare(alloc: Global, desc: &Desc, certificate: &Certificate) -> Result<(), Refusal>
     ensures yes { IfOk result (λ _. IsSoundCertificate desc.now certificate.now) }
-    ensures no { IsSound desc.now → IfErr result (Refuses desc.now certificate.now) }
+    ensures no { IsSound desc.now → IfErr result (RefusesToAccept desc.now certificate.now) }
 {
     let blocks = certificate.blocks();
     if let Some(place) = first_tab(alloc, desc, blocks)? {
@@ -94,7 +94,7 @@ fn compare(alloc: Global, desc: &Desc, certificate: &Certificate) -> Result<(), 
 // The first reason to refuse the description with its certificate.
 fn look(alloc: Global, desc: &Desc, certificate: &Certificate) -> Result<(), Refusal>
     ensures yes { IfOk result (λ _. IsSound desc.now × IsSoundCertificate desc.now certificate.now) }
-    ensures no { IfErr result (Refuses desc.now certificate.now) }
+    ensures no { IfErr result (RefusesToAccept desc.now certificate.now) }
 {
     match first_fault(alloc, desc)? {
         Some(fault) => Err(Refusal::Faulty(fault)),
@@ -113,7 +113,7 @@ pub fn accept(
 ) -> Result<Checked, (Refusal, Desc)>
     requires { CanBeSpelled desc }
     ensures yes { IfOk result (λ checked. (checked ≡ desc) × IsSound desc × IsSoundCertificate desc certificate.now) }
-    ensures no { IfErr result (λ refused. Refuses desc certificate.now refused.0 × (refused.1 ≡ desc)) }
+    ensures no { IfErr result (λ refused. RefusesToAccept desc certificate.now refused.0 × (refused.1 ≡ desc)) }
     ensures only { IsSound desc → IsSoundCertificate desc certificate.now → Accepts result }
 {
     match look(alloc, &desc, certificate) {

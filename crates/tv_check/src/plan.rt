@@ -4,7 +4,7 @@ ghost use Rattle.std.specs.Prelude.{◌≡◌, ◌++◌, filter_map, map, replic
 ghost use Rattle.tv_model.specs.Description.Heads.{all_nodes};
 ghost use Rattle.tv_model.specs.Description.LawfulNodes.{IsLawfulNode};
 ghost use Rattle.tv_declarations.specs.Spelling.{dialog_declarations, view_declarations, window_declarations};
-ghost use Rattle.tv_check.specs.Plan.{Closes, IsLawfulStep, lent_step, node_in, node_step, plan_of, steps_of};
+ghost use Rattle.tv_check.specs.Plan.{Closes, IsLawfulStep, lent_step, planned_node, node_step, build_plan_of, steps_of};
 
 use crate::acceptance::Checked;
 use std::alloc::{AllocError, Global};
@@ -80,7 +80,7 @@ fn add_dialog<'a>(plan: &mut Vec<BuildStep<'a>>, dialog: &'a Dialog) -> Result<(
 }
 
 fn plan_of(alloc: Global, desc: &Desc) -> Result<Vec<BuildStep>, AllocError>
-    ensures { IfOk result (λ plan. map lent_step plan.items ≡ plan_of desc.now) }
+    ensures { IfOk result (λ plan. map lent_step plan.items ≡ build_plan_of desc.now) }
 {
     let mut plan = Vec::new(alloc);
     for window in desc.windows.as_slice() {
@@ -95,9 +95,9 @@ fn plan_of(alloc: Global, desc: &Desc) -> Result<Vec<BuildStep>, AllocError>
 impl Checked {
     /// Lists the steps of making all views: windows first, then dialogs, each in the order of the description.
     pub fn build_plan(&self, alloc: Global) -> Result<Vec<BuildStep>, AllocError>
-        ensures plan { IfOk result (λ plan. map lent_step plan.items ≡ plan_of self.now) }
-        ensures nodes { IfOk result (λ plan. filter_map node_in (map lent_step plan.items) ≡ all_nodes self.now) }
-        ensures lawful { IfOk result (λ plan. All IsLawfulNode (filter_map node_in (map lent_step plan.items))) }
+        ensures plan { IfOk result (λ plan. map lent_step plan.items ≡ build_plan_of self.now) }
+        ensures nodes { IfOk result (λ plan. filter_map planned_node (map lent_step plan.items) ≡ all_nodes self.now) }
+        ensures lawful { IfOk result (λ plan. All IsLawfulNode (filter_map planned_node (map lent_step plan.items))) }
         ensures steps { IfOk result (λ plan. All IsLawfulStep plan.items) }
     {
         plan_of(alloc, self.desc())

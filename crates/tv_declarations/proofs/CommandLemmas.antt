@@ -10,7 +10,7 @@ use Rattle.tv_words.specs.declared.word.Word.{Word}
 use Rattle.tv_words.specs.declared.word.Word.TheVariants.{Bare}
 use Rattle.tv_words.specs.Fields.{is_bare_word}
 use Rattle.tv_words.specs.Reading.Numbers.{number_in}
-use Rattle.tv_declarations.specs.Reading.Commands.{first_named, named_commands, named_command, numbered_command, command_in, is_next, after_next, at_end, ends_in, button_options_in}
+use Rattle.tv_declarations.specs.Reading.Commands.{command_named, named_commands, named_command, numbered_command, command_in, is_next, after_next, at_end, ends_in, button_options_in}
 use Rattle.tv_declarations.specs.Spelling.Terms.{command_name, command_word, word_if, ends_words, IsCommand}
 use Rattle.tv_words.proofs.NumberLemmas.{read_number}
 use Rattle.tv_words.proofs.FieldLemmas.{word_is, number_word_read}
@@ -24,9 +24,9 @@ named_if w keyword c d rest false eb spelled is other e = other e
 abbrev IsNamed : CommandSpec → Type 0
 IsNamed c = (Bare (command_name c) ≡ command_word c) × IsCommand c
 
-first_read : (cs : List CommandSpec) (w : Word) (d : CommandSpec) → AllByRecursion IsNamed cs → first_named cs w ≡ Some d → (w ≡ command_word d) × IsCommand d
+first_read : (cs : List CommandSpec) (w : Word) (d : CommandSpec) → AllByRecursion IsNamed cs → command_named cs w ≡ Some d → (w ≡ command_word d) × IsCommand d
 first_read [] w d are e = absurd cc
-first_read (c ∷ cs) w d are e = named_if w (command_name c) c d (first_named cs w) (is_bare_word w (command_name c)) refl are.0.0 are.0.1 (first_read cs w d are.1) e
+first_read (c ∷ cs) w d are e = named_if w (command_name c) c d (command_named cs w) (is_bare_word w (command_name c)) refl are.0.0 are.0.1 (first_read cs w d are.1) e
 
 named_read : (w : Word) (d : CommandSpec) → named_command w ≡ Some d → (w ≡ command_word d) × IsCommand d
 named_read w d e = first_read named_commands w d ((refl, tt), ((refl, tt), ((refl, tt), ((refl, tt), ((refl, tt), ((refl, tt), ((refl, tt), ((refl, tt), tt)))))))) e

@@ -25,8 +25,8 @@ use Rattle.tv_declarations.specs.Reading.Places.{mark_in}
 use Rattle.tv_declarations.specs.Reading.Nodes.{control_in, node_in}
 use Rattle.tv_declarations.specs.Reading.Declarations.{version_in, screen_in, start_in, menu_in, item_in, status_in, rule_in, show_in, enable_in, end_in, line_in, declaration_in}
 use Rattle.tv_words.specs.Fields.{number_word}
-use Rattle.tv_declarations.specs.Spelling.Nodes.{kind_words, IsKind}
-use Rattle.tv_declarations.specs.Spelling.Declarations.{declaration_words, effect_words, IsEffect, IsNode, IsDeclaration, IsInside, IsLine}
+use Rattle.tv_declarations.specs.Spelling.Nodes.{kind_words, IsSpelledKind}
+use Rattle.tv_declarations.specs.Spelling.Declarations.{declaration_words, effect_words, IsEffect, IsNode, IsDeclaration, IsInside, IsDeclarationLine}
 use Rattle.tv_declarations.proofs.OptionLemmas.{map_some, then_some, with2_some, with3_some}
 use Rattle.tv_words.proofs.FieldLemmas.{word_is, number_word_read, read_number_word, name_read, read_name, text_read}
 use Rattle.tv_declarations.proofs.CommandLemmas.{command_read, read_command, read_button_options}
@@ -63,68 +63,68 @@ node_line at w fs n e =
     (by_keyword (LineOf at fs) w (codes "dialog") _ _ n (is_bare_word w (codes "dialog")) refl (dialog_line at fs n) (control_line at w fs n)))))) e
 
 abbrev DeclarationOf : Position → List Word → Word → Declaration → Type 0
-DeclarationOf at fields w d = IsLine at d (w ∷ fields)
+DeclarationOf at fields w d = IsDeclarationLine at d (w ∷ fields)
 
-version_if : (at : Position) (v : Word) (d : Declaration) (b : Bool) → is_bare_word v (codes "1") ≡ b → cond b (Some (declared.Version versions.One)) None ≡ Some d → IsLine at d (Bare (codes "tvd") ∷ v ∷ [])
-version_if at v d true eb e = let same : declared.Version versions.One ≡ d = cc in subst (λ x. IsLine at x (Bare (codes "tvd") ∷ v ∷ [])) same (record { is = tt; inside = tt; words = rw (word_is v (codes "1") eb) refl })
+version_if : (at : Position) (v : Word) (d : Declaration) (b : Bool) → is_bare_word v (codes "1") ≡ b → cond b (Some (declared.Version versions.One)) None ≡ Some d → IsDeclarationLine at d (Bare (codes "tvd") ∷ v ∷ [])
+version_if at v d true eb e = let same : declared.Version versions.One ≡ d = cc in subst (λ x. IsDeclarationLine at x (Bare (codes "tvd") ∷ v ∷ [])) same (record { is = tt; inside = tt; words = rw (word_is v (codes "1") eb) refl })
 version_if at v d false eb e = absurd cc
 
-version_line : (at : Position) (fs : List Word) (d : Declaration) → version_in fs ≡ Some d → IsLine at d (Bare (codes "tvd") ∷ fs)
+version_line : (at : Position) (fs : List Word) (d : Declaration) → version_in fs ≡ Some d → IsDeclarationLine at d (Bare (codes "tvd") ∷ fs)
 version_line at [] d e = absurd cc
 version_line at (v ∷ []) d e = version_if at v d (is_bare_word v (codes "1")) refl e
 version_line at (a ∷ b ∷ cs) d e = absurd cc
 
-screen_made : (at : Position) (a b : Word) (d : Declaration) → ((width : ℤ) × (height : ℤ) × (number_in a ≡ Some width) × (number_in b ≡ Some height) × (declared.Screen width height ≡ d)) → IsLine at d (Bare (codes "screen") ∷ a ∷ b ∷ [])
+screen_made : (at : Position) (a b : Word) (d : Declaration) → ((width : ℤ) × (height : ℤ) × (number_in a ≡ Some width) × (number_in b ≡ Some height) × (declared.Screen width height ≡ d)) → IsDeclarationLine at d (Bare (codes "screen") ∷ a ∷ b ∷ [])
 screen_made at a b d (width, height, ea, eb, same) =
     let across = number_word_read a width ea in
     let down = number_word_read b height eb in
-    subst (λ x. IsLine at x (Bare (codes "screen") ∷ a ∷ b ∷ [])) same (record { is = (across.1, down.1); inside = tt; words = rw (across.0, down.0) refl })
+    subst (λ x. IsDeclarationLine at x (Bare (codes "screen") ∷ a ∷ b ∷ [])) same (record { is = (across.1, down.1); inside = tt; words = rw (across.0, down.0) refl })
 
-screen_line : (at : Position) (fs : List Word) (d : Declaration) → screen_in fs ≡ Some d → IsLine at d (Bare (codes "screen") ∷ fs)
+screen_line : (at : Position) (fs : List Word) (d : Declaration) → screen_in fs ≡ Some d → IsDeclarationLine at d (Bare (codes "screen") ∷ fs)
 screen_line at [] d e = absurd cc
 screen_line at (a ∷ []) d e = absurd cc
 screen_line at (a ∷ b ∷ []) d e = screen_made at a b d (with2_some _ (number_in a) (number_in b) d e)
 screen_line at (a ∷ b ∷ c ∷ ds) d e = absurd cc
 
-start_made : (at : Position) (a : Word) (d : Declaration) → ((name : List ℕ) × (name_in a ≡ Some name) × (declared.Start name ≡ d)) → IsLine at d (Bare (codes "start") ∷ a ∷ [])
+start_made : (at : Position) (a : Word) (d : Declaration) → ((name : List ℕ) × (name_in a ≡ Some name) × (declared.Start name ≡ d)) → IsDeclarationLine at d (Bare (codes "start") ∷ a ∷ [])
 start_made at a d (name, ea, same) =
     let named = name_read a name ea in
-    subst (λ x. IsLine at x (Bare (codes "start") ∷ a ∷ [])) same (record { is = named.1; inside = tt; words = rw named.0 refl })
+    subst (λ x. IsDeclarationLine at x (Bare (codes "start") ∷ a ∷ [])) same (record { is = named.1; inside = tt; words = rw named.0 refl })
 
-start_line : (at : Position) (fs : List Word) (d : Declaration) → start_in fs ≡ Some d → IsLine at d (Bare (codes "start") ∷ fs)
+start_line : (at : Position) (fs : List Word) (d : Declaration) → start_in fs ≡ Some d → IsDeclarationLine at d (Bare (codes "start") ∷ fs)
 start_line at [] d e = absurd cc
 start_line at (a ∷ []) d e = start_made at a d (map_some _ (name_in a) d e)
 start_line at (a ∷ b ∷ cs) d e = absurd cc
 
-menu_made : (at : Position) (a : Word) (d : Declaration) → ((title : MarkedText) × (mark_in a ≡ Some title) × (declared.Menu at.id title ≡ d)) → IsLine at d (Bare (codes "menu") ∷ a ∷ [])
+menu_made : (at : Position) (a : Word) (d : Declaration) → ((title : MarkedText) × (mark_in a ≡ Some title) × (declared.Menu at.id title ≡ d)) → IsDeclarationLine at d (Bare (codes "menu") ∷ a ∷ [])
 menu_made at a d (title, ea, same) =
     let marks = mark_read a title ea in
-    subst (λ x. IsLine at x (Bare (codes "menu") ∷ a ∷ [])) same (record { is = (refl, marks.1); inside = tt; words = rw marks.0 refl })
+    subst (λ x. IsDeclarationLine at x (Bare (codes "menu") ∷ a ∷ [])) same (record { is = (refl, marks.1); inside = tt; words = rw marks.0 refl })
 
-menu_line : (at : Position) (fs : List Word) (d : Declaration) → menu_in at fs ≡ Some d → IsLine at d (Bare (codes "menu") ∷ fs)
+menu_line : (at : Position) (fs : List Word) (d : Declaration) → menu_in at fs ≡ Some d → IsDeclarationLine at d (Bare (codes "menu") ∷ fs)
 menu_line at [] d e = absurd cc
 menu_line at (a ∷ []) d e = menu_made at a d (map_some _ (mark_in a) d e)
 menu_line at (a ∷ b ∷ cs) d e = absurd cc
 
-item_made : (at : Position) (a b : Word) (d : Declaration) → ((text : MarkedText) × (command : CommandSpec) × (mark_in a ≡ Some text) × (command_in b ≡ Some command) × (declared.Item (record { id = at.id; text = text; command = command }) ≡ d)) → IsLine at d (Bare (codes "item") ∷ a ∷ b ∷ [])
+item_made : (at : Position) (a b : Word) (d : Declaration) → ((text : MarkedText) × (command : CommandSpec) × (mark_in a ≡ Some text) × (command_in b ≡ Some command) × (declared.Item (record { id = at.id; text = text; command = command }) ≡ d)) → IsDeclarationLine at d (Bare (codes "item") ∷ a ∷ b ∷ [])
 item_made at a b d (text, command, ea, eb, same) =
     let marks = mark_read a text ea in
     let does = command_read b command eb in
-    subst (λ x. IsLine at x (Bare (codes "item") ∷ a ∷ b ∷ [])) same (record { is = (refl, marks.1, does.1); inside = tt; words = rw (marks.0, does.0) refl })
+    subst (λ x. IsDeclarationLine at x (Bare (codes "item") ∷ a ∷ b ∷ [])) same (record { is = (refl, marks.1, does.1); inside = tt; words = rw (marks.0, does.0) refl })
 
-item_line : (at : Position) (fs : List Word) (d : Declaration) → item_in at fs ≡ Some d → IsLine at d (Bare (codes "item") ∷ fs)
+item_line : (at : Position) (fs : List Word) (d : Declaration) → item_in at fs ≡ Some d → IsDeclarationLine at d (Bare (codes "item") ∷ fs)
 item_line at [] d e = absurd cc
 item_line at (a ∷ []) d e = absurd cc
 item_line at (a ∷ b ∷ []) d e = item_made at a b d (with2_some _ (mark_in a) (command_in b) d e)
 item_line at (a ∷ b ∷ c ∷ ds) d e = absurd cc
 
-status_made : (at : Position) (a b c : Word) (d : Declaration) → ((text : List ℕ) × (key : Key) × (command : CommandSpec) × (text_in a ≡ Some text) × (key_in b ≡ Some key) × (command_in c ≡ Some command) × (declared.Status (record { id = at.id; text = text; key = key; command = command }) ≡ d)) → IsLine at d (Bare (codes "status") ∷ a ∷ b ∷ c ∷ [])
+status_made : (at : Position) (a b c : Word) (d : Declaration) → ((text : List ℕ) × (key : Key) × (command : CommandSpec) × (text_in a ≡ Some text) × (key_in b ≡ Some key) × (command_in c ≡ Some command) × (declared.Status (record { id = at.id; text = text; key = key; command = command }) ≡ d)) → IsDeclarationLine at d (Bare (codes "status") ∷ a ∷ b ∷ c ∷ [])
 status_made at a b c d (text, key, command, ea, eb, ec, same) =
     let pressed = key_read b key eb in
     let does = command_read c command ec in
-    subst (λ x. IsLine at x (Bare (codes "status") ∷ a ∷ b ∷ c ∷ [])) same (record { is = (refl, pressed.1, does.1); inside = tt; words = rw (text_read a text ea, pressed.0, does.0) refl })
+    subst (λ x. IsDeclarationLine at x (Bare (codes "status") ∷ a ∷ b ∷ c ∷ [])) same (record { is = (refl, pressed.1, does.1); inside = tt; words = rw (text_read a text ea, pressed.0, does.0) refl })
 
-status_line : (at : Position) (fs : List Word) (d : Declaration) → status_in at fs ≡ Some d → IsLine at d (Bare (codes "status") ∷ fs)
+status_line : (at : Position) (fs : List Word) (d : Declaration) → status_in at fs ≡ Some d → IsDeclarationLine at d (Bare (codes "status") ∷ fs)
 status_line at [] d e = absurd cc
 status_line at (a ∷ []) d e = absurd cc
 status_line at (a ∷ b ∷ []) d e = absurd cc
@@ -152,34 +152,34 @@ rule_line at effect (a ∷ b ∷ []) d e = absurd cc
 rule_line at effect (k ∷ a ∷ b ∷ []) d e = rule_if at effect k a b d (is_bare_word k (codes "when")) refl e
 rule_line at effect (a ∷ b ∷ c ∷ f ∷ gs) d e = absurd cc
 
-rule_is : (at : Position) (effect : Effect) (fs ws : List Word) (d : Declaration) → IsEffect effect → ws ≡ effect_words effect fs → RuleOf at effect fs d → IsLine at d ws
+rule_is : (at : Position) (effect : Effect) (fs ws : List Word) (d : Declaration) → IsEffect effect → ws ≡ effect_words effect fs → RuleOf at effect fs d → IsDeclarationLine at d ws
 rule_is at effect fs ws d is words (rule, same, has, after, fits) =
-    subst (λ x. IsLine at x ws) (sym same) (record { is = fits is; inside = tt; words = words ∙ rw (after, has) refl })
+    subst (λ x. IsDeclarationLine at x ws) (sym same) (record { is = fits is; inside = tt; words = words ∙ rw (after, has) refl })
 
-show_line : (at : Position) (fs : List Word) (d : Declaration) → show_in at fs ≡ Some d → IsLine at d (Bare (codes "show") ∷ fs)
+show_line : (at : Position) (fs : List Word) (d : Declaration) → show_in at fs ≡ Some d → IsDeclarationLine at d (Bare (codes "show") ∷ fs)
 show_line at [] d e = absurd cc
 show_line at (a ∷ fs) d e =
     let t = then_some (λ name. rule_in at (effects.Show name) fs) (name_in a) d e in
     let named = name_read a t.0 t.1 in
     rule_is at (effects.Show t.0) fs (Bare (codes "show") ∷ a ∷ fs) d named.1 (ap (λ x. Bare (codes "show") ∷ x ∷ fs) named.0) (rule_line at (effects.Show t.0) fs d t.2)
 
-enable_line : (at : Position) (fs : List Word) (d : Declaration) → enable_in at fs ≡ Some d → IsLine at d (Bare (codes "enable") ∷ fs)
+enable_line : (at : Position) (fs : List Word) (d : Declaration) → enable_in at fs ≡ Some d → IsDeclarationLine at d (Bare (codes "enable") ∷ fs)
 enable_line at [] d e = absurd cc
 enable_line at (a ∷ fs) d e =
     let t = then_some (λ command. rule_in at (effects.Enable command) fs) (command_in a) d e in
     let does = command_read a t.0 t.1 in
     rule_is at (effects.Enable t.0) fs (Bare (codes "enable") ∷ a ∷ fs) d does.1 (ap (λ x. Bare (codes "enable") ∷ x ∷ fs) does.0) (rule_line at (effects.Enable t.0) fs d t.2)
 
-end_line : (at : Position) (fs : List Word) (d : Declaration) → end_in fs ≡ Some d → IsLine at d (Bare (codes "end") ∷ fs)
-end_line at [] d e = let same : declared.End ≡ d = cc in subst (λ x. IsLine at x (Bare (codes "end") ∷ [])) same (record { is = tt; inside = tt; words = refl })
+end_line : (at : Position) (fs : List Word) (d : Declaration) → end_in fs ≡ Some d → IsDeclarationLine at d (Bare (codes "end") ∷ fs)
+end_line at [] d e = let same : declared.End ≡ d = cc in subst (λ x. IsDeclarationLine at x (Bare (codes "end") ∷ [])) same (record { is = tt; inside = tt; words = refl })
 end_line at (a ∷ fs) d e = absurd cc
 
-node_made : (at : Position) (w : Word) (fs : List Word) (d : Declaration) → ((n : Node) × (node_in at w fs ≡ Some n) × (declared.Node n ≡ d)) → IsLine at d (w ∷ fs)
+node_made : (at : Position) (w : Word) (fs : List Word) (d : Declaration) → ((n : Node) × (node_in at w fs ≡ Some n) × (declared.Node n ≡ d)) → IsDeclarationLine at d (w ∷ fs)
 node_made at w fs d (n, en, same) =
     let is = node_line at w fs n en in
-    subst (λ x. IsLine at x (w ∷ fs)) same (record { is = is.is; inside = is.depth; words = is.words })
+    subst (λ x. IsDeclarationLine at x (w ∷ fs)) same (record { is = is.is; inside = is.depth; words = is.words })
 
-line_read : (at : Position) (w : Word) (fs : List Word) (d : Declaration) → line_in at w fs ≡ Some d → IsLine at d (w ∷ fs)
+line_read : (at : Position) (w : Word) (fs : List Word) (d : Declaration) → line_in at w fs ≡ Some d → IsDeclarationLine at d (w ∷ fs)
 line_read at w fs d e =
     by_keyword (DeclarationOf at fs) w (codes "tvd") _ _ d (is_bare_word w (codes "tvd")) refl (version_line at fs d)
     (by_keyword (DeclarationOf at fs) w (codes "screen") _ _ d (is_bare_word w (codes "screen")) refl (screen_line at fs d)
@@ -192,7 +192,7 @@ line_read at w fs d e =
     (by_keyword (DeclarationOf at fs) w (codes "end") _ _ d (is_bare_word w (codes "end")) refl (end_line at fs d)
     (λ other. node_made at w fs d (map_some _ (node_in at w fs) d other)))))))))) e
 
-pub declaration_read : (at : Position) (ws : List Word) (d : Declaration) → declaration_in at ws ≡ Some d → IsLine at d ws
+pub declaration_read : (at : Position) (ws : List Word) (d : Declaration) → declaration_in at ws ≡ Some d → IsDeclarationLine at d ws
 declaration_read at [] d e = absurd cc
 declaration_read at (w ∷ fs) d e = line_read at w fs d e
 
@@ -204,7 +204,7 @@ of_kind i depth x y w kind = record { id = i; depth = depth; x = x; y = y; w = w
 same_node : (line panes : ℕ) (i : Id) (depth : ℕ) (x y w : ℤ) (kind : Kind) → i.0 ≡ line → depth ≡ panes → Some (declared.Node (of_kind (record { 0 = line }) panes x y w kind)) ≡ Some (declared.Node (of_kind i depth x y w kind))
 same_node line panes i depth x y w kind e f = rw (← e, f) refl
 
-node_again : (line panes : ℕ) (i : Id) (depth : ℕ) (x y w : ℤ) (kind : Kind) → IsNode line (of_kind i depth x y w kind) → depth ≡ panes → IsKind kind → declaration_in (on_line line panes) (kind_words kind (number_word x) (number_word y) (number_word w)) ≡ Some (declared.Node (of_kind i depth x y w kind))
+node_again : (line panes : ℕ) (i : Id) (depth : ℕ) (x y w : ℤ) (kind : Kind) → IsNode line (of_kind i depth x y w kind) → depth ≡ panes → IsSpelledKind kind → declaration_in (on_line line panes) (kind_words kind (number_word x) (number_word y) (number_word w)) ≡ Some (declared.Node (of_kind i depth x y w kind))
 node_again line panes i depth x y w (kinds.Text shown) p f is = rw (read_number_word x p.x, read_number_word y p.y, read_number_word w p.w, read_number_word shown.h is) (same_node line panes i depth x y w (kinds.Text shown) p.id f)
 node_again line panes i depth x y w (kinds.Label label) p f (marks, named) = rw (read_number_word x p.x, read_number_word y p.y, read_number_word w p.w, read_mark label.text marks, read_name label.link named) (same_node line panes i depth x y w (kinds.Label label) p.id f)
 node_again line panes i depth x y w (kinds.Button button) p f (named, marks, does) = rw (read_number_word x p.x, read_number_word y p.y, read_number_word w p.w, read_mark button.text marks, read_name button.name named, read_command button.command does, read_button_options button.is_default button.grabs) (same_node line panes i depth x y w (kinds.Button button) p.id f)
@@ -236,9 +236,9 @@ read_declaration line panes declared.End is inside = refl
 
 -- ---- what is found is the declaration of the line, and the only one
 
-pub found_line : (at : Position) (ws : List Word) (found : Option Declaration) → found ≡ declaration_in at ws → IfSome found (λ d. IsLine at d ws)
+pub found_line : (at : Position) (ws : List Word) (found : Option Declaration) → found ≡ declaration_in at ws → IfSome found (λ d. IsDeclarationLine at d ws)
 found_line at ws None e = tt
 found_line at ws (Some d) e = declaration_read at ws d (sym e)
 
-pub line_found : (at : Position) (ws : List Word) (found : Option Declaration) → found ≡ declaration_in at ws → (d : Declaration) → IsLine at d ws → found ≡ Some d
+pub line_found : (at : Position) (ws : List Word) (found : Option Declaration) → found ≡ declaration_in at ws → (d : Declaration) → IsDeclarationLine at d ws → found ≡ Some d
 line_found at ws found e d line = e ∙ ap (declaration_in at) line.words ∙ read_declaration at.id.0 at.depth d line.is line.inside

@@ -14,10 +14,10 @@ use Rattle.tv_words.specs.declared.word.Word.TheVariants.{Bare, Quoted}
 use Rattle.tv_words.specs.Fields.{is_bare_word, name_in, text_in}
 use Rattle.tv_words.specs.Reading.Numbers.{number_in}
 use Rattle.tv_declarations.specs.Reading.Commands.{is_next, after_next}
-use Rattle.tv_declarations.specs.Reading.Places.{place_in, node_at}
+use Rattle.tv_declarations.specs.Reading.Places.{place_from, node_at}
 use Rattle.tv_declarations.specs.Reading.Inputs.{filter_in, picture_in, range_in, domain_in, options_in, asked_after, asked_from, asked_in, input_of, input_in}
 use Rattle.tv_declarations.specs.Spelling.Terms.{word_if}
-use Rattle.tv_declarations.specs.Spelling.Nodes.{domain_words, IsDomain}
+use Rattle.tv_declarations.specs.Spelling.Nodes.{domain_words, IsSpelledDomain}
 use Rattle.tv_declarations.proofs.OptionLemmas.{map_some, with2_some, with4_some}
 use Rattle.tv_words.proofs.FieldLemmas.{word_is, number_word_read, read_number_word, name_read, text_read}
 use Rattle.tv_declarations.proofs.CommandLemmas.{nothing_more, next_word}
@@ -25,7 +25,7 @@ use Rattle.tv_declarations.proofs.PlaceLemmas.{IsNodeOf, node_made}
 
 -- domains
 abbrev DomainIs : List Word → DomainSpec × List Word → Type 0
-DomainIs ws found = (ws ≡ domain_words found.0 ++ found.1) × IsDomain found.0
+DomainIs ws found = (ws ≡ domain_words found.0 ++ found.1) × IsSpelledDomain found.0
 
 filter_made : (w : Word) (more : List Word) (found : DomainSpec × List Word) → ((text : List ℕ) × (text_in w ≡ Some text) × ((domains.Filter text, more) ≡ found)) → DomainIs (Bare (codes "filter") ∷ w ∷ more) found
 filter_made w more found (text, ew, same) = subst (DomainIs (Bare (codes "filter") ∷ w ∷ more)) same (rw (text_read w text ew) refl, tt)
@@ -66,7 +66,7 @@ domain_read : (ws : List Word) (found : DomainSpec × List Word) → domain_in w
 domain_read [] found e = absurd cc
 domain_read (k ∷ fs) found e = domain_if k fs found (is_bare_word k (codes "any")) (is_bare_word k (codes "filter")) (is_bare_word k (codes "range")) (is_bare_word k (codes "picture")) refl refl refl refl e
 
-read_domain : (domain : DomainSpec) (more : List Word) → IsDomain domain → domain_in (domain_words domain ++ more) ≡ Some (domain, more)
+read_domain : (domain : DomainSpec) (more : List Word) → IsSpelledDomain domain → domain_in (domain_words domain ++ more) ≡ Some (domain, more)
 read_domain domains.Any more is = refl
 read_domain (domains.Filter text) more is = refl
 read_domain (domains.Range least greatest) more (low, high) = rw (read_number_word least low, read_number_word greatest high) refl
@@ -106,7 +106,7 @@ abbrev asked_words : Asked → List Word
 asked_words asked = domain_words asked.domain ++ (Quoted asked.start ∷ option_words asked.options)
 
 abbrev AskedIs : List Word → Asked → Type 0
-AskedIs ws asked = (ws ≡ asked_words asked) × IsDomain asked.domain
+AskedIs ws asked = (ws ≡ asked_words asked) × IsSpelledDomain asked.domain
 
 asked_made : (ws : List Word) (domain : DomainSpec) (t : Word) (os : List Word) (asked : Asked) → DomainIs ws (domain, t ∷ os) → ((start : List ℕ) × (options : Options) × (text_in t ≡ Some start) × (options_in os ≡ Some options) × (record { domain = domain; start = start; options = options } ≡ asked)) → AskedIs ws asked
 asked_made ws domain t os asked is (start, options, et, eo, same) =
@@ -124,13 +124,13 @@ asked_if ws asked (Some found) eo e = asked_rest ws found.0 found.1 asked (domai
 asked_read : (ws : List Word) (asked : Asked) → asked_in ws ≡ Some asked → AskedIs ws asked
 asked_read ws asked e = asked_if ws asked (domain_in ws) refl e
 
-pub read_asked : (domain : DomainSpec) (start : List ℕ) (a b c : Bool) → IsDomain domain → asked_in (domain_words domain ++ (Quoted start ∷ (word_if a (codes "validate") ++ (word_if b (codes "optional") ++ word_if c (codes "fill"))))) ≡ Some (record { domain = domain; start = start; options = options_of a b c })
+pub read_asked : (domain : DomainSpec) (start : List ℕ) (a b c : Bool) → IsSpelledDomain domain → asked_in (domain_words domain ++ (Quoted start ∷ (word_if a (codes "validate") ++ (word_if b (codes "optional") ++ word_if c (codes "fill"))))) ≡ Some (record { domain = domain; start = start; options = options_of a b c })
 read_asked domain start a b c is =
     ap asked_from (read_domain domain (Quoted start ∷ (word_if a (codes "validate") ++ (word_if b (codes "optional") ++ word_if c (codes "fill")))) is)
     ∙ rw (read_options a b c) refl
 
 -- input lines
-input_made : (at : Position) (m x y w l : Word) (fs : List Word) (n : Node) → ((asked : Asked) × (name : List ℕ) × (p : Place) × (max : ℤ) × (asked_in fs ≡ Some asked) × (name_in m ≡ Some name) × (place_in x y w ≡ Some p) × (number_in l ≡ Some max) × (node_at at p (input_of name max asked) ≡ n)) → IsNodeOf at n (Bare (codes "input") ∷ m ∷ x ∷ y ∷ w ∷ l ∷ fs)
+input_made : (at : Position) (m x y w l : Word) (fs : List Word) (n : Node) → ((asked : Asked) × (name : List ℕ) × (p : Place) × (max : ℤ) × (asked_in fs ≡ Some asked) × (name_in m ≡ Some name) × (place_from x y w ≡ Some p) × (number_in l ≡ Some max) × (node_at at p (input_of name max asked) ≡ n)) → IsNodeOf at n (Bare (codes "input") ∷ m ∷ x ∷ y ∷ w ∷ l ∷ fs)
 input_made at m x y w l fs n (asked, name, p, max, ea, em, ep, el, same) =
     let named = name_read m name em in
     let long = number_word_read l max el in
@@ -143,4 +143,4 @@ input_line at (a ∷ []) n e = absurd cc
 input_line at (a ∷ b ∷ []) n e = absurd cc
 input_line at (a ∷ b ∷ c ∷ []) n e = absurd cc
 input_line at (a ∷ b ∷ c ∷ d ∷ []) n e = absurd cc
-input_line at (m ∷ x ∷ y ∷ w ∷ l ∷ fs) n e = input_made at m x y w l fs n (with4_some _ (asked_in fs) (name_in m) (place_in x y w) (number_in l) n e)
+input_line at (m ∷ x ∷ y ∷ w ∷ l ∷ fs) n e = input_made at m x y w l fs n (with4_some _ (asked_in fs) (name_in m) (place_from x y w) (number_in l) n e)

@@ -15,9 +15,9 @@ use Rattle.tv_words.specs.declared.word.Word.TheVariants.{Bare, Quoted}
 use Rattle.tv_words.specs.Fields.{is_bare_word, name_in}
 use Rattle.tv_words.specs.Reading.Steps.{steps}
 use Rattle.tv_words.specs.Reading.Numbers.{number_in}
-use Rattle.tv_declarations.specs.Reading.Marks.{marked_in}
-use Rattle.tv_declarations.specs.Reading.Places.{place_in, node_at}
-use Rattle.tv_declarations.specs.Reading.Clusters.{items_of, item_taken, items_in, with_item, marks_in, marked_first, only_number, texts_in, boxes_of, radios_of, rows_of, checks_in, radios_in, list_in}
+use Rattle.tv_declarations.specs.Reading.Marks.{marked_text_in}
+use Rattle.tv_declarations.specs.Reading.Places.{place_from, node_at}
+use Rattle.tv_declarations.specs.Reading.Clusters.{items_from, item_taken, items_in, with_item, marks_in, marked_first, only_number, texts_in, boxes_of, radios_of, rows_of, checks_in, radios_in, list_in}
 use Rattle.tv_words.specs.Fields.{number_word, IsNumber}
 use Rattle.tv_declarations.specs.Spelling.Terms.{marked_word, with_mark, IsMarked}
 use Rattle.tv_declarations.specs.Spelling.Nodes.{text_word, marks_words, is_rising}
@@ -39,42 +39,42 @@ AreNumbers (Some ns) = AllByRecursion IsNumber ns
 -- the numbers that are still to come
 record NumbersTold (texts : List (List ℕ)) (ns : List ℤ) (ws : List Word) (s : Items) : Type 0 where
   more : List ℤ
-  gives : s ≡ items_of texts (Some (ns ++ more))
+  gives : s ≡ items_from texts (Some (ns ++ more))
   words : ws ≡ map number_word more
   fit : AllByRecursion IsNumber more
 
 number_step : (w : Word) (ws : List Word) (texts : List (List ℕ)) (ns : List ℤ) (s : Items) (n : ℤ) → number_in w ≡ Some n → NumbersTold texts (ns ++ n ∷ []) ws s → NumbersTold texts ns (w ∷ ws) s
 number_step w ws texts ns s n en t =
     let r = number_word_read w n en in
-    record { more = n ∷ t.more; gives = t.gives ∙ ap (λ x. items_of texts (Some x)) (append_assoc ns (n ∷ []) t.more); words = rw (r.0, t.words) refl; fit = (r.1, t.fit) }
+    record { more = n ∷ t.more; gives = t.gives ∙ ap (λ x. items_from texts (Some x)) (append_assoc ns (n ∷ []) t.more); words = rw (r.0, t.words) refl; fit = (r.1, t.fit) }
 
-numbers_if : (w : Word) (ws : List Word) (texts : List (List ℕ)) (ns : List ℤ) (s : Items) (o : Option ℤ) → number_in w ≡ o → ((ms : List ℤ) → steps item_taken (items_of texts (Some ms)) ws ≡ Some s → NumbersTold texts ms ws s) → option_and_then (λ t. steps item_taken t ws) (option_map (λ n. items_of texts (Some (ns ++ n ∷ []))) o) ≡ Some s → NumbersTold texts ns (w ∷ ws) s
+numbers_if : (w : Word) (ws : List Word) (texts : List (List ℕ)) (ns : List ℤ) (s : Items) (o : Option ℤ) → number_in w ≡ o → ((ms : List ℤ) → steps item_taken (items_from texts (Some ms)) ws ≡ Some s → NumbersTold texts ms ws s) → option_and_then (λ t. steps item_taken t ws) (option_map (λ n. items_from texts (Some (ns ++ n ∷ []))) o) ≡ Some s → NumbersTold texts ns (w ∷ ws) s
 numbers_if w ws texts ns s None eo later e = absurd cc
 numbers_if w ws texts ns s (Some n) eo later e = number_step w ws texts ns s n eo (later (ns ++ n ∷ []) e)
 
-numbers_told : (ws : List Word) (texts : List (List ℕ)) (ns : List ℤ) (s : Items) → steps item_taken (items_of texts (Some ns)) ws ≡ Some s → NumbersTold texts ns ws s
-numbers_told [] texts ns s e = record { more = []; gives = (let same : items_of texts (Some ns) ≡ s = cc in sym same ∙ ap (λ x. items_of texts (Some x)) (sym (append-nil ns))); words = refl; fit = tt }
+numbers_told : (ws : List Word) (texts : List (List ℕ)) (ns : List ℤ) (s : Items) → steps item_taken (items_from texts (Some ns)) ws ≡ Some s → NumbersTold texts ns ws s
+numbers_told [] texts ns s e = record { more = []; gives = (let same : items_from texts (Some ns) ≡ s = cc in sym same ∙ ap (λ x. items_from texts (Some x)) (sym (append-nil ns))); words = refl; fit = tt }
 numbers_told (w ∷ ws) texts ns s e = numbers_if w ws texts ns s (number_in w) refl (λ ms. numbers_told ws texts ms s) e
 
 -- the texts that are still to come, and the numbers after them
 record TextsTold (texts : List (List ℕ)) (ws : List Word) (s : Items) : Type 0 where
   more : List (List ℕ)
   start : Option (List ℤ)
-  gives : s ≡ items_of (texts ++ more) start
+  gives : s ≡ items_from (texts ++ more) start
   words : ws ≡ map text_word more ++ start_words start
   fit : AreNumbers start
 
 text_step : (text : List ℕ) (ws : List Word) (texts : List (List ℕ)) (s : Items) → TextsTold (texts ++ text ∷ []) ws s → TextsTold texts (Quoted text ∷ ws) s
-text_step text ws texts s t = record { more = text ∷ t.more; start = t.start; gives = t.gives ∙ ap (λ x. items_of x t.start) (append_assoc texts (text ∷ []) t.more); words = ap (λ x. Quoted text ∷ x) t.words; fit = t.fit }
+text_step text ws texts s t = record { more = text ∷ t.more; start = t.start; gives = t.gives ∙ ap (λ x. items_from x t.start) (append_assoc texts (text ∷ []) t.more); words = ap (λ x. Quoted text ∷ x) t.words; fit = t.fit }
 
-start_step : (text : List ℕ) (ws : List Word) (texts : List (List ℕ)) (s : Items) (b : Bool) → is_bare_word (Bare text) (codes "start") ≡ b → option_and_then (λ t. steps item_taken t ws) (cond b (Some (items_of texts (Some []))) None) ≡ Some s → TextsTold texts (Bare text ∷ ws) s
+start_step : (text : List ℕ) (ws : List Word) (texts : List (List ℕ)) (s : Items) (b : Bool) → is_bare_word (Bare text) (codes "start") ≡ b → option_and_then (λ t. steps item_taken t ws) (cond b (Some (items_from texts (Some []))) None) ≡ Some s → TextsTold texts (Bare text ∷ ws) s
 start_step text ws texts s true eb e =
     let t = numbers_told ws texts [] s e in
-    record { more = []; start = Some t.more; gives = t.gives ∙ ap (λ x. items_of x (Some t.more)) (sym (append-nil texts)); words = ap (λ x. x ∷ ws) (word_is (Bare text) (codes "start") eb) ∙ ap (λ x. Bare (codes "start") ∷ x) t.words; fit = t.fit }
+    record { more = []; start = Some t.more; gives = t.gives ∙ ap (λ x. items_from x (Some t.more)) (sym (append-nil texts)); words = ap (λ x. x ∷ ws) (word_is (Bare text) (codes "start") eb) ∙ ap (λ x. Bare (codes "start") ∷ x) t.words; fit = t.fit }
 start_step text ws texts s false eb e = absurd cc
 
-texts_told : (ws : List Word) (texts : List (List ℕ)) (s : Items) → steps item_taken (items_of texts None) ws ≡ Some s → TextsTold texts ws s
-texts_told [] texts s e = record { more = []; start = None; gives = (let same : items_of texts None ≡ s = cc in sym same ∙ ap (λ x. items_of x None) (sym (append-nil texts))); words = refl; fit = tt }
+texts_told : (ws : List Word) (texts : List (List ℕ)) (s : Items) → steps item_taken (items_from texts None) ws ≡ Some s → TextsTold texts ws s
+texts_told [] texts s e = record { more = []; start = None; gives = (let same : items_from texts None ≡ s = cc in sym same ∙ ap (λ x. items_from x None) (sym (append-nil texts))); words = refl; fit = tt }
 texts_told (Quoted text ∷ ws) texts s e = text_step text ws texts s (texts_told ws (texts ++ text ∷ []) s e)
 texts_told (Bare text ∷ ws) texts s e = start_step text ws texts s (is_bare_word (Bare text) (codes "start")) refl e
 
@@ -84,19 +84,19 @@ ItemsAre ws s = (ws ≡ map text_word s.texts ++ start_words s.start) × AreNumb
 items_read : (ws : List Word) (s : Items) → items_in ws ≡ Some s → ItemsAre ws s
 items_read ws s e = let t = texts_told ws [] s e in subst (ItemsAre ws) (sym t.gives) (t.words, t.fit)
 
-numbers_again : (ms : List ℤ) (texts : List (List ℕ)) (ns : List ℤ) → AllByRecursion IsNumber ms → steps item_taken (items_of texts (Some ns)) (map number_word ms) ≡ Some (items_of texts (Some (ns ++ ms)))
-numbers_again [] texts ns fit = ap (λ x. Some (items_of texts (Some x))) (sym (append-nil ns))
-numbers_again (m ∷ ms) texts ns fit = rw (read_number_word m fit.0) (numbers_again ms texts (ns ++ m ∷ []) fit.1 ∙ ap (λ x. Some (items_of texts (Some x))) (append_assoc ns (m ∷ []) ms))
+numbers_again : (ms : List ℤ) (texts : List (List ℕ)) (ns : List ℤ) → AllByRecursion IsNumber ms → steps item_taken (items_from texts (Some ns)) (map number_word ms) ≡ Some (items_from texts (Some (ns ++ ms)))
+numbers_again [] texts ns fit = ap (λ x. Some (items_from texts (Some x))) (sym (append-nil ns))
+numbers_again (m ∷ ms) texts ns fit = rw (read_number_word m fit.0) (numbers_again ms texts (ns ++ m ∷ []) fit.1 ∙ ap (λ x. Some (items_from texts (Some x))) (append_assoc ns (m ∷ []) ms))
 
-start_again : (texts : List (List ℕ)) (start : Option (List ℤ)) → AreNumbers start → steps item_taken (items_of texts None) (start_words start) ≡ Some (items_of texts start)
+start_again : (texts : List (List ℕ)) (start : Option (List ℤ)) → AreNumbers start → steps item_taken (items_from texts None) (start_words start) ≡ Some (items_from texts start)
 start_again texts None fit = refl
 start_again texts (Some ns) fit = numbers_again ns texts [] fit
 
-texts_again : (ts texts : List (List ℕ)) (start : Option (List ℤ)) → AreNumbers start → steps item_taken (items_of texts None) (map text_word ts ++ start_words start) ≡ Some (items_of (texts ++ ts) start)
-texts_again [] texts start fit = start_again texts start fit ∙ ap (λ x. Some (items_of x start)) (sym (append-nil texts))
-texts_again (t ∷ ts) texts start fit = texts_again ts (texts ++ t ∷ []) start fit ∙ ap (λ x. Some (items_of x start)) (append_assoc texts (t ∷ []) ts)
+texts_again : (ts texts : List (List ℕ)) (start : Option (List ℤ)) → AreNumbers start → steps item_taken (items_from texts None) (map text_word ts ++ start_words start) ≡ Some (items_from (texts ++ ts) start)
+texts_again [] texts start fit = start_again texts start fit ∙ ap (λ x. Some (items_from x start)) (sym (append-nil texts))
+texts_again (t ∷ ts) texts start fit = texts_again ts (texts ++ t ∷ []) start fit ∙ ap (λ x. Some (items_from x start)) (append_assoc texts (t ∷ []) ts)
 
-read_items : (texts : List (List ℕ)) (start : Option (List ℤ)) → AreNumbers start → items_in (map text_word texts ++ start_words start) ≡ Some (items_of texts start)
+read_items : (texts : List (List ℕ)) (start : Option (List ℤ)) → AreNumbers start → items_in (map text_word texts ++ start_words start) ≡ Some (items_from texts start)
 read_items texts start fit = texts_again texts [] start fit
 
 -- ---- marked items
@@ -107,18 +107,18 @@ record MarksTold (items : List MarkedText) (texts : List (List ℕ)) (all : List
   words : map text_word texts ≡ map marked_word more
   marks : AllByRecursion IsMarked more
 
-mark_step : (text : List ℕ) (texts : List (List ℕ)) (items all : List MarkedText) (m : MarkedText) → marked_in text ≡ Some m → MarksTold (items ++ m ∷ []) texts all → MarksTold items (text ∷ texts) all
+mark_step : (text : List ℕ) (texts : List (List ℕ)) (items all : List MarkedText) (m : MarkedText) → marked_text_in text ≡ Some m → MarksTold (items ++ m ∷ []) texts all → MarksTold items (text ∷ texts) all
 mark_step text texts items all m em t =
     let r = marked_read text m em in
     record { more = m ∷ t.more; gives = t.gives ∙ append_assoc items (m ∷ []) t.more; words = rw (← r.0, t.words) refl; marks = (r.1, t.marks) }
 
-marks_if : (text : List ℕ) (texts : List (List ℕ)) (items all : List MarkedText) (o : Option MarkedText) → marked_in text ≡ o → ((ms : List MarkedText) → steps with_item ms texts ≡ Some all → MarksTold ms texts all) → option_and_then (λ t. steps with_item t texts) (option_map (λ item. items ++ item ∷ []) o) ≡ Some all → MarksTold items (text ∷ texts) all
+marks_if : (text : List ℕ) (texts : List (List ℕ)) (items all : List MarkedText) (o : Option MarkedText) → marked_text_in text ≡ o → ((ms : List MarkedText) → steps with_item ms texts ≡ Some all → MarksTold ms texts all) → option_and_then (λ t. steps with_item t texts) (option_map (λ item. items ++ item ∷ []) o) ≡ Some all → MarksTold items (text ∷ texts) all
 marks_if text texts items all None eo later e = absurd cc
 marks_if text texts items all (Some m) eo later e = mark_step text texts items all m eo (later (items ++ m ∷ []) e)
 
 marks_told : (texts : List (List ℕ)) (items all : List MarkedText) → steps with_item items texts ≡ Some all → MarksTold items texts all
 marks_told [] items all e = record { more = []; gives = (let same : items ≡ all = cc in sym same ∙ sym (append-nil items)); words = refl; marks = tt }
-marks_told (text ∷ texts) items all e = marks_if text texts items all (marked_in text) refl (λ ms. marks_told texts ms all) e
+marks_told (text ∷ texts) items all e = marks_if text texts items all (marked_text_in text) refl (λ ms. marks_told texts ms all) e
 
 record MarksAre (texts : List (List ℕ)) (items : List MarkedText) : Type 0 where
   words : map text_word texts ≡ map marked_word items
@@ -222,7 +222,7 @@ read_boxes items start are some fit rising =
     ∙ ap (option_and_then boxes_of) (read_items (map plain items) (start_of start) (start_of_numbers start fit))
     ∙ rw (read_marks items are some, read_start start rising) refl
 
-checks_made : (at : Position) (m x y w : Word) (fs : List Word) (n : Node) → ((items : List MarkedText × List ℤ) × (name : List ℕ) × (p : Place) × (option_and_then boxes_of (items_in fs) ≡ Some items) × (name_in m ≡ Some name) × (place_in x y w ≡ Some p) × (node_at at p (kinds.CheckBoxes (record { name = name; items = items.0; start = items.1 })) ≡ n)) → IsNodeOf at n (Bare (codes "checks") ∷ m ∷ x ∷ y ∷ w ∷ fs)
+checks_made : (at : Position) (m x y w : Word) (fs : List Word) (n : Node) → ((items : List MarkedText × List ℤ) × (name : List ℕ) × (p : Place) × (option_and_then boxes_of (items_in fs) ≡ Some items) × (name_in m ≡ Some name) × (place_from x y w ≡ Some p) × (node_at at p (kinds.CheckBoxes (record { name = name; items = items.0; start = items.1 })) ≡ n)) → IsNodeOf at n (Bare (codes "checks") ∷ m ∷ x ∷ y ∷ w ∷ fs)
 checks_made at m x y w fs n (items, name, p, ei, em, ep, same) =
     let named = name_read m name em in
     let are = boxes_read fs items ei in
@@ -233,7 +233,7 @@ checks_line at [] n e = absurd cc
 checks_line at (a ∷ []) n e = absurd cc
 checks_line at (a ∷ b ∷ []) n e = absurd cc
 checks_line at (a ∷ b ∷ c ∷ []) n e = absurd cc
-checks_line at (m ∷ x ∷ y ∷ w ∷ fs) n e = checks_made at m x y w fs n (with3_some _ (option_and_then boxes_of (items_in fs)) (name_in m) (place_in x y w) n e)
+checks_line at (m ∷ x ∷ y ∷ w ∷ fs) n e = checks_made at m x y w fs n (with3_some _ (option_and_then boxes_of (items_in fs)) (name_in m) (place_from x y w) n e)
 
 -- ---- radio buttons
 
@@ -261,7 +261,7 @@ read_choices items start are some fit =
     ∙ ap (option_and_then radios_of) (read_items (map plain items) (Some (start ∷ [])) (fit, tt))
     ∙ rw (read_marks items are some) refl
 
-radios_made : (at : Position) (m x y w : Word) (fs : List Word) (n : Node) → ((items : List MarkedText × ℤ) × (name : List ℕ) × (p : Place) × (option_and_then radios_of (items_in fs) ≡ Some items) × (name_in m ≡ Some name) × (place_in x y w ≡ Some p) × (node_at at p (kinds.RadioButtons (record { name = name; items = items.0; start = items.1 })) ≡ n)) → IsNodeOf at n (Bare (codes "radios") ∷ m ∷ x ∷ y ∷ w ∷ fs)
+radios_made : (at : Position) (m x y w : Word) (fs : List Word) (n : Node) → ((items : List MarkedText × ℤ) × (name : List ℕ) × (p : Place) × (option_and_then radios_of (items_in fs) ≡ Some items) × (name_in m ≡ Some name) × (place_from x y w ≡ Some p) × (node_at at p (kinds.RadioButtons (record { name = name; items = items.0; start = items.1 })) ≡ n)) → IsNodeOf at n (Bare (codes "radios") ∷ m ∷ x ∷ y ∷ w ∷ fs)
 radios_made at m x y w fs n (items, name, p, ei, em, ep, same) =
     let named = name_read m name em in
     let are = choices_read fs items ei in
@@ -272,7 +272,7 @@ radios_line at [] n e = absurd cc
 radios_line at (a ∷ []) n e = absurd cc
 radios_line at (a ∷ b ∷ []) n e = absurd cc
 radios_line at (a ∷ b ∷ c ∷ []) n e = absurd cc
-radios_line at (m ∷ x ∷ y ∷ w ∷ fs) n e = radios_made at m x y w fs n (with3_some _ (option_and_then radios_of (items_in fs)) (name_in m) (place_in x y w) n e)
+radios_line at (m ∷ x ∷ y ∷ w ∷ fs) n e = radios_made at m x y w fs n (with3_some _ (option_and_then radios_of (items_in fs)) (name_in m) (place_from x y w) n e)
 
 -- ---- lists
 
@@ -303,7 +303,7 @@ some_texts (t ∷ ts) some = refl
 pub read_rows : (items : List (List ℕ)) (start : ℤ) → items ≢ [] → IsNumber start → option_and_then rows_of (items_in (map text_word items ++ (Bare (codes "start") ∷ number_word start ∷ []))) ≡ Some (items, start)
 read_rows items start some fit = ap (option_and_then rows_of) (read_items items (Some (start ∷ [])) (fit, tt)) ∙ rw (some_texts items some) refl
 
-list_made : (at : Position) (m x y w h : Word) (fs : List Word) (n : Node) → ((items : List (List ℕ) × ℤ) × (name : List ℕ) × (p : Place) × (rows : ℤ) × (option_and_then rows_of (items_in fs) ≡ Some items) × (name_in m ≡ Some name) × (place_in x y w ≡ Some p) × (number_in h ≡ Some rows) × (node_at at p (kinds.List (record { name = name; h = rows; items = items.0; start = items.1 })) ≡ n)) → IsNodeOf at n (Bare (codes "list") ∷ m ∷ x ∷ y ∷ w ∷ h ∷ fs)
+list_made : (at : Position) (m x y w h : Word) (fs : List Word) (n : Node) → ((items : List (List ℕ) × ℤ) × (name : List ℕ) × (p : Place) × (rows : ℤ) × (option_and_then rows_of (items_in fs) ≡ Some items) × (name_in m ≡ Some name) × (place_from x y w ≡ Some p) × (number_in h ≡ Some rows) × (node_at at p (kinds.List (record { name = name; h = rows; items = items.0; start = items.1 })) ≡ n)) → IsNodeOf at n (Bare (codes "list") ∷ m ∷ x ∷ y ∷ w ∷ h ∷ fs)
 list_made at m x y w h fs n (items, name, p, rows, ei, em, ep, eh, same) =
     let named = name_read m name em in
     let high = number_word_read h rows eh in
@@ -316,4 +316,4 @@ list_line at (a ∷ []) n e = absurd cc
 list_line at (a ∷ b ∷ []) n e = absurd cc
 list_line at (a ∷ b ∷ c ∷ []) n e = absurd cc
 list_line at (a ∷ b ∷ c ∷ d ∷ []) n e = absurd cc
-list_line at (m ∷ x ∷ y ∷ w ∷ h ∷ fs) n e = list_made at m x y w h fs n (with4_some _ (option_and_then rows_of (items_in fs)) (name_in m) (place_in x y w) (number_in h) n e)
+list_line at (m ∷ x ∷ y ∷ w ∷ h ∷ fs) n e = list_made at m x y w h fs n (with4_some _ (option_and_then rows_of (items_in fs)) (name_in m) (place_from x y w) (number_in h) n e)

@@ -11,7 +11,7 @@ use Rattle.tv_words.specs.declared.word.Word.{Word}
 use Rattle.tv_words.specs.declared.word.Word.TheVariants.{Bare, Quoted}
 use Rattle.tv_words.specs.Fields.{is_bare_word}
 use Rattle.tv_words.specs.Reading.Numbers.{number_of}
-use Rattle.tv_declarations.specs.Reading.Keys.{first_named, named_keys, named_key, is_control, control_letter, is_alt, alt_letter, function_key, function_in, key_by, key_of, lettered_key, key_from, key_in}
+use Rattle.tv_declarations.specs.Reading.Keys.{key_named, named_keys, named_key, is_control_prefix, control_letter, is_alt, alt_letter, function_key, function_in, key_by, key_by_name, lettered_key, key_from, key_in}
 use Rattle.std.specs.Fmt.{signed_decimal}
 use Rattle.tv_words.specs.Fields.{IsNumber}
 use Rattle.tv_declarations.specs.Spelling.Keys.{key_name, key_text, key_word, IsKey}
@@ -29,9 +29,9 @@ named_if w keyword c d rest false eb spelled is other e = other e
 abbrev IsNamed : Key → Type 0
 IsNamed key = (Bare (key_name key) ≡ key_word key) × IsKey key
 
-first_read : (ks : List Key) (w : Word) (d : Key) → AllByRecursion IsNamed ks → first_named ks w ≡ Some d → Names w d
+first_read : (ks : List Key) (w : Word) (d : Key) → AllByRecursion IsNamed ks → key_named ks w ≡ Some d → Names w d
 first_read [] w d are e = absurd cc
-first_read (k ∷ ks) w d are e = named_if w (key_name k) k d (first_named ks w) (is_bare_word w (key_name k)) refl are.0.0 are.0.1 (first_read ks w d are.1) e
+first_read (k ∷ ks) w d are e = named_if w (key_name k) k d (key_named ks w) (is_bare_word w (key_name k)) refl are.0.0 are.0.1 (first_read ks w d are.1) e
 
 named_read : (w : Word) (d : Key) → named_key w ≡ Some d → Names w d
 named_read w d e = first_read named_keys w d ((refl, tt), ((refl, tt), ((refl, tt), ((refl, tt), ((refl, tt), ((refl, tt), ((refl, tt), ((refl, tt), ((refl, tt), ((refl, tt), ((refl, tt), ((refl, tt), ((refl, tt), ((refl, tt), ((refl, tt), ((refl, tt), ((refl, tt), tt))))))))))))))))) e
@@ -72,7 +72,7 @@ and_true : (a b : Bool) → (a && b) ≡ true → (a ≡ true) × (b ≡ true)
 and_true true b e = (refl, e)
 and_true false b e = absurd cc
 
-control_at : (a b c d e k l : ℕ) (q : Bool) → is_control a b c d e ≡ q → cond q (Some k) None ≡ Some l → a ∷ b ∷ c ∷ d ∷ e ∷ k ∷ [] ≡ 67 ∷ 116 ∷ 114 ∷ 108 ∷ 45 ∷ l ∷ []
+control_at : (a b c d e k l : ℕ) (q : Bool) → is_control_prefix a b c d e ≡ q → cond q (Some k) None ≡ Some l → a ∷ b ∷ c ∷ d ∷ e ∷ k ∷ [] ≡ 67 ∷ 116 ∷ 114 ∷ 108 ∷ 45 ∷ l ∷ []
 control_at a b c d e k l true eq found =
     let same : k ≡ l = cc in
     let ta = and_true (a == 67) (b == 116 && (c == 114 && (d == 108 && e == 45))) eq in
@@ -89,7 +89,7 @@ control_read (a ∷ b ∷ []) l h = absurd cc
 control_read (a ∷ b ∷ c ∷ []) l h = absurd cc
 control_read (a ∷ b ∷ c ∷ d ∷ []) l h = absurd cc
 control_read (a ∷ b ∷ c ∷ d ∷ e ∷ []) l h = absurd cc
-control_read (a ∷ b ∷ c ∷ d ∷ e ∷ k ∷ []) l h = control_at a b c d e k l (is_control a b c d e) refl h
+control_read (a ∷ b ∷ c ∷ d ∷ e ∷ k ∷ []) l h = control_at a b c d e k l (is_control_prefix a b c d e) refl h
 control_read (a ∷ b ∷ c ∷ d ∷ e ∷ k ∷ m ∷ ns) l h = absurd cc
 
 alt_at : (a b c d k l : ℕ) (q : Bool) → is_alt a b c d ≡ q → cond q (Some k) None ≡ Some l → a ∷ b ∷ c ∷ d ∷ k ∷ [] ≡ 65 ∷ 108 ∷ 116 ∷ 45 ∷ l ∷ []
@@ -115,7 +115,7 @@ text_by text d (Some l) alt ec ea e = rw (control_read text l ec) (control_if l 
 text_by text d None (Some l) ec ea e = rw (alt_read text l ea) (alt_if l d (is_ascii_uppercase l || is_ascii_digit l) refl e)
 text_by text d None None ec ea e = function_read text d e
 
-text_read : (text : List ℕ) (d : Key) → key_of text ≡ Some d → NamesText text d
+text_read : (text : List ℕ) (d : Key) → key_by_name text ≡ Some d → NamesText text d
 text_read text d e = text_by text d (control_letter text) (alt_letter text) refl refl e
 
 lettered_read : (w : Word) (d : Key) → lettered_key w ≡ Some d → Names w d
@@ -130,7 +130,7 @@ pub key_read : (w : Word) (d : Key) → key_in w ≡ Some d → (w ≡ key_word 
 key_read w d e = key_if w d (lettered_key w) refl e
 
 -- F1 to F12
-function_text : (cs : List ℕ) → key_of (70 ∷ cs) ≡ function_in (70 ∷ cs)
+function_text : (cs : List ℕ) → key_by_name (70 ∷ cs) ≡ function_in (70 ∷ cs)
 function_text [] = refl
 function_text (a ∷ []) = refl
 function_text (a ∷ b ∷ []) = refl

@@ -8,7 +8,7 @@ use Rattle.tv_event.specs.declared.event.Key.{Key}
 use Rattle.tv_words.specs.declared.word.Word.TheVariants.{Bare}
 use Rattle.tv_words.specs.Reading.Numbers.{number_of}
 use Rattle.tv_words.proofs.TokenLemmas.{long_number}
-use Rattle.tv_declarations.specs.Reading.Keys.{first_named, named_keys, function_key, key_of, key_in}
+use Rattle.tv_declarations.specs.Reading.Keys.{key_named, named_keys, function_key, key_by_name, key_in}
 use Rattle.tv_declarations.specs.Spelling.Keys.{key_name}
 
 -- a name that is short
@@ -26,15 +26,15 @@ none_if b true true key rest e other later = rw (other refl) (later refl)
 none_if b false d key rest e other later = absurd cc
 none_if b true false key rest e other later = absurd cc
 
-none_named : (ks : List Key) (text : List ℕ) → list_all is_short ks ≡ true → 12 < length text → first_named ks (Bare text) ≡ None
+none_named : (ks : List Key) (text : List ℕ) → list_all is_short ks ≡ true → 12 < length text → key_named ks (Bare text) ≡ None
 none_named [] text e long = refl
-none_named (k ∷ ks) text e long = none_if (bytes_eq text (key_name k)) (is_short k) (list_all is_short ks) k (first_named ks (Bare text)) e (λ short. other_if text (key_name k) (bytes_eq text (key_name k)) refl short long) (λ all. none_named ks text all long)
+none_named (k ∷ ks) text e long = none_if (bytes_eq text (key_name k)) (is_short k) (list_all is_short ks) k (key_named ks (Bare text)) e (λ short. other_if text (key_name k) (bytes_eq text (key_name k)) refl short long) (λ all. none_named ks text all long)
 
 function_if : (b : Bool) (digits : List ℕ) → 11 < length digits → cond b (function_key (number_of digits)) None ≡ None
 function_if false digits long = refl
 function_if true digits long = rw (long_number digits long) refl
 
-none_lettered : (text : List ℕ) → 12 < length text → key_of text ≡ None
+none_lettered : (text : List ℕ) → 12 < length text → key_by_name text ≡ None
 none_lettered [] long = absurd (omega (arith, long))
 none_lettered (a ∷ []) long = absurd (omega (arith, long))
 none_lettered (a ∷ b ∷ []) long = absurd (omega (arith, long))

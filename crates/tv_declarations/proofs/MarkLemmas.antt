@@ -8,7 +8,7 @@ use Rattle.std.proofs.lemmas.Bool.{eqb-true}
 use Rattle.std.proofs.lemmas.Bool.Decides.{nat_tests}
 use Rattle.std.proofs.Math.Seq.{take-append_seam, drop-append-add, get_or-append_seam}
 use Rattle.tv_model.specs.declared.kind.MarkedText.{MarkedText}
-use Rattle.tv_declarations.specs.Reading.Marks.{end_of_mark, marked_at, marked_from, marked_in}
+use Rattle.tv_declarations.specs.Reading.Marks.{end_of_mark, marked_at, marked_from, marked_text_in}
 use Rattle.tv_declarations.specs.Spelling.Terms.{is_tilde, with_mark, IsMarked}
 
 abbrev place_of : List ℕ → ℕ
@@ -145,10 +145,10 @@ marked_found cs m (Some k) eo e =
     rw h.2 (marked_made front after m (end_of_mark after) refl h.4 e2)
 
 -- what is read is the text that is spelled so
-pub marked_read : (cs : List ℕ) (m : MarkedText) → marked_in cs ≡ Some m → (with_mark m.mark m.text ≡ cs) × IsMarked m
+pub marked_read : (cs : List ℕ) (m : MarkedText) → marked_text_in cs ≡ Some m → (with_mark m.mark m.text ≡ cs) × IsMarked m
 marked_read cs m e = marked_found cs m (position is_tilde cs) refl e
 
-read_mark : (front : List ℕ) (c : ℕ) (back : List ℕ) → list_any is_tilde front ≡ false → is_ascii_alphanumeric c ≡ true → list_any is_tilde back ≡ false → marked_in (front ++ (126 ∷ c ∷ 126 ∷ back)) ≡ Some (record { text = front ++ (c ∷ back); mark = Some (length front) })
+read_mark : (front : List ℕ) (c : ℕ) (back : List ℕ) → list_any is_tilde front ≡ false → is_ascii_alphanumeric c ≡ true → list_any is_tilde back ≡ false → marked_text_in (front ++ (126 ∷ c ∷ 126 ∷ back)) ≡ Some (record { text = front ++ (c ∷ back); mark = Some (length front) })
 read_mark front c back a letter b =
     rw (position_before front (c ∷ 126 ∷ back) a, take-append_seam front (126 ∷ c ∷ 126 ∷ back), drop-append-add front (126 ∷ c ∷ 126 ∷ back) 1, letter, b) refl
 
@@ -161,7 +161,7 @@ marked text place = record { text = text; mark = Some place }
 marked_same : (a b : List ℕ) (i j : ℕ) → a ≡ b → i ≡ j → marked a i ≡ marked b j
 marked_same a b i j e f = rw (e, f) refl
 
-read_marked_at : (text : List ℕ) (mark : Option ℕ) → IsMarked (record { text = text; mark = mark }) → marked_in (with_mark mark text) ≡ Some (record { text = text; mark = mark })
+read_marked_at : (text : List ℕ) (mark : Option ℕ) → IsMarked (record { text = text; mark = mark }) → marked_text_in (with_mark mark text) ≡ Some (record { text = text; mark = mark })
 read_marked_at text None is = rw (position_none text is.0) refl
 read_marked_at text (Some k) is =
     let front = take k text in
@@ -173,5 +173,5 @@ read_marked_at text (Some k) is =
     read_mark front c back none.0 is.1.1 none.1 ∙ ap (λ x. Some x) (marked_same (front ++ (c ∷ back)) text (length front) k (sym parts) place)
 
 -- the text that is spelled so is read
-pub read_marked : (m : MarkedText) → IsMarked m → marked_in (with_mark m.mark m.text) ≡ Some m
+pub read_marked : (m : MarkedText) → IsMarked m → marked_text_in (with_mark m.mark m.text) ≡ Some m
 read_marked m is = read_marked_at m.text m.mark is

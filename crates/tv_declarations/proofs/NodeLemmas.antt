@@ -14,7 +14,7 @@ use Rattle.tv_words.specs.declared.word.Word.TheVariants.{Bare}
 use Rattle.tv_words.specs.Fields.{is_bare_word, name_in, text_in}
 use Rattle.tv_words.specs.Reading.Numbers.{number_in}
 use Rattle.tv_declarations.specs.Reading.Commands.{command_in, ends_in, button_options_in}
-use Rattle.tv_declarations.specs.Reading.Places.{place_in, mark_in, node_at}
+use Rattle.tv_declarations.specs.Reading.Places.{place_from, mark_in, node_at}
 use Rattle.tv_declarations.specs.Reading.Nodes.{text_in_fields, label_in, button_in, pane_in, window_in, opened_in, commands_in, dialog_in}
 use Rattle.tv_declarations.specs.Spelling.Terms.{ends_words}
 use Rattle.tv_words.specs.Fields.{IsNumber}
@@ -25,7 +25,7 @@ use Rattle.tv_declarations.proofs.CommandLemmas.{command_read, ends_read, read_e
 use Rattle.tv_declarations.proofs.PlaceLemmas.{IsNodeOf, node_made, mark_read}
 
 -- texts
-text_made : (at : Position) (x y w h t : Word) (n : Node) → ((p : Place) × (rows : ℤ) × (text : List ℕ) × (place_in x y w ≡ Some p) × (number_in h ≡ Some rows) × (text_in t ≡ Some text) × (node_at at p (kinds.Text (record { h = rows; text = text })) ≡ n)) → IsNodeOf at n (Bare (codes "text") ∷ x ∷ y ∷ w ∷ h ∷ t ∷ [])
+text_made : (at : Position) (x y w h t : Word) (n : Node) → ((p : Place) × (rows : ℤ) × (text : List ℕ) × (place_from x y w ≡ Some p) × (number_in h ≡ Some rows) × (text_in t ≡ Some text) × (node_at at p (kinds.Text (record { h = rows; text = text })) ≡ n)) → IsNodeOf at n (Bare (codes "text") ∷ x ∷ y ∷ w ∷ h ∷ t ∷ [])
 text_made at x y w h t n (p, rows, text, ep, eh, et, same) =
     let high = number_word_read h rows eh in
     node_made at x y w p (kinds.Text (record { h = rows; text = text })) _ n ep high.1 (rw (high.0, text_read t text et) refl) same
@@ -36,11 +36,11 @@ text_line at (a ∷ []) n e = absurd cc
 text_line at (a ∷ b ∷ []) n e = absurd cc
 text_line at (a ∷ b ∷ c ∷ []) n e = absurd cc
 text_line at (a ∷ b ∷ c ∷ d ∷ []) n e = absurd cc
-text_line at (x ∷ y ∷ w ∷ h ∷ t ∷ []) n e = text_made at x y w h t n (with3_some _ (place_in x y w) (number_in h) (text_in t) n e)
+text_line at (x ∷ y ∷ w ∷ h ∷ t ∷ []) n e = text_made at x y w h t n (with3_some _ (place_from x y w) (number_in h) (text_in t) n e)
 text_line at (a ∷ b ∷ c ∷ d ∷ f ∷ g ∷ hs) n e = absurd cc
 
 -- labels
-label_made : (at : Position) (x y w t l : Word) (n : Node) → ((text : MarkedText) × (p : Place) × (link : List ℕ) × (mark_in t ≡ Some text) × (place_in x y w ≡ Some p) × (name_in l ≡ Some link) × (node_at at p (kinds.Label (record { text = text; link = link })) ≡ n)) → IsNodeOf at n (Bare (codes "label") ∷ x ∷ y ∷ w ∷ t ∷ l ∷ [])
+label_made : (at : Position) (x y w t l : Word) (n : Node) → ((text : MarkedText) × (p : Place) × (link : List ℕ) × (mark_in t ≡ Some text) × (place_from x y w ≡ Some p) × (name_in l ≡ Some link) × (node_at at p (kinds.Label (record { text = text; link = link })) ≡ n)) → IsNodeOf at n (Bare (codes "label") ∷ x ∷ y ∷ w ∷ t ∷ l ∷ [])
 label_made at x y w t l n (text, p, link, et, ep, el, same) =
     let marks = mark_read t text et in
     let named = name_read l link el in
@@ -52,11 +52,11 @@ label_line at (a ∷ []) n e = absurd cc
 label_line at (a ∷ b ∷ []) n e = absurd cc
 label_line at (a ∷ b ∷ c ∷ []) n e = absurd cc
 label_line at (a ∷ b ∷ c ∷ d ∷ []) n e = absurd cc
-label_line at (x ∷ y ∷ w ∷ t ∷ l ∷ []) n e = label_made at x y w t l n (with3_some _ (mark_in t) (place_in x y w) (name_in l) n e)
+label_line at (x ∷ y ∷ w ∷ t ∷ l ∷ []) n e = label_made at x y w t l n (with3_some _ (mark_in t) (place_from x y w) (name_in l) n e)
 label_line at (a ∷ b ∷ c ∷ d ∷ f ∷ g ∷ hs) n e = absurd cc
 
 -- buttons
-button_made : (at : Position) (m x y w t c : Word) (os : List Word) (n : Node) → ((text : MarkedText) × (name : List ℕ) × (p : Place) × (command : CommandSpec) × (options : Bool × Bool) × (mark_in t ≡ Some text) × (name_in m ≡ Some name) × (place_in x y w ≡ Some p) × (command_in c ≡ Some command) × (button_options_in os ≡ Some options) × (node_at at p (kinds.Button (record { name = name; text = text; command = command; is_default = options.0; grabs = options.1 })) ≡ n)) → IsNodeOf at n (Bare (codes "button") ∷ m ∷ x ∷ y ∷ w ∷ t ∷ c ∷ os)
+button_made : (at : Position) (m x y w t c : Word) (os : List Word) (n : Node) → ((text : MarkedText) × (name : List ℕ) × (p : Place) × (command : CommandSpec) × (options : Bool × Bool) × (mark_in t ≡ Some text) × (name_in m ≡ Some name) × (place_from x y w ≡ Some p) × (command_in c ≡ Some command) × (button_options_in os ≡ Some options) × (node_at at p (kinds.Button (record { name = name; text = text; command = command; is_default = options.0; grabs = options.1 })) ≡ n)) → IsNodeOf at n (Bare (codes "button") ∷ m ∷ x ∷ y ∷ w ∷ t ∷ c ∷ os)
 button_made at m x y w t c os n (text, name, p, command, options, et, em, ep, ec, eo, same) =
     let marks = mark_read t text et in
     let named = name_read m name em in
@@ -70,10 +70,10 @@ button_line at (a ∷ b ∷ []) n e = absurd cc
 button_line at (a ∷ b ∷ c ∷ []) n e = absurd cc
 button_line at (a ∷ b ∷ c ∷ d ∷ []) n e = absurd cc
 button_line at (a ∷ b ∷ c ∷ d ∷ f ∷ []) n e = absurd cc
-button_line at (m ∷ x ∷ y ∷ w ∷ t ∷ c ∷ os) n e = button_made at m x y w t c os n (with5_some _ (mark_in t) (name_in m) (place_in x y w) (command_in c) (button_options_in os) n e)
+button_line at (m ∷ x ∷ y ∷ w ∷ t ∷ c ∷ os) n e = button_made at m x y w t c os n (with5_some _ (mark_in t) (name_in m) (place_from x y w) (command_in c) (button_options_in os) n e)
 
 -- panes
-pane_made : (at : Position) (m x y w h : Word) (n : Node) → ((name : List ℕ) × (p : Place) × (rows : ℤ) × (name_in m ≡ Some name) × (place_in x y w ≡ Some p) × (number_in h ≡ Some rows) × (node_at at p (kinds.Pane (record { name = name; h = rows })) ≡ n)) → IsNodeOf at n (Bare (codes "pane") ∷ m ∷ x ∷ y ∷ w ∷ h ∷ [])
+pane_made : (at : Position) (m x y w h : Word) (n : Node) → ((name : List ℕ) × (p : Place) × (rows : ℤ) × (name_in m ≡ Some name) × (place_from x y w ≡ Some p) × (number_in h ≡ Some rows) × (node_at at p (kinds.Pane (record { name = name; h = rows })) ≡ n)) → IsNodeOf at n (Bare (codes "pane") ∷ m ∷ x ∷ y ∷ w ∷ h ∷ [])
 pane_made at m x y w h n (name, p, rows, em, ep, eh, same) =
     let named = name_read m name em in
     let high = number_word_read h rows eh in
@@ -85,11 +85,11 @@ pane_line at (a ∷ []) n e = absurd cc
 pane_line at (a ∷ b ∷ []) n e = absurd cc
 pane_line at (a ∷ b ∷ c ∷ []) n e = absurd cc
 pane_line at (a ∷ b ∷ c ∷ d ∷ []) n e = absurd cc
-pane_line at (m ∷ x ∷ y ∷ w ∷ h ∷ []) n e = pane_made at m x y w h n (with3_some _ (name_in m) (place_in x y w) (number_in h) n e)
+pane_line at (m ∷ x ∷ y ∷ w ∷ h ∷ []) n e = pane_made at m x y w h n (with3_some _ (name_in m) (place_from x y w) (number_in h) n e)
 pane_line at (a ∷ b ∷ c ∷ d ∷ f ∷ g ∷ hs) n e = absurd cc
 
 -- windows
-window_made : (at : Position) (m x y w h k t : Word) (n : Node) → ((name : List ℕ) × (p : Place) × (rows : ℤ) × (number : ℤ) × (title : List ℕ) × (name_in m ≡ Some name) × (place_in x y w ≡ Some p) × (number_in h ≡ Some rows) × (number_in k ≡ Some number) × (text_in t ≡ Some title) × (node_at at p (kinds.Window (record { name = name; h = rows; number = number; title = title })) ≡ n)) → IsNodeOf at n (Bare (codes "window") ∷ m ∷ x ∷ y ∷ w ∷ h ∷ k ∷ t ∷ [])
+window_made : (at : Position) (m x y w h k t : Word) (n : Node) → ((name : List ℕ) × (p : Place) × (rows : ℤ) × (number : ℤ) × (title : List ℕ) × (name_in m ≡ Some name) × (place_from x y w ≡ Some p) × (number_in h ≡ Some rows) × (number_in k ≡ Some number) × (text_in t ≡ Some title) × (node_at at p (kinds.Window (record { name = name; h = rows; number = number; title = title })) ≡ n)) → IsNodeOf at n (Bare (codes "window") ∷ m ∷ x ∷ y ∷ w ∷ h ∷ k ∷ t ∷ [])
 window_made at m x y w h k t n (name, p, rows, number, title, em, ep, eh, ek, et, same) =
     let named = name_read m name em in
     let high = number_word_read h rows eh in
@@ -104,7 +104,7 @@ window_line at (a ∷ b ∷ c ∷ []) n e = absurd cc
 window_line at (a ∷ b ∷ c ∷ d ∷ []) n e = absurd cc
 window_line at (a ∷ b ∷ c ∷ d ∷ f ∷ []) n e = absurd cc
 window_line at (a ∷ b ∷ c ∷ d ∷ f ∷ g ∷ []) n e = absurd cc
-window_line at (m ∷ x ∷ y ∷ w ∷ h ∷ k ∷ t ∷ []) n e = window_made at m x y w h k t n (with5_some _ (name_in m) (place_in x y w) (number_in h) (number_in k) (text_in t) n e)
+window_line at (m ∷ x ∷ y ∷ w ∷ h ∷ k ∷ t ∷ []) n e = window_made at m x y w h k t n (with5_some _ (name_in m) (place_from x y w) (number_in h) (number_in k) (text_in t) n e)
 window_line at (a ∷ b ∷ c ∷ d ∷ f ∷ g ∷ h ∷ i ∷ js) n e = absurd cc
 
 -- the commands of a dialog
@@ -142,7 +142,7 @@ read_commands None ends is = rw (read_ends ends) refl
 read_commands (Some number) ends is = rw (read_number_word number is, read_ends ends) refl
 
 -- dialogs
-dialog_made : (at : Position) (m x y w h t : Word) (cs : List Word) (n : Node) → ((name : List ℕ) × (p : Place) × (rows : ℤ) × (title : List ℕ) × (commands : Option ℤ × Ends) × (name_in m ≡ Some name) × (place_in x y w ≡ Some p) × (number_in h ≡ Some rows) × (text_in t ≡ Some title) × (commands_in cs ≡ Some commands) × (node_at at p (kinds.Dialog (record { name = name; h = rows; title = title; opens = commands.0; ends = commands.1 })) ≡ n)) → IsNodeOf at n (Bare (codes "dialog") ∷ m ∷ x ∷ y ∷ w ∷ h ∷ t ∷ cs)
+dialog_made : (at : Position) (m x y w h t : Word) (cs : List Word) (n : Node) → ((name : List ℕ) × (p : Place) × (rows : ℤ) × (title : List ℕ) × (commands : Option ℤ × Ends) × (name_in m ≡ Some name) × (place_from x y w ≡ Some p) × (number_in h ≡ Some rows) × (text_in t ≡ Some title) × (commands_in cs ≡ Some commands) × (node_at at p (kinds.Dialog (record { name = name; h = rows; title = title; opens = commands.0; ends = commands.1 })) ≡ n)) → IsNodeOf at n (Bare (codes "dialog") ∷ m ∷ x ∷ y ∷ w ∷ h ∷ t ∷ cs)
 dialog_made at m x y w h t cs n (name, p, rows, title, commands, em, ep, eh, et, ec, same) =
     let named = name_read m name em in
     let high = number_word_read h rows eh in
@@ -156,4 +156,4 @@ dialog_line at (a ∷ b ∷ []) n e = absurd cc
 dialog_line at (a ∷ b ∷ c ∷ []) n e = absurd cc
 dialog_line at (a ∷ b ∷ c ∷ d ∷ []) n e = absurd cc
 dialog_line at (a ∷ b ∷ c ∷ d ∷ f ∷ []) n e = absurd cc
-dialog_line at (m ∷ x ∷ y ∷ w ∷ h ∷ t ∷ cs) n e = dialog_made at m x y w h t cs n (with5_some _ (name_in m) (place_in x y w) (number_in h) (text_in t) (commands_in cs) n e)
+dialog_line at (m ∷ x ∷ y ∷ w ∷ h ∷ t ∷ cs) n e = dialog_made at m x y w h t cs n (with5_some _ (name_in m) (place_from x y w) (number_in h) (text_in t) (commands_in cs) n e)

@@ -10,11 +10,11 @@ use Rattle.tv_words.specs.declared.word.Word.{Word}
 use Rattle.tv_words.specs.declared.word.Word.TheVariants.{Quoted}
 use Rattle.tv_words.specs.Fields.{text_in}
 use Rattle.tv_words.specs.Reading.Numbers.{number_in}
-use Rattle.tv_declarations.specs.Reading.Marks.{marked_in}
-use Rattle.tv_declarations.specs.Reading.Places.{place_in, node_at, mark_in}
+use Rattle.tv_declarations.specs.Reading.Marks.{marked_text_in}
+use Rattle.tv_declarations.specs.Reading.Places.{place_from, node_at, mark_in}
 use Rattle.tv_words.specs.Fields.{number_word, IsNumber}
 use Rattle.tv_declarations.specs.Spelling.Terms.{marked_word, IsMarked}
-use Rattle.tv_declarations.specs.Spelling.Nodes.{kind_words, node_words, IsKind}
+use Rattle.tv_declarations.specs.Spelling.Nodes.{kind_words, node_words, IsSpelledKind}
 use Rattle.tv_declarations.specs.Spelling.Declarations.{IsNode}
 use Rattle.tv_declarations.proofs.OptionLemmas.{then_some, with3_some}
 use Rattle.tv_words.proofs.FieldLemmas.{number_word_read, read_number_word, text_read}
@@ -35,12 +35,12 @@ place_made x y w p (a, b, c, ex, ey, ew, same) =
     let rw' = number_word_read w c ew in
     subst (PlaceIs x y w) same (record { column = rx.0; row = ry.0; across = rw'.0; x_fits = rx.1; y_fits = ry.1; w_fits = rw'.1 })
 
-pub place_read : (x y w : Word) (p : Place) → place_in x y w ≡ Some p → PlaceIs x y w p
+pub place_read : (x y w : Word) (p : Place) → place_from x y w ≡ Some p → PlaceIs x y w p
 place_read x y w p e = place_made x y w p (with3_some _ (number_in x) (number_in y) (number_in w) p e)
 
 pub mark_read : (w : Word) (m : MarkedText) → mark_in w ≡ Some m → (w ≡ marked_word m) × IsMarked m
 mark_read w m e =
-    let t = then_some marked_in (text_in w) m e in
+    let t = then_some marked_text_in (text_in w) m e in
     let r = marked_read t.0 m t.2 in
     (text_read w t.0 t.1 ∙ ap (λ x. Quoted x) (sym r.0), r.1)
 
@@ -53,7 +53,7 @@ pub record IsNodeOf (at : Position) (n : Node) (ws : List Word) : Type 0 where
   pub depth : n.depth ≡ at.depth
   pub words : ws ≡ node_words n
 
-pub node_made : (at : Position) (x y w : Word) (p : Place) (kind : Kind) (ws : List Word) (n : Node) → place_in x y w ≡ Some p → IsKind kind → ws ≡ kind_words kind x y w → node_at at p kind ≡ n → IsNodeOf at n ws
+pub node_made : (at : Position) (x y w : Word) (p : Place) (kind : Kind) (ws : List Word) (n : Node) → place_from x y w ≡ Some p → IsSpelledKind kind → ws ≡ kind_words kind x y w → node_at at p kind ≡ n → IsNodeOf at n ws
 node_made at x y w p kind ws n ep is words same =
     let place = place_read x y w p ep in
     let spelled : ws ≡ node_words (node_at at p kind) = rw (← place.column, ← place.row, ← place.across) words in
@@ -63,5 +63,5 @@ node_made at x y w p kind ws n ep is words same =
 abbrev pub on_line : ℕ → ℕ → Position
 on_line line depth = record { id = record { 0 = line }; depth = depth }
 
-pub place_again : (x y w : ℤ) → IsNumber x → IsNumber y → IsNumber w → place_in (number_word x) (number_word y) (number_word w) ≡ Some (record { x = x; y = y; w = w })
+pub place_again : (x y w : ℤ) → IsNumber x → IsNumber y → IsNumber w → place_from (number_word x) (number_word y) (number_word w) ≡ Some (record { x = x; y = y; w = w })
 place_again x y w a b c = rw (read_number_word x a, read_number_word y b, read_number_word w c) refl

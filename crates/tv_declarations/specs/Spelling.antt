@@ -39,13 +39,13 @@ abbrev pub ends_of_panes : (panes depth : ℕ) → List Declaration
 ends_of_panes panes depth = replicate (panes - depth) declared.End
 
 -- the panes that are open after the node's line
-abbrev pub open_after : Node → ℕ
-open_after n = if is_pane n.kind then n.depth + 1 else n.depth
+abbrev pub open_panes_after : Node → ℕ
+open_panes_after n = if is_pane n.kind then n.depth + 1 else n.depth
 
 -- the lines of views, from where so many panes are open: before each the panes end that aren't around it, and all in the end
 abbrev pub view_declarations : ℕ → List Node → List Declaration
 view_declarations panes [] = ends_of_panes panes 0
-view_declarations panes (n ∷ ns) = ends_of_panes panes n.depth ++ (declared.Node n ∷ view_declarations (open_after n) ns)
+view_declarations panes (n ∷ ns) = ends_of_panes panes n.depth ++ (declared.Node n ∷ view_declarations (open_panes_after n) ns)
 
 -- a dialog's own line, those of its views and of its rules, and the end
 abbrev pub dialog_declarations : Dialog → List Declaration
@@ -76,8 +76,8 @@ abbrev pub is_view : Kind → Bool
 is_view kind = not (is_window kind || is_dialog kind)
 
 -- a menu has an item
-abbrev pub HasItems : Menu → Type 0
-HasItems m = m.items ≢ []
+abbrev pub HasAnItem : Menu → Type 0
+HasAnItem m = m.items ≢ []
 
 -- a static text in no pane
 pub record IsWindowText (n : Node) : Type 0 where
@@ -92,7 +92,7 @@ pub record IsWindow (w : Window) : Type 0 where
 -- views each of which stands in some of the panes that are open before it; at most 16 are
 abbrev pub AreViews : ℕ → List Node → Type 0
 AreViews panes [] = Unit {0}
-AreViews panes (n ∷ ns) = IsTrue (is_view n.kind) × (n.depth ≤ panes) × (open_after n ≤ 16) × AreViews (open_after n) ns
+AreViews panes (n ∷ ns) = IsTrue (is_view n.kind) × (n.depth ≤ panes) × (open_panes_after n ≤ 16) × AreViews (open_panes_after n) ns
 
 -- a dialog in no pane, with such views
 pub record IsDialog (d : Dialog) : Type 0 where
@@ -103,6 +103,6 @@ pub record IsDialog (d : Dialog) : Type 0 where
 -- what can stand in it
 pub record IsDescription (d : Desc) : Type 0 where
   pub declarations : AreDeclarations 1 (declarations_of d)
-  pub menus : AllByRecursion HasItems d.menus
+  pub menus : AllByRecursion HasAnItem d.menus
   pub windows : AllByRecursion IsWindow d.windows
   pub dialogs : AllByRecursion IsDialog d.dialogs

@@ -2,7 +2,7 @@
 
 ghost use Rattle.std.specs.Prelude.{◌≡◌, option_copied};
 ghost use Rattle.tv_declarations.specs.Spelling.Terms.{command_name};
-ghost use Rattle.tv_declarations.specs.Reading.Commands.{command_in, first_named, named_command, ends_in, is_next, after_next, button_options_in};
+ghost use Rattle.tv_declarations.specs.Reading.Commands.{command_in, command_named, named_command, ends_in, is_next, after_next, button_options_in};
 
 use crate::keywords;
 use tv_model::{CommandSpec, Ends};
@@ -37,7 +37,7 @@ fn named_command(word: &Word) -> Option<CommandSpec>
 }
 
 fn first_named<'a>(commands: &'a [CommandSpec], word: &Word) -> Option<&'a CommandSpec>
-    ensures { option_copied result ≡ first_named commands.now word.now }
+    ensures { option_copied result ≡ command_named commands.now word.now }
 {
     commands
         .iter()

@@ -2,7 +2,7 @@
 
 ghost use Rattle.std.specs.Prelude.{◌≡◌, IfOk, IfSome, Some};
 ghost use Rattle.tv_declarations.specs.declared.declaration.Declaration.{Declaration as SeenDeclaration};
-ghost use Rattle.tv_declarations.specs.Spelling.Declarations.{IsLine};
+ghost use Rattle.tv_declarations.specs.Spelling.Declarations.{IsDeclarationLine};
 ghost use Rattle.tv_declarations.specs.Reading.Declarations.{version_in, screen_in, start_in, menu_in, item_in, status_in, rule_in, show_in, enable_in, end_in, node_declared, line_in, declaration_in};
 
 use crate::command::command;
@@ -40,8 +40,8 @@ pub fn declared(
     words: &[Word],
 ) -> Result<Option<Declaration>, AllocError>
     ensures read { IfOk result (λ found. found ≡ declaration_in at words.now) }
-    ensures spelled { IfOk result (λ found. IfSome found (λ declaration. IsLine at declaration words.now)) }
-    ensures only { IfOk result (λ found. (declaration : SeenDeclaration) → IsLine at declaration words.now → found ≡ Some declaration) }
+    ensures spelled { IfOk result (λ found. IfSome found (λ declaration. IsDeclarationLine at declaration words.now)) }
+    ensures only { IfOk result (λ found. (declaration : SeenDeclaration) → IsDeclarationLine at declaration words.now → found ≡ Some declaration) }
 {
     read(alloc, at, words)
 }

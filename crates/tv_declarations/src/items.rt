@@ -1,7 +1,7 @@
 //! The items of clusters and lists, and those that are marked at first.
 
 ghost use Rattle.std.specs.Prelude.{◌≡◌, ◌∷◌, [], IfOk, Some, int_lt};
-ghost use Rattle.tv_declarations.specs.Reading.Clusters.{item_taken, items_in, with_item, marks_in, taken_before_start, items_of};
+ghost use Rattle.tv_declarations.specs.Reading.Clusters.{item_taken, items_in, with_item, marks_in, taken_before_start, items_from};
 ghost use Rattle.tv_words.specs.Reading.Steps.{steps};
 ghost use Rattle.tv_declarations.specs.Spelling.Nodes.{is_rising};
 
@@ -54,7 +54,7 @@ fn number_taken(
     mut numbers: Sequence<i32>,
     word: &Word,
 ) -> Result<Option<Items>, AllocError>
-    ensures { IfOk result (λ further. further ≡ item_taken (items_of texts (Some numbers)) word.now) }
+    ensures { IfOk result (λ further. further ≡ item_taken (items_from texts (Some numbers)) word.now) }
 {
     let Some(number) = word.number() else {
         return Ok(None);

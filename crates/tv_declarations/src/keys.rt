@@ -2,7 +2,7 @@
 
 ghost use Rattle.std.specs.Prelude.{◌≡◌, option_copied};
 ghost use Rattle.tv_declarations.specs.Spelling.Keys.{key_name};
-ghost use Rattle.tv_declarations.specs.Reading.Keys.{first_named, named_key, control_key, control_letter, is_control, alt_key, alt_letter, is_alt, function_in, function_key, key_of, key_in};
+ghost use Rattle.tv_declarations.specs.Reading.Keys.{key_named, named_key, control_key, control_letter, is_control_prefix, alt_key, alt_letter, is_alt, function_in, function_key, key_by_name, key_in};
 ghost use Rattle.tv_words.specs.declared.word.Word.TheVariants.{Bare};
 ghost use Rattle.tv_words.specs.Tokens.{bare_of, token_word};
 
@@ -76,7 +76,7 @@ fn named_key(text: &[char]) -> Option<Key>
 }
 
 fn first_named<'a>(keys: &'a [Key], text: &[char]) -> Option<&'a Key>
-    ensures { option_copied result ≡ first_named keys.now (Bare text.now) }
+    ensures { option_copied result ≡ key_named keys.now (Bare text.now) }
 {
     keys.iter().find(|key| is_same(text, key_name(**key)))
 }
@@ -110,7 +110,7 @@ pub fn key_name(key: Key) -> &'static [u8]
 
 // `Ctrl-` or `Alt-` and a letter or digit, or `F` and a number.
 fn lettered_key(text: &[char]) -> Option<Key>
-    ensures { result ≡ key_of text.now }
+    ensures { result ≡ key_by_name text.now }
 {
     if let Some(letter) = control_letter(text) {
         control_key(letter)
@@ -132,7 +132,7 @@ fn control_letter(text: &[char]) -> Option<char>
 }
 
 fn is_control(a: char, b: char, c: char, d: char, e: char) -> bool
-    ensures { result ≡ is_control a b c d e }
+    ensures { result ≡ is_control_prefix a b c d e }
 {
     a == 'C' && b == 't' && c == 'r' && d == 'l' && e == '-'
 }

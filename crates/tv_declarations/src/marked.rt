@@ -5,7 +5,7 @@ ghost use Rattle.std.specs.Option.{option_map};
 ghost use Rattle.std.specs.Char.{is_ascii_alphanumeric};
 ghost use Rattle.std.specs.List.{list_any};
 ghost use Rattle.tv_declarations.specs.Spelling.Terms.{is_tilde};
-ghost use Rattle.tv_declarations.specs.Reading.Marks.{end_of_mark, marked_in};
+ghost use Rattle.tv_declarations.specs.Reading.Marks.{end_of_mark, marked_text_in};
 
 use std::alloc::{AllocError, Global};
 use tv_model::MarkedText;
@@ -13,7 +13,7 @@ use tv_valid::Chars;
 
 /// Reads a text and its mark, two `~` around a letter or digit; `None` where another `~` stands in it.
 pub fn marked(alloc: Global, text: &[char]) -> Result<Option<MarkedText>, AllocError>
-    ensures { IfOk result (λ found. found ≡ marked_in text.now) }
+    ensures { IfOk result (λ found. found ≡ marked_text_in text.now) }
 {
     let Some(place) = first_tilde(text) else {
         return Ok(Some(MarkedText {

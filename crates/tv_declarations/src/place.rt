@@ -1,7 +1,7 @@
 //! Where nodes stand.
 
 ghost use Rattle.std.specs.Prelude.{◌≡◌};
-ghost use Rattle.tv_declarations.specs.Reading.Places.{node_at, place_in};
+ghost use Rattle.tv_declarations.specs.Reading.Places.{node_at, place_from};
 
 use tv_model::{Id, Kind, Node};
 use tv_words::Word;
@@ -24,7 +24,7 @@ pub struct Place {
 impl Place {
     /// Reads the place that three numbers give; `None` where a word is no number.
     pub fn read(x: &Word, y: &Word, w: &Word) -> Option<Place>
-        ensures { result ≡ place_in x.now y.now w.now }
+        ensures { result ≡ place_from x.now y.now w.now }
     {
         Some(Place {
             x: x.number()?,

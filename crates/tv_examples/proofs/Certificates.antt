@@ -4,21 +4,21 @@ use Rattle.std.specs.Prelude.{◌≡◌, ℕ, List, [], ◌∷◌, Option, Some,
 use Rattle.std.proofs.Common.{refl}
 use Rattle.tv_words.specs.Canonical.{canonical_text}
 use Rattle.tv_lang.specs.Reading.Descriptions as readings
-use Rattle.tv_lang.specs.Reading.Descriptions.{Reading, reading_of}
+use Rattle.tv_lang.specs.Reading.Descriptions.{DescriptionOutcome, description_outcome}
 use Rattle.tv_certificate.specs.CertificateTexts.{certificate_lines}
 use Rattle.tv_check.specs.Certificates.{certificate_of}
 use Rattle.tv_examples.specs.Descriptions.{cancel, order}
 use Rattle.tv_examples.specs.Running.{written, text}
 
 -- the text of the certificate of a description that was read, if one was
-abbrev certificate_read : Reading → Option (List ℕ)
+abbrev certificate_read : DescriptionOutcome → Option (List ℕ)
 certificate_read (readings.Value d) = Some (canonical_text (certificate_lines (certificate_of d)))
 certificate_read (readings.Fault line) = None
 certificate_read readings.Other = None
 
 -- the description of these lines has the certificate of these lines
 abbrev HasCertificate : List String → List String → Type 0
-HasCertificate description lines = certificate_read (reading_of (text description)) ≡ Some (text lines)
+HasCertificate description lines = certificate_read (description_outcome (text description)) ≡ Some (text lines)
 
 cancel_certificate : HasCertificate cancel ("tvcert 1" ∷ "dialog a" ∷ "tab c" ∷ "key C c" ∷ "end" ∷ [])
 unfolding written

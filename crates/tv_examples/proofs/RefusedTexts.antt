@@ -3,46 +3,46 @@ use Rattle.std.specs.Prelude.{◌≡◌, ℕ, List, [], ◌∷◌, Option, Some,
 use Rattle.std.proofs.Common.{refl}
 use Rattle.tv_declarations.specs.CanonicalDescription.{description_text}
 use Rattle.tv_lang.specs.Reading.Descriptions as readings
-use Rattle.tv_lang.specs.Reading.Descriptions.{Reading, reading_of}
+use Rattle.tv_lang.specs.Reading.Descriptions.{DescriptionOutcome, description_outcome}
 use Rattle.tv_examples.specs.Descriptions.{inserted, replaced, removed, cancel, order}
 use Rattle.tv_examples.specs.Running.{written, text}
 
 -- no line at all
-refused_empty : reading_of [] ≡ readings.Fault 1
+refused_empty : description_outcome [] ≡ readings.Fault 1
 unfolding written
 refused_empty = refl
 
 -- a number too few
-refused_line : reading_of (text ("tvd 1" ∷ "screen 40" ∷ [])) ≡ readings.Fault 2
+refused_line : description_outcome (text ("tvd 1" ∷ "screen 40" ∷ [])) ≡ readings.Fault 2
 unfolding written
 refused_line = refl
 
 -- a line too few: the one after the last is missing
-refused_end : reading_of (text (removed 18 order)) ≡ readings.Fault 18
+refused_end : description_outcome (text (removed 18 order)) ≡ readings.Fault 18
 unfolding written
 refused_end = refl
 
-other_version : reading_of (text ("tvd 3" ∷ [])) ≡ readings.Other
+other_version : description_outcome (text ("tvd 3" ∷ [])) ≡ readings.Other
 unfolding written
 other_version = refl
 
 -- ---- texts that are read, and printed as they stand
 
 -- the canonical text of what was read
-abbrev printed : Reading → Option (List ℕ)
+abbrev printed : DescriptionOutcome → Option (List ℕ)
 printed (readings.Value d) = Some (description_text d)
 printed (readings.Fault line) = None
 printed readings.Other = None
 
-cancel_printed : printed (reading_of (text cancel)) ≡ Some (text cancel)
+cancel_printed : printed (description_outcome (text cancel)) ≡ Some (text cancel)
 unfolding written
 cancel_printed = refl
 
-order_printed : printed (reading_of (text order)) ≡ Some (text order)
+order_printed : printed (description_outcome (text order)) ≡ Some (text order)
 unfolding written
 order_printed = refl
 
 -- comments, empty lines and further spaces are left out
-spaces_left_out : printed (reading_of (text ("# a comment" ∷ inserted 1 "" (replaced 2 "  screen   20 10 " cancel)))) ≡ Some (text cancel)
+spaces_left_out : printed (description_outcome (text ("# a comment" ∷ inserted 1 "" (replaced 2 "  screen   20 10 " cancel)))) ≡ Some (text cancel)
 unfolding written
 spaces_left_out = refl

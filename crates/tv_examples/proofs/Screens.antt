@@ -1,7 +1,7 @@
 -- What parts of the screen show.
 use Rattle.std.specs.Prelude.{[], ◌∷◌}
 use Rattle.std.proofs.Common.{refl}
-use Rattle.tv_examples.specs.Descriptions.{cancel, colour, windows, menus, with_control}
+use Rattle.tv_examples.specs.Descriptions.{cancel, colour_form, windows, menus, with_control}
 use Rattle.tv_examples.specs.Running.{written, ShowsCharacters, ShowsColours}
 
 -- a dialog's row between its shadow and the desktop, with the focused button
@@ -10,11 +10,11 @@ unfolding written
 cancel_colours = refl
 
 -- a disabled default button has one attribute
-disabled_default : ShowsCharacters colour ("key Up" ∷ []) 5 3 8 "< Yes  >"
+disabled_default : ShowsCharacters colour_form ("key Up" ∷ []) 5 3 8 "< Yes  >"
 unfolding written
 disabled_default = refl
 
-disabled_colours : ShowsColours colour ("key Up" ∷ []) 5 3 8 "7878787878787878"
+disabled_colours : ShowsColours colour_form ("key Up" ∷ []) 5 3 8 "7878787878787878"
 unfolding written
 disabled_colours = refl
 

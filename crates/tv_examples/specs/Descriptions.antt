@@ -49,8 +49,8 @@ order =
     ∷ []
 
 -- radio buttons that enable a button
-abbrev pub colour : List String
-colour =
+abbrev pub colour_form : List String
+colour_form =
     "tvd 1"
     ∷ "screen 30 12"
     ∷ "start d"

@@ -12,7 +12,7 @@ use Rattle.tv_model.specs.Faults.{faults_of}
 use Rattle.tv_model.specs.Log.LogText.{line_of, bytes_of}
 use Rattle.tv_words.specs.Canonical.{ended_line}
 use Rattle.tv_lang.specs.Reading.Descriptions as readings
-use Rattle.tv_lang.specs.Reading.Descriptions.{Reading, reading_of}
+use Rattle.tv_lang.specs.Reading.Descriptions.{DescriptionOutcome, description_outcome}
 use Rattle.tv_script.specs.declared.script_text.ScriptFault.{ScriptFault}
 use Rattle.tv_script.specs.Reading.Scripts.{script_of}
 use Rattle.tv_model.specs.declared.script.Item.{Item}
@@ -44,14 +44,14 @@ abbrev pub read_script : Desc → List ℕ → Result (List Item) ScriptFault
 read_script d script = script_of d.width d.height script
 
 -- what a script writes for the description that was read, if one was
-abbrev pub run_read : Reading → List ℕ → Option (List ℕ)
+abbrev pub run_read : DescriptionOutcome → List ℕ → Option (List ℕ)
 run_read (readings.Value d) script = script_output d (read_script d script)
 run_read (readings.Fault line) script = None
 run_read readings.Other script = None
 
 -- what a script writes for the description of a text
 abbrev pub run_text : List ℕ → List ℕ → Option (List ℕ)
-run_text description script = run_read (reading_of description) script
+run_text description script = run_read (description_outcome description) script
 
 -- the lines of a script write these lines for the description of these lines
 abbrev pub Writes : List String → List String → List String → Type 0
@@ -60,7 +60,7 @@ Writes description script lines = run_text (text description) (text script) ≡ 
 -- ---- the screen after a script
 
 -- the session after a script for the description that was read, if one was
-abbrev pub after_read : Reading → List ℕ → Option Session
+abbrev pub after_read : DescriptionOutcome → List ℕ → Option Session
 after_read (readings.Value d) script = after_script d (read_script d script)
 after_read (readings.Fault line) script = None
 after_read readings.Other script = None
@@ -72,21 +72,21 @@ cells_of cell row first count s = flat_map (λ column. cell (screen_cell s colum
 -- so many cells of a row from a column on have these characters after the script
 abbrev pub ShowsCharacters : List String → List String → (row first count : ℕ) → String → Type 0
 ShowsCharacters description script row first count shown =
-    option_map (cells_of (λ cell. encode_utf8 cell.ch) row first count) (after_read (reading_of (text description)) (text script)) ≡ Some (codes shown)
+    option_map (cells_of (λ cell. encode_utf8 cell.ch) row first count) (after_read (description_outcome (text description)) (text script)) ≡ Some (codes shown)
 
 -- and these attributes, two digits each
 abbrev pub ShowsColours : List String → List String → (row first count : ℕ) → String → Type 0
 ShowsColours description script row first count shown =
-    option_map (cells_of (λ cell. hex_byte cell.attr) row first count) (after_read (reading_of (text description)) (text script)) ≡ Some (codes shown)
+    option_map (cells_of (λ cell. hex_byte cell.attr) row first count) (after_read (description_outcome (text description)) (text script)) ≡ Some (codes shown)
 
 -- ---- faults
 
 -- the faults of the description that was read, if one was
-abbrev pub faults_read : Reading → Option (List Fault)
+abbrev pub faults_read : DescriptionOutcome → Option (List Fault)
 faults_read (readings.Value d) = Some (faults_of d)
 faults_read (readings.Fault line) = None
 faults_read readings.Other = None
 
 -- a description has just these faults
-abbrev pub HasFaults : List String → List Fault → Type 0
-HasFaults description found = faults_read (reading_of (text description)) ≡ Some found
+abbrev pub HasJustFaults : List String → List Fault → Type 0
+HasJustFaults description found = faults_read (description_outcome (text description)) ≡ Some found

@@ -11,7 +11,7 @@ use Rattle.tv_declarations.specs.Spelling.{IsDescription, IsDialog}
 use Rattle.tv_faults.specs.Sound.{Sound}
 use Rattle.tv_faults.specs.Sound.Ends.{AreNotBothDefault}
 use Rattle.tv_faults.specs.Sound.Letters.{MarkOtherLetters, marked_texts}
-use Rattle.tv_faults.specs.Sound.Limits.{IsLawfulEffect}
+use Rattle.tv_faults.specs.Sound.Limits.{EnablesLawfulCommand}
 use Rattle.tv_faults.specs.Sound.Names.{HaveOtherNames}
 use Rattle.tv_faults.specs.Usable.{IsUsableDialog}
 use Rattle.tv_faults.proofs.LackLemmas.{bodies}
@@ -32,7 +32,7 @@ lawful_dialogs d is s k dialog less =
     ((bodies d (λ body. AllPairs HaveOtherNames body.views)).0 s.names.views).1 k dialog less in
     let texts : AllPairs MarkOtherLetters (marked_texts own.views) =
     ((bodies d (λ body. AllPairs MarkOtherLetters (marked_texts body.views))).0 s.letters).1 k dialog less in
-    let fits : All (λ rule. IsLawfulEffect rule.effect) own.rules = s.limits.texts.rules k dialog less in
+    let fits : All (λ rule. EnablesLawfulCommand rule.effect) own.rules = s.limits.texts.rules k dialog less in
     record {
       rising = nodes_rise d is k dialog less;
       limits = use_of.nodes;

@@ -29,7 +29,7 @@ use Rattle.tv_machine.specs.Dialog.Rules.{enables, holds, is_enabled, is_free, i
 use Rattle.tv_machine.specs.Leaves.{leaf_list}
 use Rattle.tv_machine.specs.State.{LeafState}
 use Rattle.tv_declarations.specs.Spelling.{AreViews}
-use Rattle.tv_faults.specs.Sound.Limits.{IsLawfulEffect}
+use Rattle.tv_faults.specs.Sound.Limits.{EnablesLawfulCommand}
 use Rattle.tv_faults.specs.Sound.Names.{HasName, HaveOtherNames}
 use Rattle.tv_faults.specs.Sound.Rules.{HasFreeControl, IsButtonOf, Reaches}
 use Rattle.tv_faults.proofs.NameLemmas.{gives_decides}
@@ -153,7 +153,7 @@ same_command : (one other : CommandSpec) → IsLawfulCommand (Some one) → IsLa
 same_command one other first second same = sym (by_number one first) ∙ ap command_by same ∙ by_number other second
 
 -- no rule enables the button's command
-not_enabled : (given : CommandSpec) (effect : Effect) → IsLawfulCommand (Some given) → IsLawfulEffect effect
+not_enabled : (given : CommandSpec) (effect : Effect) → IsLawfulCommand (Some given) → EnablesLawfulCommand effect
     → ((command : CommandSpec) → effect ≡ effects.Enable command → given ≡ command → ⊥) → enables (command_number given) effect ≡ false
 not_enabled given (effects.Show name) lawful fits none = refl
 not_enabled given (effects.Enable command) lawful fits none =
@@ -171,7 +171,7 @@ module _ (d : Dialog) (leaves : List LeafState) where
       (ap (λ b. not b || holds d leaves rule) (All-head (λ rule. tests rule.effect ≡ false) rule rules none))
       (all_let tests rules (All-tail (λ rule. tests rule.effect ≡ false) rule rules none))
 
-  kind_enabled : (kind : Kind) → IsLawfulCommand (command_of kind) → All (λ rule. IsLawfulEffect rule.effect) d.rules
+  kind_enabled : (kind : Kind) → IsLawfulCommand (command_of kind) → All (λ rule. EnablesLawfulCommand rule.effect) d.rules
       → All (λ rule. (command : CommandSpec) → rule.effect ≡ effects.Enable command → IsButtonOf command kind → ⊥) d.rules
       → is_kind_enabled d leaves kind ≡ true
   kind_enabled (kinds.Button button) lawful fits none =
@@ -188,7 +188,7 @@ module _ (d : Dialog) (leaves : List LeafState) where
 
   free_unreached : (before : List Node) (node : Node) → IsUnreached (before, node)
       → All (MeansItself d.views) (node ∷ panes_around before node)
-      → IsLawfulCommand (command_of node.kind) → All (λ rule. IsLawfulEffect rule.effect) d.rules
+      → IsLawfulCommand (command_of node.kind) → All (λ rule. EnablesLawfulCommand rule.effect) d.rules
       → is_free d leaves (placed_after (before, node)) ≡ true
   free_unreached before node none mean lawful fits =
       let leaf = placed_after (before, node) in
@@ -199,7 +199,7 @@ module _ (d : Dialog) (leaves : List LeafState) where
       none.1 k rule less (subst (Reaches d.views before node) (sym is) button))))
 
   pub some_free : AreViews 0 d.views → AllPairs HaveOtherNames d.views → All IsLimited d.views
-      → All (λ rule. IsLawfulEffect rule.effect) d.rules
+      → All (λ rule. EnablesLawfulCommand rule.effect) d.rules
       → HasFreeControl d → IsSome (first_free (stops_of d leaves))
   some_free are apart limited fits h =
       let pairs = after_seen [] d.views in

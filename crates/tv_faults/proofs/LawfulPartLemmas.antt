@@ -20,7 +20,7 @@ use Rattle.tv_model.specs.Description.Owners.{owner_by}
 use Rattle.tv_machine.specs.Dialog.Lawful.{Marks, NamesCluster}
 use Rattle.tv_machine.specs.Dialog.Lawful as machine
 use Rattle.tv_faults.specs.Sound.Letters.{MarkOtherLetters, marked_texts}
-use Rattle.tv_faults.specs.Sound.Limits.{IsLawfulEffect}
+use Rattle.tv_faults.specs.Sound.Limits.{EnablesLawfulCommand}
 use Rattle.tv_faults.specs.Sound.Rules.{HasItem, NamesThings}
 use Rattle.tv_faults.proofs.LetterLemmas.{marks_decides}
 use Rattle.tv_faults.proofs.PairLemmas.{Across, pairs_flat}
@@ -40,7 +40,7 @@ names_cluster views rule names node e =
     let same : h.0 ≡ node = cc in
     subst (λ (node : Node). IsTrue (is_cluster node.kind)) same (item_cluster rule.item h.0.kind h.2)
 
-pub lawful_effect : (effect : Effect) → IsLawfulEffect effect → machine.IsLawfulEffect effect
+pub lawful_effect : (effect : Effect) → EnablesLawfulCommand effect → machine.IsLawfulEffect effect
 lawful_effect (effects.Show name) lawful = tt
 lawful_effect (effects.Enable command) lawful = lawful
 

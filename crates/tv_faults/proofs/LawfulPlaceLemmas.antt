@@ -17,7 +17,7 @@ use Rattle.tv_faults.proofs.SeenLemmas.{bool_cases, is_leaf, leaf_list-after, pl
 use Rattle.tv_overlaps.proofs.AreaLemmas.{within_points}
 
 -- the points of the first lie in the second
-within : (r s : Rect) → points.LiesIn r s → IsTrue (is_within r s)
+within : (r s : Rect) → points.IsPartOf r s → IsTrue (is_within r s)
 within r s lies = (within_points (is_within r s) r s refl).1 lies
 
 module _ (frame : Node) where
@@ -41,7 +41,7 @@ module _ (frame : Node) where
       lies
 
   abbrev LiesInRoom : List Node × Node → Type 0
-  LiesInRoom pair = points.LiesIn (place_of_node pair.1) (room_in frame (owner_of pair.0 pair.1))
+  LiesInRoom pair = points.IsPartOf (place_of_node pair.1) (room_in frame (owner_of pair.0 pair.1))
 
   abbrev LiesAround : List Node × Node → Type 0
   LiesAround pair = LiesIn frame pair.1 (panes_around pair.0 pair.1)

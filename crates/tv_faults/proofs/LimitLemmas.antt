@@ -34,7 +34,7 @@ use Rattle.tv_model.specs.Faults.Limits.{is_lawful, is_lawful_amount, is_lawful_
 use Rattle.tv_model.specs.Faults.Lines.{after_seen}
 use Rattle.tv_model.specs.Faults.Texts.{has_wide, is_wide_text}
 use Rattle.tv_faults.specs.Sound.Bodies.{Body, EachBody, bodies_of, dialog_body, window_body}
-use Rattle.tv_faults.specs.Sound.Limits.{AreNarrow, IsLawfulEffect, IsWithinLimits}
+use Rattle.tv_faults.specs.Sound.Limits.{AreNarrow, EnablesLawfulCommand, IsWithinLimits}
 use Rattle.tv_faults.proofs.ExcludeLemmas.{Excludes, and_excludes, any_excludes, not_excludes, or_excludes, test_excludes}
 use Rattle.tv_faults.proofs.LackLemmas.{Lacks, NoItem, NoRule, NoView, NoneAfter, bodies, if_nil}
 use Rattle.tv_faults.proofs.LetterLemmas.{at_most_decides, between_decides}
@@ -281,18 +281,18 @@ views_limited body = chain
     (all_and (IsAt 64) (λ pair. IsNotNested pair.1) (after_seen [] body.views))
     (both (after_few 64 body.views) (after_own IsNotNested [] body.views)))))
 
-effect_excludes : (before : List Rule) (rule : Rule) → Excludes (rule_outside_limits before rule) (IsLawfulEffect rule.effect × IsAt 64 (before, rule))
+effect_excludes : (before : List Rule) (rule : Rule) → Excludes (rule_outside_limits before rule) (EnablesLawfulCommand rule.effect × IsAt 64 (before, rule))
 effect_excludes before rule = at rule.effect refl
   where
-    at : (effect : Effect) → rule.effect ≡ effect → Excludes (rule_outside_limits before rule) (IsLawfulEffect effect × IsAt 64 (before, rule))
+    at : (effect : Effect) → rule.effect ≡ effect → Excludes (rule_outside_limits before rule) (EnablesLawfulCommand effect × IsAt 64 (before, rule))
     at (effects.Show name) e = rw e ((λ f. (tt, f), λ h. h.1))
     at (effects.Enable command) e = rw e (or_excludes (not (is_lawful_number (Some command))) (length before == 64) (not_excludes (is_lawful_number (Some command)) (command_decides (Some command))) (λ f. f, λ f. f))
 
-rules_limited : (dialog : Dialog) → NoRule faults.OutsideLimits dialog ↔ (All (λ rule. IsLawfulEffect rule.effect) dialog.rules × (length dialog.rules ≤ 64))
+rules_limited : (dialog : Dialog) → NoRule faults.OutsideLimits dialog ↔ (All (λ rule. EnablesLawfulCommand rule.effect) dialog.rules × (length dialog.rules ≤ 64))
 rules_limited dialog = chain
-    (each (λ pair. rule_outside_limits pair.0 pair.1 ≡ false) (λ pair. IsLawfulEffect pair.1.effect × IsAt 64 pair) (λ pair. effect_excludes pair.0 pair.1) (after_seen [] dialog.rules))
-    (chain (all_and (λ pair. IsLawfulEffect pair.1.effect) (IsAt 64) (after_seen [] dialog.rules))
-    (both (after_own (λ rule. IsLawfulEffect rule.effect) [] dialog.rules) (after_few 64 dialog.rules)))
+    (each (λ pair. rule_outside_limits pair.0 pair.1 ≡ false) (λ pair. EnablesLawfulCommand pair.1.effect × IsAt 64 pair) (λ pair. effect_excludes pair.0 pair.1) (after_seen [] dialog.rules))
+    (chain (all_and (λ pair. EnablesLawfulCommand pair.1.effect) (IsAt 64) (after_seen [] dialog.rules))
+    (both (after_own (λ rule. EnablesLawfulCommand rule.effect) [] dialog.rules) (after_few 64 dialog.rules)))
 
 screen_iff : (d : Desc) → (head_lines faults.OutsideLimits d ≡ []) ↔ (IsBetween (pos 20) (pos 132) d.width × IsBetween (pos 10) (pos 60) d.height)
 screen_iff d = chain (if_nil (not (is_lawful_screen d)) 2)

@@ -23,7 +23,7 @@ use Rattle.tv_model.specs.Faults.Names.{dialog_named_again, links_nothing}
 use Rattle.tv_model.specs.Faults.Places.{is_off_desktop, is_outside, need_own_places, overlaps_earlier}
 use Rattle.tv_faults.specs.Sound.Bodies.{Body, bodies_of}
 use Rattle.tv_faults.specs.Sound.Names.{AreLabelsLinked, HasName, HaveOtherNames, HaveOwnNames, IsLinked, frames_of}
-use Rattle.tv_faults.specs.Sound.Places.{AreApart, AreInside, ArePlacedWell, AreViewsApart, IsApartFrom, LiesIn, NeedOwnPlaces}
+use Rattle.tv_faults.specs.Sound.Places.{AreApart, AreInside, ArePlacedWell, AreViewsApart, IsApartFrom, IsPartOf, NeedOwnPlaces}
 use Rattle.tv_faults.proofs.ExcludeLemmas.{Excludes, again_excludes, and_excludes, any_excludes, not_excludes, or_excludes}
 use Rattle.tv_faults.proofs.LackLemmas.{Lacks, NoView, NoneAfter}
 use Rattle.tv_faults.proofs.PairLemmas.{Across, after_each, after_own, all_and, all_map, all_swap, both, chain, each, pairs_append, pairs_map}
@@ -116,19 +116,19 @@ names d = let views = each (NoView faults.NameTwice) (λ body. AllPairs HaveOthe
 
 -- ---- F2 and F3
 
-within_excludes : (r s : Rect) → Excludes (not (is_within r s)) (LiesIn r s)
+within_excludes : (r s : Rect) → Excludes (not (is_within r s)) (IsPartOf r s)
 within_excludes r s = not_excludes (is_within r s) (within_points (is_within r s) r s refl)
 
 views_inside : (body : Body) → NoView faults.OutsideOwner body ↔ AreInside body.frame body.views
 views_inside body =
-    each (λ pair. is_outside body.frame pair.0 pair.1 ≡ false) (λ pair. LiesIn (place_of_node pair.1) (room_in body.frame (owner_of pair.0 pair.1)))
+    each (λ pair. is_outside body.frame pair.0 pair.1 ≡ false) (λ pair. IsPartOf (place_of_node pair.1) (room_in body.frame (owner_of pair.0 pair.1)))
     (λ pair. within_excludes (place_of_node pair.1) (room_in body.frame (owner_of pair.0 pair.1))) (after_seen [] body.views)
 
 pub places : (d : Desc) → Lacks faults.OutsideOwner d ↔ ArePlacedWell d
 places d =
-    let dialogs : NoneAfter (dialog_has faults.OutsideOwner d) d.dialogs ↔ All (λ dialog. LiesIn (place_of_node dialog.node) (desktop d)) d.dialogs = chain
+    let dialogs : NoneAfter (dialog_has faults.OutsideOwner d) d.dialogs ↔ All (λ dialog. IsPartOf (place_of_node dialog.node) (desktop d)) d.dialogs = chain
     (after_own (λ dialog. is_off_desktop d dialog ≡ false) [] d.dialogs)
-    (each (λ dialog. is_off_desktop d dialog ≡ false) (λ dialog. LiesIn (place_of_node dialog.node) (desktop d)) (λ dialog. within_excludes (place_of_node dialog.node) (desktop d)) d.dialogs) in
+    (each (λ dialog. is_off_desktop d dialog ≡ false) (λ dialog. IsPartOf (place_of_node dialog.node) (desktop d)) (λ dialog. within_excludes (place_of_node dialog.node) (desktop d)) d.dialogs) in
     let views = each (NoView faults.OutsideOwner) (λ body. AreInside body.frame body.views) views_inside (bodies_of d) in (
       λ h. record { dialogs = dialogs.0 h.dialogs; views = views.0 h.views },
       λ s. record {

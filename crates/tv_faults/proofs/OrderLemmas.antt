@@ -17,7 +17,7 @@ use Rattle.tv_model.specs.Faults.Starts.{means_dialog}
 use Rattle.tv_model.specs.Faults.Lines.{after_seen, line_if, lines_where}
 use Rattle.tv_model.specs.Faults.{all_kinds, dialog_has, dialog_lines, fault_at, fault_lines, fault_number, faults_at, faults_of, head_lines, item_has, menu_has, menu_lines, rule_has, rule_lines, status_has, view_has, view_lines, window_has, window_lines}
 use Rattle.tv_model.specs.Faults.Limits.{is_lawful_screen}
-use Rattle.tv_faults.specs.Order.{AreInOrder, AreLinesRising, IsBefore, lines_of, lines_of_dialog, lines_of_menu, lines_of_window, start_line}
+use Rattle.tv_faults.specs.Order.{AreInOrder, AreLinesRising, IsBefore, declaration_lines, lines_of_dialog, lines_of_menu, lines_of_window, start_line}
 
 -- ---- pairs
 
@@ -127,7 +127,7 @@ kept_head faults.OutsideLimits d = kept_screen d (not (is_lawful_screen d))
 kept_head faults.BadOpening d = kept_start d d.start refl
 kept_head _ d = skip (kept_none d.start)
 
-kept_lines : (kind : FaultKind) (d : Desc) → Kept (fault_lines kind d) (lines_of d)
+kept_lines : (kind : FaultKind) (d : Desc) → Kept (fault_lines kind d) (declaration_lines d)
 unfolding fault_lines
 kept_lines kind d =
     kept_append _ _ (kept_head kind d)

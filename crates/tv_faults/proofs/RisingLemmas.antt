@@ -13,7 +13,7 @@ use Rattle.tv_model.specs.Description.Heads.{dialog_nodes}
 use Rattle.tv_model.specs.Description.Nodes.{AreRising}
 use Rattle.tv_declarations.specs.declared.declaration.Declaration.{Declaration}
 use Rattle.tv_declarations.specs.declared.declaration.Declaration.TheVariants as declared
-use Rattle.tv_declarations.specs.Spelling.{IsDescription, dialog_declarations, ends_of_panes, menu_declarations, open_after, start_declarations, view_declarations, window_declarations}
+use Rattle.tv_declarations.specs.Spelling.{IsDescription, dialog_declarations, ends_of_panes, menu_declarations, open_panes_after, start_declarations, view_declarations, window_declarations}
 use Rattle.tv_declarations.specs.Spelling.Declarations.{AreDeclarations, IsDeclaration}
 use Rattle.tv_faults.specs.Order.{AreLinesRising, lines_of_dialog, lines_of_menu, lines_of_window, start_line}
 use Rattle.tv_faults.proofs.OrderLemmas.{pairs_head, pairs_nil, pairs_tail}
@@ -85,9 +85,9 @@ numbers_ends (suc n) ds = numbers_ends n ds
 numbers_views : (panes : ℕ) (views : List Node) (ds : List Declaration) → all_numbers (view_declarations panes views ++ ds) ≡ map (λ node. node.id.0) views ++ all_numbers ds
 numbers_views panes [] ds = numbers_ends (panes - 0) ds
 numbers_views panes (view ∷ views) ds =
-    ap all_numbers (append_assoc (ends_of_panes panes view.depth) (declared.Node view ∷ view_declarations (open_after view) views) ds)
-    ∙ numbers_ends (panes - view.depth) (declared.Node view ∷ (view_declarations (open_after view) views ++ ds))
-    ∙ ap (λ lines. view.id.0 ∷ lines) (numbers_views (open_after view) views ds)
+    ap all_numbers (append_assoc (ends_of_panes panes view.depth) (declared.Node view ∷ view_declarations (open_panes_after view) views) ds)
+    ∙ numbers_ends (panes - view.depth) (declared.Node view ∷ (view_declarations (open_panes_after view) views ++ ds))
+    ∙ ap (λ lines. view.id.0 ∷ lines) (numbers_views (open_panes_after view) views ds)
 
 menu_numbers : (menu : Menu) → all_numbers (menu_declarations menu) ≡ lines_of_menu menu
 menu_numbers menu = ap (λ lines. menu.id.0 ∷ lines) (numbers_ended declared.Item (λ item. item.id.0) (λ item. refl) menu.items)

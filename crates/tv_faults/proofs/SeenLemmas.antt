@@ -10,7 +10,7 @@ use Rattle.tv_model.specs.Description.Panes.{around, panes_around}
 use Rattle.tv_model.specs.Faults.Lines.{after_seen}
 use Rattle.tv_machine.specs.Leaves.{PlacedNode, leaf_list, leaves_in, open_at}
 use Rattle.tv_machine.specs.Leaves as machine
-use Rattle.tv_declarations.specs.Spelling.{AreViews, open_after}
+use Rattle.tv_declarations.specs.Spelling.{AreViews, open_panes_after}
 
 -- ---- cases and numbers
 
@@ -114,13 +114,13 @@ leaves-after : (most : ℕ) (seen panes views : List Node) → Agree most (rever
 leaves-after most seen panes [] agree are = refl
 leaves-after most seen panes (view ∷ views) agree are =
     let back : reverse (seen ++ view ∷ []) ≡ view ∷ reverse seen = reverse-append seen (view ∷ []) in
-    let next : Agree (open_after view) (view ∷ reverse seen) (machine.open_after panes view) =
+    let next : Agree (open_panes_after view) (view ∷ reverse seen) (machine.open_after panes view) =
     agree_next most (reverse seen) panes view agree are.1 (is_pane view.kind) in
     before_next seen view (open_at view.depth panes) (leaves_in (machine.open_after panes view) views)
     (after_seen (seen ++ view ∷ []) views) (is_pane view.kind)
     (sym (agree view.depth are.1))
-    (leaves-after (open_after view) (seen ++ view ∷ []) (machine.open_after panes view) views
-    (subst (λ back. Agree (open_after view) back (machine.open_after panes view)) (sym back) next) are.3)
+    (leaves-after (open_panes_after view) (seen ++ view ∷ []) (machine.open_after panes view) views
+    (subst (λ back. Agree (open_panes_after view) back (machine.open_after panes view)) (sym back) next) are.3)
 
 -- the leaves are the views that are no panes, each with the panes around it
 pub leaf_list-after : (views : List Node) → AreViews 0 views → leaf_list views ≡ map placed_after (filter is_leaf (after_seen [] views))

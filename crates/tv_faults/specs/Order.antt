@@ -27,8 +27,8 @@ abbrev pub lines_of_dialog : Dialog → List ℕ
 lines_of_dialog dialog = map (λ node. node.id.0) (dialog_nodes dialog) ++ map (λ rule. rule.id.0) dialog.rules
 
 -- the lines of the declarations, the screen's first
-abbrev pub lines_of : Desc → List ℕ
-lines_of d =
+abbrev pub declaration_lines : Desc → List ℕ
+declaration_lines d =
     (2 ∷ start_line d.start)
     ++ (flat_map lines_of_menu d.menus
     ++ (map (λ item. item.id.0) d.status
@@ -37,7 +37,7 @@ lines_of d =
 
 -- each declaration has a line of its own, in their order
 abbrev pub AreLinesRising : Desc → Type 0
-AreLinesRising d = AllPairs (λ line later. line < later) (lines_of d)
+AreLinesRising d = AllPairs (λ line later. line < later) (declaration_lines d)
 
 abbrev pub AreInOrder : List Fault → Type 0
 AreInOrder list = AllPairs IsBefore list

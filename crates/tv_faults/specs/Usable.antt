@@ -9,7 +9,7 @@ use Rattle.tv_model.specs.Description.LawfulNodes.{IsLimited, IsNarrowNode}
 use Rattle.tv_model.specs.Description.Numbers.{IsBetween}
 use Rattle.tv_model.specs.Description.Rectangles.{desktop, place_of_node}
 use Rattle.tv_model.specs.Faults.Limits.{is_lawful_count}
-use Rattle.tv_faults.specs.Sound.Places.{AreApart, AreInside, LiesIn}
+use Rattle.tv_faults.specs.Sound.Places.{AreApart, AreInside, IsPartOf}
 
 -- no cluster or list of the dialog has too many items, or none
 abbrev pub HasLawfulCounts : Dialog → Type 0
@@ -20,7 +20,7 @@ pub record IsUsableDialog (d : Desc) (dialog : Dialog) : Type 0 where
   pub nodes : All IsLimited (dialog_nodes dialog)
   pub few : length dialog.views ≤ 64
   pub narrow : All IsNarrowNode (dialog_nodes dialog)
-  pub within : LiesIn (place_of_node dialog.node) (desktop d)
+  pub within : IsPartOf (place_of_node dialog.node) (desktop d)
   pub inside : AreInside dialog.node dialog.views
   pub apart : AreApart dialog.views
   pub control : list_any (λ node. is_control node.kind) dialog.views ≡ true

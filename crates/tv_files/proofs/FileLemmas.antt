@@ -3,7 +3,7 @@ use Rattle.std.proofs.Common.{◌≡◌, ℕ, ◌+◌, List, [], ◌∷◌, ◌+
 use Rattle.tv_io.specs.Reader.{Given}
 use Rattle.tv_files.specs.Ends.{End}
 use Rattle.tv_files.specs.Files.{Extends, IsFileOf, IsRead, Known, Opens, longest}
-use Rattle.tv_files.specs.Tasks.{BreaksOffIn, Gives, IsUngiven, IsUnopened, IsUnread}
+use Rattle.tv_files.specs.Tasks.{BreaksOffIn, GivesText, IsUngiven, IsUnopened, IsUnread}
 use Rattle.tv_files.specs.Tasks.IsUngiven.{memory as ungiven_memory, broken as ungiven_broken}
 use Rattle.tv_files.specs.Tasks.IsUnopened.{memory, missing}
 use Rattle.tv_files.specs.Tasks.IsUnread.{unopened, broken}
@@ -36,7 +36,7 @@ module _ {files mid after : Known} (file beside : List ℕ) (opens : Opens files
   Opens-both = Opens-then (file ∷ []) (beside ∷ []) opens
 
   -- the second file was read
-  pub Gives-then : {text : List ℕ} → Gives mid after (beside ∷ []) beside text → Gives files after (file ∷ beside ∷ []) beside text
+  pub Gives-then : {text : List ℕ} → GivesText mid after (beside ∷ []) beside text → GivesText files after (file ∷ beside ∷ []) beside text
   Gives-then gives = record {
     opens = Opens-both gives.opens;
     text_of = rw (opens.same beside) at gives.text_of;
@@ -60,7 +60,7 @@ text-of (Some whole) left text is first = subst (λ given. IfSome given (λ all.
 
 module _ {files after : Known} {opened : List (List ℕ)} (path : List ℕ) (reader left : Given) (opens : Opens files after opened) (is : IsFileOf files path reader) where
   -- the file's text was read
-  pub IsRead-Gives : (text : List ℕ) → IsRead reader left text → Gives files after opened path text
+  pub IsRead-Gives : (text : List ℕ) → IsRead reader left text → GivesText files after opened path text
   IsRead-Gives text read = record { opens = opens; text_of = text-of (files.contents path) reader.left text is.left read.first }
 
   -- it wasn't

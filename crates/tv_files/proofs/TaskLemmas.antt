@@ -12,7 +12,7 @@ use Rattle.tv_script.specs.Streams.{ComesFrom}
 use Rattle.tv_files.specs.declared.failure.Failure.{Failure}
 use Rattle.tv_files.specs.Ends.{End, end_of, path_of}
 use Rattle.tv_files.specs.Files.{IsFileOf, IsRead, Known, Opens}
-use Rattle.tv_files.specs.Tasks.{EndsFirst, Gives, IsUnread, OnFiles, OnStream}
+use Rattle.tv_files.specs.Tasks.{EndsFirst, GivesText, IsUnread, OnFiles, OnStream}
 use Rattle.tv_files.specs.Tasks.OnFiles.{first, unread, done}
 use Rattle.tv_files.specs.Tasks.OnStream.{done as done_both}
 use Rattle.tv_files.proofs.FileLemmas.{Gives-then, IsFileOf-then, IsRead-Gives, IsUnread-then, Opens-both}
@@ -32,12 +32,12 @@ module _ (refuses : (text : List ℕ) → RunFault → Type 0) (passes : (text :
   first-OnFiles comes ends (Err other) told = rw told (first ends refl)
 
   -- the file beside it wasn't read
-  pub unread-OnFiles : {T : Type 0} (comes : End → (text written : List ℕ) → Type 0) (mid : Known) (text : List ℕ) → Gives files mid (file ∷ []) file text → passes text → IsUnread mid after (beside ∷ []) beside (Some (failure.fault, failure.path.now)) → (r : Result T Failure) → IsErrAnd r (λ told. told ≡ failure) → OnFiles refuses passes (comes (end_of r)) files after file beside seen seen (end_of r)
+  pub unread-OnFiles : {T : Type 0} (comes : End → (text written : List ℕ) → Type 0) (mid : Known) (text : List ℕ) → GivesText files mid (file ∷ []) file text → passes text → IsUnread mid after (beside ∷ []) beside (Some (failure.fault, failure.path.now)) → (r : Result T Failure) → IsErrAnd r (λ told. told ≡ failure) → OnFiles refuses passes (comes (end_of r)) files after file beside seen seen (end_of r)
   unread-OnFiles comes mid text gives passed ends (Ok x) told = absurd told
   unread-OnFiles comes mid text gives passed ends (Err other) told = rw told (unread text gives.text_of passed (IsUnread-then file beside gives.opens ends) refl)
 
 -- both were read
-pub done-OnFiles : (refuses : (text : List ℕ) → RunFault → Type 0) (passes : (text : List ℕ) → Type 0) (comes : (text written : List ℕ) → Type 0) (files mid after : Known) (file beside : List ℕ) (old new : Seen) (end : End) (text written : List ℕ) → Gives files mid (file ∷ []) file text → passes text → Gives mid after (beside ∷ []) beside written → comes text written → OnFiles refuses passes comes files after file beside old new end
+pub done-OnFiles : (refuses : (text : List ℕ) → RunFault → Type 0) (passes : (text : List ℕ) → Type 0) (comes : (text written : List ℕ) → Type 0) (files mid after : Known) (file beside : List ℕ) (old new : Seen) (end : End) (text written : List ℕ) → GivesText files mid (file ∷ []) file text → passes text → GivesText mid after (beside ∷ []) beside written → comes text written → OnFiles refuses passes comes files after file beside old new end
 done-OnFiles refuses passes comes files mid after file beside old new end text written gives passed gives_beside came =
     done text written gives.text_of passed (Gives-then file beside gives.opens gives_beside) came
 

@@ -6,7 +6,7 @@ use Rattle.tv_files.specs.declared.no_task.NoTask.{NoTask}
 use Rattle.tv_files.specs.declared.task.Task.{Task}
 use Rattle.tv_files.specs.Ends.{End}
 use Rattle.tv_files.specs.Files.{Known}
-use Rattle.tv_files.specs.Tasks.{Performs}
+use Rattle.tv_files.specs.Tasks.{PerformsTask}
 use Rattle.tv_files.specs.Telling.{Tells, TellsNoTask}
 
 -- what is known of the program's files and streams at a moment
@@ -21,7 +21,7 @@ pub record World : Type 0 where
 -- are flushed. Where there is no task, only that is told.
 abbrev pub EndsWith : (Mismade : Desc → Type 0) → Result Task NoTask → (old new : World) → (status : ℕ) → Type 0
 EndsWith Mismade (Ok task) old new status =
-    (end : End) × (mid : Seen) × Performs Mismade task old.files new.files old.out mid end
+    (end : End) × (mid : Seen) × PerformsTask Mismade task old.files new.files old.out mid end
     × Tells end mid new.out new.out_kept old.err new.err new.err_kept status
 EndsWith Mismade (Err no_task) old new status =
     (new.files ≡ old.files) × (new.out ≡ old.out) × TellsNoTask no_task old.err new.err new.err_kept status

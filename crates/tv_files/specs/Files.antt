@@ -25,8 +25,8 @@ pub record Opens (old new : Known) (paths : List (List ℕ)) : Type 0 where
   pub same : (path : List ℕ) → new.contents path ≡ old.contents path
 
 -- the text is what the file of the path holds, but no more than one byte past the limit
-abbrev pub IsTextOf : Known → (path : List ℕ) → (text : List ℕ) → Type 0
-IsTextOf files path text = IfSome (files.contents path) (λ whole. text ≡ take (longest + 1) whole)
+abbrev pub IsFileText : Known → (path : List ℕ) → (text : List ℕ) → Type 0
+IsFileText files path text = IfSome (files.contents path) (λ whole. text ≡ take (longest + 1) whole)
 
 -- what is known of a file that was opened: what it holds is left to be given, where that is known
 pub record IsFileOf (files : Known) (path : List ℕ) (reader : Given) : Type 0 where

@@ -1,7 +1,7 @@
 -- What a task on files comes to.
 use Rattle.std.specs.Prelude.{◌≡◌, ℕ, List, [], ◌∷◌, Some, IsNone, Result}
 use Rattle.tv_lang.specs.declared.description.LangFault.{LangFault}
-use Rattle.tv_lang.specs.Faults.{Refuses, Spells}
+use Rattle.tv_lang.specs.Faults.{RefusesToParse, Spells}
 use Rattle.tv_model.specs.declared.desc.Desc.{Desc}
 use Rattle.tv_io.specs.Reader.{Given}
 use Rattle.tv_io.specs.Writer.{Seen}
@@ -16,7 +16,7 @@ use Rattle.tv_program.specs.Playing.{RunsTo}
 use Rattle.tv_files.specs.declared.task.Task.{Task}
 use Rattle.tv_files.specs.declared.task.Task.TheVariants.{Check, Accept, Run}
 use Rattle.tv_files.specs.Ends.{End, end_as, end_of_run}
-use Rattle.tv_files.specs.Files.{BreaksOff, IsFileOf, IsTextOf, Known, Opens}
+use Rattle.tv_files.specs.Files.{BreaksOff, IsFileOf, IsFileText, Known, Opens}
 
 -- the task ended at a file that can't be opened, the last one that was asked for, or because memory ran out
 pub data IsUnopened (files after : Known) (opened : List (List ℕ)) (path : List ℕ) (end : End) : Type 0 where
@@ -41,30 +41,30 @@ pub data IsUnread (files after : Known) (opened : List (List ℕ)) (path : List 
   broken : Opens files after opened → BreaksOffIn files path → end ≡ Some (Read, path) → IsUnread files after opened path end
 
 -- the file was opened and gave the text
-pub record Gives (files after : Known) (opened : List (List ℕ)) (path : List ℕ) (text : List ℕ) : Type 0 where
+pub record GivesText (files after : Known) (opened : List (List ℕ)) (path : List ℕ) (text : List ℕ) : Type 0 where
   pub opens : Opens files after opened
-  pub text_of : IsTextOf files path text
+  pub text_of : IsFileText files path text
 
 -- a task on one file: the file is opened, and what follows of its text is by `comes`
 pub data OnFile (comes : (text : List ℕ) → Type 0) (files after : Known) (file : List ℕ) (old new : Seen) (end : End) : Type 0 where
   unread : IsUnread files after (file ∷ []) file end → new ≡ old → OnFile comes files after file old new end
-  done : (text : List ℕ) → Gives files after (file ∷ []) file text → comes text → OnFile comes files after file old new end
+  done : (text : List ℕ) → GivesText files after (file ∷ []) file text → comes text → OnFile comes files after file old new end
 
 -- a task that ends before the file beside the description is looked for: the description can't be read, or it is refused
 pub data EndsFirst (refuses : (text : List ℕ) → RunFault → Type 0) (files after : Known) (file : List ℕ) (end : End) : Type 0 where
   unread : IsUnread files after (file ∷ []) file end → EndsFirst refuses files after file end
-  refused : (text : List ℕ) (fault : RunFault) → Gives files after (file ∷ []) file text → refuses text fault → end ≡ Some (fault, file) → EndsFirst refuses files after file end
+  refused : (text : List ℕ) (fault : RunFault) → GivesText files after (file ∷ []) file text → refuses text fault → end ≡ Some (fault, file) → EndsFirst refuses files after file end
 
 -- a task on a description and the file beside it, which is opened only once the description has passed
 pub data OnFiles (refuses : (text : List ℕ) → RunFault → Type 0) (passes : (text : List ℕ) → Type 0) (comes : (text written : List ℕ) → Type 0) (files after : Known) (file beside : List ℕ) (old new : Seen) (end : End) : Type 0 where
   first : EndsFirst refuses files after file end → new ≡ old → OnFiles refuses passes comes files after file beside old new end
-  unread : (text : List ℕ) → IsTextOf files file text → passes text → IsUnread files after (file ∷ beside ∷ []) beside end → new ≡ old → OnFiles refuses passes comes files after file beside old new end
-  done : (text written : List ℕ) → IsTextOf files file text → passes text → Gives files after (file ∷ beside ∷ []) beside written → comes text written → OnFiles refuses passes comes files after file beside old new end
+  unread : (text : List ℕ) → IsFileText files file text → passes text → IsUnread files after (file ∷ beside ∷ []) beside end → new ≡ old → OnFiles refuses passes comes files after file beside old new end
+  done : (text written : List ℕ) → IsFileText files file text → passes text → GivesText files after (file ∷ beside ∷ []) beside written → comes text written → OnFiles refuses passes comes files after file beside old new end
 
 -- a description that was read, and what follows of its text
 pub record HasRead (follows : (text : List ℕ) → Type 0) (files after : Known) (file : List ℕ) : Type 0 where
   pub text : List ℕ
-  pub gives : Gives files after (file ∷ []) file text
+  pub gives : GivesText files after (file ∷ []) file text
   pub follows_text : follows text
 
 -- ---- a check
@@ -81,7 +81,7 @@ ChecksFile files after file old new end =
 
 -- the text spells no description
 abbrev pub IsUnspelled : (text : List ℕ) → RunFault → Type 0
-IsUnspelled text fault = (unspelled : LangFault) × Refuses text unspelled × (fault ≡ lang_told unspelled)
+IsUnspelled text fault = (unspelled : LangFault) × RefusesToParse text unspelled × (fault ≡ lang_told unspelled)
 
 abbrev pub IsSpelledAs : Desc → (text : List ℕ) → Type 0
 IsSpelledAs d text = Spells text d
@@ -107,7 +107,7 @@ pub data OnStream (comes : (text : List ℕ) (reader left : Given) → Type 0) (
   unopened : IsUnopened files after (file ∷ []) file end → new ≡ old → OnStream comes files after file script old new end
   beside : IsUnopened files after (file ∷ script ∷ []) script end → new ≡ old → OnStream comes files after file script old new end
   unread : IsUnread files after (file ∷ script ∷ []) file end → new ≡ old → OnStream comes files after file script old new end
-  done : (text : List ℕ) (reader left : Given) → Gives files after (file ∷ script ∷ []) file text → IsFileOf files script reader → comes text reader left → OnStream comes files after file script old new end
+  done : (text : List ℕ) (reader left : Given) → GivesText files after (file ∷ script ∷ []) file text → IsFileOf files script reader → comes text reader left → OnStream comes files after file script old new end
 
 -- what `run` answers, told as an end; the views of a description may be refused only where they are mismade
 abbrev pub RunsAs : (Mismade : Desc → Type 0) → (file script : List ℕ) → (old new : Seen) → End → (text : List ℕ) (reader left : Given) → Type 0
@@ -122,7 +122,7 @@ RunsFiles Mismade files after file script old new end =
 -- ---- all tasks
 
 -- a task, by what is asked for
-abbrev pub Performs : (Mismade : Desc → Type 0) → Task → (files after : Known) → (old new : Seen) → End → Type 0
-Performs Mismade (Check file) files after old new end = ChecksFile files after file.now old new end
-Performs Mismade (Accept file certificate) files after old new end = AcceptsFiles files after file.now certificate.now old new end
-Performs Mismade (Run file script) files after old new end = RunsFiles Mismade files after file.now script.now old new end
+abbrev pub PerformsTask : (Mismade : Desc → Type 0) → Task → (files after : Known) → (old new : Seen) → End → Type 0
+PerformsTask Mismade (Check file) files after old new end = ChecksFile files after file.now old new end
+PerformsTask Mismade (Accept file certificate) files after old new end = AcceptsFiles files after file.now certificate.now old new end
+PerformsTask Mismade (Run file script) files after old new end = RunsFiles Mismade files after file.now script.now old new end

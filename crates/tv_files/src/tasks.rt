@@ -4,7 +4,7 @@ ghost use Rattle.std.specs.Prelude.{[], ◌∷◌, MatchResult, Some};
 ghost use Rattle.tv_program.specs.Playing.{IsMismade, Makes};
 ghost use Rattle.tv_files.specs.Ends.{end_of};
 ghost use Rattle.tv_files.specs.Files.{IsFileOf, IsRead, Opens};
-ghost use Rattle.tv_files.specs.Tasks.{AcceptsFiles, ChecksFile, EndsFirst, Gives, HasRead, IsSpelledAs, IsUngiven, IsUnopened, IsUnread, IsUnspelled, Performs, RunsFiles};
+ghost use Rattle.tv_files.specs.Tasks.{AcceptsFiles, ChecksFile, EndsFirst, GivesText, HasRead, IsSpelledAs, IsUngiven, IsUnopened, IsUnread, IsUnspelled, PerformsTask, RunsFiles};
 
 use crate::Task;
 use crate::failure::Failure;
@@ -30,7 +30,7 @@ pub fn perform<
     W: Writer,
 >(files: &mut F, alloc: Global, task: Task<'a>, views: &M, out: &mut W) -> Result<(), Failure<'a>>
     requires { M.IsAlwaysCallable views.now }
-    ensures { Performs (IsMismade (Makes M.Fn views.now) V.meaning) task.entry (F.known files.old) (F.known files.new) (W.seen out.old) (W.seen out.new) (end_of result) }
+    ensures { PerformsTask (IsMismade (Makes M.Fn views.now) V.meaning) task.entry (F.known files.old) (F.known files.new) (W.seen out.old) (W.seen out.new) (end_of result) }
 {
     match task {
         Task::Check { file } => check_file(files, alloc, file, out),
@@ -135,7 +135,7 @@ fn read_file<'a, F: FileStore>(
     path: &'a str,
 ) -> Result<Vec<u8>, Failure<'a>>
     ensures { MatchResult result
-        (λ text. Gives (F.known files.old) (F.known files.new) (path.now ∷ []) path.now text.items)
+        (λ text. GivesText (F.known files.old) (F.known files.new) (path.now ∷ []) path.now text.items)
         (λ failure. IsUnread (F.known files.old) (F.known files.new) (path.now ∷ []) path.now (Some (failure.fault, failure.path.now))) }
 {
     let mut file = open(files, path)?;

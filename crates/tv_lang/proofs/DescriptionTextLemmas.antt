@@ -15,31 +15,31 @@ use Rattle.tv_lang.specs.declared.stage.Stage.{Stage}
 use Rattle.tv_lang.specs.declared.stage.Stage.TheVariants as stages
 use Rattle.tv_words.specs.Reading.Steps.{steps}
 use Rattle.tv_words.specs.Reading.LineWords.{line_words, line_taken}
-use Rattle.tv_lang.specs.Reading.Stages.{fresh, taken, finished}
+use Rattle.tv_lang.specs.Reading.Stages.{nothing_read, description_line_taken, finished_description}
 use Rattle.tv_declarations.specs.Spelling.{word_lines, IsDescription}
-use Rattle.tv_lang.specs.Faults.{SpellsLines, Begins}
+use Rattle.tv_lang.specs.Faults.{SpellsLines, BeginsDescription}
 use Rattle.tv_words.proofs.TextLemmas as texts
 use Rattle.tv_lang.proofs.GivenLemmas.{at, given_spelled}
 use Rattle.tv_lang.proofs.ReachLemmas.{spelled_given}
 
 -- the machine over lines, which passes over lines without words
 abbrev pub taken_line : Progress → List ℕ → Option Progress
-taken_line p line = line_taken taken p line
+taken_line p line = line_taken description_line_taken p line
 
 -- the description that the lines give
 abbrev pub given_lines : List (List ℕ) → Option Desc
-given_lines lines = option_and_then finished (steps taken_line fresh lines)
+given_lines lines = option_and_then finished_description (steps taken_line nothing_read lines)
 
 -- what the lines give is what they spell
 pub lines_spelled : (lines : List (List ℕ)) (d : Desc) → given_lines lines ≡ Some d → SpellsLines lines d
-lines_spelled = texts.lines_spelled taken fresh finished word_lines IsDescription given_spelled spelled_given
+lines_spelled = texts.lines_spelled description_line_taken nothing_read finished_description word_lines IsDescription given_spelled spelled_given
 
 pub spelled_lines : (lines : List (List ℕ)) (d : Desc) → SpellsLines lines d → given_lines lines ≡ Some d
-spelled_lines = texts.spelled_lines taken fresh finished word_lines IsDescription given_spelled spelled_given
+spelled_lines = texts.spelled_lines description_line_taken nothing_read finished_description word_lines IsDescription given_spelled spelled_given
 
 -- the machine goes along lines that begin a description
-pub begins_taken : (lines : List (List ℕ)) → Begins lines → (p : Progress) × (steps taken_line fresh lines ≡ Some p)
-begins_taken = texts.begins_taken taken fresh finished word_lines IsDescription given_spelled spelled_given
+pub begins_taken : (lines : List (List ℕ)) → BeginsDescription lines → (p : Progress) × (steps taken_line nothing_read lines ≡ Some p)
+begins_taken = texts.begins_taken description_line_taken nothing_read finished_description word_lines IsDescription given_spelled spelled_given
 
 -- lines that end a description at each stage
 abbrev end_line : List ℕ
@@ -71,7 +71,7 @@ unfolding is_utf8 chars encode
 version_words = refl
 
 abbrev Completes : Progress → List (List ℕ) → Type 0
-Completes p lines = (d : Desc) × (option_and_then finished (steps taken_line p lines) ≡ Some d)
+Completes p lines = (d : Desc) × (option_and_then finished_description (steps taken_line p lines) ≡ Some d)
 
 empty_if : {A : Type 0} (xs : List A) (x : A) (b : Bool) → (length (xs ++ x ∷ []) == 0) ≡ b → (length (xs ++ x ∷ []) == 0) ≡ false
 empty_if xs x true e = let none : length (xs ++ x ∷ []) ≡ 0 = eqb-true (length (xs ++ x ∷ [])) 0 e in absurd (omega (arith, none, length-append xs (x ∷ [])))
@@ -102,8 +102,8 @@ complete next (stages.InViews dialog panes) d = views_complete panes next dialog
 complete next (stages.InRules dialog) d = (record d { dialogs = d.dialogs ++ dialog ∷ [] }, rw end_words refl)
 
 -- lines along which the machine goes begin a description
-pub taken_begins : (lines : List (List ℕ)) (p : Progress) → steps taken_line fresh lines ≡ Some p → Begins lines
+pub taken_begins : (lines : List (List ℕ)) (p : Progress) → steps taken_line nothing_read lines ≡ Some p → BeginsDescription lines
 taken_begins lines p e =
     let h = complete p.next p.stage p.desc in
-    let all : given_lines (lines ++ rest_of p.stage) ≡ Some h.0 = ap (option_and_then finished) (texts.steps_append taken_line lines (rest_of p.stage) fresh ∙ ap (option_and_then (λ t. steps taken_line t (rest_of p.stage))) e) ∙ h.1 in
+    let all : given_lines (lines ++ rest_of p.stage) ≡ Some h.0 = ap (option_and_then finished_description) (texts.steps_append taken_line lines (rest_of p.stage) nothing_read ∙ ap (option_and_then (λ t. steps taken_line t (rest_of p.stage))) e) ∙ h.1 in
     (rest_of p.stage, h.0, lines_spelled (lines ++ rest_of p.stage) h.0 all)

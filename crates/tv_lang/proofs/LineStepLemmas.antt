@@ -8,7 +8,7 @@ use Rattle.tv_words.specs.Words.{SpellsWords}
 use Rattle.tv_lang.specs.declared.stage.Stage.{Stage}
 use Rattle.tv_model.specs.declared.desc.Desc.{Desc}
 use Rattle.std.specs.Option.{option_map}
-use Rattle.tv_lang.specs.Reading.Stages.{is_other_version, progress, position, taken_at, taken}
+use Rattle.tv_lang.specs.Reading.Stages.{is_other_version, progress, position, declaration_taken, description_line_taken}
 use Rattle.tv_declarations.specs.Reading.Declarations.{declaration_in}
 use Rattle.tv_lang.specs.Reading.Descriptions.{Next, Faulty, OfOtherVersion, step_from, step_if, words_step, line_step}
 use Rattle.tv_words.proofs.LineWordLemmas.{found_words}
@@ -27,23 +27,23 @@ module _ (p : Progress) (line : List ℕ) (found : Option (List Word)) (spelled 
   pub line_without_words : (ws : List Word) → found ≡ Some ws → true ≡ (length ws == 0) → line_step p line ≡ Next p
   line_without_words ws e none = sym by_words ∙ ap (words_step p) e ∙ no_words ws none
 
-  with_words : (ws : List Word) → false ≡ (length ws == 0) → words_step p (Some ws) ≡ step_if (is_other_version p ws) (taken p ws)
+  with_words : (ws : List Word) → false ≡ (length ws == 0) → words_step p (Some ws) ≡ step_if (is_other_version p ws) (description_line_taken p ws)
   with_words [] e = absurd cc
   with_words (w ∷ ws) e = refl
 
-  declared_line : (ws : List Word) → found ≡ Some ws → false ≡ (length ws == 0) → line_step p line ≡ step_if (is_other_version p ws) (taken p ws)
+  declared_line : (ws : List Word) → found ≡ Some ws → false ≡ (length ws == 0) → line_step p line ≡ step_if (is_other_version p ws) (description_line_taken p ws)
   declared_line ws e some = sym by_words ∙ ap (words_step p) e ∙ with_words ws some
 
   pub line_of_other_version : (ws : List Word) → found ≡ Some ws → false ≡ (length ws == 0) → true ≡ is_other_version p ws → line_step p line ≡ OfOtherVersion
-  line_of_other_version ws e some other = declared_line ws e some ∙ ap (λ b. step_if b (taken p ws)) (sym other)
+  line_of_other_version ws e some other = declared_line ws e some ∙ ap (λ b. step_if b (description_line_taken p ws)) (sym other)
 
-  pub declaration : (ws : List Word) (further : Option Progress) → found ≡ Some ws → false ≡ (length ws == 0) → false ≡ is_other_version p ws → further ≡ taken p ws → line_step p line ≡ step_from further
-  declaration ws further e some same took = declared_line ws e some ∙ ap (λ b. step_if b (taken p ws)) (sym same) ∙ ap step_from (sym took)
+  pub declaration : (ws : List Word) (further : Option Progress) → found ≡ Some ws → false ≡ (length ws == 0) → false ≡ is_other_version p ws → further ≡ description_line_taken p ws → line_step p line ≡ step_from further
+  declaration ws further e some same took = declared_line ws e some ∙ ap (λ b. step_if b (description_line_taken p ws)) (sym same) ∙ ap step_from (sym took)
 
 next_of : (line : ℕ) (o : Option (Stage × Desc)) (q : Progress) → option_map (progress line) o ≡ Some q → q.next ≡ line
 next_of line None q e = absurd cc
 next_of line (Some t) q e = let same : progress line t ≡ q = cc in ap (λ x. x.next) (sym same)
 
 -- the next declaration stands on the next line
-pub next_taken : (p : Progress) (ws : List Word) (q : Progress) → taken p ws ≡ Some q → q.next ≡ p.next + 1
-next_taken p ws q e = next_of (p.next + 1) (option_and_then (taken_at p.stage p.desc) (declaration_in (position p) ws)) q e
+pub next_taken : (p : Progress) (ws : List Word) (q : Progress) → description_line_taken p ws ≡ Some q → q.next ≡ p.next + 1
+next_taken p ws q e = next_of (p.next + 1) (option_and_then (declaration_taken p.stage p.desc) (declaration_in (position p) ws)) q e

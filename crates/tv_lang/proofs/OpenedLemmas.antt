@@ -10,16 +10,16 @@ use Rattle.tv_model.specs.declared.desc.Dialog.{Dialog}
 use Rattle.tv_model.specs.declared.desc.Window.{Window}
 use Rattle.tv_model.specs.Description.Nodes.{is_window, is_dialog}
 use Rattle.tv_lang.specs.declared.stage.Stage.TheVariants as stages
-use Rattle.tv_lang.specs.Reading.Stages.{dialog_of, no_dialogs, node_opened, opened_as, window_of}
+use Rattle.tv_lang.specs.Reading.Stages.{dialog_of, no_dialogs, node_opened, opened_as, empty_window}
 
-as_window : (d : Desc) (node : Node) (window dialog : Bool) (ew : is_window node.kind ≡ window) (ed : is_dialog node.kind ≡ dialog) (is : IsTrue (is_window node.kind)) → no_dialogs d ≡ true → opened_as d node window dialog ew ed ≡ Some (stages.InWindow (window_of node is), d)
-as_window d node true dialog ew ed is none = rw none (ap (λ own. Some (stages.InWindow (window_of node own), d)) (Bool-set (is_window node.kind) true ew is))
+as_window : (d : Desc) (node : Node) (window dialog : Bool) (ew : is_window node.kind ≡ window) (ed : is_dialog node.kind ≡ dialog) (is : IsTrue (is_window node.kind)) → no_dialogs d ≡ true → opened_as d node window dialog ew ed ≡ Some (stages.InWindow (empty_window node is), d)
+as_window d node true dialog ew ed is none = rw none (ap (λ own. Some (stages.InWindow (empty_window node own), d)) (Bool-set (is_window node.kind) true ew is))
 as_window d node false dialog ew ed is none = let clash : false ≡ true = sym ew ∙ is in absurd cc
 
 -- a window's line opens the window, where no dialog is declared
 pub opens_window : (d : Desc) (node : Node) (window : Window) → window.node ≡ node → window.views ≡ [] → no_dialogs d ≡ true → node_opened d node ≡ Some (stages.InWindow window, d)
 opens_window d node window en ev none =
-    let own : node_opened d window.node ≡ Some (stages.InWindow (window_of window.node window.own_kind), d) = as_window d window.node (is_window window.node.kind) (is_dialog window.node.kind) refl refl window.own_kind none in
+    let own : node_opened d window.node ≡ Some (stages.InWindow (empty_window window.node window.own_kind), d) = as_window d window.node (is_window window.node.kind) (is_dialog window.node.kind) refl refl window.own_kind none in
     subst (λ n. node_opened d n ≡ Some (stages.InWindow window, d)) en (own ∙ ap (λ l. Some (stages.InWindow (record window { views = l }), d)) (sym ev))
 
 -- a dialog's kind is no window's

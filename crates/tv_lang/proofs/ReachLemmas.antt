@@ -19,8 +19,8 @@ use Rattle.tv_declarations.specs.declared.declaration.Declaration.{Declaration}
 use Rattle.tv_declarations.specs.declared.declaration.Declaration.TheVariants as declared
 use Rattle.tv_lang.specs.declared.stage.Stage.{Stage}
 use Rattle.tv_lang.specs.declared.stage.Stage.TheVariants as stages
-use Rattle.tv_lang.specs.Reading.Stages.{no_dialogs, no_windows, no_status, panes_after, taken_at, fresh, open_panes}
-use Rattle.tv_declarations.specs.Spelling.{start_declarations, menu_declarations, window_declarations, ends_of_panes, open_after, view_declarations, dialog_declarations, declarations_of, word_lines, HasItems, IsWindowText, IsWindow, AreViews, IsDialog, IsDescription}
+use Rattle.tv_lang.specs.Reading.Stages.{no_dialogs, no_windows, no_status, panes_after, declaration_taken, nothing_read, open_panes}
+use Rattle.tv_declarations.specs.Spelling.{start_declarations, menu_declarations, window_declarations, ends_of_panes, open_panes_after, view_declarations, dialog_declarations, declarations_of, word_lines, HasAnItem, IsWindowText, IsWindow, AreViews, IsDialog, IsDescription}
 use Rattle.tv_declarations.specs.Spelling.Declarations.{declaration_words, AreDeclarations}
 use Rattle.tv_declarations.proofs.DeclarationLemmas.{read_declaration}
 use Rattle.tv_declarations.specs.Spelling.Declarations.{IsInside}
@@ -31,7 +31,7 @@ use Rattle.tv_lang.proofs.OpenedLemmas.{opens_window, opens_dialog}
 abbrev Reaches : Stage → Desc → List Declaration → Desc → Type 0
 Reaches stage d xs v = (line : ℕ) → AreDeclarations line xs → given (at line stage d) (map declaration_words xs) ≡ Some v
 
-one : (stage : Stage) (d : Desc) (x : Declaration) (further : Stage) (e : Desc) (xs : List Declaration) (v : Desc) → IsInside (open_panes stage) x → taken_at stage d x ≡ Some (further, e) → Reaches further e xs v → Reaches stage d (x ∷ xs) v
+one : (stage : Stage) (d : Desc) (x : Declaration) (further : Stage) (e : Desc) (xs : List Declaration) (v : Desc) → IsInside (open_panes stage) x → declaration_taken stage d x ≡ Some (further, e) → Reaches further e xs v → Reaches stage d (x ∷ xs) v
 one stage d x further e xs v inside took later = λ line are. rw (read_declaration line (open_panes stage) x are.0 inside, took) (later (line + 1) are.1)
 
 -- the same declarations, put together otherwise
@@ -55,7 +55,7 @@ items_reach (item ∷ items) menu d v xs h =
     one (stages.InMenu menu) d (declared.Item item) (stages.InMenu longer) d (map (λ item. declared.Item item) items ++ xs) v tt refl
     (items_reach items longer d v xs (subst (λ l. Reaches (stages.InMenu (record menu { items = l })) d xs v) (sym (append_assoc menu.items (item ∷ []) items)) h))
 
-menu_reach : (menu : Menu) (d v : Desc) (xs : List Declaration) → HasItems menu → no_status d ≡ true → Reaches stages.Between (record d { menus = d.menus ++ menu ∷ [] }) xs v → Reaches stages.Between d (menu_declarations menu ++ xs) v
+menu_reach : (menu : Menu) (d v : Desc) (xs : List Declaration) → HasAnItem menu → no_status d ≡ true → Reaches stages.Between (record d { menus = d.menus ++ menu ∷ [] }) xs v → Reaches stages.Between d (menu_declarations menu ++ xs) v
 menu_reach menu d v xs has none h =
     let opened : Menu = record { id = menu.id; title = menu.title; items = [] } in
     along stages.Between d v (menu_declarations menu ++ xs) (declared.Menu menu.id menu.title ∷ (map (λ item. declared.Item item) menu.items ++ (declared.End ∷ xs))) (ap (λ l. declared.Menu menu.id menu.title ∷ l) (append_assoc (map (λ item. declared.Item item) menu.items) (declared.End ∷ []) xs))
@@ -63,7 +63,7 @@ menu_reach menu d v xs has none h =
     (items_reach menu.items opened d v (declared.End ∷ xs)
     (one (stages.InMenu menu) d declared.End stages.Between (record d { menus = d.menus ++ menu ∷ [] }) xs v tt (rw (is_some menu.items has) refl) h)))
 
-menus_reach : (menus : List Menu) (d v : Desc) (xs : List Declaration) → AllByRecursion HasItems menus → no_status d ≡ true → Reaches stages.Between (record d { menus = d.menus ++ menus }) xs v → Reaches stages.Between d (flat_map menu_declarations menus ++ xs) v
+menus_reach : (menus : List Menu) (d v : Desc) (xs : List Declaration) → AllByRecursion HasAnItem menus → no_status d ≡ true → Reaches stages.Between (record d { menus = d.menus ++ menus }) xs v → Reaches stages.Between d (flat_map menu_declarations menus ++ xs) v
 menus_reach [] d v xs have none h = subst (λ l. Reaches stages.Between (record d { menus = l }) xs v) (append-nil d.menus) h
 menus_reach (menu ∷ menus) d v xs have none h =
     let longer : Desc = record d { menus = d.menus ++ menu ∷ [] } in
@@ -125,9 +125,9 @@ panes_end panes to dialog d v xs within h = ends_reach (panes - to) panes to dia
 few : (n : ℕ) → n + 1 ≤ 16 → nat_lt n 16 ≡ true
 few n h = grind (arith, nat_tests)
 
-after_if : (n : Node) (b : Bool) → is_pane n.kind ≡ b → open_after n ≤ 16 → panes_after n.depth n ≡ Some (open_after n)
+after_if : (n : Node) (b : Bool) → is_pane n.kind ≡ b → open_panes_after n ≤ 16 → panes_after n.depth n ≡ Some (open_panes_after n)
 after_if n true e h =
-    let after : open_after n ≡ n.depth + 1 = rw e refl in
+    let after : open_panes_after n ≡ n.depth + 1 = rw e refl in
     rw (e, few n.depth (rw (← after) h)) refl
 after_if n false e h = rw e refl
 
@@ -136,10 +136,10 @@ views_reach [] panes dialog d v xs are h =
     panes_end panes 0 dialog d v xs (omega arith) (subst (λ l. Reaches (stages.InViews (record dialog { views = l }) 0) d xs v) (append-nil dialog.views) h)
 views_reach (n ∷ ns) panes dialog d v xs (is, within, low, are) h =
     let longer : Dialog = record dialog { views = dialog.views ++ n ∷ [] } in
-    along (stages.InViews dialog panes) d v (view_declarations panes (n ∷ ns) ++ xs) (ends_of_panes panes n.depth ++ (declared.Node n ∷ (view_declarations (open_after n) ns ++ xs))) (append_assoc (ends_of_panes panes n.depth) (declared.Node n ∷ view_declarations (open_after n) ns) xs)
-    (panes_end panes n.depth dialog d v (declared.Node n ∷ (view_declarations (open_after n) ns ++ xs)) within
-    (one (stages.InViews dialog n.depth) d (declared.Node n) (stages.InViews longer (open_after n)) d (view_declarations (open_after n) ns ++ xs) v refl (rw (is, after_if n (is_pane n.kind) refl low) refl)
-    (views_reach ns (open_after n) longer d v xs are (subst (λ l. Reaches (stages.InViews (record dialog { views = l }) 0) d xs v) (sym (append_assoc dialog.views (n ∷ []) ns)) h))))
+    along (stages.InViews dialog panes) d v (view_declarations panes (n ∷ ns) ++ xs) (ends_of_panes panes n.depth ++ (declared.Node n ∷ (view_declarations (open_panes_after n) ns ++ xs))) (append_assoc (ends_of_panes panes n.depth) (declared.Node n ∷ view_declarations (open_panes_after n) ns) xs)
+    (panes_end panes n.depth dialog d v (declared.Node n ∷ (view_declarations (open_panes_after n) ns ++ xs)) within
+    (one (stages.InViews dialog n.depth) d (declared.Node n) (stages.InViews longer (open_panes_after n)) d (view_declarations (open_panes_after n) ns ++ xs) v refl (rw (is, after_if n (is_pane n.kind) refl low) refl)
+    (views_reach ns (open_panes_after n) longer d v xs are (subst (λ l. Reaches (stages.InViews (record dialog { views = l }) 0) d xs v) (sym (append_assoc dialog.views (n ∷ []) ns)) h))))
 
 rules_reach : (rules : List Rule) (dialog : Dialog) (d v : Desc) (xs : List Declaration) → Reaches (stages.InRules (record dialog { rules = dialog.rules ++ rules })) d xs v → Reaches (stages.InRules dialog) d (map (λ rule. declared.Rule rule) rules ++ xs) v
 rules_reach [] dialog d v xs h = subst (λ l. Reaches (stages.InRules (record dialog { rules = l })) d xs v) (append-nil dialog.rules) h
@@ -185,7 +185,7 @@ start_reach version width height None v xs h = h
 start_reach version width height (Some name) v xs h = one stages.Between (sized version width height None) (declared.Start name) stages.Between (sized version width height (Some name)) xs v tt refl h
 
 -- what is spelled so is read
-pub spelled_given : (v : Desc) → IsDescription v → given fresh (word_lines v) ≡ Some v
+pub spelled_given : (v : Desc) → IsDescription v → given nothing_read (word_lines v) ≡ Some v
 spelled_given v is =
     let with_menus : Desc = record (sized v.version v.width v.height v.start) { menus = v.menus } in
     let with_status : Desc = record with_menus { status = v.status } in
@@ -195,9 +195,9 @@ spelled_given v is =
     let status = map (λ item. declared.Status item) v.status ++ windows in
     let menus = flat_map menu_declarations v.menus ++ status in
     let parts = start_declarations v.start ++ menus in
-    let all : Reaches stages.Version fresh.desc (declarations_of v) v =
-    one stages.Version fresh.desc (declared.Version v.version) stages.Screen (record fresh.desc { version = v.version }) (declared.Screen v.width v.height ∷ parts) v tt refl
-    (one stages.Screen (record fresh.desc { version = v.version }) (declared.Screen v.width v.height) stages.Between (sized v.version v.width v.height None) parts v tt refl
+    let all : Reaches stages.Version nothing_read.desc (declarations_of v) v =
+    one stages.Version nothing_read.desc (declared.Version v.version) stages.Screen (record nothing_read.desc { version = v.version }) (declared.Screen v.width v.height ∷ parts) v tt refl
+    (one stages.Screen (record nothing_read.desc { version = v.version }) (declared.Screen v.width v.height) stages.Between (sized v.version v.width v.height None) parts v tt refl
     (start_reach v.version v.width v.height v.start v menus
     (menus_reach v.menus (sized v.version v.width v.height v.start) v status is.menus refl
     (status_reach v.status with_menus v windows refl

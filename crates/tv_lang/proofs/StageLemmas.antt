@@ -20,8 +20,8 @@ use Rattle.tv_declarations.specs.declared.declaration.Declaration.{Declaration}
 use Rattle.tv_declarations.specs.declared.declaration.Declaration.TheVariants as declared
 use Rattle.tv_lang.specs.declared.stage.Stage.{Stage}
 use Rattle.tv_lang.specs.declared.stage.Stage.TheVariants as stages
-use Rattle.tv_lang.specs.Reading.Stages.{no_dialogs, no_windows, no_status, no_menus, version_taken, screen_taken, part_taken, menu_taken, window_taken, panes_after, views_taken, rules_taken, window_of, dialog_of, opened_as, taken_at, fresh, open_panes}
-use Rattle.tv_declarations.specs.Spelling.{start_declarations, menu_declarations, window_declarations, ends_of_panes, open_after, view_declarations, dialog_declarations, declarations_of, is_text, is_view, HasItems, IsWindowText, IsWindow, AreViews, IsDialog}
+use Rattle.tv_lang.specs.Reading.Stages.{no_dialogs, no_windows, no_status, no_menus, version_taken, screen_taken, part_taken, menu_taken, window_taken, panes_after, views_taken, rules_taken, empty_window, dialog_of, opened_as, declaration_taken, nothing_read, open_panes}
+use Rattle.tv_declarations.specs.Spelling.{start_declarations, menu_declarations, window_declarations, ends_of_panes, open_panes_after, view_declarations, dialog_declarations, declarations_of, is_text, is_view, HasAnItem, IsWindowText, IsWindow, AreViews, IsDialog}
 use Rattle.tv_declarations.specs.Spelling.Declarations.{IsInside}
 
 -- ---- lists
@@ -114,28 +114,28 @@ windows_none d e = let b = both (length d.windows == 0) (no_dialogs d) e in (no_
 
 abbrev pub views_so_far : ℕ → List Node → List Declaration
 views_so_far panes [] = []
-views_so_far panes (n ∷ ns) = ends_of_panes panes n.depth ++ (declared.Node n ∷ views_so_far (open_after n) ns)
+views_so_far panes (n ∷ ns) = ends_of_panes panes n.depth ++ (declared.Node n ∷ views_so_far (open_panes_after n) ns)
 
 -- the panes that are open after the last view
 abbrev pub last_panes : ℕ → List Node → ℕ
 last_panes panes [] = panes
-last_panes panes (n ∷ ns) = last_panes (open_after n) ns
+last_panes panes (n ∷ ns) = last_panes (open_panes_after n) ns
 
 all_views : (panes : ℕ) (ns : List Node) → view_declarations panes ns ≡ views_so_far panes ns ++ ends_of_panes (last_panes panes ns) 0
 all_views panes [] = refl
 all_views panes (n ∷ ns) =
-    ap (λ l. ends_of_panes panes n.depth ++ (declared.Node n ∷ l)) (all_views (open_after n) ns)
-    ∙ sym (append_assoc (ends_of_panes panes n.depth) (declared.Node n ∷ views_so_far (open_after n) ns) (ends_of_panes (last_panes (open_after n) ns) 0))
+    ap (λ l. ends_of_panes panes n.depth ++ (declared.Node n ∷ l)) (all_views (open_panes_after n) ns)
+    ∙ sym (append_assoc (ends_of_panes panes n.depth) (declared.Node n ∷ views_so_far (open_panes_after n) ns) (ends_of_panes (last_panes (open_panes_after n) ns) 0))
 
 views_more : (panes : ℕ) (ns : List Node) (v : Node) → views_so_far panes (ns ++ v ∷ []) ≡ views_so_far panes ns ++ (ends_of_panes (last_panes panes ns) v.depth ++ declared.Node v ∷ [])
 views_more panes [] v = refl
 views_more panes (n ∷ ns) v =
-    ap (λ l. ends_of_panes panes n.depth ++ (declared.Node n ∷ l)) (views_more (open_after n) ns v)
-    ∙ sym (append_assoc (ends_of_panes panes n.depth) (declared.Node n ∷ views_so_far (open_after n) ns) (ends_of_panes (last_panes (open_after n) ns) v.depth ++ declared.Node v ∷ []))
+    ap (λ l. ends_of_panes panes n.depth ++ (declared.Node n ∷ l)) (views_more (open_panes_after n) ns v)
+    ∙ sym (append_assoc (ends_of_panes panes n.depth) (declared.Node n ∷ views_so_far (open_panes_after n) ns) (ends_of_panes (last_panes (open_panes_after n) ns) v.depth ++ declared.Node v ∷ []))
 
-last_more : (panes : ℕ) (ns : List Node) (v : Node) → last_panes panes (ns ++ v ∷ []) ≡ open_after v
+last_more : (panes : ℕ) (ns : List Node) (v : Node) → last_panes panes (ns ++ v ∷ []) ≡ open_panes_after v
 last_more panes [] v = refl
-last_more panes (n ∷ ns) v = last_more (open_after n) ns v
+last_more panes (n ∷ ns) v = last_more (open_panes_after n) ns v
 
 no_ends : (k : ℕ) → ends_of_panes k k ≡ []
 no_ends k = let none : k - k ≡ 0 = omega arith in rw none refl
@@ -145,15 +145,15 @@ one_end k panes some within =
     let more : k - (panes - 1) ≡ (k - panes) + 1 = omega (arith, some, within) in
     rw more (replicate_next (k - panes) declared.End)
 
-views_end : (panes : ℕ) (ns : List Node) (v : Node) → AreViews panes ns → IsTrue (is_view v.kind) → v.depth ≤ last_panes panes ns → open_after v ≤ 16 → AreViews panes (ns ++ v ∷ [])
+views_end : (panes : ℕ) (ns : List Node) (v : Node) → AreViews panes ns → IsTrue (is_view v.kind) → v.depth ≤ last_panes panes ns → open_panes_after v ≤ 16 → AreViews panes (ns ++ v ∷ [])
 views_end panes [] v are is within few = (is, within, few, tt)
-views_end panes (n ∷ ns) v (a, b, c, are) is within few = (a, b, c, views_end (open_after n) ns v are is within few)
+views_end panes (n ∷ ns) v (a, b, c, are) is within few = (a, b, c, views_end (open_panes_after n) ns v are is within few)
 
 -- the lines of the views, with one more
-with_view : (ns : List Node) (v : Node) → views_so_far 0 (ns ++ v ∷ []) ++ ends_of_panes (last_panes 0 (ns ++ v ∷ [])) (open_after v) ≡ (views_so_far 0 ns ++ ends_of_panes (last_panes 0 ns) v.depth) ++ declared.Node v ∷ []
+with_view : (ns : List Node) (v : Node) → views_so_far 0 (ns ++ v ∷ []) ++ ends_of_panes (last_panes 0 (ns ++ v ∷ [])) (open_panes_after v) ≡ (views_so_far 0 ns ++ ends_of_panes (last_panes 0 ns) v.depth) ++ declared.Node v ∷ []
 with_view ns v =
-    ap (λ k. views_so_far 0 (ns ++ v ∷ []) ++ ends_of_panes k (open_after v)) (last_more 0 ns v)
-    ∙ ap (λ l. views_so_far 0 (ns ++ v ∷ []) ++ l) (no_ends (open_after v))
+    ap (λ k. views_so_far 0 (ns ++ v ∷ []) ++ ends_of_panes k (open_panes_after v)) (last_more 0 ns v)
+    ∙ ap (λ l. views_so_far 0 (ns ++ v ∷ []) ++ l) (no_ends (open_panes_after v))
     ∙ append-nil (views_so_far 0 (ns ++ v ∷ []))
     ∙ views_more 0 ns v
     ∙ sym (append_assoc (views_so_far 0 ns) (ends_of_panes (last_panes 0 ns) v.depth) (declared.Node v ∷ []))
@@ -171,12 +171,12 @@ so_far (stages.InViews dialog panes) d = declarations_of d ++ (declared.Node dia
 so_far (stages.InRules dialog) d = declarations_of d ++ (declared.Node dialog.node ∷ (view_declarations 0 dialog.views ++ map (λ rule. declared.Rule rule) dialog.rules))
 
 pub record HasParts (d : Desc) : Type 0 where
-  pub menus : AllByRecursion HasItems d.menus
+  pub menus : AllByRecursion HasAnItem d.menus
   pub windows : AllByRecursion IsWindow d.windows
   pub dialogs : AllByRecursion IsDialog d.dialogs
 
 abbrev nothing : Desc
-nothing = fresh.desc
+nothing = nothing_read.desc
 
 -- nothing but the version
 abbrev only_version : Version → Desc
@@ -249,8 +249,8 @@ status_if d item r true eb e s =
     (record { menus = s.menus; windows = s.windows; dialogs = s.dialogs }, status_added d item n.0 n.1)
 status_if d item r false eb e s = absurd cc
 
-window_if : (d : Desc) (node : Node) (is : IsTrue (is_window node.kind)) (r : Stage × Desc) (b : Bool) → no_dialogs d ≡ b → cond b (Some (stages.InWindow (window_of node is), d)) None ≡ Some r → HasParts d → node.depth ≡ 0 → Goes stages.Between d (declared.Node node) r
-window_if d node is r true eb e s inside = goes_same stages.Between d (declared.Node node) (stages.InWindow (window_of node is), d) r e ((s, eb, record { depth = inside; views = tt }), refl)
+window_if : (d : Desc) (node : Node) (is : IsTrue (is_window node.kind)) (r : Stage × Desc) (b : Bool) → no_dialogs d ≡ b → cond b (Some (stages.InWindow (empty_window node is), d)) None ≡ Some r → HasParts d → node.depth ≡ 0 → Goes stages.Between d (declared.Node node) r
+window_if d node is r true eb e s inside = goes_same stages.Between d (declared.Node node) (stages.InWindow (empty_window node is), d) r e ((s, eb, record { depth = inside; views = tt }), refl)
 window_if d node is r false eb e s inside = absurd cc
 
 node_as : (d : Desc) (node : Node) (r : Stage × Desc) (window dialog : Bool) (ew : is_window node.kind ≡ window) (ed : is_dialog node.kind ≡ dialog) → opened_as d node window dialog ew ed ≡ Some r → HasParts d → node.depth ≡ 0 → Goes stages.Between d (declared.Node node) r
@@ -275,7 +275,7 @@ menu_end_if d menu r false eb e s none =
     let n = status_none d none in
     let body = map (λ item. declared.Item item) menu.items in
     goes_same (stages.InMenu menu) d declared.End (stages.Between, record d { menus = d.menus ++ menu ∷ [] }) r e (
-      record { menus = all_end HasItems d.menus menu s.menus (some_items_if menu.items false eb refl); windows = s.windows; dialogs = s.dialogs },
+      record { menus = all_end HasAnItem d.menus menu s.menus (some_items_if menu.items false eb refl); windows = s.windows; dialogs = s.dialogs },
       menu_added d menu n.0 n.1 n.2 ∙ onto (declarations_of d) (declared.Menu menu.id menu.title) (body ++ declared.End ∷ []) body declared.End refl,
     )
 
@@ -325,20 +325,20 @@ dialog_ended stage d dialog body before eb s is =
     )
 
 -- the panes that are open after a view
-panes_if : (panes : ℕ) (v : Node) (more : ℕ) (a b : Bool) → is_pane v.kind ≡ a → nat_lt panes 16 ≡ b → cond a (cond b (Some (panes + 1)) None) (Some panes) ≡ Some more → v.depth ≡ panes → panes ≤ 16 → (more ≡ open_after v) × (open_after v ≤ 16)
+panes_if : (panes : ℕ) (v : Node) (more : ℕ) (a b : Bool) → is_pane v.kind ≡ a → nat_lt panes 16 ≡ b → cond a (cond b (Some (panes + 1)) None) (Some panes) ≡ Some more → v.depth ≡ panes → panes ≤ 16 → (more ≡ open_panes_after v) × (open_panes_after v ≤ 16)
 panes_if panes v more true true ea eb e inside few =
     let same : panes + 1 ≡ more = cc in
-    let after : open_after v ≡ panes + 1 = rw (ea, inside) refl in
+    let after : open_panes_after v ≡ panes + 1 = rw (ea, inside) refl in
     (sym same ∙ sym after, rw after (grind (arith, nat_tests)))
 panes_if panes v more true false ea eb e inside few = absurd cc
 panes_if panes v more false b ea eb e inside few =
     let same : panes ≡ more = cc in
-    let after : open_after v ≡ panes = rw (ea, inside) refl in
+    let after : open_panes_after v ≡ panes = rw (ea, inside) refl in
     (sym same ∙ sym after, rw after few)
 
 last_few : (panes : ℕ) (ns : List Node) → panes ≤ 16 → AreViews panes ns → last_panes panes ns ≤ 16
 last_few panes [] few are = few
-last_few panes (n ∷ ns) few (a, b, c, are) = last_few (open_after n) ns c are
+last_few panes (n ∷ ns) few (a, b, c, are) = last_few (open_panes_after n) ns c are
 
 view_if : (d : Desc) (dialog : Dialog) (panes : ℕ) (v : Node) (r : Stage × Desc) (b : Bool) (o : Option ℕ) → is_view v.kind ≡ b → panes_after panes v ≡ o → cond b (option_map (λ more. (stages.InViews (record dialog { views = dialog.views ++ v ∷ [] }) more, d)) o) None ≡ Some r → Sound (stages.InViews dialog panes) d → v.depth ≡ panes → Goes (stages.InViews dialog panes) d (declared.Node v) r
 view_if d dialog panes v r true (Some more) eb eo e (s, is, none, within) inside =
@@ -419,7 +419,7 @@ rules_step d dialog declared.End r e s is =
     (dialog_ended (stages.InRules dialog) d dialog (view_declarations 0 dialog.views ++ map (λ rule. declared.Rule rule) dialog.rules) refl refl s is)
 
 -- a declaration more
-pub goes : (stage : Stage) (d : Desc) (x : Declaration) (r : Stage × Desc) → taken_at stage d x ≡ Some r → Sound stage d → IsInside (open_panes stage) x → Goes stage d x r
+pub goes : (stage : Stage) (d : Desc) (x : Declaration) (r : Stage × Desc) → declaration_taken stage d x ≡ Some r → Sound stage d → IsInside (open_panes stage) x → Goes stage d x r
 goes stages.Version d x r e s inside = version_step d x r e s
 goes stages.Screen d x r e s inside = screen_step d x r e s
 goes stages.Between d x r e s inside = part_step d x r e s inside

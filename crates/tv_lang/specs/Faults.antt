@@ -9,7 +9,7 @@ use Rattle.tv_words.specs.Lines.{lines_of}
 use Rattle.tv_words.specs.Words.{SpellsWords}
 use Rattle.tv_declarations.specs.Spelling.{word_lines, IsDescription}
 use Rattle.tv_words.specs.Fields.{number_word, IsNumber}
-use Rattle.tv_words.specs.Texts.{SpellsBy, BeginsBy, IsFirstFault}
+use Rattle.tv_words.specs.Texts.{SpellsBy, BeginsBy, IsFirstFaultyLine}
 
 -- the lines spell the description
 abbrev pub SpellsLines : List (List ℕ) → Desc → Type 0
@@ -20,8 +20,8 @@ abbrev pub Spells : List ℕ → Desc → Type 0
 Spells text d = SpellsLines (lines_of text) d
 
 -- the lines begin a text that spells a description
-abbrev pub Begins : List (List ℕ) → Type 0
-Begins lines = BeginsBy word_lines IsDescription lines
+abbrev pub BeginsDescription : List (List ℕ) → Type 0
+BeginsDescription lines = BeginsBy word_lines IsDescription lines
 
 -- the first declaration is a whole line `tvd` with another number than 1
 pub record IsOtherVersion (lines : List (List ℕ)) : Type 0 where
@@ -36,16 +36,16 @@ pub record IsOtherVersion (lines : List (List ℕ)) : Type 0 where
   pub other : number ≢ pos 1
 
 -- what each refusal says of the text
-abbrev pub Refuses : List ℕ → LangFault → Type 0
-Refuses text NoMemory = Unit {0}
-Refuses text (Syntax line) = IsFirstFault word_lines IsDescription (lines_of text) line × ¬ IsOtherVersion (lines_of text)
-Refuses text TooLong = 262144 < length text
-Refuses text Version = IsOtherVersion (lines_of text)
+abbrev pub RefusesToParse : List ℕ → LangFault → Type 0
+RefusesToParse text NoMemory = Unit {0}
+RefusesToParse text (Syntax line) = IsFirstFaultyLine word_lines IsDescription (lines_of text) line × ¬ IsOtherVersion (lines_of text)
+RefusesToParse text TooLong = 262144 < length text
+RefusesToParse text Version = IsOtherVersion (lines_of text)
 
 -- the description was read, unless memory ran out
-abbrev pub Gives : Result Desc LangFault → Desc → Type 0
-Gives (Ok found) d = found ≡ d
-Gives (Err NoMemory) d = Unit {0}
-Gives (Err (Syntax line)) d = ⊥
-Gives (Err TooLong) d = ⊥
-Gives (Err Version) d = ⊥
+abbrev pub GivesDescription : Result Desc LangFault → Desc → Type 0
+GivesDescription (Ok found) d = found ≡ d
+GivesDescription (Err NoMemory) d = Unit {0}
+GivesDescription (Err (Syntax line)) d = ⊥
+GivesDescription (Err TooLong) d = ⊥
+GivesDescription (Err Version) d = ⊥

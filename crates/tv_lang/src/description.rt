@@ -3,9 +3,9 @@
 ghost use Rattle.std.specs.Prelude.{◌≡◌, ◌↔◌, ◌+◌, ◌<◌, ◌≤◌, ◌^◌, length, IfOk, IfErr, Err};
 ghost use Rattle.tv_model.specs.declared.desc.Desc.{Desc as SeenDesc};
 ghost use Rattle.tv_lang.specs.CanonicalDescription.{CanBeSpelled};
-ghost use Rattle.tv_lang.specs.Faults.{Refuses, Gives, Spells};
+ghost use Rattle.tv_lang.specs.Faults.{RefusesToParse, GivesDescription, Spells};
 ghost use Rattle.tv_words.specs.Lines.{lines_of};
-ghost use Rattle.tv_lang.specs.Reading.Descriptions.{line_step, Next, RefusesLine, reading_of, Value, StopsAt};
+ghost use Rattle.tv_lang.specs.Reading.Descriptions.{line_step, Next, RefusesDescriptionLine, description_outcome, Value, DescriptionStopsAt};
 
 use crate::progress::Progress;
 use std::alloc::{AllocError, Global};
@@ -45,8 +45,8 @@ const LONGEST: usize = 262_144;
 pub fn parse(alloc: Global, text: &[u8]) -> Result<Desc, LangFault>
     ensures spelled { IfOk result (λ desc. Spells text.now desc) }
     ensures can_be_spelled { IfOk result (λ desc. CanBeSpelled desc) }
-    ensures only { (desc : SeenDesc) → Spells text.now desc → length text.now ≤ 262144 → Gives result desc }
-    ensures fault { IfErr result (λ fault. Refuses text.now fault) }
+    ensures only { (desc : SeenDesc) → Spells text.now desc → length text.now ≤ 262144 → GivesDescription result desc }
+    ensures fault { IfErr result (λ fault. RefusesToParse text.now fault) }
     ensures too_long { (result ≡ Err LangFault.TooLong) ↔ (262144 < length text.now) }
 {
     if text.len() > LONGEST {
@@ -57,8 +57,8 @@ pub fn parse(alloc: Global, text: &[u8]) -> Result<Desc, LangFault>
 
 fn read_lines(alloc: Global, text: &[u8]) -> Result<Desc, LangFault>
     requires { length text.now ≤ 262144 }
-    ensures value { IfOk result (λ desc. reading_of text.now ≡ Value desc) }
-    ensures fault { IfErr result (λ fault. StopsAt fault (reading_of text.now)) }
+    ensures value { IfOk result (λ desc. description_outcome text.now ≡ Value desc) }
+    ensures fault { IfErr result (λ fault. DescriptionStopsAt fault (description_outcome text.now)) }
 {
     let mut progress = Progress::new(alloc);
     let mut number = 1;
@@ -78,7 +78,7 @@ fn take_line(
     requires { progress.next + 1 < 2 ^ 32 }
     ensures value { IfOk result (λ further. line_step progress line.now ≡ Next further) }
     ensures next { IfOk result (λ further. further.next ≤ progress.next + 1) }
-    ensures fault { IfErr result (λ fault. RefusesLine fault number (line_step progress line.now)) }
+    ensures fault { IfErr result (λ fault. RefusesDescriptionLine fault number (line_step progress line.now)) }
 {
     let Some(list) = words_of(alloc, line)? else {
         drop(progress);

@@ -2,7 +2,7 @@
 
 ghost use Rattle.std.specs.Prelude.{◌≡◌, ◌+◌, ◌<◌, ◌^◌, IfOk};
 ghost use Rattle.std.specs.Option.{option_map};
-ghost use Rattle.tv_lang.specs.Reading.Stages.{finished, fresh, progress, taken_at, is_other, is_other_version, position, taken};
+ghost use Rattle.tv_lang.specs.Reading.Stages.{finished_description, nothing_read, progress, declaration_taken, is_other, is_other_version, position, description_line_taken};
 
 use crate::stage::Stage;
 use std::alloc::{AllocError, Global};
@@ -22,7 +22,7 @@ pub struct Progress {
 impl Progress {
     /// Starts with nothing read.
     pub fn new(alloc: Global) -> Progress
-        ensures { result ≡ fresh }
+        ensures { result ≡ nothing_read }
     {
         Progress {
             next: 1,
@@ -54,7 +54,7 @@ impl Progress {
     /// Takes the declaration that the words spell, or returns `None` where it can't come here.
     pub fn take(self, alloc: Global, words: &[Word]) -> Result<Option<Progress>, AllocError>
         requires { self.next + 1 < 2 ^ 32 }
-        ensures { IfOk result (λ further. further ≡ taken self words.now) }
+        ensures { IfOk result (λ further. further ≡ description_line_taken self words.now) }
     {
         let at = self.position();
         match declared(alloc, at, words)? {
@@ -79,7 +79,7 @@ impl Progress {
     // Takes the declaration, which stands on the next line.
     fn go(self, alloc: Global, declaration: Declaration) -> Result<Option<Progress>, AllocError>
         requires { self.next + 1 < 2 ^ 32 }
-        ensures { IfOk result (λ further. further ≡ option_map (progress (self.next + 1)) (taken_at self.stage self.desc declaration)) }
+        ensures { IfOk result (λ further. further ≡ option_map (progress (self.next + 1)) (declaration_taken self.stage self.desc declaration)) }
     {
         let Progress {
             next,
@@ -104,7 +104,7 @@ impl Progress {
 
     /// Returns the description, or `None` where it isn't read to its end.
     pub fn finish(self) -> Option<Desc>
-        ensures { result ≡ finished self }
+        ensures { result ≡ finished_description self }
     {
         if self.stage.is_between() {
             Some(self.into_desc())

@@ -4,7 +4,7 @@ ghost use Rattle.std.specs.Prelude.{◌≡◌, ◌≤◌, IfOk, None, Some, fals
 ghost use Rattle.tv_model.specs.declared.desc.Desc.{Desc as SeenDesc};
 ghost use Rattle.tv_model.specs.Description.Nodes.{is_dialog, is_window};
 ghost use Rattle.tv_declarations.specs.Spelling.{is_text, is_view};
-ghost use Rattle.tv_lang.specs.Reading.Stages.{beside, is_between, menu_taken, no_dialogs, no_menus, no_status, no_windows, node_opened, open_panes, panes_after, part_taken, rules_taken, screen_taken, taken_at, version_taken, view_taken, views_taken, window_taken, with_dialog};
+ghost use Rattle.tv_lang.specs.Reading.Stages.{beside, may_end_at, menu_taken, no_dialogs, no_menus, no_status, no_windows, node_opened, open_panes, panes_after, part_taken, rules_taken, screen_taken, declaration_taken, version_taken, view_taken, views_taken, window_taken, with_dialog};
 
 use crate::held::Held;
 use std::alloc::{AllocError, Global};
@@ -49,7 +49,7 @@ impl Stage {
 
     /// Whether the text may end here.
     pub fn is_between(&self) -> bool
-        ensures { result ≡ is_between self.now }
+        ensures { result ≡ may_end_at self.now }
     {
         matches!(self, Stage::Between)
     }
@@ -61,7 +61,7 @@ impl Stage {
         desc: &mut Desc,
         declaration: Declaration,
     ) -> Result<Further, AllocError>
-        ensures { IfOk result (λ stage. beside desc.new stage ≡ taken_at self desc.old declaration) }
+        ensures { IfOk result (λ stage. beside desc.new stage ≡ declaration_taken self desc.old declaration) }
     {
         match self {
             Stage::Version => Ok(version(desc, declaration)),

@@ -13,16 +13,16 @@ use Rattle.tv_model.specs.Description.Panes.{panes_around}
 use Rattle.tv_model.specs.Faults.Rules.{has_nothing_to_focus, is_always_free}
 use Rattle.tv_model.specs.Description.Rules.{option_stands_over, reaches}
 use Rattle.tv_model.specs.Faults.Lines.{after_seen}
-use Rattle.tv_names.specs.Focus.{has_nothing_free, is_free}
+use Rattle.tv_names.specs.Focus.{has_nothing_free, is_unreached}
 use Rattle.tv_names.specs.declared.focus.Reach.{Reach}
-use Rattle.tv_names.specs.Reach.{holds_at, reach_of, reach_of_effect, shown}
+use Rattle.tv_names.specs.Reach.{holds_at, reach_of, reach_of_effect, shown_reach}
 use Rattle.tv_model.proofs.ListLemmas.{any_map}
 
 module _ (before : List Node) (node : Node) where
   abbrev ids : List Id
   ids = map (λ view. view.id) (node ∷ panes_around before node)
 
-  shown_is : (target : Option Node) → holds_at ids node.kind (shown target) ≡ option_stands_over target before node
+  shown_is : (target : Option Node) → holds_at ids node.kind (shown_reach target) ≡ option_stands_over target before node
   shown_is None = refl
   shown_is (Some target) = any_map (λ i. i.0 == target.id.0) (λ view. view.id) (node ∷ panes_around before node)
 
@@ -45,8 +45,8 @@ module _ (before : List Node) (node : Node) where
 pub nothing_free_is : (dialog : Dialog) (list : List Reach) → list ≡ map (reach_of dialog.views) dialog.rules → has_nothing_free list dialog.views ≡ has_nothing_to_focus dialog
 nothing_free_is dialog list e = ap not (same (after_seen [] dialog.views))
   where
-    same : (pairs : List (List Node × Node)) → list_any (λ pair. is_free list pair.0 pair.1) pairs ≡ list_any (λ pair. is_always_free dialog pair.0 pair.1) pairs
+    same : (pairs : List (List Node × Node)) → list_any (λ pair. is_unreached list pair.0 pair.1) pairs ≡ list_any (λ pair. is_always_free dialog pair.0 pair.1) pairs
     same [] = refl
     same (pair ∷ pairs) =
-        ap (λ b. b || list_any (λ pair. is_free list pair.0 pair.1) pairs) (free_is pair.0 pair.1 dialog list e)
+        ap (λ b. b || list_any (λ pair. is_unreached list pair.0 pair.1) pairs) (free_is pair.0 pair.1 dialog list e)
         ∙ ap (λ b. is_always_free dialog pair.0 pair.1 || b) (same pairs)

@@ -22,12 +22,12 @@ abbrev pub standing : List Node → Node → List Id
 standing before node = map (λ view. view.id) (node ∷ panes_around before node)
 
 -- a control that nothing of this reaches
-abbrev pub is_free : List Reach → List Node → Node → Bool
-is_free list before node = is_control node.kind && not (list_any (holds_at (standing before node) node.kind) list)
+abbrev pub is_unreached : List Reach → List Node → Node → Bool
+is_unreached list before node = is_control node.kind && not (list_any (holds_at (standing before node) node.kind) list)
 
 -- each control is reached
 abbrev pub has_nothing_free : List Reach → List Node → Bool
-has_nothing_free list views = not (list_any (λ pair. is_free list pair.0 pair.1) (after_seen [] views))
+has_nothing_free list views = not (list_any (λ pair. is_unreached list pair.0 pair.1) (after_seen [] views))
 
 -- ---- by sets
 
@@ -40,14 +40,14 @@ abbrev pub equals_command : CommandSpec → CommandSpec → Bool
 equals_command = (command_eq.ghosts).eq
 
 -- it shows the view of this id
-abbrev pub shows : Id → Reach → Bool
-shows i (reaches.View target) = i.0 == target.0
-shows i _ = false
+abbrev pub reach_shows : Id → Reach → Bool
+reach_shows i (reaches.View target) = i.0 == target.0
+reach_shows i _ = false
 
 -- it enables this command
-abbrev pub enables : CommandSpec → Reach → Bool
-enables command (reaches.Buttons other) = is_same_command command other
-enables command _ = false
+abbrev pub is_of_command : CommandSpec → Reach → Bool
+is_of_command command (reaches.Buttons other) = is_same_command command other
+is_of_command command _ = false
 
 -- a button whose command passes
 abbrev pub is_button_where : (CommandSpec → Bool) → Kind → Bool
@@ -56,7 +56,7 @@ is_button_where passes _ = false
 
 -- the view or a pane around it is shown
 abbrev pub is_shown : List Reach → List Node → Node → Bool
-is_shown list before node = list_any (λ view. list_any (shows view.id) list) (node ∷ panes_around before node)
+is_shown list before node = list_any (λ view. list_any (reach_shows view.id) list) (node ∷ panes_around before node)
 
 -- whether that is so for each of the first views
 abbrev pub AreFirstShown : List Reach → List Node → List Bool → Type 0

@@ -12,12 +12,12 @@ use Rattle.tv_model.specs.Description.Commands.{is_button_of}
 use Rattle.tv_names.specs.declared.focus.Reach.{Reach}
 use Rattle.tv_names.specs.declared.focus.Reach.TheVariants as reaches
 
-abbrev pub shown : Option Node → Reach
-shown None = reaches.Nothing
-shown (Some target) = reaches.View target.id
+abbrev pub shown_reach : Option Node → Reach
+shown_reach None = reaches.Nothing
+shown_reach (Some target) = reaches.View target.id
 
 abbrev pub reach_of_effect : List Node → Effect → Reach
-reach_of_effect views (effects.Show name) = shown (meant views name)
+reach_of_effect views (effects.Show name) = shown_reach (meant views name)
 reach_of_effect views (effects.Enable command) = reaches.Buttons command
 
 abbrev pub reach_of : List Node → Rule → Reach

@@ -7,7 +7,7 @@ ghost use Rattle.tv_model.specs.declared.command.CommandSpec.{CommandSpec};
 ghost use Rattle.tv_model.specs.declared.node.Id.{Id};
 ghost use Rattle.tv_model.specs.Description.Nodes.{is_control};
 ghost use Rattle.tv_model.specs.Faults.Rules.{has_nothing_to_focus};
-ghost use Rattle.tv_names.specs.Focus.{AreFirstShown, enables, equals_command, has_nothing_free, is_button_where, is_owner_shown, is_same_id, shows};
+ghost use Rattle.tv_names.specs.Focus.{AreFirstShown, is_of_command, equals_command, has_nothing_free, is_button_where, is_owner_shown, is_same_id, reach_shows};
 ghost use Rattle.tv_names.specs.Reach.{reach_of};
 
 use crate::names::Names;
@@ -55,7 +55,7 @@ fn reaches(alloc: Global, dialog: &Dialog) -> Result<Vec<Reach>, AllocError>
 
 // The views that rules show, without those that stand in them.
 fn shown_views(alloc: Global, reaches: &[Reach]) -> Result<HashSet<Id>, AllocError>
-    ensures { IfOk result (λ shown. (i : Id) → contains is_same_id shown i ≡ list_any (shows i) reaches.now) }
+    ensures { IfOk result (λ shown. (i : Id) → contains is_same_id shown i ≡ list_any (reach_shows i) reaches.now) }
 {
     let mut shown = HashSet::new(alloc);
     for reach in reaches {
@@ -68,7 +68,7 @@ fn shown_views(alloc: Global, reaches: &[Reach]) -> Result<HashSet<Id>, AllocErr
 
 // The commands that rules enable.
 fn enabled_commands(alloc: Global, reaches: &[Reach]) -> Result<HashSet<CommandSpec>, AllocError>
-    ensures { IfOk result (λ enabled. (command : CommandSpec) → contains equals_command enabled command ≡ list_any (enables command) reaches.now) }
+    ensures { IfOk result (λ enabled. (command : CommandSpec) → contains equals_command enabled command ≡ list_any (is_of_command command) reaches.now) }
 {
     let mut enabled = HashSet::new(alloc);
     for reach in reaches {

@@ -4,7 +4,7 @@ use Rattle.std.specs.List.{All}
 use Rattle.std.proofs.lemmas.Bool.{and_parts, and_from, cases_lt, eq-eqb, eqb-true, le-leb, leb-true, or_left, or_right}
 use Rattle.std.proofs.lemmas.List.Elements.{All-cons, All-nil, All-same, filter_passes}
 use Rattle.tv_overlaps.specs.declared.placed.Placed.{Placed}
-use Rattle.tv_overlaps.specs.Marks.{AreMarked, collide, collide_as_siblings, is_hit, is_owned}
+use Rattle.tv_overlaps.specs.Marks.{AreMarked, collide, collide_as_siblings, is_related, is_owned}
 use Rattle.tv_overlaps.proofs.HitLemmas.{hit_nothing, hit_same, hit_split, marked_none, within}
 
 record Owned (first last : ℕ) (item : Placed) : Type 0 where
@@ -53,8 +53,8 @@ module _ (first middle last : ℕ) where
       ])
 
   pub split_owners : (items : List Placed) → All (λ item. is_owned first last item ≡ true) items → (place : ℕ)
-      → is_hit collide_as_siblings place [] items ≡ (is_hit (λ _ _. false) place [] items
-      || (is_hit collide_as_siblings place [] (filter (is_owned first middle) items) || is_hit collide_as_siblings place [] (filter (is_owned (middle + 1) last) items)))
+      → is_related collide_as_siblings place [] items ≡ (is_related (λ _ _. false) place [] items
+      || (is_related collide_as_siblings place [] (filter (is_owned first middle) items) || is_related collide_as_siblings place [] (filter (is_owned (middle + 1) last) items)))
   split_owners items all place = hit_split collide_as_siblings (λ _ _. false) (is_owned first middle) (is_owned (middle + 1) last) place
       (λ item. is_owned first last item ≡ true) in_part items all
 
@@ -63,7 +63,7 @@ nobody_marked items marks = marked_none (λ _ _. false) items marks (λ place. h
 
 -- where there is one owner only
 pub one_owner : (first last : ℕ) → last ≤ first → (items : List Placed) → All (λ item. is_owned first last item ≡ true) items → (place : ℕ)
-    → is_hit collide_as_siblings place [] items ≡ is_hit collide place [] items
+    → is_related collide_as_siblings place [] items ≡ is_related collide place [] items
 one_owner first last least items all place = hit_same collide_as_siblings collide place (λ item. is_owned first last item ≡ true)
     (λ one other i o. let a = owned_says first last one i in let b = owned_says first last other o in
     ap (λ t. t && collide one other) (eq-eqb one.owner other.owner (omega arith)))

@@ -5,7 +5,7 @@ use Rattle.std.proofs.lemmas.Bool.{cond-true, cond-false, le-ltb, lt-ltb}
 use Rattle.std.proofs.lemmas.Option.{slice_get-get_or}
 use Rattle.tv_model.specs.declared.node.Node.{Node}
 use Rattle.tv_model.specs.Description.Panes.{around, owner_of, panes_around}
-use Rattle.tv_overlaps.specs.Standing.{IsLastAbove, IsOwner, depth_at}
+use Rattle.tv_overlaps.specs.Standing.{IsLastAbove, IsOwningPane, depth_at}
 use Rattle.tv_overlaps.proofs.GoingBackLemmas.{back_more, places_leave}
 use Rattle.tv_overlaps.proofs.DepthLemmas.{depth_is}
 
@@ -42,7 +42,7 @@ abbrev pub panes_at : List Node → Node → Option ℕ → List Node
 panes_at views d None = []
 panes_at views d (Some place) = get_or views place d ∷ panes_around (take place views) (get_or views place d)
 
-pub panes_are : (views : List Node) (d : Node) (place : ℕ) (owner : Option ℕ) → place < length views → IsOwner views place owner → panes_around (take place views) (get_or views place d) ≡ panes_at views d owner
+pub panes_are : (views : List Node) (d : Node) (place : ℕ) (owner : Option ℕ) → place < length views → IsOwningPane views place owner → panes_around (take place views) (get_or views place d) ≡ panes_at views d owner
 panes_are views d place None within owns =
     ap (λ depth. around depth (reverse (take place views))) (depth_is views place d within)
     ∙ back_all (around (depth_at views place)) views d (depth_at views place) (around_past (depth_at views place)) place owns (omega arith)
@@ -52,7 +52,7 @@ panes_are views d place (Some last) within owns =
     ∙ back_to (around (depth_at views place)) views d (depth_at views place) (around_past (depth_at views place)) last place owns (omega arith)
     ∙ around_at (depth_at views place) (get_or views last d) (reverse (take last views)) (omega (arith, owns.1))
 
-pub owner_is : (views : List Node) (d : Node) (place : ℕ) (owner : Option ℕ) → place < length views → IsOwner views place owner → option_and_then (slice_get views) owner ≡ owner_of (take place views) (get_or views place d)
+pub owner_is : (views : List Node) (d : Node) (place : ℕ) (owner : Option ℕ) → place < length views → IsOwningPane views place owner → option_and_then (slice_get views) owner ≡ owner_of (take place views) (get_or views place d)
 owner_is views d place None within owns =
     sym (ap (λ depth. find (λ other. nat_lt other.depth depth) (reverse (take place views))) (depth_is views place d within)
     ∙ back_all (find (λ other. nat_lt other.depth (depth_at views place))) views d (depth_at views place) (find_past (depth_at views place)) place owns (omega arith))

@@ -8,7 +8,7 @@ use Rattle.std.proofs.lemmas.List.Recursion.{max_push}
 use Rattle.tv_overlaps.specs.declared.placed.Placed.{Placed}
 use Rattle.tv_overlaps.specs.declared.span.Span.{Span}
 use Rattle.tv_overlaps.specs.Heaviest.{at_least}
-use Rattle.tv_overlaps.specs.Marks.{collide_wide, covers, is_hit}
+use Rattle.tv_overlaps.specs.Marks.{collide_wide, span_covers, is_related}
 use Rattle.tv_model.proofs.TestLemmas.{and_false, or_assoc, or_false, or_true}
 
 -- ---- what one pass knows
@@ -20,7 +20,7 @@ heaviest asked (x ∷ xs) = max (at_least (asked x) x.weight) (heaviest asked xs
 
 -- an item beside one of which it is known whether it fills the rows and the columns
 abbrev pub fits_beside : Span → Span → Bool → Bool → Placed → Bool
-fits_beside rows columns fills wide item = (covers item.rows rows || fills) && (covers item.columns columns || wide)
+fits_beside rows columns fills wide item = (span_covers item.rows rows || fills) && (span_covers item.columns columns || wide)
 
 -- what a list gives past its end
 abbrev pub blank : Placed
@@ -43,18 +43,18 @@ max_swap m n = omega arith
 
 module _ (R : Placed → Placed → Bool) (items : List Placed) (old marks : List Bool) (i : ℕ) (d x : Placed) (within : i < length items) (x-is : x ≡ get_or items i d) where
   -- what is still to be found, from one item on
-  left : (place : ℕ) → is_hit R place (take i items) (drop i items) ≡ (((x.place == place) && list_any (λ other. R other x) (take i items)) || is_hit R place (take (i + 1) items) (drop (i + 1) items))
+  left : (place : ℕ) → is_related R place (take i items) (drop i items) ≡ (((x.place == place) && list_any (λ other. R other x) (take i items)) || is_related R place (take (i + 1) items) (drop (i + 1) items))
   left place =
-      ap (is_hit R place (take i items)) (drop_more items i d within ∙ ap (λ item. item ∷ drop (i + 1) items) (sym x-is))
-      ∙ ap (λ list. ((x.place == place) && list_any (λ other. R other x) (take i items)) || is_hit R place list (drop (i + 1) items)) (sym (take_more items i d within ∙ ap (λ item. take i items ++ item ∷ []) (sym x-is)))
+      ap (is_related R place (take i items)) (drop_more items i d within ∙ ap (λ item. item ∷ drop (i + 1) items) (sym x-is))
+      ∙ ap (λ list. ((x.place == place) && list_any (λ other. R other x) (take i items)) || is_related R place list (drop (i + 1) items)) (sym (take_more items i d within ∙ ap (λ item. take i items ++ item ∷ []) (sym x-is)))
 
   pub hit_turn : (hit : Bool) (place : ℕ) → x.place < length marks → hit ≡ list_any (λ other. R other x) (take i items)
-      → (get_or marks place false || is_hit R place (take i items) (drop i items)) ≡ (get_or old place false || is_hit R place [] items)
-      → (get_or (cond hit (set marks x.place true) marks) place false || is_hit R place (take (i + 1) items) (drop (i + 1) items)) ≡ (get_or old place false || is_hit R place [] items)
+      → (get_or marks place false || is_related R place (take i items) (drop i items)) ≡ (get_or old place false || is_related R place [] items)
+      → (get_or (cond hit (set marks x.place true) marks) place false || is_related R place (take (i + 1) items) (drop (i + 1) items)) ≡ (get_or old place false || is_related R place [] items)
   hit_turn hit place less e before =
-      ap (λ b. b || is_hit R place (take (i + 1) items) (drop (i + 1) items)) (marked marks x.place place hit less)
-      ∙ or_assoc (get_or marks place false) ((x.place == place) && hit) (is_hit R place (take (i + 1) items) (drop (i + 1) items))
-      ∙ ap (λ b. get_or marks place false || (((x.place == place) && b) || is_hit R place (take (i + 1) items) (drop (i + 1) items))) e
+      ap (λ b. b || is_related R place (take (i + 1) items) (drop (i + 1) items)) (marked marks x.place place hit less)
+      ∙ or_assoc (get_or marks place false) ((x.place == place) && hit) (is_related R place (take (i + 1) items) (drop (i + 1) items))
+      ∙ ap (λ b. get_or marks place false || (((x.place == place) && b) || is_related R place (take (i + 1) items) (drop (i + 1) items))) e
       ∙ ap (λ b. get_or marks place false || b) (sym (left place))
       ∙ before
 
@@ -99,7 +99,7 @@ beside_is false false rows columns seen any wider filling both a f w b = b
 
 -- whether an item is marked, by the heaviest before it
 pub marked_is : (rows columns : Span) (x : Placed) (seen : List Placed) (fills wide : Bool) (beside any wider filling both : ℕ)
-    → x.weight ≤ 3 → fills ≡ covers x.rows rows → wide ≡ covers x.columns columns
+    → x.weight ≤ 3 → fills ≡ span_covers x.rows rows → wide ≡ span_covers x.columns columns
     → beside ≡ cond fills (cond wide any wider) (cond wide filling both)
     → any ≡ heaviest (fits_beside rows columns true true) seen → filling ≡ heaviest (fits_beside rows columns false true) seen
     → wider ≡ heaviest (fits_beside rows columns true false) seen → both ≡ heaviest (fits_beside rows columns false false) seen
@@ -107,8 +107,8 @@ pub marked_is : (rows columns : Span) (x : Placed) (seen : List Placed) (fills w
 marked_is rows columns x seen fills wide beside any wider filling both less f w b one two three four =
     ap (nat_lt (3 - x.weight)) (b ∙ beside_is fills wide rows columns seen any wider filling both one two three four)
     ∙ ap (λ t. nat_lt (3 - x.weight) (heaviest (fits_beside rows columns t wide) seen)) f
-    ∙ ap (λ t. nat_lt (3 - x.weight) (heaviest (fits_beside rows columns (covers x.rows rows) t) seen)) w
-    ∙ heaviest_is (λ other. covers other.rows rows || covers x.rows rows) (λ other. covers other.columns columns || covers x.columns columns) x.weight less seen
+    ∙ ap (λ t. nat_lt (3 - x.weight) (heaviest (fits_beside rows columns (span_covers x.rows rows) t) seen)) w
+    ∙ heaviest_is (λ other. span_covers other.rows rows || span_covers x.rows rows) (λ other. span_covers other.columns columns || span_covers x.columns columns) x.weight less seen
 
 pub asked_any : (a b : Bool) → true ≡ ((a || true) && (b || true))
 asked_any true b = sym (or_true b)

@@ -16,7 +16,7 @@ use Rattle.tv_cells.specs.declared.rect.Rect.{Rect}
 use Rattle.tv_overlaps.specs.declared.span.Span.{Span}
 use Rattle.tv_overlaps.specs.declared.placed.Placed.{Placed}
 use Rattle.tv_model.specs.Faults.Each.{each_after}
-use Rattle.tv_overlaps.specs.Marks.{IsItem, collide_as_siblings, is_hit, meets}
+use Rattle.tv_overlaps.specs.Marks.{IsPlacedItem, collide_as_siblings, is_related, meets}
 use Rattle.tv_overlaps.specs.Placing.{columns, placed_from, placed_view, rows, weight_of}
 use Rattle.tv_overlaps.specs.Standing.{AreSiblingsNumbered}
 use Rattle.tv_overlaps.proofs.AreaLemmas.{lt_says}
@@ -71,7 +71,7 @@ weight_fits true control = omega arith
 weight_fits false true = omega arith
 weight_fits false false = omega arith
 
-item_of : (count place owner : ℕ) (view : Node) → place < count → has_points (place_of_node view) ≡ true → IsItem count (placed_view place owner view)
+item_of : (count place owner : ℕ) (view : Node) → place < count → has_points (place_of_node view) ≡ true → IsPlacedItem count (placed_view place owner view)
 item_of count place owner view less has = let f = and_parts _ _ has in let r = place_of_node view in record {
   place = less;
   rows = lt_says r.a.y r.b.y f.1;
@@ -79,35 +79,35 @@ item_of count place owner view less has = let f = and_parts _ _ has in let r = p
   weight = weight_fits (is_pane view.kind) (is_control view.kind);
 }
 
-items_next : (count place : ℕ) (pair : ℕ × Node) (rest : List Placed) (b : Bool) → has_points (place_of_node pair.1) ≡ b → place < count → All (IsItem count) rest → All (IsItem count) (cond b (placed_view place pair.0 pair.1 ∷ rest) rest)
-items_next count place pair rest true has less all = All-cons (IsItem count) (placed_view place pair.0 pair.1) rest (item_of count place pair.0 pair.1 less has) all
+items_next : (count place : ℕ) (pair : ℕ × Node) (rest : List Placed) (b : Bool) → has_points (place_of_node pair.1) ≡ b → place < count → All (IsPlacedItem count) rest → All (IsPlacedItem count) (cond b (placed_view place pair.0 pair.1 ∷ rest) rest)
+items_next count place pair rest true has less all = All-cons (IsPlacedItem count) (placed_view place pair.0 pair.1) rest (item_of count place pair.0 pair.1 less has) all
 items_next count place pair rest false has less all = all
 
-pub items_placed : (count place : ℕ) (pairs : List (ℕ × Node)) → place + length pairs ≤ count → All (IsItem count) (placed_from place pairs)
-items_placed count place [] fits = All-nil (IsItem count)
+pub items_placed : (count place : ℕ) (pairs : List (ℕ × Node)) → place + length pairs ≤ count → All (IsPlacedItem count) (placed_from place pairs)
+items_placed count place [] fits = All-nil (IsPlacedItem count)
 items_placed count place (pair ∷ pairs) fits = items_next count place pair (placed_from (place + 1) pairs) (has_points (place_of_node pair.1)) refl (omega arith) (items_placed count (place + 1) pairs (omega arith))
 
 -- ---- where a view is hit
 
 module _ (R : Placed → Placed → Bool) (k : ℕ) where
-  hit_past : (seen : List Placed) (p : ℕ) (pairs : List (ℕ × Node)) → k < p → is_hit R k seen (placed_from p pairs) ≡ false
+  hit_past : (seen : List Placed) (p : ℕ) (pairs : List (ℕ × Node)) → k < p → is_related R k seen (placed_from p pairs) ≡ false
   hit_past seen p [] less = refl
   hit_past seen p (z ∷ pairs) less =
-      elim (has_points (place_of_node z.1)) as (λ b. is_hit R k seen (cond b (placed_view p z.0 z.1 ∷ placed_from (p + 1) pairs) (placed_from (p + 1) pairs)) ≡ false) [
-        | true ↦ ap (λ b. (b && list_any (λ other. R other (placed_view p z.0 z.1)) seen) || is_hit R k (seen ++ placed_view p z.0 z.1 ∷ []) (placed_from (p + 1) pairs)) (ne_eqb p k (λ same. omega arith))
+      elim (has_points (place_of_node z.1)) as (λ b. is_related R k seen (cond b (placed_view p z.0 z.1 ∷ placed_from (p + 1) pairs) (placed_from (p + 1) pairs)) ≡ false) [
+        | true ↦ ap (λ b. (b && list_any (λ other. R other (placed_view p z.0 z.1)) seen) || is_related R k (seen ++ placed_view p z.0 z.1 ∷ []) (placed_from (p + 1) pairs)) (ne_eqb p k (λ same. omega arith))
             ∙ hit_past (seen ++ placed_view p z.0 z.1 ∷ []) (p + 1) pairs (omega arith)
         | false ↦ hit_past seen (p + 1) pairs (omega arith)
       ]
 
   pub hit_at : (seen : List Placed) (p j : ℕ) (pairs : List (ℕ × Node)) (d : ℕ × Node) → k ≡ p + j → j < length pairs
-      → is_hit R k seen (placed_from p pairs)
+      → is_related R k seen (placed_from p pairs)
       ≡ (has_points (place_of_node (get_or pairs j d).1) && list_any (λ other. R other (placed_view k (get_or pairs j d).0 (get_or pairs j d).1)) (seen ++ placed_from p (take j pairs)))
   hit_at seen p j [] d e less = absurd (omega arith)
   hit_at seen p zero (z ∷ pairs) d e less =
       let same : p ≡ k = omega arith in
-      elim (has_points (place_of_node z.1)) as (λ b. is_hit R k seen (cond b (placed_view p z.0 z.1 ∷ placed_from (p + 1) pairs) (placed_from (p + 1) pairs))
+      elim (has_points (place_of_node z.1)) as (λ b. is_related R k seen (cond b (placed_view p z.0 z.1 ∷ placed_from (p + 1) pairs) (placed_from (p + 1) pairs))
       ≡ (b && list_any (λ other. R other (placed_view k z.0 z.1)) (seen ++ []))) [
-        | true ↦ ap (λ b. (b && list_any (λ other. R other (placed_view p z.0 z.1)) seen) || is_hit R k (seen ++ placed_view p z.0 z.1 ∷ []) (placed_from (p + 1) pairs)) (eq-eqb p k same)
+        | true ↦ ap (λ b. (b && list_any (λ other. R other (placed_view p z.0 z.1)) seen) || is_related R k (seen ++ placed_view p z.0 z.1 ∷ []) (placed_from (p + 1) pairs)) (eq-eqb p k same)
             ∙ ap (λ b. list_any (λ other. R other (placed_view p z.0 z.1)) seen || b) (hit_past (seen ++ placed_view p z.0 z.1 ∷ []) (p + 1) pairs (omega arith))
             ∙ or_false (list_any (λ other. R other (placed_view p z.0 z.1)) seen)
             ∙ ap (λ (n : ℕ). list_any (λ other. R other (placed_view n z.0 z.1)) seen) same
@@ -116,9 +116,9 @@ module _ (R : Placed → Placed → Bool) (k : ℕ) where
       ]
   hit_at seen p (suc j) (z ∷ pairs) d e less =
       let item = placed_view k (get_or pairs j d).0 (get_or pairs j d).1 in let has = has_points (place_of_node (get_or pairs j d).1) in
-      elim (has_points (place_of_node z.1)) as (λ b. is_hit R k seen (cond b (placed_view p z.0 z.1 ∷ placed_from (p + 1) pairs) (placed_from (p + 1) pairs))
+      elim (has_points (place_of_node z.1)) as (λ b. is_related R k seen (cond b (placed_view p z.0 z.1 ∷ placed_from (p + 1) pairs) (placed_from (p + 1) pairs))
       ≡ (has_points (place_of_node (get_or pairs j d).1) && list_any (λ other. R other (placed_view k (get_or pairs j d).0 (get_or pairs j d).1)) (seen ++ cond b (placed_view p z.0 z.1 ∷ placed_from (p + 1) (take j pairs)) (placed_from (p + 1) (take j pairs))))) [
-        | true ↦ ap (λ b. (b && list_any (λ other. R other (placed_view p z.0 z.1)) seen) || is_hit R k (seen ++ placed_view p z.0 z.1 ∷ []) (placed_from (p + 1) pairs)) (ne_eqb p k (λ same. omega arith))
+        | true ↦ ap (λ b. (b && list_any (λ other. R other (placed_view p z.0 z.1)) seen) || is_related R k (seen ++ placed_view p z.0 z.1 ∷ []) (placed_from (p + 1) pairs)) (ne_eqb p k (λ same. omega arith))
             ∙ hit_at (seen ++ placed_view p z.0 z.1 ∷ []) (p + 1) j pairs d (omega arith) (omega arith)
             ∙ ap (λ list. has && list_any (λ other. R other item) list) (append_assoc seen (placed_view p z.0 z.1 ∷ []) (placed_from (p + 1) (take j pairs)))
         | false ↦ hit_at seen (p + 1) j pairs d (omega arith) (omega arith)
@@ -204,7 +204,7 @@ two_views place number node pair =
 -- ---- all views
 
 module _ (numbers : List ℕ) (views : List Node) (are : AreSiblingsNumbered numbers views) where
-  pub hit_is : (i : ℕ) (d : Node) → i < length views → is_hit collide_as_siblings i [] (placed_from 0 (zip numbers views)) ≡ overlaps_earlier (take i views) (get_or views i d)
+  pub hit_is : (i : ℕ) (d : Node) → i < length views → is_related collide_as_siblings i [] (placed_from 0 (zip numbers views)) ≡ overlaps_earlier (take i views) (get_or views i d)
   hit_is i d less =
       let node = get_or views i d in let number = get_or numbers i 0 in let pairs = zip numbers views in
       let at : get_or pairs i (0, d) ≡ (number, node) = get_or-zip numbers views i (0, d) (omega (arith, are.0)) less in

@@ -4,13 +4,13 @@ use Rattle.std.proofs.lemmas.Bool.{cases_eq, cases_lt, cond-true, cond-false, ne
 use Rattle.std.proofs.lemmas.List.{get_or_append_left, get_or_push, length_push, reverse-append}
 use Rattle.tv_model.specs.declared.node.Node.{Node}
 use Rattle.tv_model.specs.Description.Panes.{earlier_siblings}
-use Rattle.tv_overlaps.specs.Standing.{AreFirstPlaces, AreSiblingsNumbered, IsLastAbove, IsNumber, depth_at, numbered, number_after}
+use Rattle.tv_overlaps.specs.Standing.{AreFirstPlaces, AreSiblingsNumbered, IsLastAbove, IsFirstSibling, depth_at, numbered, number_after}
 use Rattle.tv_overlaps.proofs.GoingBackLemmas.{back_more, level, level_above, level_over, level_same, numbered_one, numbered_over}
 use Rattle.tv_overlaps.proofs.DepthLemmas.{depth_is}
 
 -- the numbers of the first views
 abbrev pub AreFirstNumbers : List ℕ → List Node → Type 0
-AreFirstNumbers numbers views = (i : ℕ) → i < length numbers → IsNumber numbers views i (get_or numbers i 0)
+AreFirstNumbers numbers views = (i : ℕ) → i < length numbers → IsFirstSibling numbers views i (get_or numbers i 0)
 
 -- the two cases of a number: that of the last sibling, or its own place where the view is the first
 data Numbering (numbers : List ℕ) (views : List Node) (place number : ℕ) : Type 0 where
@@ -30,7 +30,7 @@ module _ (numbers : List ℕ) (views : List Node) (same : length numbers ≡ len
   number i = get_or numbers i 0
 
   numbering_at : (i : ℕ) → i < length views → Numbering numbers views i (number i)
-  numbering_at i less = let k : IsNumber numbers views i (number i) = known i (omega arith) in numbering numbers views i (number i) k.0 k.1 k.2
+  numbering_at i less = let k : IsFirstSibling numbers views i (number i) = known i (omega arith) in numbering numbers views i (number i) k.0 k.1 k.2
 
   -- a number is the place of a view before it or itself, which is as deep
   record IsGroup (i : ℕ) : Type 0 where
@@ -113,16 +113,16 @@ after_more numbers views n place None within above = refl
 after_more numbers views n place (Some last) within above =
     ap (λ m. cond (depth_at views last == depth_at views place) m place) (sym (get_or_append_left numbers (n ∷ []) 0 last (omega (arith, above.0))))
 
-number_more : (numbers : List ℕ) (views : List Node) (n place number : ℕ) → place ≤ length numbers → IsNumber numbers views place number → IsNumber (numbers ++ n ∷ []) views place number
+number_more : (numbers : List ℕ) (views : List Node) (n place number : ℕ) → place ≤ length numbers → IsFirstSibling numbers views place number → IsFirstSibling (numbers ++ n ∷ []) views place number
 number_more numbers views n place number within is = (is.0, is.1, is.2 ∙ after_more numbers views n place is.0 within is.1)
 
-pub numbers_more : (numbers : List ℕ) (views : List Node) (n place : ℕ) → length numbers ≡ place → AreFirstNumbers numbers views → IsNumber numbers views place n → AreFirstNumbers (numbers ++ n ∷ []) views
+pub numbers_more : (numbers : List ℕ) (views : List Node) (n place : ℕ) → length numbers ≡ place → AreFirstNumbers numbers views → IsFirstSibling numbers views place n → AreFirstNumbers (numbers ++ n ∷ []) views
 numbers_more numbers views n place same known is i less = elim (cases_lt i (length numbers)) [
-  | inl below ↦ subst (λ m. IsNumber (numbers ++ n ∷ []) views i m) (sym (get_or_append_left numbers (n ∷ []) 0 i below)) (number_more numbers views n i (get_or numbers i 0) (omega arith) (known i below))
+  | inl below ↦ subst (λ m. IsFirstSibling (numbers ++ n ∷ []) views i m) (sym (get_or_append_left numbers (n ∷ []) 0 i below)) (number_more numbers views n i (get_or numbers i 0) (omega arith) (known i below))
   | inr above ↦
       let length : length (numbers ++ n ∷ []) ≡ length numbers + 1 = length_push numbers n in
       let e : i ≡ place = omega arith in
       let m : get_or (numbers ++ n ∷ []) place 0 ≡ n = get_or_push numbers n 0 place same in
-      subst (λ j. IsNumber (numbers ++ n ∷ []) views j (get_or (numbers ++ n ∷ []) j 0)) (sym e)
-      (subst (λ m. IsNumber (numbers ++ n ∷ []) views place m) (sym m) (number_more numbers views n place n (omega arith) is))
+      subst (λ j. IsFirstSibling (numbers ++ n ∷ []) views j (get_or (numbers ++ n ∷ []) j 0)) (sym e)
+      (subst (λ m. IsFirstSibling (numbers ++ n ∷ []) views place m) (sym m) (number_more numbers views n place n (omega arith) is))
 ]

@@ -8,16 +8,16 @@ use Rattle.tv_overlaps.specs.declared.span.Span.{Span}
 use Rattle.tv_overlaps.specs.declared.placed.Placed.{Placed}
 
 -- all of the second lies in the first
-abbrev pub covers : Span → Span → Bool
-covers one other = int_le one.low other.low && int_le other.high one.high
+abbrev pub span_covers : Span → Span → Bool
+span_covers one other = int_le one.low other.low && int_le other.high one.high
 
 -- the two share something, where neither is empty
 abbrev pub meets : Span → Span → Bool
 meets one other = int_lt one.low other.high && int_lt other.low one.high
 
 -- the least that contains both
-abbrev pub around : Span → Span → Span
-around one other = record { low = int_min one.low other.low; high = int_max one.high other.high }
+abbrev pub span_of_both : Span → Span → Span
+span_of_both one other = record { low = int_min one.low other.low; high = int_max one.high other.high }
 
 -- what contains nothing yet
 abbrev pub nowhere : Span
@@ -34,7 +34,7 @@ pub record AreHalves (whole lower upper : Span) : Type 0 where
 
 -- it has something in a half of the whole, and not all of the whole
 abbrev pub enters : Span → Span → Span → Bool
-enters whole half span = not (covers span whole) && meets half span
+enters whole half span = not (span_covers span whole) && meets half span
 
 -- a point hasn't room for both
 abbrev pub clash : Placed → Placed → Bool
@@ -42,11 +42,11 @@ clash one other = nat_lt 3 (one.weight + other.weight)
 
 -- one of the two has all these rows
 abbrev pub one_fills : Span → Placed → Placed → Bool
-one_fills rows one other = covers one.rows rows || covers other.rows rows
+one_fills rows one other = span_covers one.rows rows || span_covers other.rows rows
 
 -- one of the two has all these columns
 abbrev pub one_is_wide : Span → Placed → Placed → Bool
-one_is_wide columns one other = covers one.columns columns || covers other.columns columns
+one_is_wide columns one other = span_covers one.columns columns || span_covers other.columns columns
 
 -- two that clash, of which one fills the rows and one the columns
 abbrev pub collide_wide : Span → Span → Placed → Placed → Bool
@@ -69,17 +69,17 @@ abbrev pub is_owned : ℕ → ℕ → Placed → Bool
 is_owned first last item = nat_le first item.owner && nat_le item.owner last
 
 -- after some that were seen, an item of this place stands so to one before it
-abbrev pub is_hit : (Placed → Placed → Bool) → ℕ → List Placed → List Placed → Bool
-is_hit relation place seen items =
+abbrev pub is_related : (Placed → Placed → Bool) → ℕ → List Placed → List Placed → Bool
+is_related relation place seen items =
     list_any (λ pair. (pair.1.place == place) && list_any (λ other. relation other pair.1) pair.0) (after_seen seen items)
 
 -- the places are marked of the items that stand so to an earlier one, and no others
 pub record AreMarked (relation : Placed → Placed → Bool) (items : List Placed) (old new : List Bool) : Type 0 where
   pub len : length new ≡ length old
-  pub marks : (place : ℕ) → place < length old → slice_index_or new place false ≡ (slice_index_or old place false || is_hit relation place [] items)
+  pub marks : (place : ℕ) → place < length old → slice_index_or new place false ≡ (slice_index_or old place false || is_related relation place [] items)
 
 -- an item with points, of so many views
-pub record IsItem (count : ℕ) (item : Placed) : Type 0 where
+pub record IsPlacedItem (count : ℕ) (item : Placed) : Type 0 where
   pub place : item.place < count
   pub rows : item.rows.low <ℤ item.rows.high
   pub columns : item.columns.low <ℤ item.columns.high

@@ -15,12 +15,12 @@ IsLastAbove views depth place None = (k : ℕ) → k < place → depth ≤ depth
 IsLastAbove views depth place (Some last) = (last < place) × (depth_at views last < depth) × ((k : ℕ) → last < k → k < place → depth ≤ depth_at views k)
 
 -- the place of the pane in which the view at this place stands
-abbrev pub IsOwner : List Node → ℕ → Option ℕ → Type 0
-IsOwner views place owner = IsLastAbove views (depth_at views place) place owner
+abbrev pub IsOwningPane : List Node → ℕ → Option ℕ → Type 0
+IsOwningPane views place owner = IsLastAbove views (depth_at views place) place owner
 
 -- the owners of the first views
 abbrev pub AreFirstOwners : List (Option ℕ) → List Node → Type 0
-AreFirstOwners owners views = (i : ℕ) → i < length owners → IsOwner views i (slice_index_or owners i None)
+AreFirstOwners owners views = (i : ℕ) → i < length owners → IsOwningPane views i (slice_index_or owners i None)
 
 -- the owners of all views
 abbrev pub AreOwners : List (Option ℕ) → List Node → Type 0
@@ -34,8 +34,8 @@ number_after numbers views place None = place
 number_after numbers views place (Some last) = if depth_at views last == depth_at views place then slice_index numbers last else place
 
 -- the place of the first sibling of the view at this place
-abbrev pub IsNumber : List ℕ → List Node → ℕ → ℕ → Type 0
-IsNumber numbers views place number = (last : Option ℕ) × IsLastAbove views (suc (depth_at views place)) place last × (number ≡ number_after numbers views place last)
+abbrev pub IsFirstSibling : List ℕ → List Node → ℕ → ℕ → Type 0
+IsFirstSibling numbers views place number = (last : Option ℕ) × IsLastAbove views (suc (depth_at views place)) place last × (number ≡ number_after numbers views place last)
 
 -- the views of a number, in their order
 abbrev pub numbered : ℕ → List (ℕ × Node) → List Node

@@ -2,7 +2,7 @@
 
 ghost use Rattle.std.specs.Prelude.{◌≡◌, true, filter, length, IfOk, OnOk};
 ghost use Rattle.std.specs.List.{All, list_any};
-ghost use Rattle.tv_overlaps.specs.Marks.{AreMarked, IsItem, collide_filling, collide_wide, covers, enters, meets};
+ghost use Rattle.tv_overlaps.specs.Marks.{AreMarked, IsPlacedItem, collide_filling, collide_wide, span_covers, enters, meets};
 
 use crate::heaviest::Heaviest;
 use crate::placed::Placed;
@@ -14,7 +14,7 @@ const ROOM: u8 = 3;
 
 // Marks the items that clash with an earlier one, where one of the two fills the rows, and one the columns.
 fn mark_wide(marks: &mut [bool], rows: Span, columns: Span, items: &[Placed])
-    requires { All (IsItem (length marks.old)) items.now }
+    requires { All (IsPlacedItem (length marks.old)) items.now }
     ensures { AreMarked (collide_wide rows columns) items.now marks.old marks.new }
 {
     let mut heaviest = Heaviest::none();
@@ -30,7 +30,7 @@ fn mark_wide(marks: &mut [bool], rows: Span, columns: Span, items: &[Placed])
 
 // Whether one of them fills the rows.
 fn some_fill(rows: Span, items: &[Placed]) -> bool
-    ensures { result ≡ list_any (λ item. covers item.rows rows) items.now }
+    ensures { result ≡ list_any (λ item. span_covers item.rows rows) items.now }
 {
     items.iter().any(|item| item.rows.covers(&rows))
 }
@@ -59,7 +59,7 @@ pub fn mark_columns(
     columns: Span,
     items: &[Placed],
 ) -> Result<(), AllocError>
-    requires items { All (IsItem (length marks.old)) items.now }
+    requires items { All (IsPlacedItem (length marks.old)) items.now }
     requires columns { All (λ item. meets columns item.columns ≡ true) items.now }
     ensures len { length marks.new ≡ length marks.old }
     ensures marks { OnOk result (AreMarked (collide_filling rows) items.now marks.old marks.new) }

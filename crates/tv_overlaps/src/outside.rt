@@ -4,7 +4,7 @@ ghost use Rattle.std.specs.Prelude.{◌≡◌, ◌<◌, length, take, option_and
 ghost use Rattle.tv_model.specs.Faults.Places.{is_off_desktop, is_outside};
 ghost use Rattle.tv_model.specs.Description.Panes.{room_in};
 ghost use Rattle.tv_model.specs.Faults.Each.{each_after};
-ghost use Rattle.tv_overlaps.specs.Standing.{IsOwner};
+ghost use Rattle.tv_overlaps.specs.Standing.{IsOwningPane};
 
 use crate::area::Area;
 use crate::owner::owners;
@@ -37,7 +37,7 @@ fn pane_of(views: &[Node], owner: Option<usize>) -> Option<&Node>
 
 // Whether the view at this place isn't within its pane, or within the frame of its window or dialog.
 fn is_outside(frame: &Node, views: &[Node], owner: Option<usize>, place: usize) -> bool
-    requires owner { IsOwner views.now place owner }
+    requires owner { IsOwningPane views.now place owner }
     requires within { place < length views.now }
     ensures { (view : Node) → result ≡ is_outside frame.now (take place views.now) (slice_index_or views.now place view) }
 {

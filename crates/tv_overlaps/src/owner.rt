@@ -2,7 +2,7 @@
 
 ghost use Rattle.std.specs.Prelude.{◌≡◌, ◌<◌, ◌≤◌, suc, length, slice_index_or, take, IfOk};
 ghost use Rattle.tv_model.specs.Description.Rules.{stands_over};
-ghost use Rattle.tv_overlaps.specs.Standing.{AreFirstOwners, AreFirstPlaces, AreOwners, AreSiblingsNumbered, IsLastAbove, IsNumber, IsOwner};
+ghost use Rattle.tv_overlaps.specs.Standing.{AreFirstOwners, AreFirstPlaces, AreOwners, AreSiblingsNumbered, IsLastAbove, IsFirstSibling, IsOwningPane};
 
 use std::alloc::{AllocError, Global};
 use tv_model::{Id, Node};
@@ -30,7 +30,7 @@ fn owner_at(owners: &[Option<usize>], views: &[Node], place: usize) -> Option<us
     requires known { AreFirstOwners owners.now views.now }
     requires room { place ≤ length owners.now }
     requires fits { place < length views.now }
-    ensures { IsOwner views.now place result }
+    ensures { IsOwningPane views.now place result }
 {
     let depth = views[place].depth;
     let nearest = last_within(owners, views, place, depth)?;
@@ -59,7 +59,7 @@ fn first_sibling(owners: &[Option<usize>], firsts: &[usize], views: &[Node], pla
     requires room { place ≤ length owners.now }
     requires known { length firsts.now ≡ place }
     requires fits { place < length views.now }
-    ensures { IsNumber firsts.now views.now place result }
+    ensures { IsFirstSibling firsts.now views.now place result }
 {
     let depth = views[place].depth;
     match last_within(owners, views, place, depth) {

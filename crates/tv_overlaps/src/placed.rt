@@ -1,7 +1,7 @@
 //! Views by what they take of their owner.
 
 ghost use Rattle.std.specs.Prelude.{◌≡◌, fold};
-ghost use Rattle.tv_overlaps.specs.Marks.{around, nowhere};
+ghost use Rattle.tv_overlaps.specs.Marks.{span_of_both, nowhere};
 ghost use Rattle.tv_overlaps.specs.Placing.{weight_of};
 
 use crate::span::Span;
@@ -35,7 +35,7 @@ pub fn weight(kind: &Kind) -> u8
 
 /// Returns the columns of all items and those between.
 pub fn columns_of(items: &[Placed]) -> Span
-    ensures { result ≡ fold (λ span item. around span item.columns) nowhere items.now }
+    ensures { result ≡ fold (λ span item. span_of_both span item.columns) nowhere items.now }
 {
     let mut columns = Span::EMPTY;
     for item in items {
@@ -46,7 +46,7 @@ pub fn columns_of(items: &[Placed]) -> Span
 
 /// Returns the rows of all items and those between.
 pub fn rows_of(items: &[Placed]) -> Span
-    ensures { result ≡ fold (λ span item. around span item.rows) nowhere items.now }
+    ensures { result ≡ fold (λ span item. span_of_both span item.rows) nowhere items.now }
 {
     let mut rows = Span::EMPTY;
     for item in items {

@@ -2,7 +2,7 @@
 
 ghost use Rattle.std.specs.Prelude.{◌≡◌, true, filter, length, IfOk, OnOk};
 ghost use Rattle.std.specs.List.{All};
-ghost use Rattle.tv_overlaps.specs.Marks.{AreMarked, IsItem, collide, enters, meets};
+ghost use Rattle.tv_overlaps.specs.Marks.{AreMarked, IsPlacedItem, collide, enters, meets};
 
 use crate::columns::mark_columns;
 use crate::placed::{Placed, columns_of};
@@ -27,7 +27,7 @@ pub fn mark_rows(
     rows: Span,
     items: &[Placed],
 ) -> Result<(), AllocError>
-    requires items { All (IsItem (length marks.old)) items.now }
+    requires items { All (IsPlacedItem (length marks.old)) items.now }
     requires rows { All (λ item. meets rows item.rows ≡ true) items.now }
     ensures len { length marks.new ≡ length marks.old }
     ensures marks { OnOk result (AreMarked collide items.now marks.old marks.new) }

@@ -2,7 +2,7 @@
 
 ghost use Rattle.std.specs.Prelude.{◌≡◌, true, filter, length, IfOk, OnOk};
 ghost use Rattle.std.specs.List.{All};
-ghost use Rattle.tv_overlaps.specs.Marks.{AreMarked, IsItem, collide_as_siblings, is_owned};
+ghost use Rattle.tv_overlaps.specs.Marks.{AreMarked, IsPlacedItem, collide_as_siblings, is_owned};
 
 use crate::placed::{Placed, rows_of};
 use crate::rows::mark_rows;
@@ -32,7 +32,7 @@ pub fn mark_siblings(
     last: usize,
     items: &[Placed],
 ) -> Result<(), AllocError>
-    requires items { All (IsItem (length marks.old)) items.now }
+    requires items { All (IsPlacedItem (length marks.old)) items.now }
     requires owners { All (λ item. is_owned first last item ≡ true) items.now }
     ensures len { length marks.new ≡ length marks.old }
     ensures marks { OnOk result (AreMarked collide_as_siblings items.now marks.old marks.new) }

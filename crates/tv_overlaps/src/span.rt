@@ -1,7 +1,7 @@
 //! Spans of columns or rows.
 
 ghost use Rattle.std.specs.Prelude.{◌≡◌, pos, ◌+ℤ◌, ◌≤ℤ◌, MatchOption};
-ghost use Rattle.tv_overlaps.specs.Marks.{AreHalves, around, covers, enters, meets};
+ghost use Rattle.tv_overlaps.specs.Marks.{AreHalves, span_of_both, span_covers, enters, meets};
 
 /// Columns or rows side by side: the low one and those after it, without the high one.
 #[derive(Clone, Copy)]
@@ -19,7 +19,7 @@ impl Span {
 
     /// Whether all of the other lies in it.
     pub fn covers(&self, other: &Span) -> bool
-        ensures { result ≡ covers self.now other.now }
+        ensures { result ≡ span_covers self.now other.now }
     {
         self.low <= other.low && other.high <= self.high
     }
@@ -59,7 +59,7 @@ impl Span {
 
     /// Returns the least span that contains both.
     pub fn around(&self, other: &Span) -> Span
-        ensures { result ≡ around self.now other.now }
+        ensures { result ≡ span_of_both self.now other.now }
     {
         Span {
             low: self.low.min(other.low),

@@ -2,7 +2,7 @@
 
 ghost use Rattle.std.specs.Prelude.{◌≡◌, ◌∷◌, ◌++◌, [], flat_map, map, replicate, IfOk};
 ghost use Rattle.tv_declarations.specs.CanonicalDescription.{declarations_text};
-ghost use Rattle.tv_declarations.specs.Spelling.{dialog_declarations, open_after, view_declarations, window_declarations};
+ghost use Rattle.tv_declarations.specs.Spelling.{dialog_declarations, open_panes_after, view_declarations, window_declarations};
 ghost use Rattle.tv_declarations.specs.Spelling.Declarations.{effect_words};
 
 use crate::line::Line;
@@ -128,7 +128,7 @@ impl Line {
 
 // How many panes are open after the line of the node.
 fn open_after(node: &Node) -> u32
-    ensures { result ≡ open_after node.now }
+    ensures { result ≡ open_panes_after node.now }
 {
     let depth = u32::from(node.depth);
     if node.kind.is_pane() {

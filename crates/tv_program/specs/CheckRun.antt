@@ -7,8 +7,8 @@ use Rattle.tv_certificate.specs.declared.certificate.Certificate.{Certificate}
 use Rattle.tv_certificate.specs.declared.reading.CertificateFault.TheVariants as unread
 use Rattle.tv_check.specs.declared.acceptance.Refusal.TheVariants as refusals
 use Rattle.tv_check.specs.Certificates.{IsSoundCertificate, certificate_of}
-use Rattle.tv_certificate.specs.CertificateTexts.{RefusesText, Spells as SpellsCertificate, certificate_lines}
-use Rattle.tv_check.specs.Refusals.{Refuses}
+use Rattle.tv_certificate.specs.CertificateTexts.{RefusesText, SpellsACertificate as SpellsCertificate, certificate_lines}
+use Rattle.tv_check.specs.Refusals.{RefusesToAccept}
 use Rattle.tv_certificate.specs.declared.reading.CertificateFault.{CertificateFault}
 use Rattle.tv_program.specs.declared.accept_fault.AcceptFault.{AcceptFault}
 use Rattle.tv_program.specs.declared.accept_fault.AcceptFault.TheVariants as accepts
@@ -54,6 +54,6 @@ AcceptsTo text written old new (Err accepts.NoMemory) = new ≡ old
 AcceptsTo text written old new (Err (accepts.Lang fault)) = IsNoDescription text fault × (new ≡ old)
 AcceptsTo text written old new (Err (accepts.Cert fault)) = (d : Desc) × Spells text d × IsNoCertificate written fault × (new ≡ old)
 AcceptsTo text written old new (Err (accepts.Refused refusal)) =
-    (d : Desc) × (certificate : Certificate) × Spells text d × SpellsCertificate written certificate × Refuses d certificate refusal
+    (d : Desc) × (certificate : Certificate) × Spells text d × SpellsCertificate written certificate × RefusesToAccept d certificate refusal
     × (refusal ≢ refusals.NoMemory) × (new ≡ old)
 AcceptsTo text written old new (Err accepts.Write) = Fit text written × Cuts old new accepted

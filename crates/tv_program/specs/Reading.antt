@@ -2,7 +2,7 @@
 use Rattle.std.specs.Prelude.{◌≡◌, ◌≢◌, ℕ, List, []}
 use Rattle.tv_lang.specs.declared.description.LangFault.{LangFault}
 use Rattle.tv_lang.specs.declared.description.LangFault.TheVariants as lang
-use Rattle.tv_lang.specs.Faults.{Refuses, Spells}
+use Rattle.tv_lang.specs.Faults.{RefusesToParse, Spells}
 use Rattle.tv_model.specs.declared.desc.Desc.{Desc}
 use Rattle.tv_model.specs.declared.fault.Fault.{Fault}
 use Rattle.tv_model.specs.Faults.{IsSound, faults_of}
@@ -16,7 +16,7 @@ pub record IsSoundText (text : List ℕ) (d : Desc) : Type 0 where
 
 -- the text spells no description, for a reason of its own
 abbrev pub IsNoDescription : List ℕ → LangFault → Type 0
-IsNoDescription text fault = Refuses text fault × (fault ≢ lang.NoMemory)
+IsNoDescription text fault = RefusesToParse text fault × (fault ≢ lang.NoMemory)
 
 -- the list has the description's faults, and isn't empty
 abbrev pub HasFaults : Desc → List Fault → Type 0

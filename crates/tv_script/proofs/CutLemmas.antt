@@ -9,10 +9,10 @@ use Rattle.tv_script.specs.declared.line.Line.{Line}
 use Rattle.tv_script.specs.declared.script_text.ScriptFault.{ScriptFault}
 use Rattle.tv_script.specs.declared.script_text.ScriptFault.TheVariants.{NoMemory, Syntax, OffScreen, TooLong}
 use Rattle.tv_script.specs.Lines.{items_of}
-use Rattle.tv_script.specs.Scripts.{Begins, IsFitting, IsOnScreen, IsScript, Refuses, Spells, script_words}
+use Rattle.tv_script.specs.Scripts.{BeginsScript, IsFitting, IsOnScreen, IsScript, RefusesScript, SpellsAScript, script_words}
 use Rattle.tv_script.specs.Streams.{ComesTo, CutsDecideNothing, HasItems, IsLeft, IsTooLong, judged}
 use Rattle.tv_words.specs.Lines.{lines_of}
-use Rattle.tv_words.specs.Texts.{BeginsBy, IsFirstFault, SpellsBy}
+use Rattle.tv_words.specs.Texts.{BeginsBy, IsFirstFaultyLine, SpellsBy}
 
 -- ---- first faults
 
@@ -25,11 +25,11 @@ begins_sooner Wanted lines n m few all_there b =
     sym (append_assoc (take n lines) (drop n (take m lines)) b.0) ∙ ap (λ x. (x ++ drop n (take m lines)) ++ b.0) (sym front) ∙ ap (λ x. x ++ b.0) (take-append-drop n (take m lines)) in
     (drop n (take m lines) ++ b.0, b.1, subst (λ x. SpellsBy script_words Wanted x b.1) (sym all) b.2)
 
-no_sooner : (Wanted : List Line → Type 0) (lines : List (List ℕ)) (a b : ℕ) → (x : IsFirstFault script_words Wanted lines a) → (y : IsFirstFault script_words Wanted lines b) → x.before < y.before → ⊥
+no_sooner : (Wanted : List Line → Type 0) (lines : List (List ℕ)) (a b : ℕ) → (x : IsFirstFaultyLine script_words Wanted lines a) → (y : IsFirstFaultyLine script_words Wanted lines b) → x.before < y.before → ⊥
 no_sooner Wanted lines a b x y less =
     x.stops (omega (arith, less, y.within)) (begins_sooner Wanted lines a y.before (omega (arith, less, x.number)) y.within y.begins)
 
-first_once : (Wanted : List Line → Type 0) (lines : List (List ℕ)) (a b : ℕ) → IsFirstFault script_words Wanted lines a → IsFirstFault script_words Wanted lines b → a ≡ b
+first_once : (Wanted : List Line → Type 0) (lines : List (List ℕ)) (a b : ℕ) → IsFirstFaultyLine script_words Wanted lines a → IsFirstFaultyLine script_words Wanted lines b → a ≡ b
 first_once Wanted lines a b x y =
     let order : (x.before < y.before) ⊎ ((y.before < x.before) ⊎ (x.before ≡ y.before)) = grind arith in
     elim order [
@@ -50,28 +50,28 @@ module _ (w h : ℤ) where
 
   -- ---- a text that is left
 
-  shown_stands : (text : List ℕ) (line : ℕ) → Begins (IsOnScreen w h) line text → Begins IsScript line text
+  shown_stands : (text : List ℕ) (line : ℕ) → BeginsScript (IsOnScreen w h) line text → BeginsScript IsScript line text
   shown_stands text line b = begins_weaker (IsOnScreen w h) IsScript (λ ls is. is.0) (take line (lines_of text)) b
 
-  fault_once : (text : List ℕ) (f g : ScriptFault) → f ≢ NoMemory → g ≢ NoMemory → Refuses w h text f → Refuses w h text g → f ≡ g
+  fault_once : (text : List ℕ) (f g : ScriptFault) → f ≢ NoMemory → g ≢ NoMemory → RefusesScript w h text f → RefusesScript w h text g → f ≡ g
   fault_once text NoMemory g nf ng a b = absurd (nf refl)
   fault_once text f NoMemory nf ng a b = absurd (ng refl)
   fault_once text (Syntax m) (Syntax n) nf ng a b = ap Syntax (first_once (IsFitting w h) (lines_of text) m n a.1 b.1)
   fault_once text (Syntax m) (OffScreen n) nf ng a b =
       let same = first_once (IsFitting w h) (lines_of text) m n a.1 b.1 in
-      absurd (a.2 (subst (λ k. Begins IsScript k text) (sym same) b.2))
+      absurd (a.2 (subst (λ k. BeginsScript IsScript k text) (sym same) b.2))
   fault_once text (Syntax m) TooLong nf ng a b =
-      absurd (elim b [ inl long ↦ absurd (omega (arith, long, a.0)) | inr line ↦ a.2 (subst (λ k. Begins IsScript k text) (sym (first_once (IsFitting w h) (lines_of text) m line.0 a.1 line.1)) (shown_stands text line.0 line.2)) ])
+      absurd (elim b [ inl long ↦ absurd (omega (arith, long, a.0)) | inr line ↦ a.2 (subst (λ k. BeginsScript IsScript k text) (sym (first_once (IsFitting w h) (lines_of text) m line.0 a.1 line.1)) (shown_stands text line.0 line.2)) ])
   fault_once text (OffScreen m) (Syntax n) nf ng a b =
       let same = first_once (IsFitting w h) (lines_of text) m n a.1 b.1 in
-      absurd (b.2 (subst (λ k. Begins IsScript k text) same a.2))
+      absurd (b.2 (subst (λ k. BeginsScript IsScript k text) same a.2))
   fault_once text (OffScreen m) (OffScreen n) nf ng a b = ap OffScreen (first_once (IsFitting w h) (lines_of text) m n a.1 b.1)
   fault_once text (OffScreen m) TooLong nf ng a b =
-      absurd (elim b [ inl long ↦ absurd (omega (arith, long, a.0)) | inr line ↦ a.3 (subst (λ k. Begins (IsOnScreen w h) k text) (sym (first_once (IsFitting w h) (lines_of text) m line.0 a.1 line.1)) line.2) ])
+      absurd (elim b [ inl long ↦ absurd (omega (arith, long, a.0)) | inr line ↦ a.3 (subst (λ k. BeginsScript (IsOnScreen w h) k text) (sym (first_once (IsFitting w h) (lines_of text) m line.0 a.1 line.1)) line.2) ])
   fault_once text TooLong (Syntax n) nf ng a b =
-      absurd (elim a [ inl long ↦ absurd (omega (arith, long, b.0)) | inr line ↦ b.2 (subst (λ k. Begins IsScript k text) (first_once (IsFitting w h) (lines_of text) line.0 n line.1 b.1) (shown_stands text line.0 line.2)) ])
+      absurd (elim a [ inl long ↦ absurd (omega (arith, long, b.0)) | inr line ↦ b.2 (subst (λ k. BeginsScript IsScript k text) (first_once (IsFitting w h) (lines_of text) line.0 n line.1 b.1) (shown_stands text line.0 line.2)) ])
   fault_once text TooLong (OffScreen n) nf ng a b =
-      absurd (elim a [ inl long ↦ absurd (omega (arith, long, b.0)) | inr line ↦ b.3 (subst (λ k. Begins (IsOnScreen w h) k text) (first_once (IsFitting w h) (lines_of text) line.0 n line.1 b.1) line.2) ])
+      absurd (elim a [ inl long ↦ absurd (omega (arith, long, b.0)) | inr line ↦ b.3 (subst (λ k. BeginsScript (IsOnScreen w h) k text) (first_once (IsFitting w h) (lines_of text) line.0 n line.1 b.1) line.2) ])
   fault_once text TooLong TooLong nf ng a b = refl
 
   left_items : (text : List ℕ) (xs ys : List Item) (f g : ScriptFault) → IsLeft w h text xs f → IsLeft w h text ys g → xs ≡ ys
@@ -88,7 +88,7 @@ module _ (w h : ℤ) where
   abbrev Alike : List Item → List Item → Result (Unit {0}) ScriptFault → Result (Unit {0}) ScriptFault → Type 0
   Alike xs ys a b = (a ≡ b) × (xs ≡ ys)
 
-  read_not_left : (stream : List ℕ) (xs ys : List Item) (f : ScriptFault) → Spells w h stream xs → IsLeft w h (judged stream) ys f → ⊥
+  read_not_left : (stream : List ℕ) (xs ys : List Item) (f : ScriptFault) → SpellsAScript w h stream xs → IsLeft w h (judged stream) ys f → ⊥
   read_not_left stream xs ys f spelled left =
       let small : nat_le (length stream) 1048576 ≡ true = let short = spelled.short in grind (arith, nat_tests) in
       let same : judged stream ≡ stream = rw small refl in
@@ -98,7 +98,7 @@ module _ (w h : ℤ) where
   left_alike stream xs ys f g nf ng a b =
       (ap (λ x. Err x) (fault_once (judged stream) f g nf ng a.refused b.refused), left_items (judged stream) xs ys f g a b)
 
-  read_long : (stream : List ℕ) (xs ys : List Item) → Spells w h stream xs → IsTooLong w h stream ys → ⊥
+  read_long : (stream : List ℕ) (xs ys : List Item) → SpellsAScript w h stream xs → IsTooLong w h stream ys → ⊥
   read_long stream xs ys spelled long = absurd (omega (arith, spelled.short, long.long))
 
   long_alike : (stream : List ℕ) (xs ys : List Item) (g : ScriptFault) → g ≢ NoMemory → IsTooLong w h stream xs → IsLeft w h (judged stream) ys g → ⊥

@@ -10,18 +10,18 @@ use Rattle.tv_model.specs.declared.script.Item.{Item}
 use Rattle.tv_model.specs.declared.script.Item.TheVariants as items
 use Rattle.tv_script.specs.declared.line.Line.{Line}
 use Rattle.tv_script.specs.declared.line.Line.TheVariants as lines
-use Rattle.tv_script.specs.Lines.{IsItemOnScreen, IsPointOnScreen, is_on_screen, is_point_within, is_within, items_of, items_of_line, typed}
-use Rattle.tv_script.specs.Scripts.{Spells}
+use Rattle.tv_script.specs.Lines.{IsItemOnScreen, IsPointOnScreen, is_on_screen, is_point_within, is_on_axis, items_of, items_of_line, item_typed}
+use Rattle.tv_script.specs.Scripts.{SpellsAScript}
 use Rattle.tv_valid.proofs.DecidingLemmas.{int_le_decides, int_lt_decides}
 
 single : (item : Item) → IsItemOnScreen item → All IsItemOnScreen (item ∷ [])
 single item is = All-cons IsItemOnScreen item [] is (All-nil IsItemOnScreen)
 
-all_typed : (text : List ℕ) → All IsItemOnScreen (map typed text)
+all_typed : (text : List ℕ) → All IsItemOnScreen (map item_typed text)
 all_typed [] = All-nil IsItemOnScreen
-all_typed (ch ∷ text) = All-cons IsItemOnScreen (typed ch) (map typed text) tt (all_typed text)
+all_typed (ch ∷ text) = All-cons IsItemOnScreen (item_typed ch) (map item_typed text) tt (all_typed text)
 
-within : (size most at : ℤ) → size ≤ℤ most → is_within size at ≡ true → (pos 0 ≤ℤ at) × (at <ℤ most)
+within : (size most at : ℤ) → size ≤ℤ most → is_on_axis size at ≡ true → (pos 0 ≤ℤ at) × (at <ℤ most)
 within size most at fits is =
     let both = and_parts (int_le (pos 0) at) (int_lt at size) is in
     let low = (int_le_decides (pos 0) at).0 both.0 in
@@ -31,7 +31,7 @@ within size most at fits is =
 module _ (width height : ℤ) (columns : width ≤ℤ pos 132) (rows : height ≤ℤ pos 60) where
   shown_point : (p : Point) → is_point_within width height p ≡ true → IsPointOnScreen p
   shown_point p is =
-      let both = and_parts (is_within width p.x) (is_within height p.y) is in
+      let both = and_parts (is_on_axis width p.x) (is_on_axis height p.y) is in
       record { column = within width (pos 132) p.x columns both.0; row = within height (pos 60) p.y rows both.1 }
 
   pub shown_line : (l : Line) → IsTrue (is_on_screen width height l) → All IsItemOnScreen (items_of_line l)
@@ -48,5 +48,5 @@ module _ (width height : ℤ) (columns : width ≤ℤ pos 132) (rows : height �
   shown_lines (l ∷ ls) shown = All-append IsItemOnScreen (items_of_line l) (items_of ls) (shown_line l shown.0) (shown_lines ls shown.1)
 
   -- the items of a script for a screen that isn't too large
-  pub shown_items : (text : List ℕ) (script : List Item) → Spells width height text script → All IsItemOnScreen script
+  pub shown_items : (text : List ℕ) (script : List Item) → SpellsAScript width height text script → All IsItemOnScreen script
   shown_items text script spelled = subst (All IsItemOnScreen) (sym spelled.are) (shown_lines spelled.lines spelled.spelled.can.0.1)

@@ -20,8 +20,8 @@ use Rattle.tv_script.specs.declared.stream_fault.StreamFault.{StreamFault}
 use Rattle.tv_script.specs.declared.stream_fault.StreamFault.TheVariants as streams
 use Rattle.tv_script.specs.Lines.{is_line_end}
 use Rattle.tv_script.specs.Performed.{Stops}
-use Rattle.tv_script.specs.Reading.Scripts.{reading, with_bytes}
-use Rattle.tv_script.specs.Reading.Streams.{BeginsLine, HasPlayed, HasScreenOf, IsFed, IsOpen, IsRefusedLine, IsUnplayed, ended, stream_fault}
+use Rattle.tv_script.specs.Reading.Scripts.{script_from, with_bytes}
+use Rattle.tv_script.specs.Reading.Streams.{BeginsLine, HasPlayed, HasScreenOf, IsFed, IsUnended, IsRefusedLine, IsUnplayed, with_line_ends, stream_fault}
 use Rattle.tv_script.specs.Streams.{Breaks, Performs}
 
 -- ---- answers
@@ -51,11 +51,11 @@ module _ (s : Session) (lines : List (List ℕ)) (line : List ℕ) (from now : S
   unplayed_refused begun scripts.TooLong other played is = record { begun = begun; played = played; refused = is }
 
   -- the writer failed in it
-  pub unplayed_cut : (fault : StreamFault) (begun : ℕ) (items longer : List Item) → reading s.desc.width s.desc.height 1 [] lines ≡ Ok items → with_bytes s.desc.width s.desc.height (length lines + 1) items line ≡ Ok longer → fault ≡ streams.Write begun → Stops s longer begun from now Left → IsUnplayed s lines line from now Left fault
+  pub unplayed_cut : (fault : StreamFault) (begun : ℕ) (items longer : List Item) → script_from s.desc.width s.desc.height 1 [] lines ≡ Ok items → with_bytes s.desc.width s.desc.height (length lines + 1) items line ≡ Ok longer → fault ≡ streams.Write begun → Stops s longer begun from now Left → IsUnplayed s lines line from now Left fault
   unplayed_cut fault begun items longer read is cut stops = rw cut (longer, reading_push s.desc.width s.desc.height lines items line read ∙ is, stops)
 
   -- it is performed
-  pub played_line : (begun : ℕ) (items longer : List Item) → reading s.desc.width s.desc.height 1 [] lines ≡ Ok items → with_bytes s.desc.width s.desc.height (length lines + 1) items line ≡ Ok longer → begun ≡ length longer → Performs s longer from now Left → HasPlayed s (lines ++ line ∷ []) begun from now Left
+  pub played_line : (begun : ℕ) (items longer : List Item) → script_from s.desc.width s.desc.height 1 [] lines ≡ Ok items → with_bytes s.desc.width s.desc.height (length lines + 1) items line ≡ Ok longer → begun ≡ length longer → Performs s longer from now Left → HasPlayed s (lines ++ line ∷ []) begun from now Left
   played_line begun items longer read is count performs = record { items = longer; read = reading_push s.desc.width s.desc.height lines items line read ∙ is; count = count; performs = performs }
 
 -- ---- a byte
@@ -66,30 +66,30 @@ module _ (s : Session) (from now : Seen) (Left : Session → Type 0) where
   fed_push old new given byte fed is line lines items bytes width height = record {
     screen = record { width = width ∙ fed.screen.width; height = height ∙ fed.screen.height };
     lines = fed.lines;
-    parts = ap (λ x. x ++ byte ∷ []) fed.parts ∙ append_assoc (ended fed.lines) old.line.items (byte ∷ []) ∙ ap (λ x. ended fed.lines ++ x) (sym line);
+    parts = ap (λ x. x ++ byte ∷ []) fed.parts ∙ append_assoc (with_line_ends fed.lines) old.line.items (byte ∷ []) ∙ ap (λ x. with_line_ends fed.lines ++ x) (sym line);
     whole = fed.whole;
-    open_line = subst IsOpen (sym line) (open_push old.line.items byte fed.open_line is);
+    open_line = subst IsUnended (sym line) (open_push old.line.items byte fed.open_line is);
     number = lines ∙ fed.number;
     bytes = omega (arith, bytes, fed.bytes, length-append given (byte ∷ []));
     played = record { items = fed.played.items; read = fed.played.read; count = items ∙ fed.played.count; performs = fed.played.performs };
   }
 
 -- a line end, after which the next line begins
-pub fed_end : (s : Session) (from then : Seen) (After : Session → Type 0) (old new : Feed) (given : List ℕ) (byte : ℕ) (lines : List (List ℕ)) → HasScreenOf s old → byte ≡ 10 → given ≡ ended lines ++ old.line.items → AllByRecursion IsOpen lines → IsOpen old.line.items → old.lines ≡ length lines → old.bytes ≡ length given + 1 → BeginsLine old new → HasPlayed s (lines ++ old.line.items ∷ []) new.items from then After → IsFed s new (given ++ byte ∷ []) from then After
+pub fed_end : (s : Session) (from then : Seen) (After : Session → Type 0) (old new : Feed) (given : List ℕ) (byte : ℕ) (lines : List (List ℕ)) → HasScreenOf s old → byte ≡ 10 → given ≡ with_line_ends lines ++ old.line.items → AllByRecursion IsUnended lines → IsUnended old.line.items → old.lines ≡ length lines → old.bytes ≡ length given + 1 → BeginsLine old new → HasPlayed s (lines ++ old.line.items ∷ []) new.items from then After → IsFed s new (given ++ byte ∷ []) from then After
 fed_end s from then After old new given byte lines screen is parts whole open_line number bytes next played = record {
   screen = record { width = next.width ∙ screen.width; height = next.height ∙ screen.height };
   lines = lines ++ old.line.items ∷ [];
   parts = ap (λ b. given ++ b ∷ []) is ∙ ap (λ x. x ++ 10 ∷ []) parts ∙ sym (ended_push lines old.line.items)
-      ∙ sym (append-nil (ended (lines ++ old.line.items ∷ []))) ∙ ap (λ x. ended (lines ++ old.line.items ∷ []) ++ x) (sym next.empty);
+      ∙ sym (append-nil (with_line_ends (lines ++ old.line.items ∷ []))) ∙ ap (λ x. with_line_ends (lines ++ old.line.items ∷ []) ++ x) (sym next.empty);
   whole = all_push lines old.line.items whole open_line;
-  open_line = subst IsOpen (sym next.empty) refl;
+  open_line = subst IsUnended (sym next.empty) refl;
   number = next.number ∙ ap (λ n. n + 1) number ∙ sym (length-append lines (old.line.items ∷ []));
   bytes = omega (arith, next.bytes, bytes, length-append given (byte ∷ []));
   played = played;
 }
 
 -- a line end, whose line wasn't performed
-pub breaks_end_of_line : (s : Session) (from then : Seen) (After : Session → Type 0) (line given : List ℕ) (byte : ℕ) (lines : List (List ℕ)) (fault : StreamFault) → byte ≡ 10 → given ≡ ended lines ++ line → length given < 1048576 → AllByRecursion IsOpen lines → IsOpen line → IsUnplayed s lines line from then After fault → Breaks s (given ++ byte ∷ []) false from then After fault
+pub breaks_end_of_line : (s : Session) (from then : Seen) (After : Session → Type 0) (line given : List ℕ) (byte : ℕ) (lines : List (List ℕ)) (fault : StreamFault) → byte ≡ 10 → given ≡ with_line_ends lines ++ line → length given < 1048576 → AllByRecursion IsUnended lines → IsUnended line → IsUnplayed s lines line from then After fault → Breaks s (given ++ byte ∷ []) false from then After fault
 breaks_end_of_line s from then After line given byte lines fault is parts few whole open_line un =
     breaks_mid s from then After fault lines line (given ++ byte ∷ []) (ap (λ b. given ++ b ∷ []) is ∙ ap (λ x. x ++ 10 ∷ []) parts) (omega (arith, few, length-append given (byte ∷ []))) whole open_line un
 

@@ -5,13 +5,13 @@ use Rattle.std.proofs.lemmas.List.{append-nil, take-append-drop}
 use Rattle.tv_script.proofs.LineLemmas.{line_read, read_line}
 use Rattle.tv_script.specs.declared.line.Line.{Line}
 use Rattle.tv_script.specs.Lines.{IsLine, words_of_line}
-use Rattle.tv_script.specs.Reading.Lines.{line_in}
+use Rattle.tv_script.specs.Reading.Lines.{script_line_in}
 use Rattle.tv_script.specs.Scripts.{script_words}
 use Rattle.tv_words.proofs.TextLemmas as texts
 use Rattle.tv_words.specs.declared.word.Word.{Word}
 use Rattle.tv_words.specs.Reading.LineWords.{line_taken}
 use Rattle.tv_words.specs.Reading.Steps.{steps}
-use Rattle.tv_words.specs.Texts.{BeginsBy, IsFirstFault, SpellsBy}
+use Rattle.tv_words.specs.Texts.{BeginsBy, IsFirstFaultyLine, SpellsBy}
 
 -- a test of a line and of those before it
 abbrev pub Test : Type 0
@@ -24,7 +24,7 @@ tested can ls (Some l) = if can ls l then Some (ls ++ l ∷ []) else None
 
 -- the same of its words
 abbrev pub added : Test → List Line → List Word → Option (List Line)
-added can ls ws = tested can ls (line_in ws)
+added can ls ws = tested can ls (script_line_in ws)
 
 -- lines that can be spelled, each of which the test allows
 abbrev pub Allowed : Test → List Line → List Line → Type 0
@@ -43,20 +43,20 @@ module _ (can : Test) where
   abbrev Adds : List Line → List (List Word) → List Line → Type 0
   Adds ls wss all = (more : List Line) × (all ≡ ls ++ more) × (wss ≡ map words_of_line more) × Allowed can ls more
 
-  adds_if : (ls : List Line) (ws : List Word) (wss : List (List Word)) (all : List Line) (l : Line) (b : Bool) → can ls l ≡ b → line_in ws ≡ Some l → ((s : List Line) → given s wss ≡ Some all → Adds s wss all) → option_and_then (λ s. Some s) (option_and_then (λ t. steps (added can) t wss) (cond b (Some (ls ++ l ∷ [])) None)) ≡ Some all → Adds ls (ws ∷ wss) all
+  adds_if : (ls : List Line) (ws : List Word) (wss : List (List Word)) (all : List Line) (l : Line) (b : Bool) → can ls l ≡ b → script_line_in ws ≡ Some l → ((s : List Line) → given s wss ≡ Some all → Adds s wss all) → option_and_then (λ s. Some s) (option_and_then (λ t. steps (added can) t wss) (cond b (Some (ls ++ l ∷ [])) None)) ≡ Some all → Adds ls (ws ∷ wss) all
   adds_if ls ws wss all l true eb el later e =
       let t = later (ls ++ l ∷ []) e in
       let r = line_read ws l el in
       (l ∷ t.0, t.1 ∙ append_assoc ls (l ∷ []) t.0, same_cons ws (words_of_line l) wss (map words_of_line t.0) (sym r.0) t.2, (r.1, eb, t.3))
   adds_if ls ws wss all l false eb el later e = absurd cc
 
-  adds_one : (ls : List Line) (ws : List Word) (wss : List (List Word)) (all : List Line) (o : Option Line) → line_in ws ≡ o → ((s : List Line) → given s wss ≡ Some all → Adds s wss all) → option_and_then (λ s. Some s) (option_and_then (λ t. steps (added can) t wss) (tested can ls o)) ≡ Some all → Adds ls (ws ∷ wss) all
+  adds_one : (ls : List Line) (ws : List Word) (wss : List (List Word)) (all : List Line) (o : Option Line) → script_line_in ws ≡ o → ((s : List Line) → given s wss ≡ Some all → Adds s wss all) → option_and_then (λ s. Some s) (option_and_then (λ t. steps (added can) t wss) (tested can ls o)) ≡ Some all → Adds ls (ws ∷ wss) all
   adds_one ls ws wss all None eo later e = absurd cc
   adds_one ls ws wss all (Some l) eo later e = adds_if ls ws wss all l (can ls l) refl eo later e
 
   adds : (wss : List (List Word)) (ls all : List Line) → given ls wss ≡ Some all → Adds ls wss all
   adds [] ls all e = ([], (let same : ls ≡ all = cc in sym same ∙ sym (append-nil ls)), refl, tt)
-  adds (ws ∷ wss) ls all e = adds_one ls ws wss all (line_in ws) refl (λ s. adds wss s all) e
+  adds (ws ∷ wss) ls all e = adds_one ls ws wss all (script_line_in ws) refl (λ s. adds wss s all) e
 
   given_again : (more ls : List Line) → Allowed can ls more → given ls (map words_of_line more) ≡ Some (ls ++ more)
   given_again [] ls is = ap (λ x. Some x) (sym (append-nil ls))
@@ -99,7 +99,7 @@ pub begins_weaker : (Wanted Less : List Line → Type 0) → ((ls : List Line) �
 begins_weaker Wanted Less weaker lines b = (b.0, b.1, record { words = b.2.words; each = b.2.each; declared = b.2.declared; can = weaker b.1 b.2.can })
 
 -- lines with a faulty one spell nothing
-pub faulty_unspelled : (Wanted : List Line → Type 0) (lines : List (List ℕ)) (line : ℕ) → IsFirstFault script_words Wanted lines line → (ls : List Line) → SpellsBy script_words Wanted lines ls → ⊥
+pub faulty_unspelled : (Wanted : List Line → Type 0) (lines : List (List ℕ)) (line : ℕ) → IsFirstFaultyLine script_words Wanted lines line → (ls : List Line) → SpellsBy script_words Wanted lines ls → ⊥
 faulty_unspelled Wanted lines line fault ls spelled =
     let within : (fault.before < length lines) ⊎ (fault.before ≡ length lines) = grind (arith, fault.within) in
     elim within [

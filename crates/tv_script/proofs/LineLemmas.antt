@@ -12,7 +12,7 @@ use Rattle.tv_event.specs.declared.event.Key.{Key}
 use Rattle.tv_script.specs.declared.line.Line.{Line}
 use Rattle.tv_script.specs.declared.line.Line.TheVariants as lines
 use Rattle.tv_script.specs.Lines.{IsLine, IsPoint, is_line_end, point_words, words_of_line}
-use Rattle.tv_script.specs.Reading.Lines.{line_in, point_in, typed_line}
+use Rattle.tv_script.specs.Reading.Lines.{script_line_in, point_in, typed_line}
 use Rattle.tv_words.proofs.FieldLemmas.{number_word_read, read_number_word, text_read, word_is}
 use Rattle.tv_words.specs.declared.word.Word.{Word}
 use Rattle.tv_words.specs.declared.word.Word.TheVariants.{Bare, Quoted}
@@ -78,7 +78,7 @@ three_if k x y l false true c ea eb ec e = pointed (codes "move") k x y lines.Mo
 three_if k x y l false false true ea eb ec e = pointed (codes "up") k x y lines.Up (λ p is. (refl, is)) (word_is k (codes "up") ec) (point_in x y) l refl e
 three_if k x y l false false false ea eb ec e = absurd cc
 
-pub line_read : (ws : List Word) (l : Line) → line_in ws ≡ Some l → (words_of_line l ≡ ws) × IsLine l
+pub line_read : (ws : List Word) (l : Line) → script_line_in ws ≡ Some l → (words_of_line l ≡ ws) × IsLine l
 line_read [] l e = absurd cc
 line_read (k ∷ []) l e = screen_if k l (is_bare_word k (codes "shot")) (is_bare_word k (codes "colors")) refl refl e
 line_read (k ∷ w ∷ []) l e = two_if k w l (is_bare_word k (codes "key")) (is_bare_word k (codes "type")) refl refl e
@@ -90,7 +90,7 @@ line_read (a ∷ b ∷ c ∷ d ∷ es) l e = absurd cc
 read_point : (p : Point) → IsPoint p → point_in (number_word p.x) (number_word p.y) ≡ Some p
 read_point p is = rw (read_number_word p.x is.0, read_number_word p.y is.1) refl
 
-pub read_line : (l : Line) → IsLine l → line_in (words_of_line l) ≡ Some l
+pub read_line : (l : Line) → IsLine l → script_line_in (words_of_line l) ≡ Some l
 read_line (lines.Key key) is = ap (option_map lines.Key) (read_key key is)
 read_line (lines.Type text) is = rw is refl
 read_line (lines.Down p) is = ap (option_map lines.Down) (read_point p is)

@@ -10,28 +10,28 @@ use Rattle.tv_script.specs.declared.line.Line.{Line}
 use Rattle.tv_script.specs.declared.script_text.ScriptFault.{ScriptFault}
 use Rattle.tv_script.specs.declared.script_text.ScriptFault.TheVariants.{NoMemory, Syntax, OffScreen, TooLong}
 use Rattle.tv_script.specs.Lines.{is_on_screen, items_of, items_of_line}
-use Rattle.tv_script.specs.Reading.Lines.{line_in}
-use Rattle.tv_script.specs.Reading.Scripts.{Answer, IsAnswered, reading, script_of, with_bytes, with_found, with_words}
-use Rattle.tv_script.specs.Scripts.{Gives, IsFirstFaulty, IsFitting, IsOnScreen, IsScript, Refuses, Spells, script_words}
+use Rattle.tv_script.specs.Reading.Lines.{script_line_in}
+use Rattle.tv_script.specs.Reading.Scripts.{ScriptOutcome, IsAnswered, script_from, script_of, with_bytes, with_found, with_words}
+use Rattle.tv_script.specs.Scripts.{GivesScript, IsFirstFaulty, IsFitting, IsOnScreen, IsScript, RefusesScript, SpellsAScript, script_words}
 use Rattle.tv_script.specs.Streams.{HasItems, IsLeft}
 use Rattle.tv_words.proofs.TextLemmas.{steps_append}
 use Rattle.tv_words.specs.declared.word.Word.{Word}
 use Rattle.tv_words.specs.Lines.{lines_of}
 use Rattle.tv_words.specs.Reading.LineWords.{line_taken, line_words, words_taken}
 use Rattle.tv_words.specs.Reading.Steps.{steps}
-use Rattle.tv_words.specs.Texts.{BeginsBy, IsFirstFault, SpellsBy}
+use Rattle.tv_words.specs.Texts.{BeginsBy, IsFirstFaultyLine, SpellsBy}
 
 -- ---- one line
 
 -- the answer at the line n, by what the tests of lines come to: that of what can be spelled, that of points too, and that of all
-abbrev Tells : ℕ → Option (List Line) → Option (List Line) → Option (List Line) → Answer → Type 0
+abbrev Tells : ℕ → Option (List Line) → Option (List Line) → Option (List Line) → ScriptOutcome → Type 0
 Tells n stood shown fitted (Ok longer) = (further : List Line) × (stood ≡ Some further) × (shown ≡ Some further) × (fitted ≡ Some further) × (longer ≡ items_of further)
 Tells n stood shown fitted (Err NoMemory) = ⊥
 Tells n stood shown fitted (Err (Syntax line)) = (line ≡ n) × (stood ≡ None)
 Tells n stood shown fitted (Err (OffScreen line)) = (line ≡ n) × ((further : List Line) × (stood ≡ Some further)) × (shown ≡ None)
 Tells n stood shown fitted (Err TooLong) = ((further : List Line) × (shown ≡ Some further)) × (fitted ≡ None)
 
-Tells-along : (n m : ℕ) (a b c x y z : Option (List Line)) (r : Answer) → n ≡ m → a ≡ x → b ≡ y → c ≡ z → Tells n a b c r → Tells m x y z r
+Tells-along : (n m : ℕ) (a b c x y z : Option (List Line)) (r : ScriptOutcome) → n ≡ m → a ≡ x → b ≡ y → c ≡ z → Tells n a b c r → Tells m x y z r
 Tells-along n m a b c x y z r en ea eb ec h =
     subst (λ v. Tells m x y v r) ec (subst (λ v. Tells m x v c r) eb (subst (λ v. Tells m v b c r) ea (subst (λ v. Tells v a b c r) en h)))
 
@@ -49,7 +49,7 @@ module _ (width height : ℤ) where
   by_words : (n : ℕ) (ls : List Line) (o : Option (List Word)) → Tells n (words_taken (added stands) ls o) (words_taken (added (shows width height)) ls o) (words_taken (added (fits width height)) ls o) (with_words width height n (items_of ls) o)
   by_words n ls None = (refl, refl)
   by_words n ls (Some []) = (ls, refl, refl, refl, refl)
-  by_words n ls (Some (w ∷ ws)) = by_line n ls (line_in (w ∷ ws))
+  by_words n ls (Some (w ∷ ws)) = by_line n ls (script_line_in (w ∷ ws))
 
   -- ---- lines
 
@@ -57,8 +57,8 @@ module _ (width height : ℤ) where
   along can ls lines = steps (line_taken (added can)) ls lines
 
   -- reading on, after the line n
-  abbrev went : ℕ → List (List ℕ) → Answer → Answer
-  went n rest r = elim r as (λ _. Answer) [ Err fault ↦ Err fault | Ok longer ↦ reading width height (n + 1) longer rest ]
+  abbrev went : ℕ → List (List ℕ) → ScriptOutcome → ScriptOutcome
+  went n rest r = elim r as (λ _. ScriptOutcome) [ Err fault ↦ Err fault | Ok longer ↦ script_from width height (n + 1) longer rest ]
 
   -- the lines are taken, whichever test they are put to, and have these items
   record Takes (ls : List Line) (lines : List (List ℕ)) (all : List Item) : Type 0 where
@@ -68,10 +68,10 @@ module _ (width height : ℤ) where
     fitted : along (fits width height) ls lines ≡ Some further
     are : all ≡ items_of further
 
-  takes_line : (n : ℕ) (ls : List Line) (l : List ℕ) (rest : List (List ℕ)) (all : List Item) (r : Answer) → Tells n (line_taken (added stands) ls l) (line_taken (added (shows width height)) ls l) (line_taken (added (fits width height)) ls l) r → ((m : ℕ) (further : List Line) → reading width height m (items_of further) rest ≡ Ok all → Takes further rest all) → went n rest r ≡ Ok all → Takes ls (l ∷ rest) all
+  takes_line : (n : ℕ) (ls : List Line) (l : List ℕ) (rest : List (List ℕ)) (all : List Item) (r : ScriptOutcome) → Tells n (line_taken (added stands) ls l) (line_taken (added (shows width height)) ls l) (line_taken (added (fits width height)) ls l) r → ((m : ℕ) (further : List Line) → script_from width height m (items_of further) rest ≡ Ok all → Takes further rest all) → went n rest r ≡ Ok all → Takes ls (l ∷ rest) all
   takes_line n ls l rest all (Err fault) tells later e = absurd cc
   takes_line n ls l rest all (Ok longer) tells later e =
-      let r = later (n + 1) tells.0 (ap (λ x. reading width height (n + 1) x rest) (sym tells.4) ∙ e) in
+      let r = later (n + 1) tells.0 (ap (λ x. script_from width height (n + 1) x rest) (sym tells.4) ∙ e) in
       record {
         further = r.further;
         stood = ap (option_and_then (λ t. along stands t rest)) tells.1 ∙ r.stood;
@@ -81,7 +81,7 @@ module _ (width height : ℤ) where
       }
 
   -- the items that are read are those of the lines that are taken
-  takes : (lines : List (List ℕ)) (n : ℕ) (ls : List Line) (all : List Item) → reading width height n (items_of ls) lines ≡ Ok all → Takes ls lines all
+  takes : (lines : List (List ℕ)) (n : ℕ) (ls : List Line) (all : List Item) → script_from width height n (items_of ls) lines ≡ Ok all → Takes ls lines all
   takes [] n ls all e = record { further = ls; stood = refl; shown = refl; fitted = refl; are = (let same : items_of ls ≡ all = cc in sym same) }
   takes (l ∷ rest) n ls all e =
       takes_line n ls l rest all (with_bytes width height n (items_of ls) l) (by_words n ls (line_words l)) (λ m further. takes rest m further all) e
@@ -101,7 +101,7 @@ module _ (width height : ℤ) where
   one_on : (can : Test) (ls further : List Line) (l : List ℕ) (rest : List (List ℕ)) (b : ℕ) → line_taken (added can) ls l ≡ Some further → along can further (take (b + 1) rest) ≡ along can ls (take (suc b + 1) (l ∷ rest))
   one_on can ls further l rest b e = rw (add-one b, add-one (suc b), e) refl
 
-  halts_at : (n : ℕ) (ls : List Line) (l : List ℕ) (rest : List (List ℕ)) (fault : ScriptFault) (r : Answer) → Tells n (line_taken (added stands) ls l) (line_taken (added (shows width height)) ls l) (line_taken (added (fits width height)) ls l) r → ((m : ℕ) (further : List Line) → reading width height m (items_of further) rest ≡ Err fault → Halts further rest m fault) → went n rest r ≡ Err fault → Halts ls (l ∷ rest) n fault
+  halts_at : (n : ℕ) (ls : List Line) (l : List ℕ) (rest : List (List ℕ)) (fault : ScriptFault) (r : ScriptOutcome) → Tells n (line_taken (added stands) ls l) (line_taken (added (shows width height)) ls l) (line_taken (added (fits width height)) ls l) r → ((m : ℕ) (further : List Line) → script_from width height m (items_of further) rest ≡ Err fault → Halts further rest m fault) → went n rest r ≡ Err fault → Halts ls (l ∷ rest) n fault
   halts_at n ls l rest fault (Err found) tells later e =
       let same : found ≡ fault = cc in
       record {
@@ -113,7 +113,7 @@ module _ (width height : ℤ) where
             (Tells-along n (n + 0) _ _ _ _ _ _ (Err found) (sym (add-zero n)) (alone (line_taken (added stands) ls l)) (alone (line_taken (added (shows width height)) ls l)) (alone (line_taken (added (fits width height)) ls l)) tells);
       }
   halts_at n ls l rest fault (Ok longer) tells later e =
-      let r = later (n + 1) tells.0 (ap (λ x. reading width height (n + 1) x rest) (sym tells.4) ∙ e) in
+      let r = later (n + 1) tells.0 (ap (λ x. script_from width height (n + 1) x rest) (sym tells.4) ∙ e) in
       let number : n + 1 + r.before ≡ n + suc r.before = omega arith in
       record {
         before = suc r.before;
@@ -123,7 +123,7 @@ module _ (width height : ℤ) where
         tells = Tells-along (n + 1 + r.before) (n + suc r.before) _ _ _ _ _ _ (Err fault) number (one_on stands ls tells.0 l rest r.before tells.1) (one_on (shows width height) ls tells.0 l rest r.before tells.2) (one_on (fits width height) ls tells.0 l rest r.before tells.3) r.tells;
       }
 
-  halts : (lines : List (List ℕ)) (n : ℕ) (ls : List Line) (fault : ScriptFault) → reading width height n (items_of ls) lines ≡ Err fault → Halts ls lines n fault
+  halts : (lines : List (List ℕ)) (n : ℕ) (ls : List Line) (fault : ScriptFault) → script_from width height n (items_of ls) lines ≡ Err fault → Halts ls lines n fault
   halts [] n ls fault e = absurd cc
   halts (l ∷ rest) n ls fault e = halts_at n ls l rest fault (with_bytes width height n (items_of ls) l) (by_words n ls (line_words l)) (λ m further. halts rest m further fault) e
 
@@ -132,7 +132,7 @@ module _ (width height : ℤ) where
   abbrev spells_fitting : (lines : List (List ℕ)) (ls : List Line) → along (fits width height) [] lines ≡ Some ls → SpellsBy script_words (IsFitting width height) lines ls
   spells_fitting = lines_spelled (fits width height) (IsFitting width height) (into_fitting width height) (from_fitting width height)
 
-  first : (lines : List (List ℕ)) (fault : ScriptFault) (h : Halts [] lines 1 fault) (line : ℕ) → line ≡ h.before + 1 → (BeginsBy script_words (IsFitting width height) (take line lines) → ⊥) → IsFirstFault script_words (IsFitting width height) lines line
+  first : (lines : List (List ℕ)) (fault : ScriptFault) (h : Halts [] lines 1 fault) (line : ℕ) → line ≡ h.before + 1 → (BeginsBy script_words (IsFitting width height) (take line lines) → ⊥) → IsFirstFaultyLine script_words (IsFitting width height) lines line
   first lines fault h line number unbegun = record {
     before = h.before;
     number = number;
@@ -157,7 +157,7 @@ module _ (width height : ℤ) where
   none_fitting : (lines : List (List ℕ)) → along (fits width height) [] lines ≡ None → BeginsBy script_words (IsFitting width height) lines → ⊥
   none_fitting = no_begin (fits width height) (IsFitting width height) (into_fitting width height) (from_fitting width height)
 
-  refused : (text : List ℕ) (fault : ScriptFault) → length text ≤ 1048576 → Halts [] (lines_of text) 1 fault → Refuses width height text fault
+  refused : (text : List ℕ) (fault : ScriptFault) → length text ≤ 1048576 → Halts [] (lines_of text) 1 fault → RefusesScript width height text fault
   refused text NoMemory short h = tt
   refused text (Syntax line) short h =
       let number : line ≡ h.before + 1 = omega (arith, h.tells.0) in
@@ -178,7 +178,7 @@ module _ (width height : ℤ) where
   -- ---- lines that were read, and one that is refused after them
 
   -- the lines that were read are those of a script with these items
-  pub read_items : (lines : List (List ℕ)) (items : List Item) → reading width height 1 [] lines ≡ Ok items → HasItems width height lines items
+  pub read_items : (lines : List (List ℕ)) (items : List Item) → script_from width height 1 [] lines ≡ Ok items → HasItems width height lines items
   read_items lines items e = let r = takes lines 1 [] items e in record { script = r.further; spelled = spells_fitting lines r.further r.fitted; are = r.are }
 
   faulty_at : (text : List ℕ) (fault : ScriptFault) → length text ≤ 1048576 → (h : Halts [] (lines_of text) 1 fault) → IsFirstFaulty width height text (h.before + 1)
@@ -231,38 +231,38 @@ module _ (width height : ℤ) where
       subst (λ x. IsLeft width height text x fault) (sym taken.are) (left_there text fault short (halts_after (lines_of text) lines l more fault items are taken refused))
 
   -- where lines were read and the next one is refused, a text that has them is left there
-  pub read_left : (text : List ℕ) (lines : List (List ℕ)) (l : List ℕ) (more : List (List ℕ)) (fault : ScriptFault) (items : List Item) → lines_of text ≡ lines ++ l ∷ more → length text ≤ 1048576 → reading width height 1 [] lines ≡ Ok items → with_bytes width height (length lines + 1) items l ≡ Err fault → IsLeft width height text items fault
+  pub read_left : (text : List ℕ) (lines : List (List ℕ)) (l : List ℕ) (more : List (List ℕ)) (fault : ScriptFault) (items : List Item) → lines_of text ≡ lines ++ l ∷ more → length text ≤ 1048576 → script_from width height 1 [] lines ≡ Ok items → with_bytes width height (length lines + 1) items l ≡ Err fault → IsLeft width height text items fault
   read_left text lines l more fault items are short e refused =
       let taken = takes lines 1 [] items e in
       left_by text lines l more fault items are short taken (ap (λ x. with_bytes width height (length lines + 1) x l) (sym taken.are) ∙ refused)
 
   -- ---- the function and the relation
 
-  spelled_if : (text : List ℕ) (script : List Item) (b : Bool) → nat_le (length text) 1048576 ≡ b → cond b (reading width height 1 [] (lines_of text)) (Err TooLong) ≡ Ok script → Spells width height text script
+  spelled_if : (text : List ℕ) (script : List Item) (b : Bool) → nat_le (length text) 1048576 ≡ b → cond b (script_from width height 1 [] (lines_of text)) (Err TooLong) ≡ Ok script → SpellsAScript width height text script
   spelled_if text script true eb e =
       let r = takes (lines_of text) 1 [] script e in
       record { short = grind (arith, nat_tests); lines = r.further; spelled = spells_fitting (lines_of text) r.further r.fitted; are = r.are }
   spelled_if text script false eb e = absurd cc
 
   -- what is read is spelled
-  pub read_spelled : (text : List ℕ) (script : List Item) → script_of width height text ≡ Ok script → Spells width height text script
+  pub read_spelled : (text : List ℕ) (script : List Item) → script_of width height text ≡ Ok script → SpellsAScript width height text script
   read_spelled text script e = spelled_if text script (nat_le (length text) 1048576) refl e
 
-  refused_if : (text : List ℕ) (fault : ScriptFault) (b : Bool) → nat_le (length text) 1048576 ≡ b → cond b (reading width height 1 [] (lines_of text)) (Err TooLong) ≡ Err fault → Refuses width height text fault
+  refused_if : (text : List ℕ) (fault : ScriptFault) (b : Bool) → nat_le (length text) 1048576 ≡ b → cond b (script_from width height 1 [] (lines_of text)) (Err TooLong) ≡ Err fault → RefusesScript width height text fault
   refused_if text fault true eb e = refused text fault (grind (arith, nat_tests)) (halts (lines_of text) 1 [] fault e)
   refused_if text fault false eb e =
       let same : TooLong ≡ fault = cc in
       let long : 1048576 < length text = grind (arith, nat_tests) in
-      subst (Refuses width height text) same (inl long)
+      subst (RefusesScript width height text) same (inl long)
 
   -- what is refused is faulty
-  pub read_refused : (text : List ℕ) (fault : ScriptFault) → script_of width height text ≡ Err fault → Refuses width height text fault
+  pub read_refused : (text : List ℕ) (fault : ScriptFault) → script_of width height text ≡ Err fault → RefusesScript width height text fault
   read_refused text fault e = refused_if text fault (nat_le (length text) 1048576) refl e
 
-  unspelled : (text : List ℕ) (script : List Item) → Spells width height text script → (line : ℕ) → IsFirstFaulty width height text line → ⊥
+  unspelled : (text : List ℕ) (script : List Item) → SpellsAScript width height text script → (line : ℕ) → IsFirstFaulty width height text line → ⊥
   unspelled text script spelled line faulty = faulty_unspelled (IsFitting width height) (lines_of text) line faulty spelled.lines spelled.spelled
 
-  same_script : (text : List ℕ) (found script : List Item) → Spells width height text found → Spells width height text script → found ≡ script
+  same_script : (text : List ℕ) (found script : List Item) → SpellsAScript width height text found → SpellsAScript width height text script → found ≡ script
   same_script text found script a b =
       let ea = spelled_lines (fits width height) (IsFitting width height) (into_fitting width height) (from_fitting width height) (lines_of text) a.lines a.spelled in
       let eb = spelled_lines (fits width height) (IsFitting width height) (into_fitting width height) (from_fitting width height) (lines_of text) b.lines b.spelled in
@@ -270,11 +270,11 @@ module _ (width height : ℤ) where
       let same : a.lines ≡ b.lines = cc in
       a.are ∙ ap items_of same ∙ sym b.are
 
-  with_memory : (text : List ℕ) (b : Bool) → cond b (reading width height 1 [] (lines_of text)) (Err TooLong) ≡ Err NoMemory → ⊥
+  with_memory : (text : List ℕ) (b : Bool) → cond b (script_from width height 1 [] (lines_of text)) (Err TooLong) ≡ Err NoMemory → ⊥
   with_memory text true e = (halts (lines_of text) 1 [] NoMemory e).tells
   with_memory text false e = absurd cc
 
-  spelled_answer : (r : Answer) (text : List ℕ) (script : List Item) → script_of width height text ≡ r → Spells width height text script → r ≡ Ok script
+  spelled_answer : (r : ScriptOutcome) (text : List ℕ) (script : List Item) → script_of width height text ≡ r → SpellsAScript width height text script → r ≡ Ok script
   spelled_answer (Ok found) text script e spelled = ap (λ x. Ok x) (same_script text found script (read_spelled text found e) spelled)
   spelled_answer (Err NoMemory) text script e spelled = absurd (with_memory text (nat_le (length text) 1048576) e)
   spelled_answer (Err (Syntax line)) text script e spelled = absurd (unspelled text script spelled line (read_refused text (Syntax line) e).1)
@@ -283,25 +283,25 @@ module _ (width height : ℤ) where
       absurd (elim (read_refused text TooLong e) [ inl long ↦ absurd (omega (arith, long, spelled.short)) | inr faulty ↦ unspelled text script spelled faulty.0 faulty.1 ])
 
   -- a script that is spelled is read
-  pub spelled_read : (text : List ℕ) (script : List Item) → Spells width height text script → script_of width height text ≡ Ok script
+  pub spelled_read : (text : List ℕ) (script : List Item) → SpellsAScript width height text script → script_of width height text ≡ Ok script
   spelled_read text script spelled = spelled_answer (script_of width height text) text script refl spelled
 
   -- ---- the answers of `parse_items`
 
-  answered : (text : List ℕ) (fault : ScriptFault) → IsAnswered fault (script_of width height text) → Refuses width height text fault
+  answered : (text : List ℕ) (fault : ScriptFault) → IsAnswered fault (script_of width height text) → RefusesScript width height text fault
   answered text NoMemory h = tt
   answered text (Syntax line) h = read_refused text (Syntax line) h
   answered text (OffScreen line) h = read_refused text (OffScreen line) h
   answered text TooLong h = read_refused text TooLong h
 
-  pub all_refused : (r : Answer) (text : List ℕ) → IfErr r (λ fault. IsAnswered fault (script_of width height text)) → IfErr r (λ fault. Refuses width height text fault)
+  pub all_refused : (r : ScriptOutcome) (text : List ℕ) → IfErr r (λ fault. IsAnswered fault (script_of width height text)) → IfErr r (λ fault. RefusesScript width height text fault)
   all_refused (Ok script) text h = tt
   all_refused (Err fault) text h = answered text fault h
 
-  given : (text : List ℕ) (script : List Item) (r : Answer) → script_of width height text ≡ r → Spells width height text script → Gives r script
-  given text script r e spelled = subst (λ x. Gives x script) (sym (spelled_answer r text script e spelled)) refl
+  given : (text : List ℕ) (script : List Item) (r : ScriptOutcome) → script_of width height text ≡ r → SpellsAScript width height text script → GivesScript r script
+  given text script r e spelled = subst (λ x. GivesScript x script) (sym (spelled_answer r text script e spelled)) refl
 
-  pub gives : (r : Answer) (text : List ℕ) (script : List Item) → IfOk r (λ found. script_of width height text ≡ Ok found) → IfErr r (λ fault. IsAnswered fault (script_of width height text)) → Spells width height text script → Gives r script
+  pub gives : (r : ScriptOutcome) (text : List ℕ) (script : List Item) → IfOk r (λ found. script_of width height text ≡ Ok found) → IfErr r (λ fault. IsAnswered fault (script_of width height text)) → SpellsAScript width height text script → GivesScript r script
   gives (Ok found) text script value fault spelled = given text script (Ok found) value spelled
   gives (Err NoMemory) text script value fault spelled = tt
   gives (Err (Syntax line)) text script value fault spelled = given text script (Err (Syntax line)) fault spelled

@@ -3,7 +3,7 @@ use Rattle.std.proofs.Common.{◌≡◌, ℕ, ℤ, Bool, true, false, cond, List
 use Rattle.std.specs.Option.{option_map}
 use Rattle.tv_model.specs.declared.script.Item.{Item}
 use Rattle.tv_script.specs.declared.line.Line.{Line}
-use Rattle.tv_script.specs.Reading.Lines.{line_in, line_read, words_read}
+use Rattle.tv_script.specs.Reading.Lines.{script_line_in, line_read, words_read}
 use Rattle.tv_script.specs.Reading.Scripts.{with_bytes, with_found, with_read, with_words}
 use Rattle.tv_words.specs.declared.word.Word.{Word}
 use Rattle.tv_words.specs.Reading.LineWords.{line_words}
@@ -34,7 +34,7 @@ module _ (width height : ℤ) (n : ℕ) (items : List Item) where
   words_with : (o : Option (List Word)) → with_words width height n items o ≡ with_read width height n items (words_read o)
   words_with None = refl
   words_with (Some []) = refl
-  words_with (Some (w ∷ ws)) = found_read (line_in (w ∷ ws))
+  words_with (Some (w ∷ ws)) = found_read (script_line_in (w ∷ ws))
 
   -- a line of bytes is taken by what it is read as
   pub bytes_read : (line : List ℕ) → with_bytes width height n items line ≡ with_read width height n items (line_read line)

@@ -19,33 +19,33 @@ use Rattle.tv_script.specs.declared.stream_fault.StreamFault.{StreamFault}
 use Rattle.tv_script.specs.declared.stream_fault.StreamFault.TheVariants as streams
 use Rattle.tv_script.specs.Lines.{is_line_end}
 use Rattle.tv_script.specs.Performed.{Stops}
-use Rattle.tv_script.specs.Reading.Scripts.{Answer, reading, script_of, with_bytes}
-use Rattle.tv_script.specs.Reading.Streams.{BeginsLine, HasPlayed, HasScreenOf, IsFed, IsOpen, IsRefusedLine, IsUnplayed, ended}
-use Rattle.tv_script.specs.Scripts.{Spells}
+use Rattle.tv_script.specs.Reading.Scripts.{ScriptOutcome, script_from, script_of, with_bytes}
+use Rattle.tv_script.specs.Reading.Streams.{BeginsLine, HasPlayed, HasScreenOf, IsFed, IsUnended, IsRefusedLine, IsUnplayed, with_line_ends}
+use Rattle.tv_script.specs.Scripts.{SpellsAScript}
 use Rattle.tv_script.specs.Streams.{Breaks, ComesFrom, ComesTo, Decides, HasItems, IsCutOff, IsLeft, OfEach, Performs, judged, up_to_last_end}
 use Rattle.tv_words.specs.Lines.{lines_of}
 
 -- ---- one line more
 
 module _ (width height : ℤ) where
-  same_answer : (r : Answer) → elim r as (λ _. Answer) [ Err fault ↦ Err fault | Ok longer ↦ Ok longer ] ≡ r
+  same_answer : (r : ScriptOutcome) → elim r as (λ _. ScriptOutcome) [ Err fault ↦ Err fault | Ok longer ↦ Ok longer ] ≡ r
   same_answer (Ok items) = refl
   same_answer (Err fault) = refl
 
-  push_first : (n : ℕ) (x : List ℕ) (xs : List (List ℕ)) (l : List ℕ) (longer : List Item) (r : Answer) → ((m : ℕ) (before : List Item) → reading width height m before xs ≡ Ok longer → reading width height m before (xs ++ l ∷ []) ≡ with_bytes width height (m + length xs) longer l) → elim r as (λ _. Answer) [ Err fault ↦ Err fault | Ok further ↦ reading width height (n + 1) further xs ] ≡ Ok longer → elim r as (λ _. Answer) [ Err fault ↦ Err fault | Ok further ↦ reading width height (n + 1) further (xs ++ l ∷ []) ] ≡ with_bytes width height (n + length (x ∷ xs)) longer l
+  push_first : (n : ℕ) (x : List ℕ) (xs : List (List ℕ)) (l : List ℕ) (longer : List Item) (r : ScriptOutcome) → ((m : ℕ) (before : List Item) → script_from width height m before xs ≡ Ok longer → script_from width height m before (xs ++ l ∷ []) ≡ with_bytes width height (m + length xs) longer l) → elim r as (λ _. ScriptOutcome) [ Err fault ↦ Err fault | Ok further ↦ script_from width height (n + 1) further xs ] ≡ Ok longer → elim r as (λ _. ScriptOutcome) [ Err fault ↦ Err fault | Ok further ↦ script_from width height (n + 1) further (xs ++ l ∷ []) ] ≡ with_bytes width height (n + length (x ∷ xs)) longer l
   push_first n x xs l longer (Err fault) later e = absurd cc
   push_first n x xs l longer (Ok further) later e =
       let same : n + 1 + length xs ≡ n + length (x ∷ xs) = omega arith in
       later (n + 1) further e ∙ ap (λ m. with_bytes width height m longer l) same
 
-  reading_from : (lines : List (List ℕ)) (n : ℕ) (items longer : List Item) (l : List ℕ) → reading width height n items lines ≡ Ok longer → reading width height n items (lines ++ l ∷ []) ≡ with_bytes width height (n + length lines) longer l
+  reading_from : (lines : List (List ℕ)) (n : ℕ) (items longer : List Item) (l : List ℕ) → script_from width height n items lines ≡ Ok longer → script_from width height n items (lines ++ l ∷ []) ≡ with_bytes width height (n + length lines) longer l
   reading_from [] n items longer l e =
       let same : items ≡ longer = cc in
       let number : n ≡ n + 0 = omega arith in
       same_answer (with_bytes width height n items l) ∙ ap (λ x. with_bytes width height n x l) same ∙ ap (λ m. with_bytes width height m longer l) number
   reading_from (x ∷ xs) n items longer l e = push_first n x xs l longer (with_bytes width height n items x) (λ m before. reading_from xs m before longer l) e
 
-  pub reading_push : (lines : List (List ℕ)) (items : List Item) (l : List ℕ) → reading width height 1 [] lines ≡ Ok items → reading width height 1 [] (lines ++ l ∷ []) ≡ with_bytes width height (length lines + 1) items l
+  pub reading_push : (lines : List (List ℕ)) (items : List Item) (l : List ℕ) → script_from width height 1 [] lines ≡ Ok items → script_from width height 1 [] (lines ++ l ∷ []) ≡ with_bytes width height (length lines + 1) items l
   reading_push lines items l e =
       let number : 1 + length lines ≡ length lines + 1 = omega arith in
       reading_from lines 1 [] items l e ∙ ap (λ m. with_bytes width height m items l) number
@@ -66,20 +66,20 @@ module _ (s : Session) (from now : Seen) (Left : Session → Type 0) where
   comes_left stream items scripts.TooLong other is = inr is
 
   -- the bytes are the lines up to the refused one, each with its end
-  refused_mid : (lines : List (List ℕ)) (line given : List ℕ) (fault : ScriptFault) → fault ≢ scripts.NoMemory → given ≡ (ended lines ++ line) ++ 10 ∷ [] → length given ≤ 1048576 → AllByRecursion IsOpen lines → IsOpen line → IsRefusedLine s lines line from now Left fault → Decides s given false from now Left (Err fault)
+  refused_mid : (lines : List (List ℕ)) (line given : List ℕ) (fault : ScriptFault) → fault ≢ scripts.NoMemory → given ≡ (with_line_ends lines ++ line) ++ 10 ∷ [] → length given ≤ 1048576 → AllByRecursion IsUnended lines → IsUnended line → IsRefusedLine s lines line from now Left fault → Decides s given false from now Left (Err fault)
   refused_mid lines line given fault other are few whole is refused = record {
     items = refused.played.items;
     comes = λ rest alone.
-        let all : given ≡ ended (lines ++ line ∷ []) = are ∙ sym (ended_push lines line) in
-        let begins = begins_judged (lines ++ line ∷ []) rest (nat_le (length (ended (lines ++ line ∷ []) ++ rest)) 1048576) refl (all_push lines line whole is) (subst (λ x. length x ≤ 1048576) all few) in
+        let all : given ≡ with_line_ends (lines ++ line ∷ []) = are ∙ sym (ended_push lines line) in
+        let begins = begins_judged (lines ++ line ∷ []) rest (nat_le (length (with_line_ends (lines ++ line ∷ []) ++ rest)) 1048576) refl (all_push lines line whole is) (subst (λ x. length x ≤ 1048576) all few) in
         comes_left (given ++ rest) refused.played.items fault other
         (subst (λ x. IsLeft w h (judged (x ++ rest)) refused.played.items fault) (sym all)
-        (read_left w h (judged (ended (lines ++ line ∷ []) ++ rest)) lines line begins.more fault refused.played.items (begins.lines_are ∙ append_assoc lines (line ∷ []) begins.more) begins.short refused.played.read refused.refused));
+        (read_left w h (judged (with_line_ends (lines ++ line ∷ []) ++ rest)) lines line begins.more fault refused.played.items (begins.lines_are ∙ append_assoc lines (line ∷ []) begins.more) begins.short refused.played.read refused.refused));
     performs = refused.played.performs;
   }
 
   -- the last line has no end
-  refused_last : (lines : List (List ℕ)) (c : ℕ) (cs given : List ℕ) (fault : ScriptFault) → fault ≢ scripts.NoMemory → given ≡ ended lines ++ c ∷ cs → length given ≤ 1048576 → AllByRecursion IsOpen lines → IsOpen (c ∷ cs) → IsRefusedLine s lines (c ∷ cs) from now Left fault → Decides s given true from now Left (Err fault)
+  refused_last : (lines : List (List ℕ)) (c : ℕ) (cs given : List ℕ) (fault : ScriptFault) → fault ≢ scripts.NoMemory → given ≡ with_line_ends lines ++ c ∷ cs → length given ≤ 1048576 → AllByRecursion IsUnended lines → IsUnended (c ∷ cs) → IsRefusedLine s lines (c ∷ cs) from now Left fault → Decides s given true from now Left (Err fault)
   refused_last lines c cs given fault other are few whole is refused =
       let split : lines_of given ≡ lines ++ (c ∷ cs) ∷ [] = ap lines_of are ∙ lines_of_ended lines (c ∷ cs) whole ∙ ap (λ x. lines ++ x) (last_line c cs is) in
       let left = read_left w h given lines (c ∷ cs) [] fault refused.played.items split few refused.played.read refused.refused in
@@ -92,21 +92,21 @@ module _ (s : Session) (from now : Seen) (Left : Session → Type 0) where
       }
 
   -- the writer failed in a line that ended
-  cut_mid : (lines : List (List ℕ)) (line given : List ℕ) (items : List Item) (begun : ℕ) → given ≡ (ended lines ++ line) ++ 10 ∷ [] → length given ≤ 1048576 → AllByRecursion IsOpen lines → IsOpen line → reading w h 1 [] (lines ++ line ∷ []) ≡ Ok items → Stops s items begun from now Left → IsCutOff s given false begun from now Left
+  cut_mid : (lines : List (List ℕ)) (line given : List ℕ) (items : List Item) (begun : ℕ) → given ≡ (with_line_ends lines ++ line) ++ 10 ∷ [] → length given ≤ 1048576 → AllByRecursion IsUnended lines → IsUnended line → script_from w h 1 [] (lines ++ line ∷ []) ≡ Ok items → Stops s items begun from now Left → IsCutOff s given false begun from now Left
   cut_mid lines line given items begun are few whole is read stops = record {
     items = items;
     lines = length (lines ++ line ∷ []);
     has = λ rest alone.
-        let all : given ≡ ended (lines ++ line ∷ []) = are ∙ sym (ended_push lines line) in
-        let begins = begins_judged (lines ++ line ∷ []) rest (nat_le (length (ended (lines ++ line ∷ []) ++ rest)) 1048576) refl (all_push lines line whole is) (subst (λ x. length x ≤ 1048576) all few) in
-        let front : take (length (lines ++ line ∷ [])) (lines_of (judged (ended (lines ++ line ∷ []) ++ rest))) ≡ lines ++ line ∷ [] = ap (take (length (lines ++ line ∷ []))) begins.lines_are ∙ take-append_seam (lines ++ line ∷ []) begins.more in
+        let all : given ≡ with_line_ends (lines ++ line ∷ []) = are ∙ sym (ended_push lines line) in
+        let begins = begins_judged (lines ++ line ∷ []) rest (nat_le (length (with_line_ends (lines ++ line ∷ []) ++ rest)) 1048576) refl (all_push lines line whole is) (subst (λ x. length x ≤ 1048576) all few) in
+        let front : take (length (lines ++ line ∷ [])) (lines_of (judged (with_line_ends (lines ++ line ∷ []) ++ rest))) ≡ lines ++ line ∷ [] = ap (take (length (lines ++ line ∷ []))) begins.lines_are ∙ take-append_seam (lines ++ line ∷ []) begins.more in
         subst (λ x. HasItems w h (take (length (lines ++ line ∷ [])) (lines_of (judged (x ++ rest)))) items) (sym all)
         (subst (λ x. HasItems w h x items) (sym front) (read_items w h (lines ++ line ∷ []) items read));
     stops = stops;
   }
 
   -- or in the last one
-  cut_last : (lines : List (List ℕ)) (c : ℕ) (cs given : List ℕ) (items : List Item) (begun : ℕ) → given ≡ ended lines ++ c ∷ cs → length given ≤ 1048576 → AllByRecursion IsOpen lines → IsOpen (c ∷ cs) → reading w h 1 [] (lines ++ (c ∷ cs) ∷ []) ≡ Ok items → Stops s items begun from now Left → IsCutOff s given true begun from now Left
+  cut_last : (lines : List (List ℕ)) (c : ℕ) (cs given : List ℕ) (items : List Item) (begun : ℕ) → given ≡ with_line_ends lines ++ c ∷ cs → length given ≤ 1048576 → AllByRecursion IsUnended lines → IsUnended (c ∷ cs) → script_from w h 1 [] (lines ++ (c ∷ cs) ∷ []) ≡ Ok items → Stops s items begun from now Left → IsCutOff s given true begun from now Left
   cut_last lines c cs given items begun are few whole is read stops =
       let split : lines_of given ≡ lines ++ (c ∷ cs) ∷ [] = ap lines_of are ∙ lines_of_ended lines (c ∷ cs) whole ∙ ap (λ x. lines ++ x) (last_line c cs is) in
       let all : take (length (lines ++ (c ∷ cs) ∷ [])) (lines_of (judged (given ++ []))) ≡ lines ++ (c ∷ cs) ∷ [] =
@@ -123,7 +123,7 @@ module _ (s : Session) (from now : Seen) (Left : Session → Type 0) where
 
   -- ---- what a line that wasn't performed to its end says
 
-  pub breaks_mid : (fault : StreamFault) (lines : List (List ℕ)) (line given : List ℕ) → given ≡ (ended lines ++ line) ++ 10 ∷ [] → length given ≤ 1048576 → AllByRecursion IsOpen lines → IsOpen line → IsUnplayed s lines line from now Left fault → Breaks s given false from now Left fault
+  pub breaks_mid : (fault : StreamFault) (lines : List (List ℕ)) (line given : List ℕ) → given ≡ (with_line_ends lines ++ line) ++ 10 ∷ [] → length given ≤ 1048576 → AllByRecursion IsUnended lines → IsUnended line → IsUnplayed s lines line from now Left fault → Breaks s given false from now Left fault
   breaks_mid streams.NoMemory lines line given are few whole is un = absurd un
   breaks_mid streams.Read lines line given are few whole is un = absurd un
   breaks_mid (streams.Syntax n) lines line given are few whole is un = refused_mid lines line given (scripts.Syntax n) (λ e. absurd cc) are few whole is un
@@ -131,7 +131,7 @@ module _ (s : Session) (from now : Seen) (Left : Session → Type 0) where
   breaks_mid streams.TooLong lines line given are few whole is un = refused_mid lines line given scripts.TooLong (λ e. absurd cc) are few whole is un
   breaks_mid (streams.Write begun) lines line given are few whole is un = cut_mid lines line given un.0 begun are few whole is un.1 un.2
 
-  breaks_last : (fault : StreamFault) (lines : List (List ℕ)) (c : ℕ) (cs given : List ℕ) → given ≡ ended lines ++ c ∷ cs → length given ≤ 1048576 → AllByRecursion IsOpen lines → IsOpen (c ∷ cs) → IsUnplayed s lines (c ∷ cs) from now Left fault → Breaks s given true from now Left fault
+  breaks_last : (fault : StreamFault) (lines : List (List ℕ)) (c : ℕ) (cs given : List ℕ) → given ≡ with_line_ends lines ++ c ∷ cs → length given ≤ 1048576 → AllByRecursion IsUnended lines → IsUnended (c ∷ cs) → IsUnplayed s lines (c ∷ cs) from now Left fault → Breaks s given true from now Left fault
   breaks_last streams.NoMemory lines c cs given are few whole is un = absurd un
   breaks_last streams.Read lines c cs given are few whole is un = absurd un
   breaks_last (streams.Syntax n) lines c cs given are few whole is un = refused_last lines c cs given (scripts.Syntax n) (λ e. absurd cc) are few whole is un
@@ -140,7 +140,7 @@ module _ (s : Session) (from now : Seen) (Left : Session → Type 0) where
   breaks_last (streams.Write begun) lines c cs given are few whole is un = cut_last lines c cs given un.0 begun are few whole is un.1 un.2
 
   -- the same of a line that has some bytes
-  pub breaks_end : (fault : StreamFault) (lines : List (List ℕ)) (line given : List ℕ) → 0 < length line → given ≡ ended lines ++ line → length given ≤ 1048576 → AllByRecursion IsOpen lines → IsOpen line → IsUnplayed s lines line from now Left fault → Breaks s given true from now Left fault
+  pub breaks_end : (fault : StreamFault) (lines : List (List ℕ)) (line given : List ℕ) → 0 < length line → given ≡ with_line_ends lines ++ line → length given ≤ 1048576 → AllByRecursion IsUnended lines → IsUnended line → IsUnplayed s lines line from now Left fault → Breaks s given true from now Left fault
   breaks_end fault lines [] given some are few whole is un = absurd (omega (arith, some))
   breaks_end fault lines (c ∷ cs) given some are few whole is un = breaks_last fault lines c cs given are few whole is un
 
@@ -150,20 +150,20 @@ module _ (s : Session) (from now : Seen) (Left : Session → Type 0) where
   decides_read : (lines : List (List ℕ)) (begun : ℕ) (given : List ℕ) → lines_of given ≡ lines → length given ≤ 1048576 → HasPlayed s lines begun from now Left → Decides s given true from now Left (Ok tt)
   decides_read lines begun given are few played =
       let small : nat_le (length given) 1048576 ≡ true = grind (arith, nat_tests) in
-      let read : script_of w h given ≡ Ok played.items = rw small (ap (reading w h 1 []) are ∙ played.read) in
+      let read : script_of w h given ≡ Ok played.items = rw small (ap (script_from w h 1 []) are ∙ played.read) in
       record {
         items = played.items;
-        comes = λ rest alone. subst (λ x. Spells w h (given ++ x) played.items) (sym (alone refl)) (subst (λ x. Spells w h x played.items) (sym (append-nil given)) (read_spelled w h given played.items read));
+        comes = λ rest alone. subst (λ x. SpellsAScript w h (given ++ x) played.items) (sym (alone refl)) (subst (λ x. SpellsAScript w h x played.items) (sym (append-nil given)) (read_spelled w h given played.items read));
         performs = played.performs;
       }
 
   -- nothing stands after the last line end
-  pub decides_ended : (lines : List (List ℕ)) (line : List ℕ) (begun : ℕ) (given : List ℕ) → line ≡ [] → given ≡ ended lines ++ line → length given ≤ 1048576 → AllByRecursion IsOpen lines → HasPlayed s lines begun from now Left → Decides s given true from now Left (Ok tt)
+  pub decides_ended : (lines : List (List ℕ)) (line : List ℕ) (begun : ℕ) (given : List ℕ) → line ≡ [] → given ≡ with_line_ends lines ++ line → length given ≤ 1048576 → AllByRecursion IsUnended lines → HasPlayed s lines begun from now Left → Decides s given true from now Left (Ok tt)
   decides_ended lines line begun given none are few whole played =
-      decides_read lines begun given (ap lines_of (are ∙ ap (λ x. ended lines ++ x) none) ∙ lines_of_ended lines [] whole ∙ append-nil lines) few played
+      decides_read lines begun given (ap lines_of (are ∙ ap (λ x. with_line_ends lines ++ x) none) ∙ lines_of_ended lines [] whole ∙ append-nil lines) few played
 
   -- the last line was performed too
-  pub decides_last : (lines : List (List ℕ)) (line : List ℕ) (begun : ℕ) (given : List ℕ) → 0 < length line → given ≡ ended lines ++ line → length given ≤ 1048576 → AllByRecursion IsOpen lines → IsOpen line → HasPlayed s (lines ++ line ∷ []) begun from now Left → Decides s given true from now Left (Ok tt)
+  pub decides_last : (lines : List (List ℕ)) (line : List ℕ) (begun : ℕ) (given : List ℕ) → 0 < length line → given ≡ with_line_ends lines ++ line → length given ≤ 1048576 → AllByRecursion IsUnended lines → IsUnended line → HasPlayed s (lines ++ line ∷ []) begun from now Left → Decides s given true from now Left (Ok tt)
   decides_last lines [] begun given some are few whole is played = absurd (omega (arith, some))
   decides_last lines (c ∷ cs) begun given some are few whole is played =
       decides_read (lines ++ (c ∷ cs) ∷ []) begun given (ap lines_of are ∙ lines_of_ended lines (c ∷ cs) whole ∙ ap (λ x. lines ++ x) (last_line c cs is)) few played
@@ -220,8 +220,8 @@ module _ (s : Session) (from now : Seen) (Left : Session → Type 0) where
 
   -- the reader was at its end
   pub comes_end : (r : Result (Unit {0}) StreamFault) (reader left : Given) (given : List ℕ) → length given ≤ 1048577 → HasGiven reader left given → left.is_ended ≡ true → MatchResult r (λ x. Decides s given true from now Left (Ok tt)) (λ fault. Breaks s given true from now Left fault) → ComesFrom s reader left from now Left r
-  comes_end (Ok x) reader left given few gave ended is = record { given = given; few = few; gave = gave; comes = (ended, subst (λ e. Decides s given e from now Left (Ok tt)) (sym ended) is) }
-  comes_end (Err fault) reader left given few gave ended is = comes_break fault reader left given few gave (subst (λ e. Breaks s given e from now Left fault) (sym ended) is)
+  comes_end (Ok x) reader left given few gave with_line_ends is = record { given = given; few = few; gave = gave; comes = (with_line_ends, subst (λ e. Decides s given e from now Left (Ok tt)) (sym with_line_ends) is) }
+  comes_end (Err fault) reader left given few gave with_line_ends is = comes_break fault reader left given few gave (subst (λ e. Breaks s given e from now Left fault) (sym with_line_ends) is)
 
   -- an answer that is this fault
   pub comes_fault : (fault : StreamFault) (reader left : Given) → ComesFrom s reader left from now Left (Err fault) → (r : Result (Unit {0}) StreamFault) → IsErrAnd r (λ told. told ≡ fault) → ComesFrom s reader left from now Left r

@@ -5,7 +5,7 @@ use Rattle.std.proofs.lemmas.Bool.{eqb-true}
 use Rattle.tv_model.specs.declared.script.Item.{Item}
 use Rattle.tv_script.specs.declared.line.Line.{Line}
 use Rattle.tv_script.specs.declared.script_text.ScriptFault.TheVariants.{Syntax}
-use Rattle.tv_script.specs.Reading.Lines.{line_in}
+use Rattle.tv_script.specs.Reading.Lines.{script_line_in}
 use Rattle.tv_script.specs.Reading.Scripts.{with_bytes, with_found, with_words}
 use Rattle.tv_words.proofs.LineWordLemmas.{found_words}
 use Rattle.tv_words.specs.declared.word.Word.{Word}
@@ -25,9 +25,9 @@ module _ (width height : ℤ) (n : ℕ) (items : List Item) (line : List ℕ) (f
   pub line_without_words : (ws : List Word) → found ≡ Some ws → true ≡ (length ws == 0) → with_bytes width height n items line ≡ Ok items
   line_without_words ws e none = sym by_found ∙ ap (with_words width height n items) e ∙ no_words ws none
 
-  some_words : (ws : List Word) → false ≡ (length ws == 0) → with_words width height n items (Some ws) ≡ with_found width height n items (line_in ws)
+  some_words : (ws : List Word) → false ≡ (length ws == 0) → with_words width height n items (Some ws) ≡ with_found width height n items (script_line_in ws)
   some_words [] e = absurd cc
   some_words (w ∷ ws) e = refl
 
-  pub line_with_words : (ws : List Word) (o : Option Line) → found ≡ Some ws → false ≡ (length ws == 0) → o ≡ line_in ws → with_bytes width height n items line ≡ with_found width height n items o
+  pub line_with_words : (ws : List Word) (o : Option Line) → found ≡ Some ws → false ≡ (length ws == 0) → o ≡ script_line_in ws → with_bytes width height n items line ≡ with_found width height n items o
   line_with_words ws o e some read = sym by_found ∙ ap (with_words width height n items) e ∙ some_words ws some ∙ ap (with_found width height n items) (sym read)

@@ -51,13 +51,13 @@ IsLine lines.Colors = Unit {0}
 -- ---- items
 
 -- a character that is typed
-abbrev pub typed : ℕ → Item
-typed ch = items.Event (events.Key (keys.Char ch))
+abbrev pub item_typed : ℕ → Item
+item_typed ch = items.Event (events.Key (keys.Char ch))
 
 -- the items of a line: a typed text has one for each character
 abbrev pub items_of_line : Line → List Item
 items_of_line (lines.Key key) = items.Event (events.Key key) ∷ []
-items_of_line (lines.Type text) = map typed text
+items_of_line (lines.Type text) = map item_typed text
 items_of_line (lines.Down p) = items.Event (events.Down p) ∷ []
 items_of_line (lines.Move p) = items.Event (events.Move p) ∷ []
 items_of_line (lines.Up p) = items.Event (events.Up p) ∷ []
@@ -71,12 +71,12 @@ items_of ls = flat_map items_of_line ls
 -- ---- the screen
 
 -- one of so many columns or rows
-abbrev pub is_within : ℤ → ℤ → Bool
-is_within size at = int_le (pos 0) at && int_lt at size
+abbrev pub is_on_axis : ℤ → ℤ → Bool
+is_on_axis size at = int_le (pos 0) at && int_lt at size
 
 -- a point of a screen of so many columns and rows
 abbrev pub is_point_within : ℤ → ℤ → Point → Bool
-is_point_within width height p = is_within width p.x && is_within height p.y
+is_point_within width height p = is_on_axis width p.x && is_on_axis height p.y
 
 -- a line whose point, if it has one, is on the screen
 abbrev pub is_on_screen : ℤ → ℤ → Line → Bool

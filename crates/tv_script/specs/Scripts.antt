@@ -8,7 +8,7 @@ use Rattle.tv_script.specs.declared.script_text.ScriptFault.TheVariants.{NoMemor
 use Rattle.tv_script.specs.Lines.{IsLine, is_on_screen, items_of, words_of_line}
 use Rattle.tv_words.specs.declared.word.Word.{Word}
 use Rattle.tv_words.specs.Lines.{lines_of}
-use Rattle.tv_words.specs.Texts.{BeginsBy, IsFirstFault, SpellsBy}
+use Rattle.tv_words.specs.Texts.{BeginsBy, IsFirstFaultyLine, SpellsBy}
 
 -- the words of each line
 abbrev pub script_words : List Line → List (List Word)
@@ -27,32 +27,32 @@ abbrev pub IsFitting : (width height : ℤ) → List Line → Type 0
 IsFitting width height script = IsOnScreen width height script × (length (items_of script) ≤ 100000)
 
 -- the text, one of no more bytes than a script may have, spells a fitting script of these items
-pub record Spells (width height : ℤ) (text : List ℕ) (items : List Item) : Type 0 where
+pub record SpellsAScript (width height : ℤ) (text : List ℕ) (items : List Item) : Type 0 where
   pub short : length text ≤ 1048576
   pub lines : List Line
   pub spelled : SpellsBy script_words (IsFitting width height) (lines_of text) lines
   pub are : items ≡ items_of lines
 
 -- the first so many lines of the text begin a script, one that is as wanted
-abbrev pub Begins : (List Line → Type 0) → ℕ → List ℕ → Type 0
-Begins Wanted n text = BeginsBy script_words Wanted (take n (lines_of text))
+abbrev pub BeginsScript : (List Line → Type 0) → ℕ → List ℕ → Type 0
+BeginsScript Wanted n text = BeginsBy script_words Wanted (take n (lines_of text))
 
 -- the first line with which the text begins no fitting script
 abbrev pub IsFirstFaulty : (width height : ℤ) → List ℕ → ℕ → Type 0
-IsFirstFaulty width height text line = IsFirstFault script_words (IsFitting width height) (lines_of text) line
+IsFirstFaulty width height text line = IsFirstFaultyLine script_words (IsFitting width height) (lines_of text) line
 
 -- What each refusal says of the text. Of its first faulty line it says what is the matter with it, and of several things
 -- the first in this order: with it the text begins no script; the line's point is off the screen; the script has too many items.
-abbrev pub Refuses : (width height : ℤ) → List ℕ → ScriptFault → Type 0
-Refuses width height text NoMemory = Unit {0}
-Refuses width height text (Syntax line) = (length text ≤ 1048576) × IsFirstFaulty width height text line × ¬ Begins IsScript line text
-Refuses width height text (OffScreen line) =
-    (length text ≤ 1048576) × IsFirstFaulty width height text line × Begins IsScript line text × ¬ Begins (IsOnScreen width height) line text
-Refuses width height text TooLong =
-    (1048576 < length text) ⊎ ((line : ℕ) × IsFirstFaulty width height text line × Begins (IsOnScreen width height) line text)
+abbrev pub RefusesScript : (width height : ℤ) → List ℕ → ScriptFault → Type 0
+RefusesScript width height text NoMemory = Unit {0}
+RefusesScript width height text (Syntax line) = (length text ≤ 1048576) × IsFirstFaulty width height text line × ¬ BeginsScript IsScript line text
+RefusesScript width height text (OffScreen line) =
+    (length text ≤ 1048576) × IsFirstFaulty width height text line × BeginsScript IsScript line text × ¬ BeginsScript (IsOnScreen width height) line text
+RefusesScript width height text TooLong =
+    (1048576 < length text) ⊎ ((line : ℕ) × IsFirstFaulty width height text line × BeginsScript (IsOnScreen width height) line text)
 
 -- the script was read, unless memory ran out
-abbrev pub Gives : Result (List Item) ScriptFault → List Item → Type 0
-Gives (Ok found) script = found ≡ script
-Gives (Err NoMemory) script = Unit {0}
-Gives (Err fault) script = ⊥
+abbrev pub GivesScript : Result (List Item) ScriptFault → List Item → Type 0
+GivesScript (Ok found) script = found ≡ script
+GivesScript (Err NoMemory) script = Unit {0}
+GivesScript (Err fault) script = ⊥

@@ -12,7 +12,7 @@ use Rattle.tv_script.specs.declared.stream_fault.StreamFault.{StreamFault}
 use Rattle.tv_script.specs.declared.stream_fault.StreamFault.TheVariants.{NoMemory, Syntax, OffScreen, TooLong, Read, Write}
 use Rattle.tv_script.specs.Performed.{Stops}
 use Rattle.tv_script.specs.Lines.{items_of}
-use Rattle.tv_script.specs.Scripts.{IsFirstFaulty, IsFitting, Refuses, Spells, script_words}
+use Rattle.tv_script.specs.Scripts.{IsFirstFaulty, IsFitting, RefusesScript, SpellsAScript, script_words}
 use Rattle.tv_words.specs.Lines.{lines_of}
 use Rattle.tv_words.specs.Texts.{SpellsBy}
 
@@ -42,7 +42,7 @@ pub record HasItems (width height : ℤ) (lines : List (List ℕ)) (items : List
 
 -- the text is refused, and the lines before its first faulty one have these items
 pub record IsLeft (width height : ℤ) (text : List ℕ) (items : List Item) (fault : ScriptFault) : Type 0 where
-  pub refused : Refuses width height text fault
+  pub refused : RefusesScript width height text fault
   pub before : ℕ
   pub faulty : IsFirstFaulty width height text (before + 1)
   pub performed : HasItems width height (take before (lines_of text)) items
@@ -54,7 +54,7 @@ pub record IsTooLong (width height : ℤ) (stream : List ℕ) (items : List Item
 
 -- the items of a stream that are performed, and why it is left, or that it comes to its end
 abbrev pub ComesTo : (width height : ℤ) → (stream : List ℕ) → List Item → Result (Unit {0}) ScriptFault → Type 0
-ComesTo width height stream items (Ok _) = Spells width height stream items
+ComesTo width height stream items (Ok _) = SpellsAScript width height stream items
 ComesTo width height stream items (Err scripts.NoMemory) = ⊥
 ComesTo width height stream items (Err scripts.TooLong) =
     IsTooLong width height stream items ⊎ IsLeft width height (judged stream) items scripts.TooLong

@@ -1,7 +1,7 @@
 //! The lines of a script.
 
 ghost use Rattle.std.specs.Prelude.{◌≡◌, length};
-ghost use Rattle.tv_script.specs.Lines.{is_on_screen, is_within, items_of_line};
+ghost use Rattle.tv_script.specs.Lines.{is_on_screen, is_on_axis, items_of_line};
 
 use tv_cells::Point;
 use tv_event::Key;
@@ -51,7 +51,7 @@ impl Line {
 
 /// Tells whether a place is one of so many columns or rows.
 pub(crate) fn is_within(at: i32, size: i32) -> bool
-    ensures { result ≡ is_within size at }
+    ensures { result ≡ is_on_axis size at }
 {
     0 <= at && at < size
 }

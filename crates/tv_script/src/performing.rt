@@ -10,7 +10,7 @@ ghost use Rattle.tv_model.specs.declared.script.Item.{Item as SeenItem};
 ghost use Rattle.tv_script.specs.declared.stream_fault.StreamFault.TheVariants.{Write};
 ghost use Rattle.tv_script.specs.Lines.{IsEventOnScreen, IsItemOnScreen, items_of_line};
 ghost use Rattle.tv_script.specs.Performed.{Stops};
-ghost use Rattle.tv_script.specs.ScriptLines.{meant};
+ghost use Rattle.tv_script.specs.ScriptLines.{line_meant};
 ghost use Rattle.tv_script.specs.Streams.{Performs};
 
 use crate::lines::put_log;
@@ -79,18 +79,18 @@ pub(crate) fn perform_line<S: Stage, W: Writer>(
     before: usize,
 ) -> Result<usize, StreamFault>
     requires going { pen.old.stopped ≡ false }
-    requires shown { All IsItemOnScreen (items_of_line (meant line.now)) }
-    requires few { before + length (items_of_line (meant line.now)) ≤ 100000 }
+    requires shown { All IsItemOnScreen (items_of_line (line_meant line.now)) }
+    requires few { before + length (items_of_line (line_meant line.now)) ≤ 100000 }
     requires there { (s : Session) × S.stands stage.old s }
     ensures same { pen.new.out.ghost_name ≡ pen.old.out.ghost_name }
     ensures going { OnOk result (pen.new.stopped ≡ false) }
     ensures there { (s : Session) × S.stands stage.new s }
-    ensures count { IfOk result (λ count. count ≡ before + length (items_of_line (meant line.now))) }
+    ensures count { IfOk result (λ count. count ≡ before + length (items_of_line (line_meant line.now))) }
     ensures performed { (s : Session) (from : Seen) (items : List SeenItem) → before ≡ length items
         → Performs s items from (W.seen pen.old.out.now) (S.stands stage.old)
         → MatchResult result
-        (λ _. Performs s (items ++ items_of_line (meant line.now)) from (W.seen pen.new.out.now) (S.stands stage.new))
-        (λ fault. (begun : ℕ) × (fault ≡ Write begun) × Stops s (items ++ items_of_line (meant line.now)) begun from (W.seen pen.new.out.now) (S.stands stage.new)) }
+        (λ _. Performs s (items ++ items_of_line (line_meant line.now)) from (W.seen pen.new.out.now) (S.stands stage.new))
+        (λ fault. (begun : ℕ) × (fault ≡ Write begun) × Stops s (items ++ items_of_line (line_meant line.now)) begun from (W.seen pen.new.out.now) (S.stands stage.new)) }
 {
     let mut begun = before;
     for item in line.items() {

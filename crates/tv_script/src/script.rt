@@ -3,7 +3,7 @@
 ghost use Rattle.std.specs.Prelude.{◌≡◌, ◌≤ℤ◌, All, List, IfOk, IfErr, pos};
 ghost use Rattle.tv_model.specs.declared.script.Item.{Item as SeenItem};
 ghost use Rattle.tv_script.specs.Lines.{IsItemOnScreen};
-ghost use Rattle.tv_script.specs.Scripts.{Gives, Refuses, Spells};
+ghost use Rattle.tv_script.specs.Scripts.{GivesScript, RefusesScript, SpellsAScript};
 
 use crate::script_text::{ScriptFault, parse_items};
 use std::alloc::Global;
@@ -33,9 +33,9 @@ impl Script {
     pub fn parse(alloc: Global, text: &[u8], width: i32, height: i32) -> Result<Script, ScriptFault>
         requires columns { width ≤ℤ pos 132 }
         requires rows { height ≤ℤ pos 60 }
-        ensures spelled { IfOk result (λ script. Spells width height text.now script) }
-        ensures only { (items : List SeenItem) → Spells width height text.now items → Gives result items }
-        ensures fault { IfErr result (λ fault. Refuses width height text.now fault) }
+        ensures spelled { IfOk result (λ script. SpellsAScript width height text.now script) }
+        ensures only { (items : List SeenItem) → SpellsAScript width height text.now items → GivesScript result items }
+        ensures fault { IfErr result (λ fault. RefusesScript width height text.now fault) }
     {
         let items = parse_items(alloc, text, width, height)?;
         Ok(Script { items })

@@ -4,10 +4,10 @@ ghost use Rattle.std.specs.Prelude.{◌≡◌, [], ◌∷◌, length, Some};
 ghost use Rattle.std.specs.Option.{option_map};
 ghost use Rattle.std.specs.List.{list_any};
 ghost use Rattle.tv_model.specs.declared.script.Item.TheVariants as items;
-ghost use Rattle.tv_script.specs.Lines.{is_line_end, is_on_screen, items_of_line, typed};
+ghost use Rattle.tv_script.specs.Lines.{is_line_end, is_on_screen, items_of_line, item_typed};
 ghost use Rattle.tv_script.specs.Reading.Lines.{key_line_in, line_read, mouse_line_in, point_in, screen_line_in, typed_in, words_read};
-ghost use Rattle.tv_script.specs.ScriptLines.{items_left, meant};
-ghost use Rattle.tv_words.specs.Tokens.{text_of, token_word, words_in};
+ghost use Rattle.tv_script.specs.ScriptLines.{items_left, line_meant};
+ghost use Rattle.tv_words.specs.Tokens.{text_quoted, token_word, words_in};
 
 use crate::line::is_within;
 use tv_cells::Point;
@@ -47,7 +47,7 @@ pub(crate) enum ScriptItems<'a> {
 impl<'a> ScriptLine<'a> {
     /// Goes over the items of the line.
     pub(crate) fn items(&self) -> ScriptItems<'a>
-        ensures { items_left result ≡ items_of_line (meant self.now) }
+        ensures { items_left result ≡ items_of_line (line_meant self.now) }
     {
         match self {
             ScriptLine::Key(key) => one_event(Event::Key(*key)),
@@ -62,7 +62,7 @@ impl<'a> ScriptLine<'a> {
 
     /// Counts the items of the line.
     pub(crate) fn count(&self) -> usize
-        ensures { result ≡ length (items_of_line (meant self.now)) }
+        ensures { result ≡ length (items_of_line (line_meant self.now)) }
     {
         match self {
             ScriptLine::Type(text) => text.len(),
@@ -72,7 +72,7 @@ impl<'a> ScriptLine<'a> {
 
     /// Tells whether its point, if it has one, is on a screen of so many columns and rows.
     pub(crate) fn is_on_screen(&self, width: i32, height: i32) -> bool
-        ensures { result ≡ is_on_screen width height (meant self.now) }
+        ensures { result ≡ is_on_screen width height (line_meant self.now) }
     {
         match self {
             ScriptLine::Down(point) | ScriptLine::Move(point) | ScriptLine::Up(point) => {
@@ -104,13 +104,13 @@ impl<'a> Iterator for ScriptItems<'a> {
 /// Reads a line without its line end, and takes no memory. `None` where the line is faulty, and `Some(None)` where it
 /// has no words.
 pub(crate) fn script_line(line: &[u8]) -> Option<Option<ScriptLine<'_>>>
-    ensures { option_map (option_map meant) result ≡ line_read line.now }
+    ensures { option_map (option_map line_meant) result ≡ line_read line.now }
 {
     line_of(tokens_of(line)?)
 }
 
 fn line_of(tokens: Tokens<'_>) -> Option<Option<ScriptLine<'_>>>
-    ensures { option_map (option_map meant) result ≡ words_read (Some (words_in tokens.entry)) }
+    ensures { option_map (option_map line_meant) result ≡ words_read (Some (words_in tokens.entry)) }
 {
     match tokens {
         Tokens::Zero => Some(None),
@@ -121,7 +121,7 @@ fn line_of(tokens: Tokens<'_>) -> Option<Option<ScriptLine<'_>>>
 }
 
 fn screen_line<'a>(keyword: &Token<'_>) -> Option<ScriptLine<'a>>
-    ensures { option_map meant result ≡ screen_line_in (token_word keyword.now) }
+    ensures { option_map line_meant result ≡ screen_line_in (token_word keyword.now) }
 {
     if keyword.is(b"shot") {
         Some(ScriptLine::Shot)
@@ -133,7 +133,7 @@ fn screen_line<'a>(keyword: &Token<'_>) -> Option<ScriptLine<'a>>
 }
 
 fn key_line<'a>(keyword: &Token<'_>, token: &Token<'a>) -> Option<ScriptLine<'a>>
-    ensures { option_map meant result ≡ key_line_in (token_word keyword.now) (token_word token.now) }
+    ensures { option_map line_meant result ≡ key_line_in (token_word keyword.now) (token_word token.now) }
 {
     if keyword.is(b"key") {
         token_key(token).map(|key| ScriptLine::Key(key))
@@ -145,7 +145,7 @@ fn key_line<'a>(keyword: &Token<'_>, token: &Token<'a>) -> Option<ScriptLine<'a>
 }
 
 fn typed<'a>(token: &Token<'a>) -> Option<ScriptLine<'a>>
-    ensures { option_map meant result ≡ typed_in (token_word token.now) }
+    ensures { option_map line_meant result ≡ typed_in (token_word token.now) }
 {
     match token.text() {
         Some(text) if !has_line_end(&text) => Some(ScriptLine::Type(text)),
@@ -154,13 +154,13 @@ fn typed<'a>(token: &Token<'a>) -> Option<ScriptLine<'a>>
 }
 
 fn has_line_end(text: &QuotedText<'_>) -> bool
-    ensures { result ≡ list_any is_line_end (text_of text.now) }
+    ensures { result ≡ list_any is_line_end (text_quoted text.now) }
 {
     text.chars().any(|ch| ch == '\n')
 }
 
 fn mouse_line<'a>(keyword: &Token<'_>, x: &Token<'_>, y: &Token<'_>) -> Option<ScriptLine<'a>>
-    ensures { option_map meant result ≡
+    ensures { option_map line_meant result ≡
         mouse_line_in (token_word keyword.now) (point_in (token_word x.now) (token_word y.now)) }
 {
     let point = point(x, y);
@@ -191,7 +191,7 @@ fn one_event<'a>(event: Event) -> ScriptItems<'a>
 }
 
 fn typed_item(ch: char) -> Item
-    ensures { result ≡ typed ch }
+    ensures { result ≡ item_typed ch }
 {
     Item::Event(Event::Key(Key::Char(ch)))
 }

@@ -3,10 +3,10 @@
 ghost use Rattle.std.specs.Prelude.{◌≡◌, ◌++◌, [], map, List, IfOk, IfErr, OnOk};
 ghost use Rattle.std.specs.List.{list_any};
 ghost use Rattle.tv_model.specs.declared.script.Item.{Item as SeenItem};
-ghost use Rattle.tv_script.specs.Lines.{is_line_end, items_of_line, typed};
-ghost use Rattle.tv_script.specs.Reading.Lines.{key_line_in, line_in, mouse_line_in, point_in, screen_line_in, typed_in};
-ghost use Rattle.tv_script.specs.Reading.Scripts.{IsAnswered, reading, script_of, with_bytes, with_line};
-ghost use Rattle.tv_script.specs.Scripts.{Gives, Refuses, Spells};
+ghost use Rattle.tv_script.specs.Lines.{is_line_end, items_of_line, item_typed};
+ghost use Rattle.tv_script.specs.Reading.Lines.{key_line_in, script_line_in, mouse_line_in, point_in, screen_line_in, typed_in};
+ghost use Rattle.tv_script.specs.Reading.Scripts.{IsAnswered, script_from, script_of, with_bytes, with_script_line};
+ghost use Rattle.tv_script.specs.Scripts.{GivesScript, RefusesScript, SpellsAScript};
 ghost use Rattle.tv_words.specs.Lines.{lines_of};
 
 use crate::line::Line;
@@ -60,9 +60,9 @@ pub fn parse_items(
     width: i32,
     height: i32,
 ) -> Result<Sequence<Item>, ScriptFault>
-    ensures spelled { IfOk result (λ items. Spells width height text.now items) }
-    ensures only { (items : List SeenItem) → Spells width height text.now items → Gives result items }
-    ensures fault { IfErr result (λ fault. Refuses width height text.now fault) }
+    ensures spelled { IfOk result (λ items. SpellsAScript width height text.now items) }
+    ensures only { (items : List SeenItem) → SpellsAScript width height text.now items → GivesScript result items }
+    ensures fault { IfErr result (λ fault. RefusesScript width height text.now fault) }
 {
     read_text(alloc, text, width, height)
 }
@@ -88,8 +88,8 @@ fn read_lines(
     width: i32,
     height: i32,
 ) -> Result<Sequence<Item>, ScriptFault>
-    ensures value { IfOk result (λ items. reading width height 1 [] (lines_of text.now) ≡ Ok items) }
-    ensures fault { IfErr result (λ fault. IsAnswered fault (reading width height 1 [] (lines_of text.now))) }
+    ensures value { IfOk result (λ items. script_from width height 1 [] (lines_of text.now) ≡ Ok items) }
+    ensures fault { IfErr result (λ fault. IsAnswered fault (script_from width height 1 [] (lines_of text.now))) }
 {
     let mut items = Sequence::new(alloc);
     let mut number = 1;
@@ -131,8 +131,8 @@ fn with_line(
     width: i32,
     height: i32,
 ) -> Result<Sequence<Item>, ScriptFault>
-    ensures value { IfOk result (λ longer. with_line width height number items line.now ≡ Ok longer) }
-    ensures fault { IfErr result (λ fault. IsAnswered fault (with_line width height number items line.now)) }
+    ensures value { IfOk result (λ longer. with_script_line width height number items line.now ≡ Ok longer) }
+    ensures fault { IfErr result (λ fault. IsAnswered fault (with_script_line width height number items line.now)) }
 {
     if !line.is_on_screen(width, height) {
         return Err(ScriptFault::OffScreen(number));
@@ -160,7 +160,7 @@ fn push_items(items: &mut Sequence<Item>, line: &Line) -> Result<(), AllocError>
 }
 
 fn push_typed(items: &mut Sequence<Item>, text: &[char]) -> Result<(), AllocError>
-    ensures { OnOk result (items.new ≡ items.old ++ map typed text.now) }
+    ensures { OnOk result (items.new ≡ items.old ++ map item_typed text.now) }
 {
     for ch in text {
         items.push(Item::Event(Event::Key(Key::Char(*ch))))?;
@@ -169,7 +169,7 @@ fn push_typed(items: &mut Sequence<Item>, text: &[char]) -> Result<(), AllocErro
 }
 
 fn line_in(alloc: Global, words: &[Word]) -> Result<Option<Line>, AllocError>
-    ensures { IfOk result (λ found. found ≡ line_in words.now) }
+    ensures { IfOk result (λ found. found ≡ script_line_in words.now) }
 {
     match words {
         [keyword] => Ok(screen_line(keyword)),

@@ -27,7 +27,7 @@ abbrev pub BeginsBy : {V : Type 0} → (V → List (List Word)) → (V → Type 
 BeginsBy {V} spelling CanBeSpelled lines = (more : List (List ℕ)) × (v : V) × SpellsBy spelling CanBeSpelled (lines ++ more) v
 
 -- the first faulty line: those before it begin a text of the grammar, and with it they don't; a line that is missing counts as one
-pub record IsFirstFault {V : Type 0} (spelling : V → List (List Word)) (CanBeSpelled : V → Type 0) (lines : List (List ℕ)) (line : ℕ) : Type 0 where
+pub record IsFirstFaultyLine {V : Type 0} (spelling : V → List (List Word)) (CanBeSpelled : V → Type 0) (lines : List (List ℕ)) (line : ℕ) : Type 0 where
   pub before : ℕ
   pub number : line ≡ before + 1
   pub within : before ≤ length lines

@@ -8,11 +8,11 @@ bare_text [] = []
 bare_text (c ∷ cs) = if is_bare c then c ∷ bare_text cs else []
 
 -- what a character stands for after a backslash: `n` (110) for the line end (10), and any other for itself
-abbrev pub meant : ℕ → ℕ
-meant c = if c == 110 then 10 else c
+abbrev pub unescaped : ℕ → ℕ
+unescaped c = if c == 110 then 10 else c
 
 -- the text up to the quote (34) that closes it, where a backslash (92) is just before the characters or not
 abbrev pub text_from : Bool → List ℕ → List ℕ
 text_from escape [] = []
-text_from true (c ∷ cs) = meant c ∷ text_from false cs
+text_from true (c ∷ cs) = unescaped c ∷ text_from false cs
 text_from false (c ∷ cs) = if c == 34 then [] else if c == 92 then text_from true cs else c ∷ text_from false cs

@@ -16,8 +16,8 @@ abbrev pub bare_of : BareText → List ℕ
 bare_of t = bare_text (chars t.rest.now)
 
 -- the text of a quoted word
-abbrev pub text_of : QuotedText → List ℕ
-text_of t = text_from false (chars t.rest.now)
+abbrev pub text_quoted : QuotedText → List ℕ
+text_quoted t = text_from false (chars t.rest.now)
 
 -- the characters of a text that are left
 abbrev pub text_left : QuotedChars → List ℕ
@@ -26,7 +26,7 @@ text_left t = text_from false (chars t.rest.now)
 -- the word that a token means
 abbrev pub token_word : Token → Word
 token_word (tokens.Bare t) = Bare (bare_of t)
-token_word (tokens.Quoted t) = Quoted (text_of t)
+token_word (tokens.Quoted t) = Quoted (text_quoted t)
 
 -- the words that tokens mean
 abbrev pub words_in : Tokens → List Word

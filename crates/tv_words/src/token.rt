@@ -5,8 +5,8 @@ ghost use Rattle.std.specs.Option.{option_map};
 ghost use Rattle.std.specs.Str.{bytes_eq};
 ghost use Rattle.tv_words.specs.Fields.{is_bare_word, text_in};
 ghost use Rattle.tv_words.specs.Reading.Numbers.{number_in, number_of};
-ghost use Rattle.tv_words.specs.TokenTexts.{meant, text_from};
-ghost use Rattle.tv_words.specs.Tokens.{bare_of, text_left, text_of, token_word};
+ghost use Rattle.tv_words.specs.TokenTexts.{unescaped, text_from};
+ghost use Rattle.tv_words.specs.Tokens.{bare_of, text_left, text_quoted, token_word};
 ghost use Rattle.tv_words.specs.Words.{is_bare};
 
 use crate::decimal::number;
@@ -63,14 +63,14 @@ impl<'a> BareText<'a> {
 impl<'a> QuotedText<'a> {
     /// The characters, one by one.
     pub fn chars(&self) -> QuotedChars<'a>
-        ensures { text_left result ≡ text_of self.now }
+        ensures { text_left result ≡ text_quoted self.now }
     {
         QuotedChars { rest: self.rest }
     }
 
     /// How many characters there are.
     pub fn len(&self) -> usize
-        ensures { result ≡ length (text_of self.now) }
+        ensures { result ≡ length (text_quoted self.now) }
     {
         count_chars(self.rest)
     }
@@ -127,7 +127,7 @@ impl<'a> Token<'a> {
 
     /// The text between the quotes of a quoted word.
     pub fn text(&self) -> Option<QuotedText<'a>>
-        ensures { text_in (token_word self.now) ≡ option_map text_of result }
+        ensures { text_in (token_word self.now) ≡ option_map text_quoted result }
     {
         match self {
             Token::Bare(_) => None,
@@ -179,7 +179,7 @@ fn is_bare(ch: char) -> bool
 
 // What a character stands for after a backslash.
 fn meant(ch: char) -> char
-    ensures { result ≡ meant ch }
+    ensures { result ≡ unescaped ch }
 {
     if ch == 'n' { '\n' } else { ch }
 }

@@ -4,7 +4,7 @@ ghost use Rattle.std.specs.Prelude.{◌≡◌, ◌∷◌, ◌++◌, ◌≤◌, [
 ghost use Rattle.std.specs.Option.{option_map};
 ghost use Rattle.tv_words.specs.declared.tokens.Place.TheVariants.{Between};
 ghost use Rattle.tv_words.specs.declared.word.Word.{Word as SeenWord};
-ghost use Rattle.tv_words.specs.Reading.LineTokens.{few_after, is_end, next_place, word_begun};
+ghost use Rattle.tv_words.specs.Reading.LineTokens.{few_after, may_end_line, next_place, word_begun};
 ghost use Rattle.tv_words.specs.Reading.LineWords.{line_words};
 ghost use Rattle.tv_words.specs.Tokens.{at_most_three, token_word, words_in};
 ghost use Rattle.tv_words.specs.Words.{SpellsWords};
@@ -71,7 +71,7 @@ impl Place {
 
     // Whether a line may end here.
     fn is_end(self) -> bool
-        ensures { result ≡ is_end self }
+        ensures { result ≡ may_end_line self }
     {
         match self {
             Place::Between | Place::InBare | Place::Closed => true,

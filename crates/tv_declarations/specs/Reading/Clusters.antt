@@ -13,34 +13,34 @@ use Rattle.tv_declarations.specs.Spelling.Nodes.{is_rising}
 use Rattle.tv_declarations.specs.Reading.Options.{with2, with3, with4}
 use Rattle.tv_words.specs.Reading.Steps.{steps}
 use Rattle.tv_words.specs.Reading.Numbers.{number_in}
-use Rattle.tv_declarations.specs.Reading.Marks.{marked_in}
-use Rattle.tv_declarations.specs.Reading.Places.{place_in, node_at}
+use Rattle.tv_declarations.specs.Reading.Marks.{marked_text_in}
+use Rattle.tv_declarations.specs.Reading.Places.{place_from, node_at}
 
 -- these texts, and the numbers after `start` where it was there
-abbrev pub items_of : List (List ℕ) → Option (List ℤ) → Items
-items_of texts start = record { texts = texts; start = start }
+abbrev pub items_from : List (List ℕ) → Option (List ℤ) → Items
+items_from texts start = record { texts = texts; start = start }
 
 -- one word more before `start`
 abbrev pub taken_before_start : List (List ℕ) → Word → Option Items
-taken_before_start texts (Quoted text) = Some (items_of (texts ++ text ∷ []) None)
-taken_before_start texts (Bare text) = if is_bare_word (Bare text) (codes "start") then Some (items_of texts (Some [])) else None
+taken_before_start texts (Quoted text) = Some (items_from (texts ++ text ∷ []) None)
+taken_before_start texts (Bare text) = if is_bare_word (Bare text) (codes "start") then Some (items_from texts (Some [])) else None
 
 -- one word more, before or after `start`
-abbrev pub taken_at : List (List ℕ) → Option (List ℤ) → Word → Option Items
-taken_at texts None w = taken_before_start texts w
-taken_at texts (Some numbers) w = option_map (λ n. items_of texts (Some (numbers ++ n ∷ []))) (number_in w)
+abbrev pub word_taken : List (List ℕ) → Option (List ℤ) → Word → Option Items
+word_taken texts None w = taken_before_start texts w
+word_taken texts (Some numbers) w = option_map (λ n. items_from texts (Some (numbers ++ n ∷ []))) (number_in w)
 
 -- one word more
 abbrev pub item_taken : Items → Word → Option Items
-item_taken s w = taken_at s.texts s.start w
+item_taken s w = word_taken s.texts s.start w
 
 -- the items and the numbers after `start`
 abbrev pub items_in : List Word → Option Items
-items_in ws = steps item_taken (items_of [] None) ws
+items_in ws = steps item_taken (items_from [] None) ws
 
 -- one item more
 abbrev pub with_item : List MarkedText → List ℕ → Option (List MarkedText)
-with_item items text = option_map (λ item. items ++ item ∷ []) (marked_in text)
+with_item items text = option_map (λ item. items ++ item ∷ []) (marked_text_in text)
 
 -- the marked texts of items, of which there is one at least
 abbrev pub marks_in : List (List ℕ) → Option (List MarkedText)
@@ -77,15 +77,15 @@ rows_of s = with2 (λ items start. (items, start)) (texts_in s.texts) (only_numb
 
 -- what follows `checks`
 abbrev pub checks_in : Position → List Word → Option Node
-checks_in at (name ∷ x ∷ y ∷ w ∷ items) = with3 (λ items name p. node_at at p (kinds.CheckBoxes (record { name = name; items = items.0; start = items.1 }))) (option_and_then boxes_of (items_in items)) (name_in name) (place_in x y w)
+checks_in at (name ∷ x ∷ y ∷ w ∷ items) = with3 (λ items name p. node_at at p (kinds.CheckBoxes (record { name = name; items = items.0; start = items.1 }))) (option_and_then boxes_of (items_in items)) (name_in name) (place_from x y w)
 checks_in at _ = None
 
 -- what follows `radios`
 abbrev pub radios_in : Position → List Word → Option Node
-radios_in at (name ∷ x ∷ y ∷ w ∷ items) = with3 (λ items name p. node_at at p (kinds.RadioButtons (record { name = name; items = items.0; start = items.1 }))) (option_and_then radios_of (items_in items)) (name_in name) (place_in x y w)
+radios_in at (name ∷ x ∷ y ∷ w ∷ items) = with3 (λ items name p. node_at at p (kinds.RadioButtons (record { name = name; items = items.0; start = items.1 }))) (option_and_then radios_of (items_in items)) (name_in name) (place_from x y w)
 radios_in at _ = None
 
 -- what follows `list`
 abbrev pub list_in : Position → List Word → Option Node
-list_in at (name ∷ x ∷ y ∷ w ∷ h ∷ items) = with4 (λ items name p h. node_at at p (kinds.List (record { name = name; h = h; items = items.0; start = items.1 }))) (option_and_then rows_of (items_in items)) (name_in name) (place_in x y w) (number_in h)
+list_in at (name ∷ x ∷ y ∷ w ∷ h ∷ items) = with4 (λ items name p h. node_at at p (kinds.List (record { name = name; h = h; items = items.0; start = items.1 }))) (option_and_then rows_of (items_in items)) (name_in name) (place_from x y w) (number_in h)
 list_in at _ = None

@@ -13,12 +13,12 @@ abbrev pub named_commands : List CommandSpec
 named_commands = commands.Quit ∷ commands.Menu ∷ commands.Close ∷ commands.Next ∷ commands.Ok ∷ commands.Cancel ∷ commands.Yes ∷ commands.No ∷ []
 
 -- the first of the commands that the word names
-abbrev pub first_named : List CommandSpec → Word → Option CommandSpec
-first_named cs w = find (λ c. is_bare_word w (command_name c)) cs
+abbrev pub command_named : List CommandSpec → Word → Option CommandSpec
+command_named cs w = find (λ c. is_bare_word w (command_name c)) cs
 
 -- the command whose word it is
 abbrev pub named_command : Word → Option CommandSpec
-named_command w = first_named named_commands w
+named_command w = command_named named_commands w
 
 -- a command of this number, or else of this word
 abbrev pub numbered_command : Option ℤ → Word → Option CommandSpec

@@ -14,7 +14,7 @@ use Rattle.tv_words.specs.Fields.{is_bare_word, name_in, text_in}
 use Rattle.tv_declarations.specs.Reading.Options.{with2, with4}
 use Rattle.tv_words.specs.Reading.Numbers.{number_in}
 use Rattle.tv_declarations.specs.Reading.Commands.{is_next, after_next, at_end}
-use Rattle.tv_declarations.specs.Reading.Places.{place_in, node_at}
+use Rattle.tv_declarations.specs.Reading.Places.{place_from, node_at}
 
 -- what follows `filter`
 abbrev pub filter_in : List Word → Option (DomainSpec × List Word)
@@ -68,5 +68,5 @@ input_of name max asked = kinds.Input (record { name = name; spec = (record { ma
 
 -- what follows `input`
 abbrev pub input_in : Position → List Word → Option Node
-input_in at (name ∷ x ∷ y ∷ w ∷ max ∷ fields) = with4 (λ asked name p max. node_at at p (input_of name max asked)) (asked_in fields) (name_in name) (place_in x y w) (number_in max)
+input_in at (name ∷ x ∷ y ∷ w ∷ max ∷ fields) = with4 (λ asked name p max. node_at at p (input_of name max asked)) (asked_in fields) (name_in name) (place_from x y w) (number_in max)
 input_in at _ = None

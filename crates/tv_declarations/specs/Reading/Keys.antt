@@ -14,12 +14,12 @@ abbrev pub named_keys : List Key
 named_keys = keys.Tab ∷ keys.ShiftTab ∷ keys.Enter ∷ keys.Esc ∷ keys.Up ∷ keys.Down ∷ keys.Left ∷ keys.Right ∷ keys.Home ∷ keys.End ∷ keys.PageUp ∷ keys.PageDown ∷ keys.CtrlPageUp ∷ keys.CtrlPageDown ∷ keys.Backspace ∷ keys.Delete ∷ keys.Insert ∷ []
 
 -- the first of the keys whose name it is
-abbrev pub first_named : List Key → Word → Option Key
-first_named ks w = find (λ key. is_bare_word w (key_name key)) ks
+abbrev pub key_named : List Key → Word → Option Key
+key_named ks w = find (λ key. is_bare_word w (key_name key)) ks
 
 -- the key whose own name it is
 abbrev pub named_key : Word → Option Key
-named_key w = first_named named_keys w
+named_key w = key_named named_keys w
 
 -- Ctrl with a capital letter
 abbrev pub control_key : ℕ → Option Key
@@ -41,12 +41,12 @@ function_in [] = None
 function_in (c ∷ digits) = if c == 70 then function_key (number_of digits) else None
 
 -- the characters of `Ctrl-`
-abbrev pub is_control : (a b c d e : ℕ) → Bool
-is_control a b c d e = a == 67 && (b == 116 && (c == 114 && (d == 108 && e == 45)))
+abbrev pub is_control_prefix : (a b c d e : ℕ) → Bool
+is_control_prefix a b c d e = a == 67 && (b == 116 && (c == 114 && (d == 108 && e == 45)))
 
 -- what follows `Ctrl-`
 abbrev pub control_letter : List ℕ → Option ℕ
-control_letter (a ∷ b ∷ c ∷ d ∷ e ∷ letter ∷ []) = if is_control a b c d e then Some letter else None
+control_letter (a ∷ b ∷ c ∷ d ∷ e ∷ letter ∷ []) = if is_control_prefix a b c d e then Some letter else None
 control_letter _ = None
 
 -- the characters of `Alt-`
@@ -65,12 +65,12 @@ key_by None (Some letter) other = alt_key letter
 key_by None None other = other
 
 -- `Ctrl-` or `Alt-` and a letter or digit, or `F` and a number
-abbrev pub key_of : List ℕ → Option Key
-key_of text = key_by (control_letter text) (alt_letter text) (function_in text)
+abbrev pub key_by_name : List ℕ → Option Key
+key_by_name text = key_by (control_letter text) (alt_letter text) (function_in text)
 
 -- the key with a letter, a digit or a number that a bare word names
 abbrev pub lettered_key : Word → Option Key
-lettered_key (Bare text) = key_of text
+lettered_key (Bare text) = key_by_name text
 lettered_key (Quoted text) = None
 
 -- that key, or else the one whose own name it is

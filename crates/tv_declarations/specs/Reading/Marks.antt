@@ -22,5 +22,5 @@ marked_from None cs = Some (record { text = cs; mark = None })
 marked_from (Some place) cs = marked_at place (take place cs) (end_of_mark (drop (place + 1) cs))
 
 -- the text and its mark that the characters spell
-abbrev pub marked_in : List ℕ → Option MarkedText
-marked_in cs = marked_from (position is_tilde cs) cs
+abbrev pub marked_text_in : List ℕ → Option MarkedText
+marked_text_in cs = marked_from (position is_tilde cs) cs

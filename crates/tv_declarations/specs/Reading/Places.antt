@@ -9,11 +9,11 @@ use Rattle.tv_words.specs.declared.word.Word.{Word}
 use Rattle.tv_words.specs.Fields.{text_in}
 use Rattle.tv_declarations.specs.Reading.Options.{with3}
 use Rattle.tv_words.specs.Reading.Numbers.{number_in}
-use Rattle.tv_declarations.specs.Reading.Marks.{marked_in}
+use Rattle.tv_declarations.specs.Reading.Marks.{marked_text_in}
 
 -- the place that the three numbers say
-abbrev pub place_in : Word → Word → Word → Option Place
-place_in x y w = with3 (λ x y w. record { x = x; y = y; w = w }) (number_in x) (number_in y) (number_in w)
+abbrev pub place_from : Word → Word → Word → Option Place
+place_from x y w = with3 (λ x y w. record { x = x; y = y; w = w }) (number_in x) (number_in y) (number_in w)
 
 -- a node of the kind at this position and place
 abbrev pub node_at : Position → Place → Kind → Node
@@ -21,4 +21,4 @@ node_at at p kind = record { id = at.id; depth = at.depth; x = p.x; y = p.y; w =
 
 -- the marked text of a quoted word
 abbrev pub mark_in : Word → Option MarkedText
-mark_in w = option_and_then marked_in (text_in w)
+mark_in w = option_and_then marked_text_in (text_in w)

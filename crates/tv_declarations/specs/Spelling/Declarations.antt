@@ -13,7 +13,7 @@ use Rattle.tv_declarations.specs.declared.place.Position.{Position}
 use Rattle.tv_words.specs.Fields.{number_word, IsNumber, IsName}
 use Rattle.tv_declarations.specs.Spelling.Terms.{marked_word, command_word, IsMarked, IsCommand}
 use Rattle.tv_declarations.specs.Spelling.Keys.{key_word, IsKey}
-use Rattle.tv_declarations.specs.Spelling.Nodes.{node_words, IsKind}
+use Rattle.tv_declarations.specs.Spelling.Nodes.{node_words, IsSpelledKind}
 
 -- what a rule does, before the words after it
 abbrev pub effect_words : Effect → List Word → List Word
@@ -44,7 +44,7 @@ pub record IsNode (line : ℕ) (n : Node) : Type 0 where
   pub x : IsNumber n.x
   pub y : IsNumber n.y
   pub w : IsNumber n.w
-  pub kind : IsKind n.kind
+  pub kind : IsSpelledKind n.kind
 
 -- a name to show, or a command to enable
 abbrev pub IsEffect : Effect → Type 0
@@ -74,7 +74,7 @@ IsInside panes (declared.Node node) = node.depth ≡ panes
 IsInside panes _ = Unit {0}
 
 -- the words of a line at this position are those of the declaration
-pub record IsLine (at : Position) (d : Declaration) (ws : List Word) : Type 0 where
+pub record IsDeclarationLine (at : Position) (d : Declaration) (ws : List Word) : Type 0 where
   pub is : IsDeclaration at.id.0 d
   pub inside : IsInside at.depth d
   pub words : ws ≡ declaration_words d

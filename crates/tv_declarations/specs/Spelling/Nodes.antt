@@ -52,9 +52,9 @@ node_words n = kind_words n.kind (number_word n.x) (number_word n.y) (number_wor
 -- ---- what can be spelled
 
 -- a domain, of whatever numbers
-abbrev pub IsDomain : DomainSpec → Type 0
-IsDomain (domains.Range least greatest) = IsNumber least × IsNumber greatest
-IsDomain _ = Unit {0}
+abbrev pub IsSpelledDomain : DomainSpec → Type 0
+IsSpelledDomain (domains.Range least greatest) = IsNumber least × IsNumber greatest
+IsSpelledDomain _ = Unit {0}
 
 -- each number is greater than the one before
 abbrev pub is_rising : List ℤ → Bool
@@ -63,14 +63,14 @@ is_rising (a ∷ []) = true
 is_rising (a ∷ b ∷ ns) = int_lt a b && is_rising (b ∷ ns)
 
 -- a kind whose names, numbers and marked texts are such, and whose cluster or list has an item
-abbrev pub IsKind : Kind → Type 0
-IsKind (kinds.Window head) = IsName head.name × IsNumber head.h × IsNumber head.number
-IsKind (kinds.Dialog head) = IsName head.name × IsNumber head.h × IfSome head.opens IsNumber
-IsKind (kinds.Text shown) = IsNumber shown.h
-IsKind (kinds.Label label) = IsMarked label.text × IsName label.link
-IsKind (kinds.Button button) = IsName button.name × IsMarked button.text × IsCommand button.command
-IsKind (kinds.Input input) = IsName input.name × IsNumber input.spec.max × IsDomain input.spec.domain
-IsKind (kinds.CheckBoxes boxes) = IsName boxes.name × AllByRecursion IsMarked boxes.items × (boxes.items ≢ []) × AllByRecursion IsNumber boxes.start × IsTrue (is_rising boxes.start)
-IsKind (kinds.RadioButtons radios) = IsName radios.name × AllByRecursion IsMarked radios.items × (radios.items ≢ []) × IsNumber radios.start
-IsKind (kinds.List list) = IsName list.name × IsNumber list.h × (list.items ≢ []) × IsNumber list.start
-IsKind (kinds.Pane pane) = IsName pane.name × IsNumber pane.h
+abbrev pub IsSpelledKind : Kind → Type 0
+IsSpelledKind (kinds.Window head) = IsName head.name × IsNumber head.h × IsNumber head.number
+IsSpelledKind (kinds.Dialog head) = IsName head.name × IsNumber head.h × IfSome head.opens IsNumber
+IsSpelledKind (kinds.Text shown) = IsNumber shown.h
+IsSpelledKind (kinds.Label label) = IsMarked label.text × IsName label.link
+IsSpelledKind (kinds.Button button) = IsName button.name × IsMarked button.text × IsCommand button.command
+IsSpelledKind (kinds.Input input) = IsName input.name × IsNumber input.spec.max × IsSpelledDomain input.spec.domain
+IsSpelledKind (kinds.CheckBoxes boxes) = IsName boxes.name × AllByRecursion IsMarked boxes.items × (boxes.items ≢ []) × AllByRecursion IsNumber boxes.start × IsTrue (is_rising boxes.start)
+IsSpelledKind (kinds.RadioButtons radios) = IsName radios.name × AllByRecursion IsMarked radios.items × (radios.items ≢ []) × IsNumber radios.start
+IsSpelledKind (kinds.List list) = IsName list.name × IsNumber list.h × (list.items ≢ []) × IsNumber list.start
+IsSpelledKind (kinds.Pane pane) = IsName pane.name × IsNumber pane.h

@@ -22,16 +22,16 @@ pub record AreNarrow (d : Desc) : Type 0 where
 -- ---- limits
 
 -- what a rule enables is a lawful command
-abbrev pub IsLawfulEffect : Effect → Type 0
-IsLawfulEffect (effects.Enable command) = IsLawfulCommand (Some command)
-IsLawfulEffect (effects.Show name) = Unit {0}
+abbrev pub EnablesLawfulCommand : Effect → Type 0
+EnablesLawfulCommand (effects.Enable command) = IsLawfulCommand (Some command)
+EnablesLawfulCommand (effects.Show name) = Unit {0}
 
 -- texts are short and commands lawful
 pub record HasLimitedTexts (d : Desc) : Type 0 where
   pub titles : All (λ menu. IsShort menu.title.text) d.menus
   pub items : All (λ menu. All (λ item. IsLawfulCommand (Some item.command) × IsShort item.text.text) menu.items) d.menus
   pub status : All (λ item. IsLawfulCommand (Some item.command) × IsShort item.text) d.status
-  pub rules : All (λ dialog. All (λ rule. IsLawfulEffect rule.effect) dialog.rules) d.dialogs
+  pub rules : All (λ dialog. All (λ rule. EnablesLawfulCommand rule.effect) dialog.rules) d.dialogs
 
 -- there are not too many of a thing
 pub record HasLimitedCounts (d : Desc) : Type 0 where

@@ -12,8 +12,8 @@ use Rattle.tv_model.specs.Description.Nodes.{is_control, is_pane}
 use Rattle.tv_faults.specs.Sound.Bodies.{EachBody}
 
 -- every point of the first lies in the second
-abbrev pub LiesIn : Rect → Rect → Type 0
-LiesIn r s = (x y : ℤ) → IsIn r x y → IsIn s x y
+abbrev pub IsPartOf : Rect → Rect → Type 0
+IsPartOf r s = (x y : ℤ) → IsIn r x y → IsIn s x y
 
 -- no point lies in both
 abbrev pub IsApartFrom : Rect → Rect → Type 0
@@ -21,11 +21,11 @@ IsApartFrom r s = (x y : ℤ) → IsIn r x y → IsIn s x y → ⊥
 
 -- each view lies in the pane in which it stands, or inside the frame
 abbrev pub AreInside : Node → List Node → Type 0
-AreInside frame views = All (λ pair. LiesIn (place_of_node pair.1) (room_in frame (owner_of pair.0 pair.1))) (after_seen [] views)
+AreInside frame views = All (λ pair. IsPartOf (place_of_node pair.1) (room_in frame (owner_of pair.0 pair.1))) (after_seen [] views)
 
 -- dialogs lie in the desktop, and views in what is around them
 pub record ArePlacedWell (d : Desc) : Type 0 where
-  pub dialogs : All (λ dialog. LiesIn (place_of_node dialog.node) (desktop d)) d.dialogs
+  pub dialogs : All (λ dialog. IsPartOf (place_of_node dialog.node) (desktop d)) d.dialogs
   pub views : EachBody d (λ body. AreInside body.frame body.views)
 
 -- one of the two is a pane, or both are controls

@@ -55,8 +55,8 @@ screen_taken d (declared.Screen width height) = Some (stages.Between, record d {
 screen_taken d _ = None
 
 -- a window without texts
-abbrev pub window_of : (node : Node) → IsTrue (is_window node.kind) → Window
-window_of node is = record { node = node; views = []; own_kind = is }
+abbrev pub empty_window : (node : Node) → IsTrue (is_window node.kind) → Window
+empty_window node is = record { node = node; views = []; own_kind = is }
 
 -- a dialog without views and rules
 abbrev pub dialog_of : (node : Node) → IsTrue (is_dialog node.kind) → Dialog
@@ -64,7 +64,7 @@ dialog_of node is = record { node = node; views = []; rules = []; own_kind = is 
 
 -- after the line of a node that is a window or not, and a dialog or not
 abbrev pub opened_as : Desc → (node : Node) (window dialog : Bool) → is_window node.kind ≡ window → is_dialog node.kind ≡ dialog → Option (Stage × Desc)
-opened_as d node true dialog window_is dialog_is = if no_dialogs d then Some (stages.InWindow (window_of node window_is), d) else None
+opened_as d node true dialog window_is dialog_is = if no_dialogs d then Some (stages.InWindow (empty_window node window_is), d) else None
 opened_as d node false true window_is dialog_is = Some (stages.InViews (dialog_of node dialog_is) 0, d)
 opened_as d node false false window_is dialog_is = None
 
@@ -118,20 +118,20 @@ rules_taken d dialog declared.End = with_dialog d dialog
 rules_taken d dialog _ = None
 
 -- one declaration more
-abbrev pub taken_at : Stage → Desc → Declaration → Option (Stage × Desc)
-taken_at stages.Version d declaration = version_taken d declaration
-taken_at stages.Screen d declaration = screen_taken d declaration
-taken_at stages.Between d declaration = part_taken d declaration
-taken_at (stages.InMenu menu) d declaration = menu_taken d menu declaration
-taken_at (stages.InWindow window) d declaration = window_taken d window declaration
-taken_at (stages.InViews dialog panes) d declaration = views_taken d dialog panes declaration
-taken_at (stages.InRules dialog) d declaration = rules_taken d dialog declaration
+abbrev pub declaration_taken : Stage → Desc → Declaration → Option (Stage × Desc)
+declaration_taken stages.Version d declaration = version_taken d declaration
+declaration_taken stages.Screen d declaration = screen_taken d declaration
+declaration_taken stages.Between d declaration = part_taken d declaration
+declaration_taken (stages.InMenu menu) d declaration = menu_taken d menu declaration
+declaration_taken (stages.InWindow window) d declaration = window_taken d window declaration
+declaration_taken (stages.InViews dialog panes) d declaration = views_taken d dialog panes declaration
+declaration_taken (stages.InRules dialog) d declaration = rules_taken d dialog declaration
 
 -- ---- a description, line by line
 
 -- nothing is read
-abbrev pub fresh : Progress
-fresh = record { next = 1; stage = stages.Version; desc = record { version = versions.One; width = pos 0; height = pos 0; start = None; menus = []; status = []; windows = []; dialogs = [] } }
+abbrev pub nothing_read : Progress
+nothing_read = record { next = 1; stage = stages.Version; desc = record { version = versions.One; width = pos 0; height = pos 0; start = None; menus = []; status = []; windows = []; dialogs = [] } }
 
 -- a number other than 1
 abbrev pub is_other : Option ℤ → Bool
@@ -162,14 +162,14 @@ abbrev pub progress : ℕ → Stage × Desc → Progress
 progress next p = record { next = next; stage = p.0; desc = p.1 }
 
 -- one line more
-abbrev pub taken : Progress → List Word → Option Progress
-taken p ws = option_map (progress (p.next + 1)) (option_and_then (taken_at p.stage p.desc) (declaration_in (position p) ws))
+abbrev pub description_line_taken : Progress → List Word → Option Progress
+description_line_taken p ws = option_map (progress (p.next + 1)) (option_and_then (declaration_taken p.stage p.desc) (declaration_in (position p) ws))
 
 -- the text may end at the stage
-abbrev pub is_between : Stage → Bool
-is_between stages.Between = true
-is_between _ = false
+abbrev pub may_end_at : Stage → Bool
+may_end_at stages.Between = true
+may_end_at _ = false
 
 -- the description, where it is read to its end
-abbrev pub finished : Progress → Option Desc
-finished p = if is_between p.stage then Some p.desc else None
+abbrev pub finished_description : Progress → Option Desc
+finished_description p = if may_end_at p.stage then Some p.desc else None

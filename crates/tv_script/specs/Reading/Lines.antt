@@ -49,17 +49,17 @@ mouse_line_in k p =
     else None
 
 -- the line of these words
-abbrev pub line_in : List Word → Option Line
-line_in (k ∷ []) = screen_line_in k
-line_in (k ∷ w ∷ []) = key_line_in k w
-line_in (k ∷ x ∷ y ∷ []) = mouse_line_in k (point_in x y)
-line_in _ = None
+abbrev pub script_line_in : List Word → Option Line
+script_line_in (k ∷ []) = screen_line_in k
+script_line_in (k ∷ w ∷ []) = key_line_in k w
+script_line_in (k ∷ x ∷ y ∷ []) = mouse_line_in k (point_in x y)
+script_line_in _ = None
 
 -- what a line of these words comes to: none where it is faulty, and no line where it has no words
 abbrev pub words_read : Option (List Word) → Option (Option Line)
 words_read None = None
 words_read (Some []) = Some None
-words_read (Some (w ∷ ws)) = option_map Some (line_in (w ∷ ws))
+words_read (Some (w ∷ ws)) = option_map Some (script_line_in (w ∷ ws))
 
 -- the same of a line of bytes
 abbrev pub line_read : List ℕ → Option (Option Line)

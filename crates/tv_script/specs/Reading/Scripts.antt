@@ -5,54 +5,54 @@ use Rattle.tv_script.specs.declared.line.Line.{Line}
 use Rattle.tv_script.specs.declared.script_text.ScriptFault.{ScriptFault}
 use Rattle.tv_script.specs.declared.script_text.ScriptFault.TheVariants.{NoMemory, Syntax, OffScreen, TooLong}
 use Rattle.tv_script.specs.Lines.{is_on_screen, items_of_line}
-use Rattle.tv_script.specs.Reading.Lines.{line_in}
+use Rattle.tv_script.specs.Reading.Lines.{script_line_in}
 use Rattle.tv_words.specs.declared.word.Word.{Word}
 use Rattle.tv_words.specs.Lines.{lines_of}
 use Rattle.tv_words.specs.Reading.LineWords.{line_words}
 
 -- what reading comes to: the items of the script, or why there are none
-abbrev pub Answer : Type 0
-Answer = Result (List Item) ScriptFault
+abbrev pub ScriptOutcome : Type 0
+ScriptOutcome = Result (List Item) ScriptFault
 
 -- no more items than a script may have
-abbrev pub bounded : List Item → Answer
+abbrev pub bounded : List Item → ScriptOutcome
 bounded items = if nat_le (length items) 100000 then Ok items else Err TooLong
 
 -- the line with the number n after these items
-abbrev pub with_line : (width height : ℤ) → ℕ → List Item → Line → Answer
-with_line width height n items l = if is_on_screen width height l then bounded (items ++ items_of_line l) else Err (OffScreen n)
+abbrev pub with_script_line : (width height : ℤ) → ℕ → List Item → Line → ScriptOutcome
+with_script_line width height n items l = if is_on_screen width height l then bounded (items ++ items_of_line l) else Err (OffScreen n)
 
 -- the same where the words may be no line
-abbrev pub with_found : (width height : ℤ) → ℕ → List Item → Option Line → Answer
+abbrev pub with_found : (width height : ℤ) → ℕ → List Item → Option Line → ScriptOutcome
 with_found width height n items None = Err (Syntax n)
-with_found width height n items (Some l) = with_line width height n items l
+with_found width height n items (Some l) = with_script_line width height n items l
 
 -- the same of a line's words, where it has any
-abbrev pub with_words : (width height : ℤ) → ℕ → List Item → Option (List Word) → Answer
+abbrev pub with_words : (width height : ℤ) → ℕ → List Item → Option (List Word) → ScriptOutcome
 with_words width height n items None = Err (Syntax n)
 with_words width height n items (Some []) = Ok items
-with_words width height n items (Some (w ∷ ws)) = with_found width height n items (line_in (w ∷ ws))
+with_words width height n items (Some (w ∷ ws)) = with_found width height n items (script_line_in (w ∷ ws))
 
 -- the same of a line of bytes
-abbrev pub with_bytes : (width height : ℤ) → ℕ → List Item → List ℕ → Answer
+abbrev pub with_bytes : (width height : ℤ) → ℕ → List Item → List ℕ → ScriptOutcome
 with_bytes width height n items l = with_words width height n items (line_words l)
 
 -- the same by what the line is read as: faulty, without words, or a line
-abbrev pub with_read : (width height : ℤ) → ℕ → List Item → Option (Option Line) → Answer
+abbrev pub with_read : (width height : ℤ) → ℕ → List Item → Option (Option Line) → ScriptOutcome
 with_read width height n items None = Err (Syntax n)
 with_read width height n items (Some None) = Ok items
-with_read width height n items (Some (Some l)) = with_line width height n items l
+with_read width height n items (Some (Some l)) = with_script_line width height n items l
 
 -- reading on, from the line n
-abbrev pub reading : (width height : ℤ) → ℕ → List Item → List (List ℕ) → Answer
-reading width height n items [] = Ok items
-reading width height n items (l ∷ ls) = elim (with_bytes width height n items l) as (λ _. Answer) [ Err fault ↦ Err fault | Ok longer ↦ reading width height (n + 1) longer ls ]
+abbrev pub script_from : (width height : ℤ) → ℕ → List Item → List (List ℕ) → ScriptOutcome
+script_from width height n items [] = Ok items
+script_from width height n items (l ∷ ls) = elim (with_bytes width height n items l) as (λ _. ScriptOutcome) [ Err fault ↦ Err fault | Ok longer ↦ script_from width height (n + 1) longer ls ]
 
 -- the script of a text for a screen of so many columns and rows
-abbrev pub script_of : (width height : ℤ) → List ℕ → Answer
-script_of width height text = if nat_le (length text) 1048576 then reading width height 1 [] (lines_of text) else Err TooLong
+abbrev pub script_of : (width height : ℤ) → List ℕ → ScriptOutcome
+script_of width height text = if nat_le (length text) 1048576 then script_from width height 1 [] (lines_of text) else Err TooLong
 
 -- the fault is the one that was answered; memory may run out at any time
-abbrev pub IsAnswered : ScriptFault → Answer → Type 0
+abbrev pub IsAnswered : ScriptFault → ScriptOutcome → Type 0
 IsAnswered NoMemory answer = Unit {0}
 IsAnswered fault answer = answer ≡ Err fault

@@ -12,8 +12,8 @@ use Rattle.tv_script.specs.declared.stream_fault.StreamFault.{StreamFault}
 use Rattle.tv_script.specs.declared.stream_fault.StreamFault.TheVariants as streams
 use Rattle.tv_script.specs.Lines.{is_line_end, items_of_line}
 use Rattle.tv_script.specs.Performed.{Stops}
-use Rattle.tv_script.specs.Reading.Scripts.{reading, with_bytes}
-use Rattle.tv_script.specs.ScriptLines.{meant}
+use Rattle.tv_script.specs.Reading.Scripts.{script_from, with_bytes}
+use Rattle.tv_script.specs.ScriptLines.{line_meant}
 use Rattle.tv_script.specs.Streams.{Performs}
 
 -- a fault of a script, as that of its stream
@@ -24,17 +24,17 @@ stream_fault (scripts.OffScreen line) = streams.OffScreen line
 stream_fault scripts.TooLong = streams.TooLong
 
 -- bytes without a line end
-abbrev pub IsOpen : List ℕ → Type 0
-IsOpen line = list_any is_line_end line ≡ false
+abbrev pub IsUnended : List ℕ → Type 0
+IsUnended line = list_any is_line_end line ≡ false
 
 -- lines, each with its line end (10)
-abbrev pub ended : List (List ℕ) → List ℕ
-ended lines = flat_map (λ line. line ++ 10 ∷ []) lines
+abbrev pub with_line_ends : List (List ℕ) → List ℕ
+with_line_ends lines = flat_map (λ line. line ++ 10 ∷ []) lines
 
 -- the lines were read as those of a script, and performed
 pub record HasPlayed (s : Session) (lines : List (List ℕ)) (begun : ℕ) (from now : Seen) (Left : Session → Type 0) : Type 0 where
   pub items : List Item
-  pub read : reading s.desc.width s.desc.height 1 [] lines ≡ Ok items
+  pub read : script_from s.desc.width s.desc.height 1 [] lines ≡ Ok items
   pub count : begun ≡ length items
   pub performs : Performs s items from now Left
 
@@ -50,13 +50,13 @@ IsUnplayed s lines line from now Left (streams.Syntax n) = IsRefusedLine s lines
 IsUnplayed s lines line from now Left (streams.OffScreen n) = IsRefusedLine s lines line from now Left (scripts.OffScreen n)
 IsUnplayed s lines line from now Left streams.TooLong = IsRefusedLine s lines line from now Left scripts.TooLong
 IsUnplayed s lines line from now Left (streams.Write begun) =
-    (items : List Item) × (reading s.desc.width s.desc.height 1 [] (lines ++ line ∷ []) ≡ Ok items) × Stops s items begun from now Left
+    (items : List Item) × (script_from s.desc.width s.desc.height 1 [] (lines ++ line ∷ []) ≡ Ok items) × Stops s items begun from now Left
 IsUnplayed s lines line from now Left _ = ⊥
 
 -- the items of a line, if there is one
 abbrev pub items_found : Option ScriptLine → List Item
 items_found None = []
-items_found (Some line) = items_of_line (meant line)
+items_found (Some line) = items_of_line (line_meant line)
 
 -- lines are judged for the session's screen
 pub record HasScreenOf (s : Session) (feed : Feed) : Type 0 where
@@ -75,9 +75,9 @@ pub record BeginsLine (old new : Feed) : Type 0 where
 pub record IsFed (s : Session) (feed : Feed) (given : List ℕ) (from now : Seen) (Left : Session → Type 0) : Type 0 where
   pub screen : HasScreenOf s feed
   pub lines : List (List ℕ)
-  pub parts : given ≡ ended lines ++ feed.line.items
-  pub whole : AllByRecursion IsOpen lines
-  pub open_line : IsOpen feed.line.items
+  pub parts : given ≡ with_line_ends lines ++ feed.line.items
+  pub whole : AllByRecursion IsUnended lines
+  pub open_line : IsUnended feed.line.items
   pub number : feed.lines ≡ length lines
   pub bytes : feed.bytes ≡ length given
   pub played : HasPlayed s lines feed.items from now Left

@@ -17,12 +17,12 @@ next_place InEscape c = if c == 34 then Some InQuoted else if c == 92 then Some 
 next_place Closed c = if c == 32 then Some Between else None
 
 -- a place where a line may end
-abbrev pub is_end : Place → Bool
-is_end Between = true
-is_end InBare = true
-is_end InQuoted = false
-is_end InEscape = false
-is_end Closed = true
+abbrev pub may_end_line : Place → Bool
+may_end_line Between = true
+may_end_line InBare = true
+may_end_line InQuoted = false
+may_end_line InEscape = false
+may_end_line Closed = true
 
 -- the word that begins with this character, if one does
 abbrev pub word_begun : Place → ℕ → List ℕ → Option Word
@@ -34,7 +34,7 @@ word_begun Closed c cs = None
 
 -- the words that begin from the place on
 abbrev pub words_from : Place → List ℕ → Option (List Word)
-words_from p [] = if is_end p then Some [] else None
+words_from p [] = if may_end_line p then Some [] else None
 words_from p (c ∷ cs) = option_and_then (λ q. option_map (λ ws. option_to_list (word_begun p c cs) ++ ws) (words_from q cs)) (next_place p c)
 
 -- the same after these words, where there are no more than three

@@ -12,28 +12,28 @@ abbrev pub at : List Word → Mode → Scanner
 at words mode = record { words = words; mode = mode }
 
 -- one character more, by the mode
-abbrev pub taken : List Word → Mode → ℕ → Option Scanner
-taken ws Between c = if c == 32 then Some (at ws Between) else if c == 34 then Some (at ws (InQuoted [])) else Some (at ws (InBare (c ∷ [])))
-taken ws (InBare text) c = if c == 32 then Some (at (ws ++ Bare text ∷ []) Between) else if c == 34 then None else Some (at ws (InBare (text ++ c ∷ [])))
-taken ws (InQuoted text) c = if c == 34 then Some (at (ws ++ Quoted text ∷ []) Closed) else if c == 92 then Some (at ws (InEscape text)) else Some (at ws (InQuoted (text ++ c ∷ [])))
-taken ws (InEscape text) c = if c == 34 then Some (at ws (InQuoted (text ++ 34 ∷ []))) else if c == 92 then Some (at ws (InQuoted (text ++ 92 ∷ []))) else if c == 110 then Some (at ws (InQuoted (text ++ 10 ∷ []))) else None
-taken ws Closed c = if c == 32 then Some (at ws Between) else None
+abbrev pub character_taken : List Word → Mode → ℕ → Option Scanner
+character_taken ws Between c = if c == 32 then Some (at ws Between) else if c == 34 then Some (at ws (InQuoted [])) else Some (at ws (InBare (c ∷ [])))
+character_taken ws (InBare text) c = if c == 32 then Some (at (ws ++ Bare text ∷ []) Between) else if c == 34 then None else Some (at ws (InBare (text ++ c ∷ [])))
+character_taken ws (InQuoted text) c = if c == 34 then Some (at (ws ++ Quoted text ∷ []) Closed) else if c == 92 then Some (at ws (InEscape text)) else Some (at ws (InQuoted (text ++ c ∷ [])))
+character_taken ws (InEscape text) c = if c == 34 then Some (at ws (InQuoted (text ++ 34 ∷ []))) else if c == 92 then Some (at ws (InQuoted (text ++ 92 ∷ []))) else if c == 110 then Some (at ws (InQuoted (text ++ 10 ∷ []))) else None
+character_taken ws Closed c = if c == 32 then Some (at ws Between) else None
 
 -- one character more
 abbrev pub take_char : Scanner → ℕ → Option Scanner
-take_char s c = taken s.words s.mode c
+take_char s c = character_taken s.words s.mode c
 
 -- the words at the end of the line, by the mode
-abbrev pub ended : List Word → Mode → Option (List Word)
-ended ws Between = Some ws
-ended ws (InBare text) = Some (ws ++ Bare text ∷ [])
-ended ws (InQuoted text) = None
-ended ws (InEscape text) = None
-ended ws Closed = Some ws
+abbrev pub words_at_end : List Word → Mode → Option (List Word)
+words_at_end ws Between = Some ws
+words_at_end ws (InBare text) = Some (ws ++ Bare text ∷ [])
+words_at_end ws (InQuoted text) = None
+words_at_end ws (InEscape text) = None
+words_at_end ws Closed = Some ws
 
 -- the words at the end of the line
 abbrev pub finished : Scanner → Option (List Word)
-finished s = ended s.words s.mode
+finished s = words_at_end s.words s.mode
 
 -- the words that are read from the scanner on
 abbrev pub read_on : Scanner → List ℕ → Option (List Word)

@@ -4,7 +4,7 @@ use Rattle.std.proofs.lemmas.List.{take_at, get_or-replicate}
 use Rattle.std.proofs.lemmas.List.Elements.{All-same}
 use Rattle.std.proofs.lemmas.Slice.Zip.{length-zip}
 use Rattle.tv_model.specs.Faults.Places.{overlaps_earlier}
-use Rattle.tv_overlaps.specs.Marks.{IsItem, collide_as_siblings, is_hit}
+use Rattle.tv_overlaps.specs.Marks.{IsPlacedItem, collide_as_siblings, is_related}
 use Rattle.tv_overlaps.specs.Placing.{placed_from}
 use Rattle.tv_overlaps.proofs.OwnedLemmas.{all_owned}
 use Rattle.tv_overlaps.proofs.PlacedLemmas.{each_is, hit_is, items_placed}
@@ -15,7 +15,7 @@ pub mark_siblings-requires-clause-items : goal.mark_siblings-requires-clause-ite
 mark_siblings-requires-clause-items c =
     let pairs = zip c.args.siblings.now c.args.views.now in
     let count : length c.deref_mut.result.now ≡ length c.args.views.now = c.deref_mut.ensures.len ∙ c.in_ok-marks.ensures.len in
-    All-same (IsItem (length c.deref_mut.result.now)) c.deref-2.result.now (placed_from 0 pairs) (c.deref-2.ensures.value ∙ c.in_ok-items.ensures)
+    All-same (IsPlacedItem (length c.deref_mut.result.now)) c.deref-2.result.now (placed_from 0 pairs) (c.deref-2.ensures.value ∙ c.in_ok-items.ensures)
     (items_placed (length c.deref_mut.result.now) 0 pairs (omega (arith, length-zip c.args.siblings.now c.args.views.now, count)))
 
 pub mark_siblings-requires-clause-owners : goal.mark_siblings-requires-clause-owners
@@ -29,6 +29,6 @@ returns c =
     take_at new (drop (length new) c.in_ok-marks.marks.items) c.in_ok-marks.marks.len (long ∙ sym c.in_ok-marks.ensures.len)
     ∙ each_is overlaps_earlier c.args.views.now new long (λ i d less.
     c.in_ok-mark_siblings.ensures.marks.marks i (omega arith)
-    ∙ ap (λ b. b || is_hit collide_as_siblings i [] c.deref-2.result.now) (ap (λ list. get_or list i false) unmarked ∙ get_or-replicate (length c.args.views.now) i false false less)
-    ∙ ap (is_hit collide_as_siblings i []) (c.deref-2.ensures.value ∙ c.in_ok-items.ensures)
+    ∙ ap (λ b. b || is_related collide_as_siblings i [] c.deref-2.result.now) (ap (λ list. get_or list i false) unmarked ∙ get_or-replicate (length c.args.views.now) i false false less)
+    ∙ ap (is_related collide_as_siblings i []) (c.deref-2.ensures.value ∙ c.in_ok-items.ensures)
     ∙ hit_is c.args.siblings.now c.args.views.now c.requires i d less)

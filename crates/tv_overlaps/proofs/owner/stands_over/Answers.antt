@@ -3,7 +3,7 @@ use Rattle.std.specs.List.{list_any}
 use Rattle.std.proofs.lemmas.List.{get_or_read}
 use Rattle.tv_model.specs.Description.Nodes.{has_id}
 use Rattle.tv_model.specs.Description.Panes.{panes_around}
-use Rattle.tv_overlaps.specs.Standing.{IsOwner}
+use Rattle.tv_overlaps.specs.Standing.{IsOwningPane}
 use Rattle.tv_overlaps.proofs.OwnerLemmas.{panes_are, panes_at}
 use Rattle.tv_overlaps.proofs.DepthLemmas.{owner_before}
 use Rattle.tv_overlaps.proofs.owner.stands_over.Goals as goal
@@ -13,7 +13,7 @@ loop-around-preserved c =
     let place = c.in-Some.place in
     let views = c.args.views.now in
     let within : place < length views = search rules in
-    let owns : IsOwner views place (get_or c.args.owners.now place None) = c.requires.owners.1 place (search rules) in (
+    let owns : IsOwningPane views place (get_or c.args.owners.now place None) = c.requires.owners.1 place (search rules) in (
       omega (arith, owner_before views place _ owns),
       λ d.
           let other : has_id c.args.target (get_or views place d) ≡ false =

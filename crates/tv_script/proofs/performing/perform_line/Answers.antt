@@ -4,7 +4,7 @@ use Rattle.tv_io.proofs.PenLemmas.{Cuts-from_stopped, Takes-from_went_on}
 use Rattle.tv_machine.specs.Output.{after, session_after}
 use Rattle.tv_script.specs.Lines.{items_of_line}
 use Rattle.tv_script.specs.Performed.{Stops}
-use Rattle.tv_script.specs.ScriptLines.{items_left, meant}
+use Rattle.tv_script.specs.ScriptLines.{items_left, line_meant}
 use Rattle.tv_script.specs.Streams.{Performs}
 use Rattle.tv_script.proofs.PerformLemmas.{performs_push, stops_push}
 use Rattle.tv_script.proofs.performing.perform_line.Goals as goal
@@ -17,7 +17,7 @@ returns-then-pen-clause-performed g c = λ s from items count performed.
     let item = c.in-Some.item in
     let left = items_left c.next.new.self in
     let step : items_left c.loop-item.item-iterator ≡ item ∷ left = search rules in
-    let parts : items ++ items_of_line (meant c.args.line.now) ≡ (items ++ done) ++ item ∷ left = ap (λ x. items ++ x) (sym before.parts ∙ ap (λ x. done ++ x) step) ∙ sym (append_assoc items done (item ∷ left)) in
+    let parts : items ++ items_of_line (line_meant c.args.line.now) ≡ (items ++ done) ++ item ∷ left = ap (λ x. items ++ x) (sym before.parts ∙ ap (λ x. done ++ x) step) ∙ sym (append_assoc items done (item ∷ left)) in
     let number : c.loop-item.begun + 1 ≡ length (items ++ done) + 1 = omega (arith, before.begun, count, length-append items done) in (
       c.loop-item.begun + 1,
       refl,
@@ -54,5 +54,5 @@ pub returns-clause-performed : goal.returns-clause-performed
 returns-clause-performed g c = λ s from items count performed.
     let before = c.loop-item.invariant in
     let none : items_left c.loop-item.item-iterator ≡ [] = search rules in
-    let all : before.done ≡ items_of_line (meant c.args.line.now) = sym (append-nil before.done) ∙ ap (λ x. before.done ++ x) (sym none) ∙ before.parts in
+    let all : before.done ≡ items_of_line (line_meant c.args.line.now) = sym (append-nil before.done) ∙ ap (λ x. before.done ++ x) (sym none) ∙ before.parts in
     subst (λ x. Performs s (items ++ x) from (g.W.Writer.seen c.loop-item.pen.out.now) (g.S.Stage.stands c.loop-item.stage)) all (before.performed s from items count performed)

@@ -1,6 +1,6 @@
 use Rattle.std.proofs.Common.{◌≡◌, Ok, IfOk, IfErr}
 use Rattle.std.proofs.lemmas.Result.{IfOk-weaker}
-use Rattle.tv_script.specs.Scripts.{Spells}
+use Rattle.tv_script.specs.Scripts.{SpellsAScript}
 use Rattle.tv_script.specs.Reading.Scripts.{IsAnswered, script_of}
 use Rattle.tv_script.proofs.ScriptLemmas.{read_spelled, all_refused, gives}
 use Rattle.tv_script.proofs.SizeLemmas.{passed}
@@ -14,7 +14,7 @@ returns c =
     let value = passed (λ width height. IfOk c.read_text.result (λ items. script_of width height text ≡ Ok items)) width height c.ranges.width c.ranges.height c.read_text.ensures.value in
     let fault = passed (λ width height. IfErr c.read_text.result (λ fault. IsAnswered fault (script_of width height text))) width height c.ranges.width c.ranges.height c.read_text.ensures.fault in
     record {
-      spelled = IfOk-weaker c.read_text.result (λ items. script_of width height text ≡ Ok items) (λ items. Spells width height text items) (λ items e. read_spelled width height text items e) value;
+      spelled = IfOk-weaker c.read_text.result (λ items. script_of width height text ≡ Ok items) (λ items. SpellsAScript width height text items) (λ items e. read_spelled width height text items e) value;
       only = λ items spelled. gives width height c.read_text.result text items value fault spelled;
       fault = all_refused width height c.read_text.result text fault;
     }

@@ -2,7 +2,7 @@ use Rattle.std.proofs.Common.{◌≡◌, ◌++◌, length, Ok, Err, ap, ◌∙�
 use Rattle.std.proofs.lemmas.List.{append-nil}
 use Rattle.tv_script.proofs.FeedLemmas.{judged_here, match_given, played_line, unplayed_cut, unplayed_refused}
 use Rattle.tv_script.specs.Lines.{items_of_line}
-use Rattle.tv_script.specs.ScriptLines.{meant}
+use Rattle.tv_script.specs.ScriptLines.{line_meant}
 use Rattle.tv_script.specs.Reading.Streams.{items_found, stream_fault}
 use Rattle.tv_script.proofs.feed.Feed.end_line.Goals as goal
 use Rattle.tv_script.proofs.feed.Feed.end_line.Goals.{in-Some+in_ok-items-in-Some, in-None}
@@ -20,7 +20,7 @@ pub returns-in_err-items-in-Some-clause-played : goal.returns-in_err-items-in-So
 returns-in_err-items-in-Some-clause-played g c = λ s from lines screen number played.
     let feed = c.args.self.now in
     let fault = c.in_err-items-in-Some.field-0.0 in
-    let more = items_of_line (meant c.in-Some.line) in
+    let more = items_of_line (line_meant c.in-Some.line) in
     let cut = c.in_err-items-in-Some.ensures.performed s from played.items played.count played.performs in
     let judged = c.in_ok-line.ensures.line played.items played.count ∙ ap (λ x. Ok (played.items ++ items_found x)) c.in-Some.is in
     match_given _ _ fault
@@ -33,7 +33,7 @@ returns-clause-played g c = λ s from lines screen number played.
     let feed = c.args.self.now in
     elim c.match-branch-2.branch [
       | in-Some+in_ok-items-in-Some w ↦
-          let more = items_of_line (meant w.in-Some.line) in
+          let more = items_of_line (line_meant w.in-Some.line) in
           let judged = c.in_ok-line.ensures.line played.items played.count ∙ ap (λ x. Ok (played.items ++ items_found x)) w.in-Some.is in
           let performed = w.in_ok-items-in-Some.ensures.performed s from played.items played.count played.performs in
           let count : c.match-branch-2.items ≡ length (played.items ++ more) = omega (arith, w.items-is, w.in_ok-items-in-Some.ensures.count, played.count, length-append played.items more) in
