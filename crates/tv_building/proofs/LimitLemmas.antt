@@ -25,10 +25,10 @@ pub near_corner : (node : Node) → IsLimited node → HasNearCorner node
 near_corner node limited = record { x = limited.x; y = limited.y }
 
 -- what a dialog keeps of a limited node is limited
-pub dialog_head_limited : (node : Node) → IsLimited node → IfSome (dialog.declared_head node) dialog.IsLimited
+pub dialog_head_limited : (node : Node) → IsLimited node → IfSome (dialog.declared_dialog_head node) dialog.IsLimitedDialogHead
 dialog_head_limited node limited = by node.kind refl
   where
-    by : (kind : Kind) → node.kind ≡ kind → IfSome (dialog.declared_head node) dialog.IsLimited
+    by : (kind : Kind) → node.kind ≡ kind → IfSome (dialog.declared_dialog_head node) dialog.IsLimitedDialogHead
     by (kinds.Dialog own) is = rw is (record {
       bounds = rw is at (limited_small node limited);
       title = All-head IsShort own.title [] (rw is at limited.texts);
@@ -44,10 +44,10 @@ dialog_head_limited node limited = by node.kind refl
     by (kinds.Pane own) is = rw is tt
 
 -- and what a window keeps of one
-pub window_head_limited : (node : Node) → IsLimited node → IfSome (window.declared_head node) window.IsLimited
+pub window_head_limited : (node : Node) → IsLimited node → IfSome (window.declared_window_head node) window.IsLimitedWindowHead
 window_head_limited node limited = by node.kind refl
   where
-    by : (kind : Kind) → node.kind ≡ kind → IfSome (window.declared_head node) window.IsLimited
+    by : (kind : Kind) → node.kind ≡ kind → IfSome (window.declared_window_head node) window.IsLimitedWindowHead
     by (kinds.Window own) is = let number = rw is at limited.amount in rw is (record {
       bounds = rw is at (limited_small node limited);
       from = number.0;

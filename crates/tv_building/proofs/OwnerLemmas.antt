@@ -54,9 +54,9 @@ if_some P None has = tt
 if_some P (Some x) has = has x refl
 
 -- what a window keeps of a lawful node is limited
-pub head_of_lawful : (node : Node) → IsLawfulNode node → ForSome (window.declared_head node) window.IsLimited
-head_of_lawful node lawful = for_some window.IsLimited (window.declared_head node) (window_head_limited node lawful.limited)
+pub head_of_lawful : (node : Node) → IsLawfulNode node → ForSome (window.declared_window_head node) window.IsLimitedWindowHead
+head_of_lawful node lawful = for_some window.IsLimitedWindowHead (window.declared_window_head node) (window_head_limited node lawful.limited)
 
 -- so that a window may be made of it
-pub head_fits : (node : Node) → ForSome (window.declared_head node) window.IsLimited → IfSome (window.declared_head node) window.IsLimited
-head_fits node has = if_some window.IsLimited (window.declared_head node) has
+pub head_fits : (node : Node) → ForSome (window.declared_window_head node) window.IsLimitedWindowHead → IfSome (window.declared_window_head node) window.IsLimitedWindowHead
+head_fits node has = if_some window.IsLimitedWindowHead (window.declared_window_head node) has

@@ -8,7 +8,7 @@ use Rattle.tv_view.specs.Meaning.{Leaf}
 use Rattle.tv_model.specs.declared.kind.Kind.{Kind}
 use Rattle.tv_model.specs.declared.kind.Kind.TheVariants as kinds
 use Rattle.tv_model.specs.declared.node.Node.{Node}
-use Rattle.tv_window.specs.Head.{declared_head}
+use Rattle.tv_window.specs.Head.{declared_window_head}
 use Rattle.tv_window.specs.Window.{body_of, head_of}
 use Rattle.tv_window.specs.declared.window.WindowOf.{WindowOf}
 use Rattle.tv_building.specs.Groups.{IsGroupOf}
@@ -22,8 +22,8 @@ abbrev pub windows_of : {V : Type 0} → Building V → List (WindowOf V)
 windows_of building = building.views.windows.items
 
 -- the bodies of dialogs that ended
-abbrev pub bodies_of : {V : Type 0} → Building V → List (GroupOf V)
-bodies_of building = building.views.bodies.items
+abbrev pub bodies_built : {V : Type 0} → Building V → List (GroupOf V)
+bodies_built building = building.views.bodies.items
 
 -- what was begun and hasn't ended, the innermost last
 abbrev pub begun_of : {V : Type 0} → Building V → List (Begun V)
@@ -32,12 +32,12 @@ begun_of building = building.begun.items
 -- no window or body came or went
 pub record KeepsViews {V : Type 0} (old new : Building V) : Type 0 where
   pub windows : windows_of new ≡ windows_of old
-  pub bodies : bodies_of new ≡ bodies_of old
+  pub bodies : bodies_built new ≡ bodies_built old
 
 -- ---- beginning and adding
 
 -- a node begins inside what was begun before, and nothing stands in it
-pub record Begins {V : Type 0} (node : Node) (old new : List (Begun V)) : Type 0 where
+pub record BeginsNode {V : Type 0} (node : Node) (old new : List (Begun V)) : Type 0 where
   pub begun : Begun V
   pub node_is : begun.node.now ≡ node
   pub empty : begun.members.items ≡ []
@@ -58,7 +58,7 @@ pub record Adds {V : Type 0} (member : MemberOf V) (old new : List (Begun V)) : 
 -- a window of the node stands, the last of the windows, round this body
 pub record StandsWindow {V : Type 0} (node : Node) (body : GroupOf V) (old new : List (WindowOf V)) : Type 0 where
   pub window : WindowOf V
-  pub head : Some (head_of window) ≡ declared_head node
+  pub head : Some (head_of window) ≡ declared_window_head node
   pub body_is : body_of window ≡ body
   pub last : new ≡ old ++ window ∷ []
 
@@ -66,13 +66,13 @@ pub record StandsWindow {V : Type 0} (node : Node) (body : GroupOf V) (old new :
 abbrev pub EndsAs : {V : Type 0} → Kind → Node → GroupOf V → List (Begun V) → Building V → Building V → Type 0
 EndsAs (kinds.Pane pane) node group outer old new = KeepsViews old new × Adds (members.Pane group) outer (begun_of new)
 EndsAs (kinds.Window head) node group outer old new =
-    (outer ≡ []) × (begun_of new ≡ []) × StandsWindow node group (windows_of old) (windows_of new) × (bodies_of new ≡ bodies_of old)
+    (outer ≡ []) × (begun_of new ≡ []) × StandsWindow node group (windows_of old) (windows_of new) × (bodies_built new ≡ bodies_built old)
 EndsAs (kinds.Dialog head) node group outer old new =
-    (outer ≡ []) × (begun_of new ≡ []) × (windows_of new ≡ windows_of old) × (bodies_of new ≡ bodies_of old ++ group ∷ [])
+    (outer ≡ []) × (begun_of new ≡ []) × (windows_of new ≡ windows_of old) × (bodies_built new ≡ bodies_built old ++ group ∷ [])
 EndsAs _ node group outer old new = ⊥
 
 -- the innermost of what was begun ends, as the group of its members
-pub record Ends {V : Type 0} (look : V → Leaf) (old new : Building V) : Type 0 where
+pub record EndsNode {V : Type 0} (look : V → Leaf) (old new : Building V) : Type 0 where
   pub outer : List (Begun V)
   pub last : Begun V
   pub was : begun_of old ≡ outer ++ last ∷ []

@@ -1,7 +1,7 @@
 -- Where groups stand, and what they are made of.
 use Rattle.std.specs.Prelude.{◌≡◌, Bool, ◌||◌, pos, List, map, None}
 use Rattle.tv_cells.specs.declared.rect.Rect.{Rect}
-use Rattle.tv_group.specs.Opened.{bounds_of, joined, opened, opened_member}
+use Rattle.tv_group.specs.Opened.{group_bounds, joined, opened, opened_member}
 use Rattle.tv_group.specs.Outline.{has_body}
 use Rattle.tv_group.specs.declared.group.GroupOf.{GroupOf}
 use Rattle.tv_group.specs.declared.group.MemberOf.{MemberOf}
@@ -23,5 +23,5 @@ area_of node kind = rect (pos 0) (pos 0) node.w (height_of kind)
 
 -- the group of these members, none of them current, in a node's area
 pub record IsGroupOf {V : Type 0} (look : V → Leaf) (node : Node) (members : List (MemberOf V)) (group : GroupOf V) : Type 0 where
-  pub bounds : bounds_of group ≡ area_of node node.kind
+  pub bounds : group_bounds group ≡ area_of node node.kind
   pub leaves : opened look group ≡ map (inside (area_of node node.kind)) (joined None 0 (map (opened_member look) members))

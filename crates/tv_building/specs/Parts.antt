@@ -7,11 +7,11 @@ use Rattle.tv_model.specs.Description.Numbers.{IsBetween}
 use Rattle.tv_machine.specs.Controls.Declared.{declared_value}
 use Rattle.tv_machine.specs.Leaves.{leaf_list}
 use Rattle.tv_machine.specs.Safe.{HasValueOf}
-use Rattle.tv_dialog.specs.Head.{IsLimited, declared_head}
+use Rattle.tv_dialog.specs.Head.{IsLimitedDialogHead, declared_dialog_head}
 
 -- a rectangle near the screen, and a title that fits
 abbrev pub HasLimitedHead : Dialog → Type 0
-HasLimitedHead dialog = IfSome (declared_head dialog.node) IsLimited
+HasLimitedHead dialog = IfSome (declared_dialog_head dialog.node) IsLimitedDialogHead
 
 -- each leaf has at first a value that its kind may have, or none where its kind has none
 abbrev pub StartsLawfully : Dialog → Type 0

@@ -6,7 +6,7 @@ ghost use Rattle.tv_building.specs.Groups.{IsGroupOf, area_of, is_group};
 ghost use Rattle.tv_building.specs.declared.fault.BuildFault.TheVariants.{NoMemory, WrongPlan};
 ghost use Rattle.tv_group.specs.Opened.{members_level};
 ghost use Rattle.tv_model.specs.Description.LawfulNodes.{IsLawfulNode};
-ghost use Rattle.tv_window.specs.Head.{IsLimited, declared_head};
+ghost use Rattle.tv_window.specs.Head.{IsLimitedWindowHead, declared_window_head};
 
 use crate::area::{Area, area_of};
 use crate::fault::BuildFault;
@@ -21,7 +21,7 @@ pub(crate) struct Begun<'a, V> {
     area: Area,
     pub(crate) members: Vec<MemberOf<V>>,
     ghost stands: { area.rect ≡ area_of node.now node.now.kind },
-    ghost limited: { ForSome (declared_head node.now) IsLimited },
+    ghost limited: { ForSome (declared_window_head node.now) IsLimitedWindowHead },
 }
 
 impl<'a, V: View> Begun<'a, V> {

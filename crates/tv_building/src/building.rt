@@ -2,12 +2,12 @@
 
 ghost use Rattle.std.specs.Option.{ForSome};
 ghost use Rattle.std.specs.Prelude.{◌≡◌, ◌≢◌, [], false, None, IfErr, IfOk, OnOk};
-ghost use Rattle.tv_building.specs.Building.{Adds, Begins, Ends, IsMisplaced, KeepsViews, StandsWindow, begun_of, bodies_of, windows_of};
+ghost use Rattle.tv_building.specs.Building.{Adds, BeginsNode, EndsNode, IsMisplaced, KeepsViews, StandsWindow, begun_of, bodies_built, windows_of};
 ghost use Rattle.tv_building.specs.Groups.{is_group};
 ghost use Rattle.tv_building.specs.declared.fault.BuildFault.TheVariants.{WrongPlan};
 ghost use Rattle.tv_group.specs.declared.group.MemberOf.TheVariants as members;
 ghost use Rattle.tv_model.specs.Description.LawfulNodes.{IsLawfulNode};
-ghost use Rattle.tv_window.specs.Head.{IsLimited, declared_head};
+ghost use Rattle.tv_window.specs.Head.{IsLimitedWindowHead, declared_window_head};
 
 use crate::begun::Begun;
 use crate::fault::BuildFault;
@@ -36,7 +36,7 @@ impl<'a, V: View> Building<'a, V> {
     /// Starts with no views, and nothing begun.
     pub fn new(alloc: Global) -> Building<'a, V>
         ensures windows { windows_of result ≡ [] }
-        ensures bodies { bodies_of result ≡ [] }
+        ensures bodies { bodies_built result ≡ [] }
         ensures begun { begun_of result ≡ [] }
     {
         Building {
@@ -56,7 +56,7 @@ impl<'a, V: View> Building<'a, V> {
     pub fn begin(&mut self, alloc: Global, node: &'a Node) -> Result<(), BuildFault>
         requires { IsLawfulNode node.now }
         ensures same { KeepsViews self.old self.new }
-        ensures begun { OnOk result (Begins node.now (begun_of self.old) (begun_of self.new)) }
+        ensures begun { OnOk result (BeginsNode node.now (begun_of self.old) (begun_of self.new)) }
         ensures unbegun { IfErr result (λ _. begun_of self.new ≡ begun_of self.old) }
         ensures refused { IfErr result (λ fault. fault ≡ WrongPlan → is_group node.now.kind ≡ false) }
     {
@@ -86,7 +86,7 @@ impl<'a, V: View> Building<'a, V> {
     /// where the node is of another kind, and where nine groups would stand one in another; `NoMemory`. The innermost
     /// open group is dropped then.
     pub fn end(&mut self) -> Result<(), BuildFault>
-        ensures ended { OnOk result (Ends V.meaning self.old self.new) }
+        ensures ended { OnOk result (EndsNode V.meaning self.old self.new) }
         ensures same { IfErr result (λ _. KeepsViews self.old self.new) }
         ensures refused { IfErr result (λ fault. fault ≡ WrongPlan → IsMisplaced (begun_of self.old)) }
     {
@@ -117,7 +117,7 @@ impl<'a, V: View> Building<'a, V> {
     /// `WrongPlan` where something was begun and hasn't ended; all is dropped then.
     pub fn finish(self) -> Result<Views<V>, BuildFault>
         ensures windows { IfOk result (λ views. views.windows.items ≡ windows_of self.entry) }
-        ensures bodies { IfOk result (λ views. views.bodies.items ≡ bodies_of self.entry) }
+        ensures bodies { IfOk result (λ views. views.bodies.items ≡ bodies_built self.entry) }
         ensures ended { OnOk result (begun_of self.entry ≡ []) }
         ensures refused { IfErr result (λ fault. (fault ≡ WrongPlan) × (begun_of self.entry ≢ [])) }
     {
@@ -147,10 +147,10 @@ fn stand_window<V: View>(
     node: &Node,
     body: GroupOf<V>,
 ) -> Result<(), BuildFault>
-    requires { ForSome (declared_head node.now) IsLimited }
+    requires { ForSome (declared_window_head node.now) IsLimitedWindowHead }
     ensures stands { OnOk result (StandsWindow node.now body windows.old.items windows.new.items) }
     ensures same { IfErr result (λ _. windows.new.items ≡ windows.old.items) }
-    ensures refused { IfErr result (λ fault. fault ≡ WrongPlan → declared_head node.now ≡ None) }
+    ensures refused { IfErr result (λ fault. fault ≡ WrongPlan → declared_window_head node.now ≡ None) }
 {
     match WindowOf::new(node, body) {
         Ok(window) => {

@@ -8,7 +8,7 @@ use Rattle.tv_event.specs.declared.event.Phase.TheVariants as phases
 use Rattle.tv_view.specs.Meaning.{Leaf}
 use Rattle.tv_model.specs.declared.kind.Kind.{Kind}
 use Rattle.tv_model.specs.declared.kind.Kind.TheVariants as kinds
-use Rattle.tv_view.specs.Reactions.{called, captures, down_answer, down_focus, focus_on, keyed_answer, letter_answer}
+use Rattle.tv_view.specs.Reactions.{calling_letter, captures, down_answer, down_focus, focus_on, keyed_answer, letter_answer}
 use Rattle.tv_view.specs.declared.env.Env.{Env}
 use Rattle.tv_view.specs.declared.reaction.Reaction.TheVariants.{Capture, Pass}
 
@@ -19,8 +19,8 @@ list-letter env leaf _ own letter = absurd (false≢true own)
 
 pub list-called : (env : Env) (leaf : Leaf) (k : Key) → IsTrue (is_list leaf.node.kind)
     → (p : Phase) → (p ≡ phases.Pre) ⊎ (p ≡ phases.Post) → keyed_answer env leaf k p ≡ Pass
-list-called env leaf k own p (inl before) = ap (λ phase. keyed_answer env leaf k phase) before ∙ list-letter env leaf leaf.node.kind own (called phases.Pre k)
-list-called env leaf k own p (inr after) = ap (λ phase. keyed_answer env leaf k phase) after ∙ list-letter env leaf leaf.node.kind own (called phases.Post k)
+list-called env leaf k own p (inl before) = ap (λ phase. keyed_answer env leaf k phase) before ∙ list-letter env leaf leaf.node.kind own (calling_letter phases.Pre k)
+list-called env leaf k own p (inr after) = ap (λ phase. keyed_answer env leaf k phase) after ∙ list-letter env leaf leaf.node.kind own (calling_letter phases.Post k)
 
 -- one that has the focus captures the mouse
 list-captures : (leaf : Leaf) (kind : Kind) → IsTrue (is_list kind) → captures leaf kind ≡ leaf.is_focused

@@ -31,10 +31,10 @@ abbrev pub boxes_leaf : Core → (marks selected : ℕ) → Leaf
 boxes_leaf core marks selected = leaf_with core (record { value = Some (values.Marks marks); private = Selecting selected; overwrites = false })
 
 -- what a key does, as the cluster's table has it
-abbrev pub key_of : SeenKey → ClusterKey
-key_of seen.Passed = Passed
-key_of (seen.Selects item) = Selects item
-key_of (seen.Presses item) = Presses item
+abbrev pub cluster_key_of : SeenKey → ClusterKey
+cluster_key_of seen.Passed = Passed
+cluster_key_of (seen.Selects item) = Selects item
+cluster_key_of (seen.Presses item) = Presses item
 
 -- the item that a key selects or presses, 0 for none
 abbrev pub key_item : SeenKey → ℕ

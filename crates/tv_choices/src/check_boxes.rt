@@ -12,7 +12,7 @@ ghost use Rattle.tv_model.specs.Description.LawfulNodes.{IsLawfulNode};
 ghost use Rattle.tv_model.specs.Description.Numbers.{natural};
 ghost use Rattle.tv_model.specs.declared.kind.Kind.TheVariants as kinds;
 ghost use Rattle.tv_model.specs.declared.kind.CheckBoxes.{CheckBoxes as Declared};
-ghost use Rattle.tv_view.specs.Effects.{captured, keyed, lifted};
+ghost use Rattle.tv_view.specs.Effects.{captured, leaf_keyed, lifted};
 ghost use Rattle.tv_view.specs.Reactions.{captures, down_answer, keyed_answer, lifted_answer};
 ghost use Rattle.tv_view.specs.declared.env.Env.{Env as Lent};
 
@@ -120,7 +120,7 @@ impl CheckBoxes {
     // A key in the focus.
     fn focused_key(&mut self, key: Key) -> Reaction
         ensures reaction { (env : Lent) → result ≡ keyed_answer env (boxes_leaf self.old.core self.old.marks self.old.selected) key phases.Focused }
-        ensures after { boxes_leaf self.new.core self.new.marks self.new.selected ≡ keyed key phases.Focused (boxes_leaf self.old.core self.old.marks self.old.selected) }
+        ensures after { boxes_leaf self.new.core self.new.marks self.new.selected ≡ leaf_keyed key phases.Focused (boxes_leaf self.old.core self.old.marks self.old.selected) }
     {
         match cluster_key(self.declared().items.as_slice(), self.selected, key) {
             ClusterKey::Passed => Reaction::Pass,
@@ -138,7 +138,7 @@ impl CheckBoxes {
     // A key in any phase.
     fn key_answer(&mut self, key: Key, phase: Phase) -> Reaction
         ensures reaction { (env : Lent) → result ≡ keyed_answer env (boxes_leaf self.old.core self.old.marks self.old.selected) key phase }
-        ensures after { boxes_leaf self.new.core self.new.marks self.new.selected ≡ keyed key phase (boxes_leaf self.old.core self.old.marks self.old.selected) }
+        ensures after { boxes_leaf self.new.core self.new.marks self.new.selected ≡ leaf_keyed key phase (boxes_leaf self.old.core self.old.marks self.old.selected) }
     {
         match phase {
             Phase::Focused => self.focused_key(key),

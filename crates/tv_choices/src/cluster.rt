@@ -9,8 +9,8 @@ ghost use Rattle.tv_model.specs.Controls.Contents.{is_item_place};
 ghost use Rattle.tv_model.specs.Description.Rectangles.{IsSmallRect};
 ghost use Rattle.tv_view.specs.Meaning.{Leaf};
 ghost use Rattle.tv_model.specs.Description.Marks.{marks};
-ghost use Rattle.tv_view.specs.Reactions.{called, called_item, item_call};
-ghost use Rattle.tv_choices.specs.Choices.{key_item, key_of};
+ghost use Rattle.tv_view.specs.Reactions.{calling_letter, called_item, item_call};
+ghost use Rattle.tv_choices.specs.Choices.{key_item, cluster_key_of};
 
 use tv_cells::{Point, Rect};
 use tv_event::{Key, Phase};
@@ -63,7 +63,7 @@ fn item_marking(items: &[MarkedText], ch: char) -> Option<u8>
 /// Returns what a key does to a cluster of these items, of which item `at` is selected.
 pub(crate) fn cluster_key(items: &[MarkedText], at: u8, key: Key) -> ClusterKey
     requires { length items.now < 256 }
-    ensures is { key_of result ≡ cluster_key items.now (length items.now) at key }
+    ensures is { cluster_key_of result ≡ cluster_key items.now (length items.now) at key }
     ensures few { length items.now ≤ 16 → at ≤ 16 → key_item result ≤ 16 }
 {
     match key {
@@ -80,7 +80,7 @@ pub(crate) fn cluster_key(items: &[MarkedText], at: u8, key: Key) -> ClusterKey
 
 // The letter by which a key calls a cluster from any focus.
 fn called(key: Key, phase: Phase) -> Option<char>
-    ensures { result ≡ called phase key }
+    ensures { result ≡ calling_letter phase key }
 {
     match phase {
         Phase::Focused => None,
@@ -106,7 +106,7 @@ fn called_item(items: &[MarkedText], letter: Option<char>) -> Option<u8>
 /// and its item.
 pub(crate) fn letter_answer(id: Id, items: &[MarkedText], key: Key, phase: Phase) -> Reaction
     requires { length items.now < 256 }
-    ensures { (leaf : Leaf) → leaf.node.id ≡ id → result ≡ item_call leaf (called_item items.now (called phase key)) }
+    ensures { (leaf : Leaf) → leaf.node.id ≡ id → result ≡ item_call leaf (called_item items.now (calling_letter phase key)) }
 {
     match called_item(items, called(key, phase)) {
         Some(item) => Reaction::FocusPress(id, item),

@@ -11,7 +11,7 @@ ghost use Rattle.tv_model.specs.Description.LawfulNodes.{IsLawfulNode};
 ghost use Rattle.tv_model.specs.Description.Numbers.{natural};
 ghost use Rattle.tv_model.specs.declared.kind.Kind.TheVariants as kinds;
 ghost use Rattle.tv_model.specs.declared.kind.ListBox.{ListBox as Declared};
-ghost use Rattle.tv_view.specs.Effects.{captured, keyed, lifted, moved};
+ghost use Rattle.tv_view.specs.Effects.{captured, leaf_keyed, lifted, moved};
 ghost use Rattle.tv_view.specs.Fields.{content_of, with_content};
 ghost use Rattle.tv_view.specs.Reactions.{captures, down_answer, keyed_answer, lifted_answer, move_answer};
 ghost use Rattle.tv_view.specs.declared.env.Env.{Env as Lent};
@@ -117,7 +117,7 @@ impl ListBox {
     // A key in the focus.
     fn focused_key(&mut self, key: Key) -> Reaction
         ensures reaction { (env : Lent) → result ≡ keyed_answer env (list_leaf self.old.core self.old.chosen) key phases.Focused }
-        ensures after { list_leaf self.new.core self.new.chosen ≡ keyed key phases.Focused (list_leaf self.old.core self.old.chosen) }
+        ensures after { list_leaf self.new.core self.new.chosen ≡ leaf_keyed key phases.Focused (list_leaf self.old.core self.old.chosen) }
     {
         match self.chosen.asked_item(self.height(), self.count(), key) {
             Some(item) => {
@@ -131,7 +131,7 @@ impl ListBox {
     // A key in any phase.
     fn key_answer(&mut self, key: Key, phase: Phase) -> Reaction
         ensures reaction { (env : Lent) → result ≡ keyed_answer env (list_leaf self.old.core self.old.chosen) key phase }
-        ensures after { list_leaf self.new.core self.new.chosen ≡ keyed key phase (list_leaf self.old.core self.old.chosen) }
+        ensures after { list_leaf self.new.core self.new.chosen ≡ leaf_keyed key phase (list_leaf self.old.core self.old.chosen) }
     {
         match phase {
             Phase::Focused => self.focused_key(key),

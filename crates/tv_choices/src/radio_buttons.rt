@@ -10,7 +10,7 @@ ghost use Rattle.tv_model.specs.Description.LawfulNodes.{IsLawfulNode};
 ghost use Rattle.tv_model.specs.Description.Numbers.{natural};
 ghost use Rattle.tv_model.specs.declared.kind.Kind.TheVariants as kinds;
 ghost use Rattle.tv_model.specs.declared.kind.RadioButtons.{RadioButtons as Declared};
-ghost use Rattle.tv_view.specs.Effects.{captured, keyed, lifted};
+ghost use Rattle.tv_view.specs.Effects.{captured, leaf_keyed, lifted};
 ghost use Rattle.tv_view.specs.Reactions.{captures, down_answer, keyed_answer, lifted_answer};
 ghost use Rattle.tv_view.specs.declared.env.Env.{Env as Lent};
 
@@ -78,7 +78,7 @@ impl RadioButtons {
     // A key in the focus.
     fn focused_key(&mut self, key: Key) -> Reaction
         ensures reaction { (env : Lent) → result ≡ keyed_answer env (radios_leaf self.old.core self.old.marked) key phases.Focused }
-        ensures after { radios_leaf self.new.core self.new.marked ≡ keyed key phases.Focused (radios_leaf self.old.core self.old.marked) }
+        ensures after { radios_leaf self.new.core self.new.marked ≡ leaf_keyed key phases.Focused (radios_leaf self.old.core self.old.marked) }
     {
         match cluster_key(self.declared().items.as_slice(), self.marked, key) {
             ClusterKey::Passed => Reaction::Pass,
@@ -92,7 +92,7 @@ impl RadioButtons {
     // A key in any phase.
     fn key_answer(&mut self, key: Key, phase: Phase) -> Reaction
         ensures reaction { (env : Lent) → result ≡ keyed_answer env (radios_leaf self.old.core self.old.marked) key phase }
-        ensures after { radios_leaf self.new.core self.new.marked ≡ keyed key phase (radios_leaf self.old.core self.old.marked) }
+        ensures after { radios_leaf self.new.core self.new.marked ≡ leaf_keyed key phase (radios_leaf self.old.core self.old.marked) }
     {
         match phase {
             Phase::Focused => self.focused_key(key),

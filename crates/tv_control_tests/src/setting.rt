@@ -4,7 +4,7 @@ ghost use Rattle.std.specs.Prelude.{◌≡◌, ◌<◌, ◌^◌, IfOk, IsTrue, S
 ghost use Rattle.tv_model.specs.Controls.Contents.{is_item_place};
 ghost use Rattle.tv_view.specs.Meaning.{fresh};
 ghost use Rattle.tv_model.specs.Kinds.InputLine.{MayStand};
-ghost use Rattle.tv_view.specs.Calls.{IsValueOf};
+ghost use Rattle.tv_view.specs.Calls.{IsFieldValue};
 
 use std::alloc::Global;
 use std::test::Fail;
@@ -31,7 +31,7 @@ pub fn open<V: View>(alloc: Global, view: &mut V, node: &Node, text: &str) -> Re
 
 fn set<V: View>(view: &mut V, node: &Node, value: Value)
     requires fresh { V.meaning view.old ≡ fresh node.now }
-    requires value { IsValueOf node.now.kind (Some value) }
+    requires value { IsFieldValue node.now.kind (Some value) }
 {
     let mut values = Record::new();
     values.put(node.id, value);
@@ -50,7 +50,7 @@ fn value_read(alloc: Global, kind: &Kind, text: &str) -> Result<Value, Fail> {
 }
 
 fn may_have(alloc: Global, kind: &Kind, value: &Value) -> Result<bool, Fail>
-    ensures { IfOk result (λ may. IsTrue may → IsValueOf kind.now (Some value.now)) }
+    ensures { IfOk result (λ may. IsTrue may → IsFieldValue kind.now (Some value.now)) }
 {
     match (kind, value) {
         (Kind::Input(input), Value::Text(text)) => Ok(may_stand(alloc, &input.spec, text)?),

@@ -18,9 +18,9 @@ use Rattle.tv_palette.specs.declared.role.InputRole.{InputRole}
 use Rattle.tv_palette.specs.declared.role.InputRole.TheVariants as input
 use Rattle.tv_palette.specs.declared.role.Role.TheVariants as roles
 use Rattle.tv_faces.specs.declared.input.InputColours.{InputColours}
-use Rattle.tv_faces.specs.Inputs.{attr_of, colours_of, input_cells, seen_edit}
+use Rattle.tv_faces.specs.Inputs.{input_attr, colours_of, input_cells, seen_edit}
 use Rattle.tv_model.specs.Controls.Look.{Look}
-use Rattle.tv_view.specs.Colours.{colour, has_focus, look_of}
+use Rattle.tv_view.specs.Colours.{colour, has_focus, lent_look}
 use Rattle.tv_view.specs.Drawing.{Lays, leaf_layers}
 use Rattle.tv_view.specs.declared.env.Env.{Env}
 use Rattle.tv_leaf.specs.Core.{Core}
@@ -35,7 +35,7 @@ shows-alike c width height f g layers p same shows = record {
       (same (int_gap c.origin.x (pos column)) (int_gap c.origin.y (pos row)));
 }
 
-attr_of-colours : (chain : List (List ℕ)) (role : InputRole) → attr_of (colours_of chain) role ≡ colour_in chain (roles.Input role)
+attr_of-colours : (chain : List (List ℕ)) (role : InputRole) → input_attr (colours_of chain) role ≡ colour_in chain (roles.Input role)
 attr_of-colours chain input.Normal = refl
 attr_of-colours chain input.SelectedText = refl
 attr_of-colours chain input.Arrow = refl
@@ -61,7 +61,7 @@ module _ (env : Env) (canvas : Canvas) (core : Core) (e : Edit) (shown_now : IsT
   width = natural core.node.w
 
   abbrev face : FaceOf
-  face = input_face (colour env) (look_of env (input_leaf core e)) width (edit_content e)
+  face = input_face (colour env) (lent_look env (input_leaf core e)) width (edit_content e)
 
   -- the core of another kind
   abbrev of_kind : Kind → Core
@@ -69,7 +69,7 @@ module _ (env : Env) (canvas : Canvas) (core : Core) (e : Edit) (shown_now : IsT
 
   layers-by : (kind : Kind) → IsTrue (is_input kind) → (b : Bool) → IsTrue b
       → leaf_layers env canvas (input_leaf (record (of_kind kind) { is_shown = b }) e)
-      ≡ Painted (sub canvas (place_of_node (of_kind kind).node)) width 1 (input_face (colour env) (look_of env (input_leaf (of_kind kind) e)) width (edit_content e)) ∷ []
+      ≡ Painted (sub canvas (place_of_node (of_kind kind).node)) width 1 (input_face (colour env) (lent_look env (input_leaf (of_kind kind) e)) width (edit_content e)) ∷ []
   unfolding leaf_layers
   layers-by (kinds.Input declared) own true is = refl
   layers-by (kinds.Input declared) own false is = absurd (false≢true is)
@@ -85,6 +85,6 @@ module _ (env : Env) (canvas : Canvas) (core : Core) (e : Edit) (shown_now : IsT
       subst (λ layers. Lays layers old new) (sym (layers-by core.node.kind own core.is_shown shown_now)) (record {
         size = size;
         shows = λ below under.
-            let alike = face-cells env (look_of env (input_leaf core e)) width e in
+            let alike = face-cells env (lent_look env (input_leaf core e)) width e in
             shows-alike (sub canvas (place_of_node core.node)) width 1 _ face below new alike (shows below under);
       })

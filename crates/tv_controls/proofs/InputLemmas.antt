@@ -18,14 +18,14 @@ use Rattle.tv_model.specs.Controls.Contents.{Content}
 use Rattle.tv_machine.specs.Controls.Declared.{opened_private}
 use Rattle.tv_model.specs.Controls.Behaviour.{Becomes, Passed}
 use Rattle.tv_machine.specs.Controls.Tables.{key_answer}
-use Rattle.tv_view.specs.Calls.{Fits, IsValueOf, opened_with, set_from}
-use Rattle.tv_view.specs.Effects.{keyed, with_answer}
+use Rattle.tv_view.specs.Calls.{Fits, IsFieldValue, leaf_opened_with, set_from}
+use Rattle.tv_view.specs.Effects.{leaf_keyed, with_answer}
 use Rattle.tv_view.specs.Fields.{content_of, with_content}
-use Rattle.tv_view.specs.Reactions.{answer, called, focus_answer, letter_answer, may_mark_by}
+use Rattle.tv_view.specs.Reactions.{answer, calling_letter, focus_answer, letter_answer, may_mark_by}
 use Rattle.tv_view.specs.declared.env.Env.{Env}
 use Rattle.tv_view.specs.declared.reaction.Reaction.TheVariants.{Done, Pass}
 use Rattle.tv_leaf.specs.Core.{Core}
-use Rattle.tv_controls.specs.InputLine.{asked_by, input_leaf, is_input, is_own_key, opened}
+use Rattle.tv_controls.specs.InputLine.{asked_by, input_leaf, is_input, is_own_key, edit_opened}
 
 -- ---- keys
 
@@ -49,8 +49,8 @@ pub input_answer : (k : Key) (p : Phase) (env : Env) (leaf : Leaf) → IsTrue (i
     → answer (events.Key k) p env leaf ≡ (if is_own_key p k then Done else Pass)
 unfolding answer
 input_answer k phases.Focused env leaf own = focused k env leaf (content_of leaf) leaf.node.kind own
-input_answer k phases.Pre env leaf own = uncalled k env leaf (called phases.Pre k) leaf.node.kind own
-input_answer k phases.Post env leaf own = uncalled k env leaf (called phases.Post k) leaf.node.kind own
+input_answer k phases.Pre env leaf own = uncalled k env leaf (calling_letter phases.Pre k) leaf.node.kind own
+input_answer k phases.Post env leaf own = uncalled k env leaf (calling_letter phases.Post k) leaf.node.kind own
 
 module _ (k : Key) (core : Core) (d : Domain) (e : Edit) where
   abbrev before : Leaf
@@ -70,7 +70,7 @@ module _ (k : Key) (core : Core) (d : Domain) (e : Edit) where
 
   -- its own keys edit its text by the domain that it asks for
   pub input_keyed : (p : Phase) → IsTrue (is_input core.node.kind) → asked_by core.node.kind ≡ Some d
-      → keyed k p before ≡ (if is_own_key p k then input_leaf core (edited d k e) else before)
+      → leaf_keyed k p before ≡ (if is_own_key p k then input_leaf core (edited d k e) else before)
   input_keyed phases.Focused own asked = edited_if core.node.kind own asked
   input_keyed phases.Pre own asked = refl
   input_keyed phases.Post own asked = refl
@@ -78,7 +78,7 @@ module _ (k : Key) (core : Core) (d : Domain) (e : Edit) where
 -- ---- values
 
 -- a value that it may have is a text
-text_value : (kind : Kind) → IsTrue (is_input kind) → (v : Option Value) → IsValueOf kind v
+text_value : (kind : Kind) → IsTrue (is_input kind) → (v : Option Value) → IsFieldValue kind v
     → (text : List ℕ) × (v ≡ Some (values.Text text))
 text_value (kinds.Input input) is (Some (values.Text text)) h = (text, refl)
 text_value (kinds.Input input) is (Some (values.Marks marks)) h = absurd h
@@ -105,8 +105,8 @@ first_place _ is v = absurd (false≢true is)
 -- it opens with the text of its field
 pub input_opened : (entries : Entries) (core : Core) (e : Edit) (text : List ℕ) → IsTrue (is_input core.node.kind)
     → value_of entries core.node.id.0 ≡ Some (values.Text text)
-    → set_from entries (input_leaf core e) ≡ input_leaf (record core { is_focused = false; held = None }) (opened text e.overwrites)
+    → set_from entries (input_leaf core e) ≡ input_leaf (record core { is_focused = false; held = None }) (edit_opened text e.overwrites)
 unfolding set_from
 input_opened entries core e text own is =
-    ap (λ v. unfocused (opened_with v (input_leaf core e))) is
+    ap (λ v. unfocused (leaf_opened_with v (input_leaf core e))) is
     ∙ ap (λ private. unfocused (with_private (input_leaf core e) (Some (values.Text text)) private)) (first_place core.node.kind own (Some (values.Text text)))

@@ -24,8 +24,8 @@ asked_by (kinds.Input input) = domain_of input.spec
 asked_by _ = None
 
 -- a text as a dialog opens with it
-abbrev pub opened : List ℕ → Bool → Edit
-opened text overwrites = record { text = text; cursor = 0; is_whole = false; overwrites = overwrites }
+abbrev pub edit_opened : List ℕ → Bool → Edit
+edit_opened text overwrites = record { text = text; cursor = 0; is_whole = false; overwrites = overwrites }
 
 -- the leaf that holds an edit
 abbrev pub input_leaf : Core → Edit → Leaf
@@ -37,8 +37,8 @@ is_own_key phases.Focused k = is_edit_key k
 is_own_key _ k = false
 
 -- the text of a value that is one
-abbrev pub text_in : Option Value → Option (List ℕ)
-text_in (Some (values.Text text)) = Some text
-text_in (Some (values.Marks marks)) = None
-text_in (Some (values.Item item)) = None
-text_in None = None
+abbrev pub text_of_value : Option Value → Option (List ℕ)
+text_of_value (Some (values.Text text)) = Some text
+text_of_value (Some (values.Marks marks)) = None
+text_of_value (Some (values.Item item)) = None
+text_of_value None = None

@@ -11,5 +11,5 @@ is_label (kinds.Label label) = true
 is_label _ = false
 
 -- the role of the text but for its marked letter, by whether the link has the focus
-abbrev pub text_role : Bool → LabelRole
-text_role is_linked = if is_linked then label.Focused else label.Normal
+abbrev pub label_text_role : Bool → LabelRole
+label_text_role is_linked = if is_linked then label.Focused else label.Normal

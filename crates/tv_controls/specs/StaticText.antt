@@ -7,9 +7,9 @@ use Rattle.tv_model.specs.Controls.Private.{Plain}
 use Rattle.tv_view.specs.Meaning.{Leaf}
 
 -- the kind of a static text
-abbrev pub is_text : Kind → Bool
-is_text (kinds.Text shown) = true
-is_text _ = false
+abbrev pub is_text_kind : Kind → Bool
+is_text_kind (kinds.Text shown) = true
+is_text_kind _ = false
 
 -- what a static text keeps of its node, and whether it is shown
 pub record TextState : Type 0 where

@@ -2,7 +2,7 @@
 
 ghost use Rattle.std.specs.Prelude.{◌≡◌, ◌↔◌, ◌≤◌, IfOk, IsErrOf, IsTrue, Some, false, if◌then◌else◌, length};
 ghost use Rattle.tv_valid.specs.Asking.{domain_of};
-ghost use Rattle.tv_view.specs.Meaning.{fresh, holds};
+ghost use Rattle.tv_view.specs.Meaning.{fresh, holds_mouse};
 ghost use Rattle.tv_model.specs.Kinds.InputLine.{HasAnyText, MayStand};
 ghost use Rattle.tv_model.specs.Description.LawfulNodes.{IsLawfulNode};
 ghost use Rattle.tv_model.specs.Log.Record.{value_of};
@@ -10,11 +10,11 @@ ghost use Rattle.tv_model.specs.declared.kind.Input.{Input as Declared};
 ghost use Rattle.tv_model.specs.declared.kind.Kind.TheVariants as kinds;
 ghost use Rattle.tv_cells.specs.declared.rect.Point.{Point};
 ghost use Rattle.tv_view.specs.Calls.{Fits, focused_to, set_from, takes_focus};
-ghost use Rattle.tv_view.specs.Effects.{captured, first_before, keyed, lifted};
+ghost use Rattle.tv_view.specs.Effects.{captured, first_shown_before, leaf_keyed, lifted};
 ghost use Rattle.tv_view.specs.Reactions.{answer, captures, down_answer, lifted_answer};
 ghost use Rattle.tv_view.specs.declared.env.Env.{Env as Lent};
 ghost use Rattle.tv_event.specs.declared.event.Event.TheVariants as events;
-ghost use Rattle.tv_controls.specs.InputLine.{asked_by, input_leaf, is_input, is_own_key, text_in};
+ghost use Rattle.tv_controls.specs.InputLine.{asked_by, input_leaf, is_input, is_own_key, text_of_value};
 
 use crate::line_edit::{LineEdit, is_edit_key};
 use bitflags::Flags;
@@ -58,7 +58,7 @@ fn start_of(input: &Declared) -> Text
 
 // The text of a field, where the record has one.
 fn text_in(values: &Record, id: Id) -> Option<Text>
-    ensures { result ≡ text_in (value_of values.now id.0) }
+    ensures { result ≡ text_of_value (value_of values.now id.0) }
 {
     match values.value(id)? {
         Value::Text(text) => Some(text.copy()),
@@ -109,7 +109,7 @@ impl InputLine {
 
     fn key(&mut self, key: Key, phase: Phase) -> Reaction
         ensures reaction { (env : Lent) → result ≡ answer (events.Key key) phase env (input_leaf self.old.core self.old.edit) }
-        ensures after { input_leaf self.new.core self.new.edit ≡ keyed key phase (input_leaf self.old.core self.old.edit) }
+        ensures after { input_leaf self.new.core self.new.edit ≡ leaf_keyed key phase (input_leaf self.old.core self.old.edit) }
     {
         if !is_own_key(phase, key) {
             return Reaction::Pass;
@@ -120,7 +120,7 @@ impl InputLine {
 
     // The first place of the text that was shown when the event came.
     fn first_before(&self, env: &Env) -> u32
-        ensures value { result ≡ first_before env.now (input_leaf self.now.core self.now.edit) }
+        ensures value { result ≡ first_shown_before env.now (input_leaf self.now.core self.now.edit) }
         ensures within { result ≤ length self.now.edit.text }
     {
         let cursor = self.edit.cursor();

@@ -6,12 +6,12 @@ ghost use Rattle.tv_model.specs.Description.Names.{gives_name, meant};
 ghost use Rattle.tv_view.specs.Meaning.{fresh};
 ghost use Rattle.tv_model.specs.declared.kind.Label.{Label as Declared};
 ghost use Rattle.tv_model.specs.declared.kind.Kind.TheVariants as kinds;
-ghost use Rattle.tv_view.specs.Colours.{is_focus, link_of, linked_by};
-ghost use Rattle.tv_view.specs.Reactions.{answer, called, calls, focus_on};
+ghost use Rattle.tv_view.specs.Colours.{is_link_focus, link_of, linked_by};
+ghost use Rattle.tv_view.specs.Reactions.{answer, calling_letter, calls, focus_on};
 ghost use Rattle.tv_view.specs.declared.env.Env.{Env as Lent};
 ghost use Rattle.tv_event.specs.declared.event.Event.TheVariants as events;
 ghost use Rattle.tv_leaf.specs.Core.{plain_leaf};
-ghost use Rattle.tv_controls.specs.Label.{is_label, text_role};
+ghost use Rattle.tv_controls.specs.Label.{is_label, label_text_role};
 
 use bitflags::Flags;
 use std::alloc::Global;
@@ -73,7 +73,7 @@ fn focus_on(link: Option<Id>) -> Reaction
 }
 
 fn is_focus(env: &Env, link: Option<Id>) -> bool
-    ensures { result ≡ is_focus env.now link }
+    ensures { result ≡ is_link_focus env.now link }
 {
     match link {
         Some(id) => has_focus(env, id),
@@ -83,7 +83,7 @@ fn is_focus(env: &Env, link: Option<Id>) -> bool
 
 // The role of the text but for its marked letter.
 fn text_role(is_linked: bool) -> LabelRole
-    ensures { result ≡ text_role is_linked }
+    ensures { result ≡ label_text_role is_linked }
 {
     if is_linked {
         LabelRole::Focused
@@ -94,7 +94,7 @@ fn text_role(is_linked: bool) -> LabelRole
 
 // The letter by which a key calls it.
 fn called(phase: Phase, key: Key) -> Option<char>
-    ensures { result ≡ called phase key }
+    ensures { result ≡ calling_letter phase key }
 {
     match (phase, key) {
         (Phase::Pre, Key::Alt(ch)) => Some(ch),

@@ -2,7 +2,7 @@
 
 ghost use Rattle.std.specs.Prelude.{◌≡◌, ◌↔◌, ◌<◌, ◌≤◌, IsTrue, false, length, remove};
 ghost use Rattle.tv_model.specs.Kinds.InputLine.{at_place, backspaced, clicked, deleted, entered, is_edit_key, left, opened_up, cursor_after, with_text, becomes, edited, typed};
-ghost use Rattle.tv_controls.specs.InputLine.{opened};
+ghost use Rattle.tv_controls.specs.InputLine.{edit_opened};
 
 use std::marker::Model;
 use tv_event::Key;
@@ -44,7 +44,7 @@ pub(crate) fn is_edit_key(key: Key) -> bool
 impl LineEdit {
     /// Starts with a text: the cursor stands before it, and nothing is selected.
     pub fn new(text: Text) -> LineEdit
-        ensures { result ≡ opened text false }
+        ensures { result ≡ edit_opened text false }
     {
         LineEdit {
             text,
@@ -79,14 +79,14 @@ impl LineEdit {
 
     /// Whether it is as at the start, before any key, with these characters.
     pub fn is_start(&self, start: &[char]) -> bool
-        ensures { IsTrue result ↔ (self.now ≡ opened start.now false) }
+        ensures { IsTrue result ↔ (self.now ≡ edit_opened start.now false) }
     {
         self.text.as_slice() == start && self.cursor == 0 && !self.is_whole && !self.overwrites
     }
 
     /// Takes another text, with the cursor before it and nothing selected.
     pub fn open(&mut self, text: Text)
-        ensures { self.new ≡ opened text self.old.overwrites }
+        ensures { self.new ≡ edit_opened text self.old.overwrites }
     {
         self.put(text, 0);
     }

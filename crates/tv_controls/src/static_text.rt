@@ -3,7 +3,7 @@
 ghost use Rattle.std.specs.Prelude.{◌≡◌, ◌↔◌, IfOk, IsErrOf, false};
 ghost use Rattle.tv_model.specs.Description.Rectangles.{place_of_node, IsSmallRect};
 ghost use Rattle.tv_view.specs.Meaning.{fresh};
-ghost use Rattle.tv_controls.specs.StaticText.{is_text, text_leaf};
+ghost use Rattle.tv_controls.specs.StaticText.{is_text_kind, text_leaf};
 
 use bitflags::Flags;
 use std::alloc::Global;
@@ -50,7 +50,7 @@ impl StaticText {
     pub fn new(alloc: Global, node: &Node) -> Result<StaticText, ControlFault>
         requires { IsSmallRect (place_of_node node.now) }
         ensures made { IfOk result (λ view. text_leaf view ≡ fresh node.now) }
-        ensures wrong { IsErrOf result ControlFault.WrongKind ↔ (is_text node.now.kind ≡ false) }
+        ensures wrong { IsErrOf result ControlFault.WrongKind ↔ (is_text_kind node.now.kind ≡ false) }
     {
         match &node.kind {
             Kind::Text(declared) => {

@@ -18,7 +18,7 @@ use Rattle.tv_machine.specs.Safe.{HasValueOf}
 use Rattle.tv_machine.specs.Dialog.Ending.{fields_of}
 use Rattle.tv_machine.specs.Dialog.Lawful.{IsLawfulDialog}
 use Rattle.tv_machine.specs.Dialog.Opening.{opened_leaves, unfocused}
-use Rattle.tv_view.specs.Calls.{Fits, HasRoom, HasRoomFor, IsValueOf, gathered, with_field}
+use Rattle.tv_view.specs.Calls.{Fits, HasRoom, HasRoomFor, IsFieldValue, gathered, with_field}
 use Rattle.tv_group.specs.Calls.{FitsAll, HasRoomForAll, all_gathered}
 use Rattle.tv_group.specs.Opened.{opened}
 use Rattle.tv_group.specs.Outline.{IsFreshBody}
@@ -64,7 +64,7 @@ few-room (x ∷ xs) entries h =
 -- ---- values
 
 -- what the machine says of a value of its kind is what a view asks of it
-value-fits : (kind : Kind) (value : Option Value) → HasValueOf kind value → IsValueOf kind value
+value-fits : (kind : Kind) (value : Option Value) → HasValueOf kind value → IsFieldValue kind value
 value-fits (kinds.Input input) (Some (values.Text text)) has = has
 value-fits (kinds.Input input) (Some (values.Marks marks)) has = has
 value-fits (kinds.Input input) (Some (values.Item item)) has = has
@@ -119,7 +119,7 @@ module _ (d : Dialog) (lawful : IsLawfulDialog d) where
     tree-fits =
         All-map (λ x. Fits declared_record x.leaf) (fresh_leaf d) (leaf_list d.views)
         (leaves-are d lawful (λ leaf. Fits declared_record (fresh_leaf d leaf).leaf)
-        (λ leaf e. subst (IsValueOf leaf.node.kind) (sym (declared-found leaf e))
+        (λ leaf e. subst (IsFieldValue leaf.node.kind) (sym (declared-found leaf e))
         (value-fits leaf.node.kind (declared_value leaf.node.kind)
         (leaf_at-all (λ other. HasValueOf other.node.kind (declared_value other.node.kind)) d leaf.node.id leaf valued e))))
 

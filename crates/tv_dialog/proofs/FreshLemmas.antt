@@ -41,7 +41,7 @@ applied-alike rules xs ys alike =
 -- a leaf whose value is set, by whether it has one and what is recorded
 abbrev set_place : Bool → Option Value → Placed → Placed
 set_place field found x = record x {
-  leaf = record (if field then calls.opened_with found x.leaf else x.leaf) { is_focused = false; held = None };
+  leaf = record (if field then calls.leaf_opened_with found x.leaf else x.leaf) { is_focused = false; held = None };
   is_current = false;
 }
 
@@ -56,7 +56,7 @@ set_unflagged entries xs =
     map-map (in_place_unmarked (calls.set_from entries)) unflagged xs
     ∙ map-same (λ x. unflagged (in_place_unmarked (calls.set_from entries) x))
     (λ x. in_place_unmarked (calls.set_from entries) (unflagged x)) xs
-    (λ k e h. let x = get_or xs k e in set_still (calls.is_field x.leaf.value) (value_of entries x.leaf.node.id.0) x)
+    (λ k e h. let x = get_or xs k e in set_still (calls.has_field_value x.leaf.value) (value_of entries x.leaf.node.id.0) x)
     ∙ sym (map-map unflagged (in_place_unmarked (calls.set_from entries)) xs)
 
 -- values that are set leave them alike

@@ -24,7 +24,7 @@ use Rattle.tv_machine.specs.Dialog.Rules.{content_held, enables, holds, is_among
 use Rattle.tv_model.specs.Kinds.Cluster.{is_marked}
 use Rattle.tv_view.specs.declared.env.Rules.{Rules}
 use Rattle.tv_machine.specs.Dialog.Lawful.{IsLawfulDialog, NamesCluster}
-use Rattle.tv_dialog.specs.Plan.{blocks, condition_of, gate_by, gate_of, is_enabled_by, is_met, is_shown_by, leaf_plan, plan_of, shown_by, value_at}
+use Rattle.tv_dialog.specs.Plan.{blocks, condition_of, gate_by, gate_of, is_enabled_in_plan, is_met, is_shown_by, leaf_plan, plan_of, shown_by, value_at}
 use Rattle.tv_dialog.specs.declared.condition.Condition.{Condition}
 use Rattle.tv_tree.proofs.EndingLemmas.{fewer_leaves}
 use Rattle.tv_tree.proofs.GatheredLemmas.{value-fields}
@@ -155,7 +155,7 @@ module _ (d : Dialog) (lawful : IsLawfulDialog d) (leaves : List LeafState) (mar
   gate_at number c (effects.Enable command) = gate_is (command_number command == number) (is_met marks c)
 
   -- the commands that it enables
-  pub enabled-plan : (number : ℕ) → is_enabled_by (plan_of d.views d.rules) marks number ≡ is_command_enabled d leaves number
+  pub enabled-plan : (number : ℕ) → is_enabled_in_plan (plan_of d.views d.rules) marks number ≡ is_command_enabled d leaves number
   enabled-plan number =
       all_mapped (gate_of d.views) (λ gate. not (blocks marks number gate)) d.rules
       ∙ all-same (λ rule. on_option (λ gate. not (blocks marks number gate)) (gate_of d.views rule))
@@ -168,7 +168,7 @@ module _ (d : Dialog) (lawful : IsLawfulDialog d) (leaves : List LeafState) (mar
   -- what the plan comes to are the rules of these marks
   pub plan-rules : (rules : Rules) → rules.shown.now ≡ shown_by (plan_of d.views d.rules) marks
       → ((number : ℕ) → number < 256
-      → slice_index_or rules.commands.now number false ≡ is_enabled_by (plan_of d.views d.rules) marks number) → AreRulesOf d leaves rules
+      → slice_index_or rules.commands.now number false ≡ is_enabled_in_plan (plan_of d.views d.rules) marks number) → AreRulesOf d leaves rules
   plan-rules rules shown commands = record {
     shown = leaves-are d lawful (λ leaf. is_among rules.shown.now leaf.node.id ≡ is_visible d leaves leaf)
         (λ leaf e.

@@ -24,8 +24,8 @@ use Rattle.tv_group.specs.Calls.{FitsAll, all_applied, all_set, first_in, gather
 use Rattle.tv_group.specs.declared.focus.Dir.TheVariants.{Forward}
 use Rattle.tv_group.specs.Opened.{opened}
 use Rattle.tv_dialog.specs.declared.dialog.DialogOf.{DialogOf}
-use Rattle.tv_dialog.specs.Head.{declared_head}
-use Rattle.tv_dialog.specs.Plan.{is_enabled_by, leaf_plan, plan_of, shown_by}
+use Rattle.tv_dialog.specs.Head.{declared_dialog_head}
+use Rattle.tv_dialog.specs.Plan.{is_enabled_in_plan, leaf_plan, plan_of, shown_by}
 use Rattle.tv_dialog.specs.Resting.{AreAlike, Rests, unflagged}
 use Rattle.tv_dialog.specs.Standing.{AreFields, Stands}
 use Rattle.tv_tree.specs.Tree.{placed_as, tree_as, tree_of}
@@ -72,7 +72,7 @@ module _ {V : Type 0} (look : V → Leaf) (d : Dialog) where
   }
 
   -- so does a new one round a fresh body
-  pub fresh-rests : IsLawfulDialog d → (dialog : DialogOf V) → Some dialog.head ≡ declared_head d.node
+  pub fresh-rests : IsLawfulDialog d → (dialog : DialogOf V) → Some dialog.head ≡ declared_dialog_head d.node
       → dialog.plan ≡ plan_of d.views d.rules → opened look dialog.body ≡ fresh_tree d → dialog.marks ≡ []
       → Rests look d (unfocused d None []) dialog
   fresh-rests lawful dialog head plan body marks = record {
@@ -109,7 +109,7 @@ module _ {V : Type 0} (look : V → Leaf) (d : Dialog) where
       → new.head ≡ old.head → new.plan ≡ old.plan → new.focus ≡ old.focus → new.log ≡ old.log → new.is_open ≡ old.is_open
       → new.marks ≡ gathered_within (opened look old.body) old.marks
       → (length old.plan.leaves ≤ 64 → new.ruled.shown.items ≡ shown_by old.plan new.marks)
-      → ((number : ℕ) → number < 256 → slice_index_or new.ruled.commands number false ≡ is_enabled_by old.plan new.marks number)
+      → ((number : ℕ) → number < 256 → slice_index_or new.ruled.commands number false ≡ is_enabled_in_plan old.plan new.marks number)
       → rules.shown.now ≡ new.ruled.shown.items → rules.commands.now ≡ new.ruled.commands
       → opened look new.body ≡ all_applied rules (opened look old.body)
       → Stands look d m.leaves m new
@@ -125,8 +125,8 @@ module _ {V : Type 0} (look : V → Leaf) (d : Dialog) where
       let shown_now : rules.shown.now ≡ shown_by own (fields_of m.leaves)
       = shows ∙ shown few ∙ ap (λ p. shown_by p new.marks) s.plan ∙ ap (shown_by own) fields in
       let enabled : (number : ℕ) → number < 256 → slice_index_or new.ruled.commands number false ≡ is_command_enabled d m.leaves number
-      = λ number less. commands number less ∙ ap (λ p. is_enabled_by p new.marks number) s.plan
-      ∙ ap (λ v. is_enabled_by own v number) fields ∙ enabled-plan d lawful m s.steady.leaves number in
+      = λ number less. commands number less ∙ ap (λ p. is_enabled_in_plan p new.marks number) s.plan
+      ∙ ap (λ v. is_enabled_in_plan own v number) fields ∙ enabled-plan d lawful m s.steady.leaves number in
       let are : AreRulesOf d m.leaves rules = record {
         shown = subst (λ ids. All (λ leaf. is_among ids leaf.node.id ≡ is_visible d m.leaves leaf) (leaf_list d.views)) (sym shown_now)
             (shown-plan d lawful m s.steady.leaves);

@@ -9,7 +9,7 @@ use Rattle.tv_machine.specs.Dialog.Ending.{command}
 use Rattle.tv_machine.specs.Dialog.Modal.{Modal}
 use Rattle.tv_view.specs.declared.reaction.Reaction.{Reaction}
 use Rattle.tv_view.specs.declared.reaction.Reaction.TheVariants as reactions
-use Rattle.tv_dialog.specs.Settling.{ComesTo, IsPosted, PostedAfter, posted_by}
+use Rattle.tv_dialog.specs.Settling.{SettlesTo, IsPosted, PostedAfter, posted_by}
 use Rattle.tv_dialog.specs.Standing.{Stands}
 use Rattle.tv_dialog.specs.declared.dialog.DialogOf.{DialogOf}
 
@@ -49,14 +49,14 @@ posted-after (events.Broadcast c) waiting few = few
 
 module _ {V : Type 0} (look : V → Leaf) (d : Dialog) where
   -- where nothing waits it has come to it
-  pub come-to : (target : Modal) (dialog : DialogOf V) → dialog.pending ≡ [] → ComesTo look d target dialog → Stands look d target.leaves target dialog
+  pub come-to : (target : Modal) (dialog : DialogOf V) → dialog.pending ≡ [] → SettlesTo look d target dialog → Stands look d target.leaves target dialog
   come-to target dialog none (inl (is, s)) = s
   come-to target dialog none (inr (c, (is, s))) = let f : [] ≡ events.Command c ∷ [] = sym none ∙ is in absurd cc
 
   -- a turn, and another one for the command that it posted
-  pub settles : (target : Modal) (mid new : DialogOf V) → ComesTo look d target mid → new.pending ≡ [] → (mid.pending ≡ [] → new ≡ mid)
+  pub settles : (target : Modal) (mid new : DialogOf V) → SettlesTo look d target mid → new.pending ≡ [] → (mid.pending ≡ [] → new ≡ mid)
       → ((n : Modal) (c : Command) → length n.log ≤ 1 → mid.pending ≡ events.Command c ∷ [] → Stands look d n.leaves n mid
-      → ComesTo look d (command d c.0 n) new)
+      → SettlesTo look d (command d c.0 n) new)
       → Stands look d target.leaves target new
   settles target mid new (inl first) empty rests turns = subst (Stands look d target.leaves target) (sym (rests first.0)) first.1
   settles target mid new (inr posted) empty rests turns =

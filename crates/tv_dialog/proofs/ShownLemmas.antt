@@ -32,7 +32,7 @@ use Rattle.tv_view.specs.Drawing.{Lays, leaves_layers}
 use Rattle.tv_view.proofs.LayingLemmas.{lays_as}
 use Rattle.tv_dialog.specs.Drawn as drawn
 use Rattle.tv_dialog.specs.Drawn.{lent}
-use Rattle.tv_dialog.specs.Head.{KeptHead, bounds_of, declared_head}
+use Rattle.tv_dialog.specs.Head.{KeptDialogHead, dialog_bounds, declared_dialog_head}
 use Rattle.tv_tree.specs.Shown.{IsShown, desktop_canvas, dialog_canvas, shadow_layer}
 use Rattle.tv_dialog.specs.Standing.{Stands}
 use Rattle.tv_tree.specs.Tree.{tree_of}
@@ -41,7 +41,7 @@ use Rattle.tv_tree.proofs.Screen.OpenDialogLemmas.{dialog-laid, dialog-tall, tre
 use Rattle.tv_dialog.proofs.TurnCodeLemmas.{lent-by}
 
 -- what a dialog keeps of its node
-abbrev own_head : Dialog → KeptHead
+abbrev own_head : Dialog → KeptDialogHead
 own_head d = record {
   id = d.node.id;
   x = d.node.x;
@@ -52,7 +52,7 @@ own_head d = record {
   ends = (dialog_head d).ends;
 }
 
-kept_is : (node : Node) (kind : Kind) (is : IsTrue (is_dialog kind)) (head : KeptHead) → Some head ≡ declared_head (record node { kind = kind })
+kept_is : (node : Node) (kind : Kind) (is : IsTrue (is_dialog kind)) (head : KeptDialogHead) → Some head ≡ declared_dialog_head (record node { kind = kind })
     → head ≡ record {
       id = node.id;
       x = node.x;
@@ -73,7 +73,7 @@ kept_is node (kinds.RadioButtons radios) is head e = absurd (false≢true is)
 kept_is node (kinds.List list) is head e = absurd (false≢true is)
 kept_is node (kinds.Pane pane) is head e = absurd (false≢true is)
 
-head-is : (d : Dialog) (head : KeptHead) → Some head ≡ declared_head d.node → head ≡ own_head d
+head-is : (d : Dialog) (head : KeptDialogHead) → Some head ≡ declared_dialog_head d.node → head ≡ own_head d
 head-is d head e = kept_is d.node d.node.kind d.own_kind head e
 
 -- a frame by its canvas, its size and its title
@@ -94,25 +94,25 @@ module _ {V : Type 0} (look : V → Leaf) (desc : Desc) (d : Dialog) (o : OpenDi
   abbrev here : Env
   here = lent dialog.plan dialog.focus env
 
-  canvas-is : sub c (bounds_of dialog.head) ≡ dialog_canvas desc o d
+  canvas-is : sub c (dialog_bounds dialog.head) ≡ dialog_canvas desc o d
   canvas-is =
-      ap (λ k. sub k (bounds_of dialog.head)) shown.desktop
-      ∙ ap (λ k. sub (desktop_canvas desc) (bounds_of k)) (head-is d dialog.head s.head)
+      ap (λ k. sub k (dialog_bounds dialog.head)) shown.desktop
+      ∙ ap (λ k. sub (desktop_canvas desc) (dialog_bounds k)) (head-is d dialog.head s.head)
       ∙ ap (λ h. sub (desktop_canvas desc) (rect d.node.x d.node.y d.node.w h)) (sym (dialog-tall d))
       ∙ ap (λ p. sub (desktop_canvas desc) (rect p.x p.y d.node.w (height_of d.node.kind))) (sym shown.corner)
 
-  layers-are : drawn.dialog_layers look env c dialog ≡ tree_layers desc here o d m
+  layers-are : drawn.drawn_dialog look env c dialog ≡ tree_layers desc here o d m
   layers-are =
       ap (λ k. leaves_layers here k (opened look dialog.body) ++ framed env k dialog.head.w dialog.head.h dialog.head.title ∷ []) canvas-is
       ∙ ap (λ xs. leaves_layers here (dialog_canvas desc o d) xs ++ framed env (dialog_canvas desc o d) dialog.head.w dialog.head.h dialog.head.title ∷ []) s.tree
       ∙ ap (λ k. leaves_layers here (dialog_canvas desc o d) (tree_of d m) ++ framed env (dialog_canvas desc o d) k.w k.h k.title ∷ []) (head-is d dialog.head s.head)
       ∙ ap (λ h. leaves_layers here (dialog_canvas desc o d) (tree_of d m) ++ framed env (dialog_canvas desc o d) d.node.w h (dialog_head d).title ∷ []) (sym (dialog-tall d))
 
-  pub dialog-shown : (old mid new : Picture) → Lays (shadow_layer desc o d ∷ []) old mid → Lays (drawn.dialog_layers look env c dialog) mid new
+  pub dialog-shown : (old mid new : Picture) → Lays (shadow_layer desc o d ∷ []) old mid → Lays (drawn.drawn_dialog look env c dialog) mid new
       → Lays (dialog_layers desc o overwriting d) old new
   dialog-shown old mid new shadow laid =
       dialog-laid desc d own own.defaults o overwriting m shown.work here
       (lent-by d m dialog.plan dialog.focus env here s.plan s.focus shown.views refl)
       (record { owner = shown.palettes.owner; chain = shown.palettes.chain }) shown.active
       (subst (λ p. IsSmall p.x × IsSmall p.y) (sym shown.corner) (small_corner d own)) old mid new shadow
-      (lays_as (drawn.dialog_layers look env c dialog) (tree_layers desc here o d m) mid new layers-are laid)
+      (lays_as (drawn.drawn_dialog look env c dialog) (tree_layers desc here o d m) mid new layers-are laid)

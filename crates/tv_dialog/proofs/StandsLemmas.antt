@@ -24,10 +24,10 @@ use Rattle.tv_group.specs.declared.focus.Dir.{Dir}
 use Rattle.tv_group.specs.declared.focus.Dir.TheVariants as dirs
 use Rattle.tv_group.specs.Opened.{opened}
 use Rattle.tv_dialog.specs.declared.dialog.DialogOf.{DialogOf}
-use Rattle.tv_dialog.specs.Head.{KeptHead, declared_head}
+use Rattle.tv_dialog.specs.Head.{KeptDialogHead, declared_dialog_head}
 use Rattle.tv_dialog.specs.Standing.{AreFields, Stands, stop_in}
 use Rattle.tv_machine.specs.Dialog.Alike.{HoldSame}
-use Rattle.tv_dialog.specs.Stepping.{started}
+use Rattle.tv_dialog.specs.Stepping.{begun_anew}
 use Rattle.tv_tree.specs.Tree.{IsSteady, tree_as, tree_of}
 use Rattle.tv_tree.proofs.FocusTreeLemmas.{focused-tree}
 use Rattle.tv_machine.proofs.ListLemmas.{either-same, option_cases}
@@ -39,7 +39,7 @@ use Rattle.tv_tree.proofs.StandingLemmas.{steady-moved}
 
 -- ---- heads
 
-kept_parts : (node : Node) (kind : Kind) (is : IsTrue (is_dialog kind)) (head : KeptHead) → Some head ≡ declared_head (record node { kind = kind })
+kept_parts : (node : Node) (kind : Kind) (is : IsTrue (is_dialog kind)) (head : KeptDialogHead) → Some head ≡ declared_dialog_head (record node { kind = kind })
     → ((dialog_head_of kind is).ends ≡ head.ends) × (head.id ≡ node.id)
 kept_parts node (kinds.Dialog own) is head e = (cc, cc)
 kept_parts node (kinds.Window own) is head e = absurd (false≢true is)
@@ -53,7 +53,7 @@ kept_parts node (kinds.List list) is head e = absurd (false≢true is)
 kept_parts node (kinds.Pane pane) is head e = absurd (false≢true is)
 
 -- a dialog's head has the ends that it declares, and its id
-pub head-parts : (d : Dialog) (head : KeptHead) → Some head ≡ declared_head d.node → ((dialog_head d).ends ≡ head.ends) × (head.id ≡ d.node.id)
+pub head-parts : (d : Dialog) (head : KeptDialogHead) → Some head ≡ declared_dialog_head d.node → ((dialog_head d).ends ≡ head.ends) × (head.id ≡ d.node.id)
 head-parts d head e = kept_parts d.node d.node.kind d.own_kind head e
 
 -- ---- what moves and requests leave
@@ -192,7 +192,7 @@ module _ {V : Type 0} (look : V → Leaf) (d : Dialog) where
 
   -- an open dialog whose log was emptied
   pub stands-started : (m : Modal) (old new : DialogOf V) → IsKept old new → new.body ≡ old.body → new.focus ≡ old.focus → new.log.items ≡ [] → old.is_open ≡ true
-      → Stands look d m.leaves m old → Stands look d m.leaves (started m) new
+      → Stands look d m.leaves m old → Stands look d m.leaves (begun_anew m) new
   stands-started m old new kept body focus log opens s =
-      stands-on look d m.leaves m (started m) old new kept (goes_on m (sym s.open ∙ opens)) s (ap (opened look) body ∙ s.tree)
+      stands-on look d m.leaves m (begun_anew m) old new kept (goes_on m (sym s.open ∙ opens)) s (ap (opened look) body ∙ s.tree)
       (record { leaves = s.steady.leaves; contents = s.steady.contents }) (focus ∙ s.focus) log

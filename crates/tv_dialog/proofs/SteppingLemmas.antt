@@ -13,7 +13,7 @@ use Rattle.tv_machine.specs.Dialog.Modal.{Modal}
 use Rattle.tv_machine.specs.Dialog.Mouse.{down_at, is_close_mark, topmost_leaf}
 use Rattle.tv_machine.specs.Dialog.Step.{dialog_step, free_step, held_step, step_by}
 use Rattle.tv_tree.specs.Ready.{HoldsLeaf}
-use Rattle.tv_dialog.specs.Settling.{IsFresh, IsReady, turned}
+use Rattle.tv_dialog.specs.Settling.{IsFresh, IsReadyFor, turned}
 use Rattle.tv_dialog.specs.Stepping.{IsHandedIn, posted, posted_free, posted_held, posted_key, walked}
 use Rattle.tv_machine.proofs.ListLemmas.{bool_cases, option_cases}
 
@@ -26,7 +26,7 @@ module _ (d : Dialog) (m : Modal) (fresh : IsFresh m) (focus : is_free_at d m.le
 
   -- the posted event may be handled, and comes to this
   abbrev Comes : Modal → Event → Type 0
-  Comes target e = IsReady d m e × (turned d e m ≡ target)
+  Comes target e = IsReadyFor d m e × (turned d e m ≡ target)
 
   comes_key : (k : Key) (e : Event) → IsHandedIn (events.Key k) → posted_key k ≡ Some e → Comes (key d k m) e
   comes_key keys.Tab e handed is = absurd cc
@@ -61,7 +61,7 @@ module _ (d : Dialog) (m : Modal) (fresh : IsFresh m) (focus : is_free_at d m.le
   comes_held held some (events.Broadcast c) one handed is = absurd cc
 
   -- what is posted comes to what the machine makes of the event
-  pub posted-comes : (e one : Event) → IsHandedIn e → posted (is_some m.held) e ≡ Some one → IsReady d m one × (turned d one m ≡ dialog_step d e m)
+  pub posted-comes : (e one : Event) → IsHandedIn e → posted (is_some m.held) e ≡ Some one → IsReadyFor d m one × (turned d one m ≡ dialog_step d e m)
   posted-comes e one handed =
       option_cases m.held (λ o. m.held ≡ o → posted (is_some o) e ≡ Some one → Comes (step_by d o e m) one)
       (λ none same is. comes_free same e one handed is) (λ held some same is. comes_held held same e one handed is) refl

@@ -20,7 +20,7 @@ use Rattle.tv_dialog.specs.Drawn.{default_now, lent}
 use Rattle.tv_dialog.specs.Plan.{is_button_plan, leaf_plan, plan_of}
 use Rattle.tv_machine.specs.Dialog.Alike.{HoldSame}
 use Rattle.tv_tree.specs.Ready.{IsLike, KeepsMarks}
-use Rattle.tv_dialog.specs.Settling.{ComesTo, IsFresh, posted_by, reacted_first}
+use Rattle.tv_dialog.specs.Settling.{SettlesTo, IsFresh, posted_by, reacted_first}
 use Rattle.tv_dialog.specs.Standing.{Stands}
 use Rattle.tv_tree.specs.Tree.{IsSteady, tree_as, tree_of}
 use Rattle.tv_tree.specs.Turns.{IsLentBy, pressed_at, reacted}
@@ -126,7 +126,7 @@ module _ {V : Type 0} (look : V → Leaf) (d : Dialog) where
   -- ---- what comes of an answer
 
   pub comes-by : (r : Reaction) (n target : Modal) (dialog : DialogOf V) → n.log ≡ [] → reacted d r n ≡ target
-      → Stands look d (reacted_first d r n).leaves (reacted_first d r n) dialog → dialog.pending ≡ posted_by r → ComesTo look d target dialog
+      → Stands look d (reacted_first d r n).leaves (reacted_first d r n) dialog → dialog.pending ≡ posted_by r → SettlesTo look d target dialog
   comes-by (reactions.Post i c) n target dialog empty comes s waits =
       inr (
         c,
@@ -154,7 +154,7 @@ module _ {V : Type 0} (look : V → Leaf) (d : Dialog) where
       → r ≡ asked → opened look mid.body ≡ tree_as d m.leaves n
       → (length n.log ≤ 1 → n.ended ≡ None → (KeepsMarks r → HoldSame d m.leaves n.leaves) → Stands look d m.leaves n mid
       → Stands look d (reacted_first d r n).leaves (reacted_first d r n) new)
-      → new.pending ≡ posted_by r → ComesTo look d target new
+      → new.pending ≡ posted_by r → SettlesTo look d target new
   comes-handled m n target asked fresh like steady hold comes old mid new r s same is tree reacts waits =
       let empty : n.log ≡ [] = like.log ∙ fresh.log in
       comes-by r n target new empty (ap (λ x. reacted d x n) is ∙ comes)

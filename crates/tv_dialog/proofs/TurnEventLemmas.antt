@@ -20,7 +20,7 @@ use Rattle.tv_group.specs.Handling.{group_after, group_answer}
 use Rattle.tv_group.specs.Opened.{opened}
 use Rattle.tv_machine.specs.Dialog.Alike.{HoldSame}
 use Rattle.tv_tree.specs.Ready.{KeepsMarks}
-use Rattle.tv_dialog.specs.Settling.{ComesTo, IsFresh, IsReadyForAll, IsReadyForHeld, IsReadyForKey, posted_by, reacted_first, turned}
+use Rattle.tv_dialog.specs.Settling.{SettlesTo, IsFresh, IsReadyForAll, IsReadyForHeld, IsReadyForKey, posted_by, reacted_first, turned}
 use Rattle.tv_dialog.specs.Standing.{Stands}
 use Rattle.tv_tree.specs.Tree.{tree_of}
 use Rattle.tv_tree.specs.Turns.{IsLentBy, phases_after, phases_answer, reacted}
@@ -40,7 +40,7 @@ module _ {V : Type 0} (look : V → Leaf) (d : Dialog) (lawful : IsLawfulDialog 
     (reacts : (ruled : List LeafState) (n : Modal) → length n.log ≤ 1 → n.ended ≡ None → (KeepsMarks r → HoldSame d ruled n.leaves)
     → Stands look d ruled n mid → Stands look d (reacted_first d r n).leaves (reacted_first d r n) new) where
   pub comes-key : (k : Key) → IsReadyForKey d m k → r ≡ phases_answer (events.Key k) env (opened look old.body)
-      → opened look mid.body ≡ phases_after (events.Key k) env (opened look old.body) → ComesTo look d (key d k m) new
+      → opened look mid.body ≡ phases_after (events.Key k) env (opened look old.body) → SettlesTo look d (key d k m) new
   comes-key k ready is leaves =
       let turn = key_turn d lawful m env lentby s.steady k ready.other ready.free ready.capital in
       comes-handled look d m turn.after (key d k m) (phases_answer (events.Key k) env (tree_of d m)) ready.fresh
@@ -61,7 +61,7 @@ module _ {V : Type 0} (look : V → Leaf) (d : Dialog) (lawful : IsLawfulDialog 
 
   pub comes-broadcast : (c : Command) → c.0 ≡ 14 → IsFresh m → r ≡ group_answer (events.Broadcast c) phases.Focused env (opened look old.body)
       → opened look mid.body ≡ group_after (events.Broadcast c) phases.Focused env (opened look old.body)
-      → ComesTo look d (press_enabled d (enter_target d m) m) new
+      → SettlesTo look d (press_enabled d (enter_target d m) m) new
   comes-broadcast c default fresh is leaves =
       let own : c ≡ record { 0 = 14 } = ap (λ n. record { 0 = n }) default in
       comes-handled look d m m (press_enabled d (enter_target d m) m) (answered (events.Broadcast c)) fresh
@@ -72,8 +72,8 @@ module _ {V : Type 0} (look : V → Leaf) (d : Dialog) (lawful : IsLawfulDialog 
 
   pub comes-move : (p : Point) → IsReadyForHeld d m p → r ≡ group_answer (events.Move p) phases.Focused env (opened look old.body)
       → opened look mid.body ≡ group_after (events.Move p) phases.Focused env (opened look old.body)
-      → ComesTo look d (dialog_step d (events.Move p) m) new
-  comes-move p ready is leaves = option_cases m.held (λ o. m.held ≡ o → ComesTo look d (dialog_step d (events.Move p) m) new)
+      → SettlesTo look d (dialog_step d (events.Move p) m) new
+  comes-move p ready is leaves = option_cases m.held (λ o. m.held ≡ o → SettlesTo look d (dialog_step d (events.Move p) m) new)
       (λ none e. (let f : false ≡ true = ap is_some (sym none) ∙ ready.held in absurd cc))
       (λ held some e.
       let moved = move-turn d lawful p ready.at m s.steady phases.Focused env held some (ready.leaf held some) in
@@ -85,8 +85,8 @@ module _ {V : Type 0} (look : V → Leaf) (d : Dialog) (lawful : IsLawfulDialog 
 
   pub comes-up : (p : Point) → IsReadyForHeld d m p → r ≡ group_answer (events.Up p) phases.Focused env (opened look old.body)
       → opened look mid.body ≡ group_after (events.Up p) phases.Focused env (opened look old.body)
-      → ComesTo look d (dialog_step d (events.Up p) m) new
-  comes-up p ready is leaves = option_cases m.held (λ o. m.held ≡ o → ComesTo look d (dialog_step d (events.Up p) m) new)
+      → SettlesTo look d (dialog_step d (events.Up p) m) new
+  comes-up p ready is leaves = option_cases m.held (λ o. m.held ≡ o → SettlesTo look d (dialog_step d (events.Up p) m) new)
       (λ none e. (let f : false ≡ true = ap is_some (sym none) ∙ ready.held in absurd cc))
       (λ held some e.
       let up : Modal = held_up d (leaf_at d held.id) held.item p m in
@@ -99,7 +99,7 @@ module _ {V : Type 0} (look : V → Leaf) (d : Dialog) (lawful : IsLawfulDialog 
       (after (events.Up p) leaves ∙ turn.tree) (reacts m.leaves n) waits) refl
 
   pub comes-told : (e : Event) → IsReadyForAll d m e → r ≡ group_answer e phases.Focused env (opened look old.body)
-      → opened look mid.body ≡ group_after e phases.Focused env (opened look old.body) → ComesTo look d (turned d e m) new
+      → opened look mid.body ≡ group_after e phases.Focused env (opened look old.body) → SettlesTo look d (turned d e m) new
   comes-told (events.Up p) ready is leaves = comes-up p ready is leaves
   comes-told (events.Move p) ready is leaves = comes-move p ready is leaves
   comes-told (events.Broadcast c) ready is leaves = comes-broadcast c ready.1 ready.0 is leaves

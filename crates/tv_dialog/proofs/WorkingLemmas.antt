@@ -18,7 +18,7 @@ use Rattle.tv_machine.specs.Dialog.Lawful.{IsLawfulDialog}
 use Rattle.tv_dialog.specs.declared.condition.Condition.{Condition}
 use Rattle.tv_dialog.specs.declared.plan.Gate.{Gate}
 use Rattle.tv_dialog.specs.declared.plan.LeafPlan.{LeafPlan}
-use Rattle.tv_dialog.specs.Plan.{condition_of, gate_by, gate_of, is_enabled_by, is_met, is_shown_by, leaf_plan, passes_all, plan_of, shown_by, value_at}
+use Rattle.tv_dialog.specs.Plan.{condition_of, gate_by, gate_of, is_enabled_in_plan, is_met, is_shown_by, leaf_plan, passes_all, plan_of, shown_by, value_at}
 use Rattle.tv_dialog.proofs.FieldLemmas.{states-apart, value-fields}
 use Rattle.tv_machine.proofs.ListLemmas.{and-true, any-found, bool_cases, find-member, has, on_found, option_cases}
 use Rattle.tv_machine.proofs.LeafLemmas.{HasLeaves, ids-apart, leaf_id}
@@ -94,5 +94,5 @@ module _ (d : Dialog) (lawful : IsLawfulDialog d) (m : Modal) (leaves : HasLeave
       gate_front number rule.effect (condition_of d.views rule) (holds d m.leaves rule) _ (filter_map (gate_of d.views) rules) (met-holds rule) (gates-rules number rules)
 
   -- the commands that the plan's gates let pass are the enabled ones
-  pub enabled-plan : (number : ℕ) → is_enabled_by (plan_of d.views d.rules) (fields_of m.leaves) number ≡ is_command_enabled d m.leaves number
+  pub enabled-plan : (number : ℕ) → is_enabled_in_plan (plan_of d.views d.rules) (fields_of m.leaves) number ≡ is_command_enabled d m.leaves number
   enabled-plan number = gates-rules number d.rules

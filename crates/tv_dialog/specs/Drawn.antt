@@ -12,7 +12,7 @@ use Rattle.tv_palette.specs.Palettes.{colour_in}
 use Rattle.tv_palette.specs.declared.role.Owner.TheVariants as owners
 use Rattle.tv_view.specs.Drawing.{leaves_layers}
 use Rattle.tv_view.specs.declared.env.Env.{Env}
-use Rattle.tv_dialog.specs.Head.{KeptHead, bounds_of}
+use Rattle.tv_dialog.specs.Head.{KeptDialogHead, dialog_bounds}
 use Rattle.tv_dialog.specs.Plan.{has_button_at}
 use Rattle.tv_dialog.specs.declared.dialog.DialogOf.{DialogOf}
 use Rattle.tv_dialog.specs.declared.plan.Plan.{Plan}
@@ -26,11 +26,11 @@ abbrev pub lent : Plan → Id → Env → Env
 lent plan focus env = record env { focus = Some focus; default_now = default_now plan focus }
 
 -- the frame with what it surrounds, in the dialog's rectangle
-abbrev pub frame_layer : Env → Canvas → KeptHead → Layer
-frame_layer env c head = Painted (sub c (bounds_of head)) (natural head.w) (natural head.h)
+abbrev pub dialog_frame_layer : Env → Canvas → KeptDialogHead → Layer
+dialog_frame_layer env c head = Painted (sub c (dialog_bounds head)) (natural head.w) (natural head.h)
     (frame_face (natural head.w) (natural head.h) head.title (frame_look (colour_in env.chain.now) owners.Dialog 0 env.is_active))
 
 -- the leaves of the body in the dialog's rectangle, the last on top, and the frame below them
-abbrev pub dialog_layers : {V : Type 0} → (V → Leaf) → Env → Canvas → DialogOf V → List Layer
-dialog_layers look env c dialog =
-    leaves_layers (lent dialog.plan dialog.focus env) (sub c (bounds_of dialog.head)) (opened look dialog.body) ++ frame_layer env c dialog.head ∷ []
+abbrev pub drawn_dialog : {V : Type 0} → (V → Leaf) → Env → Canvas → DialogOf V → List Layer
+drawn_dialog look env c dialog =
+    leaves_layers (lent dialog.plan dialog.focus env) (sub c (dialog_bounds dialog.head)) (opened look dialog.body) ++ dialog_frame_layer env c dialog.head ∷ []

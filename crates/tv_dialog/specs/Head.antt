@@ -10,7 +10,7 @@ use Rattle.tv_model.specs.declared.kind.DialogHead.{DialogHead}
 use Rattle.tv_model.specs.Description.Rectangles.{rect, IsSmallRect}
 
 -- a dialog's rectangle, title and ends
-pub record KeptHead : Type 0 where
+pub record KeptDialogHead : Type 0 where
   pub id : Id
   pub x : ℤ
   pub y : ℤ
@@ -20,22 +20,22 @@ pub record KeptHead : Type 0 where
   pub ends : Ends
 
 -- what a dialog keeps of a node with this head
-abbrev pub kept_head : Node → DialogHead → KeptHead
-kept_head node head = record { id = node.id; x = node.x; y = node.y; w = node.w; h = head.h; title = head.title; ends = head.ends }
+abbrev pub kept_dialog_head : Node → DialogHead → KeptDialogHead
+kept_dialog_head node head = record { id = node.id; x = node.x; y = node.y; w = node.w; h = head.h; title = head.title; ends = head.ends }
 
 -- that of a dialog's node, and none of another's
-abbrev pub declared_head : Node → Option KeptHead
-declared_head node = head node.kind
+abbrev pub declared_dialog_head : Node → Option KeptDialogHead
+declared_dialog_head node = head node.kind
   where
-    head : Kind → Option KeptHead
-    head (kinds.Dialog own) = Some (kept_head node own)
+    head : Kind → Option KeptDialogHead
+    head (kinds.Dialog own) = Some (kept_dialog_head node own)
     head _ = None
 
 -- a dialog's rectangle, seen from the corner of the desktop
-abbrev pub bounds_of : KeptHead → Rect
-bounds_of head = rect head.x head.y head.w head.h
+abbrev pub dialog_bounds : KeptDialogHead → Rect
+dialog_bounds head = rect head.x head.y head.w head.h
 
 -- a rectangle near the screen, and a title that fits
-pub record IsLimited (head : KeptHead) : Type 0 where
-  pub bounds : IsSmallRect (bounds_of head)
+pub record IsLimitedDialogHead (head : KeptDialogHead) : Type 0 where
+  pub bounds : IsSmallRect (dialog_bounds head)
   pub title : length head.title ≤ 120

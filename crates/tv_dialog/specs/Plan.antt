@@ -92,5 +92,5 @@ blocks marks number gate = (gate.number == number) && not (is_met marks gate.con
 abbrev pub passes_all : Entries → ℕ → List Gate → Bool
 passes_all marks number gates = list_all (λ gate. not (blocks marks number gate)) gates
 
-abbrev pub is_enabled_by : Plan → Entries → ℕ → Bool
-is_enabled_by plan marks number = passes_all marks number plan.gates
+abbrev pub is_enabled_in_plan : Plan → Entries → ℕ → Bool
+is_enabled_in_plan plan marks number = passes_all marks number plan.gates

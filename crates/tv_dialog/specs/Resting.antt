@@ -4,7 +4,7 @@ use Rattle.tv_view.specs.Meaning.{Leaf, Placed}
 use Rattle.tv_model.specs.declared.desc.Dialog.{Dialog}
 use Rattle.tv_machine.specs.Dialog.Modal.{Modal}
 use Rattle.tv_group.specs.Opened.{opened}
-use Rattle.tv_dialog.specs.Head.{declared_head}
+use Rattle.tv_dialog.specs.Head.{declared_dialog_head}
 use Rattle.tv_dialog.specs.Plan.{plan_of}
 use Rattle.tv_dialog.specs.Standing.{AreFields}
 use Rattle.tv_tree.specs.Tree.{IsSteady, tree_of}
@@ -20,7 +20,7 @@ AreAlike xs ys = map unflagged xs ≡ map unflagged ys
 
 -- the dialog's leaves hold what the machine's do
 pub record Rests {V : Type 0} (look : V → Leaf) (d : Dialog) (m : Modal) (dialog : DialogOf V) : Type 0 where
-  pub head : Some dialog.head ≡ declared_head d.node
+  pub head : Some dialog.head ≡ declared_dialog_head d.node
   pub plan : dialog.plan ≡ plan_of d.views d.rules
   pub tree : AreAlike (opened look dialog.body) (tree_of d m)
   pub steady : IsSteady d m

@@ -79,8 +79,8 @@ pub record Awaits {V : Type 0} (look : V → Leaf) (d : Dialog) (target : Modal)
   pub comes : command d c.0 now ≡ target
 
 -- the dialog stands so once it has handled what waits
-abbrev pub ComesTo : {V : Type 0} → (V → Leaf) → Dialog → Modal → DialogOf V → Type 0
-ComesTo look d target dialog =
+abbrev pub SettlesTo : {V : Type 0} → (V → Leaf) → Dialog → Modal → DialogOf V → Type 0
+SettlesTo look d target dialog =
     ((dialog.pending ≡ []) × Stands look d target.leaves target dialog)
     ⊎ ((c : Command) × ((dialog.pending ≡ events.Command c ∷ []) × Awaits look d target c dialog))
 
@@ -120,10 +120,10 @@ IsReadyForAll d m (events.Move p) = IsReadyForHeld d m p
 IsReadyForAll d m (events.Command c) = ⊥
 IsReadyForAll d m (events.Broadcast c) = IsFresh m × (c.0 ≡ 14)
 
-abbrev pub IsReady : Dialog → Modal → Event → Type 0
-IsReady d m (events.Key k) = IsReadyForKey d m k
-IsReady d m (events.Down p) = IsReadyForDown m p
-IsReady d m (events.Up p) = IsReadyForHeld d m p
-IsReady d m (events.Move p) = IsReadyForHeld d m p
-IsReady d m (events.Command c) = length m.log ≤ 1
-IsReady d m (events.Broadcast c) = IsFresh m × (c.0 ≡ 14)
+abbrev pub IsReadyFor : Dialog → Modal → Event → Type 0
+IsReadyFor d m (events.Key k) = IsReadyForKey d m k
+IsReadyFor d m (events.Down p) = IsReadyForDown m p
+IsReadyFor d m (events.Up p) = IsReadyForHeld d m p
+IsReadyFor d m (events.Move p) = IsReadyForHeld d m p
+IsReadyFor d m (events.Command c) = length m.log ≤ 1
+IsReadyFor d m (events.Broadcast c) = IsFresh m × (c.0 ≡ 14)

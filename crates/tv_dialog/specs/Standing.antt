@@ -12,7 +12,7 @@ use Rattle.tv_machine.specs.Dialog.Rules.{is_command_enabled}
 use Rattle.tv_group.specs.declared.focus.Dir.{Dir}
 use Rattle.tv_group.specs.declared.focus.Dir.TheVariants as dirs
 use Rattle.tv_group.specs.Opened.{opened}
-use Rattle.tv_dialog.specs.Head.{declared_head}
+use Rattle.tv_dialog.specs.Head.{declared_dialog_head}
 use Rattle.tv_dialog.specs.Plan.{plan_of}
 use Rattle.tv_tree.specs.Tree.{IsSteady, tree_as}
 use Rattle.tv_dialog.specs.declared.dialog.DialogOf.{DialogOf}
@@ -27,7 +27,7 @@ AreFields d entries = (entries ≡ []) ⊎ (map (λ entry. entry.id) entries ≡
 
 -- the dialog stands as the machine's does, where its rules were last applied to the marks of these leaves
 pub record Stands {V : Type 0} (look : V → Leaf) (d : Dialog) (ruled : List LeafState) (m : Modal) (dialog : DialogOf V) : Type 0 where
-  pub head : Some dialog.head ≡ declared_head d.node
+  pub head : Some dialog.head ≡ declared_dialog_head d.node
   pub plan : dialog.plan ≡ plan_of d.views d.rules
   pub tree : opened look dialog.body ≡ tree_as d ruled m
   pub steady : IsSteady d m

@@ -67,5 +67,5 @@ IsHandedIn (events.Command c) = Unit {0}
 IsHandedIn (events.Broadcast c) = Unit {0}
 
 -- before an event, its log empty
-abbrev pub started : Modal → Modal
-started m = record m { log = []; ended = None }
+abbrev pub begun_anew : Modal → Modal
+begun_anew m = record m { log = []; ended = None }

@@ -19,9 +19,9 @@ ghost use Rattle.tv_model.specs.declared.node.Id.{Id as Ident};
 ghost use Rattle.tv_machine.specs.State.{OpenDialog};
 ghost use Rattle.tv_machine.specs.Dialog.Modal.{Modal};
 ghost use Rattle.tv_machine.specs.Screen.Layers.{dialog_layers as open_layers};
-ghost use Rattle.tv_dialog.specs.Head.{IsLimited, bounds_of, declared_head};
+ghost use Rattle.tv_dialog.specs.Head.{IsLimitedDialogHead, dialog_bounds, declared_dialog_head};
 ghost use Rattle.tv_dialog.specs.Plan.{plan_of};
-ghost use Rattle.tv_dialog.specs.Drawn.{default_now, dialog_layers, lent};
+ghost use Rattle.tv_dialog.specs.Drawn.{default_now, drawn_dialog, lent};
 ghost use Rattle.tv_dialog.specs.declared.fault.DialogFault.TheVariants.{WrongKind};
 
 use crate::fault::DialogFault;
@@ -69,12 +69,12 @@ struct Kept {
 
 impl Kept {
     fn of(alloc: Global, node: &Node, views: &[Node], rules: &[Rule]) -> Result<Kept, DialogFault>
-        requires { IfSome (declared_head node.now) IsLimited }
-        ensures head { IfOk result (λ kept. Some kept.head ≡ declared_head node.now) }
+        requires { IfSome (declared_dialog_head node.now) IsLimitedDialogHead }
+        ensures head { IfOk result (λ kept. Some kept.head ≡ declared_dialog_head node.now) }
         ensures plan { IfOk result (λ kept. kept.plan ≡ plan_of views.now rules.now) }
         ensures pending { IfOk result (λ kept. kept.pending ≡ []) }
-        ensures wrong { declared_head node.now ≡ None → IfErr result (λ fault. fault ≡ WrongKind) }
-        ensures right { IfErr result (λ fault. fault ≡ WrongKind → declared_head node.now ≡ None) }
+        ensures wrong { declared_dialog_head node.now ≡ None → IfErr result (λ fault. fault ≡ WrongKind) }
+        ensures right { IfErr result (λ fault. fault ≡ WrongKind → declared_dialog_head node.now ≡ None) }
     {
         let head = Head::of(node).ok_or(DialogFault::WrongKind)?;
         let plan = Plan::of(alloc, views, rules)?;
@@ -103,16 +103,16 @@ impl<V: View> DialogOf<V> {
         rules: &[Rule],
         body: GroupOf<V>,
     ) -> Result<DialogOf<V>, (DialogFault, GroupOf<V>)>
-        requires { IfSome (declared_head node.now) IsLimited }
-        ensures head { IfOk result (λ dialog. Some dialog.head ≡ declared_head node.now) }
+        requires { IfSome (declared_dialog_head node.now) IsLimitedDialogHead }
+        ensures head { IfOk result (λ dialog. Some dialog.head ≡ declared_dialog_head node.now) }
         ensures plan { IfOk result (λ dialog. dialog.plan ≡ plan_of views.now rules.now) }
         ensures body { IfOk result (λ dialog. dialog.body ≡ body) }
         ensures closed { IfOk result (λ dialog. dialog.is_open ≡ false) }
         ensures empty { IfOk result (λ dialog. (dialog.marks ≡ []) × (dialog.pending ≡ []) × (dialog.log.items ≡ [])) }
         ensures fresh { IfOk result (λ dialog. (d : Declared) → d.node ≡ node.now → d.views ≡ views.now → d.rules ≡ rules.now → IsLawfulDialog d
             → IsFreshBody V.meaning node.now views.now body → Rests V.meaning d (unfocused d None []) dialog) }
-        ensures wrong { declared_head node.now ≡ None → IfErr result (λ e. e.0 ≡ WrongKind) }
-        ensures right { IfErr result (λ e. e.0 ≡ WrongKind → declared_head node.now ≡ None) }
+        ensures wrong { declared_dialog_head node.now ≡ None → IfErr result (λ e. e.0 ≡ WrongKind) }
+        ensures right { IfErr result (λ e. e.0 ≡ WrongKind → declared_dialog_head node.now ≡ None) }
         ensures back { IfErr result (λ e. e.1 ≡ body) }
     {
         match Kept::of(alloc, node, views, rules) {
@@ -135,7 +135,7 @@ impl<V: View> DialogOf<V> {
 impl<V> DialogOf<V> {
     /// Returns its rectangle, seen from the corner of what it stands in.
     pub fn bounds(&self) -> Rect
-        ensures is { result ≡ bounds_of self.now.head }
+        ensures is { result ≡ dialog_bounds self.now.head }
         ensures small { IsSmallRect result }
         ensures near { IsRectNear result }
     {
@@ -225,7 +225,7 @@ impl<V: View> DialogOf<V> {
     /// shadow: if that was drawn before, the screen then shows the flat machine's layers of the open dialog.
     pub fn draw(&self, screen: &mut Screen, canvas: Canvas, env: &Env)
         requires { IsSmall canvas.origin.x × IsSmall canvas.origin.y }
-        ensures layers { Lays (dialog_layers V.meaning env.now canvas self.now) screen.old screen.new }
+        ensures layers { Lays (drawn_dialog V.meaning env.now canvas self.now) screen.old screen.new }
         ensures machine { (desc : Desc) (d : Declared) (o : OpenDialog) (overwriting : List Ident) (m : Modal) (before : Picture) → IsLawfulDialog d
             → Stands V.meaning d m.leaves m self.now → IsShown desc d o overwriting m env.now canvas
             → Lays (shadow_layer desc o d ∷ []) before screen.old → Lays (open_layers desc o overwriting d) before screen.new }

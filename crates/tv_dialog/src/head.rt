@@ -9,7 +9,7 @@ ghost use Rattle.tv_model.specs.Description.Numbers.{natural};
 ghost use Rattle.tv_faces.specs.Looks.{frame_look_of};
 ghost use Rattle.tv_palette.specs.Palettes.{colour_in};
 ghost use Rattle.tv_palette.specs.declared.role.Owner.TheVariants.{Dialog};
-ghost use Rattle.tv_dialog.specs.Head.{IsLimited, bounds_of, declared_head};
+ghost use Rattle.tv_dialog.specs.Head.{IsLimitedDialogHead, dialog_bounds, declared_dialog_head};
 
 use std::marker::Model;
 use tv_cells::Rect;
@@ -33,20 +33,20 @@ pub(crate) struct Head {
 }
 
 impl Model for Head {
-    ghost use Rattle.tv_dialog.specs.Head.{IsLimited, KeptHead};
+    ghost use Rattle.tv_dialog.specs.Head.{IsLimitedDialogHead, KeptDialogHead};
 
-    ghost Value = { KeptHead };
+    ghost Value = { KeptDialogHead };
 
     ghost view = { λ s. record { id = s.id; x = s.x; y = s.y; w = s.w; h = s.h; title = s.title; ends = s.ends } };
 
-    ghost invariant = { λ s. IsLimited (record { id = s.id; x = s.x; y = s.y; w = s.w; h = s.h; title = s.title; ends = s.ends }) };
+    ghost invariant = { λ s. IsLimitedDialogHead (record { id = s.id; x = s.x; y = s.y; w = s.w; h = s.h; title = s.title; ends = s.ends }) };
 }
 
 impl Head {
     /// Makes the head of a dialog's node, or returns `None` for another node.
     pub(crate) fn of(node: &Node) -> Option<Head>
-        requires { IfSome (declared_head node.now) IsLimited }
-        ensures { result ≡ declared_head node.now }
+        requires { IfSome (declared_dialog_head node.now) IsLimitedDialogHead }
+        ensures { result ≡ declared_dialog_head node.now }
     {
         match &node.kind {
             Kind::Dialog(declared) => Some(Head {
@@ -69,7 +69,7 @@ impl Head {
     }
 
     pub(crate) fn bounds(&self) -> Rect
-        ensures is { result ≡ bounds_of self.now }
+        ensures is { result ≡ dialog_bounds self.now }
         ensures small { IsSmallRect result }
         ensures near { IsRectNear result }
     {

@@ -9,7 +9,7 @@ ghost use Rattle.tv_machine.specs.Dialog.Mouse.{is_close_mark};
 ghost use Rattle.tv_machine.specs.Dialog.Step.{dialog_step};
 ghost use Rattle.tv_tree.specs.Ready.{HoldsLeaf};
 ghost use Rattle.tv_dialog.specs.Standing.{Stands};
-ghost use Rattle.tv_dialog.specs.Stepping.{IsHandedIn, posted, posted_free, posted_held, posted_key, started, walked};
+ghost use Rattle.tv_dialog.specs.Stepping.{IsHandedIn, posted, posted_free, posted_held, posted_key, begun_anew, walked};
 
 use crate::dialog::DialogOf;
 use tv_cells::Point;
@@ -95,7 +95,7 @@ impl<V: View> DialogOf<V> {
         requires { self.old.is_open ≡ true }
         ensures stands { (d : Dialog) (m : Modal) → IsLawfulDialog d → env.now.views.now ≡ d.views → IsHandedIn event.now → HoldsLeaf d m
             → is_free_at d m.leaves m.focus ≡ true → Stands V.meaning d m.leaves m self.old
-            → Stands V.meaning d (dialog_step d event.now (started m)).leaves (dialog_step d event.now (started m)) self.new }
+            → Stands V.meaning d (dialog_step d event.now (begun_anew m)).leaves (dialog_step d event.now (begun_anew m)) self.new }
         ensures pending { self.new.pending ≡ [] }
     {
         self.log.clear();

@@ -13,7 +13,7 @@ ghost use Rattle.tv_group.specs.Handling.{is_pass};
 ghost use Rattle.tv_group.specs.Opened.{opened};
 ghost use Rattle.tv_machine.specs.Dialog.Alike.{HoldSame};
 ghost use Rattle.tv_tree.specs.Ready.{KeepsMarks};
-ghost use Rattle.tv_dialog.specs.Settling.{ComesTo, IsPosted, IsReady, IsReadyForAll, IsReadyForDown, PostedAfter, posted_by, reacted_first, turned};
+ghost use Rattle.tv_dialog.specs.Settling.{SettlesTo, IsPosted, IsReadyFor, IsReadyForAll, IsReadyForDown, PostedAfter, posted_by, reacted_first, turned};
 ghost use Rattle.tv_dialog.specs.Standing.{Stands};
 ghost use Rattle.tv_tree.specs.Turns.{IsLentBy, phases_after, phases_answer};
 
@@ -83,7 +83,7 @@ impl<V: View> DialogOf<V> {
         requires { self.old.pending ≡ [] }
         ensures stands { (d : Dialog) (m : Modal) → IsLawfulDialog d → IsLentBy d m env.now → (p : Point) → event.now ≡ events.Down p
             → IsReadyForDown m p → Stands V.meaning d m.leaves m self.old
-            → ComesTo V.meaning d (turned d event.now m) self.new }
+            → SettlesTo V.meaning d (turned d event.now m) self.new }
         ensures pending { IsPosted self.new.pending }
     {
         match self.body.handle(event, Phase::Focused, env) {
@@ -100,7 +100,7 @@ impl<V: View> DialogOf<V> {
     fn tell(&mut self, event: &Event, env: &Env)
         requires { self.old.pending ≡ [] }
         ensures stands { (d : Dialog) (m : Modal) → IsLawfulDialog d → IsLentBy d m env.now → IsReadyForAll d m event.now
-            → Stands V.meaning d m.leaves m self.old → ComesTo V.meaning d (turned d event.now m) self.new }
+            → Stands V.meaning d m.leaves m self.old → SettlesTo V.meaning d (turned d event.now m) self.new }
         ensures pending { IsPosted self.new.pending }
     {
         let reaction = self.body.handle(event, Phase::Focused, env);
@@ -110,8 +110,8 @@ impl<V: View> DialogOf<V> {
     // Handles a posted event, with one environment for all that follows from it.
     fn turn(&mut self, event: &Event, env: &Env)
         requires { self.old.pending ≡ [] }
-        ensures stands { (d : Dialog) (m : Modal) → IsLawfulDialog d → env.now.views.now ≡ d.views → IsReady d m event.now
-            → Stands V.meaning d m.leaves m self.old → ComesTo V.meaning d (turned d event.now m) self.new }
+        ensures stands { (d : Dialog) (m : Modal) → IsLawfulDialog d → env.now.views.now ≡ d.views → IsReadyFor d m event.now
+            → Stands V.meaning d m.leaves m self.old → SettlesTo V.meaning d (turned d event.now m) self.new }
         ensures pending { PostedAfter event.now self.new.pending }
     {
         let env = self.lent(env);
@@ -134,8 +134,8 @@ impl<V: View> DialogOf<V> {
     // Handles the event that has waited longest, if one does.
     fn turn_next(&mut self, env: &Env)
         requires { length self.old.pending ≤ 1 }
-        ensures stands { (d : Dialog) (m : Modal) (e : Event) → IsLawfulDialog d → env.now.views.now ≡ d.views → IsReady d m e
-            → self.old.pending ≡ e ∷ [] → Stands V.meaning d m.leaves m self.old → ComesTo V.meaning d (turned d e m) self.new }
+        ensures stands { (d : Dialog) (m : Modal) (e : Event) → IsLawfulDialog d → env.now.views.now ≡ d.views → IsReadyFor d m e
+            → self.old.pending ≡ e ∷ [] → Stands V.meaning d m.leaves m self.old → SettlesTo V.meaning d (turned d e m) self.new }
         ensures rests { self.old.pending ≡ [] → self.new ≡ self.old }
         ensures posted { IsPosted self.new.pending }
         ensures last { (c : Command) → self.old.pending ≡ events.Command c ∷ [] → self.new.pending ≡ [] }
@@ -149,7 +149,7 @@ impl<V: View> DialogOf<V> {
     /// nothing.
     pub(crate) fn settle(&mut self, env: &Env)
         requires { length self.old.pending ≤ 1 }
-        ensures stands { (d : Dialog) (m : Modal) (e : Event) → IsLawfulDialog d → env.now.views.now ≡ d.views → IsReady d m e
+        ensures stands { (d : Dialog) (m : Modal) (e : Event) → IsLawfulDialog d → env.now.views.now ≡ d.views → IsReadyFor d m e
             → self.old.pending ≡ e ∷ [] → Stands V.meaning d m.leaves m self.old
             → Stands V.meaning d (turned d e m).leaves (turned d e m) self.new }
         ensures rests { self.old.pending ≡ [] → self.new ≡ self.old }

@@ -10,7 +10,7 @@ use Rattle.tv_machine.specs.Session.Commands.{overwriting_at}
 use Rattle.tv_machine.specs.Session.Start.{closed}
 use Rattle.tv_group.specs.Outline.{IsFreshBody}
 use Rattle.tv_group.specs.declared.group.GroupOf.{GroupOf}
-use Rattle.tv_dialogs.specs.Bodies.{AreFreshBodies, AreNew, body_of}
+use Rattle.tv_dialogs.specs.Bodies.{AreFreshBodies, AreNew, kept_body}
 use Rattle.tv_dialogs.specs.Dialogs.{AreDialogs}
 use Rattle.tv_dialogs.specs.Kept.{IsKeptAs}
 use Rattle.tv_dialogs.specs.declared.kept.Kept.{Kept}
@@ -35,18 +35,18 @@ drop_here (y ∷ xs) (suc n) x e = drop_here xs n x e
 
 pub record IsMaking {V : Type 0} (look : V → Leaf) (dialogs : List Dialog) (first bodies : List (GroupOf V)) (kept : List (Kept V)) : Type 0 where
   pub made : AreNew look (drop (length bodies) dialogs) (reverse kept)
-  pub back : bodies ++ map body_of (reverse kept) ≡ first
+  pub back : bodies ++ map kept_body (reverse kept) ≡ first
 
 module _ {V : Type 0} (look : V → Leaf) (dialogs : List Dialog) (first : List (GroupOf V)) (fresh : AreFreshBodies look dialogs first) where
   module _ (rest : List (GroupOf V)) (body : GroupOf V) (kept : List (Kept V)) (is : IsMaking look dialogs first (rest ++ body ∷ []) kept) where
-    reversed_count : length (map body_of (reverse kept)) ≡ length kept
-    reversed_count = length-map (reverse kept) body_of ∙ length-reverse kept
+    reversed_count : length (map kept_body (reverse kept)) ≡ length kept
+    reversed_count = length-map (reverse kept) kept_body ∙ length-reverse kept
 
     -- so many wait and were made
     making-count : length rest + suc (length kept) ≡ length dialogs
     making-count =
         let all = ap length is.back ∙ fresh.count in
-        let one = length-append (rest ++ body ∷ []) (map body_of (reverse kept)) in
+        let one = length-append (rest ++ body ∷ []) (map kept_body (reverse kept)) in
         let two = length-append rest (body ∷ []) in
         let made = reversed_count in
         omega (arith, all, one, two, made)
@@ -61,9 +61,9 @@ module _ {V : Type 0} (look : V → Leaf) (dialogs : List Dialog) (first : List 
     -- the body is fresh for it
     pub making-fresh : (d : Dialog) → slice_get dialogs (length rest) ≡ Some d → IsFreshBody look d.node d.views body
     making-fresh d there =
-        fresh.fresh (length rest) d body there (ap (λ xs. slice_get xs (length rest)) (sym is.back) ∙ get_last rest body (map body_of (reverse kept)))
+        fresh.fresh (length rest) d body there (ap (λ xs. slice_get xs (length rest)) (sym is.back) ∙ get_last rest body (map kept_body (reverse kept)))
 
-    pub making-on : (d : Dialog) (k : Kept V) → slice_get dialogs (length rest) ≡ Some d → IsKeptAs look d None [] k → body_of k ≡ body
+    pub making-on : (d : Dialog) (k : Kept V) → slice_get dialogs (length rest) ≡ Some d → IsKeptAs look d None [] k → kept_body k ≡ body
         → IsMaking look dialogs first rest (kept ++ k ∷ [])
     making-on d k there new same =
         let long : length (rest ++ body ∷ []) ≡ suc (length rest) = let e = length-append rest (body ∷ []) in omega (arith, e) in
@@ -71,8 +71,8 @@ module _ {V : Type 0} (look : V → Leaf) (dialogs : List Dialog) (first : List 
         record {
           made = subst (λ ks. AreNew look (drop (length rest) dialogs) ks) (sym (reverse-push kept k))
               (subst (λ ds. AreNew look ds (k ∷ reverse kept)) (sym (drop_here dialogs (length rest) d there)) (new, made));
-          back = ap (λ ks. rest ++ map body_of ks) (reverse-push kept k) ∙ ap (λ b. rest ++ b ∷ map body_of (reverse kept)) same
-              ∙ sym (append_assoc rest (body ∷ []) (map body_of (reverse kept))) ∙ is.back;
+          back = ap (λ ks. rest ++ map kept_body ks) (reverse-push kept k) ∙ ap (λ b. rest ++ b ∷ map kept_body (reverse kept)) same
+              ∙ sym (append_assoc rest (body ∷ []) (map kept_body (reverse kept))) ∙ is.back;
         }
 
 -- ---- before a run

@@ -27,7 +27,7 @@ use Rattle.tv_machine.specs.Dialog.Shortcuts.{marking_leaf}
 use Rattle.tv_machine.specs.Dialog.Step.{dialog_step, step_by}
 use Rattle.tv_machine.specs.Session.Step.{event_from}
 use Rattle.tv_machine.proofs.ListLemmas.{bool_cases, find-none, option_cases}
-use Rattle.tv_tree.specs.Ready.{IsNear}
+use Rattle.tv_tree.specs.Ready.{LiesWithin}
 use Rattle.tv_dialog.specs.Stepping.{IsHandedIn}
 use Rattle.tv_dialogs.specs.Handed.{HasPointGiven, is_dropped, is_small_alt, is_small_letter}
 
@@ -115,7 +115,7 @@ dropped-still d corner _ m is = absurd (false≢true is)
 
 -- ---- what is not dropped
 
-near_moved : (x by : ℤ) → IsNear 10000 x → IsSmall by → IsNear 20000 (x -ℤ by)
+near_moved : (x by : ℤ) → LiesWithin 10000 x → IsSmall by → LiesWithin 20000 (x -ℤ by)
 near_moved x by near small = record { low = omega (arith, ints, near.low, small.high); high = omega (arith, ints, near.high, small.low) }
 
 -- a dialog is handed Alt with a capital letter or a digit, and points near its corner

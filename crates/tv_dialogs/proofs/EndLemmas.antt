@@ -7,7 +7,7 @@ use Rattle.tv_model.specs.declared.log.LogLine.{LogLine}
 use Rattle.tv_model.specs.declared.log.LogLine.TheVariants as lines
 use Rattle.tv_model.specs.Log.Record.{Entries}
 use Rattle.tv_machine.specs.Dialog.Ending.{field_line}
-use Rattle.tv_dialogs.specs.Ends.{end_of, last_end}
+use Rattle.tv_dialogs.specs.Ends.{end_command, last_end}
 
 or-none : {A : Type 0} (o : Option A) → option_or o None ≡ o
 or-none None = refl
@@ -20,15 +20,15 @@ or-assoc (Some x) b c = refl
 -- fields end nothing
 fields-end : (fields : Entries) → last_end (map field_line fields) ≡ None
 fields-end [] = refl
-fields-end (x ∷ fields) = ap (λ o. option_or o (end_of (field_line x))) (fields-end fields)
+fields-end (x ∷ fields) = ap (λ o. option_or o (end_command (field_line x))) (fields-end fields)
 
 -- the end before the fields is the last one
 pub ended-last : (before : List LogLine) (i : Id) (command : Command) (fields : Entries)
     → last_end (before ++ lines.End i command ∷ map field_line fields) ≡ Some command
 ended-last [] i command fields = ap (λ o. option_or o (Some command)) (fields-end fields)
-ended-last (line ∷ before) i command fields = ap (λ o. option_or o (end_of line)) (ended-last before i command fields)
+ended-last (line ∷ before) i command fields = ap (λ o. option_or o (end_command line)) (ended-last before i command fields)
 
 -- one more line
-pub last-push : (before : List LogLine) (line : LogLine) → last_end (before ++ line ∷ []) ≡ option_or (end_of line) (last_end before)
-last-push [] line = sym (or-none (end_of line))
-last-push (x ∷ before) line = ap (λ o. option_or o (end_of x)) (last-push before line) ∙ or-assoc (end_of line) (last_end before) (end_of x)
+pub last-push : (before : List LogLine) (line : LogLine) → last_end (before ++ line ∷ []) ≡ option_or (end_command line) (last_end before)
+last-push [] line = sym (or-none (end_command line))
+last-push (x ∷ before) line = ap (λ o. option_or o (end_command x)) (last-push before line) ∙ or-assoc (end_command line) (last_end before) (end_command x)

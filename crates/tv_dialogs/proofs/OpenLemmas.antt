@@ -18,7 +18,7 @@ use Rattle.tv_group.specs.Opened.{opened}
 use Rattle.tv_dialog.specs.Resting.{Rests}
 use Rattle.tv_dialog.specs.Standing.{Stands}
 use Rattle.tv_dialog.proofs.StandsLemmas.{ended-moved}
-use Rattle.tv_dialogs.specs.Dialogs.{AreDialogs, AreOfRun, kept_at, lines_by, lines_of}
+use Rattle.tv_dialogs.specs.Dialogs.{AreDialogs, AreOfRun, kept_at, lines_by, log_of_last}
 use Rattle.tv_dialogs.specs.Kept.{IsKeptAs, first_values}
 use Rattle.tv_dialogs.specs.declared.kept.Kept.{Kept}
 use Rattle.tv_dialogs.specs.declared.dialogs.DialogsOf.{DialogsOf}
@@ -63,7 +63,7 @@ module _ {V : Type 0} (look : V → Leaf) (d : Desc) (s : State) (old : DialogsO
         ∙ first-opened dialog sound (saved_at s place) (overwriting_at s place) in
         subst (λ n. Stands look dialog n.leaves n after.dialog) same (reopened dialog is_kept.modal sound.lawful open_fields is_kept.rests)
 
-    pub opened-log : new.last ≡ Some place → (open_dialog d place s).log ≡ s.log ++ lines.Open dialog.node.id ∷ lines_of new
+    pub opened-log : new.last ≡ Some place → (open_dialog d place s).log ≡ s.log ++ lines.Open dialog.node.id ∷ log_of_last new
     opened-log last =
         let here : kept_at new new.last ≡ Some after =
         ap (kept_at new) last ∙ ap (λ xs. slice_get xs place) written

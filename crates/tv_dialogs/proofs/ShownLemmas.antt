@@ -25,7 +25,7 @@ use Rattle.tv_laws.proofs.WorkLemmas.{sound-at}
 use Rattle.tv_tree.specs.Shown.{IsAtWork, desktop_canvas, open_bounds, shadow_layer}
 use Rattle.tv_view.specs.Drawing.{Lays}
 use Rattle.tv_view.proofs.LayingLemmas.{lays_as}
-use Rattle.tv_dialog.specs.Head.{KeptHead, bounds_of, declared_head, kept_head}
+use Rattle.tv_dialog.specs.Head.{KeptDialogHead, dialog_bounds, declared_dialog_head, kept_dialog_head}
 use Rattle.tv_dialog.specs.Standing.{Stands}
 use Rattle.tv_dialog.specs.declared.dialog.DialogOf.{DialogOf}
 use Rattle.tv_dialogs.specs.Dialogs.{AreDialogs, at_work}
@@ -34,18 +34,18 @@ use Rattle.tv_dialogs.specs.declared.dialogs.DialogsOf.{DialogsOf}
 use Rattle.tv_dialogs.proofs.PlacedLemmas.{place-told, read-declared, read-kept}
 
 -- a dialog's rectangle is that of its node
-bounds_are : (node : Node) (kind : Kind) → IsTrue (is_dialog kind) → (head : KeptHead) → Some head ≡ declared_head (record node { kind = kind })
-    → bounds_of head ≡ rect node.x node.y node.w (height_of kind)
-bounds_are node (kinds.Dialog own) is head e = let same : head ≡ kept_head (record node { kind = kinds.Dialog own }) own = cc in ap bounds_of same
+bounds_are : (node : Node) (kind : Kind) → IsTrue (is_dialog kind) → (head : KeptDialogHead) → Some head ≡ declared_dialog_head (record node { kind = kind })
+    → dialog_bounds head ≡ rect node.x node.y node.w (height_of kind)
+bounds_are node (kinds.Dialog own) is head e = let same : head ≡ kept_dialog_head (record node { kind = kinds.Dialog own }) own = cc in ap dialog_bounds same
 bounds_are node _ is head e = absurd (false≢true is)
 
 -- its corner is that of its node
-pub corner-is : (d : Dialog) (head : KeptHead) → Some head ≡ declared_head d.node → (bounds : Rect) → bounds ≡ bounds_of head → bounds.a ≡ corner_of d.node
+pub corner-is : (d : Dialog) (head : KeptDialogHead) → Some head ≡ declared_dialog_head d.node → (bounds : Rect) → bounds ≡ dialog_bounds head → bounds.a ≡ corner_of d.node
 corner-is d head e bounds is = ap (λ r. r.a) (is ∙ bounds_are d.node d.node.kind d.own_kind head e)
 
 -- its shadow is the machine's
 pub shadow-laid : {V : Type 0} (look : V → Leaf) (desc : Desc) (d : Dialog) (o : OpenDialog) (m : Modal) (dialog : DialogOf V) (c : Canvas) (bounds : Rect) (old new : Picture)
-    → Stands look d m.leaves m dialog → o.origin ≡ corner_of d.node → c ≡ desktop_canvas desc → bounds ≡ bounds_of dialog.head
+    → Stands look d m.leaves m dialog → o.origin ≡ corner_of d.node → c ≡ desktop_canvas desc → bounds ≡ dialog_bounds dialog.head
     → IsAlike old new → ((layers : List Layer) → Shows layers old → Shows (Shadow c bounds ∷ layers) new)
     → Lays (shadow_layer desc o d ∷ []) old new
 shadow-laid look desc d o m dialog c bounds old new s corner desktop is alike shows =

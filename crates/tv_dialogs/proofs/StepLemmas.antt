@@ -19,8 +19,8 @@ use Rattle.tv_group.specs.Calls.{all_gathered}
 use Rattle.tv_group.specs.Opened.{opened}
 use Rattle.tv_laws.specs.Steps.{RespectsHold}
 use Rattle.tv_dialog.specs.Standing.{Stands}
-use Rattle.tv_dialog.specs.Stepping.{started}
-use Rattle.tv_dialogs.specs.Dialogs.{AreDialogs, AreOfRun, IsOpenAmong, at_work, lines_by, lines_of, kept_at}
+use Rattle.tv_dialog.specs.Stepping.{begun_anew}
+use Rattle.tv_dialogs.specs.Dialogs.{AreDialogs, AreOfRun, IsOpenAmong, at_work, lines_by, log_of_last, kept_at}
 use Rattle.tv_dialogs.specs.Ends.{is_cancelled}
 use Rattle.tv_dialogs.specs.Handed.{is_dropped}
 use Rattle.tv_dialogs.specs.Kept.{IsReady, values_after}
@@ -56,8 +56,8 @@ module _ {V : Type 0} (look : V → Leaf) (d : Desc) (s : State) (dialogs : Dial
   -- what comes of it
   pub read-stands : (e : Event) (after : Kept V)
       → ((m : Modal) → IsReady look declared m kept.dialog
-      → Stands look declared (dialog_step declared (event_from (corner_of declared.node) e) (started m)).leaves
-      (dialog_step declared (event_from (corner_of declared.node) e) (started m)) after.dialog)
+      → Stands look declared (dialog_step declared (event_from (corner_of declared.node) e) (begun_anew m)).leaves
+      (dialog_step declared (event_from (corner_of declared.node) e) (begun_anew m)) after.dialog)
       → Stands look open_one.dialog (dialog_step open_one.dialog (event_from o.origin e) (modal_of s o)).leaves
       (dialog_step open_one.dialog (event_from o.origin e) (modal_of s o)) after.dialog
   read-stands e after steps =
@@ -93,7 +93,7 @@ module _ {V : Type 0} (look : V → Leaf) (d : Desc) (s : State) (old : DialogsO
   -- ---- an event that is handed to it
 
   module _ (new : DialogsOf V) (after : Kept V) (written : new.kept.items ≡ slice_set old.kept.items o.place after) (stands : Stands look among.dialog stepped.leaves stepped after.dialog) where
-    pub handed-log : new.last ≡ Some o.place → (to_dialog d o e s).log ≡ s.log ++ lines_of new
+    pub handed-log : new.last ≡ Some o.place → (to_dialog d o e s).log ≡ s.log ++ log_of_last new
     handed-log last =
         let found : kept_at new new.last ≡ Some after =
         ap (kept_at new) last ∙ ap (λ xs. slice_get xs o.place) written
@@ -136,7 +136,7 @@ module _ {V : Type 0} (look : V → Leaf) (d : Desc) (s : State) (old : DialogsO
     still : stepped ≡ modal_of s o
     still = dropped-still among.dialog o.origin e (modal_of s o) dropped
 
-    pub dropped-log : new.last ≡ None → (to_dialog d o e s).log ≡ s.log ++ lines_of new
+    pub dropped-log : new.last ≡ None → (to_dialog d o e s).log ≡ s.log ++ log_of_last new
     dropped-log last = stepped-log ∙ ap (λ m. s.log ++ m.log) still ∙ ap (λ ls. s.log ++ ls) (sym (ap lines_by (ap (kept_at new) last)))
 
     pub dropped-dialogs : new.commands ≡ old.commands → new.open ≡ old.open → AreDialogs look d (to_dialog d o e s) new

@@ -26,7 +26,7 @@ use Rattle.tv_machine.specs.Dialog.Opening.{opened_dialog as opens, unfocused}
 use Rattle.tv_machine.specs.Dialog.Sound.{IsSoundDialog}
 use Rattle.tv_machine.proofs.LeafLemmas.{IsIn, leaf_at-all, leaves-all, leaves-are}
 use Rattle.tv_machine.proofs.ListLemmas.{option_cases}
-use Rattle.tv_view.specs.Calls.{Fits, IsValueOf}
+use Rattle.tv_view.specs.Calls.{Fits, IsFieldValue}
 use Rattle.tv_group.specs.Calls.{FitsAll, HasRoomForAll, all_gathered}
 use Rattle.tv_group.specs.Opened.{opened}
 use Rattle.tv_group.specs.Outline.{IsFreshBody}
@@ -39,7 +39,7 @@ use Rattle.tv_tree.proofs.OpeningLemmas.{content_at-unfocused, leaves-unfocused,
 use Rattle.tv_laws.specs.Steps.{IsSafeSave}
 use Rattle.tv_laws.proofs.ComingLemmas.{declared-fit}
 use Rattle.tv_laws.proofs.OpenLemmas.{recorded_value}
-use Rattle.tv_dialog.specs.Head.{IsLimited, declared_head}
+use Rattle.tv_dialog.specs.Head.{IsLimitedDialogHead, declared_dialog_head}
 use Rattle.tv_dialog.specs.Resting.{Rests}
 use Rattle.tv_dialog.specs.Standing.{Stands}
 use Rattle.tv_dialog.specs.declared.dialog.DialogOf.{DialogOf}
@@ -51,7 +51,7 @@ use Rattle.tv_dialogs.specs.declared.kept.Kept.{Kept}
 
 -- ---- heads
 
-head_limited : (node : Node) (k : Kind) → lawful_nodes.IsLimited (record node { kind = k }) → IfSome (declared_head (record node { kind = k })) IsLimited
+head_limited : (node : Node) (k : Kind) → lawful_nodes.IsLimited (record node { kind = k }) → IfSome (declared_dialog_head (record node { kind = k })) IsLimitedDialogHead
 head_limited node (kinds.Dialog own) limits =
     let x = limits.x in
     let y = limits.y in
@@ -69,13 +69,13 @@ head_limited node (kinds.Dialog own) limits =
 head_limited node _ limits = tt
 
 -- a lawful dialog has a rectangle near the screen and a title that fits
-pub lawful-limited : (d : Dialog) → IsLawfulDialog d → IfSome (declared_head d.node) IsLimited
+pub lawful-limited : (d : Dialog) → IsLawfulDialog d → IfSome (declared_dialog_head d.node) IsLimitedDialogHead
 lawful-limited d lawful = head_limited d.node d.node.kind (All-head lawful_nodes.IsLimited d.node d.views lawful.limits)
 
 -- ---- values
 
 -- what the machine says of a value of its kind is what a view asks of it
-value-fits : (kind : Kind) (value : Option Value) → HasValueOf kind value → IsValueOf kind value
+value-fits : (kind : Kind) (value : Option Value) → HasValueOf kind value → IsFieldValue kind value
 value-fits (kinds.Input input) (Some (values.Text text)) has = has
 value-fits (kinds.Input input) (Some _) has = absurd has
 value-fits (kinds.Input input) None has = absurd (false≢true (sym has))

@@ -21,5 +21,5 @@ AreNew look (d ∷ dialogs) [] = ⊥
 AreNew look (d ∷ dialogs) (k ∷ kept) = IsKeptAs look d None [] k × AreNew look dialogs kept
 
 -- the body of a dialog that is kept
-abbrev pub body_of : {V : Type 0} → Kept V → GroupOf V
-body_of kept = kept.dialog.body
+abbrev pub kept_body : {V : Type 0} → Kept V → GroupOf V
+kept_body kept = kept.dialog.body

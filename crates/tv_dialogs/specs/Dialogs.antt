@@ -52,8 +52,8 @@ lines_by None = []
 lines_by (Some kept) = kept.dialog.log.items
 
 -- the lines of the dialog that worked last
-abbrev pub lines_of : {V : Type 0} → DialogsOf V → List LogLine
-lines_of dialogs = lines_by (kept_at dialogs dialogs.last)
+abbrev pub log_of_last : {V : Type 0} → DialogsOf V → List LogLine
+log_of_last dialogs = lines_by (kept_at dialogs dialogs.last)
 
 -- ---- what calls rely on
 

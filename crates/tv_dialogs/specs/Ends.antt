@@ -6,14 +6,14 @@ use Rattle.tv_model.specs.declared.log.LogLine.{LogLine}
 use Rattle.tv_model.specs.declared.log.LogLine.TheVariants as lines
 
 -- the command of an `end` line
-abbrev pub end_of : LogLine → Option Command
-end_of (lines.End i command) = Some command
-end_of _ = None
+abbrev pub end_command : LogLine → Option Command
+end_command (lines.End i command) = Some command
+end_command _ = None
 
 -- that of the last one
 abbrev pub last_end : List LogLine → Option Command
 last_end [] = None
-last_end (line ∷ later) = option_or (last_end later) (end_of line)
+last_end (line ∷ later) = option_or (last_end later) (end_command line)
 
 -- whether it is `cancel`
 abbrev pub is_cancel : Option Command → Bool

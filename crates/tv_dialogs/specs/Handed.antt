@@ -5,12 +5,12 @@ use Rattle.tv_event.specs.declared.event.Event.{Event}
 use Rattle.tv_event.specs.declared.event.Event.TheVariants as events
 use Rattle.tv_event.specs.declared.event.Key.{Key}
 use Rattle.tv_event.specs.declared.event.Key.TheVariants as keys
-use Rattle.tv_tree.specs.Ready.{IsNear}
+use Rattle.tv_tree.specs.Ready.{LiesWithin}
 
 -- a point within 10,000 columns and rows of the first cell of the screen
 pub record IsPointGiven (p : Point) : Type 0 where
-  pub x : IsNear 10000 p.x
-  pub y : IsNear 10000 p.y
+  pub x : LiesWithin 10000 p.x
+  pub y : LiesWithin 10000 p.y
 
 -- an event has such a point, or none
 abbrev pub HasPointGiven : Event → Type 0

@@ -2,7 +2,7 @@
 
 ghost use Rattle.std.specs.Prelude.{◌≡◌, ◌≤◌, ◌+◌, ◌++◌, All, IfErr, IfOk, map, reverse, vec_capacity, vec_len};
 ghost use Rattle.tv_machine.specs.Dialog.Sound.{IsSoundDialog};
-ghost use Rattle.tv_dialogs.specs.Bodies.{AreFreshBodies, AreNew, body_of};
+ghost use Rattle.tv_dialogs.specs.Bodies.{AreFreshBodies, AreNew, kept_body};
 
 use crate::kept::Kept;
 use std::alloc::{AllocError, Global};
@@ -13,7 +13,7 @@ use tv_view::View;
 // Takes the dialogs apart, the last one first, and puts their bodies behind the others.
 fn give_back<V: View>(mut kept: Vec<Kept<V>>, bodies: &mut Vec<GroupOf<V>>)
     requires { vec_len bodies.old + vec_len kept ≤ vec_capacity bodies.old }
-    ensures { bodies.new.items ≡ bodies.old.items ++ map body_of (reverse kept.items) }
+    ensures { bodies.new.items ≡ bodies.old.items ++ map kept_body (reverse kept.items) }
 {
     while let Some(last) = kept.pop() {
         let Kept { dialog, .. } = last;

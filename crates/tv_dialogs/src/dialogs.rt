@@ -5,7 +5,7 @@ ghost use Rattle.tv_machine.specs.Session.Enabled.{is_enabled_now};
 ghost use Rattle.tv_machine.specs.Session.Step.{held_of};
 ghost use Rattle.tv_machine.specs.State.{State};
 ghost use Rattle.tv_model.specs.declared.desc.Desc.{Desc};
-ghost use Rattle.tv_dialogs.specs.Dialogs.{AreDialogs, AreOfRun, kept_at, lines_of};
+ghost use Rattle.tv_dialogs.specs.Dialogs.{AreDialogs, AreOfRun, kept_at, log_of_last};
 
 use crate::kept::Kept;
 use tv_event::CommandSet;
@@ -44,7 +44,7 @@ impl<V> DialogsOf<V> {
 
     /// Returns the lines of the dialog that worked last: those of its last event, or of its opening.
     pub fn log(&self) -> &[LogLine]
-        ensures lines { result.now ≡ lines_of self.now }
+        ensures lines { result.now ≡ log_of_last self.now }
         ensures few { length result.now ≤ 66 }
     {
         match self.at(self.last) {

@@ -1,13 +1,13 @@
 //! How a dialog ended.
 
 ghost use Rattle.std.specs.Prelude.{◌≡◌};
-ghost use Rattle.tv_dialogs.specs.Ends.{end_of, is_cancelled, last_end};
+ghost use Rattle.tv_dialogs.specs.Ends.{end_command, is_cancelled, last_end};
 
 use tv_event::Command;
 use tv_model::LogLine;
 
 fn end_of(line: &LogLine) -> Option<Command>
-    ensures { result ≡ end_of line.now }
+    ensures { result ≡ end_command line.now }
 {
     match line {
         LogLine::End(_, command) => Some(*command),

@@ -17,8 +17,8 @@ ghost use Rattle.tv_machine.specs.Dialog.Lawful.{IsLawfulDialog};
 ghost use Rattle.tv_tree.specs.Shown.{IsAtWork, desktop_canvas};
 ghost use Rattle.tv_view.specs.Drawing.{Lays};
 ghost use Rattle.tv_dialog.specs.Standing.{Stands};
-ghost use Rattle.tv_dialog.specs.Stepping.{started};
-ghost use Rattle.tv_dialogs.specs.Bodies.{body_of};
+ghost use Rattle.tv_dialog.specs.Stepping.{begun_anew};
+ghost use Rattle.tv_dialogs.specs.Bodies.{kept_body};
 ghost use Rattle.tv_dialogs.specs.Handed.{HasPointGiven, is_dropped};
 ghost use Rattle.tv_dialogs.specs.Kept.{IsKeptAs, IsReady, values_after};
 
@@ -55,7 +55,7 @@ impl<V: View> Kept<V> {
         requires sound { IsSoundDialog declared.now }
         requires fresh { IsFreshBody V.meaning declared.now.node declared.now.views body }
         ensures kept { IfOk result (IsKeptAs V.meaning declared.now None []) }
-        ensures body { IfOk result (λ kept. body_of kept ≡ body) }
+        ensures body { IfOk result (λ kept. kept_body kept ≡ body) }
         ensures back { IfErr result (λ back. back ≡ body) }
     {
         let views = declared.views.as_slice();
@@ -90,8 +90,8 @@ impl<V: View> Kept<V> {
         requires given { HasPointGiven event.now }
         requires handed { is_dropped event.now ≡ false }
         ensures stands { (m : Modal) → IsReady V.meaning declared.now m self.old.dialog → Stands V.meaning declared.now
-            (dialog_step declared.now (event_from (corner_of declared.now.node) event.now) (started m)).leaves
-            (dialog_step declared.now (event_from (corner_of declared.now.node) event.now) (started m)) self.new.dialog }
+            (dialog_step declared.now (event_from (corner_of declared.now.node) event.now) (begun_anew m)).leaves
+            (dialog_step declared.now (event_from (corner_of declared.now.node) event.now) (begun_anew m)) self.new.dialog }
         ensures values { self.new.values ≡ values_after V.meaning self.old.values self.new.dialog }
     {
         let corner = self.dialog.bounds().a;

@@ -9,7 +9,7 @@ ghost use Rattle.tv_model.specs.declared.desc.Desc.{Desc};
 ghost use Rattle.tv_model.specs.declared.desc.Dialog.{Dialog};
 ghost use Rattle.tv_model.specs.declared.log.LogLine.TheVariants as lines;
 ghost use Rattle.tv_dialogs.specs.Bodies.{AreFreshBodies};
-ghost use Rattle.tv_dialogs.specs.Dialogs.{AreDialogs, AreOfRun, MayOpen, lines_of};
+ghost use Rattle.tv_dialogs.specs.Dialogs.{AreDialogs, AreOfRun, MayOpen, log_of_last};
 
 use crate::bodies::keep_all;
 use crate::dialogs::DialogsOf;
@@ -33,7 +33,7 @@ impl<V: View> DialogsOf<V> {
         requires sound { HasSoundDialogs desc.now }
         requires fresh { AreFreshBodies V.meaning desc.now.dialogs bodies.items }
         ensures dialogs { IfOk result (AreDialogs V.meaning desc.now (closed desc.now)) }
-        ensures quiet { IfOk result (λ dialogs. lines_of dialogs ≡ []) }
+        ensures quiet { IfOk result (λ dialogs. log_of_last dialogs ≡ []) }
         ensures back { IfErr result (λ e. e.1.items ≡ bodies.items) }
     {
         let kept = keep_all(alloc, desc.dialogs.as_slice(), bodies)?;
@@ -51,7 +51,7 @@ impl<V: View> DialogsOf<V> {
         requires { MayOpen V.meaning place self.old }
         ensures dialogs { (d : Desc) (s : State) → AreOfRun V.meaning d s self.old → AreDialogs V.meaning d (open_dialog d place s) self.new }
         ensures log { (d : Desc) (s : State) (dialog : Dialog) → AreOfRun V.meaning d s self.old → slice_get d.dialogs place ≡ Some dialog
-            → (open_dialog d place s).log ≡ s.log ++ lines.Open dialog.node.id ∷ lines_of self.new }
+            → (open_dialog d place s).log ≡ s.log ++ lines.Open dialog.node.id ∷ log_of_last self.new }
     {
         let kept = &mut self.kept[place];
         kept.dialog.reopen(&kept.values);

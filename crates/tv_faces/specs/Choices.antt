@@ -18,19 +18,19 @@ use Rattle.tv_palette.specs.Palettes.{colour_in}
 use Rattle.tv_palette.specs.declared.role.Role.TheVariants as roles
 
 -- which cluster has such marks
-abbrev pub kind_of : ClusterMarks → ClusterKind
-kind_of (marks.Boxes boxes) = Boxes
-kind_of marks.Radios = Radios
+abbrev pub cluster_of_marks : ClusterMarks → ClusterKind
+cluster_of_marks (marks.Boxes boxes) = Boxes
+cluster_of_marks marks.Radios = Radios
 
 -- the value of a cluster with such marks, where the item is the selected one
-abbrev pub value_of : ClusterMarks → ℕ → Option Value
-value_of (marks.Boxes boxes) selected = Some (values.Marks boxes)
-value_of marks.Radios selected = Some (values.Item selected)
+abbrev pub value_of_marks : ClusterMarks → ℕ → Option Value
+value_of_marks (marks.Boxes boxes) selected = Some (values.Marks boxes)
+value_of_marks marks.Radios selected = Some (values.Item selected)
 
 -- an item a row
 abbrev pub cluster_cells : ClusterFace → FaceOf
 cluster_cells f x y =
-    cluster_row (colour_in f.chain.now) (kind_of f.marks) (f.is_focused && (f.selected == y + 1)) (is_marked (value_of f.marks f.selected) (y + 1)) (slice_get f.items.now y) x
+    cluster_row (colour_in f.chain.now) (cluster_of_marks f.marks) (f.is_focused && (f.selected == y + 1)) (is_marked (value_of_marks f.marks f.selected) (y + 1)) (slice_get f.items.now y) x
 
 -- an item a row, from that of the top row on
 abbrev pub list_cells : ListFace → FaceOf

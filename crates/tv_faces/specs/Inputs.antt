@@ -19,11 +19,11 @@ colours_of chain = record {
 }
 
 -- the attribute of a role
-abbrev pub attr_of : InputColours → InputRole → ℕ
-attr_of colours input.Normal = colours.normal
-attr_of colours input.SelectedText = colours.selected
-attr_of colours input.Arrow = colours.arrow
-attr_of colours input.Cursor = colours.cursor
+abbrev pub input_attr : InputColours → InputRole → ℕ
+input_attr colours input.Normal = colours.normal
+input_attr colours input.SelectedText = colours.selected
+input_attr colours input.Arrow = colours.arrow
+input_attr colours input.Cursor = colours.cursor
 
 -- what is shown of an edit
 abbrev pub seen_edit : List ℕ → ℕ → Bool → Edit
@@ -37,4 +37,4 @@ place_cell colours is_focused e place =
 -- the text round the cursor
 abbrev pub input_cells : InputColours → ℕ → Bool → Edit → FaceOf
 input_cells colours width is_focused e x y =
-    shown (input_cell width is_focused e x).ch (attr_of colours (input_cell width is_focused e x).role)
+    shown (input_cell width is_focused e x).ch (input_attr colours (input_cell width is_focused e x).role)

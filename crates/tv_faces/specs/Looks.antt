@@ -16,8 +16,8 @@ abbrev pub frame_look_of : SeenFrame → FrameLook
 frame_look_of look = record { number = look.number; is_active = look.is_active; edge = look.edge; inside = look.inside }
 
 -- the first row of a frame
-abbrev pub top_of : Frame → ℕ → Glyph
-top_of f x = shown (top_row f.width f.title.now (frame_look_of f.look) x) f.look.edge
+abbrev pub top_row_of : Frame → ℕ → Glyph
+top_row_of f x = shown (top_row f.width f.title.now (frame_look_of f.look) x) f.look.edge
 
 -- the pieces of what is left of a text, if anything is
 abbrev pub pieces_left : Option (List ℕ) → List (List ℕ)

@@ -10,7 +10,7 @@ ghost use Rattle.tv_model.specs.declared.record.Value.TheVariants.{Marks};
 ghost use Rattle.tv_palette.specs.Palettes.{colour_in};
 ghost use Rattle.tv_palette.specs.declared.role.ClusterRole.TheVariants as cluster;
 ghost use Rattle.tv_palette.specs.declared.role.Role.TheVariants as roles;
-ghost use Rattle.tv_faces.specs.Choices.{item_cells, kind_of, value_of};
+ghost use Rattle.tv_faces.specs.Choices.{item_cells, cluster_of_marks, value_of_marks};
 
 use crate::row::{put, text_char, write_over};
 use tv_cells::{Cell, Face};
@@ -50,7 +50,7 @@ fn has_mark(marks: u16, place: u32) -> bool
 
 impl ClusterMarks {
     fn has(self, selected: u8, place: u32) -> bool
-        ensures { result ≡ is_marked (value_of self selected) (place + 1) }
+        ensures { result ≡ is_marked (value_of_marks self selected) (place + 1) }
     {
         match self {
             ClusterMarks::Boxes(marks) => has_mark(marks, place),
@@ -60,7 +60,7 @@ impl ClusterMarks {
 
     // The four columns before an item.
     fn before(self, is_marked: bool) -> [char; 4]
-        ensures { result ≡ box_before (kind_of self) is_marked }
+        ensures { result ≡ box_before (cluster_of_marks self) is_marked }
     {
         match self {
             ClusterMarks::Boxes(_) if is_marked => ['[', 'X', ']', ' '],
@@ -149,7 +149,7 @@ impl ClusterFace<'_> {
 
     // The row of an item.
     fn item_row<'b>(&self, item: &'b MarkedText, y: u32) -> ItemRow<'b>
-        ensures { (x : ℕ) → item_cells result x ≡ cluster_row (colour_in self.now.chain.now) (kind_of self.now.marks) (self.now.is_focused && (self.now.selected == y + 1)) (is_marked (value_of self.now.marks self.now.selected) (y + 1)) (Some item.now) x }
+        ensures { (x : ℕ) → item_cells result x ≡ cluster_row (colour_in self.now.chain.now) (cluster_of_marks self.now.marks) (self.now.is_focused && (self.now.selected == y + 1)) (is_marked (value_of_marks self.now.marks self.now.selected) (y + 1)) (Some item.now) x }
     {
         let rest = if self.is_selected(y) {
             ClusterRole::Selected

@@ -130,13 +130,13 @@ fn write_between(width: u32, side: Cell, middle: Cell, from: u32, cells: &mut [C
 
 impl Frame<'_> {
     ghost use Rattle.tv_cells.specs.Glyph.{blank};
-    ghost use Rattle.tv_faces.specs.Looks.{top_of};
+    ghost use Rattle.tv_faces.specs.Looks.{top_row_of};
 
     // The first row: what stands on the border is written over it.
     fn write_top(&self, from: u32, cells: &mut [Cell])
         requires { from + length cells.old ≤ 2 ^ 32 }
         ensures count { length cells.new ≡ length cells.old }
-        ensures cells { IsRow (top_of self.now) from cells.new }
+        ensures cells { IsRow (top_row_of self.now) from cells.new }
     {
         self.write_border(from, cells);
         let width = self.width as usize;
@@ -152,8 +152,8 @@ impl Frame<'_> {
     fn write_top_part(&self, start: usize, end: usize, from: u32, cells: &mut [Cell])
         requires { from + length cells.old ≤ 2 ^ 32 }
         ensures count { length cells.new ≡ length cells.old }
-        ensures written { (i : ℕ) → i < length cells.new → start ≤ from + i → from + i < end → slice_index_or cells.new i blank ≡ top_of self.now (from + i) }
-        ensures kept { (i : ℕ) → i < length cells.new → slice_index_or cells.old i blank ≡ top_of self.now (from + i) → slice_index_or cells.new i blank ≡ top_of self.now (from + i) }
+        ensures written { (i : ℕ) → i < length cells.new → start ≤ from + i → from + i < end → slice_index_or cells.new i blank ≡ top_row_of self.now (from + i) }
+        ensures kept { (i : ℕ) → i < length cells.new → slice_index_or cells.old i blank ≡ top_row_of self.now (from + i) → slice_index_or cells.new i blank ≡ top_row_of self.now (from + i) }
     {
         let width = self.width as usize;
         let from = from as usize;

@@ -18,7 +18,7 @@ pub struct InputColours {
 }
 
 impl InputColours {
-    ghost use Rattle.tv_faces.specs.Inputs.{attr_of, colours_of};
+    ghost use Rattle.tv_faces.specs.Inputs.{input_attr, colours_of};
 
     /// The attributes to which the chain of the dialog leads.
     pub fn of(chain: &Chain) -> InputColours
@@ -33,7 +33,7 @@ impl InputColours {
     }
 
     fn attr(self, role: InputRole) -> u8
-        ensures { result ≡ attr_of self role }
+        ensures { result ≡ input_attr self role }
     {
         match role {
             InputRole::Normal => self.normal,

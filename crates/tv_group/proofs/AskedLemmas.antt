@@ -5,7 +5,7 @@ use Rattle.std.specs.Option.{option_or}
 use Rattle.std.proofs.lemmas.List.Folds.{list_any-append}
 use Rattle.tv_cells.specs.declared.rect.Rect.{Rect}
 use Rattle.tv_model.specs.declared.node.Id.{Id}
-use Rattle.tv_view.specs.Meaning.{Leaf, Placed, inside, kept, unmarked}
+use Rattle.tv_view.specs.Meaning.{Leaf, Placed, inside, kept, uncurrent}
 use Rattle.tv_group.specs.Calls.{first_some}
 use Rattle.tv_group.specs.Current.{is_at}
 use Rattle.tv_group.specs.Opened.{opened, opened_member}
@@ -43,7 +43,7 @@ any-map test q same (x ∷ xs) = ap (λ b. b || list_any test (map q xs)) (same 
 module _ {B : Type 0} (ask : List Placed → B) (join : B → B → B)
     (append : (xs ys : List Placed) → ask (xs ++ ys) ≡ join (ask xs) (ask ys))
     (within : (r : Rect) (xs : List Placed) → ask (map (inside r) xs) ≡ ask xs)
-    (marked : (xs : List Placed) → ask (map unmarked xs) ≡ ask xs) where
+    (marked : (xs : List Placed) → ask (map uncurrent xs) ≡ ask xs) where
   asked-kept : (b : Bool) (xs : List Placed) → ask (kept b xs) ≡ ask xs
   asked-kept true xs = refl
   asked-kept false xs = marked xs
@@ -74,8 +74,8 @@ module _ (test : Leaf → Bool) where
   any-inside : (r : Rect) (xs : List Placed) → any_leaf (map (inside r) xs) ≡ any_leaf xs
   any-inside r xs = any-map (λ x. test x.leaf) (inside r) (λ x. refl) xs
 
-  any-unmarked : (xs : List Placed) → any_leaf (map unmarked xs) ≡ any_leaf xs
-  any-unmarked xs = any-map (λ x. test x.leaf) unmarked (λ x. refl) xs
+  any-unmarked : (xs : List Placed) → any_leaf (map uncurrent xs) ≡ any_leaf xs
+  any-unmarked xs = any-map (λ x. test x.leaf) uncurrent (λ x. refl) xs
 
   module _ {V : Type 0} (look : V → Leaf) where
     pub any-all : (g : GroupOf V) → any_leaf (opened look g) ≡ any_leaf (opened_from look g.current 0 g.members.items)
@@ -116,8 +116,8 @@ module _ (answer_of : Leaf → Option Id) where
   first-inside : (r : Rect) (xs : List Placed) → first_leaf (map (inside r) xs) ≡ first_leaf xs
   first-inside r xs = first_some-map (λ x. answer_of x.leaf) (inside r) (λ x. refl) xs
 
-  first-unmarked : (xs : List Placed) → first_leaf (map unmarked xs) ≡ first_leaf xs
-  first-unmarked xs = first_some-map (λ x. answer_of x.leaf) unmarked (λ x. refl) xs
+  first-unmarked : (xs : List Placed) → first_leaf (map uncurrent xs) ≡ first_leaf xs
+  first-unmarked xs = first_some-map (λ x. answer_of x.leaf) uncurrent (λ x. refl) xs
 
   module _ {V : Type 0} (look : V → Leaf) where
     pub first-all : (g : GroupOf V) → first_leaf (opened look g) ≡ first_leaf (opened_from look g.current 0 g.members.items)

@@ -2,7 +2,7 @@
 use Rattle.std.proofs.Common.{◌≡◌, ℕ, zero, suc, Bool, true, false, ◌&&◌, ◌||◌, ◌==◌, nat_lt, List, [], ◌∷◌, ◌++◌, ◌+◌, ◌<◌, ◌≤◌, length, get_or, map, refl, sym, ap, ◌∙◌, arith, Option, Some, None}
 use Rattle.std.proofs.lemmas.Bool.Decides.{nat_tests}
 use Rattle.tv_cells.specs.declared.rect.Rect.{Rect}
-use Rattle.tv_view.specs.Meaning.{Leaf, Placed, has_current, inside, kept, unmarked}
+use Rattle.tv_view.specs.Meaning.{Leaf, Placed, has_current, inside, kept, uncurrent}
 use Rattle.tv_group.specs.Current.{is_at}
 use Rattle.tv_group.specs.Opened.{opened, opened_member, joined}
 use Rattle.tv_group.specs.declared.group.MemberOf.{MemberOf}
@@ -33,7 +33,7 @@ has-append : (xs ys : List Placed) → has_current (xs ++ ys) ≡ (has_current x
 has-append [] ys = refl
 has-append (x ∷ xs) ys = ap (λ b. x.is_current || b) (has-append xs ys) ∙ sym (or_assoc x.is_current (has_current xs) (has_current ys))
 
-has-unmarked : (xs : List Placed) → has_current (map unmarked xs) ≡ false
+has-unmarked : (xs : List Placed) → has_current (map uncurrent xs) ≡ false
 has-unmarked [] = refl
 has-unmarked (x ∷ xs) = has-unmarked xs
 

@@ -3,7 +3,7 @@ use Rattle.std.proofs.Common.{◌≡◌, ℕ, Bool, true, false, List, [], ◌�
 use Rattle.std.proofs.lemmas.List.{append-nil, map-append, take_all, with_items_is}
 use Rattle.std.specs.Vec.{with_items}
 use Rattle.tv_cells.specs.declared.rect.Rect.{Rect}
-use Rattle.tv_view.specs.Meaning.{Leaf, Placed, alone, inside, kept, unmarked}
+use Rattle.tv_view.specs.Meaning.{Leaf, Placed, alone, inside, kept, uncurrent}
 use Rattle.tv_group.specs.Calls.{in_place, in_place_unmarked}
 use Rattle.tv_group.specs.Current.{is_at}
 use Rattle.tv_group.specs.Opened.{opened, opened_member, joined}
@@ -23,7 +23,7 @@ hidden : (p q : Placed → Placed) → ((x : Placed) → p (q x) ≡ p x) → (x
 hidden p q same [] = refl
 hidden p q same (x ∷ xs) = ap (λ y. y ∷ map p (map q xs)) (same x) ∙ ap (λ t. p x ∷ t) (hidden p q same xs)
 
-pub unmarked-in_place_unmarked : (change : Leaf → Leaf) (xs : List Placed) → map unmarked (map (in_place_unmarked change) xs) ≡ map (in_place_unmarked change) xs
+pub unmarked-in_place_unmarked : (change : Leaf → Leaf) (xs : List Placed) → map uncurrent (map (in_place_unmarked change) xs) ≡ map (in_place_unmarked change) xs
 unmarked-in_place_unmarked change [] = refl
 unmarked-in_place_unmarked change (x ∷ xs) = ap (λ t. in_place_unmarked change x ∷ t) (unmarked-in_place_unmarked change xs)
 
@@ -32,13 +32,13 @@ unmarked-in_place_unmarked change (x ∷ xs) = ap (λ t. in_place_unmarked chang
 -- it keeps its marks as before
 pub kept-in_place : (change : Leaf → Leaf) (b : Bool) (after before : List Placed) → after ≡ map (in_place change) before → kept b after ≡ map (in_place change) (kept b before)
 kept-in_place change true after before told = told
-kept-in_place change false after before told = ap (map unmarked) told ∙ sym (swapped (in_place change) unmarked (λ x. refl) before)
+kept-in_place change false after before told = ap (map uncurrent) told ∙ sym (swapped (in_place change) uncurrent (λ x. refl) before)
 
 -- it has none any longer
-pub kept-in_place_unmarked : (change : Leaf → Leaf) (b : Bool) (after before : List Placed) → map unmarked after ≡ map (in_place_unmarked change) before
-    → map unmarked after ≡ map (in_place_unmarked change) (kept b before)
+pub kept-in_place_unmarked : (change : Leaf → Leaf) (b : Bool) (after before : List Placed) → map uncurrent after ≡ map (in_place_unmarked change) before
+    → map uncurrent after ≡ map (in_place_unmarked change) (kept b before)
 kept-in_place_unmarked change true after before told = told
-kept-in_place_unmarked change false after before told = told ∙ sym (hidden (in_place_unmarked change) unmarked (λ x. refl) before)
+kept-in_place_unmarked change false after before told = told ∙ sym (hidden (in_place_unmarked change) uncurrent (λ x. refl) before)
 
 module _ {V : Type 0} (look : V → Leaf) where
   pub in_place-leaf : (change : Leaf → Leaf) (v w : V) → look w ≡ change (look v) → opened_member look (LeafM w) ≡ map (in_place change) (opened_member look (LeafM v))
@@ -48,14 +48,14 @@ module _ {V : Type 0} (look : V → Leaf) where
   in_place-pane change g h e = opened_member-pane look h ∙ e ∙ sym (ap (map (in_place change)) (opened_member-pane look g))
 
   pub in_place_unmarked-leaf : (change : Leaf → Leaf) (v w : V) → look w ≡ change (look v)
-      → map unmarked (opened_member look (LeafM w)) ≡ map (in_place_unmarked change) (opened_member look (LeafM v))
+      → map uncurrent (opened_member look (LeafM w)) ≡ map (in_place_unmarked change) (opened_member look (LeafM v))
   in_place_unmarked-leaf change v w e =
-      ap (map unmarked) (opened_member-leaf look w) ∙ ap (λ l. unmarked (alone l) ∷ []) e ∙ sym (ap (map (in_place_unmarked change)) (opened_member-leaf look v))
+      ap (map uncurrent) (opened_member-leaf look w) ∙ ap (λ l. uncurrent (alone l) ∷ []) e ∙ sym (ap (map (in_place_unmarked change)) (opened_member-leaf look v))
 
   pub in_place_unmarked-pane : (change : Leaf → Leaf) (g h : GroupOf V) → opened look h ≡ map (in_place_unmarked change) (opened look g)
-      → map unmarked (opened_member look (PaneM h)) ≡ map (in_place_unmarked change) (opened_member look (PaneM g))
+      → map uncurrent (opened_member look (PaneM h)) ≡ map (in_place_unmarked change) (opened_member look (PaneM g))
   in_place_unmarked-pane change g h e =
-      ap (map unmarked) (opened_member-pane look h ∙ e) ∙ unmarked-in_place_unmarked change (opened look g) ∙ sym (ap (map (in_place_unmarked change)) (opened_member-pane look g))
+      ap (map uncurrent) (opened_member-pane look h ∙ e) ∙ unmarked-in_place_unmarked change (opened look g) ∙ sym (ap (map (in_place_unmarked change)) (opened_member-pane look g))
 
   -- ---- members one after the other, where one was current before and one, or none, is after
 

@@ -2,7 +2,7 @@
 use Rattle.std.proofs.Common.{◌≡◌, ℕ, Bool, true, false, List, [], ◌∷◌, ◌++◌, ◌+◌, ◌<◌, length, get_or, map, set, sym, subst, Option}
 use Rattle.std.proofs.lemmas.List.Elements.{All-nil, All-cons, All-head, All-tail}
 use Rattle.tv_cells.specs.declared.rect.Rect.{Rect}
-use Rattle.tv_view.specs.Meaning.{Leaf, Placed, alone, inside, kept, unmarked}
+use Rattle.tv_view.specs.Meaning.{Leaf, Placed, alone, inside, kept, uncurrent}
 use Rattle.tv_model.specs.Log.Record.{Entries}
 use Rattle.tv_view.specs.Calls.{Fits}
 use Rattle.tv_group.specs.Calls.{FitsAll}
@@ -31,10 +31,10 @@ module _ (entries : Entries) where
   fits-inside r (x ∷ xs) h =
       All-cons FitsHere x xs (All-head FitsHere (inside r x) (map (inside r) xs) h) (fits-inside r xs (All-tail FitsHere (inside r x) (map (inside r) xs) h))
 
-  fits-unmarked : (xs : List Placed) → FitsAll entries (map unmarked xs) → FitsAll entries xs
+  fits-unmarked : (xs : List Placed) → FitsAll entries (map uncurrent xs) → FitsAll entries xs
   fits-unmarked [] h = All-nil FitsHere
   fits-unmarked (x ∷ xs) h =
-      All-cons FitsHere x xs (All-head FitsHere (unmarked x) (map unmarked xs) h) (fits-unmarked xs (All-tail FitsHere (unmarked x) (map unmarked xs) h))
+      All-cons FitsHere x xs (All-head FitsHere (uncurrent x) (map uncurrent xs) h) (fits-unmarked xs (All-tail FitsHere (uncurrent x) (map uncurrent xs) h))
 
   fits-kept : (b : Bool) (xs : List Placed) → FitsAll entries (kept b xs) → FitsAll entries xs
   fits-kept true xs h = h

@@ -9,7 +9,7 @@ use Rattle.std.specs.Option.{option_or}
 use Rattle.std.specs.Vec.{with_items}
 use Rattle.tv_cells.specs.declared.rect.Rect.{Rect}
 use Rattle.tv_model.specs.declared.node.Id.{Id}
-use Rattle.tv_view.specs.Meaning.{Leaf, Placed, alone, inside, kept, unmarked}
+use Rattle.tv_view.specs.Meaning.{Leaf, Placed, alone, inside, kept, uncurrent}
 use Rattle.tv_view.specs.Calls.{focused_to, takes_focus}
 use Rattle.tv_group.specs.Calls.{all_focused, focused_from, has_control}
 use Rattle.tv_group.specs.Current.{is_at}
@@ -29,7 +29,7 @@ has_control-none : (id : Id) → has_control id [] ≡ false
 unfolding has_control
 has_control-none id = refl
 
-has_control-unmarked : (id : Id) (xs : List Placed) → has_control id (map unmarked xs) ≡ has_control id xs
+has_control-unmarked : (id : Id) (xs : List Placed) → has_control id (map uncurrent xs) ≡ has_control id xs
 unfolding has_control
 has_control-unmarked id [] = refl
 has_control-unmarked id (x ∷ xs) = ap (λ b. takes_focus id x.leaf || b) (has_control-unmarked id xs)
@@ -61,7 +61,7 @@ focused-append f id (x ∷ xs) ys =
     ap (λ l. marked (not f && t) id x ∷ l)
     (focused-append (f || t) id xs ys ∙ ap (λ b. focused_from (f || t) id xs ++ focused_from b id ys) (or_assoc f t (has_control id xs)))
 
-focused-unmarked : (f : Bool) (id : Id) (xs : List Placed) → focused_from f id (map unmarked xs) ≡ focused_from f id xs
+focused-unmarked : (f : Bool) (id : Id) (xs : List Placed) → focused_from f id (map uncurrent xs) ≡ focused_from f id xs
 focused-unmarked f id [] = refl
 focused-unmarked f id (x ∷ xs) =
     ap (λ l. marked (not f && takes_focus id x.leaf) id x ∷ l) (focused-unmarked (f || takes_focus id x.leaf) id xs)
@@ -76,7 +76,7 @@ focused-inside r f id [] = refl
 focused-inside r f id (x ∷ xs) =
     ap (λ l. inside r (marked (not f && takes_focus id x.leaf) id x) ∷ l) (focused-inside r (f || takes_focus id x.leaf) id xs)
 
-unmarked-focused : (f : Bool) (id : Id) (xs : List Placed) → map unmarked (focused_from f id xs) ≡ focused_from true id xs
+unmarked-focused : (f : Bool) (id : Id) (xs : List Placed) → map uncurrent (focused_from f id xs) ≡ focused_from true id xs
 unmarked-focused f id [] = refl
 unmarked-focused f id (x ∷ xs) = ap (λ l. marked false id x ∷ l) (unmarked-focused (f || takes_focus id x.leaf) id xs)
 
@@ -95,8 +95,8 @@ focused-none id (x ∷ xs) h = none-step (takes_focus id x.leaf) (has_control id
 -- ---- one leaf
 
 pub leaf-left : (id : Id) (leaf after : Leaf) → after ≡ focused_to id leaf
-    → map unmarked (alone after ∷ []) ≡ focused_from true id (alone leaf ∷ [])
-leaf-left id leaf after e = ap (λ l. unmarked (alone l) ∷ []) e
+    → map uncurrent (alone after ∷ []) ≡ focused_from true id (alone leaf ∷ [])
+leaf-left id leaf after e = ap (λ l. uncurrent (alone l) ∷ []) e
 
 pub leaf-moved : (id : Id) (leaf after : Leaf) → after ≡ focused_to id leaf → has_control id (alone leaf ∷ []) ≡ true
     → alone after ∷ [] ≡ focused_from false id (alone leaf ∷ [])
@@ -132,11 +132,11 @@ joined-beyond : (k n : ℕ) (xss : List (List Placed)) → n + length xss ≤ k 
 joined-beyond k n [] h = refl
 joined-beyond k n (xs ∷ rest) h =
     ap (λ b. kept b xs ++ joined (Some k) (n + 1) rest) (at_earlier k n (omega arith))
-    ∙ ap (λ l. map unmarked xs ++ l) (joined-beyond k (n + 1) rest (omega arith))
+    ∙ ap (λ l. map uncurrent xs ++ l) (joined-beyond k (n + 1) rest (omega arith))
 
 -- one member's part
 member-focused : (id : Id) (found : Option ℕ) (has : Bool) (i : ℕ) (xs after : List Placed) → FoundBelow found i → has ≡ has_control id xs
-    → map unmarked after ≡ focused_from true id xs → (has_control id xs ≡ true → after ≡ focused_from false id xs)
+    → map uncurrent after ≡ focused_from true id xs → (has_control id xs ≡ true → after ≡ focused_from false id xs)
     → kept (is_at (option_or found (then_some has i)) i) after ≡ focused_from (is_some found) id xs
 member-focused id None true i xs after h told left moved = ap (λ b. kept b after) (at_itself i) ∙ moved (sym told)
 member-focused id None false i xs after h told left moved = left ∙ sym (focused-none id xs (sym told))
@@ -187,7 +187,7 @@ module _ {V : Type 0} (look : V → Leaf) (id : Id) where
   pub focusing-next : (g : GroupOf V) (found : Option ℕ) (has : Bool) (i : ℕ) (ms : List (MemberOf V)) (m m' : MemberOf V)
       → i < length ms → length ms ≡ length g.members.items
       → has ≡ has_control id (opened_member look (get_or ms i m))
-      → map unmarked (opened_member look m') ≡ focused_from true id (opened_member look (get_or ms i m))
+      → map uncurrent (opened_member look m') ≡ focused_from true id (opened_member look (get_or ms i m))
       → (has_control id (opened_member look (get_or ms i m)) ≡ true
       → opened_member look m' ≡ focused_from false id (opened_member look (get_or ms i m)))
       → Focusing g found i ms → Focusing g (option_or found (then_some has i)) (i + 1) (set ms i m')
@@ -247,5 +247,5 @@ module _ {V : Type 0} (look : V → Leaf) (id : Id) where
   pane-moved g h e = opened_member-pane look h ∙ e ∙ sym (ap (focused_from false id) (opened_member-pane look g))
 
   pub pane-left : (g h : GroupOf V) → opened look h ≡ all_focused id (opened look g)
-      → map unmarked (opened_member look (PaneM h)) ≡ focused_from true id (opened_member look (PaneM g))
-  pane-left g h e = ap (map unmarked) (pane-moved g h e) ∙ unmarked-focused false id (opened_member look (PaneM g))
+      → map uncurrent (opened_member look (PaneM h)) ≡ focused_from true id (opened_member look (PaneM g))
+  pane-left g h e = ap (map uncurrent) (pane-moved g h e) ∙ unmarked-focused false id (opened_member look (PaneM g))

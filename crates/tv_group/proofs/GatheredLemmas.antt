@@ -5,7 +5,7 @@ use Rattle.std.proofs.lemmas.Bool.Decides.{nat_tests}
 use Rattle.tv_cells.specs.declared.rect.Rect.{Rect}
 use Rattle.tv_model.specs.declared.node.Id.{Id}
 use Rattle.tv_model.specs.declared.record.Value.{Value}
-use Rattle.tv_view.specs.Meaning.{Leaf, Placed, inside, kept, unmarked}
+use Rattle.tv_view.specs.Meaning.{Leaf, Placed, inside, kept, uncurrent}
 use Rattle.tv_model.specs.Log.Record.{Entries, value_of}
 use Rattle.tv_view.specs.Calls.{HasRoom, HasRoomFor, gathered, with_field}
 use Rattle.tv_group.specs.Calls.{HasRoomForAll, all_gathered, gathered_within, has_room}
@@ -62,7 +62,7 @@ gathered-inside : (r : Rect) (xs : List Placed) (entries : Entries) → gathered
 gathered-inside r [] entries = refl
 gathered-inside r (x ∷ xs) entries = gathered-inside r xs (if has_room x.leaf entries then gathered x.leaf entries else entries)
 
-gathered-unmarked : (xs : List Placed) (entries : Entries) → gathered_within (map unmarked xs) entries ≡ gathered_within xs entries
+gathered-unmarked : (xs : List Placed) (entries : Entries) → gathered_within (map uncurrent xs) entries ≡ gathered_within xs entries
 gathered-unmarked [] entries = refl
 gathered-unmarked (x ∷ xs) entries = gathered-unmarked xs (if has_room x.leaf entries then gathered x.leaf entries else entries)
 

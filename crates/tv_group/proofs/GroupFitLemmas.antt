@@ -6,10 +6,10 @@ use Rattle.tv_cells.specs.declared.rect.Rect.{Rect}
 use Rattle.tv_model.specs.declared.kind.Kind.{Kind}
 use Rattle.tv_model.specs.declared.kind.Kind.TheVariants as kinds
 use Rattle.tv_model.specs.declared.record.Value.{Value}
-use Rattle.tv_view.specs.Meaning.{Leaf, Placed, alone, inside, kept, unmarked}
+use Rattle.tv_view.specs.Meaning.{Leaf, Placed, alone, inside, kept, uncurrent}
 use Rattle.tv_model.specs.Description.Nodes.{is_button}
 use Rattle.tv_model.specs.Log.Record.{Entries, value_of}
-use Rattle.tv_view.specs.Calls.{Fits, IsValueOf}
+use Rattle.tv_view.specs.Calls.{Fits, IsFieldValue}
 use Rattle.tv_group.specs.Calls.{FitsAll}
 use Rattle.tv_group.specs.Current.{is_at}
 use Rattle.tv_group.specs.Opened.{opened, opened_member, joined, member_step, group_step}
@@ -20,7 +20,7 @@ use Rattle.tv_group.specs.declared.group.MemberOf.TheFolds.{ind-MemberOf, map-Me
 use Rattle.tv_group.proofs.OpenedLemmas.{opened-members, opened-rolled}
 
 -- a button has no value, so that any record fits it
-button-value : (kind : Kind) (value : Option Value) → IsTrue (is_button kind) → IsValueOf kind value
+button-value : (kind : Kind) (value : Option Value) → IsTrue (is_button kind) → IsFieldValue kind value
 button-value (kinds.Button button) value is = tt
 button-value _ value is = absurd (false≢true is)
 
@@ -48,7 +48,7 @@ module _ (entries : Entries) {V : Type 0} (look : V → Leaf) (fits : (v : V) �
   fits-kept true xs h = h
   fits-kept false [] h = All-nil FitsHere
   fits-kept false (x ∷ xs) h =
-      All-cons FitsHere (unmarked x) (map unmarked xs) (All-head FitsHere x xs h) (fits-kept false xs (All-tail FitsHere x xs h))
+      All-cons FitsHere (uncurrent x) (map uncurrent xs) (All-head FitsHere x xs h) (fits-kept false xs (All-tail FitsHere x xs h))
 
   -- ---- trees
 

@@ -8,7 +8,7 @@ use Rattle.tv_event.specs.declared.event.Event.{Event}
 use Rattle.tv_event.specs.declared.event.Event.TheVariants as events
 use Rattle.tv_event.specs.declared.event.Phase.{Phase}
 use Rattle.tv_event.specs.declared.event.Phase.TheVariants as phases
-use Rattle.tv_view.specs.Meaning.{Placed, inside, kept, unmarked}
+use Rattle.tv_view.specs.Meaning.{Placed, inside, kept, uncurrent}
 use Rattle.tv_view.specs.declared.env.Env.{Env}
 use Rattle.tv_view.specs.declared.reaction.Reaction.{Reaction}
 use Rattle.tv_view.specs.declared.reaction.Reaction.TheVariants as reactions
@@ -60,7 +60,7 @@ offered-inside (events.Broadcast c) p r x = refl
 offered-inside (events.Down point) p r x = refl
 
 -- marks don't matter where all are asked
-offered-unmarked : (e : Event) (p : Phase) (x : Placed) → goes_to_all e p ≡ true → is_offered e p (unmarked x) ≡ is_offered e p x
+offered-unmarked : (e : Event) (p : Phase) (x : Placed) → goes_to_all e p ≡ true → is_offered e p (uncurrent x) ≡ is_offered e p x
 offered-unmarked (events.Key k) phases.Pre x h = refl
 offered-unmarked (events.Key k) phases.Focused x h = cc
 offered-unmarked (events.Key k) phases.Post x h = refl
@@ -73,7 +73,7 @@ offered-unmarked (events.Broadcast c) p x h = refl
 offered-unmarked (events.Down point) p x h = refl
 
 -- what isn't current gets nothing where the current member alone is asked
-offered-skipped : (e : Event) (p : Phase) (x : Placed) → goes_to_all e p ≡ false → is_offered e p (unmarked x) ≡ false
+offered-skipped : (e : Event) (p : Phase) (x : Placed) → goes_to_all e p ≡ false → is_offered e p (uncurrent x) ≡ false
 offered-skipped (events.Key k) phases.Pre x h = cc
 offered-skipped (events.Key k) phases.Focused x h = and_false (is_awake x.leaf)
 offered-skipped (events.Key k) phases.Post x h = cc
@@ -89,10 +89,10 @@ module _ (e : Event) (p : Phase) (env : Env) where
   takes-inside : (r : Rect) (x : Placed) → takes e p env (inside r x) ≡ takes (moved_into r e) p env x
   takes-inside r x = ap (λ b. b && not (is_pass (placed_answer (moved_into r e) p env x))) (offered-inside e p r x)
 
-  takes-unmarked : goes_to_all e p ≡ true → (x : Placed) → takes e p env (unmarked x) ≡ takes e p env x
+  takes-unmarked : goes_to_all e p ≡ true → (x : Placed) → takes e p env (uncurrent x) ≡ takes e p env x
   takes-unmarked h x = ap (λ b. b && not (is_pass (placed_answer e p env x))) (offered-unmarked e p x h)
 
-  takes-skipped : goes_to_all e p ≡ false → (x : Placed) → takes e p env (unmarked x) ≡ false
+  takes-skipped : goes_to_all e p ≡ false → (x : Placed) → takes e p env (uncurrent x) ≡ false
   takes-skipped h x = ap (λ b. b && not (is_pass (placed_answer e p env x))) (offered-skipped e p x h)
 
   -- ---- leaves inside a group
@@ -114,7 +114,7 @@ module _ (e : Event) (p : Phase) (env : Env) where
 
   -- ---- leaves of a member that isn't current
 
-  found-unmarked : (o : Option Placed) → found_answer e p env (option_map unmarked o) ≡ found_answer e p env o
+  found-unmarked : (o : Option Placed) → found_answer e p env (option_map uncurrent o) ≡ found_answer e p env o
   found-unmarked None = refl
   found-unmarked (Some x) = refl
 
@@ -122,23 +122,23 @@ module _ (e : Event) (p : Phase) (env : Env) where
       → scan_answer e p env (kept b xs) ≡ scan_answer e p env xs
   scan_answer-kept true xs h = refl
   scan_answer-kept false xs h =
-      ap (found_answer e p env) (find-map unmarked (takes e p env) (takes e p env) (takes-unmarked (or_false (goes_to_all e p) h)) xs)
+      ap (found_answer e p env) (find-map uncurrent (takes e p env) (takes e p env) (takes-unmarked (or_false (goes_to_all e p) h)) xs)
       ∙ found-unmarked (find (takes e p env) xs)
 
   pub scan_after-kept : (b : Bool) (xs : List Placed) → goes_to_all e p || b ≡ true
       → scan_after e p env (kept b xs) ≡ kept b (scan_after e p env xs)
   scan_after-kept true xs h = refl
   scan_after-kept false xs h =
-      first_changed-map unmarked (takes e p env) (takes e p env) (takes-unmarked (or_false (goes_to_all e p) h))
+      first_changed-map uncurrent (takes e p env) (takes e p env) (takes-unmarked (or_false (goes_to_all e p) h))
       (placed_after e p env) (placed_after e p env) (λ x. refl) xs
 
   pub taker-skipped : (b : Bool) (xs : List Placed) → goes_to_all e p || b ≡ false → find (takes e p env) (kept b xs) ≡ None
   taker-skipped b xs h = of (goes_to_all e p) b refl h
     where
-      nowhere : (xs : List Placed) → goes_to_all e p ≡ false → find (takes e p env) (map unmarked xs) ≡ None
+      nowhere : (xs : List Placed) → goes_to_all e p ≡ false → find (takes e p env) (map uncurrent xs) ≡ None
       nowhere [] g = refl
       nowhere (x ∷ xs) g =
-          ap (λ t. if t then Some (unmarked x) else find (takes e p env) (map unmarked xs)) (takes-skipped g x) ∙ nowhere xs g
+          ap (λ t. if t then Some (uncurrent x) else find (takes e p env) (map uncurrent xs)) (takes-skipped g x) ∙ nowhere xs g
 
       of : (all b : Bool) → goes_to_all e p ≡ all → all || b ≡ false → find (takes e p env) (kept b xs) ≡ None
       of true b g h = cc

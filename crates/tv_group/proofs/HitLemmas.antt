@@ -7,11 +7,11 @@ use Rattle.tv_cells.specs.declared.rect.Rect.{Rect}
 use Rattle.tv_event.specs.declared.event.Event.{Event}
 use Rattle.tv_event.specs.declared.event.Event.TheVariants as events
 use Rattle.tv_event.specs.declared.event.Phase.{Phase}
-use Rattle.tv_view.specs.Meaning.{Placed, inside, kept, unmarked}
+use Rattle.tv_view.specs.Meaning.{Placed, inside, kept, uncurrent}
 use Rattle.tv_view.specs.declared.env.Env.{Env}
 use Rattle.tv_view.specs.declared.reaction.Reaction.{Reaction}
 use Rattle.tv_view.specs.Points.{point_into}
-use Rattle.tv_group.specs.Handling.{hit_after, hit_answer, is_hit, placed_after, reaches, topmost}
+use Rattle.tv_group.specs.Handling.{hit_after, hit_answer, is_hit, placed_after, point_reaches, topmost}
 use Rattle.tv_group.specs.Turns.{down_after, down_here}
 use Rattle.tv_group.proofs.HandlingLemmas.{and_false}
 use Rattle.tv_group.proofs.FirstLemmas.{find-nowhere, find_last-append-found, find_last-append-unfound, find_last-map, last_changed-append-found, last_changed-append-unfound, last_changed-map, last_changed-unfound}
@@ -26,24 +26,24 @@ module _ (point : Point) (p : Phase) (env : Env) where
 
   -- ---- leaves of a member that isn't current
 
-  unmarked_after : (x : Placed) → hit_after down p env (unmarked x) ≡ unmarked (hit_after down p env x)
+  unmarked_after : (x : Placed) → hit_after down p env (uncurrent x) ≡ uncurrent (hit_after down p env x)
   unmarked_after x = of x.leaf.is_enabled
     where
-      of : (b : Bool) → (if b then placed_after down p env (unmarked x) else unmarked x)
-          ≡ unmarked (if b then placed_after down p env x else x)
+      of : (b : Bool) → (if b then placed_after down p env (uncurrent x) else uncurrent x)
+          ≡ uncurrent (if b then placed_after down p env x else x)
       of true = refl
       of false = refl
 
-  topmost-unmarked : (xs : List Placed) → topmost point (map unmarked xs) ≡ option_map unmarked (topmost point xs)
-  topmost-unmarked xs = find_last-map unmarked (is_hit point) (is_hit point) (λ x. refl) xs
+  topmost-unmarked : (xs : List Placed) → topmost point (map uncurrent xs) ≡ option_map uncurrent (topmost point xs)
+  topmost-unmarked xs = find_last-map uncurrent (is_hit point) (is_hit point) (λ x. refl) xs
 
-  unmarked_answer : (o : Option Placed) → option_map answered (option_map unmarked o) ≡ option_map answered o
+  unmarked_answer : (o : Option Placed) → option_map answered (option_map uncurrent o) ≡ option_map answered o
   unmarked_answer None = refl
   unmarked_answer (Some x) = refl
 
   pub topmost-kept : (b : Bool) (xs : List Placed) → topmost point xs ≡ None → topmost point (kept b xs) ≡ None
   topmost-kept true xs h = h
-  topmost-kept false xs h = topmost-unmarked xs ∙ ap (option_map unmarked) h
+  topmost-kept false xs h = topmost-unmarked xs ∙ ap (option_map uncurrent) h
 
   pub down_here-kept : (b : Bool) (xs : List Placed) → down_here point p env (kept b xs) ≡ down_here point p env xs
   down_here-kept true xs = refl
@@ -52,7 +52,7 @@ module _ (point : Point) (p : Phase) (env : Env) where
   pub down_after-kept : (b : Bool) (xs : List Placed) → down_after point p env (kept b xs) ≡ kept b (down_after point p env xs)
   down_after-kept true xs = refl
   down_after-kept false xs =
-      last_changed-map unmarked (is_hit point) (is_hit point) (λ x. refl) (hit_after down p env) (hit_after down p env) unmarked_after xs
+      last_changed-map uncurrent (is_hit point) (is_hit point) (λ x. refl) (hit_after down p env) (hit_after down p env) unmarked_after xs
 
   -- ---- lists in parts
 
@@ -100,7 +100,7 @@ module _ (point : Point) (p : Phase) (env : Env) where
 
     module _ (h : is_in r point.x point.y ≡ true) where
       hit-inside : (x : Placed) → is_hit point (inside r x) ≡ is_hit inner x
-      hit-inside x = ap (λ b. x.leaf.is_shown && (b && reaches inner x.around x.leaf)) h
+      hit-inside x = ap (λ b. x.leaf.is_shown && (b && point_reaches inner x.around x.leaf)) h
 
       inside_answer : (o : Option Placed)
           → option_map answered (option_map (inside r) o) ≡ option_map (λ x. hit_answer down_inside p env (Some x)) o
@@ -130,7 +130,7 @@ module _ (point : Point) (p : Phase) (env : Env) where
     -- a group that doesn't have the point
     module _ (h : is_in r point.x point.y ≡ false) where
       miss-inside : (x : Placed) → is_hit point (inside r x) ≡ false
-      miss-inside x = ap (λ b. x.leaf.is_shown && (b && reaches inner x.around x.leaf)) h ∙ and_false x.leaf.is_shown
+      miss-inside x = ap (λ b. x.leaf.is_shown && (b && point_reaches inner x.around x.leaf)) h ∙ and_false x.leaf.is_shown
 
       pub topmost-outside : topmost point (map (inside r) xs) ≡ None
       topmost-outside =

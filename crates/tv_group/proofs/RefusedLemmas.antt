@@ -3,7 +3,7 @@ use Rattle.std.proofs.Common.{◌≡◌, ℕ, zero, suc, Bool, true, false, ◌&
 use Rattle.std.specs.Option.{option_or}
 use Rattle.std.proofs.lemmas.Bool.Decides.{nat_tests}
 use Rattle.tv_model.specs.declared.node.Id.{Id}
-use Rattle.tv_view.specs.Meaning.{Leaf, Placed, inside, kept, unmarked}
+use Rattle.tv_view.specs.Meaning.{Leaf, Placed, inside, kept, uncurrent}
 use Rattle.tv_machine.specs.Dialog.Focus.{validates}
 use Rattle.tv_view.specs.Calls.{invalid_id}
 use Rattle.tv_group.specs.Calls.{first_some, refusing}
@@ -25,7 +25,7 @@ eq_here : (a b : ℕ) → a ≡ b → a == b ≡ true
 eq_here a b h = grind (arith, nat_tests)
 
 -- the first answer of a member that isn't current, or is
-refused-unmarked : (xs : List Placed) → first_some refusing (map unmarked xs) ≡ None
+refused-unmarked : (xs : List Placed) → first_some refusing (map uncurrent xs) ≡ None
 refused-unmarked [] = refl
 refused-unmarked (x ∷ xs) = refused-unmarked xs
 

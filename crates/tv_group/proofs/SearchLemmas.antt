@@ -3,11 +3,11 @@ use Rattle.std.proofs.Common.{◌≡◌, ℕ, Bool, true, false, List, [], ◌�
 use Rattle.std.proofs.lemmas.List.{get_or_default, map-append, reverse-append}
 use Rattle.tv_cells.specs.declared.rect.Rect.{Rect}
 use Rattle.tv_model.specs.declared.node.Id.{Id}
-use Rattle.tv_view.specs.Meaning.{Leaf, Placed, alone, inside, kept, unmarked}
-use Rattle.tv_group.specs.Calls.{after_current, first_free, first_in, is_free, next_in, ordered}
+use Rattle.tv_view.specs.Meaning.{Leaf, Placed, alone, inside, kept, uncurrent}
+use Rattle.tv_group.specs.Calls.{after_current, first_free_leaf, first_in, is_free_control, next_in, ordered}
 use Rattle.tv_group.specs.Current.{is_at}
 use Rattle.tv_group.specs.Opened.{opened, opened_member}
-use Rattle.tv_group.specs.Searching.{found_in, looks_at, place_in, searched, searched_on}
+use Rattle.tv_group.specs.Searching.{found_in, looks_at, kth_place, searched, searched_on}
 use Rattle.tv_group.specs.declared.focus.Dir.{Dir}
 use Rattle.tv_group.specs.declared.focus.Dir.TheVariants as dirs
 use Rattle.tv_group.specs.declared.search.Search.{Search}
@@ -30,7 +30,7 @@ ordered-map f dirs.Backward xs = map-reverse f xs
 
 pub ordered-kept : (dir : Dir) (b : Bool) (xs : List Placed) → ordered dir (kept b xs) ≡ kept b (ordered dir xs)
 ordered-kept dir true xs = refl
-ordered-kept dir false xs = ordered-map unmarked dir xs
+ordered-kept dir false xs = ordered-map uncurrent dir xs
 
 -- ---- a search
 
@@ -60,26 +60,26 @@ found-stays : (id : Id) (xs : List Placed) → searched (Found id) xs ≡ Found 
 found-stays id [] = refl
 found-stays id (x ∷ xs) = found-stays id xs
 
-before-unmarked : (xs : List Placed) → searched Before (map unmarked xs) ≡ Before
+before-unmarked : (xs : List Placed) → searched Before (map uncurrent xs) ≡ Before
 before-unmarked [] = refl
 before-unmarked (x ∷ xs) = before-unmarked xs
 
 -- past the current leaf marks don't matter
-passed-step : (b : Bool) (id : Id) (xs : List Placed) → searched Passed (map unmarked xs) ≡ searched Passed xs
-    → searched (if b then Found id else Passed) (map unmarked xs) ≡ searched (if b then Found id else Passed) xs
-passed-step true id xs e = found-stays id (map unmarked xs) ∙ sym (found-stays id xs)
+passed-step : (b : Bool) (id : Id) (xs : List Placed) → searched Passed (map uncurrent xs) ≡ searched Passed xs
+    → searched (if b then Found id else Passed) (map uncurrent xs) ≡ searched (if b then Found id else Passed) xs
+passed-step true id xs e = found-stays id (map uncurrent xs) ∙ sym (found-stays id xs)
 passed-step false id xs e = e
 
-passed-unmarked : (xs : List Placed) → searched Passed (map unmarked xs) ≡ searched Passed xs
+passed-unmarked : (xs : List Placed) → searched Passed (map uncurrent xs) ≡ searched Passed xs
 passed-unmarked [] = refl
-passed-unmarked (x ∷ xs) = passed-step (is_free x.leaf) x.leaf.node.id xs (passed-unmarked xs)
+passed-unmarked (x ∷ xs) = passed-step (is_free_control x.leaf) x.leaf.node.id xs (passed-unmarked xs)
 
 -- a member that is looked at may keep its marks
 looked-at : (s : Search) (b : Bool) (xs : List Placed) → looks_at s b ≡ true → searched s (kept b xs) ≡ searched s xs
 looked-at s true xs h = refl
 looked-at Before false xs h = cc
 looked-at Passed false xs h = passed-unmarked xs
-looked-at (Found id) false xs h = found-stays id (map unmarked xs) ∙ sym (found-stays id xs)
+looked-at (Found id) false xs h = found-stays id (map uncurrent xs) ∙ sym (found-stays id xs)
 
 pub searched-looked : (dir : Dir) (s : Search) (b : Bool) (xs : List Placed) → looks_at s b ≡ true
     → searched s (ordered dir (kept b xs)) ≡ searched s (ordered dir xs)
@@ -98,22 +98,22 @@ searched-skipped dir s b xs h = ap (searched s) (ordered-kept dir b xs) ∙ pass
 
 -- ---- what it finds
 
-free-step : (b : Bool) (x : Placed) (xs : List Placed) → found_in (searched Passed xs) ≡ first_free xs
+free-step : (b : Bool) (x : Placed) (xs : List Placed) → found_in (searched Passed xs) ≡ first_free_leaf xs
     → found_in (searched (if b then Found x.leaf.node.id else Passed) xs)
-    ≡ option_map (λ y. y.leaf.node.id) (cond b (Some x) (find (λ y. is_free y.leaf) xs))
+    ≡ option_map (λ y. y.leaf.node.id) (cond b (Some x) (find (λ y. is_free_control y.leaf) xs))
 free-step true x xs e = ap found_in (found-stays x.leaf.node.id xs)
 free-step false x xs e = e
 
-found-free : (xs : List Placed) → found_in (searched Passed xs) ≡ first_free xs
+found-free : (xs : List Placed) → found_in (searched Passed xs) ≡ first_free_leaf xs
 found-free [] = refl
-found-free (x ∷ xs) = free-step (is_free x.leaf) x xs (found-free xs)
+found-free (x ∷ xs) = free-step (is_free_control x.leaf) x xs (found-free xs)
 
-next-step : (b : Bool) (xs : List Placed) → found_in (searched Before xs) ≡ first_free (after_current xs)
-    → found_in (searched (if b then Passed else Before) xs) ≡ first_free (if b then xs else after_current xs)
+next-step : (b : Bool) (xs : List Placed) → found_in (searched Before xs) ≡ first_free_leaf (after_current xs)
+    → found_in (searched (if b then Passed else Before) xs) ≡ first_free_leaf (if b then xs else after_current xs)
 next-step true xs e = found-free xs
 next-step false xs e = e
 
-found-next : (xs : List Placed) → found_in (searched Before xs) ≡ first_free (after_current xs)
+found-next : (xs : List Placed) → found_in (searched Before xs) ≡ first_free_leaf (after_current xs)
 found-next [] = refl
 found-next (x ∷ xs) = next-step x.is_current xs (found-next xs)
 
@@ -142,8 +142,8 @@ module _ {V : Type 0} (look : V → Leaf) where
 
   -- a search that comes from a member's leaves to others
   sought-next : (dir : Dir) (from s t : Search) (k : ℕ) (g : GroupOf V) (m : MemberOf V) → k < length g.members.items
-      → m ≡ get_or g.members.items (place_in dir k (length g.members.items)) m
-      → t ≡ searched s (ordered dir (kept (is_at g.current (place_in dir k (length g.members.items))) (opened_member look m)))
+      → m ≡ get_or g.members.items (kth_place dir k (length g.members.items)) m
+      → t ≡ searched s (ordered dir (kept (is_at g.current (kth_place dir k (length g.members.items))) (opened_member look m)))
       → Sought dir from s k g → Sought dir from t (k + 1) g
   sought-next dirs.Forward from s t k g m h is told before =
       told ∙ ap (λ u. searched u (kept (is_at g.current k) (opened_member look m))) before
@@ -164,30 +164,30 @@ module _ {V : Type 0} (look : V → Leaf) where
       ∙ ap (λ j. searched t (reverse (opened_to look g.current j g.members.items))) later
 
   pub sought-looked : (dir : Dir) (from s t : Search) (k : ℕ) (g : GroupOf V) (m : MemberOf V) → k < length g.members.items
-      → m ≡ get_or g.members.items (place_in dir k (length g.members.items)) m
-      → looks_at s (is_at g.current (place_in dir k (length g.members.items))) ≡ true → t ≡ searched s (ordered dir (opened_member look m))
+      → m ≡ get_or g.members.items (kth_place dir k (length g.members.items)) m
+      → looks_at s (is_at g.current (kth_place dir k (length g.members.items))) ≡ true → t ≡ searched s (ordered dir (opened_member look m))
       → Sought dir from s k g → Sought dir from t (k + 1) g
   sought-looked dir from s t k g m h is looks told before =
-      let i = place_in dir k (length g.members.items) in
+      let i = kth_place dir k (length g.members.items) in
       sought-next dir from s t k g m h is (told ∙ sym (searched-looked dir s (is_at g.current i) (opened_member look m) looks)) before
 
-  place-within : (dir : Dir) (k n : ℕ) → k < n → place_in dir k n < n
+  place-within : (dir : Dir) (k n : ℕ) → k < n → kth_place dir k n < n
   place-within dirs.Forward k n h = h
   place-within dirs.Backward k n h = omega arith
 
   -- a member that is passed by isn't read, but there is one
   sought-past : (dir : Dir) (from s t : Search) (k : ℕ) (g : GroupOf V) (ms : List (MemberOf V)) → g.members.items ≡ ms
       → k < length g.members.items
-      → looks_at s (is_at g.current (place_in dir k (length g.members.items))) ≡ false → t ≡ s
+      → looks_at s (is_at g.current (kth_place dir k (length g.members.items))) ≡ false → t ≡ s
       → Sought dir from s k g → Sought dir from t (k + 1) g
   sought-past dir from s t k g [] same h looks is before = absurd (omega (arith, ap length same))
   sought-past dir from s t k g (x ∷ xs) same h looks is before =
-      let i = place_in dir k (length g.members.items) in let m = get_or g.members.items i x in
+      let i = kth_place dir k (length g.members.items) in let m = get_or g.members.items i x in
       sought-next dir from s t k g m h (get_or_default g.members.items i x m (place-within dir k (length g.members.items) h))
       (is ∙ sym (searched-skipped dir s (is_at g.current i) (opened_member look m) looks)) before
 
   pub sought-skipped : (dir : Dir) (from s t : Search) (k : ℕ) (g : GroupOf V) → k < length g.members.items
-      → looks_at s (is_at g.current (place_in dir k (length g.members.items))) ≡ false → t ≡ s
+      → looks_at s (is_at g.current (kth_place dir k (length g.members.items))) ≡ false → t ≡ s
       → Sought dir from s k g → Sought dir from t (k + 1) g
   sought-skipped dir from s t k g h looks is before = sought-past dir from s t k g g.members.items refl h looks is before
 

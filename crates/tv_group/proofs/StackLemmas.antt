@@ -2,10 +2,10 @@
 use Rattle.std.proofs.Common.{◌≡◌, ℕ, suc, ◌+◌, ◌-◌, List, [], ◌∷◌, ◌++◌, length, take, drop, refl, sym, ap, ◌∙◌, arith, append_assoc}
 use Rattle.std.proofs.Math.ListN.{drop_of_length-le}
 use Rattle.std.proofs.lemmas.List.{drop-drop, drop-take, length-drop, take-take, take_rest}
-use Rattle.tv_group.specs.Stack.{lowered, raised}
+use Rattle.tv_group.specs.Stack.{lowered, raised_at}
 
 module _ {X : Type 0} (items : List X) (place : ℕ) where
-  pub front_is : (rotated : List X) → rotated ≡ drop place (take (place + 1) items) ++ take place (take (place + 1) items) → rotated ++ drop (place + 1) items ≡ raised items place
+  pub front_is : (rotated : List X) → rotated ≡ drop place (take (place + 1) items) ++ take place (take (place + 1) items) → rotated ++ drop (place + 1) items ≡ raised_at items place
   front_is rotated is =
       let next : place + 1 ≡ suc place = omega arith in
       rw (is, drop-take place 1 items, take-take place (place + 1) items (omega arith), next) (append_assoc (take 1 (drop place items)) (take place items) (drop (suc place) items))

@@ -7,7 +7,7 @@ use Rattle.std.proofs.lemmas.List.{append-nil, map-append}
 use Rattle.std.proofs.lemmas.List.Elements.{All-nil, All-cons, All-head, All-tail}
 use Rattle.tv_cells.specs.declared.rect.Rect.{Rect}
 use Rattle.tv_model.specs.declared.node.Node.{Node}
-use Rattle.tv_view.specs.Meaning.{Leaf, LeafAt, Part, PaneAt, Outlined, Placed, alone, fresh, has_current, inside, kept, unmarked}
+use Rattle.tv_view.specs.Meaning.{Leaf, LeafAt, Part, PaneAt, Outlined, Placed, alone, fresh, has_current, inside, kept, uncurrent}
 use Rattle.tv_model.specs.Description.Nodes.{is_pane}
 use Rattle.tv_model.specs.Description.Rectangles.{place_of_node}
 use Rattle.tv_machine.specs.Leaves.{PlacedNode, leaf_list, leaves_in, open_at}
@@ -143,7 +143,7 @@ finds_then depth panes parts more xs ys first second = record {
 
 put-kept : (panes : List OpenPane) (b : Bool) (xs : List Placed) → map (put_in panes) (kept b xs) ≡ map (put_in panes) xs
 put-kept panes true xs = refl
-put-kept panes false xs = map-then unmarked (put_in panes) xs
+put-kept panes false xs = map-then uncurrent (put_in panes) xs
 
 finds_kept : (depth : ℕ) (panes : List OpenPane) (parts : List Outlined) (b : Bool) (xs : List Placed) → Finds depth panes parts xs
     → Finds depth panes parts (kept b xs)
@@ -248,7 +248,7 @@ module _ {V : Type 0} (look : V → Leaf) where
 
   -- the members' leaves, without marks, are what the pass over their outline finds
   pass-members : (g : GroupOf V)
-      → placed_in [] (members_outline look g 1) ≡ map unmarked (joined g.current 0 (map (opened_member look) g.members.items))
+      → placed_in [] (members_outline look g 1) ≡ map uncurrent (joined g.current 0 (map (opened_member look) g.members.items))
   pass-members g = (members_found g.members.items (every_all g.members.items) g.current 0 1 []).placed
 
 -- ---- what nodes declare
@@ -300,10 +300,10 @@ or_right false b e = e
 or_right true b e = absurd cc
 
 -- leaves of which none is current have no marks
-unmarked-none : (xs : List Placed) → has_current xs ≡ false → map unmarked xs ≡ xs
+unmarked-none : (xs : List Placed) → has_current xs ≡ false → map uncurrent xs ≡ xs
 unmarked-none [] e = refl
 unmarked-none (x ∷ xs) e =
-    ap (λ b. record { leaf = x.leaf; around = x.around; is_current = b } ∷ map unmarked xs) (sym (or_left x.is_current (has_current xs) e))
+    ap (λ b. record { leaf = x.leaf; around = x.around; is_current = b } ∷ map uncurrent xs) (sym (or_left x.is_current (has_current xs) e))
     ∙ ap (λ t. x ∷ t) (unmarked-none xs (or_right x.is_current (has_current xs) e))
 
 -- a leaf of a fresh body in its place: the panes around it from the outermost in, inside the body's bounds
@@ -314,12 +314,12 @@ pub opened-fresh : {V : Type 0} (look : V → Leaf) (owner : Node) (views : List
     → opened look g ≡ map (fresh_placed (body_bounds owner)) (leaf_list views)
 opened-fresh look owner views g is =
     let members = joined g.current 0 (map (opened_member look) g.members.items) in
-    let found : map unmarked members ≡ map fresh_in (leaf_list views) =
+    let found : map uncurrent members ≡ map fresh_in (leaf_list views) =
     sym (pass-members look g) ∙ ap (placed_in []) is.parts ∙ pass-declared [] views in
     sym (unmarked-none (opened look g) is.no_current)
-    ∙ ap (map unmarked) (opened-members look g)
-    ∙ map-then (inside g.bounds) unmarked members
-    ∙ sym (map-then unmarked (inside g.bounds) members)
+    ∙ ap (map uncurrent) (opened-members look g)
+    ∙ map-then (inside g.bounds) uncurrent members
+    ∙ sym (map-then uncurrent (inside g.bounds) members)
     ∙ ap (map (inside g.bounds)) found
     ∙ map-then fresh_in (inside g.bounds) (leaf_list views)
     ∙ ap (λ bounds. map (fresh_placed bounds) (leaf_list views)) (sym is.bounds)

@@ -3,7 +3,7 @@ use Rattle.std.specs.Prelude.{ℕ, Bool, false, not, ◌&&◌, ◌||◌, List, [
 use Rattle.std.specs.List.{list_any}
 use Rattle.std.specs.Option.{option_or}
 use Rattle.tv_model.specs.declared.node.Id.{Id}
-use Rattle.tv_view.specs.Meaning.{Leaf, Placed, holds}
+use Rattle.tv_view.specs.Meaning.{Leaf, Placed, holds_mouse}
 use Rattle.tv_model.specs.Description.Nodes.{is_control}
 use Rattle.tv_model.specs.Log.Record.{Entries, value_of}
 use Rattle.tv_machine.specs.Dialog.Focus.{validates}
@@ -60,16 +60,16 @@ all_focused id xs = focused_from false id xs
 -- ---- what is free to focus
 
 -- a control that is shown and enabled
-abbrev pub is_free : Leaf → Bool
-is_free leaf = is_control leaf.node.kind && is_awake leaf
+abbrev pub is_free_control : Leaf → Bool
+is_free_control leaf = is_control leaf.node.kind && is_awake leaf
 
 -- a free control has the id
 unfoldable pub is_free_id : Id → List Placed → Bool
-is_free_id id xs = list_any (λ x. takes_focus id x.leaf && is_free x.leaf) xs
+is_free_id id xs = list_any (λ x. takes_focus id x.leaf && is_free_control x.leaf) xs
 
 -- the id of the first free one
-abbrev pub first_free : List Placed → Option Id
-first_free xs = option_map (λ x. x.leaf.node.id) (find (λ x. is_free x.leaf) xs)
+abbrev pub first_free_leaf : List Placed → Option Id
+first_free_leaf xs = option_map (λ x. x.leaf.node.id) (find (λ x. is_free_control x.leaf) xs)
 
 -- the leaves behind the current one; none where no leaf is current
 abbrev pub after_current : List Placed → List Placed
@@ -83,11 +83,11 @@ ordered dirs.Backward xs = reverse xs
 
 -- the first free control of a direction
 unfoldable pub first_in : Dir → List Placed → Option Id
-first_in dir xs = first_free (ordered dir xs)
+first_in dir xs = first_free_leaf (ordered dir xs)
 
 -- the next free control in a direction from the current leaf, up to the edge
 unfoldable pub next_in : Dir → List Placed → Option Id
-next_in dir xs = first_free (after_current (ordered dir xs))
+next_in dir xs = first_free_leaf (after_current (ordered dir xs))
 
 -- the leaves after the focus has gone where it was found to go, if anywhere
 abbrev pub focused_at : Option Id → List Placed → List Placed
@@ -108,7 +108,7 @@ first_some ask (x ∷ xs) = option_or (ask x) (first_some ask xs)
 
 -- whether a leaf holds the mouse
 unfoldable pub any_holds : List Placed → Bool
-any_holds xs = list_any (λ x. holds x.leaf) xs
+any_holds xs = list_any (λ x. holds_mouse x.leaf) xs
 
 -- whether a leaf has the focus
 unfoldable pub any_focused : List Placed → Bool

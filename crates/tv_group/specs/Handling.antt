@@ -16,7 +16,7 @@ use Rattle.tv_view.specs.declared.reaction.Reaction.{Reaction}
 use Rattle.tv_view.specs.declared.reaction.Reaction.TheVariants as reactions
 use Rattle.tv_view.specs.declared.reaction.Reaction.TheVariants.{Pass}
 use Rattle.tv_view.specs.Effects.{handled}
-use Rattle.tv_view.specs.Points.{is_inside, moved_into, point_into}
+use Rattle.tv_view.specs.Points.{leaf_has_point, moved_into, point_into}
 use Rattle.tv_view.specs.Reactions.{answer}
 
 -- ---- places
@@ -27,9 +27,9 @@ seen_through [] e = e
 seen_through (bounds ∷ around) e = seen_through around (moved_into bounds e)
 
 -- every group around the leaf has the point, and so has the leaf
-abbrev pub reaches : Point → List Rect → Leaf → Bool
-reaches p [] leaf = is_inside leaf p
-reaches p (bounds ∷ around) leaf = is_in bounds p.x p.y && reaches (point_into bounds p) around leaf
+abbrev pub point_reaches : Point → List Rect → Leaf → Bool
+point_reaches p [] leaf = leaf_has_point leaf p
+point_reaches p (bounds ∷ around) leaf = is_in bounds p.x p.y && point_reaches (point_into bounds p) around leaf
 
 -- ---- what the first of a kind does
 
@@ -112,7 +112,7 @@ scan_after e p env xs = first_changed (takes e p env) (placed_after e p env) xs
 
 -- a shown leaf at the point
 abbrev pub is_hit : Point → Placed → Bool
-is_hit p x = x.leaf.is_shown && reaches p x.around x.leaf
+is_hit p x = x.leaf.is_shown && point_reaches p x.around x.leaf
 
 -- the topmost shown leaf at the point, which is the last; a pane that has none there is looked through
 abbrev pub topmost : Point → List Placed → Option Placed

@@ -36,8 +36,8 @@ opened {V} look g = fold-GroupOf V (List Placed) (List Placed) (member_step look
 abbrev pub level_of : {V : Type 0} → GroupOf V → ℕ
 level_of g = g.level
 
-abbrev pub bounds_of : {V : Type 0} → GroupOf V → Rect
-bounds_of g = g.bounds
+abbrev pub group_bounds : {V : Type 0} → GroupOf V → Rect
+group_bounds g = g.bounds
 
 abbrev pub level_here : {V X : Type 0} → MemberOf-F V X (GroupOf V) → ℕ
 level_here (LeafHere v) = 0

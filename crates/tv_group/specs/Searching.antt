@@ -2,7 +2,7 @@
 use Rattle.std.specs.Prelude.{ℕ, Bool, true, false, List, [], ◌∷◌, ◌-◌, Option, Some, None, if◌then◌else◌}
 use Rattle.tv_model.specs.declared.node.Id.{Id}
 use Rattle.tv_view.specs.Meaning.{Placed}
-use Rattle.tv_group.specs.Calls.{is_free}
+use Rattle.tv_group.specs.Calls.{is_free_control}
 use Rattle.tv_group.specs.declared.focus.Dir.{Dir}
 use Rattle.tv_group.specs.declared.focus.Dir.TheVariants as dirs
 use Rattle.tv_group.specs.declared.search.Search.{Search}
@@ -11,7 +11,7 @@ use Rattle.tv_group.specs.declared.search.Search.TheVariants.{Before, Passed, Fo
 -- how a search goes on to a leaf
 abbrev pub searched_on : Search → Placed → Search
 searched_on Before x = if x.is_current then Passed else Before
-searched_on Passed x = if is_free x.leaf then Found x.leaf.node.id else Passed
+searched_on Passed x = if is_free_control x.leaf then Found x.leaf.node.id else Passed
 searched_on (Found id) x = Found id
 
 -- and through leaves
@@ -32,6 +32,6 @@ looks_at Passed is_current = true
 looks_at (Found id) is_current = false
 
 -- the k-th of so many places in a direction
-abbrev pub place_in : Dir → ℕ → ℕ → ℕ
-place_in dirs.Forward k count = k
-place_in dirs.Backward k count = count - 1 - k
+abbrev pub kth_place : Dir → ℕ → ℕ → ℕ
+kth_place dirs.Forward k count = k
+kth_place dirs.Backward k count = count - 1 - k

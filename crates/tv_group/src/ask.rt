@@ -7,7 +7,7 @@ ghost use Rattle.tv_view.specs.Calls.{takes_focus};
 ghost use Rattle.tv_group.specs.Handling.{is_awake};
 ghost use Rattle.tv_group.specs.Opened.{opened, opened_member};
 ghost use Rattle.tv_group.specs.Calls.{any_focused, any_holds, first_invalid_in, refused_in};
-ghost use Rattle.tv_group.specs.Calls.{group_option_bits, group_state_bits, is_free, is_free_id};
+ghost use Rattle.tv_group.specs.Calls.{group_option_bits, group_state_bits, is_free_control, is_free_id};
 
 use crate::group::{GroupOf, MemberOf};
 use bitflags::Flags;
@@ -41,7 +41,7 @@ fn is_awake<V: View>(view: &V) -> bool
 }
 
 fn is_free_leaf<V: View>(view: &V, id: Id) -> bool
-    ensures { result ≡ (takes_focus id (V.meaning view.now) && is_free (V.meaning view.now)) }
+    ensures { result ≡ (takes_focus id (V.meaning view.now) && is_free_control (V.meaning view.now)) }
 {
     view.id() == id && is_selectable(view) && is_awake(view)
 }

@@ -1,8 +1,8 @@
 //! Calls that change every leaf of a group.
 
 ghost use Rattle.std.specs.Prelude.{◌≡◌, map};
-ghost use Rattle.tv_view.specs.Meaning.{unmarked};
-ghost use Rattle.tv_group.specs.Opened.{bounds_of, level_of, opened, opened_member};
+ghost use Rattle.tv_view.specs.Meaning.{uncurrent};
+ghost use Rattle.tv_group.specs.Opened.{group_bounds, level_of, opened, opened_member};
 ghost use Rattle.tv_group.specs.Calls.{FitsAll, all_applied, all_pressed, all_set};
 
 use crate::group::{GroupOf, MemberOf};
@@ -34,7 +34,7 @@ impl<V: View> MemberOf<V> {
     #[cycle(set)]
     fn set(&mut self, values: &Record)
         requires { FitsAll values.now (opened_member V.meaning self.old) }
-        ensures { map unmarked (opened_member V.meaning self.new) ≡ all_set values.now (opened_member V.meaning self.old) }
+        ensures { map uncurrent (opened_member V.meaning self.new) ≡ all_set values.now (opened_member V.meaning self.old) }
     {
         match self {
             MemberOf::Leaf(view) => view.set(values),
@@ -48,7 +48,7 @@ impl<V: View> GroupOf<V> {
     #[cycle(press_item)]
     pub fn press_item(&mut self, id: Id, item: u8)
         ensures leaves { opened V.meaning self.new ≡ all_pressed id item (opened V.meaning self.old) }
-        ensures shape { (bounds_of self.new ≡ bounds_of self.old) × (level_of self.new ≡ level_of self.old) }
+        ensures shape { (group_bounds self.new ≡ group_bounds self.old) × (level_of self.new ≡ level_of self.old) }
     {
         for member in self.members.iter_mut() {
             member.press_item(id, item);
@@ -59,7 +59,7 @@ impl<V: View> GroupOf<V> {
     #[cycle(apply)]
     pub fn apply(&mut self, rules: &Rules)
         ensures leaves { opened V.meaning self.new ≡ all_applied rules.now (opened V.meaning self.old) }
-        ensures shape { (bounds_of self.new ≡ bounds_of self.old) × (level_of self.new ≡ level_of self.old) }
+        ensures shape { (group_bounds self.new ≡ group_bounds self.old) × (level_of self.new ≡ level_of self.old) }
     {
         for member in self.members.iter_mut() {
             member.apply(rules);
@@ -71,7 +71,7 @@ impl<V: View> GroupOf<V> {
     pub fn set(&mut self, values: &Record)
         requires { FitsAll values.now (opened V.meaning self.old) }
         ensures leaves { opened V.meaning self.new ≡ all_set values.now (opened V.meaning self.old) }
-        ensures shape { (bounds_of self.new ≡ bounds_of self.old) × (level_of self.new ≡ level_of self.old) }
+        ensures shape { (group_bounds self.new ≡ group_bounds self.old) × (level_of self.new ≡ level_of self.old) }
     {
         self.current = None;
         for member in self.members.iter_mut() {

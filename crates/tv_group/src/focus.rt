@@ -1,7 +1,7 @@
 //! The focus in a group.
 
 ghost use Rattle.std.specs.Prelude.{◌≡◌, false, map, true};
-ghost use Rattle.tv_view.specs.Meaning.{unmarked};
+ghost use Rattle.tv_view.specs.Meaning.{uncurrent};
 ghost use Rattle.tv_group.specs.Calls.{advanced, all_focused, first_in, focused_at, focused_from, has_control, next_in};
 
 use crate::group::{GroupOf, MemberOf};
@@ -33,7 +33,7 @@ impl<V: View> MemberOf<V> {
     #[cycle(focus_to)]
     fn focus_to(&mut self, id: Id) -> bool
         ensures found { result ≡ has_control id (opened_member V.meaning self.old) }
-        ensures left { map unmarked (opened_member V.meaning self.new) ≡ focused_from true id (opened_member V.meaning self.old) }
+        ensures left { map uncurrent (opened_member V.meaning self.new) ≡ focused_from true id (opened_member V.meaning self.old) }
         ensures moved { has_control id (opened_member V.meaning self.old) ≡ true
             → opened_member V.meaning self.new ≡ focused_from false id (opened_member V.meaning self.old) }
     {
@@ -45,7 +45,7 @@ impl<V: View> MemberOf<V> {
 }
 
 impl<V: View> GroupOf<V> {
-    ghost use Rattle.tv_group.specs.Opened.{bounds_of, level_of, opened};
+    ghost use Rattle.tv_group.specs.Opened.{group_bounds, level_of, opened};
 
     /// Moves the focus to the first control of the id: every other leaf loses it, and the members that lead to the
     /// control become current. Returns whether there is such a control; without one no member is current.
@@ -53,7 +53,7 @@ impl<V: View> GroupOf<V> {
     pub fn focus_to(&mut self, id: Id) -> bool
         ensures found { result ≡ has_control id (opened V.meaning self.old) }
         ensures leaves { opened V.meaning self.new ≡ all_focused id (opened V.meaning self.old) }
-        ensures shape { (bounds_of self.new ≡ bounds_of self.old) × (level_of self.new ≡ level_of self.old) }
+        ensures shape { (group_bounds self.new ≡ group_bounds self.old) × (level_of self.new ≡ level_of self.old) }
     {
         let mut current = None;
         for (i, member) in self.members.iter_mut().enumerate() {
@@ -69,7 +69,7 @@ impl<V: View> GroupOf<V> {
     pub fn advance(&mut self, dir: Dir) -> Advanced
         ensures answer { result ≡ advanced (next_in dir (opened V.meaning self.old)) }
         ensures leaves { opened V.meaning self.new ≡ focused_at (next_in dir (opened V.meaning self.old)) (opened V.meaning self.old) }
-        ensures shape { (bounds_of self.new ≡ bounds_of self.old) × (level_of self.new ≡ level_of self.old) }
+        ensures shape { (group_bounds self.new ≡ group_bounds self.old) × (level_of self.new ≡ level_of self.old) }
     {
         match self.next(dir) {
             Some(id) => {
@@ -84,7 +84,7 @@ impl<V: View> GroupOf<V> {
     pub fn enter(&mut self, dir: Dir) -> Option<Id>
         ensures answer { result ≡ first_in dir (opened V.meaning self.old) }
         ensures leaves { opened V.meaning self.new ≡ focused_at (first_in dir (opened V.meaning self.old)) (opened V.meaning self.old) }
-        ensures shape { (bounds_of self.new ≡ bounds_of self.old) × (level_of self.new ≡ level_of self.old) }
+        ensures shape { (group_bounds self.new ≡ group_bounds self.old) × (level_of self.new ≡ level_of self.old) }
     {
         let id = self.first(dir)?;
         self.focus_to(id);

@@ -3,7 +3,7 @@
 ghost use Rattle.std.specs.Prelude.{◌≡◌, ◌≤◌, ◌+◌, IfOk, IfErr, None, map};
 ghost use Rattle.tv_model.specs.Description.Rectangles.{IsSmallRect};
 ghost use Rattle.tv_view.specs.Meaning.{inside};
-ghost use Rattle.tv_group.specs.Opened.{bounds_of, joined, level_of, member_level, members_level, opened, opened_member};
+ghost use Rattle.tv_group.specs.Opened.{group_bounds, joined, level_of, member_level, members_level, opened, opened_member};
 
 use crate::bounds::Bounds;
 use tv_cells::Rect;
@@ -62,7 +62,7 @@ impl<V> GroupOf<V> {
 
     /// Returns its rectangle, seen from the corner of what it stands in.
     pub fn bounds(&self) -> Rect
-        ensures is { result ≡ bounds_of self.now }
+        ensures is { result ≡ group_bounds self.now }
         ensures small { IsSmallRect result }
     {
         self.bounds.rect()
@@ -82,7 +82,7 @@ impl<V: View> GroupOf<V> {
         requires { IsSmallRect bounds }
         ensures leaves { IfOk result (λ group. opened V.meaning group ≡ map (inside bounds) (joined None 0 (map (opened_member V.meaning) members.items))) }
         ensures level { IfOk result (λ group. (level_of group ≡ members_level members.items + 1) × (level_of group ≤ 8)) }
-        ensures bounds { IfOk result (λ group. bounds_of group ≡ bounds) }
+        ensures bounds { IfOk result (λ group. group_bounds group ≡ bounds) }
         ensures refused { IfErr result (λ e. (8 ≤ members_level members.items) × (e.1 ≡ members)) }
     {
         let mut highest = 0;

@@ -6,7 +6,7 @@ ghost use Rattle.tv_view.specs.Meaning.{alone};
 ghost use Rattle.tv_view.specs.Points.{moved_into, point_into};
 ghost use Rattle.tv_group.specs.Handling.{group_after, group_answer, scan_after, scan_answer, has_turn, is_awake, is_hit, is_offered, is_pass};
 ghost use Rattle.tv_group.specs.Current.{is_at};
-ghost use Rattle.tv_group.specs.Opened.{bounds_of, level_of, opened, opened_member};
+ghost use Rattle.tv_group.specs.Opened.{group_bounds, level_of, opened, opened_member};
 ghost use Rattle.tv_group.specs.Turns.{down_after, down_here, is_asked};
 
 use crate::group::{GroupOf, MemberOf};
@@ -169,7 +169,7 @@ impl<V: View> GroupOf<V> {
     fn scan(&mut self, event: &Event, phase: Phase, env: &Env) -> Reaction
         ensures reaction { result ≡ scan_answer event.now phase env.now (opened V.meaning self.old) }
         ensures after { opened V.meaning self.new ≡ scan_after event.now phase env.now (opened V.meaning self.old) }
-        ensures shape { (bounds_of self.new ≡ bounds_of self.old) × (level_of self.new ≡ level_of self.old) }
+        ensures shape { (group_bounds self.new ≡ group_bounds self.old) × (level_of self.new ≡ level_of self.old) }
     {
         let current = self.current;
         let inner = moved_into(self.bounds.rect(), event);
@@ -191,7 +191,7 @@ impl<V: View> GroupOf<V> {
     fn down(&mut self, point: Point, phase: Phase, env: &Env) -> Option<Reaction>
         ensures reaction { result ≡ down_here point phase env.now (opened V.meaning self.old) }
         ensures after { opened V.meaning self.new ≡ down_after point phase env.now (opened V.meaning self.old) }
-        ensures shape { (bounds_of self.new ≡ bounds_of self.old) × (level_of self.new ≡ level_of self.old) }
+        ensures shape { (group_bounds self.new ≡ group_bounds self.old) × (level_of self.new ≡ level_of self.old) }
     {
         let bounds = self.bounds.rect();
         if !has_point(bounds, point) {
@@ -211,7 +211,7 @@ impl<V: View> GroupOf<V> {
     pub fn handle(&mut self, event: &Event, phase: Phase, env: &Env) -> Reaction
         ensures reaction { result ≡ group_answer event.now phase env.now (opened V.meaning self.old) }
         ensures after { opened V.meaning self.new ≡ group_after event.now phase env.now (opened V.meaning self.old) }
-        ensures shape { (bounds_of self.new ≡ bounds_of self.old) × (level_of self.new ≡ level_of self.old) }
+        ensures shape { (group_bounds self.new ≡ group_bounds self.old) × (level_of self.new ≡ level_of self.old) }
     {
         match event {
             Event::Down(point) => self.down(*point, phase, env).unwrap_or(Reaction::Pass),

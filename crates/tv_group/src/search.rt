@@ -2,9 +2,9 @@
 
 ghost use Rattle.std.specs.Prelude.{◌≡◌, ◌<◌};
 ghost use Rattle.tv_view.specs.Meaning.{alone};
-ghost use Rattle.tv_group.specs.Calls.{first_in, is_free, next_in, ordered};
+ghost use Rattle.tv_group.specs.Calls.{first_in, is_free_control, next_in, ordered};
 ghost use Rattle.tv_group.specs.Current.{is_at};
-ghost use Rattle.tv_group.specs.Searching.{found_in, looks_at, place_in, searched, searched_on};
+ghost use Rattle.tv_group.specs.Searching.{found_in, looks_at, kth_place, searched, searched_on};
 ghost use Rattle.tv_group.specs.declared.search.Search.TheVariants.{Before, Passed};
 
 use crate::focus::Dir;
@@ -27,7 +27,7 @@ pub(crate) enum Search {
 
 /// Whether a leaf is a control that is shown and enabled.
 pub(crate) fn is_free<V: View>(view: &V) -> bool
-    ensures { result ≡ is_free (V.meaning view.now) }
+    ensures { result ≡ is_free_control (V.meaning view.now) }
 {
     let state = view.state();
     view.options().contains(Options::SELECTABLE)
@@ -39,7 +39,7 @@ impl Dir {
     // The k-th of so many places.
     fn place(self, k: usize, count: usize) -> usize
         requires { k < count }
-        ensures is { result ≡ place_in self k count }
+        ensures is { result ≡ kth_place self k count }
         ensures within { result < count }
     {
         match self {

@@ -1,11 +1,11 @@
 //! Items one over the other, as windows are.
 
 ghost use Rattle.std.specs.Prelude.{◌≡◌, ◌<◌, length, slice_get, remove};
-ghost use Rattle.tv_group.specs.Stack.{lowered, raised};
+ghost use Rattle.tv_group.specs.Stack.{lowered, raised_at};
 
 fn bring_to_front<T>(items: &mut [T], place: usize)
     requires { place < length items.old }
-    ensures { items.new ≡ raised items.old place }
+    ensures { items.new ≡ raised_at items.old place }
 {
     items[..=place].rotate_left(place);
 }
@@ -47,7 +47,7 @@ impl<T> Stack<T> {
     /// Brings the item at a place to the front.
     pub fn raise(&mut self, place: usize)
         requires { place < length self.old.items.items }
-        ensures { self.new.items.items ≡ raised self.old.items.items place }
+        ensures { self.new.items.items ≡ raised_at self.old.items.items place }
     {
         bring_to_front(&mut self.items, place);
     }

@@ -6,7 +6,7 @@ use Rattle.tv_model.specs.Controls.Private.{Plain}
 use Rattle.tv_model.specs.Controls.Contents.{Content}
 use Rattle.tv_machine.specs.Dialog.Rules.{is_among}
 use Rattle.tv_view.specs.declared.env.Rules.{Rules}
-use Rattle.tv_view.specs.Calls.{is_kind_enabled}
+use Rattle.tv_view.specs.Calls.{is_kind_enabled_among}
 
 -- a leaf but for what it holds
 pub record Core : Type 0 where
@@ -43,4 +43,4 @@ plain_leaf core = leaf_with core no_content
 
 -- what rules make of it
 abbrev pub ruled : Rules → Core → Core
-ruled rules core = record core { is_shown = is_among rules.shown.now core.node.id; is_enabled = is_kind_enabled rules.commands.now core.node.kind }
+ruled rules core = record core { is_shown = is_among rules.shown.now core.node.id; is_enabled = is_kind_enabled_among rules.commands.now core.node.kind }

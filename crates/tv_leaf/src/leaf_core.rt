@@ -7,7 +7,7 @@ ghost use Rattle.tv_model.specs.Description.LawfulNodes.{HasLawfulCount, IsLawfu
 ghost use Rattle.tv_model.specs.Description.Commands.{command_of};
 ghost use Rattle.tv_model.specs.Description.Nodes.{height_of, is_cluster};
 ghost use Rattle.tv_leaf.specs.Core.{fresh_core, plain_leaf, ruled};
-ghost use Rattle.tv_view.specs.Calls.{is_kind_enabled, state_bits};
+ghost use Rattle.tv_view.specs.Calls.{is_kind_enabled_among, state_bits};
 
 use bitflags::Flags;
 use std::alloc::{AllocError, Global};
@@ -58,7 +58,7 @@ fn height(kind: &Kind) -> i32
 
 fn is_kind_enabled(commands: &CommandSet, kind: &Kind) -> bool
     requires { IsLawfulCommand (command_of kind.now) }
-    ensures { result ≡ is_kind_enabled commands.now kind.now }
+    ensures { result ≡ is_kind_enabled_among commands.now kind.now }
 {
     match kind {
         Kind::Button(button) => commands.has(button.command.command()),

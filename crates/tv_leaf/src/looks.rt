@@ -1,7 +1,7 @@
 //! What a control's environment says of it.
 
 ghost use Rattle.std.specs.Prelude.{◌≡◌};
-ghost use Rattle.tv_view.specs.Colours.{has_focus, is_default_now, is_id};
+ghost use Rattle.tv_view.specs.Colours.{has_focus, is_lent_default, is_id};
 
 use tv_model::Id;
 use tv_view::Env;
@@ -24,7 +24,7 @@ pub fn has_focus(env: &Env, id: Id) -> bool
 
 /// Whether Enter presses the button of the id.
 pub fn is_default_now(env: &Env, id: Id) -> bool
-    ensures { result ≡ is_default_now env.now id }
+    ensures { result ≡ is_lent_default env.now id }
 {
     is_id(env.default_now, id)
 }

@@ -8,10 +8,10 @@ use Rattle.tv_machine.specs.Screen.Bars.{Spot, spot_in, status_text, status_unde
 use Rattle.tv_machine.specs.Session.Step.{is_item_enabled}
 use Rattle.tv_menu.specs.declared.offered.Offered.{Offered}
 use Rattle.tv_menu.specs.declared.offered.Offered.TheVariants as offers
-use Rattle.tv_menu.specs.Line.{cell_answer, key_answer, turned_by}
+use Rattle.tv_menu.specs.Line.{cell_answer, line_key, turned_by}
 
 pub key_turned : (f : StatusItem → Bool) (xs ys : List StatusItem) (item : StatusItem) (answer : Offered)
-    → Some item ≡ find f xs → xs ≡ ys → answer ≡ turned_by item → answer ≡ key_answer (find f ys)
+    → Some item ≡ find f xs → xs ≡ ys → answer ≡ turned_by item → answer ≡ line_key (find f ys)
 key_turned f xs ys item answer found same is = rw (← same, ← found) is
 
 pub cell_turned : (d : Desc) (s : State) (found : Option StatusItem) (item : StatusItem) (answer : Offered)

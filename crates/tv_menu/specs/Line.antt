@@ -31,9 +31,9 @@ abbrev pub turned_by : StatusItem → Offered
 turned_by item = offers.Turned (record { 0 = command_number item.command })
 
 -- a key, by the enabled item that has it
-abbrev pub key_answer : Option StatusItem → Offered
-key_answer None = offers.Left
-key_answer (Some item) = turned_by item
+abbrev pub line_key : Option StatusItem → Offered
+line_key None = offers.Left
+line_key (Some item) = turned_by item
 
 -- a mouse down on the last row, by the item that is there
 abbrev pub cell_answer : Desc → State → Option StatusItem → Offered
@@ -41,16 +41,16 @@ cell_answer d s None = offers.Taken
 cell_answer d s (Some item) = if is_item_enabled d s item then turned_by item else offers.Taken
 
 -- a mouse down: off the screen it is no one's
-abbrev pub down_answer : Desc → State → Point → Offered
-down_answer d s p =
+abbrev pub line_down : Desc → State → Point → Offered
+line_down d s p =
     if not (is_in (rect (pos 0) (pos 0) d.width d.height) p.x p.y) then offers.Taken
     else if is_status_row d p then cell_answer d s (status_under d p.x)
     else offers.Left
 
 -- an event
 abbrev pub line_answer : Desc → State → Event → Offered
-line_answer d s (events.Key k) = key_answer (status_item_of d s k)
-line_answer d s (events.Down p) = down_answer d s p
+line_answer d s (events.Key k) = line_key (status_item_of d s k)
+line_answer d s (events.Down p) = line_down d s p
 line_answer d s (events.Move p) = offers.Left
 line_answer d s (events.Up p) = offers.Left
 line_answer d s (events.Command c) = offers.Left

@@ -9,5 +9,5 @@ abbrev pub seen_spot : Option Found → Option (Spot StatusItem)
 seen_spot found = option_map (λ spot. record { entry = spot.entry.now; place = spot.place; column = spot.column }) found
 
 -- the place of a menu that stands there
-abbrev pub place_of : Spot Menu → ℕ
-place_of spot = spot.place
+abbrev pub menu_place : Spot Menu → ℕ
+menu_place spot = spot.place

@@ -11,7 +11,7 @@ ghost use Rattle.tv_model.specs.Description.Numbers.{IsBetween};
 ghost use Rattle.tv_model.specs.Description.Rectangles.{rect};
 ghost use Rattle.tv_menu.specs.Cells.{is_item_in};
 ghost use Rattle.tv_menu.specs.Lawful.{AreLawfulStatusItems, IsLawfulScreen, IsLawfulStatusItem};
-ghost use Rattle.tv_menu.specs.Line.{AreEnabled, IsLineOf, cell_answer, down_answer, key_answer, line_answer, turned_by};
+ghost use Rattle.tv_menu.specs.Line.{AreEnabled, IsLineOf, cell_answer, line_down, line_key, line_answer, turned_by};
 
 use crate::bars::StatusLine;
 use crate::offered::Offered;
@@ -116,7 +116,7 @@ impl StatusLine {
 
     fn key_answer(&self, key: Key, enabled: &CommandSet) -> Offered
         ensures { (d : Declared) (s : State) → IsLineOf d self.now → AreEnabled d s enabled.now
-            → result ≡ key_answer (status_item_of d s key) }
+            → result ≡ line_key (status_item_of d s key) }
     {
         match item_of_key(self.items.as_slice(), key, enabled) {
             Some(item) => turned_by(item),
@@ -125,7 +125,7 @@ impl StatusLine {
     }
 
     fn down_answer(&self, point: Point, enabled: &CommandSet) -> Offered
-        ensures { (d : Declared) (s : State) → IsLineOf d self.now → AreEnabled d s enabled.now → result ≡ down_answer d s point }
+        ensures { (d : Declared) (s : State) → IsLineOf d self.now → AreEnabled d s enabled.now → result ≡ line_down d s point }
     {
         if !self.is_on_screen(point) {
             Offered::Taken

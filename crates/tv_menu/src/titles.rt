@@ -4,7 +4,7 @@ ghost use Rattle.std.specs.Prelude.{◌≡◌, ◌≤◌, ◌<◌, ◌+◌, ◌*
 ghost use Rattle.tv_machine.specs.Screen.Bars.{columns_of, spot_in, title_of};
 ghost use Rattle.tv_model.specs.Description.Limits.{most_menus};
 ghost use Rattle.tv_menu.specs.Lawful.{IsLawfulMenu};
-ghost use Rattle.tv_menu.specs.Spots.{place_of};
+ghost use Rattle.tv_menu.specs.Spots.{menu_place};
 
 use crate::spot::columns_of;
 use tv_model::Menu;
@@ -22,7 +22,7 @@ fn title_columns(menu: &Menu) -> usize
 fn title_in(menus: &[Menu], place: usize, column: usize) -> Option<usize>
     requires places { place + length menus.now < 2 ^ 64 }
     requires lawful { All IsLawfulMenu menus.now }
-    ensures { (first : ℕ) → result ≡ option_map place_of (spot_in title_of place first menus.now (first + column)) }
+    ensures { (first : ℕ) → result ≡ option_map menu_place (spot_in title_of place first menus.now (first + column)) }
 {
     let (menu, behind) = menus.split_first()?;
     let columns = title_columns(menu);
@@ -38,7 +38,7 @@ fn title_in(menus: &[Menu], place: usize, column: usize) -> Option<usize>
 pub(crate) fn title_in_bar(menus: &[Menu], column: usize) -> Option<usize>
     requires few { length menus.now ≤ most_menus }
     requires lawful { All IsLawfulMenu menus.now }
-    ensures { result ≡ option_map place_of (spot_in title_of 0 1 menus.now column) }
+    ensures { result ≡ option_map menu_place (spot_in title_of 0 1 menus.now column) }
 {
     if column == 0 {
         None

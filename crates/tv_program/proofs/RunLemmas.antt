@@ -23,7 +23,7 @@ use Rattle.tv_script.specs.declared.stream_fault.StreamFault.{StreamFault}
 use Rattle.tv_script.specs.declared.stream_fault.StreamFault.TheVariants as streams
 use Rattle.tv_script.specs.Performed.{FitsLargestScreen, Stops}
 use Rattle.tv_script.specs.Streams.{ComesFrom, Decides, IsCutOff, Performs, StreamsTo}
-use Rattle.tv_session.specs.Starting.{Refuses}
+use Rattle.tv_session.specs.Starting.{RefusesViews}
 use Rattle.tv_session.specs.declared.fault.SessionFault.{SessionFault}
 use Rattle.tv_session.specs.declared.fault.SessionFault.TheVariants as sessions
 use Rattle.tv_view.specs.Meaning.{Leaf}
@@ -47,7 +47,7 @@ lawful text = λ d read. RunsByLaws-of d (sound_dialogs d read.spelled.can read.
 
 module _ {V : Type 0} (Answers : Desc → Result (Views V) BuildFault → Type 0) (look : V → Leaf) (d : Desc) where
   -- the views were refused
-  pub refused-IsNoStart : (views : Views V) → Answers d (Ok views) → (fault : SessionFault) → Refuses look d views.windows.items views.bodies.items fault → IsNoStart (IsMismade Answers look) d (session_run fault)
+  pub refused-IsNoStart : (views : Views V) → Answers d (Ok views) → (fault : SessionFault) → RefusesViews look d views.windows.items views.bodies.items fault → IsNoStart (IsMismade Answers look) d (session_run fault)
   refused-IsNoStart views answer sessions.NoMemory mismatch = tt
   refused-IsNoStart views answer (sessions.ViewMismatch place) mismatch = inr (views, place, answer, mismatch)
 

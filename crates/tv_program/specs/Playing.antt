@@ -18,7 +18,7 @@ use Rattle.tv_program.specs.Laws.{RunsByLaws}
 use Rattle.tv_program.specs.Reading.{HasFaults, IsNoDescription, IsSoundText}
 use Rattle.tv_script.specs.declared.stream_fault.StreamFault.{StreamFault}
 use Rattle.tv_script.specs.Streams.{ComesFrom}
-use Rattle.tv_session.specs.Starting.{Refuses}
+use Rattle.tv_session.specs.Starting.{RefusesViews}
 use Rattle.tv_session.specs.declared.fault.SessionFault.TheVariants.{ViewMismatch}
 
 -- ---- the maker of views
@@ -34,7 +34,7 @@ pub record Makes {F A R : Type 0} (calls : Shared F (A × (Bor Desc × Unit {0})
 abbrev pub IsMismade : {V : Type 0} → (Desc → Result (Views V) BuildFault → Type 0) → (V → Leaf) → Desc → Type 0
 IsMismade {V} Answers look d =
     Answers d (Err unbuilt.WrongPlan)
-    ⊎ ((views : Views V) × (place : ℕ) × Answers d (Ok views) × Refuses look d views.windows.items views.bodies.items (ViewMismatch place))
+    ⊎ ((views : Views V) × (place : ℕ) × Answers d (Ok views) × RefusesViews look d views.windows.items views.bodies.items (ViewMismatch place))
 
 -- ---- runs
 

@@ -19,7 +19,7 @@ use Rattle.tv_group.specs.Outline.{IsFreshBody, body_bounds}
 use Rattle.tv_group.specs.declared.group.GroupOf.{GroupOf}
 use Rattle.tv_group.proofs.TreeLemmas.{fresh_placed, opened-fresh}
 use Rattle.tv_dialog.specs.Head as heads
-use Rattle.tv_dialog.specs.Head.{declared_head}
+use Rattle.tv_dialog.specs.Head.{declared_dialog_head}
 use Rattle.tv_tree.proofs.EndingLemmas.{fewer_leaves}
 use Rattle.tv_dialog.proofs.FirstRecordLemmas.{few-room}
 use Rattle.tv_machine.proofs.LeafLemmas.{leaves-all}
@@ -42,10 +42,10 @@ module _ {V : Type 0} (look : V → Leaf) (owner : Node) (views : List Node) (g 
       (few-room (map (fresh_placed (body_bounds owner)) (leaf_list views)) [] (omega (arith, fewer, few, same)))
 
 -- what a dialog keeps of a limited node is limited
-pub limited_head : (node : Node) → IsLimited node → IfSome (declared_head node) heads.IsLimited
+pub limited_head : (node : Node) → IsLimited node → IfSome (declared_dialog_head node) heads.IsLimitedDialogHead
 limited_head node limited = by node.kind refl
   where
-    by : (kind : Kind) → node.kind ≡ kind → IfSome (declared_head node) heads.IsLimited
+    by : (kind : Kind) → node.kind ≡ kind → IfSome (declared_dialog_head node) heads.IsLimitedDialogHead
     by (kinds.Dialog own) is = rw is (record {
       bounds = rw is at (limited_small node limited);
       title = All-head IsShort own.title [] (rw is at limited.texts);
@@ -61,5 +61,5 @@ limited_head node limited = by node.kind refl
     by (kinds.Pane own) is = rw is tt
 
 -- a button's node has no head
-pub button_headless : (node : Node) (own : Button) → node.kind ≡ kinds.Button own → IfSome (declared_head node) heads.IsLimited
+pub button_headless : (node : Node) (own : Button) → node.kind ≡ kinds.Button own → IfSome (declared_dialog_head node) heads.IsLimitedDialogHead
 button_headless node own is = rw is tt

@@ -4,7 +4,7 @@ ghost use Rattle.std.specs.Prelude.{◌≡◌, ◌<◌, ◌^◌, IfOk, IsTrue, S
 ghost use Rattle.tv_model.specs.declared.kind.Kind.TheVariants as kinds;
 ghost use Rattle.tv_model.specs.declared.record.Value.TheVariants as values;
 ghost use Rattle.tv_model.specs.Controls.Contents.{is_item_place};
-ghost use Rattle.tv_view.specs.Calls.{IsValueOf};
+ghost use Rattle.tv_view.specs.Calls.{IsFieldValue};
 ghost use Rattle.tv_run_tests.specs.Fitting.{FitsViews};
 
 use std::alloc::Global;
@@ -13,7 +13,7 @@ use tv_model::{CheckBoxes, Input, Kind, Node, Record, Value};
 use tv_valid::{Domain, Text};
 
 fn is_viable(alloc: Global, input: &Input, text: &Text) -> Result<bool, Fail>
-    ensures { IfOk result (λ is. IsTrue is → IsValueOf (kinds.Input input.now) (Some (values.Text text.now))) }
+    ensures { IfOk result (λ is. IsTrue is → IsFieldValue (kinds.Input input.now) (Some (values.Text text.now))) }
 {
     Ok(Domain::new(alloc, &input.spec)?.viable(text))
 }
@@ -40,7 +40,7 @@ fn is_item(count: usize, item: u8) -> bool
 
 // Whether the view of a node may have the value.
 fn is_value(alloc: Global, node: &Node, value: Option<&Value>) -> Result<bool, Fail>
-    ensures { IfOk result (λ is. IsTrue is → IsValueOf node.now.kind (option_copied value.entry)) }
+    ensures { IfOk result (λ is. IsTrue is → IsFieldValue node.now.kind (option_copied value.entry)) }
 {
     match (&node.kind, value) {
         (Kind::Input(input), Some(Value::Text(text))) => is_viable(alloc, input, text),

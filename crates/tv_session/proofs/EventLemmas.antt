@@ -19,7 +19,7 @@ use Rattle.tv_machine.specs.Session.Desktop.{alt_pressed, desktop_down, desktop_
 use Rattle.tv_machine.specs.Session.Menu.{menu_down, menu_key, open_menu, title_at, title_of_letter}
 use Rattle.tv_machine.specs.Session.Step.{down_at_status, down_below, is_item_enabled, is_status_row, status_command}
 use Rattle.tv_menu.specs.Bar.{bar_offer, closed_key, down_offered, key_offered, opening}
-use Rattle.tv_menu.specs.Line.{cell_answer, down_answer, key_answer, turned_by}
+use Rattle.tv_menu.specs.Line.{cell_answer, line_down, line_key, turned_by}
 use Rattle.tv_menu.specs.declared.offered.Offered.{Offered}
 use Rattle.tv_menu.specs.declared.offered.Offered.TheVariants as offers
 use Rattle.tv_session.proofs.CommandLemmas.{none_some, same_some}
@@ -84,10 +84,10 @@ module _ (d : Desc) where
   pub menu_keyed : (k : Key) (o : OpenMenu) (s : State) → s.menu ≡ Some o → bar_offer d (events.Key k) s ≡ Some (menu_key d o k s)
   menu_keyed k o s some = ap (λ x. key_offered d x k s) some
 
-  turned_not_taken : (item : StatusItem) (result : Offered) → result ≡ key_answer (Some item) → ((c : Command) → result ≡ offers.Turned c → ⊥) → ⊥
+  turned_not_taken : (item : StatusItem) (result : Offered) → result ≡ line_key (Some item) → ((c : Command) → result ≡ offers.Turned c → ⊥) → ⊥
   turned_not_taken item result is never = never _ is
 
-  pub no_item : (o : Option StatusItem) (result : Offered) → result ≡ key_answer o → ((c : Command) → result ≡ offers.Turned c → ⊥) → o ≡ None
+  pub no_item : (o : Option StatusItem) (result : Offered) → result ≡ line_key o → ((c : Command) → result ≡ offers.Turned c → ⊥) → o ≡ None
   no_item None result is never = refl
   no_item (Some item) result is never = absurd (turned_not_taken item result is never)
 
@@ -137,7 +137,7 @@ module _ (d : Desc) where
   cell_left (Some item) s e =
       bool_cases (is_item_enabled d s item) (λ b. (if b then turned_by item else offers.Taken) ≡ offers.Left → ⊥) (λ is left. absurd cc) (λ is left. absurd cc) e
 
-  pub status_turned : (p : Point) (c : Command) (s : State) → down_answer d s p ≡ offers.Turned c → down_at_status d p s ≡ do_command d c.0 s
+  pub status_turned : (p : Point) (c : Command) (s : State) → line_down d s p ≡ offers.Turned c → down_at_status d p s ≡ do_command d c.0 s
   status_turned p c s e =
       bool_cases (is_in (rect (pos 0) (pos 0) d.width d.height) p.x p.y)
       (λ b. (if not b then offers.Taken else if is_status_row d p then cell_answer d s (status_under d p.x) else offers.Left) ≡ offers.Turned c
@@ -148,7 +148,7 @@ module _ (d : Desc) where
       (λ row is. cell_turned (status_under d p.x) c s is) (λ above is. absurd cc))
       (λ outside is. absurd cc) e
 
-  pub status_taken : (p : Point) (s : State) → down_answer d s p ≡ offers.Taken → down_at_status d p s ≡ s
+  pub status_taken : (p : Point) (s : State) → line_down d s p ≡ offers.Taken → down_at_status d p s ≡ s
   status_taken p s e =
       bool_cases (is_in (rect (pos 0) (pos 0) d.width d.height) p.x p.y)
       (λ b. (if not b then offers.Taken else if is_status_row d p then cell_answer d s (status_under d p.x) else offers.Left) ≡ offers.Taken
@@ -159,7 +159,7 @@ module _ (d : Desc) where
       (λ row is. cell_taken (status_under d p.x) s is) (λ above is. absurd cc))
       (λ outside is. refl) e
 
-  pub status_left : (p : Point) (s : State) → down_answer d s p ≡ offers.Left → down_at_status d p s ≡ down_below d s.dialog p s
+  pub status_left : (p : Point) (s : State) → line_down d s p ≡ offers.Left → down_at_status d p s ≡ down_below d s.dialog p s
   status_left p s e =
       bool_cases (is_in (rect (pos 0) (pos 0) d.width d.height) p.x p.y)
       (λ b. (if not b then offers.Taken else if is_status_row d p then cell_answer d s (status_under d p.x) else offers.Left) ≡ offers.Left

@@ -12,7 +12,7 @@ ghost use Rattle.tv_session.specs.Freshness.{IsFirstMismatch};
 ghost use Rattle.tv_session.specs.Running.{IsAwake, IsRun};
 ghost use Rattle.tv_session.specs.Session.{StandsFor};
 ghost use Rattle.tv_session.specs.declared.fault.SessionFault.TheVariants.{NoMemory};
-ghost use Rattle.tv_session.specs.Starting.{CanStart, Refuses, start_place};
+ghost use Rattle.tv_session.specs.Starting.{CanStart, RefusesViews, start_place};
 
 use crate::fault::SessionFault;
 use crate::freshness::first_mismatch;
@@ -131,7 +131,7 @@ impl<V: View> SessionOf<V> {
     ) -> Result<SessionOf<V>, Refused<V>>
         ensures made { IfOk result (λ session. StandsFor V.meaning session (started checked)) }
         ensures fresh { IfOk result (λ _. IsFirstMismatch V.meaning checked windows.items bodies.items None) }
-        ensures mismatch { IfErr result (λ refused. Refuses V.meaning checked windows.items bodies.items refused.fault) }
+        ensures mismatch { IfErr result (λ refused. RefusesViews V.meaning checked windows.items bodies.items refused.fault) }
         ensures back { IfErr result (λ refused. (refused.checked ≡ checked) × (refused.windows.items ≡ windows.items) × (refused.bodies.items ≡ bodies.items)) }
     {
         match first_mismatch(checked.desc(), windows.as_slice(), bodies.as_slice()) {

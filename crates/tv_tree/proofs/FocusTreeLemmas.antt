@@ -48,8 +48,8 @@ module _ (d : Dialog) (lawful : IsLawfulDialog d) where
   pub is_free-tree : (ruled : List LeafState) (m : Modal) (i : Id) → is_free_id i (tree_as d ruled m) ≡ is_free_at d ruled i
   unfolding is_free_id
   is_free-tree ruled m i =
-      any-map (placed_as d ruled m) (λ x. takes_focus i x.leaf && group.is_free x.leaf) (leaf_list d.views)
-      ∙ any-same (λ leaf. takes_focus i (leaf_as d ruled m leaf) && group.is_free (leaf_as d ruled m leaf))
+      any-map (placed_as d ruled m) (λ x. takes_focus i x.leaf && group.is_free_control x.leaf) (leaf_list d.views)
+      ∙ any-same (λ leaf. takes_focus i (leaf_as d ruled m leaf) && group.is_free_control (leaf_as d ruled m leaf))
       (λ leaf. has leaf_id i leaf && is_free d ruled leaf) (leaf_list d.views)
       (λ k e h.
       let leaf = get_or (leaf_list d.views) k e in

@@ -227,9 +227,9 @@ module _ (d : Dialog) (ruled : List LeafState) (m : Modal) where
   abbrev here : PlacedNode → Bool
   here = has leaf_id m.focus
 
-  placed_first : (xs : List PlacedNode) → group.first_free (map (placed_as d ruled m) xs) ≡ first (is_free d ruled) m.focus xs
+  placed_first : (xs : List PlacedNode) → group.first_free_leaf (map (placed_as d ruled m) xs) ≡ first (is_free d ruled) m.focus xs
   placed_first xs =
-      ap (option_map (λ x. x.leaf.node.id)) (find-map (placed_as d ruled m) (λ x. group.is_free x.leaf) xs)
+      ap (option_map (λ x. x.leaf.node.id)) (find-map (placed_as d ruled m) (λ x. group.is_free_control x.leaf) xs)
       ∙ option_then (λ x. x.leaf.node.id) (placed_as d ruled m) (find (is_free d ruled) xs)
 
   stops_first : (xs : List PlacedNode) → first_free (map (stop_of d ruled) xs) ≡ first (is_free d ruled) m.focus xs
@@ -238,9 +238,9 @@ module _ (d : Dialog) (ruled : List LeafState) (m : Modal) where
       ∙ option_then (λ stop. stop.id) (stop_of d ruled) (find (is_free d ruled) xs)
 
   next_first : (xs : List PlacedNode)
-      → group.first_free (after_current (map (placed_as d ruled m) xs)) ≡ first (is_free d ruled) m.focus (after here xs)
+      → group.first_free_leaf (after_current (map (placed_as d ruled m) xs)) ≡ first (is_free d ruled) m.focus (after here xs)
   next_first xs =
-      ap group.first_free (current_after (map (placed_as d ruled m) xs) ∙ after_map (placed_as d ruled m) (λ x. x.is_current) xs)
+      ap group.first_free_leaf (current_after (map (placed_as d ruled m) xs) ∙ after_map (placed_as d ruled m) (λ x. x.is_current) xs)
       ∙ placed_first (after here xs)
 
   other_stops : others (stops_of d ruled) m.focus
@@ -263,7 +263,7 @@ module _ (d : Dialog) (ruled : List LeafState) (m : Modal) where
   unfolding first_in next_in
   next-tree =
       let xs = leaf_list d.views in
-      ap (λ o. unwrap_or (option_or o (group.first_free (tree_as d ruled m))) m.focus) (next_first xs)
+      ap (λ o. unwrap_or (option_or o (group.first_free_leaf (tree_as d ruled m))) m.focus) (next_first xs)
       ∙ ap (λ o. unwrap_or (option_or (first (is_free d ruled) m.focus (after here xs)) o) m.focus) (placed_first xs)
       ∙ forwards (is_free d ruled) m.focus xs
       ∙ ap (λ o. unwrap_or o m.focus) (sym (ap first_free other_stops ∙ stops_first (after here xs ++ before here xs)))
@@ -277,8 +277,8 @@ module _ (d : Dialog) (ruled : List LeafState) (m : Modal) where
       let xs = leaf_list d.views in
       let placed = map-reverse (placed_as d ruled m) xs in
       let cyclic = after here xs ++ before here xs in
-      ap (λ ys. unwrap_or (option_or (group.first_free (after_current ys)) (group.first_free ys)) m.focus) placed
-      ∙ ap (λ o. unwrap_or (option_or o (group.first_free (map (placed_as d ruled m) (reverse xs)))) m.focus) (next_first (reverse xs))
+      ap (λ ys. unwrap_or (option_or (group.first_free_leaf (after_current ys)) (group.first_free_leaf ys)) m.focus) placed
+      ∙ ap (λ o. unwrap_or (option_or o (group.first_free_leaf (map (placed_as d ruled m) (reverse xs)))) m.focus) (next_first (reverse xs))
       ∙ ap (λ o. unwrap_or (option_or (first (is_free d ruled) m.focus (after here (reverse xs))) o) m.focus) (placed_first (reverse xs))
       ∙ forwards (is_free d ruled) m.focus (reverse xs)
       ∙ ap (λ ys. unwrap_or (first (is_free d ruled) m.focus ys) m.focus) (backwards leaf_id m.focus xs (ids-apart d lawful))

@@ -90,7 +90,7 @@ some_or : (o : Option Value) (value : Value) → is_some (option_or o (Some valu
 some_or None value = refl
 some_or (Some found) value = refl
 
-held_field : (o : Option Value) → calls.is_field o ≡ is_some o
+held_field : (o : Option Value) → calls.has_field_value o ≡ is_some o
 held_field None = refl
 held_field (Some value) = refl
 
@@ -131,7 +131,7 @@ module _ (d : Dialog) (ruled : List LeafState) (leaf : PlacedNode) (c : Content)
   abbrev set_place : Bool → Option Value → Placed
   set_place field found = record {
     leaf = record (
-        if field then calls.opened_with found (standing_leaf d ruled leaf c is_focused held)
+        if field then calls.leaf_opened_with found (standing_leaf d ruled leaf c is_focused held)
         else standing_leaf d ruled leaf c is_focused held) {
           is_focused = false;
           held = None;
@@ -143,7 +143,7 @@ module _ (d : Dialog) (ruled : List LeafState) (leaf : PlacedNode) (c : Content)
   abbrev opens : Option Value → Placed
   opens found = standing d ruled leaf (open_content leaf.node.kind found c.overwrites) false None
 
-  set_so : (field : Bool) (found : Option Value) → calls.is_field c.value ≡ field → is_some found ≡ field
+  set_so : (field : Bool) (found : Option Value) → calls.has_field_value c.value ≡ field → is_some found ≡ field
       → IsSteadyContent is_focused leaf.node.kind c → is_field leaf.node.kind ≡ field
       → set_place field found ≡ opens found
   set_so true (Some value) has_value there steady fields = refl
@@ -195,7 +195,7 @@ module _ (d : Dialog) (lawful : IsLawfulDialog d) (entries : Entries) (fields : 
       let is = steady_field is_focused leaf.node.kind c holds in
       let there = recorded-field d lawful entries fields leaf e in
       let own = leaf_at-all (λ other. (other.node.id.0 == d.node.id.0) ≡ false) d leaf.node.id leaf (own-fails d lawful) e in
-      set_so d ruled leaf c is_focused held (calls.is_field c.value) found refl (there ∙ sym is ∙ sym (held_field c.value)) holds
+      set_so d ruled leaf c is_focused held (calls.has_field_value c.value) found refl (there ∙ sym is ∙ sym (held_field c.value)) holds
       (sym is ∙ sym (held_field c.value))
       ∙ ap (λ b. standing d ruled leaf (open_content leaf.node.kind found b) false None)
       (overwrites_by (is_among m.overwriting leaf.node.id) (state_of m.leaves leaf.node.id) ∙ sym (alike leaf e))
@@ -204,7 +204,7 @@ module _ (d : Dialog) (lawful : IsLawfulDialog d) (entries : Entries) (fields : 
 
   -- ---- the dialog is steady then
 
-  opens_input : (is_focused : Bool) (k : Kind) (found : Option Value) (overwrites : Bool) → calls.IsValueOf k found
+  opens_input : (is_focused : Bool) (k : Kind) (found : Option Value) (overwrites : Bool) → calls.IsFieldValue k found
       → is_some found ≡ is_field k
       → IsSteadyContent is_focused k (open_content k found overwrites)
   opens_input is_focused (kinds.Input input) (Some (values.Text text)) overwrites fits there =
@@ -218,12 +218,12 @@ module _ (d : Dialog) (lawful : IsLawfulDialog d) (entries : Entries) (fields : 
 
   -- the record fits each leaf
   abbrev Suits : Type 0
-  Suits = (leaf : PlacedNode) → IsIn d leaf → calls.IsValueOf leaf.node.kind (value_of entries leaf.node.id.0)
+  Suits = (leaf : PlacedNode) → IsIn d leaf → calls.IsFieldValue leaf.node.kind (value_of entries leaf.node.id.0)
 
   fits_leaf : (ruled : List LeafState) (m : Modal) → FitsAll entries (tree_as d ruled m) → Suits
   unfolding calls.Fits
   fits_leaf ruled m fits leaf e =
-      leaf_at-all (λ other. calls.IsValueOf other.node.kind (value_of entries other.node.id.0)) d leaf.node.id leaf
+      leaf_at-all (λ other. calls.IsFieldValue other.node.kind (value_of entries other.node.id.0)) d leaf.node.id leaf
       (All-unmap (λ x. calls.Fits entries x.leaf) (placed_as d ruled m) (leaf_list d.views) fits) e
 
   steady_suited : Suits → IsSteady d shut

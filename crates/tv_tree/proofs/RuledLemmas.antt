@@ -25,7 +25,7 @@ use Rattle.tv_view.specs.Calls as calls
 use Rattle.tv_group.specs.Calls.{all_applied, all_pressed, in_place}
 use Rattle.tv_machine.specs.Dialog.Lawful.{IsLawfulDialog}
 use Rattle.tv_tree.specs.Tree.{IsSteady, IsSteadyContent, IsSteadyLeaf, around_of, held_at, placed_as, tree_as, tree_of}
-use Rattle.tv_tree.specs.Turns.{cluster_pressed, leaf_pressed, pressed_at, shortcut_pressed}
+use Rattle.tv_tree.specs.Turns.{cluster_pressed_at, leaf_pressed, pressed_at, shortcut_pressed_at}
 use Rattle.tv_machine.proofs.ListLemmas.{bool_cases, either-same, has, map-map, none-fails, option_cases, same-id}
 use Rattle.tv_tree.proofs.FlagLemmas.{flagged}
 use Rattle.tv_tree.proofs.StandingLemmas.{standing, standing_leaf}
@@ -57,7 +57,7 @@ command-below (commands.Number n) lawful = of n lawful.1
 
 enabled_same : (d : Dialog) (leaves : List LeafState) (rules : Rules) → AreRulesOf d leaves rules → (o : Option CommandSpec)
     → IsLawfulCommand o
-    → calls.is_enabled_by rules.commands.now o ≡ is_enabled_by d leaves o
+    → calls.is_enabled_among rules.commands.now o ≡ is_enabled_by d leaves o
 enabled_same d leaves rules are None lawful = refl
 enabled_same d leaves rules are (Some c) lawful = are.enabled (command_number c) (command-below c lawful)
 
@@ -70,7 +70,7 @@ module _ (d : Dialog) (lawful : IsLawfulDialog d) where
       ∙ leaves-same d lawful (λ leaf. in_place (calls.applied rules) (placed_as d ruled m leaf)) (placed_as d leaves m)
       (λ leaf e.
       let command = leaf_at-node IsLimited d leaf.node.id leaf (All-tail IsLimited d.node d.views lawful.limits) e in
-      ap (λ b. flagged d ruled m leaf b (calls.is_kind_enabled rules.commands.now leaf.node.kind))
+      ap (λ b. flagged d ruled m leaf b (calls.is_kind_enabled_among rules.commands.now leaf.node.kind))
       (leaf_at-all
       (λ other. is_among rules.shown.now other.node.id ≡ is_visible d leaves other) d leaf.node.id leaf are.shown e)
       ∙ ap (flagged d ruled m leaf (is_visible d leaves leaf))
@@ -132,13 +132,13 @@ pub pressed-keeps : (P : Modal → Type 0) (d : Dialog) → ((i : Id) (c : Conte
 pressed-keeps P d keeps None item m p = p
 pressed-keeps P d keeps (Some leaf) item m p = of (behaviour leaf.node.kind).shortcut
   where
-    cluster : (kind : ClusterKind) (count : ℕ) → P (cluster_pressed d kind count leaf.node.id item m)
+    cluster : (kind : ClusterKind) (count : ℕ) → P (cluster_pressed_at d kind count leaf.node.id item m)
     cluster kind count =
         bool_cases (is_item_place count item)
         (λ b. P (if b then content_put d leaf.node.id (cluster_item_pressed kind item (content_at m leaf.node.id)) m else m))
         (λ is. keeps leaf.node.id (cluster_item_pressed kind item (content_at m leaf.node.id)) m p) (λ is. p)
 
-    of : (s : Shortcut) → P (shortcut_pressed d s leaf.node.id item m)
+    of : (s : Shortcut) → P (shortcut_pressed_at d s leaf.node.id item m)
     of (ItemMarks kind name items) = cluster kind (length items)
     of _ = p
 
@@ -173,7 +173,7 @@ module _ (d : Dialog) (lawful : IsLawfulDialog d) (item : ℕ) (m : Modal) where
     held_then i change = if leaf.node.id.0 == i.0 then change (content_at m leaf.node.id) else content_at m leaf.node.id
 
     of_cluster : (kind : ClusterKind) (count : ℕ) (i : Id)
-        → content_at (cluster_pressed d kind count i item m) leaf.node.id
+        → content_at (cluster_pressed_at d kind count i item m) leaf.node.id
         ≡ held_then i (λ c. if is_item_place count item then cluster_item_pressed kind item c else c)
     of_cluster kind count i =
         bool_cases (is_item_place count item)
@@ -188,7 +188,7 @@ module _ (d : Dialog) (lawful : IsLawfulDialog d) (item : ℕ) (m : Modal) where
         (λ is. sym (either-same (leaf.node.id.0 == i.0) (content_at m leaf.node.id)))
 
     of_shortcut : (s : Shortcut) (i : Id)
-        → content_at (shortcut_pressed d s i item m) leaf.node.id ≡ held_then i (marked_content s item)
+        → content_at (shortcut_pressed_at d s i item m) leaf.node.id ≡ held_then i (marked_content s item)
     of_shortcut (ItemMarks kind name items) i = of_cluster kind (length items) i
     of_shortcut _ i = sym (either-same (leaf.node.id.0 == i.0) (content_at m leaf.node.id))
 

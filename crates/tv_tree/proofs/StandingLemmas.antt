@@ -47,7 +47,7 @@ standing d ruled leaf c is_focused held =
 -- the view's is the same
 pub refocused-standing : (d : Dialog) (ruled : List LeafState) (leaf : PlacedNode) (c : Content) (is_focused : Bool) (held : Option ℕ)
     (edit : Edit → Edit) (k : Kind)
-    → calls.refocused edit k (standing_leaf d ruled leaf c is_focused held)
+    → calls.leaf_refocused edit k (standing_leaf d ruled leaf c is_focused held)
     ≡ standing_leaf d ruled leaf (refocused_content edit k c) is_focused held
 refocused-standing d ruled leaf c is_focused held edit (kinds.Input input) = refl
 refocused-standing d ruled leaf c is_focused held edit _ = refl

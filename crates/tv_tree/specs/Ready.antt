@@ -26,14 +26,14 @@ is_own keys.Enter = true
 is_own keys.Esc = true
 is_own _ = false
 
-pub record IsNear (n : ℕ) (z : ℤ) : Type 0 where
+pub record LiesWithin (n : ℕ) (z : ℤ) : Type 0 where
   pub low : neg_ℤ (pos n) ≤ℤ z
   pub high : z ≤ℤ pos n
 
 -- the point lies so near that every coordinate on the way to a leaf is the plain difference
 pub record IsPointOf (p : Point) : Type 0 where
-  pub x : IsNear 20000 p.x
-  pub y : IsNear 20000 p.y
+  pub x : LiesWithin 20000 p.x
+  pub y : LiesWithin 20000 p.y
 
 -- nothing but leaves and the hold differs
 pub record IsLike (m n : Modal) : Type 0 where

@@ -49,22 +49,22 @@ phases_after e env xs =
 -- ---- what views ask for
 
 -- a cluster of so many items has the item pressed, if it has it
-abbrev pub cluster_pressed : Dialog → ClusterKind → ℕ → Id → ℕ → Modal → Modal
-cluster_pressed d kind count i item m = if is_item_place count item then content_put d i (cluster_item_pressed kind item (content_at m i)) m else m
+abbrev pub cluster_pressed_at : Dialog → ClusterKind → ℕ → Id → ℕ → Modal → Modal
+cluster_pressed_at d kind count i item m = if is_item_place count item then content_put d i (cluster_item_pressed kind item (content_at m i)) m else m
 
 -- only clusters have items to press
-abbrev pub shortcut_pressed : Dialog → Shortcut → Id → ℕ → Modal → Modal
-shortcut_pressed d (ItemMarks kind name items) i item m = cluster_pressed d kind (length items) i item m
-shortcut_pressed d _ i item m = m
+abbrev pub shortcut_pressed_at : Dialog → Shortcut → Id → ℕ → Modal → Modal
+shortcut_pressed_at d (ItemMarks kind name items) i item m = cluster_pressed_at d kind (length items) i item m
+shortcut_pressed_at d _ i item m = m
 
 -- by kind
-abbrev pub kind_pressed : Dialog → Kind → Id → ℕ → Modal → Modal
-kind_pressed d kind i item m = shortcut_pressed d (behaviour kind).shortcut i item m
+abbrev pub kind_pressed_at : Dialog → Kind → Id → ℕ → Modal → Modal
+kind_pressed_at d kind i item m = shortcut_pressed_at d (behaviour kind).shortcut i item m
 
 -- the leaf that was found
 abbrev pub leaf_pressed : Dialog → Option PlacedNode → ℕ → Modal → Modal
 leaf_pressed d None item m = m
-leaf_pressed d (Some leaf) item m = kind_pressed d leaf.node.kind leaf.node.id item m
+leaf_pressed d (Some leaf) item m = kind_pressed_at d leaf.node.kind leaf.node.id item m
 
 -- the cluster of the id has the item pressed
 abbrev pub pressed_at : Dialog → Id → ℕ → Modal → Modal

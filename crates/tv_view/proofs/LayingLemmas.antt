@@ -5,7 +5,7 @@ use Rattle.tv_cells.specs.Canvas.{sub}
 use Rattle.tv_cells.specs.Layers.{Layer}
 use Rattle.tv_cells.specs.declared.rect.Rect.{Rect}
 use Rattle.tv_cells.specs.declared.canvas.Canvas.{Canvas}
-use Rattle.tv_view.specs.Meaning.{Placed, inside, kept, unmarked}
+use Rattle.tv_view.specs.Meaning.{Placed, inside, kept, uncurrent}
 use Rattle.tv_view.specs.declared.env.Env.{Env}
 use Rattle.tv_view.specs.Drawing.{Lays, is_near, layers_in, leaves_layers}
 
@@ -29,7 +29,7 @@ append_nil (x ∷ xs) = ap (λ t. x ∷ t) (append_nil xs)
 
 module _ (env : Env) where
   -- marks don't show
-  layers-unmarked : (c : Canvas) (xs : List Placed) → leaves_layers env c (map unmarked xs) ≡ leaves_layers env c xs
+  layers-unmarked : (c : Canvas) (xs : List Placed) → leaves_layers env c (map uncurrent xs) ≡ leaves_layers env c xs
   layers-unmarked c [] = refl
   layers-unmarked c (x ∷ xs) = ap (λ t. t ++ layers_in env c x.around x.leaf) (layers-unmarked c xs)
 

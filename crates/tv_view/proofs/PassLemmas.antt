@@ -7,14 +7,14 @@ use Rattle.tv_event.specs.declared.event.Phase.{Phase}
 use Rattle.tv_event.specs.declared.event.Phase.TheVariants as phases
 use Rattle.tv_model.specs.declared.command.CommandSpec.{CommandSpec}
 use Rattle.tv_model.specs.Description.Commands.{command_of}
-use Rattle.tv_view.specs.Meaning.{Leaf, holds}
+use Rattle.tv_view.specs.Meaning.{Leaf, holds_mouse}
 use Rattle.tv_model.specs.Controls.Behaviour.{Answer, Passed, Becomes, Presses}
 use Rattle.tv_machine.specs.Controls.Tables.{key_answer, up_answer}
 use Rattle.tv_view.specs.declared.env.Env.{Env}
 use Rattle.tv_view.specs.declared.reaction.Reaction.TheVariants.{Pass, Done, Capture, Release}
 use Rattle.tv_view.specs.Effects.{StaysWherePassed, handled, with_answer, captured, lifted}
 use Rattle.tv_view.specs.Fields.{content_of}
-use Rattle.tv_view.specs.Points.{is_inside, row_of}
+use Rattle.tv_view.specs.Points.{leaf_has_point, row_of}
 use Rattle.tv_view.specs.Reactions.{answer, press_by, consumed, focus_answer, captures, focus_on, down_focus, release_answer, lifted_answer, may_mark_by}
 
 -- what is consumed isn't passed on
@@ -49,7 +49,7 @@ move_stays leaf after false inside e = refl
 
 up_stays : (p : Point) (leaf : Leaf) (held : Option ℕ) → StaysWherePassed (lifted_answer leaf p held) leaf (lifted p held leaf)
 up_stays p leaf None e = refl
-up_stays p leaf (Some item) e = absurd (of (is_inside leaf p) e)
+up_stays p leaf (Some item) e = absurd (of (leaf_has_point leaf p) e)
   where
     of : (b : Bool) → (if b then release_answer leaf (up_answer leaf.node.kind item (row_of leaf p) (content_of leaf)) else Release) ≡ Pass → ⊥
     of true r = release_consumes leaf (up_answer leaf.node.kind item (row_of leaf p) (content_of leaf)) r
@@ -62,7 +62,7 @@ passed_stays (events.Key k) phases.Focused env leaf = key_stays leaf (may_mark_b
 passed_stays (events.Key k) phases.Pre env leaf = λ e. refl
 passed_stays (events.Key k) phases.Post env leaf = λ e. refl
 passed_stays (events.Down point) p env leaf = down_stays env point leaf (captures leaf leaf.node.kind)
-passed_stays (events.Move point) p env leaf = move_stays leaf _ (holds leaf) (is_inside leaf point)
+passed_stays (events.Move point) p env leaf = move_stays leaf _ (holds_mouse leaf) (leaf_has_point leaf point)
 passed_stays (events.Up point) p env leaf = up_stays point leaf leaf.held
 passed_stays (events.Command c) p env leaf = λ e. refl
 passed_stays (events.Broadcast c) p env leaf = λ e. refl

@@ -43,16 +43,16 @@ abbrev pub takes_focus : Id → Leaf → Bool
 takes_focus id leaf = is_control leaf.node.kind && (leaf.node.id.0 == id.0)
 
 -- what the coming or going of the focus makes of a leaf by its kind: of an input an edit, of other leaves nothing
-abbrev pub refocused : (Edit → Edit) → Kind → Leaf → Leaf
-refocused edit kind leaf = if (behaviour kind).is_edited then with_content (edit_content (edit (edit_of (content_of leaf)))) leaf else leaf
+abbrev pub leaf_refocused : (Edit → Edit) → Kind → Leaf → Leaf
+leaf_refocused edit kind leaf = if (behaviour kind).is_edited then with_content (edit_content (edit (edit_of (content_of leaf)))) leaf else leaf
 
 -- an input that receives the focus has its text selected
 abbrev pub given_focus : Leaf → Leaf
-given_focus leaf = record (refocused entered leaf.node.kind leaf) { is_focused = true }
+given_focus leaf = record (leaf_refocused entered leaf.node.kind leaf) { is_focused = true }
 
 -- one that loses it has nothing selected
 abbrev pub without_focus : Leaf → Leaf
-without_focus leaf = record (refocused left leaf.node.kind leaf) { is_focused = false }
+without_focus leaf = record (leaf_refocused left leaf.node.kind leaf) { is_focused = false }
 
 -- the control that has the focus already stays as it is, and every other leaf loses it
 unfoldable pub focused_to : Id → Leaf → Leaf
@@ -108,40 +108,40 @@ IsValueIf true kind None = ⊥
 IsValueIf true kind (Some value) = Safe.IsValueOf IsViableText kind value
 
 -- a value that a field of the kind may have: a viable text, marks of its items, an item that there is
-abbrev pub IsValueOf : Kind → Option Value → Type 0
-IsValueOf kind value = IsValueIf (Safe.is_field kind) kind value
+abbrev pub IsFieldValue : Kind → Option Value → Type 0
+IsFieldValue kind value = IsValueIf (Safe.is_field kind) kind value
 
 -- the record fits: a field finds a value that it may have
 unfoldable pub Fits : Entries → Leaf → Type 0
-Fits entries leaf = IsValueOf leaf.node.kind (value_of entries leaf.node.id.0)
+Fits entries leaf = IsFieldValue leaf.node.kind (value_of entries leaf.node.id.0)
 
 -- a leaf with a value and the first private state that goes with it
-abbrev pub opened_with : Option Value → Leaf → Leaf
-opened_with (Some value) leaf = record leaf { value = Some value; private = opened_private leaf.node.kind (Some value) }
-opened_with None leaf = leaf
+abbrev pub leaf_opened_with : Option Value → Leaf → Leaf
+leaf_opened_with (Some value) leaf = record leaf { value = Some value; private = opened_private leaf.node.kind (Some value) }
+leaf_opened_with None leaf = leaf
 
 -- whether there is a value, as fields have one
-abbrev pub is_field : Option Value → Bool
-is_field None = false
-is_field (Some value) = true
+abbrev pub has_field_value : Option Value → Bool
+has_field_value None = false
+has_field_value (Some value) = true
 
 -- the leaf as its dialog opens with the record: no focus, nothing held, and a field has its value and its first private state.
 -- Whether typing overwrites stays
 unfoldable pub set_from : Entries → Leaf → Leaf
 set_from entries leaf =
-    record (if is_field leaf.value then opened_with (value_of entries leaf.node.id.0) leaf else leaf) { is_focused = false; held = None }
+    record (if has_field_value leaf.value then leaf_opened_with (value_of entries leaf.node.id.0) leaf else leaf) { is_focused = false; held = None }
 
 -- ---- rules
 
 -- enabled while its command is, and always without one
-abbrev pub is_enabled_by : List Bool → Option CommandSpec → Bool
-is_enabled_by commands None = true
-is_enabled_by commands (Some command) = slice_index_or commands (command_number command) false
+abbrev pub is_enabled_among : List Bool → Option CommandSpec → Bool
+is_enabled_among commands None = true
+is_enabled_among commands (Some command) = slice_index_or commands (command_number command) false
 
 -- a button is enabled while its command is, all else always
-abbrev pub is_kind_enabled : List Bool → Kind → Bool
-is_kind_enabled commands kind = is_enabled_by commands (command_of kind)
+abbrev pub is_kind_enabled_among : List Bool → Kind → Bool
+is_kind_enabled_among commands kind = is_enabled_among commands (command_of kind)
 
 -- what the rules make of a leaf
 unfoldable pub applied : Rules → Leaf → Leaf
-applied rules leaf = record leaf { is_shown = is_among rules.shown.now leaf.node.id; is_enabled = is_kind_enabled rules.commands.now leaf.node.kind }
+applied rules leaf = record leaf { is_shown = is_among rules.shown.now leaf.node.id; is_enabled = is_kind_enabled_among rules.commands.now leaf.node.kind }

@@ -25,27 +25,27 @@ abbrev pub has_focus : Env → Id → Bool
 has_focus env id = is_id env.focus id
 
 -- whether Enter presses the button of the id
-abbrev pub is_default_now : Env → Id → Bool
-is_default_now env id = is_id env.default_now id
+abbrev pub is_lent_default : Env → Id → Bool
+is_lent_default env id = is_id env.default_now id
 
 -- the first view of a name, which a label links
 abbrev pub link_of : List Node → List ℕ → Option Id
 link_of views name = option_map (λ node. node.id) (meant views name)
 
 -- whether what a leaf links has the focus
-abbrev pub is_focus : Env → Option Id → Bool
-is_focus env None = false
-is_focus env (Some id) = has_focus env id
+abbrev pub is_link_focus : Env → Option Id → Bool
+is_link_focus env None = false
+is_link_focus env (Some id) = has_focus env id
 
 -- what a leaf links: a label has a link, no other kind has one
 abbrev pub linked_by : Env → Kind → Option Id
 linked_by env kind = option_and_then (link_of env.views.now) (behaviour kind).link
 
 -- how a leaf stands
-abbrev pub look_of : Env → Leaf → Look
-look_of env leaf = record {
+abbrev pub lent_look : Env → Leaf → Look
+lent_look env leaf = record {
   is_focused = has_focus env leaf.node.id;
-  is_default_now = is_default_now env leaf.node.id;
+  is_default_now = is_lent_default env leaf.node.id;
   is_disabled = not leaf.is_enabled;
-  is_linked = is_focus env (linked_by env leaf.node.kind);
+  is_linked = is_link_focus env (linked_by env leaf.node.kind);
 }

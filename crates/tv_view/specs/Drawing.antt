@@ -13,7 +13,7 @@ use Rattle.tv_model.specs.Screen.Faces.{FaceOf}
 use Rattle.tv_view.specs.Meaning.{Leaf, Placed, bounds_of}
 use Rattle.tv_machine.specs.Screen.LeafFaces.{leaf_faces}
 use Rattle.tv_view.specs.declared.env.Env.{Env}
-use Rattle.tv_view.specs.Colours.{colour, look_of}
+use Rattle.tv_view.specs.Colours.{colour, lent_look}
 use Rattle.tv_view.specs.Fields.{content_of}
 
 -- the new picture shows these layers over whatever the old one shows, and no more
@@ -23,7 +23,7 @@ pub record Lays (layers : List Layer) (old new : Picture) : Type 0 where
 
 -- the face of a leaf, by its kind
 abbrev pub faces_of : Env → Leaf → List FaceOf
-faces_of env leaf = leaf_faces (colour env) env.owner (look_of env leaf) (natural leaf.node.w) leaf.node.kind (content_of leaf)
+faces_of env leaf = leaf_faces (colour env) env.owner (lent_look env leaf) (natural leaf.node.w) leaf.node.kind (content_of leaf)
 
 -- a leaf, seen from the canvas's origin: its face in its rectangle, nothing where it is hidden
 unfoldable pub leaf_layers : Env → Canvas → Leaf → List Layer

@@ -60,12 +60,12 @@ abbrev pub inside : Rect → Placed → Placed
 inside bounds x = record x { around = bounds ∷ x.around }
 
 -- the same leaf where no current member leads to it
-abbrev pub unmarked : Placed → Placed
-unmarked x = record x { is_current = false }
+abbrev pub uncurrent : Placed → Placed
+uncurrent x = record x { is_current = false }
 
 -- the leaves of a member, which keep their marks where it is the current one
 abbrev pub kept : Bool → List Placed → List Placed
-kept b xs = if b then xs else map unmarked xs
+kept b xs = if b then xs else map uncurrent xs
 
 -- whether the current members lead to a leaf
 abbrev pub has_current : List Placed → Bool
@@ -77,8 +77,8 @@ has_item None = false
 has_item (Some item) = true
 
 -- whether the leaf holds the mouse
-abbrev pub holds : Leaf → Bool
-holds leaf = has_item leaf.held
+abbrev pub holds_mouse : Leaf → Bool
+holds_mouse leaf = has_item leaf.held
 
 -- ---- the outline of a group: its panes too, in description order
 

@@ -11,8 +11,8 @@ use Rattle.tv_view.specs.Meaning.{Leaf, bounds_of}
 -- ---- leaves
 
 -- the leaf's rectangle has the point
-abbrev pub is_inside : Leaf → Point → Bool
-is_inside leaf p = is_in (bounds_of leaf) p.x p.y
+abbrev pub leaf_has_point : Leaf → Point → Bool
+leaf_has_point leaf p = is_in (bounds_of leaf) p.x p.y
 
 -- the column of a point, seen from the leaf's corner
 abbrev pub column_of : Leaf → Point → ℕ

@@ -19,15 +19,15 @@ use Rattle.tv_model.specs.Description.Commands.{command_number, command_of}
 use Rattle.tv_model.specs.Description.Marks.{marks, upper}
 use Rattle.tv_model.specs.Description.Nodes.{is_button, is_control}
 use Rattle.tv_model.specs.Kinds.Cluster.{cluster_key, may_change, selected_of}
-use Rattle.tv_view.specs.Meaning.{Leaf, holds}
+use Rattle.tv_view.specs.Meaning.{Leaf, holds_mouse}
 use Rattle.tv_model.specs.Controls.Contents.{Content}
 use Rattle.tv_machine.specs.Controls.Tables.{key_answer, up_answer}
 use Rattle.tv_view.specs.declared.env.Env.{Env}
 use Rattle.tv_view.specs.declared.reaction.Reaction.{Reaction}
 use Rattle.tv_view.specs.declared.reaction.Reaction.TheVariants.{Pass, Done, Focus, FocusPress, Post, Changed, Capture, Release}
-use Rattle.tv_view.specs.Colours.{is_default_now, linked_by}
+use Rattle.tv_view.specs.Colours.{is_lent_default, linked_by}
 use Rattle.tv_view.specs.Fields.{content_of}
-use Rattle.tv_view.specs.Points.{is_inside, row_of}
+use Rattle.tv_view.specs.Points.{leaf_has_point, row_of}
 
 -- ---- presses and links
 
@@ -52,10 +52,10 @@ focus_on (Some id) = Focus id
 -- ---- letters
 
 -- the letter by which a key calls a view from any focus: with Alt before the focus gets the key, a plain one after it
-abbrev pub called : Phase → Key → Option ℕ
-called phases.Pre (keys.Alt ch) = Some ch
-called phases.Post (keys.Char ch) = Some ch
-called _ _ = None
+abbrev pub calling_letter : Phase → Key → Option ℕ
+calling_letter phases.Pre (keys.Alt ch) = Some ch
+calling_letter phases.Post (keys.Char ch) = Some ch
+calling_letter _ _ = None
 
 -- the text marks that letter, in either case
 abbrev pub calls : MarkedText → Option ℕ → Bool
@@ -112,8 +112,8 @@ focus_answer leaf marks Presses = press_of leaf leaf.node.kind
 abbrev pub keyed_answer : Env → Leaf → Key → Phase → Reaction
 keyed_answer env leaf k phases.Focused =
     focus_answer leaf (may_mark_by leaf.node.kind k (content_of leaf)) (key_answer leaf.node.kind k (content_of leaf))
-keyed_answer env leaf k phases.Pre = letter_answer env leaf leaf.node.kind (called phases.Pre k)
-keyed_answer env leaf k phases.Post = letter_answer env leaf leaf.node.kind (called phases.Post k)
+keyed_answer env leaf k phases.Pre = letter_answer env leaf leaf.node.kind (calling_letter phases.Pre k)
+keyed_answer env leaf k phases.Post = letter_answer env leaf leaf.node.kind (calling_letter phases.Post k)
 
 -- ---- the mouse
 
@@ -138,7 +138,7 @@ down_answer env leaf = if captures leaf leaf.node.kind then Capture leaf.node.id
 
 -- a move is consumed by the leaf that holds the mouse
 abbrev pub move_answer : Leaf → Reaction
-move_answer leaf = if holds leaf then Done else Pass
+move_answer leaf = if holds_mouse leaf then Done else Pass
 
 -- a release inside the leaf, by what the control does with it: an item was pressed, or the button
 abbrev pub release_answer : Leaf → Answer → Reaction
@@ -150,14 +150,14 @@ release_answer leaf Presses = press_of leaf leaf.node.kind
 abbrev pub lifted_answer : Leaf → Point → Option ℕ → Reaction
 lifted_answer leaf p None = Pass
 lifted_answer leaf p (Some item) =
-    if is_inside leaf p then release_answer leaf (up_answer leaf.node.kind item (row_of leaf p) (content_of leaf)) else Release
+    if leaf_has_point leaf p then release_answer leaf (up_answer leaf.node.kind item (row_of leaf p) (content_of leaf)) else Release
 
 -- ---- commands
 
 -- the default button is pressed by the broadcast that Enter becomes (command 14), while it is enabled
 abbrev pub broadcast_answer : Env → Leaf → Command → Reaction
 broadcast_answer env leaf c =
-    if is_button leaf.node.kind && ((c.0 == 14) && (is_default_now env leaf.node.id && leaf.is_enabled)) then press_of leaf leaf.node.kind else Pass
+    if is_button leaf.node.kind && ((c.0 == 14) && (is_lent_default env leaf.node.id && leaf.is_enabled)) then press_of leaf leaf.node.kind else Pass
 
 -- ---- events
 

@@ -2,7 +2,7 @@
 
 ghost use Rattle.std.specs.Prelude.{◌≡◌, ◌↔◌, IsTrue};
 ghost use Rattle.tv_cells.specs.Rectangle.{IsPointNear};
-ghost use Rattle.tv_view.specs.Meaning.{Leaf, bounds_of, fresh, holds};
+ghost use Rattle.tv_view.specs.Meaning.{Leaf, bounds_of, fresh, holds_mouse};
 ghost use Rattle.tv_model.specs.Description.Rectangles.{IsSmallRect};
 ghost use Rattle.tv_view.specs.Calls.{Fits, HasRoom, applied, focused_to, gathered, invalid_id, item_pressed, option_bits, set_from, state_bits, takes_focus};
 ghost use Rattle.tv_view.specs.Drawing.{Lays, leaf_layers};
@@ -65,7 +65,7 @@ pub trait View: Drop {
 
     /// Whether it holds the mouse.
     fn held(&self) -> bool
-        ensures { result ≡ holds (meaning self.now) };
+        ensures { result ≡ holds_mouse (meaning self.now) };
 
     /// Returns its id, if it is an input whose text lies outside its domain.
     fn first_invalid(&self) -> Option<Id>

@@ -2,7 +2,7 @@
 
 ghost use Rattle.std.specs.Prelude.{◌≡◌, ◌≤ℤ◌, IfOk, IfSome, Some, pos, true};
 ghost use Rattle.tv_model.specs.Description.LawfulNodes.{IsLawfulCommand, IsLawfulNode};
-ghost use Rattle.tv_dialog.specs.Head.{IsLimited, declared_head};
+ghost use Rattle.tv_dialog.specs.Head.{IsLimitedDialogHead, declared_dialog_head};
 
 use crate::forms::env;
 use crate::nodes::button_node;
@@ -41,7 +41,7 @@ pub const OWN: Command = Command(120);
 type Probed = Probe<Button>;
 
 fn dialog_node(alloc: Global) -> Node
-    ensures { IfSome (declared_head result) IsLimited }
+    ensures { IfSome (declared_dialog_head result) IsLimitedDialogHead }
 {
     Node {
         id: Id(DIALOG),

@@ -2,7 +2,7 @@
 
 ghost use Rattle.std.specs.Prelude.{◌≤ℤ◌, pos, IfOk, IfSome};
 ghost use Rattle.tv_model.specs.Description.Rectangles.{place_of_node, IsSmallRect};
-ghost use Rattle.tv_window.specs.Head.{IsLimited, declared_head};
+ghost use Rattle.tv_window.specs.Head.{IsLimitedWindowHead, declared_window_head};
 
 use crate::samples::{body, chars, sized, text_node};
 use std::alloc::Global;
@@ -56,7 +56,7 @@ fn member(alloc: Global, node: &Node) -> Result<Member, Fail>
 }
 
 fn first_node(alloc: Global) -> Result<Node, Fail>
-    ensures { IfOk result (λ node. IfSome (declared_head node) IsLimited) }
+    ensures { IfOk result (λ node. IfSome (declared_window_head node) IsLimitedWindowHead) }
 {
     let title = chars(alloc, "One")?;
     Ok(Node {
@@ -75,7 +75,7 @@ fn first_node(alloc: Global) -> Result<Node, Fail>
 }
 
 fn second_node(alloc: Global) -> Result<Node, Fail>
-    ensures { IfOk result (λ node. IfSome (declared_head node) IsLimited) }
+    ensures { IfOk result (λ node. IfSome (declared_window_head node) IsLimitedWindowHead) }
 {
     let title = chars(alloc, "Two")?;
     Ok(Node {
@@ -94,7 +94,7 @@ fn second_node(alloc: Global) -> Result<Node, Fail>
 }
 
 fn window(alloc: Global, node: &Node, width: i32, text: &Node) -> Result<Window, Fail>
-    requires node { IfSome (declared_head node.now) IsLimited }
+    requires node { IfSome (declared_window_head node.now) IsLimitedWindowHead }
     requires text { IsSmallRect (place_of_node text.now) }
     requires across { (pos 0 ≤ℤ width) × (width ≤ℤ pos 50) }
 {

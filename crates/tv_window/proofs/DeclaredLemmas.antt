@@ -8,7 +8,7 @@ use Rattle.std.proofs.lemmas.Grind.{reverse_onto}
 use Rattle.std.proofs.lemmas.Int.{ints}
 use Rattle.tv_cells.specs.Layers.{is_in}
 use Rattle.tv_cells.specs.declared.rect.Point.{Point}
-use Rattle.tv_group.specs.Stack.{raised}
+use Rattle.tv_group.specs.Stack.{raised_at}
 use Rattle.tv_view.specs.Meaning.{Leaf}
 use Rattle.tv_model.specs.Description.Heads.{window_head}
 use Rattle.tv_model.specs.Description.Nodes.{has_id, is_window}
@@ -23,20 +23,20 @@ use Rattle.tv_machine.specs.Session.Desktop.{has_point, is_numbered, is_under, s
 use Rattle.tv_machine.specs.State.{OpenWindow}
 use Rattle.tv_machine.proofs.ListLemmas.{found-passes, same-id}
 use Rattle.tv_window.specs.DeclaredWindows.{AreDeclared, IsDeclared}
-use Rattle.tv_window.specs.Head.{KeptHead, bounds_of, declared_head, kept_head}
+use Rattle.tv_window.specs.Head.{KeptWindowHead, window_bounds, declared_window_head, kept_window_head}
 use Rattle.tv_window.specs.Window.{head_of}
 use Rattle.tv_window.specs.declared.window.WindowOf.{WindowOf}
 
 -- ---- what a window keeps of its node
 
-head-is : (window : Window) (head : KeptHead) → Some head ≡ declared_head window.node → head ≡ kept_head window.node (window_head window)
+head-is : (window : Window) (head : KeptWindowHead) → Some head ≡ declared_window_head window.node → head ≡ kept_window_head window.node (window_head window)
 head-is window head same = by_kind window.node.kind window.own_kind refl
   where
-    by_kind : (k : Kind) → IsTrue (is_window k) → window.node.kind ≡ k → head ≡ kept_head window.node (window_head window)
+    by_kind : (k : Kind) → IsTrue (is_window k) → window.node.kind ≡ k → head ≡ kept_window_head window.node (window_head window)
     by_kind (kinds.Window own) is e =
-        let told : Some head ≡ Some (kept_head window.node own) = rw e at same in
-        let kept : head ≡ kept_head window.node own = cc in
-        kept ∙ ap (kept_head window.node) (sym (window_head_of-Window window.node.kind window.own_kind own e))
+        let told : Some head ≡ Some (kept_window_head window.node own) = rw e at same in
+        let kept : head ≡ kept_window_head window.node own = cc in
+        kept ∙ ap (kept_window_head window.node) (sym (window_head_of-Window window.node.kind window.own_kind own e))
     by_kind _ is e = absurd (false≢true is)
 
 -- ---- a point seen from a corner
@@ -54,21 +54,21 @@ module _ {V : Type 0} (look : V → Leaf) (d : Desc) where
   -- ---- one window
 
   module _ (o : OpenWindow) (w : WindowOf V) (is : IsDeclared look d o w) where
-    kept : head_of w ≡ kept_head is.declared.node (window_head is.declared)
+    kept : head_of w ≡ kept_window_head is.declared.node (window_head is.declared)
     kept = head-is is.declared (head_of w) is.fresh.head
 
     pub id-same : (head_of w).id ≡ o.id
     id-same = ap (λ head. head.id) kept ∙ same-id is.declared.node.id o.id (found-passes (λ window. has_id o.id window.node) d.windows is.declared is.named)
 
-    pub corner-same : (bounds_of (head_of w)).a ≡ o.origin
-    corner-same = ap (λ head. (bounds_of head).a) kept ∙ sym is.corner
+    pub corner-same : (window_bounds (head_of w)).a ≡ o.origin
+    corner-same = ap (λ head. (window_bounds head).a) kept ∙ sym is.corner
 
     pub number-same : (number : ℕ) → int_eq (head_of w).number (pos number) ≡ is_numbered number (window_of d o.id)
     number-same number = ap (λ head. int_eq head.number (pos number)) kept ∙ sym (ap (is_numbered number) is.named)
 
-    pub point-same : (p : Point) → is_in (bounds_of (head_of w)) p.x p.y ≡ is_under d p o
+    pub point-same : (p : Point) → is_in (window_bounds (head_of w)) p.x p.y ≡ is_under d p o
     point-same p =
-        ap (λ head. is_in (bounds_of head) p.x p.y) kept
+        ap (λ head. is_in (window_bounds head) p.x p.y) kept
         ∙ (in-seen is.declared.node.x is.declared.node.y is.declared.node.w (window_head is.declared).h p
         ∙ sym (ap (λ window. has_point window (seen_from o.origin p)) is.named ∙ ap (λ corner. has_point (Some is.declared) (seen_from corner p)) is.corner))
 
@@ -100,7 +100,7 @@ module _ {V : Type 0} (look : V → Leaf) (d : Desc) where
   declared-drop (suc n) (o ∷ stack) [] are = absurd are
   declared-drop (suc n) (o ∷ stack) (w ∷ windows) are = declared-drop n stack windows are.1
 
-  pub declared-raised : (stack : List OpenWindow) (windows : List (WindowOf V)) (place : ℕ) → AreDeclared look d stack windows → AreDeclared look d (raised stack place) (raised windows place)
+  pub declared-raised : (stack : List OpenWindow) (windows : List (WindowOf V)) (place : ℕ) → AreDeclared look d stack windows → AreDeclared look d (raised_at stack place) (raised_at windows place)
   declared-raised stack windows place are =
       declared-append (take 1 (drop place stack)) (remove stack place) (take 1 (drop place windows)) (remove windows place)
       (declared-take 1 (drop place stack) (drop place windows) (declared-drop place stack windows are))

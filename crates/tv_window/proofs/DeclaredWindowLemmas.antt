@@ -32,7 +32,7 @@ use Rattle.tv_view.specs.declared.env.Env.{Env}
 use Rattle.tv_view.specs.Colours.{colour}
 use Rattle.tv_view.specs.Drawing.{leaf_layers}
 use Rattle.tv_group.proofs.FreshLeafLemmas.{fresh_layers}
-use Rattle.tv_window.specs.DeclaredWindows.{IsOfWindow, IsTextInside, desktop_canvas}
+use Rattle.tv_window.specs.DeclaredWindows.{IsOfWindow, IsTextInside, window_canvas}
 use Rattle.tv_view.proofs.FrameLayerLemmas.{bounds, inner}
 use Rattle.tv_view.proofs.SameLayerLemmas.{IsSame, covers_sub, painted_same, resized, same_append, same_refl, sub_covers, unsized}
 
@@ -50,9 +50,9 @@ module _ (d : Desc) (x y w h : ℤ) where
     text_to : (column row : ℕ) → Covers (sub body (rect nx ny nw nh)) (sized (natural nw) (natural nh)) column row → Covers leaf (sized (natural nw) (natural nh)) column row
     text_to column row i =
         let c = covers_sub body nx ny nw nh column row i in
-        let outer = (in_cut (cut (desktop d) (shifted (bounds d x y w h) (desktop_canvas d).origin)) (shifted (rect (pos 0) (pos 0) w h) (inner d x y w h).origin) (pos column) (pos row)).0 c.clip in
+        let outer = (in_cut (cut (desktop d) (shifted (bounds d x y w h) (window_canvas d).origin)) (shifted (rect (pos 0) (pos 0) w h) (inner d x y w h).origin) (pos column) (pos row)).0 c.clip in
         record {
-          clip = ((in_cut (desktop d) (shifted (bounds d x y w h) (desktop_canvas d).origin) (pos column) (pos row)).0 outer.0).0;
+          clip = ((in_cut (desktop d) (shifted (bounds d x y w h) (window_canvas d).origin) (pos column) (pos row)).0 outer.0).0;
           rect = resized nx ny nw nh body.origin leaf.origin (omega (arith, ints)) (omega (arith, ints)) (pos column) (pos row) c.rect;
         }
 
@@ -61,8 +61,8 @@ module _ (d : Desc) (x y w h : ℤ) where
         let at = unsized nx ny nw nh body.origin leaf.origin (omega (arith, ints)) (omega (arith, ints)) (pos column) (pos row) i.rect in
         let within = inside (pos column -ℤ x) (pos row -ℤ y) (record { after_left = omega (arith, ints, at.after_left); before_right = omega (arith, ints, at.before_right); after_top = omega (arith, ints, at.after_top); before_bottom = omega (arith, ints, at.before_bottom) }) in
         sub_covers body nx ny nw nh column row (record {
-          clip = (in_cut (cut (desktop d) (shifted (bounds d x y w h) (desktop_canvas d).origin)) (shifted (rect (pos 0) (pos 0) w h) (inner d x y w h).origin) (pos column) (pos row)).1 (
-            (in_cut (desktop d) (shifted (bounds d x y w h) (desktop_canvas d).origin) (pos column) (pos row)).1 (
+          clip = (in_cut (cut (desktop d) (shifted (bounds d x y w h) (window_canvas d).origin)) (shifted (rect (pos 0) (pos 0) w h) (inner d x y w h).origin) (pos column) (pos row)).1 (
+            (in_cut (desktop d) (shifted (bounds d x y w h) (window_canvas d).origin) (pos column) (pos row)).1 (
               i.clip,
               record { after_left = omega (arith, ints, within.after_left); before_right = omega (arith, ints, within.before_right); after_top = omega (arith, ints, within.after_top); before_bottom = omega (arith, ints, within.before_bottom) },
             ),

@@ -5,7 +5,7 @@ use Rattle.std.specs.Ordering.{int_eq}
 use Rattle.std.proofs.lemmas.Option.{slice_get_read}
 use Rattle.tv_cells.specs.Layers.{is_in}
 use Rattle.tv_cells.specs.declared.rect.Point.{Point}
-use Rattle.tv_group.specs.Stack.{raised}
+use Rattle.tv_group.specs.Stack.{raised_at}
 use Rattle.tv_view.specs.Meaning.{Leaf}
 use Rattle.tv_machine.specs.Screen.Bodies.{window_of}
 use Rattle.tv_model.specs.declared.desc.Desc.{Desc}
@@ -16,10 +16,10 @@ use Rattle.tv_machine.specs.Session.Desktop.{down_in_front, down_on_desktop, dow
 use Rattle.tv_machine.specs.State.{OpenWindow, State}
 use Rattle.tv_machine.proofs.ListLemmas.{bool_cases, id-itself, pairs-tail}
 use Rattle.tv_window.specs.DeclaredWindows.{AreDeclared}
-use Rattle.tv_window.specs.Head.{bounds_of}
+use Rattle.tv_window.specs.Head.{window_bounds}
 use Rattle.tv_window.specs.Window.{head_of}
 use Rattle.tv_window.specs.declared.window.WindowOf.{WindowOf}
-use Rattle.tv_window.specs.Desk.{AreApart, IsDesk, down_at, with_close_line}
+use Rattle.tv_window.specs.Desk.{AreDistinct, IsDesk, down_on_desk, with_close_line}
 use Rattle.tv_window.specs.declared.desk.DeskOf.{DeskOf}
 use Rattle.tv_window.proofs.DeclaredLemmas.{corner-same, declared-raised, id-same, number-same, one-declared, point-same, position-same, same-length}
 use Rattle.tv_window.proofs.OrderLemmas.{apart-at, front-only, last-raised, raised-at}
@@ -51,9 +51,9 @@ module _ {V : Type 0} (look : V → Leaf) (d : Desc) where
   kept-desk stack desk after same is = subst (IsDesk look d stack) (sym same) is
 
   -- one of them comes to the front
-  raised-desk : (stack : List OpenWindow) (desk after : DeskOf V) (place : ℕ) → place < length stack → shown after ≡ raised (shown desk) place → IsDesk look d stack desk → IsDesk look d (raised stack place) after
+  raised-desk : (stack : List OpenWindow) (desk after : DeskOf V) (place : ℕ) → place < length stack → shown after ≡ raised_at (shown desk) place → IsDesk look d stack desk → IsDesk look d (raised_at stack place) after
   raised-desk stack desk after place within items is = record {
-    windows = subst (AreDeclared look d (raised stack place)) (sym items) (declared-raised look d stack (shown desk) place is.windows);
+    windows = subst (AreDeclared look d (raised_at stack place)) (sym items) (declared-raised look d stack (shown desk) place is.windows);
     apart = apart-at stack place within is.apart;
   }
 
@@ -73,7 +73,7 @@ module _ {V : Type 0} (look : V → Leaf) (d : Desc) where
     numbered-same =
         ap (position has_number) all ∙ position-same look d numbered has_number (λ o w declared. number-same look d o w declared (letter - 48)) s.windows (shown desk) is.windows
 
-    pub digit-raised : (place : ℕ) → (if is_digit then position has_number seen else None) ≡ Some place → shown after ≡ raised (shown desk) place
+    pub digit-raised : (place : ℕ) → (if is_digit then position has_number seen else None) ≡ Some place → shown after ≡ raised_at (shown desk) place
         → IsDesk look d (raise_found (window_of_digit d s letter) s).windows after
     digit-raised place e items =
         bool_cases is_digit
@@ -99,7 +99,7 @@ module _ {V : Type 0} (look : V → Leaf) (d : Desc) where
 
   module _ (s : State) (desk after : DeskOf V) (is : IsDesk look d s.windows desk) (seen : List (WindowOf V)) (all : seen ≡ shown desk) (p : Point) where
     abbrev under : WindowOf V → Bool
-    under w = is_in (bounds_of (head_of w)) p.x p.y
+    under w = is_in (window_bounds (head_of w)) p.x p.y
 
     under-same : position under seen ≡ position (is_under d p) s.windows
     under-same = ap (position under) all ∙ position-same look d (is_under d p) under (λ o w declared. point-same look d o w declared p) s.windows (shown desk) is.windows
@@ -116,7 +116,7 @@ module _ {V : Type 0} (look : V → Leaf) (d : Desc) where
     further-back : (o : OpenWindow) (place : ℕ) → slice_get s.windows (suc place) ≡ Some o → down_on_window d s.windows o p s ≡ raise o.id s
     further-back o place at = by_windows s.windows is.apart at
       where
-        by_windows : (stack : List OpenWindow) → AreApart stack → slice_get stack (suc place) ≡ Some o → down_on_window d stack o p s ≡ raise o.id s
+        by_windows : (stack : List OpenWindow) → AreDistinct stack → slice_get stack (suc place) ≡ Some o → down_on_window d stack o p s ≡ raise o.id s
         by_windows [] apart e = absurd cc
         by_windows (front ∷ behind) apart e = ap (λ b. if b then down_in_front d o p s else raise o.id s) (front-only front behind place o apart e)
 
@@ -125,10 +125,10 @@ module _ {V : Type 0} (look : V → Leaf) (d : Desc) where
       there = found-at (is_under d p) s.windows place (sym under-same ∙ e)
 
       -- behind the front window
-      pub down-behind : 0 < place → shown after ≡ raised (shown desk) place → Comes s after (down_at d p s)
+      pub down-behind : 0 < place → shown after ≡ raised_at (shown desk) place → Comes s after (down_on_desk d p s)
       down-behind behind items =
           let next : place ≡ suc (place - 1) = omega (arith, behind) in
-          let raises : down_at d p s ≡ record s { windows = raised s.windows place } =
+          let raises : down_on_desk d p s ≡ record s { windows = raised_at s.windows place } =
           ap (λ o. down_on_desktop d o p s) there.found
           ∙ (further-back there.item (place - 1) (ap (slice_get s.windows) (sym next) ∙ there.at)
           ∙ ap (λ stack. record s { windows = stack }) (raised-at s.windows place there.item is.apart there.at)) in
@@ -138,28 +138,28 @@ module _ {V : Type 0} (look : V → Leaf) (d : Desc) where
         at : slice_get (shown desk) place ≡ Some w
         at = slice_get_read (shown desk) (length (shown desk)) place w refl (subst (λ ws. place < length ws) all (found-at under seen place e).within) read
 
-        tests : down_at d p s ≡ (if is_close_mark (seen_from (bounds_of (head_of w)).a p) then do_command d 4 s else s)
+        tests : down_on_desk d p s ≡ (if is_close_mark (seen_from (window_bounds (head_of w)).a p) then do_command d 4 s else s)
         tests =
             ap (λ o. down_on_desktop d o p s) there.found
             ∙ (in-front there.item (ap (slice_get s.windows) (sym first) ∙ there.at)
             ∙ ap (λ corner. if is_close_mark (seen_from corner p) then do_command d 4 s else s) (sym (corner-same look d there.item w (one-declared look d s.windows (shown desk) place there.item w is.windows there.at at))))
 
         -- on the close mark of the front window
-        pub down-mark : is_close_mark (seen_from (bounds_of (head_of w)).a p) ≡ true → down_at d p s ≡ do_command d 4 s
+        pub down-mark : is_close_mark (seen_from (window_bounds (head_of w)).a p) ≡ true → down_on_desk d p s ≡ do_command d 4 s
         down-mark mark = tests ∙ ap (λ b. if b then do_command d 4 s else s) mark
 
         -- elsewhere on it
-        pub down-beside : is_close_mark (seen_from (bounds_of (head_of w)).a p) ≡ false → after ≡ desk → Comes s after (down_at d p s)
+        pub down-beside : is_close_mark (seen_from (window_bounds (head_of w)).a p) ≡ false → after ≡ desk → Comes s after (down_on_desk d p s)
         down-beside beside same = subst (Comes s after) (sym (tests ∙ ap (λ b. if b then do_command d 4 s else s) beside)) (kept-desk s.windows desk after same is, refl)
 
     -- on none
-    pub down-kept : position under seen ≡ None → after ≡ desk → Comes s after (down_at d p s)
+    pub down-kept : position under seen ≡ None → after ≡ desk → Comes s after (down_on_desk d p s)
     down-kept e same =
         subst (λ o. Comes s after (down_on_desktop d o p s)) (sym (not-found (is_under d p) s.windows (sym under-same ∙ e))) (kept-desk s.windows desk after same is, refl)
 
   -- ---- the last comes to the front, and the first closes
 
-  pub next-desk : (stack : List OpenWindow) (desk after : DeskOf V) (place : ℕ) → place + 1 ≡ length (shown desk) → shown after ≡ raised (shown desk) place → IsDesk look d stack desk
+  pub next-desk : (stack : List OpenWindow) (desk after : DeskOf V) (place : ℕ) → place + 1 ≡ length (shown desk) → shown after ≡ raised_at (shown desk) place → IsDesk look d stack desk
       → IsDesk look d (last_first (reverse stack)) after
   next-desk stack desk after place last items is =
       let count : place + 1 ≡ length stack = last ∙ count-same stack desk is in
@@ -172,7 +172,7 @@ module _ {V : Type 0} (look : V → Leaf) (d : Desc) where
   pub closed-desk : (s : State) (desk after : DeskOf V) → IsDesk look d s.windows desk → shown after ≡ remove (shown desk) 0 → IsDesk look d (close_front s.windows s).windows after
   closed-desk s desk after is items = by_windows s.windows (shown desk) refl is.windows is.apart items
     where
-      by_windows : (stack : List OpenWindow) (windows : List (WindowOf V)) → s.windows ≡ stack → AreDeclared look d stack windows → AreApart stack → shown after ≡ remove windows 0 → IsDesk look d (close_front stack s).windows after
+      by_windows : (stack : List OpenWindow) (windows : List (WindowOf V)) → s.windows ≡ stack → AreDeclared look d stack windows → AreDistinct stack → shown after ≡ remove windows 0 → IsDesk look d (close_front stack s).windows after
       by_windows [] [] all are apart e = record {
         windows = subst (λ ws. AreDeclared look d ws (shown after)) (sym all) (subst (AreDeclared look d []) (sym e) tt);
         apart = is.apart;

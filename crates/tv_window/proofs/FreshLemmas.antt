@@ -11,7 +11,7 @@ use Rattle.tv_machine.specs.Session.Start.{closed, open_window}
 use Rattle.tv_machine.proofs.ListLemmas.{AreApart as AreApartIds, fails-absent, find-member, has, pairs-head, pairs-tail}
 use Rattle.tv_window.specs.DeclaredWindows.{AreDeclared}
 use Rattle.tv_window.specs.declared.window.WindowOf.{WindowOf}
-use Rattle.tv_window.specs.Desk.{AreApart, AreFreshWindows, AreLawfulWindows, IsDesk, IsLawfulWindow}
+use Rattle.tv_window.specs.Desk.{AreDistinct, AreFreshWindows, AreLawfulWindows, IsDesk, IsLawfulWindow}
 use Rattle.tv_window.specs.declared.desk.DeskOf.{DeskOf}
 use Rattle.tv_window.proofs.DeclaredLemmas.{declared-reverse}
 use Rattle.tv_window.proofs.OrderLemmas.{numbers-differ, pairs-reverse}
@@ -34,10 +34,10 @@ ids-apart (window ∷ windows) apart = (
 
 -- ---- one for one
 
-open-apart : (windows : List Window) → AllPairs Differ windows → AreApart (map open_window windows)
+open-apart : (windows : List Window) → AllPairs Differ windows → AreDistinct (map open_window windows)
 open-apart [] apart = apart_none
   where
-    apart_none : AreApart []
+    apart_none : AreDistinct []
     apart_none i j e less within = absurd (omega (arith, less, within))
 open-apart (window ∷ windows) apart =
     AllPairs-cons (λ w other. w.id.0 ≢ other.id.0) (open_window window) (map open_window windows)

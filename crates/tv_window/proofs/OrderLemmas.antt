@@ -7,12 +7,12 @@ use Rattle.std.proofs.lemmas.Grind.{reverse_onto}
 use Rattle.std.proofs.lemmas.List.{append-nil, drop_all, drop_at, length_push, reverse-reverse, take_at}
 use Rattle.std.proofs.lemmas.List.Elements.{All-append, All-cons, All-head, All-nil, All-push, All-tail, All-weaker}
 use Rattle.std.proofs.lemmas.List.Kept.{AllPairs-cons, AllPairs-filter}
-use Rattle.tv_group.specs.Stack.{raised}
+use Rattle.tv_group.specs.Stack.{raised_at}
 use Rattle.tv_model.specs.declared.node.Id.{Id}
 use Rattle.tv_machine.specs.State.{OpenWindow}
 use Rattle.tv_machine.specs.Session.Commands.{last_first, raised as raised_by_id}
 use Rattle.tv_machine.proofs.ListLemmas.{bool_cases, id-itself, pairs-head, pairs-tail}
-use Rattle.tv_window.specs.Desk.{AreApart}
+use Rattle.tv_window.specs.Desk.{AreDistinct}
 use Rattle.tv_window.proofs.PlaceLemmas.{all-got, got-within}
 
 -- ---- lists
@@ -54,7 +54,7 @@ module _ {A : Type 0} where
       (All-weaker (R x) (λ y. All (R y) (x ∷ [])) (λ y r. All-cons (R y) x [] (swap x y r) (All-nil (R y))) (reverse xs) (all-reverse (R x) xs (pairs-head R x xs pairs))))
 
   -- the last comes to the front
-  raised-last : (xs : List A) (x : A) → raised (xs ++ x ∷ []) (length xs) ≡ x ∷ xs
+  raised-last : (xs : List A) (x : A) → raised_at (xs ++ x ∷ []) (length xs) ≡ x ∷ xs
   raised-last xs x =
       ap (λ ys. take 1 ys ++ remove (xs ++ x ∷ []) (length xs)) (drop_at xs (x ∷ []) (length xs) refl)
       ∙ (ap (λ ys. (x ∷ []) ++ (ys ++ drop (suc (length xs)) (xs ++ x ∷ []))) (take_at xs (x ∷ []) (length xs) refl)
@@ -79,13 +79,13 @@ numbers-same a b h = grind (arith, nat_tests)
 other-lacks : (i : Id) (w : OpenWindow) → i.0 ≢ w.id.0 → has i w ≡ false
 other-lacks i w apart = numbers-differ w.id.0 i.0 (λ e. apart (sym e))
 
-others-lack : (w : OpenWindow) (behind : List OpenWindow) → AreApart (w ∷ behind) → All (λ other. has w.id other ≡ false) behind
+others-lack : (w : OpenWindow) (behind : List OpenWindow) → AreDistinct (w ∷ behind) → All (λ other. has w.id other ≡ false) behind
 others-lack w behind apart = All-weaker (Differ w) (λ other. has w.id other ≡ false) (λ other d. other-lacks w.id other d) behind (pairs-head Differ w behind apart)
 
-front-lacks : (front : OpenWindow) (behind : List OpenWindow) (place : ℕ) (w : OpenWindow) → AreApart (front ∷ behind) → slice_get behind place ≡ Some w → has w.id front ≡ false
+front-lacks : (front : OpenWindow) (behind : List OpenWindow) (place : ℕ) (w : OpenWindow) → AreDistinct (front ∷ behind) → slice_get behind place ≡ Some w → has w.id front ≡ false
 front-lacks front behind place w apart e = numbers-differ front.id.0 w.id.0 (all-got (Differ front) behind place w (pairs-head Differ front behind apart) e)
 
-only-it : (stack : List OpenWindow) (place : ℕ) (w : OpenWindow) → AreApart stack → slice_get stack place ≡ Some w → filter (has w.id) stack ≡ take 1 (drop place stack)
+only-it : (stack : List OpenWindow) (place : ℕ) (w : OpenWindow) → AreDistinct stack → slice_get stack place ≡ Some w → filter (has w.id) stack ≡ take 1 (drop place stack)
 only-it [] place w apart e = absurd cc
 only-it (front ∷ behind) zero w apart e =
     let same : front ≡ w = cc in
@@ -96,7 +96,7 @@ only-it (front ∷ behind) (suc place) w apart e =
     ap (λ b. cond b (front ∷ filter (has w.id) behind) (filter (has w.id) behind)) (front-lacks front behind place w apart e)
     ∙ only-it behind place w (pairs-tail Differ front behind apart) e
 
-all-others : (stack : List OpenWindow) (place : ℕ) (w : OpenWindow) → AreApart stack → slice_get stack place ≡ Some w → filter (λ v. not (has w.id v)) stack ≡ remove stack place
+all-others : (stack : List OpenWindow) (place : ℕ) (w : OpenWindow) → AreDistinct stack → slice_get stack place ≡ Some w → filter (λ v. not (has w.id v)) stack ≡ remove stack place
 all-others [] place w apart e = absurd cc
 all-others (front ∷ behind) zero w apart e =
     let same : front ≡ w = cc in
@@ -109,10 +109,10 @@ all-others (front ∷ behind) (suc place) w apart e =
     ∙ ap (λ ws. front ∷ ws) (all-others behind place w (pairs-tail Differ front behind apart) e)
 
 -- the front window alone has its id
-pub front-only : (front : OpenWindow) (behind : List OpenWindow) (place : ℕ) (w : OpenWindow) → AreApart (front ∷ behind) → slice_get behind place ≡ Some w → (front.id.0 == w.id.0) ≡ false
+pub front-only : (front : OpenWindow) (behind : List OpenWindow) (place : ℕ) (w : OpenWindow) → AreDistinct (front ∷ behind) → slice_get behind place ≡ Some w → (front.id.0 == w.id.0) ≡ false
 front-only front behind place w apart e = front-lacks front behind place w apart e
 
-pub raised-at : (stack : List OpenWindow) (place : ℕ) (w : OpenWindow) → AreApart stack → slice_get stack place ≡ Some w → raised_by_id w.id stack ≡ raised stack place
+pub raised-at : (stack : List OpenWindow) (place : ℕ) (w : OpenWindow) → AreDistinct stack → slice_get stack place ≡ Some w → raised_by_id w.id stack ≡ raised_at stack place
 raised-at stack place w apart e =
     ap (λ ws. ws ++ filter (λ v. not (has w.id v)) stack) (only-it stack place w apart e) ∙ ap (λ ws. take 1 (drop place stack) ++ ws) (all-others stack place w apart e)
 
@@ -123,26 +123,26 @@ sides-differ i w other is lacks e =
     let there : has i other ≡ true = ap (λ n. n == i.0) (sym e) ∙ is in
     false≢true (ap not (sym there) ∙ lacks)
 
-apart-raised : (i : Id) (stack : List OpenWindow) → AreApart stack → AreApart (raised_by_id i stack)
+apart-raised : (i : Id) (stack : List OpenWindow) → AreDistinct stack → AreDistinct (raised_by_id i stack)
 apart-raised i stack apart =
     pairs-append Differ (filter (has i) stack) (filter (λ v. not (has i v)) stack) (AllPairs-filter Differ (has i) stack apart) (AllPairs-filter Differ (λ v. not (has i v)) stack apart)
     (All-weaker (λ w. has i w ≡ true) (λ w. All (Differ w) (filter (λ v. not (has i v)) stack))
     (λ w is. All-weaker (λ v. not (has i v) ≡ true) (Differ w) (λ v lacks. sides-differ i w v is lacks) (filter (λ v. not (has i v)) stack) (filter-passes (λ v. not (has i v)) stack))
     (filter (has i) stack) (filter-passes (has i) stack))
 
-pub apart-at : (stack : List OpenWindow) (place : ℕ) → place < length stack → AreApart stack → AreApart (raised stack place)
+pub apart-at : (stack : List OpenWindow) (place : ℕ) → place < length stack → AreDistinct stack → AreDistinct (raised_at stack place)
 apart-at stack place within apart =
     let found = got-within stack place within in
-    subst AreApart (raised-at stack place found.0 apart found.1) (apart-raised found.0.id stack apart)
+    subst AreDistinct (raised-at stack place found.0 apart found.1) (apart-raised found.0.id stack apart)
 
 -- ---- the last one
 
-pub last-raised : (stack : List OpenWindow) (place : ℕ) → place + 1 ≡ length stack → last_first (reverse stack) ≡ raised stack place
+pub last-raised : (stack : List OpenWindow) (place : ℕ) → place + 1 ≡ length stack → last_first (reverse stack) ≡ raised_at stack place
 last-raised stack place e = by_last (reverse stack) (sym (reverse-reverse stack))
   where
-    by_last : (back : List OpenWindow) → stack ≡ reverse back → last_first back ≡ raised stack place
+    by_last : (back : List OpenWindow) → stack ≡ reverse back → last_first back ≡ raised_at stack place
     by_last [] is = absurd (omega (arith, e, ap length is))
     by_last (w ∷ behind) is =
         let whole : stack ≡ reverse behind ++ w ∷ [] = is ∙ reverse_onto behind w [] in
         let at : place ≡ length (reverse behind) = omega (arith, e, ap length whole, length_push (reverse behind) w) in
-        sym (ap (λ ws. raised ws place) whole ∙ (ap (raised (reverse behind ++ w ∷ [])) at ∙ raised-last (reverse behind) w))
+        sym (ap (λ ws. raised_at ws place) whole ∙ (ap (raised_at (reverse behind ++ w ∷ [])) at ∙ raised-last (reverse behind) w))

@@ -36,9 +36,9 @@ use Rattle.tv_view.proofs.LayingLemmas.{lays_none, lays_then}
 use Rattle.tv_group.specs.Opened.{opened}
 use Rattle.tv_group.specs.Outline.{IsFreshBody}
 use Rattle.tv_group.proofs.FreshLeafLemmas.{IsLeafNode, fresh_layers, group_drawn}
-use Rattle.tv_window.specs.DeclaredWindows.{AreDeclared, IsOfWindow, IsTextInside, desktop_canvas}
-use Rattle.tv_window.specs.Head.{KeptHead, bounds_of, declared_head, kept_head}
-use Rattle.tv_window.specs.Window.{body_of, frame_layer, head_of, window_layers}
+use Rattle.tv_window.specs.DeclaredWindows.{AreDeclared, IsOfWindow, IsTextInside, window_canvas}
+use Rattle.tv_window.specs.Head.{KeptWindowHead, window_bounds, declared_window_head, kept_window_head}
+use Rattle.tv_window.specs.Window.{body_of, window_frame_layer, head_of, drawn_window}
 use Rattle.tv_window.specs.declared.window.WindowOf.{WindowOf}
 use Rattle.tv_window.proofs.DeclaredWindowLemmas.{body, look_same, views_same}
 use Rattle.tv_view.proofs.FrameLayerLemmas.{corner, frame_same, inner, shadows_same}
@@ -47,14 +47,14 @@ use Rattle.tv_view.proofs.SameLayerLemmas.{IsSame, lays_same, same_append}
 -- ---- what a head says of its node
 
 -- the head of a window's node, and the height that it gives
-pub record IsHead (window : Window) (head : KeptHead) : Type 0 where
+pub record IsHead (window : Window) (head : KeptWindowHead) : Type 0 where
   pub tall : height_of window.node.kind ≡ (window_head window).h
-  pub is : head ≡ kept_head window.node (window_head window)
+  pub is : head ≡ kept_window_head window.node (window_head window)
 
 some_is : {A : Type 0} (a b : A) → Some a ≡ Some b → a ≡ b
 some_is a b e = cc
 
-head_is : (window : Window) (head : KeptHead) → Some head ≡ declared_head window.node → IsHead window head
+head_is : (window : Window) (head : KeptWindowHead) → Some head ≡ declared_window_head window.node → IsHead window head
 head_is window head same = by_kind window.node.kind window.own_kind refl
   where
     by_kind : (k : Kind) (own : IsTrue (is_window k)) → window.node.kind ≡ k → IsHead window head
@@ -89,24 +89,24 @@ leaf_nodes owner (n ∷ ns) texts =
 
 module _ {V : Type 0} (look : V → Leaf) (env : Env) (lent : IsOfWindow env) (d : Desc) where
   abbrev pub shadow_of : WindowOf V → Layer
-  shadow_of window = Shadow (desktop_canvas d) (bounds_of (head_of window))
+  shadow_of window = Shadow (window_canvas d) (window_bounds (head_of window))
 
   leaves_drawn : (owner : Node) (views : List Node) (h : ℤ) (window : WindowOf V) → IsFreshBody look owner views (body_of window) → height_of owner.kind ≡ h
-      → bounds_of (head_of window) ≡ rect owner.x owner.y owner.w h → IsSmallRect (bounds_of (head_of window)) → All (IsTextInside owner) views
-      → leaves_layers env (sub (desktop_canvas d) (bounds_of (head_of window))) (opened look (body_of window)) ≡ fresh_layers env (body d owner.x owner.y owner.w h) views
+      → window_bounds (head_of window) ≡ rect owner.x owner.y owner.w h → IsSmallRect (window_bounds (head_of window)) → All (IsTextInside owner) views
+      → leaves_layers env (sub (window_canvas d) (window_bounds (head_of window))) (opened look (body_of window)) ≡ fresh_layers env (body d owner.x owner.y owner.w h) views
   leaves_drawn owner views h window fresh tall is small texts =
       let whole : (body_of window).bounds ≡ rect (pos 0) (pos 0) owner.w h = sym fresh.bounds ∙ ap (λ k. rect (pos 0) (pos 0) owner.w k) tall in
-      let place : sub (sub (desktop_canvas d) (bounds_of (head_of window))) (body_of window).bounds ≡ body d owner.x owner.y owner.w h =
-      ap (λ r. sub (sub (desktop_canvas d) r) (body_of window).bounds) is ∙ ap (λ r. sub (sub (desktop_canvas d) (rect owner.x owner.y owner.w h)) r) whole in
+      let place : sub (sub (window_canvas d) (window_bounds (head_of window))) (body_of window).bounds ≡ body d owner.x owner.y owner.w h =
+      ap (λ r. sub (sub (window_canvas d) r) (body_of window).bounds) is ∙ ap (λ r. sub (sub (window_canvas d) (rect owner.x owner.y owner.w h)) r) whole in
       let narrow : IsSmallRect (rect owner.x owner.y owner.w h) = subst IsSmallRect is small in
-      let near : is_near (sub (sub (desktop_canvas d) (bounds_of (head_of window))) (body_of window).bounds).origin ≡ true =
+      let near : is_near (sub (sub (window_canvas d) (window_bounds (head_of window))) (body_of window).bounds).origin ≡ true =
       ap (λ c. is_near c.origin) place
       ∙ near_point owner.x owner.y (body d owner.x owner.y owner.w h).origin narrow.left narrow.top (omega (arith, ints)) (omega (arith, ints)) in
-      group_drawn look env (sub (desktop_canvas d) (bounds_of (head_of window))) (body_of window) views (leaf_nodes owner views texts) near fresh.parts
+      group_drawn look env (sub (window_canvas d) (window_bounds (head_of window))) (body_of window) views (leaf_nodes owner views texts) near fresh.parts
       ∙ ap (λ c. fresh_layers env c views) place
 
   module _ (window : WindowOf V) (declared : Window) (is : IsHead declared (head_of window)) (fresh : IsFreshBody look declared.node declared.views (body_of window))
-      (texts : All (IsTextInside declared.node) declared.views) (small : IsSmallRect (bounds_of (head_of window))) where
+      (texts : All (IsTextInside declared.node) declared.views) (small : IsSmallRect (window_bounds (head_of window))) where
     abbrev x : ℤ
     x = declared.node.x
 
@@ -119,8 +119,8 @@ module _ {V : Type 0} (look : V → Leaf) (env : Env) (lent : IsOfWindow env) (d
     abbrev own : WindowHead
     own = window_head declared
 
-    placed : bounds_of (head_of window) ≡ rect x y w own.h
-    placed = ap bounds_of is.is
+    placed : window_bounds (head_of window) ≡ rect x y w own.h
+    placed = ap window_bounds is.is
 
     abbrev face_in : FrameLook → FaceOf
     face_in frame = frame_face (natural w) (natural own.h) own.title frame
@@ -128,19 +128,19 @@ module _ {V : Type 0} (look : V → Leaf) (env : Env) (lent : IsOfWindow env) (d
     abbrev views : List Layer
     views = flat_map (window_leaf d (corner_of declared.node)) (reverse (leaf_list declared.views))
 
-    drawn : window_layers look env (desktop_canvas d) window ++ shadow_of window ∷ []
+    drawn : drawn_window look env (window_canvas d) window ++ shadow_of window ∷ []
         ≡ (fresh_layers env (body d x y w own.h) declared.views
         ++ Painted (inner d x y w own.h) (natural w) (natural own.h) (face_in (frame_look (colour_in env.chain.now) owners.Window (natural own.number) env.is_active)) ∷ [])
-        ++ Shadow (desktop_canvas d) (rect x y w own.h) ∷ []
+        ++ Shadow (window_canvas d) (rect x y w own.h) ∷ []
     drawn =
-        ap (λ t. (t ++ frame_layer env (desktop_canvas d) (head_of window) ∷ []) ++ shadow_of window ∷ []) (leaves_drawn declared.node declared.views own.h window fresh is.tall placed small texts)
-        ∙ ap (λ head. (fresh_layers env (body d x y w own.h) declared.views ++ frame_layer env (desktop_canvas d) head ∷ []) ++ Shadow (desktop_canvas d) (bounds_of head) ∷ []) is.is
+        ap (λ t. (t ++ window_frame_layer env (window_canvas d) (head_of window) ∷ []) ++ shadow_of window ∷ []) (leaves_drawn declared.node declared.views own.h window fresh is.tall placed small texts)
+        ∙ ap (λ head. (fresh_layers env (body d x y w own.h) declared.views ++ window_frame_layer env (window_canvas d) head ∷ []) ++ Shadow (window_canvas d) (window_bounds head) ∷ []) is.is
 
     shown : (a : Bool) → declared_window d a (corner_of declared.node) declared
         ≡ views ++ (Painted (corner d x y w own.h) (natural w) (natural own.h) (face_in (frame_look attribute_of owners.Window (natural own.number) a)) ∷ Shadow (corner d x y w own.h) (sized (natural w) (natural own.h)) ∷ [])
     shown a = refl
 
-    pub window_same : IsSame (window_layers look env (desktop_canvas d) window ++ shadow_of window ∷ []) (declared_window d env.is_active (corner_of declared.node) declared)
+    pub window_same : IsSame (drawn_window look env (window_canvas d) window ++ shadow_of window ∷ []) (declared_window d env.is_active (corner_of declared.node) declared)
     window_same =
         let seen = frame_look (colour_in env.chain.now) owners.Window (natural own.number) env.is_active in
         let told = frame_look attribute_of owners.Window (natural own.number) env.is_active in
@@ -158,25 +158,25 @@ module _ {V : Type 0} (look : V → Leaf) (env : Env) (lent : IsOfWindow env) (d
   none_declared stack (window ∷ windows) p e are = absurd cc
 
   stack_declared : (stack : List OpenWindow) (front : WindowOf V) (behind : List (WindowOf V)) (old mid after new : Picture) → AreDeclared look d stack (front ∷ behind)
-      → IsSmallRect (bounds_of (head_of front))
+      → IsSmallRect (window_bounds (head_of front))
       → ((rest : List OpenWindow) → AreDeclared look d rest behind → Lays (declared_layers d false rest) old mid)
-      → Lays (shadow_of front ∷ []) mid after → Lays (window_layers look env (desktop_canvas d) front) after new
+      → Lays (shadow_of front ∷ []) mid after → Lays (drawn_window look env (window_canvas d) front) after new
       → Lays (declared_layers d env.is_active stack) old new
   stack_declared [] front behind old mid after new are small below shadow here = absurd are
   stack_declared (o ∷ stack) front behind old mid after new are small below shadow here =
       let one = are.0 in
       let window = lays_same _ _ mid new (window_same front one.declared (head_is one.declared (head_of front) one.fresh.head) one.fresh.body one.texts small)
-      (lays_then (shadow_of front ∷ []) (window_layers look env (desktop_canvas d) front) mid after new shadow here) in
+      (lays_then (shadow_of front ∷ []) (drawn_window look env (window_canvas d) front) mid after new shadow here) in
       rw (one.named, one.corner) (lays_then (declared_layers d false stack) (declared_window d env.is_active (corner_of one.declared.node) one.declared) old mid new (below stack are.1) window)
 
   -- as they were drawn through a canvas, with the shadow of a rectangle
   pub stack_drawn : (stack : List OpenWindow) (windows : List (WindowOf V)) (front : WindowOf V) (behind : List (WindowOf V)) (c : Canvas) (r : Rect) (old mid after new : Picture)
-      → windows ≡ front ∷ behind → c ≡ desktop_canvas d → r ≡ bounds_of (head_of front) → IsSmallRect r → AreDeclared look d stack windows
+      → windows ≡ front ∷ behind → c ≡ window_canvas d → r ≡ window_bounds (head_of front) → IsSmallRect r → AreDeclared look d stack windows
       → ((rest : List OpenWindow) → AreDeclared look d rest behind → Lays (declared_layers d false rest) old mid)
       → IsAlike mid after → ((layers : List Layer) → Shows layers mid → Shows (Shadow c r ∷ layers) after)
-      → Lays (window_layers look env c front) after new
+      → Lays (drawn_window look env c front) after new
       → Lays (declared_layers d env.is_active stack) old new
   stack_drawn stack windows front behind c r old mid after new split seen bounds small are below size shows here =
       stack_declared stack front behind old mid after new (subst (AreDeclared look d stack) split are) (subst IsSmallRect bounds small) below
-      (record { size = size; shows = λ layers shown. subst (λ s. Shows (Shadow (desktop_canvas d) s ∷ layers) after) bounds (subst (λ k. Shows (Shadow k r ∷ layers) after) seen (shows layers shown)) })
-      (subst (λ k. Lays (window_layers look env k front) after new) seen here)
+      (record { size = size; shows = λ layers shown. subst (λ s. Shows (Shadow (window_canvas d) s ∷ layers) after) bounds (subst (λ k. Shows (Shadow k r ∷ layers) after) seen (shows layers shown)) })
+      (subst (λ k. Lays (drawn_window look env k front) after new) seen here)

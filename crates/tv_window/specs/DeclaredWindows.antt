@@ -40,8 +40,8 @@ AreDeclared look d (o ∷ behind) [] = ⊥
 AreDeclared look d (o ∷ behind) (window ∷ windows) = IsDeclared look d o window × AreDeclared look d behind windows
 
 -- the desktop, seen from the corner of the screen
-abbrev pub desktop_canvas : Desc → Canvas
-desktop_canvas d = canvas_at (desktop d) (pos 0) (pos 0)
+abbrev pub window_canvas : Desc → Canvas
+window_canvas d = canvas_at (desktop d) (pos 0) (pos 0)
 
 -- what a window lends to its views: the toolkit's palettes
 pub record IsOfWindow (env : Env) : Type 0 where

@@ -11,7 +11,7 @@ use Rattle.tv_machine.specs.Session.Commands.{logged}
 use Rattle.tv_machine.specs.Session.Desktop.{down_on_desktop, window_under}
 use Rattle.tv_machine.specs.State.{OpenWindow, State}
 use Rattle.tv_window.specs.DeclaredWindows.{AreDeclared, IsTextInside}
-use Rattle.tv_window.specs.Head.{IsLimited, declared_head}
+use Rattle.tv_window.specs.Head.{IsLimitedWindowHead, declared_window_head}
 use Rattle.tv_window.specs.Window.{IsFreshWindow}
 use Rattle.tv_window.specs.declared.window.WindowOf.{WindowOf}
 use Rattle.tv_window.specs.declared.desk.DeskOf.{DeskOf}
@@ -20,7 +20,7 @@ use Rattle.tv_window.specs.declared.desk.DeskOf.{DeskOf}
 
 -- near numbers, a short title, and static texts inside the frame
 pub record IsLawfulWindow (window : Window) : Type 0 where
-  pub head : IfSome (declared_head window.node) IsLimited
+  pub head : IfSome (declared_window_head window.node) IsLimitedWindowHead
   pub texts : All (IsTextInside window.node) window.views
 
 -- the windows of a description, of which no two have one id
@@ -35,19 +35,19 @@ abbrev pub AreFreshWindows : {V : Type 0} → (V → Leaf) → List Window → L
 AreFreshWindows look declared windows = AllZip (λ one window. IsFreshWindow look one.node one.views window) declared windows
 
 -- no two open windows are one
-abbrev pub AreApart : List OpenWindow → Type 0
-AreApart stack = AllPairs (λ window other. window.id.0 ≢ other.id.0) stack
+abbrev pub AreDistinct : List OpenWindow → Type 0
+AreDistinct stack = AllPairs (λ window other. window.id.0 ≢ other.id.0) stack
 
 -- the open windows, one for one from the front
 pub record IsDesk {V : Type 0} (look : V → Leaf) (d : Desc) (stack : List OpenWindow) (desk : DeskOf V) : Type 0 where
   pub windows : AreDeclared look d stack desk.windows.items.items
-  pub apart : AreApart stack
+  pub apart : AreDistinct stack
 
 -- ---- what the flat machine does
 
 -- a mouse down at a point of the desktop
-abbrev pub down_at : Desc → Point → State → State
-down_at d p s = down_on_desktop d (window_under d s p) p s
+abbrev pub down_on_desk : Desc → Point → State → State
+down_on_desk d p s = down_on_desktop d (window_under d s p) p s
 
 -- with the line that the window of an id has closed, if one has
 abbrev pub with_close_line : Option Id → State → State

@@ -9,7 +9,7 @@ use Rattle.tv_model.specs.declared.kind.WindowHead.{WindowHead}
 use Rattle.tv_model.specs.Description.Rectangles.{rect, IsSmallRect}
 
 -- a window's rectangle, number and title
-pub record KeptHead : Type 0 where
+pub record KeptWindowHead : Type 0 where
   pub id : Id
   pub x : ℤ
   pub y : ℤ
@@ -19,24 +19,24 @@ pub record KeptHead : Type 0 where
   pub title : List ℕ
 
 -- what a window keeps of a node with this head
-abbrev pub kept_head : Node → WindowHead → KeptHead
-kept_head node head = record { id = node.id; x = node.x; y = node.y; w = node.w; h = head.h; number = head.number; title = head.title }
+abbrev pub kept_window_head : Node → WindowHead → KeptWindowHead
+kept_window_head node head = record { id = node.id; x = node.x; y = node.y; w = node.w; h = head.h; number = head.number; title = head.title }
 
 -- that of a window's node, and none of another's
-abbrev pub declared_head : Node → Option KeptHead
-declared_head node = head node.kind
+abbrev pub declared_window_head : Node → Option KeptWindowHead
+declared_window_head node = head node.kind
   where
-    head : Kind → Option KeptHead
-    head (kinds.Window own) = Some (kept_head node own)
+    head : Kind → Option KeptWindowHead
+    head (kinds.Window own) = Some (kept_window_head node own)
     head _ = None
 
 -- a window's rectangle on the screen
-abbrev pub bounds_of : KeptHead → Rect
-bounds_of head = rect head.x head.y head.w head.h
+abbrev pub window_bounds : KeptWindowHead → Rect
+window_bounds head = rect head.x head.y head.w head.h
 
 -- a rectangle near the screen, one digit, and a title that fits
-pub record IsLimited (head : KeptHead) : Type 0 where
-  pub bounds : IsSmallRect (bounds_of head)
+pub record IsLimitedWindowHead (head : KeptWindowHead) : Type 0 where
+  pub bounds : IsSmallRect (window_bounds head)
   pub from : pos 0 ≤ℤ head.number
   pub to : head.number ≤ℤ pos 9
   pub title : length head.title ≤ 120

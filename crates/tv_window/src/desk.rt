@@ -9,8 +9,8 @@ ghost use Rattle.tv_machine.specs.State.{OpenWindow, State};
 ghost use Rattle.tv_model.specs.Description.Rectangles.{IsSmall};
 ghost use Rattle.tv_model.specs.declared.desc.Desc.{Desc};
 ghost use Rattle.tv_view.specs.Drawing.{Lays};
-ghost use Rattle.tv_window.specs.DeclaredWindows.{IsOfWindow, desktop_canvas};
-ghost use Rattle.tv_window.specs.Desk.{AreFreshWindows, AreLawfulWindows, IsDesk, down_at, with_close_line};
+ghost use Rattle.tv_window.specs.DeclaredWindows.{IsOfWindow, window_canvas};
+ghost use Rattle.tv_window.specs.Desk.{AreFreshWindows, AreLawfulWindows, IsDesk, down_on_desk, with_close_line};
 
 use crate::places::{is_on_close_mark, place_of_digit, place_under};
 use crate::{WindowOf, draw_stack};
@@ -75,10 +75,10 @@ impl<V: View> DeskOf<V> {
     pub fn down(&mut self, point: Point) -> Hit
         ensures kept { result ≡ Hit.CloseMark → self.new ≡ self.old }
         ensures mark { (d : Desc) (s : State) → IsDesk V.meaning d s.windows self.old → result ≡ Hit.CloseMark
-            → down_at d point s ≡ do_command d 4 s }
+            → down_on_desk d point s ≡ do_command d 4 s }
         ensures done { (d : Desc) (s : State) → IsDesk V.meaning d s.windows self.old → result ≡ Hit.Done
-            → IsDesk V.meaning d (down_at d point s).windows self.new
-            × (down_at d point s ≡ record s { windows = (down_at d point s).windows }) }
+            → IsDesk V.meaning d (down_on_desk d point s).windows self.new
+            × (down_on_desk d point s ≡ record s { windows = (down_on_desk d point s).windows }) }
     {
         let Some(place) = place_under(&self.windows.items, point) else {
             return Hit::Done;
@@ -119,7 +119,7 @@ impl<V: View> DeskOf<V> {
     /// active, and only where the environment says so.
     pub fn draw(&self, screen: &mut Screen, canvas: Canvas, env: &Env)
         requires { IsSmall canvas.origin.x × IsSmall canvas.origin.y }
-        ensures { (d : Desc) (stack : List OpenWindow) → IsDesk V.meaning d stack self.now → IsOfWindow env.now → canvas ≡ desktop_canvas d
+        ensures { (d : Desc) (stack : List OpenWindow) → IsDesk V.meaning d stack self.now → IsOfWindow env.now → canvas ≡ window_canvas d
             → Lays (stack_layers d env.now.is_active stack) screen.old screen.new }
     {
         draw_stack(&self.windows.items, screen, canvas, env);

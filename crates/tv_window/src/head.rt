@@ -8,7 +8,7 @@ ghost use Rattle.tv_model.specs.Description.Rectangles.{IsSmallRect};
 ghost use Rattle.tv_model.specs.Description.Numbers.{natural};
 ghost use Rattle.tv_palette.specs.Palettes.{colour_in};
 ghost use Rattle.tv_palette.specs.declared.role.Owner.TheVariants.{Window};
-ghost use Rattle.tv_window.specs.Head.{IsLimited, declared_head, bounds_of};
+ghost use Rattle.tv_window.specs.Head.{IsLimitedWindowHead, declared_window_head, window_bounds};
 
 use std::marker::Model;
 use tv_cells::Rect;
@@ -31,20 +31,20 @@ pub(crate) struct Head {
 }
 
 impl Model for Head {
-    ghost use Rattle.tv_window.specs.Head.{KeptHead, IsLimited};
+    ghost use Rattle.tv_window.specs.Head.{KeptWindowHead, IsLimitedWindowHead};
 
-    ghost Value = { KeptHead };
+    ghost Value = { KeptWindowHead };
 
     ghost view = { λ s. record { id = s.id; x = s.x; y = s.y; w = s.w; h = s.h; number = s.number; title = s.title } };
 
-    ghost invariant = { λ s. IsLimited (record { id = s.id; x = s.x; y = s.y; w = s.w; h = s.h; number = s.number; title = s.title }) };
+    ghost invariant = { λ s. IsLimitedWindowHead (record { id = s.id; x = s.x; y = s.y; w = s.w; h = s.h; number = s.number; title = s.title }) };
 }
 
 impl Head {
     /// Makes the head of a window's node, or returns `None` for another node.
     pub(crate) fn of(node: &Node) -> Option<Head>
-        requires { IfSome (declared_head node.now) IsLimited }
-        ensures { result ≡ declared_head node.now }
+        requires { IfSome (declared_window_head node.now) IsLimitedWindowHead }
+        ensures { result ≡ declared_window_head node.now }
     {
         match &node.kind {
             Kind::Window(declared) => Some(Head {
@@ -62,7 +62,7 @@ impl Head {
 
     /// Whether it is the head of this node.
     pub(crate) fn is_of(&self, node: &Node) -> bool
-        ensures { IsTrue result ↔ (Some self.now ≡ declared_head node.now) }
+        ensures { IsTrue result ↔ (Some self.now ≡ declared_window_head node.now) }
     {
         match &node.kind {
             Kind::Window(declared) => {
@@ -94,7 +94,7 @@ impl Head {
     }
 
     pub(crate) fn bounds(&self) -> Rect
-        ensures is { result ≡ bounds_of self.now }
+        ensures is { result ≡ window_bounds self.now }
         ensures small { IsSmallRect result }
         ensures near { IsRectNear result }
     {

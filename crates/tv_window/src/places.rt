@@ -7,21 +7,21 @@ ghost use Rattle.tv_cells.specs.Rectangle.{IsPointNear, IsRectNear};
 ghost use Rattle.tv_machine.specs.Dialog.Mouse.{is_close_mark};
 ghost use Rattle.tv_machine.specs.Session.Desktop.{seen_from};
 ghost use Rattle.tv_model.specs.Description.Rectangles.{rect};
-ghost use Rattle.tv_window.specs.Head.{bounds_of};
+ghost use Rattle.tv_window.specs.Head.{window_bounds};
 ghost use Rattle.tv_window.specs.Window.{head_of};
 
 use crate::WindowOf;
 use tv_cells::{Point, Rect};
 
 fn has_point<V>(window: &WindowOf<V>, point: Point) -> bool
-    ensures { result ≡ is_in (bounds_of (head_of window.now)) point.x point.y }
+    ensures { result ≡ is_in (window_bounds (head_of window.now)) point.x point.y }
 {
     window.bounds().contains(point)
 }
 
 /// Finds the topmost window at a point.
 pub(crate) fn place_under<V>(windows: &[WindowOf<V>], point: Point) -> Option<usize>
-    ensures { result ≡ position (λ window. is_in (bounds_of (head_of window)) point.x point.y) windows.now }
+    ensures { result ≡ position (λ window. is_in (window_bounds (head_of window)) point.x point.y) windows.now }
 {
     windows.iter().position(|window| has_point(window, point))
 }

@@ -6,8 +6,8 @@ ghost use Rattle.tv_model.specs.Description.Rectangles.{IsSmall};
 ghost use Rattle.tv_machine.specs.State.{OpenWindow};
 ghost use Rattle.tv_model.specs.declared.desc.Desc.{Desc};
 ghost use Rattle.tv_view.specs.Drawing.{Lays};
-ghost use Rattle.tv_window.specs.DeclaredWindows.{AreDeclared, IsOfWindow, desktop_canvas};
-ghost use Rattle.tv_window.specs.Window.{stack_layers};
+ghost use Rattle.tv_window.specs.DeclaredWindows.{AreDeclared, IsOfWindow, window_canvas};
+ghost use Rattle.tv_window.specs.Window.{drawn_stack};
 
 use crate::window::WindowOf;
 use tv_cells::{Canvas, Screen, lay_shadow};
@@ -19,8 +19,8 @@ use tv_view::{Env, View};
 /// Windows as a description declares them, drawn on its desktop, show what the flat machine's layers of the open windows show.
 pub fn draw_stack<V: View>(windows: &[WindowOf<V>], screen: &mut Screen, canvas: Canvas, env: &Env)
     requires { IsSmall canvas.origin.x × IsSmall canvas.origin.y }
-    ensures layers { Lays (stack_layers V.meaning env.now canvas windows.now) screen.old screen.new }
-    ensures declared { (d : Desc) (stack : List OpenWindow) → AreDeclared V.meaning d stack windows.now → IsOfWindow env.now → canvas ≡ desktop_canvas d
+    ensures layers { Lays (drawn_stack V.meaning env.now canvas windows.now) screen.old screen.new }
+    ensures declared { (d : Desc) (stack : List OpenWindow) → AreDeclared V.meaning d stack windows.now → IsOfWindow env.now → canvas ≡ window_canvas d
         → Lays (declared_layers d env.now.is_active stack) screen.old screen.new }
 {
     if let Some((front, behind)) = windows.split_first() {

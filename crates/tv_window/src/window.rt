@@ -4,8 +4,8 @@ ghost use Rattle.std.specs.Prelude.{◌≡◌, ◌↔◌, IfOk, IfErr, IfSome, I
 ghost use Rattle.tv_cells.specs.Rectangle.{IsRectNear};
 ghost use Rattle.tv_model.specs.Description.Rectangles.{IsSmall, IsSmallRect};
 ghost use Rattle.tv_view.specs.Drawing.{Lays};
-ghost use Rattle.tv_window.specs.Head.{IsLimited, declared_head, bounds_of};
-ghost use Rattle.tv_window.specs.Window.{IsFreshWindow, body_of, head_of, window_layers};
+ghost use Rattle.tv_window.specs.Head.{IsLimitedWindowHead, declared_window_head, window_bounds};
+ghost use Rattle.tv_window.specs.Window.{IsFreshWindow, body_of, head_of, drawn_window};
 
 use crate::head::Head;
 use tv_cells::{Canvas, Rect, Screen, lay};
@@ -38,9 +38,9 @@ impl<V> WindowOf<V> {
     ///
     /// `WrongKind`, with the body, for another node.
     pub fn new(node: &Node, body: GroupOf<V>) -> Result<WindowOf<V>, (WrongKind, GroupOf<V>)>
-        requires { IfSome (declared_head node.now) IsLimited }
-        ensures made { IfOk result (λ window. (Some (head_of window) ≡ declared_head node.now) × (body_of window ≡ body)) }
-        ensures wrong { IsErr result ↔ (declared_head node.now ≡ None) }
+        requires { IfSome (declared_window_head node.now) IsLimitedWindowHead }
+        ensures made { IfOk result (λ window. (Some (head_of window) ≡ declared_window_head node.now) × (body_of window ≡ body)) }
+        ensures wrong { IsErr result ↔ (declared_window_head node.now ≡ None) }
         ensures back { IfErr result (λ e. e.1 ≡ body) }
     {
         match Head::of(node) {
@@ -65,7 +65,7 @@ impl<V> WindowOf<V> {
 
     /// Returns its rectangle on the screen.
     pub fn bounds(&self) -> Rect
-        ensures is { result ≡ bounds_of (head_of self.now) }
+        ensures is { result ≡ window_bounds (head_of self.now) }
         ensures small { IsSmallRect result }
         ensures near { IsRectNear result }
     {
@@ -86,7 +86,7 @@ impl<V: View> WindowOf<V> {
     /// window's views are lent. Doesn't draw the shadow, which is for `draw_stack` to do.
     pub fn draw(&self, screen: &mut Screen, canvas: Canvas, env: &Env)
         requires { IsSmall canvas.origin.x × IsSmall canvas.origin.y }
-        ensures { Lays (window_layers V.meaning env.now canvas self.now) screen.old screen.new }
+        ensures { Lays (drawn_window V.meaning env.now canvas self.now) screen.old screen.new }
     {
         let inner = canvas.sub(self.head.bounds());
         let frame = self.head.frame(env);

@@ -3,7 +3,7 @@
 ghost use Rattle.std.specs.Prelude.{◌≡◌, ◌≤◌, ◌≤ℤ◌, length, pos, true, All, IfOk, IfSome};
 ghost use Rattle.tv_cells.specs.Glyph.{IsNarrow};
 ghost use Rattle.tv_model.specs.Description.LawfulNodes.{IsLawfulNode};
-ghost use Rattle.tv_dialog.specs.Head.{IsLimited, declared_head};
+ghost use Rattle.tv_dialog.specs.Head.{IsLimitedDialogHead, declared_dialog_head};
 
 use crate::lent::env;
 use anyhow::{Result, bail};
@@ -88,7 +88,7 @@ fn pane_node(alloc: Global, id: u32, x: i32) -> Node {
 }
 
 fn dialog_node(alloc: Global) -> Node
-    ensures { IfSome (declared_head result) IsLimited }
+    ensures { IfSome (declared_dialog_head result) IsLimitedDialogHead }
 {
     Node {
         id: Id(1),

@@ -1,7 +1,7 @@
 //! A large screen that nine windows of texts cover.
 
 ghost use Rattle.std.specs.Prelude.{◌≤◌, ◌≤ℤ◌, pos, IfSome};
-ghost use Rattle.tv_window.specs.Head.{IsLimited, declared_head};
+ghost use Rattle.tv_window.specs.Head.{IsLimitedWindowHead, declared_window_head};
 
 use super::parts::{BAR, rows, text};
 use crate::lent::env;
@@ -39,7 +39,7 @@ fn window_node(alloc: Global, x: i32, y: i32, number: i32) -> Node
     requires across { (pos 0 ≤ℤ x) × (x ≤ℤ pos 100) }
     requires down { (pos 0 ≤ℤ y) × (y ≤ℤ pos 100) }
     requires number { (pos 0 ≤ℤ number) × (number ≤ℤ pos 9) }
-    ensures { IfSome (declared_head result) IsLimited }
+    ensures { IfSome (declared_window_head result) IsLimitedWindowHead }
 {
     Node {
         id: Id(1),

@@ -22,7 +22,7 @@ use Rattle.tv_machine.specs.Dialog.Rules.{is_enabled}
 use Rattle.tv_view.specs.declared.env.Env.{Env}
 use Rattle.tv_view.specs.declared.reaction.Reaction.{Reaction}
 use Rattle.tv_view.specs.declared.reaction.Reaction.TheVariants.{Pass}
-use Rattle.tv_view.specs.Colours.{is_default_now, is_id}
+use Rattle.tv_view.specs.Colours.{is_lent_default, is_id}
 use Rattle.tv_view.specs.Reactions.{press_by, press_of}
 use Rattle.tv_group.specs.Handling.{group_after, group_answer, is_pass, placed_answer, takes}
 use Rattle.tv_machine.specs.Dialog.Lawful.{IsLawfulDialog}
@@ -116,8 +116,8 @@ module _ (d : Dialog) (lawful : IsLawfulDialog d) (m : Modal) (env : Env) (E : I
   target_takes : (t : PlacedNode) → enter_target d m ≡ Some t → (leaf : PlacedNode)
       → takes (events.Broadcast enter) phases.Focused env (placed leaf) ≡ true → has_leaf_id t.node.id leaf ≡ true
   target_takes t is leaf h =
-      let now : is_default_now env leaf.node.id ≡ true =
-      now_if (leaf_as d m.leaves m leaf) (is_button leaf.node.kind) (is_default_now env leaf.node.id)
+      let now : is_lent_default env leaf.node.id ≡ true =
+      now_if (leaf_as d m.leaves m leaf) (is_button leaf.node.kind) (is_lent_default env leaf.node.id)
       (sym (ap (λ r. not (is_pass r)) (broadcast-answer phases.Focused env (placed leaf) enter)) ∙ h) in
       id-swap leaf.node.id t.node.id ∙ sym (ap (λ o. is_id o leaf.node.id) (now-is (Some t) is)) ∙ now
 
@@ -127,7 +127,7 @@ module _ (d : Dialog) (lawful : IsLawfulDialog d) (m : Modal) (env : Env) (E : I
       let leaf = leaf_as d m.leaves m t in
       ap (λ r. reacted d r m)
       (broadcast-answer phases.Focused env (placed t) enter
-      ∙ ap (λ b. pressed_if leaf b (is_default_now env t.node.id)) button
+      ∙ ap (λ b. pressed_if leaf b (is_lent_default env t.node.id)) button
       ∙ ap (λ o. pressed_if leaf true (is_id o t.node.id)) (now-is (Some t) is)
       ∙ ap (pressed_if leaf true) (id-itself t.node.id))
       ∙ enabled_acts d m leaf t.node.kind (is_enabled d m.leaves t.node)

@@ -26,7 +26,7 @@ use Rattle.tv_machine.specs.Dialog.Shortcuts.{act_on, marking_leaf}
 use Rattle.tv_view.specs.declared.env.Env.{Env}
 use Rattle.tv_view.specs.declared.reaction.Reaction.{Reaction}
 use Rattle.tv_view.specs.declared.reaction.Reaction.TheVariants.{Pass}
-use Rattle.tv_view.specs.Reactions.{called, consumed, focus_answer, may_mark_by, press_by, press_of}
+use Rattle.tv_view.specs.Reactions.{calling_letter, consumed, focus_answer, may_mark_by, press_by, press_of}
 use Rattle.tv_group.specs.Handling.{group_answer, is_pass}
 use Rattle.tv_machine.specs.Dialog.Lawful.{IsLawfulDialog}
 use Rattle.tv_machine.specs.Dialog.Alike.{HoldSame}
@@ -138,7 +138,7 @@ module _ (d : Dialog) (lawful : IsLawfulDialog d) (m : Modal) (env : Env) (E : I
 
     -- ---- keys that no view takes before the focus
 
-    module _ (k : Key) (none : called phases.Pre k ≡ None) (goes : key d k m ≡ focus_keyed d k m) where
+    module _ (k : Key) (none : calling_letter phases.Pre k ≡ None) (goes : key d k m ≡ focus_keyed d k m) where
       before : answer_to k phases.Pre ≡ Pass
       before = before-none k env (tree_of d m) none
 
@@ -231,7 +231,7 @@ module _ (d : Dialog) (lawful : IsLawfulDialog d) (m : Modal) (env : Env) (E : I
         (own (keys.Char ch)) refl
 
     -- one that calls no view
-    plain-turn : (k : Key) → called phases.Pre k ≡ None → called phases.Post k ≡ None → key d k m ≡ focus_keyed d k m → passed_on d k m ≡ m
+    plain-turn : (k : Key) → calling_letter phases.Pre k ≡ None → calling_letter phases.Post k ≡ None → key d k m ≡ focus_keyed d k m → passed_on d k m ≡ m
         → KeyTurn d m env k
     plain-turn k pre post goes stays =
         by_answer k pre goes (ap (λ r. reacted d r m) (after-none k env (tree_of d m) post) ∙ sym stays) (own k) refl

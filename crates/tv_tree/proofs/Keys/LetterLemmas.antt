@@ -35,7 +35,7 @@ use Rattle.tv_view.specs.Reactions.{focus_on, item_call, keyed_answer, letter_an
 use Rattle.tv_group.specs.Handling.{group_answer, is_awake, is_offered, is_pass, marks_letters, placed_answer, takes}
 use Rattle.tv_machine.specs.Dialog.Lawful.{IsLawfulDialog}
 use Rattle.tv_tree.specs.Tree.{leaf_as, placed_as, tree_of}
-use Rattle.tv_tree.specs.Turns.{IsLentBy, cluster_pressed, leaf_pressed, pressed_at, reacted}
+use Rattle.tv_tree.specs.Turns.{IsLentBy, cluster_pressed_at, leaf_pressed, pressed_at, reacted}
 use Rattle.tv_tree.proofs.LeafListLemmas.{letters_differ, marks_letter}
 use Rattle.tv_machine.proofs.ListLemmas.{found-passes}
 use Rattle.tv_machine.proofs.LeafLemmas.{IsIn, found-in}
@@ -127,7 +127,7 @@ module _ (d : Dialog) (m : Modal) where
 
   -- a cluster of the id has these items
   abbrev HasItems : ClusterKind → List MarkedText → Id → Type 0
-  HasItems kind items i = (item : ℕ) (n : Modal) → pressed_at d i item n ≡ cluster_pressed d kind (length items) i item n
+  HasItems kind items i = (item : ℕ) (n : Modal) → pressed_at d i item n ≡ cluster_pressed_at d kind (length items) i item n
 
   module _ (kind : ClusterKind) (items : List MarkedText) (leaf : Leaf) (has : HasItems kind items leaf.node.id) where
     item_acts : (letter : ℕ) (place : Option ℕ) → position (marks letter) items ≡ place → is_some place ≡ true

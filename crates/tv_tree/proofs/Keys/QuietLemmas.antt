@@ -10,7 +10,7 @@ use Rattle.tv_event.specs.declared.event.Phase.TheVariants as phases
 use Rattle.tv_view.specs.Meaning.{Placed}
 use Rattle.tv_view.specs.declared.env.Env.{Env}
 use Rattle.tv_view.specs.declared.reaction.Reaction.TheVariants.{Pass}
-use Rattle.tv_view.specs.Reactions.{called, letter_answer}
+use Rattle.tv_view.specs.Reactions.{calling_letter, letter_answer}
 use Rattle.tv_group.specs.Handling.{found_answer, group_after, group_answer, is_offered, is_pass, placed_after, placed_answer, scan_after, scan_answer, takes}
 use Rattle.tv_tree.specs.Turns.{phases_after, phases_answer}
 use Rattle.tv_tree.proofs.ChangedLemmas.{first_changed-same}
@@ -45,13 +45,13 @@ module _ (k : Key) (env : Env) (xs : List Placed) where
   after-key = scan-still (events.Key k) phases.Post env xs (λ x. key-after phases.Post env x k)
 
   -- a key without a letter isn't answered there
-  pub before-none : called phases.Pre k ≡ None → group_answer (events.Key k) phases.Pre env xs ≡ Pass
+  pub before-none : calling_letter phases.Pre k ≡ None → group_answer (events.Key k) phases.Pre env xs ≡ Pass
   unfolding group_answer
   before-none none =
       scan-quiet (events.Key k) phases.Pre env xs
       (λ x. key-answer phases.Pre env x k ∙ ap (letter_answer env x.leaf x.leaf.node.kind) none ∙ letter-none env x.leaf x.leaf.node.kind)
 
-  pub after-none : called phases.Post k ≡ None → group_answer (events.Key k) phases.Post env xs ≡ Pass
+  pub after-none : calling_letter phases.Post k ≡ None → group_answer (events.Key k) phases.Post env xs ≡ Pass
   unfolding group_answer
   after-none none =
       scan-quiet (events.Key k) phases.Post env xs

@@ -12,7 +12,7 @@ use Rattle.tv_view.specs.declared.env.Env.{Env}
 use Rattle.tv_view.specs.declared.reaction.Reaction.{Reaction}
 use Rattle.tv_view.specs.declared.reaction.Reaction.TheVariants as reactions
 use Rattle.tv_view.specs.declared.reaction.Reaction.TheVariants.{Pass}
-use Rattle.tv_view.specs.Effects.{handled, keyed}
+use Rattle.tv_view.specs.Effects.{handled, leaf_keyed}
 use Rattle.tv_view.specs.Reactions.{answer, broadcast_answer, keyed_answer}
 use Rattle.tv_group.specs.Handling.{seen_through, is_offered, is_pass, placed_answer, placed_after, takes, found_answer, scan_answer}
 use Rattle.tv_tree.proofs.FirstLemmas.{AtMostOne, find-only, kept_if}
@@ -37,7 +37,7 @@ module _ (p : Phase) (env : Env) (x : Placed) where
   unfolding answer
   key-answer k = ap (λ e. answer e p env x.leaf) (seen-key x.around k)
 
-  pub key-after : (k : Key) → placed_after (events.Key k) p env x ≡ record x { leaf = keyed k p x.leaf }
+  pub key-after : (k : Key) → placed_after (events.Key k) p env x ≡ record x { leaf = leaf_keyed k p x.leaf }
   unfolding handled
   key-after k = ap (λ e. record x { leaf = handled e p env x.leaf }) (seen-key x.around k)
 

@@ -97,7 +97,7 @@ module _ (d : Dialog) (lawful : IsLawfulDialog d) (p : Point) (at : IsPointOf p)
 
   -- it holds the mouse
   holding : (first : ℕ) → is_enabled d m.leaves leaf.node ≡ true → captures (leaf_as d m.leaves m leaf) leaf.node.kind ≡ true
-      → effects.first_before env (leaf_as d m.leaves m leaf) ≡ first → Turn d m env p (hold d leaf first p m)
+      → effects.first_shown_before env (leaf_as d m.leaves m leaf) ≡ first → Turn d m env p (hold d leaf first p m)
   holding first enabled takes from = inl (record {
     answer = inr (leaf.node.id, answer-holds d lawful p at m env leaf found enabled takes);
     tree = after-held d lawful p at m env leaf found steady free enabled takes first from;
@@ -113,11 +113,11 @@ module _ (d : Dialog) (lawful : IsLawfulDialog d) (p : Point) (at : IsPointOf p)
   shown_at : Modal → Option Id → ℕ
   shown_at n o = if is_id o leaf.node.id then first_shown (natural leaf.node.w) (cursor_of (content_at n leaf.node.id).private) else 0
 
-  first_here : effects.first_before env (leaf_as d m.leaves m leaf) ≡ mouse.first_before m leaf
+  first_here : effects.first_shown_before env (leaf_as d m.leaves m leaf) ≡ mouse.first_before m leaf
   unfolding shown_at
   first_here = ap (shown_at m) lent.focus
 
-  first_again : (leaf.node.id.0 == m.focus.0) ≡ false → effects.first_before env (leaf_as d m1.leaves m1 leaf) ≡ mouse.first_before m leaf
+  first_again : (leaf.node.id.0 == m.focus.0) ≡ false → effects.first_shown_before env (leaf_as d m1.leaves m1 leaf) ≡ mouse.first_before m leaf
   unfolding shown_at
   first_again other =
       let apart : (m.focus.0 == leaf.node.id.0) ≡ false = id-swap m.focus leaf.node.id ∙ other in
@@ -219,7 +219,7 @@ module _ (d : Dialog) (lawful : IsLawfulDialog d) (p : Point) (at : IsPointOf p)
 
     loose : Turn d m env p (hold d leaf 0 p m)
     loose =
-        let first : ℕ = effects.first_before env (leaf_as d m.leaves m leaf) in
+        let first : ℕ = effects.first_shown_before env (leaf_as d m.leaves m leaf) in
         subst (Turn d m env p) (any_first first) (holding first enabled takes refl)
 
   -- ---- a label

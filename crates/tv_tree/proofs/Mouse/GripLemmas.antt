@@ -122,7 +122,7 @@ module _ (d : Dialog) (lawful : IsLawfulDialog d) (p : Point) (at : IsPointOf p)
     item = remembered leaf.node.kind (mouse.row_on leaf p)
 
     -- the tree is that of the machine's dialog
-    pub after-held : effects.first_before env here ≡ first → after_down d m env p ≡ tree_of d (mouse.hold d leaf first p m)
+    pub after-held : effects.first_shown_before env here ≡ first → after_down d m env p ≡ tree_of d (mouse.hold d leaf first p m)
     after-held from =
         after-changed d lawful p at m env leaf found
         ∙ tree-with_hold d lawful m steady leaf in-d content

@@ -6,7 +6,7 @@ use Rattle.tv_event.specs.declared.event.Phase.{Phase}
 use Rattle.tv_model.specs.declared.kind.Kind.{Kind}
 use Rattle.tv_model.specs.declared.kind.Kind.TheVariants as kinds
 use Rattle.tv_model.specs.declared.desc.Dialog.{Dialog}
-use Rattle.tv_view.specs.Meaning.{Leaf, Placed, has_item, holds}
+use Rattle.tv_view.specs.Meaning.{Leaf, Placed, has_item, holds_mouse}
 use Rattle.tv_model.specs.Description.Nodes.{is_cluster}
 use Rattle.tv_machine.specs.State.{Held}
 use Rattle.tv_machine.specs.Leaves.{PlacedNode}
@@ -69,13 +69,13 @@ module _ (d : Dialog) (lawful : IsLawfulDialog d) (p : Point) (at : IsPointOf p)
   well : IsPlacedWell leaf
   well = well-in d lawful p at leaf in-d
 
-  inside : points.is_inside here there ≡ mouse.is_inside leaf p
+  inside : points.leaf_has_point here there ≡ mouse.is_inside leaf p
   inside = inside-seen d leaf p well at
 
   row : points.row_of here there ≡ mouse.row_on leaf p
   row = row-seen d leaf p well at
 
-  holds_it : holds here ≡ true
+  holds_it : holds_mouse here ≡ true
   holds_it = ap has_item (held-remembered d m held holding leaf found)
 
   -- the leaf holds something else
@@ -97,7 +97,7 @@ module _ (d : Dialog) (lawful : IsLawfulDialog d) (p : Point) (at : IsPointOf p)
   unfolding handled moved_by
   move_placed =
       ap (λ e. record placed { leaf = handled e ph env here }) (move-seen (around_of d leaf) p)
-      ∙ ap (λ b. moved_by b (points.is_inside here there) (points.row_of here there)) holds_it
+      ∙ ap (λ b. moved_by b (points.leaf_has_point here there) (points.row_of here there)) holds_it
       ∙ ap (λ b. moved_by true b (points.row_of here there)) inside
       ∙ ap (moved_by true (mouse.is_inside leaf p)) row
       ∙ bool_cases (mouse.is_inside leaf p) (λ b. moved_by true b (mouse.row_on leaf p) ≡ (if b then with at_row else placed)) (λ is. refl)

@@ -16,21 +16,21 @@ use Rattle.tv_model.specs.Description.Rectangles.{place_of_node}
 use Rattle.tv_machine.specs.Leaves.{column_in, row_in}
 use Rattle.tv_view.specs.Points as points
 use Rattle.tv_view.specs.Points.{point_into}
-use Rattle.tv_group.specs.Handling.{reaches, seen_through}
+use Rattle.tv_group.specs.Handling.{point_reaches, seen_through}
 use Rattle.tv_group.specs.Outline.{body_bounds}
-use Rattle.tv_tree.specs.Ready.{IsNear, IsPointOf}
+use Rattle.tv_tree.specs.Ready.{LiesWithin, IsPointOf}
 
 -- ---- coordinates
 
 -- a coordinate that lies so near to 0
-saturated : (z : ℤ) → IsNear 100000 z → saturate_signed w32 z ≡ z
+saturated : (z : ℤ) → LiesWithin 100000 z → saturate_signed w32 z ≡ z
 saturated (pos n) h = ap pos (omega (arith, ints))
 saturated (negsuc n) h = ap negsuc (omega (arith, ints))
 
-nearer : (n k : ℕ) (z : ℤ) → n ≤ k → IsNear n z → IsNear k z
+nearer : (n k : ℕ) (z : ℤ) → n ≤ k → LiesWithin n z → LiesWithin k z
 nearer n k z h near = record { low = omega (arith, ints); high = omega (arith, ints) }
 
-moved_near : (n : ℕ) (z c : ℤ) → IsNear n z → IsNear 132 c → IsNear (n + 132) (z -ℤ c)
+moved_near : (n : ℕ) (z c : ℤ) → LiesWithin n z → LiesWithin 132 c → LiesWithin (n + 132) (z -ℤ c)
 moved_near n z c near small = record { low = omega (arith, ints); high = omega (arith, ints) }
 
 and_assoc : (a b c : Bool) → ((a && b) && c) ≡ (a && (b && c))
@@ -96,12 +96,12 @@ up-seen [] p = refl
 up-seen (bounds ∷ around) p = up-seen around (point_into bounds p)
 
 pub reaches-parts : (p : Point) (around : List Rect) (leaf : Leaf)
-    → reaches p around leaf ≡ (has_all around p && points.is_inside leaf (seen_point around p))
+    → point_reaches p around leaf ≡ (has_all around p && points.leaf_has_point leaf (seen_point around p))
 reaches-parts p [] leaf = refl
 reaches-parts p (bounds ∷ around) leaf =
     ap (λ b. is_in bounds p.x p.y && b) (reaches-parts (point_into bounds p) around leaf)
     ∙ sym (and_assoc (is_in bounds p.x p.y) (has_all around (point_into bounds p))
-    (points.is_inside leaf (seen_point around (point_into bounds p))))
+    (points.leaf_has_point leaf (seen_point around (point_into bounds p))))
 
 pub seen-append : (around : List Rect) (r : Rect) (p : Point) → seen_point (around ++ r ∷ []) p ≡ point_into r (seen_point around p)
 seen-append [] r p = refl
@@ -141,26 +141,26 @@ row_from (pane ∷ panes) z =
 pub record IsSeen (panes : List Node) (p q : Point) : Type 0 where
   pub x : q.x ≡ p.x -ℤ column_in panes (pos 0)
   pub y : q.y ≡ p.y -ℤ row_in panes (pos 0)
-  pub near_x : IsNear (20000 + 132 * length panes) q.x
-  pub near_y : IsNear (20000 + 132 * length panes) q.y
+  pub near_x : LiesWithin (20000 + 132 * length panes) q.x
+  pub near_y : LiesWithin (20000 + 132 * length panes) q.y
 
 -- a corner within the limits of descriptions
 pub record HasCorner (node : Node) : Type 0 where
-  pub x : IsNear 132 node.x
-  pub y : IsNear 132 node.y
+  pub x : LiesWithin 132 node.x
+  pub y : LiesWithin 132 node.y
 
-pub into_x : (r : Rect) (n : ℕ) (p : Point) → n ≤ 90000 → IsNear n p.x → IsNear 132 r.a.x → (point_into r p).x ≡ p.x -ℤ r.a.x
+pub into_x : (r : Rect) (n : ℕ) (p : Point) → n ≤ 90000 → LiesWithin n p.x → LiesWithin 132 r.a.x → (point_into r p).x ≡ p.x -ℤ r.a.x
 into_x r n p few near small = saturated (p.x -ℤ r.a.x)
     (nearer (n + 132) 100000 (p.x -ℤ r.a.x) (omega arith) (moved_near n p.x r.a.x near small))
 
-pub into_y : (r : Rect) (n : ℕ) (p : Point) → n ≤ 90000 → IsNear n p.y → IsNear 132 r.a.y → (point_into r p).y ≡ p.y -ℤ r.a.y
+pub into_y : (r : Rect) (n : ℕ) (p : Point) → n ≤ 90000 → LiesWithin n p.y → LiesWithin 132 r.a.y → (point_into r p).y ≡ p.y -ℤ r.a.y
 into_y r n p few near small = saturated (p.y -ℤ r.a.y)
     (nearer (n + 132) 100000 (p.y -ℤ r.a.y) (omega arith) (moved_near n p.y r.a.y near small))
 
-none : IsNear 132 (pos 0)
+none : LiesWithin 132 (pos 0)
 none = record { low = omega (arith, ints); high = omega (arith, ints) }
 
-near_as : (n : ℕ) (y z : ℤ) → y ≡ z → IsNear n z → IsNear n y
+near_as : (n : ℕ) (y z : ℤ) → y ≡ z → LiesWithin n z → LiesWithin n y
 near_as n y z e near = record { low = omega (arith, ints); high = omega (arith, ints) }
 
 pub seen : (owner : Node) (panes : List Node) (p : Point) → IsPointOf p → All HasCorner panes → length panes ≤ 64

@@ -20,7 +20,7 @@ use Rattle.tv_machine.specs.State.{LeafState}
 use Rattle.tv_machine.specs.Leaves.{PlacedNode, column_in, row_in, rect_on, leaves_in, leaf_list, open_at}
 use Rattle.tv_machine.specs.Dialog.Modal.{Modal}
 use Rattle.tv_machine.specs.Dialog.Mouse as mouse
-use Rattle.tv_group.specs.Handling.{reaches}
+use Rattle.tv_group.specs.Handling.{point_reaches}
 use Rattle.tv_group.specs.Outline.{body_bounds}
 use Rattle.tv_machine.specs.Dialog.Lawful.{IsLawfulDialog, LiesIn, LiesInside}
 use Rattle.tv_tree.specs.Ready.{IsPointOf}
@@ -212,7 +212,7 @@ and_later false false f = refl
 -- a point reaches a leaf through its groups exactly where the leaf has it
 pub reaches-tree : (d : Dialog) (ruled : List LeafState) (m : Modal) (leaf : PlacedNode) (p : Point) → IsPlacedWell leaf
     → LiesInside d.node leaf → IsPointOf p
-    → reaches p (around_of d leaf) (leaf_as d ruled m leaf) ≡ mouse.is_inside leaf p
+    → point_reaches p (around_of d leaf) (leaf_as d ruled m leaf) ≡ mouse.is_inside leaf p
 reaches-tree d ruled m leaf p well lies at =
     let q : Point = seen_point (around_of d leaf) p in
     reaches-parts p (around_of d leaf) (leaf_as d ruled m leaf)

@@ -106,7 +106,7 @@ module _ (d : Dialog) (lawful : IsLawfulDialog d) (p : Point) (at : IsPointOf p)
   well : IsPlacedWell leaf
   well = well-in d lawful p at leaf in-d
 
-  inside : points.is_inside here there ≡ mouse.is_inside leaf p
+  inside : points.leaf_has_point here there ≡ mouse.is_inside leaf p
   inside = inside-seen d leaf p well at
 
   row : points.row_of here there ≡ mouse.row_on leaf p

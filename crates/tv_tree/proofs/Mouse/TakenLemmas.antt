@@ -10,7 +10,7 @@ use Rattle.tv_model.specs.declared.command.CommandSpec.{CommandSpec}
 use Rattle.tv_model.specs.declared.node.Id.{Id}
 use Rattle.tv_model.specs.declared.desc.Dialog.{Dialog}
 use Rattle.tv_model.specs.Description.Commands.{command_of}
-use Rattle.tv_view.specs.Meaning.{Leaf, has_item, holds}
+use Rattle.tv_view.specs.Meaning.{Leaf, has_item, holds_mouse}
 use Rattle.tv_machine.specs.State.{LeafState, Held}
 use Rattle.tv_machine.specs.Leaves.{PlacedNode, leaf_list}
 use Rattle.tv_model.specs.Controls.Behaviour.{Answer, Passed, Becomes, Presses}
@@ -43,7 +43,7 @@ item-held held i = item_if (held.id.0 == i.0) held.item ∙ id-swap held.id i
 
 pub any-holds : (d : Dialog) (ruled : List LeafState) (m : Modal) → HoldsLeaf d m → any_holds (tree_as d ruled m) ≡ is_some m.held
 unfolding any_holds
-any-holds d ruled m leafs = any-map (placed_as d ruled m) (λ x. holds x.leaf) (leaf_list d.views) ∙ of m.held refl
+any-holds d ruled m leafs = any-map (placed_as d ruled m) (λ x. holds_mouse x.leaf) (leaf_list d.views) ∙ of m.held refl
   where
     of : (o : Option Held) → m.held ≡ o → list_any (λ leaf. has_item (held_at m.held leaf.node.id)) (leaf_list d.views) ≡ is_some o
     of None e = list_any_none (λ leaf. has_item (held_at m.held leaf.node.id)) (leaf_list d.views)
@@ -72,7 +72,7 @@ takes_release leaf Presses = takes_press leaf (command_of leaf.node.kind)
 
 takes_up : (leaf : Leaf) (q : Point) (o : Option ℕ) → not (is_pass (lifted_answer leaf q o)) ≡ has_item o
 takes_up leaf q None = refl
-takes_up leaf q (Some item) = of (points.is_inside leaf q)
+takes_up leaf q (Some item) = of (points.leaf_has_point leaf q)
   where
     a : Answer
     a = up_answer leaf.node.kind item (points.row_of leaf q) (content_of leaf)
@@ -88,7 +88,7 @@ module _ (d : Dialog) (ruled : List LeafState) (m : Modal) (p : Point) (ph : Pha
   abbrev there : Point
   there = seen_point (around_of d leaf) p
 
-  pub move-answer : placed_answer (events.Move p) ph env (placed_as d ruled m leaf) ≡ (if holds standing then Done else Pass)
+  pub move-answer : placed_answer (events.Move p) ph env (placed_as d ruled m leaf) ≡ (if holds_mouse standing then Done else Pass)
   unfolding answer
   move-answer = ap (λ e. answer e ph env standing) (move-seen (around_of d leaf) p)
 
@@ -97,7 +97,7 @@ module _ (d : Dialog) (ruled : List LeafState) (m : Modal) (p : Point) (ph : Pha
   up-answer = ap (λ e. answer e ph env standing) (up-seen (around_of d leaf) p)
 
   pub takes-move : takes (events.Move p) ph env (placed_as d ruled m leaf) ≡ has_item (held_at m.held leaf.node.id)
-  takes-move = ap (λ r. not (is_pass r)) move-answer ∙ takes_move (holds standing)
+  takes-move = ap (λ r. not (is_pass r)) move-answer ∙ takes_move (holds_mouse standing)
 
   pub takes-up : takes (events.Up p) ph env (placed_as d ruled m leaf) ≡ has_item (held_at m.held leaf.node.id)
   takes-up = ap (λ r. not (is_pass r)) up-answer ∙ takes_up standing there (held_at m.held leaf.node.id)

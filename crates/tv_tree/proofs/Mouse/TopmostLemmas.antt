@@ -20,7 +20,7 @@ use Rattle.tv_view.specs.Fields as fields
 use Rattle.tv_view.specs.Points as points
 use Rattle.tv_view.specs.Reactions.{answer, captures, down_answer}
 use Rattle.tv_group.specs.Handling as groups
-use Rattle.tv_group.specs.Handling.{group_after, group_answer, hit_after, hit_answer, is_hit, last_changed, placed_after, placed_answer, reaches}
+use Rattle.tv_group.specs.Handling.{group_after, group_answer, hit_after, hit_answer, is_hit, last_changed, placed_after, placed_answer, point_reaches}
 use Rattle.tv_machine.specs.Dialog.Lawful.{IsLawfulDialog, LiesInside}
 use Rattle.tv_machine.specs.Dialog.Alike.{HoldSame}
 use Rattle.tv_tree.specs.Ready.{IsPointOf}
@@ -149,7 +149,7 @@ module _ (d : Dialog) (p : Point) (at : IsPointOf p) (ruled : List LeafState) (m
   abbrev pub content_down : ℕ → Content
   content_down first = down_content leaf.node.kind first (mouse.column_on leaf p) (mouse.row_on leaf p) (content_at m leaf.node.id)
 
-  pub down-captured : (first : ℕ) → captures standing leaf.node.kind ≡ true → effects.first_before env standing ≡ first
+  pub down-captured : (first : ℕ) → captures standing leaf.node.kind ≡ true → effects.first_shown_before env standing ≡ first
       → placed_after (events.Down p) phases.Focused env (placed_as d ruled m leaf)
       ≡ record (placed_as d ruled m leaf) {
         leaf = record

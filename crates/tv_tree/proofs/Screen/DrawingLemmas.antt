@@ -31,7 +31,7 @@ use Rattle.tv_machine.specs.Screen.LeafFaces.{leaf_faces}
 use Rattle.tv_machine.specs.Screen.Layers.{dialog_leaf}
 use Rattle.tv_machine.specs.Screen.Layers as screen
 use Rattle.tv_view.specs.declared.env.Env.{Env}
-use Rattle.tv_view.specs.Colours.{colour, look_of}
+use Rattle.tv_view.specs.Colours.{colour, lent_look}
 use Rattle.tv_view.specs.Drawing.{Lays, faces_of, layers_in, leaf_layers, leaves_layers}
 use Rattle.tv_view.proofs.SameLayerLemmas.{IsSame, covers_sub, faces_same, lays_same, resized, same_append, same_refl, sub_covers, unsized}
 use Rattle.tv_group.specs.Outline.{body_bounds}
@@ -142,8 +142,8 @@ module _ (desc : Desc) (d : Dialog) (rising : AreRising d.views) (o : OpenDialog
   faces-told leaf sound =
       let n = leaf.node in
       let c = content_at m n.id in
-      ap (λ owner. leaf_faces (colour env) owner (look_of env (leaf_as d m.leaves m leaf)) (natural n.w) n.kind c) of.owner
-      ∙ faces-coloured env.chain.now of.chain (look_of env (leaf_as d m.leaves m leaf)) (natural n.w) n.kind c
+      ap (λ owner. leaf_faces (colour env) owner (lent_look env (leaf_as d m.leaves m leaf)) (natural n.w) n.kind c) of.owner
+      ∙ faces-coloured env.chain.now of.chain (lent_look env (leaf_as d m.leaves m leaf)) (natural n.w) n.kind c
       ∙ ap (λ look. leaf_faces attribute_of owners.Dialog look (natural n.w) n.kind c)
       (look-seen d o overwriting m work env lent rising leaf sound.default)
       ∙ (λ i. leaf_faces attribute_of owners.Dialog (screen.look_of d o n) (natural n.w) n.kind

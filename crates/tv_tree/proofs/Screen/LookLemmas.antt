@@ -21,7 +21,7 @@ use Rattle.tv_machine.specs.Dialog.Modal.{Modal, leaf_at}
 use Rattle.tv_machine.specs.Dialog.Rules.{is_enabled}
 use Rattle.tv_machine.specs.Screen.Layers as screen
 use Rattle.tv_view.specs.declared.env.Env.{Env}
-use Rattle.tv_view.specs.Colours.{has_focus, is_focus, is_id, link_of, linked_by, look_of}
+use Rattle.tv_view.specs.Colours.{has_focus, is_link_focus, is_id, link_of, linked_by, lent_look}
 use Rattle.tv_tree.specs.Shown.{IsAtWork}
 use Rattle.tv_tree.specs.Tree.{leaf_as}
 use Rattle.tv_tree.specs.Turns.{IsLentBy}
@@ -236,17 +236,17 @@ module _ (d : Dialog) (o : OpenDialog) (overwriting : List Id) (m : Modal) (work
   focus-seen : (i : Id) → has_focus env i ≡ (i.0 == o.focus.0)
   focus-seen i = ap (λ f. is_id f i) (lent.focus ∙ ap Some work.focus) ∙ eq_swap o.focus.0 i.0
 
-  link-seen : (view : Option Node) → is_focus env (option_map (λ node. node.id) view) ≡ screen.is_focus o.focus view
+  link-seen : (view : Option Node) → is_link_focus env (option_map (λ node. node.id) view) ≡ screen.is_focus o.focus view
   link-seen None = refl
   link-seen (Some node) = focus-seen node.id
 
-  linked-seen : (k : Kind) → is_focus env (linked_by env k) ≡ screen.is_linked d.views o.focus k
+  linked-seen : (k : Kind) → is_link_focus env (linked_by env k) ≡ screen.is_linked d.views o.focus k
   linked-seen k = of (behaviour k).link
     where
       of : (link : Option (List ℕ))
-          → is_focus env (option_and_then (link_of env.views.now) link) ≡ screen.is_linked_by d.views o.focus link
+          → is_link_focus env (option_and_then (link_of env.views.now) link) ≡ screen.is_linked_by d.views o.focus link
       of None = refl
-      of (Some name) = ap (λ views. is_focus env (link_of views name)) lent.views ∙ link-seen (meant d.views name)
+      of (Some name) = ap (λ views. is_link_focus env (link_of views name)) lent.views ∙ link-seen (meant d.views name)
 
   default-seen : AreRising d.views → (leaf : PlacedNode) → IsOfFirst is_default (leaf_list d.views) leaf
       → is_id env.default_now leaf.node.id ≡ is_default_now d.views o.focus leaf.node
@@ -258,7 +258,7 @@ module _ (d : Dialog) (o : OpenDialog) (overwriting : List Id) (m : Modal) (work
 
   -- a leaf of the tree looks as the machine's does
   pub look-seen : AreRising d.views → (leaf : PlacedNode) → IsOfFirst is_default (leaf_list d.views) leaf
-      → look_of env (leaf_as d m.leaves m leaf) ≡ screen.look_of d o leaf.node
+      → lent_look env (leaf_as d m.leaves m leaf) ≡ screen.look_of d o leaf.node
   look-seen rising leaf first =
       λ i. record {
         is_focused = focus-seen leaf.node.id i;

@@ -1,7 +1,7 @@
 use Rattle.std.proofs.Common.{◌≡◌, ◌++◌, ◌∷◌, [], ◌+◌, ◌∙◌, ap, sym, take, add-one}
 use Rattle.std.specs.Option.{option_or}
 use Rattle.std.proofs.Math.Seq.{take-suc}
-use Rattle.tv_dialogs.specs.Ends.{end_of, last_end}
+use Rattle.tv_dialogs.specs.Ends.{end_command, last_end}
 use Rattle.tv_dialogs.proofs.EndLemmas.{last-push}
 use Rattle.tv_dialogs.proofs.ends.last_end.Goals as goal
 
@@ -12,5 +12,5 @@ loop-line-preserved c =
     let line = c.line-item.result in
     let more : take (i + 1) lines ≡ take i lines ++ line ∷ [] =
     rw add-one (take-suc lines i line c.loop-line-test.true ∙ ap (λ x. take i lines ++ x ∷ []) (sym c.line-item.is)) in
-    c.or-last.ensures ∙ ap (λ o. option_or o c.loop-line.last) c.end_of.ensures ∙ ap (option_or (end_of line)) c.loop-line.invariant
+    c.or-last.ensures ∙ ap (λ o. option_or o c.loop-line.last) c.end_of.ensures ∙ ap (option_or (end_command line)) c.loop-line.invariant
     ∙ sym (ap last_end more ∙ last-push (take i lines) line)

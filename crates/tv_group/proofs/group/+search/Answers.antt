@@ -1,7 +1,7 @@
 use Rattle.std.proofs.Common.{arith, ◌≡◌, ◌<◌, ◌≤◌, length, get_or, ap, sym, ◌∙◌}
 use Rattle.tv_group.specs.Calls.{ordered}
 use Rattle.tv_group.specs.Current.{is_at}
-use Rattle.tv_group.specs.Searching.{looks_at, place_in, searched}
+use Rattle.tv_group.specs.Searching.{looks_at, kth_place, searched}
 use Rattle.tv_group.proofs.OpenedLemmas.{member-leaf, member-pane}
 use Rattle.tv_group.proofs.SearchLemmas.{searched-leaf, sought-none, sought-looked, sought-skipped, sought-all}
 use Rattle.tv_group.proofs.group.+search.Goals as goal
@@ -14,9 +14,9 @@ pub GroupOf::search-loop-k-preserved : goal.GroupOf::search-loop-k-preserved
 GroupOf::search-loop-k-preserved g t c =
     let look = g.V.View.meaning in let s = c.args.self.now in let p = c.loop-k in let dir = c.args.dir in
     let h : p.k < length s.members.items = omega arith in
-    let at : c.place-i.result ≡ place_in dir p.k (length s.members.items) =
-    c.place-i.ensures.is ∙ ap (place_in dir p.k) (c.len.ensures ∙ s.members.ok.0) in
-    let looks : c.looks_at.result ≡ looks_at p.search (is_at s.current (place_in dir p.k (length s.members.items))) =
+    let at : c.place-i.result ≡ kth_place dir p.k (length s.members.items) =
+    c.place-i.ensures.is ∙ ap (kth_place dir p.k) (c.len.ensures ∙ s.members.ok.0) in
+    let looks : c.looks_at.result ≡ looks_at p.search (is_at s.current (kth_place dir p.k (length s.members.items))) =
     c.looks_at.ensures ∙ ap (looks_at p.search) (c.is_current.ensures ∙ ap (is_at s.current) at) in
     elim c.if-looks_at.branch [
       | GroupOf::search-then-looks_at w ↦

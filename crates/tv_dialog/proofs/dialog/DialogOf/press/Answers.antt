@@ -5,7 +5,7 @@ use Rattle.tv_machine.specs.Dialog.Focus.{is_granted, requested}
 use Rattle.tv_group.specs.Handling.{group_after, group_answer}
 use Rattle.tv_group.specs.Opened.{opened}
 use Rattle.tv_dialog.specs.declared.dialog.DialogOf.{DialogOf}
-use Rattle.tv_dialog.specs.Settling.{ComesTo, turned}
+use Rattle.tv_dialog.specs.Settling.{SettlesTo, turned}
 use Rattle.tv_tree.proofs.FlagLemmas.{flags-same}
 use Rattle.tv_dialog.proofs.PressCodeLemmas.{answer_down, leaves_down, over-comes, press-over, pressed, stands-again, stands-asking, stands-refused}
 use Rattle.tv_dialog.proofs.SettleLemmas.{posted-by}
@@ -30,7 +30,7 @@ returns-then-request-clause-stands g c d m lawful lentby p is ready s =
     let asking = stands-asking look d lawful m env p ready lentby old mid asked s i answers refl leaves in
     let few : length m.log < 66 = omega (arith, ap length ready.fresh.log) in
     let granted : is_granted (requested d m i) ≡ true = sym (c.request.ensures.granted d m lawful asking) ∙ c.if-request.true in
-    subst (λ e. ComesTo look d (turned d e m) new) (sym is)
+    subst (λ e. SettlesTo look d (turned d e m) new) (sym is)
     (inl (
       c.request.ensures.pending ∙ c.requires,
       stands-again look d lawful m env p ready lentby old mid asked s i answers refl leaves granted
@@ -52,7 +52,7 @@ returns-else-request-clause-stands g c d m lawful lentby p is ready s =
     let asking = stands-asking look d lawful m env p ready lentby old mid asked s i answers refl leaves in
     let few : length m.log < 66 = omega (arith, ap length ready.fresh.log) in
     let refused : is_granted (requested d m i) ≡ false = sym (c.request.ensures.granted d m lawful asking) ∙ c.if-request.false in
-    subst (λ e. ComesTo look d (turned d e m) asked) (sym is)
+    subst (λ e. SettlesTo look d (turned d e m) asked) (sym is)
     (inl (
       c.request.ensures.pending ∙ c.requires,
       stands-refused look d lawful m env p ready lentby old mid asked s i answers refl leaves refused
@@ -72,7 +72,7 @@ returns-in_default g c = record {
       = c.handle.ensures.after ∙ ap (λ e. group_after e phases.Focused env (opened look old.body)) is in
       let over = press-over d lawful m env p ready lentby s.steady (λ i e. c.in_default.not-Focus i (answers ∙ ap (answer_down env p) s.tree ∙ e)) in
       let n = pressed d lawful m env p ready lentby s.steady in
-      subst (λ e. ComesTo look d (turned d e m) c.react.new.self) (sym is)
+      subst (λ e. SettlesTo look d (turned d e m) c.react.new.self) (sym is)
       (comes-handled look d m n n (answer_down env p _) ready.fresh over.like over.steady
       (λ keeps. over.holds) (over-comes d lawful m env p ready lentby s.steady over) old mid c.react.new.self c.handle.result s refl
       (answers ∙ ap (answer_down env p) s.tree)

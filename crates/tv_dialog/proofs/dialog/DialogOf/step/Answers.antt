@@ -1,7 +1,7 @@
 use Rattle.std.proofs.Common.{arith, ◌≡◌, ◌∷◌, ◌++◌, [], ◌∙◌, Some, is_some, refl, ap, sym, subst}
 use Rattle.tv_group.specs.Calls.{any_holds}
 use Rattle.tv_dialog.specs.Standing.{Stands}
-use Rattle.tv_dialog.specs.Stepping.{posted, started}
+use Rattle.tv_dialog.specs.Stepping.{posted, begun_anew}
 use Rattle.tv_dialog.proofs.StandsLemmas.{stands-started}
 use Rattle.tv_dialog.proofs.SteppingLemmas.{none-stays, none-walks, posted-comes}
 use Rattle.tv_tree.proofs.Mouse.TakenLemmas.{any-holds}
@@ -11,7 +11,7 @@ pub returns-in-Some-clause-stands : goal.returns-in-Some-clause-stands
 returns-in-Some-clause-stands g c d m lawful views handed leaf focus s =
     let old = c.args.self.now in
     let e = c.args.event.now in
-    let n = started m in
+    let n = begun_anew m in
     let held : c.held-is_held.result ≡ is_some m.held = c.held-is_held.ensures ∙ (ap any_holds s.tree ∙ any-holds d m.leaves m leaf) in
     let one : posted (is_some m.held) e ≡ Some c.in-Some.event = ap (λ b. posted b e) (sym held) ∙ sym c.in-Some.ensures in
     let comes = posted-comes d n (record { log = refl; ended = refl }) focus leaf e c.in-Some.event handed one in
@@ -24,7 +24,7 @@ pub returns-then-not-is_held-clause-stands : goal.returns-then-not-is_held-claus
 returns-then-not-is_held-clause-stands g c d m lawful views handed leaf focus s =
     let old = c.args.self.now in
     let e = c.args.event.now in
-    let n = started m in
+    let n = begun_anew m in
     let held : c.held-is_held.result ≡ is_some m.held = c.held-is_held.ensures ∙ (ap any_holds s.tree ∙ any-holds d m.leaves m leaf) in
     let before = stands-started g.V.View.meaning d m old (record old { log = c.clear.new.self; pending = c.clear-2.new.self })
     (record { head = refl; plan = refl; «open» = refl; ruled = refl; marks = refl }) refl refl c.clear.ensures c.requires s in
@@ -35,7 +35,7 @@ pub returns-else-not-is_held-clause-stands : goal.returns-else-not-is_held-claus
 returns-else-not-is_held-clause-stands g c d m lawful views handed leaf focus s =
     let old = c.args.self.now in
     let e = c.args.event.now in
-    let n = started m in
+    let n = begun_anew m in
     let held : c.held-is_held.result ≡ is_some m.held = c.held-is_held.ensures ∙ (ap any_holds s.tree ∙ any-holds d m.leaves m leaf) in
     let before = stands-started g.V.View.meaning d m old (record old { log = c.clear.new.self; pending = c.clear-2.new.self })
     (record { head = refl; plan = refl; «open» = refl; ruled = refl; marks = refl }) refl refl c.clear.ensures c.requires s in

@@ -3,7 +3,7 @@ use Rattle.tv_model.specs.Description.Rectangles.{corner_of}
 use Rattle.tv_machine.specs.Dialog.Step.{dialog_step}
 use Rattle.tv_machine.specs.Session.Step.{event_from}
 use Rattle.tv_dialog.specs.Standing.{Stands}
-use Rattle.tv_dialog.specs.Stepping.{IsHandedIn, started}
+use Rattle.tv_dialog.specs.Stepping.{IsHandedIn, begun_anew}
 use Rattle.tv_dialogs.proofs.DroppedLemmas.{handed-in}
 use Rattle.tv_dialogs.proofs.ShownLemmas.{corner-is}
 use Rattle.tv_dialogs.proofs.ValueLemmas.{stands-room}
@@ -26,6 +26,6 @@ returns-clause-stands g c m r =
     let small = c.bounds.ensures.small in
     let handed = subst IsHandedIn (sym c.event_from.ensures) (handed-in c.bounds.result.a c.args.event.now (small.left, small.top) c.requires.given c.requires.handed) in
     let same = c.event_from.ensures ∙ ap (λ p. event_from p c.args.event.now) (corner-is d _ r.stands.head c.bounds.result c.bounds.ensures.is) in
-    subst (λ dialog. Stands look d (dialog_step d (event_from (corner_of d.node) c.args.event.now) (started m)).leaves (dialog_step d (event_from (corner_of d.node) c.args.event.now) (started m)) dialog) (sym c.save.ensures.dialog)
-    (subst (λ e. Stands look d (dialog_step d e (started m)).leaves (dialog_step d e (started m)) c.step.new.self) same
+    subst (λ dialog. Stands look d (dialog_step d (event_from (corner_of d.node) c.args.event.now) (begun_anew m)).leaves (dialog_step d (event_from (corner_of d.node) c.args.event.now) (begun_anew m)) dialog) (sym c.save.ensures.dialog)
+    (subst (λ e. Stands look d (dialog_step d e (begun_anew m)).leaves (dialog_step d e (begun_anew m)) c.step.new.self) same
     (c.step.ensures.stands d m r.lawful c.as_slice.ensures handed r.leaf r.focus r.stands))
