@@ -56,19 +56,24 @@ pub record Adds {V : Type 0} (member : MemberOf V) (old new : List (Begun V)) : 
 -- ---- ending
 
 -- a window of the node stands, the last of the windows, round this body
-pub record StandsWindow {V : Type 0} (node : Node) (body : GroupOf V) (old new : List (WindowOf V)) : Type 0 where
+pub record StandsWindow {V : Type 0} (node : Node) (body : GroupOf V)
+    (old new : List (WindowOf V)) : Type 0 where
   pub window : WindowOf V
   pub head : Some (head_of window) ≡ declared_window_head node
   pub body_is : body_of window ≡ body
   pub last : new ≡ old ++ window ∷ []
 
--- what a node's end makes of the group in it, by its kind: a pane stands in what is around it, a window or a body by itself
+-- what a node's end makes of the group in it, by its kind: a pane stands in what is around it, a window or a
+-- body by itself
 abbrev pub EndsAs : {V : Type 0} → Kind → Node → GroupOf V → List (Begun V) → Building V → Building V → Type 0
-EndsAs (kinds.Pane pane) node group outer old new = KeepsViews old new × Adds (members.Pane group) outer (begun_of new)
+EndsAs (kinds.Pane pane) node group outer old new =
+    KeepsViews old new × Adds (members.Pane group) outer (begun_of new)
 EndsAs (kinds.Window head) node group outer old new =
-    (outer ≡ []) × (begun_of new ≡ []) × StandsWindow node group (windows_of old) (windows_of new) × (bodies_built new ≡ bodies_built old)
+    (outer ≡ []) × (begun_of new ≡ []) × StandsWindow node group (windows_of old) (windows_of new)
+    × (bodies_built new ≡ bodies_built old)
 EndsAs (kinds.Dialog head) node group outer old new =
-    (outer ≡ []) × (begun_of new ≡ []) × (windows_of new ≡ windows_of old) × (bodies_built new ≡ bodies_built old ++ group ∷ [])
+    (outer ≡ []) × (begun_of new ≡ []) × (windows_of new ≡ windows_of old)
+    × (bodies_built new ≡ bodies_built old ++ group ∷ [])
 EndsAs _ node group outer old new = ⊥
 
 -- the innermost of what was begun ends, as the group of its members
@@ -87,7 +92,8 @@ IsWrongPlace (kinds.Window head) outer = outer ≢ []
 IsWrongPlace (kinds.Dialog head) outer = outer ≢ []
 IsWrongPlace _ outer = Unit {0}
 
--- the innermost can't end: it would be the outermost of nine groups in one another, or it stands in the wrong place
+-- the innermost can't end: it would be the outermost of nine groups in one another, or it stands in the wrong
+-- place
 pub record CannotEnd {V : Type 0} (begun : List (Begun V)) : Type 0 where
   pub outer : List (Begun V)
   pub last : Begun V

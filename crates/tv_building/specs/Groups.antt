@@ -22,6 +22,8 @@ area_of node (kinds.Pane pane) = rect node.x node.y node.w pane.h
 area_of node kind = rect (pos 0) (pos 0) node.w (height_of kind)
 
 -- the group of these members, none of them current, in a node's area
-pub record IsGroupOf {V : Type 0} (look : V → Leaf) (node : Node) (members : List (MemberOf V)) (group : GroupOf V) : Type 0 where
+pub record IsGroupOf {V : Type 0} (look : V → Leaf) (node : Node) (members : List (MemberOf V))
+    (group : GroupOf V) : Type 0 where
   pub bounds : group_bounds group ≡ area_of node node.kind
-  pub leaves : opened look group ≡ map (inside (area_of node node.kind)) (joined None 0 (map (opened_member look) members))
+  pub leaves : opened look group
+      ≡ map (inside (area_of node node.kind)) (joined None 0 (map (opened_member look) members))

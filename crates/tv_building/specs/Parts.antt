@@ -15,7 +15,8 @@ HasLimitedHead dialog = IfSome (declared_dialog_head dialog.node) IsLimitedDialo
 
 -- each leaf has at first a value that its kind may have, or none where its kind has none
 abbrev pub StartsLawfully : Dialog → Type 0
-StartsLawfully dialog = All (λ leaf. HasValueOf leaf.node.kind (declared_value leaf.node.kind)) (leaf_list dialog.views)
+StartsLawfully dialog =
+    All (λ leaf. HasValueOf leaf.node.kind (declared_value leaf.node.kind)) (leaf_list dialog.views)
 
 -- a corner no farther off than the widest screen is wide
 pub record HasNearCorner (node : Node) : Type 0 where

@@ -1,5 +1,6 @@
 -- Texts with at most one letter marked, as `~A~mount`.
-use Rattle.std.specs.Prelude.{◌≡◌, ◌≢◌, ℕ, ◌+◌, ◌<◌, List, ◌∷◌, ◌++◌, length, take, drop, slice_index_or, Option, Some, None, IfSome, IsTrue, All, chars}
+use Rattle.std.specs.Prelude.{◌≡◌, ◌≢◌, ℕ, ◌+◌, ◌<◌, List, ◌∷◌, ◌++◌, length, take, drop, slice_index_or}
+use Rattle.std.specs.Prelude.{Option, Some, None, IfSome, IsTrue, All, chars}
 use Rattle.std.specs.Char.{is_ascii_alphanumeric, to_ascii_uppercase}
 use Rattle.tv_cells.specs.Glyph.{IsNarrow}
 use Rattle.tv_cells.specs.declared.hot_text.Parts.{Parts}
@@ -36,13 +37,16 @@ letter_of hot = letter_at hot.text hot.place
 pub record IsHot (hot : Hot) : Type 0 where
   pub narrow : All IsNarrow hot.text
   pub free : All (λ ch. ch ≢ 126) hot.text
-  pub letter : IfSome hot.place (λ place. (place < length hot.text) × IsTrue (is_ascii_alphanumeric (char_at hot.text place)))
+  pub letter : IfSome hot.place (λ place.
+      (place < length hot.text) × IsTrue (is_ascii_alphanumeric (char_at hot.text place)))
 
 -- when a text is refused, the first that holds
 abbrev pub RefusesHotText : List ℕ → HotTextFault → Type 0
-RefusesHotText text (BadWidth place) = (place < length text) × All IsNarrow (take place text) × (IsNarrow (char_at text place) → ⊥)
+RefusesHotText text (BadWidth place) =
+    (place < length text) × All IsNarrow (take place text) × (IsNarrow (char_at text place) → ⊥)
 RefusesHotText text BadMark = All IsNarrow text × ((hot : Hot) → IsHot hot → spelled_hot_text hot ≡ text → ⊥)
-RefusesHotText text TooLong = All IsNarrow text × (hot : Hot) × IsHot hot × (spelled_hot_text hot ≡ text) × (120 < length hot.text)
+RefusesHotText text TooLong =
+    All IsNarrow text × (hot : Hot) × IsHot hot × (spelled_hot_text hot ≡ text) × (120 < length hot.text)
 
 -- ---- how a text is taken apart
 

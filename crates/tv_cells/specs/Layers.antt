@@ -18,12 +18,17 @@ abbrev pub is_in : Rect → ℤ → ℤ → Bool
 is_in r x y = (le_z r.a.x x && lt_z x r.b.x) && (le_z r.a.y y && lt_z y r.b.y)
 
 abbrev pub covers : Canvas → Rect → ℕ → ℕ → Bool
-covers c r column row = is_in c.clip (pos column) (pos row) && is_in (shifted r c.origin) (pos column) (pos row)
+covers c r column row =
+    is_in c.clip (pos column) (pos row) && is_in (shifted r c.origin) (pos column) (pos row)
 
 -- what a layer shows over a cell: a face hides it, and a shadow keeps its character
 abbrev pub over : Layer → ℕ → ℕ → Glyph → Glyph
-over (Painted c width height face) column row under = if covers c (sized width height) column row then face_at c face column row else under
-over (Shadow c r) column row under = if covers c (shifted r aside) column row && not (is_in (shifted r c.origin) (pos column) (pos row)) then shaded under else under
+over (Painted c width height face) column row under =
+    if covers c (sized width height) column row then face_at c face column row else under
+over (Shadow c r) column row under =
+    if covers c (shifted r aside) column row && not (is_in (shifted r c.origin) (pos column) (pos row))
+    then shaded under
+    else under
 
 -- the cell of layers from the top, above a blank screen
 abbrev pub cell_of : List Layer → ℕ → ℕ → Glyph

@@ -37,8 +37,10 @@ pub record IsAlike (old new : Picture) : Type 0 where
 -- each cell of the region becomes f of what it was, and no other cell changes
 pub record Changes (Region : ℕ → ℕ → Type 0) (f : ℕ → ℕ → Glyph → Glyph) (old new : Picture) : Type 0 where
   pub size : IsAlike old new
-  pub inside : (column row : ℕ) → IsOn old column row → Region column row → cell_at new column row ≡ f column row (cell_at old column row)
-  pub outside : (column row : ℕ) → IsOn old column row → (Region column row → ⊥) → cell_at new column row ≡ cell_at old column row
+  pub inside : (column row : ℕ) → IsOn old column row → Region column row
+      → cell_at new column row ≡ f column row (cell_at old column row)
+  pub outside : (column row : ℕ) → IsOn old column row → (Region column row → ⊥)
+      → cell_at new column row ≡ cell_at old column row
 
 -- this column and this row
 abbrev pub IsPlace : ℕ → ℕ → ℕ → ℕ → Type 0

@@ -13,7 +13,10 @@ pub record IsIn (r : Rect) (x y : ℤ) : Type 0 where
 
 -- from the origin on, of a width and a height
 abbrev pub sized : ℕ → ℕ → Rect
-sized width height = record { a = record { x = pos 0; y = pos 0 }; b = record { x = pos width; y = pos height } }
+sized width height = record {
+  a = record { x = pos 0; y = pos 0 };
+  b = record { x = pos width; y = pos height };
+}
 
 -- a coordinate that sums of coordinates may be made of
 pub record IsNear (z : ℤ) : Type 0 where

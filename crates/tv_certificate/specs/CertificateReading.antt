@@ -1,5 +1,6 @@
 -- How certificates are read, line by line. Private functions are held to these definitions.
-use Rattle.std.specs.Prelude.{◌≡◌, ℕ, ◌+◌, ℤ, List, [], ◌∷◌, ◌++◌, Bool, false, Option, Some, None, option_map, codes, if◌then◌else◌}
+use Rattle.std.specs.Prelude.{◌≡◌, ℕ, ◌+◌, ℤ, List, [], ◌∷◌, ◌++◌, Bool, false, Option, Some, None}
+use Rattle.std.specs.Prelude.{option_map, codes, if◌then◌else◌}
 use Rattle.tv_words.specs.declared.word.Word.{Word}
 use Rattle.tv_words.specs.declared.word.Word.TheVariants.{Bare, Quoted}
 use Rattle.tv_words.specs.Fields.{is_bare_word, name_in}
@@ -39,12 +40,16 @@ key_item_in _ = None
 
 -- the key line of these parts
 abbrev pub key_line_from : Option ℕ → Option (List ℕ) → Option (Option ℤ) → Option KeyLine
-key_line_from (Some letter) (Some owner) (Some item) = Some (record { letter = letter; owner = owner; item = item })
+key_line_from (Some letter) (Some owner) (Some item) =
+    Some (record { letter = letter; owner = owner; item = item })
 key_line_from _ _ _ = None
 
 -- the key line that words are
 abbrev pub key_line_read : List Word → Option KeyLine
-key_line_read (keyword ∷ letter ∷ owner ∷ item) = if is_bare_word keyword (codes "key") then key_line_from (letter_in letter) (name_in owner) (key_item_in item) else None
+key_line_read (keyword ∷ letter ∷ owner ∷ item) =
+    if is_bare_word keyword (codes "key")
+    then key_line_from (letter_in letter) (name_in owner) (key_item_in item)
+    else None
 key_line_read _ = None
 
 -- the name in a line of a keyword and a name
@@ -63,7 +68,8 @@ version_of word = if is_bare_word word (version_number versions.One) then Some v
 
 -- the version that a first line names
 abbrev pub certificate_version_in : List Word → Option Version
-certificate_version_in (keyword ∷ version ∷ []) = if is_bare_word keyword (codes "tvcert") then version_of version else None
+certificate_version_in (keyword ∷ version ∷ []) =
+    if is_bare_word keyword (codes "tvcert") then version_of version else None
 certificate_version_in _ = None
 
 -- ---- declarations
@@ -91,17 +97,21 @@ with_key block line = record block { keys = block.keys ++ line ∷ [] }
 -- a key line has to be above those before it
 abbrev pub key_line_taken : Certificate → Block → Option KeyLine → Option Progress
 key_line_taken read block None = None
-key_line_taken read block (Some line) = if is_above block.keys line then Some (Begun read (stages.Keys (with_key block line))) else None
+key_line_taken read block (Some line) =
+    if is_above block.keys line then Some (Begun read (stages.Keys (with_key block line))) else None
 
 -- in a block with its tab lines comes a key line or the end
 abbrev pub key_taken : Certificate → Block → List Word → Option Progress
-key_taken read block ws = if is_block_end ws then Some (Begun (with_block read block) stages.Between) else key_line_taken read block (key_line_read ws)
+key_taken read block ws =
+    if is_block_end ws then Some (Begun (with_block read block) stages.Between)
+    else key_line_taken read block (key_line_read ws)
 
 -- a line that is no tab line can come only after one
 abbrev pub after_tab : Certificate → List ℕ → List (List ℕ) → Option (List ℕ) → List Word → Option Progress
 after_tab read name tabs (Some tab) ws = Some (Begun read (stages.Tabs name (tabs ++ tab ∷ [])))
 after_tab read name [] None ws = None
-after_tab read name (tab ∷ tabs) None ws = key_taken read (record { dialog = name; tabs = tab ∷ tabs; keys = [] }) ws
+after_tab read name (tab ∷ tabs) None ws =
+    key_taken read (record { dialog = name; tabs = tab ∷ tabs; keys = [] }) ws
 
 -- in a block without key lines comes a tab line, or what comes after these
 abbrev pub tab_taken : Certificate → List ℕ → List (List ℕ) → List Word → Option Progress
@@ -143,7 +153,11 @@ certificate_at_end n (Some certificate) = Value certificate
 -- reading on, from the line n
 abbrev pub certificate_from : ℕ → Progress → List (List ℕ) → CertificateOutcome
 certificate_from n p [] = certificate_at_end n (finished_certificate p)
-certificate_from n p (l ∷ ls) = elim (line_taken certificate_line_taken p l) as (λ _. CertificateOutcome) [ None ↦ Fault n | Some further ↦ certificate_from (n + 1) further ls ]
+certificate_from n p (l ∷ ls) =
+    elim (line_taken certificate_line_taken p l) as (λ _. CertificateOutcome) [
+      | None ↦ Fault n
+      | Some further ↦ certificate_from (n + 1) further ls
+    ]
 
 -- what reading a text gives
 abbrev pub certificate_outcome : List ℕ → CertificateOutcome

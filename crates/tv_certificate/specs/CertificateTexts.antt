@@ -1,5 +1,6 @@
 -- The texts that spell certificates, and why a text is refused.
-use Rattle.std.specs.Prelude.{◌≡◌, ◌≢◌, ℕ, ◌<◌, ◌==◌, nat_lt, ℤ, Bool, List, [], ◌∷◌, ◌++◌, map, flat_map, length, Option, Some, None, IfSome, IsTrue, Result, Ok, Err, codes}
+use Rattle.std.specs.Prelude.{◌≡◌, ◌≢◌, ℕ, ◌<◌, ◌==◌, nat_lt, ℤ, Bool, List, [], ◌∷◌, ◌++◌, map, flat_map}
+use Rattle.std.specs.Prelude.{length, Option, Some, None, IfSome, IsTrue, Result, Ok, Err, codes}
 use Rattle.std.specs.List.{AllByRecursion, list_all, list_any}
 use Rattle.tv_words.specs.declared.word.Word.{Word}
 use Rattle.tv_words.specs.declared.word.Word.TheVariants.{Bare}
@@ -40,7 +41,8 @@ dialog_words name = Bare (codes "dialog") ∷ Bare name ∷ []
 
 -- a block: its dialog, its tab lines, its key lines and its end
 abbrev pub block_lines : Block → List (List Word)
-block_lines block = dialog_words block.dialog ∷ (map tab_words block.tabs ++ (map key_words block.keys ++ end_words ∷ []))
+block_lines block =
+    dialog_words block.dialog ∷ (map tab_words block.tabs ++ (map key_words block.keys ++ end_words ∷ []))
 
 -- the word that stands for a version
 abbrev pub version_number : Version → List ℕ

@@ -23,7 +23,8 @@ tab_lines blocks = flat_map (λ block. map (λ name. (block.dialog, name)) block
 
 -- the key lines of a dialog, in all blocks of its name
 abbrev pub key_lines : List Block → List ℕ → List KeyLine
-key_lines blocks dialog = flat_map (λ block. block.keys) (filter (λ block. bytes_eq block.dialog dialog) blocks)
+key_lines blocks dialog =
+    flat_map (λ block. block.keys) (filter (λ block. bytes_eq block.dialog dialog) blocks)
 
 -- the owners that some key lines give to a letter
 abbrev pub owners_in : List KeyLine → ℕ → List LetterOwner
@@ -39,7 +40,8 @@ NamesOwner lines dialog letter = owners_in lines letter ≡ owners_of dialog let
 abbrev pub NamesOwners : List Block → Dialog → Type 0
 NamesOwners blocks dialog = All (NamesOwner (key_lines blocks (dialog_name dialog)) dialog) letters
 
--- the tab lines are the order of Tab, and each letter of each dialog has its owner. A dialog's lines may stand in several blocks
+-- the tab lines are the order of Tab, and each letter of each dialog has its owner. A dialog's lines may
+-- stand in several blocks
 pub record IsSoundCertificate (d : Desc) (certificate : Certificate) : Type 0 where
   pub tabs : tab_lines certificate.blocks ≡ tab_order d
   pub owners : All (NamesOwners certificate.blocks) d.dialogs

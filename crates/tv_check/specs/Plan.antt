@@ -43,7 +43,8 @@ is_owner kind = is_window kind || (is_dialog kind || is_pane kind)
 abbrev pub node_step : Node → Planned
 node_step node = if is_owner node.kind then Opens node else Makes node
 
--- the step of a declaration of a window or dialog: that of its node, or the end of what was opened last. Nothing is made of a rule
+-- the step of a declaration of a window or dialog: that of its node, or the end of what was opened last.
+-- Nothing is made of a rule
 abbrev pub step_of : Declaration → Option Planned
 step_of (declared.Node node) = Some (node_step node)
 step_of declared.End = Some Closes
@@ -54,4 +55,6 @@ steps_of declarations = filter_map step_of declarations
 
 -- windows first, then dialogs, each in description order, and each from its own line to its `end`
 abbrev pub build_plan_of : Desc → List Planned
-build_plan_of d = flat_map (λ window. steps_of (window_declarations window)) d.windows ++ flat_map (λ dialog. steps_of (dialog_declarations dialog)) d.dialogs
+build_plan_of d =
+    flat_map (λ window. steps_of (window_declarations window)) d.windows
+    ++ flat_map (λ dialog. steps_of (dialog_declarations dialog)) d.dialogs

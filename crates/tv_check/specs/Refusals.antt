@@ -34,14 +34,18 @@ pub record IsFirstWithout {A : Type 0} (P : A → Type 0) (xs : List A) (x : A) 
 
 -- the first letter without its owner in the first dialog, in description order, that has one
 abbrev pub IsFirstOwner : Desc → List Block → ℕ → Type 0
-IsFirstOwner d blocks letter = (dialog : Dialog) × IsFirstWithout (NamesOwners blocks) d.dialogs dialog × IsFirstWithout (NamesOwner (key_lines blocks (dialog_name dialog)) dialog) letters letter
+IsFirstOwner d blocks letter =
+    (dialog : Dialog) × IsFirstWithout (NamesOwners blocks) d.dialogs dialog
+    × IsFirstWithout (NamesOwner (key_lines blocks (dialog_name dialog)) dialog) letters letter
 
 -- what a refusal says: the faults are looked at first, then the tab lines, then the key lines
 abbrev pub RefusesToAccept : Desc → Certificate → Refusal → Type 0
 RefusesToAccept d certificate refusals.NoMemory = Unit {0}
 RefusesToAccept d certificate (refusals.Faulty fault) = IsFirstFault d fault
-RefusesToAccept d certificate (refusals.TabOrder place) = IsSound d × DifferFirst (tab_lines certificate.blocks) (tab_order d) place
-RefusesToAccept d certificate (refusals.Owner letter) = IsSound d × (tab_lines certificate.blocks ≡ tab_order d) × IsFirstOwner d certificate.blocks letter
+RefusesToAccept d certificate (refusals.TabOrder place) =
+    IsSound d × DifferFirst (tab_lines certificate.blocks) (tab_order d) place
+RefusesToAccept d certificate (refusals.Owner letter) =
+    IsSound d × (tab_lines certificate.blocks ≡ tab_order d) × IsFirstOwner d certificate.blocks letter
 
 -- the answer is yes, unless memory ran out
 abbrev pub Accepts : {A : Type 0} → Result A (Refusal × Desc) → Type 0

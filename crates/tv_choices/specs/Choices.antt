@@ -19,7 +19,8 @@ is_radios _ = false
 
 -- radio buttons of which this item is marked
 abbrev pub radios_leaf : Core → ℕ → Leaf
-radios_leaf core marked = leaf_with core (record { value = Some (values.Item marked); private = Plain; overwrites = false })
+radios_leaf core marked =
+    leaf_with core (record { value = Some (values.Item marked); private = Plain; overwrites = false })
 
 -- whether a node of the kind is a cluster of check boxes
 abbrev pub is_boxes : Kind → Bool
@@ -28,7 +29,9 @@ is_boxes _ = false
 
 -- check boxes with these marks, of which this item is selected
 abbrev pub boxes_leaf : Core → (marks selected : ℕ) → Leaf
-boxes_leaf core marks selected = leaf_with core (record { value = Some (values.Marks marks); private = Selecting selected; overwrites = false })
+boxes_leaf core marks selected =
+    leaf_with core
+    (record { value = Some (values.Marks marks); private = Selecting selected; overwrites = false })
 
 -- what a key does, as the cluster's table has it
 abbrev pub cluster_key_of : SeenKey → ClusterKey
@@ -53,4 +56,6 @@ choice_of chosen = record { item = chosen.item; top = chosen.top }
 
 -- the list that has this chosen
 abbrev pub list_leaf : Core → SeenChosen → Leaf
-list_leaf core chosen = leaf_with core (record { value = Some (values.Item chosen.item); private = Scrolled chosen.top; overwrites = false })
+list_leaf core chosen =
+    leaf_with core
+    (record { value = Some (values.Item chosen.item); private = Scrolled chosen.top; overwrites = false })

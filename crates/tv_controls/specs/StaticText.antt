@@ -25,7 +25,14 @@ pub record TextState : Type 0 where
 -- a leaf without a value, which never has the focus or the mouse and is always enabled
 abbrev pub text_leaf : TextState → Leaf
 text_leaf s = record {
-  node = record { id = s.id; depth = s.depth; x = s.x; y = s.y; w = s.w; kind = kinds.Text (record { h = s.h; text = s.text }) };
+  node = record {
+    id = s.id;
+    depth = s.depth;
+    x = s.x;
+    y = s.y;
+    w = s.w;
+    kind = kinds.Text (record { h = s.h; text = s.text });
+  };
   value = None;
   private = Plain;
   overwrites = false;

@@ -1,4 +1,5 @@
--- How the words of a line are read. Private functions are held to these definitions, and the laws in proofs/ show that
+-- How the words of a line are read. Private functions are held to these definitions, and the laws in proofs/
+-- show that
 -- they give what the words spell.
 pub mod Options
 pub mod Commands

@@ -1,5 +1,6 @@
 -- How a description is spelled: its declarations, and the words of each.
-use Rattle.std.specs.Prelude.{◌≡◌, ◌≢◌, ℕ, ◌+◌, ◌-◌, ◌≤◌, Bool, true, false, not, ◌||◌, List, [], ◌∷◌, ◌++◌, map, flat_map, replicate, Option, Some, None, IsTrue, if◌then◌else◌}
+use Rattle.std.specs.Prelude.{◌≡◌, ◌≢◌, ℕ, ◌+◌, ◌-◌, ◌≤◌, Bool, true, false, not, ◌||◌, List, [], ◌∷◌, ◌++◌}
+use Rattle.std.specs.Prelude.{map, flat_map, replicate, Option, Some, None, IsTrue, if◌then◌else◌}
 use Rattle.std.specs.List.{AllByRecursion}
 use Rattle.tv_model.specs.declared.node.Node.{Node}
 use Rattle.tv_model.specs.declared.kind.Kind.{Kind}
@@ -28,7 +29,8 @@ start_declarations (Some name) = declared.Start name ∷ []
 
 -- a menu's own line, those of its items, and the end
 abbrev pub menu_declarations : Menu → List Declaration
-menu_declarations m = declared.Menu m.id m.title ∷ (map (λ item. declared.Item item) m.items ++ declared.End ∷ [])
+menu_declarations m =
+    declared.Menu m.id m.title ∷ (map (λ item. declared.Item item) m.items ++ declared.End ∷ [])
 
 -- a window's own line, those of its texts, and the end
 abbrev pub window_declarations : Window → List Declaration
@@ -42,14 +44,18 @@ ends_of_panes panes depth = replicate (panes - depth) declared.End
 abbrev pub open_panes_after : Node → ℕ
 open_panes_after n = if is_pane n.kind then n.depth + 1 else n.depth
 
--- the lines of views, from where so many panes are open: before each the panes end that aren't around it, and all in the end
+-- the lines of views, from where so many panes are open: before each the panes end that aren't around it, and
+-- all in the end
 abbrev pub view_declarations : ℕ → List Node → List Declaration
 view_declarations panes [] = ends_of_panes panes 0
-view_declarations panes (n ∷ ns) = ends_of_panes panes n.depth ++ (declared.Node n ∷ view_declarations (open_panes_after n) ns)
+view_declarations panes (n ∷ ns) =
+    ends_of_panes panes n.depth ++ (declared.Node n ∷ view_declarations (open_panes_after n) ns)
 
 -- a dialog's own line, those of its views and of its rules, and the end
 abbrev pub dialog_declarations : Dialog → List Declaration
-dialog_declarations d = declared.Node d.node ∷ (view_declarations 0 d.views ++ (map (λ rule. declared.Rule rule) d.rules ++ declared.End ∷ []))
+dialog_declarations d =
+    declared.Node d.node
+    ∷ (view_declarations 0 d.views ++ (map (λ rule. declared.Rule rule) d.rules ++ declared.End ∷ []))
 
 -- the declarations of a description, each on a line
 abbrev pub declarations_of : Desc → List Declaration
@@ -92,14 +98,16 @@ pub record IsWindow (w : Window) : Type 0 where
 -- views each of which stands in some of the panes that are open before it; at most 16 are
 abbrev pub AreViews : ℕ → List Node → Type 0
 AreViews panes [] = Unit {0}
-AreViews panes (n ∷ ns) = IsTrue (is_view n.kind) × (n.depth ≤ panes) × (open_panes_after n ≤ 16) × AreViews (open_panes_after n) ns
+AreViews panes (n ∷ ns) =
+    IsTrue (is_view n.kind) × (n.depth ≤ panes) × (open_panes_after n ≤ 16) × AreViews (open_panes_after n) ns
 
 -- a dialog in no pane, with such views
 pub record IsDialog (d : Dialog) : Type 0 where
   pub depth : d.node.depth ≡ 0
   pub views : AreViews 0 d.views
 
--- a description that a text can spell: each declaration can be spelled and has its line as its number, and each part has
+-- a description that a text can spell: each declaration can be spelled and has its line as its number, and
+-- each part has
 -- what can stand in it
 pub record IsDescription (d : Desc) : Type 0 where
   pub declarations : AreDeclarations 1 (declarations_of d)

@@ -28,9 +28,12 @@ lent plan focus env = record env { focus = Some focus; default_now = default_now
 -- the frame with what it surrounds, in the dialog's rectangle
 abbrev pub dialog_frame_layer : Env → Canvas → KeptDialogHead → Layer
 dialog_frame_layer env c head = Painted (sub c (dialog_bounds head)) (natural head.w) (natural head.h)
-    (frame_face (natural head.w) (natural head.h) head.title (frame_look (colour_in env.chain.now) owners.Dialog 0 env.is_active))
+    (frame_face (natural head.w) (natural head.h) head.title
+    (frame_look (colour_in env.chain.now) owners.Dialog 0 env.is_active))
 
 -- the leaves of the body in the dialog's rectangle, the last on top, and the frame below them
 abbrev pub drawn_dialog : {V : Type 0} → (V → Leaf) → Env → Canvas → DialogOf V → List Layer
 drawn_dialog look env c dialog =
-    leaves_layers (lent dialog.plan dialog.focus env) (sub c (dialog_bounds dialog.head)) (opened look dialog.body) ++ dialog_frame_layer env c dialog.head ∷ []
+    leaves_layers (lent dialog.plan dialog.focus env) (sub c (dialog_bounds dialog.head))
+    (opened look dialog.body)
+    ++ dialog_frame_layer env c dialog.head ∷ []

@@ -21,7 +21,15 @@ pub record KeptDialogHead : Type 0 where
 
 -- what a dialog keeps of a node with this head
 abbrev pub kept_dialog_head : Node → DialogHead → KeptDialogHead
-kept_dialog_head node head = record { id = node.id; x = node.x; y = node.y; w = node.w; h = head.h; title = head.title; ends = head.ends }
+kept_dialog_head node head = record {
+  id = node.id;
+  x = node.x;
+  y = node.y;
+  w = node.w;
+  h = head.h;
+  title = head.title;
+  ends = head.ends;
+}
 
 -- that of a dialog's node, and none of another's
 abbrev pub declared_dialog_head : Node → Option KeptDialogHead

@@ -1,5 +1,6 @@
 -- What a dialog keeps of its description beside its own line: ids and numbers, and no texts.
-use Rattle.std.specs.Prelude.{ℕ, Bool, false, List, map, filter, filter_map, find, not, ◌&&◌, ◌==◌, Option, Some, None, option_map}
+use Rattle.std.specs.Prelude.{ℕ, Bool, false, List, map, filter, filter_map, find, not, ◌&&◌, ◌==◌, Option}
+use Rattle.std.specs.Prelude.{Some, None, option_map}
 use Rattle.std.specs.List.{list_all}
 use Rattle.tv_model.specs.declared.node.Id.{Id}
 use Rattle.tv_model.specs.declared.node.Node.{Node}
@@ -24,19 +25,27 @@ use Rattle.tv_dialog.specs.declared.plan.Plan.{Plan}
 
 -- the cluster of a rule, if the description has it, and its item
 abbrev pub condition_of : List Node → Rule → Condition
-condition_of views rule = record { cluster = option_map (λ node. node.id) (meant views rule.cluster); item = natural rule.item }
+condition_of views rule = record {
+  cluster = option_map (λ node. node.id) (meant views rule.cluster);
+  item = natural rule.item;
+}
 
 -- those of the rules that show or hide the leaf
 abbrev pub conditions_of : List Node → List Rule → PlacedNode → List Condition
 conditions_of views rules leaf = map (condition_of views) (filter (λ rule. shows leaf rule.effect) rules)
 
 abbrev pub leaf_plan : List Node → List Rule → PlacedNode → LeafPlan
-leaf_plan views rules leaf = record { id = leaf.node.id; is_button = is_button leaf.node.kind; shown_when = conditions_of views rules leaf }
+leaf_plan views rules leaf = record {
+  id = leaf.node.id;
+  is_button = is_button leaf.node.kind;
+  shown_when = conditions_of views rules leaf;
+}
 
 -- the command that a rule enables, if it does
 abbrev pub gate_by : Condition → Effect → Option Gate
 gate_by condition (effects.Show name) = None
-gate_by condition (effects.Enable command) = Some (record { number = command_number command; condition = condition })
+gate_by condition (effects.Enable command) =
+    Some (record { number = command_number command; condition = condition })
 
 abbrev pub gate_of : List Node → Rule → Option Gate
 gate_of views rule = gate_by (condition_of views rule) rule.effect

@@ -1,4 +1,5 @@
--- A dialog that may be open or not, and the rules of which may not have been applied yet: all that opening it needs.
+-- A dialog that may be open or not, and the rules of which may not have been applied yet: all that opening it
+-- needs.
 use Rattle.std.specs.Prelude.{◌≡◌, true, List, map, Some}
 use Rattle.tv_view.specs.Meaning.{Leaf, Placed}
 use Rattle.tv_model.specs.declared.desc.Dialog.{Dialog}

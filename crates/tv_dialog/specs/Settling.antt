@@ -72,7 +72,8 @@ turned d (events.Command c) m = command d c.0 m
 turned d (events.Broadcast c) m = press_enabled d (enter_target d m) m
 
 -- the dialog stands so that this comes of the command that waits
-pub record Awaits {V : Type 0} (look : V → Leaf) (d : Dialog) (target : Modal) (c : Command) (dialog : DialogOf V) : Type 0 where
+pub record Awaits {V : Type 0} (look : V → Leaf) (d : Dialog) (target : Modal) (c : Command)
+    (dialog : DialogOf V) : Type 0 where
   pub now : Modal
   pub stands : Stands look d now.leaves now dialog
   pub short : length now.log ≤ 1

@@ -1,5 +1,6 @@
 -- A dialog at work, where the machine's dialog stands so.
-use Rattle.std.specs.Prelude.{◌≡◌, ◌<◌, ◌⊎◌, ◌||◌, ℕ, Bool, false, List, [], map, Some, is_some, is_none, slice_index_or}
+use Rattle.std.specs.Prelude.{◌≡◌, ◌<◌, ◌⊎◌, ◌||◌, ℕ, Bool, false, List, [], map, Some, is_some, is_none}
+use Rattle.std.specs.Prelude.{slice_index_or}
 use Rattle.tv_view.specs.Meaning.{Leaf}
 use Rattle.tv_model.specs.declared.node.Id.{Id}
 use Rattle.tv_model.specs.declared.desc.Dialog.{Dialog}
@@ -26,7 +27,8 @@ abbrev pub AreFields : Dialog → Entries → Type 0
 AreFields d entries = (entries ≡ []) ⊎ (map (λ entry. entry.id) entries ≡ field_ids d)
 
 -- the dialog stands as the machine's does, where its rules were last applied to the marks of these leaves
-pub record Stands {V : Type 0} (look : V → Leaf) (d : Dialog) (ruled : List LeafState) (m : Modal) (dialog : DialogOf V) : Type 0 where
+pub record Stands {V : Type 0} (look : V → Leaf) (d : Dialog) (ruled : List LeafState) (m : Modal)
+    (dialog : DialogOf V) : Type 0 where
   pub head : Some dialog.head ≡ declared_dialog_head d.node
   pub plan : dialog.plan ≡ plan_of d.views d.rules
   pub tree : opened look dialog.body ≡ tree_as d ruled m
@@ -35,7 +37,8 @@ pub record Stands {V : Type 0} (look : V → Leaf) (d : Dialog) (ruled : List Le
   pub log : dialog.log.items ≡ m.log
   pub «open» : dialog.is_open ≡ is_none m.ended
   pub marks : AreFields d dialog.marks
-  pub commands : (number : ℕ) → number < 256 → slice_index_or dialog.ruled.commands number false ≡ is_enabled_in d ruled m number
+  pub commands : (number : ℕ) → number < 256
+      → slice_index_or dialog.ruled.commands number false ≡ is_enabled_in d ruled m number
 
 -- ---- turns
 

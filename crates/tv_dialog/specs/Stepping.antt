@@ -24,7 +24,8 @@ posted_key k = Some (events.Key k)
 -- the same for an event
 abbrev pub posted_free : Event → Option Event
 posted_free (events.Key k) = posted_key k
-posted_free (events.Down p) = if is_close_mark p then Some (events.Command (record { 0 = 4 })) else Some (events.Down p)
+posted_free (events.Down p) =
+    if is_close_mark p then Some (events.Command (record { 0 = 4 })) else Some (events.Down p)
 posted_free (events.Command c) = Some (events.Command c)
 posted_free (events.Up p) = None
 posted_free (events.Move p) = None

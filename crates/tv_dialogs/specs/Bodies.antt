@@ -8,9 +8,11 @@ use Rattle.tv_dialogs.specs.Kept.{IsKeptAs}
 use Rattle.tv_dialogs.specs.declared.kept.Kept.{Kept}
 
 -- one fresh body for each dialog, in order
-pub record AreFreshBodies {V : Type 0} (look : V → Leaf) (dialogs : List Dialog) (bodies : List (GroupOf V)) : Type 0 where
+pub record AreFreshBodies {V : Type 0} (look : V → Leaf) (dialogs : List Dialog)
+    (bodies : List (GroupOf V)) : Type 0 where
   pub count : length bodies ≡ length dialogs
-  pub fresh : (place : ℕ) (d : Dialog) (body : GroupOf V) → slice_get dialogs place ≡ Some d → slice_get bodies place ≡ Some body
+  pub fresh : (place : ℕ) (d : Dialog) (body : GroupOf V) → slice_get dialogs place ≡ Some d
+      → slice_get bodies place ≡ Some body
       → IsFreshBody look d.node d.views body
 
 -- the dialogs one for one, before any of them was open

@@ -1,5 +1,6 @@
 -- The dialogs of a run, where the machine's state is this.
-use Rattle.std.specs.Prelude.{◌≡◌, ◌<◌, ℕ, true, false, List, [], length, Option, Some, None, option_map, slice_get, slice_index_or}
+use Rattle.std.specs.Prelude.{◌≡◌, ◌<◌, ℕ, true, false, List, [], length, Option, Some, None, option_map}
+use Rattle.std.specs.Prelude.{slice_get, slice_index_or}
 use Rattle.std.specs.Option.{option_and_then}
 use Rattle.tv_model.specs.declared.desc.Desc.{Desc}
 use Rattle.tv_model.specs.declared.desc.Dialog.{Dialog}
@@ -20,7 +21,8 @@ abbrev pub at_work : State → OpenDialog → List LogLine → Modal
 at_work s o log = record (modal_of s o) { log = log }
 
 -- the dialog at the open one's place stands as the machine's does, where it is declared
-pub record IsOpenAmong {V : Type 0} (look : V → Leaf) (d : Desc) (s : State) (o : OpenDialog) (all : List (Kept V)) : Type 0 where
+pub record IsOpenAmong {V : Type 0} (look : V → Leaf) (d : Desc) (s : State) (o : OpenDialog)
+    (all : List (Kept V)) : Type 0 where
   pub dialog : Dialog
   pub there : slice_get d.dialogs o.place ≡ Some dialog
   pub kept : Kept V
@@ -28,13 +30,16 @@ pub record IsOpenAmong {V : Type 0} (look : V → Leaf) (d : Desc) (s : State) (
   pub stands : Stands look dialog o.leaves (at_work s o kept.dialog.log.items) kept.dialog
   pub corner : o.origin ≡ corner_of dialog.node
 
--- the dialogs of the description, with what their last ends saved and where typing overwrites, and which is open. Nothing else
+-- the dialogs of the description, with what their last ends saved and where typing overwrites, and which is
+-- open. Nothing else
 -- of the state is looked at
-pub record AreDialogs {V : Type 0} (look : V → Leaf) (d : Desc) (s : State) (dialogs : DialogsOf V) : Type 0 where
+pub record AreDialogs {V : Type 0} (look : V → Leaf) (d : Desc) (s : State)
+    (dialogs : DialogsOf V) : Type 0 where
   pub count : length dialogs.kept.items ≡ length d.dialogs
   pub saved : length s.saved ≡ length d.dialogs
   pub overwriting : length s.overwriting ≡ length d.dialogs
-  pub kept : (place : ℕ) (dialog : Dialog) (k : Kept V) → slice_get d.dialogs place ≡ Some dialog → slice_get dialogs.kept.items place ≡ Some k
+  pub kept : (place : ℕ) (dialog : Dialog) (k : Kept V) → slice_get d.dialogs place ≡ Some dialog
+      → slice_get dialogs.kept.items place ≡ Some k
       → IsKeptAs look dialog (saved_at s place) (overwriting_at s place) k
   pub place : dialogs.open ≡ option_map (λ o. o.place) s.dialog
   pub at : (o : OpenDialog) → s.dialog ≡ Some o → IsOpenAmong look d s o dialogs.kept.items
@@ -58,7 +63,8 @@ log_of_last dialogs = lines_by (kept_at dialogs dialogs.last)
 -- ---- what calls rely on
 
 -- they are those of some state of a run
-pub record AreOfRun {V : Type 0} (look : V → Leaf) (d : Desc) (s : State) (dialogs : DialogsOf V) : Type 0 where
+pub record AreOfRun {V : Type 0} (look : V → Leaf) (d : Desc) (s : State)
+    (dialogs : DialogsOf V) : Type 0 where
   pub sound : HasSoundDialogs d
   pub fit : IsFitState d s
   pub are : AreDialogs look d s dialogs

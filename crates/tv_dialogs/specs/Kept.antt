@@ -23,7 +23,8 @@ abbrev pub first_values : Dialog → Option Entries → Entries
 first_values d saved = unwrap_or saved (fields_of (opened_leaves d None))
 
 -- a dialog is kept where its last end saved this, if it did, and typing overwrites in these inputs
-pub record IsKeptAs {V : Type 0} (look : V → Leaf) (d : Dialog) (saved : Option Entries) (overwriting : List Id) (kept : Kept V) : Type 0 where
+pub record IsKeptAs {V : Type 0} (look : V → Leaf) (d : Dialog) (saved : Option Entries)
+    (overwriting : List Id) (kept : Kept V) : Type 0 where
   pub values : kept.values ≡ first_values d saved
   -- the machine's dialog as it rests, which may be open
   pub modal : Modal
@@ -31,7 +32,8 @@ pub record IsKeptAs {V : Type 0} (look : V → Leaf) (d : Dialog) (saved : Optio
   pub rests : Rests look d modal kept.dialog
 
 -- the dialog stands as the machine's open one, of which an event may be made something
-pub record IsReady {V : Type 0} (look : V → Leaf) (d : Dialog) (m : Modal) (dialog : DialogOf V) : Type 0 where
+pub record IsReady {V : Type 0} (look : V → Leaf) (d : Dialog) (m : Modal)
+    (dialog : DialogOf V) : Type 0 where
   pub lawful : IsLawfulDialog d
   pub going : dialog.is_open ≡ true
   pub leaf : HoldsLeaf d m
@@ -41,4 +43,5 @@ pub record IsReady {V : Type 0} (look : V → Leaf) (d : Dialog) (m : Modal) (di
 -- what it opens with next: its values once it has ended, unless by `cancel`
 abbrev pub values_after : {V : Type 0} → (V → Leaf) → Entries → DialogOf V → Entries
 values_after look values dialog =
-    if dialog.is_open || is_cancelled dialog.log.items then values else all_gathered (opened look dialog.body) []
+    if dialog.is_open || is_cancelled dialog.log.items then values
+    else all_gathered (opened look dialog.body) []

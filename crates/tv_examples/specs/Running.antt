@@ -1,6 +1,7 @@
 -- How an example is run: from the text of a description and its script to the text of its output.
 use Prim.Native.String.{String}
-use Rattle.std.specs.Prelude.{◌≡◌, [], ℕ, List, ◌∷◌, ◌++◌, Option, Some, None, Result, Ok, Err, option_map, flat_map, codes}
+use Rattle.std.specs.Prelude.{◌≡◌, [], ℕ, List, ◌∷◌, ◌++◌, Option, Some, None, Result, Ok, Err, option_map}
+use Rattle.std.specs.Prelude.{flat_map, codes}
 use Rattle.std.specs.List.{range_with_len}
 use Rattle.std.specs.Char.{encode_utf8}
 use Rattle.std.specs.Fmt.{digits}
@@ -67,17 +68,22 @@ after_read readings.Other script = None
 
 -- so many cells of a row from a column on, each by its text
 abbrev pub cells_of : (Glyph → List ℕ) → ℕ → ℕ → ℕ → Session → List ℕ
-cells_of cell row first count s = flat_map (λ column. cell (screen_cell s column row)) (range_with_len first count)
+cells_of cell row first count s =
+    flat_map (λ column. cell (screen_cell s column row)) (range_with_len first count)
 
 -- so many cells of a row from a column on have these characters after the script
 abbrev pub ShowsCharacters : List String → List String → (row first count : ℕ) → String → Type 0
 ShowsCharacters description script row first count shown =
-    option_map (cells_of (λ cell. encode_utf8 cell.ch) row first count) (after_read (description_outcome (text description)) (text script)) ≡ Some (codes shown)
+    option_map (cells_of (λ cell. encode_utf8 cell.ch) row first count)
+    (after_read (description_outcome (text description)) (text script))
+    ≡ Some (codes shown)
 
 -- and these attributes, two digits each
 abbrev pub ShowsColours : List String → List String → (row first count : ℕ) → String → Type 0
 ShowsColours description script row first count shown =
-    option_map (cells_of (λ cell. hex_byte cell.attr) row first count) (after_read (description_outcome (text description)) (text script)) ≡ Some (codes shown)
+    option_map (cells_of (λ cell. hex_byte cell.attr) row first count)
+    (after_read (description_outcome (text description)) (text script))
+    ≡ Some (codes shown)
 
 -- ---- faults
 

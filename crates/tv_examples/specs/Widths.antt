@@ -1,6 +1,8 @@
 -- The width of any character computes: the tables of Unicode's properties, by one name.
 use Rattle.unicode_width.specs.Width.{char_width, alone}
-use Rattle.unicode_width.specs.Kind.{kind, named_kind, named_rows, unnamed_kind, letter_kind, width_kind, is_zero_width, is_jamo_after_lead, is_prepended, is_wide, is_ambiguous, is_ambiguous_symbol, is_marked_ambiguous}
+use Rattle.unicode_width.specs.Kind.{kind, named_kind, named_rows, unnamed_kind, letter_kind, width_kind}
+use Rattle.unicode_width.specs.Kind.{is_zero_width, is_jamo_after_lead, is_prepended, is_wide, is_ambiguous}
+use Rattle.unicode_width.specs.Kind.{is_ambiguous_symbol, is_marked_ambiguous}
 use Rattle.ucd_table.specs.Rows.{value_in, in_ranges}
 use Rattle.ucd_props.specs.Binary.{is_regional_indicator, is_prepended_concatenation_mark}
 use Rattle.ucd_props.specs.Ranges.{regional_indicator_ranges, prepended_concatenation_mark_ranges}

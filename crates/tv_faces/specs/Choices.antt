@@ -30,13 +30,17 @@ value_of_marks marks.Radios selected = Some (values.Item selected)
 -- an item a row
 abbrev pub cluster_cells : ClusterFace → FaceOf
 cluster_cells f x y =
-    cluster_row (colour_in f.chain.now) (cluster_of_marks f.marks) (f.is_focused && (f.selected == y + 1)) (is_marked (value_of_marks f.marks f.selected) (y + 1)) (slice_get f.items.now y) x
+    cluster_row (colour_in f.chain.now) (cluster_of_marks f.marks) (f.is_focused && (f.selected == y + 1))
+    (is_marked (value_of_marks f.marks f.selected) (y + 1)) (slice_get f.items.now y) x
 
 -- an item a row, from that of the top row on
 abbrev pub list_cells : ListFace → FaceOf
 list_cells f x y =
-    shown (text_row (text_at f.items.now (f.top + y)) x) (colour_in f.chain.now (roles.List (list_role f.is_focused (f.chosen == f.top + y))))
+    shown (text_row (text_at f.items.now (f.top + y)) x)
+    (colour_in f.chain.now (roles.List (list_role f.is_focused (f.chosen == f.top + y))))
 
 -- the cells of a row with an item of a cluster
 abbrev pub item_cells : ItemRow → ℕ → Glyph
-item_cells row x = shown (text_row (row.before ++ row.text.now) x) (if is_mark_from 4 row.mark x then row.letter else row.rest)
+item_cells row x =
+    shown (text_row (row.before ++ row.text.now) x)
+    (if is_mark_from 4 row.mark x then row.letter else row.rest)

@@ -27,12 +27,19 @@ input_attr colours input.Cursor = colours.cursor
 
 -- what is shown of an edit
 abbrev pub seen_edit : List ℕ → ℕ → Bool → Edit
-seen_edit text cursor is_whole = record { text = text; cursor = cursor; is_whole = is_whole; overwrites = false }
+seen_edit text cursor is_whole = record {
+  text = text;
+  cursor = cursor;
+  is_whole = is_whole;
+  overwrites = false;
+}
 
 -- a place of the text or after it, as it is where the cursor isn't
 abbrev pub place_cell : InputColours → Bool → Edit → ℕ → Glyph
 place_cell colours is_focused e place =
-    shown (text_row e.text place) (if is_focused && (e.is_whole && nat_lt place (length e.text)) then colours.selected else colours.normal)
+    shown (text_row e.text place)
+    (if is_focused && (e.is_whole && nat_lt place (length e.text)) then colours.selected
+    else colours.normal)
 
 -- the text round the cursor
 abbrev pub input_cells : InputColours → ℕ → Bool → Edit → FaceOf

@@ -9,11 +9,20 @@ use Rattle.tv_model.specs.Screen.Faces.{ButtonLook, FrameLook, pieces_of, top_ro
 
 -- how a button stands
 abbrev pub button_look_of : SeenButton → ButtonLook
-button_look_of look = record { is_focused = look.is_focused; is_default_now = look.is_default_now; is_disabled = look.is_disabled }
+button_look_of look = record {
+  is_focused = look.is_focused;
+  is_default_now = look.is_default_now;
+  is_disabled = look.is_disabled;
+}
 
 -- how a frame stands
 abbrev pub frame_look_of : SeenFrame → FrameLook
-frame_look_of look = record { number = look.number; is_active = look.is_active; edge = look.edge; inside = look.inside }
+frame_look_of look = record {
+  number = look.number;
+  is_active = look.is_active;
+  edge = look.edge;
+  inside = look.inside;
+}
 
 -- the first row of a frame
 abbrev pub top_row_of : Frame → ℕ → Glyph

@@ -1,5 +1,6 @@
 -- The order of faults.
-use Rattle.std.specs.Prelude.{◌≡◌, ℕ, ◌<◌, ◌⊎◌, List, [], ◌∷◌, ◌++◌, map, flat_map, AllPairs, Option, Some, None}
+use Rattle.std.specs.Prelude.{◌≡◌, ℕ, ◌<◌, ◌⊎◌, List, [], ◌∷◌, ◌++◌, map, flat_map, AllPairs, Option, Some}
+use Rattle.std.specs.Prelude.{None}
 use Rattle.tv_model.specs.declared.desc.Desc.{Desc}
 use Rattle.tv_model.specs.declared.desc.Menu.{Menu}
 use Rattle.tv_model.specs.declared.desc.Window.{Window}
@@ -10,7 +11,9 @@ use Rattle.tv_model.specs.Faults.{fault_number}
 
 -- by number, then by line
 abbrev pub IsBefore : Fault → Fault → Type 0
-IsBefore f g = (fault_number f.kind < fault_number g.kind) ⊎ ((fault_number f.kind ≡ fault_number g.kind) × (f.line < g.line))
+IsBefore f g =
+    (fault_number f.kind < fault_number g.kind)
+    ⊎ ((fault_number f.kind ≡ fault_number g.kind) × (f.line < g.line))
 
 -- the line of a `start`, where there is one
 abbrev pub start_line : Option (List ℕ) → List ℕ

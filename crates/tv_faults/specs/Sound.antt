@@ -58,5 +58,6 @@ pub record Sound (d : Desc) : Type 0 where
   pub limits : IsWithinLimits d
   -- F16: dialogs open by commands from 100 to 255, each by its own, and a start names a dialog
   pub openings : HaveOpenings d
-  -- F17: no letter opens two menus or chooses two items of one, no digit chooses two windows, no rule stops `cancel` or `close`
+  -- F17: no letter opens two menus or chooses two items of one, no digit chooses two windows, no rule stops
+  -- `cancel` or `close`
   pub menus : HaveOwnMenuLetters d

@@ -23,7 +23,8 @@ abbrev pub path_of : RunFault → (file beside : List ℕ) → List ℕ
 path_of (Cert fault) file beside = beside
 path_of _ file beside = file
 
--- the file that a fault of a run is in: the description, or the script where that is at fault or can't be read
+-- the file that a fault of a run is in: the description, or the script where that is at fault or can't be
+-- read
 abbrev pub path_of_run : PlayFault → (file script : List ℕ) → List ℕ
 path_of_run (runs.Script fault) file script = script
 path_of_run runs.Read file script = script

@@ -17,9 +17,11 @@ pub record World : Type 0 where
   pub err : Seen
   pub err_kept : List ℕ
 
--- The task is performed on the files, and standard output takes what it writes; then its end is told, and both streams
+-- The task is performed on the files, and standard output takes what it writes; then its end is told, and
+-- both streams
 -- are flushed. Where there is no task, only that is told.
-abbrev pub EndsWith : (Mismade : Desc → Type 0) → Result Task NoTask → (old new : World) → (status : ℕ) → Type 0
+abbrev pub EndsWith : (Mismade : Desc → Type 0) → Result Task NoTask → (old new : World) → (status : ℕ)
+    → Type 0
 EndsWith Mismade (Ok task) old new status =
     (end : End) × (mid : Seen) × PerformsTask Mismade task old.files new.files old.out mid end
     × Tells end mid new.out new.out_kept old.err new.err new.err_kept status

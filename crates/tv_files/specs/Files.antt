@@ -1,5 +1,6 @@
 -- What is known of files, and what opening and reading one comes to.
-use Rattle.std.specs.Prelude.{◌≡◌, ◌≤◌, ℕ, ◌+◌, true, false, List, [], ◌∷◌, ◌++◌, length, take, Option, Some, None, IfSome, IsNone, Result, Ok, Err, Vec}
+use Rattle.std.specs.Prelude.{◌≡◌, ◌≤◌, ℕ, ◌+◌, true, false, List, [], ◌∷◌, ◌++◌, length, take, Option, Some}
+use Rattle.std.specs.Prelude.{None, IfSome, IsNone, Result, Ok, Err, Vec}
 use Rattle.tv_io.specs.Reader.{Given, GivesNot, HasGiven}
 use Rattle.tv_files.specs.declared.read_fault.ReadFault.{ReadFault}
 use Rattle.tv_files.specs.declared.read_fault.ReadFault.TheVariants.{NoMemory, Read}
@@ -35,7 +36,8 @@ pub record IsFileOf (files : Known) (path : List ℕ) (reader : Given) : Type 0 
   pub unfailed : reader.failures ≡ 0
 
 -- what opening a file comes to; one whose contents are known can be opened, unless memory runs out
-abbrev pub OpensAs : {F : Type 0} → (F → Given) → (old new : Known) → (path : List ℕ) → Result F ReadFault → Type 0
+abbrev pub OpensAs : {F : Type 0} → (F → Given) → (old new : Known) → (path : List ℕ) → Result F ReadFault
+    → Type 0
 OpensAs seen old new path (Ok file) = Opens old new (path ∷ []) × IsFileOf old path (seen file)
 OpensAs seen old new path (Err Read) = Opens old new (path ∷ []) × IsNone (old.contents path)
 OpensAs seen old new path (Err NoMemory) = Unit {0}

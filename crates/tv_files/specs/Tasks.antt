@@ -21,7 +21,8 @@ use Rattle.tv_files.specs.Files.{BreaksOff, IsFileOf, IsFileText, Known, Opens}
 -- the task ended at a file that can't be opened, the last one that was asked for, or because memory ran out
 pub data IsUnopened (files after : Known) (opened : List (List ℕ)) (path : List ℕ) (end : End) : Type 0 where
   memory : end ≡ Some (NoMemory, path) → IsUnopened files after opened path end
-  missing : Opens files after opened → IsNone (files.contents path) → end ≡ Some (Read, path) → IsUnopened files after opened path end
+  missing : Opens files after opened → IsNone (files.contents path) → end ≡ Some (Read, path)
+      → IsUnopened files after opened path end
 
 -- the text of an open file isn't there: a call of its reader failed, or memory ran out
 pub data IsUngiven (old new : Given) (path : List ℕ) (end : End) : Type 0 where
@@ -38,28 +39,42 @@ pub record BreaksOffIn (files : Known) (path : List ℕ) : Type 0 where
 -- the task ended at a file that can't be opened, or can't be read to its end
 pub data IsUnread (files after : Known) (opened : List (List ℕ)) (path : List ℕ) (end : End) : Type 0 where
   unopened : IsUnopened files after opened path end → IsUnread files after opened path end
-  broken : Opens files after opened → BreaksOffIn files path → end ≡ Some (Read, path) → IsUnread files after opened path end
+  broken : Opens files after opened → BreaksOffIn files path → end ≡ Some (Read, path)
+      → IsUnread files after opened path end
 
 -- the file was opened and gave the text
-pub record GivesText (files after : Known) (opened : List (List ℕ)) (path : List ℕ) (text : List ℕ) : Type 0 where
+pub record GivesText (files after : Known) (opened : List (List ℕ)) (path : List ℕ)
+    (text : List ℕ) : Type 0 where
   pub opens : Opens files after opened
   pub text_of : IsFileText files path text
 
 -- a task on one file: the file is opened, and what follows of its text is by `comes`
-pub data OnFile (comes : (text : List ℕ) → Type 0) (files after : Known) (file : List ℕ) (old new : Seen) (end : End) : Type 0 where
+pub data OnFile (comes : (text : List ℕ) → Type 0) (files after : Known) (file : List ℕ) (old new : Seen)
+    (end : End) : Type 0 where
   unread : IsUnread files after (file ∷ []) file end → new ≡ old → OnFile comes files after file old new end
-  done : (text : List ℕ) → GivesText files after (file ∷ []) file text → comes text → OnFile comes files after file old new end
+  done : (text : List ℕ) → GivesText files after (file ∷ []) file text → comes text
+      → OnFile comes files after file old new end
 
--- a task that ends before the file beside the description is looked for: the description can't be read, or it is refused
-pub data EndsFirst (refuses : (text : List ℕ) → RunFault → Type 0) (files after : Known) (file : List ℕ) (end : End) : Type 0 where
+-- a task that ends before the file beside the description is looked for: the description can't be read, or it
+-- is refused
+pub data EndsFirst (refuses : (text : List ℕ) → RunFault → Type 0) (files after : Known) (file : List ℕ)
+    (end : End) : Type 0 where
   unread : IsUnread files after (file ∷ []) file end → EndsFirst refuses files after file end
-  refused : (text : List ℕ) (fault : RunFault) → GivesText files after (file ∷ []) file text → refuses text fault → end ≡ Some (fault, file) → EndsFirst refuses files after file end
+  refused : (text : List ℕ) (fault : RunFault) → GivesText files after (file ∷ []) file text
+      → refuses text fault → end ≡ Some (fault, file) → EndsFirst refuses files after file end
 
 -- a task on a description and the file beside it, which is opened only once the description has passed
-pub data OnFiles (refuses : (text : List ℕ) → RunFault → Type 0) (passes : (text : List ℕ) → Type 0) (comes : (text written : List ℕ) → Type 0) (files after : Known) (file beside : List ℕ) (old new : Seen) (end : End) : Type 0 where
-  first : EndsFirst refuses files after file end → new ≡ old → OnFiles refuses passes comes files after file beside old new end
-  unread : (text : List ℕ) → IsFileText files file text → passes text → IsUnread files after (file ∷ beside ∷ []) beside end → new ≡ old → OnFiles refuses passes comes files after file beside old new end
-  done : (text written : List ℕ) → IsFileText files file text → passes text → GivesText files after (file ∷ beside ∷ []) beside written → comes text written → OnFiles refuses passes comes files after file beside old new end
+pub data OnFiles (refuses : (text : List ℕ) → RunFault → Type 0) (passes : (text : List ℕ) → Type 0)
+    (comes : (text written : List ℕ) → Type 0) (files after : Known) (file beside : List ℕ) (old new : Seen)
+    (end : End) : Type 0 where
+  first : EndsFirst refuses files after file end → new ≡ old
+      → OnFiles refuses passes comes files after file beside old new end
+  unread : (text : List ℕ) → IsFileText files file text → passes text
+      → IsUnread files after (file ∷ beside ∷ []) beside end → new ≡ old
+      → OnFiles refuses passes comes files after file beside old new end
+  done : (text written : List ℕ) → IsFileText files file text → passes text
+      → GivesText files after (file ∷ beside ∷ []) beside written → comes text written
+      → OnFiles refuses passes comes files after file beside old new end
 
 -- a description that was read, and what follows of its text
 pub record HasRead (follows : (text : List ℕ) → Type 0) (files after : Known) (file : List ℕ) : Type 0 where
@@ -71,7 +86,8 @@ pub record HasRead (follows : (text : List ℕ) → Type 0) (files after : Known
 
 -- what `check` answers about the text, told as an end
 abbrev pub ChecksAs : (file : List ℕ) → (old new : Seen) → End → (text : List ℕ) → Type 0
-ChecksAs file old new end text = (r : Result (Unit {0}) CheckFault) × ChecksTo text old new r × (end ≡ end_as check_told file file r)
+ChecksAs file old new end text =
+    (r : Result (Unit {0}) CheckFault) × ChecksTo text old new r × (end ≡ end_as check_told file file r)
 
 abbrev pub ChecksFile : (files after : Known) → (file : List ℕ) → (old new : Seen) → End → Type 0
 ChecksFile files after file old new end =
@@ -81,7 +97,8 @@ ChecksFile files after file old new end =
 
 -- the text spells no description
 abbrev pub IsUnspelled : (text : List ℕ) → RunFault → Type 0
-IsUnspelled text fault = (unspelled : LangFault) × RefusesToParse text unspelled × (fault ≡ lang_told unspelled)
+IsUnspelled text fault =
+    (unspelled : LangFault) × RefusesToParse text unspelled × (fault ≡ lang_told unspelled)
 
 abbrev pub IsSpelledAs : Desc → (text : List ℕ) → Type 0
 IsSpelledAs d text = Spells text d
@@ -92,37 +109,53 @@ IsSpelled text = (d : Desc) × IsSpelledAs d text
 -- what `accept_files` answers about the texts, told as an end
 abbrev pub AcceptsAs : (file certificate : List ℕ) → (old new : Seen) → End → (text written : List ℕ) → Type 0
 AcceptsAs file certificate old new end text written =
-    (r : Result (Unit {0}) AcceptFault) × AcceptsTo text written old new r × (end ≡ end_as accept_told file certificate r)
+    (r : Result (Unit {0}) AcceptFault) × AcceptsTo text written old new r
+    × (end ≡ end_as accept_told file certificate r)
 
 -- the certificate is looked for once the description is spelled
-abbrev pub AcceptsFiles : (files after : Known) → (file certificate : List ℕ) → (old new : Seen) → End → Type 0
+abbrev pub AcceptsFiles : (files after : Known) → (file certificate : List ℕ) → (old new : Seen) → End
+    → Type 0
 AcceptsFiles files after file certificate old new end =
-    OnFiles IsUnspelled IsSpelled (AcceptsAs file certificate old new end) files after file certificate old new end
+    OnFiles IsUnspelled IsSpelled (AcceptsAs file certificate old new end) files after file certificate old
+    new end
 
 -- ---- a run
 
--- The description and its script, the files of these paths. Both are opened before anything is read, the description first;
+-- The description and its script, the files of these paths. Both are opened before anything is read, the
+-- description first;
 -- then the description is read, and what follows of its text and of the script, as it comes, is by `comes`.
-pub data OnStream (comes : (text : List ℕ) (reader left : Given) → Type 0) (files after : Known) (file script : List ℕ) (old new : Seen) (end : End) : Type 0 where
-  unopened : IsUnopened files after (file ∷ []) file end → new ≡ old → OnStream comes files after file script old new end
-  beside : IsUnopened files after (file ∷ script ∷ []) script end → new ≡ old → OnStream comes files after file script old new end
-  unread : IsUnread files after (file ∷ script ∷ []) file end → new ≡ old → OnStream comes files after file script old new end
-  done : (text : List ℕ) (reader left : Given) → GivesText files after (file ∷ script ∷ []) file text → IsFileOf files script reader → comes text reader left → OnStream comes files after file script old new end
+pub data OnStream (comes : (text : List ℕ) (reader left : Given) → Type 0) (files after : Known)
+    (file script : List ℕ) (old new : Seen) (end : End) : Type 0 where
+  unopened : IsUnopened files after (file ∷ []) file end → new ≡ old
+      → OnStream comes files after file script old new end
+  beside : IsUnopened files after (file ∷ script ∷ []) script end → new ≡ old
+      → OnStream comes files after file script old new end
+  unread : IsUnread files after (file ∷ script ∷ []) file end → new ≡ old
+      → OnStream comes files after file script old new end
+  done : (text : List ℕ) (reader left : Given) → GivesText files after (file ∷ script ∷ []) file text
+      → IsFileOf files script reader → comes text reader left
+      → OnStream comes files after file script old new end
 
 -- what `run` answers, told as an end; the views of a description may be refused only where they are mismade
-abbrev pub RunsAs : (Mismade : Desc → Type 0) → (file script : List ℕ) → (old new : Seen) → End → (text : List ℕ) (reader left : Given) → Type 0
+abbrev pub RunsAs : (Mismade : Desc → Type 0) → (file script : List ℕ) → (old new : Seen) → End
+    → (text : List ℕ) (reader left : Given) → Type 0
 RunsAs Mismade file script old new end text reader left =
-    (r : Result (Unit {0}) PlayFault) × RunsTo Mismade (λ done s. Unit {0}) text reader left old new r × (end ≡ end_of_run file script r)
+    (r : Result (Unit {0}) PlayFault) × RunsTo Mismade (λ done s. Unit {0}) text reader left old new r
+    × (end ≡ end_of_run file script r)
 
 -- the description is read once the script is opened, and the script once the description's views are made
-abbrev pub RunsFiles : (Mismade : Desc → Type 0) → (files after : Known) → (file script : List ℕ) → (old new : Seen) → End → Type 0
+abbrev pub RunsFiles : (Mismade : Desc → Type 0) → (files after : Known) → (file script : List ℕ)
+    → (old new : Seen) → End → Type 0
 RunsFiles Mismade files after file script old new end =
     OnStream (RunsAs Mismade file script old new end) files after file script old new end
 
 -- ---- all tasks
 
 -- a task, by what is asked for
-abbrev pub PerformsTask : (Mismade : Desc → Type 0) → Task → (files after : Known) → (old new : Seen) → End → Type 0
+abbrev pub PerformsTask : (Mismade : Desc → Type 0) → Task → (files after : Known) → (old new : Seen) → End
+    → Type 0
 PerformsTask Mismade (Check file) files after old new end = ChecksFile files after file.now old new end
-PerformsTask Mismade (Accept file certificate) files after old new end = AcceptsFiles files after file.now certificate.now old new end
-PerformsTask Mismade (Run file script) files after old new end = RunsFiles Mismade files after file.now script.now old new end
+PerformsTask Mismade (Accept file certificate) files after old new end =
+    AcceptsFiles files after file.now certificate.now old new end
+PerformsTask Mismade (Run file script) files after old new end =
+    RunsFiles Mismade files after file.now script.now old new end

@@ -28,15 +28,23 @@ abbrev pub status_told : End → ℕ
 status_told None = 0
 status_told (Some (fault, path)) = status_of fault
 
--- standard output took all that was to be told, and the status is that of the end; or it failed, which is told too
-pub data Tells (end : End) (out out_after : Seen) (out_kept : List ℕ) (err err_after : Seen) (err_kept : List ℕ) (status : ℕ) : Type 0 where
-  written : (mid : Seen) → Takes out mid (out_told end) → IsWritten mid out_after out_kept → Offers err err_after err_kept (err_told end ∷ []) → status ≡ status_told end → Tells end out out_after out_kept err err_after err_kept status
-  failed : (mid : Seen) → IsOffered out mid (out_told end) → Fails mid out_after → Offers err err_after err_kept (err_told end ∷ cannot_write ∷ []) → status ≡ 3 → Tells end out out_after out_kept err err_after err_kept status
+-- standard output took all that was to be told, and the status is that of the end; or it failed, which is
+-- told too
+pub data Tells (end : End) (out out_after : Seen) (out_kept : List ℕ) (err err_after : Seen)
+    (err_kept : List ℕ) (status : ℕ) : Type 0 where
+  written : (mid : Seen) → Takes out mid (out_told end) → IsWritten mid out_after out_kept
+      → Offers err err_after err_kept (err_told end ∷ []) → status ≡ status_told end
+      → Tells end out out_after out_kept err err_after err_kept status
+  failed : (mid : Seen) → IsOffered out mid (out_told end) → Fails mid out_after
+      → Offers err err_after err_kept (err_told end ∷ cannot_write ∷ []) → status ≡ 3
+      → Tells end out out_after out_kept err err_after err_kept status
 
 -- the text of a usage fault, or help, was told; or it couldn't be
 pub data TellsUsage (text : List ℕ) (err err_after : Seen) (err_kept : List ℕ) (status : ℕ) : Type 0 where
-  written : (mid : Seen) → Takes err mid text → IsWritten mid err_after err_kept → status ≡ 2 → TellsUsage text err err_after err_kept status
-  failed : (mid : Seen) → IsOffered err mid text → Fails mid err_after → status ≡ 3 → TellsUsage text err err_after err_kept status
+  written : (mid : Seen) → Takes err mid text → IsWritten mid err_after err_kept → status ≡ 2
+      → TellsUsage text err err_after err_kept status
+  failed : (mid : Seen) → IsOffered err mid text → Fails mid err_after → status ≡ 3
+      → TellsUsage text err err_after err_kept status
 
 -- the message where memory ran out before a task
 abbrev pub no_memory : List ℕ
@@ -44,5 +52,7 @@ no_memory = err_text [] NoMemory
 
 -- why there is no task is told on standard error, which is flushed
 abbrev pub TellsNoTask : NoTask → (err err_after : Seen) → (err_kept : List ℕ) → (status : ℕ) → Type 0
-TellsNoTask no_tasks.NoMemory err err_after err_kept status = Offers err err_after err_kept (no_memory ∷ []) × (status ≡ 3)
-TellsNoTask (no_tasks.Usage text) err err_after err_kept status = TellsUsage (string_bytes text) err err_after err_kept status
+TellsNoTask no_tasks.NoMemory err err_after err_kept status =
+    Offers err err_after err_kept (no_memory ∷ []) × (status ≡ 3)
+TellsNoTask (no_tasks.Usage text) err err_after err_kept status =
+    TellsUsage (string_bytes text) err err_after err_kept status

@@ -1,5 +1,6 @@
 -- What the other calls of a group answer, and what its leaves become.
-use Rattle.std.specs.Prelude.{ℕ, Bool, false, not, ◌&&◌, ◌||◌, List, [], ◌∷◌, map, find, reverse, length, nat_lt, is_some, Option, Some, None, option_map, ◌+◌, if◌then◌else◌, All}
+use Rattle.std.specs.Prelude.{ℕ, Bool, false, not, ◌&&◌, ◌||◌, List, [], ◌∷◌, map, find, reverse, length}
+use Rattle.std.specs.Prelude.{nat_lt, is_some, Option, Some, None, option_map, ◌+◌, if◌then◌else◌, All}
 use Rattle.std.specs.List.{list_any}
 use Rattle.std.specs.Option.{option_or}
 use Rattle.tv_model.specs.declared.node.Id.{Id}
@@ -8,7 +9,8 @@ use Rattle.tv_model.specs.Description.Nodes.{is_control}
 use Rattle.tv_model.specs.Log.Record.{Entries, value_of}
 use Rattle.tv_machine.specs.Dialog.Focus.{validates}
 use Rattle.tv_view.specs.declared.env.Rules.{Rules}
-use Rattle.tv_view.specs.Calls.{Fits, HasRoom, applied, flag_if, focused_to, gathered, invalid_id, item_pressed, set_from, takes_focus}
+use Rattle.tv_view.specs.Calls.{Fits, HasRoom, applied, flag_if, focused_to, gathered, invalid_id}
+use Rattle.tv_view.specs.Calls.{item_pressed, set_from, takes_focus}
 use Rattle.tv_group.specs.declared.focus.Dir.{Dir}
 use Rattle.tv_group.specs.declared.focus.Dir.TheVariants as dirs
 use Rattle.tv_group.specs.declared.focus.Advanced.{Advanced}
@@ -51,7 +53,8 @@ has_control id xs = list_any (λ x. takes_focus id x.leaf) xs
 abbrev pub focused_from : Bool → Id → List Placed → List Placed
 focused_from found id [] = []
 focused_from found id (x ∷ xs) =
-    record x { leaf = focused_to id x.leaf; is_current = not found && takes_focus id x.leaf } ∷ focused_from (found || takes_focus id x.leaf) id xs
+    record x { leaf = focused_to id x.leaf; is_current = not found && takes_focus id x.leaf }
+    ∷ focused_from (found || takes_focus id x.leaf) id xs
 
 -- the focus goes to the control of the id, and every other leaf loses it
 unfoldable pub all_focused : Id → List Placed → List Placed
@@ -145,7 +148,8 @@ has_room leaf entries = is_some (value_of entries leaf.node.id.0) || nat_lt (len
 -- the record with the values of the fields that it has room for
 abbrev pub gathered_within : List Placed → Entries → Entries
 gathered_within [] entries = entries
-gathered_within (x ∷ xs) entries = gathered_within xs (if has_room x.leaf entries then gathered x.leaf entries else entries)
+gathered_within (x ∷ xs) entries =
+    gathered_within xs (if has_room x.leaf entries then gathered x.leaf entries else entries)
 
 -- ---- flags
 

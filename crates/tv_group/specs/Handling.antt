@@ -1,5 +1,6 @@
 -- Who in a group is offered an event, what the group answers, and what its leaves become.
-use Rattle.std.specs.Prelude.{Bool, true, false, not, ◌&&◌, List, [], ◌∷◌, find, reverse, Option, Some, None, if◌then◌else◌}
+use Rattle.std.specs.Prelude.{Bool, true, false, not, ◌&&◌, List, [], ◌∷◌, find, reverse, Option, Some, None}
+use Rattle.std.specs.Prelude.{if◌then◌else◌}
 use Rattle.tv_cells.specs.Layers.{is_in}
 use Rattle.tv_cells.specs.declared.rect.Point.{Point}
 use Rattle.tv_cells.specs.declared.rect.Rect.{Rect}
@@ -29,7 +30,8 @@ seen_through (bounds ∷ around) e = seen_through around (moved_into bounds e)
 -- every group around the leaf has the point, and so has the leaf
 abbrev pub point_reaches : Point → List Rect → Leaf → Bool
 point_reaches p [] leaf = leaf_has_point leaf p
-point_reaches p (bounds ∷ around) leaf = is_in bounds p.x p.y && point_reaches (point_into bounds p) around leaf
+point_reaches p (bounds ∷ around) leaf =
+    is_in bounds p.x p.y && point_reaches (point_into bounds p) around leaf
 
 -- ---- what the first of a kind does
 
@@ -58,7 +60,8 @@ has_turn phases.Pre x = marks_letters x.leaf.node.kind
 has_turn phases.Focused x = x.is_current
 has_turn phases.Post x = marks_letters x.leaf.node.kind
 
--- keys and commands are offered by turns; moves, ups and broadcasts to all, hidden and disabled ones too. A mouse down goes to
+-- keys and commands are offered by turns; moves, ups and broadcasts to all, hidden and disabled ones too. A
+-- mouse down goes to
 -- the topmost leaf alone, below
 abbrev pub is_offered : Event → Phase → Placed → Bool
 is_offered (events.Key k) p x = is_awake x.leaf && has_turn p x
@@ -140,7 +143,8 @@ group_answer (events.Broadcast c) p env xs = scan_answer (events.Broadcast c) p 
 
 -- what its leaves become
 unfoldable pub group_after : Event → Phase → Env → List Placed → List Placed
-group_after (events.Down point) p env xs = last_changed (is_hit point) (hit_after (events.Down point) p env) xs
+group_after (events.Down point) p env xs =
+    last_changed (is_hit point) (hit_after (events.Down point) p env) xs
 group_after (events.Key k) p env xs = scan_after (events.Key k) p env xs
 group_after (events.Command c) p env xs = scan_after (events.Command c) p env xs
 group_after (events.Move point) p env xs = scan_after (events.Move point) p env xs

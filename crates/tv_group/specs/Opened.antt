@@ -5,7 +5,8 @@ use Rattle.tv_view.specs.Meaning.{Leaf, Placed, alone, inside, kept}
 use Rattle.tv_group.specs.Current.{is_at}
 use Rattle.tv_group.specs.declared.group.MemberOf.{MemberOf, out-MemberOf}
 use Rattle.tv_group.specs.declared.group.GroupOf.{GroupOf}
-use Rattle.tv_group.specs.declared.group.MemberOf.TheOpen.{MemberOf-F, GroupOf-F, Leaf as LeafHere, Pane as PaneHere}
+use Rattle.tv_group.specs.declared.group.MemberOf.TheOpen.{MemberOf-F, GroupOf-F, Leaf as LeafHere}
+use Rattle.tv_group.specs.declared.group.MemberOf.TheOpen.{Pane as PaneHere}
 use Rattle.tv_group.specs.declared.group.MemberOf.TheFolds.{fold-MemberOf, fold-GroupOf}
 
 -- ---- leaves

@@ -1,5 +1,6 @@
 -- The outline of a group, with its panes, and when a group is fresh.
-use Rattle.std.specs.Prelude.{◌≡◌, ℕ, Bool, true, false, IsTrue, List, [], ◌∷◌, ◌++◌, ◌+◌, map, pos, if◌then◌else◌}
+use Rattle.std.specs.Prelude.{◌≡◌, ℕ, Bool, true, false, IsTrue, List, [], ◌∷◌, ◌++◌, ◌+◌, map, pos}
+use Rattle.std.specs.Prelude.{if◌then◌else◌}
 use Rattle.tv_cells.specs.declared.rect.Rect.{Rect}
 use Rattle.tv_model.specs.declared.node.Node.{Node}
 use Rattle.tv_model.specs.declared.kind.Kind.{Kind}
@@ -9,7 +10,8 @@ use Rattle.tv_model.specs.Description.Rectangles.{place_of_node, rect}
 use Rattle.tv_view.specs.Meaning.{Leaf, fresh, has_current, Part, LeafAt, PaneAt, Outlined}
 use Rattle.tv_group.specs.declared.group.MemberOf.{MemberOf}
 use Rattle.tv_group.specs.declared.group.GroupOf.{GroupOf}
-use Rattle.tv_group.specs.declared.group.MemberOf.TheOpen.{MemberOf-F, GroupOf-F, Leaf as LeafHere, Pane as PaneHere}
+use Rattle.tv_group.specs.declared.group.MemberOf.TheOpen.{MemberOf-F, GroupOf-F, Leaf as LeafHere}
+use Rattle.tv_group.specs.declared.group.MemberOf.TheOpen.{Pane as PaneHere}
 use Rattle.tv_group.specs.declared.group.MemberOf.TheFolds.{fold-MemberOf, fold-GroupOf}
 use Rattle.tv_group.specs.Opened.{opened}
 
@@ -66,7 +68,8 @@ abbrev pub body_bounds : Node → Rect
 body_bounds owner = rect (pos 0) (pos 0) owner.w (height_of owner.kind)
 
 -- the group is the body of a window or dialog with these views, as it is before any event
-pub record IsFreshBody {V : Type 0} (look : V → Leaf) (owner : Node) (views : List Node) (g : GroupOf V) : Type 0 where
+pub record IsFreshBody {V : Type 0} (look : V → Leaf) (owner : Node) (views : List Node)
+    (g : GroupOf V) : Type 0 where
   pub body : IsTrue (has_body owner.kind)
   pub bounds : body_bounds owner ≡ g.bounds
   pub parts : members_outline look g 1 ≡ map declared views

@@ -25,7 +25,8 @@ found_in Before = None
 found_in Passed = None
 found_in (Found id) = Some id
 
--- whether a search has to go through a member: up to the current leaf only the current one, and none behind a find
+-- whether a search has to go through a member: up to the current leaf only the current one, and none behind a
+-- find
 abbrev pub looks_at : Search → Bool → Bool
 looks_at Before is_current = is_current
 looks_at Passed is_current = true

@@ -11,7 +11,8 @@ use Rattle.tv_view.specs.declared.reaction.Reaction.{Reaction}
 use Rattle.tv_group.specs.Current.{is_at}
 use Rattle.tv_group.specs.Handling.{hit_answer, hit_after, is_hit, last_changed, topmost}
 
--- whether an event goes to every member in a phase: a key or a command in the focus goes to the current one alone
+-- whether an event goes to every member in a phase: a key or a command in the focus goes to the current one
+-- alone
 abbrev pub goes_to_all : Event → Phase → Bool
 goes_to_all (events.Key k) phases.Pre = true
 goes_to_all (events.Key k) phases.Focused = false

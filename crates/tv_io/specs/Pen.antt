@@ -3,7 +3,8 @@ use Rattle.std.specs.Prelude.{◌≡◌, ℕ, Bool, true, false, List}
 use Rattle.tv_io.specs.declared.pen.Pen.{Pen}
 use Rattle.tv_io.specs.Writer.{Seen, Takes, Cuts}
 
--- by whether the writer had failed before and whether it has now: it is left alone, or it took the text, or a part of it
+-- by whether the writer had failed before and whether it has now: it is left alone, or it took the text, or a
+-- part of it
 abbrev pub PutsBy : Seen → Bool → Seen → Bool → List ℕ → Type 0
 PutsBy old true new stopped text = (new ≡ old) × (stopped ≡ true)
 PutsBy old false new false text = Takes old new text

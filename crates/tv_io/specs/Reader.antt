@@ -3,7 +3,8 @@ use Rattle.std.specs.Prelude.{◌≡◌, ℕ, Bool, true, List, [], Option}
 use Rattle.std.specs.Io.KnownBytes.{Appends, Consumes, IsAtEnd, Keeps}
 use Rattle.tv_io.specs.Writer.{HasRisen}
 
--- the bytes that a reader gave and those that it has left, where they are known; the count of its calls that failed; and
+-- the bytes that a reader gave and those that it has left, where they are known; the count of its calls that
+-- failed; and
 -- whether its last call was the end
 pub record Given : Type 0 where
   pub given : Option (List ℕ)

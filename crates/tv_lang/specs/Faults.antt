@@ -38,7 +38,8 @@ pub record IsOtherVersion (lines : List (List ℕ)) : Type 0 where
 -- what each refusal says of the text
 abbrev pub RefusesToParse : List ℕ → LangFault → Type 0
 RefusesToParse text NoMemory = Unit {0}
-RefusesToParse text (Syntax line) = IsFirstFaultyLine word_lines IsDescription (lines_of text) line × ¬ IsOtherVersion (lines_of text)
+RefusesToParse text (Syntax line) =
+    IsFirstFaultyLine word_lines IsDescription (lines_of text) line × ¬ IsOtherVersion (lines_of text)
 RefusesToParse text TooLong = 262144 < length text
 RefusesToParse text Version = IsOtherVersion (lines_of text)
 

@@ -15,12 +15,14 @@ abbrev pub NamesEndOf : Dialog → LogLine → Type 0
 NamesEndOf d (lines.End i command) = (i ≡ d.node.id) × IsTrue (is_end (dialog_head d).ends command.0)
 NamesEndOf d _ = Unit {0}
 
--- the dialog has ended by a command that it declares; the end and the fields, in description order, are the last lines of
+-- the dialog has ended by a command that it declares; the end and the fields, in description order, are the
+-- last lines of
 -- the log; and unless it was cancelled every text lies in its domain
 pub record IsEnding (d : Dialog) (number : ℕ) (m : Modal) : Type 0 where
   pub declared : IsTrue (is_end (dialog_head d).ends number)
   pub before : List LogLine
-  pub written : m.log ≡ before ++ lines.End d.node.id (record { 0 = number }) ∷ map field_line (fields_of m.leaves)
+  pub written : m.log
+      ≡ before ++ lines.End d.node.id (record { 0 = number }) ∷ map field_line (fields_of m.leaves)
   pub saved : (number == 11) ≡ false → IsSafeRecord d (fields_of m.leaves)
 
 -- a dialog that goes on

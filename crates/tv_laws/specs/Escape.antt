@@ -16,7 +16,8 @@ use Rattle.tv_laws.specs.Records.{end_lines, state_after}
 abbrev pub escape : Event
 escape = events.Key keys.Esc
 
--- the open dialog was cancelled: it isn't open any longer, its end and its fields are logged, and what was saved stays as it was
+-- the open dialog was cancelled: it isn't open any longer, its end and its fields are logged, and what was
+-- saved stays as it was
 pub record IsCancelled (d : Desc) (s : State) (o : OpenDialog) (after : State) : Type 0 where
   pub dialog : Dialog
   pub there : slice_get d.dialogs o.place ≡ Some dialog
@@ -33,14 +34,19 @@ EscCancelsOpen d =
 -- wherever a run has come, nothing holds the mouse after a mouse up
 abbrev pub UpFreesMouse : Desc → Type 0
 UpFreesMouse d =
-    (before : List Event) (p : Point) (o : OpenDialog) → (step d (state_after d before) (events.Up p)).dialog ≡ Some o → o.held ≡ None
+    (before : List Event) (p : Point) (o : OpenDialog)
+    → (step d (state_after d before) (events.Up p)).dialog ≡ Some o → o.held ≡ None
 
 -- wherever a run has come, no dialog is open after a mouse up and Esc
 abbrev pub UpEscLeaves : Desc → Type 0
-UpEscLeaves d = (before : List Event) (p : Point) → (states (step d) (state_after d before) (events.Up p ∷ escape ∷ [])).dialog ≡ None
+UpEscLeaves d =
+    (before : List Event) (p : Point)
+    → (states (step d) (state_after d before) (events.Up p ∷ escape ∷ [])).dialog ≡ None
 
 -- and one that the mouse up leaves open is cancelled
 abbrev pub UpEscCancels : Desc → Type 0
 UpEscCancels d =
-    (before : List Event) (p : Point) (o : OpenDialog) → (step d (state_after d before) (events.Up p)).dialog ≡ Some o
-    → IsCancelled d (step d (state_after d before) (events.Up p)) o (states (step d) (state_after d before) (events.Up p ∷ escape ∷ []))
+    (before : List Event) (p : Point) (o : OpenDialog)
+    → (step d (state_after d before) (events.Up p)).dialog ≡ Some o
+    → IsCancelled d (step d (state_after d before) (events.Up p)) o
+    (states (step d) (state_after d before) (events.Up p ∷ escape ∷ []))

@@ -31,13 +31,15 @@ IsFitLeaf m leaf = IsFitContent (leaf.node.id.0 == m.focus.0) leaf.node.kind (co
 
 -- ---- the dialog
 
--- its leaves are there, in description order, and hold what they may; and so are the inputs in which typing overwrites
+-- its leaves are there, in description order, and hold what they may; and so are the inputs in which typing
+-- overwrites
 pub record IsStanding (d : Dialog) (m : Modal) : Type 0 where
   pub leaves : map (λ leaf. leaf.id) m.leaves ≡ map (λ leaf. leaf.node.id) (leaf_list d.views)
   pub contents : All (IsFitLeaf m) (leaf_list d.views)
   pub ordered : m.overwriting ≡ filter (is_among m.overwriting) (map (λ view. view.id) d.views)
 
--- the leaf that holds the mouse is visible, and a button enabled; it has the focus, or is a button, so that no mark changes
+-- the leaf that holds the mouse is visible, and a button enabled; it has the focus, or is a button, so that
+-- no mark changes
 -- but its own
 pub record IsFitHold (d : Dialog) (m : Modal) (held : Held) : Type 0 where
   pub leaf : PlacedNode

@@ -20,9 +20,12 @@ UpLetsGo d = (m : Modal) (p : Point) → (dialog_step d (events.Up p) m).held �
 
 -- Tab asks for the focus of the next free control
 abbrev pub TabAsksNext : Dialog → Type 0
-TabAsksNext d = (m : Modal) → m.held ≡ None → dialog_step d (events.Key keys.Tab) m ≡ request d (next_free (stops_of d m.leaves) m.focus) m
+TabAsksNext d =
+    (m : Modal) → m.held ≡ None
+    → dialog_step d (events.Key keys.Tab) m ≡ request d (next_free (stops_of d m.leaves) m.focus) m
 
--- Tab goes to the next free control, unless the focus is an input that it may leave only with a text of its domain
+-- Tab goes to the next free control, unless the focus is an input that it may leave only with a text of its
+-- domain
 abbrev pub TabGoesOn : Dialog → Type 0
 TabGoesOn d =
     (m : Modal) → IsFitModal d m → m.held ≡ None → keeps_focus m (leaf_at d m.focus) ≡ false

@@ -1,5 +1,6 @@
 -- What letters act on in an open dialog, and all that they may change.
-use Rattle.std.specs.Prelude.{[], ◌≡◌, ◌⊎◌, ℕ, Bool, true, false, ◌&&◌, List, ◌∷◌, ◌++◌, Option, Some, None, option_map, pos, IsTrue, All, ◌==◌}
+use Rattle.std.specs.Prelude.{[], ◌≡◌, ◌⊎◌, ℕ, Bool, true, false, ◌&&◌, List, ◌∷◌, ◌++◌, Option, Some, None}
+use Rattle.std.specs.Prelude.{option_map, pos, IsTrue, All, ◌==◌}
 use Rattle.std.specs.List.{AllPairs}
 use Rattle.tv_event.specs.declared.event.Event.TheVariants as events
 use Rattle.tv_event.specs.declared.event.Key.TheVariants as keys
@@ -34,7 +35,8 @@ use Rattle.tv_laws.specs.Fit.{IsFitModal}
 
 -- the marker of a letter is the view whose owner the certificate names
 abbrev pub MarksAlike : Dialog → Type 0
-MarksAlike d = (letter : ℕ) → option_map (λ leaf. leaf.node) (marking_leaf d letter) ≡ owners.marker_of d letter
+MarksAlike d =
+    (letter : ℕ) → option_map (λ leaf. leaf.node) (marking_leaf d letter) ≡ owners.marker_of d letter
 
 -- what a marker acts on: a label on the control that its link means, any other marker on itself
 abbrev pub control_by : Dialog → Node → Kind → Option Node
@@ -50,9 +52,11 @@ item_by letter _ = None
 -- no two views of the dialog have a name in common
 abbrev pub HasOwnNames : Dialog → Type 0
 HasOwnNames d =
-    AllPairs (λ view other. (name : List ℕ) → name_of view.kind ≡ Some name → name_of other.kind ≡ Some name → ⊥) d.views
+    AllPairs (λ view other.
+    (name : List ℕ) → name_of view.kind ≡ Some name → name_of other.kind ≡ Some name → ⊥) d.views
 
--- the one owner that a sound certificate has for the letter names the control, with the item that the letter presses
+-- the one owner that a sound certificate has for the letter names the control, with the item that the letter
+-- presses
 pub record IsOwner (d : Dialog) (letter : ℕ) (marker : Node) (control : Node) : Type 0 where
   pub owner : LetterOwner
   pub named : owners_of d letter ≡ owner ∷ []
@@ -63,7 +67,8 @@ pub record IsOwner (d : Dialog) (letter : ℕ) (marker : Node) (control : Node) 
 
 -- ---- all that an act may change
 
--- where the focus is after an act on a control: where it was, or at the control; and after a press of a button where it was,
+-- where the focus is after an act on a control: where it was, or at the control; and after a press of a
+-- button where it was,
 -- or at the first input whose text refused an end
 abbrev pub IsFocusAfter : Bool → Dialog → Id → Modal → Id → Type 0
 IsFocusAfter false d i m focus = (focus ≡ m.focus) ⊎ (focus ≡ i)
@@ -72,7 +77,9 @@ IsFocusAfter true d i m focus = (focus ≡ m.focus) ⊎ (first_invalid d m ≡ S
 -- every leaf but that of the id has the value that it had
 abbrev pub KeepsOthers : Dialog → Id → Modal → Modal → Type 0
 KeepsOthers d i m n =
-    All (λ leaf. (leaf.node.id.0 == i.0) ≡ false → (content_at n leaf.node.id).value ≡ (content_at m leaf.node.id).value)
+    All (λ leaf.
+    (leaf.node.id.0 == i.0) ≡ false
+    → (content_at n leaf.node.id).value ≡ (content_at m leaf.node.id).value)
     (leaf_list d.views)
 
 -- a `press` line names the control; nothing is asked of other lines
@@ -90,9 +97,11 @@ pub record IsActOn (d : Dialog) (is_press : Bool) (i : Id) (m : Modal) (n : Moda
 -- the marker of a letter acts on the control that the certificate names for it, and on no other
 abbrev pub ActsOnOwner : Dialog → Type 0
 ActsOnOwner d =
-    (m : Modal) (letter : ℕ) (marker : PlacedNode) (control : Node) → IsFitModal d m → marking_leaf d letter ≡ Some marker
+    (m : Modal) (letter : ℕ) (marker : PlacedNode) (control : Node) → IsFitModal d m
+    → marking_leaf d letter ≡ Some marker
     → control_by d marker.node marker.node.kind ≡ Some control
-    → IsOwner d letter marker.node control × IsActOn d (is_button marker.node.kind) control.id m (act d letter marker m)
+    → IsOwner d letter marker.node control
+    × IsActOn d (is_button marker.node.kind) control.id m (act d letter marker m)
 
 -- ---- whether a marker can act
 
@@ -108,7 +117,9 @@ has_link d leaves _ = true
 
 -- whether a marker can act: it is visible, enabled if it is a button, and has a free link if it is a label
 abbrev pub can_act : Dialog → List LeafState → PlacedNode → Bool
-can_act d leaves marker = is_visible d leaves marker && (is_kind_enabled d leaves marker.node.kind && has_link d leaves marker.node.kind)
+can_act d leaves marker =
+    is_visible d leaves marker
+    && (is_kind_enabled d leaves marker.node.kind && has_link d leaves marker.node.kind)
 
 -- ---- what an act does
 
@@ -117,19 +128,25 @@ abbrev pub HasPressed : ClusterKind → Id → Option ℕ → Modal → Modal �
 HasPressed kind i None m n = ⊥
 HasPressed kind i (Some item) m n = content_at n i ≡ cluster_item_pressed kind item (content_at m i)
 
--- by the kind of the marker: a button is pressed first of all; a label's control has the focus, and the value that it had; and
+-- by the kind of the marker: a button is pressed first of all; a label's control has the focus, and the value
+-- that it had; and
 -- a cluster has the focus, and its item is selected and pressed
 abbrev pub HasActed : ℕ → Kind → Id → Modal → Modal → Type 0
-HasActed letter (kinds.Button button) i m n = (after : List LogLine) × (n.log ≡ m.log ++ lines.Press i ∷ after)
+HasActed letter (kinds.Button button) i m n =
+    (after : List LogLine) × (n.log ≡ m.log ++ lines.Press i ∷ after)
 HasActed letter (kinds.Label label) i m n = (n.focus ≡ i) × ((content_at n i).value ≡ (content_at m i).value)
-HasActed letter (kinds.CheckBoxes boxes) i m n = (n.focus ≡ i) × HasPressed Boxes i (item_marking boxes.items letter) m n
-HasActed letter (kinds.RadioButtons radios) i m n = (n.focus ≡ i) × HasPressed Radios i (item_marking radios.items letter) m n
+HasActed letter (kinds.CheckBoxes boxes) i m n =
+    (n.focus ≡ i) × HasPressed Boxes i (item_marking boxes.items letter) m n
+HasActed letter (kinds.RadioButtons radios) i m n =
+    (n.focus ≡ i) × HasPressed Radios i (item_marking radios.items letter) m n
 HasActed letter _ i m n = Unit {0}
 
--- a marker that can act does, unless the focus is an input that it may not leave. A button doesn't ask for the focus
+-- a marker that can act does, unless the focus is an input that it may not leave. A button doesn't ask for
+-- the focus
 abbrev pub ActsWhereItCan : Dialog → Type 0
 ActsWhereItCan d =
-    (m : Modal) (letter : ℕ) (marker : PlacedNode) (control : Node) → IsFitModal d m → marking_leaf d letter ≡ Some marker
+    (m : Modal) (letter : ℕ) (marker : PlacedNode) (control : Node) → IsFitModal d m
+    → marking_leaf d letter ≡ Some marker
     → control_by d marker.node marker.node.kind ≡ Some control → can_act d m.leaves marker ≡ true
     → (is_button marker.node.kind ≡ false → keeps_focus m (leaf_at d m.focus) ≡ false)
     → HasActed letter marker.node.kind control.id m (act d letter marker m)
@@ -138,16 +155,20 @@ ActsWhereItCan d =
 
 -- a letter for which the certificate names no control acts on nothing
 abbrev pub UnnamedActsOnNone : Dialog → Type 0
-UnnamedActsOnNone d = (m : Modal) (letter : ℕ) → owners_of d letter ≡ [] → act_on d letter (marking_leaf d letter) m ≡ m
+UnnamedActsOnNone d =
+    (m : Modal) (letter : ℕ) → owners_of d letter ≡ [] → act_on d letter (marking_leaf d letter) m ≡ m
 
 -- a marker that can't act leaves everything as it was
 abbrev pub ActsOnNone : Dialog → Type 0
-ActsOnNone d = (m : Modal) (letter : ℕ) (marker : PlacedNode) → can_act d m.leaves marker ≡ false → act d letter marker m ≡ m
+ActsOnNone d =
+    (m : Modal) (letter : ℕ) (marker : PlacedNode) → can_act d m.leaves marker ≡ false
+    → act d letter marker m ≡ m
 
 -- nor does anything change, but for a line of the log, where the focus may not leave an input for the control
 abbrev pub RefusedActsOnNone : Dialog → Type 0
 RefusedActsOnNone d =
-    (m : Modal) (letter : ℕ) (marker : PlacedNode) (control : Node) → control_by d marker.node marker.node.kind ≡ Some control
+    (m : Modal) (letter : ℕ) (marker : PlacedNode) (control : Node)
+    → control_by d marker.node marker.node.kind ≡ Some control
     → is_button marker.node.kind ≡ false → requested d m control.id ≡ Refused
     → (act d letter marker m ≡ m) ⊎ (act d letter marker m ≡ with_line (lines.Invalid m.focus) m)
 
@@ -169,6 +190,8 @@ TypedActs d =
 -- and so is a letter of a focused cluster's own items, whose marker is that cluster. Space isn't one
 abbrev pub OwnLetterActs : Dialog → Type 0
 OwnLetterActs d =
-    (m : Modal) (ch item : ℕ) (focus : PlacedNode) → IsFitModal d m → m.held ≡ None → leaf_at d m.focus ≡ Some focus
+    (m : Modal) (ch item : ℕ) (focus : PlacedNode) → IsFitModal d m → m.held ≡ None
+    → leaf_at d m.focus ≡ Some focus
     → (ch == 32) ≡ false → item_by ch focus.node.kind ≡ Some item
-    → (marking_leaf d (upper ch) ≡ Some focus) × (dialog_step d (events.Key (keys.Char ch)) m ≡ act d (upper ch) focus m)
+    → (marking_leaf d (upper ch) ≡ Some focus)
+    × (dialog_step d (events.Key (keys.Char ch)) m ≡ act d (upper ch) focus m)

@@ -1,5 +1,6 @@
 -- The order of Tab: that of a sound certificate, round and round.
-use Rattle.std.specs.Prelude.{◌≡◌, ◌≢◌, ◌<◌, ℕ, zero, suc, true, false, [], List, ◌∷◌, ◌++◌, map, filter, filter_map, length, reverse, Option, Some, None, IsSome, IsTrue, All, AllPairs}
+use Rattle.std.specs.Prelude.{◌≡◌, ◌≢◌, ◌<◌, ℕ, zero, suc, true, false, [], List, ◌∷◌, ◌++◌, map, filter}
+use Rattle.std.specs.Prelude.{filter_map, length, reverse, Option, Some, None, IsSome, IsTrue, All, AllPairs}
 use Rattle.tv_event.specs.declared.event.Event.TheVariants as events
 use Rattle.tv_event.specs.declared.event.Key.{Key}
 use Rattle.tv_event.specs.declared.event.Key.TheVariants as keys
@@ -32,7 +33,9 @@ StopsAreTabs d = (leaves : List LeafState) → filter_map (stop_name d) (stops_o
 
 -- and no other stop is free
 abbrev pub FreeAreControls : Dialog → Type 0
-FreeAreControls d = (leaves : List LeafState) → All (λ stop. IsTrue stop.is_free → IsSome (stop_name d stop)) (stops_of d leaves)
+FreeAreControls d =
+    (leaves : List LeafState)
+    → All (λ stop. IsTrue stop.is_free → IsSome (stop_name d stop)) (stops_of d leaves)
 
 -- ---- one key
 
@@ -42,7 +45,8 @@ ShiftTabAsksPrevious d =
     (m : Modal) → m.held ≡ None
     → dialog_step d (events.Key keys.ShiftTab) m ≡ request d (previous_free (stops_of d m.leaves) m.focus) m
 
--- an input that keeps the focus when a key asks for that of another control is logged as invalid, and nothing else changes
+-- an input that keeps the focus when a key asks for that of another control is logged as invalid, and nothing
+-- else changes
 abbrev pub KeepsFocus : Dialog → Key → Id → Modal → Type 0
 KeepsFocus d k to m = to ≢ m.focus → dialog_step d (events.Key k) m ≡ with_line (lines.Invalid m.focus) m
 
@@ -60,7 +64,8 @@ values_of leaves = map (λ leaf. leaf.value) leaves
 -- the key leaves every value as it was
 abbrev pub KeepsValues : Dialog → Key → Type 0
 KeepsValues d k =
-    (m : Modal) → IsFitModal d m → m.held ≡ None → values_of (dialog_step d (events.Key k) m).leaves ≡ values_of m.leaves
+    (m : Modal) → IsFitModal d m → m.held ≡ None
+    → values_of (dialog_step d (events.Key k) m).leaves ≡ values_of m.leaves
 
 -- so it is with Tab and Shift-Tab
 abbrev pub TabKeepsValues : Dialog → Type 0
@@ -85,7 +90,8 @@ foci d k (suc n) m = (dialog_step d (events.Key k) m).focus ∷ foci d k n (dial
 abbrev pub LetsGo : Dialog → Modal → Type 0
 LetsGo d m = All (λ i. keeps_focus m (leaf_at d i) ≡ false) (free_controls d m.leaves)
 
--- the focus stands among the free controls, of which none stands twice. As many Tabs as there are of them go to those after
+-- the focus stands among the free controls, of which none stands twice. As many Tabs as there are of them go
+-- to those after
 -- it, then to those before it, and last to itself; as many Shift-Tabs go the other way
 pub record IsRound (d : Dialog) (m : Modal) : Type 0 where
   pub before : List Id
@@ -93,7 +99,8 @@ pub record IsRound (d : Dialog) (m : Modal) : Type 0 where
   pub order : free_controls d m.leaves ≡ before ++ m.focus ∷ after
   pub once : AllPairs (λ i later. i.0 < later.0) (free_controls d m.leaves)
   pub tabs : foci d keys.Tab (length (free_controls d m.leaves)) m ≡ after ++ before ++ m.focus ∷ []
-  pub shift_tabs : foci d keys.ShiftTab (length (free_controls d m.leaves)) m ≡ reverse before ++ reverse after ++ m.focus ∷ []
+  pub shift_tabs : foci d keys.ShiftTab (length (free_controls d m.leaves)) m
+      ≡ reverse before ++ reverse after ++ m.focus ∷ []
 
 -- Tab reaches each free control once before it comes back, and so does Shift-Tab
 abbrev pub TabGoesRound : Dialog → Type 0

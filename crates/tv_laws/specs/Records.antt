@@ -1,5 +1,6 @@
 -- What a run logs and saves of a dialog that ends, and what the dialog shows when it opens again.
-use Rattle.std.specs.Prelude.{◌≡◌, ◌⊎◌, ℕ, true, false, List, ◌∷◌, ◌++◌, map, filter, filter_map, slice_get, slice_set, Option, Some, None, option_map, All, ◌==◌}
+use Rattle.std.specs.Prelude.{◌≡◌, ◌⊎◌, ℕ, true, false, List, ◌∷◌, ◌++◌, map, filter, filter_map, slice_get}
+use Rattle.std.specs.Prelude.{slice_set, Option, Some, None, option_map, All, ◌==◌}
 use Rattle.tv_event.specs.declared.event.Event.{Event}
 use Rattle.tv_model.specs.declared.node.Id.{Id}
 use Rattle.tv_model.specs.declared.desc.Desc.{Desc}
@@ -60,14 +61,16 @@ pub record IsEndless (s after : State) : Type 0 where
   pub saved : after.saved ≡ s.saved
   pub stays : (o : OpenDialog) → s.dialog ≡ Some o → option_map (λ now. now.place) after.dialog ≡ Some o.place
 
--- the entries are those of exactly the dialog's fields, each within its domain; they are saved of the dialog at the place, and what
+-- the entries are those of exactly the dialog's fields, each within its domain; they are saved of the dialog
+-- at the place, and what
 -- was saved of others stays as it was
 pub record IsSavedAt (place : ℕ) (dialog : Dialog) (entries : Entries) (s after : State) : Type 0 where
   pub safe : IsSafeRecord dialog entries
   pub set : after.saved ≡ slice_set s.saved place (Some entries)
   pub there : saved_at after place ≡ Some entries
 
--- the open dialog ends by a command: the log ends with that and with all its fields, as they stood, and these are saved, unless the
+-- the open dialog ends by a command: the log ends with that and with all its fields, as they stood, and these
+-- are saved, unless the
 -- command is `cancel`: then what was saved stays as it was
 pub record IsEnd (d : Desc) (s after : State) : Type 0 where
   pub «open» : OpenDialog
@@ -82,17 +85,20 @@ pub record IsEnd (d : Desc) (s after : State) : Type 0 where
   pub cancelled : (number == 11) ≡ true → after.saved ≡ s.saved
   pub saved : (number == 11) ≡ false → IsSavedAt «open».place dialog (fields_of «open».leaves) s after
 
--- each event of a run logs no end, saves nothing and closes no dialog, or it ends the open dialog and saves what it logs
+-- each event of a run logs no end, saves nothing and closes no dialog, or it ends the open dialog and saves
+-- what it logs
 abbrev pub SavesWhatItLogs : Desc → Type 0
 SavesWhatItLogs d =
     (events : List Event) (e : Event)
-    → IsEndless (state_after d events) (step d (state_after d events) e) ⊎ IsEnd d (state_after d events) (step d (state_after d events) e)
+    → IsEndless (state_after d events) (step d (state_after d events) e)
+    ⊎ IsEnd d (state_after d events) (step d (state_after d events) e)
 
 -- ---- opening
 
 -- the entry of a leaf as it is declared, if it is a field
 abbrev pub declared_entry : PlacedNode → Option Entry
-declared_entry leaf = option_map (λ value. record { id = leaf.node.id; value = value }) (declared_value leaf.node.kind)
+declared_entry leaf =
+    option_map (λ value. record { id = leaf.node.id; value = value }) (declared_value leaf.node.kind)
 
 -- the record that a dialog shows as it opens: the saved one, and where none is saved what is declared
 abbrev pub opened_record : Dialog → Option Entries → Entries
@@ -121,7 +127,9 @@ ReopensAsSaved d =
 
 -- the dialog that is open at the start shows what is declared: nothing is saved yet
 abbrev pub StartsAsDeclared : Desc → Type 0
-StartsAsDeclared d = (o : OpenDialog) → (start d).dialog ≡ Some o → ShowsSaved d (start d) o × (saved_at (start d) o.place ≡ None)
+StartsAsDeclared d =
+    (o : OpenDialog) → (start d).dialog ≡ Some o
+    → ShowsSaved d (start d) o × (saved_at (start d) o.place ≡ None)
 
 -- ---- after the end
 

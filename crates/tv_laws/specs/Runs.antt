@@ -20,11 +20,14 @@ pub record IsFitOpen (d : Desc) (s : State) (o : OpenDialog) : Type 0 where
   pub menu : s.menu ≡ None
   pub over : s.is_over ≡ false
 
--- saved records are safe, the inputs in which typing overwrites stand in order, and dialogs end as they declare
+-- saved records are safe, the inputs in which typing overwrites stand in order, and dialogs end as they
+-- declare
 pub record IsKept (d : Desc) (s : State) : Type 0 where
-  pub saved : (place : ℕ) (entries : Entries) → slice_get s.saved place ≡ Some (Some entries) → IsSafeSaved d place entries
+  pub saved : (place : ℕ) (entries : Entries) → slice_get s.saved place ≡ Some (Some entries)
+      → IsSafeSaved d place entries
   pub places : length s.overwriting ≡ length d.dialogs
-  pub ordered : (place : ℕ) (ids : List Id) → slice_get s.overwriting place ≡ Some ids → IsFitOverwriting d place ids
+  pub ordered : (place : ℕ) (ids : List Id) → slice_get s.overwriting place ≡ Some ids
+      → IsFitOverwriting d place ids
   pub ends : All (HasDeclaredEnd d) s.log
 
 -- what every event keeps of a run, so that it stays safe

@@ -1,2 +1,3 @@
--- What a dialog of a sound description has. It stands with the flat machine, since a checked description promises it.
+-- What a dialog of a sound description has. It stands with the flat machine, since a checked description
+-- promises it.
 pub use Rattle.tv_machine.specs.Dialog.Sound.{IsSoundDialog, ShowsOthers}

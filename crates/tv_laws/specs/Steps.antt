@@ -19,7 +19,8 @@ use Rattle.tv_laws.specs.Ends.{IsDone, IsOpen}
 abbrev pub IsSafeSave : Dialog → Option Entries → Type 0
 IsSafeSave d saved = (entries : Entries) → saved ≡ Some entries → IsSafeRecord d entries
 
--- a dialog opens as it must be, with nothing saved or a safe record: its focus is free, and nothing holds the mouse
+-- a dialog opens as it must be, with nothing saved or a safe record: its focus is free, and nothing holds the
+-- mouse
 abbrev pub OpensFit : Dialog → Type 0
 OpensFit d =
     (saved : Option Entries) (overwriting : List Id) → IsSafeSave d saved
@@ -28,7 +29,8 @@ OpensFit d =
 
 -- ---- events
 
--- no command comes while a leaf holds the mouse: it could move the focus away from a cluster that is held, and the up on that
+-- no command comes while a leaf holds the mouse: it could move the focus away from a cluster that is held,
+-- and the up on that
 -- would then change marks by which the new focus is shown. No session hands one in
 abbrev pub RespectsHold : Option Held → Event → Type 0
 RespectsHold (Some held) (events.Command c) = ⊥

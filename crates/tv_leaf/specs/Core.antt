@@ -43,4 +43,7 @@ plain_leaf core = leaf_with core no_content
 
 -- what rules make of it
 abbrev pub ruled : Rules → Core → Core
-ruled rules core = record core { is_shown = is_among rules.shown.now core.node.id; is_enabled = is_kind_enabled_among rules.commands.now core.node.kind }
+ruled rules core = record core {
+  is_shown = is_among rules.shown.now core.node.id;
+  is_enabled = is_kind_enabled_among rules.commands.now core.node.kind;
+}

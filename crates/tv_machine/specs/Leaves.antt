@@ -17,11 +17,13 @@ open_at depth panes = filter (λ pane. nat_lt pane.depth depth) panes
 
 -- the panes that are open after a view, which may be one itself
 abbrev pub open_after : List Node → Node → List Node
-open_after panes view = if is_pane view.kind then view ∷ open_at view.depth panes else open_at view.depth panes
+open_after panes view =
+    if is_pane view.kind then view ∷ open_at view.depth panes else open_at view.depth panes
 
 -- a view before leaves: it is one of them unless it is a pane
 abbrev pub leaf_before : List Node → Node → List PlacedNode → List PlacedNode
-leaf_before panes view leaves = if is_pane view.kind then leaves else record { node = view; panes = open_at view.depth panes } ∷ leaves
+leaf_before panes view leaves =
+    if is_pane view.kind then leaves else record { node = view; panes = open_at view.depth panes } ∷ leaves
 
 -- one pass over views, with the panes that are open
 abbrev pub leaves_in : List Node → List Node → List PlacedNode

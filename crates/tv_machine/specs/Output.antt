@@ -1,5 +1,6 @@
 -- What a script writes.
-use Rattle.std.specs.Prelude.{[], ℕ, List, ◌∷◌, ◌++◌, flat_map, codes, decimal, encode_utf8, ◌+◌, ◌/◌, ◌%◌, nat_lt, if◌then◌else◌}
+use Rattle.std.specs.Prelude.{[], ℕ, List, ◌∷◌, ◌++◌, flat_map, codes, decimal, encode_utf8, ◌+◌, ◌/◌, ◌%◌}
+use Rattle.std.specs.Prelude.{nat_lt, if◌then◌else◌}
 use Rattle.std.specs.List.{range_with_len}
 use Rattle.tv_cells.specs.Glyph.{Glyph}
 use Rattle.tv_cells.specs.Layers.{cell_of}
@@ -36,11 +37,13 @@ row_text cell width at row = line_of (codes ":") (cells_text cell width at row +
 -- a line with a word and the columns and rows of a screen, and then its rows
 abbrev pub screen_text : List ℕ → (Glyph → List ℕ) → ℕ → ℕ → (ℕ → ℕ → Glyph) → List ℕ
 screen_text word cell width height at =
-    line_of word (decimal width ++ codes " " ++ decimal height) ++ flat_map (row_text cell width at) (range_with_len 0 height)
+    line_of word (decimal width ++ codes " " ++ decimal height)
+    ++ flat_map (row_text cell width at) (range_with_len 0 height)
 
 -- the screen of a session
 abbrev pub session_text : List ℕ → (Glyph → List ℕ) → Session → List ℕ
-session_text word cell s = screen_text word cell (natural s.desc.width) (natural s.desc.height) (screen_cell s)
+session_text word cell s =
+    screen_text word cell (natural s.desc.width) (natural s.desc.height) (screen_cell s)
 
 -- its characters
 abbrev pub shot_text : Session → List ℕ

@@ -1,5 +1,6 @@
 -- What holds at the start of a run and after each event.
-use Rattle.std.specs.Prelude.{◌≡◌, ◌≤◌, ℕ, Bool, false, true, List, map, filter, length, slice_get, Option, Some, None, All, is_some}
+use Rattle.std.specs.Prelude.{◌≡◌, ◌≤◌, ℕ, Bool, false, true, List, map, filter, length, slice_get, Option}
+use Rattle.std.specs.Prelude.{Some, None, All, is_some}
 use Rattle.tv_event.specs.declared.event.Event.{Event}
 use Rattle.tv_valid.specs.declared.domain.Domain.{Domain}
 use Rattle.tv_valid.specs.Domain.{IsViableText, InDomain}
@@ -77,7 +78,8 @@ pub record IsSafeHold (dialog : Dialog) (o : OpenDialog) (held : Held) : Type 0 
 
 -- what a leaf of the open dialog holds is safe
 abbrev pub IsSafeLeaf : State → OpenDialog → PlacedNode → Type 0
-IsSafeLeaf s o leaf = IsSafeContent leaf.node.kind (content_held o.leaves (overwriting_at s o.place) leaf.node.id)
+IsSafeLeaf s o leaf =
+    IsSafeContent leaf.node.kind (content_held o.leaves (overwriting_at s o.place) leaf.node.id)
 
 -- the open dialog is one of the description, with its leaves in order; its focus is free, and no menu is open
 pub record IsSafeDialog (d : Desc) (s : State) (o : OpenDialog) : Type 0 where
@@ -94,7 +96,8 @@ pub record IsSafeDialog (d : Desc) (s : State) (o : OpenDialog) : Type 0 where
 
 -- the fields of a dialog, in description order
 abbrev pub field_ids : Dialog → List Id
-field_ids dialog = map (λ leaf. leaf.node.id) (filter (λ leaf. is_field leaf.node.kind) (leaf_list dialog.views))
+field_ids dialog =
+    map (λ leaf. leaf.node.id) (filter (λ leaf. is_field leaf.node.kind) (leaf_list dialog.views))
 
 -- a value that the field of the entry may be saved with
 pub record IsSafeEntry (dialog : Dialog) (entry : Entry) : Type 0 where
@@ -133,7 +136,8 @@ HasDeclaredEnd d _ = Unit {0}
 -- an open dialog can be used, saved records lie in their domains, and dialogs end as they declare
 pub record IsSafe (d : Desc) (s : State) : Type 0 where
   pub dialog : (o : OpenDialog) → s.dialog ≡ Some o → IsSafeDialog d s o
-  pub saved : (place : ℕ) (entries : Entries) → slice_get s.saved place ≡ Some (Some entries) → IsSafeSaved d place entries
+  pub saved : (place : ℕ) (entries : Entries) → slice_get s.saved place ≡ Some (Some entries)
+      → IsSafeSaved d place entries
   pub ends : All (HasDeclaredEnd d) s.log
 
 -- every run is safe: at the start, and after any events

@@ -23,7 +23,8 @@ pub record OpenWindow : Type 0 where
   pub id : Id
   pub origin : Point
 
--- the dialog that is open, by its place in the description, where its corner stands on the screen, and its leaves in
+-- the dialog that is open, by its place in the description, where its corner stands on the screen, and its
+-- leaves in
 -- description order
 pub record OpenDialog : Type 0 where
   pub place : ℕ

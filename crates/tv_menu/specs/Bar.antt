@@ -10,7 +10,8 @@ use Rattle.tv_model.specs.declared.desc.Desc.{Desc}
 use Rattle.tv_model.specs.declared.desc.Menu.{Menu}
 use Rattle.tv_machine.specs.State.{State, OpenMenu}
 use Rattle.tv_machine.specs.Session.Commands.{do_command, open_first}
-use Rattle.tv_machine.specs.Session.Menu.{open_menu, close_menu, title_of_letter, title_at, menu_key, menu_down}
+use Rattle.tv_machine.specs.Session.Menu.{open_menu, close_menu, title_of_letter, title_at, menu_key}
+use Rattle.tv_machine.specs.Session.Menu.{menu_down}
 use Rattle.tv_menu.specs.declared.bars.MenuBar.{MenuBar}
 use Rattle.tv_menu.specs.declared.effect.Effect.{Effect}
 use Rattle.tv_menu.specs.declared.effect.Effect.TheVariants as effects

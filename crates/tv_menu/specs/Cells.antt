@@ -1,5 +1,7 @@
--- What a row of the bar, of a menu's box or of the status line shows: texts behind a space, over what was there.
-use Rattle.std.specs.Prelude.{◌≡◌, ℕ, ◌+◌, ◌-◌, ◌<◌, Bool, false, List, ◌∷◌, length, nat_lt, slice_index_or, Option, Some, None, if◌then◌else◌}
+-- What a row of the bar, of a menu's box or of the status line shows: texts behind a space, over what was
+-- there.
+use Rattle.std.specs.Prelude.{◌≡◌, ℕ, ◌+◌, ◌-◌, ◌<◌, Bool, false, List, ◌∷◌, length, nat_lt, slice_index_or}
+use Rattle.std.specs.Prelude.{Option, Some, None, if◌then◌else◌}
 use Rattle.tv_cells.specs.Glyph.{Glyph, blank, shown}
 use Rattle.tv_model.specs.declared.desc.Menu.{Menu}
 use Rattle.tv_model.specs.declared.desc.StatusItem.{StatusItem}
@@ -16,12 +18,15 @@ pub record ChangesRow (f : ℕ → Glyph → Glyph) (from : ℕ) (old new : List
 
 -- a column of a text, from the space before it on
 abbrev pub spaced_cell : SpacedText → ℕ → Glyph
-spaced_cell text column = shown (text_row (32 ∷ text.text.now) column) (if is_mark_from 1 text.mark column then text.letter else text.rest)
+spaced_cell text column =
+    shown (text_row (32 ∷ text.text.now) column)
+    (if is_mark_from 1 text.mark column then text.letter else text.rest)
 
 -- so many columns from one on, over what was there
 abbrev pub over_columns : ℕ → ℕ → (ℕ → Glyph) → ℕ → Glyph → Glyph
 over_columns first count cell column under =
-    if nat_lt column first then under else if nat_lt column (first + count) then cell (column - first) else under
+    if nat_lt column first then under
+    else if nat_lt column (first + count) then cell (column - first) else under
 
 -- what stands in a column, over what was there
 abbrev pub over_spot : {Entry : Type 0} → (Spot Entry → Glyph) → Option (Spot Entry) → Glyph → Glyph

@@ -1,5 +1,6 @@
 -- What the status line is of, and what it answers to an event.
-use Rattle.std.specs.Prelude.{ℕ, Bool, false, not, ◌≡◌, ◌<◌, List, slice_index_or, Option, Some, None, pos, if◌then◌else◌}
+use Rattle.std.specs.Prelude.{ℕ, Bool, false, not, ◌≡◌, ◌<◌, List, slice_index_or, Option, Some, None, pos}
+use Rattle.std.specs.Prelude.{if◌then◌else◌}
 use Rattle.tv_cells.specs.Layers.{is_in}
 use Rattle.tv_cells.specs.declared.rect.Point.{Point}
 use Rattle.tv_event.specs.declared.event.Event.{Event}

@@ -1,4 +1,5 @@
--- Sound descriptions: each fault is a condition on the lists of declarations. A fault names a line of the canonical text.
+-- Sound descriptions: each fault is a condition on the lists of declarations. A fault names a line of the
+-- canonical text.
 use Rattle.std.specs.Prelude.{◌≡◌, ℕ, Bool, false, not, List, [], ◌∷◌, ◌++◌, map, flat_map}
 use Rattle.tv_model.specs.declared.node.Node.{Node}
 use Rattle.tv_model.specs.declared.desc.Desc.{Desc}
@@ -33,14 +34,21 @@ pub mod Starts
 -- domains of inputs: F12 and F13
 pub mod Domains
 pub use Rattle.tv_model.specs.Faults.Lines.{after_seen, lines_where, line_if}
-pub use Rattle.tv_model.specs.Faults.Names.{links_nothing, names_again, window_named_again, dialog_named_again}
+pub use Rattle.tv_model.specs.Faults.Names.{links_nothing, names_again, window_named_again}
+pub use Rattle.tv_model.specs.Faults.Names.{dialog_named_again}
 pub use Rattle.tv_model.specs.Faults.Places.{is_off_desktop, is_outside, overlaps_earlier}
-pub use Rattle.tv_model.specs.Faults.Letters.{has_bad_key, item_again, marks_again, numbered_again, rules_cancel, titled_again}
+pub use Rattle.tv_model.specs.Faults.Letters.{has_bad_key, item_again, marks_again, numbered_again}
+pub use Rattle.tv_model.specs.Faults.Letters.{rules_cancel, titled_again}
 pub use Rattle.tv_model.specs.Faults.Rules.{has_nothing_to_focus, names_unknown, shows_itself}
 pub use Rattle.tv_model.specs.Faults.Texts.{has_wide, is_wide_text}
-pub use Rattle.tv_model.specs.Faults.Limits.{dialog_outside_limits, is_lawful, is_lawful_number, is_lawful_screen, item_outside_limits, least_height, least_width, menu_outside_limits, rule_outside_limits, status_outside_limits, view_outside_limits, window_outside_limits}
+pub use Rattle.tv_model.specs.Faults.Limits.{dialog_outside_limits, is_lawful, is_lawful_number}
+pub use Rattle.tv_model.specs.Faults.Limits.{is_lawful_screen, item_outside_limits, least_height}
+pub use Rattle.tv_model.specs.Faults.Limits.{least_width, menu_outside_limits, rule_outside_limits}
+pub use Rattle.tv_model.specs.Faults.Limits.{status_outside_limits, view_outside_limits}
+pub use Rattle.tv_model.specs.Faults.Limits.{window_outside_limits}
 pub use Rattle.tv_model.specs.Faults.Domains.{has_no_text, starts_badly}
-pub use Rattle.tv_model.specs.Faults.Starts.{is_second_default, lacks_cancel, lacks_end, opens_badly, starts_nowhere}
+pub use Rattle.tv_model.specs.Faults.Starts.{is_second_default, lacks_cancel, lacks_end, opens_badly}
+pub use Rattle.tv_model.specs.Faults.Starts.{starts_nowhere}
 use Rattle.tv_model.specs.Description.Commands.{no_ends}
 use Rattle.tv_model.specs.Description.Heads.{dialog_head}
 
@@ -118,7 +126,9 @@ rule_has _ views before rule = false
 -- ---- the lines that a fault names, in their order
 
 abbrev pub menu_lines : FaultKind → List Menu → Menu → List ℕ
-menu_lines kind before menu = line_if (menu_has kind before menu) menu.id.0 ++ lines_where (λ item. item.id.0) (item_has kind) [] menu.items
+menu_lines kind before menu =
+    line_if (menu_has kind before menu) menu.id.0
+    ++ lines_where (λ item. item.id.0) (item_has kind) [] menu.items
 
 abbrev pub status_lines : FaultKind → Desc → List ℕ
 status_lines kind d = lines_where (λ item. item.id.0) (status_has kind d) [] d.status
@@ -127,13 +137,17 @@ abbrev pub view_lines : FaultKind → Node → Ends → List Node → List ℕ
 view_lines kind frame ends views = lines_where (λ node. node.id.0) (view_has kind frame ends views) [] views
 
 abbrev pub window_lines : FaultKind → List Window → Window → List ℕ
-window_lines kind before window = line_if (window_has kind before window) window.node.id.0 ++ view_lines kind window.node no_ends window.views
+window_lines kind before window =
+    line_if (window_has kind before window) window.node.id.0
+    ++ view_lines kind window.node no_ends window.views
 
 abbrev pub rule_lines : FaultKind → Dialog → List ℕ
 rule_lines kind dialog = lines_where (λ rule. rule.id.0) (rule_has kind dialog.views) [] dialog.rules
 
 abbrev pub dialog_lines : FaultKind → Desc → List Dialog → Dialog → List ℕ
-dialog_lines kind d before dialog = line_if (dialog_has kind d before dialog) dialog.node.id.0 ++ (view_lines kind dialog.node (dialog_head dialog).ends dialog.views ++ rule_lines kind dialog)
+dialog_lines kind d before dialog =
+    line_if (dialog_has kind d before dialog) dialog.node.id.0
+    ++ (view_lines kind dialog.node (dialog_head dialog).ends dialog.views ++ rule_lines kind dialog)
 
 unfoldable pub fault_lines : FaultKind → Desc → List ℕ
 fault_lines kind d =
@@ -153,9 +167,12 @@ faults_at kind d = map (fault_at kind) (fault_lines kind d)
 
 abbrev pub all_kinds : List FaultKind
 all_kinds =
-    faults.NameTwice ∷ faults.OutsideOwner ∷ faults.Overlap ∷ faults.LetterTwice ∷ faults.StatusKey ∷ faults.LabelLink
-    ∷ faults.UnknownInRule ∷ faults.ShowsItself ∷ faults.NothingToFocus ∷ faults.MissingEnd ∷ faults.SecondDefault
-    ∷ faults.EmptyDomain ∷ faults.BadStart ∷ faults.WideCharacter ∷ faults.OutsideLimits ∷ faults.BadOpening ∷ faults.MenuLetter ∷ []
+    faults.NameTwice ∷ faults.OutsideOwner ∷ faults.Overlap ∷ faults.LetterTwice ∷ faults.StatusKey
+    ∷ faults.LabelLink
+    ∷ faults.UnknownInRule ∷ faults.ShowsItself ∷ faults.NothingToFocus ∷ faults.MissingEnd
+    ∷ faults.SecondDefault
+    ∷ faults.EmptyDomain ∷ faults.BadStart ∷ faults.WideCharacter ∷ faults.OutsideLimits ∷ faults.BadOpening
+    ∷ faults.MenuLetter ∷ []
 
 -- all faults, by number, then by line
 unfoldable pub faults_of : Desc → List Fault

@@ -1,4 +1,5 @@
--- The kinds of views, a file each: what each is, what it holds, what keys, letters and the mouse make of it, and what it shows.
+-- The kinds of views, a file each: what each is, what it holds, what keys, letters and the mouse make of it,
+-- and what it shows.
 use Rattle.tv_model.specs.declared.kind.Kind.{Kind}
 use Rattle.tv_model.specs.declared.kind.Kind.TheVariants as kinds
 use Rattle.tv_model.specs.Controls.Behaviour.{Behaviour, Facts, plain_facts}

@@ -1,5 +1,6 @@
 -- Controls that nothing reaches.
-use Rattle.std.specs.Prelude.{◌≡◌, ℕ, ◌<◌, Bool, false, not, ◌&&◌, List, [], ◌∷◌, length, map, take, slice_index_or, Option, Some, None, ◌==◌}
+use Rattle.std.specs.Prelude.{◌≡◌, ℕ, ◌<◌, Bool, false, not, ◌&&◌, List, [], ◌∷◌, length, map, take}
+use Rattle.std.specs.Prelude.{slice_index_or, Option, Some, None, ◌==◌}
 use Rattle.std.specs.List.{list_any}
 use Rattle.tv_model.specs.declared.node.Id.{Id}
 use Rattle.tv_model.specs.declared.node.Node.{Node}
@@ -23,7 +24,8 @@ standing before node = map (λ view. view.id) (node ∷ panes_around before node
 
 -- a control that nothing of this reaches
 abbrev pub is_unreached : List Reach → List Node → Node → Bool
-is_unreached list before node = is_control node.kind && not (list_any (holds_at (standing before node) node.kind) list)
+is_unreached list before node =
+    is_control node.kind && not (list_any (holds_at (standing before node) node.kind) list)
 
 -- each control is reached
 abbrev pub has_nothing_free : List Reach → List Node → Bool
@@ -56,11 +58,14 @@ is_button_where passes _ = false
 
 -- the view or a pane around it is shown
 abbrev pub is_shown : List Reach → List Node → Node → Bool
-is_shown list before node = list_any (λ view. list_any (reach_shows view.id) list) (node ∷ panes_around before node)
+is_shown list before node =
+    list_any (λ view. list_any (reach_shows view.id) list) (node ∷ panes_around before node)
 
 -- whether that is so for each of the first views
 abbrev pub AreFirstShown : List Reach → List Node → List Bool → Type 0
-AreFirstShown list views shown = (k : ℕ) (view : Node) → k < length shown → slice_index_or shown k false ≡ is_shown list (take k views) (slice_index_or views k view)
+AreFirstShown list views shown =
+    (k : ℕ) (view : Node) → k < length shown
+    → slice_index_or shown k false ≡ is_shown list (take k views) (slice_index_or views k view)
 
 -- whether the owner is shown or stands in what is
 abbrev pub is_owner_shown : List Bool → Option ℕ → Bool

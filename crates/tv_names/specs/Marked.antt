@@ -22,4 +22,5 @@ marks_any test text = option_map_or test (marked_letter text) false
 
 -- one of the texts marks a letter that passes the test, or that one before it marks
 abbrev pub mark_again : (ℕ → Bool) → List MarkedText → Bool
-mark_again test texts = list_any (λ pair. marks_any test pair.1 || list_any (shares_letter pair.1) pair.0) (after_seen [] texts)
+mark_again test texts =
+    list_any (λ pair. marks_any test pair.1 || list_any (shares_letter pair.1) pair.0) (after_seen [] texts)

@@ -1,5 +1,7 @@
 -- Which of some placed views collide with an earlier one.
-use Rattle.std.specs.Prelude.{◌≡◌, ℕ, ◌<◌, ◌≤◌, ◌+◌, Bool, false, not, ◌&&◌, ◌||◌, ◌==◌, List, [], length, slice_index_or, nat_le, nat_lt, int_le, int_lt, ◌<ℤ◌, ◌+ℤ◌, ◌-◌, ◌^◌, pos, neg_ℤ}
+use Rattle.std.specs.Prelude.{◌≡◌, ℕ, ◌<◌, ◌≤◌, ◌+◌, Bool, false, not, ◌&&◌, ◌||◌, ◌==◌, List, [], length}
+use Rattle.std.specs.Prelude.{slice_index_or, nat_le, nat_lt, int_le, int_lt, ◌<ℤ◌, ◌+ℤ◌, ◌-◌, ◌^◌, pos}
+use Rattle.std.specs.Prelude.{neg_ℤ}
 use Rattle.std.specs.Int.{int_max, int_min}
 use Rattle.std.specs.Int.RustNames.{int_div}
 use Rattle.std.specs.List.{list_any}
@@ -50,11 +52,13 @@ one_is_wide columns one other = span_covers one.columns columns || span_covers o
 
 -- two that clash, of which one fills the rows and one the columns
 abbrev pub collide_wide : Span → Span → Placed → Placed → Bool
-collide_wide rows columns one other = one_fills rows one other && (one_is_wide columns one other && clash one other)
+collide_wide rows columns one other =
+    one_fills rows one other && (one_is_wide columns one other && clash one other)
 
 -- two that clash and share a column, of which one fills the rows
 abbrev pub collide_filling : Span → Placed → Placed → Bool
-collide_filling rows one other = one_fills rows one other && (meets one.columns other.columns && clash one other)
+collide_filling rows one other =
+    one_fills rows one other && (meets one.columns other.columns && clash one other)
 
 -- two that clash and share a point
 abbrev pub collide : Placed → Placed → Bool
@@ -71,12 +75,16 @@ is_owned first last item = nat_le first item.owner && nat_le item.owner last
 -- after some that were seen, an item of this place stands so to one before it
 abbrev pub is_related : (Placed → Placed → Bool) → ℕ → List Placed → List Placed → Bool
 is_related relation place seen items =
-    list_any (λ pair. (pair.1.place == place) && list_any (λ other. relation other pair.1) pair.0) (after_seen seen items)
+    list_any (λ pair. (pair.1.place == place) && list_any (λ other. relation other pair.1) pair.0)
+    (after_seen seen items)
 
 -- the places are marked of the items that stand so to an earlier one, and no others
-pub record AreMarked (relation : Placed → Placed → Bool) (items : List Placed) (old new : List Bool) : Type 0 where
+pub record AreMarked (relation : Placed → Placed → Bool) (items : List Placed)
+    (old new : List Bool) : Type 0 where
   pub len : length new ≡ length old
-  pub marks : (place : ℕ) → place < length old → slice_index_or new place false ≡ (slice_index_or old place false || is_related relation place [] items)
+  pub marks : (place : ℕ) → place < length old
+      → slice_index_or new place false
+      ≡ (slice_index_or old place false || is_related relation place [] items)
 
 -- an item with points, of so many views
 pub record IsPlacedItem (count : ℕ) (item : Placed) : Type 0 where

@@ -34,4 +34,5 @@ placed_view place owner view = record {
 abbrev pub placed_from : ℕ → List (ℕ × Node) → List Placed
 placed_from place [] = []
 placed_from place (pair ∷ pairs) =
-    if has_points (place_of_node pair.1) then placed_view place pair.0 pair.1 ∷ placed_from (place + 1) pairs else placed_from (place + 1) pairs
+    if has_points (place_of_node pair.1) then placed_view place pair.0 pair.1 ∷ placed_from (place + 1) pairs
+    else placed_from (place + 1) pairs

@@ -1,7 +1,8 @@
 -- Palettes, which are lists of entries, and chains of them from a view to the application.
 use Rattle.std.specs.Prelude.{ℕ, Bool, true, false, List, [], ◌∷◌, filter, slice_index_or}
 
--- the entry that a number counts to, from 1, and 0 where the palette lacks it; an empty palette passes the number on
+-- the entry that a number counts to, from 1, and 0 where the palette lacks it; an empty palette passes the
+-- number on
 abbrev pub entry : List ℕ → ℕ → ℕ
 entry [] index = index
 entry (first ∷ rest) index = slice_index_or (0 ∷ first ∷ rest) index 0

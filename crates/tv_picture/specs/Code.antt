@@ -1,9 +1,11 @@
 -- A pattern as code for a machine with a stack: the parts first, then what joins them.
-use Rattle.std.specs.Prelude.{◌≡◌, refl, ℕ, ◌+◌, ◌-◌, List, [], ◌∷◌, ◌++◌, Option, Some, None, if◌then◌else◌, nat_lt}
+use Rattle.std.specs.Prelude.{◌≡◌, refl, ℕ, ◌+◌, ◌-◌, List, [], ◌∷◌, ◌++◌, Option, Some, None, if◌then◌else◌}
+use Rattle.std.specs.Prelude.{nat_lt}
 use Rattle.std.specs.Option.{option_and_then}
 use Rattle.std.proofs.Common.{ap, ◌∙◌}
 use Rattle.tv_picture.specs.declared.code.Op.{Op}
-use Rattle.tv_picture.specs.declared.code.Op.TheVariants.{Empty, One, Sequence, Either, Optional, Group, Many, Times}
+use Rattle.tv_picture.specs.declared.code.Op.TheVariants.{Empty, One, Sequence, Either, Optional, Group}
+use Rattle.tv_picture.specs.declared.code.Op.TheVariants.{Many, Times}
 use Rattle.tv_picture.specs.Pattern.{Pattern, empty, one, sequence, either, optional, group, many, times}
 
 -- what an operation leaves of the stack of patterns
@@ -70,8 +72,12 @@ after xs ys ps qs e = run-append xs ys ps ∙ ap (λ stack. run stack ys) e
 pub run-code_of : (p : Pattern) (ps : List Pattern) → run ps (code_of p) ≡ p ∷ ps
 run-code_of empty ps = refl
 run-code_of (one mark) ps = refl
-run-code_of (sequence a b) ps = after (code_of a ++ code_of b) (Sequence ∷ []) ps (b ∷ a ∷ ps) (after (code_of a) (code_of b) ps (a ∷ ps) (run-code_of a ps) ∙ run-code_of b (a ∷ ps))
-run-code_of (either a b) ps = after (code_of a ++ code_of b) (Either ∷ []) ps (b ∷ a ∷ ps) (after (code_of a) (code_of b) ps (a ∷ ps) (run-code_of a ps) ∙ run-code_of b (a ∷ ps))
+run-code_of (sequence a b) ps =
+    after (code_of a ++ code_of b) (Sequence ∷ []) ps (b ∷ a ∷ ps)
+    (after (code_of a) (code_of b) ps (a ∷ ps) (run-code_of a ps) ∙ run-code_of b (a ∷ ps))
+run-code_of (either a b) ps =
+    after (code_of a ++ code_of b) (Either ∷ []) ps (b ∷ a ∷ ps)
+    (after (code_of a) (code_of b) ps (a ∷ ps) (run-code_of a ps) ∙ run-code_of b (a ∷ ps))
 run-code_of (optional a) ps = after (code_of a) (Optional ∷ []) ps (a ∷ ps) (run-code_of a ps)
 run-code_of (group a) ps = after (code_of a) (Group ∷ []) ps (a ∷ ps) (run-code_of a ps)
 run-code_of (many a) ps = after (code_of a) (Many ∷ []) ps (a ∷ ps) (run-code_of a ps)

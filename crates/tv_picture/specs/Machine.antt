@@ -7,7 +7,9 @@ use Rattle.tv_picture.specs.Pattern.{Pattern}
 -- below the height stands something for each pattern, the first pattern's on top
 abbrev pub StandsBelow : {X : Type 0} → (Pattern → X → Type 0) → List X → ℕ → List Pattern → Type 0
 StandsBelow R xs height [] = height ≡ 0
-StandsBelow {X} R xs height (p ∷ ps) = (below : ℕ) × (height ≡ below + 1) × ((d : X) → R p (slice_index_or xs below d)) × StandsBelow R xs below ps
+StandsBelow {X} R xs height (p ∷ ps) =
+    (below : ℕ) × (height ≡ below + 1) × ((d : X) → R p (slice_index_or xs below d))
+    × StandsBelow R xs below ps
 
 -- the first pattern is what was made for the place, and the others stand below it
 abbrev pub Made : {X : Type 0} → (Pattern → X → Type 0) → List X → ℕ → X → List Pattern → Type 0

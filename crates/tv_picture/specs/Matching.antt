@@ -1,11 +1,14 @@
--- Texts and patterns, as functions that compute. A set of places says of each place of a text, from the first on,
+-- Texts and patterns, as functions that compute. A set of places says of each place of a text, from the first
+-- on,
 -- whether it is in the set; a place past the list's end isn't.
-use Rattle.std.specs.Prelude.{ℕ, zero, suc, ◌+◌, ◌*◌, min, List, [], ◌∷◌, length, Option, Some, None, Bool, true, false, not, if◌then◌else◌, ◌&&◌, ◌||◌, ◌==◌, nat_le}
+use Rattle.std.specs.Prelude.{ℕ, zero, suc, ◌+◌, ◌*◌, min, List, [], ◌∷◌, length, Option, Some, None, Bool}
+use Rattle.std.specs.Prelude.{true, false, not, if◌then◌else◌, ◌&&◌, ◌||◌, ◌==◌, nat_le}
 use Rattle.std.specs.Char.{is_ascii_digit, is_ascii_alphabetic, is_ascii_uppercase, is_ascii_lowercase}
 use Rattle.std.proofs.Math.Utf8.{scalar}
 use Rattle.tv_cells.specs.Glyph.{is_narrow}
 use Rattle.tv_picture.specs.declared.code.Mark.{Mark}
-use Rattle.tv_picture.specs.declared.code.Mark.TheVariants.{Digit, Letter, Capital, Any, NotLower, Literal, Quoted}
+use Rattle.tv_picture.specs.declared.code.Mark.TheVariants.{Digit, Letter, Capital, Any, NotLower, Literal}
+use Rattle.tv_picture.specs.declared.code.Mark.TheVariants.{Quoted}
 use Rattle.tv_picture.specs.declared.picture.Status.{Status}
 use Rattle.tv_picture.specs.declared.picture.Status.TheVariants.{Complete, Viable, Error}
 use Rattle.tv_picture.specs.declared.row.Next.{Next}
@@ -114,7 +117,9 @@ begins_some p t = matches p t || is_some_next (follows p t)
 
 -- what the text is to the pattern
 abbrev pub match_status : Pattern → List ℕ → Status
-match_status p t = elim (matches p t) [ true ↦ Complete | false ↦ elim (is_some_next (follows p t)) [ true ↦ Viable | false ↦ Error ] ]
+match_status p t =
+    elim (matches p t)
+    [ true ↦ Complete | false ↦ elim (is_some_next (follows p t)) [ true ↦ Viable | false ↦ Error ] ]
 
 -- the one character that may follow, where it is one alone
 abbrev pub only_next : Next → Option ℕ
@@ -124,7 +129,8 @@ only_next Several = None
 
 -- the only character with which a viable text can go on, where there is room for it
 abbrev pub next_literal_of : Pattern → List ℕ → Option ℕ
-next_literal_of p t = elim (matches p t || nat_le 120 (length t)) [ true ↦ None | false ↦ only_next (follows p t) ]
+next_literal_of p t =
+    elim (matches p t || nat_le 120 (length t)) [ true ↦ None | false ↦ only_next (follows p t) ]
 
 -- ---- lengths
 

@@ -1,8 +1,10 @@
 -- What has been read of a picture's text, and what each character adds to it.
-use Rattle.std.specs.Prelude.{◌≡◌, ℕ, ◌+◌, ◌-◌, ◌*◌, List, [], ◌∷◌, length, reverse, Option, Some, None, Bool, true, false, if◌then◌else◌, nat_lt, nat_le, ◌==◌, ◌&&◌, not}
+use Rattle.std.specs.Prelude.{◌≡◌, ℕ, ◌+◌, ◌-◌, ◌*◌, List, [], ◌∷◌, length, reverse, Option, Some, None}
+use Rattle.std.specs.Prelude.{Bool, true, false, if◌then◌else◌, nat_lt, nat_le, ◌==◌, ◌&&◌, not}
 use Rattle.std.specs.Option.{option_and_then}
 use Rattle.tv_picture.specs.declared.code.Mark.{Mark}
-use Rattle.tv_picture.specs.declared.code.Mark.TheVariants.{Digit, Letter, Capital, Any, NotLower, Literal, Quoted}
+use Rattle.tv_picture.specs.declared.code.Mark.TheVariants.{Digit, Letter, Capital, Any, NotLower, Literal}
+use Rattle.tv_picture.specs.declared.code.Mark.TheVariants.{Quoted}
 use Rattle.tv_picture.specs.declared.code.Op.{Op}
 use Rattle.tv_picture.specs.declared.code.Op.TheVariants as op
 use Rattle.tv_picture.specs.declared.parser.Bracket.{Bracket}
@@ -25,7 +27,10 @@ built_by code = record { stack = run [] code; height = height_from 0 code }
 
 -- and after one operation more
 abbrev pub with_op : Built → Op → Built
-with_op b op = record { stack = patterns_after b.stack op; height = option_and_then (λ h. height_after h op) b.height }
+with_op b op = record {
+  stack = patterns_after b.stack op;
+  height = option_and_then (λ h. height_after h op) b.height;
+}
 
 -- what was built; the open brackets, the innermost first; whether the sequence comes after a comma; how often
 -- the next part is repeated; whether it comes after `;`
@@ -38,7 +43,13 @@ pub record Reading : Type 0 where
 
 -- where the parser stands
 abbrev pub reading : Parser → Reading
-reading p = record { built = built_by p.code.items; brackets = reverse p.brackets.items; choice = p.choice; repeat = p.repeat; quoted = p.quoted }
+reading p = record {
+  built = built_by p.code.items;
+  brackets = reverse p.brackets.items;
+  choice = p.choice;
+  repeat = p.repeat;
+  quoted = p.quoted;
+}
 
 -- the part on top is repeated so often
 abbrev pub repeat_step : Built → Repeat → Built
@@ -53,11 +64,25 @@ bracket_op bracket.Curly = op.Group
 
 -- the part on top of the stack goes to the end of the sequence below it
 abbrev pub part_finished : Reading → Reading
-part_finished r = record { built = with_op (repeat_step r.built r.repeat) op.Sequence; brackets = r.brackets; choice = r.choice; repeat = Once; quoted = false }
+part_finished r = record {
+  built = with_op (repeat_step r.built r.repeat) op.Sequence;
+  brackets = r.brackets;
+  choice = r.choice;
+  repeat = Once;
+  quoted = false;
+}
 
 -- one character of a text is a part
 abbrev pub with_single_mark : Reading → Mark → Reading
-with_single_mark r mark = part_finished (record { built = with_op r.built (op.One mark); brackets = r.brackets; choice = r.choice; repeat = r.repeat; quoted = r.quoted })
+with_single_mark r mark =
+    part_finished
+    (record {
+      built = with_op r.built (op.One mark);
+      brackets = r.brackets;
+      choice = r.choice;
+      repeat = r.repeat;
+      quoted = r.quoted;
+    })
 
 -- the next part is not repeated
 abbrev pub is_once : Repeat → Bool
@@ -75,7 +100,17 @@ is_empty_list (o ∷ os) = false
 
 -- a bracket opens, where fewer than 8 are open
 abbrev pub bracket_opened : Reading → Bracket → Option Reading
-bracket_opened r b = if nat_lt (length r.brackets) 8 then Some (record { built = with_op r.built op.Empty; brackets = (record { bracket = b; repeat = r.repeat; choice = r.choice }) ∷ r.brackets; choice = false; repeat = Once; quoted = false }) else None
+bracket_opened r b =
+    if nat_lt (length r.brackets) 8
+    then Some
+    (record {
+      built = with_op r.built op.Empty;
+      brackets = (record { bracket = b; repeat = r.repeat; choice = r.choice }) ∷ r.brackets;
+      choice = false;
+      repeat = Once;
+      quoted = false;
+    })
+    else None
 
 -- the brackets are of one kind
 abbrev pub is_same : Bracket → Bracket → Bool
@@ -86,7 +121,18 @@ is_same _ _ = false
 -- a bracket closes the innermost one, where that is of its kind
 abbrev pub closed_as : Reading → Bracket → List Open → Option Reading
 closed_as r b [] = None
-closed_as r b (o ∷ os) = if is_same b o.bracket then Some (part_finished (record { built = with_op (merged r.choice r.built) (bracket_op b); brackets = os; choice = o.choice; repeat = o.repeat; quoted = false })) else None
+closed_as r b (o ∷ os) =
+    if is_same b o.bracket
+    then Some
+    (part_finished
+    (record {
+      built = with_op (merged r.choice r.built) (bracket_op b);
+      brackets = os;
+      choice = o.choice;
+      repeat = o.repeat;
+      quoted = false;
+    }))
+    else None
 
 -- and where no part is waited for
 abbrev pub bracket_closed : Reading → Bracket → Option Reading
@@ -94,21 +140,67 @@ bracket_closed r b = if is_once r.repeat then closed_as r b r.brackets else None
 
 -- a comma ends an alternative
 abbrev pub divided : Reading → Option Reading
-divided r = if is_once r.repeat then Some (record { built = with_op (merged r.choice r.built) op.Empty; brackets = r.brackets; choice = true; repeat = Once; quoted = false }) else None
+divided r =
+    if is_once r.repeat
+    then Some
+    (record {
+      built = with_op (merged r.choice r.built) op.Empty;
+      brackets = r.brackets;
+      choice = true;
+      repeat = Once;
+      quoted = false;
+    })
+    else None
 
 -- a `*` waits for its part or its count
 abbrev pub starred : Reading → Option Reading
-starred r = if is_once r.repeat then Some (record { built = r.built; brackets = r.brackets; choice = r.choice; repeat = Many; quoted = false }) else None
+starred r =
+    if is_once r.repeat
+    then Some
+    (record {
+      built = r.built;
+      brackets = r.brackets;
+      choice = r.choice;
+      repeat = Many;
+      quoted = false;
+    })
+    else None
 
 -- a digit stands for itself, or counts after `*`, up to 120
 abbrev pub counted_as : Reading → ℕ → Repeat → Option Reading
 counted_as r d Once = Some (with_single_mark r (Literal (48 + d)))
-counted_as r d Many = if nat_lt 0 d then Some (record { built = r.built; brackets = r.brackets; choice = r.choice; repeat = Times d; quoted = false }) else None
-counted_as r d (Times n) = if nat_le (n * 10 + d) 120 then Some (record { built = r.built; brackets = r.brackets; choice = r.choice; repeat = Times (n * 10 + d); quoted = false }) else None
+counted_as r d Many =
+    if nat_lt 0 d
+    then Some
+    (record {
+      built = r.built;
+      brackets = r.brackets;
+      choice = r.choice;
+      repeat = Times d;
+      quoted = false;
+    })
+    else None
+counted_as r d (Times n) =
+    if nat_le (n * 10 + d) 120
+    then Some
+    (record {
+      built = r.built;
+      brackets = r.brackets;
+      choice = r.choice;
+      repeat = Times (n * 10 + d);
+      quoted = false;
+    })
+    else None
 
 -- after `;` any character stands for itself
 abbrev pub quoted_next : Reading → Reading
-quoted_next r = record { built = r.built; brackets = r.brackets; choice = r.choice; repeat = r.repeat; quoted = true }
+quoted_next r = record {
+  built = r.built;
+  brackets = r.brackets;
+  choice = r.choice;
+  repeat = r.repeat;
+  quoted = true;
+}
 
 -- what a character that isn't quoted adds
 abbrev pub plain_step : Reading → ℕ → Option Reading
@@ -139,7 +231,13 @@ text_steps r (c ∷ cs) = option_and_then (λ s. text_steps s cs) (text_step r c
 
 -- nothing read
 abbrev pub nothing_parsed : Reading
-nothing_parsed = record { built = built_by (op.Empty ∷ []); brackets = []; choice = false; repeat = Once; quoted = false }
+nothing_parsed = record {
+  built = built_by (op.Empty ∷ []);
+  brackets = [];
+  choice = false;
+  repeat = Once;
+  quoted = false;
+}
 
 -- how many patterns stand on the stack
 abbrev pub tall : Bool → List Open → ℕ

@@ -4,11 +4,13 @@ use Rattle.std.specs.Char.{IsScalar}
 use Rattle.std.specs.List.{concat}
 use Rattle.tv_cells.specs.Glyph.{IsNarrow}
 use Rattle.tv_picture.specs.declared.code.Mark.{Mark}
-use Rattle.tv_picture.specs.declared.code.Mark.TheVariants.{Digit, Letter, Capital, Any, NotLower, Literal, Quoted}
+use Rattle.tv_picture.specs.declared.code.Mark.TheVariants.{Digit, Letter, Capital, Any, NotLower, Literal}
+use Rattle.tv_picture.specs.declared.code.Mark.TheVariants.{Quoted}
 use Rattle.tv_picture.specs.declared.picture.Status.{Status}
 use Rattle.tv_picture.specs.declared.picture.Status.TheVariants.{Complete, Viable, Error}
 
--- a picture read: nothing, one character, one part after the other, either part, a part in brackets, in braces, repeated
+-- a picture read: nothing, one character, one part after the other, either part, a part in brackets, in
+-- braces, repeated
 pub data Pattern : Type 0 where
   empty : Pattern
   one : Mark → Pattern
@@ -50,7 +52,8 @@ IsMember (either a b) text = IsMember a text ⊎ IsMember b text
 IsMember (optional a) text = (text ≡ []) ⊎ IsMember a text
 IsMember (group a) text = IsMember a text
 IsMember (many a) text = (pieces : List (List ℕ)) × All (IsMember a) pieces × (text ≡ concat pieces)
-IsMember (times n a) text = (pieces : List (List ℕ)) × (length pieces ≡ n) × All (IsMember a) pieces × (text ≡ concat pieces)
+IsMember (times n a) text =
+    (pieces : List (List ℕ)) × (length pieces ≡ n) × All (IsMember a) pieces × (text ≡ concat pieces)
 
 -- the text is a prefix of a member: what is viable or complete
 abbrev pub Begins : Pattern → List ℕ → Type 0

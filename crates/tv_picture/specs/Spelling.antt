@@ -1,8 +1,11 @@
 -- How pictures are written.
-use Rattle.std.specs.Prelude.{◌≡◌, ℕ, ◌+◌, ◌/◌, ◌%◌, ◌≤◌, ◌++◌, List, [], ◌∷◌, length, max, if◌then◌else◌, nat_lt, Contains, codes, take}
+use Rattle.std.specs.Prelude.{◌≡◌, ℕ, ◌+◌, ◌/◌, ◌%◌, ◌≤◌, ◌++◌, List, [], ◌∷◌, length, max, if◌then◌else◌}
+use Rattle.std.specs.Prelude.{nat_lt, Contains, codes, take}
 use Rattle.tv_picture.specs.declared.code.Mark.{Mark}
-use Rattle.tv_picture.specs.declared.code.Mark.TheVariants.{Digit, Letter, Capital, Any, NotLower, Literal, Quoted}
-use Rattle.tv_picture.specs.Pattern.{Pattern, empty, one, sequence, either, optional, group, many, times, IsDigit}
+use Rattle.tv_picture.specs.declared.code.Mark.TheVariants.{Digit, Letter, Capital, Any, NotLower, Literal}
+use Rattle.tv_picture.specs.declared.code.Mark.TheVariants.{Quoted}
+use Rattle.tv_picture.specs.Pattern.{Pattern, empty, one, sequence, either, optional, group, many, times}
+use Rattle.tv_picture.specs.Pattern.{IsDigit}
 use Rattle.tv_picture.specs.declared.fault.PictureFault.{PictureFault}
 use Rattle.tv_picture.specs.declared.fault.PictureFault.TheVariants.{NoMemory, Syntax}
 
@@ -18,7 +21,10 @@ mark_text (Quoted c) = codes ";" ++ c ∷ []
 
 -- a count up to 999 in decimal, without leading zeros
 abbrev pub count_text : ℕ → List ℕ
-count_text n = if nat_lt n 10 then (48 + n) ∷ [] else (if nat_lt n 100 then (48 + n / 10) ∷ (48 + n % 10) ∷ [] else (48 + n / 100) ∷ (48 + n / 10 % 10) ∷ (48 + n % 10) ∷ [])
+count_text n =
+    if nat_lt n 10 then (48 + n) ∷ []
+    else (if nat_lt n 100 then (48 + n / 10) ∷ (48 + n % 10) ∷ []
+    else (48 + n / 100) ∷ (48 + n / 10 % 10) ∷ (48 + n % 10) ∷ [])
 
 -- the picture as it is written
 abbrev pub spelled : Pattern → List ℕ

@@ -1,5 +1,6 @@
 -- What a table of places says of a pattern and a text.
-use Rattle.std.specs.Prelude.{◌≡◌, ◌≢◌, ◌↔◌, ℕ, ◌+◌, ◌≤◌, ◌<◌, ◌⊎◌, ◌++◌, List, [], ◌∷◌, length, drop, if◌then◌else◌, ◌==◌, slice_index_or}
+use Rattle.std.specs.Prelude.{◌≡◌, ◌≢◌, ◌↔◌, ℕ, ◌+◌, ◌≤◌, ◌<◌, ◌⊎◌, ◌++◌, List, [], ◌∷◌, length, drop}
+use Rattle.std.specs.Prelude.{if◌then◌else◌, ◌==◌, slice_index_or}
 use Rattle.std.specs.Int.{IsBitSet}
 use Rattle.tv_picture.specs.declared.places.Places.{Places}
 use Rattle.tv_picture.specs.declared.row.Next.{Next}
@@ -53,13 +54,19 @@ pub record HasEachRow (a : Pattern) (text : List ℕ) (table : Table) : Type 0 w
 
 -- from one of these places on, the character may follow the text
 abbrev pub FollowsFrom : Places → Pattern → List ℕ → ℕ → ℕ → ℕ → Type 0
-FollowsFrom places b text start stop c = (r : ℕ) × (start ≤ r) × (r < stop) × HasPlace places r × MayFollow b (drop r text) c
+FollowsFrom places b text start stop c =
+    (r : ℕ) × (start ≤ r) × (r < stop) × HasPlace places r × MayFollow b (drop r text) c
 
 -- the result has what the first row has, and the rows of the table at these places
 pub record Gathers (places : Places) (table : Table) (start stop : ℕ) (first result : Row) : Type 0 where
-  pub ends : (k : ℕ) → HasPlace result.ends k ↔ (HasPlace first.ends k ⊎ ((r : ℕ) × (start ≤ r) × (r < stop) × HasPlace places r × HasPlace (row_at table r).ends k))
+  pub ends : (k : ℕ)
+      → HasPlace result.ends k
+      ↔ (HasPlace first.ends k
+      ⊎ ((r : ℕ) × (start ≤ r) × (r < stop) × HasPlace places r × HasPlace (row_at table r).ends k))
   pub next :
       (a b : Pattern) (text : List ℕ) (from : ℕ) →
       NamesNext (MayFollow a (drop from text)) first.next →
-      ((r : ℕ) → start ≤ r → r < stop → HasPlace places r → NamesNext (MayFollow b (drop r text)) (row_at table r).next) →
+      ((r : ℕ) → start ≤ r → r < stop → HasPlace places r
+      → NamesNext (MayFollow b (drop r text)) (row_at table r).next)
+      →
       NamesNext (λ c. MayFollow a (drop from text) c ⊎ FollowsFrom places b text start stop c) result.next

@@ -3,9 +3,11 @@ use Rattle.tv_picture.specs.Pattern.{Pattern, empty, one, sequence, either, opti
 use Rattle.tv_picture.specs.declared.code.Mark.{Mark as Meant}
 use Rattle.tv_picture.specs.declared.code.Mark.TheVariants as meant
 use Rattle.tv_picture_tests.specs.declared.tree.Mark.{Mark}
-use Rattle.tv_picture_tests.specs.declared.tree.Mark.TheVariants.{Digit, Letter, Capital, Any, NotLower, Literal, Quoted}
+use Rattle.tv_picture_tests.specs.declared.tree.Mark.TheVariants.{Digit, Letter, Capital, Any, NotLower}
+use Rattle.tv_picture_tests.specs.declared.tree.Mark.TheVariants.{Literal, Quoted}
 use Rattle.tv_picture_tests.specs.declared.tree.Tree.{Tree}
-use Rattle.tv_picture_tests.specs.declared.tree.Tree.TheVariants.{Empty, One, Sequence', Either', Optional', Group', Many', Times'}
+use Rattle.tv_picture_tests.specs.declared.tree.Tree.TheVariants.{Empty, One, Sequence', Either', Optional'}
+use Rattle.tv_picture_tests.specs.declared.tree.Tree.TheVariants.{Group', Many', Times'}
 
 -- what one character may be
 abbrev pub mark_of : Mark → Meant

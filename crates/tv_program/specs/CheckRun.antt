@@ -7,7 +7,8 @@ use Rattle.tv_certificate.specs.declared.certificate.Certificate.{Certificate}
 use Rattle.tv_certificate.specs.declared.reading.CertificateFault.TheVariants as unread
 use Rattle.tv_check.specs.declared.acceptance.Refusal.TheVariants as refusals
 use Rattle.tv_check.specs.Certificates.{IsSoundCertificate, certificate_of}
-use Rattle.tv_certificate.specs.CertificateTexts.{RefusesText, SpellsACertificate as SpellsCertificate, certificate_lines}
+use Rattle.tv_certificate.specs.CertificateTexts.{RefusesText, SpellsACertificate as SpellsCertificate}
+use Rattle.tv_certificate.specs.CertificateTexts.{certificate_lines}
 use Rattle.tv_check.specs.Refusals.{RefusesToAccept}
 use Rattle.tv_certificate.specs.declared.reading.CertificateFault.{CertificateFault}
 use Rattle.tv_program.specs.declared.accept_fault.AcceptFault.{AcceptFault}
@@ -21,7 +22,8 @@ use Rattle.tv_io.specs.Writer.{Seen, Takes, Cuts}
 abbrev pub certificate_text : Desc → List ℕ
 certificate_text d = canonical_text (certificate_lines (certificate_of d))
 
--- With Ok the certificate of a sound description was written. A fault of its text comes before its own faults, and both
+-- With Ok the certificate of a sound description was written. A fault of its text comes before its own
+-- faults, and both
 -- before anything is written.
 abbrev pub ChecksTo : {T : Type 0} → List ℕ → Seen → Seen → Result T CheckFault → Type 0
 ChecksTo text old new (Ok _) = (d : Desc) × IsSoundText text d × Takes old new (certificate_text d)
@@ -46,14 +48,17 @@ pub record Fit (text written : List ℕ) : Type 0 where
 abbrev pub IsNoCertificate : List ℕ → CertificateFault → Type 0
 IsNoCertificate text fault = RefusesText text fault × (fault ≢ unread.NoMemory)
 
--- With Ok `accepted` was written. Faults of the two texts come first, that of the description before that of the
+-- With Ok `accepted` was written. Faults of the two texts come first, that of the description before that of
+-- the
 -- certificate, then the first reason to refuse what they spell; nothing is written before all have passed.
 abbrev pub AcceptsTo : {T : Type 0} → List ℕ → List ℕ → Seen → Seen → Result T AcceptFault → Type 0
 AcceptsTo text written old new (Ok _) = Fit text written × Takes old new accepted
 AcceptsTo text written old new (Err accepts.NoMemory) = new ≡ old
 AcceptsTo text written old new (Err (accepts.Lang fault)) = IsNoDescription text fault × (new ≡ old)
-AcceptsTo text written old new (Err (accepts.Cert fault)) = (d : Desc) × Spells text d × IsNoCertificate written fault × (new ≡ old)
+AcceptsTo text written old new (Err (accepts.Cert fault)) =
+    (d : Desc) × Spells text d × IsNoCertificate written fault × (new ≡ old)
 AcceptsTo text written old new (Err (accepts.Refused refusal)) =
-    (d : Desc) × (certificate : Certificate) × Spells text d × SpellsCertificate written certificate × RefusesToAccept d certificate refusal
+    (d : Desc) × (certificate : Certificate) × Spells text d × SpellsCertificate written certificate
+    × RefusesToAccept d certificate refusal
     × (refusal ≢ refusals.NoMemory) × (new ≡ old)
 AcceptsTo text written old new (Err accepts.Write) = Fit text written × Cuts old new accepted

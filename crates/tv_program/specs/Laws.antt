@@ -1,4 +1,5 @@
--- What the laws say of every run of a sound description: of each state that events lead to, and so of each that a script makes.
+-- What the laws say of every run of a sound description: of each state that events lead to, and so of each
+-- that a script makes.
 use Rattle.std.specs.Prelude.{◌≡◌, ℕ, Bool, true, false, List, filter_map, slice_get, Option, Some, None, All}
 use Rattle.tv_event.specs.declared.event.Event.{Event}
 use Rattle.tv_event.specs.declared.event.Event.TheVariants as events
@@ -23,10 +24,13 @@ use Rattle.tv_check.specs.Certificates.{IsSoundCertificate, certificate_of}
 use Rattle.tv_laws.specs.Leaving.{EscCancels, TabAsksNext, TabGoesOn, UpLetsGo}
 use Rattle.tv_laws.specs.Runs.{IsFitState}
 use Rattle.tv_laws.specs.Steps.{OpensFit, StaysFit}
-use Rattle.tv_laws.specs.Letters.{ActsOnNone, ActsOnOwner, ActsWhereItCan, AltActs, MarksAlike, OwnLetterActs, RefusedActsOnNone, TypedActs, UnnamedActsOnNone}
-use Rattle.tv_laws.specs.Order.{FreeAreControls, RefusalStays, ShiftTabAsksPrevious, StopsAreTabs, TabGoesRound, TabKeepsValues}
+use Rattle.tv_laws.specs.Letters.{ActsOnNone, ActsOnOwner, ActsWhereItCan, AltActs, MarksAlike}
+use Rattle.tv_laws.specs.Letters.{OwnLetterActs, RefusedActsOnNone, TypedActs, UnnamedActsOnNone}
+use Rattle.tv_laws.specs.Order.{FreeAreControls, RefusalStays, ShiftTabAsksPrevious, StopsAreTabs}
+use Rattle.tv_laws.specs.Order.{TabGoesRound, TabKeepsValues}
 use Rattle.tv_laws.specs.Escape.{EscCancelsOpen, UpEscCancels, UpEscLeaves, UpFreesMouse}
-use Rattle.tv_laws.specs.Records.{DeclareCancel, EndsAsDeclared, OpensAsSaved, ReopensAsSaved, SavesWhatItLogs, StartsAsDeclared, StaysOver, state_after}
+use Rattle.tv_laws.specs.Records.{DeclareCancel, EndsAsDeclared, OpensAsSaved, ReopensAsSaved}
+use Rattle.tv_laws.specs.Records.{SavesWhatItLogs, StartsAsDeclared, StaysOver, state_after}
 
 -- ---- the states that are spoken of
 
@@ -39,7 +43,9 @@ event_in items.Colors = None
 -- a script leaves a run where its events lead from the start, with the log taken
 abbrev pub ScriptsReach : Desc → Type 0
 ScriptsReach d =
-    (script : List Item) → after (started d) script ≡ quiet (record { desc = d; state = state_after d (filter_map event_in script) })
+    (script : List Item)
+    → after (started d) script
+    ≡ quiet (record { desc = d; state = state_after d (filter_map event_in script) })
 
 -- each state is one in which an open dialog can be used, as the laws of dialogs ask
 abbrev pub StaysUsable : Desc → Type 0
@@ -51,7 +57,8 @@ StaysUsable d = (events : List Event) → IsFitState d (state_after d events)
 abbrev pub IsNoStatusKey : Desc → Key → Type 0
 IsNoStatusKey d k = All (λ item. is_same_key item.key k ≡ false) d.status
 
--- the state after the work of the open dialog, its log taken before: it stands as its work left it, or it ended
+-- the state after the work of the open dialog, its log taken before: it stands as its work left it, or it
+-- ended
 abbrev pub worked_on : State → OpenDialog → Modal → State
 worked_on s o m = after_work (emptied s) o m m.ended
 
@@ -59,10 +66,12 @@ worked_on s o m = after_work (emptied s) o m m.ended
 abbrev pub after_key : State → OpenDialog → Dialog → Key → State
 after_key s o dialog k = worked_on s o (dialog_step dialog (events.Key k) (modal_of s o))
 
--- wherever a run has come to an open dialog in which nothing holds the mouse, a key that no status item has is the dialog's
+-- wherever a run has come to an open dialog in which nothing holds the mouse, a key that no status item has
+-- is the dialog's
 abbrev pub KeysReachDialog : Desc → Type 0
 KeysReachDialog d =
-    (before : List Event) (o : OpenDialog) (dialog : Dialog) (k : Key) → (state_after d before).dialog ≡ Some o
+    (before : List Event) (o : OpenDialog) (dialog : Dialog) (k : Key)
+    → (state_after d before).dialog ≡ Some o
     → slice_get d.dialogs o.place ≡ Some dialog → o.held ≡ None → IsNoStatusKey d k
     → step d (state_after d before) (events.Key k) ≡ after_key (state_after d before) o dialog k
 
@@ -80,11 +89,13 @@ PlainKeysAreFree d = (k : Key) → may_be_status_key k ≡ false → IsNoStatusK
 -- nor is Alt with a letter that the dialog marks
 abbrev pub AltLettersAreFree : Desc → Dialog → Type 0
 AltLettersAreFree d dialog =
-    (letter : ℕ) (marker : PlacedNode) → marking_leaf dialog letter ≡ Some marker → IsNoStatusKey d (keys.Alt letter)
+    (letter : ℕ) (marker : PlacedNode) → marking_leaf dialog letter ≡ Some marker
+    → IsNoStatusKey d (keys.Alt letter)
 
 -- ---- what is so of each dialog
 
--- Tab and Shift-Tab go round in the order of the certificate's `tab` lines; an input that may not be left keeps the focus
+-- Tab and Shift-Tab go round in the order of the certificate's `tab` lines; an input that may not be left
+-- keeps the focus
 pub record TabsByLaws (dialog : Dialog) : Type 0 where
   pub stops : StopsAreTabs dialog
   pub controls : FreeAreControls dialog
@@ -107,7 +118,8 @@ pub record LettersByLaws (dialog : Dialog) : Type 0 where
   pub none : ActsOnNone dialog
   pub refused : RefusedActsOnNone dialog
 
--- it opens with its focus on a free control and with what was saved of it, and stays so that it can be used, until it ends by a
+-- it opens with its focus on a free control and with what was saved of it, and stays so that it can be used,
+-- until it ends by a
 -- command that it declares; a mouse up lets the mouse go, and Esc cancels
 pub record WorksByLaws (dialog : Dialog) : Type 0 where
   pub opens : OpensFit dialog
@@ -118,7 +130,8 @@ pub record WorksByLaws (dialog : Dialog) : Type 0 where
 
 -- ---- what is so of each run
 
--- dialogs end by declared ends alone; the record that an end logs is the one that is saved, unless it cancels, with each value in
+-- dialogs end by declared ends alone; the record that an end logs is the one that is saved, unless it
+-- cancels, with each value in
 -- its domain; and a dialog that opens again shows it
 pub record RecordsByLaws (d : Desc) : Type 0 where
   pub ends : EndsAsDeclared d
@@ -141,7 +154,8 @@ pub record KeysByLaws (d : Desc) : Type 0 where
   pub plain : PlainKeysAreFree d
   pub alt : All (AltLettersAreFree d) d.dialogs
 
--- every run of the description, whatever events come: the focus, the order of Tab, shortcuts, ends and records are what its
+-- every run of the description, whatever events come: the focus, the order of Tab, shortcuts, ends and
+-- records are what its
 -- certificate says
 pub record RunsByLaws (d : Desc) : Type 0 where
   -- the certificate that is made of it names its order of Tab and the owners of its letters

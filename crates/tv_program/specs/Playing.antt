@@ -24,17 +24,22 @@ use Rattle.tv_session.specs.declared.fault.SessionFault.TheVariants.{ViewMismatc
 -- ---- the maker of views
 
 -- the maker may answer so when it is handed the description
-pub record Makes {F A R : Type 0} (calls : Shared F (A × (Bor Desc × Unit {0})) R) (make : F) (d : Desc) (answer : R) : Type 0 where
+pub record Makes {F A R : Type 0} (calls : Shared F (A × (Bor Desc × Unit {0})) R) (make : F) (d : Desc)
+    (answer : R) : Type 0 where
   pub alloc : A
   pub shown : Bor Desc
   pub shows : shown.now ≡ d
   pub says : FnReturns calls make (alloc, (shown, tt)) answer
 
--- it may answer that it can make no views, or with some of which one isn't as it is declared, is missing or is one too many
-abbrev pub IsMismade : {V : Type 0} → (Desc → Result (Views V) BuildFault → Type 0) → (V → Leaf) → Desc → Type 0
+-- it may answer that it can make no views, or with some of which one isn't as it is declared, is missing or
+-- is one too many
+abbrev pub IsMismade : {V : Type 0} → (Desc → Result (Views V) BuildFault → Type 0) → (V → Leaf) → Desc
+    → Type 0
 IsMismade {V} Answers look d =
     Answers d (Err unbuilt.WrongPlan)
-    ⊎ ((views : Views V) × (place : ℕ) × Answers d (Ok views) × RefusesViews look d views.windows.items views.bodies.items (ViewMismatch place))
+    ⊎
+    ((views : Views V) × (place : ℕ) × Answers d (Ok views)
+    × RefusesViews look d views.windows.items views.bodies.items (ViewMismatch place))
 
 -- ---- runs
 
@@ -56,14 +61,25 @@ pub record IsUntouched (reader left : Given) (old new : Seen) : Type 0 where
   pub unread : left ≡ reader
   pub unwritten : new ≡ old
 
--- A run of a description on a script that comes from a reader. Only a sound description is run, and the script is read only
--- once its views were made; then it is performed as it comes, by the flat machine, from the description's start. What is
+-- A run of a description on a script that comes from a reader. Only a sound description is run, and the
+-- script is read only
+-- once its views were made; then it is performed as it comes, by the flat machine, from the description's
+-- start. What is
 -- handed back stands for the run after the script.
-pub data RunsTo {T : Type 0} (Mismade : Desc → Type 0) (Stands : T → Session → Type 0) (text : List ℕ) (reader left : Given) (old new : Seen) (result : Result T PlayFault) : Type 0 where
-  refused : (fault : PlayFault) → RefusesDesc text fault → IsUntouched reader left old new → result ≡ Err fault → RunsTo Mismade Stands text reader left old new result
-  unbegun : (d : Desc) (fault : PlayFault) → IsSoundText text d → IsNoStart Mismade d fault → IsUntouched reader left old new → result ≡ Err fault → RunsTo Mismade Stands text reader left old new result
-  stopped : (d : Desc) (fault : StreamFault) → IsSoundText text d → ComesFrom (started d) reader left old new (λ s. Unit {0}) (Err fault) → result ≡ Err (stream_run fault) → RunsTo Mismade Stands text reader left old new result
-  done : (d : Desc) (run : T) → IsSoundText text d → ComesFrom (started d) reader left old new (Stands run) (Ok tt) → result ≡ Ok run → RunsTo Mismade Stands text reader left old new result
+pub data RunsTo {T : Type 0} (Mismade : Desc → Type 0) (Stands : T → Session → Type 0) (text : List ℕ)
+    (reader left : Given) (old new : Seen) (result : Result T PlayFault) : Type 0 where
+  refused : (fault : PlayFault) → RefusesDesc text fault → IsUntouched reader left old new
+      → result ≡ Err fault → RunsTo Mismade Stands text reader left old new result
+  unbegun : (d : Desc) (fault : PlayFault) → IsSoundText text d → IsNoStart Mismade d fault
+      → IsUntouched reader left old new → result ≡ Err fault
+      → RunsTo Mismade Stands text reader left old new result
+  stopped : (d : Desc) (fault : StreamFault) → IsSoundText text d
+      → ComesFrom (started d) reader left old new (λ s. Unit {0}) (Err fault)
+      → result ≡ Err (stream_run fault)
+      → RunsTo Mismade Stands text reader left old new result
+  done : (d : Desc) (run : T) → IsSoundText text d
+      → ComesFrom (started d) reader left old new (Stands run) (Ok tt) → result ≡ Ok run
+      → RunsTo Mismade Stands text reader left old new result
 
 -- every run of a sound description that the text spells goes by the laws
 abbrev pub IsLawfulText : List ℕ → Type 0

@@ -10,7 +10,8 @@ use Rattle.tv_model.specs.declared.fault.Fault.{Fault}
 use Rattle.tv_model.specs.Faults.{fault_number}
 use Rattle.tv_model.specs.Log.LogText.{line_of}
 use Rattle.tv_program.specs.declared.fault.RunFault.{RunFault}
-use Rattle.tv_program.specs.declared.fault.RunFault.TheVariants.{NoMemory, Lang, Faults, Script, Write, Read, Cert, Refused, View}
+use Rattle.tv_program.specs.declared.fault.RunFault.TheVariants.{NoMemory, Lang, Faults, Script, Write, Read}
+use Rattle.tv_program.specs.declared.fault.RunFault.TheVariants.{Cert, Refused, View}
 use Rattle.tv_io.specs.Writer.{Seen, Takes, Cuts}
 use Rattle.tv_script.specs.declared.script_text.ScriptFault.{ScriptFault}
 use Rattle.tv_script.specs.declared.script_text.ScriptFault.TheVariants as scripts
@@ -21,7 +22,8 @@ IsOffered old new text = Takes old new text ⊎ Cuts old new text
 
 -- a fault by its number and line
 abbrev pub fault_line : Fault → List ℕ
-fault_line fault = line_of (codes "F") (decimal (fault_number fault.kind) ++ codes " line " ++ decimal fault.line)
+fault_line fault =
+    line_of (codes "F") (decimal (fault_number fault.kind) ++ codes " line " ++ decimal fault.line)
 
 -- a refusal by its reason
 abbrev pub refusal_text : Refusal → List ℕ

@@ -9,4 +9,5 @@ text_if false false description beside = None
 
 -- the text at a path
 abbrev pub text_at : (description beside path : List ℕ) → Option (List ℕ)
-text_at description beside path = text_if (bytes_eq path (codes "FILE")) (bytes_eq path (codes "BESIDE")) description beside
+text_at description beside path =
+    text_if (bytes_eq path (codes "FILE")) (bytes_eq path (codes "BESIDE")) description beside

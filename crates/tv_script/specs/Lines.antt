@@ -1,5 +1,6 @@
 -- The lines of scripts: their words, their items, and which of their points are on a screen.
-use Rattle.std.specs.Prelude.{◌≡◌, ℕ, ℤ, pos, List, [], ◌∷◌, Bool, true, false, ◌&&◌, map, flat_map, ◌≤ℤ◌, ◌<ℤ◌, int_le, int_lt, codes, ◌==◌}
+use Rattle.std.specs.Prelude.{◌≡◌, ℕ, ℤ, pos, List, [], ◌∷◌, Bool, true, false, ◌&&◌, map, flat_map, ◌≤ℤ◌}
+use Rattle.std.specs.Prelude.{◌<ℤ◌, int_le, int_lt, codes, ◌==◌}
 use Rattle.std.specs.List.{list_any}
 use Rattle.tv_cells.specs.declared.rect.Point.{Point}
 use Rattle.tv_declarations.specs.Spelling.Keys.{IsKey, key_word}

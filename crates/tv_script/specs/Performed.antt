@@ -21,9 +21,11 @@ pub record IsScreenOf (s : Session) (p : Picture) : Type 0 where
   pub height : p.height ≡ natural s.desc.height
   pub cells : Shows (layers_of s.desc s.state) p
 
--- the writer failed after so many items were begun: a proper prefix of their text was taken, with that of those before
+-- the writer failed after so many items were begun: a proper prefix of their text was taken, with that of
+-- those before
 -- the last one whole, and what is left stands as the session does after their events
-pub record Stops (s : Session) (script : List Item) (begun : ℕ) (old new : Seen) (Left : Session → Type 0) : Type 0 where
+pub record Stops (s : Session) (script : List Item) (begun : ℕ) (old new : Seen)
+    (Left : Session → Type 0) : Type 0 where
   pub few : begun ≤ length script
   pub cut : Cuts old new (output s (take begun script))
   pub whole : (k : ℕ) → begun ≡ k + 1 → (more : List ℕ) × (cut.front ≡ output s (take k script) ++ more)

@@ -20,7 +20,8 @@ IsScript script = AllByRecursion IsLine script
 
 -- a script whose points are on the screen
 abbrev pub IsOnScreen : (width height : ℤ) → List Line → Type 0
-IsOnScreen width height script = IsScript script × AllByRecursion (λ l. IsTrue (is_on_screen width height l)) script
+IsOnScreen width height script =
+    IsScript script × AllByRecursion (λ l. IsTrue (is_on_screen width height l)) script
 
 -- a script whose points are on the screen, and which has no more items than a script may have
 abbrev pub IsFitting : (width height : ℤ) → List Line → Type 0
@@ -39,17 +40,23 @@ BeginsScript Wanted n text = BeginsBy script_words Wanted (take n (lines_of text
 
 -- the first line with which the text begins no fitting script
 abbrev pub IsFirstFaulty : (width height : ℤ) → List ℕ → ℕ → Type 0
-IsFirstFaulty width height text line = IsFirstFaultyLine script_words (IsFitting width height) (lines_of text) line
+IsFirstFaulty width height text line =
+    IsFirstFaultyLine script_words (IsFitting width height) (lines_of text) line
 
--- What each refusal says of the text. Of its first faulty line it says what is the matter with it, and of several things
--- the first in this order: with it the text begins no script; the line's point is off the screen; the script has too many items.
+-- What each refusal says of the text. Of its first faulty line it says what is the matter with it, and of
+-- several things
+-- the first in this order: with it the text begins no script; the line's point is off the screen; the script
+-- has too many items.
 abbrev pub RefusesScript : (width height : ℤ) → List ℕ → ScriptFault → Type 0
 RefusesScript width height text NoMemory = Unit {0}
-RefusesScript width height text (Syntax line) = (length text ≤ 1048576) × IsFirstFaulty width height text line × ¬ BeginsScript IsScript line text
+RefusesScript width height text (Syntax line) =
+    (length text ≤ 1048576) × IsFirstFaulty width height text line × ¬ BeginsScript IsScript line text
 RefusesScript width height text (OffScreen line) =
-    (length text ≤ 1048576) × IsFirstFaulty width height text line × BeginsScript IsScript line text × ¬ BeginsScript (IsOnScreen width height) line text
+    (length text ≤ 1048576) × IsFirstFaulty width height text line × BeginsScript IsScript line text
+    × ¬ BeginsScript (IsOnScreen width height) line text
 RefusesScript width height text TooLong =
-    (1048576 < length text) ⊎ ((line : ℕ) × IsFirstFaulty width height text line × BeginsScript (IsOnScreen width height) line text)
+    (1048576 < length text)
+    ⊎ ((line : ℕ) × IsFirstFaulty width height text line × BeginsScript (IsOnScreen width height) line text)
 
 -- the script was read, unless memory ran out
 abbrev pub GivesScript : Result (List Item) ScriptFault → List Item → Type 0

@@ -8,7 +8,8 @@ use Rattle.tv_script.specs.Performed.{IsScreenOf}
 use Rattle.tv_session.specs.Running.{IsRun}
 use Rattle.tv_session.specs.declared.session.SessionOf.{SessionOf}
 
--- the session stands for a run of its description: its windows, dialogs, menus and log are the state's, its screen shows the
+-- the session stands for a run of its description: its windows, dialogs, menus and log are the state's, its
+-- screen shows the
 -- state, and the state is one that runs of sound dialogs come to
 pub record StandsFor {V : Type 0} (look : V → Leaf) (session : SessionOf V) (s : Session) : Type 0 where
   pub desc : session.checked ≡ s.desc

@@ -29,12 +29,14 @@ abbrev pub start_place : Desc → Option ℕ
 start_place d = place_named d d.start
 
 -- why no session was made of these views: memory ran out, or this is the first that isn't as declared
-abbrev pub RefusesViews : {V : Type 0} → (V → Leaf) → Desc → List (WindowOf V) → List (GroupOf V) → SessionFault → Type 0
+abbrev pub RefusesViews : {V : Type 0} → (V → Leaf) → Desc → List (WindowOf V) → List (GroupOf V)
+    → SessionFault → Type 0
 RefusesViews look d windows bodies NoMemory = Unit {0}
 RefusesViews look d windows bodies (ViewMismatch place) = IsFirstMismatch look d windows bodies (Some place)
 
 -- what a session is made of before its start: each part is that of the description
-pub record CanStart {V : Type 0} (look : V → Leaf) (d : Desc) (parts : Parts) (windows : List (WindowOf V)) (dialogs : DialogsOf V) : Type 0 where
+pub record CanStart {V : Type 0} (look : V → Leaf) (d : Desc) (parts : Parts) (windows : List (WindowOf V))
+    (dialogs : DialogsOf V) : Type 0 where
   pub sound : HasSoundDialogs d
   pub lawful : AreLawfulWindows d.windows
   pub size : IsLawfulScreen d.width d.height

@@ -44,8 +44,10 @@ pub record IsAtWork (o : OpenDialog) (overwriting : List Id) (m : Modal) : Type 
   pub focus : m.focus ≡ o.focus
   pub overwriting_in : m.overwriting ≡ overwriting
 
--- the dialog at work is the open one of the description, where it is declared, and it is drawn on the desktop as the active one
-pub record IsShown (desc : Desc) (d : Dialog) (o : OpenDialog) (overwriting : List Id) (m : Modal) (env : Env) (c : Canvas) : Type 0 where
+-- the dialog at work is the open one of the description, where it is declared, and it is drawn on the desktop
+-- as the active one
+pub record IsShown (desc : Desc) (d : Dialog) (o : OpenDialog) (overwriting : List Id) (m : Modal) (env : Env)
+    (c : Canvas) : Type 0 where
   pub work : IsAtWork o overwriting m
   pub corner : o.origin ≡ corner_of d.node
   pub views : env.views.now ≡ d.views

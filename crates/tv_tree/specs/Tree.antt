@@ -1,5 +1,6 @@
 -- How the views of a dialog stand, where the machine's dialog stands so.
-use Rattle.std.specs.Prelude.{◌≡◌, ℕ, Bool, true, false, IsTrue, List, ◌∷◌, map, reverse, All, Option, Some, None, is_some, ◌==◌, if◌then◌else◌}
+use Rattle.std.specs.Prelude.{◌≡◌, ℕ, Bool, true, false, IsTrue, List, ◌∷◌, map, reverse, All, Option, Some}
+use Rattle.std.specs.Prelude.{None, is_some, ◌==◌, if◌then◌else◌}
 use Rattle.tv_cells.specs.declared.rect.Rect.{Rect}
 use Rattle.tv_model.specs.declared.node.Id.{Id}
 use Rattle.tv_model.specs.declared.kind.Kind.{Kind}
@@ -24,7 +25,8 @@ abbrev pub held_at : Option Held → Id → Option ℕ
 held_at None i = None
 held_at (Some held) i = if held.id.0 == i.0 then Some held.item else None
 
--- a leaf: what it holds, the focus and the hold are the machine's; whether it is shown and enabled is what the rules made of
+-- a leaf: what it holds, the focus and the hold are the machine's; whether it is shown and enabled is what
+-- the rules made of
 -- the marks of these leaves
 abbrev pub leaf_as : Dialog → List LeafState → Modal → PlacedNode → Leaf
 leaf_as d ruled m leaf = record {
@@ -44,7 +46,11 @@ around_of d leaf = body_bounds d.node ∷ map place_of_node (reverse leaf.panes)
 
 -- the same in its place, where current members lead to the focus
 abbrev pub placed_as : Dialog → List LeafState → Modal → PlacedNode → Placed
-placed_as d ruled m leaf = record { leaf = leaf_as d ruled m leaf; around = around_of d leaf; is_current = leaf.node.id.0 == m.focus.0 }
+placed_as d ruled m leaf = record {
+  leaf = leaf_as d ruled m leaf;
+  around = around_of d leaf;
+  is_current = leaf.node.id.0 == m.focus.0;
+}
 
 -- the leaves in description order, where the rules were last applied to these marks
 abbrev pub tree_as : Dialog → List LeafState → Modal → List Placed

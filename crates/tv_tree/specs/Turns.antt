@@ -21,7 +21,8 @@ use Rattle.tv_view.specs.declared.reaction.Reaction.{Reaction}
 use Rattle.tv_view.specs.declared.reaction.Reaction.TheVariants as reactions
 use Rattle.tv_group.specs.Handling.{group_after, group_answer, is_pass}
 
--- what the dialog lends its views while an event is handled: the views of its description, the focus that there was when the
+-- what the dialog lends its views while an event is handled: the views of its description, the focus that
+-- there was when the
 -- event came, and the button that Enter presses then
 pub record IsLentBy (d : Dialog) (m : Modal) (env : Env) : Type 0 where
   pub views : env.views.now ≡ d.views
@@ -34,23 +35,29 @@ pub record IsLentBy (d : Dialog) (m : Modal) (env : Env) : Type 0 where
 abbrev pub first_taken : Reaction → Reaction → Reaction
 first_taken first second = if is_pass first then second else first
 
--- an event in three phases: to those that mark letters, to the current leaf, and to those that mark letters again, until one
+-- an event in three phases: to those that mark letters, to the current leaf, and to those that mark letters
+-- again, until one
 -- takes it
 abbrev pub phases_answer : Event → Env → List Placed → Reaction
-phases_answer e env xs = first_taken (group_answer e phases.Pre env xs) (first_taken (group_answer e phases.Focused env xs) (group_answer e phases.Post env xs))
+phases_answer e env xs =
+    first_taken (group_answer e phases.Pre env xs)
+    (first_taken (group_answer e phases.Focused env xs) (group_answer e phases.Post env xs))
 
 -- the leaf that takes it alone changes
 abbrev pub phases_after : Event → Env → List Placed → List Placed
 phases_after e env xs =
     if is_pass (group_answer e phases.Pre env xs) then
-    (if is_pass (group_answer e phases.Focused env xs) then group_after e phases.Post env xs else group_after e phases.Focused env xs)
+    (if is_pass (group_answer e phases.Focused env xs) then group_after e phases.Post env xs
+    else group_after e phases.Focused env xs)
     else group_after e phases.Pre env xs
 
 -- ---- what views ask for
 
 -- a cluster of so many items has the item pressed, if it has it
 abbrev pub cluster_pressed_at : Dialog → ClusterKind → ℕ → Id → ℕ → Modal → Modal
-cluster_pressed_at d kind count i item m = if is_item_place count item then content_put d i (cluster_item_pressed kind item (content_at m i)) m else m
+cluster_pressed_at d kind count i item m =
+    if is_item_place count item then content_put d i (cluster_item_pressed kind item (content_at m i)) m
+    else m
 
 -- only clusters have items to press
 abbrev pub shortcut_pressed_at : Dialog → Shortcut → Id → ℕ → Modal → Modal
@@ -70,7 +77,8 @@ leaf_pressed d (Some leaf) item m = kind_pressed_at d leaf.node.kind leaf.node.i
 abbrev pub pressed_at : Dialog → Id → ℕ → Modal → Modal
 pressed_at d i item m = leaf_pressed d (leaf_at d i) item m
 
--- the machine's dialog after what a view answered: a pressed button's command is handled with no other event between
+-- the machine's dialog after what a view answered: a pressed button's command is handled with no other event
+-- between
 abbrev pub reacted : Dialog → Reaction → Modal → Modal
 reacted d reactions.Pass m = m
 reacted d reactions.Done m = m

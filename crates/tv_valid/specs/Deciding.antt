@@ -1,5 +1,6 @@
 -- What a domain asks of a text, and whether it has one, as functions that compute.
-use Rattle.std.specs.Prelude.{ℕ, ◌-◌, ◌^◌, min, List, [], ◌∷◌, length, Bool, true, false, ◌&&◌, ◌||◌, ◌==◌, nat_le, nat_lt, ℤ, pos, neg_ℤ, int_le, int_lt, unsigned_abs}
+use Rattle.std.specs.Prelude.{ℕ, ◌-◌, ◌^◌, min, List, [], ◌∷◌, length, Bool, true, false, ◌&&◌, ◌||◌, ◌==◌}
+use Rattle.std.specs.Prelude.{nat_le, nat_lt, ℤ, pos, neg_ℤ, int_le, int_lt, unsigned_abs}
 use Rattle.std.specs.Char.{char_set_contains, is_ascii_digit}
 use Rattle.std.specs.List.{list_all}
 use Rattle.tv_cells.specs.Glyph.{is_narrow}
@@ -25,7 +26,8 @@ are_digits_within least greatest cs = are_digits cs && is_from_to least (pos (nu
 
 -- the digits after the `-` of a number of the range
 abbrev pub are_negative_within : ℤ → ℤ → List ℕ → Bool
-are_negative_within least greatest cs = are_digits cs && (int_lt least (pos 0) && is_from_to least (neg_ℤ (pos (number_of_digits cs))) greatest)
+are_negative_within least greatest cs =
+    are_digits cs && (int_lt least (pos 0) && is_from_to least (neg_ℤ (pos (number_of_digits cs))) greatest)
 
 -- the text is the sign, and what is right after it
 abbrev pub is_after : ℕ → (List ℕ → Bool) → List ℕ → Bool
@@ -34,7 +36,10 @@ is_after sign right (c ∷ cs) = (c == sign) && right cs
 
 -- an optional sign and digits whose value is in the range; a `-` only where the least value is negative
 abbrev pub in_range : ℤ → ℤ → List ℕ → Bool
-in_range least greatest text = are_digits_within least greatest text || (is_after 43 (are_digits_within least greatest) text || is_after 45 (are_negative_within least greatest) text)
+in_range least greatest text =
+    are_digits_within least greatest text
+    || (is_after 43 (are_digits_within least greatest) text
+    || is_after 45 (are_negative_within least greatest) text)
 
 -- a character of such a text
 abbrev pub is_range_char : ℤ → ℕ → Bool
@@ -70,13 +75,22 @@ viable d text = fits_in d.max text && may_become d.kind text
 
 -- ---- whether there is a text
 
--- a number of the range, whose bounds are in order, is written by so many characters, where there is room for one
+-- a number of the range, whose bounds are in order, is written by so many characters, where there is room for
+-- one
 abbrev pub has_number_within : ℤ → ℤ → ℕ → Bool
-has_number_within least greatest room = elim (int_lt (pos 0) least) [ true ↦ nat_lt (unsigned_abs least) (10 ^ room) | false ↦ elim (int_lt greatest (pos 0)) [ true ↦ nat_lt (unsigned_abs greatest) (10 ^ (room - 1)) | false ↦ true ] ]
+has_number_within least greatest room =
+    elim (int_lt (pos 0) least) [
+      | true ↦ nat_lt (unsigned_abs least) (10 ^ room)
+      | false ↦ elim (int_lt greatest (pos 0)) [
+        | true ↦ nat_lt (unsigned_abs greatest) (10 ^ (room - 1))
+        | false ↦ true
+      ]
+    ]
 
 -- a number of the range is written by so many narrow characters
 abbrev pub has_number : ℤ → ℤ → ℕ → Bool
-has_number least greatest room = int_le least greatest && (nat_le 1 room && has_number_within least greatest room)
+has_number least greatest room =
+    int_le least greatest && (nat_le 1 room && has_number_within least greatest room)
 
 -- a text of the kind is written by so many narrow characters
 abbrev pub has_own : Kind → ℕ → Bool

@@ -1,5 +1,7 @@
 -- What an input asks of its text.
-use Rattle.std.specs.Prelude.{◌≡◌, ℕ, ◌+◌, ◌-◌, ◌*◌, ◌^◌, ◌≤◌, ◌<◌, ◌⊎◌, ◌++◌, List, [], ◌∷◌, length, take, insert, slice_index_or, All, Contains, Bool, true, if◌then◌else◌, nat_le, ◌&&◌, ◌==◌, IsTrue, ℤ, pos, neg_ℤ, ◌≤ℤ◌, ◌<ℤ◌}
+use Rattle.std.specs.Prelude.{◌≡◌, ℕ, ◌+◌, ◌-◌, ◌*◌, ◌^◌, ◌≤◌, ◌<◌, ◌⊎◌, ◌++◌, List, [], ◌∷◌, length, take}
+use Rattle.std.specs.Prelude.{insert, slice_index_or, All, Contains, Bool, true, if◌then◌else◌, nat_le, ◌&&◌}
+use Rattle.std.specs.Prelude.{◌==◌, IsTrue, ℤ, pos, neg_ℤ, ◌≤ℤ◌, ◌<ℤ◌}
 use Rattle.tv_cells.specs.Glyph.{IsNarrow}
 use Rattle.tv_picture.specs.Pattern.{Pattern, IsMember, Begins, IsNextLiteral, IsDigit}
 use Rattle.tv_picture.specs.Spelling.{IsPicture, spelled, IsFirstFaultyPlace}
@@ -29,7 +31,10 @@ IsFromTo least z greatest = (least ≤ℤ z) × (z ≤ℤ greatest)
 
 -- an optional sign and digits whose value is in the range; a `-` only where the least value is negative
 abbrev pub InRange : ℤ → ℤ → List ℕ → Type 0
-InRange least greatest text = (cs : List ℕ) × IsDigits cs × ((((text ≡ cs) ⊎ (text ≡ 43 ∷ cs)) × IsFromTo least (pos (number_of_digits cs)) greatest) ⊎ ((text ≡ 45 ∷ cs) × (least <ℤ pos 0) × IsFromTo least (neg_ℤ (pos (number_of_digits cs))) greatest))
+InRange least greatest text =
+    (cs : List ℕ) × IsDigits cs
+    × ((((text ≡ cs) ⊎ (text ≡ 43 ∷ cs)) × IsFromTo least (pos (number_of_digits cs)) greatest)
+    ⊎ ((text ≡ 45 ∷ cs) × (least <ℤ pos 0) × IsFromTo least (neg_ℤ (pos (number_of_digits cs))) greatest))
 
 -- a character of such a text
 abbrev pub IsRangeChar : ℤ → ℕ → Type 0
@@ -86,7 +91,8 @@ HasText d = (text : List ℕ) × InDomain d text
 
 -- a number of the range is written by so many narrow characters
 abbrev pub HasNumber : ℤ → ℤ → ℕ → Type 0
-HasNumber least greatest room = (text : List ℕ) × InRange least greatest text × (length text ≤ room) × All IsNarrow text
+HasNumber least greatest room =
+    (text : List ℕ) × InRange least greatest text × (length text ≤ room) × All IsNarrow text
 
 -- the picture's fault as the domain's
 abbrev pub picture_fault : PictureFault → DomainFault
@@ -96,13 +102,15 @@ picture_fault (pictures.Syntax place) = BadPicture place
 -- why there is no kind: no memory, or a wrong picture
 abbrev pub RefusesKind : DomainSpec → DomainFault → Type 0
 RefusesKind spec NoMemory = Unit {0}
-RefusesKind spec (BadPicture place) = (text : List ℕ) × (spec ≡ asked.Picture text) × IsFirstFaultyPlace text place
+RefusesKind spec (BadPicture place) =
+    (text : List ℕ) × (spec ≡ asked.Picture text) × IsFirstFaultyPlace text place
 RefusesKind spec Empty = ⊥
 
 -- why there is no domain: its picture is wrong, or it is right and no text lies in the domain
 abbrev pub RefusesDomain : InputSpec → DomainFault → Type 0
 RefusesDomain spec NoMemory = Unit {0}
-RefusesDomain spec (BadPicture place) = (text : List ℕ) × (spec.domain ≡ asked.Picture text) × IsFirstFaultyPlace text place
+RefusesDomain spec (BadPicture place) =
+    (text : List ℕ) × (spec.domain ≡ asked.Picture text) × IsFirstFaultyPlace text place
 RefusesDomain spec Empty = ((d : Domain) × IsDomain spec d) × ((d : Domain) → IsDomain spec d → HasText d → ⊥)
 
 -- ---- typing
@@ -114,7 +122,8 @@ IsNarrowKind _ = Unit {0}
 
 -- an ASCII letter in its other case, and any other character itself
 abbrev pub other_case : ℕ → ℕ
-other_case c = if nat_le 65 c && nat_le c 90 then c + 32 else (if nat_le 97 c && nat_le c 122 then c - 32 else c)
+other_case c =
+    if nat_le 65 c && nat_le c 90 then c + 32 else (if nat_le 97 c && nat_le c 122 then c - 32 else c)
 
 -- the domain is a picture
 abbrev pub IsPictureKind : Kind → Type 0
@@ -123,13 +132,16 @@ IsPictureKind _ = ⊥
 
 -- the character that is typed: as it is, or for a picture in its other case where that alone is viable
 abbrev pub IsChosen : Domain → List ℕ → ℕ → ℕ → ℕ → Type 0
-IsChosen d text at ch c = IsViableText d (insert text at c) × ((c ≡ ch) ⊎ (IsPictureKind d.kind × (c ≡ other_case ch) × ¬ (IsViableText d (insert text at ch))))
+IsChosen d text at ch c =
+    IsViableText d (insert text at c)
+    × ((c ≡ ch) ⊎ (IsPictureKind d.kind × (c ≡ other_case ch) × ¬ (IsViableText d (insert text at ch))))
 
 -- the text with the literals that must follow it, as far as there is room
 pub record IsFilledTo (max : ℤ) (p : Pattern) (text out : List ℕ) : Type 0 where
   pub more : List ℕ
   pub grown : out ≡ text ++ more
-  pub literals : (k : ℕ) (c : ℕ) → k < length more → IsNextLiteral p (text ++ take k more) (slice_index_or more k c) × (pos (length text + k) <ℤ max)
+  pub literals : (k : ℕ) (c : ℕ) → k < length more
+      → IsNextLiteral p (text ++ take k more) (slice_index_or more k c) × (pos (length text + k) <ℤ max)
   pub full : (c : ℕ) → pos (length out) <ℤ max → IsNextLiteral p out c → ⊥
 
 -- with `fill`, what is typed at the end of a picture's text is filled up
@@ -139,4 +151,6 @@ IsCompleted d _ _ text out = out ≡ text
 
 -- the text after a character was typed
 abbrev pub IsTyped : Domain → List ℕ → ℕ → ℕ → List ℕ → Type 0
-IsTyped d text at ch out = (c : ℕ) × IsChosen d text at ch c × IsCompleted d d.kind (d.fill && (at == length text)) (insert text at c) out
+IsTyped d text at ch out =
+    (c : ℕ) × IsChosen d text at ch c
+    × IsCompleted d d.kind (d.fill && (at == length text)) (insert text at c) out

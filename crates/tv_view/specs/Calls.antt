@@ -1,5 +1,6 @@
 -- What the other calls of a view answer, and make of its leaf.
-use Rattle.std.specs.Prelude.{◌⊎◌, ◌<◌, ℕ, Bool, true, false, not, ◌&&◌, List, length, Option, Some, None, IsSome, slice_index_or, ◌+◌, ◌==◌, if◌then◌else◌}
+use Rattle.std.specs.Prelude.{◌⊎◌, ◌<◌, ℕ, Bool, true, false, not, ◌&&◌, List, length, Option, Some, None}
+use Rattle.std.specs.Prelude.{IsSome, slice_index_or, ◌+◌, ◌==◌, if◌then◌else◌}
 use Rattle.tv_valid.specs.Domain.{IsViableText}
 use Rattle.tv_model.specs.declared.node.Id.{Id}
 use Rattle.tv_model.specs.declared.kind.Kind.{Kind}
@@ -29,12 +30,15 @@ flag_if b flag = if b then flag else 0
 
 -- sfVisible, sfSelected with sfFocused, sfDisabled
 abbrev pub state_bits : Leaf → ℕ
-state_bits leaf = flag_if leaf.is_shown 0x01 + (flag_if leaf.is_focused 0x60 + flag_if (not leaf.is_enabled) 0x100)
+state_bits leaf =
+    flag_if leaf.is_shown 0x01 + (flag_if leaf.is_focused 0x60 + flag_if (not leaf.is_enabled) 0x100)
 
--- ofSelectable with ofFirstClick for controls, ofPreProcess with ofPostProcess for what marks letters, ofValidate
+-- ofSelectable with ofFirstClick for controls, ofPreProcess with ofPostProcess for what marks letters,
+-- ofValidate
 abbrev pub option_bits : Kind → ℕ
 option_bits kind =
-    flag_if (is_control kind) 0x05 + (flag_if (has_marks (behaviour kind).shortcut) 0x30 + flag_if (behaviour kind).validates 0x400)
+    flag_if (is_control kind) 0x05
+    + (flag_if (has_marks (behaviour kind).shortcut) 0x30 + flag_if (behaviour kind).validates 0x400)
 
 -- ---- the focus
 
@@ -42,9 +46,12 @@ option_bits kind =
 abbrev pub takes_focus : Id → Leaf → Bool
 takes_focus id leaf = is_control leaf.node.kind && (leaf.node.id.0 == id.0)
 
--- what the coming or going of the focus makes of a leaf by its kind: of an input an edit, of other leaves nothing
+-- what the coming or going of the focus makes of a leaf by its kind: of an input an edit, of other leaves
+-- nothing
 abbrev pub leaf_refocused : (Edit → Edit) → Kind → Leaf → Leaf
-leaf_refocused edit kind leaf = if (behaviour kind).is_edited then with_content (edit_content (edit (edit_of (content_of leaf)))) leaf else leaf
+leaf_refocused edit kind leaf =
+    if (behaviour kind).is_edited then with_content (edit_content (edit (edit_of (content_of leaf)))) leaf
+    else leaf
 
 -- an input that receives the focus has its text selected
 abbrev pub given_focus : Leaf → Leaf
@@ -56,13 +63,18 @@ without_focus leaf = record (leaf_refocused left leaf.node.kind leaf) { is_focus
 
 -- the control that has the focus already stays as it is, and every other leaf loses it
 unfoldable pub focused_to : Id → Leaf → Leaf
-focused_to id leaf = if not (takes_focus id leaf) then without_focus leaf else if leaf.is_focused then leaf else given_focus leaf
+focused_to id leaf =
+    if not (takes_focus id leaf) then without_focus leaf
+    else if leaf.is_focused then leaf else given_focus leaf
 
 -- ---- pressing an item
 
 -- a cluster of so many items with the item pressed, if it has it
 abbrev pub cluster_pressed : ClusterKind → ℕ → ℕ → Leaf → Leaf
-cluster_pressed kind count item leaf = if is_item_place count item then with_content (clusters.cluster_item_pressed kind item (content_of leaf)) leaf else leaf
+cluster_pressed kind count item leaf =
+    if is_item_place count item
+    then with_content (clusters.cluster_item_pressed kind item (content_of leaf)) leaf
+    else leaf
 
 -- only clusters have items to press
 abbrev pub shortcut_pressed : Shortcut → ℕ → Leaf → Leaf
@@ -117,7 +129,10 @@ Fits entries leaf = IsFieldValue leaf.node.kind (value_of entries leaf.node.id.0
 
 -- a leaf with a value and the first private state that goes with it
 abbrev pub leaf_opened_with : Option Value → Leaf → Leaf
-leaf_opened_with (Some value) leaf = record leaf { value = Some value; private = opened_private leaf.node.kind (Some value) }
+leaf_opened_with (Some value) leaf = record leaf {
+  value = Some value;
+  private = opened_private leaf.node.kind (Some value);
+}
 leaf_opened_with None leaf = leaf
 
 -- whether there is a value, as fields have one
@@ -125,11 +140,16 @@ abbrev pub has_field_value : Option Value → Bool
 has_field_value None = false
 has_field_value (Some value) = true
 
--- the leaf as its dialog opens with the record: no focus, nothing held, and a field has its value and its first private state.
+-- the leaf as its dialog opens with the record: no focus, nothing held, and a field has its value and its
+-- first private state.
 -- Whether typing overwrites stays
 unfoldable pub set_from : Entries → Leaf → Leaf
 set_from entries leaf =
-    record (if has_field_value leaf.value then leaf_opened_with (value_of entries leaf.node.id.0) leaf else leaf) { is_focused = false; held = None }
+    record (if has_field_value leaf.value then leaf_opened_with (value_of entries leaf.node.id.0) leaf
+    else leaf) {
+      is_focused = false;
+      held = None;
+    }
 
 -- ---- rules
 
@@ -144,4 +164,7 @@ is_kind_enabled_among commands kind = is_enabled_among commands (command_of kind
 
 -- what the rules make of a leaf
 unfoldable pub applied : Rules → Leaf → Leaf
-applied rules leaf = record leaf { is_shown = is_among rules.shown.now leaf.node.id; is_enabled = is_kind_enabled_among rules.commands.now leaf.node.kind }
+applied rules leaf = record leaf {
+  is_shown = is_among rules.shown.now leaf.node.id;
+  is_enabled = is_kind_enabled_among rules.commands.now leaf.node.kind;
+}

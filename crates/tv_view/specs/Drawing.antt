@@ -23,21 +23,31 @@ pub record Lays (layers : List Layer) (old new : Picture) : Type 0 where
 
 -- the face of a leaf, by its kind
 abbrev pub faces_of : Env → Leaf → List FaceOf
-faces_of env leaf = leaf_faces (colour env) env.owner (lent_look env leaf) (natural leaf.node.w) leaf.node.kind (content_of leaf)
+faces_of env leaf =
+    leaf_faces (colour env) env.owner (lent_look env leaf) (natural leaf.node.w) leaf.node.kind
+    (content_of leaf)
 
 -- a leaf, seen from the canvas's origin: its face in its rectangle, nothing where it is hidden
 unfoldable pub leaf_layers : Env → Canvas → Leaf → List Layer
 leaf_layers env c leaf =
-    if leaf.is_shown then map (λ face. Painted (sub c (bounds_of leaf)) (natural leaf.node.w) (natural (height_of leaf.node.kind)) face) (faces_of env leaf) else []
+    if leaf.is_shown
+    then map (λ face.
+    Painted (sub c (bounds_of leaf)) (natural leaf.node.w) (natural (height_of leaf.node.kind)) face)
+    (faces_of env leaf)
+    else []
 
 -- an origin so near that every rectangle of the screen's size can be seen from it
 abbrev pub is_near : Point → Bool
-is_near p = (le_z (neg_ℤ (pos 100000)) p.x && le_z p.x (pos 100000)) && (le_z (neg_ℤ (pos 100000)) p.y && le_z p.y (pos 100000))
+is_near p =
+    (le_z (neg_ℤ (pos 100000)) p.x && le_z p.x (pos 100000))
+    && (le_z (neg_ℤ (pos 100000)) p.y && le_z p.y (pos 100000))
 
--- a leaf in the groups around it, each of which cuts it and moves the origin. What lies too far away isn't drawn
+-- a leaf in the groups around it, each of which cuts it and moves the origin. What lies too far away isn't
+-- drawn
 abbrev pub layers_in : Env → Canvas → List Rect → Leaf → List Layer
 layers_in env c [] leaf = leaf_layers env c leaf
-layers_in env c (bounds ∷ around) leaf = if is_near (sub c bounds).origin then layers_in env (sub c bounds) around leaf else []
+layers_in env c (bounds ∷ around) leaf =
+    if is_near (sub c bounds).origin then layers_in env (sub c bounds) around leaf else []
 
 -- leaves one after the other: the last is on top
 abbrev pub leaves_layers : Env → Canvas → List Placed → List Layer

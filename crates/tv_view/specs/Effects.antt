@@ -1,4 +1,5 @@
--- What an event makes of a leaf: what the machine's tables make of what it holds, and whether it holds the mouse.
+-- What an event makes of a leaf: what the machine's tables make of what it holds, and whether it holds the
+-- mouse.
 use Rattle.std.specs.Prelude.{◌≡◌, ℕ, ◌&&◌, Option, Some, None, if◌then◌else◌}
 use Rattle.tv_cells.specs.declared.rect.Point.{Point}
 use Rattle.tv_event.specs.declared.event.Event.{Event}
@@ -33,29 +34,38 @@ leaf_keyed k phases.Post leaf = leaf
 
 -- the first place that was shown when the event came: an input without the focus showed its start
 abbrev pub first_shown_before : Env → Leaf → ℕ
-first_shown_before env leaf = if has_focus env leaf.node.id then first_shown (natural leaf.node.w) (cursor_of leaf.private) else 0
+first_shown_before env leaf =
+    if has_focus env leaf.node.id then first_shown (natural leaf.node.w) (cursor_of leaf.private) else 0
 
 -- the leaf holds the mouse from a down on, and remembers an item
 abbrev pub captured : Env → Point → Leaf → Leaf
 captured env p leaf =
-    record (with_content (down_content leaf.node.kind (first_shown_before env leaf) (column_of leaf p) (row_of leaf p) (content_of leaf)) leaf) {
+    record (with_content (down_content leaf.node.kind (first_shown_before env leaf) (column_of leaf p)
+    (row_of leaf p) (content_of leaf)) leaf) {
       held = Some (remembered leaf.node.kind (row_of leaf p));
     }
 
 -- a move to a point inside the leaf, while it holds the mouse
 abbrev pub moved : Point → Leaf → Leaf
-moved p leaf = if holds_mouse leaf && leaf_has_point leaf p then with_content (move_content leaf.node.kind (row_of leaf p) (content_of leaf)) leaf else leaf
+moved p leaf =
+    if holds_mouse leaf && leaf_has_point leaf p
+    then with_content (move_content leaf.node.kind (row_of leaf p) (content_of leaf)) leaf
+    else leaf
 
 -- an up, where the leaf holds the mouse and remembers an item: it doesn't hold it any longer
 abbrev pub lifted : Point → Option ℕ → Leaf → Leaf
 lifted p None leaf = leaf
 lifted p (Some item) leaf =
-    record (if leaf_has_point leaf p then with_answer (up_answer leaf.node.kind item (row_of leaf p) (content_of leaf)) leaf else leaf) { held = None }
+    record (if leaf_has_point leaf p
+    then with_answer (up_answer leaf.node.kind item (row_of leaf p) (content_of leaf)) leaf else leaf) {
+      held = None;
+    }
 
 -- what a leaf becomes by an event in a phase
 unfoldable pub handled : Event → Phase → Env → Leaf → Leaf
 handled (events.Key k) p env leaf = leaf_keyed k p leaf
-handled (events.Down point) p env leaf = if captures leaf leaf.node.kind then captured env point leaf else leaf
+handled (events.Down point) p env leaf =
+    if captures leaf leaf.node.kind then captured env point leaf else leaf
 handled (events.Move point) p env leaf = moved point leaf
 handled (events.Up point) p env leaf = lifted point leaf.held leaf
 handled (events.Command c) p env leaf = leaf

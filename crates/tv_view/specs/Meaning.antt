@@ -45,7 +45,8 @@ bounds_of leaf = place_of_node leaf.node
 
 -- ---- leaves in their places
 
--- a leaf, the groups around it from the outermost in, each seen from the one around it, and whether the current members lead to it
+-- a leaf, the groups around it from the outermost in, each seen from the one around it, and whether the
+-- current members lead to it
 pub record Placed : Type 0 where
   pub leaf : Leaf
   pub around : List Rect

@@ -24,9 +24,13 @@ row_of leaf p = int_gap (bounds_of leaf).a.y p.y
 
 -- ---- groups
 
--- a point, seen from the corner of a rectangle. One so far away that no number is left for it comes as near as there is one
+-- a point, seen from the corner of a rectangle. One so far away that no number is left for it comes as near
+-- as there is one
 abbrev pub point_into : Rect → Point → Point
-point_into bounds p = record { x = saturate_signed w32 (p.x -ℤ bounds.a.x); y = saturate_signed w32 (p.y -ℤ bounds.a.y) }
+point_into bounds p = record {
+  x = saturate_signed w32 (p.x -ℤ bounds.a.x);
+  y = saturate_signed w32 (p.y -ℤ bounds.a.y);
+}
 
 -- an event, as a group with these bounds hands it to what stands in it
 abbrev pub moved_into : Rect → Event → Event

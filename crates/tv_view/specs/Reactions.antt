@@ -1,5 +1,6 @@
 -- What a leaf answers to an event, by its kind. Its owner decides whether it gets the event at all.
-use Rattle.std.specs.Prelude.{ℕ, Bool, false, not, ◌&&◌, ◌||◌, List, length, Option, Some, None, ◌==◌, if◌then◌else◌}
+use Rattle.std.specs.Prelude.{ℕ, Bool, false, not, ◌&&◌, ◌||◌, List, length, Option, Some, None, ◌==◌}
+use Rattle.std.specs.Prelude.{if◌then◌else◌}
 use Rattle.tv_cells.specs.declared.rect.Point.{Point}
 use Rattle.tv_event.specs.declared.event.Command.{Command}
 use Rattle.tv_event.specs.declared.event.Event.{Event}
@@ -11,8 +12,10 @@ use Rattle.tv_event.specs.declared.event.Phase.TheVariants as phases
 use Rattle.tv_model.specs.declared.node.Id.{Id}
 use Rattle.tv_model.specs.declared.kind.Kind.{Kind}
 use Rattle.tv_model.specs.Kinds.{behaviour}
-use Rattle.tv_model.specs.Controls.Behaviour.{Down, Ignores, FocusesLink, Grips, Holds, Answer, Passed, Becomes, Presses}
-use Rattle.tv_model.specs.Controls.Shortcut.{Shortcut, NoMark, LinkMark, PressMark, ItemMarks, item_marking, ClusterKind}
+use Rattle.tv_model.specs.Controls.Behaviour.{Down, Ignores, FocusesLink, Grips, Holds, Answer, Passed}
+use Rattle.tv_model.specs.Controls.Behaviour.{Becomes, Presses}
+use Rattle.tv_model.specs.Controls.Shortcut.{Shortcut, NoMark, LinkMark, PressMark, ItemMarks, item_marking}
+use Rattle.tv_model.specs.Controls.Shortcut.{ClusterKind}
 use Rattle.tv_model.specs.declared.command.CommandSpec.{CommandSpec}
 use Rattle.tv_model.specs.declared.kind.MarkedText.{MarkedText}
 use Rattle.tv_model.specs.Description.Commands.{command_number, command_of}
@@ -24,7 +27,8 @@ use Rattle.tv_model.specs.Controls.Contents.{Content}
 use Rattle.tv_machine.specs.Controls.Tables.{key_answer, up_answer}
 use Rattle.tv_view.specs.declared.env.Env.{Env}
 use Rattle.tv_view.specs.declared.reaction.Reaction.{Reaction}
-use Rattle.tv_view.specs.declared.reaction.Reaction.TheVariants.{Pass, Done, Focus, FocusPress, Post, Changed, Capture, Release}
+use Rattle.tv_view.specs.declared.reaction.Reaction.TheVariants.{Pass, Done, Focus, FocusPress, Post}
+use Rattle.tv_view.specs.declared.reaction.Reaction.TheVariants.{Changed, Capture, Release}
 use Rattle.tv_view.specs.Colours.{is_lent_default, linked_by}
 use Rattle.tv_view.specs.Fields.{content_of}
 use Rattle.tv_view.specs.Points.{leaf_has_point, row_of}
@@ -51,7 +55,8 @@ focus_on (Some id) = Focus id
 
 -- ---- letters
 
--- the letter by which a key calls a view from any focus: with Alt before the focus gets the key, a plain one after it
+-- the letter by which a key calls a view from any focus: with Alt before the focus gets the key, a plain one
+-- after it
 abbrev pub calling_letter : Phase → Key → Option ℕ
 calling_letter phases.Pre (keys.Alt ch) = Some ch
 calling_letter phases.Post (keys.Char ch) = Some ch
@@ -72,12 +77,16 @@ abbrev pub item_call : Leaf → Option ℕ → Reaction
 item_call leaf None = Pass
 item_call leaf (Some item) = FocusPress leaf.node.id item
 
--- a letter from any focus: a label asks for the focus of its link, a button is pressed, a cluster asks for the item
+-- a letter from any focus: a label asks for the focus of its link, a button is pressed, a cluster asks for
+-- the item
 abbrev pub shortcut_answer : Env → Leaf → Kind → Shortcut → Option ℕ → Reaction
 shortcut_answer env leaf kind NoMark letter = Pass
-shortcut_answer env leaf kind (LinkMark text name) letter = if calls text letter then focus_on (linked_by env leaf.node.kind) else Pass
-shortcut_answer env leaf kind (PressMark text name) letter = if calls text letter then press_of leaf kind else Pass
-shortcut_answer env leaf kind (ItemMarks cluster name items) letter = item_call leaf (called_item items letter)
+shortcut_answer env leaf kind (LinkMark text name) letter =
+    if calls text letter then focus_on (linked_by env leaf.node.kind) else Pass
+shortcut_answer env leaf kind (PressMark text name) letter =
+    if calls text letter then press_of leaf kind else Pass
+shortcut_answer env leaf kind (ItemMarks cluster name items) letter =
+    item_call leaf (called_item items letter)
 
 -- the same by its kind
 abbrev pub letter_answer : Env → Leaf → Kind → Option ℕ → Reaction
@@ -111,7 +120,8 @@ focus_answer leaf marks Presses = press_of leaf leaf.node.kind
 -- a key in a phase
 abbrev pub keyed_answer : Env → Leaf → Key → Phase → Reaction
 keyed_answer env leaf k phases.Focused =
-    focus_answer leaf (may_mark_by leaf.node.kind k (content_of leaf)) (key_answer leaf.node.kind k (content_of leaf))
+    focus_answer leaf (may_mark_by leaf.node.kind k (content_of leaf))
+    (key_answer leaf.node.kind k (content_of leaf))
 keyed_answer env leaf k phases.Pre = letter_answer env leaf leaf.node.kind (calling_letter phases.Pre k)
 keyed_answer env leaf k phases.Post = letter_answer env leaf leaf.node.kind (calling_letter phases.Post k)
 
@@ -124,7 +134,8 @@ captures_by leaf (FocusesLink name) = false
 captures_by leaf (Grips grabs) = not grabs || leaf.is_focused
 captures_by leaf Holds = leaf.is_focused
 
--- whether a mouse down makes the leaf hold the mouse: a control that has the focus, or a button that doesn't want it
+-- whether a mouse down makes the leaf hold the mouse: a control that has the focus, or a button that doesn't
+-- want it
 abbrev pub captures : Leaf → Kind → Bool
 captures leaf kind = captures_by leaf (behaviour kind).down
 
@@ -134,7 +145,8 @@ down_focus env leaf = if is_control leaf.node.kind then Some leaf.node.id else l
 
 -- a mouse down
 abbrev pub down_answer : Env → Leaf → Reaction
-down_answer env leaf = if captures leaf leaf.node.kind then Capture leaf.node.id else focus_on (down_focus env leaf)
+down_answer env leaf =
+    if captures leaf leaf.node.kind then Capture leaf.node.id else focus_on (down_focus env leaf)
 
 -- a move is consumed by the leaf that holds the mouse
 abbrev pub move_answer : Leaf → Reaction
@@ -150,14 +162,18 @@ release_answer leaf Presses = press_of leaf leaf.node.kind
 abbrev pub lifted_answer : Leaf → Point → Option ℕ → Reaction
 lifted_answer leaf p None = Pass
 lifted_answer leaf p (Some item) =
-    if leaf_has_point leaf p then release_answer leaf (up_answer leaf.node.kind item (row_of leaf p) (content_of leaf)) else Release
+    if leaf_has_point leaf p
+    then release_answer leaf (up_answer leaf.node.kind item (row_of leaf p) (content_of leaf))
+    else Release
 
 -- ---- commands
 
 -- the default button is pressed by the broadcast that Enter becomes (command 14), while it is enabled
 abbrev pub broadcast_answer : Env → Leaf → Command → Reaction
 broadcast_answer env leaf c =
-    if is_button leaf.node.kind && ((c.0 == 14) && (is_lent_default env leaf.node.id && leaf.is_enabled)) then press_of leaf leaf.node.kind else Pass
+    if is_button leaf.node.kind && ((c.0 == 14) && (is_lent_default env leaf.node.id && leaf.is_enabled))
+    then press_of leaf leaf.node.kind
+    else Pass
 
 -- ---- events
 

@@ -25,7 +25,8 @@ pub record IsTextInside (owner node : Node) : Type 0 where
   pub inside : (x y : ℤ) → IsIn (place_of_node node) x y → IsIn (interior owner) x y
 
 -- an open window of the description, where it is declared, with static texts inside its frame
-pub record IsDeclared {V : Type 0} (look : V → Leaf) (d : Desc) (o : OpenWindow) (window : WindowOf V) : Type 0 where
+pub record IsDeclared {V : Type 0} (look : V → Leaf) (d : Desc) (o : OpenWindow)
+    (window : WindowOf V) : Type 0 where
   pub declared : Window
   pub named : window_of d o.id ≡ Some declared
   pub corner : o.origin ≡ corner_of declared.node
@@ -37,7 +38,8 @@ abbrev pub AreDeclared : {V : Type 0} → (V → Leaf) → Desc → List OpenWin
 AreDeclared look d [] [] = Unit {0}
 AreDeclared look d [] (window ∷ windows) = ⊥
 AreDeclared look d (o ∷ behind) [] = ⊥
-AreDeclared look d (o ∷ behind) (window ∷ windows) = IsDeclared look d o window × AreDeclared look d behind windows
+AreDeclared look d (o ∷ behind) (window ∷ windows) =
+    IsDeclared look d o window × AreDeclared look d behind windows
 
 -- the desktop, seen from the corner of the screen
 abbrev pub window_canvas : Desc → Canvas

@@ -32,14 +32,16 @@ pub record AreLawfulWindows (windows : List Window) : Type 0 where
 
 -- these windows, one for one, as they are before any event
 abbrev pub AreFreshWindows : {V : Type 0} → (V → Leaf) → List Window → List (WindowOf V) → Type 0
-AreFreshWindows look declared windows = AllZip (λ one window. IsFreshWindow look one.node one.views window) declared windows
+AreFreshWindows look declared windows =
+    AllZip (λ one window. IsFreshWindow look one.node one.views window) declared windows
 
 -- no two open windows are one
 abbrev pub AreDistinct : List OpenWindow → Type 0
 AreDistinct stack = AllPairs (λ window other. window.id.0 ≢ other.id.0) stack
 
 -- the open windows, one for one from the front
-pub record IsDesk {V : Type 0} (look : V → Leaf) (d : Desc) (stack : List OpenWindow) (desk : DeskOf V) : Type 0 where
+pub record IsDesk {V : Type 0} (look : V → Leaf) (d : Desc) (stack : List OpenWindow)
+    (desk : DeskOf V) : Type 0 where
   pub windows : AreDeclared look d stack desk.windows.items.items
   pub apart : AreDistinct stack
 

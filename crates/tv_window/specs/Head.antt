@@ -20,7 +20,15 @@ pub record KeptWindowHead : Type 0 where
 
 -- what a window keeps of a node with this head
 abbrev pub kept_window_head : Node → WindowHead → KeptWindowHead
-kept_window_head node head = record { id = node.id; x = node.x; y = node.y; w = node.w; h = head.h; number = head.number; title = head.title }
+kept_window_head node head = record {
+  id = node.id;
+  x = node.x;
+  y = node.y;
+  w = node.w;
+  h = head.h;
+  number = head.number;
+  title = head.title;
+}
 
 -- that of a window's node, and none of another's
 abbrev pub declared_window_head : Node → Option KeptWindowHead

@@ -24,21 +24,26 @@ abbrev pub body_of : {V : Type 0} → WindowOf V → GroupOf V
 body_of window = window.body
 
 -- the window of a node, with these views in its body, as it is before any event
-pub record IsFreshWindow {V : Type 0} (look : V → Leaf) (node : Node) (views : List Node) (window : WindowOf V) : Type 0 where
+pub record IsFreshWindow {V : Type 0} (look : V → Leaf) (node : Node) (views : List Node)
+    (window : WindowOf V) : Type 0 where
   pub head : Some (head_of window) ≡ declared_window_head node
   pub body : IsFreshBody look node views (body_of window)
 
 -- the frame with what it surrounds, in the window's rectangle
 abbrev pub window_frame_layer : Env → Canvas → KeptWindowHead → Layer
 window_frame_layer env c head = Painted (sub c (window_bounds head)) (natural head.w) (natural head.h)
-    (frame_face (natural head.w) (natural head.h) head.title (frame_look (colour_in env.chain.now) owners.Window (natural head.number) env.is_active))
+    (frame_face (natural head.w) (natural head.h) head.title
+    (frame_look (colour_in env.chain.now) owners.Window (natural head.number) env.is_active))
 
 -- the leaves of the body in the window's rectangle, the last on top, and the frame below them
 abbrev pub drawn_window : {V : Type 0} → (V → Leaf) → Env → Canvas → WindowOf V → List Layer
-drawn_window look env c window = leaves_layers env (sub c (window_bounds window.head)) (opened look window.body) ++ window_frame_layer env c window.head ∷ []
+drawn_window look env c window =
+    leaves_layers env (sub c (window_bounds window.head)) (opened look window.body)
+    ++ window_frame_layer env c window.head ∷ []
 
 -- windows from the front, each with its shadow below it; none behind the front one is active
 abbrev pub drawn_stack : {V : Type 0} → (V → Leaf) → Env → Canvas → List (WindowOf V) → List Layer
 drawn_stack look env c [] = []
 drawn_stack look env c (front ∷ behind) =
-    drawn_window look env c front ++ Shadow c (window_bounds front.head) ∷ drawn_stack look (record env { is_active = false }) c behind
+    drawn_window look env c front
+    ++ Shadow c (window_bounds front.head) ∷ drawn_stack look (record env { is_active = false }) c behind

@@ -1,4 +1,5 @@
--- The canonical text of declarations: each on a line of its own, one space between its words, no other spaces, and a
+-- The canonical text of declarations: each on a line of its own, one space between its words, no other
+-- spaces, and a
 -- line end after every line.
 use Rattle.std.specs.Prelude.{ℕ, List, [], ◌∷◌, ◌++◌, flat_map, encode_utf8_all}
 use Rattle.std.specs.List.{join_by}

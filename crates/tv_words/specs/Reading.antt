@@ -1,4 +1,5 @@
--- How lines are read, character by character. Private functions are held to these definitions, and the laws in proofs/
+-- How lines are read, character by character. Private functions are held to these definitions, and the laws
+-- in proofs/
 -- show that they give what the public contracts say.
 pub mod Steps
 pub mod Scan

@@ -16,7 +16,8 @@ declarations ([] ∷ wss) = declarations wss
 declarations ((w ∷ ws) ∷ wss) = (w ∷ ws) ∷ declarations wss
 
 -- the lines spell the value, one that can be spelled, by the words of its declarations
-pub record SpellsBy {V : Type 0} (spelling : V → List (List Word)) (CanBeSpelled : V → Type 0) (lines : List (List ℕ)) (v : V) : Type 0 where
+pub record SpellsBy {V : Type 0} (spelling : V → List (List Word)) (CanBeSpelled : V → Type 0)
+    (lines : List (List ℕ)) (v : V) : Type 0 where
   pub words : List (List Word)
   pub each : EachSpells lines words
   pub declared : declarations words ≡ spelling v
@@ -24,10 +25,13 @@ pub record SpellsBy {V : Type 0} (spelling : V → List (List Word)) (CanBeSpell
 
 -- some lines after these make a text that spells a value
 abbrev pub BeginsBy : {V : Type 0} → (V → List (List Word)) → (V → Type 0) → List (List ℕ) → Type 0
-BeginsBy {V} spelling CanBeSpelled lines = (more : List (List ℕ)) × (v : V) × SpellsBy spelling CanBeSpelled (lines ++ more) v
+BeginsBy {V} spelling CanBeSpelled lines =
+    (more : List (List ℕ)) × (v : V) × SpellsBy spelling CanBeSpelled (lines ++ more) v
 
--- the first faulty line: those before it begin a text of the grammar, and with it they don't; a line that is missing counts as one
-pub record IsFirstFaultyLine {V : Type 0} (spelling : V → List (List Word)) (CanBeSpelled : V → Type 0) (lines : List (List ℕ)) (line : ℕ) : Type 0 where
+-- the first faulty line: those before it begin a text of the grammar, and with it they don't; a line that is
+-- missing counts as one
+pub record IsFirstFaultyLine {V : Type 0} (spelling : V → List (List Word)) (CanBeSpelled : V → Type 0)
+    (lines : List (List ℕ)) (line : ℕ) : Type 0 where
   pub before : ℕ
   pub number : line ≡ before + 1
   pub within : before ≤ length lines

@@ -15,4 +15,5 @@ unescaped c = if c == 110 then 10 else c
 abbrev pub text_from : Bool → List ℕ → List ℕ
 text_from escape [] = []
 text_from true (c ∷ cs) = unescaped c ∷ text_from false cs
-text_from false (c ∷ cs) = if c == 34 then [] else if c == 92 then text_from true cs else c ∷ text_from false cs
+text_from false (c ∷ cs) =
+    if c == 34 then [] else if c == 92 then text_from true cs else c ∷ text_from false cs

@@ -1,5 +1,6 @@
 -- The words that the tokens of a line mean.
-use Rattle.std.specs.Prelude.{ℕ, List, [], ◌∷◌, false, chars, length, nat_le, Option, Some, None, if◌then◌else◌}
+use Rattle.std.specs.Prelude.{ℕ, List, [], ◌∷◌, false, chars, length, nat_le, Option, Some, None}
+use Rattle.std.specs.Prelude.{if◌then◌else◌}
 use Rattle.tv_words.specs.declared.token.BareText.{BareText}
 use Rattle.tv_words.specs.declared.token.QuotedText.{QuotedText}
 use Rattle.tv_words.specs.declared.token.QuotedChars.{QuotedChars}

@@ -1,5 +1,6 @@
 -- Reading the lines that declare clusters and lists.
-use Rattle.std.specs.Prelude.{ℕ, ℤ, List, [], ◌∷◌, ◌++◌, Option, Some, None, option_and_then, codes, if◌then◌else◌}
+use Rattle.std.specs.Prelude.{ℕ, ℤ, List, [], ◌∷◌, ◌++◌, Option, Some, None, option_and_then, codes}
+use Rattle.std.specs.Prelude.{if◌then◌else◌}
 use Rattle.std.specs.Option.{option_map}
 use Rattle.tv_model.specs.declared.kind.MarkedText.{MarkedText}
 use Rattle.tv_model.specs.declared.node.Node.{Node}
@@ -23,12 +24,14 @@ items_from texts start = record { texts = texts; start = start }
 -- one word more before `start`
 abbrev pub taken_before_start : List (List ℕ) → Word → Option Items
 taken_before_start texts (Quoted text) = Some (items_from (texts ++ text ∷ []) None)
-taken_before_start texts (Bare text) = if is_bare_word (Bare text) (codes "start") then Some (items_from texts (Some [])) else None
+taken_before_start texts (Bare text) =
+    if is_bare_word (Bare text) (codes "start") then Some (items_from texts (Some [])) else None
 
 -- one word more, before or after `start`
 abbrev pub word_taken : List (List ℕ) → Option (List ℤ) → Word → Option Items
 word_taken texts None w = taken_before_start texts w
-word_taken texts (Some numbers) w = option_map (λ n. items_from texts (Some (numbers ++ n ∷ []))) (number_in w)
+word_taken texts (Some numbers) w =
+    option_map (λ n. items_from texts (Some (numbers ++ n ∷ []))) (number_in w)
 
 -- one word more
 abbrev pub item_taken : Items → Word → Option Items
@@ -77,15 +80,24 @@ rows_of s = with2 (λ items start. (items, start)) (texts_in s.texts) (only_numb
 
 -- what follows `checks`
 abbrev pub checks_in : Position → List Word → Option Node
-checks_in at (name ∷ x ∷ y ∷ w ∷ items) = with3 (λ items name p. node_at at p (kinds.CheckBoxes (record { name = name; items = items.0; start = items.1 }))) (option_and_then boxes_of (items_in items)) (name_in name) (place_from x y w)
+checks_in at (name ∷ x ∷ y ∷ w ∷ items) =
+    with3 (λ items name p.
+    node_at at p (kinds.CheckBoxes (record { name = name; items = items.0; start = items.1 })))
+    (option_and_then boxes_of (items_in items)) (name_in name) (place_from x y w)
 checks_in at _ = None
 
 -- what follows `radios`
 abbrev pub radios_in : Position → List Word → Option Node
-radios_in at (name ∷ x ∷ y ∷ w ∷ items) = with3 (λ items name p. node_at at p (kinds.RadioButtons (record { name = name; items = items.0; start = items.1 }))) (option_and_then radios_of (items_in items)) (name_in name) (place_from x y w)
+radios_in at (name ∷ x ∷ y ∷ w ∷ items) =
+    with3 (λ items name p.
+    node_at at p (kinds.RadioButtons (record { name = name; items = items.0; start = items.1 })))
+    (option_and_then radios_of (items_in items)) (name_in name) (place_from x y w)
 radios_in at _ = None
 
 -- what follows `list`
 abbrev pub list_in : Position → List Word → Option Node
-list_in at (name ∷ x ∷ y ∷ w ∷ h ∷ items) = with4 (λ items name p h. node_at at p (kinds.List (record { name = name; h = h; items = items.0; start = items.1 }))) (option_and_then rows_of (items_in items)) (name_in name) (place_from x y w) (number_in h)
+list_in at (name ∷ x ∷ y ∷ w ∷ h ∷ items) =
+    with4 (λ items name p h.
+    node_at at p (kinds.List (record { name = name; h = h; items = items.0; start = items.1 })))
+    (option_and_then rows_of (items_in items)) (name_in name) (place_from x y w) (number_in h)
 list_in at _ = None

@@ -1,5 +1,6 @@
 -- Reading the commands that words name.
-use Rattle.std.specs.Prelude.{ℕ, ℤ, List, [], ◌∷◌, Bool, false, Option, Some, None, codes, find, if◌then◌else◌}
+use Rattle.std.specs.Prelude.{ℕ, ℤ, List, [], ◌∷◌, Bool, false, Option, Some, None, codes, find}
+use Rattle.std.specs.Prelude.{if◌then◌else◌}
 use Rattle.tv_model.specs.declared.command.CommandSpec.{CommandSpec}
 use Rattle.tv_model.specs.declared.command.CommandSpec.TheVariants as commands
 use Rattle.tv_model.specs.declared.command.Ends.{Ends}
@@ -10,7 +11,9 @@ use Rattle.tv_declarations.specs.Spelling.Terms.{command_name}
 
 -- the commands that have a word
 abbrev pub named_commands : List CommandSpec
-named_commands = commands.Quit ∷ commands.Menu ∷ commands.Close ∷ commands.Next ∷ commands.Ok ∷ commands.Cancel ∷ commands.Yes ∷ commands.No ∷ []
+named_commands =
+    commands.Quit ∷ commands.Menu ∷ commands.Close ∷ commands.Next ∷ commands.Ok ∷ commands.Cancel
+    ∷ commands.Yes ∷ commands.No ∷ []
 
 -- the first of the commands that the word names
 abbrev pub command_named : List CommandSpec → Word → Option CommandSpec
@@ -50,8 +53,16 @@ ends_in ws =
     let after_ok = after_next (command_name commands.Ok) ws in
     let after_cancel = after_next (command_name commands.Cancel) after_ok in
     let after_yes = after_next (command_name commands.Yes) after_cancel in
-    at_end (after_next (command_name commands.No) after_yes) (record { ok = is_next (command_name commands.Ok) ws; cancel = is_next (command_name commands.Cancel) after_ok; yes = is_next (command_name commands.Yes) after_cancel; no = is_next (command_name commands.No) after_yes })
+    at_end (after_next (command_name commands.No) after_yes)
+    (record {
+      ok = is_next (command_name commands.Ok) ws;
+      cancel = is_next (command_name commands.Cancel) after_ok;
+      yes = is_next (command_name commands.Yes) after_cancel;
+      no = is_next (command_name commands.No) after_yes;
+    })
 
 -- whether the button is the default, and whether it grabs the focus
 abbrev pub button_options_in : List Word → Option (Bool × Bool)
-button_options_in ws = let after_default = after_next (codes "default") ws in at_end (after_next (codes "grab") after_default) (is_next (codes "default") ws, is_next (codes "grab") after_default)
+button_options_in ws =
+    let after_default = after_next (codes "default") ws in at_end (after_next (codes "grab") after_default)
+    (is_next (codes "default") ws, is_next (codes "grab") after_default)

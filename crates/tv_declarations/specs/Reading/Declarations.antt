@@ -18,12 +18,14 @@ use Rattle.tv_declarations.specs.Reading.Nodes.{node_in}
 
 -- what follows `tvd`
 abbrev pub version_in : List Word → Option Declaration
-version_in (version ∷ []) = if is_bare_word version (codes "1") then Some (declared.Version versions.One) else None
+version_in (version ∷ []) =
+    if is_bare_word version (codes "1") then Some (declared.Version versions.One) else None
 version_in _ = None
 
 -- what follows `screen`
 abbrev pub screen_in : List Word → Option Declaration
-screen_in (width ∷ height ∷ []) = with2 (λ width height. declared.Screen width height) (number_in width) (number_in height)
+screen_in (width ∷ height ∷ []) =
+    with2 (λ width height. declared.Screen width height) (number_in width) (number_in height)
 screen_in _ = None
 
 -- what follows `start`
@@ -38,17 +40,27 @@ menu_in at _ = None
 
 -- what follows `item`
 abbrev pub item_in : Position → List Word → Option Declaration
-item_in at (text ∷ command ∷ []) = with2 (λ text command. declared.Item (record { id = at.id; text = text; command = command })) (mark_in text) (command_in command)
+item_in at (text ∷ command ∷ []) =
+    with2 (λ text command. declared.Item (record { id = at.id; text = text; command = command }))
+    (mark_in text) (command_in command)
 item_in at _ = None
 
 -- what follows `status`
 abbrev pub status_in : Position → List Word → Option Declaration
-status_in at (text ∷ key ∷ command ∷ []) = with3 (λ text key command. declared.Status (record { id = at.id; text = text; key = key; command = command })) (text_in text) (key_in key) (command_in command)
+status_in at (text ∷ key ∷ command ∷ []) =
+    with3 (λ text key command.
+    declared.Status (record { id = at.id; text = text; key = key; command = command })) (text_in text)
+    (key_in key) (command_in command)
 status_in at _ = None
 
 -- what follows the effect of a rule
 abbrev pub rule_in : Position → Effect → List Word → Option Declaration
-rule_in at effect (keyword ∷ cluster ∷ item ∷ []) = if is_bare_word keyword (codes "when") then with2 (λ cluster item. declared.Rule (record { id = at.id; effect = effect; cluster = cluster; item = item })) (name_in cluster) (number_in item) else None
+rule_in at effect (keyword ∷ cluster ∷ item ∷ []) =
+    if is_bare_word keyword (codes "when")
+    then with2 (λ cluster item.
+    declared.Rule (record { id = at.id; effect = effect; cluster = cluster; item = item }))
+    (name_in cluster) (number_in item)
+    else None
 rule_in at effect _ = None
 
 -- what follows `show`
@@ -59,7 +71,8 @@ show_in at (name ∷ fields) = option_and_then (λ name. rule_in at (effects.Sho
 -- what follows `enable`
 abbrev pub enable_in : Position → List Word → Option Declaration
 enable_in at [] = None
-enable_in at (command ∷ fields) = option_and_then (λ command. rule_in at (effects.Enable command) fields) (command_in command)
+enable_in at (command ∷ fields) =
+    option_and_then (λ command. rule_in at (effects.Enable command) fields) (command_in command)
 
 -- what follows `end`
 abbrev pub end_in : List Word → Option Declaration

@@ -28,7 +28,8 @@ picture_in (text ∷ more) = option_map (λ text. (domains.Picture text, more)) 
 
 -- what follows `range`
 abbrev pub range_in : List Word → Option (DomainSpec × List Word)
-range_in (least ∷ greatest ∷ more) = with2 (λ least greatest. (domains.Range least greatest, more)) (number_in least) (number_in greatest)
+range_in (least ∷ greatest ∷ more) =
+    with2 (λ least greatest. (domains.Range least greatest, more)) (number_in least) (number_in greatest)
 range_in _ = None
 
 -- the domain that the first words name, and the words after them
@@ -46,12 +47,19 @@ abbrev pub options_in : List Word → Option Options
 options_in ws =
     let after_validate = after_next (codes "validate") ws in
     let after_optional = after_next (codes "optional") after_validate in
-    at_end (after_next (codes "fill") after_optional) (record { validates = is_next (codes "validate") ws; optional = is_next (codes "optional") after_validate; fill = is_next (codes "fill") after_optional })
+    at_end (after_next (codes "fill") after_optional)
+    (record {
+      validates = is_next (codes "validate") ws;
+      optional = is_next (codes "optional") after_validate;
+      fill = is_next (codes "fill") after_optional;
+    })
 
 -- the start text and the options
 abbrev pub asked_after : DomainSpec → List Word → Option Asked
 asked_after domain [] = None
-asked_after domain (start ∷ options) = with2 (λ start options. record { domain = domain; start = start; options = options }) (text_in start) (options_in options)
+asked_after domain (start ∷ options) =
+    with2 (λ start options. record { domain = domain; start = start; options = options }) (text_in start)
+    (options_in options)
 
 -- the start text and the options after a domain, where there is one
 abbrev pub asked_from : Option (DomainSpec × List Word) → Option Asked
@@ -64,9 +72,23 @@ asked_in ws = asked_from (domain_in ws)
 
 -- the input line of these
 abbrev pub input_of : List ℕ → ℤ → Asked → Kind
-input_of name max asked = kinds.Input (record { name = name; spec = (record { max = max; domain = asked.domain; optional = asked.options.optional; fill = asked.options.fill }); start = asked.start; validates = asked.options.validates })
+input_of name max asked =
+    kinds.Input
+    (record {
+      name = name;
+      spec = (record {
+        max = max;
+        domain = asked.domain;
+        optional = asked.options.optional;
+        fill = asked.options.fill;
+      });
+      start = asked.start;
+      validates = asked.options.validates;
+    })
 
 -- what follows `input`
 abbrev pub input_in : Position → List Word → Option Node
-input_in at (name ∷ x ∷ y ∷ w ∷ max ∷ fields) = with4 (λ asked name p max. node_at at p (input_of name max asked)) (asked_in fields) (name_in name) (place_from x y w) (number_in max)
+input_in at (name ∷ x ∷ y ∷ w ∷ max ∷ fields) =
+    with4 (λ asked name p max. node_at at p (input_of name max asked)) (asked_in fields) (name_in name)
+    (place_from x y w) (number_in max)
 input_in at _ = None

@@ -1,5 +1,6 @@
 -- Reading the keys that words name.
-use Rattle.std.specs.Prelude.{ℕ, ℤ, pos, negsuc, Bool, List, [], ◌∷◌, ◌&&◌, ◌||◌, nat_le, Option, Some, None, ◌==◌, find, if◌then◌else◌}
+use Rattle.std.specs.Prelude.{ℕ, ℤ, pos, negsuc, Bool, List, [], ◌∷◌, ◌&&◌, ◌||◌, nat_le, Option, Some, None}
+use Rattle.std.specs.Prelude.{◌==◌, find, if◌then◌else◌}
 use Rattle.std.specs.Char.{is_ascii_uppercase, is_ascii_digit}
 use Rattle.tv_event.specs.declared.event.Key.{Key}
 use Rattle.tv_event.specs.declared.event.Key.TheVariants as keys
@@ -11,7 +12,10 @@ use Rattle.tv_declarations.specs.Spelling.Keys.{key_name}
 
 -- the keys that have a name of their own
 abbrev pub named_keys : List Key
-named_keys = keys.Tab ∷ keys.ShiftTab ∷ keys.Enter ∷ keys.Esc ∷ keys.Up ∷ keys.Down ∷ keys.Left ∷ keys.Right ∷ keys.Home ∷ keys.End ∷ keys.PageUp ∷ keys.PageDown ∷ keys.CtrlPageUp ∷ keys.CtrlPageDown ∷ keys.Backspace ∷ keys.Delete ∷ keys.Insert ∷ []
+named_keys =
+    keys.Tab ∷ keys.ShiftTab ∷ keys.Enter ∷ keys.Esc ∷ keys.Up ∷ keys.Down ∷ keys.Left ∷ keys.Right
+    ∷ keys.Home ∷ keys.End ∷ keys.PageUp ∷ keys.PageDown ∷ keys.CtrlPageUp ∷ keys.CtrlPageDown
+    ∷ keys.Backspace ∷ keys.Delete ∷ keys.Insert ∷ []
 
 -- the first of the keys whose name it is
 abbrev pub key_named : List Key → Word → Option Key

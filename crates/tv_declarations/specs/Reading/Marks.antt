@@ -1,5 +1,6 @@
 -- Reading a text of which one letter may be marked.
-use Rattle.std.specs.Prelude.{ℕ, List, [], ◌∷◌, ◌++◌, take, drop, not, ◌&&◌, Option, Some, None, position, ◌+◌, ◌==◌, if◌then◌else◌}
+use Rattle.std.specs.Prelude.{ℕ, List, [], ◌∷◌, ◌++◌, take, drop, not, ◌&&◌, Option, Some, None, position}
+use Rattle.std.specs.Prelude.{◌+◌, ◌==◌, if◌then◌else◌}
 use Rattle.std.specs.List.{list_any}
 use Rattle.std.specs.Char.{is_ascii_alphanumeric}
 use Rattle.tv_model.specs.declared.kind.MarkedText.{MarkedText}
@@ -9,12 +10,14 @@ use Rattle.tv_declarations.specs.Spelling.Terms.{is_tilde}
 abbrev pub end_of_mark : List ℕ → Option (ℕ × List ℕ)
 end_of_mark [] = None
 end_of_mark (c ∷ []) = None
-end_of_mark (c ∷ d ∷ after) = if d == 126 && (is_ascii_alphanumeric c && not (list_any is_tilde after)) then Some (c, after) else None
+end_of_mark (c ∷ d ∷ after) =
+    if d == 126 && (is_ascii_alphanumeric c && not (list_any is_tilde after)) then Some (c, after) else None
 
 -- the text around a mark at this place
 abbrev pub marked_at : ℕ → List ℕ → Option (ℕ × List ℕ) → Option MarkedText
 marked_at place before None = None
-marked_at place before (Some marked) = Some (record { text = before ++ (marked.0 ∷ marked.1); mark = Some place })
+marked_at place before (Some marked) =
+    Some (record { text = before ++ (marked.0 ∷ marked.1); mark = Some place })
 
 -- the text and its mark, by the place of the first `~`
 abbrev pub marked_from : Option ℕ → List ℕ → Option MarkedText

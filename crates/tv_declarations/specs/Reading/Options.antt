@@ -15,7 +15,8 @@ with3 f (Some a) (Some b) None = None
 with3 f (Some a) (Some b) (Some c) = Some (f a b c)
 
 -- the same of four
-abbrev pub with4 : {A B C D R : Type 0} → (A → B → C → D → R) → Option A → Option B → Option C → Option D → Option R
+abbrev pub with4 : {A B C D R : Type 0} → (A → B → C → D → R) → Option A → Option B → Option C → Option D
+    → Option R
 with4 f None b c d = None
 with4 f (Some a) None c d = None
 with4 f (Some a) (Some b) None d = None
@@ -23,7 +24,8 @@ with4 f (Some a) (Some b) (Some c) None = None
 with4 f (Some a) (Some b) (Some c) (Some d) = Some (f a b c d)
 
 -- the same of five
-abbrev pub with5 : {A B C D E R : Type 0} → (A → B → C → D → E → R) → Option A → Option B → Option C → Option D → Option E → Option R
+abbrev pub with5 : {A B C D E R : Type 0} → (A → B → C → D → E → R) → Option A → Option B → Option C
+    → Option D → Option E → Option R
 with5 f None b c d e = None
 with5 f (Some a) None c d e = None
 with5 f (Some a) (Some b) None d e = None

@@ -27,13 +27,17 @@ version_word versions.One = Bare (codes "1")
 -- the words of the line of a declaration
 abbrev pub declaration_words : Declaration → List Word
 declaration_words (declared.Version version) = Bare (codes "tvd") ∷ version_word version ∷ []
-declaration_words (declared.Screen width height) = Bare (codes "screen") ∷ number_word width ∷ number_word height ∷ []
+declaration_words (declared.Screen width height) =
+    Bare (codes "screen") ∷ number_word width ∷ number_word height ∷ []
 declaration_words (declared.Start name) = Bare (codes "start") ∷ Bare name ∷ []
 declaration_words (declared.Menu i title) = Bare (codes "menu") ∷ marked_word title ∷ []
-declaration_words (declared.Item item) = Bare (codes "item") ∷ marked_word item.text ∷ command_word item.command ∷ []
-declaration_words (declared.Status item) = Bare (codes "status") ∷ Quoted item.text ∷ key_word item.key ∷ command_word item.command ∷ []
+declaration_words (declared.Item item) =
+    Bare (codes "item") ∷ marked_word item.text ∷ command_word item.command ∷ []
+declaration_words (declared.Status item) =
+    Bare (codes "status") ∷ Quoted item.text ∷ key_word item.key ∷ command_word item.command ∷ []
 declaration_words (declared.Node node) = node_words node
-declaration_words (declared.Rule rule) = effect_words rule.effect (Bare (codes "when") ∷ Bare rule.cluster ∷ number_word rule.item ∷ [])
+declaration_words (declared.Rule rule) =
+    effect_words rule.effect (Bare (codes "when") ∷ Bare rule.cluster ∷ number_word rule.item ∷ [])
 declaration_words declared.End = Bare (codes "end") ∷ []
 
 -- ---- what can be spelled
@@ -60,7 +64,8 @@ IsDeclaration line (declared.Menu i title) = (i.0 ≡ line) × IsMarked title
 IsDeclaration line (declared.Item item) = (item.id.0 ≡ line) × IsMarked item.text × IsCommand item.command
 IsDeclaration line (declared.Status item) = (item.id.0 ≡ line) × IsKey item.key × IsCommand item.command
 IsDeclaration line (declared.Node node) = IsNode line node
-IsDeclaration line (declared.Rule rule) = (rule.id.0 ≡ line) × IsEffect rule.effect × IsName rule.cluster × IsNumber rule.item
+IsDeclaration line (declared.Rule rule) =
+    (rule.id.0 ≡ line) × IsEffect rule.effect × IsName rule.cluster × IsNumber rule.item
 IsDeclaration line declared.End = Unit {0}
 
 -- declarations on consecutive lines

@@ -1,5 +1,6 @@
 -- The words of commands and marked texts.
-use Rattle.std.specs.Prelude.{◌≡◌, ℕ, ◌+◌, ◌<◌, List, [], ◌∷◌, ◌++◌, length, take, drop, slice_index, Bool, false, Option, Some, None, ◌==◌, IfSome, IsTrue, codes, if◌then◌else◌}
+use Rattle.std.specs.Prelude.{◌≡◌, ℕ, ◌+◌, ◌<◌, List, [], ◌∷◌, ◌++◌, length, take, drop, slice_index, Bool}
+use Rattle.std.specs.Prelude.{false, Option, Some, None, ◌==◌, IfSome, IsTrue, codes, if◌then◌else◌}
 use Rattle.std.specs.List.{list_any}
 use Rattle.std.specs.Char.{is_ascii_alphanumeric}
 use Rattle.tv_model.specs.declared.command.CommandSpec.{CommandSpec}
@@ -38,7 +39,10 @@ word_if wanted keyword = if wanted then Bare keyword ∷ [] else []
 
 -- the end commands, in this order
 abbrev pub ends_words : Ends → List Word
-ends_words e = word_if e.ok (command_name commands.Ok) ++ (word_if e.cancel (command_name commands.Cancel) ++ (word_if e.yes (command_name commands.Yes) ++ word_if e.no (command_name commands.No)))
+ends_words e =
+    word_if e.ok (command_name commands.Ok)
+    ++ (word_if e.cancel (command_name commands.Cancel)
+    ++ (word_if e.yes (command_name commands.Yes) ++ word_if e.no (command_name commands.No)))
 
 -- the character `~`
 abbrev pub is_tilde : ℕ → Bool
@@ -55,4 +59,7 @@ marked_word m = Quoted (with_mark m.mark m.text)
 
 -- no `~` in the text, and the mark is at a letter or digit of it
 abbrev pub IsMarked : MarkedText → Type 0
-IsMarked m = (list_any is_tilde m.text ≡ false) × IfSome m.mark (λ place. (place < length m.text) × IsTrue (is_ascii_alphanumeric (slice_index m.text place)))
+IsMarked m =
+    (list_any is_tilde m.text ≡ false)
+    × IfSome m.mark (λ place.
+    (place < length m.text) × IsTrue (is_ascii_alphanumeric (slice_index m.text place)))

@@ -52,7 +52,8 @@ MayBeStatusKey _ = ⊥
 
 -- a view of the dialog marks the letter
 abbrev pub IsShortcut : ℕ → Dialog → Type 0
-IsShortcut letter dialog = Any (λ view. Any (λ text. MarksLetter text letter) (marked_of view.kind)) dialog.views
+IsShortcut letter dialog =
+    Any (λ view. Any (λ text. MarksLetter text letter) (marked_of view.kind)) dialog.views
 
 -- it is the digit of the window's number, 1 to 9
 abbrev pub IsDigitOf : ℕ → Window → Type 0
@@ -72,10 +73,14 @@ pub record HaveOwnKeys (d : Desc) : Type 0 where
 
 -- ---- menus, windows and the rules that `cancel` and `close` are free of
 
--- no letter opens two menus or chooses two items of one, no key chooses two windows, and no rule disables `cancel` or `close`
+-- no letter opens two menus or chooses two items of one, no key chooses two windows, and no rule disables
+-- `cancel` or `close`
 pub record HaveOwnMenuLetters (d : Desc) : Type 0 where
   pub titles : AllPairs (λ menu other. MarkOtherLetters menu.title other.title) d.menus
   pub items : All (λ menu. AllPairs (λ item other. MarkOtherLetters item.text other.text) menu.items) d.menus
-  pub windows : AllPairs (λ window other. IsBetween (pos 1) (pos 9) (window_head other).number → (window_head window).number ≢ (window_head other).number) d.windows
-  pub cancel : All (λ dialog. All (λ rule. rule.effect ≢ effects.Enable commands.Cancel) dialog.rules) d.dialogs
+  pub windows : AllPairs (λ window other.
+      IsBetween (pos 1) (pos 9) (window_head other).number
+      → (window_head window).number ≢ (window_head other).number) d.windows
+  pub cancel : All (λ dialog. All (λ rule. rule.effect ≢ effects.Enable commands.Cancel) dialog.rules)
+      d.dialogs
   pub close : All (λ dialog. All (λ rule. rule.effect ≢ effects.Enable commands.Close) dialog.rules) d.dialogs

@@ -21,7 +21,9 @@ IsApartFrom r s = (x y : ℤ) → IsIn r x y → IsIn s x y → ⊥
 
 -- each view lies in the pane in which it stands, or inside the frame
 abbrev pub AreInside : Node → List Node → Type 0
-AreInside frame views = All (λ pair. IsPartOf (place_of_node pair.1) (room_in frame (owner_of pair.0 pair.1))) (after_seen [] views)
+AreInside frame views =
+    All (λ pair. IsPartOf (place_of_node pair.1) (room_in frame (owner_of pair.0 pair.1)))
+    (after_seen [] views)
 
 -- dialogs lie in the desktop, and views in what is around them
 pub record ArePlacedWell (d : Desc) : Type 0 where
@@ -30,12 +32,16 @@ pub record ArePlacedWell (d : Desc) : Type 0 where
 
 -- one of the two is a pane, or both are controls
 abbrev pub NeedOwnPlaces : Kind → Kind → Type 0
-NeedOwnPlaces one other = (IsTrue (is_pane one) ⊎ IsTrue (is_pane other)) ⊎ (IsTrue (is_control one) × IsTrue (is_control other))
+NeedOwnPlaces one other =
+    (IsTrue (is_pane one) ⊎ IsTrue (is_pane other)) ⊎ (IsTrue (is_control one) × IsTrue (is_control other))
 
 -- no two views of one owner have a point in common, where one of them is a pane or both are controls
 abbrev pub AreApart : List Node → Type 0
 AreApart views =
-    All (λ pair. All (λ other. NeedOwnPlaces other.kind pair.1.kind → IsApartFrom (place_of_node other) (place_of_node pair.1)) (earlier_siblings pair.0 pair.1)) (after_seen [] views)
+    All (λ pair.
+    All (λ other.
+    NeedOwnPlaces other.kind pair.1.kind → IsApartFrom (place_of_node other) (place_of_node pair.1))
+    (earlier_siblings pair.0 pair.1)) (after_seen [] views)
 
 -- so it is in each window and dialog
 abbrev pub AreViewsApart : Desc → Type 0

@@ -26,7 +26,8 @@ HasItem n _ = ⊥
 
 -- what the rule shows, where it shows something, is a control or a pane
 abbrev pub HasTarget : List Node → Effect → Type 0
-HasTarget views (effects.Show name) = Means views name (λ node. IsTrue (is_control node.kind) ⊎ IsTrue (is_pane node.kind))
+HasTarget views (effects.Show name) =
+    Means views name (λ node. IsTrue (is_control node.kind) ⊎ IsTrue (is_pane node.kind))
 HasTarget views (effects.Enable command) = Unit {0}
 
 -- the target is there, and so are the cluster and its item
@@ -50,8 +51,11 @@ meant_after views name = find (λ pair. gives_name name pair.1) (after_seen [] v
 
 -- what the rule shows is neither its own cluster nor a pane around it
 abbrev pub ShowsOther : List Node → Rule → Type 0
-ShowsOther views rule = (name : List ℕ) (target : Node) (before : List Node) (cluster : Node) → rule.effect ≡ effects.Show name → meant views name ≡ Some target
-    → meant_after views rule.cluster ≡ Some (before, cluster) → IsTrue (is_cluster cluster.kind) → StandsOver target before cluster → ⊥
+ShowsOther views rule =
+    (name : List ℕ) (target : Node) (before : List Node) (cluster : Node) → rule.effect ≡ effects.Show name
+    → meant views name ≡ Some target
+    → meant_after views rule.cluster ≡ Some (before, cluster) → IsTrue (is_cluster cluster.kind)
+    → StandsOver target before cluster → ⊥
 
 -- so it is of all rules
 abbrev pub RulesShowOthers : Desc → Type 0
@@ -69,7 +73,11 @@ Reaches views before node (effects.Enable command) = IsButtonOf command node.kin
 
 -- a control that no rule reaches
 abbrev pub HasFreeControl : Dialog → Type 0
-HasFreeControl dialog = Any (λ pair. IsTrue (is_control pair.1.kind) × All (λ rule. Reaches dialog.views pair.0 pair.1 rule.effect → ⊥) dialog.rules) (after_seen [] dialog.views)
+HasFreeControl dialog =
+    Any (λ pair.
+    IsTrue (is_control pair.1.kind)
+    × All (λ rule. Reaches dialog.views pair.0 pair.1 rule.effect → ⊥) dialog.rules)
+    (after_seen [] dialog.views)
 
 -- each dialog has one
 abbrev pub HaveFreeControls : Desc → Type 0

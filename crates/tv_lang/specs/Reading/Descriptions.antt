@@ -7,7 +7,8 @@ use Rattle.tv_words.specs.declared.word.Word.{Word}
 use Rattle.tv_lang.specs.declared.progress.Progress.{Progress}
 use Rattle.tv_words.specs.Lines.{lines_of}
 use Rattle.tv_words.specs.Reading.LineWords.{line_words}
-use Rattle.tv_lang.specs.Reading.Stages.{nothing_read, is_other_version, description_line_taken, finished_description}
+use Rattle.tv_lang.specs.Reading.Stages.{nothing_read, is_other_version, description_line_taken}
+use Rattle.tv_lang.specs.Reading.Stages.{finished_description}
 
 -- what a line does
 pub data LineStep : Type 0 where
@@ -49,7 +50,12 @@ description_at_end n (Some d) = Value d
 -- reading on, from the line n
 abbrev pub description_from : ℕ → Progress → List (List ℕ) → DescriptionOutcome
 description_from n p [] = description_at_end n (finished_description p)
-description_from n p (l ∷ ls) = elim (line_step p l) as (λ _. DescriptionOutcome) [ Next q ↦ description_from (n + 1) q ls | Faulty ↦ Fault n | OfOtherVersion ↦ Other ]
+description_from n p (l ∷ ls) =
+    elim (line_step p l) as (λ _. DescriptionOutcome) [
+      | Next q ↦ description_from (n + 1) q ls
+      | Faulty ↦ Fault n
+      | OfOtherVersion ↦ Other
+    ]
 
 -- reading a text from its first line
 abbrev pub description_outcome : List ℕ → DescriptionOutcome

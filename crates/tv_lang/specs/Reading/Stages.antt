@@ -1,5 +1,7 @@
 -- Reading a description, declaration by declaration.
-use Rattle.std.specs.Prelude.{ℕ, ◌+◌, ◌-◌, ℤ, pos, negsuc, List, [], ◌∷◌, ◌++◌, length, nat_lt, ◌≡◌, Bool, true, false, not, ◌&&◌, Option, Some, None, is_none, option_and_then, codes, ◌==◌, if◌then◌else◌, IsTrue, refl}
+use Rattle.std.specs.Prelude.{ℕ, ◌+◌, ◌-◌, ℤ, pos, negsuc, List, [], ◌∷◌, ◌++◌, length, nat_lt, ◌≡◌, Bool}
+use Rattle.std.specs.Prelude.{true, false, not, ◌&&◌, Option, Some, None, is_none, option_and_then, codes}
+use Rattle.std.specs.Prelude.{◌==◌, if◌then◌else◌, IsTrue, refl}
 use Rattle.std.specs.Option.{option_map}
 use Rattle.tv_model.specs.declared.node.Node.{Node}
 use Rattle.tv_model.specs.declared.desc.Desc.{Desc}
@@ -51,7 +53,8 @@ version_taken d _ = None
 
 -- the second declaration: the screen
 abbrev pub screen_taken : Desc → Declaration → Option (Stage × Desc)
-screen_taken d (declared.Screen width height) = Some (stages.Between, record d { width = width; height = height })
+screen_taken d (declared.Screen width height) =
+    Some (stages.Between, record d { width = width; height = height })
 screen_taken d _ = None
 
 -- a window without texts
@@ -63,8 +66,10 @@ abbrev pub dialog_of : (node : Node) → IsTrue (is_dialog node.kind) → Dialog
 dialog_of node is = record { node = node; views = []; rules = []; own_kind = is }
 
 -- after the line of a node that is a window or not, and a dialog or not
-abbrev pub opened_as : Desc → (node : Node) (window dialog : Bool) → is_window node.kind ≡ window → is_dialog node.kind ≡ dialog → Option (Stage × Desc)
-opened_as d node true dialog window_is dialog_is = if no_dialogs d then Some (stages.InWindow (empty_window node window_is), d) else None
+abbrev pub opened_as : Desc → (node : Node) (window dialog : Bool) → is_window node.kind ≡ window
+    → is_dialog node.kind ≡ dialog → Option (Stage × Desc)
+opened_as d node true dialog window_is dialog_is =
+    if no_dialogs d then Some (stages.InWindow (empty_window node window_is), d) else None
 opened_as d node false true window_is dialog_is = Some (stages.InViews (dialog_of node dialog_is) 0, d)
 opened_as d node false false window_is dialog_is = None
 
@@ -74,31 +79,43 @@ node_opened d node = opened_as d node (is_window node.kind) (is_dialog node.kind
 
 -- the start line, a menu, a status item, a window or a dialog
 abbrev pub part_taken : Desc → Declaration → Option (Stage × Desc)
-part_taken d (declared.Start name) = if is_none d.start && no_menus d then Some (stages.Between, record d { start = Some name }) else None
-part_taken d (declared.Menu i title) = if no_status d then Some (stages.InMenu (record { id = i; title = title; items = [] }), d) else None
-part_taken d (declared.Status item) = if no_windows d then Some (stages.Between, record d { status = d.status ++ item ∷ [] }) else None
+part_taken d (declared.Start name) =
+    if is_none d.start && no_menus d then Some (stages.Between, record d { start = Some name }) else None
+part_taken d (declared.Menu i title) =
+    if no_status d then Some (stages.InMenu (record { id = i; title = title; items = [] }), d) else None
+part_taken d (declared.Status item) =
+    if no_windows d then Some (stages.Between, record d { status = d.status ++ item ∷ [] }) else None
 part_taken d (declared.Node node) = node_opened d node
 part_taken d _ = None
 
 -- an item of a menu, or its end
 abbrev pub menu_taken : Desc → Menu → Declaration → Option (Stage × Desc)
-menu_taken d menu (declared.Item item) = Some (stages.InMenu (record menu { items = menu.items ++ item ∷ [] }), d)
-menu_taken d menu declared.End = if length menu.items == 0 then None else Some (stages.Between, record d { menus = d.menus ++ menu ∷ [] })
+menu_taken d menu (declared.Item item) =
+    Some (stages.InMenu (record menu { items = menu.items ++ item ∷ [] }), d)
+menu_taken d menu declared.End =
+    if length menu.items == 0 then None else Some (stages.Between, record d { menus = d.menus ++ menu ∷ [] })
 menu_taken d menu _ = None
 
 -- a text of a window, or its end
 abbrev pub window_taken : Desc → Window → Declaration → Option (Stage × Desc)
-window_taken d window (declared.Node view) = if is_text view.kind then Some (stages.InWindow (record window { views = window.views ++ view ∷ [] }), d) else None
+window_taken d window (declared.Node view) =
+    if is_text view.kind then Some (stages.InWindow (record window { views = window.views ++ view ∷ [] }), d)
+    else None
 window_taken d window declared.End = Some (stages.Between, record d { windows = d.windows ++ window ∷ [] })
 window_taken d window _ = None
 
 -- the panes that are open after a view, where so many are before it
 abbrev pub panes_after : ℕ → Node → Option ℕ
-panes_after panes view = if is_pane view.kind then (if nat_lt panes 16 then Some (panes + 1) else None) else Some panes
+panes_after panes view =
+    if is_pane view.kind then (if nat_lt panes 16 then Some (panes + 1) else None) else Some panes
 
 -- a view of a dialog
 abbrev pub view_taken : Desc → Dialog → ℕ → Node → Option (Stage × Desc)
-view_taken d dialog panes view = if is_view view.kind then option_map (λ more. (stages.InViews (record dialog { views = dialog.views ++ view ∷ [] }) more, d)) (panes_after panes view) else None
+view_taken d dialog panes view =
+    if is_view view.kind
+    then option_map (λ more. (stages.InViews (record dialog { views = dialog.views ++ view ∷ [] }) more, d))
+    (panes_after panes view)
+    else None
 
 -- the description with the dialog
 abbrev pub with_dialog : Desc → Dialog → Option (Stage × Desc)
@@ -107,13 +124,17 @@ with_dialog d dialog = Some (stages.Between, record d { dialogs = d.dialogs ++ d
 -- a view or a rule of a dialog, the end of a pane, or that of the dialog
 abbrev pub views_taken : Desc → Dialog → ℕ → Declaration → Option (Stage × Desc)
 views_taken d dialog panes (declared.Node view) = view_taken d dialog panes view
-views_taken d dialog panes (declared.Rule rule) = if panes == 0 then Some (stages.InRules (record dialog { rules = dialog.rules ++ rule ∷ [] }), d) else None
-views_taken d dialog panes declared.End = if panes == 0 then with_dialog d dialog else Some (stages.InViews dialog (panes - 1), d)
+views_taken d dialog panes (declared.Rule rule) =
+    if panes == 0 then Some (stages.InRules (record dialog { rules = dialog.rules ++ rule ∷ [] }), d)
+    else None
+views_taken d dialog panes declared.End =
+    if panes == 0 then with_dialog d dialog else Some (stages.InViews dialog (panes - 1), d)
 views_taken d dialog panes _ = None
 
 -- a rule of a dialog, or its end
 abbrev pub rules_taken : Desc → Dialog → Declaration → Option (Stage × Desc)
-rules_taken d dialog (declared.Rule rule) = Some (stages.InRules (record dialog { rules = dialog.rules ++ rule ∷ [] }), d)
+rules_taken d dialog (declared.Rule rule) =
+    Some (stages.InRules (record dialog { rules = dialog.rules ++ rule ∷ [] }), d)
 rules_taken d dialog declared.End = with_dialog d dialog
 rules_taken d dialog _ = None
 
@@ -131,7 +152,20 @@ declaration_taken (stages.InRules dialog) d declaration = rules_taken d dialog d
 
 -- nothing is read
 abbrev pub nothing_read : Progress
-nothing_read = record { next = 1; stage = stages.Version; desc = record { version = versions.One; width = pos 0; height = pos 0; start = None; menus = []; status = []; windows = []; dialogs = [] } }
+nothing_read = record {
+  next = 1;
+  stage = stages.Version;
+  desc = record {
+    version = versions.One;
+    width = pos 0;
+    height = pos 0;
+    start = None;
+    menus = [];
+    status = [];
+    windows = [];
+    dialogs = [];
+  };
+}
 
 -- a number other than 1
 abbrev pub is_other : Option ℤ → Bool
@@ -163,7 +197,9 @@ progress next p = record { next = next; stage = p.0; desc = p.1 }
 
 -- one line more
 abbrev pub description_line_taken : Progress → List Word → Option Progress
-description_line_taken p ws = option_map (progress (p.next + 1)) (option_and_then (declaration_taken p.stage p.desc) (declaration_in (position p) ws))
+description_line_taken p ws =
+    option_map (progress (p.next + 1))
+    (option_and_then (declaration_taken p.stage p.desc) (declaration_in (position p) ws))
 
 -- the text may end at the stage
 abbrev pub may_end_at : Stage → Bool

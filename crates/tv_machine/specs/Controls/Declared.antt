@@ -21,4 +21,8 @@ declared_leaf node = state (declared_value node.kind)
   where
     state : Option Value → LeafState
     state None = record { id = node.id; value = None; private = Plain }
-    state (Some value) = record { id = node.id; value = Some value; private = opened_private node.kind (Some value) }
+    state (Some value) = record {
+      id = node.id;
+      value = Some value;
+      private = opened_private node.kind (Some value);
+    }

@@ -14,7 +14,8 @@ key_answer kind k c = (behaviour kind).key k c
 abbrev pub remembered : Kind → ℕ → ℕ
 remembered kind row = (behaviour kind).remembered row
 
--- a mouse down on a column and a row of the control, which holds the mouse from then on. In an input the cursor goes to the
+-- a mouse down on a column and a row of the control, which holds the mouse from then on. In an input the
+-- cursor goes to the
 -- column, whose first place was the first shown when the mouse came; in a list the item of the row is chosen
 abbrev pub down_content : Kind → ℕ → ℕ → ℕ → Content → Content
 down_content kind first column row c = (behaviour kind).down_content first column row c

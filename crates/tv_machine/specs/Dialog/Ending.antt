@@ -1,5 +1,6 @@
 -- Commands while a dialog is open, and how it ends.
-use Rattle.std.specs.Prelude.{ℕ, Bool, ◌||◌, List, ◌∷◌, ◌++◌, map, filter_map, find, Option, Some, None, option_map, ◌==◌, nat_le, if◌then◌else◌}
+use Rattle.std.specs.Prelude.{ℕ, Bool, ◌||◌, List, ◌∷◌, ◌++◌, map, filter_map, find, Option, Some, None}
+use Rattle.std.specs.Prelude.{option_map, ◌==◌, nat_le, if◌then◌else◌}
 use Rattle.tv_model.specs.declared.node.Id.{Id}
 use Rattle.tv_model.specs.declared.kind.Kind.{Kind}
 use Rattle.tv_model.specs.declared.command.CommandSpec.{CommandSpec}
@@ -46,7 +47,8 @@ ended d number m = record m {
   log = m.log ++ lines.End d.node.id (record { 0 = number }) ∷ map field_line (fields_of m.leaves);
 }
 
--- the focus goes to an input that refuses the end, without asking the one that has it; nothing where that is itself or isn't free
+-- the focus goes to an input that refuses the end, without asking the one that has it; nothing where that is
+-- itself or isn't free
 abbrev pub shown_invalid : Dialog → Id → Modal → Modal
 shown_invalid d i m = if i.0 == m.focus.0 then m else if is_free_at d m.leaves i then focus_moved d i m else m
 
@@ -57,7 +59,8 @@ end_by d number (Some i) m = shown_invalid d i (with_line (lines.Invalid i) m)
 
 -- ---- commands
 
--- a command: `close` is taken as `cancel`, which ends the dialog; another declared end does where every input has a text of
+-- a command: `close` is taken as `cancel`, which ends the dialog; another declared end does where every input
+-- has a text of
 -- its domain; the description's own are logged; the rest do nothing
 abbrev pub command : Dialog → ℕ → Modal → Modal
 command d number m =

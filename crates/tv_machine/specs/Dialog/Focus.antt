@@ -1,5 +1,7 @@
 -- Where the focus goes: the next and the previous control, and what a focus request comes to.
-use Rattle.std.specs.Prelude.{ℕ, Bool, true, false, not, ◌&&◌, List, ◌++◌, map, find, position, reverse, take, drop, length, Option, Some, None, option_map, unwrap_or, ◌+◌, ◌==◌, if◌then◌else◌}
+use Rattle.std.specs.Prelude.{ℕ, Bool, true, false, not, ◌&&◌, List, ◌++◌, map, find, position, reverse}
+use Rattle.std.specs.Prelude.{take, drop, length, Option, Some, None, option_map, unwrap_or, ◌+◌, ◌==◌}
+use Rattle.std.specs.Prelude.{if◌then◌else◌}
 use Rattle.tv_model.specs.declared.node.Id.{Id}
 use Rattle.tv_model.specs.declared.kind.Kind.{Kind}
 use Rattle.tv_model.specs.Kinds.{behaviour}
@@ -102,7 +104,8 @@ requested d m to =
 abbrev pub edited_at : Dialog → Id → (Edit → Edit) → Modal → Modal
 edited_at d i edit m = content_put d i (edit_content (edit (edit_of (content_at m i)))) m
 
--- what the coming or going of the focus makes of a leaf by its kind: of an input an edit, of other leaves nothing
+-- what the coming or going of the focus makes of a leaf by its kind: of an input an edit, of other leaves
+-- nothing
 abbrev pub refocused_kind : Dialog → (Edit → Edit) → Id → Kind → Modal → Modal
 refocused_kind d edit i kind m = if (behaviour kind).is_edited then edited_at d i edit m else m
 
@@ -111,10 +114,12 @@ abbrev pub refocused : Dialog → (Edit → Edit) → Option PlacedNode → Moda
 refocused d edit None m = m
 refocused d edit (Some leaf) m = refocused_kind d edit leaf.node.id leaf.node.kind m
 
--- the focus moves: an input that loses it has nothing selected, one that receives it has its whole text selected
+-- the focus moves: an input that loses it has nothing selected, one that receives it has its whole text
+-- selected
 abbrev pub focus_moved : Dialog → Id → Modal → Modal
 focus_moved d to m =
-    with_line (lines.Focus to) (record (refocused d entered (leaf_at d to) (refocused d left (leaf_at d m.focus) m)) { focus = to })
+    with_line (lines.Focus to)
+    (record (refocused d entered (leaf_at d to) (refocused d left (leaf_at d m.focus) m)) { focus = to })
 
 -- what a request with this outcome makes of the dialog
 abbrev pub after_request : Dialog → Id → Request → Modal → Modal

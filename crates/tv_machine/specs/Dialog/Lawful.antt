@@ -19,10 +19,12 @@ use Rattle.tv_machine.specs.Dialog.Focus.{first_free, stops_of}
 abbrev pub Marks : ℕ → Node → Type 0
 Marks letter view = IsTrue (is_some (owner_by letter view.kind))
 
--- a view lies in the innermost pane around it, and that in the next one, up to the inside of the dialog's frame
+-- a view lies in the innermost pane around it, and that in the next one, up to the inside of the dialog's
+-- frame
 abbrev pub LiesIn : Node → Node → List Node → Type 0
 LiesIn owner view [] = IsTrue (is_within (place_of_node view) (interior owner))
-LiesIn owner view (pane ∷ panes) = IsTrue (is_within (place_of_node view) (whole_area pane)) × LiesIn owner pane panes
+LiesIn owner view (pane ∷ panes) =
+    IsTrue (is_within (place_of_node view) (whole_area pane)) × LiesIn owner pane panes
 
 -- the same for a leaf
 abbrev pub LiesInside : Node → PlacedNode → Type 0

@@ -37,15 +37,20 @@ holding i c leaf = if leaf.id.0 == i.0 then record leaf { value = c.value; priva
 
 -- whether typing overwrites in a view, where it does in the one of the id as told
 abbrev pub overwrites_after : List Id → Id → Bool → Id → Bool
-overwrites_after overwriting i overwrites other = if other.0 == i.0 then overwrites else is_among overwriting other
+overwrites_after overwriting i overwrites other =
+    if other.0 == i.0 then overwrites else is_among overwriting other
 
 -- the views in which typing overwrites, in description order
 abbrev pub overwriting_after : Dialog → List Id → Id → Bool → List Id
-overwriting_after d overwriting i overwrites = filter (overwrites_after overwriting i overwrites) (map (λ view. view.id) d.views)
+overwriting_after d overwriting i overwrites =
+    filter (overwrites_after overwriting i overwrites) (map (λ view. view.id) d.views)
 
 -- the leaf of the id holds this
 abbrev pub content_put : Dialog → Id → Content → Modal → Modal
-content_put d i c m = record m { leaves = map (holding i c) m.leaves; overwriting = overwriting_after d m.overwriting i c.overwrites }
+content_put d i c m = record m {
+  leaves = map (holding i c) m.leaves;
+  overwriting = overwriting_after d m.overwriting i c.overwrites;
+}
 
 -- ---- its leaves
 

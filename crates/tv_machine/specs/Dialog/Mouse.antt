@@ -6,7 +6,8 @@ use Rattle.tv_cells.specs.Layers.{is_in}
 use Rattle.tv_cells.specs.declared.rect.Point.{Point}
 use Rattle.tv_model.specs.declared.kind.Kind.{Kind}
 use Rattle.tv_model.specs.Kinds.{behaviour}
-use Rattle.tv_model.specs.Controls.Behaviour.{Down, Ignores, FocusesLink, Grips, Holds, Answer, Passed, Becomes, Presses}
+use Rattle.tv_model.specs.Controls.Behaviour.{Down, Ignores, FocusesLink, Grips, Holds, Answer, Passed}
+use Rattle.tv_model.specs.Controls.Behaviour.{Becomes, Presses}
 use Rattle.tv_model.specs.declared.desc.Dialog.{Dialog}
 use Rattle.tv_model.specs.Description.Names.{meant}
 use Rattle.tv_model.specs.Description.Numbers.{natural, is_between}
@@ -39,21 +40,26 @@ is_close_mark p = is_between (pos 2) (pos 4) p.x && int_eq p.y (pos 0)
 
 -- the topmost visible leaf at a point: the last that has it
 abbrev pub topmost_leaf : Dialog → Modal → Point → Option PlacedNode
-topmost_leaf d m p = find (λ leaf. is_visible d m.leaves leaf && is_inside leaf p) (reverse (leaf_list d.views))
+topmost_leaf d m p =
+    find (λ leaf. is_visible d m.leaves leaf && is_inside leaf p) (reverse (leaf_list d.views))
 
 -- ---- down
 
 -- the leaf holds the mouse, and remembers an item
 abbrev pub hold : Dialog → PlacedNode → ℕ → Point → Modal → Modal
 hold d leaf first p m =
-    record (content_put d leaf.node.id (down_content leaf.node.kind first (column_on leaf p) (row_on leaf p) (content_at m leaf.node.id)) m) {
+    record (content_put d leaf.node.id
+    (down_content leaf.node.kind first (column_on leaf p) (row_on leaf p)
+    (content_at m leaf.node.id)) m) {
       held = Some (record { id = leaf.node.id; item = remembered leaf.node.kind (row_on leaf p) });
     }
 
 -- the first place of an input's text that was shown when the mouse came: without the focus its start
 abbrev pub first_before : Modal → PlacedNode → ℕ
 first_before m leaf =
-    if m.focus.0 == leaf.node.id.0 then first_shown (natural leaf.node.w) (cursor_of (content_at m leaf.node.id).private) else 0
+    if m.focus.0 == leaf.node.id.0
+    then first_shown (natural leaf.node.w) (cursor_of (content_at m leaf.node.id).private)
+    else 0
 
 -- a control asks for the focus, and where that is granted it holds the mouse
 abbrev pub focus_and_hold : Dialog → PlacedNode → Point → Modal → Modal
@@ -62,7 +68,8 @@ focus_and_hold d leaf p m = request_then d leaf.node.id (hold d leaf (first_befo
 -- a button holds the mouse, with the focus where it grabs it; a disabled one does nothing
 abbrev pub button_down : Dialog → PlacedNode → Bool → Point → Modal → Modal
 button_down d leaf grabs p m =
-    if is_enabled d m.leaves leaf.node then (if grabs then focus_and_hold d leaf p m else hold d leaf 0 p m) else m
+    if is_enabled d m.leaves leaf.node then (if grabs then focus_and_hold d leaf p m else hold d leaf 0 p m)
+    else m
 
 -- by what a mouse down asks for: a label asks for the focus of its link, and nothing holds the mouse
 abbrev pub down_by : Dialog → PlacedNode → Down → Point → Modal → Modal
@@ -89,7 +96,10 @@ down d p m = if is_close_mark p then command d 4 m else down_at d (topmost_leaf 
 -- a move to a point of the leaf that holds the mouse
 abbrev pub moved_on : Dialog → PlacedNode → Point → Modal → Modal
 moved_on d leaf p m =
-    if is_inside leaf p then content_put d leaf.node.id (move_content leaf.node.kind (row_on leaf p) (content_at m leaf.node.id)) m else m
+    if is_inside leaf p
+    then content_put d leaf.node.id (move_content leaf.node.kind (row_on leaf p) (content_at m leaf.node.id))
+    m
+    else m
 
 -- the leaf that held the mouse answers to its release inside it
 abbrev pub released : Dialog → PlacedNode → Answer → Modal → Modal
@@ -100,7 +110,8 @@ released d leaf Presses m = press d leaf m
 -- an up: nothing holds the mouse any longer
 abbrev pub up_on : Dialog → PlacedNode → ℕ → Point → Modal → Modal
 up_on d leaf item p m =
-    if is_inside leaf p then released d leaf (up_answer leaf.node.kind item (row_on leaf p) (content_at m leaf.node.id)) (record m { held = None })
+    if is_inside leaf p then released d leaf
+    (up_answer leaf.node.kind item (row_on leaf p) (content_at m leaf.node.id)) (record m { held = None })
     else record m { held = None }
 
 -- a move while a leaf holds the mouse

@@ -46,4 +46,5 @@ unfocused d saved overwriting = record {
 
 -- a dialog opens: its first free control receives the focus, which is logged
 abbrev pub opened_dialog : Dialog → Option Entries → List Id → Modal
-opened_dialog d saved overwriting = focus_moved d (first_focus d (opened_leaves d saved)) (unfocused d saved overwriting)
+opened_dialog d saved overwriting =
+    focus_moved d (first_focus d (opened_leaves d saved)) (unfocused d saved overwriting)

@@ -1,5 +1,6 @@
 -- What the marks of a dialog's clusters show, enable and leave free to focus.
-use Rattle.std.specs.Prelude.{[], ℕ, Bool, true, false, not, ◌&&◌, ◌||◌, List, ◌∷◌, find, Option, Some, None, ◌==◌}
+use Rattle.std.specs.Prelude.{[], ℕ, Bool, true, false, not, ◌&&◌, ◌||◌, List, ◌∷◌, find, Option, Some, None}
+use Rattle.std.specs.Prelude.{◌==◌}
 use Rattle.std.specs.List.{list_any, list_all}
 use Rattle.tv_model.specs.declared.node.Id.{Id}
 use Rattle.tv_model.specs.declared.node.Node.{Node}
@@ -32,7 +33,11 @@ is_among ids i = list_any (λ other. other.0 == i.0) ids
 -- what a leaf holds by its state, and whether typing overwrites in it
 abbrev pub content_by : Bool → Option LeafState → Content
 content_by overwrites None = record { value = None; private = Plain; overwrites = overwrites }
-content_by overwrites (Some leaf) = record { value = leaf.value; private = leaf.private; overwrites = overwrites }
+content_by overwrites (Some leaf) = record {
+  value = leaf.value;
+  private = leaf.private;
+  overwrites = overwrites;
+}
 
 -- what the leaf of an id holds, where typing overwrites in these inputs
 abbrev pub content_held : List LeafState → List Id → Id → Content
@@ -65,7 +70,8 @@ enables number (effects.Enable command) = command_number command == number
 
 -- a command is enabled where every enable rule on it holds
 abbrev pub is_command_enabled : Dialog → List LeafState → ℕ → Bool
-is_command_enabled d leaves number = list_all (λ rule. not (enables number rule.effect) || holds d leaves rule) d.rules
+is_command_enabled d leaves number =
+    list_all (λ rule. not (enables number rule.effect) || holds d leaves rule) d.rules
 
 -- enabled while its command is, and always without one
 abbrev pub is_enabled_by : Dialog → List LeafState → Option CommandSpec → Bool
@@ -82,4 +88,5 @@ is_enabled d leaves node = is_kind_enabled d leaves node.kind
 
 -- free to focus: a control that is visible and enabled
 abbrev pub is_free : Dialog → List LeafState → PlacedNode → Bool
-is_free d leaves leaf = is_control leaf.node.kind && (is_visible d leaves leaf && is_enabled d leaves leaf.node)
+is_free d leaves leaf =
+    is_control leaf.node.kind && (is_visible d leaves leaf && is_enabled d leaves leaf.node)

@@ -4,7 +4,8 @@ use Rattle.tv_model.specs.declared.node.Id.{Id}
 use Rattle.tv_model.specs.declared.node.Node.{Node}
 use Rattle.tv_model.specs.declared.kind.Kind.{Kind}
 use Rattle.tv_model.specs.Kinds.{behaviour}
-use Rattle.tv_model.specs.Controls.Shortcut.{item_marking, Shortcut, NoMark, LinkMark, PressMark, ItemMarks, ClusterKind}
+use Rattle.tv_model.specs.Controls.Shortcut.{item_marking, Shortcut, NoMark, LinkMark, PressMark, ItemMarks}
+use Rattle.tv_model.specs.Controls.Shortcut.{ClusterKind}
 use Rattle.tv_model.specs.declared.desc.Dialog.{Dialog}
 use Rattle.tv_model.specs.Description.Names.{meant}
 use Rattle.tv_model.specs.Description.Owners.{owner_by}
@@ -33,12 +34,15 @@ press_item d kind i (Some item) m = content_put d i (cluster_item_pressed kind i
 abbrev pub call_item : Dialog → ClusterKind → Id → Option ℕ → Modal → Modal
 call_item d kind i item m = request_then d i (press_item d kind i item) m
 
--- what a letter does: a label's focuses its link, a button's presses it if it is enabled, an item's presses the item
+-- what a letter does: a label's focuses its link, a button's presses it if it is enabled, an item's presses
+-- the item
 abbrev pub called_by : Dialog → ℕ → PlacedNode → Shortcut → Modal → Modal
 called_by d letter leaf NoMark m = m
 called_by d letter leaf (LinkMark text name) m = request_link d (meant d.views name) m
-called_by d letter leaf (PressMark text name) m = if is_enabled d m.leaves leaf.node then press d leaf m else m
-called_by d letter leaf (ItemMarks kind name items) m = call_item d kind leaf.node.id (item_marking items letter) m
+called_by d letter leaf (PressMark text name) m =
+    if is_enabled d m.leaves leaf.node then press d leaf m else m
+called_by d letter leaf (ItemMarks kind name items) m =
+    call_item d kind leaf.node.id (item_marking items letter) m
 
 -- what a letter does with a marker by its kind
 abbrev pub called : Dialog → ℕ → PlacedNode → Kind → Modal → Modal

@@ -1,6 +1,9 @@
--- The menu bar, the box of an open menu and the status line: where they are, and what they show. Menus and the items of a menu
+-- The menu bar, the box of an open menu and the status line: where they are, and what they show. Menus and
+-- the items of a menu
 -- count from 0.
-use Rattle.std.specs.Prelude.{ℕ, Bool, true, false, ◌&&◌, ◌||◌, List, [], ◌∷◌, length, map, max, take, Option, Some, None, option_map, unwrap_or, slice_get, ℤ, pos, ◌+ℤ◌, ◌-ℤ◌, int_le, int_lt, ◌+◌, ◌-◌, ◌==◌, nat_lt, if◌then◌else◌}
+use Rattle.std.specs.Prelude.{ℕ, Bool, true, false, ◌&&◌, ◌||◌, List, [], ◌∷◌, length, map, max, take}
+use Rattle.std.specs.Prelude.{Option, Some, None, option_map, unwrap_or, slice_get, ℤ, pos, ◌+ℤ◌, ◌-ℤ◌}
+use Rattle.std.specs.Prelude.{int_le, int_lt, ◌+◌, ◌-◌, ◌==◌, nat_lt, if◌then◌else◌}
 use Rattle.std.specs.List.{reduce, sum}
 use Rattle.tv_cells.specs.Glyph.{Glyph, glyph, shown}
 use Rattle.tv_cells.specs.Layers.{is_in}
@@ -29,7 +32,8 @@ use Rattle.tv_model.specs.Controls.Look.{is_mark_from}
 abbrev pub columns_of : List ℕ → ℕ
 columns_of text = length text + 2
 
--- a column of a bar: what stands there, its place in the bar, and the column seen from the space before its text
+-- a column of a bar: what stands there, its place in the bar, and the column seen from the space before its
+-- text
 pub record Spot (Entry : Type 0) : Type 0 where
   pub entry : Entry
   pub place : ℕ
@@ -40,7 +44,8 @@ abbrev pub spot_in : {Entry : Type 0} → (Entry → List ℕ) → ℕ → ℕ �
 spot_in text place first [] column = None
 spot_in text place first (entry ∷ entries) column =
     if nat_lt column first then None
-    else if nat_lt column (first + columns_of (text entry)) then Some (record { entry = entry; place = place; column = column - first })
+    else if nat_lt column (first + columns_of (text entry))
+    then Some (record { entry = entry; place = place; column = column - first })
     else spot_in text (place + 1) (first + columns_of (text entry)) entries column
 
 -- the text of a menu in the bar
@@ -61,7 +66,8 @@ status_spot d column = spot_in status_text 0 0 d.status column
 
 -- what stands in a column that the screen has
 abbrev pub on_screen : {Entry : Type 0} → Desc → (ℕ → Option (Spot Entry)) → ℤ → Option (Spot Entry)
-on_screen d spot column = if int_le (pos 0) column && int_lt column d.width then spot (natural column) else None
+on_screen d spot column =
+    if int_le (pos 0) column && int_lt column d.width then spot (natural column) else None
 
 -- the menu whose title's cells have the column
 abbrev pub title_under : Desc → ℤ → Option ℕ
@@ -94,7 +100,8 @@ abbrev pub box_at : ℕ → Option Menu → Rect
 box_at column None = sized 0 0
 box_at column (Some menu) = rect (pos column) (pos 1) (pos (box_width menu)) (pos (box_height menu))
 
--- the box of the menu at a place, without its shadow: below its title, whether the screen has room for it or not
+-- the box of the menu at a place, without its shadow: below its title, whether the screen has room for it or
+-- not
 abbrev pub box_of : Desc → ℕ → Rect
 box_of d place = box_at (title_column d place) (slice_get d.menus place)
 
@@ -108,12 +115,15 @@ without_edge r = record {
 -- the item of the menu at a place, where the point is in its row between the sides of the box, on the desktop
 abbrev pub item_under : Desc → ℕ → Point → Option ℕ
 item_under d place p =
-    if is_in (desktop d) p.x p.y && is_in (without_edge (box_of d place)) p.x p.y then Some (natural (p.y -ℤ (box_of d place).a.y -ℤ pos 1))
+    if is_in (desktop d) p.x p.y
+    && is_in (without_edge (box_of d place)) p.x p.y
+    then Some (natural (p.y -ℤ (box_of d place).a.y -ℤ pos 1))
     else None
 
 -- ---- the faces of the bar and the box
 
--- the role of a cell by whether its title or item is the open or the current one, and whether its letter is marked
+-- the role of a cell by whether its title or item is the open or the current one, and whether its letter is
+-- marked
 abbrev pub bar_role : (is_selected is_at_letter : Bool) → BarRole
 bar_role false false = bar.Normal
 bar_role false true = bar.Letter
@@ -126,7 +136,8 @@ bar_cell ch role = shown ch (attribute_of (roles.Bar role))
 
 -- a text with a space at both sides, by columns from the first of them on
 abbrev pub marked_cell : Bool → MarkedText → ℕ → Glyph
-marked_cell is_selected text column = bar_cell (text_row (32 ∷ text.text) column) (bar_role is_selected (is_mark_from 1 text.mark column))
+marked_cell is_selected text column =
+    bar_cell (text_row (32 ∷ text.text) column) (bar_role is_selected (is_mark_from 1 text.mark column))
 
 -- whether a menu is open, and it is the one at the place
 abbrev pub is_place : Option ℕ → ℕ → Bool
@@ -163,7 +174,9 @@ status_role is_enabled = if is_enabled then status.Normal else status.Disabled
 -- a column of the status line
 abbrev pub status_cell : (StatusItem → Bool) → Option (Spot StatusItem) → Glyph
 status_cell is_enabled None = glyph 32 (attribute_of (roles.Status status.Normal))
-status_cell is_enabled (Some spot) = shown (text_row (32 ∷ spot.entry.text) spot.column) (attribute_of (roles.Status (status_role (is_enabled spot.entry))))
+status_cell is_enabled (Some spot) =
+    shown (text_row (32 ∷ spot.entry.text) spot.column)
+    (attribute_of (roles.Status (status_role (is_enabled spot.entry))))
 
 -- the status line, where some items may be disabled
 abbrev pub status_face : Desc → (StatusItem → Bool) → FaceOf

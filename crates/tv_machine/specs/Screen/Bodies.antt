@@ -30,16 +30,19 @@ whole_screen d = rect (pos 0) (pos 0) d.width d.height
 
 -- the desktop behind everything
 abbrev pub background_layer : Desc → Layer
-background_layer d = Painted (canvas_at (desktop d) (pos 0) (pos 0)) (natural d.width) (natural d.height) background
+background_layer d =
+    Painted (canvas_at (desktop d) (pos 0) (pos 0)) (natural d.width) (natural d.height) background
 
 -- the default now: the focus if it is a button, else the declared default button
 abbrev pub is_default_now : List Node → Id → Node → Bool
-is_default_now views focus node = if is_button_node (node_of views focus) then node.id.0 == focus.0 else is_default node
+is_default_now views focus node =
+    if is_button_node (node_of views focus) then node.id.0 == focus.0 else is_default node
 
 -- a dialog's body, the frame with the interior, and its shadow
 abbrev pub body_layers : Desc → Point → Dialog → List Layer
 body_layers d origin dialog =
-    Painted place w h (frame_face w h head.title (frame_look attribute_of owners.Dialog 0 true)) ∷ Shadow place (sized w h) ∷ []
+    Painted place w h (frame_face w h head.title (frame_look attribute_of owners.Dialog 0 true))
+    ∷ Shadow place (sized w h) ∷ []
   where
     head : DialogHead
     head = dialog_head dialog
@@ -58,7 +61,10 @@ body_layers d origin dialog =
 -- a window's body, the frame with the interior, and its shadow
 abbrev pub window_body_layers : Desc → Bool → Point → Window → List Layer
 window_body_layers d is_active origin window =
-    Painted place w h (frame_face w h head.title (frame_look attribute_of owners.Window (natural head.number) is_active)) ∷ Shadow place (sized w h) ∷ []
+    Painted place w h
+    (frame_face w h head.title
+    (frame_look attribute_of owners.Window (natural head.number) is_active))
+    ∷ Shadow place (sized w h) ∷ []
   where
     head : WindowHead
     head = window_head window

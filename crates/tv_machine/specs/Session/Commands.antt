@@ -1,5 +1,6 @@
 -- Commands, by whether a dialog is open.
-use Rattle.std.specs.Prelude.{[], ℕ, true, not, pos, List, ◌∷◌, ◌++◌, filter, position, reverse, Option, Some, None, slice_get, slice_set, unwrap_or, ◌==◌, nat_le, if◌then◌else◌}
+use Rattle.std.specs.Prelude.{[], ℕ, true, not, pos, List, ◌∷◌, ◌++◌, filter, position, reverse, Option}
+use Rattle.std.specs.Prelude.{Some, None, slice_get, slice_set, unwrap_or, ◌==◌, nat_le, if◌then◌else◌}
 use Rattle.tv_model.specs.declared.node.Id.{Id}
 use Rattle.tv_model.specs.declared.desc.Desc.{Desc}
 use Rattle.tv_model.specs.declared.desc.Dialog.{Dialog}
@@ -31,7 +32,14 @@ saved_at s place = unwrap_or (slice_get s.saved place) None
 
 -- the open dialog at work, with nothing logged yet
 abbrev pub modal_of : State → OpenDialog → Modal
-modal_of s o = record { leaves = o.leaves; focus = o.focus; held = o.held; overwriting = overwriting_at s o.place; log = []; ended = None }
+modal_of s o = record {
+  leaves = o.leaves;
+  focus = o.focus;
+  held = o.held;
+  overwriting = overwriting_at s o.place;
+  log = [];
+  ended = None;
+}
 
 -- a dialog as it stands after its work
 abbrev pub dialog_after : OpenDialog → Modal → OpenDialog
@@ -39,16 +47,21 @@ dialog_after o m = record o { leaves = m.leaves; focus = m.focus; held = m.held 
 
 -- what its work leaves whether it ended or not: what it logged, and where typing overwrites
 abbrev pub worked : State → ℕ → Modal → State
-worked s place m = record s { overwriting = slice_set s.overwriting place m.overwriting; log = s.log ++ m.log }
+worked s place m = record s {
+  overwriting = slice_set s.overwriting place m.overwriting;
+  log = s.log ++ m.log;
+}
 
 -- the record of an ended dialog is saved, unless it ended by `cancel`
 abbrev pub saved_by : ℕ → ℕ → Modal → List (Option Entries) → List (Option Entries)
-saved_by place number m saved = if number == 11 then saved else slice_set saved place (Some (fields_of m.leaves))
+saved_by place number m saved =
+    if number == 11 then saved else slice_set saved place (Some (fields_of m.leaves))
 
 -- the state after the dialog's work: it stands, or it ended by a command
 abbrev pub after_work : State → OpenDialog → Modal → Option ℕ → State
 after_work s o m None = record (worked s o.place m) { dialog = Some (dialog_after o m) }
-after_work s o m (Some number) = record (worked s o.place m) { dialog = None; saved = saved_by o.place number m s.saved }
+after_work s o m (Some number) =
+    record (worked s o.place m) { dialog = None; saved = saved_by o.place number m s.saved }
 
 -- the open dialog works, by its description
 abbrev pub works : State → OpenDialog → (Dialog → Modal → Modal) → Option Dialog → State
@@ -64,13 +77,22 @@ in_dialog d s o work = works s o work (slice_get d.dialogs o.place)
 -- a dialog opens where it is declared
 abbrev pub opened_at : State → ℕ → Dialog → Modal → State
 opened_at s place dialog m = record (worked (logged (lines.Open dialog.node.id) s) place m) {
-  dialog = Some (record { place = place; origin = corner_of dialog.node; leaves = m.leaves; focus = m.focus; held = m.held });
+  dialog =
+      Some
+      (record {
+        place = place;
+        origin = corner_of dialog.node;
+        leaves = m.leaves;
+        focus = m.focus;
+        held = m.held;
+      });
 }
 
 -- a dialog at a place opens, with what the last run of it saved
 abbrev pub open_found : State → ℕ → Option Dialog → State
 open_found s place None = s
-open_found s place (Some dialog) = opened_at s place dialog (opened_dialog dialog (saved_at s place) (overwriting_at s place))
+open_found s place (Some dialog) =
+    opened_at s place dialog (opened_dialog dialog (saved_at s place) (overwriting_at s place))
 
 -- the dialog at a place of the description opens
 abbrev pub open_dialog : Desc → ℕ → State → State

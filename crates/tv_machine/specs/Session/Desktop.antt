@@ -1,5 +1,7 @@
--- Keys and mouse downs while neither a menu nor a dialog is open: menus open, and windows come to the front and close.
-use Rattle.std.specs.Prelude.{[], ℕ, Bool, false, ◌&&◌, List, ◌∷◌, find, Option, Some, None, pos, ◌-ℤ◌, ◌==◌, ◌-◌, nat_le, if◌then◌else◌}
+-- Keys and mouse downs while neither a menu nor a dialog is open: menus open, and windows come to the front
+-- and close.
+use Rattle.std.specs.Prelude.{[], ℕ, Bool, false, ◌&&◌, List, ◌∷◌, find, Option, Some, None, pos, ◌-ℤ◌, ◌==◌}
+use Rattle.std.specs.Prelude.{◌-◌, nat_le, if◌then◌else◌}
 use Rattle.std.specs.Ordering.{int_eq}
 use Rattle.tv_cells.specs.Layers.{is_in}
 use Rattle.tv_cells.specs.declared.rect.Point.{Point}
@@ -53,7 +55,9 @@ raise_found (Some w) s = raise w.id s
 
 -- the open window of a digit from 1 to 9
 abbrev pub window_of_digit : Desc → State → ℕ → Option OpenWindow
-window_of_digit d s ch = if nat_le 49 ch && nat_le ch 57 then find (λ w. is_numbered (ch - 48) (window_of d w.id)) s.windows else None
+window_of_digit d s ch =
+    if nat_le 49 ch && nat_le ch 57 then find (λ w. is_numbered (ch - 48) (window_of d w.id)) s.windows
+    else None
 
 -- a letter or digit with Alt opens its menu, or brings the window of its number to the front
 abbrev pub alt_pressed : Desc → ℕ → Option ℕ → State → State
@@ -83,7 +87,8 @@ down_on_desktop d (Some w) p s = down_on_window d s.windows w p s
 
 -- a title opens its menu; on the desktop the topmost window gets the down
 abbrev pub down_beside_title : Desc → Option ℕ → Point → State → State
-down_beside_title d None p s = if is_in (desktop d) p.x p.y then down_on_desktop d (window_under d s p) p s else s
+down_beside_title d None p s =
+    if is_in (desktop d) p.x p.y then down_on_desktop d (window_under d s p) p s else s
 down_beside_title d (Some menu) p s = open_menu menu s
 
 -- a mouse down

@@ -1,5 +1,6 @@
 -- The menu bar: how a menu opens, and what keys and mouse downs do while one is open.
-use Rattle.std.specs.Prelude.{[], ℕ, pos, List, length, position, Option, Some, None, slice_get, ◌+◌, ◌-◌, ◌==◌, nat_le, if◌then◌else◌}
+use Rattle.std.specs.Prelude.{[], ℕ, pos, List, length, position, Option, Some, None, slice_get, ◌+◌, ◌-◌}
+use Rattle.std.specs.Prelude.{◌==◌, nat_le, if◌then◌else◌}
 use Rattle.std.specs.Ordering.{int_eq}
 use Rattle.tv_cells.specs.declared.rect.Point.{Point}
 use Rattle.tv_event.specs.declared.event.Key.{Key}

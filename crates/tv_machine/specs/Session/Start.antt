@@ -1,5 +1,6 @@
 -- The state before the first event.
-use Rattle.std.specs.Prelude.{[], ℕ, false, List, map, reverse, replicate, length, position, Option, Some, None}
+use Rattle.std.specs.Prelude.{[], ℕ, false, List, map, reverse, replicate, length, position, Option, Some}
+use Rattle.std.specs.Prelude.{None}
 use Rattle.tv_model.specs.declared.desc.Desc.{Desc}
 use Rattle.tv_model.specs.declared.desc.Window.{Window}
 use Rattle.tv_model.specs.Description.Heads.{is_named}

@@ -1,6 +1,8 @@
--- One event of a run. The first case that holds decides: the run is over; a leaf holds the mouse; a menu is open; a status
+-- One event of a run. The first case that holds decides: the run is over; a leaf holds the mouse; a menu is
+-- open; a status
 -- item's key or cells; then the open dialog, or the desktop without one.
-use Rattle.std.specs.Prelude.{[], Bool, not, ◌&&◌, find, Option, Some, None, is_some, pos, ◌-ℤ◌, if◌then◌else◌}
+use Rattle.std.specs.Prelude.{[], Bool, not, ◌&&◌, find, Option, Some, None, is_some, pos, ◌-ℤ◌}
+use Rattle.std.specs.Prelude.{if◌then◌else◌}
 use Rattle.std.specs.Ordering.{int_eq}
 use Rattle.tv_cells.specs.Layers.{is_in}
 use Rattle.tv_cells.specs.declared.rect.Point.{Point}
@@ -52,7 +54,8 @@ status_item_of d s k = find (λ item. is_same_key item.key k && is_item_enabled 
 -- the command of a status item, if it is enabled
 abbrev pub status_command : Desc → Option StatusItem → State → State
 status_command d None s = s
-status_command d (Some item) s = if is_item_enabled d s item then do_command d (command_number item.command) s else s
+status_command d (Some item) s =
+    if is_item_enabled d s item then do_command d (command_number item.command) s else s
 
 -- ---- keys
 
@@ -97,7 +100,8 @@ abbrev pub held_of : Option OpenDialog → Option OpenDialog
 held_of None = None
 held_of (Some o) = if is_some o.held then Some o else None
 
--- an event while nothing holds the mouse: moves and ups do nothing, nor do commands and broadcasts that are handed in
+-- an event while nothing holds the mouse: moves and ups do nothing, nor do commands and broadcasts that are
+-- handed in
 abbrev pub step_below : Desc → Event → State → State
 step_below d (events.Key k) s = key_at_menu d s.menu k s
 step_below d (events.Down p) s = down_at_menu d s.menu p s
@@ -106,7 +110,8 @@ step_below d (events.Up p) s = s
 step_below d (events.Command c) s = s
 step_below d (events.Broadcast c) s = s
 
--- an event while a leaf of the open dialog holds the mouse: moves and ups go to it, and nothing else does anything
+-- an event while a leaf of the open dialog holds the mouse: moves and ups go to it, and nothing else does
+-- anything
 abbrev pub step_held : Desc → OpenDialog → Event → State → State
 step_held d o (events.Move p) s = to_dialog d o (events.Move p) s
 step_held d o (events.Up p) s = to_dialog d o (events.Up p) s

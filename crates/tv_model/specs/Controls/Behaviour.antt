@@ -1,4 +1,5 @@
--- What a kind of view is, what it holds, and what keys, the mouse and letters make of it. Items, columns and rows of a control
+-- What a kind of view is, what it holds, and what keys, the mouse and letters make of it. Items, columns and
+-- rows of a control
 -- count from its own corner.
 use Rattle.std.specs.Prelude.{[], ◌≡◌, ℕ, Bool, false, List, Option, None, ℤ, pos}
 use Rattle.tv_event.specs.declared.event.Key.{Key}
@@ -41,7 +42,8 @@ pub record Behaviour : Type 0 where
   pub rows : ℤ
   pub least_width : ℤ
   pub least_height : ℤ
-  -- all that the declaration quotes, without marks, and what of these texts has to take one column a character
+  -- all that the declaration quotes, without marks, and what of these texts has to take one column a
+  -- character
   pub texts : List (List ℕ)
   pub shown_texts : List (List ℕ) → List (List ℕ)
   -- the letters that call it from any focus
@@ -67,7 +69,8 @@ pub record Behaviour : Type 0 where
   -- ---- keys and the mouse
   -- a key, where it has the focus
   pub key : Key → Content → Answer
-  -- a mouse down, what it remembers of its row, and what it holds then, by the first column shown, the column and the row
+  -- a mouse down, what it remembers of its row, and what it holds then, by the first column shown, the column
+  -- and the row
   pub down : Down
   pub remembered : ℕ → ℕ
   pub down_content : ℕ → ℕ → ℕ → Content → Content

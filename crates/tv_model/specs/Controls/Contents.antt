@@ -5,7 +5,8 @@ use Rattle.tv_model.specs.declared.record.Value.TheVariants as values
 use Rattle.tv_model.specs.Controls.Private.{Private}
 use Rattle.tv_model.specs.Description.Numbers.{IsBetween}
 
--- what a leaf holds: its value, what it keeps beside it, and whether typing overwrites, which is of use to an input alone
+-- what a leaf holds: its value, what it keeps beside it, and whether typing overwrites, which is of use to an
+-- input alone
 pub record Content : Type 0 where
   pub value : Option Value
   pub private : Private

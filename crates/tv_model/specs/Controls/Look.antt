@@ -1,7 +1,8 @@
 -- How a leaf stands on the screen.
 use Rattle.std.specs.Prelude.{ℕ, Bool, false, Option, Some, None, ◌+◌, ◌==◌}
 
--- how a leaf stands: whether it has the focus, is the default now, is disabled, and is a label whose link has the focus
+-- how a leaf stands: whether it has the focus, is the default now, is disabled, and is a label whose link has
+-- the focus
 pub record Look : Type 0 where
   pub is_focused : Bool
   pub is_default_now : Bool

@@ -1,5 +1,6 @@
 -- The letters that call a view from any focus, and what they act on.
-use Rattle.std.specs.Prelude.{[], ℕ, Bool, true, false, List, ◌∷◌, ◌+◌, Option, Some, None, option_map, position, if◌then◌else◌}
+use Rattle.std.specs.Prelude.{[], ℕ, Bool, true, false, List, ◌∷◌, ◌+◌, Option, Some, None, option_map}
+use Rattle.std.specs.Prelude.{position, if◌then◌else◌}
 use Rattle.tv_model.specs.declared.kind.MarkedText.{MarkedText}
 use Rattle.tv_model.specs.Controls.Owner.{LetterOwner, control, item_at}
 use Rattle.tv_model.specs.Description.Marks.{marks, upper}

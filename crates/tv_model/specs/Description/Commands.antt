@@ -27,7 +27,8 @@ no_ends = record { ok = false; cancel = false; yes = false; no = false }
 
 -- whether the command is one of `ok`, `yes` and `no` that the dialog declares
 abbrev pub is_declared : Ends → ℕ → Bool
-is_declared ends number = ((number == 10) && ends.ok) || (((number == 12) && ends.yes) || ((number == 13) && ends.no))
+is_declared ends number =
+    ((number == 10) && ends.ok) || (((number == 12) && ends.yes) || ((number == 13) && ends.no))
 
 -- the command is among the dialog's ends
 abbrev pub is_end : Ends → ℕ → Bool

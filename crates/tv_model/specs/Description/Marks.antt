@@ -1,5 +1,6 @@
 -- Texts that mark a letter.
-use Rattle.std.specs.Prelude.{ℕ, Bool, false, ◌&&◌, slice_get, Option, Some, None, option_and_then, option_map, ◌-◌, ◌==◌, nat_le, if◌then◌else◌}
+use Rattle.std.specs.Prelude.{ℕ, Bool, false, ◌&&◌, slice_get, Option, Some, None, option_and_then}
+use Rattle.std.specs.Prelude.{option_map, ◌-◌, ◌==◌, nat_le, if◌then◌else◌}
 use Rattle.tv_model.specs.declared.kind.MarkedText.{MarkedText}
 
 -- an ASCII letter in upper case

@@ -7,7 +7,8 @@ use Rattle.tv_model.specs.Controls.Shortcut.{owner_in}
 use Rattle.tv_model.specs.Kinds.{behaviour}
 use Rattle.tv_model.specs.Controls.Owner.{LetterOwner}
 
--- what the letter acts on, where a declaration of the kind marks it: a label's letter on the control that the label names
+-- what the letter acts on, where a declaration of the kind marks it: a label's letter on the control that the
+-- label names
 abbrev pub owner_by : ℕ → Kind → Option LetterOwner
 owner_by letter kind = owner_in letter (behaviour kind).shortcut
 
@@ -17,4 +18,5 @@ marker_of dialog letter = find (λ node. is_some (owner_by letter node.kind)) di
 
 -- what the letter acts on in the dialog: the owner that its marker gives it, or nothing
 abbrev pub owners_of : Dialog → ℕ → List LetterOwner
-owners_of dialog letter = option_to_list (option_and_then (λ node. owner_by letter node.kind) (marker_of dialog letter))
+owners_of dialog letter =
+    option_to_list (option_and_then (λ node. owner_by letter node.kind) (marker_of dialog letter))

@@ -36,11 +36,15 @@ has_points r = int_lt r.a.x r.b.x && int_lt r.a.y r.b.y
 
 -- every point of the first lies in the second
 abbrev pub is_within : Rect → Rect → Bool
-is_within r s = not (has_points r) || ((int_le s.a.x r.a.x && int_le r.b.x s.b.x) && (int_le s.a.y r.a.y && int_le r.b.y s.b.y))
+is_within r s =
+    not (has_points r)
+    || ((int_le s.a.x r.a.x && int_le r.b.x s.b.x) && (int_le s.a.y r.a.y && int_le r.b.y s.b.y))
 
 -- some point lies in both
 abbrev pub overlap : Rect → Rect → Bool
-overlap r s = (has_points r && has_points s) && ((int_lt r.a.x s.b.x && int_lt s.a.x r.b.x) && (int_lt r.a.y s.b.y && int_lt s.a.y r.b.y))
+overlap r s =
+    (has_points r && has_points s)
+    && ((int_lt r.a.x s.b.x && int_lt s.a.x r.b.x) && (int_lt r.a.y s.b.y && int_lt s.a.y r.b.y))
 
 -- ---- where views may stand
 

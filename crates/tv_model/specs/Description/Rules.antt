@@ -1,5 +1,6 @@
 -- What a rule names, and what it stands over.
-use Rattle.std.specs.Prelude.{ℕ, Bool, true, false, ◌&&◌, ◌||◌, List, ◌∷◌, length, Option, Some, None, ℤ, pos, int_le}
+use Rattle.std.specs.Prelude.{ℕ, Bool, true, false, ◌&&◌, ◌||◌, List, ◌∷◌, length, Option, Some, None, ℤ}
+use Rattle.std.specs.Prelude.{pos, int_le}
 use Rattle.std.specs.List.{list_any}
 use Rattle.tv_model.specs.declared.node.Id.{Id}
 use Rattle.tv_model.specs.declared.node.Node.{Node}

@@ -1,5 +1,6 @@
 -- Faults of letters and keys: F4, F5 and F17.
-use Rattle.std.specs.Prelude.{[], ℕ, Bool, true, false, not, ◌&&◌, ◌||◌, List, ℤ, pos, ◌-◌, ◌==◌, nat_le, int_le}
+use Rattle.std.specs.Prelude.{[], ℕ, Bool, true, false, not, ◌&&◌, ◌||◌, List, ℤ, pos, ◌-◌, ◌==◌, nat_le}
+use Rattle.std.specs.Prelude.{int_le}
 use Rattle.std.specs.List.{list_any}
 use Rattle.std.specs.Ordering.{int_eq}
 use Rattle.tv_event.specs.declared.event.Key.{Key}
@@ -24,7 +25,9 @@ use Rattle.tv_model.specs.Description.Heads.{window_head}
 -- F4: a line that marks a letter marked before in its dialog, on an earlier line or on its own
 abbrev pub marks_again : List Node → Node → Bool
 marks_again before node =
-    list_any (λ pair. list_any (λ other. list_any (shares_letter pair.1) (marked_of other.kind)) before || list_any (shares_letter pair.1) pair.0) (after_seen [] (marked_of node.kind))
+    list_any (λ pair.
+    list_any (λ other. list_any (shares_letter pair.1) (marked_of other.kind)) before
+    || list_any (shares_letter pair.1) pair.0) (after_seen [] (marked_of node.kind))
 
 -- ---- menus and windows
 
@@ -38,7 +41,9 @@ item_again before item = list_any (λ other. shares_letter item.text other.text)
 
 -- F17: a window number from 1 to 9 given before
 abbrev pub numbered_again : List Window → Window → Bool
-numbered_again before window = is_key_number (window_head window).number && list_any (λ other. int_eq (window_head other).number (window_head window).number) before
+numbered_again before window =
+    is_key_number (window_head window).number
+    && list_any (λ other. int_eq (window_head other).number (window_head window).number) before
   where
     is_key_number : ℤ → Bool
     is_key_number n = int_le (pos 1) n && int_le n (pos 9)
@@ -70,13 +75,18 @@ is_same_key _ _ = false
 
 -- the digit, 1 to 9, of a window's number
 abbrev pub is_window_digit : ℕ → Window → Bool
-is_window_digit ch window = (nat_le 49 ch && nat_le ch 57) && int_eq (window_head window).number (pos (ch - 48))
+is_window_digit ch window =
+    (nat_le 49 ch && nat_le ch 57) && int_eq (window_head window).number (pos (ch - 48))
 
 -- Alt with a shortcut of any dialog, a menu title's letter or a window's number
 abbrev pub is_taken : Desc → Key → Bool
-is_taken d (keys.Alt ch) = list_any (is_shortcut ch) d.dialogs || (list_any (λ menu. marks ch menu.title) d.menus || list_any (is_window_digit ch) d.windows)
+is_taken d (keys.Alt ch) =
+    list_any (is_shortcut ch) d.dialogs
+    || (list_any (λ menu. marks ch menu.title) d.menus || list_any (is_window_digit ch) d.windows)
 is_taken d _ = false
 
 -- F5: a status line whose key isn't one that it may have, or is taken, or was given before
 abbrev pub has_bad_key : Desc → List StatusItem → StatusItem → Bool
-has_bad_key d before item = not (is_status_key item.key) || (is_taken d item.key || list_any (λ other. is_same_key other.key item.key) before)
+has_bad_key d before item =
+    not (is_status_key item.key)
+    || (is_taken d item.key || list_any (λ other. is_same_key other.key item.key) before)

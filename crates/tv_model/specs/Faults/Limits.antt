@@ -1,5 +1,6 @@
 -- Faults of limits: F15.
-use Rattle.std.specs.Prelude.{ℕ, Bool, true, not, ◌&&◌, ◌||◌, List, length, Option, Some, pos, neg_ℤ, ◌==◌, nat_le}
+use Rattle.std.specs.Prelude.{ℕ, Bool, true, not, ◌&&◌, ◌||◌, List, length, Option, Some, pos, neg_ℤ, ◌==◌}
+use Rattle.std.specs.Prelude.{nat_le}
 use Rattle.std.specs.List.{list_any}
 use Rattle.tv_model.specs.declared.node.Node.{Node}
 use Rattle.tv_model.specs.declared.kind.Kind.{Kind}
@@ -19,14 +20,17 @@ use Rattle.tv_model.specs.Description.Nodes.{height_of, is_pane}
 use Rattle.tv_model.specs.Description.Texts.{texts_of}
 use Rattle.tv_model.specs.Description.Numbers.{is_between}
 use Rattle.tv_model.specs.Description.Commands.{command_of}
-pub use Rattle.tv_model.specs.Description.Limits.{least_height, least_width, most_chars, most_dialogs, most_menu_items, most_menus, most_nested, most_rules, most_status_items, most_views, most_windows}
+pub use Rattle.tv_model.specs.Description.Limits.{least_height, least_width, most_chars, most_dialogs}
+pub use Rattle.tv_model.specs.Description.Limits.{most_menu_items, most_menus, most_nested, most_rules}
+pub use Rattle.tv_model.specs.Description.Limits.{most_status_items, most_views, most_windows}
 
 -- ---- how many items there may be
 
 -- items of a cluster or a list; other declarations have none
 abbrev pub is_lawful_count : Kind → Bool
 is_lawful_count (kinds.CheckBoxes boxes) = nat_le 1 (length boxes.items) && nat_le (length boxes.items) 16
-is_lawful_count (kinds.RadioButtons radios) = nat_le 1 (length radios.items) && nat_le (length radios.items) 16
+is_lawful_count (kinds.RadioButtons radios) =
+    nat_le 1 (length radios.items) && nat_le (length radios.items) 16
 is_lawful_count (kinds.List list) = nat_le 1 (length list.items) && nat_le (length list.items) 100
 is_lawful_count _ = true
 
@@ -38,11 +42,14 @@ is_lawful_screen d = is_between (pos 20) (pos 132) d.width && is_between (pos 10
 
 -- how far a corner may stand off
 abbrev pub is_lawful_corner : Node → Bool
-is_lawful_corner node = is_between (neg_ℤ (pos 132)) (pos 132) node.x && is_between (neg_ℤ (pos 132)) (pos 132) node.y
+is_lawful_corner node =
+    is_between (neg_ℤ (pos 132)) (pos 132) node.x && is_between (neg_ℤ (pos 132)) (pos 132) node.y
 
 -- clusters are as high as they have items, which have a limit of their own
 abbrev pub is_lawful_size : Node → Bool
-is_lawful_size node = is_between (least_width node.kind) (pos 132) node.w && is_between (least_height node.kind) (pos 60) (height_of node.kind)
+is_lawful_size node =
+    is_between (least_width node.kind) (pos 132) node.w
+    && is_between (least_height node.kind) (pos 60) (height_of node.kind)
 
 -- commands that a description numbers
 abbrev pub is_lawful_number : Option CommandSpec → Bool
@@ -64,7 +71,8 @@ is_too_long text = not (nat_le (length text) most_chars)
 -- whether all numbers and texts of a node lie within the limits
 abbrev pub is_lawful : Node → Bool
 is_lawful node =
-    ((is_lawful_corner node && is_lawful_size node) && (is_lawful_count node.kind && is_lawful_amount node.kind))
+    ((is_lawful_corner node && is_lawful_size node)
+    && (is_lawful_count node.kind && is_lawful_amount node.kind))
     && (is_lawful_number (command_of node.kind) && not (list_any is_too_long (texts_of node.kind)))
 
 -- F15: a menu
@@ -73,11 +81,15 @@ menu_outside_limits before menu = is_too_long menu.title.text || (length before 
 
 -- F15: an item of a menu
 abbrev pub item_outside_limits : List MenuItem → MenuItem → Bool
-item_outside_limits before item = not (is_lawful_number (Some item.command)) || (is_too_long item.text.text || (length before == most_menu_items))
+item_outside_limits before item =
+    not (is_lawful_number (Some item.command))
+    || (is_too_long item.text.text || (length before == most_menu_items))
 
 -- F15: a status item
 abbrev pub status_outside_limits : List StatusItem → StatusItem → Bool
-status_outside_limits before item = not (is_lawful_number (Some item.command)) || (is_too_long item.text || (length before == most_status_items))
+status_outside_limits before item =
+    not (is_lawful_number (Some item.command))
+    || (is_too_long item.text || (length before == most_status_items))
 
 -- F15: a window
 abbrev pub window_outside_limits : List Window → Window → Bool
@@ -89,7 +101,9 @@ dialog_outside_limits before dialog = not (is_lawful dialog.node) || (length bef
 
 -- F15: a view. Of panes in one another that is the one with four around it
 abbrev pub view_outside_limits : List Node → Node → Bool
-view_outside_limits before node = not (is_lawful node) || ((length before == most_views) || (is_pane node.kind && (node.depth == most_nested)))
+view_outside_limits before node =
+    not (is_lawful node)
+    || ((length before == most_views) || (is_pane node.kind && (node.depth == most_nested)))
 
 -- F15: a rule
 abbrev pub rule_outside_limits : List Rule → Rule → Bool

@@ -20,7 +20,8 @@ window_named_again before window = list_any (λ other. shares_name window.node o
 -- F1: a dialog name given before, by a window or a dialog
 abbrev pub dialog_named_again : Desc → List Dialog → Dialog → Bool
 dialog_named_again d before dialog =
-    list_any (λ window. shares_name dialog.node window.node) d.windows || list_any (λ other. shares_name dialog.node other.node) before
+    list_any (λ window. shares_name dialog.node window.node) d.windows
+    || list_any (λ other. shares_name dialog.node other.node) before
 
 -- F6: a label whose name isn't a button, input, cluster or list of its dialog
 abbrev pub links_nothing : List Node → Node → Bool

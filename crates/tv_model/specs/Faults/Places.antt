@@ -26,4 +26,6 @@ need_own_places one other = (is_pane one || is_pane other) || (is_control one &&
 -- F3: a view that overlaps an earlier sibling, where one of the two is a pane or both are controls
 abbrev pub overlaps_earlier : List Node → Node → Bool
 overlaps_earlier before node =
-    list_any (λ other. need_own_places other.kind node.kind && overlap (place_of_node other) (place_of_node node)) (earlier_siblings before node)
+    list_any (λ other.
+    need_own_places other.kind node.kind && overlap (place_of_node other) (place_of_node node))
+    (earlier_siblings before node)

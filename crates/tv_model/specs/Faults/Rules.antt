@@ -15,7 +15,8 @@ use Rattle.tv_model.specs.Description.Rules.{cluster_items, is_item, has_target,
 
 -- F7: a rule whose shown name isn't a control or pane of the dialog, or whose cluster or item there isn't
 abbrev pub names_unknown : List Node → Rule → Bool
-names_unknown views rule = not (has_target views rule.effect) || not (is_item rule.item (cluster_items (meant views rule.cluster)))
+names_unknown views rule =
+    not (has_target views rule.effect) || not (is_item rule.item (cluster_items (meant views rule.cluster)))
 
 -- ---- what a rule stands over
 
@@ -24,7 +25,8 @@ abbrev pub shows_cluster : List Node → Rule → List Node → Node → Bool
 shows_cluster views rule before cluster = shown rule.effect
   where
     shown : Effect → Bool
-    shown (effects.Show name) = is_cluster cluster.kind && option_stands_over (meant views name) before cluster
+    shown (effects.Show name) =
+        is_cluster cluster.kind && option_stands_over (meant views name) before cluster
     shown (effects.Enable command) = false
 
 -- F8: a show rule whose target is its own cluster or a pane around it
@@ -37,8 +39,10 @@ shows_itself views rule = at (find (λ pair. gives_name rule.cluster pair.1) (af
 
 -- a control that no rule reaches
 abbrev pub is_always_free : Dialog → List Node → Node → Bool
-is_always_free dialog before node = is_control node.kind && not (list_any (λ rule. reaches dialog.views before node rule.effect) dialog.rules)
+is_always_free dialog before node =
+    is_control node.kind && not (list_any (λ rule. reaches dialog.views before node rule.effect) dialog.rules)
 
 -- F9: a dialog without a button, input, cluster or list that no rule reaches
 abbrev pub has_nothing_to_focus : Dialog → Bool
-has_nothing_to_focus dialog = not (list_any (λ pair. is_always_free dialog pair.0 pair.1) (after_seen [] dialog.views))
+has_nothing_to_focus dialog =
+    not (list_any (λ pair. is_always_free dialog pair.0 pair.1) (after_seen [] dialog.views))

@@ -37,7 +37,8 @@ is_second_default before node = is_default node && list_any is_default before
 
 -- F13: a start item that there isn't
 abbrev pub starts_outside : Kind → Bool
-starts_outside (kinds.CheckBoxes boxes) = list_any (λ item. not (is_item item (length boxes.items))) boxes.start
+starts_outside (kinds.CheckBoxes boxes) =
+    list_any (λ item. not (is_item item (length boxes.items))) boxes.start
 starts_outside (kinds.RadioButtons radios) = not (is_item radios.start (length radios.items))
 starts_outside (kinds.List list) = not (is_item list.start (length list.items))
 starts_outside _ = false
@@ -53,11 +54,14 @@ opens_badly before dialog = opening (dialog_head dialog).opens
   where
     opening : Option ℤ → Bool
     opening None = false
-    opening (Some n) = not (is_between (pos 100) (pos 255) n) || list_any (λ other. is_option_number n (dialog_head other).opens) before
+    opening (Some n) =
+        not (is_between (pos 100) (pos 255) n)
+        || list_any (λ other. is_option_number n (dialog_head other).opens) before
 
 -- a name of the start means a dialog: one has it, and no window, which would come first
 abbrev pub means_dialog : Desc → List ℕ → Bool
-means_dialog d name = not (list_any (λ window. gives_name name window.node) d.windows) && list_any (is_named name) d.dialogs
+means_dialog d name =
+    not (list_any (λ window. gives_name name window.node) d.windows) && list_any (is_named name) d.dialogs
 
 -- F16: a `start` that names no dialog
 abbrev pub starts_nowhere : Desc → Bool

@@ -18,7 +18,11 @@ is_press _ = false
 
 -- a button stands as a leaf does
 abbrev pub button_look : Look → ButtonLook
-button_look look = record { is_focused = look.is_focused; is_default_now = look.is_default_now; is_disabled = look.is_disabled }
+button_look look = record {
+  is_focused = look.is_focused;
+  is_default_now = look.is_default_now;
+  is_disabled = look.is_disabled;
+}
 
 -- one attribute for the marked letter, and one for the rest
 abbrev pub button_colour : (Role → ℕ) → Look → Bool → ℕ
@@ -27,7 +31,8 @@ button_colour colour look is_at_letter = colour (roles.Button (button_role (butt
 -- the text in the middle, between brackets
 abbrev pub button_face : (Role → ℕ) → Look → ℕ → MarkedText → FaceOf
 button_face colour look width text =
-    button_cells width text.text text.mark look.is_default_now (button_colour colour look true) (button_colour colour look false)
+    button_cells width text.text text.mark look.is_default_now (button_colour colour look true)
+    (button_colour colour look false)
 
 abbrev pub button_behaviour : Button → Behaviour
 button_behaviour button = record plain {

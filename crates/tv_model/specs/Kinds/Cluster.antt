@@ -1,5 +1,8 @@
--- Check boxes and radio buttons: what their keys, the mouse and letters make of them, and what they show. Items count from 1.
-use Rattle.std.specs.Prelude.{[], ℕ, Bool, true, false, ◌&&◌, List, ◌∷◌, ◌++◌, length, map, All, Option, Some, None, IsTrue, slice_get, ℤ, pos, ◌≤◌, ◌<◌, ◌+◌, ◌-◌, ◌/◌, ◌%◌, ◌^◌, ◌==◌, bit_or, codes, nat_le, if◌then◌else◌}
+-- Check boxes and radio buttons: what their keys, the mouse and letters make of them, and what they show.
+-- Items count from 1.
+use Rattle.std.specs.Prelude.{[], ℕ, Bool, true, false, ◌&&◌, List, ◌∷◌, ◌++◌, length, map, All, Option}
+use Rattle.std.specs.Prelude.{Some, None, IsTrue, slice_get, ℤ, pos, ◌≤◌, ◌<◌, ◌+◌, ◌-◌, ◌/◌, ◌%◌, ◌^◌, ◌==◌}
+use Rattle.std.specs.Prelude.{bit_or, codes, nat_le, if◌then◌else◌}
 use Rattle.std.specs.Int.RustNames.{bit_xor}
 use Rattle.tv_cells.specs.Glyph.{Glyph, glyph, shown}
 use Rattle.tv_event.specs.declared.event.Key.{Key}
@@ -148,7 +151,8 @@ cluster_item_pressed kind item c = with_cluster kind (pressed kind item (cluster
 
 -- an up on a row of a cluster presses its item, if it is the one that was under the down
 abbrev pub cluster_released : ClusterKind → ℕ → ℕ → Content → Answer
-cluster_released kind item row c = if item_of_row row == item then answers.Becomes (cluster_item_pressed kind item c) else answers.Passed
+cluster_released kind item row c =
+    if item_of_row row == item then answers.Becomes (cluster_item_pressed kind item c) else answers.Passed
 
 -- ---- what they show
 
@@ -161,18 +165,22 @@ box_before Radios false = codes "( ) "
 
 -- the role of a cell: that of the marked letter before that of the selected row
 abbrev pub cluster_role : Bool → Bool → ClusterRole
-cluster_role is_at_letter is_selected = if is_at_letter then cluster.Letter else if is_selected then cluster.Selected else cluster.Normal
+cluster_role is_at_letter is_selected =
+    if is_at_letter then cluster.Letter else if is_selected then cluster.Selected else cluster.Normal
 
 -- a row with an item and whether it is marked; a row past the last item is empty
-abbrev pub cluster_row : (Role → ℕ) → ClusterKind → (is_selected is_marked : Bool) → Option MarkedText → ℕ → Glyph
+abbrev pub cluster_row : (Role → ℕ) → ClusterKind → (is_selected is_marked : Bool) → Option MarkedText → ℕ
+    → Glyph
 cluster_row colour kind is_selected is_marked None x = glyph 32 (colour (roles.Cluster cluster.Normal))
 cluster_row colour kind is_selected is_marked (Some text) x =
-    shown (text_row (box_before kind is_marked ++ text.text) x) (colour (roles.Cluster (cluster_role (is_mark_from 4 text.mark x) is_selected)))
+    shown (text_row (box_before kind is_marked ++ text.text) x)
+    (colour (roles.Cluster (cluster_role (is_mark_from 4 text.mark x) is_selected)))
 
 -- an item a row
 abbrev pub cluster_face : (Role → ℕ) → ClusterKind → Look → List MarkedText → Content → FaceOf
 cluster_face colour kind look items c x y =
-    cluster_row colour kind (look.is_focused && (selected_of kind c == y + 1)) (is_marked c.value (y + 1)) (slice_get items y) x
+    cluster_row colour kind (look.is_focused && (selected_of kind c == y + 1)) (is_marked c.value (y + 1))
+    (slice_get items y) x
 
 -- ---- the whole
 
@@ -194,10 +202,14 @@ cluster_behaviour kind name items start = record plain {
 }
 
 abbrev pub boxes_behaviour : CheckBoxes → Behaviour
-boxes_behaviour boxes = record (cluster_behaviour Boxes boxes.name boxes.items (values.Marks (marks_of boxes.start))) { opened = λ value. Selecting 1 }
+boxes_behaviour boxes =
+    record (cluster_behaviour Boxes boxes.name boxes.items (values.Marks (marks_of boxes.start))) {
+      opened = λ value. Selecting 1;
+    }
 
 abbrev pub radios_behaviour : RadioButtons → Behaviour
-radios_behaviour radios = cluster_behaviour Radios radios.name radios.items (values.Item (natural radios.start))
+radios_behaviour radios =
+    cluster_behaviour Radios radios.name radios.items (values.Item (natural radios.start))
 
 abbrev pub boxes_facts : CheckBoxes → Facts
 boxes_facts boxes = record plain_facts {

@@ -1,5 +1,6 @@
 -- Input lines: their text, its domain, what keys and the mouse make of it, and what they show.
-use Rattle.std.specs.Prelude.{[], ◌≡◌, ℕ, Bool, true, false, not, ◌&&◌, List, ◌∷◌, length, remove, min, Option, Some, None, pos, ◌+◌, ◌-◌, ◌==◌, nat_lt, if◌then◌else◌}
+use Rattle.std.specs.Prelude.{[], ◌≡◌, ℕ, Bool, true, false, not, ◌&&◌, List, ◌∷◌, length, remove, min}
+use Rattle.std.specs.Prelude.{Option, Some, None, pos, ◌+◌, ◌-◌, ◌==◌, nat_lt, if◌then◌else◌}
 use Rattle.tv_cells.specs.Glyph.{shown}
 use Rattle.tv_event.specs.declared.event.Key.{Key}
 use Rattle.tv_event.specs.declared.event.Key.TheVariants as keys
@@ -45,11 +46,20 @@ is_whole_of _ = false
 
 -- what an input holds
 abbrev pub edit_of : Content → Edit
-edit_of c = record { text = text_of c.value; cursor = cursor_of c.private; is_whole = is_whole_of c.private; overwrites = c.overwrites }
+edit_of c = record {
+  text = text_of c.value;
+  cursor = cursor_of c.private;
+  is_whole = is_whole_of c.private;
+  overwrites = c.overwrites;
+}
 
 -- an input that holds this
 abbrev pub edit_content : Edit → Content
-edit_content e = record { value = Some (values.Text e.text); private = Editing e.cursor e.is_whole; overwrites = e.overwrites }
+edit_content e = record {
+  value = Some (values.Text e.text);
+  private = Editing e.cursor e.is_whole;
+  overwrites = e.overwrites;
+}
 
 -- ---- its domain
 
@@ -103,7 +113,8 @@ with_text text place e = record e { text = text; cursor = place; is_whole = fals
 
 -- the character before the cursor goes, if there is one
 abbrev pub backspaced : Edit → Edit
-backspaced e = if e.cursor == 0 then at_place 0 e else with_text (remove e.text (e.cursor - 1)) (e.cursor - 1) e
+backspaced e =
+    if e.cursor == 0 then at_place 0 e else with_text (remove e.text (e.cursor - 1)) (e.cursor - 1) e
 
 -- the whole text goes where it is selected, else the character at the cursor, if there is one
 abbrev pub deleted : Edit → Edit
@@ -112,7 +123,8 @@ deleted e =
     else if nat_lt e.cursor (length e.text) then with_text (remove e.text e.cursor) e.cursor e
     else at_place e.cursor e
 
--- what a typed character is put into, at the cursor: nothing where the whole text is selected, and where it overwrites
+-- what a typed character is put into, at the cursor: nothing where the whole text is selected, and where it
+-- overwrites
 -- the text without the character at the cursor
 abbrev pub opened_up : Edit → Edit
 opened_up e =
@@ -136,7 +148,8 @@ first_shown width cursor = cursor - (width - 3)
 abbrev pub clicked : ℕ → ℕ → Edit → Edit
 clicked first column e = at_place (min (first + column - 1) (length e.text)) e
 
--- the focus comes: the whole text is selected, if there is one, with the cursor at its end. It goes: nothing is selected
+-- the focus comes: the whole text is selected, if there is one, with the cursor at its end. It goes: nothing
+-- is selected
 abbrev pub entered : Edit → Edit
 entered e = record e { cursor = length e.text; is_whole = nat_lt 0 (length e.text) }
 
@@ -195,7 +208,8 @@ text_role is_focused e place =
 
 -- an arrow where text is hidden on its side, else a space
 abbrev pub arrow_cell : Bool → ℕ → InputCell
-arrow_cell is_hidden ch = if is_hidden then record { ch = ch; role = input.Arrow } else record { ch = 32; role = input.Normal }
+arrow_cell is_hidden ch =
+    if is_hidden then record { ch = ch; role = input.Arrow } else record { ch = 32; role = input.Normal }
 
 -- a column of an input: an arrow at both ends, and between them the text from the first place that is shown
 abbrev pub input_cell : ℕ → Bool → Edit → ℕ → InputCell

@@ -14,11 +14,13 @@ use Rattle.tv_model.specs.Screen.Faces.{FaceOf, text_row}
 
 -- the role of a cell: that of the marked letter before the others
 abbrev pub label_role : Look → Bool → LabelRole
-label_role look is_at_letter = if is_at_letter then label.Letter else if look.is_linked then label.Focused else label.Normal
+label_role look is_at_letter =
+    if is_at_letter then label.Letter else if look.is_linked then label.Focused else label.Normal
 
 -- the text from the first column on
 abbrev pub label_face : (Role → ℕ) → Look → MarkedText → FaceOf
-label_face colour look text x y = shown (text_row text.text x) (colour (roles.Label (label_role look (is_mark_from 0 text.mark x))))
+label_face colour look text x y =
+    shown (text_row text.text x) (colour (roles.Label (label_role look (is_mark_from 0 text.mark x))))
 
 abbrev pub label_behaviour : Label → Behaviour
 label_behaviour l = record plain {

@@ -1,5 +1,6 @@
 -- List boxes: what their keys and the mouse make of them, and what they show. Items count from 1.
-use Rattle.std.specs.Prelude.{[], ℕ, Bool, true, not, List, ◌∷◌, length, max, min, Option, Some, None, IsTrue, ◌≤◌, ◌+◌, ◌-◌, ◌==◌, nat_le, nat_lt, if◌then◌else◌}
+use Rattle.std.specs.Prelude.{[], ℕ, Bool, true, not, List, ◌∷◌, length, max, min, Option, Some, None}
+use Rattle.std.specs.Prelude.{IsTrue, ◌≤◌, ◌+◌, ◌-◌, ◌==◌, nat_le, nat_lt, if◌then◌else◌}
 use Rattle.tv_cells.specs.Glyph.{Glyph, shown}
 use Rattle.tv_event.specs.declared.event.Key.{Key}
 use Rattle.tv_event.specs.declared.event.Key.TheVariants as keys
@@ -9,7 +10,8 @@ use Rattle.tv_palette.specs.declared.role.ListRole.{ListRole}
 use Rattle.tv_palette.specs.declared.role.ListRole.TheVariants as list
 use Rattle.tv_model.specs.declared.kind.ListBox.{ListBox}
 use Rattle.tv_model.specs.declared.record.Value.TheVariants as values
-use Rattle.tv_model.specs.Controls.Behaviour.{Behaviour, plain, Facts, plain_facts, Answer, Passed, Becomes, Holds}
+use Rattle.tv_model.specs.Controls.Behaviour.{Behaviour, plain, Facts, plain_facts, Answer, Passed, Becomes}
+use Rattle.tv_model.specs.Controls.Behaviour.{Holds}
 use Rattle.tv_model.specs.Controls.Contents.{Content, item_of, text_at, is_item_place, IsItem}
 use Rattle.tv_model.specs.Controls.Look.{Look}
 use Rattle.tv_model.specs.Controls.Private.{Private, Scrolled}
@@ -45,7 +47,8 @@ IsScrolled _ = ⊥
 
 -- the top moves by the least amount that shows the item
 abbrev pub top_for : ℕ → ℕ → ℕ → ℕ
-top_for height item top = if nat_lt item top then item else if nat_le (top + height) item then item + 1 - height else top
+top_for height item top =
+    if nat_lt item top then item else if nat_le (top + height) item then item + 1 - height else top
 
 -- an item is chosen, or the nearest that there is
 abbrev pub within : ℕ → ℕ → ℕ
@@ -53,7 +56,10 @@ within count item = max 1 (min item count)
 
 -- the list with an item chosen, or the nearest that there is
 abbrev pub chosen : ℕ → ℕ → ℕ → Chosen → Chosen
-chosen height count item c = record { item = within count item; top = top_for height (within count item) c.top }
+chosen height count item c = record {
+  item = within count item;
+  top = top_for height (within count item) c.top;
+}
 
 -- the item that a key asks for; those of other keys are passed on
 abbrev pub asked_item : ℕ → ℕ → Chosen → Key → Option ℕ
@@ -78,17 +84,20 @@ list_answer height count (Some item) c = Becomes (with_chosen (chosen height cou
 
 -- the list with the item of a row chosen, or the last item
 abbrev pub row_chosen : ℕ → ℕ → ℕ → Content → Content
-row_chosen height count row c = with_chosen (chosen height count (item_at_row count (chosen_of c) row) (chosen_of c)) c
+row_chosen height count row c =
+    with_chosen (chosen height count (item_at_row count (chosen_of c) row) (chosen_of c)) c
 
 -- ---- what it shows
 
 -- the role of a row by whether the list has the focus and its item is the chosen one
 abbrev pub list_role : (is_focused is_chosen : Bool) → ListRole
-list_role is_focused is_chosen = if not is_chosen then list.Normal else if is_focused then list.Focused else list.Chosen
+list_role is_focused is_chosen =
+    if not is_chosen then list.Normal else if is_focused then list.Focused else list.Chosen
 
 -- a row with an item
 abbrev pub list_row : (Role → ℕ) → Look → List (List ℕ) → (chosen item : ℕ) → ℕ → Glyph
-list_row colour look items chosen item x = shown (text_row (text_at items item) x) (colour (roles.List (list_role look.is_focused (chosen == item))))
+list_row colour look items chosen item x =
+    shown (text_row (text_at items item) x) (colour (roles.List (list_role look.is_focused (chosen == item))))
 
 -- an item a row, from that of the top row on
 abbrev pub list_face : (Role → ℕ) → Look → List (List ℕ) → Content → FaceOf
@@ -104,7 +113,10 @@ list_behaviour l = record plain {
   is_control = true;
   value = Some (values.Item (natural l.start));
   opened = λ value. Scrolled (max 1 (item_of value + 1 - natural l.h));
-  key = λ k c. list_answer (natural l.h) (length l.items) (asked_item (natural l.h) (length l.items) (chosen_of c) k) c;
+  key =
+      λ k c.
+      list_answer (natural l.h) (length l.items)
+      (asked_item (natural l.h) (length l.items) (chosen_of c) k) c;
   down = Holds;
   down_content = λ first column row c. row_chosen (natural l.h) (length l.items) row c;
   move_content = λ row c. row_chosen (natural l.h) (length l.items) row c;

@@ -1,5 +1,7 @@
 -- The text of the log.
-use Rattle.std.specs.Prelude.{[], ℕ, Bool, List, ◌∷◌, ◌++◌, map, filter, flat_map, Option, Some, None, unwrap_or, encode_utf8, codes, decimal, ◌-◌, ◌/◌, ◌%◌, ◌^◌, ◌==◌, if◌then◌else◌}
+use Rattle.std.specs.Prelude.{[], ℕ, Bool, List, ◌∷◌, ◌++◌, map, filter, flat_map, Option, Some, None}
+use Rattle.std.specs.Prelude.{unwrap_or, encode_utf8, codes, decimal, ◌-◌, ◌/◌, ◌%◌, ◌^◌, ◌==◌}
+use Rattle.std.specs.Prelude.{if◌then◌else◌}
 use Rattle.std.specs.List.{range_with_len}
 use Rattle.tv_model.specs.declared.node.Id.{Id}
 use Rattle.tv_model.specs.declared.node.Node.{Node}

@@ -1,5 +1,7 @@
 -- What fills the rectangle of each layer, by columns and rows from its corner.
-use Rattle.std.specs.Prelude.{[], ℕ, Bool, false, not, ◌&&◌, ◌||◌, List, ◌∷◌, length, take, Option, Some, None, slice_index_or, ◌+◌, ◌-◌, ◌/◌, ◌==◌, nat_le, nat_lt, if◌then◌else◌, codes}
+use Rattle.std.specs.Prelude.{[], ℕ, Bool, false, not, ◌&&◌, ◌||◌, List, ◌∷◌, length, take, Option, Some}
+use Rattle.std.specs.Prelude.{None, slice_index_or, ◌+◌, ◌-◌, ◌/◌, ◌==◌, nat_le, nat_lt, if◌then◌else◌}
+use Rattle.std.specs.Prelude.{codes}
 use Rattle.tv_cells.specs.Glyph.{Glyph, glyph, shown}
 use Rattle.tv_palette.specs.Attributes.{attribute_of}
 use Rattle.tv_palette.specs.declared.role.Owner.{Owner}
@@ -64,14 +66,17 @@ is_side w x = (x == 0) || (x + 1 == w)
 abbrev pub border : Bool → ℕ → Row
 border is_active w x = if is_side w x then 43 else if is_active then 61 else 45
 
--- the title, cut so that the close mark and the number stay free, with a space at both sides; nothing for an empty one
+-- the title, cut so that the close mark and the number stay free, with a space at both sides; nothing for an
+-- empty one
 abbrev pub cut_title : ℕ → List ℕ → List ℕ
 cut_title w title = take (w - 12) title
 
 -- the title in the middle of the row below
 abbrev pub titled : ℕ → List ℕ → Row → Row
 titled w [] below = below
-titled w (ch ∷ chars) below = over_row ((w - (length (ch ∷ chars) + 2)) / 2) (length (ch ∷ chars) + 2) (text_row (32 ∷ ch ∷ chars)) below
+titled w (ch ∷ chars) below =
+    over_row ((w - (length (ch ∷ chars) + 2)) / 2) (length (ch ∷ chars) + 2) (text_row (32 ∷ ch ∷ chars))
+    below
 
 -- the digit of a number in the fourth column from the end
 abbrev pub with_number : ℕ → ℕ → Row → Row
@@ -83,7 +88,9 @@ with_close_mark is_active below = if is_active then over_row 2 3 (text_row (code
 
 -- the first row: corners, title, number and close mark
 abbrev pub top_row : ℕ → List ℕ → FrameLook → Row
-top_row w title look = with_close_mark look.is_active (with_number w look.number (titled w (cut_title w title) (border look.is_active w)))
+top_row w title look =
+    with_close_mark look.is_active
+    (with_number w look.number (titled w (cut_title w title) (border look.is_active w)))
 
 -- a frame round an empty interior
 abbrev pub frame_face : ℕ → ℕ → List ℕ → FrameLook → FaceOf
@@ -134,12 +141,14 @@ abbrev pub button_row : ℕ → List ℕ → Bool → Row
 button_row w text is_default_now x =
     if x == 0 then (if is_default_now then 60 else 91)
     else if x + 1 == w then (if is_default_now then 62 else 93)
-    else over_row (button_start w text) (length (button_text w text)) (text_row (button_text w text)) (λ _. 32) x
+    else over_row (button_start w text) (length (button_text w text)) (text_row (button_text w text)) (λ _.
+    32) x
 
 -- whether the column shows the marked letter
 abbrev pub is_letter_column : ℕ → List ℕ → Option ℕ → ℕ → Bool
 is_letter_column w text None x = false
-is_letter_column w text (Some mark) x = nat_lt mark (length (button_text w text)) && (x == button_start w text + mark)
+is_letter_column w text (Some mark) x =
+    nat_lt mark (length (button_text w text)) && (x == button_start w text + mark)
 
 -- the role of a cell: that of a disabled button before all others
 abbrev pub button_role : ButtonLook → Bool → ButtonRole
@@ -156,4 +165,5 @@ button_attr look letter = attribute_of (roles.Button (button_role look letter))
 
 -- one attribute for the marked letter, and one for the rest
 abbrev pub button_cells : ℕ → List ℕ → Option ℕ → Bool → ℕ → ℕ → FaceOf
-button_cells w text mark is_default_now letter rest x y = shown (button_row w text is_default_now x) (if is_letter_column w text mark x then letter else rest)
+button_cells w text mark is_default_now letter rest x y =
+    shown (button_row w text is_default_now x) (if is_letter_column w text mark x then letter else rest)

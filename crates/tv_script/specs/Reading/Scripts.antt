@@ -1,5 +1,6 @@
 -- Reading a script, line by line.
-use Rattle.std.specs.Prelude.{◌≡◌, ℕ, ℤ, ◌+◌, List, [], ◌∷◌, ◌++◌, length, nat_le, Option, Some, None, Result, Ok, Err, if◌then◌else◌}
+use Rattle.std.specs.Prelude.{◌≡◌, ℕ, ℤ, ◌+◌, List, [], ◌∷◌, ◌++◌, length, nat_le, Option, Some, None}
+use Rattle.std.specs.Prelude.{Result, Ok, Err, if◌then◌else◌}
 use Rattle.tv_model.specs.declared.script.Item.{Item}
 use Rattle.tv_script.specs.declared.line.Line.{Line}
 use Rattle.tv_script.specs.declared.script_text.ScriptFault.{ScriptFault}
@@ -20,7 +21,8 @@ bounded items = if nat_le (length items) 100000 then Ok items else Err TooLong
 
 -- the line with the number n after these items
 abbrev pub with_script_line : (width height : ℤ) → ℕ → List Item → Line → ScriptOutcome
-with_script_line width height n items l = if is_on_screen width height l then bounded (items ++ items_of_line l) else Err (OffScreen n)
+with_script_line width height n items l =
+    if is_on_screen width height l then bounded (items ++ items_of_line l) else Err (OffScreen n)
 
 -- the same where the words may be no line
 abbrev pub with_found : (width height : ℤ) → ℕ → List Item → Option Line → ScriptOutcome
@@ -46,11 +48,16 @@ with_read width height n items (Some (Some l)) = with_script_line width height n
 -- reading on, from the line n
 abbrev pub script_from : (width height : ℤ) → ℕ → List Item → List (List ℕ) → ScriptOutcome
 script_from width height n items [] = Ok items
-script_from width height n items (l ∷ ls) = elim (with_bytes width height n items l) as (λ _. ScriptOutcome) [ Err fault ↦ Err fault | Ok longer ↦ script_from width height (n + 1) longer ls ]
+script_from width height n items (l ∷ ls) =
+    elim (with_bytes width height n items l) as (λ _. ScriptOutcome) [
+      | Err fault ↦ Err fault
+      | Ok longer ↦ script_from width height (n + 1) longer ls
+    ]
 
 -- the script of a text for a screen of so many columns and rows
 abbrev pub script_of : (width height : ℤ) → List ℕ → ScriptOutcome
-script_of width height text = if nat_le (length text) 1048576 then script_from width height 1 [] (lines_of text) else Err TooLong
+script_of width height text =
+    if nat_le (length text) 1048576 then script_from width height 1 [] (lines_of text) else Err TooLong
 
 -- the fault is the one that was answered; memory may run out at any time
 abbrev pub IsAnswered : ScriptFault → ScriptOutcome → Type 0

@@ -1,5 +1,6 @@
 -- How far a script that comes in pieces was performed.
-use Rattle.std.specs.Prelude.{◌≡◌, ℕ, ◌+◌, List, [], ◌∷◌, ◌++◌, false, flat_map, length, Option, Some, None, Ok, Err}
+use Rattle.std.specs.Prelude.{◌≡◌, ℕ, ◌+◌, List, [], ◌∷◌, ◌++◌, false, flat_map, length, Option, Some, None}
+use Rattle.std.specs.Prelude.{Ok, Err}
 use Rattle.std.specs.List.{AllByRecursion, list_any}
 use Rattle.tv_io.specs.Writer.{Seen}
 use Rattle.tv_machine.specs.Run.{Session}
@@ -32,25 +33,33 @@ abbrev pub with_line_ends : List (List ℕ) → List ℕ
 with_line_ends lines = flat_map (λ line. line ++ 10 ∷ []) lines
 
 -- the lines were read as those of a script, and performed
-pub record HasPlayed (s : Session) (lines : List (List ℕ)) (begun : ℕ) (from now : Seen) (Left : Session → Type 0) : Type 0 where
+pub record HasPlayed (s : Session) (lines : List (List ℕ)) (begun : ℕ) (from now : Seen)
+    (Left : Session → Type 0) : Type 0 where
   pub items : List Item
   pub read : script_from s.desc.width s.desc.height 1 [] lines ≡ Ok items
   pub count : begun ≡ length items
   pub performs : Performs s items from now Left
 
 -- the line after these was read, and is refused
-pub record IsRefusedLine (s : Session) (lines : List (List ℕ)) (line : List ℕ) (from now : Seen) (Left : Session → Type 0) (fault : ScriptFault) : Type 0 where
+pub record IsRefusedLine (s : Session) (lines : List (List ℕ)) (line : List ℕ) (from now : Seen)
+    (Left : Session → Type 0) (fault : ScriptFault) : Type 0 where
   pub begun : ℕ
   pub played : HasPlayed s lines begun from now Left
   pub refused : with_bytes s.desc.width s.desc.height (length lines + 1) played.items line ≡ Err fault
 
 -- the line after these wasn't performed to its end: it is refused, or the writer failed
-abbrev pub IsUnplayed : (s : Session) (lines : List (List ℕ)) (line : List ℕ) (from now : Seen) (Left : Session → Type 0) → StreamFault → Type 0
-IsUnplayed s lines line from now Left (streams.Syntax n) = IsRefusedLine s lines line from now Left (scripts.Syntax n)
-IsUnplayed s lines line from now Left (streams.OffScreen n) = IsRefusedLine s lines line from now Left (scripts.OffScreen n)
-IsUnplayed s lines line from now Left streams.TooLong = IsRefusedLine s lines line from now Left scripts.TooLong
+abbrev pub IsUnplayed : (s : Session) (lines : List (List ℕ)) (line : List ℕ) (from now : Seen)
+    (Left : Session → Type 0)
+    → StreamFault → Type 0
+IsUnplayed s lines line from now Left (streams.Syntax n) =
+    IsRefusedLine s lines line from now Left (scripts.Syntax n)
+IsUnplayed s lines line from now Left (streams.OffScreen n) =
+    IsRefusedLine s lines line from now Left (scripts.OffScreen n)
+IsUnplayed s lines line from now Left streams.TooLong =
+    IsRefusedLine s lines line from now Left scripts.TooLong
 IsUnplayed s lines line from now Left (streams.Write begun) =
-    (items : List Item) × (script_from s.desc.width s.desc.height 1 [] (lines ++ line ∷ []) ≡ Ok items) × Stops s items begun from now Left
+    (items : List Item) × (script_from s.desc.width s.desc.height 1 [] (lines ++ line ∷ []) ≡ Ok items)
+    × Stops s items begun from now Left
 IsUnplayed s lines line from now Left _ = ⊥
 
 -- the items of a line, if there is one
@@ -72,7 +81,8 @@ pub record BeginsLine (old new : Feed) : Type 0 where
   pub height : new.height ≡ old.height
 
 -- the bytes are the lines that were performed, and the line at hand
-pub record IsFed (s : Session) (feed : Feed) (given : List ℕ) (from now : Seen) (Left : Session → Type 0) : Type 0 where
+pub record IsFed (s : Session) (feed : Feed) (given : List ℕ) (from now : Seen)
+    (Left : Session → Type 0) : Type 0 where
   pub screen : HasScreenOf s feed
   pub lines : List (List ℕ)
   pub parts : given ≡ with_line_ends lines ++ feed.line.items

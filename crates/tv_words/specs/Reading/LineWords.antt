@@ -17,7 +17,8 @@ line_words_if true false false cs = read_on (at [] Between) cs
 
 -- the words of a line of bytes, or none where it is faulty
 abbrev pub line_words : List ℕ → Option (List Word)
-line_words line = line_words_if (is_utf8 line) (list_any is_control (chars line)) (is_comment (chars line)) (chars line)
+line_words line =
+    line_words_if (is_utf8 line) (list_any is_control (chars line)) (is_comment (chars line)) (chars line)
 
 -- the machine over lines, which passes over lines without words
 abbrev pub words_taken : {S : Type 0} → (S → List Word → Option S) → S → Option (List Word) → Option S

@@ -1,5 +1,6 @@
 -- Reading a number digit by digit.
-use Rattle.std.specs.Prelude.{ℕ, zero, suc, ◌+◌, ◌*◌, ◌^◌, ℤ, pos, negsuc, List, [], ◌∷◌, ◌&&◌, nat_lt, nat_le, Option, Some, None, option_and_then, ◌==◌, if◌then◌else◌}
+use Rattle.std.specs.Prelude.{ℕ, zero, suc, ◌+◌, ◌*◌, ◌^◌, ℤ, pos, negsuc, List, [], ◌∷◌, ◌&&◌, nat_lt}
+use Rattle.std.specs.Prelude.{nat_le, Option, Some, None, option_and_then, ◌==◌, if◌then◌else◌}
 use Rattle.std.specs.Char.{digit_value}
 use Rattle.tv_words.specs.declared.word.Word.{Word}
 use Rattle.tv_words.specs.declared.word.Word.TheVariants.{Bare, Quoted}
@@ -7,7 +8,10 @@ use Rattle.tv_words.specs.Reading.Steps.{steps}
 
 -- one digit more, where the number stays below 2 ^ 32
 abbrev pub add_digit : ℕ → ℕ → Option ℕ
-add_digit n c = if nat_lt (digit_value c) 10 && nat_lt (n * 10 + digit_value c) (2 ^ 32) then Some (n * 10 + digit_value c) else None
+add_digit n c =
+    if nat_lt (digit_value c) 10 && nat_lt (n * 10 + digit_value c) (2 ^ 32)
+    then Some (n * 10 + digit_value c)
+    else None
 
 -- the number of these digits
 abbrev pub digits_in : List ℕ → Option ℕ
@@ -39,7 +43,9 @@ zero_only (c ∷ cs) = None
 -- the number of which this is the text
 abbrev pub number_of : List ℕ → Option ℤ
 number_of [] = None
-number_of (c ∷ cs) = if c == 45 then option_and_then negative (magnitude cs) else if c == 48 then zero_only cs else option_and_then positive (magnitude (c ∷ cs))
+number_of (c ∷ cs) =
+    if c == 45 then option_and_then negative (magnitude cs)
+    else if c == 48 then zero_only cs else option_and_then positive (magnitude (c ∷ cs))
 
 -- the number of a bare word
 abbrev pub number_in : Word → Option ℤ
