@@ -13,17 +13,20 @@ use std::marker::Model;
 #[derive(Debug, Drop)]
 pub struct Chain {
     palettes: ArrayVec<Palette, 16>,
+    /// What each number becomes along them, so that no look-up goes through them again.
+    attrs: [u8; 256],
 }
 
 impl Model for Chain {
     ghost use Rattle.std.specs.Prelude.{ℕ, List, length, ◌≤◌};
+    ghost use Rattle.tv_palette.specs.Chain.{IsLookUp};
     ghost use Rattle.tv_palette.specs.Entries.{entries_of};
 
     ghost Value = { List (List ℕ) };
 
     ghost view = { λ c. entries_of c.palettes.items };
 
-    ghost invariant = { λ c. length c.palettes.items ≤ 16 };
+    ghost invariant = { λ c. (length c.palettes.items ≤ 16) × IsLookUp (entries_of c.palettes.items) c.attrs };
 }
 
 impl Chain {
@@ -31,8 +34,13 @@ impl Chain {
     pub fn new() -> Chain
         ensures { result ≡ [] }
     {
+        let mut attrs = [0; 256];
+        for (index, attr) in attrs.iter_mut().enumerate() {
+            *attr = index as u8;
+        }
         Chain {
             palettes: ArrayVec::new(),
+            attrs,
         }
     }
 
@@ -71,23 +79,17 @@ impl Chain {
         palettes
             .try_extend_from_slice(self.palettes.as_slice())
             .unwrap();
-        Chain { palettes }
+        let mut attrs = [0; 256];
+        for (index, attr) in attrs.iter_mut().enumerate() {
+            *attr = self.attr(own.entry(index as u8));
+        }
+        Chain { palettes, attrs }
     }
 
-    /// Looks a view's number up in one palette after another, and returns the attribute that it becomes.
+    /// Returns the attribute that a view's number becomes, looked up in one palette after another.
     pub fn attr(&self, index: u8) -> u8
         ensures { result ≡ attr_of self.now index }
     {
-        look_up(self.palettes.as_slice(), index)
+        self.attrs[index as usize]
     }
-}
-
-fn look_up(palettes: &[Palette], index: u8) -> u8
-    ensures { result ≡ attr_of (entries_of palettes.now) index }
-{
-    let mut number = index;
-    for palette in palettes {
-        number = palette.entry(number);
-    }
-    number
 }
