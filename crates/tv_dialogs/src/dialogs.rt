@@ -7,6 +7,7 @@ ghost use Rattle.tv_machine.specs.State.{State};
 ghost use Rattle.tv_model.specs.declared.desc.Desc.{Desc};
 ghost use Rattle.tv_dialogs.specs.Dialogs.{AreDialogs, AreOfRun, kept_at, log_of_last};
 
+use crate::colours::Colours;
 use crate::kept::Kept;
 use tv_event::CommandSet;
 use tv_model::{Id, LogLine};
@@ -26,6 +27,8 @@ pub struct DialogsOf<V> {
     pub(crate) last: Option<usize>,
     /// All commands, which are lent while no dialog is open.
     pub(crate) commands: CommandSet,
+    /// The palettes that the open one is lent.
+    pub(crate) colours: Colours,
 }
 
 /// Dialogs whose views are boxed.

@@ -23,7 +23,12 @@ impl<V: View> DialogsOf<V> {
             → Lays (open_layers desc.now s.overwriting s.dialog) screen.old screen.new }
     {
         if let Some(place) = self.open {
-            self.kept[place].draw(screen, &desc.dialogs.as_slice()[place], canvas);
+            self.kept[place].draw(
+                screen,
+                &desc.dialogs.as_slice()[place],
+                canvas,
+                &self.colours,
+            );
         }
     }
 }

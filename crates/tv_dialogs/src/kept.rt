@@ -22,6 +22,7 @@ ghost use Rattle.tv_dialogs.specs.Bodies.{kept_body};
 ghost use Rattle.tv_dialogs.specs.Handed.{HasPointGiven, is_dropped};
 ghost use Rattle.tv_dialogs.specs.Kept.{IsKeptAs, IsReady, values_after};
 
+use crate::colours::Colours;
 use crate::ends::is_cancelled;
 use crate::handed::event_from;
 use std::alloc::Global;
@@ -30,7 +31,7 @@ use tv_dialog::DialogOf;
 use tv_event::{CommandSet, Event};
 use tv_group::GroupOf;
 use tv_model::{Dialog as Declared, Record};
-use tv_palette::{Chain, Owner};
+use tv_palette::Owner;
 use tv_view::{Env, View};
 
 /// A dialog, and the record that it opens with.
@@ -85,7 +86,13 @@ impl<V: View> Kept<V> {
 
     /// Hands the open dialog an event, whose point is in screen coordinates. Keeps the dialog's values where that ends
     /// it by another command than `cancel`.
-    pub(crate) fn step(&mut self, declared: &Declared, event: &Event, commands: &CommandSet)
+    pub(crate) fn step(
+        &mut self,
+        declared: &Declared,
+        event: &Event,
+        commands: &CommandSet,
+        colours: &Colours,
+    )
         requires ready { (m : Modal) × IsReady V.meaning declared.now m self.old.dialog }
         requires given { HasPointGiven event.now }
         requires handed { is_dropped event.now ≡ false }
@@ -97,7 +104,7 @@ impl<V: View> Kept<V> {
         let corner = self.dialog.bounds().a;
         let env = Env {
             owner: Owner::Dialog,
-            chain: &Chain::of_dialog(),
+            chain: colours.chain(),
             views: declared.views.as_slice(),
             commands,
             focus: None,
@@ -109,7 +116,13 @@ impl<V: View> Kept<V> {
     }
 
     /// Draws the open dialog over its shadow, both seen from the canvas's origin.
-    pub(crate) fn draw(&self, screen: &mut Screen, declared: &Declared, canvas: Canvas)
+    pub(crate) fn draw(
+        &self,
+        screen: &mut Screen,
+        declared: &Declared,
+        canvas: Canvas,
+        colours: &Colours,
+    )
         requires { IsSmall canvas.origin.x × IsSmall canvas.origin.y }
         ensures { (desc : Desc) (o : OpenDialog) (overwriting : List Id) (m : Modal) → IsLawfulDialog declared.now
             → Stands V.meaning declared.now m.leaves m self.now.dialog → IsAtWork o overwriting m → o.origin ≡ corner_of declared.now.node
@@ -117,7 +130,7 @@ impl<V: View> Kept<V> {
     {
         let env = Env {
             owner: Owner::Dialog,
-            chain: &Chain::of_dialog(),
+            chain: colours.chain(),
             views: declared.views.as_slice(),
             commands: self.dialog.commands(),
             focus: None,

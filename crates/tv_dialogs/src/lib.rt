@@ -2,6 +2,7 @@
 #![tactic(auto)]
 
 mod bodies;
+mod colours;
 mod dialogs;
 mod drawing;
 mod ends;

@@ -12,6 +12,7 @@ ghost use Rattle.tv_dialogs.specs.Bodies.{AreFreshBodies};
 ghost use Rattle.tv_dialogs.specs.Dialogs.{AreDialogs, AreOfRun, MayOpen, log_of_last};
 
 use crate::bodies::keep_all;
+use crate::colours::Colours;
 use crate::dialogs::DialogsOf;
 use std::alloc::{AllocError, Global};
 use tv_event::CommandSet;
@@ -42,6 +43,7 @@ impl<V: View> DialogsOf<V> {
             open: None,
             last: None,
             commands: CommandSet::all(),
+            colours: Colours::new(),
         })
     }
 

@@ -30,7 +30,12 @@ impl<V: View> DialogsOf<V> {
         }
         if let Some(place) = self.open {
             let kept = &mut self.kept[place];
-            kept.step(&desc.dialogs.as_slice()[place], event, &self.commands);
+            kept.step(
+                &desc.dialogs.as_slice()[place],
+                event,
+                &self.commands,
+                &self.colours,
+            );
             self.open = kept.dialog.is_open().then_some(place);
             self.last = Some(place);
         }

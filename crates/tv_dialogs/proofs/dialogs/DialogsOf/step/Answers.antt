@@ -72,5 +72,6 @@ returns-in-Some-clause-log g c s o is run =
       «open» = c.then_some-self.result;
       last = Some c.in-Some.place;
       commands = old.commands;
+      colours = old.colours;
     })
     c.step.new.self (ap (λ n. slice_set old.kept.items n c.step.new.self) at) stands (ap (λ n. Some n) at)

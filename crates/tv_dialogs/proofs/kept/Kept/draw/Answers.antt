@@ -12,7 +12,7 @@ returns g c desc o overwriting m lawful stands work corner desktop =
       work = work;
       corner = corner;
       views = c.as_slice.ensures;
-      palettes = record { owner = refl; chain = ap coloured c.of_dialog.ensures };
+      palettes = record { owner = refl; chain = ap coloured c.chain.ensures };
       active = refl;
       desktop = desktop;
     })
