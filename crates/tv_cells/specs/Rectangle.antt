@@ -11,6 +11,10 @@ pub record IsIn (r : Rect) (x y : ℤ) : Type 0 where
   pub after_top : r.a.y ≤ℤ y
   pub before_bottom : y <ℤ r.b.y
 
+-- no point lies in it
+abbrev pub IsEmpty : Rect → Type 0
+IsEmpty r = (x y : ℤ) → IsIn r x y → ⊥
+
 -- from the origin on, of a width and a height
 abbrev pub sized : ℕ → ℕ → Rect
 sized width height = record {

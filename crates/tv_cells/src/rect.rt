@@ -2,7 +2,7 @@
 
 ghost use Rattle.std.specs.Prelude.{◌≡◌, ◌↔◌, IsTrue, ℤ, ◌+ℤ◌};
 ghost use Rattle.std.specs.Int.{int_gap};
-ghost use Rattle.tv_cells.specs.Rectangle.{IsIn, cut, IsPointNear, IsRectNear, shifted, shifted_point};
+ghost use Rattle.tv_cells.specs.Rectangle.{IsEmpty, IsIn, cut, IsPointNear, IsRectNear, shifted, shifted_point};
 
 use crate::line::{gap, greater, is_between, lesser};
 
@@ -42,6 +42,13 @@ impl Rect {
         ensures { IsTrue result ↔ IsIn self.now point.x point.y }
     {
         is_between(&self.a.x, &point.x, &self.b.x) && is_between(&self.a.y, &point.y, &self.b.y)
+    }
+
+    /// Whether no point lies in the rectangle.
+    pub fn is_empty(&self) -> bool
+        ensures { IsTrue result ↔ IsEmpty self.now }
+    {
+        self.width() == 0 || self.height() == 0
     }
 
     /// Returns the rectangle of the points that lie in both.
