@@ -1,7 +1,8 @@
 -- The drawing of members one after the other.
-use Rattle.std.proofs.Common.{◌≡◌, ℕ, true, false, List, [], ◌++◌, ◌+◌, ◌<◌, ◌≤◌, length, get_or, map, sym, ap, ◌∙◌, Option}
+use Rattle.std.proofs.Common.{◌≡◌, ℕ, true, false, List, [], ◌++◌, ◌+◌, ◌<◌, ◌≤◌, length, get_or, map, sym, ap, ◌∙◌, Option, arith}
 use Rattle.tv_cells.specs.Picture.{Picture}
 use Rattle.tv_cells.specs.Canvas.{sub}
+use Rattle.tv_cells.specs.Rectangle.{IsEmpty}
 use Rattle.tv_cells.specs.declared.canvas.Canvas.{Canvas}
 use Rattle.tv_view.specs.Meaning.{Leaf, kept}
 use Rattle.tv_view.specs.declared.env.Env.{Env}
@@ -12,6 +13,7 @@ use Rattle.tv_group.specs.Opened.{opened, opened_member, joined}
 use Rattle.tv_group.specs.declared.group.MemberOf.{MemberOf}
 use Rattle.tv_group.specs.declared.group.GroupOf.{GroupOf}
 use Rattle.tv_group.specs.declared.group.MemberOf.TheVariants.{Leaf as LeafM, Pane as PaneM}
+use Rattle.tv_group.proofs.ClippingLemmas.{lays-clipped}
 use Rattle.tv_group.proofs.OpenedLemmas.{opened_to, opened_to-none, opened_to-more, opened_to-whole, opened-members, member-leaf, member-pane}
 
 module _ {V : Type 0} (look : V → Leaf) (env : Env) (c : Canvas) where
@@ -43,6 +45,12 @@ module _ {V : Type 0} (look : V → Leaf) (env : Env) (c : Canvas) where
       lays_as [] (leaves_layers env c (opened look g)) p p
       (sym (ap (leaves_layers env c) (opened-members look g)
       ∙ layers-far env c g.bounds (joined g.current 0 (map (opened_member look) g.members.items)) (ap (λ d. is_near d.origin) (sym is) ∙ far))) (lays_none p)
+
+  -- a group that misses the clip
+  pub drawn-missed : (g : GroupOf V) (inner : Canvas) (p : Picture) → inner ≡ sub c g.bounds → is_near inner.origin ≡ true → IsEmpty inner.clip → Lays (leaves_layers env c (opened look g)) p p
+  drawn-missed g inner p is near empty =
+      let ms = g.members.items in
+      drawn-whole g (length ms) inner p p is near (omega arith) (lays-clipped env inner (opened_to look g.current (length ms) ms) p empty)
 
   pub drawn-leaf : (m : MemberOf V) (v : V) (old new : Picture) → m ≡ LeafM v → Lays (leaf_layers env c (look v)) old new → Lays (leaves_layers env c (opened_member look m)) old new
   drawn-leaf m v old new is drawn =

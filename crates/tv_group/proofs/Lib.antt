@@ -1,4 +1,5 @@
 pub mod AskedLemmas
+pub mod ClippingLemmas
 pub mod CurrentLemmas
 pub mod DownLemmas
 pub mod DrawingLemmas

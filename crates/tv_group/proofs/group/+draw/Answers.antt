@@ -1,13 +1,22 @@
-use Rattle.std.proofs.Common.{arith, ◌<◌, ◌≤◌, length, ap, sym, ◌∙◌}
+use Rattle.std.proofs.Common.{arith, ◌≡◌, ◌<◌, ◌≤◌, length, ap, sym, ◌∙◌}
 use Rattle.tv_cells.specs.Canvas.{sub}
 use Rattle.tv_group.proofs.OpenedLemmas.{item_at}
-use Rattle.tv_group.proofs.DrawingLemmas.{drawn-none, drawn-next, drawn-whole, drawn-far, drawn-leaf, drawn-pane}
+use Rattle.tv_group.proofs.DrawingLemmas.{drawn-none, drawn-next, drawn-whole, drawn-far, drawn-missed, drawn-leaf, drawn-pane}
 use Rattle.tv_group.proofs.group.+draw.Goals as goal
+use Rattle.tv_group.proofs.group.+draw.Goals.{GroupOf::draw-then-not-is_near-via-then-not-is_near, GroupOf::draw-then-not-is_near-via-else-not-is_near+then-is_empty}
 
 pub GroupOf::draw-returns-then-not-is_near : goal.GroupOf::draw-returns-then-not-is_near
 GroupOf::draw-returns-then-not-is_near g t c =
-    drawn-far g.V.View.meaning c.args.env.now c.args.canvas c.args.self.now c.sub-inner.result c.args.screen.now
-    (c.sub-inner.ensures ∙ ap (sub c.args.canvas) c.rect.ensures.is) (sym c.is_near.ensures ∙ c.if-not-is_near.true)
+    let look = g.V.View.meaning in
+    let inner = c.sub-inner.result in
+    let is : inner ≡ sub c.args.canvas c.args.self.now.bounds = c.sub-inner.ensures ∙ ap (sub c.args.canvas) c.rect.ensures.is in
+    elim c.then-not-is_near.branch [
+      | GroupOf::draw-then-not-is_near-via-then-not-is_near w ↦
+          drawn-far look c.args.env.now c.args.canvas c.args.self.now inner c.args.screen.now is (sym c.is_near.ensures ∙ w.if-not-is_near.true)
+      | GroupOf::draw-then-not-is_near-via-else-not-is_near+then-is_empty w ↦
+          drawn-missed look c.args.env.now c.args.canvas c.args.self.now inner c.args.screen.now is (sym c.is_near.ensures ∙ w.if-not-is_near.false)
+          (w.is_empty.ensures.0 w.if-is_empty.true)
+    ]
 
 pub GroupOf::draw-loop-member-init : goal.GroupOf::draw-loop-member-init
 GroupOf::draw-loop-member-init g t c = drawn-none g.V.View.meaning c.args.env.now c.sub-inner.result c.args.self.now.current c.args.self.now.members.items c.args.screen.now
@@ -28,8 +37,8 @@ GroupOf::draw-returns g t c =
 
 pub MemberOf::draw-returns-in-Leaf : goal.MemberOf::draw-returns-in-Leaf
 MemberOf::draw-returns-in-Leaf g t c =
-    drawn-leaf g.V.View.meaning c.args.env.now c.args.canvas c.args.self.now c.in-Leaf.view c.args.screen.now c.draw.new.screen c.in-Leaf.is c.draw.ensures
+    drawn-leaf g.V.View.meaning c.args.env.now c.args.canvas c.args.self.now c.in-Leaf.view c.args.screen.now c.draw_seen.new.screen c.in-Leaf.is c.draw_seen.ensures
 
 pub MemberOf::draw-returns-in-Pane : goal.MemberOf::draw-returns-in-Pane
 MemberOf::draw-returns-in-Pane g t c =
-    drawn-pane g.V.View.meaning c.args.env.now c.args.canvas c.args.self.now c.in-Pane.group c.args.screen.now c.draw-in-Pane.new.screen c.in-Pane.is c.draw-in-Pane.ensures
+    drawn-pane g.V.View.meaning c.args.env.now c.args.canvas c.args.self.now c.in-Pane.group c.args.screen.now c.draw.new.screen c.in-Pane.is c.draw.ensures
