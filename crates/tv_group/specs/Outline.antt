@@ -44,9 +44,13 @@ outline_member {V} look m = fold-MemberOf V Outline Outline (part_step look) who
 unfoldable pub outline : {V : Type 0} → (V → Leaf) → GroupOf V → Outline
 outline {V} look g = fold-GroupOf V Outline Outline (part_step look) whole_step g
 
+-- the outline of members one after the other
+abbrev pub joined_outline : {V : Type 0} → (V → Leaf) → List (MemberOf V) → Outline
+joined_outline look members depth = all_at depth (map (outline_member look) members)
+
 -- the outline of its members alone
 abbrev pub members_outline : {V : Type 0} → (V → Leaf) → GroupOf V → Outline
-members_outline look g depth = all_at depth (map (outline_member look) g.members.items)
+members_outline look g = joined_outline look g.members.items
 
 -- ---- what nodes declare
 

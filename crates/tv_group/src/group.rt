@@ -1,9 +1,10 @@
 //! Members and groups of them.
 
-ghost use Rattle.std.specs.Prelude.{◌≡◌, ◌≤◌, ◌+◌, IfOk, IfErr, None, map};
+ghost use Rattle.std.specs.Prelude.{◌≡◌, ◌≤◌, ◌+◌, IfOk, IfErr, None, map, ℕ};
 ghost use Rattle.tv_model.specs.Description.Rectangles.{IsSmallRect};
 ghost use Rattle.tv_view.specs.Meaning.{inside};
 ghost use Rattle.tv_group.specs.Opened.{group_bounds, joined, level_of, member_level, members_level, opened, opened_member};
+ghost use Rattle.tv_group.specs.Outline.{joined_outline, members_outline};
 
 use crate::bounds::Bounds;
 use tv_cells::Rect;
@@ -81,6 +82,7 @@ impl<V: View> GroupOf<V> {
     ) -> Result<GroupOf<V>, (TooDeep, Vec<MemberOf<V>>)>
         requires { IsSmallRect bounds }
         ensures leaves { IfOk result (λ group. opened V.meaning group ≡ map (inside bounds) (joined None 0 (map (opened_member V.meaning) members.items))) }
+        ensures outline { IfOk result (λ group. (depth : ℕ) → members_outline V.meaning group depth ≡ joined_outline V.meaning members.items depth) }
         ensures level { IfOk result (λ group. (level_of group ≡ members_level members.items + 1) × (level_of group ≤ 8)) }
         ensures bounds { IfOk result (λ group. group_bounds group ≡ bounds) }
         ensures refused { IfErr result (λ e. (8 ≤ members_level members.items) × (e.1 ≡ members)) }
