@@ -1,7 +1,8 @@
 //! Input lines.
 
-ghost use Rattle.std.specs.Prelude.{◌≡◌, ◌↔◌, ◌≤◌, IfOk, IsErrOf, IsTrue, Some, false, if◌then◌else◌, length};
+ghost use Rattle.std.specs.Prelude.{◌≡◌, ◌↔◌, ◌≤◌, IfOk, IsErrOf, IsTrue, Some, false, if◌then◌else◌, length, unwrap_or};
 ghost use Rattle.tv_valid.specs.Asking.{domain_of};
+ghost use Rattle.tv_valid.specs.Deciding.{in_domain};
 ghost use Rattle.tv_view.specs.Meaning.{fresh, holds_mouse};
 ghost use Rattle.tv_model.specs.Kinds.InputLine.{HasAnyText, MayStand};
 ghost use Rattle.tv_model.specs.Description.LawfulNodes.{IsLawfulNode};
@@ -33,8 +34,11 @@ pub struct InputLine {
     core: LeafCore,
     domain: Domain,
     edit: LineEdit,
+    /// Whether its text lies in its domain, while that is known.
+    verdict: Option<bool>,
     ghost own_kind: { IsTrue (is_input core.node.kind) },
     ghost asked: { asked_by core.node.kind ≡ Some domain },
+    ghost judged: { unwrap_or verdict (in_domain domain edit.text) ≡ in_domain domain edit.text },
 }
 
 fn domain_of(alloc: Global, spec: &InputSpec) -> Result<Domain, ControlFault>
@@ -92,6 +96,7 @@ impl InputLine {
                 core: LeafCore::new(alloc, node)?,
                 domain: domain_of(alloc, &input.spec)?,
                 edit: LineEdit::new(start_of(input)),
+                verdict: None,
             }),
             _ => Err(ControlFault::WrongKind),
         }
@@ -107,13 +112,34 @@ impl InputLine {
         }
     }
 
+    // Whether its text lies in its domain. A picture can take long to say so, which is why its answer is kept.
+    fn is_valid(&self) -> bool
+        ensures { result ≡ in_domain self.now.domain self.now.edit.text }
+    {
+        match self.verdict {
+            Some(is_valid) => is_valid,
+            None => self.domain.accepts(self.edit.text()),
+        }
+    }
+
+    // Keeps whether its text lies in its domain, until a key edits it or it opens with another one.
+    fn judge(&mut self)
+        ensures core { self.new.core ≡ self.old.core }
+        ensures edit { self.new.edit ≡ self.old.edit }
+    {
+        self.verdict = Some(self.is_valid());
+    }
+
     fn key(&mut self, key: Key, phase: Phase) -> Reaction
         ensures reaction { (env : Lent) → result ≡ answer (events.Key key) phase env (input_leaf self.old.core self.old.edit) }
         ensures after { input_leaf self.new.core self.new.edit ≡ leaf_keyed key phase (input_leaf self.old.core self.old.edit) }
     {
         if !is_own_key(phase, key) {
+            // Its owner may move the focus or end the dialog by the key, and asks before that whether the text is valid.
+            self.judge();
             return Reaction::Pass;
         }
+        self.verdict = None;
         self.edit.edit(&self.domain, key);
         Reaction::Done
     }
@@ -168,7 +194,12 @@ impl InputLine {
     {
         self.core.reset();
         match text_in(values, self.core.id()) {
-            Some(text) => self.edit.open(text),
+            Some(text) => {
+                if self.edit.text().as_slice() != text.as_slice() {
+                    self.verdict = None;
+                }
+                self.edit.open(text);
+            }
             None => unreachable!(),
         }
     }
@@ -226,6 +257,7 @@ impl View for InputLine {
     }
 
     fn focus_to(&mut self, id: Id) -> bool {
+        self.judge();
         let had_focus = self.core.is_focused();
         let has_focus = self.core.focus_to(id);
         if !has_focus {
@@ -243,7 +275,7 @@ impl View for InputLine {
     }
 
     fn first_invalid(&self) -> Option<Id> {
-        if self.domain.accepts(self.edit.text()) {
+        if self.is_valid() {
             None
         } else {
             Some(self.core.id())
