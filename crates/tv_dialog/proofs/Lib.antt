@@ -14,4 +14,5 @@ pub mod StandsLemmas
 pub mod SteppingLemmas
 pub mod TurnCodeLemmas
 pub mod TurnEventLemmas
+pub mod UntakenLemmas
 pub mod WorkingLemmas

@@ -1,14 +1,18 @@
--- What a dialog posts while it handles an event, and what the machine's dialog comes to.
-use Rattle.std.specs.Prelude.{◌≡◌, ◌≤◌, ◌⊎◌, ℕ, true, false, List, [], ◌∷◌, length, IsTrue, None, is_some}
+-- Which events views may take, what a dialog posts, and what the machine's dialog comes to.
+use Rattle.std.specs.Prelude.{◌≡◌, ◌≤◌, ◌⊎◌, ℕ, Bool, true, false, List, [], ◌∷◌, length, IsTrue, None}
+use Rattle.std.specs.Prelude.{is_some}
 use Rattle.tv_cells.specs.declared.rect.Point.{Point}
 use Rattle.tv_event.specs.declared.event.Command.{Command}
 use Rattle.tv_event.specs.declared.event.Event.{Event}
 use Rattle.tv_event.specs.declared.event.Event.TheVariants as events
 use Rattle.tv_event.specs.declared.event.Key.{Key}
 use Rattle.tv_event.specs.declared.event.Key.TheVariants as keys
+use Rattle.tv_event.specs.declared.event.Phase.{Phase}
+use Rattle.tv_event.specs.declared.event.Phase.TheVariants as phases
 use Rattle.tv_model.specs.declared.desc.Dialog.{Dialog}
 use Rattle.tv_model.specs.declared.log.LogLine.TheVariants as lines
 use Rattle.tv_view.specs.Meaning.{Leaf}
+use Rattle.tv_view.specs.Reactions.{calling_letter}
 use Rattle.tv_model.specs.Description.Marks.{upper}
 use Rattle.tv_machine.specs.Dialog.Ending.{command}
 use Rattle.tv_machine.specs.Dialog.Focus.{is_free_at}
@@ -22,6 +26,20 @@ use Rattle.tv_tree.specs.Ready.{HoldsLeaf, IsPointOf, is_own}
 use Rattle.tv_dialog.specs.Standing.{Stands}
 use Rattle.tv_tree.specs.Turns.{reacted}
 use Rattle.tv_dialog.specs.declared.dialog.DialogOf.{DialogOf}
+
+-- ---- who may take an event
+
+-- a key calls a view that marks a letter: with Alt before the current view has its turn, and by itself after
+-- that. The current view may take any key
+abbrev pub may_call : Key → Phase → Bool
+may_call k phases.Pre = is_some (calling_letter phases.Pre k)
+may_call k phases.Focused = true
+may_call k phases.Post = is_some (calling_letter phases.Post k)
+
+-- a view may take the event in the phase
+abbrev pub may_take : Event → Phase → Bool
+may_take (events.Key k) p = may_call k p
+may_take _ p = true
 
 -- ---- what is posted
 

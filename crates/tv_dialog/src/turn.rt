@@ -9,17 +9,17 @@ ghost use Rattle.tv_model.specs.declared.desc.Dialog.{Dialog};
 ghost use Rattle.tv_machine.specs.Dialog.Lawful.{IsLawfulDialog};
 ghost use Rattle.tv_machine.specs.Dialog.Modal.{Modal};
 ghost use Rattle.tv_machine.specs.State.{LeafState};
-ghost use Rattle.tv_group.specs.Handling.{is_pass};
+ghost use Rattle.tv_group.specs.Handling.{group_after, group_answer, is_pass};
 ghost use Rattle.tv_group.specs.Opened.{opened};
 ghost use Rattle.tv_machine.specs.Dialog.Alike.{HoldSame};
 ghost use Rattle.tv_tree.specs.Ready.{KeepsMarks};
-ghost use Rattle.tv_dialog.specs.Settling.{SettlesTo, IsPosted, IsReadyFor, IsReadyForAll, IsReadyForDown, PostedAfter, posted_by, reacted_first, turned};
+ghost use Rattle.tv_dialog.specs.Settling.{SettlesTo, IsPosted, IsReadyFor, IsReadyForAll, IsReadyForDown, PostedAfter, may_call, may_take, posted_by, reacted_first, turned};
 ghost use Rattle.tv_dialog.specs.Standing.{Stands};
 ghost use Rattle.tv_tree.specs.Turns.{IsLentBy, phases_after, phases_answer};
 
 use crate::dialog::DialogOf;
 use crate::log::note;
-use tv_event::{Event, Phase};
+use tv_event::{Event, Key, Phase};
 use tv_group::GroupOf;
 use tv_model::LogLine;
 use tv_view::{Env, Reaction, View};
@@ -31,20 +31,54 @@ fn is_pass(reaction: &Reaction) -> bool
     matches!(reaction, Reaction::Pass)
 }
 
+// Whether a key may call a view that marks a letter: with Alt before the current view has its turn, and by itself after
+// that. The current view may take any key.
+fn may_call(key: Key, phase: Phase) -> bool
+    ensures { result ≡ may_call key phase }
+{
+    match phase {
+        Phase::Pre => matches!(key, Key::Alt(_)),
+        Phase::Focused => true,
+        Phase::Post => matches!(key, Key::Char(_)),
+    }
+}
+
+// Whether a view may take the event in the phase.
+fn may_take(event: &Event, phase: Phase) -> bool
+    ensures { result ≡ may_take event.now phase }
+{
+    match event {
+        Event::Key(key) => may_call(*key, phase),
+        _ => true,
+    }
+}
+
+// Hands an event to the views whose turn the phase is, unless none of them would take it.
+fn offer<V: View>(body: &mut GroupOf<V>, event: &Event, phase: Phase, env: &Env) -> Reaction
+    ensures reaction { result ≡ group_answer event.now phase env.now (opened V.meaning body.old) }
+    ensures after { opened V.meaning body.new ≡ group_after event.now phase env.now (opened V.meaning body.old) }
+{
+    if may_take(event, phase) {
+        body.handle(event, phase, env)
+    } else {
+        Reaction::Pass
+    }
+}
+
 // Hands an event that isn't a mouse down to the views in the three phases, until one takes it.
 fn offer_in_phases<V: View>(body: &mut GroupOf<V>, event: &Event, env: &Env) -> Reaction
     ensures { ((p : Point) → event.now ≡ events.Down p → ⊥) → (result ≡ phases_answer event.now env.now (opened V.meaning body.old))
         × (opened V.meaning body.new ≡ phases_after event.now env.now (opened V.meaning body.old)) }
 {
-    let first = body.handle(event, Phase::Pre, env);
+    let first = offer(body, event, Phase::Pre, env);
     if !is_pass(&first) {
         return first;
     }
-    let second = body.handle(event, Phase::Focused, env);
+    let second = offer(body, event, Phase::Focused, env);
     if !is_pass(&second) {
         return second;
     }
-    body.handle(event, Phase::Post, env)
+    offer(body, event, Phase::Post, env)
 }
 
 impl<V: View> DialogOf<V> {

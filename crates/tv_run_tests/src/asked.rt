@@ -61,11 +61,11 @@ fn broadcasts(calls: &[Call]) -> usize {
 }
 
 // Each key with how often it is handed in, in each phase: with Alt the letter is taken at first, and without after the button
-// with the focus has passed it on. `Up` comes while the focus is here, and nothing takes it.
+// with the focus has passed it on. `Up` comes while the focus is here, and is no letter.
 const KEYS: [(Key, [usize; 3]); 3] = [
     (Key::Alt('G'), [1, 0, 0]),
-    (Key::Char('g'), [1, 0, 1]),
-    (Key::Up, [1, 1, 1]),
+    (Key::Char('g'), [0, 0, 1]),
+    (Key::Up, [0, 1, 0]),
 ];
 
 // This refuses a session that keeps a flat copy of what its views stand for, with which it answers right and never asks

@@ -24,18 +24,18 @@ fn note_all(
     Ok(())
 }
 
-// The notes of an event that no button takes, while the focus is on the first.
+// The notes of a command, while the focus is on the first button.
 fn note_phases(notes: &mut Vec<Note>, event: Event) -> Result<(), AllocError> {
     note_all(notes, event, Phase::Pre, &BUTTONS)?;
     note_all(notes, event, Phase::Focused, &[LOG])?;
     note_all(notes, event, Phase::Post, &BUTTONS)
 }
 
-// Fails unless the dialog hands a key to its buttons, in three phases, and nothing else.
+// Fails unless the dialog hands a key that is no letter to the button with the focus, and nothing else.
 fn expect_nothing_left(alloc: Global, scene: &mut Scene) -> Result<(), Fail> {
     let log = scene.step(&QUIET)?;
     let mut notes = Vec::new(alloc);
-    note_phases(&mut notes, QUIET)?;
+    note_all(&mut notes, QUIET, Phase::Focused, &[LOG])?;
     scene.journal().expect(&notes)?;
     if log.as_str() == "[]" {
         return Ok(());
@@ -51,7 +51,6 @@ fn space_posts_a_command(rt: HostRuntime) -> Result<(), Fail> {
         let log = scene.step(&SPACE)?;
         assert_eq!(rt; log.as_str(), "[Press(Id(3)), Command(120)]");
         let mut notes = Vec::new(rt.alloc());
-        note_all(&mut notes, SPACE, Phase::Pre, &BUTTONS)?;
         note_all(&mut notes, SPACE, Phase::Focused, &[LOG])?;
         note_phases(&mut notes, Event::Command(OWN))?;
         scene.journal().expect(&notes)?;
@@ -83,7 +82,8 @@ fn a_letter_ends_the_dialog(rt: HostRuntime) -> Result<(), Fail> {
     assert_eq!(rt; log.as_str(), "[Press(Id(7)), End(Id(1), Command(11))]");
     assert!(rt; !scene.dialog().is_open());
     let mut notes = Vec::new(rt.alloc());
-    note_phases(&mut notes, letter)?;
+    note_all(&mut notes, letter, Phase::Focused, &[LOG])?;
+    note_all(&mut notes, letter, Phase::Post, &BUTTONS)?;
     note_phases(&mut notes, Event::Command(Command::CANCEL))?;
     scene.journal().expect(&notes)
 }

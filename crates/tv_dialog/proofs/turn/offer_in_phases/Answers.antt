@@ -10,32 +10,32 @@ returns-then-not-is_pass g c other =
     let xs = opened g.V.View.meaning c.args.body.now in
     let e = c.args.event.now in
     let env = c.args.env.now in
-    let taken : is_pass (group_answer e phases.Pre env xs) ≡ false = ap is_pass (sym c.handle-first.ensures.reaction) ∙ (sym c.is_pass.ensures ∙ c.if-not-is_pass.true) in
+    let taken : is_pass (group_answer e phases.Pre env xs) ≡ false = ap is_pass (sym c.offer-first.ensures.reaction) ∙ (sym c.is_pass.ensures ∙ c.if-not-is_pass.true) in
     let both = phases-first e env xs taken in
-    (c.handle-first.ensures.reaction ∙ sym both.0, c.handle-first.ensures.after ∙ sym both.1)
+    (c.offer-first.ensures.reaction ∙ sym both.0, c.offer-first.ensures.after ∙ sym both.1)
 
 pub returns-then-not-is_pass-2 : goal.returns-then-not-is_pass-2
 returns-then-not-is_pass-2 g c other =
     let xs = opened g.V.View.meaning c.args.body.now in
     let e = c.args.event.now in
     let env = c.args.env.now in
-    let first : is_pass (group_answer e phases.Pre env xs) ≡ true = ap is_pass (sym c.handle-first.ensures.reaction) ∙ (sym c.is_pass.ensures ∙ c.if-not-is_pass.false) in
-    let same : opened g.V.View.meaning c.handle-first.new.self ≡ xs = c.handle-first.ensures.after ∙ phase-passed e phases.Pre env xs other first in
-    let answer : c.handle-second.result ≡ group_answer e phases.Focused env xs = c.handle-second.ensures.reaction ∙ ap (group_answer e phases.Focused env) same in
+    let first : is_pass (group_answer e phases.Pre env xs) ≡ true = ap is_pass (sym c.offer-first.ensures.reaction) ∙ (sym c.is_pass.ensures ∙ c.if-not-is_pass.false) in
+    let same : opened g.V.View.meaning c.offer-first.new.body ≡ xs = c.offer-first.ensures.after ∙ phase-passed e phases.Pre env xs other first in
+    let answer : c.offer-second.result ≡ group_answer e phases.Focused env xs = c.offer-second.ensures.reaction ∙ ap (group_answer e phases.Focused env) same in
     let taken : is_pass (group_answer e phases.Focused env xs) ≡ false = ap is_pass (sym answer) ∙ (sym c.is_pass-2.ensures ∙ c.if-not-is_pass-2.true) in
     let both = phases-second e env xs first taken in
-    (answer ∙ sym both.0, c.handle-second.ensures.after ∙ (ap (group_after e phases.Focused env) same ∙ sym both.1))
+    (answer ∙ sym both.0, c.offer-second.ensures.after ∙ (ap (group_after e phases.Focused env) same ∙ sym both.1))
 
 pub returns : goal.returns
 returns g c other =
     let xs = opened g.V.View.meaning c.args.body.now in
     let e = c.args.event.now in
     let env = c.args.env.now in
-    let first : is_pass (group_answer e phases.Pre env xs) ≡ true = ap is_pass (sym c.handle-first.ensures.reaction) ∙ (sym c.is_pass.ensures ∙ c.if-not-is_pass.false) in
-    let same : opened g.V.View.meaning c.handle-first.new.self ≡ xs = c.handle-first.ensures.after ∙ phase-passed e phases.Pre env xs other first in
-    let answer : c.handle-second.result ≡ group_answer e phases.Focused env xs = c.handle-second.ensures.reaction ∙ ap (group_answer e phases.Focused env) same in
+    let first : is_pass (group_answer e phases.Pre env xs) ≡ true = ap is_pass (sym c.offer-first.ensures.reaction) ∙ (sym c.is_pass.ensures ∙ c.if-not-is_pass.false) in
+    let same : opened g.V.View.meaning c.offer-first.new.body ≡ xs = c.offer-first.ensures.after ∙ phase-passed e phases.Pre env xs other first in
+    let answer : c.offer-second.result ≡ group_answer e phases.Focused env xs = c.offer-second.ensures.reaction ∙ ap (group_answer e phases.Focused env) same in
     let second : is_pass (group_answer e phases.Focused env xs) ≡ true = ap is_pass (sym answer) ∙ (sym c.is_pass-2.ensures ∙ c.if-not-is_pass-2.false) in
-    let again : opened g.V.View.meaning c.handle-second.new.self ≡ xs
-    = c.handle-second.ensures.after ∙ (ap (group_after e phases.Focused env) same ∙ phase-passed e phases.Focused env xs other second) in
+    let again : opened g.V.View.meaning c.offer-second.new.body ≡ xs
+    = c.offer-second.ensures.after ∙ (ap (group_after e phases.Focused env) same ∙ phase-passed e phases.Focused env xs other second) in
     let both = phases-third e env xs first second in
-    (c.handle.ensures.reaction ∙ (ap (group_answer e phases.Post env) again ∙ sym both.0), c.handle.ensures.after ∙ (ap (group_after e phases.Post env) again ∙ sym both.1))
+    (c.offer.ensures.reaction ∙ (ap (group_answer e phases.Post env) again ∙ sym both.0), c.offer.ensures.after ∙ (ap (group_after e phases.Post env) again ∙ sym both.1))
