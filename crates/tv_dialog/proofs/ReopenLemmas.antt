@@ -4,6 +4,7 @@ use Rattle.std.specs.Prelude.{is_none, unwrap_or}
 use Rattle.std.specs.Option.{option_or}
 use Rattle.std.proofs.lemmas.Bool.{false≢true}
 use Rattle.std.proofs.lemmas.List.{length-map}
+use Rattle.tv_event.specs.declared.event.Command.{Command}
 use Rattle.tv_model.specs.declared.node.Id.{Id}
 use Rattle.tv_model.specs.declared.desc.Dialog.{Dialog}
 use Rattle.tv_view.specs.Meaning.{Leaf, Placed}
@@ -27,7 +28,7 @@ use Rattle.tv_dialog.specs.declared.dialog.DialogOf.{DialogOf}
 use Rattle.tv_dialog.specs.Head.{declared_dialog_head}
 use Rattle.tv_dialog.specs.Plan.{is_enabled_in_plan, leaf_plan, plan_of, shown_by}
 use Rattle.tv_dialog.specs.Resting.{AreAlike, Rests, unflagged}
-use Rattle.tv_dialog.specs.Standing.{AreFields, Stands}
+use Rattle.tv_dialog.specs.Standing.{AreFields, Stands, end_number}
 use Rattle.tv_tree.specs.Tree.{placed_as, tree_as, tree_of}
 use Rattle.tv_tree.proofs.EndingLemmas.{fewer_leaves}
 use Rattle.tv_dialog.proofs.FreshLemmas.{applied-alike, fits-alike, fresh-alike, fresh_tree, set-alike, steady-declared}
@@ -59,6 +60,11 @@ gathered-alike xs ys entries alike =
     sym (gathered-unflagged xs entries) ∙ ap (λ zs. gathered_within zs entries) alike ∙ gathered-unflagged ys entries
 
 -- ---- dialogs that rest
+
+-- one that has no number of an end has no end
+pub unended : (how : Option Command) → end_number how ≡ None → how ≡ None
+unended None e = refl
+unended (Some command) e = absurd cc
 
 module _ {V : Type 0} (look : V → Leaf) (d : Dialog) where
   -- one that stands does, open or ended
@@ -105,15 +111,15 @@ module _ {V : Type 0} (look : V → Leaf) (d : Dialog) where
 
   -- a dialog that rests stands then
   pub stands-applied : IsLawfulDialog d → (m : Modal) (rules : Rules) (old new : DialogOf V) → m.ended ≡ None → Rests look d m old
-      → old.focus ≡ m.focus → old.log.items ≡ m.log → old.is_open ≡ true
-      → new.head ≡ old.head → new.plan ≡ old.plan → new.focus ≡ old.focus → new.log ≡ old.log → new.is_open ≡ old.is_open
+      → old.focus ≡ m.focus → old.log.items ≡ m.log → old.is_open ≡ true → old.ended ≡ None
+      → new.head ≡ old.head → new.plan ≡ old.plan → new.focus ≡ old.focus → new.log ≡ old.log → new.is_open ≡ old.is_open → new.ended ≡ old.ended
       → new.marks ≡ gathered_within (opened look old.body) old.marks
       → (length old.plan.leaves ≤ 64 → new.ruled.shown.items ≡ shown_by old.plan new.marks)
       → ((number : ℕ) → number < 256 → slice_index_or new.ruled.commands number false ≡ is_enabled_in_plan old.plan new.marks number)
       → rules.shown.now ≡ new.ruled.shown.items → rules.commands.now ≡ new.ruled.commands
       → opened look new.body ≡ all_applied rules (opened look old.body)
       → Stands look d m.leaves m new
-  stands-applied lawful m rules old new going s focus log is head plan same_focus same_log still marks shown commands shows lets body =
+  stands-applied lawful m rules old new going s focus log is fresh head plan same_focus same_log still unended marks shown commands shows lets body =
       let own = plan_of d.views d.rules in
       let fields : new.marks ≡ fields_of m.leaves
       = marks ∙ gathered-alike (opened look old.body) (tree_of d m) old.marks s.tree
@@ -140,6 +146,7 @@ module _ {V : Type 0} (look : V → Leaf) (d : Dialog) where
         focus = same_focus ∙ focus;
         log = ap (λ l. l.items) same_log ∙ log;
         «open» = still ∙ is ∙ ap is_none (sym going);
+        ended = ap end_number (unended ∙ fresh) ∙ sym going;
         marks = subst (AreFields d) (sym fields) (fields-are d lawful m s.steady);
         commands = λ number less. enabled number less ∙ sym (ap (λ e. is_some e || is_command_enabled d m.leaves number) going);
       }

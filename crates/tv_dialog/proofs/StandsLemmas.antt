@@ -25,7 +25,7 @@ use Rattle.tv_group.specs.declared.focus.Dir.TheVariants as dirs
 use Rattle.tv_group.specs.Opened.{opened}
 use Rattle.tv_dialog.specs.declared.dialog.DialogOf.{DialogOf}
 use Rattle.tv_dialog.specs.Head.{KeptDialogHead, declared_dialog_head}
-use Rattle.tv_dialog.specs.Standing.{AreFields, Stands, stop_in}
+use Rattle.tv_dialog.specs.Standing.{AreFields, Stands, end_number, stop_in}
 use Rattle.tv_machine.specs.Dialog.Alike.{HoldSame}
 use Rattle.tv_dialog.specs.Stepping.{begun_anew}
 use Rattle.tv_tree.specs.Tree.{IsSteady, tree_as, tree_of}
@@ -84,11 +84,12 @@ module _ (d : Dialog) (m : Modal) (i : Id) where
 
 -- ---- dialogs
 
--- a call leaves what a dialog keeps of its description, whether it is open, and its rules
+-- a call leaves what a dialog keeps of its description, whether it is open, how it ended, and its rules
 pub record IsKept {V : Type 0} (old new : DialogOf V) : Type 0 where
   pub head : new.head ≡ old.head
   pub plan : new.plan ≡ old.plan
   pub «open» : new.is_open ≡ old.is_open
+  pub ended : new.ended ≡ old.ended
   pub ruled : new.ruled ≡ old.ruled
   pub marks : new.marks ≡ old.marks
 
@@ -103,6 +104,7 @@ module _ {V : Type 0} (look : V → Leaf) (d : Dialog) where
     focus = s.focus;
     log = s.log;
     «open» = s.open;
+    ended = s.ended;
     marks = s.marks;
     commands = λ n less. s.commands n less ∙ ap (λ b. is_some m.ended || b) (command-same d ruled other same n);
   }
@@ -118,6 +120,7 @@ module _ {V : Type 0} (look : V → Leaf) (d : Dialog) where
     focus = focus;
     log = log;
     «open» = kept.open ∙ s.open ∙ ap is_none (sym ended);
+    ended = ap end_number kept.ended ∙ s.ended ∙ sym ended;
     marks = subst (AreFields d) (sym kept.marks) s.marks;
     commands = λ k less. ap (λ r. slice_index_or r.commands k false) kept.ruled ∙ s.commands k less ∙ ap (λ e. is_some e || is_command_enabled d ruled k) (sym ended);
   }
@@ -157,11 +160,11 @@ some-kept false x = refl
 module _ {V : Type 0} (look : V → Leaf) (d : Dialog) where
   -- a dialog that ended: its body, its focus and its rules stay
   pub stands-ended : (m : Modal) (number : ℕ) (old new : DialogOf V) → Stands look d m.leaves m old → IsSteady d (ended d number m)
-      → new.head ≡ old.head → new.plan ≡ old.plan → new.body ≡ old.body → new.focus ≡ old.focus → new.marks ≡ old.marks → new.is_open ≡ false
+      → new.head ≡ old.head → new.plan ≡ old.plan → new.body ≡ old.body → new.focus ≡ old.focus → new.marks ≡ old.marks → new.is_open ≡ false → new.ended ≡ Some (record { 0 = number })
       → ((k : ℕ) → k < 256 → slice_index_or new.ruled.commands k false ≡ true)
       → new.log.items ≡ old.log.items ++ lines.End d.node.id (record { 0 = number }) ∷ map field_line (fields_of m.leaves)
       → Stands look d m.leaves (ended d number m) new
-  stands-ended m number old new s steady head plan body focus marks closed commands log = record {
+  stands-ended m number old new s steady head plan body focus marks closed how commands log = record {
     head = ap Some head ∙ s.head;
     plan = plan ∙ s.plan;
     tree = ap (opened look) body ∙ s.tree;
@@ -169,6 +172,7 @@ module _ {V : Type 0} (look : V → Leaf) (d : Dialog) where
     focus = focus ∙ s.focus;
     log = log ∙ ap (λ l. l ++ lines.End d.node.id (record { 0 = number }) ∷ map field_line (fields_of m.leaves)) s.log;
     «open» = closed;
+    ended = ap end_number how;
     marks = subst (AreFields d) (sym marks) s.marks;
     commands = commands;
   }

@@ -90,6 +90,7 @@ module _ {V : Type 0} (look : V → Leaf) (d : Dialog) where
         head = ap (λ (x : DialogOf V). x.head) same;
         plan = ap (λ (x : DialogOf V). x.plan) same;
         «open» = ap (λ (x : DialogOf V). x.is_open) same;
+        ended = ap (λ (x : DialogOf V). x.ended) same;
         ruled = ap (λ (x : DialogOf V). x.ruled) same;
         marks = ap (λ (x : DialogOf V). x.marks) same;
       } in

@@ -1,6 +1,7 @@
 -- A dialog at work, where the machine's dialog stands so.
-use Rattle.std.specs.Prelude.{◌≡◌, ◌<◌, ◌⊎◌, ◌||◌, ℕ, Bool, false, List, [], map, Some, is_some, is_none}
-use Rattle.std.specs.Prelude.{slice_index_or}
+use Rattle.std.specs.Prelude.{◌≡◌, ◌<◌, ◌⊎◌, ◌||◌, ℕ, Bool, false, List, [], map, Option, Some, is_some}
+use Rattle.std.specs.Prelude.{is_none, option_map, slice_index_or}
+use Rattle.tv_event.specs.declared.event.Command.{Command}
 use Rattle.tv_view.specs.Meaning.{Leaf}
 use Rattle.tv_model.specs.declared.node.Id.{Id}
 use Rattle.tv_model.specs.declared.desc.Dialog.{Dialog}
@@ -26,6 +27,10 @@ is_enabled_in d ruled m number = is_some m.ended || is_command_enabled d ruled n
 abbrev pub AreFields : Dialog → Entries → Type 0
 AreFields d entries = (entries ≡ []) ⊎ (map (λ entry. entry.id) entries ≡ field_ids d)
 
+-- the number of the command by which a dialog ended
+abbrev pub end_number : Option Command → Option ℕ
+end_number ended = option_map (λ command. command.0) ended
+
 -- the dialog stands as the machine's does, where its rules were last applied to the marks of these leaves
 pub record Stands {V : Type 0} (look : V → Leaf) (d : Dialog) (ruled : List LeafState) (m : Modal)
     (dialog : DialogOf V) : Type 0 where
@@ -36,6 +41,7 @@ pub record Stands {V : Type 0} (look : V → Leaf) (d : Dialog) (ruled : List Le
   pub focus : dialog.focus ≡ m.focus
   pub log : dialog.log.items ≡ m.log
   pub «open» : dialog.is_open ≡ is_none m.ended
+  pub ended : end_number dialog.ended ≡ m.ended
   pub marks : AreFields d dialog.marks
   pub commands : (number : ℕ) → number < 256
       → slice_index_or dialog.ruled.commands number false ≡ is_enabled_in d ruled m number

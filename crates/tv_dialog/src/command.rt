@@ -50,6 +50,7 @@ impl<V: View> DialogOf<V> {
         note_fields(&mut self.log, self.plan.leaves.as_slice(), &fields);
         self.ruled.enable_all();
         self.is_open = false;
+        self.ended = Some(command);
     }
 
     // Moves the focus to an input that refuses the end, without asking the control that has it.

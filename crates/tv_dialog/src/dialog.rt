@@ -32,7 +32,7 @@ use crate::ruled::Ruled;
 use arrayvec::ArrayVec;
 use std::alloc::Global;
 use tv_cells::{Canvas, Rect, Screen, lay};
-use tv_event::{CommandSet, Pending};
+use tv_event::{Command, CommandSet, Pending};
 use tv_group::GroupOf;
 use tv_model::{Id, LogLine, Node, Record, Rule};
 use tv_view::{Env, View};
@@ -47,6 +47,8 @@ pub struct DialogOf<V> {
     pub(crate) plan: Plan,
     pub(crate) body: GroupOf<V>,
     pub(crate) is_open: bool,
+    /// The command by which it ended, until it opens again.
+    pub(crate) ended: Option<Command>,
     /// The control that has the focus, while the dialog is open. The dialog's own id stands for none.
     pub(crate) focus: Id,
     pub(crate) ruled: Ruled,
@@ -108,6 +110,7 @@ impl<V: View> DialogOf<V> {
         ensures plan { IfOk result (λ dialog. dialog.plan ≡ plan_of views.now rules.now) }
         ensures body { IfOk result (λ dialog. dialog.body ≡ body) }
         ensures closed { IfOk result (λ dialog. dialog.is_open ≡ false) }
+        ensures unended { IfOk result (λ dialog. dialog.ended ≡ None) }
         ensures empty { IfOk result (λ dialog. (dialog.marks ≡ []) × (dialog.pending ≡ []) × (dialog.log.items ≡ [])) }
         ensures fresh { IfOk result (λ dialog. (d : Declared) → d.node ≡ node.now → d.views ≡ views.now → d.rules ≡ rules.now → IsLawfulDialog d
             → IsFreshBody V.meaning node.now views.now body → Rests V.meaning d (unfocused d None []) dialog) }
@@ -122,6 +125,7 @@ impl<V: View> DialogOf<V> {
                 plan: kept.plan,
                 body,
                 is_open: false,
+                ended: None,
                 ruled: Ruled::new(),
                 marks: Record::new(),
                 pending: kept.pending,
@@ -147,6 +151,13 @@ impl<V> DialogOf<V> {
         ensures { result ≡ self.now.is_open }
     {
         self.is_open
+    }
+
+    /// Returns the command by which it ended, until it opens again.
+    pub fn ended(&self) -> Option<Command>
+        ensures { result ≡ self.now.ended }
+    {
+        self.ended
     }
 
     /// Returns the control that has the focus, while the dialog is open.

@@ -30,6 +30,7 @@ impl<V: View> DialogOf<V> {
         self.pending.clear();
         self.body.set(values);
         self.is_open = true;
+        self.ended = None;
         self.focus = self.head.id();
         self.apply_rules();
         if let Some(id) = self.body.first(Dir::Forward) {

@@ -81,6 +81,7 @@ fn a_letter_ends_the_dialog(rt: HostRuntime) -> Result<(), Fail> {
     let log = scene.step(&letter)?;
     assert_eq!(rt; log.as_str(), "[Press(Id(7)), End(Id(1), Command(11))]");
     assert!(rt; !scene.dialog().is_open());
+    assert_eq!(rt; scene.dialog().ended(), Some(Command::CANCEL));
     let mut notes = Vec::new(rt.alloc());
     note_all(&mut notes, letter, Phase::Focused, &[LOG])?;
     note_all(&mut notes, letter, Phase::Post, &BUTTONS)?;

@@ -34,4 +34,4 @@ returns-clause-stands g c d m lawful short s =
     let log = c.note_fields.ensures (omega (arith, leaves, short)) ∙ (ap (λ l. l ++ field_lines c.gather.new.values c.as_slice.result.now) ended
     ∙ (append_assoc old.log.items (line ∷ []) _ ∙ (ap (λ ls. old.log.items ++ line ∷ ls) rest
     ∙ ap (λ i. old.log.items ++ lines.End i c.args.command ∷ map field_line (fields_of m.leaves)) id))) in
-    stands-ended g.V.View.meaning d m c.args.command.0 old _ s (steady-ended d lawful c.args.command.0 m s.steady) refl refl refl refl refl refl c.enable_all.ensures.commands log
+    stands-ended g.V.View.meaning d m c.args.command.0 old _ s (steady-ended d lawful c.args.command.0 m s.steady) refl refl refl refl refl refl refl c.enable_all.ensures.commands log

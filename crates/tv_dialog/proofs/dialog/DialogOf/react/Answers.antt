@@ -31,7 +31,7 @@ returns-then-request-clause-stands g c d ruled m lawful few going keeps s =
     let there = asked.ensures.stands d m lawful (omega (arith, few)) old in
     let pressed : DialogOf g.row.V.Denot = record asked.new.self { body = c.press_item.new.self } in
     let stands = stands-item look d lawful n i item asked.new.self pressed
-    (record { head = refl; plan = refl; «open» = refl; ruled = refl; marks = refl }) refl refl c.press_item.ensures.leaves there in
+    (record { head = refl; plan = refl; «open» = refl; ended = refl; ruled = refl; marks = refl }) refl refl c.press_item.ensures.leaves there in
     let goes : (pressed_at d i item n).ended ≡ None
     = pressed-keeps (λ x. x.ended ≡ None) d (λ j k x p. p) (leaf_at d i) item n (ended-request d m i ∙ going) in
     subst (λ r. Stands look d (reacted_first d r m).leaves (reacted_first d r m) c.apply_rules.new.self) (sym is)
@@ -60,7 +60,7 @@ returns-in-Post-clause-stands g c d ruled m lawful few going keeps s =
     let room : length c.args.self.now.log.items < 66 = omega (arith, few, ap length s.log) in
     let new : DialogOf g.row.V.Denot = record c.args.self.now { pending = c.post.new.self; log = c.note.new.log } in
     subst (λ r. Stands look d (reacted_first d r m).leaves (reacted_first d r m) new) (sym is)
-    (stands-pressed look d lawful m.leaves m i c.args.self.now new (record { head = refl; plan = refl; «open» = refl; ruled = refl; marks = refl }) refl refl
+    (stands-pressed look d lawful m.leaves m i c.args.self.now new (record { head = refl; plan = refl; «open» = refl; ended = refl; ruled = refl; marks = refl }) refl refl
     (c.note.ensures room) old)
 
 pub returns-in-Pass-clause-stands : goal.returns-in-Pass-clause-stands

@@ -17,7 +17,7 @@ returns-in-Some-clause-stands g c d m lawful fields s =
     let own = c.id-self.ensures ∙ (head-parts d c.args.self.now.head s.head).1 in
     let rules : Stands look d shut.leaves shut c.apply_rules.new.self = c.apply_rules.ensures.anew d shut lawful refl
     (rests-set look d lawful m c.args.values.now fields c.args.self.now _ s c.requires refl refl refl c.set.ensures.leaves)
-    own c.clear.ensures refl in
+    own c.clear.ensures refl refl in
     let found : Some c.in-Some.id ≡ first_in Forward (tree_of d shut) = c.in-Some.ensures ∙ ap (first_in Forward) rules.tree in
     let other = found-other d lawful saved m.overwriting c.in-Some.id found in
     let free = found-free d lawful saved m.overwriting c.in-Some.id found in
@@ -32,6 +32,6 @@ returns-in_default-clause-stands g c d m lawful fields s =
     let own = c.id-self.ensures ∙ (head-parts d c.args.self.now.head s.head).1 in
     let rules : Stands look d shut.leaves shut c.apply_rules.new.self = c.apply_rules.ensures.anew d shut lawful refl
     (rests-set look d lawful m c.args.values.now fields c.args.self.now _ s c.requires refl refl refl c.set.ensures.leaves)
-    own c.clear.ensures refl in
+    own c.clear.ensures refl refl in
     let nothing : None ≡ first_in Forward (tree_of d shut) = sym c.in_default.is ∙ (c.first.ensures ∙ ap (first_in Forward) rules.tree) in
     absurd (none-absurd d lawful saved m.overwriting nothing)

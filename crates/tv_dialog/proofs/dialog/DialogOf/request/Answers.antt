@@ -35,7 +35,7 @@ returns-then-is_some-clause-stands g c d m lawful short s =
     = sym (some-kept (keeps_focus m (leaf_at d m.focus)) m.focus) ∙ (ap is_some (sym (c.refuses.ensures ∙ (ap refused_in s.tree ∙ refused-tree d lawful m.leaves m))) ∙ refuses) in
     let room : length old.log.items < 66 = omega (arith, ap length s.log) in
     stands-requested g.V.View.meaning d m c.args.id Refused _ (requested-refused d m c.args.id there free keeps)
-    (stands-on g.V.View.meaning d m.leaves m (with_line (lines.Invalid m.focus) m) old _ (record { head = refl; plan = refl; «open» = refl; ruled = refl; marks = refl }) refl s
+    (stands-on g.V.View.meaning d m.leaves m (with_line (lines.Invalid m.focus) m) old _ (record { head = refl; plan = refl; «open» = refl; ended = refl; ruled = refl; marks = refl }) refl s
     s.tree (steady-line d lawful (lines.Invalid m.focus) m s.steady) s.focus
     (c.note.ensures room ∙ (ap (λ l. l ++ lines.Invalid old.focus ∷ []) s.log ∙ ap (λ i. m.log ++ lines.Invalid i ∷ []) s.focus)))
 

@@ -14,7 +14,7 @@ returns-then-is_free-clause-stands g c d m lawful short s =
     let old = c.args.self.now in
     let n = with_line (lines.Invalid c.args.id) m in
     let first : length old.log.items ≤ 1 = omega (arith, ap length s.log) in
-    let noted = stands-on g.V.View.meaning d m.leaves m n old (record old { log = c.note.new.log }) (record { head = refl; plan = refl; «open» = refl; ruled = refl; marks = refl }) refl s
+    let noted = stands-on g.V.View.meaning d m.leaves m n old (record old { log = c.note.new.log }) (record { head = refl; plan = refl; «open» = refl; ended = refl; ruled = refl; marks = refl }) refl s
     s.tree (steady-line d lawful (lines.Invalid c.args.id) m s.steady) s.focus
     (c.note.ensures (omega (arith, first)) ∙ ap (λ l. l ++ lines.Invalid c.args.id ∷ []) s.log) in
     let apart : (c.args.id.0 == old.focus.0) ≡ false = search rules in
@@ -29,7 +29,7 @@ returns-else-ne-clause-stands g c d m lawful short s =
     let old = c.args.self.now in
     let n = with_line (lines.Invalid c.args.id) m in
     let first : length old.log.items ≤ 1 = omega (arith, ap length s.log) in
-    let noted = stands-on g.V.View.meaning d m.leaves m n old (record old { log = c.note.new.log }) (record { head = refl; plan = refl; «open» = refl; ruled = refl; marks = refl }) refl s
+    let noted = stands-on g.V.View.meaning d m.leaves m n old (record old { log = c.note.new.log }) (record { head = refl; plan = refl; «open» = refl; ended = refl; ruled = refl; marks = refl }) refl s
     s.tree (steady-line d lawful (lines.Invalid c.args.id) m s.steady) s.focus
     (c.note.ensures (omega (arith, first)) ∙ ap (λ l. l ++ lines.Invalid c.args.id ∷ []) s.log) in
     elim c.else-ne.branch [

@@ -11,5 +11,5 @@ pub returns-in-Some-clause-stands : goal.returns-in-Some-clause-stands
 returns-in-Some-clause-stands g c d m e lawful views ready waits s =
     let look = g.V.View.meaning in
     let is = first-is c.args.self.now.pending e c.in-Some.event waits (sym c.in-Some.is ∙ c.next.ensures.first) in
-    let kept = stands-alike look d m.leaves m c.args.self.now _ (record { head = refl; plan = refl; «open» = refl; ruled = refl; marks = refl }) refl refl refl s in
+    let kept = stands-alike look d m.leaves m c.args.self.now _ (record { head = refl; plan = refl; «open» = refl; ended = refl; ruled = refl; marks = refl }) refl refl refl s in
     subst (λ x. SettlesTo look d (turned d x m) c.turn.new.self) is (c.turn.ensures.stands d m lawful views (subst (IsReadyFor d m) (sym is) ready) kept)
