@@ -1,7 +1,6 @@
 pub mod BodyLemmas
 pub mod CurrentLemmas
 pub mod DroppedLemmas
-pub mod EndLemmas
 pub mod KeptLemmas
 pub mod OpenLemmas
 pub mod PlaceLemmas

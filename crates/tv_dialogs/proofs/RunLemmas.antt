@@ -1,31 +1,20 @@
 -- What the laws of runs say of the dialogs of a state of a run.
-use Rattle.std.proofs.Common.{◌≡◌, ◌==◌, ℕ, IsTrue, Option, Some, None, is_some, refl, sym, ap, subst, ◌∙◌}
+use Rattle.std.proofs.Common.{◌≡◌, ℕ, IsTrue, Some, is_some, sym, ap, subst, ◌∙◌}
 use Rattle.std.specs.Prelude.{slice_get}
-use Rattle.std.proofs.lemmas.List.Elements.{All-nil}
-use Rattle.tv_cells.specs.declared.rect.Point.{Point}
-use Rattle.tv_event.specs.declared.event.Event.{Event}
-use Rattle.tv_event.specs.declared.event.Event.TheVariants as events
 use Rattle.tv_model.specs.declared.desc.Desc.{Desc}
 use Rattle.tv_model.specs.declared.desc.Dialog.{Dialog}
 use Rattle.tv_view.specs.Meaning.{Leaf}
 use Rattle.tv_machine.specs.State.{Held, OpenDialog, State}
-use Rattle.tv_machine.specs.Dialog.Ending.{fields_of}
 use Rattle.tv_machine.specs.Dialog.Modal.{leaf_at}
 use Rattle.tv_machine.specs.Dialog.Sound.{IsSoundDialog}
-use Rattle.tv_machine.specs.Dialog.Step.{dialog_step}
 use Rattle.tv_machine.specs.Session.Commands.{modal_of, saved_at}
-use Rattle.tv_machine.specs.Session.Step.{event_from}
-use Rattle.tv_laws.specs.Ends.{IsDone, NamesEndOf}
 use Rattle.tv_laws.specs.Fit.{IsFitModal}
 use Rattle.tv_laws.specs.Runs.{IsFitState}
-use Rattle.tv_laws.specs.Steps.{RespectsHold, IsSafeSave}
-use Rattle.tv_laws.proofs.StepLemmas.{stays-fit}
+use Rattle.tv_laws.specs.Steps.{IsSafeSave}
 use Rattle.tv_laws.proofs.WorkLemmas.{saved_safe, sound-at}
 use Rattle.tv_dialogs.specs.Dialogs.{AreOfRun, IsOpenAmong, at_work}
-use Rattle.tv_dialogs.specs.Ends.{is_cancel, is_cancelled, last_end}
 use Rattle.tv_dialogs.specs.Kept.{IsReady}
 use Rattle.tv_dialogs.specs.declared.dialogs.DialogsOf.{DialogsOf}
-use Rattle.tv_dialogs.proofs.EndLemmas.{ended-last}
 use Rattle.tv_dialogs.proofs.PlaceLemmas.{same-some}
 
 -- ---- the open dialog of a fit state
@@ -39,16 +28,7 @@ module _ (d : Desc) (s : State) (o : OpenDialog) (is : s.dialog ≡ Some o) (fit
   pub holds-leaf : (held : Held) → o.held ≡ Some held → IsTrue (is_some (leaf_at dialog held.id))
   holds-leaf held e = ap is_some (open-fit.held held e).there
 
--- ---- events
-
-given-moved : (held : Option Held) (corner : Point) (e : Event) → RespectsHold held e → RespectsHold held (event_from corner e)
-given-moved None corner e given = tt
-given-moved (Some held) corner (events.Down p) given = tt
-given-moved (Some held) corner (events.Up p) given = tt
-given-moved (Some held) corner (events.Move p) given = tt
-given-moved (Some held) corner (events.Key k) given = tt
-given-moved (Some held) corner (events.Command c) given = given
-given-moved (Some held) corner (events.Broadcast c) given = tt
+-- ---- the dialogs of a run
 
 module _ {V : Type 0} (look : V → Leaf) (d : Desc) (s : State) (dialogs : DialogsOf V) (run : AreOfRun look d s dialogs) where
   -- a dialog may open with what its last end saved
@@ -74,17 +54,3 @@ module _ {V : Type 0} (look : V → Leaf) (d : Desc) (s : State) (dialogs : Dial
       focus = (open-fit d s o is run.fit among.dialog among.there).focus;
       stands = among.stands;
     }
-
-    module _ (e : Event) (given : RespectsHold o.held e) where
-      done : IsDone among.dialog (dialog_step among.dialog (event_from o.origin e) (modal_of s o))
-      done =
-          stays-fit among.dialog sound-open (modal_of s o) (event_from o.origin e)
-          (record { fit = open-fit d s o is run.fit among.dialog among.there; log = All-nil (NamesEndOf among.dialog); going = refl })
-          (given-moved o.held o.origin e given)
-
-      -- the command by which it ends stands in its log
-      pub open-cancelled : (number : ℕ) → (dialog_step among.dialog (event_from o.origin e) (modal_of s o)).ended ≡ Some number
-          → is_cancelled (dialog_step among.dialog (event_from o.origin e) (modal_of s o)).log ≡ (number == 11)
-      open-cancelled number ends =
-          let x = done.ends number ends in
-          ap is_cancel (ap last_end x.written ∙ ended-last x.before among.dialog.node.id (record { 0 = number }) (fields_of (dialog_step among.dialog (event_from o.origin e) (modal_of s o)).leaves))

@@ -1,8 +1,9 @@
 -- What the open dialog makes of an event is what the machine makes of it.
-use Rattle.std.proofs.Common.{◌≡◌, ◌||◌, ◌==◌, ◌++◌, ℕ, true, false, if◌then◌else◌, [], Option, Some, None, option_map, refl, sym, ap, subst, ◌∙◌}
+use Rattle.std.proofs.Common.{◌≡◌, ◌==◌, ◌++◌, ℕ, Bool, true, false, not, if◌then◌else◌, [], Option, Some, None, option_map, refl, sym, ap, subst, ◌∙◌}
 use Rattle.std.specs.Prelude.{is_none, slice_get, slice_index_or, slice_set}
 use Rattle.std.specs.Bool.{then_some}
 use Rattle.std.proofs.lemmas.Option.{slice_get_within}
+use Rattle.tv_event.specs.declared.event.Command.{Command}
 use Rattle.tv_event.specs.declared.event.Event.{Event}
 use Rattle.tv_model.specs.declared.desc.Desc.{Desc}
 use Rattle.tv_model.specs.declared.desc.Dialog.{Dialog}
@@ -17,20 +18,18 @@ use Rattle.tv_machine.specs.Session.Step.{event_from, to_dialog}
 use Rattle.tv_machine.proofs.ListLemmas.{option_cases}
 use Rattle.tv_group.specs.Calls.{all_gathered}
 use Rattle.tv_group.specs.Opened.{opened}
-use Rattle.tv_laws.specs.Steps.{RespectsHold}
-use Rattle.tv_dialog.specs.Standing.{Stands}
+use Rattle.tv_dialog.specs.Standing.{Stands, end_number}
 use Rattle.tv_dialog.specs.Stepping.{begun_anew}
 use Rattle.tv_dialogs.specs.Dialogs.{AreDialogs, AreOfRun, IsOpenAmong, at_work, lines_by, log_of_last, kept_at}
-use Rattle.tv_dialogs.specs.Ends.{is_cancelled}
 use Rattle.tv_dialogs.specs.Handed.{is_dropped}
-use Rattle.tv_dialogs.specs.Kept.{IsReady, values_after}
+use Rattle.tv_dialogs.specs.Kept.{IsReady, saves, values_after}
 use Rattle.tv_dialogs.specs.declared.kept.Kept.{Kept}
 use Rattle.tv_dialogs.specs.declared.dialogs.DialogsOf.{DialogsOf}
 use Rattle.tv_dialogs.proofs.DroppedLemmas.{dropped-still}
 use Rattle.tv_dialogs.proofs.KeptLemmas.{has-ended, stays-open}
 use Rattle.tv_dialogs.proofs.PlaceLemmas.{get-set-same, set-itself}
 use Rattle.tv_dialogs.proofs.PlacedLemmas.{read-declared, read-kept}
-use Rattle.tv_dialogs.proofs.RunLemmas.{open-cancelled, open-ready, sound-open}
+use Rattle.tv_dialogs.proofs.RunLemmas.{open-ready, sound-open}
 use Rattle.tv_dialogs.proofs.ValueLemmas.{stands-values}
 
 -- ---- what is read at its place
@@ -67,6 +66,22 @@ module _ {V : Type 0} (look : V → Leaf) (d : Desc) (s : State) (dialogs : Dial
       (dialog_step x (event_from (corner_of x.node) e) (modal_of s o)) after.dialog) declared_is
       (steps (at_work s o kept.dialog.log.items) read-ready))
 
+-- ---- how it ended
+
+-- an open dialog keeps what it had
+saves-going : (ended : Option Command) → end_number ended ≡ None → saves ended ≡ false
+saves-going None going = refl
+saves-going (Some command) going = absurd cc
+
+-- one that ended keeps its values unless by this command
+saves-ended : (ended : Option Command) (number : ℕ) → end_number ended ≡ Some number → saves ended ≡ not (number == 11)
+saves-ended None number ends = absurd cc
+saves-ended (Some command) number ends = let same : command.0 ≡ number = cc in ap (λ n. not (n == 11)) same
+
+turned-round : {A : Type 0} (b : Bool) (x y : A) → (if not b then y else x) ≡ (if b then x else y)
+turned-round true x y = refl
+turned-round false x y = refl
+
 -- ---- the machine's work
 
 -- what the machine logs of the work of its open dialog
@@ -102,33 +117,34 @@ module _ {V : Type 0} (look : V → Leaf) (d : Desc) (s : State) (old : DialogsO
 
     module _ (lent : new.commands ≡ old.commands) (opens : new.open ≡ then_some after.dialog.is_open o.place)
         (values : after.values ≡ values_after look among.kept.values after.dialog) where
-      values_going : after.dialog.is_open ≡ true → after.values ≡ among.kept.values
+      values_going : stepped.ended ≡ None → after.values ≡ among.kept.values
       values_going going =
-          values ∙ ap (λ b. if b || is_cancelled after.dialog.log.items then among.kept.values else all_gathered (opened look after.dialog.body) []) going
+          values ∙ ap (λ b. if b then all_gathered (opened look after.dialog.body) [] else among.kept.values)
+          (saves-going after.dialog.ended (stands.ended ∙ going))
 
-      values_ended : (number : ℕ) → after.dialog.is_open ≡ false → is_cancelled stepped.log ≡ (number == 11)
+      values_ended : (number : ℕ) → stepped.ended ≡ Some number
           → after.values ≡ (if number == 11 then among.kept.values else fields_of stepped.leaves)
-      values_ended number shut cancelled =
-          values ∙ ap (λ b. if b || is_cancelled after.dialog.log.items then among.kept.values else all_gathered (opened look after.dialog.body) []) shut
-          ∙ ap (λ ls. if is_cancelled ls then among.kept.values else all_gathered (opened look after.dialog.body) []) stands.log
-          ∙ ap (λ b. if b then among.kept.values else all_gathered (opened look after.dialog.body) []) cancelled
+      values_ended number ends =
+          values ∙ ap (λ b. if b then all_gathered (opened look after.dialog.body) [] else among.kept.values)
+          (saves-ended after.dialog.ended number (stands.ended ∙ ends))
+          ∙ turned-round (number == 11) among.kept.values (all_gathered (opened look after.dialog.body) [])
           ∙ ap (λ xs. if number == 11 then among.kept.values else xs)
           (stands-values look among.dialog (sound-open look d s old run o is).lawful stepped.leaves stepped after.dialog stands)
 
-      pub handed-dialogs : RespectsHold o.held e → AreDialogs look d (to_dialog d o e s) new
-      handed-dialogs given =
+      pub handed-dialogs : AreDialogs look d (to_dialog d o e s) new
+      handed-dialogs =
           subst (λ t. AreDialogs look d t new) state-is
           (option_cases stepped.ended (λ over. AreDialogs look d (after_work s o stepped over) new)
           (λ none.
           let going : after.dialog.is_open ≡ true = stands.open ∙ ap is_none none in
           stays-open look d s old new run.are o.place among.dialog among.there among.kept after among.found written lent stepped
-          o.origin (s.log ++ stepped.log) among.corner none (opens ∙ ap (λ b. then_some b o.place) going) (values_going going)
+          o.origin (s.log ++ stepped.log) among.corner none (opens ∙ ap (λ b. then_some b o.place) going) (values_going none)
           (subst (λ ls. Stands look among.dialog stepped.leaves (record stepped { log = ls }) after.dialog) (sym stands.log) stands))
           (λ number some.
           let shut : after.dialog.is_open ≡ false = stands.open ∙ ap is_none some in
           has-ended look d s old new run.are o.place among.dialog among.there among.kept after among.found written lent stepped
           number (s.log ++ stepped.log) (opens ∙ ap (λ b. then_some b o.place) shut)
-          (values_ended number shut (open-cancelled look d s old run o is e given number some)) stands))
+          (values_ended number some) stands))
 
   -- ---- an event that is dropped
 

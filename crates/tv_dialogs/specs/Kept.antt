@@ -1,5 +1,7 @@
 -- What is kept of a dialog, whether it is open or not.
-use Rattle.std.specs.Prelude.{◌≡◌, ◌||◌, true, List, [], Option, None, unwrap_or, if◌then◌else◌}
+use Rattle.std.specs.Prelude.{◌≡◌, ◌==◌, Bool, true, false, not, List, [], Option, Some, None, unwrap_or}
+use Rattle.std.specs.Prelude.{if◌then◌else◌}
+use Rattle.tv_event.specs.declared.event.Command.{Command}
 use Rattle.tv_model.specs.declared.node.Id.{Id}
 use Rattle.tv_model.specs.declared.desc.Dialog.{Dialog}
 use Rattle.tv_view.specs.Meaning.{Leaf}
@@ -15,7 +17,6 @@ use Rattle.tv_tree.specs.Ready.{HoldsLeaf}
 use Rattle.tv_dialog.specs.Resting.{Rests}
 use Rattle.tv_dialog.specs.Standing.{Stands}
 use Rattle.tv_dialog.specs.declared.dialog.DialogOf.{DialogOf}
-use Rattle.tv_dialogs.specs.Ends.{is_cancelled}
 use Rattle.tv_dialogs.specs.declared.kept.Kept.{Kept}
 
 -- what a dialog opens with: the record that its last end saved, else its declared values
@@ -40,8 +41,12 @@ pub record IsReady {V : Type 0} (look : V → Leaf) (d : Dialog) (m : Modal)
   pub focus : is_free_at d m.leaves m.focus ≡ true
   pub stands : Stands look d m.leaves m dialog
 
+-- whether a dialog that ended so keeps its values: not one that is open, or ended by `cancel`
+abbrev pub saves : Option Command → Bool
+saves None = false
+saves (Some command) = not (command.0 == 11)
+
 -- what it opens with next: its values once it has ended, unless by `cancel`
 abbrev pub values_after : {V : Type 0} → (V → Leaf) → Entries → DialogOf V → Entries
 values_after look values dialog =
-    if dialog.is_open || is_cancelled dialog.log.items then values
-    else all_gathered (opened look dialog.body) []
+    if saves dialog.ended then all_gathered (opened look dialog.body) [] else values

@@ -1,5 +1,4 @@
 pub mod Bodies
 pub mod Dialogs
-pub mod Ends
 pub mod Handed
 pub mod Kept

@@ -20,15 +20,14 @@ ghost use Rattle.tv_dialog.specs.Standing.{Stands};
 ghost use Rattle.tv_dialog.specs.Stepping.{begun_anew};
 ghost use Rattle.tv_dialogs.specs.Bodies.{kept_body};
 ghost use Rattle.tv_dialogs.specs.Handed.{HasPointGiven, is_dropped};
-ghost use Rattle.tv_dialogs.specs.Kept.{IsKeptAs, IsReady, values_after};
+ghost use Rattle.tv_dialogs.specs.Kept.{IsKeptAs, IsReady, saves, values_after};
 
 use crate::colours::Colours;
-use crate::ends::is_cancelled;
 use crate::handed::event_from;
 use std::alloc::Global;
 use tv_cells::{Canvas, Screen, lay_shadow};
 use tv_dialog::DialogOf;
-use tv_event::{CommandSet, Event};
+use tv_event::{Command, CommandSet, Event};
 use tv_group::GroupOf;
 use tv_model::{Dialog as Declared, Record};
 use tv_palette::Owner;
@@ -40,6 +39,16 @@ pub(crate) struct Kept<V> {
     pub(crate) dialog: DialogOf<V>,
     /// The values of its last end other than `cancel`, else those declared.
     pub(crate) values: Record,
+}
+
+// Whether a dialog that ended so keeps its values.
+fn saves(ended: Option<Command>) -> bool
+    ensures { result ≡ saves ended }
+{
+    match ended {
+        Some(command) => command != Command::CANCEL,
+        None => false,
+    }
 }
 
 impl<V: View> Kept<V> {
@@ -77,7 +86,7 @@ impl<V: View> Kept<V> {
         ensures dialog { self.new.dialog ≡ self.old.dialog }
         ensures values { self.new.values ≡ values_after V.meaning self.old.values self.old.dialog }
     {
-        if !self.dialog.is_open() && !is_cancelled(self.dialog.log()) {
+        if saves(self.dialog.ended()) {
             let mut values = Record::new();
             self.dialog.record(&mut values);
             self.values = values;

@@ -5,7 +5,6 @@ mod bodies;
 mod colours;
 mod dialogs;
 mod drawing;
-mod ends;
 mod handed;
 mod kept;
 mod opening;

@@ -54,7 +54,7 @@ returns-in-Some-clause-dialogs g c s o is given run =
     let stands = read-stands look d s old run o is c.in-Some.place c.in-Some.is c.index-as_slice-place.result kept reads c.index_mut-kept.ensures.value e c.step.new.self c.step.ensures.stands in
     handed-dialogs look d s old run o is e _ c.step.new.self (ap (λ n. slice_set old.kept.items n c.step.new.self) at) stands refl
     (c.then_some-self.ensures ∙ ap (λ b. then_some b c.in-Some.place) c.is_open.ensures ∙ ap (then_some c.step.new.self.dialog.is_open) at)
-    (c.step.ensures.values ∙ ap (λ k. values_after look k.values c.step.new.self.dialog) same) given
+    (c.step.ensures.values ∙ ap (λ k. values_after look k.values c.step.new.self.dialog) same)
 
 pub returns-in-Some-clause-log : goal.returns-in-Some-clause-log
 returns-in-Some-clause-log g c s o is run =
