@@ -1,6 +1,6 @@
 //! Dialogs.
 
-ghost use Rattle.std.specs.Prelude.{◌≡◌, ◌≤◌, ◌∷◌, [], length, IfOk, IfErr, IfSome, List, None, Some, false};
+ghost use Rattle.std.specs.Prelude.{◌≡◌, ◌≤◌, ◌<◌, ◌∷◌, [], ℕ, length, slice_index_or, IfOk, IfErr, IfSome, List, None, Some, false, true};
 ghost use Rattle.tv_cells.specs.Rectangle.{IsRectNear};
 ghost use Rattle.tv_model.specs.Description.Rectangles.{IsSmall, IsSmallRect};
 ghost use Rattle.tv_view.specs.Drawing.{Lays};
@@ -111,6 +111,7 @@ impl<V: View> DialogOf<V> {
         ensures body { IfOk result (λ dialog. dialog.body ≡ body) }
         ensures closed { IfOk result (λ dialog. dialog.is_open ≡ false) }
         ensures unended { IfOk result (λ dialog. dialog.ended ≡ None) }
+        ensures commands { IfOk result (λ dialog. (number : ℕ) → number < 256 → slice_index_or dialog.ruled.commands number false ≡ true) }
         ensures empty { IfOk result (λ dialog. (dialog.marks ≡ []) × (dialog.pending ≡ []) × (dialog.log.items ≡ [])) }
         ensures fresh { IfOk result (λ dialog. (d : Declared) → d.node ≡ node.now → d.views ≡ views.now → d.rules ≡ rules.now → IsLawfulDialog d
             → IsFreshBody V.meaning node.now views.now body → Rests V.meaning d (unfocused d None []) dialog) }
