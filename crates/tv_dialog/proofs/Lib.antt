@@ -1,4 +1,5 @@
 pub mod FieldLemmas
+pub mod FieldOrderLemmas
 pub mod FirstRecordLemmas
 pub mod FreshLemmas
 pub mod NewLemmas

@@ -25,12 +25,14 @@ use Rattle.tv_group.specs.Calls.{FitsAll, all_applied, all_set, first_in, gather
 use Rattle.tv_group.specs.declared.focus.Dir.TheVariants.{Forward}
 use Rattle.tv_group.specs.Opened.{opened}
 use Rattle.tv_dialog.specs.declared.dialog.DialogOf.{DialogOf}
+use Rattle.tv_dialog.specs.Fields.{in_field_order}
 use Rattle.tv_dialog.specs.Head.{declared_dialog_head}
 use Rattle.tv_dialog.specs.Plan.{is_enabled_in_plan, leaf_plan, plan_of, shown_by}
 use Rattle.tv_dialog.specs.Resting.{AreAlike, Rests, unflagged}
 use Rattle.tv_dialog.specs.Standing.{AreFields, Stands, end_number}
 use Rattle.tv_tree.specs.Tree.{placed_as, tree_as, tree_of}
 use Rattle.tv_tree.proofs.EndingLemmas.{fewer_leaves}
+use Rattle.tv_dialog.proofs.FieldOrderLemmas.{ordered-fields, ordered-fits, set-ordered}
 use Rattle.tv_dialog.proofs.FreshLemmas.{applied-alike, fits-alike, fresh-alike, fresh_tree, set-alike, steady-declared}
 use Rattle.tv_tree.proofs.GatheredLemmas.{fields-are, fields-ids, gathered-again, value-fields}
 use Rattle.tv_machine.proofs.ListLemmas.{map-map, option_cases}
@@ -89,21 +91,24 @@ module _ {V : Type 0} (look : V → Leaf) (d : Dialog) where
     marks = inl marks;
   }
 
-  -- and one whose values were set
-  pub rests-set : IsLawfulDialog d → (m : Modal) (entries : Entries) → map (λ entry. entry.id) entries ≡ field_ids d
-      → (old new : DialogOf V) → Rests look d m old → FitsAll entries (opened look old.body)
+  -- and one whose values were set, as if by the record in field order
+  pub rests-set : IsLawfulDialog d → (m : Modal) (entries : Entries) → (old new : DialogOf V) → Rests look d m old → FitsAll entries (opened look old.body)
       → new.head ≡ old.head → new.plan ≡ old.plan → new.marks ≡ old.marks
-      → opened look new.body ≡ all_set entries (opened look old.body) → Rests look d (unfocused d (Some entries) m.overwriting) new
-  rests-set lawful m entries fields old new s fits head plan marks body =
-      let shut : Modal = unfocused d (Some entries) m.overwriting in
+      → opened look new.body ≡ all_set entries (opened look old.body)
+      → Rests look d (unfocused d (Some (in_field_order d entries)) m.overwriting) new
+  rests-set lawful m entries old new s fits head plan marks body =
+      let ordered = in_field_order d entries in
+      let suits = fits-alike entries (opened look old.body) (tree_of d m) s.tree fits in
+      let fields = ordered-fields d lawful entries m.leaves m suits in
+      let shut : Modal = unfocused d (Some ordered) m.overwriting in
       record {
         head = ap Some head ∙ s.head;
         plan = plan ∙ s.plan;
         tree = ap (map unflagged) body ∙ set-alike entries (opened look old.body) (tree_of d m) s.tree
-            ∙ ap (map unflagged) (set-tree d lawful entries fields m.overwriting m.leaves m s.steady (λ leaf e. refl))
+            ∙ ap (map unflagged) (set-ordered d lawful entries m.leaves m s.steady)
+            ∙ ap (map unflagged) (set-tree d lawful ordered fields m.overwriting m.leaves m s.steady (λ leaf e. refl))
             ∙ alike-rules d m.leaves shut.leaves shut;
-        steady = steady-unfocused d lawful entries fields m.overwriting m.leaves m
-            (fits-alike entries (opened look old.body) (tree_of d m) s.tree fits);
+        steady = steady-unfocused d lawful ordered fields m.overwriting m.leaves m (ordered-fits d lawful entries m.leaves m suits);
         marks = subst (AreFields d) (sym marks) s.marks;
       }
 

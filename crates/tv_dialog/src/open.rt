@@ -1,13 +1,13 @@
 //! How a dialog opens.
 
-ghost use Rattle.std.specs.Prelude.{◌≡◌, [], map, true, Some};
+ghost use Rattle.std.specs.Prelude.{◌≡◌, [], true, Some};
 ghost use Rattle.tv_model.specs.declared.desc.Dialog.{Dialog};
-ghost use Rattle.tv_machine.specs.Safe.{field_ids};
 ghost use Rattle.tv_machine.specs.Dialog.Lawful.{IsLawfulDialog};
 ghost use Rattle.tv_machine.specs.Dialog.Modal.{Modal};
 ghost use Rattle.tv_machine.specs.Dialog.Opening.{opened_dialog as opens};
 ghost use Rattle.tv_group.specs.Calls.{FitsAll};
 ghost use Rattle.tv_group.specs.Opened.{opened};
+ghost use Rattle.tv_dialog.specs.Fields.{in_field_order};
 ghost use Rattle.tv_dialog.specs.Resting.{Rests};
 ghost use Rattle.tv_dialog.specs.Standing.{Stands};
 
@@ -17,12 +17,13 @@ use tv_model::Record;
 use tv_view::View;
 
 impl<V: View> DialogOf<V> {
-    /// Opens it with these values and the focus on the first free control. Inputs in which typing overwrites stay so.
+    /// Opens it with the values that the record has for its fields, in whatever order, and the focus on the first free
+    /// control. Inputs in which typing overwrites stay so.
     pub fn reopen(&mut self, values: &Record)
         requires { FitsAll values.now (opened V.meaning self.old.body) }
-        ensures stands { (d : Dialog) (m : Modal) → IsLawfulDialog d → map (λ entry. entry.id) values.now ≡ field_ids d
-            → Rests V.meaning d m self.old
-            → Stands V.meaning d (opens d (Some values.now) m.overwriting).leaves (opens d (Some values.now) m.overwriting) self.new }
+        ensures stands { (d : Dialog) (m : Modal) → IsLawfulDialog d → Rests V.meaning d m self.old
+            → Stands V.meaning d (opens d (Some (in_field_order d values.now)) m.overwriting).leaves
+            (opens d (Some (in_field_order d values.now)) m.overwriting) self.new }
         ensures is_open { self.new.is_open ≡ true }
         ensures pending { self.new.pending ≡ [] }
     {

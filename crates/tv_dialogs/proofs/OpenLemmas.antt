@@ -15,8 +15,10 @@ use Rattle.tv_machine.specs.Dialog.Opening.{first_focus, opened_dialog as opens,
 use Rattle.tv_machine.specs.Session.Commands.{open_dialog, open_found, opened_at, overwriting_at, saved_at}
 use Rattle.tv_group.specs.Calls.{FitsAll}
 use Rattle.tv_group.specs.Opened.{opened}
+use Rattle.tv_dialog.specs.Fields.{in_field_order}
 use Rattle.tv_dialog.specs.Resting.{Rests}
 use Rattle.tv_dialog.specs.Standing.{Stands}
+use Rattle.tv_dialog.proofs.FieldOrderLemmas.{ordered-itself}
 use Rattle.tv_dialog.proofs.StandsLemmas.{ended-moved}
 use Rattle.tv_dialogs.specs.Dialogs.{AreDialogs, AreOfRun, kept_at, lines_by, log_of_last}
 use Rattle.tv_dialogs.specs.Kept.{IsKeptAs, first_values}
@@ -52,16 +54,18 @@ module _ {V : Type 0} (look : V → Leaf) (d : Desc) (s : State) (old : DialogsO
   state_is = ap (open_found s place) (sym there)
 
   module _ (new : DialogsOf V) (after : Kept V) (written : new.kept.items ≡ slice_set old.kept.items place after)
-      (reopened : (x : Dialog) (m : Modal) → IsLawfulDialog x → map (λ entry. entry.id) before.values ≡ field_ids x → Rests look x m before.dialog
-      → Stands look x (opens x (Some before.values) m.overwriting).leaves (opens x (Some before.values) m.overwriting) after.dialog) where
+      (reopened : (x : Dialog) (m : Modal) → IsLawfulDialog x → Rests look x m before.dialog
+      → Stands look x (opens x (Some (in_field_order x before.values)) m.overwriting).leaves
+      (opens x (Some (in_field_order x before.values)) m.overwriting) after.dialog) where
     opened_stands : Stands look dialog opening.leaves opening after.dialog
     opened_stands =
         let sound = sound-there look d s old run place dialog there in
-        let same : opens dialog (Some before.values) is_kept.modal.overwriting ≡ opening =
-        ap (λ entries. opens dialog (Some entries) is_kept.modal.overwriting) is_kept.values
+        let same : opens dialog (Some (in_field_order dialog before.values)) is_kept.modal.overwriting ≡ opening =
+        ap (λ entries. opens dialog (Some entries) is_kept.modal.overwriting)
+        (ordered-itself dialog sound.lawful before.values open_fields ∙ is_kept.values)
         ∙ ap (opens dialog (Some (first_values dialog (saved_at s place)))) is_kept.overwrites
         ∙ first-opened dialog sound (saved_at s place) (overwriting_at s place) in
-        subst (λ n. Stands look dialog n.leaves n after.dialog) same (reopened dialog is_kept.modal sound.lawful open_fields is_kept.rests)
+        subst (λ n. Stands look dialog n.leaves n after.dialog) same (reopened dialog is_kept.modal sound.lawful is_kept.rests)
 
     pub opened-log : new.last ≡ Some place → (open_dialog d place s).log ≡ s.log ++ lines.Open dialog.node.id ∷ log_of_last new
     opened-log last =
