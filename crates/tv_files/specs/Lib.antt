@@ -4,6 +4,8 @@ pub mod EndsWith
 pub mod Ends
 -- What is known of files, and what opening and reading one comes to
 pub mod Files
+-- Why the bytes of a file aren't there, by the kind of the system's error
+pub mod Kinds
 -- What a flush leaves
 pub mod Streams
 -- What a task on files comes to

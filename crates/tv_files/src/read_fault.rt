@@ -25,12 +25,18 @@ impl From<AllocError> for ReadFault {
     }
 }
 
+/// `NoMemory` where the error's kind says so, else `Read`: a missing file is never told as no memory.
 impl From<io::Error> for ReadFault {
+    ghost use Rattle.std.specs.IoError.{error_kind};
+    ghost use Rattle.std.specs.Prelude.{◌≡◌};
+    ghost use Rattle.tv_files.specs.Kinds.{fault_of_kind};
+
+    ghost from_gives = { λ error fault. fault ≡ fault_of_kind (error_kind error) };
+
     fn from(error: io::Error) -> ReadFault {
-        if error.kind() == ErrorKind::OutOfMemory {
-            ReadFault::NoMemory
-        } else {
-            ReadFault::Read
+        match error.kind() {
+            ErrorKind::OutOfMemory => ReadFault::NoMemory,
+            _ => ReadFault::Read,
         }
     }
 }
