@@ -97,7 +97,8 @@ impl Question for Showing {
     }
 }
 
-fn shown(alloc: Global, line: &str) -> Result<String, Fail> {
+/// The text that a command line without a task shows: its help, or what is wrong with it.
+pub fn shown(alloc: Global, line: &str) -> Result<String, Fail> {
     let words = words(alloc, line)?;
     usage(alloc, words.as_slice())
 }

@@ -16,14 +16,17 @@ const FILE: &str = Shelf::DESCRIPTION;
 
 const BESIDE: &str = Shelf::BESIDE;
 
-const CHECK: Task<'static> = Task::Check { file: FILE };
+/// A check of the description.
+pub const CHECK: Task<'static> = Task::Check { file: FILE };
 
-const ACCEPT: Task<'static> = Task::Accept {
+/// An acceptance of the description with the file beside it.
+pub const ACCEPT: Task<'static> = Task::Accept {
     file: FILE,
     certificate: BESIDE,
 };
 
-const RUN: Task<'static> = Task::Run {
+/// A run of the file beside it on the description.
+pub const RUN: Task<'static> = Task::Run {
     file: FILE,
     script: BESIDE,
 };
@@ -33,7 +36,13 @@ type Room = (usize, bool);
 
 const AMPLE: Room = (100_000, true);
 
-// What stands on standard output, then what stands on standard error, then the status, then what was opened.
+/// What a task with ample room comes to, about these texts: what stands on standard output, then what stands on standard
+/// error, then the status, then what was opened.
+pub fn ample_ending(alloc: Global, task: Task<'_>, texts: (&str, &str)) -> Result<String, Fail> {
+    ending(alloc, Ok(task), texts, AMPLE, AMPLE)
+}
+
+// The same, with this room, or where nothing can be done.
 fn ending(
     alloc: Global,
     asked: Result<Task<'_>, NoTask>,

@@ -14,13 +14,21 @@ mod constructors;
 #[cfg(test)]
 mod copies;
 #[cfg(test)]
+mod counting;
+#[cfg(test)]
 mod each_fault;
 #[cfg(test)]
 mod endings;
 #[cfg(test)]
+mod help;
+#[cfg(test)]
+mod limits;
+#[cfg(test)]
 mod makers;
 #[cfg(test)]
 mod memory;
+#[cfg(test)]
+mod messages;
 #[cfg(test)]
 mod passing_on;
 #[cfg(test)]

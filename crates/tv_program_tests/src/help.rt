@@ -1,0 +1,182 @@
+//! Help: each of its texts, and the keys that it names.
+
+use crate::command_lines::shown;
+use std::alloc::Global;
+use std::test::Fail;
+use tv_script::Script;
+use tv_test_support::{Question, expect_rows, push_line};
+
+/// The text that a command line shows.
+#[derive(Clone, Copy)]
+struct Shown;
+
+impl Question for Shown {
+    fn answer(&self, alloc: Global, text: &[u8]) -> Result<String, Fail> {
+        shown(alloc, str::from_utf8(text)?)
+    }
+}
+
+const PROGRAM: &str = "\
+Checks descriptions of text-mode dialogs, and runs them on scripts
+
+Usage: tvdlg <COMMAND>
+
+Commands:
+  check   Prints the faults of a description, a line for each, or its certificate where it has none
+  accept  Prints `accepted` where the certificate is that of the description, else the first reason to refuse them
+  run     Performs a script of keys and pictures on a description, and prints what happens
+  help    Print this message or the help of the given subcommand(s)
+
+Options:
+  -h, --help  Print help
+
+Statuses: 0 done; 1 faults, a refusal or a bad text; 2 usage; 3 a file, a stream or memory failed. \
+Messages go to standard error, all else to standard output.
+";
+
+const CHECK: &str = "\
+Prints the faults of a description, a line for each, or its certificate where it has none
+
+Usage: tvdlg check <FILE>
+
+Arguments:
+  <FILE>  A description of windows and dialogs
+
+Options:
+  -h, --help  Print help
+
+Statuses: 0 done; 1 faults, a refusal or a bad text; 2 usage; 3 a file, a stream or memory failed. \
+Messages go to standard error, all else to standard output.
+";
+
+const ACCEPT: &str = "\
+Prints `accepted` where the certificate is that of the description, else the first reason to refuse them
+
+Usage: tvdlg accept <FILE> <CERT>
+
+Arguments:
+  <FILE>  A description of windows and dialogs
+  <CERT>  A certificate, as `check` prints it
+
+Options:
+  -h, --help  Print help
+
+Statuses: 0 done; 1 faults, a refusal or a bad text; 2 usage; 3 a file, a stream or memory failed. \
+Messages go to standard error, all else to standard output.
+";
+
+const RUN: &str = "\
+Performs a script of keys and pictures on a description, and prints what happens
+
+A script has one of these on each line, or nothing, or # and a comment:
+  key NAME     a key: Tab, Shift-Tab, Enter, Esc, Up, Down, Left, Right, Home,
+               End, PgUp, PgDn, Ctrl-PgUp, Ctrl-PgDn, Backspace, Del, Ins,
+               Ctrl-A to Ctrl-Z, F1 to F12, Alt-A to Alt-Z, Alt-0 to Alt-9
+  type \"TEXT\"  each character as a key; \\\" is a quote, \\\\ a backslash
+  down X Y     the mouse button goes down on a cell; the top left one is 0 0
+  move X Y     the mouse moves to a cell
+  up X Y       the mouse button goes up on a cell
+  shot         prints the characters of the screen
+  colors       prints its attributes, two hexadecimal digits a cell
+
+Each line is performed when its end has come, and what it prints is passed on
+before more is read. So SCRIPT may be a pipe or a terminal, as /dev/stdin. At a
+faulty line the script is left; the lines before it were performed.
+
+Usage: tvdlg run <FILE> <SCRIPT>
+
+Arguments:
+  <FILE>
+          A description of windows and dialogs
+
+  <SCRIPT>
+          A script, with an event or a picture on each line
+
+Options:
+  -h, --help
+          Print help (see a summary with '-h')
+
+Statuses: 0 done; 1 faults, a refusal or a bad text; 2 usage; 3 a file, a stream or memory failed. \
+Messages go to standard error, all else to standard output.
+";
+
+#[test]
+fn whole_help(rt: HostRuntime) -> Result<(), Fail> {
+    expect_rows(
+        &Shown,
+        rt.alloc(),
+        &[
+            ("tvdlg --help", PROGRAM),
+            ("tvdlg check --help", CHECK),
+            ("tvdlg accept --help", ACCEPT),
+            ("tvdlg run --help", RUN),
+        ],
+    )
+}
+
+// The keys that the help of `run` names, as it names them.
+fn keys_named(help: &str) -> Result<&str, Fail> {
+    let (_, named) = help
+        .split_once("key NAME     a key: ")
+        .ok_or("no keys are named")?;
+    let (named, _) = named.split_once("\n  type ").ok_or("no end")?;
+    Ok(named)
+}
+
+// A script that presses these keys, one after the other: names, and ranges of names, between commas.
+fn pressing(alloc: Global, names: &str) -> Result<String, Fail> {
+    let mut script = String::new(alloc);
+    for name in names.split(',') {
+        match name.trim().split_once(" to ") {
+            None => push_key(&mut script, alloc, name.trim())?,
+            Some((first, last)) => push_range(&mut script, alloc, first, last)?,
+        }
+    }
+    Ok(script)
+}
+
+fn push_key(script: &mut String, alloc: Global, name: &str) -> Result<(), Fail> {
+    let line = format!(in alloc; "key {name}")?;
+    Ok(push_line(script, line.as_str())?)
+}
+
+// The keys of a range, whose names differ in a number or a letter at their end.
+fn push_range(script: &mut String, alloc: Global, first: &str, last: &str) -> Result<(), Fail> {
+    let start = first.chars().last().ok_or("no first key")?;
+    let prefix = first.strip_suffix(start).ok_or("no first key")?;
+    let end = last.strip_prefix(prefix).ok_or("no range")?;
+    match (start.to_digit(10), end.parse::<u32>()) {
+        (Some(start), Ok(end)) => {
+            for number in start..=end {
+                let name = format!(in alloc; "{prefix}{number}")?;
+                push_key(script, alloc, name.as_str())?;
+            }
+        }
+        _ => {
+            let end = end.chars().last().ok_or("no last key")?;
+            for letter in (start..=end).into_iter() {
+                let name = format!(in alloc; "{prefix}{letter}")?;
+                push_key(script, alloc, name.as_str())?;
+            }
+        }
+    }
+    Ok(())
+}
+
+// How many events a script has.
+fn count_of_items(alloc: Global, script: &str) -> Result<usize, Fail> {
+    match Script::parse(alloc, script.as_bytes(), 20, 10) {
+        Ok(script) => Ok(script.items().len()),
+        Err(fault) => Err(Fail::new(format_args!("{fault}"))),
+    }
+}
+
+// Seventeen keys with names of their own, 26 with Ctrl, 12 function keys, and 36 with Alt.
+#[test]
+fn keys_named_by_the_help(rt: HostRuntime) -> Result<(), Fail> {
+    let alloc = rt.alloc();
+    let help = shown(alloc, "tvdlg run --help")?;
+    let script = pressing(alloc, keys_named(&help)?)?;
+    assert_eq!(rt; count_of_items(alloc, script.as_str())?, 91);
+    Ok(())
+}

@@ -1,0 +1,145 @@
+//! Long paths, and texts as long as they may be.
+
+use crate::endings::{ACCEPT, CHECK, RUN, ample_ending};
+use crate::sink::Sink;
+use std::alloc::{AllocError, Global};
+use std::test::Fail;
+use tv_button_views::buttons;
+use tv_files::{DirectStream, FileStore, ReadFault, Task, run_program};
+use tv_io::FileReader;
+use tv_test_support::certificates::CANCEL_CERTIFICATE;
+use tv_test_support::descriptions::CANCEL;
+
+/// One file, under a path of any length.
+#[derive(Drop)]
+struct Lone<'a> {
+    path: &'a str,
+    text: &'a str,
+}
+
+impl<'a> FileStore for Lone<'a> {
+    ghost use Rattle.std.specs.Prelude.{None};
+
+    type File = FileReader<&'a [u8]>;
+
+    ghost known = { λ _. record { contents = λ _. None; opened = None } };
+
+    fn open(&mut self, path: &str) -> Result<FileReader<&'a [u8]>, ReadFault> {
+        if path == self.path {
+            Ok(FileReader::new(self.text.as_bytes()))
+        } else {
+            Err(ReadFault::Read)
+        }
+    }
+}
+
+// What stands on standard output, then what stands on standard error, then the status, where the description of one button is
+// the only file, under this path.
+fn lone_ending(alloc: Global, path: &str, task: Task<'_>) -> Result<String, Fail> {
+    let mut files = Lone { path, text: CANCEL };
+    let mut out = Sink::new(alloc, 10_000, true);
+    let mut err = Sink::new(alloc, 10_000, true);
+    let status = status(alloc, &mut files, task, &mut out, &mut err);
+    let text = str::from_utf8(out.taken())?;
+    let message = str::from_utf8(err.taken())?;
+    Ok(format!(in alloc; "{text}{message}status {status}\n")?)
+}
+
+fn status(
+    alloc: Global,
+    files: &mut Lone<'_>,
+    task: Task<'_>,
+    out: &mut Sink,
+    err: &mut Sink,
+) -> u8 {
+    let mut out = DirectStream::new(out);
+    let mut err = DirectStream::new(err);
+    run_program(files, alloc, Ok(task), &buttons, &mut out, &mut err)
+}
+
+// A path of 4,000 bytes.
+fn long_path(alloc: Global, name: &str) -> Result<String, AllocError> {
+    let mut path = "folder/".repeat(alloc, 571)?;
+    path.push_str(name)?;
+    Ok(path)
+}
+
+#[test]
+fn long_paths(rt: HostRuntime) -> Result<(), Fail> {
+    let alloc = rt.alloc();
+    let path = long_path(alloc, "a.t")?;
+    assert_eq!(rt; path.len(), 4000);
+    let file = path.as_str();
+    let checked = lone_ending(alloc, file, Task::Check { file })?;
+    let wanted = format!(in alloc; "{CANCEL_CERTIFICATE}status 0\n")?;
+    assert_eq!(rt; checked.as_str(), wanted.as_str());
+    let performed = lone_ending(alloc, file, Task::Run { file, script: file })?;
+    let wanted = format!(in alloc; "open a\nfocus c\ntvdlg: {path}: syntax at line 1\nstatus 1\n")?;
+    assert_eq!(rt; performed.as_str(), wanted.as_str());
+    Ok(())
+}
+
+#[test]
+fn long_paths_of_missing_files(rt: HostRuntime) -> Result<(), Fail> {
+    let alloc = rt.alloc();
+    let path = long_path(alloc, "b.t")?;
+    let task = Task::Check {
+        file: path.as_str(),
+    };
+    let told = lone_ending(alloc, "a.t", task)?;
+    let wanted = format!(in alloc; "tvdlg: cannot read {path}\nstatus 3\n")?;
+    assert_eq!(rt; told.as_str(), wanted.as_str());
+    Ok(())
+}
+
+// A script of 262,146 bytes, more than a description may have. Its last line ends the dialog.
+fn long_script(alloc: Global) -> Result<String, AllocError> {
+    let mut script = "# a comment\n".repeat(alloc, 21_844)?;
+    script.push_str("# the end\nkey Esc\n")?;
+    Ok(script)
+}
+
+#[test]
+fn long_scripts_are_run_whole(rt: HostRuntime) -> Result<(), Fail> {
+    let script = long_script(rt.alloc())?;
+    assert_eq!(rt; script.len(), 262_146);
+    let told = ample_ending(rt.alloc(), RUN, (CANCEL, script.as_str()))?;
+    assert_eq!(rt;
+        told.as_str(),
+        "open a\nfocus c\nend a cancel\nstatus 0\nopened 12\n"
+    );
+    Ok(())
+}
+
+// The description of one button with a comment, as long as a description may be.
+fn full_description(alloc: Global) -> Result<String, AllocError> {
+    let mut text = String::from_str(alloc, CANCEL)?;
+    for _ in text.len()..262_144 {
+        text.push('#')?;
+    }
+    Ok(text)
+}
+
+#[test]
+fn full_descriptions(rt: HostRuntime) -> Result<(), Fail> {
+    let alloc = rt.alloc();
+    let description = full_description(alloc)?;
+    let checked = format!(in alloc; "{CANCEL_CERTIFICATE}status 0\nopened 1\n")?;
+    for (task, beside, wanted) in [
+        (CHECK, "", checked.as_str()),
+        (
+            ACCEPT,
+            CANCEL_CERTIFICATE,
+            "accepted\nstatus 0\nopened 12\n",
+        ),
+        (
+            RUN,
+            "key Esc\n",
+            "open a\nfocus c\nend a cancel\nstatus 0\nopened 12\n",
+        ),
+    ] {
+        let told = ample_ending(alloc, task, (description.as_str(), beside))?;
+        assert_eq!(rt; told.as_str(), wanted, "{task:?}");
+    }
+    Ok(())
+}
