@@ -1,5 +1,5 @@
 -- Why a description or its certificate is refused.
-use Rattle.std.specs.Prelude.{◌≡◌, ◌≢◌, ℕ, ◌+◌, List, ◌∷◌, ◌++◌, take, slice_get, All, Result, Ok, Err}
+use Rattle.std.specs.Prelude.{◌≡◌, ◌≢◌, ℕ, ◌+◌, List, [], ◌∷◌, ◌++◌, take, slice_get, All, Result, Ok, Err}
 use Rattle.tv_model.specs.declared.desc.Desc.{Desc}
 use Rattle.tv_model.specs.declared.desc.Dialog.{Dialog}
 use Rattle.tv_model.specs.declared.fault.Fault.{Fault}
@@ -9,9 +9,20 @@ use Rattle.tv_certificate.specs.declared.certificate.Certificate.{Certificate}
 use Rattle.tv_certificate.specs.declared.certificate.Block.{Block}
 use Rattle.tv_check.specs.declared.certification.CertifyFault.{CertifyFault}
 use Rattle.tv_check.specs.declared.certification.CertifyFault.TheVariants as unmade
+use Rattle.tv_check.specs.declared.desc_fault.DescFault.{DescFault}
+use Rattle.tv_check.specs.declared.desc_fault.DescFault.TheVariants as faulty
 use Rattle.tv_check.specs.declared.acceptance.Refusal.{Refusal}
 use Rattle.tv_check.specs.declared.acceptance.Refusal.TheVariants as refusals
 use Rattle.tv_check.specs.Certificates.{NamesOwner, NamesOwners, key_lines, tab_lines}
+
+-- the list has the description's faults, and isn't empty
+abbrev pub HasFaults : Desc → List Fault → Type 0
+HasFaults d list = (list ≡ faults_of d) × (list ≢ [])
+
+-- the description has faults, or memory ran out
+abbrev pub IsFaulty : Desc → DescFault → Type 0
+IsFaulty d faulty.NoMemory = Unit {0}
+IsFaulty d (faulty.Faults list) = HasFaults d list
 
 -- the first fault of a description, by number and then by line
 abbrev pub IsFirstFault : Desc → Fault → Type 0

@@ -6,15 +6,17 @@ ghost use Rattle.tv_machine.specs.Dialog.Lawful.{IsLawfulDialog};
 ghost use Rattle.tv_machine.specs.Dialog.Sound.{HasSoundDialogs};
 ghost use Rattle.tv_model.specs.Faults.{IsSound};
 ghost use Rattle.tv_check.specs.Certificates.{IsSoundCertificate};
-ghost use Rattle.tv_check.specs.Refusals.{Accepts, RefusesToAccept};
+ghost use Rattle.tv_check.specs.Refusals.{Accepts, IsFaulty, RefusesToAccept};
 
 use crate::acceptance_owners::first_owner;
 use crate::acceptance_tabs::first_tab;
 use crate::certification::first_fault;
+use crate::desc_fault::DescFault;
 use std::alloc::{AllocError, Global};
 use std::marker::Model;
 use thiserror::Error;
 use tv_certificate::Certificate;
+use tv_faults::faults;
 use tv_model::{Desc, Fault};
 
 /// Why a description or its certificate is refused.
@@ -44,7 +46,7 @@ impl From<AllocError> for Refusal {
     }
 }
 
-/// A sound description that a text can spell. Only `accept` makes one.
+/// A sound description that a text can spell. Only `examine` and `accept` make one.
 #[derive(Debug, Drop)]
 pub struct Checked {
     desc: Desc,
@@ -63,7 +65,7 @@ impl Model for Checked {
 }
 
 impl Checked {
-    /// Returns the description that was accepted. Each of its dialogs has what the modal dialog asks of it (`lawful`),
+    /// Returns the description that was checked. Each of its dialogs has what the modal dialog asks of it (`lawful`),
     /// and what the laws of every run ask (`sound_dialogs`).
     pub fn desc(&self) -> &Desc
         ensures value { result.now ≡ self.now }
@@ -73,6 +75,22 @@ impl Checked {
         ensures sound_dialogs { HasSoundDialogs result.now }
     {
         &self.desc
+    }
+}
+
+/// Searches the description for faults, once. Returns it as checked where it has none, else all of them.
+///
+/// The description must be one that a text can spell, as those of `parse` are.
+pub fn examine(alloc: Global, desc: Desc) -> Result<Checked, DescFault>
+    requires { CanBeSpelled desc }
+    ensures yes { IfOk result (λ checked. (checked ≡ desc) × IsSound desc) }
+    ensures no { IfErr result (IsFaulty desc) }
+{
+    let found = faults(alloc, &desc)?;
+    if found.as_slice().is_empty() {
+        Ok(Checked { desc })
+    } else {
+        Err(DescFault::Faults(found))
     }
 }
 

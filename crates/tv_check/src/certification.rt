@@ -11,6 +11,7 @@ ghost use Rattle.tv_check.specs.Lent.{lent_owner};
 ghost use Rattle.tv_lang.specs.CanonicalDescription.{CanBeSpelled};
 ghost use Rattle.tv_check.specs.Refusals.{IsFirstFault, RefusesToCertify};
 
+use crate::acceptance::Checked;
 use crate::owner::{Owner, owner_of};
 use std::alloc::{AllocError, Global};
 use thiserror::Error;
@@ -101,9 +102,13 @@ fn block_of(alloc: Global, dialog: &Dialog) -> Result<Block, AllocError>
     })
 }
 
+// The certificate of a sound description.
 fn certificate_of(alloc: Global, desc: &Desc) -> Result<Certificate, AllocError>
-    requires { IsSound desc.now }
-    ensures { IfOk result (λ certificate. certificate ≡ certificate_of desc.now) }
+    requires spelled { CanBeSpelled desc.now }
+    requires sound { IsSound desc.now }
+    ensures value { IfOk result (λ certificate. certificate ≡ certificate_of desc.now) }
+    ensures sound { IfOk result (λ certificate. IsSoundCertificate desc.now certificate) }
+    ensures spelled { IfOk result (λ certificate. IsSpelledCertificate certificate) }
 {
     let mut blocks = Sequence::new(alloc);
     for dialog in desc.dialogs.as_slice() {
@@ -113,6 +118,17 @@ fn certificate_of(alloc: Global, desc: &Desc) -> Result<Certificate, AllocError>
         version: Version::One,
         blocks,
     })
+}
+
+impl Checked {
+    /// Makes the certificate of the description: a block for each dialog, in the order of the description.
+    pub fn certificate(&self, alloc: Global) -> Result<Certificate, AllocError>
+        ensures value { IfOk result (λ certificate. certificate ≡ certificate_of self.now) }
+        ensures sound { IfOk result (λ certificate. IsSoundCertificate self.now certificate) }
+        ensures spelled { IfOk result (λ certificate. IsSpelledCertificate certificate) }
+    {
+        certificate_of(alloc, self.desc())
+    }
 }
 
 /// Finds the first fault of the description, by number and then by line.
