@@ -6,11 +6,12 @@ use Rattle.tv_program.specs.declared.accept_fault.AcceptFault.{AcceptFault}
 use Rattle.tv_program.specs.declared.accept_fault.AcceptFault.TheVariants as accepts
 use Rattle.tv_program.specs.declared.check_fault.CheckFault.{CheckFault}
 use Rattle.tv_program.specs.declared.check_fault.CheckFault.TheVariants as checks
-use Rattle.tv_program.specs.declared.desc_fault.DescFault.{DescFault}
-use Rattle.tv_program.specs.declared.desc_fault.DescFault.TheVariants as descs
+use Rattle.tv_check.specs.declared.desc_fault.DescFault.{DescFault}
+use Rattle.tv_check.specs.declared.desc_fault.DescFault.TheVariants as descs
 use Rattle.tv_program.specs.CheckRun.{AcceptsTo, ChecksTo, Fit, accepted, certificate_text}
 use Rattle.tv_program.specs.Conversions.{desc_checked}
-use Rattle.tv_program.specs.Reading.{IsFaulty, IsSoundText}
+use Rattle.tv_check.specs.Refusals.{IsFaulty}
+use Rattle.tv_program.specs.Reading.{IsSoundText}
 use Rattle.tv_io.specs.Writer.{Cuts, Seen}
 
 -- ---- checking

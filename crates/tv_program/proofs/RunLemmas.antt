@@ -10,13 +10,14 @@ use Rattle.tv_machine.specs.Run.{Session, started}
 use Rattle.tv_model.specs.declared.desc.Desc.{Desc}
 use Rattle.tv_model.specs.declared.script.Item.{Item}
 use Rattle.tv_model.specs.Description.Numbers.{IsBetween}
-use Rattle.tv_program.specs.declared.desc_fault.DescFault.{DescFault}
-use Rattle.tv_program.specs.declared.desc_fault.DescFault.TheVariants as descs
+use Rattle.tv_check.specs.declared.desc_fault.DescFault.{DescFault}
+use Rattle.tv_check.specs.declared.desc_fault.DescFault.TheVariants as descs
 use Rattle.tv_program.specs.declared.play_fault.PlayFault.{PlayFault}
 use Rattle.tv_program.specs.Conversions.{desc_run, session_run, stream_run}
 use Rattle.tv_program.specs.Playing.{IsLawfulText, IsMismade, IsNoStart, RefusesDesc, RunsTo}
 use Rattle.tv_program.specs.Playing.RunsTo.{refused, unbegun, stopped}
-use Rattle.tv_program.specs.Reading.{IsFaulty, IsSoundText}
+use Rattle.tv_check.specs.Refusals.{IsFaulty}
+use Rattle.tv_program.specs.Reading.{IsSoundText}
 use Rattle.tv_program.proofs.LawLemmas.{RunsByLaws-of}
 use Rattle.tv_script.specs.declared.script_text.ScriptFault.{ScriptFault}
 use Rattle.tv_script.specs.declared.stream_fault.StreamFault.{StreamFault}

@@ -9,13 +9,13 @@ use Rattle.tv_check.specs.declared.acceptance.Refusal.TheVariants as refusals
 use Rattle.tv_check.specs.Certificates.{IsSoundCertificate, certificate_of}
 use Rattle.tv_certificate.specs.CertificateTexts.{RefusesText, SpellsACertificate as SpellsCertificate}
 use Rattle.tv_certificate.specs.CertificateTexts.{certificate_lines}
-use Rattle.tv_check.specs.Refusals.{RefusesToAccept}
+use Rattle.tv_check.specs.Refusals.{HasFaults, RefusesToAccept}
 use Rattle.tv_certificate.specs.declared.reading.CertificateFault.{CertificateFault}
 use Rattle.tv_program.specs.declared.accept_fault.AcceptFault.{AcceptFault}
 use Rattle.tv_program.specs.declared.accept_fault.AcceptFault.TheVariants as accepts
 use Rattle.tv_program.specs.declared.check_fault.CheckFault.{CheckFault}
 use Rattle.tv_program.specs.declared.check_fault.CheckFault.TheVariants as checks
-use Rattle.tv_program.specs.Reading.{HasFaults, IsNoDescription, IsSoundText}
+use Rattle.tv_program.specs.Reading.{IsNoDescription, IsSoundText}
 use Rattle.tv_io.specs.Writer.{Seen, Takes, Cuts}
 
 -- the text of the certificate of a sound description

@@ -4,6 +4,8 @@ use Rattle.tv_building.specs.declared.fault.BuildFault.{BuildFault}
 use Rattle.tv_building.specs.declared.fault.BuildFault.TheVariants as unbuilt
 use Rattle.tv_check.specs.declared.acceptance.Refusal.{Refusal}
 use Rattle.tv_check.specs.declared.acceptance.Refusal.TheVariants as refusals
+use Rattle.tv_check.specs.declared.desc_fault.DescFault.{DescFault}
+use Rattle.tv_check.specs.declared.desc_fault.DescFault.TheVariants as descs
 use Rattle.tv_certificate.specs.declared.reading.CertificateFault.{CertificateFault}
 use Rattle.tv_certificate.specs.declared.reading.CertificateFault.TheVariants as certificates
 use Rattle.tv_lang.specs.declared.description.LangFault.{LangFault}
@@ -12,8 +14,6 @@ use Rattle.tv_program.specs.declared.accept_fault.AcceptFault.{AcceptFault}
 use Rattle.tv_program.specs.declared.accept_fault.AcceptFault.TheVariants as accepts
 use Rattle.tv_program.specs.declared.check_fault.CheckFault.{CheckFault}
 use Rattle.tv_program.specs.declared.check_fault.CheckFault.TheVariants as checks
-use Rattle.tv_program.specs.declared.desc_fault.DescFault.{DescFault}
-use Rattle.tv_program.specs.declared.desc_fault.DescFault.TheVariants as descs
 use Rattle.tv_program.specs.declared.fault.RunFault.{RunFault}
 use Rattle.tv_program.specs.declared.fault.RunFault.TheVariants as told
 use Rattle.tv_program.specs.declared.play_fault.PlayFault.{PlayFault}

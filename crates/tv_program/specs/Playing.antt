@@ -5,6 +5,7 @@ use Rattle.std.specs.Borrow.{Bor}
 use Rattle.tv_building.specs.declared.building.Views.{Views}
 use Rattle.tv_building.specs.declared.fault.BuildFault.{BuildFault}
 use Rattle.tv_building.specs.declared.fault.BuildFault.TheVariants as unbuilt
+use Rattle.tv_check.specs.Refusals.{HasFaults}
 use Rattle.tv_lang.specs.Faults.{Spells}
 use Rattle.tv_machine.specs.Run.{Session, started}
 use Rattle.tv_view.specs.Meaning.{Leaf}
@@ -15,7 +16,7 @@ use Rattle.tv_program.specs.declared.play_fault.PlayFault.{PlayFault}
 use Rattle.tv_program.specs.declared.play_fault.PlayFault.TheVariants.{NoMemory, Lang, Faults, View}
 use Rattle.tv_program.specs.Conversions.{stream_run}
 use Rattle.tv_program.specs.Laws.{RunsByLaws}
-use Rattle.tv_program.specs.Reading.{HasFaults, IsNoDescription, IsSoundText}
+use Rattle.tv_program.specs.Reading.{IsNoDescription, IsSoundText}
 use Rattle.tv_script.specs.declared.stream_fault.StreamFault.{StreamFault}
 use Rattle.tv_script.specs.Streams.{ComesFrom}
 use Rattle.tv_session.specs.Starting.{RefusesViews}

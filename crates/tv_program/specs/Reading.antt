@@ -1,13 +1,10 @@
 -- What is read of a description, and why it is refused.
-use Rattle.std.specs.Prelude.{◌≡◌, ◌≢◌, ℕ, List, []}
+use Rattle.std.specs.Prelude.{◌≢◌, ℕ, List}
 use Rattle.tv_lang.specs.declared.description.LangFault.{LangFault}
 use Rattle.tv_lang.specs.declared.description.LangFault.TheVariants as lang
 use Rattle.tv_lang.specs.Faults.{RefusesToParse, Spells}
 use Rattle.tv_model.specs.declared.desc.Desc.{Desc}
-use Rattle.tv_model.specs.declared.fault.Fault.{Fault}
-use Rattle.tv_model.specs.Faults.{IsSound, faults_of}
-use Rattle.tv_program.specs.declared.desc_fault.DescFault.{DescFault}
-use Rattle.tv_program.specs.declared.desc_fault.DescFault.TheVariants.{NoMemory, Faults}
+use Rattle.tv_model.specs.Faults.{IsSound}
 
 -- the text spells the description, and it is sound
 pub record IsSoundText (text : List ℕ) (d : Desc) : Type 0 where
@@ -17,12 +14,3 @@ pub record IsSoundText (text : List ℕ) (d : Desc) : Type 0 where
 -- the text spells no description, for a reason of its own
 abbrev pub IsNoDescription : List ℕ → LangFault → Type 0
 IsNoDescription text fault = RefusesToParse text fault × (fault ≢ lang.NoMemory)
-
--- the list has the description's faults, and isn't empty
-abbrev pub HasFaults : Desc → List Fault → Type 0
-HasFaults d list = (list ≡ faults_of d) × (list ≢ [])
-
--- the description has faults, or memory ran out
-abbrev pub IsFaulty : Desc → DescFault → Type 0
-IsFaulty d NoMemory = Unit {0}
-IsFaulty d (Faults list) = HasFaults d list

@@ -4,8 +4,8 @@ ghost use Rattle.std.specs.Prelude.{◌≡◌};
 ghost use Rattle.tv_program.specs.declared.check_fault.CheckFault.TheVariants.{NoMemory, Write};
 ghost use Rattle.tv_program.specs.Conversions.{desc_checked, lang_checked};
 
-use crate::desc_fault::DescFault;
 use std::alloc::AllocError;
+use tv_check::DescFault;
 use tv_io::WriteFailed;
 use tv_lang::LangFault;
 use tv_model::{Fault, Sequence};

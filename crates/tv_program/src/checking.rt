@@ -1,16 +1,14 @@
 //! Descriptions checked, and certificates accepted.
 
-ghost use Rattle.std.specs.Prelude.{◌≡◌, ℕ, List, IfOk, codes, string_bytes};
+ghost use Rattle.std.specs.Prelude.{ℕ, List};
 ghost use Rattle.tv_lang.specs.CanonicalDescription.{CanBeSpelled};
 ghost use Rattle.tv_lang.specs.Faults.{Spells};
-ghost use Rattle.tv_model.specs.Faults.{IsSound};
-ghost use Rattle.tv_program.specs.CheckRun.{AcceptsTo, ChecksTo, certificate_text};
+ghost use Rattle.tv_program.specs.CheckRun.{AcceptsTo, ChecksTo};
 
 use crate::accept_fault::AcceptFault;
 use crate::check_fault::CheckFault;
-use crate::reading::look_for_faults;
-use std::alloc::{AllocError, Global};
-use tv_check::{Certificate, CertifyFault, accept, certify};
+use std::alloc::Global;
+use tv_check::{Certificate, accept, examine};
 use tv_io::{Writer, write_all};
 use tv_lang::parse;
 use tv_model::Desc;
@@ -22,23 +20,11 @@ pub fn check<W: Writer>(alloc: Global, text: &[u8], out: &mut W) -> Result<(), C
     ensures { ChecksTo text.now (W.seen out.old) (W.seen out.new) result }
 {
     let desc = parse(alloc, text)?;
-    look_for_faults(alloc, &desc)?;
-    let certificate = print_certificate(alloc, &desc)?;
-    write_all(out, certificate.as_bytes())?;
+    let checked = examine(alloc, desc)?;
+    let certificate = checked.certificate(alloc)?;
+    let printed = certificate.print(alloc)?;
+    write_all(out, printed.as_bytes())?;
     Ok(())
-}
-
-// The text of the certificate of a sound description.
-fn print_certificate(alloc: Global, desc: &Desc) -> Result<String, AllocError>
-    requires spelled { CanBeSpelled desc.now }
-    requires sound { IsSound desc.now }
-    ensures { IfOk result (λ text. string_bytes text ≡ certificate_text desc.now) }
-{
-    match certify(alloc, desc) {
-        Ok(certificate) => certificate.print(alloc),
-        Err(CertifyFault::NoMemory) => Err(AllocError),
-        Err(CertifyFault::Faulty(_)) => unreachable!(),
-    }
 }
 
 /// Writes `accepted` where the description is sound and the certificate is sound for it.

@@ -4,19 +4,15 @@
 mod accept_fault;
 mod check_fault;
 mod checking;
-mod desc_fault;
 mod fault;
 mod message;
 mod play_fault;
 mod playing;
-mod reading;
 
 pub use accept_fault::AcceptFault;
 pub use check_fault::CheckFault;
 pub use checking::{accept_files, accept_text, check};
-pub use desc_fault::DescFault;
 pub use fault::RunFault;
 pub use message::report;
 pub use play_fault::PlayFault;
 pub use playing::{read_checked, run, run_from};
-pub use reading::look_for_faults;

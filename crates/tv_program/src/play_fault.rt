@@ -4,9 +4,9 @@ ghost use Rattle.std.specs.Prelude.{◌≡◌};
 ghost use Rattle.tv_program.specs.declared.play_fault.PlayFault.TheVariants.{NoMemory};
 ghost use Rattle.tv_program.specs.Conversions.{build_run, desc_run, lang_run, session_run, stream_run};
 
-use crate::desc_fault::DescFault;
 use std::alloc::AllocError;
 use tv_building::BuildFault;
+use tv_check::DescFault;
 use tv_lang::LangFault;
 use tv_model::{Fault, Sequence};
 use tv_script::{ScriptFault, StreamFault};

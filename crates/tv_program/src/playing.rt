@@ -1,21 +1,17 @@
 //! A script performed on a description, as it comes.
 
-ghost use Rattle.std.specs.Prelude.{◌≡◌, IfErr, IfOk, List, ℕ};
-ghost use Rattle.tv_lang.specs.CanonicalDescription.{CanBeSpelled};
+ghost use Rattle.std.specs.Prelude.{IfErr, IfOk, List, ℕ};
 ghost use Rattle.tv_machine.specs.Run.{started};
-ghost use Rattle.tv_model.specs.Faults.{IsSound};
 ghost use Rattle.tv_program.specs.Playing.{IsLawfulText, IsMismade, IsNoStart, Makes, RefusesDesc, RunsTo};
 ghost use Rattle.tv_program.specs.Reading.{IsSoundText};
 ghost use Rattle.tv_session.specs.Session.{StandsFor};
 
 use crate::play_fault::PlayFault;
-use crate::reading::look_for_faults;
-use std::alloc::{AllocError, Global};
+use std::alloc::Global;
 use tv_building::{BuildFault, Views, parts_are_lawful};
-use tv_check::{CertifyFault, Checked, Refusal, accept, certify};
+use tv_check::{Checked, examine};
 use tv_io::{Reader, Writer};
 use tv_lang::parse;
-use tv_model::Desc;
 use tv_script::perform_from;
 use tv_session::SessionOf;
 use tv_view::View;
@@ -89,27 +85,7 @@ pub fn read_checked(alloc: Global, text: &[u8]) -> Result<Checked, PlayFault>
     ensures fault { IfErr result (λ fault. RefusesDesc text.now fault) }
 {
     let desc = parse(alloc, text)?;
-    look_for_faults(alloc, &desc)?;
-    let checked = accept_sound(alloc, desc)?;
-    Ok(checked)
-}
-
-// Makes the certificate of a sound description, and returns what the checker gives for both.
-fn accept_sound(alloc: Global, desc: Desc) -> Result<Checked, AllocError>
-    requires spelled { CanBeSpelled desc }
-    requires sound { IsSound desc }
-    ensures { IfOk result (λ checked. checked ≡ desc) }
-{
-    let certificate = match certify(alloc, &desc) {
-        Ok(certificate) => certificate,
-        Err(CertifyFault::NoMemory) => return Err(AllocError),
-        Err(CertifyFault::Faulty(_)) => unreachable!(),
-    };
-    match accept(alloc, desc, &certificate) {
-        Ok(checked) => Ok(checked),
-        Err((Refusal::NoMemory, _)) => Err(AllocError),
-        Err(_) => unreachable!(),
-    }
+    Ok(examine(alloc, desc)?)
 }
 
 // Begins a run through the views that are made for the description.
