@@ -1,5 +1,6 @@
 pub mod DialogLemmas
 pub mod FirstLemmas
+pub mod FirstOwnerLemmas
 pub mod MadeLemmas
 pub mod OwnerLemmas
 pub mod PlanLemmas

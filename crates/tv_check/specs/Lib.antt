@@ -1,4 +1,5 @@
 pub mod Certificates
 pub mod Lent
+pub mod Owners
 pub mod Plan
 pub mod Refusals

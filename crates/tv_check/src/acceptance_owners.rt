@@ -6,10 +6,11 @@ ghost use Rattle.tv_check.specs.Certificates.{key_lines, NamesOwner, NamesOwners
 ghost use Rattle.tv_check.specs.Lent.{lent_owner};
 ghost use Rattle.tv_check.specs.Refusals.{IsFirstOwner, IsFirstWithout};
 
-use crate::owner::{Owner, owner_of};
+use crate::owner::Owner;
+use crate::owners::Owners;
 use std::alloc::{AllocError, Global};
 use tv_certificate::{Block, KeyLine, letters};
-use tv_model::{Desc, Dialog};
+use tv_model::Desc;
 
 // The key lines of the dialog of this name.
 fn key_lines<'a>(
@@ -54,11 +55,11 @@ fn names_owner(lines: &[&KeyLine], letter: char, owner: Option<Owner>) -> bool
 }
 
 // The first letter that doesn't have its owner.
-fn first_letter(lines: &[&KeyLine], dialog: &Dialog) -> Option<char>
-    ensures { MatchOption result (All (NamesOwner (map (λ line. line.now) lines.now) dialog.now) letters) (IsFirstWithout (NamesOwner (map (λ line. line.now) lines.now) dialog.now) letters) }
+fn first_letter(lines: &[&KeyLine], owners: &Owners) -> Option<char>
+    ensures { MatchOption result (All (NamesOwner (map (λ line. line.now) lines.now) owners.now) letters) (IsFirstWithout (NamesOwner (map (λ line. line.now) lines.now) owners.now) letters) }
 {
     for letter in letters() {
-        if !names_owner(lines, *letter, owner_of(dialog, *letter)) {
+        if !names_owner(lines, *letter, owners.owner(*letter)) {
             return Some(*letter);
         }
     }
@@ -72,7 +73,8 @@ pub fn first_owner(alloc: Global, desc: &Desc, blocks: &[Block]) -> Result<Optio
 {
     for dialog in desc.dialogs.as_slice() {
         let lines = key_lines(alloc, blocks, dialog.head().name.as_slice())?;
-        if let Some(letter) = first_letter(&lines, dialog) {
+        let owners = Owners::new(alloc, dialog)?;
+        if let Some(letter) = first_letter(&lines, &owners) {
             return Ok(Some(letter));
         }
     }

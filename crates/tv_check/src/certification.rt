@@ -12,7 +12,8 @@ ghost use Rattle.tv_lang.specs.CanonicalDescription.{CanBeSpelled};
 ghost use Rattle.tv_check.specs.Refusals.{IsFirstFault, RefusesToCertify};
 
 use crate::acceptance::Checked;
-use crate::owner::{Owner, owner_of};
+use crate::owner::Owner;
+use crate::owners::Owners;
 use std::alloc::{AllocError, Global};
 use thiserror::Error;
 use tv_certificate::{Block, Certificate, KeyLine, letters};
@@ -78,13 +79,13 @@ fn key_line(alloc: Global, letter: char, owner: &Owner) -> Result<KeyLine, Alloc
     })
 }
 
-fn keys_of(alloc: Global, dialog: &Dialog) -> Result<Sequence<KeyLine>, AllocError>
-    requires { HasLawfulCounts dialog.now }
-    ensures { IfOk result (λ keys. keys ≡ keys_of dialog.now) }
+fn keys_of(alloc: Global, owners: &Owners) -> Result<Sequence<KeyLine>, AllocError>
+    requires { HasLawfulCounts owners.now }
+    ensures { IfOk result (λ keys. keys ≡ keys_of owners.now) }
 {
     let mut keys = Sequence::new(alloc);
     for letter in letters() {
-        if let Some(owner) = owner_of(dialog, *letter) {
+        if let Some(owner) = owners.owner(*letter) {
             keys.push(key_line(alloc, *letter, &owner)?)?;
         }
     }
@@ -95,10 +96,11 @@ fn block_of(alloc: Global, dialog: &Dialog) -> Result<Block, AllocError>
     requires { HasLawfulCounts dialog.now }
     ensures { IfOk result (λ block. block ≡ block_of dialog.now) }
 {
+    let owners = Owners::new(alloc, dialog)?;
     Ok(Block {
         dialog: copy(alloc, &dialog.head().name)?,
         tabs: tabs_of(alloc, dialog)?,
-        keys: keys_of(alloc, dialog)?,
+        keys: keys_of(alloc, &owners)?,
     })
 }
 

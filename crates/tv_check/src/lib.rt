@@ -7,6 +7,7 @@ mod acceptance_tabs;
 mod certification;
 mod desc_fault;
 mod owner;
+mod owners;
 mod plan;
 
 pub use acceptance::{Checked, Refusal, accept, examine};

@@ -8,15 +8,15 @@ use Rattle.tv_check.proofs.acceptance_owners.first_letter.Goals as goal
 pub returns-then-not-names_owner : goal.returns-then-not-names_owner
 returns-then-not-names_owner c =
     let no : c.names_owner.result ≡ false = search rules in
-    stops_here (NamesOwner (map (λ line. line.now) c.args.lines.now) c.args.dialog.now) c.letters-letter-items.result.now letters c.loop-letter.letter-index c.letter-item.result
+    stops_here (NamesOwner (map (λ line. line.now) c.args.lines.now) c.args.owners.now) c.letters-letter-items.result.now letters c.loop-letter.letter-index c.letter-item.result
     c.letters-letter-items.ensures c.loop-letter-test.true c.letter-item.is c.loop-letter.invariant (λ named. iff_false c.names_owner.ensures no (search rules))
 
 pub loop-letter-preserved : goal.loop-letter-preserved
 loop-letter-preserved c =
-    goes_on (NamesOwner (map (λ line. line.now) c.args.lines.now) c.args.dialog.now) c.letters-letter-items.result.now c.loop-letter.letter-index c.letter-item.result
+    goes_on (NamesOwner (map (λ line. line.now) c.args.lines.now) c.args.owners.now) c.letters-letter-items.result.now c.loop-letter.letter-index c.letter-item.result
     c.loop-letter-test.true c.letter-item.is c.loop-letter.invariant (search rules)
 
 pub returns : goal.returns
 returns c =
-    gone (NamesOwner (map (λ line. line.now) c.args.lines.now) c.args.dialog.now) c.letters-letter-items.result.now letters c.loop-letter.letter-index
+    gone (NamesOwner (map (λ line. line.now) c.args.lines.now) c.args.owners.now) c.letters-letter-items.result.now letters c.loop-letter.letter-index
     c.letters-letter-items.ensures (omega (arith, c.loop-letter-test.false)) c.loop-letter.invariant

@@ -10,7 +10,9 @@ returns-in-Some c =
     let blocks = c.args.blocks.now in
     let dialog = c.dialog-item.result in
     let lines : map (λ line. line.now) c.deref.result.now ≡ key_lines blocks (dialog_name dialog) = search rules in
-    let first : IsFirstWithout (NamesOwner (key_lines blocks (dialog_name dialog)) dialog) letters c.in-Some.letter = subst (λ ls. IsFirstWithout (NamesOwner ls dialog) letters c.in-Some.letter) lines c.in-Some.ensures in (
+    let first : IsFirstWithout (NamesOwner (key_lines blocks (dialog_name dialog)) dialog) letters c.in-Some.letter =
+    subst (λ ls. IsFirstWithout (NamesOwner ls dialog) letters c.in-Some.letter) lines
+    (subst (λ owned. IsFirstWithout (NamesOwner (map (λ line. line.now) c.deref.result.now) owned) letters c.in-Some.letter) c.in_ok-owners.ensures c.in-Some.ensures) in (
       dialog,
       stops_here (NamesOwners blocks) c.as_slice-dialog-items.result.now c.args.desc.now.dialogs c.loop-dialog.dialog-index dialog
           c.as_slice-dialog-items.ensures c.loop-dialog-test.true c.dialog-item.is c.loop-dialog.invariant
@@ -24,7 +26,8 @@ loop-dialog-preserved c =
     let dialog = c.dialog-item.result in
     let lines : map (λ line. line.now) c.deref.result.now ≡ key_lines blocks (dialog_name dialog) = search rules in
     goes_on (NamesOwners blocks) c.as_slice-dialog-items.result.now c.loop-dialog.dialog-index dialog c.loop-dialog-test.true c.dialog-item.is c.loop-dialog.invariant
-    (subst (λ ls. All (NamesOwner ls dialog) letters) lines c.in_default.ensures)
+    (subst (λ ls. All (NamesOwner ls dialog) letters) lines
+    (subst (λ owned. All (NamesOwner (map (λ line. line.now) c.deref.result.now) owned) letters) c.in_ok-owners.ensures c.in_default.ensures))
 
 pub returns : goal.returns
 returns c =

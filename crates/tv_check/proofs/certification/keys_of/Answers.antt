@@ -8,6 +8,6 @@ use Rattle.tv_check.proofs.certification.keys_of.Goals as goal
 
 pub key_line-requires : goal.key_line-requires
 key_line-requires c =
-    let fit : AllByRecursion FitsKeyLine (option_to_list (option_map lent_owner c.owner_of.result)) = subst (AllByRecursion FitsKeyLine) (sym c.owner_of.ensures) (owners_fit c.args.dialog.now c.letter-item.result c.requires) in
+    let fit : AllByRecursion FitsKeyLine (option_to_list (option_map lent_owner c.owner.result)) = subst (AllByRecursion FitsKeyLine) (sym c.owner.ensures) (owners_fit c.args.owners.now c.letter-item.result c.requires) in
     let here = rw c.in-Some.is at fit in
     here.0
