@@ -1,3 +1,4 @@
+pub mod EndLemmas
 pub mod FileLemmas
 pub mod ReadingLemmas
 pub mod TaskLemmas

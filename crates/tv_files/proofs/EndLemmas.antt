@@ -1,0 +1,62 @@
+-- What the program's end says where less is said of views that are refused.
+use Rattle.std.proofs.Common.{ℕ, List, Result, Ok, Err}
+use Rattle.tv_io.specs.Reader.{Given}
+use Rattle.tv_io.specs.Writer.{Seen}
+use Rattle.tv_machine.specs.Run.{Session}
+use Rattle.tv_model.specs.declared.desc.Desc.{Desc}
+use Rattle.tv_program.specs.declared.play_fault.PlayFault.{PlayFault}
+use Rattle.tv_program.specs.declared.play_fault.PlayFault.TheVariants as runs
+use Rattle.tv_program.specs.Playing.{IsNoStart, RunsTo}
+use Rattle.tv_program.specs.Playing.RunsTo.{refused, unbegun, stopped, done as done_run}
+use Rattle.tv_program.specs.Reading.{IsSoundText}
+use Rattle.tv_files.specs.declared.no_task.NoTask.{NoTask}
+use Rattle.tv_files.specs.declared.task.Task.{Task}
+use Rattle.tv_files.specs.declared.task.Task.TheVariants.{Check, Accept, Run}
+use Rattle.tv_files.specs.Ends.{End}
+use Rattle.tv_files.specs.EndsWith.{EndsWith, World}
+use Rattle.tv_files.specs.Files.{Known}
+use Rattle.tv_files.specs.Tasks.{PerformsTask, RunsFiles}
+use Rattle.tv_files.specs.Tasks.OnStream.{unopened, beside, unread, done}
+
+module _ (P Q : Desc → Type 0) (weaker : (text : List ℕ) (d : Desc) → IsSoundText text d → P d → Q d) where
+  -- why no run was begun
+  IsNoStart-weaker : (text : List ℕ) (d : Desc) (fault : PlayFault) → IsSoundText text d → IsNoStart P d fault → IsNoStart Q d fault
+  IsNoStart-weaker text d runs.NoMemory sound why = tt
+  IsNoStart-weaker text d runs.View sound why = weaker text d sound why
+  IsNoStart-weaker text d (runs.Lang fault) sound why = absurd why
+  IsNoStart-weaker text d (runs.Faults list) sound why = absurd why
+  IsNoStart-weaker text d (runs.Script fault) sound why = absurd why
+  IsNoStart-weaker text d runs.Read sound why = absurd why
+  IsNoStart-weaker text d runs.Write sound why = absurd why
+
+  -- what a run comes to
+  RunsTo-weaker : {T : Type 0} (Stands : T → Session → Type 0) (text : List ℕ) (reader left : Given) (old new : Seen) (r : Result T PlayFault) → RunsTo P Stands text reader left old new r → RunsTo Q Stands text reader left old new r
+  RunsTo-weaker Stands text reader left old new r (refused fault is untouched told) = refused fault is untouched told
+  RunsTo-weaker Stands text reader left old new r (unbegun d fault read why untouched told) =
+      unbegun d fault read (IsNoStart-weaker text d fault read why) untouched told
+  RunsTo-weaker Stands text reader left old new r (stopped d fault read comes told) = stopped d fault read comes told
+  RunsTo-weaker Stands text reader left old new r (done_run d run read comes told) = done_run d run read comes told
+
+  -- what running two files comes to
+  RunsFiles-weaker : (files after : Known) (file script : List ℕ) (old new : Seen) (end : End) → RunsFiles P files after file script old new end → RunsFiles Q files after file script old new end
+  RunsFiles-weaker files after file script old new end (unopened is same) = unopened is same
+  RunsFiles-weaker files after file script old new end (beside is same) = beside is same
+  RunsFiles-weaker files after file script old new end (unread is same) = unread is same
+  RunsFiles-weaker files after file script old new end (done text reader left gives is came) =
+      done text reader left gives is (came.0, RunsTo-weaker _ text reader left old new came.0 came.1, came.2)
+
+  -- what a task comes to
+  Performs-weaker : (task : Task) (files after : Known) (old new : Seen) (end : End) → PerformsTask P task files after old new end → PerformsTask Q task files after old new end
+  Performs-weaker (Check file) files after old new end came = came
+  Performs-weaker (Accept file certificate) files after old new end came = came
+  Performs-weaker (Run file script) files after old new end came = RunsFiles-weaker files after file.now script.now old new end came
+
+  -- how the program ends
+  pub EndsWith-weaker : (asked : Result Task NoTask) (old new : World) (status : ℕ) → EndsWith P asked old new status → EndsWith Q asked old new status
+  EndsWith-weaker (Ok task) old new status ends =
+      (ends.0, ends.1, Performs-weaker task old.files new.files old.out ends.1 ends.0 ends.2, ends.3)
+  EndsWith-weaker (Err no_task) old new status ends = ends
+
+-- the same, where nothing is said of them
+pub EndsWith-any : (P : Desc → Type 0) (asked : Result Task NoTask) (old new : World) (status : ℕ) → EndsWith P asked old new status → EndsWith (λ d. Unit {0}) asked old new status
+EndsWith-any P asked old new status ends = EndsWith-weaker P (λ d. Unit {0}) (λ text d sound mismade. tt) asked old new status ends
