@@ -1,26 +1,72 @@
 //! The views of a run: the toolkit's own controls, each in a box.
 
-ghost use Rattle.tv_model.specs.Description.LawfulNodes.{IsLawfulNode};
+ghost use Rattle.std.specs.Prelude.{◌≡◌, IfErr, IfOk, Result};
+ghost use Rattle.tv_building.specs.declared.fault.BuildFault.TheVariants.{NoMemory, WrongPlan};
+ghost use Rattle.tv_files.specs.EndsWith.{EndsWith};
+ghost use Rattle.tv_files.specs.declared.no_task.NoTask.{NoTask as WhyNone};
+ghost use Rattle.tv_files.specs.declared.task.Task.{Task as Wanted};
+ghost use Rattle.tvdlg.specs.Asking.{IsAskedBy};
+ghost use Rattle.tvdlg.specs.Controls.{leaf_of};
 
+use crate::control::{Control, control_of};
 use std::alloc::Global;
 use tv_building::{BuildFault, Building, Views};
 use tv_check::{BuildStep, Checked};
-use tv_choices::{CheckBoxes, ListBox, RadioButtons};
-use tv_command_line::{NoTask, Task};
-use tv_controls::{Button, InputLine, Label, StaticText};
+use tv_command_line::{NoTask, Task, read_task};
 use tv_files::{FileStore, Stream, run_program};
 use tv_leaf::ControlFault;
-use tv_model::{Kind, Node};
 use tv_view::View;
 
-/// Carries out what is asked for, as `run_program` says, with the toolkit's own controls where a description is run.
-pub fn run_with_boxes<F: FileStore, O: Stream, E: Stream>(
+/// Carries out what the words of a command line ask for, or tells why there are none. Returns the program's status.
+pub fn run_main<F: FileStore, O: Stream, E: Stream>(
+    files: &mut F,
+    alloc: Global,
+    words: Result<Vec<String>, NoTask>,
+    out: &mut O,
+    err: &mut E,
+) -> u8
+    ensures { (asked : Result Wanted WhyNone) × IsAskedBy words asked × EndsWith (λ _. Unit {0}) asked
+        (record { files = F.known files.old; out = O.seen out.old; out_kept = O.kept_back out.old; err = E.seen err.old; err_kept = E.kept_back err.old })
+        (record { files = F.known files.new; out = O.seen out.new; out_kept = O.kept_back out.new; err = E.seen err.new; err_kept = E.kept_back err.new })
+        result }
+{
+    match words {
+        Ok(words) => {
+            let asked = read_task(alloc, words.as_slice());
+            run_with_boxes(files, alloc, asked, out, err)
+        }
+        Err(no_task) => run_with_boxes(files, alloc, Err(no_task), out, err),
+    }
+}
+
+// Carries out what is asked for, as `run_program` says, with the toolkit's own controls, each in a box, where a description is
+// run.
+fn run_with_boxes<F: FileStore, O: Stream, E: Stream>(
     files: &mut F,
     alloc: Global,
     asked: Result<Task<'_>, NoTask>,
     out: &mut O,
     err: &mut E,
-) -> u8 {
+) -> u8
+    ensures { EndsWith (λ _. Unit {0}) asked.entry
+        (record { files = F.known files.old; out = O.seen out.old; out_kept = O.kept_back out.old; err = E.seen err.old; err_kept = E.kept_back err.old })
+        (record { files = F.known files.new; out = O.seen out.new; out_kept = O.kept_back out.new; err = E.seen err.new; err_kept = E.kept_back err.new })
+        result }
+{
+    let boxed = |alloc: Global, control: Control| -> Result<Box<dyn View>, BuildFault>
+        ensures same { IfOk result (λ view. (View-box view).meaning view.value ≡ leaf_of control) }
+        ensures refused { IfErr result (λ fault. fault ≡ NoMemory) }
+    {
+        match control {
+            Control::Text(text) => Ok(Box::new(alloc, text)?),
+            Control::Label(label) => Ok(Box::new(alloc, label)?),
+            Control::Button(button) => Ok(Box::new(alloc, button)?),
+            Control::Input(line) => Ok(Box::new(alloc, line)?),
+            Control::CheckBoxes(boxes) => Ok(Box::new(alloc, boxes)?),
+            Control::RadioButtons(radios) => Ok(Box::new(alloc, radios)?),
+            Control::List(list) => Ok(Box::new(alloc, list)?),
+        }
+    };
     let views = |alloc: Global, checked: &Checked| -> Result<Views<Box<dyn View>>, BuildFault> {
         let plan = checked.build_plan(alloc)?;
         let mut building: Building<Box<dyn View>> = Building::new(alloc);
@@ -28,19 +74,8 @@ pub fn run_with_boxes<F: FileStore, O: Stream, E: Stream>(
             match step {
                 BuildStep::Open(node) => building.begin(alloc, node)?,
                 BuildStep::Leaf(node) => {
-                    let view: Box<dyn View> = match node.kind {
-                        Kind::Text(_) => boxed_text(alloc, node)?,
-                        Kind::Label(_) => boxed(alloc, Label::new(alloc, node))?,
-                        Kind::Button(_) => boxed(alloc, Button::new(alloc, node))?,
-                        Kind::Input(_) => boxed(alloc, InputLine::new(alloc, node))?,
-                        Kind::CheckBoxes(_) => boxed(alloc, CheckBoxes::new(alloc, node))?,
-                        Kind::RadioButtons(_) => boxed(alloc, RadioButtons::new(alloc, node))?,
-                        Kind::List(_) => boxed(alloc, ListBox::new(alloc, node))?,
-                        Kind::Window(_) | Kind::Dialog(_) | Kind::Pane(_) => {
-                            return Err(BuildFault::WrongPlan);
-                        }
-                    };
-                    building.add(view)?;
+                    let control = unless_unbuilt(control_of(alloc, node))?;
+                    building.add(boxed(alloc, control)?)?;
                 }
                 BuildStep::Close => building.end()?,
             }
@@ -50,18 +85,14 @@ pub fn run_with_boxes<F: FileStore, O: Stream, E: Stream>(
     run_program(files, alloc, asked, &views, out, err)
 }
 
-// A view in a box of its own, where one was made.
-fn boxed<V: View>(alloc: Global, made: Result<V, ControlFault>) -> Result<Box<V>, BuildFault> {
+// Returns the control, or why no views are put together without it.
+fn unless_unbuilt(made: Result<Control, ControlFault>) -> Result<Control, BuildFault>
+    ensures same { IfOk result (λ control. made ≡ Ok control) }
+    ensures refused { IfErr result (λ fault. fault ≡ WrongPlan → made ≡ Err ControlFault.WrongKind) }
+{
     match made {
-        Ok(view) => Ok(Box::new(alloc, view)?),
+        Ok(control) => Ok(control),
         Err(ControlFault::NoMemory) => Err(BuildFault::NoMemory),
         Err(ControlFault::WrongKind) => Err(BuildFault::WrongPlan),
     }
-}
-
-// A static text in a box of its own.
-fn boxed_text(alloc: Global, node: &Node) -> Result<Box<StaticText>, BuildFault>
-    requires { IsLawfulNode node.now }
-{
-    boxed(alloc, StaticText::new(alloc, node))
 }

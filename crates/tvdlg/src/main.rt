@@ -1,13 +1,18 @@
 //! Checks descriptions of text-mode dialogs, and runs them on scripts of keys and mouse events.
 #![tactic(auto)]
 
-mod boxing;
+ghost use Rattle.std.specs.IoError.{error_kind};
+ghost use Rattle.tvdlg.specs.Asking.{TellsNoWords};
 
-use boxing::run_with_boxes;
+mod boxing;
+mod control;
+
+use boxing::run_main;
+use std::alloc::Global;
 use std::process::ExitCode;
 use std::rt::Env;
 use std::{env, io};
-use tv_command_line::{NoTask, read_task};
+use tv_command_line::NoTask;
 use tv_files::{BufferedStream, DirectStream, RuntimeFiles, tell_no_memory};
 
 fn main(rt: HostRuntime) -> ExitCode {
@@ -19,21 +24,23 @@ fn main(rt: HostRuntime) -> ExitCode {
         return ExitCode::from(tell_no_memory(&mut DirectStream::new(rt.stderr())));
     };
     let mut files = RuntimeFiles::new(&rt);
-    let status = match words(&rt) {
-        Ok(words) => {
-            let asked = read_task(alloc, words.as_slice());
-            run_with_boxes(&mut files, alloc, asked, &mut out, &mut err)
-        }
-        Err(no_task) => run_with_boxes(&mut files, alloc, Err(no_task), &mut out, &mut err),
-    };
-    ExitCode::from(status)
+    ExitCode::from(run_main(&mut files, alloc, words(&rt), &mut out, &mut err))
 }
 
-// The words of the command line. Where one isn't text, the message is empty.
+// The words of the command line, of which the first names the program.
 fn words<R: Env + AllocGlobal>(rt: &R) -> Result<Vec<String>, NoTask> {
     match env::args(rt) {
         Ok(words) => Ok(words.collect::<Vec<String>>(rt.alloc())?),
-        Err(error) if error.kind() == io::ErrorKind::OutOfMemory => Err(NoTask::NoMemory),
-        Err(_) => Err(NoTask::Usage(String::new(rt.alloc()))),
+        Err(error) => Err(no_words(rt.alloc(), &error)),
+    }
+}
+
+// Tells why the words aren't there. Where one isn't text, the message is empty.
+fn no_words(alloc: Global, error: &io::Error) -> NoTask
+    ensures { TellsNoWords (error_kind error.now) result }
+{
+    match error.kind() {
+        io::ErrorKind::OutOfMemory => NoTask::NoMemory,
+        _ => NoTask::Usage(String::new(alloc)),
     }
 }
