@@ -14,6 +14,7 @@ ghost use Rattle.tv_session.specs.Session.{StandsFor};
 ghost use Rattle.tv_session.specs.declared.fault.SessionFault.TheVariants.{NoMemory};
 ghost use Rattle.tv_session.specs.Starting.{CanStart, RefusesViews, start_place};
 
+use crate::colours::Colours;
 use crate::fault::SessionFault;
 use crate::freshness::first_mismatch;
 use crate::log::Log;
@@ -194,6 +195,7 @@ impl<V: View> SessionOf<V> {
             bar: parts.bar,
             is_over: false,
             log: Log::new(),
+            colours: Colours::new(),
         };
         let mut screen = parts.screen;
         let desc = checked.desc();

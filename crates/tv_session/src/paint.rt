@@ -19,7 +19,7 @@ use tv_event::CommandSet;
 use tv_faces::{Background, natural};
 use tv_menu::StatusLine;
 use tv_model::Desc;
-use tv_palette::{Chain, Owner};
+use tv_palette::Owner;
 use tv_view::{Env, View};
 
 /// Returns the rows between the menu bar and the status line.
@@ -83,11 +83,10 @@ impl<V: View> RunOf<V> {
         ensures { (s : State) → IsRun V.meaning desc.now s self.now
             → Lays (stack_layers desc.now (is_none s.dialog) s.windows) screen.old screen.new }
     {
-        let chain = Chain::of_window();
         let commands = CommandSet::all();
         let env = Env {
             owner: Owner::Window,
-            chain: &chain,
+            chain: self.colours.chain(),
             views: &[],
             commands: &commands,
             focus: None,

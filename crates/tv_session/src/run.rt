@@ -1,5 +1,6 @@
 //! What changes while a run goes on.
 
+use crate::colours::Colours;
 use crate::log::Log;
 use tv_dialogs::DialogsOf;
 use tv_menu::MenuBar;
@@ -15,4 +16,6 @@ pub(crate) struct RunOf<V> {
     /// Whether the run is over, after `quit`.
     pub(crate) is_over: bool,
     pub(crate) log: Log,
+    /// Those of windows, which stay.
+    pub(crate) colours: Colours,
 }
