@@ -39,7 +39,7 @@ pub fn run_on<R: Reader, W: Writer>(
     journal: Option<&Rc<Journal>>,
     out: &mut W,
 ) -> Result<(), PlayFault> {
-    let make = |alloc: Global, checked: &Checked| views(alloc, checked, journal);
+    let make = move |alloc: Global, checked: &Checked| views(alloc, checked, journal);
     run(alloc, desc.as_bytes(), script, &make, out)?;
     Ok(())
 }
