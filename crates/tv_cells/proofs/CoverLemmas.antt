@@ -16,13 +16,13 @@ pub record Spans (p : Picture) (clip : Rect) (left top right bottom : ℤ) (area
 
 module _ {c : Canvas} {p : Picture} {area : Area} {left right top bottom : ℤ} (r : Rect) (spans : Spans p c.clip left top right bottom area)
     (a : left ≡ (r.a.x +ℤ c.origin.x)) (b : right ≡ (r.b.x +ℤ c.origin.x)) (d : top ≡ (r.a.y +ℤ c.origin.y)) (e : bottom ≡ (r.b.y +ℤ c.origin.y)) where
-  area_covered : (column row : ℕ) → IsOn p column row → IsInArea area column row → Covers c r column row
+  pub area_covered : (column row : ℕ) → IsOn p column row → IsInArea area column row → Covers c r column row
   area_covered column row on i = let x = (spans.places column row on).0 i in record {
     clip = x.0;
     rect = record { after_left = rw (← a) x.1; before_right = rw (← b) x.2; after_top = rw (← d) x.3; before_bottom = rw (← e) x.4 };
   }
 
-  covered_area : (column row : ℕ) → IsOn p column row → Covers c r column row → IsInArea area column row
+  pub covered_area : (column row : ℕ) → IsOn p column row → Covers c r column row → IsInArea area column row
   covered_area column row on i = (spans.places column row on).1 (i.clip, rw a i.rect.after_left, rw b i.rect.before_right, rw d i.rect.after_top, rw e i.rect.before_bottom)
 
   -- when the rows have come to the end

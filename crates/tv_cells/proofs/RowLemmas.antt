@@ -1,5 +1,5 @@
 -- Rows of a picture that are written at once.
-use Rattle.std.proofs.Common.{◌≡◌, ℕ, ℤ, pos, negsuc, suc, ◌+◌, ◌-◌, ◌*◌, ◌<◌, ◌≤◌, ◌≤ℤ◌, List, ◌++◌, length, take, drop, slice_index_or, refl, ap, ◌∙◌, ◌⊎◌, arith, inl, inr, rules}
+use Rattle.std.proofs.Common.{◌≡◌, ℕ, ℤ, pos, negsuc, suc, ◌+◌, ◌-◌, ◌*◌, ◌<◌, ◌≤◌, ◌≤ℤ◌, List, ◌++◌, length, take, drop, slice_index_or, refl, sym, ap, ◌∙◌, ◌⊎◌, arith, inl, inr, rules}
 use Rattle.std.specs.Int.{int_gap}
 use Rattle.std.proofs.lemmas.Bool.{cases_lt}
 use Rattle.std.proofs.lemmas.Int.{ints}
@@ -9,7 +9,7 @@ use borrow.Rule.Slice.PartMut.{put_mid, post_of}
 use Rattle.tv_cells.specs.Glyph.{Glyph, blank, shaded}
 use Rattle.tv_cells.specs.Picture.{Picture, IsOn, Changes, cell_at}
 use Rattle.tv_cells.specs.Canvas.{IsInArea}
-use Rattle.tv_cells.specs.Row.{IsRow, IsInRow}
+use Rattle.tv_cells.specs.Row.{IsRow, IsInRow, IsInRows}
 use Rattle.tv_cells.specs.declared.canvas.Area.{Area}
 use Rattle.tv_cells.proofs.ChangeLemmas.{changes_both, changes_none}
 
@@ -123,6 +123,63 @@ changes_painted p row left right from ys face full across down count is =
     changes_written p row left right ys (λ column _ _. face (from + (column - left))) full across down long
     (λ i lt. let there : i ≡ left + i - left = omega arith in is.each i (omega (arith, long, lt)) ∙ ap (λ j. face (from + j)) there)
 
+-- the cells of the row above
+pub changes_copied : (p : Picture) (row left right : ℕ) (ys : List Glyph) → length p.cells ≡ p.width * p.height
+    → (left ≤ right) × (right ≤ p.width) → (0 < row) × (row < p.height)
+    → ys ≡ take ((row - 1) * p.width + left + (right - left) - ((row - 1) * p.width + left)) (drop ((row - 1) * p.width + left) (take (row * p.width + left) p.cells))
+    → Changes (IsInRow left right row) (λ column _ _. cell_at p column (row - 1)) p
+    (record { width = p.width; height = p.height; cells = take (row * p.width + left) p.cells ++ (ys ++ drop (right - left) (drop (row * p.width + left) p.cells)) })
+changes_copied p row left right ys full across down is =
+    let start = row * p.width + left in
+    let above = (row - 1) * p.width + left in
+    let count : row * p.width + right - start ≡ right - left = omega arith in
+    let few : above + (right - left) - above ≡ right - left = omega arith in
+    let up : suc (row - 1) ≡ row = omega (arith, down.0) in
+    let rows : suc (row - 1) * p.width ≡ row * p.width = ap (λ (r : ℕ). r * p.width) up in
+    let last : suc row * p.width ≤ p.height * p.width = mul-le-mul_right p.width down.1 in
+    let front : length (take start p.cells) ≡ start = taken start p.cells (omega (arith, last, full, across.0, across.1)) in
+    let long : length ys ≡ right - left = rw (is, few) (part_long above (right - left) (take start p.cells) (omega (arith, front, rows, across.0, across.1))) in
+    rw count at (changes_written p row left right ys (λ column _ _. cell_at p column (row - 1)) full across down.1 long
+    (λ i lt.
+    let there : above + i ≡ (row - 1) * p.width + (left + i) = omega arith in
+    rw (is, few) (get_or-take (right - left) (drop above (take start p.cells)) i blank lt
+    ∙ (get_or-drop above (take start p.cells) i blank
+    ∙ (get_or-take start p.cells (above + i) blank (omega (arith, lt, rows, across.1))
+    ∙ ap (λ j. slice_index_or p.cells j blank) there)))))
+
+-- whole rows of one cell
+abbrev pub with_rows : Picture → ℕ → ℕ → List Glyph → Picture
+with_rows p top bottom ys = record { width = p.width; height = p.height; cells = put_mid (top * p.width) (bottom * p.width - top * p.width) p.cells ys }
+
+pub changes_filled : (p : Picture) (top bottom : ℕ) (ys : List Glyph) (cell : Glyph) → length p.cells ≡ p.width * p.height
+    → (top ≤ bottom) × (bottom ≤ p.height) → length ys ≡ length (take (bottom * p.width - top * p.width) (drop (top * p.width) p.cells))
+    → ((i : ℕ) → i < length ys → slice_index_or ys i blank ≡ cell)
+    → Changes (IsInRows top bottom) (λ _ _ _. cell) p (with_rows p top bottom ys)
+changes_filled p top bottom ys cell full down count is =
+    let first : top * p.width ≤ bottom * p.width = mul-le-mul_right p.width down.0 in
+    let last : bottom * p.width ≤ p.height * p.width = mul-le-mul_right p.width down.1 in
+    let long : length ys ≡ bottom * p.width - top * p.width = count ∙ part_long (top * p.width) (bottom * p.width - top * p.width) p.cells (omega (arith, first, last, full)) in
+    let within : top * p.width ≤ length p.cells = omega (arith, first, last, full) in
+    record {
+      size = record { width = refl; height = refl };
+      inside = λ column row on here.
+          let h : top * p.width ≤ row * p.width = mul-le-mul_right p.width here.after in
+          let k : suc row * p.width ≤ bottom * p.width = mul-le-mul_right p.width here.before in
+          let lt : row * p.width + column - top * p.width < length ys = omega (arith, h, k, long, on.across) in
+          in_part _ _ _ p.cells ys within (omega (arith, h)) lt ∙ is (row * p.width + column - top * p.width) lt;
+      outside = λ column row on other. elim (cases_lt row top) [
+        | inl lt ↦
+            let h : suc row * p.width ≤ top * p.width = mul-le-mul_right p.width lt in
+            before_part _ _ _ p.cells ys (omega (arith, h, on.across)) within
+        | inr le ↦ elim (cases_lt row bottom) [
+          | inl gt ↦ absurd (other (record { after = le; before = gt }))
+          | inr ge ↦
+              let h : bottom * p.width ≤ row * p.width = mul-le-mul_right p.width ge in
+              after_part _ _ _ p.cells ys within long (omega (arith, first, h))
+        ]
+      ];
+    }
+
 -- the same cells, shaded
 pub changes_shaded : (p : Picture) (row left right : ℕ) (ys : List Glyph) → length p.cells ≡ p.width * p.height
     → (left ≤ right) × (right ≤ p.width) → row < p.height → length ys ≡ length (take (row * p.width + right - (row * p.width + left)) (drop (row * p.width + left) p.cells))
@@ -177,4 +234,22 @@ shows_row face x y left right this from at begins e f p = changes_as
     let first : IsOn _ left this = record { across = omega (arith, on.across, here.after); down = rw (← here.here) on.down } in
     let along = gap_along x left column (begins first (omega (arith, here.after, here.before))) here.after in
     rw (e, f, here.here, along) refl)
+    p
+
+gap_above : (o : ℤ) (row : ℕ) → 0 < int_gap o (pos row) → 0 < row → int_gap o (pos (row - 1)) ≡ int_gap o (pos row) - 1
+gap_above (pos o) row below some = omega (arith, ints, below, some)
+gap_above (negsuc o) row below some = omega (arith, ints, below, some)
+
+-- a row that is copied from the row above it, where the face has the same cells in both
+pub shows_copied : (face : ℕ → ℕ → Glyph) (x y : ℤ) (area : Area) (this at : ℕ) {old mid new : Picture} → area.top < this → at ≡ int_gap y (pos this) → (0 < at) × ((a : ℕ) → face a at ≡ face a (at - 1))
+    → Changes (IsInArea (rows_before area this)) (λ column row _. face (int_gap x (pos column)) (int_gap y (pos row))) old mid
+    → Changes (IsInRow area.left area.right this) (λ column _ _. cell_at mid column (this - 1)) mid new
+    → Changes (IsInRow area.left area.right this) (λ column row _. face (int_gap x (pos column)) (int_gap y (pos row))) mid new
+shows_copied face x y area this at lt e same done p = changes_as
+    (λ column row under on here.
+    let above : IsInArea (rows_before area this) column (this - 1) = record { left = here.after; right = here.before; top = omega (arith, lt); bottom = omega (arith, lt) } in
+    let there : IsOn _ column (this - 1) = record { across = rw done.size.width at on.across; down = omega (arith, on.down, here.here, done.size.height) } in
+    let some : 0 < int_gap y (pos this) = rw e at same.0 in
+    let up : int_gap y (pos (this - 1)) ≡ at - 1 = rw e (gap_above y this some (omega (arith, lt))) in
+    done.inside column (this - 1) there above ∙ rw (up, here.here, ← e) (sym (same.1 (int_gap x (pos column)))))
     p

@@ -2,7 +2,7 @@
 
 ghost use Rattle.std.specs.Prelude.{◌≡◌, ◌↔◌, ◌≤◌, ◌<◌, ◌≤ℤ◌, ◌<ℤ◌, IfSome, IfNone, ℕ, pos};
 ghost use Rattle.tv_cells.specs.Glyph.{shaded};
-ghost use Rattle.tv_cells.specs.Rectangle.{IsIn, IsPointNear, IsRectNear};
+ghost use Rattle.tv_cells.specs.Rectangle.{IsIn, IsPointNear, IsRectNear, sized};
 ghost use Rattle.tv_cells.specs.Picture.{Changes, IsOn, IsScreenSize};
 ghost use Rattle.tv_cells.specs.Canvas.{Covers, IsAt, IsInArea, IsShadow, sub};
 
@@ -96,6 +96,18 @@ impl Canvas {
         };
         self.shade(screen, right);
         self.shade(screen, below);
+    }
+
+    // The columns and rows of the screen that a face of this size covers, with its corner at the origin.
+    pub(crate) fn face_area(self, screen: &Screen, width: u32, height: u32) -> Area
+        ensures across { (result.left ≤ result.right) × (result.right ≤ screen.now.width) }
+        ensures down { (result.top ≤ result.bottom) × (result.bottom ≤ screen.now.height) }
+        ensures small { IsScreenSize screen.now.width screen.now.height }
+        ensures places { (column row : ℕ) → IsOn screen.now column row → IsInArea result column row ↔ Covers self (sized width height) column row }
+    {
+        let start = (self.origin.x as i64, self.origin.y as i64);
+        let end = (start.0 + width as i64, start.1 + height as i64);
+        self.area(screen, start, end)
     }
 
     // The columns and rows of the screen between two corners and inside the clip. The corners may lie too far away for a `Point`.

@@ -3,6 +3,8 @@
 ghost use Rattle.std.specs.Prelude.{◌≡◌, ◌↔◌, IsSome, IfSome, IsTrue};
 ghost use Rattle.tv_cells.specs.Glyph.{IsNarrow, glyph, is_narrow, shaded, shown};
 
+use crate::face::Face;
+use crate::filling::fill;
 use crate::narrow_text::NarrowChar;
 use std::marker::Model;
 use unicode_width::UnicodeWidthChar;
@@ -111,5 +113,18 @@ impl Cell {
             ch: self.ch,
             attr: 0x08,
         }
+    }
+}
+
+// A cell is the face that shows it everywhere.
+impl Face for Cell {
+    ghost face = { λ cell _ _. cell };
+
+    fn at(&self, _x: u32, _y: u32) -> Cell {
+        *self
+    }
+
+    fn row(&self, _y: u32, _from: u32, cells: &mut [Cell]) {
+        fill(cells, *self);
     }
 }

@@ -1,6 +1,6 @@
 //! Faces, which are painted row by row.
 
-ghost use Rattle.std.specs.Prelude.{◌≡◌, ◌+◌, ◌≤◌, ◌^◌, ℕ, length};
+ghost use Rattle.std.specs.Prelude.{◌≡◌, ◌+◌, ◌-◌, ◌≤◌, ◌<◌, ◌^◌, ℕ, IsTrue, length};
 ghost use Rattle.tv_cells.specs.Glyph.{Glyph};
 ghost use Rattle.tv_cells.specs.Picture.{Changes};
 ghost use Rattle.tv_cells.specs.Canvas.{Covers, face_at};
@@ -33,18 +33,29 @@ pub trait Face {
             *cell = self.at(from + i as u32, y);
         }
     }
+
+    /// Whether row `y` of the face is known to have the cells of the row above it.
+    ///
+    /// The provided body knows it of no row. Rows of which a face knows it are copied, and not written again.
+    fn repeats(&self, y: u32) -> bool
+        ensures { IsTrue result → (0 < y) × ((x : ℕ) → face self.now x y ≡ face self.now x (y - 1)) }
+    {
+        false
+    }
 }
 
 /// Paints a face of this size, with its corner at the canvas's origin.
 pub fn paint<F: Face>(screen: &mut Screen, canvas: Canvas, width: u32, height: u32, face: &F)
     ensures { Changes (Covers canvas (sized width height)) (λ column row _. face_at canvas (F.face face.now) column row) screen.old screen.new }
 {
-    let start = (canvas.origin.x as i64, canvas.origin.y as i64);
-    let end = (start.0 + width as i64, start.1 + height as i64);
-    let area = canvas.area(screen, start, end);
+    let area = canvas.face_area(screen, width, height);
     let from = distance(&canvas.origin.x, area.left);
     for row in area.top..area.bottom {
         let y = distance(&canvas.origin.y, row);
-        screen.paint_row(face, y, from, row, area.left, area.right);
+        if row > area.top && face.repeats(y) {
+            screen.copy_row_above(row, area.left, area.right);
+        } else {
+            screen.paint_row(face, y, from, row, area.left, area.right);
+        }
     }
 }

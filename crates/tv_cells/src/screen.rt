@@ -5,12 +5,13 @@ ghost use Rattle.tv_cells.specs.Glyph.{blank, shaded};
 ghost use Rattle.tv_cells.specs.Layers.{Shows};
 ghost use Rattle.tv_cells.specs.Picture.{Picture, IsAlike, IsOn, IsPlace, IsScreenSize, Changes, cell_at};
 ghost use Rattle.tv_cells.specs.Rectangle.{IsIn, sized};
-ghost use Rattle.tv_cells.specs.Row.{IsInRow};
+ghost use Rattle.tv_cells.specs.Row.{IsInRow, IsInRows};
 ghost use Rattle.tv_cells.specs.Canvas.{whole};
 
 use crate::canvas::Canvas;
 use crate::cell::Cell;
 use crate::face::Face;
+use crate::filling::fill;
 use crate::rect::{Point, Rect};
 use std::alloc::{AllocError, Global};
 use std::marker::Model;
@@ -136,7 +137,7 @@ impl Screen {
         ensures size { IsAlike self.old self.new }
         ensures blank { Shows [] self.new }
     {
-        self.cells.fill(Cell::space(0));
+        fill(&mut self.cells, Cell::space(0));
     }
 
     /// Sets the cell in a column and a row.
@@ -147,6 +148,16 @@ impl Screen {
     {
         let index = (row * self.width + column) as usize;
         self.cells[index] = cell;
+    }
+
+    // Writes one cell into all places of the rows from `top` on and before `bottom`.
+    pub(crate) fn fill_rows(&mut self, top: u32, bottom: u32, cell: Cell)
+        requires { (top ≤ bottom) × (bottom ≤ self.old.height) }
+        ensures { Changes (IsInRows top bottom) (λ _ _ _. cell) self.old self.new }
+    {
+        let start = (top * self.width) as usize;
+        let end = (bottom * self.width) as usize;
+        fill(&mut self.cells[start..end], cell);
     }
 
     // Writes row `y` of a face, from its column `from` on, into a row of the screen, from column `left` on and before
@@ -168,6 +179,19 @@ impl Screen {
         let start = (row * self.width + left) as usize;
         let end = (row * self.width + right) as usize;
         face.row(y, from, &mut self.cells[start..end]);
+    }
+
+    // Copies the cells of the row above into a row, from column `left` on and before `right`.
+    pub(crate) fn copy_row_above(&mut self, row: u32, left: u32, right: u32)
+        requires across { (left ≤ right) × (right ≤ self.old.width) }
+        requires down { (0 < row) × (row < self.old.height) }
+        ensures { Changes (IsInRow left right row) (λ column _ _. cell_at self.old column (row - 1)) self.old self.new }
+    {
+        let above = ((row - 1) * self.width + left) as usize;
+        let start = (row * self.width + left) as usize;
+        let count = (right - left) as usize;
+        let (before, after) = self.cells.split_at_mut(start);
+        after[..count].copy_from_slice(&before[above..above + count]);
     }
 
     // Shades the cells of a row, from column `left` on and before `right`.
