@@ -1,6 +1,6 @@
 //! The desktop.
 
-use tv_cells::{Cell, Face};
+use tv_cells::{Cell, Face, fill};
 
 /// The desktop where nothing covers it.
 #[derive(Clone, Copy)]
@@ -16,6 +16,6 @@ impl Face for Background {
     }
 
     fn row(&self, _y: u32, _from: u32, cells: &mut [Cell]) {
-        cells.fill(Cell::shown('.', 0x71));
+        fill(cells, Cell::shown('.', 0x71));
     }
 }

@@ -1,17 +1,17 @@
 //! Frames of windows and dialogs.
 
-ghost use Rattle.std.specs.Prelude.{◌≡◌, ◌≤◌, ◌<◌, ◌+◌, ◌^◌, ℕ, if◌then◌else◌, length, slice_index_or};
+ghost use Rattle.std.specs.Prelude.{◌≡◌, ◌≤◌, ◌<◌, ◌+◌, ◌^◌, if◌then◌else◌, length};
 ghost use Rattle.tv_cells.specs.Glyph.{glyph, shown};
 ghost use Rattle.tv_cells.specs.Row.{IsRow};
 ghost use Rattle.tv_palette.specs.Attributes.{attribute_of};
 ghost use Rattle.tv_palette.specs.Chain.{coloured};
 ghost use Rattle.tv_palette.specs.Palettes.{colour_in, owners_of_part};
-ghost use Rattle.tv_model.specs.Screen.Faces.{border, cut_title, frame_look, frame_role, is_side, titled, top_row};
+ghost use Rattle.tv_model.specs.Screen.Faces.{Row, border, cut_title, frame_look, frame_role, is_side, titled, top_row, with_number};
 ghost use Rattle.tv_faces.specs.Looks.{frame_look_of};
 
 use crate::look::FrameLook;
-use crate::row::char_after_space;
-use tv_cells::{Cell, Face};
+use crate::row::{char_after_space, put, write_over};
+use tv_cells::{Cell, Face, fill};
 use tv_palette::{Chain, FrameRole, Owner, Role};
 
 fn role(is_active: bool) -> FrameRole
@@ -116,7 +116,7 @@ fn write_between(width: u32, side: Cell, middle: Cell, from: u32, cells: &mut [C
     ensures count { length cells.new ≡ length cells.old }
     ensures cells { IsRow (λ x. if is_side width x then side else middle) from cells.new }
 {
-    cells.fill(middle);
+    fill(cells, middle);
     if from == 0 && !cells.is_empty() {
         cells[0] = side;
     }
@@ -128,40 +128,52 @@ fn write_between(width: u32, side: Cell, middle: Cell, from: u32, cells: &mut [C
     }
 }
 
+// The title over the middle of a row, with a space at both sides.
+fn write_title(title: &[char], attr: u8, width: usize, from: usize, cells: &mut [Cell])
+    requires column { from + length cells.old ≤ 2 ^ 32 }
+    requires width { width < 2 ^ 32 }
+    ensures count { length cells.new ≡ length cells.old }
+    ensures cells { (below : Row) → IsRow (λ x. shown (below x) attr) from cells.old → IsRow (λ x. shown (titled width title.now below x) attr) from cells.new }
+{
+    if title.is_empty() {
+        return;
+    }
+    let count = title.len();
+    let start = width.saturating_sub(count + 2) / 2;
+    put(Cell::shown(' ', attr), start, from, cells);
+    write_over(title, attr, start + 1, from, cells);
+    put(Cell::shown(' ', attr), start + 1 + count, from, cells);
+}
+
+// The digit of a number over a row, in the fourth column from the end. 0 has none.
+fn write_number(number: u8, attr: u8, width: usize, from: usize, cells: &mut [Cell])
+    requires { number ≤ 9 }
+    ensures count { length cells.new ≡ length cells.old }
+    ensures cells { (below : Row) → IsRow (λ x. shown (below x) attr) from cells.old → IsRow (λ x. shown (with_number width number below x) attr) from cells.new }
+{
+    if number != 0 && width >= 4 {
+        let digit = (b'0' + number) as char;
+        put(Cell::shown(digit, attr), width - 4, from, cells);
+    }
+}
+
 impl Frame<'_> {
-    ghost use Rattle.tv_cells.specs.Glyph.{blank};
     ghost use Rattle.tv_faces.specs.Looks.{top_row_of};
 
-    // The first row: what stands on the border is written over it.
+    // The first row: the border, and over it the title, the number and the close mark.
     fn write_top(&self, from: u32, cells: &mut [Cell])
         requires { from + length cells.old ≤ 2 ^ 32 }
         ensures count { length cells.new ≡ length cells.old }
         ensures cells { IsRow (top_row_of self.now) from cells.new }
     {
+        let look = self.look;
+        let width = self.width as usize;
         self.write_border(from, cells);
-        let width = self.width as usize;
-        let number = width.saturating_sub(4);
-        let count = cut_title(width, self.title).len() + 2;
-        let start = width.saturating_sub(count) / 2;
-        self.write_top_part(2, 5, from, cells);
-        self.write_top_part(number, number + 1, from, cells);
-        self.write_top_part(start, start + count, from, cells);
-    }
-
-    // The cells of the first row from one column on and before another. The cells that were right already stay.
-    fn write_top_part(&self, start: usize, end: usize, from: u32, cells: &mut [Cell])
-        requires { from + length cells.old ≤ 2 ^ 32 }
-        ensures count { length cells.new ≡ length cells.old }
-        ensures written { (i : ℕ) → i < length cells.new → start ≤ from + i → from + i < end → slice_index_or cells.new i blank ≡ top_row_of self.now (from + i) }
-        ensures kept { (i : ℕ) → i < length cells.new → slice_index_or cells.old i blank ≡ top_row_of self.now (from + i) → slice_index_or cells.new i blank ≡ top_row_of self.now (from + i) }
-    {
-        let width = self.width as usize;
         let from = from as usize;
-        let first = start.saturating_sub(from);
-        let last = end.saturating_sub(from).min(cells.len());
-        for i in first..last {
-            let ch = top_row(width, self.title, self.look, from + i);
-            cells[i] = Cell::shown(ch, self.look.edge);
+        write_title(cut_title(width, self.title), look.edge, width, from, cells);
+        write_number(look.number, look.edge, width, from, cells);
+        if look.is_active {
+            write_over(&['[', 'x', ']'], look.edge, 2, from, cells);
         }
     }
 
@@ -210,6 +222,11 @@ impl Face for Frame<'_> {
         } else {
             Cell::space(look.inside)
         }
+    }
+
+    // The rows inside the frame are alike.
+    fn repeats(&self, y: u32) -> bool {
+        y > 1 && (y as usize) + 1 < self.height as usize
     }
 
     fn row(&self, y: u32, from: u32, cells: &mut [Cell]) {
