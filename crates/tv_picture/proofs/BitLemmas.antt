@@ -1,7 +1,8 @@
 -- The bits of a union.
-use Rattle.std.proofs.Common.{suc, zero, ◌≡◌, ◌≢◌, ◌⊎◌, inl, inr, ◌↔◌, ℕ, ◌+◌, ◌*◌, ◌/◌, ◌%◌, ◌^◌, ◌<◌, ◌≤◌, max, bit_and, bit_or, arith, refl, ◌∙◌, sym, ap}
-use Rattle.std.specs.Int.{IsBitSet, bit_at}
-use Rattle.std.proofs.lemmas.Nat.Bits.{and_pow, bit_at-lt, bit_at-zero, bit_at_or, bit_at_above, same_from_bits}
+use Rattle.std.proofs.Common.{suc, zero, ◌≡◌, ◌≢◌, ◌⊎◌, inl, inr, ◌↔◌, ℕ, ◌+◌, ◌*◌, ◌/◌, ◌%◌, ◌^◌, ◌<◌, ◌≤◌, max, bit_and, bit_or, arith, refl, ◌∙◌, sym, ap, subst, ◌-◌, div-le_self}
+use Rattle.std.specs.Int.{IsBitSet, bit_at, trailing_zeros, w128}
+use Rattle.std.specs.Int.Count.{trailing_of_zero}
+use Rattle.std.proofs.lemmas.Nat.Bits.{and_pow, bit_at-lt, bit_at-trailing_zeros, bit_at-zero, bit_at_or, bit_at_above, same_from_bits}
 use Rattle.std.proofs.lemmas.Nat.{pow_pos, shr-shr}
 use Rattle.std.proofs.Math.Nat.{div-lt_iff_lt-mul}
 
@@ -63,3 +64,28 @@ pub shifted_bits : (n p k : ℕ) → IsBitSet (n / 2 ^ p) k ↔ IsBitSet n (p + 
 shifted_bits n p k =
     let e : bit_at (n / 2 ^ p) k ≡ bit_at n (p + k) = ap (λ (x : ℕ). x % 2) (shr-shr n p k) in
     ((λ h. bit_is_set n (p + k) (sym e ∙ bit_is_one (n / 2 ^ p) k h)), (λ h. bit_is_set (n / 2 ^ p) k (e ∙ bit_is_one n (p + k) h)))
+
+shifted_small : (n p : ℕ) → n < 2 ^ 128 → n / 2 ^ p < 2 ^ 128
+shifted_small n p small = let less : n / 2 ^ p ≤ n = div-le_self n (2 ^ p) in omega arith
+
+-- below its lowest bit a number has none
+pub none_below : (n k : ℕ) → n < 2 ^ 128 → k < trailing_zeros w128 n → IsBitSet n k → ⊥
+none_below zero k small low set = let one_bit = bit_is_one 0 k set in let zero_bit = bit_at-zero k in omega arith
+none_below (suc n) k small low set =
+    let one_bit = bit_is_one (suc n) k set in
+    let zero_bit = (bit_at-trailing_zeros w128 (suc n) (omega arith) small).2 k low in
+    omega arith
+
+-- and there it has one
+pub lowest_is_set : (n : ℕ) → n < 2 ^ 128 → trailing_zeros w128 n < 128 → IsBitSet n (trailing_zeros w128 n)
+lowest_is_set zero small low = absurd (let e = trailing_of_zero 128 in omega arith)
+lowest_is_set (suc n) small low = bit_is_set (suc n) (trailing_zeros w128 (suc n)) (bit_at-trailing_zeros w128 (suc n) (omega arith) small).1
+
+-- the same from a place on
+pub none_between : (n p k : ℕ) → n < 2 ^ 128 → p ≤ k → k < p + trailing_zeros w128 (n / 2 ^ p) → IsBitSet n k → ⊥
+none_between n p k small above low set =
+    let e : k ≡ p + (k - p) = omega arith in
+    none_below (n / 2 ^ p) (k - p) (shifted_small n p small) (omega arith) ((shifted_bits n p (k - p)).1 (subst (IsBitSet n) e set))
+
+pub next_is_set : (n p : ℕ) → n < 2 ^ 128 → p + trailing_zeros w128 (n / 2 ^ p) < 128 → IsBitSet n (p + trailing_zeros w128 (n / 2 ^ p))
+next_is_set n p small low = (shifted_bits n p (trailing_zeros w128 (n / 2 ^ p))).0 (lowest_is_set (n / 2 ^ p) (shifted_small n p small) (omega arith))

@@ -1,6 +1,8 @@
 pub mod BitLemmas
 pub mod Language
 pub mod Rows
+pub mod Appended
+pub mod Lowest
 pub mod Stacks
 pub mod Statuses
 pub mod LengthLemmas

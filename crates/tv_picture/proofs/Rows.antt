@@ -15,7 +15,7 @@ use Rattle.tv_picture.specs.Pattern.{Pattern, empty, one, sequence, either, opti
 use Rattle.tv_picture.specs.Table.{HasPlace, NamesNext, either_next, Spans, MayFollow, IsTableRow, HasEachRow, FollowsFrom, Gathers, row_at, no_row}
 use Rattle.tv_picture.proofs.Language.{Through, follows_next, next_of_left, next_of_right, many_cons, many_parted, Parted, ThroughMany, follows_many, many_of_first, many_of_later, times_zero, times_one, times-add, drop_past, end_within, no_end}
 
-dec : (m n : ℕ) → (m ≡ n) ⊎ (m ≢ n)
+pub dec : (m n : ℕ) → (m ≡ n) ⊎ (m ≢ n)
 dec m n = told (eqb_tells m n)
   where
     told : ((m == n) ≡ true) × (m ≡ n) ⊎ ((m == n) ≡ false) × (m ≢ n) → (m ≡ n) ⊎ (m ≢ n)
@@ -199,44 +199,44 @@ blank_ends = record { bits = 0 }
 pub no_place : (k : ℕ) → HasPlace blank_ends k → ⊥
 no_place k h = h (grind (arith))
 
-through_at : (a b : Pattern) (text : List ℕ) (from c : ℕ) → from ≤ length text → Through a b (drop from text) c → (r : ℕ) × (r ≤ length text) × Spans a (drop from text) from r × MayFollow b (drop r text) c
+pub through_at : (a b : Pattern) (text : List ℕ) (from c : ℕ) → from ≤ length text → Through a b (drop from text) c → (r : ℕ) × (r ≤ length text) × Spans a (drop from text) from r × MayFollow b (drop r text) c
 through_at a b text from c within (u, v, m, e, f) =
     (from + length u, end_within text from u v within e, (u, v, m, e, refl), subst (λ (x : List ℕ). MayFollow b x c) (sym (drop_past text from u v e)) f)
 
-at_through : (a b : Pattern) (text : List ℕ) (from r c : ℕ) → Spans a (drop from text) from r → MayFollow b (drop r text) c → Through a b (drop from text) c
+pub at_through : (a b : Pattern) (text : List ℕ) (from r c : ℕ) → Spans a (drop from text) from r → MayFollow b (drop r text) c → Through a b (drop from text) c
 at_through a b text from r c (u, v, m, e, er) f =
     let past : drop r text ≡ v = ap (λ (k : ℕ). drop k text) er ∙ drop_past text from u v e in
     (u, v, m, e, subst (λ (x : List ℕ). MayFollow b x c) past f)
 
 -- ---- the row of a sequence
 
-pub row_sequence : (a b : Pattern) (text : List ℕ) (A B : Table) (from : ℕ) (first result : Row) → from ≤ length text → HasEachRow a text A → HasEachRow b text B → ((k : ℕ) → HasPlace first.ends k → ⊥) → first.next ≡ (row_at A from).next → Gathers (row_at A from).ends B from (length text + 1) first result → IsTableRow (sequence a b) (drop from text) from result
-row_sequence a b text A B from first result within ca cb none follow g = record {
+pub row_sequence : (a b : Pattern) (text : List ℕ) (start : Row) (B : Table) (from : ℕ) (first result : Row) → from ≤ length text → IsTableRow a (drop from text) from start → HasEachRow b text B → ((k : ℕ) → HasPlace first.ends k → ⊥) → first.next ≡ start.next → Gathers start.ends B from (length text + 1) first result → IsTableRow (sequence a b) (drop from text) from result
+row_sequence a b text start B from first result within ca cb none follow g = record {
   ends = λ to. ((λ h. spans_met a b text from to (met to ((g.ends to).0 h))), (λ s. (g.ends to).1 (inr (parted to (spans_parted a b text from to within s)))));
-  next = Names_same (λ c. MayFollow a (drop from text) c ⊎ FollowsFrom (row_at A from).ends b text from (length text + 1) c) (MayFollow (sequence a b) (drop from text)) result.next forth back
-      (g.next a b text from (subst (NamesNext (MayFollow a (drop from text))) (sym follow) (ca.at from within).next) (λ r above below has. (cb.at r (omega arith)).next));
+  next = Names_same (λ c. MayFollow a (drop from text) c ⊎ FollowsFrom start.ends b text from (length text + 1) c) (MayFollow (sequence a b) (drop from text)) result.next forth back
+      (g.next a b text from (subst (NamesNext (MayFollow a (drop from text))) (sym follow) ca.next) (λ r above below has. (cb.at r (omega arith)).next));
 }
   where
-    met : (to : ℕ) → HasPlace first.ends to ⊎ AnyRow (row_at A from).ends B from (length text + 1) to → Meets a b text from to
+    met : (to : ℕ) → HasPlace first.ends to ⊎ AnyRow start.ends B from (length text + 1) to → Meets a b text from to
     met to (inl h) = absurd (none to h)
     met to (inr (r, above, below, at, ends)) =
-        let s = ((ca.at from within).ends r).0 at in
+        let s = (ca.ends r).0 at in
         (r, omega arith, omega arith, s, ((cb.at r (omega arith)).ends to).0 ends)
 
-    parted : (to : ℕ) → Meets a b text from to → AnyRow (row_at A from).ends B from (length text + 1) to
-    parted to (r, above, below, s, s') = (r, above, omega arith, ((ca.at from within).ends r).1 s, ((cb.at r below).ends to).1 s')
+    parted : (to : ℕ) → Meets a b text from to → AnyRow start.ends B from (length text + 1) to
+    parted to (r, above, below, s, s') = (r, above, omega arith, (ca.ends r).1 s, ((cb.at r below).ends to).1 s')
 
-    forth : (c : ℕ) → MayFollow a (drop from text) c ⊎ FollowsFrom (row_at A from).ends b text from (length text + 1) c → MayFollow (sequence a b) (drop from text) c
+    forth : (c : ℕ) → MayFollow a (drop from text) c ⊎ FollowsFrom start.ends b text from (length text + 1) c → MayFollow (sequence a b) (drop from text) c
     forth c (inl f) = next_of_left a b (drop from text) c f
-    forth c (inr (r, above, below, has, f)) = next_of_right a b (drop from text) c (at_through a b text from r c (((ca.at from within).ends r).0 has) f)
+    forth c (inr (r, above, below, has, f)) = next_of_right a b (drop from text) c (at_through a b text from r c ((ca.ends r).0 has) f)
 
-    held : (c : ℕ) → Through a b (drop from text) c → FollowsFrom (row_at A from).ends b text from (length text + 1) c
-    held c t = let p = through_at a b text from c within t in (p.0, (let e = p.2.4 in omega arith), (let h : p.0 ≤ length text = p.1 in omega arith), ((ca.at from within).ends p.0).1 p.2, p.3)
+    held : (c : ℕ) → Through a b (drop from text) c → FollowsFrom start.ends b text from (length text + 1) c
+    held c t = let p = through_at a b text from c within t in (p.0, (let e = p.2.4 in omega arith), (let h : p.0 ≤ length text = p.1 in omega arith), (ca.ends p.0).1 p.2, p.3)
 
-    back : (c : ℕ) → MayFollow (sequence a b) (drop from text) c → MayFollow a (drop from text) c ⊎ FollowsFrom (row_at A from).ends b text from (length text + 1) c
+    back : (c : ℕ) → MayFollow (sequence a b) (drop from text) c → MayFollow a (drop from text) c ⊎ FollowsFrom start.ends b text from (length text + 1) c
     back c f = cases (follows_next a b (drop from text) c f)
       where
-        cases : MayFollow a (drop from text) c ⊎ Through a b (drop from text) c → MayFollow a (drop from text) c ⊎ FollowsFrom (row_at A from).ends b text from (length text + 1) c
+        cases : MayFollow a (drop from text) c ⊎ Through a b (drop from text) c → MayFollow a (drop from text) c ⊎ FollowsFrom start.ends b text from (length text + 1) c
         cases (inl h) = inl h
         cases (inr h) = inr (held c h)
 
@@ -347,7 +347,7 @@ row_optional a rest from p result hp h = record {
     narrow c (more, inl m) = (more, inr m)
     narrow c (more, inr m) = (more, inl m)
 
-one_follows : (m : Mark) (rest : List ℕ) (c : ℕ) → MayFollow (one m) rest c → (rest ≡ []) × Allows m c
+pub one_follows : (m : Mark) (rest : List ℕ) (c : ℕ) → MayFollow (one m) rest c → (rest ≡ []) × Allows m c
 one_follows m [] c (more, (d, allows, e)) = (refl, (let same : c ≡ d = cc in subst (Allows m) (sym same) allows))
 one_follows m (x ∷ []) c (more, (d, allows, e)) = absurd (omega (arith, ap length e))
 one_follows m (x ∷ y ∷ rest) c (more, (d, allows, e)) = absurd (omega (arith, ap length e))
@@ -452,7 +452,7 @@ unended row = record { ends = blank_ends; next = row.next }
 -- the row of a sequence, where the first part's row still stands
 pub row_sequence_from : (a b : Pattern) (text : List ℕ) (A B : Table) (from len : ℕ) (row first result : Row) → length text ≡ len → from < len + 1 → HasEachRow a text A → HasEachRow b text B → row ≡ row_at A from → first ≡ unended row → Gathers row.ends B from (len + 1) first result → IsTableRow (sequence a b) (drop from text) from result
 row_sequence_from a b text A B from len row first result same within ca cb stands none g =
-    row_sequence a b text A B from first result (omega arith) ca cb (λ k h. no_place k (subst (λ (f : Row). HasPlace f.ends k) none h)) (ap (λ (f : Row). f.next) none ∙ ap (λ (r : Row). r.next) stands)
+    row_sequence a b text (row_at A from) B from first result (omega arith) (ca.at from (omega arith)) cb (λ k h. no_place k (subst (λ (f : Row). HasPlace f.ends k) none h)) (ap (λ (f : Row). f.next) none ∙ ap (λ (r : Row). r.next) stands)
     (subst (λ (n : ℕ). Gathers (row_at A from).ends B from (n + 1) first result) (sym same) (subst (λ (r : Row). Gathers r.ends B from (len + 1) first result) stands g))
 
 -- the row of a repetition, where its part's row still stands

@@ -123,7 +123,7 @@ finished_state a s h os c r q high = cases r
     joined = held (nat_lt 1 (h + 1)) (Some (h + 1 - 1)) None (below 1 (h + 1) (omega arith)) ∙ ap Some (omega arith)
 
     same : (n : ℕ) → height_after (h + 1) (op.Times n) ≡ Some (h + 1)
-    same n = held (nat_lt 0 (h + 1)) (Some (h + 1)) None (below 0 (h + 1) (omega arith))
+    same n = held (nat_lt 1 (h + 1)) (Some (h + 1)) None (below 1 (h + 1) (omega arith))
 
     cases : (t : Repeat) → part_finished (state (a ∷ s) (Some (h + 1)) os c t q) ≡ state (patterns_after (repeated t a ∷ s) op.Sequence) (Some h) os c Once false
     cases Once = ap (λ k. state (patterns_after (a ∷ s) op.Sequence) k os c Once false) joined

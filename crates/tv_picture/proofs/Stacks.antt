@@ -9,7 +9,7 @@ use Rattle.tv_picture.specs.declared.code.Op.{Op}
 use Rattle.tv_picture.specs.declared.code.Op.TheVariants.{Empty, One, Sequence, Either, Optional, Group, Many, Times}
 use Rattle.tv_picture.specs.Pattern.{Pattern}
 use Rattle.tv_picture.specs.Code.{patterns_after, run, top, pattern_of, height_after, height_from}
-use Rattle.tv_picture.specs.Machine.{StandsBelow, Made, IsWithin}
+use Rattle.tv_picture.specs.Machine.{StandsBelow, Made, IsWithin, over_after}
 
 pub stands_kept : {X : Type 0} (R : Pattern → X → Type 0) (xs : List X) (h place : ℕ) (x : X) (ps : List Pattern) → h ≤ place → StandsBelow R xs h ps → StandsBelow R (set xs place x) h ps
 stands_kept R xs h place x [] below e = e
@@ -98,13 +98,13 @@ within_room most h op ops w = room (height_after h op) w.1
     room None v = tt
     room (Some k) v = within_now most k ops v
 
-after_none : (h k : ℕ) → height_after h Empty ≡ Some k → k ≡ h + 1
+pub after_none : (h k : ℕ) → over_after h Empty ≡ Some k → k ≡ h + 1
 after_none h k e = grind (arith, nat_tests)
 
-after_one : (h k : ℕ) → height_after h Optional ≡ Some k → (1 ≤ h) × (k ≡ h - 1 + 1)
+pub after_one : (h k : ℕ) → over_after h Optional ≡ Some k → (1 ≤ h) × (k ≡ h - 1 + 1)
 after_one h k e = (grind (arith, nat_tests), grind (arith, nat_tests))
 
-after_two : (h k : ℕ) → height_after h Sequence ≡ Some k → (2 ≤ h) × (k ≡ h - 2 + 1)
+pub after_two : (h k : ℕ) → over_after h Sequence ≡ Some k → (2 ≤ h) × (k ≡ h - 2 + 1)
 after_two h k e = (grind (arith, nat_tests), grind (arith, nat_tests))
 
 bounded : (h k : ℕ) (op : Op) → h ≤ 20 → height_after h op ≡ Some k → k ≤ 20
@@ -129,20 +129,20 @@ within_twenty h (op ∷ ops) end low e = (low, later (λ k room. within_twenty k
 -- ---- operations in place
 
 -- a pattern more
-pub stands_pushed : {X : Type 0} (R : Pattern → X → Type 0) (xs : List X) (h k : ℕ) (x : X) (p : Pattern) (ps out : List Pattern) → height_after h Empty ≡ Some k → k ≤ length xs → StandsBelow R xs h ps → R p x → out ≡ p ∷ ps → StandsBelow R (set xs h x) k out
+pub stands_pushed : {X : Type 0} (R : Pattern → X → Type 0) (xs : List X) (h k : ℕ) (x : X) (p : Pattern) (ps out : List Pattern) → over_after h Empty ≡ Some k → k ≤ length xs → StandsBelow R xs h ps → R p x → out ≡ p ∷ ps → StandsBelow R (set xs h x) k out
 stands_pushed R xs h k x p ps out e room s here steps =
     let up : k ≡ h + 1 = after_none h k e in
     subst (λ (n : ℕ). StandsBelow R (set xs h x) n out) (sym up) (stands_put R xs h x p ps out (omega arith) s here steps)
 
 -- the top one changed
-pub stands_changed : {X : Type 0} (R : Pattern → X → Type 0) (xs : List X) (h k : ℕ) (x d : X) (ps : List Pattern) (op : Op) (f : Pattern → Pattern) → height_after h Optional ≡ Some k → h ≤ length xs → StandsBelow R xs h ps → ((a : Pattern) (qs : List Pattern) → patterns_after (a ∷ qs) op ≡ f a ∷ qs) → ((a : Pattern) → R a (get_or xs (h - 1) d) → R (f a) x) → StandsBelow R (set xs (h - 1) x) k (patterns_after ps op)
+pub stands_changed : {X : Type 0} (R : Pattern → X → Type 0) (xs : List X) (h k : ℕ) (x d : X) (ps : List Pattern) (op : Op) (f : Pattern → Pattern) → over_after h Optional ≡ Some k → h ≤ length xs → StandsBelow R xs h ps → ((a : Pattern) (qs : List Pattern) → patterns_after (a ∷ qs) op ≡ f a ∷ qs) → ((a : Pattern) → R a (get_or xs (h - 1) d) → R (f a) x) → StandsBelow R (set xs (h - 1) x) k (patterns_after ps op)
 stands_changed R xs h k x d ps op f e room s steps makes =
     let at = after_one h k e in
     subst (λ (n : ℕ). StandsBelow R (set xs (h - 1) x) n (patterns_after ps op)) (sym at.1)
     (stands_made R xs (h - 1) x (patterns_after ps op) (let high = at.0 in omega (arith, high)) (made_of_one R xs h x d ps op f at.0 s steps makes))
 
 -- the one below the top joined to it, where the top is cut off
-pub stands_joined : {X : Type 0} (R : Pattern → X → Type 0) (xs front back : List X) (h k : ℕ) (x d d' : X) (ps : List Pattern) (op : Op) (f : Pattern → Pattern → Pattern) → height_after h Sequence ≡ Some k → h ≤ length xs → xs ≡ front ++ back → length front ≡ h - 1 → StandsBelow R xs h ps → ((a b : Pattern) (qs : List Pattern) → patterns_after (b ∷ a ∷ qs) op ≡ f a b ∷ qs) → ((a b : Pattern) → R a (get_or front (h - 2) d) → R b (get_or back 0 d') → R (f a b) x) → StandsBelow R (set front (h - 2) x ++ back) k (patterns_after ps op)
+pub stands_joined : {X : Type 0} (R : Pattern → X → Type 0) (xs front back : List X) (h k : ℕ) (x d d' : X) (ps : List Pattern) (op : Op) (f : Pattern → Pattern → Pattern) → over_after h Sequence ≡ Some k → h ≤ length xs → xs ≡ front ++ back → length front ≡ h - 1 → StandsBelow R xs h ps → ((a b : Pattern) (qs : List Pattern) → patterns_after (b ∷ a ∷ qs) op ≡ f a b ∷ qs) → ((a b : Pattern) → R a (get_or front (h - 2) d) → R b (get_or back 0 d') → R (f a b) x) → StandsBelow R (set front (h - 2) x ++ back) k (patterns_after ps op)
 stands_joined {X} R xs front back h k x d d' ps op f e room cut len s steps makes =
     let at = after_two h k e in
     let high : 2 ≤ h = at.0 in

@@ -45,7 +45,8 @@ code_of (group a) = code_of a ++ Group ∷ []
 code_of (many a) = code_of a ++ Many ∷ []
 code_of (times n a) = code_of a ++ Times n ∷ []
 
--- the height of the stack after an operation, where it has the parts and there is room
+-- the height of the stack after an operation, where it has the parts and there is room; the lowest pattern is
+-- never repeated
 abbrev pub height_after : ℕ → Op → Option ℕ
 height_after h Empty = if nat_lt h 20 then Some (h + 1) else None
 height_after h (One mark) = if nat_lt h 20 then Some (h + 1) else None
@@ -53,8 +54,8 @@ height_after h Sequence = if nat_lt 1 h then Some (h - 1) else None
 height_after h Either = if nat_lt 1 h then Some (h - 1) else None
 height_after h Optional = if nat_lt 0 h then Some h else None
 height_after h Group = if nat_lt 0 h then Some h else None
-height_after h Many = if nat_lt 0 h then Some h else None
-height_after h (Times n) = if nat_lt 0 h then Some h else None
+height_after h Many = if nat_lt 1 h then Some h else None
+height_after h (Times n) = if nat_lt 1 h then Some h else None
 
 -- the height of the stack after code, where each operation finds its parts and room
 abbrev pub height_from : ℕ → List Op → Option ℕ

@@ -1,8 +1,14 @@
 -- What stands on the stack of the machine that runs a pattern's code.
-use Rattle.std.specs.Prelude.{◌≡◌, ℕ, ◌+◌, ◌≤◌, List, [], ◌∷◌, IfSome, slice_index_or}
+use Rattle.std.specs.Prelude.{◌≡◌, ℕ, ◌+◌, ◌-◌, ◌≤◌, ◌⊎◌, ◌++◌, List, [], ◌∷◌, Option, Some, None, IfSome, slice_index_or}
+use Rattle.std.specs.Prelude.{Bool, true, if◌then◌else◌, nat_lt}
 use Rattle.tv_picture.specs.declared.code.Op.{Op}
+use Rattle.tv_picture.specs.declared.code.Op.TheVariants.{Empty, One, Sequence, Either, Optional, Group}
+use Rattle.tv_picture.specs.declared.code.Op.TheVariants.{Many, Times}
+use Rattle.tv_picture.specs.declared.row.Row.{Row}
+use Rattle.tv_picture.specs.declared.table.Table.{Table}
 use Rattle.tv_picture.specs.Code.{height_after}
 use Rattle.tv_picture.specs.Pattern.{Pattern}
+use Rattle.tv_picture.specs.Table.{IsTableRow, HasEachRow}
 
 -- below the height stands something for each pattern, the first pattern's on top
 abbrev pub StandsBelow : {X : Type 0} → (Pattern → X → Type 0) → List X → ℕ → List Pattern → Type 0
@@ -20,3 +26,35 @@ Made R xs place x (p ∷ ps) = R p x × StandsBelow R xs place ps
 abbrev pub IsWithin : ℕ → ℕ → List Op → Type 0
 IsWithin most h [] = h ≤ most
 IsWithin most h (op ∷ ops) = (h ≤ most) × IfSome (height_after h op) (λ k. IsWithin most k ops)
+
+-- how many patterns stand above the lowest after an operation on these alone, where they have the parts
+abbrev pub over_after : ℕ → Op → Option ℕ
+over_after h Empty = Some (h + 1)
+over_after h (One mark) = Some (h + 1)
+over_after h Sequence = if nat_lt 1 h then Some (h - 1) else None
+over_after h Either = if nat_lt 1 h then Some (h - 1) else None
+over_after h Optional = if nat_lt 0 h then Some h else None
+over_after h Group = if nat_lt 0 h then Some h else None
+over_after h Many = if nat_lt 0 h then Some h else None
+over_after h (Times n) = if nat_lt 0 h then Some h else None
+
+-- an operation at this height leaves the lowest pattern as it is
+abbrev pub leaves_lowest : ℕ → Op → Bool
+leaves_lowest h Empty = nat_lt 0 h
+leaves_lowest h (One mark) = nat_lt 0 h
+leaves_lowest h Sequence = nat_lt 2 h
+leaves_lowest h Either = nat_lt 2 h
+leaves_lowest h Optional = nat_lt 1 h
+leaves_lowest h Group = nat_lt 1 h
+leaves_lowest h Many = true
+leaves_lowest h (Times n) = true
+
+-- the first row of the lowest pattern, and tables for those above it
+abbrev pub StandsOver : List ℕ → Row → List Table → ℕ → List Pattern → Type 0
+StandsOver text first tables height ps =
+    (over : List Pattern) × (lowest : Pattern) × (above : ℕ) × (ps ≡ over ++ lowest ∷ []) × (height ≡ above + 1)
+    × IsTableRow lowest text 0 first × StandsBelow (λ p t. HasEachRow p text t) tables above over
+
+-- nothing stands on the stack, or these do
+abbrev pub StandsOn : List ℕ → Row → List Table → ℕ → List Pattern → Type 0
+StandsOn text first tables height ps = ((height ≡ 0) × (ps ≡ [])) ⊎ StandsOver text first tables height ps

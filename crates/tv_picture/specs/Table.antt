@@ -2,12 +2,13 @@
 use Rattle.std.specs.Prelude.{◌≡◌, ◌≢◌, ◌↔◌, ℕ, ◌+◌, ◌≤◌, ◌<◌, ◌⊎◌, ◌++◌, List, [], ◌∷◌, length, drop}
 use Rattle.std.specs.Prelude.{if◌then◌else◌, ◌==◌, slice_index_or}
 use Rattle.std.specs.Int.{IsBitSet}
+use Rattle.tv_picture.specs.declared.code.Mark.{Mark}
 use Rattle.tv_picture.specs.declared.places.Places.{Places}
 use Rattle.tv_picture.specs.declared.row.Next.{Next}
 use Rattle.tv_picture.specs.declared.row.Next.TheVariants.{Nothing, Only, Several}
 use Rattle.tv_picture.specs.declared.row.Row.{Row}
 use Rattle.tv_picture.specs.declared.table.Table.{Table}
-use Rattle.tv_picture.specs.Pattern.{Pattern, IsMember, Begins}
+use Rattle.tv_picture.specs.Pattern.{Pattern, Allows, IsMember, Begins}
 
 -- the place is in the set
 abbrev pub HasPlace : Places → ℕ → Type 0
@@ -26,6 +27,10 @@ either_next (Only c) Nothing = Only c
 either_next (Only c) (Only d) = if c == d then Only c else Several
 either_next (Only c) Several = Several
 either_next Several b = Several
+
+-- the mark stands for the text's character at the place
+abbrev pub StandsAt : Mark → List ℕ → ℕ → Type 0
+StandsAt mark text place = (c : ℕ) × (rest : List ℕ) × (drop place text ≡ c ∷ rest) × Allows mark c
 
 -- a member stands from the place at which the rest begins to another
 abbrev pub Spans : Pattern → List ℕ → ℕ → ℕ → Type 0

@@ -1,7 +1,9 @@
 //! Sets of places of a text.
 
-ghost use Rattle.std.specs.Prelude.{◌≡◌, ◌↔◌, ◌+◌, ◌<◌, ◌≤◌, ◌⊎◌, ℕ, IsTrue};
-ghost use Rattle.tv_picture.specs.Table.{HasPlace};
+ghost use Rattle.std.specs.Prelude.{◌≡◌, ◌↔◌, ◌+◌, ◌<◌, ◌≤◌, ◌⊎◌, ℕ, IsTrue, length};
+ghost use Rattle.tv_picture.specs.Table.{HasPlace, StandsAt};
+
+use crate::code::Mark;
 
 /// A set of places, each below 128.
 #[derive(Clone, Copy, PartialEq, Eq)]
@@ -46,6 +48,33 @@ impl Places {
         Places {
             bits: self.bits >> place,
         }
+    }
+
+    /// The least place of the set from this one on, or one that is no place of any set.
+    pub fn first_from(self, place: usize) -> usize
+        requires { place < 128 }
+        ensures order { place ≤ result }
+        ensures below { (k : ℕ) → place ≤ k → k < result → HasPlace self k → ⊥ }
+        ensures here { result < 128 → HasPlace self result }
+        ensures bound { result < 256 }
+    {
+        place + (self.bits >> place).trailing_zeros() as usize
+    }
+
+    /// The places after those at which the mark stands for the text's character.
+    pub fn after(self, mark: Mark, text: &[char]) -> Places
+        requires { length text.now ≤ 120 }
+        ensures { (k : ℕ) → HasPlace result k ↔ ((p : ℕ) × HasPlace self p × StandsAt mark text.now p × (k ≡ p + 1)) }
+    {
+        let mut after = Places::NONE;
+        let mut place = self.first_from(0);
+        while place < text.len() {
+            if mark.allows(text[place]) {
+                after = after.union(Places::only(place + 1));
+            }
+            place = self.first_from(place + 1);
+        }
+        after
     }
 
     /// Whether each place of the set is below this one.

@@ -1,13 +1,14 @@
 //! A text read by a picture's code.
 
-ghost use Rattle.std.specs.Prelude.{◌≡◌, ◌+◌, ◌<◌, ◌≤◌, ℕ, List, length, Some, IsSome, IfSome};
+ghost use Rattle.std.specs.Prelude.{◌≡◌, ◌+◌, ◌<◌, ◌≤◌, ◌∷◌, ℕ, List, length, drop, Some, IsSome, IfSome, true, false};
 ghost use Rattle.tv_picture.specs.Pattern.{Pattern};
 ghost use Rattle.tv_picture.specs.Code.{patterns_after, height_after, height_from, pattern_of};
-ghost use Rattle.tv_picture.specs.Machine.{StandsBelow, IsWithin};
+ghost use Rattle.tv_picture.specs.Machine.{StandsBelow, StandsOn, IsWithin, over_after, leaves_lowest};
 ghost use Rattle.tv_picture.specs.Table.{HasEachRow, IsTableRow};
 
 use crate::code::{HEIGHT, Op};
-use crate::row::Row;
+use crate::places::Places;
+use crate::row::{Next, Row};
 use crate::table::Table;
 
 /// The height of the stack after an operation.
@@ -36,14 +37,48 @@ fn most(code: &[Op]) -> usize
     most
 }
 
-/// Does an operation for the text on the tables of the patterns on the stack, the top one last.
-fn apply(tables: &mut [Table], height: usize, op: Op, text: &[char])
+/// Whether an operation at this height leaves the lowest pattern of the stack as it is.
+fn is_over(height: usize, op: Op) -> bool
+    ensures { result ≡ leaves_lowest height op }
+{
+    match op {
+        Op::Empty | Op::One(_) => height > 0,
+        Op::Sequence | Op::Either => height > 2,
+        Op::Optional | Op::Group => height > 1,
+        Op::Many | Op::Times(_) => true,
+    }
+}
+
+/// The first row of the lowest pattern after an operation that changes it, where a table stands for the pattern above it.
+fn lowest_after(first: Row, tables: &[Table], height: usize, op: Op, text: &[char]) -> Row
     requires few { length text.now ≤ 120 }
     requires fits { IsSome (height_after height op) }
-    requires room { IfSome (height_after height op) (λ h. h ≤ length tables.old) }
+    requires lowest { leaves_lowest height op ≡ false }
+    requires within { height ≤ length tables.now }
+    ensures { (ps : List Pattern) (h : ℕ) → height_after height op ≡ Some h → StandsOn text.now first tables.now height ps → StandsOn text.now result tables.now h (patterns_after ps op) }
+{
+    let start = Row {
+        ends: Places::only(0),
+        next: Next::Nothing,
+    };
+    match op {
+        Op::Empty => start,
+        Op::One(mark) => start.append(mark, text),
+        Op::Sequence => tables[0].gather(first.ends, 0, text.len() + 1, first.unended()),
+        Op::Either => first.join(tables[0].rows[0]),
+        Op::Optional => first.join(start),
+        Op::Group | Op::Many | Op::Times(_) => first,
+    }
+}
+
+/// Does an operation for the text on the tables of the patterns above the lowest, the top one last.
+fn apply(tables: &mut [Table], height: usize, op: Op, text: &[char])
+    requires few { length text.now ≤ 120 }
+    requires fits { IsSome (over_after height op) }
+    requires room { IfSome (over_after height op) (λ h. h ≤ length tables.old) }
     requires within { height ≤ length tables.old }
     ensures count { length tables.new ≡ length tables.old }
-    ensures tables { (ps : List Pattern) (h : ℕ) → height_after height op ≡ Some h → StandsBelow (λ p t. HasEachRow p text.now t) tables.old height ps → StandsBelow (λ p t. HasEachRow p text.now t) tables.new h (patterns_after ps op) }
+    ensures tables { (ps : List Pattern) (h : ℕ) → over_after height op ≡ Some h → StandsBelow (λ p t. HasEachRow p text.now t) tables.old height ps → StandsBelow (λ p t. HasEachRow p text.now t) tables.new h (patterns_after ps op) }
 {
     let len = text.len();
     match op {
@@ -64,20 +99,60 @@ fn apply(tables: &mut [Table], height: usize, op: Op, text: &[char])
     }
 }
 
-/// The first row of the text's table for the pattern of the code. There is a table for each pattern that stands on the stack at
-/// once.
+/// Does an operation for the text on the first row of the lowest pattern and the tables of those above it, and returns that row.
+fn step(first: Row, tables: &mut [Table], height: usize, op: Op, text: &[char]) -> Row
+    requires few { length text.now ≤ 120 }
+    requires fits { IsSome (height_after height op) }
+    requires room { IfSome (height_after height op) (λ h. h ≤ length tables.old) }
+    requires within { height ≤ length tables.old }
+    ensures count { length tables.new ≡ length tables.old }
+    ensures stack { (ps : List Pattern) (h : ℕ) → height_after height op ≡ Some h → StandsOn text.now first tables.old height ps → StandsOn text.now result tables.new h (patterns_after ps op) }
+{
+    if is_over(height, op) {
+        apply(tables, height - 1, op, text);
+        first
+    } else {
+        lowest_after(first, tables, height, op, text)
+    }
+}
+
+/// The operation at a place of the code, where the next one joins what it makes to the sequence below.
+fn joined(code: &[Op], place: usize) -> Option<Op>
+    requires { place < length code.now }
+    ensures { IfSome result (λ op. drop place code.now ≡ op ∷ Op.Sequence ∷ drop (place + 2) code.now) }
+{
+    match code.get(place + 1) {
+        Some(Op::Sequence) => Some(code[place]),
+        _ => None,
+    }
+}
+
+/// The first row of the text's table for the pattern of the code. The lowest pattern on the stack begins where the text does and
+/// is never repeated: its first row is enough. The others have tables.
 fn run(code: &[Op], text: &[char], tables: &mut [Table]) -> Row
     requires few { length text.now ≤ 120 }
     requires whole { height_from 0 code.now ≡ Some 1 }
     requires room { IsWithin (length tables.old) 0 code.now }
     ensures { IsTableRow (pattern_of code.now) text.now 0 result }
 {
+    let mut first = Row::NONE;
     let mut height = 0;
-    for op in code {
-        apply(tables, height, *op, text);
-        height = after(height, *op);
+    let mut place = 0;
+    while place < code.len() {
+        match joined(code, place) {
+            Some(Op::One(mark)) if height == 1 => {
+                first = first.append(mark, text);
+                place += 2;
+            }
+            _ => {
+                let op = code[place];
+                first = step(first, tables, height, op, text);
+                height = after(height, op);
+                place += 1;
+            }
+        }
     }
-    tables[0].rows[0]
+    first
 }
 
 /// The first row, with so many tables.

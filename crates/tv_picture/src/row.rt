@@ -1,8 +1,10 @@
 //! What is known of a pattern from one place of a text on.
 
-ghost use Rattle.std.specs.Prelude.{◌≡◌, ◌↔◌, ◌⊎◌, ℕ, IsTrue};
-ghost use Rattle.tv_picture.specs.Table.{HasPlace, either_next};
+ghost use Rattle.std.specs.Prelude.{◌≡◌, ◌↔◌, ◌≤◌, ◌⊎◌, ℕ, IsTrue, length};
+ghost use Rattle.tv_picture.specs.Pattern.{Pattern, sequence, one};
+ghost use Rattle.tv_picture.specs.Table.{HasPlace, IsTableRow, either_next};
 
+use crate::code::Mark;
 use crate::places::Places;
 
 /// The characters that may follow a text.
@@ -48,6 +50,21 @@ impl Row {
         Row {
             ends: Places::NONE,
             next: self.next,
+        }
+    }
+
+    /// The row from the text's first place on of a sequence: what has this row there, then one character.
+    pub fn append(self, mark: Mark, text: &[char]) -> Row
+        requires { length text.now ≤ 120 }
+        ensures { (a : Pattern) → IsTableRow a text.now 0 self → IsTableRow (sequence a (one mark)) text.now 0 result }
+    {
+        Row {
+            ends: self.ends.after(mark, text),
+            next: if self.ends.has(text.len()) {
+                self.next.join(mark.next())
+            } else {
+                self.next
+            },
         }
     }
 

@@ -86,7 +86,7 @@ impl Table {
     }
 
     /// The row, and those of the table at these places from `start` on below `stop`.
-    fn gather(&self, places: Places, start: usize, stop: usize, first: Row) -> Row
+    pub fn gather(&self, places: Places, start: usize, stop: usize, first: Row) -> Row
         requires order { start ≤ stop }
         requires bound { stop ≤ 121 }
         ensures { Gathers places self.now start stop first result }

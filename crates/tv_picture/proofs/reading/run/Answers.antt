@@ -1,25 +1,28 @@
-use Rattle.std.proofs.Common.{suc, [], ◌≡◌, length, drop, arith, sym, ap, ◌∙◌, subst}
+use Rattle.std.proofs.Common.{suc, ◌≡◌, ◌∷◌, ◌+◌, arith, subst, drop, length}
 use Rattle.std.proofs.Math.Seq.{drop-cons}
-use Rattle.std.proofs.lemmas.List.{drop_all}
-use Rattle.tv_picture.specs.declared.code.Op.TheVariants.{Empty}
-use Rattle.tv_picture.specs.Table.{HasEachRow}
-use Rattle.tv_picture.specs.Code.{run, height_from}
+use Rattle.tv_picture.specs.declared.code.Op.TheVariants.{Empty, Sequence}
+use Rattle.tv_picture.specs.declared.code.Op.{Op}
 use Rattle.tv_picture.specs.Machine.{IsWithin}
-use Rattle.tv_picture.proofs.Stacks.{stands_last, within_now, within_room}
+use Rattle.tv_picture.proofs.Stacks.{within_now, within_room}
+use Rattle.tv_picture.proofs.Lowest.{goes_on, goes_by_mark, goes_to_end}
 use Rattle.tv_picture.proofs.reading.run.Goals as goal
 
-pub apply-requires-clause-room : goal.apply-requires-clause-room
-apply-requires-clause-room c =
-    within_room (length c.loop-op.tables) c.loop-op.height _ (drop (suc c.loop-op.op-index) c.args.code.now)
-    (subst (IsWithin (length c.loop-op.tables) c.loop-op.height) (drop-cons c.args.code.now c.loop-op.op-index Empty (omega arith)) c.loop-op.invariant.1)
+pub loop-place-preserved-then-height-eq1 : goal.loop-place-preserved-then-height-eq1
+loop-place-preserved-then-height-eq1 c = goes_by_mark c.args.text.now c.args.code.now c.loop-place.first c.append-first.result c.loop-place.tables c.loop-place.height c.loop-place.place c.in-Some-One.mark c.if-height-eq1.true
+    (subst (λ (op : Op). drop c.loop-place.place c.args.code.now ≡ op ∷ Sequence ∷ drop (c.loop-place.place + 2) c.args.code.now) c.in-Some-One.field-0-is (c.in-Some-One.ensures {u = tt}))
+    c.append-first.ensures c.loop-place.invariant
 
-pub apply-requires-clause-within : goal.apply-requires-clause-within
-apply-requires-clause-within c = within_now (length c.loop-op.tables) c.loop-op.height (drop c.loop-op.op-index c.args.code.now) c.loop-op.invariant.1
+pub step-first-requires-clause-room : goal.step-first-requires-clause-room
+step-first-requires-clause-room c =
+    within_room (length c.loop-place.tables) c.loop-place.height _ (drop (suc c.loop-place.place) c.args.code.now)
+    (subst (IsWithin (length c.loop-place.tables) c.loop-place.height) (drop-cons c.args.code.now c.loop-place.place Empty (omega arith)) c.loop-place.invariant.1)
+
+pub step-first-requires-clause-within : goal.step-first-requires-clause-within
+step-first-requires-clause-within c = within_now (length c.loop-place.tables) c.loop-place.height (drop c.loop-place.place c.args.code.now) c.loop-place.invariant.1
+
+pub loop-place-preserved : goal.loop-place-preserved
+loop-place-preserved c =
+    goes_on c.args.text.now c.args.code.now c.loop-place.first c.step-first.result c.loop-place.tables c.step-first.new.tables c.loop-place.height c.after-height.result c.loop-place.place _ c.step-first.ensures.count (drop-cons c.args.code.now c.loop-place.place Empty (omega arith)) c.after-height.ensures (λ ps s. c.step-first.ensures.stack ps c.after-height.result c.after-height.ensures s) c.loop-place.invariant
 
 pub returns : goal.returns
-returns c =
-    let end : drop c.loop-op.op-index c.args.code.now ≡ [] = drop_all c.loop-op.op-index c.args.code.now (omega arith) in
-    (stands_last (λ p t. HasEachRow p c.args.text.now t) c.loop-op.tables c.loop-op.height c.loop-op.invariant.2.0 c.args.code.now
-    (ap (height_from c.loop-op.height) (sym end) ∙ c.loop-op.invariant.0)
-    (ap (run c.loop-op.invariant.2.0) (sym end) ∙ c.loop-op.invariant.2.1)
-    c.loop-op.invariant.2.2 _).at 0 (omega arith)
+returns c = goes_to_end c.args.text.now c.args.code.now c.loop-place.first c.loop-place.tables c.loop-place.height c.loop-place.place (omega arith) c.loop-place.invariant

@@ -1,0 +1,13 @@
+use Rattle.std.proofs.Common.{◌≡◌, inl, inr, true, false, refl}
+use Rattle.tv_picture.proofs.Appended.{row_append}
+use Rattle.tv_picture.proofs.row.Row.append.Goals as goal
+
+pub returns-then-has : goal.returns-then-has
+returns-then-has c = λ a h.
+    row_append a c.args.mark c.args.text.now c.args.self (record { ends = c.after.result; next = c.join.result }) h c.after.ensures
+    (inl (c.has.ensures.0 c.if-has.true, (c.next.result, c.next.ensures, c.join.ensures)))
+
+pub returns-else-has : goal.returns-else-has
+returns-else-has c = λ a h.
+    row_append a c.args.mark c.args.text.now c.args.self (record { ends = c.after.result; next = c.args.self.next }) h c.after.ensures
+    (inr ((λ has. let yes : c.has.result ≡ true = c.has.ensures.1 has in let no : c.has.result ≡ false = c.if-has.false in cc), refl))
