@@ -8,9 +8,9 @@ use Rattle.tv_picture.specs.declared.places.Places.{Places}
 use Rattle.tv_picture.specs.declared.row.Next.{Next}
 use Rattle.tv_picture.specs.declared.row.Row.{Row}
 use Rattle.tv_picture.specs.Pattern.{Pattern, empty, one, sequence, group, Allows, IsMember}
-use Rattle.tv_picture.specs.Table.{HasPlace, NamesNext, either_next, Spans, MayFollow, IsTableRow, StandsAt}
+use Rattle.tv_picture.specs.Table.{HasPlace, NamesNext, either_next, MayFollow, IsTableRow, StandsAt}
 use Rattle.tv_picture.proofs.Language.{Through, follows_next, next_of_left, next_of_right}
-use Rattle.tv_picture.proofs.Rows.{dec, Names_same, Names_joined, Meets, spans_parted, spans_met, one_follows, through_at, at_through}
+use Rattle.tv_picture.proofs.Rows.{dec, row_same, Names_same, Names_joined, Meets, spans_parted, spans_met, one_follows, through_at, at_through}
 
 -- the mark stands at a place inside the text
 pub at_within : (m : Mark) (text : List ℕ) (p : ℕ) → StandsAt m text p → p < length text
@@ -137,19 +137,10 @@ row_append a m text row result h ends follow = record {
 
 -- a pattern that begins with the empty sequence
 pub row_alone : (b : Pattern) (text : List ℕ) (row : Row) → IsTableRow (sequence empty b) text 0 row → IsTableRow b text 0 row
-row_alone b text row h = record {
-  ends = λ to. ((λ has. forth to ((h.ends to).0 has)), (λ s. (h.ends to).1 (back to s)));
-  next = Names_same (MayFollow (sequence empty b) text) (MayFollow b text) row.next (λ c f. (f.0, gone ((text ++ c ∷ []) ++ f.0) f.1)) (λ c f. (f.0, ([], (text ++ c ∷ []) ++ f.0, refl, f.1, refl))) h.next;
-}
+row_alone b text row h = row_same (sequence empty b) b text 0 row (λ t. (gone t, λ m. ([], t, refl, m, refl))) h
   where
     gone : (t : List ℕ) → IsMember (sequence empty b) t → IsMember b t
     gone t (u, v, none, m, e) = subst (IsMember b) (sym (e ∙ ap (λ x. x ++ v) none)) m
-
-    forth : (to : ℕ) → Spans (sequence empty b) text 0 to → Spans b text 0 to
-    forth to (u, v, m, e, eto) = (u, v, gone u m, e, eto)
-
-    back : (to : ℕ) → Spans b text 0 to → Spans (sequence empty b) text 0 to
-    back to (u, v, m, e, eto) = (u, v, ([], u, refl, m, refl), e, eto)
 
 -- a pattern in braces
 pub row_group : (a : Pattern) (text : List ℕ) (row : Row) → IsTableRow a text 0 row → IsTableRow (group a) text 0 row

@@ -101,7 +101,7 @@ pub next_of_left : (a b : Pattern) (rest : List ℕ) (c : ℕ) → MayFollow a r
 next_of_left a b rest c (more, m) = let y = has_member b in
     (more ++ y.0, ((rest ++ c ∷ []) ++ more, y.0, m, y.1, sym (append_assoc (rest ++ c ∷ []) more y.0)))
 
-joined_text : (u v rest : List ℕ) (c : ℕ) (more : List ℕ) → rest ≡ u ++ v → (rest ++ c ∷ []) ++ more ≡ u ++ ((v ++ c ∷ []) ++ more)
+pub joined_text : (u v rest : List ℕ) (c : ℕ) (more : List ℕ) → rest ≡ u ++ v → (rest ++ c ∷ []) ++ more ≡ u ++ ((v ++ c ∷ []) ++ more)
 joined_text u v rest c more e = ap (λ x. (x ++ c ∷ []) ++ more) e ∙ simp append_assoc
 
 pub next_of_right : (a b : Pattern) (rest : List ℕ) (c : ℕ) → Through a b rest c → MayFollow (sequence a b) rest c

@@ -2,6 +2,7 @@ pub mod BitLemmas
 pub mod Language
 pub mod Rows
 pub mod Appended
+pub mod Repeated
 pub mod Lowest
 pub mod Stacks
 pub mod Statuses

@@ -1,6 +1,6 @@
 -- The lowest pattern of the stack, of which the first row is known, and those above it.
 use Rattle.std.proofs.Common.{suc, inl, inr, ◌≡◌, ◌+◌, ◌-◌, ◌≤◌, ℕ, List, [], ◌∷◌, ◌++◌, length, length-drop, drop, get_or, true, false, arith, refl, sym, ◌∙◌, ap, subst}
-use Rattle.std.specs.Prelude.{Option, Some}
+use Rattle.std.specs.Prelude.{Option, Some, None}
 use Rattle.std.specs.Option.{option_and_then}
 use Rattle.std.proofs.lemmas.Bool.Decides.{nat_tests}
 use Rattle.std.proofs.lemmas.List.{drop_all}
@@ -11,7 +11,7 @@ use Rattle.tv_picture.specs.declared.row.Row.{Row}
 use Rattle.tv_picture.specs.declared.table.Table.{Table}
 use Rattle.tv_picture.specs.Pattern.{Pattern, one, sequence}
 use Rattle.tv_picture.specs.Code.{patterns_after, run, top, pattern_of, height_after, height_from}
-use Rattle.tv_picture.specs.Machine.{StandsBelow, StandsOn, IsWithin, over_after, leaves_lowest}
+use Rattle.tv_picture.specs.Machine.{StandsBelow, StandsOn, IsWithin, over_after, leaves_lowest, height_joined}
 use Rattle.tv_picture.specs.Table.{IsTableRow, HasEachRow}
 use Rattle.tv_picture.proofs.Stacks.{one_up, within_next, after_one, after_two}
 
@@ -147,20 +147,36 @@ goes_on text code first result old new h k place op same here e makes (high, wit
     cut : drop place code ≡ op ∷ rest
     cut = let next : suc place ≡ place + 1 = omega arith in here ∙ ap (λ (n : ℕ). op ∷ drop n code) next
 
--- a mark at the end of the lowest pattern
-pub goes_by_mark : (text : List ℕ) (code : List Op) (first result : Row) (tables : List Table) (h place : ℕ) (mark : Mark) → h ≡ 1 → drop place code ≡ One mark ∷ Sequence ∷ drop (place + 2) code → ((a : Pattern) → IsTableRow a text 0 first → IsTableRow (sequence a (one mark)) text 0 result) → Goes text code first tables h place → Goes text code result tables h (place + 2)
-goes_by_mark text code first result tables h place mark up cut makes (high, within, inside, (ps, runs, stands)) = (
-  subst (λ (j : ℕ). height_from j rest ≡ Some 1) (sym up) (subst (λ (ops : List Op). height_from 1 ops ≡ Some 1) cut (subst (λ (j : ℕ). height_from j (drop place code) ≡ Some 1) up high)),
-  subst (λ (j : ℕ). IsWithin (length tables) j rest) (sym up) (subst (IsWithin (length tables) 1) cut (subst (λ (j : ℕ). IsWithin (length tables) j (drop place code)) up within)).1.1,
+both_heights : (o : Option ℕ) → option_and_then (λ k. height_after k Sequence) o ≡ Some 1 → (k : ℕ) × (o ≡ Some k) × (height_after k Sequence ≡ Some 1)
+both_heights None e = absurd (cc)
+both_heights (Some k) e = (k, refl, e)
+
+-- two operations in one step, the second of which joins
+pub goes_joined : (text : List ℕ) (code : List Op) (first result : Row) (tables : List Table) (h place : ℕ) (op : Op) → drop place code ≡ op ∷ Sequence ∷ drop (place + 2) code → height_joined h op ≡ Some 1 → ((ps : List Pattern) → StandsOn text first tables h ps → StandsOn text result tables 1 (patterns_after (patterns_after ps op) Sequence)) → Goes text code first tables h place → Goes text code result tables 1 (place + 2)
+goes_joined text code first result tables h place op cut heights makes (high, within, inside, (ps, runs, stands)) = (
+  subst (λ (o : Option ℕ). option_and_then (λ j. height_from j rest) o ≡ Some 1) k.2
+      (subst (λ (o : Option ℕ). option_and_then (λ j. height_from j (Sequence ∷ rest)) o ≡ Some 1) k.1 (subst (λ (ops : List Op). height_from h ops ≡ Some 1) cut high)),
+  within_next (length tables) k.0 1 Sequence rest k.2 (within_next (length tables) h k.0 op (Sequence ∷ rest) k.1 (subst (IsWithin (length tables) h) cut within)),
   omega (arith, length-drop place code, ap length cut),
-  (sequence a.0 (one mark) ∷ [], ap (λ qs. run (patterns_after (patterns_after qs (One mark)) Sequence) rest) (sym a.1) ∙ ap (run ps) (sym cut) ∙ runs, stands_alone text result tables (sequence a.0 (one mark)) (sequence a.0 (one mark) ∷ []) h up refl (makes a.0 a.2)),
+  (patterns_after (patterns_after ps op) Sequence, ap (run ps) (sym cut) ∙ runs, makes ps stands),
 )
   where
     rest : List Op
     rest = drop (place + 2) code
 
-    a : Alone text first ps
-    a = alone text first tables h ps up stands
+    k : (k : ℕ) × (height_after h op ≡ Some k) × (height_after k Sequence ≡ Some 1)
+    k = both_heights (height_after h op) heights
+
+-- what is joined to the lowest pattern
+pub joined_mark : (text : List ℕ) (first result : Row) (tables : List Table) (h : ℕ) (mark : Mark) → h ≡ 1 → ((a : Pattern) → IsTableRow a text 0 first → IsTableRow (sequence a (one mark)) text 0 result) → (ps : List Pattern) → StandsOn text first tables h ps → StandsOn text result tables 1 (patterns_after (patterns_after ps (One mark)) Sequence)
+joined_mark text first result tables h mark up makes ps s =
+    let a = alone text first tables h ps up s in
+    stands_alone text result tables (sequence a.0 (one mark)) (patterns_after (patterns_after ps (One mark)) Sequence) 1 refl (ap (λ qs. patterns_after (patterns_after qs (One mark)) Sequence) a.1) (makes a.0 a.2)
+
+pub joined_repeated : (text : List ℕ) (first result : Row) (tables : List Table) (d : Table) (h : ℕ) (op : Op) (f : Pattern → Pattern) → h ≡ 2 → ((a : Pattern) (qs : List Pattern) → patterns_after (a ∷ qs) op ≡ f a ∷ qs) → ((a b : Pattern) → IsTableRow a text 0 first → HasEachRow b text (get_or tables 0 d) → IsTableRow (sequence a (f b)) text 0 result) → (ps : List Pattern) → StandsOn text first tables h ps → StandsOn text result tables 1 (patterns_after (patterns_after ps op) Sequence)
+joined_repeated text first result tables d h op f two steps makes ps s =
+    let t = pair text first tables h ps two s in
+    stands_alone text result tables (sequence t.0 (f t.1)) (patterns_after (patterns_after ps op) Sequence) 1 refl (ap (λ qs. patterns_after (patterns_after qs op) Sequence) t.2 ∙ ap (λ qs. patterns_after qs Sequence) (steps t.1 (t.0 ∷ []))) (makes t.0 t.1 t.3 (t.4 d))
 
 -- at the end of the code
 pub goes_to_end : (text : List ℕ) (code : List Op) (first : Row) (tables : List Table) (h place : ℕ) → length code ≤ place → Goes text code first tables h place → IsTableRow (pattern_of code) text 0 first

@@ -3,7 +3,8 @@ use Rattle.std.proofs.Common.{suc, zero, ◌≡◌, ◌≢◌, ◌⊎◌, inl, i
 use Rattle.std.proofs.lemmas.List.{get_or-set_same, get_or-set_other, set-get_or}
 use Rattle.std.proofs.Math.ListN.{set}
 use Rattle.std.proofs.Math.Seq.{drop-cons, drop-length}
-use Rattle.std.proofs.lemmas.Bool.Decides.{eqb_tells}
+use Rattle.std.specs.Prelude.{nat_le}
+use Rattle.std.proofs.lemmas.Bool.Decides.{eqb_tells, leb_tells}
 use Rattle.std.proofs.lemmas.List.Elements.{All-nil}
 use Rattle.tv_picture.specs.declared.code.Mark.{Mark}
 use Rattle.tv_picture.specs.declared.places.Places.{Places}
@@ -137,6 +138,36 @@ gathers_more places table start stop first row result order has ends follow g = 
     fewer a b text from c (inl f) = inl (inl f)
     fewer a b text from c (inr (r, above, below, at, f)) = elim (dec r stop) [ inl e ↦ inr (subst (λ (i : ℕ). MayFollow b (drop i text) c) e f) | inr n ↦ inl (inr (r, above, omega arith, at, f)) ]
 
+-- the places below the start don't matter where none is in the set
+pub gathers_all : (places : Places) (table : Table) (start stop : ℕ) (first result : Row) → ((k : ℕ) → k < start → HasPlace places k → ⊥) → Gathers places table start stop first result → Gathers places table 0 stop first result
+gathers_all places table start stop first result none g = record {
+  ends = λ k. ((λ h. wider k ((g.ends k).0 h)), (λ h. (g.ends k).1 (narrower k h)));
+  next = λ a b text from names each. Names_same (λ c. MayFollow a (drop from text) c ⊎ FollowsFrom places b text start stop c) (λ c. MayFollow a (drop from text) c ⊎ FollowsFrom places b text 0 stop c) result.next (more a b text from) (fewer a b text from) (g.next a b text from names (λ r above below has. each r (omega arith) below has));
+}
+  where
+    high : (r : ℕ) → HasPlace places r → start ≤ r
+    high r has = cases (leb_tells start r)
+      where
+        cases : ((nat_le start r ≡ true) × (start ≤ r)) ⊎ ((nat_le start r ≡ false) × (r < start)) → start ≤ r
+        cases (inl (t, above)) = above
+        cases (inr (t, low)) = absurd (none r low has)
+
+    wider : (k : ℕ) → HasPlace first.ends k ⊎ AnyRow places table start stop k → HasPlace first.ends k ⊎ AnyRow places table 0 stop k
+    wider k (inl h) = inl h
+    wider k (inr (r, above, below, has, ends)) = inr (r, omega arith, below, has, ends)
+
+    narrower : (k : ℕ) → HasPlace first.ends k ⊎ AnyRow places table 0 stop k → HasPlace first.ends k ⊎ AnyRow places table start stop k
+    narrower k (inl h) = inl h
+    narrower k (inr (r, above, below, has, ends)) = inr (r, high r has, below, has, ends)
+
+    more : (a b : Pattern) (text : List ℕ) (from c : ℕ) → MayFollow a (drop from text) c ⊎ FollowsFrom places b text start stop c → MayFollow a (drop from text) c ⊎ FollowsFrom places b text 0 stop c
+    more a b text from c (inl f) = inl f
+    more a b text from c (inr (r, above, below, has, f)) = inr (r, omega arith, below, has, f)
+
+    fewer : (a b : Pattern) (text : List ℕ) (from c : ℕ) → MayFollow a (drop from text) c ⊎ FollowsFrom places b text 0 stop c → MayFollow a (drop from text) c ⊎ FollowsFrom places b text start stop c
+    fewer a b text from c (inl f) = inl f
+    fewer a b text from c (inr (r, above, below, has, f)) = inr (r, high r has, below, has, f)
+
 -- the places from one on, counted from it
 abbrev pub IsRest : Places → Places → ℕ → Type 0
 IsRest places rest place = (k : ℕ) → HasPlace rest k ↔ HasPlace places (place + k)
@@ -156,22 +187,24 @@ rest_none places rest place h none k above has =
 
 -- ---- tables
 
-pub Covers_same : (a b : Pattern) (text : List ℕ) (table : Table) → ((t : List ℕ) → IsMember a t ↔ IsMember b t) → HasEachRow a text table → HasEachRow b text table
-Covers_same a b text table same h = record {
-  at = λ from within. record {
-    ends = λ to. ((λ has. forth from to (((h.at from within).ends to).0 has)), (λ s. ((h.at from within).ends to).1 (back from to s)));
-    next = Names_same (MayFollow a (drop from text)) (MayFollow b (drop from text)) (row_at table from).next
-        (λ c f. (f.0, (same ((drop from text ++ c ∷ []) ++ f.0)).0 f.1))
-        (λ c f. (f.0, (same ((drop from text ++ c ∷ []) ++ f.0)).1 f.1))
-        (h.at from within).next;
-  };
+-- what two patterns with the same members have alike
+pub row_same : (a b : Pattern) (rest : List ℕ) (from : ℕ) (row : Row) → ((t : List ℕ) → IsMember a t ↔ IsMember b t) → IsTableRow a rest from row → IsTableRow b rest from row
+row_same a b rest from row same h = record {
+  ends = λ to. ((λ has. forth to ((h.ends to).0 has)), (λ s. (h.ends to).1 (back to s)));
+  next = Names_same (MayFollow a rest) (MayFollow b rest) row.next
+      (λ c f. (f.0, (same ((rest ++ c ∷ []) ++ f.0)).0 f.1))
+      (λ c f. (f.0, (same ((rest ++ c ∷ []) ++ f.0)).1 f.1))
+      h.next;
 }
   where
-    forth : (from to : ℕ) → Spans a (drop from text) from to → Spans b (drop from text) from to
-    forth from to (u, v, m, e, eto) = (u, v, (same u).0 m, e, eto)
+    forth : (to : ℕ) → Spans a rest from to → Spans b rest from to
+    forth to (u, v, m, e, eto) = (u, v, (same u).0 m, e, eto)
 
-    back : (from to : ℕ) → Spans b (drop from text) from to → Spans a (drop from text) from to
-    back from to (u, v, m, e, eto) = (u, v, (same u).1 m, e, eto)
+    back : (to : ℕ) → Spans b rest from to → Spans a rest from to
+    back to (u, v, m, e, eto) = (u, v, (same u).1 m, e, eto)
+
+pub Covers_same : (a b : Pattern) (text : List ℕ) (table : Table) → ((t : List ℕ) → IsMember a t ↔ IsMember b t) → HasEachRow a text table → HasEachRow b text table
+Covers_same a b text table same h = record { at = λ from within. row_same a b (drop from text) from (row_at table from) same (h.at from within) }
 
 -- a member of the sequence, cut where its second part begins
 abbrev pub Meets : Pattern → Pattern → List ℕ → ℕ → ℕ → Type 0

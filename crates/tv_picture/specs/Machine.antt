@@ -1,6 +1,7 @@
 -- What stands on the stack of the machine that runs a pattern's code.
 use Rattle.std.specs.Prelude.{◌≡◌, ℕ, ◌+◌, ◌-◌, ◌≤◌, ◌⊎◌, ◌++◌, List, [], ◌∷◌, Option, Some, None, IfSome, slice_index_or}
 use Rattle.std.specs.Prelude.{Bool, true, if◌then◌else◌, nat_lt}
+use Rattle.std.specs.Option.{option_and_then}
 use Rattle.tv_picture.specs.declared.code.Op.{Op}
 use Rattle.tv_picture.specs.declared.code.Op.TheVariants.{Empty, One, Sequence, Either, Optional, Group}
 use Rattle.tv_picture.specs.declared.code.Op.TheVariants.{Many, Times}
@@ -26,6 +27,10 @@ Made R xs place x (p ∷ ps) = R p x × StandsBelow R xs place ps
 abbrev pub IsWithin : ℕ → ℕ → List Op → Type 0
 IsWithin most h [] = h ≤ most
 IsWithin most h (op ∷ ops) = (h ≤ most) × IfSome (height_after h op) (λ k. IsWithin most k ops)
+
+-- the height after an operation and a `Sequence`
+abbrev pub height_joined : ℕ → Op → Option ℕ
+height_joined h op = option_and_then (λ k. height_after k Sequence) (height_after h op)
 
 -- how many patterns stand above the lowest after an operation on these alone, where they have the parts
 abbrev pub over_after : ℕ → Op → Option ℕ

@@ -3,7 +3,7 @@
 ghost use Rattle.std.specs.Prelude.{◌≡◌, ◌+◌, ◌<◌, ◌≤◌, ◌∷◌, ℕ, List, length, drop, Some, IsSome, IfSome, true, false};
 ghost use Rattle.tv_picture.specs.Pattern.{Pattern};
 ghost use Rattle.tv_picture.specs.Code.{patterns_after, height_after, height_from, pattern_of};
-ghost use Rattle.tv_picture.specs.Machine.{StandsBelow, StandsOn, IsWithin, over_after, leaves_lowest};
+ghost use Rattle.tv_picture.specs.Machine.{StandsBelow, StandsOn, IsWithin, over_after, leaves_lowest, height_joined};
 ghost use Rattle.tv_picture.specs.Table.{HasEachRow, IsTableRow};
 
 use crate::code::{HEIGHT, Op};
@@ -64,7 +64,7 @@ fn lowest_after(first: Row, tables: &[Table], height: usize, op: Op, text: &[cha
     match op {
         Op::Empty => start,
         Op::One(mark) => start.append(mark, text),
-        Op::Sequence => tables[0].gather(first.ends, 0, text.len() + 1, first.unended()),
+        Op::Sequence => tables[0].gather_all(first.ends, text.len() + 1, first.unended()),
         Op::Either => first.join(tables[0].rows[0]),
         Op::Optional => first.join(start),
         Op::Group | Op::Many | Op::Times(_) => first,
@@ -127,6 +127,21 @@ fn joined(code: &[Op], place: usize) -> Option<Op>
     }
 }
 
+/// The first row of the lowest pattern after an operation and after what that makes is joined to it, where one step does both.
+fn joined_after(first: Row, tables: &[Table], height: usize, op: Op, text: &[char]) -> Option<Row>
+    requires few { length text.now ≤ 120 }
+    requires within { height ≤ length tables.now }
+    ensures heights { IfSome result (λ row. height_joined height op ≡ Some 1) }
+    ensures stack { IfSome result (λ row. (ps : List Pattern) → StandsOn text.now first tables.now height ps → StandsOn text.now row tables.now 1 (patterns_after (patterns_after ps op) Op.Sequence)) }
+{
+    match op {
+        Op::One(mark) if height == 1 => Some(first.append(mark, text)),
+        Op::Many if height == 2 => Some(tables[0].many_after(first, text.len())),
+        Op::Times(count) if height == 2 => { Some(tables[0].times_after(first, count, text.len())) }
+        _ => None,
+    }
+}
+
 /// The first row of the text's table for the pattern of the code. The lowest pattern on the stack begins where the text does and
 /// is never repeated: its first row is enough. The others have tables.
 fn run(code: &[Op], text: &[char], tables: &mut [Table]) -> Row
@@ -139,17 +154,17 @@ fn run(code: &[Op], text: &[char], tables: &mut [Table]) -> Row
     let mut height = 0;
     let mut place = 0;
     while place < code.len() {
-        match joined(code, place) {
-            Some(Op::One(mark)) if height == 1 => {
-                first = first.append(mark, text);
-                place += 2;
-            }
-            _ => {
-                let op = code[place];
-                first = step(first, tables, height, op, text);
-                height = after(height, op);
-                place += 1;
-            }
+        if let Some(op) = joined(code, place)
+            && let Some(row) = joined_after(first, tables, height, op, text)
+        {
+            first = row;
+            height = 1;
+            place += 2;
+        } else {
+            let op = code[place];
+            first = step(first, tables, height, op, text);
+            height = after(height, op);
+            place += 1;
         }
     }
     first

@@ -2,7 +2,7 @@
 
 ghost use Rattle.std.specs.Prelude.{◌≡◌, ◌↔◌, ◌+◌, ◌≤◌, ◌<◌, ℕ, List, length, IsTrue};
 ghost use Rattle.tv_picture.specs.Pattern.{Pattern, Allows, empty, one, sequence, either, optional, many, times};
-ghost use Rattle.tv_picture.specs.Table.{HasEachRow, Gathers, NamesNext};
+ghost use Rattle.tv_picture.specs.Table.{HasEachRow, IsTableRow, Gathers, NamesNext};
 
 use crate::code::Mark;
 use crate::places::Places;
@@ -86,7 +86,7 @@ impl Table {
     }
 
     /// The row, and those of the table at these places from `start` on below `stop`.
-    pub fn gather(&self, places: Places, start: usize, stop: usize, first: Row) -> Row
+    fn gather(&self, places: Places, start: usize, stop: usize, first: Row) -> Row
         requires order { start ≤ stop }
         requires bound { stop ≤ 121 }
         ensures { Gathers places self.now start stop first result }
@@ -101,6 +101,45 @@ impl Table {
                 row = row.join(self.rows[place]);
             }
             rest = rest.past(1);
+        }
+        row
+    }
+
+    /// The row, and those of the table at these places below `stop`.
+    pub fn gather_all(&self, places: Places, stop: usize, first: Row) -> Row
+        requires { stop ≤ 121 }
+        ensures { Gathers places self.now 0 stop first result }
+    {
+        self.gather(places, places.first_from(0).min(stop), stop, first)
+    }
+
+    /// The row from the text's first place on of a sequence: what has this row there, then what has this table, any number of
+    /// times. A member ends where it begins or later, so each place is looked at once.
+    pub fn many_after(&self, first: Row, len: usize) -> Row
+        requires { len ≤ 120 }
+        ensures { (a b : Pattern) (text : List ℕ) → length text ≡ len → IsTableRow a text 0 first → HasEachRow b text self.now → IsTableRow (sequence a (many b)) text 0 result }
+    {
+        let mut row = first;
+        for place in 0..len + 1 {
+            if row.ends.has(place) {
+                row = row.join(self.rows[place]);
+            }
+        }
+        row
+    }
+
+    /// The row from the text's first place on of a sequence: what has this row there, then what has this table, so many times.
+    pub fn times_after(&self, first: Row, count: u8, len: usize) -> Row
+        requires { len ≤ 120 }
+        ensures { (a b : Pattern) (text : List ℕ) → length text ≡ len → IsTableRow a text 0 first → HasEachRow b text self.now → IsTableRow (sequence a (times count b)) text 0 result }
+    {
+        let mut row = first;
+        for done in 0..count {
+            let more = self.gather_all(row.ends, len + 1, row.unended());
+            if more.is(row) {
+                return row;
+            }
+            row = more;
         }
         row
     }

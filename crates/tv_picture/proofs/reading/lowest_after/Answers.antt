@@ -27,8 +27,8 @@ returns-in-One c = λ ps h e s.
 
 pub returns-in-Sequence : goal.returns-in-Sequence
 returns-in-Sequence c = λ ps h e s.
-    lowest_joined c.args.text.now c.args.first c.gather.result c.args.tables.now _ c.args.height h ps c.args.op sequence (subst (λ (op : Op). leaves_lowest c.args.height op ≡ false) c.in-Sequence.is c.requires.lowest) (subst (λ (op : Op). height_after c.args.height op ≡ Some h) c.in-Sequence.is e) s (λ a b. ap (patterns_after (b ∷ a ∷ [])) c.in-Sequence.is)
-    (λ a b p q. row_sequence a b c.args.text.now c.args.first _ 0 c.unended.result c.gather.result (omega arith) p q (λ k has. no_place k (subst (λ (f : Row). HasPlace f.ends k) c.unended.ensures has)) (ap (λ (f : Row). f.next) c.unended.ensures) c.gather.ensures)
+    lowest_joined c.args.text.now c.args.first c.gather_all.result c.args.tables.now _ c.args.height h ps c.args.op sequence (subst (λ (op : Op). leaves_lowest c.args.height op ≡ false) c.in-Sequence.is c.requires.lowest) (subst (λ (op : Op). height_after c.args.height op ≡ Some h) c.in-Sequence.is e) s (λ a b. ap (patterns_after (b ∷ a ∷ [])) c.in-Sequence.is)
+    (λ a b p q. row_sequence a b c.args.text.now c.args.first _ 0 c.unended.result c.gather_all.result (omega arith) p q (λ k has. no_place k (subst (λ (f : Row). HasPlace f.ends k) c.unended.ensures has)) (ap (λ (f : Row). f.next) c.unended.ensures) c.gather_all.ensures)
 
 pub returns-in-Either : goal.returns-in-Either
 returns-in-Either c = λ ps h e s.
