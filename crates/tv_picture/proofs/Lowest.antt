@@ -9,7 +9,7 @@ use Rattle.tv_picture.specs.declared.code.Op.{Op}
 use Rattle.tv_picture.specs.declared.code.Op.TheVariants.{Empty, One, Sequence, Either, Optional, Group, Many, Times}
 use Rattle.tv_picture.specs.declared.row.Row.{Row}
 use Rattle.tv_picture.specs.declared.table.Table.{Table}
-use Rattle.tv_picture.specs.Pattern.{Pattern, one, sequence}
+use Rattle.tv_picture.specs.Pattern.{Pattern, one, sequence, many}
 use Rattle.tv_picture.specs.Code.{patterns_after, run, top, pattern_of, height_after, height_from}
 use Rattle.tv_picture.specs.Machine.{StandsBelow, StandsOn, IsWithin, over_after, leaves_lowest, height_joined}
 use Rattle.tv_picture.specs.Table.{IsTableRow, HasEachRow}
@@ -166,6 +166,21 @@ goes_joined text code first result tables h place op cut heights makes (high, wi
 
     k : (k : ℕ) × (height_after h op ≡ Some k) × (height_after k Sequence ≡ Some 1)
     k = both_heights (height_after h op) heights
+
+-- a mark any number of times at the end of the lowest pattern
+pub goes_starred : (text : List ℕ) (code : List Op) (first result : Row) (tables : List Table) (h place : ℕ) (mark : Mark) → h ≡ 1 → drop place code ≡ One mark ∷ Many ∷ Sequence ∷ drop (place + 3) code → ((a : Pattern) → IsTableRow a text 0 first → IsTableRow (sequence a (many (one mark))) text 0 result) → Goes text code first tables h place → Goes text code result tables h (place + 3)
+goes_starred text code first result tables h place mark up cut makes (high, within, inside, (ps, runs, stands)) = (
+  subst (λ (j : ℕ). height_from j rest ≡ Some 1) (sym up) (subst (λ (ops : List Op). height_from 1 ops ≡ Some 1) cut (subst (λ (j : ℕ). height_from j (drop place code) ≡ Some 1) up high)),
+  subst (λ (j : ℕ). IsWithin (length tables) j rest) (sym up) (subst (IsWithin (length tables) 1) cut (subst (λ (j : ℕ). IsWithin (length tables) j (drop place code)) up within)).1.1.1,
+  omega (arith, length-drop place code, ap length cut),
+  (sequence a.0 (many (one mark)) ∷ [], ap (λ qs. run (patterns_after (patterns_after (patterns_after qs (One mark)) Many) Sequence) rest) (sym a.1) ∙ ap (run ps) (sym cut) ∙ runs, stands_alone text result tables (sequence a.0 (many (one mark))) (sequence a.0 (many (one mark)) ∷ []) h up refl (makes a.0 a.2)),
+)
+  where
+    rest : List Op
+    rest = drop (place + 3) code
+
+    a : Alone text first ps
+    a = alone text first tables h ps up stands
 
 -- what is joined to the lowest pattern
 pub joined_mark : (text : List ℕ) (first result : Row) (tables : List Table) (h : ℕ) (mark : Mark) → h ≡ 1 → ((a : Pattern) → IsTableRow a text 0 first → IsTableRow (sequence a (one mark)) text 0 result) → (ps : List Pattern) → StandsOn text first tables h ps → StandsOn text result tables 1 (patterns_after (patterns_after ps (One mark)) Sequence)

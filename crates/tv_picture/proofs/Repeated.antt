@@ -27,17 +27,17 @@ many_snoc b y u (pieces, all, e) m = (
 )
 
 -- from the row so far, with what it began with, and the places below this one looked at
-pub record IsGrown (a b : Pattern) (text : List ℕ) (table : Table) (first : Row) (place : ℕ) (row : Row) : Type 0 where
+pub record IsGrown (a b : Pattern) (text : List ℕ) (first : Row) (place : ℕ) (row : Row) : Type 0 where
   pub sound : (k : ℕ) → HasPlace row.ends k → Spans (sequence a (many b)) text 0 k
   pub start : (k : ℕ) → HasPlace first.ends k → HasPlace row.ends k
-  pub closed : (r : ℕ) → r < place → HasPlace row.ends r → (k : ℕ) → HasPlace (row_at table r).ends k → HasPlace row.ends k
+  pub closed : (r : ℕ) → r < place → HasPlace row.ends r → (k : ℕ) → Spans b (drop r text) r k → HasPlace row.ends k
   pub next : NamesNext (λ c. MayFollow a text c ⊎ ((r : ℕ) × (r < place) × HasPlace row.ends r × MayFollow b (drop r text) c)) row.next
 
 abbrev pub FollowsIn : Pattern → Pattern → List ℕ → ℕ → Row → ℕ → Type 0
 FollowsIn a b text place row c = MayFollow a text c ⊎ ((r : ℕ) × (r < place) × HasPlace row.ends r × MayFollow b (drop r text) c)
 
-pub grown_none : (a b : Pattern) (text : List ℕ) (table : Table) (first : Row) → IsTableRow a text 0 first → IsGrown a b text table first 0 first
-grown_none a b text table first h = record {
+pub grown_none : (a b : Pattern) (text : List ℕ) (first : Row) → IsTableRow a text 0 first → IsGrown a b text first 0 first
+grown_none a b text first h = record {
   sound = λ k has. let s = (h.ends k).0 has in (s.0, s.1, (s.0, [], s.2, ([], All-nil (IsMember b), refl), sym (append-nil s.0)), s.3, s.4);
   start = λ k has. has;
   closed = λ r low. absurd (omega arith);
@@ -63,30 +63,30 @@ spans_more a b text r k (u, v, (x, y, mx, my, eu), e, er) (u', v', m, e', ek) =
 spans_on : (b : Pattern) (rest : List ℕ) (r k : ℕ) → Spans b rest r k → r ≤ k
 spans_on b rest r k (u, v, m, e, ek) = omega arith
 
-module _ (a b : Pattern) (text : List ℕ) (table : Table) (first : Row) (each : HasEachRow b text table) where
-  pub grown_more : (place : ℕ) (row result : Row) → place ≤ length text → HasPlace row.ends place → ((k : ℕ) → HasPlace result.ends k ↔ (HasPlace row.ends k ⊎ HasPlace (row_at table place).ends k)) → result.next ≡ either_next row.next (row_at table place).next → IsGrown a b text table first place row → IsGrown a b text table first (place + 1) result
-  grown_more place row result within has ends follow g = record {
+module _ (a b : Pattern) (text : List ℕ) (first : Row) where
+  pub grown_more : (place : ℕ) (row own result : Row) → IsTableRow b (drop place text) place own → HasPlace row.ends place → ((k : ℕ) → HasPlace result.ends k ↔ (HasPlace row.ends k ⊎ HasPlace own.ends k)) → result.next ≡ either_next row.next own.next → IsGrown a b text first place row → IsGrown a b text first (place + 1) result
+  grown_more place row own result here has ends follow g = record {
     sound = λ k at. sound k ((ends k).0 at);
     start = λ k at. (ends k).1 (inl (g.start k at));
     closed = λ r low at k end. closed r low at k end (dec r place);
     next = subst (NamesNext (FollowsIn a b text (place + 1) result)) (sym follow)
-        (Names_same (λ c. FollowsIn a b text place row c ⊎ MayFollow b (drop place text) c) (FollowsIn a b text (place + 1) result) (either_next row.next (row_at table place).next) forth back
-        (Names_joined (FollowsIn a b text place row) (MayFollow b (drop place text)) row.next (row_at table place).next g.next (each.at place within).next));
+        (Names_same (λ c. FollowsIn a b text place row c ⊎ MayFollow b (drop place text) c) (FollowsIn a b text (place + 1) result) (either_next row.next own.next) forth back
+        (Names_joined (FollowsIn a b text place row) (MayFollow b (drop place text)) row.next own.next g.next here.next));
   }
     where
-      later : (k : ℕ) → HasPlace (row_at table place).ends k → Spans b (drop place text) place k
-      later k at = ((each.at place within).ends k).0 at
+      later : (k : ℕ) → HasPlace own.ends k → Spans b (drop place text) place k
+      later k at = (here.ends k).0 at
 
-      sound : (k : ℕ) → HasPlace row.ends k ⊎ HasPlace (row_at table place).ends k → Spans (sequence a (many b)) text 0 k
+      sound : (k : ℕ) → HasPlace row.ends k ⊎ HasPlace own.ends k → Spans (sequence a (many b)) text 0 k
       sound k (inl at) = g.sound k at
       sound k (inr at) = spans_more a b text place k (g.sound place has) (later k at)
 
-      before : (r : ℕ) → r < place → HasPlace row.ends r ⊎ HasPlace (row_at table place).ends r → HasPlace row.ends r
+      before : (r : ℕ) → r < place → HasPlace row.ends r ⊎ HasPlace own.ends r → HasPlace row.ends r
       before r low (inl at) = at
       before r low (inr at) = absurd (let on = spans_on b (drop place text) place r (later r at) in omega arith)
 
-      closed : (r : ℕ) → r < place + 1 → HasPlace result.ends r → (k : ℕ) → HasPlace (row_at table r).ends k → (r ≡ place) ⊎ (r ≢ place) → HasPlace result.ends k
-      closed r low at k end (inl same) = (ends k).1 (inr (subst (λ (i : ℕ). HasPlace (row_at table i).ends k) same end))
+      closed : (r : ℕ) → r < place + 1 → HasPlace result.ends r → (k : ℕ) → Spans b (drop r text) r k → (r ≡ place) ⊎ (r ≢ place) → HasPlace result.ends k
+      closed r low at k end (inl same) = (ends k).1 (inr ((here.ends k).1 (subst (λ (i : ℕ). Spans b (drop i text) i k) same end)))
       closed r low at k end (inr other) = let lower : r < place = omega arith in (ends k).1 (inl (g.closed r lower (before r lower ((ends r).0 at)) k end))
 
       forth : (c : ℕ) → FollowsIn a b text place row c ⊎ MayFollow b (drop place text) c → FollowsIn a b text (place + 1) result c
@@ -102,7 +102,7 @@ module _ (a b : Pattern) (text : List ℕ) (table : Table) (first : Row) (each :
           cases (inl same) = inr (subst (λ (i : ℕ). MayFollow b (drop i text) c) same f)
           cases (inr other) = let lower : r < place = omega arith in inl (inr (r, lower, before r lower ((ends r).0 at), f))
 
-  pub grown_skip : (place : ℕ) (row : Row) → (HasPlace row.ends place → ⊥) → IsGrown a b text table first place row → IsGrown a b text table first (place + 1) row
+  pub grown_skip : (place : ℕ) (row : Row) → (HasPlace row.ends place → ⊥) → IsGrown a b text first place row → IsGrown a b text first (place + 1) row
   grown_skip place row absent g = record {
     sound = g.sound;
     start = g.start;
@@ -121,9 +121,9 @@ module _ (a b : Pattern) (text : List ℕ) (table : Table) (first : Row) (each :
       back c (inl f) = inl f
       back c (inr (r, low, at, f)) = inr (r, lower r low at, at, f)
 
-  module _ (h : IsTableRow a text 0 first) (row : Row) (g : IsGrown a b text table first (length text + 1) row) where
+  module _ (h : IsTableRow a text 0 first) (row : Row) (g : IsGrown a b text first (length text + 1) row) where
     further : (r : ℕ) (u v : List ℕ) → r ≤ length text → HasPlace row.ends r → drop r text ≡ u ++ v → IsMember b u → HasPlace row.ends (r + length u)
-    further r u v within at e m = g.closed r (omega arith) at (r + length u) (((each.at r within).ends (r + length u)).1 (u, v, m, e, refl))
+    further r u v within at e m = g.closed r (omega arith) at (r + length u) (u, v, m, e, refl)
 
     walks : (pieces : List (List ℕ)) (v : List ℕ) (r k : ℕ) → r ≤ length text → HasPlace row.ends r → drop r text ≡ concat pieces ++ v → All (IsMember b) pieces → k ≡ r + length (concat pieces) → HasPlace row.ends k
     walks [] v r k within at e all ek = let same : r ≡ k = omega arith in subst (HasPlace row.ends) same at

@@ -6,7 +6,7 @@ ghost use Rattle.tv_picture.specs.Code.{patterns_after, height_after, height_fro
 ghost use Rattle.tv_picture.specs.Machine.{StandsBelow, StandsOn, IsWithin, over_after, leaves_lowest, height_joined};
 ghost use Rattle.tv_picture.specs.Table.{HasEachRow, IsTableRow};
 
-use crate::code::{HEIGHT, Op};
+use crate::code::{HEIGHT, Mark, Op};
 use crate::places::Places;
 use crate::row::{Next, Row};
 use crate::table::Table;
@@ -127,6 +127,17 @@ fn joined(code: &[Op], place: usize) -> Option<Op>
     }
 }
 
+/// The mark at a place of the code, where it is repeated any number of times and then joined.
+fn starred(code: &[Op], place: usize) -> Option<Mark>
+    requires { place < length code.now }
+    ensures { IfSome result (λ mark. drop place code.now ≡ Op.One mark ∷ Op.Many ∷ Op.Sequence ∷ drop (place + 3) code.now) }
+{
+    match (code[place], code.get(place + 1), code.get(place + 2)) {
+        (Op::One(mark), Some(Op::Many), Some(Op::Sequence)) => Some(mark),
+        _ => None,
+    }
+}
+
 /// The first row of the lowest pattern after an operation and after what that makes is joined to it, where one step does both.
 fn joined_after(first: Row, tables: &[Table], height: usize, op: Op, text: &[char]) -> Option<Row>
     requires few { length text.now ≤ 120 }
@@ -154,7 +165,12 @@ fn run(code: &[Op], text: &[char], tables: &mut [Table]) -> Row
     let mut height = 0;
     let mut place = 0;
     while place < code.len() {
-        if let Some(op) = joined(code, place)
+        if height == 1
+            && let Some(mark) = starred(code, place)
+        {
+            first = first.append_many(mark, text);
+            place += 3;
+        } else if let Some(op) = joined(code, place)
             && let Some(row) = joined_after(first, tables, height, op, text)
         {
             first = row;
