@@ -85,6 +85,12 @@ after_all places after m text place enough h k = ((λ has. let s = (h k).0 has i
 abbrev pub NextAfter : Row → Mark → List ℕ → Next → Type 0
 NextAfter row m text next = (HasPlace row.ends (length text) × ((own : Next) × NamesNext (Allows m) own × (next ≡ either_next row.next own))) ⊎ ((HasPlace row.ends (length text) → ⊥) × (next ≡ row.next))
 
+pub follows_end : (m : Mark) (text : List ℕ) (c : ℕ) → Allows m c → MayFollow (one m) (drop (length text) text) c
+follows_end m text c allows = subst (λ (t : List ℕ). MayFollow (one m) t c) (sym (drop-length text)) ([], (c, allows, refl))
+
+pub follows_only_end : (m : Mark) (text : List ℕ) (r c : ℕ) → r ≤ length text → MayFollow (one m) (drop r text) c → r ≡ length text
+follows_only_end m text r c low f = omega (arith, length-drop r text, ap length (one_follows m (drop r text) c f).0)
+
 pub row_append : (a : Pattern) (m : Mark) (text : List ℕ) (row result : Row) → IsTableRow a text 0 row → ((k : ℕ) → HasPlace result.ends k ↔ After row.ends m text k) → NextAfter row m text result.next → IsTableRow (sequence a (one m)) text 0 result
 row_append a m text row result h ends follow = record {
   ends = λ to. ((λ has. spans_met a (one m) text 0 to (met to ((ends to).0 has))), (λ s. (ends to).1 (parted to (spans_parted a (one m) text 0 to (omega arith) s))));

@@ -1,8 +1,8 @@
 -- The bits of a union.
-use Rattle.std.proofs.Common.{suc, zero, ◌≡◌, ◌≢◌, ◌⊎◌, inl, inr, ◌↔◌, ℕ, ◌+◌, ◌*◌, ◌/◌, ◌%◌, ◌^◌, ◌<◌, ◌≤◌, max, bit_and, bit_or, arith, refl, ◌∙◌, sym, ap, subst, ◌-◌, div-le_self}
+use Rattle.std.proofs.Common.{suc, zero, ◌≡◌, ◌≢◌, ◌⊎◌, inl, inr, ◌↔◌, ℕ, ◌+◌, ◌*◌, ◌/◌, ◌%◌, ◌^◌, ◌<◌, ◌≤◌, max, bit_and, bit_or, arith, refl, ◌∙◌, sym, ap, subst, ◌-◌, div-le_self, min, bit_xor}
 use Rattle.std.specs.Int.{IsBitSet, bit_at, trailing_zeros, w128}
 use Rattle.std.specs.Int.Count.{trailing_of_zero}
-use Rattle.std.proofs.lemmas.Nat.Bits.{and_pow, bit_at-lt, bit_at-trailing_zeros, bit_at-zero, bit_at_or, bit_at_above, same_from_bits}
+use Rattle.std.proofs.lemmas.Nat.Bits.{and_pow, bit_at_and, bit_at_xor, bit_at-lt, bit_at-trailing_zeros, bit_at-zero, bit_at_or, bit_at_above, same_from_bits}
 use Rattle.std.proofs.lemmas.Nat.{pow_pos, shr-shr}
 use Rattle.std.proofs.Math.Nat.{div-lt_iff_lt-mul}
 
@@ -89,3 +89,31 @@ none_between n p k small above low set =
 
 pub next_is_set : (n p : ℕ) → n < 2 ^ 128 → p + trailing_zeros w128 (n / 2 ^ p) < 128 → IsBitSet n (p + trailing_zeros w128 (n / 2 ^ p))
 next_is_set n p small low = (shifted_bits n p (trailing_zeros w128 (n / 2 ^ p))).0 (lowest_is_set (n / 2 ^ p) (shifted_small n p small) (omega arith))
+
+-- the bits above which there is none at once
+edge_cases : (a b x : ℕ) → a < 2 → b < 2 → x ≡ (a + min a b) % 2 → x ≡ 1 → (a ≡ 1) × (b ≡ 0)
+edge_cases zero b x ha hb e f = absurd (omega (arith, e, f))
+edge_cases (suc zero) zero x ha hb e f = (refl, refl)
+edge_cases (suc zero) (suc zero) x ha hb e f = absurd (omega (arith, e, f))
+edge_cases (suc zero) (suc (suc b)) x ha hb e f = absurd (omega arith)
+edge_cases (suc (suc a)) b x ha hb e f = absurd (omega arith)
+
+edge_bit : (n k : ℕ) → bit_at (bit_xor n (bit_and n (n / 2))) k ≡ (bit_at n k + min (bit_at n k) (bit_at n (1 + k))) % 2
+edge_bit n k = bit_at_xor n (bit_and n (n / 2)) k ∙ ap (λ (x : ℕ). (bit_at n k + x) % 2) (bit_at_and n (n / 2) k ∙ ap (λ (x : ℕ). min (bit_at n k) x) (ap (λ (x : ℕ). x % 2) (shr-shr n 1 k)))
+
+pub edge_bits : (n k : ℕ) → IsBitSet (bit_xor n (bit_and n (n / 2))) k ↔ (IsBitSet n k × (IsBitSet n (k + 1) → ⊥))
+edge_bits n k = (forth, λ h. back h.0 h.1)
+  where
+    up : 1 + k ≡ k + 1
+    up = omega arith
+
+    forth : IsBitSet (bit_xor n (bit_and n (n / 2))) k → IsBitSet n k × (IsBitSet n (k + 1) → ⊥)
+    forth h =
+        let both = edge_cases (bit_at n k) (bit_at n (1 + k)) (bit_at (bit_xor n (bit_and n (n / 2))) k) (bit_at-lt n k) (bit_at-lt n (1 + k)) (edge_bit n k) (bit_is_one (bit_xor n (bit_and n (n / 2))) k h) in
+        (bit_is_set n k both.0, λ above. let one_bit = bit_is_one n (1 + k) (subst (IsBitSet n) (sym up) above) in let none = both.1 in omega (arith, one_bit, none))
+
+    back : IsBitSet n k → (IsBitSet n (k + 1) → ⊥) → IsBitSet (bit_xor n (bit_and n (n / 2))) k
+    back h none =
+        let one_bit : bit_at n k ≡ 1 = bit_is_one n k h in
+        let zero_bit : bit_at n (1 + k) ≡ 0 = not_one (bit_at n (1 + k)) (bit_at-lt n (1 + k)) (λ e. none (subst (IsBitSet n) up (bit_is_set n (1 + k) e))) in
+        bit_is_set (bit_xor n (bit_and n (n / 2))) k (edge_bit n k ∙ ap (λ (x : ℕ). (x + min x (bit_at n (1 + k))) % 2) one_bit ∙ ap (λ (x : ℕ). (1 + min 1 x) % 2) zero_bit)

@@ -3,6 +3,7 @@ pub mod Language
 pub mod Rows
 pub mod Appended
 pub mod Repeated
+pub mod Spread
 pub mod Lowest
 pub mod Stacks
 pub mod Statuses

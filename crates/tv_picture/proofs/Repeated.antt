@@ -6,7 +6,7 @@ use Rattle.std.proofs.lemmas.List.Elements.{All-nil, All-cons, All-head, All-tai
 use Rattle.tv_picture.specs.declared.row.Row.{Row}
 use Rattle.tv_picture.specs.declared.table.Table.{Table}
 use Rattle.tv_picture.specs.Pattern.{Pattern, sequence, many, times, IsMember}
-use Rattle.tv_picture.specs.Table.{HasPlace, NamesNext, either_next, Spans, MayFollow, IsTableRow, HasEachRow, Gathers, row_at}
+use Rattle.tv_picture.specs.Table.{HasPlace, NamesNext, either_next, Spans, MayFollow, IsTableRow, HasEachRow, Gathers}
 use Rattle.tv_picture.proofs.Language.{Through, ThroughMany, follows_next, follows_many, next_of_left, next_of_right, joined_text, drop_past, end_within, times_zero, times_one, times-add}
 use Rattle.tv_picture.proofs.Rows.{dec, Names_same, Names_joined, no_place, row_same, row_sequence, unended}
 
@@ -48,7 +48,7 @@ grown_none a b text first h = record {
     back c (inl f) = f
     back c (inr (r, low, has, f)) = absurd (omega arith)
 
-spans_more : (a b : Pattern) (text : List ℕ) (r k : ℕ) → Spans (sequence a (many b)) text 0 r → Spans b (drop r text) r k → Spans (sequence a (many b)) text 0 k
+pub spans_more : (a b : Pattern) (text : List ℕ) (r k : ℕ) → Spans (sequence a (many b)) text 0 r → Spans b (drop r text) r k → Spans (sequence a (many b)) text 0 k
 spans_more a b text r k (u, v, (x, y, mx, my, eu), e, er) (u', v', m, e', ek) =
     let past : drop r text ≡ v = ap (λ (n : ℕ). drop n text) er ∙ drop_past text 0 u v e in
     let rest : v ≡ u' ++ v' = sym past ∙ e' in (

@@ -77,6 +77,32 @@ impl Places {
         after
     }
 
+    /// The places of the set whose next place isn't in it.
+    fn edges(self) -> Places
+        ensures { (k : ℕ) → HasPlace result k ↔ (HasPlace self k × (HasPlace self (k + 1) → ⊥)) }
+    {
+        Places {
+            bits: self.bits ^ (self.bits & (self.bits >> 1)),
+        }
+    }
+
+    /// The places to which any number of characters lead from those of the set, where the mark stands for each. Only at the edges
+    /// of the set a character can lead to a new place.
+    pub fn spread(self, mark: Mark, text: &[char]) -> Places
+        requires { length text.now ≤ 120 }
+        ensures { (k : ℕ) → HasPlace result k ↔ ((p : ℕ) × HasPlace self p × (p ≤ k) × ((r : ℕ) → p ≤ r → r < k → StandsAt mark text.now r)) }
+    {
+        let mut places = self;
+        let mut place = self.edges().first_from(0);
+        while place < text.len() {
+            if mark.allows(text[place]) {
+                places = places.union(Places::only(place + 1));
+            }
+            place = places.edges().first_from(place + 1);
+        }
+        places
+    }
+
     /// Whether each place of the set is below this one.
     #[inline(always)]
     pub fn is_below(self, place: usize) -> bool

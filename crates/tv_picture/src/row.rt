@@ -1,6 +1,6 @@
 //! What is known of a pattern from one place of a text on.
 
-ghost use Rattle.std.specs.Prelude.{◌≡◌, ◌↔◌, ◌≤◌, ◌⊎◌, ℕ, IsTrue, length, drop};
+ghost use Rattle.std.specs.Prelude.{◌≡◌, ◌↔◌, ◌≤◌, ◌⊎◌, ℕ, IsTrue, length};
 ghost use Rattle.tv_picture.specs.Pattern.{Pattern, sequence, one, many};
 ghost use Rattle.tv_picture.specs.Table.{HasPlace, IsTableRow, either_next};
 
@@ -68,41 +68,20 @@ impl Row {
         }
     }
 
-    /// The row of one character from a place on.
-    #[inline(always)]
-    pub fn of_mark(mark: Mark, text: &[char], place: usize) -> Row
-        requires few { length text.now ≤ 120 }
-        requires within { place ≤ length text.now }
-        ensures { IsTableRow (one mark) (drop place text.now) place result }
-    {
-        if place == text.len() {
-            return Row {
-                ends: Places::NONE,
-                next: mark.next(),
-            };
-        }
-        Row {
-            ends: if mark.allows(text[place]) {
-                Places::only(place + 1)
-            } else {
-                Places::NONE
-            },
-            next: Next::Nothing,
-        }
-    }
-
     /// The row from the text's first place on of a sequence: what has this row there, then one character any number of times.
     pub fn append_many(self, mark: Mark, text: &[char]) -> Row
         requires { length text.now ≤ 120 }
         ensures { (a : Pattern) → IsTableRow a text.now 0 self → IsTableRow (sequence a (many (one mark))) text.now 0 result }
     {
-        let mut row = self;
-        for place in 0..text.len() + 1 {
-            if row.ends.has(place) {
-                row = row.join(Row::of_mark(mark, text, place));
-            }
+        let ends = self.ends.spread(mark, text);
+        Row {
+            ends,
+            next: if ends.has(text.len()) {
+                self.next.join(mark.next())
+            } else {
+                self.next
+            },
         }
-        row
     }
 
     #[inline(always)]
