@@ -2,6 +2,7 @@ pub mod EndLemmas
 pub mod ExcludeLemmas
 pub mod FoundLemmas
 pub mod GivenOpeningLemmas
+pub mod JudgedStartLemmas
 pub mod LackLemmas
 pub mod LawfulDialogLemmas
 pub mod LawfulFocusLemmas

@@ -1,4 +1,4 @@
--- Which faults show by comparing a line with others, list by list.
+-- Which faults show by comparing a line with others, list by list, and which were judged before.
 use Rattle.std.specs.Prelude.{Bool, true, false}
 use Rattle.tv_model.specs.declared.fault.FaultKind.{FaultKind}
 use Rattle.tv_model.specs.declared.fault.FaultKind.TheVariants as faults
@@ -38,3 +38,9 @@ abbrev pub compares_rules : FaultKind → Bool
 compares_rules faults.UnknownInRule = true
 compares_rules faults.ShowsItself = true
 compares_rules _ = false
+
+-- faults of domains and starts, for which each view was judged before
+abbrev pub is_judged_before : FaultKind → Bool
+is_judged_before faults.EmptyDomain = true
+is_judged_before faults.BadStart = true
+is_judged_before _ = false

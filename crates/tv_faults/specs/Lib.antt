@@ -3,3 +3,4 @@ pub mod Order
 pub mod Sound
 pub mod Usable
 pub mod Opened
+pub mod Starts

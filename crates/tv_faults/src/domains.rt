@@ -1,12 +1,11 @@
-//! F12: inputs whose domain is empty.
+//! Domains of inputs.
 
 ghost use Rattle.std.specs.Prelude.{◌≡◌, Some, false, IfOk, IfSome, IfNone, IsTrue};
 ghost use Rattle.tv_valid.specs.Asking.{domain_of};
 ghost use Rattle.tv_valid.specs.Deciding.{has_text};
-ghost use Rattle.tv_model.specs.Faults.Domains.{any_text, has_no_text};
+ghost use Rattle.tv_model.specs.Faults.Domains.{any_text};
 
 use std::alloc::{AllocError, Global};
-use tv_model::Kind;
 use tv_valid::{Domain, DomainFault, InputSpec};
 
 /// Makes the domain that the input asks for, or returns `None` where its picture isn't well-formed or no text lies in
@@ -19,15 +18,5 @@ pub fn domain_of(alloc: Global, spec: &InputSpec) -> Result<Option<Domain>, Allo
         Ok(domain) => Ok(Some(domain)),
         Err(DomainFault::NoMemory) => Err(AllocError),
         Err(DomainFault::BadPicture(_) | DomainFault::Empty) => Ok(None),
-    }
-}
-
-/// Whether it is an input with a bad picture, or with a domain in which no text lies.
-pub fn has_no_text(alloc: Global, kind: &Kind) -> Result<bool, AllocError>
-    ensures { IfOk result (λ empty. empty ≡ has_no_text kind.now) }
-{
-    match kind {
-        Kind::Input(input) => Ok(domain_of(alloc, &input.spec)?.is_none()),
-        _ => Ok(false),
     }
 }

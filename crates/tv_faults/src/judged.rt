@@ -1,16 +1,18 @@
 //! Searches each list for the lines that have a fault. Where that compares a line with others, another crate has the
-//! search.
+//! search. Domains and starts were judged before.
 
 ghost use Rattle.std.specs.Prelude.{◌≡◌, IfOk};
 ghost use Rattle.tv_model.specs.Faults.{dialog_has, item_has, menu_has, rule_has, status_has, view_has, window_has};
 ghost use Rattle.tv_model.specs.Faults.Each.{each_after};
 
+use crate::bodies::Body;
 use crate::defaults::second_defaults;
 use crate::judge::judge_each;
 use crate::openings::opened_badly;
 use crate::own::{OfDialogs, OfItems, OfMenus, OfRules, OfStatusItems, OfViews, OfWindows};
+use crate::starts::{bad_starts, empty_domains};
 use std::alloc::{AllocError, Global};
-use tv_model::{Desc, Dialog, Ends, FaultKind, Menu, MenuItem, Node, Window};
+use tv_model::{Desc, Dialog, FaultKind, Menu, MenuItem, Window};
 use tv_names::{
     bad_keys, dialogs_named_again, items_again, marks_again, names_again, numbered_again,
     show_themselves, titled_again, unknown_names, unlinked_labels, windows_named_again,
@@ -81,16 +83,16 @@ pub fn faulty_dialogs(alloc: Global, kind: FaultKind, desc: &Desc) -> Result<Vec
     }
 }
 
-/// Returns for each view of a window or dialog with these ends whether its line has the fault.
-pub fn faulty_views(
-    alloc: Global,
-    kind: FaultKind,
-    frame: &Node,
-    ends: Ends,
-    views: &[Node],
-) -> Result<Vec<bool>, AllocError>
-    ensures { IfOk result (λ faulty. faulty.items ≡ each_after (view_has kind frame.now ends views.now) views.now) }
+/// Returns for each view of a window or dialog whether its line has the fault.
+pub fn faulty_views(alloc: Global, kind: FaultKind, body: &Body) -> Result<Vec<bool>, AllocError>
+    ensures { IfOk result (λ faulty. faulty.items ≡ each_after (view_has kind body.now.frame.now body.now.ends body.now.views.now) body.now.views.now) }
 {
+    let Body {
+        frame,
+        ends,
+        views,
+        starts,
+    } = *body;
     match kind {
         FaultKind::NameTwice => names_again(alloc, views),
         FaultKind::OutsideOwner => are_outside(alloc, frame, views),
@@ -98,6 +100,8 @@ pub fn faulty_views(
         FaultKind::LetterTwice => marks_again(alloc, views),
         FaultKind::LabelLink => unlinked_labels(alloc, views),
         FaultKind::SecondDefault => second_defaults(alloc, views),
+        FaultKind::EmptyDomain => empty_domains(alloc, starts),
+        FaultKind::BadStart => bad_starts(alloc, starts),
         _ => judge_each(
             alloc,
             &OfViews {

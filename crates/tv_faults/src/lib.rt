@@ -1,6 +1,7 @@
 //! The faults that no description of dialogs should have.
 #![tactic(auto)]
 
+mod bodies;
 mod defaults;
 mod domains;
 mod ends;

@@ -6,7 +6,9 @@ ghost use Rattle.tv_model.specs.Faults.{dialog_lines, fault_at, faults_at, fault
 ghost use Rattle.tv_declarations.specs.Spelling.{IsDescription};
 ghost use Rattle.tv_faults.specs.Order.{AreInOrder};
 ghost use Rattle.tv_faults.specs.Sound.{Sound};
+ghost use Rattle.tv_faults.specs.Starts.{AreStartsIn, starts_of};
 
+use crate::bodies::{Body, Starts, judge_all_starts};
 use crate::judged::{
     faulty_dialogs, faulty_items, faulty_menus, faulty_rules, faulty_status_items, faulty_views,
     faulty_windows,
@@ -14,8 +16,9 @@ use crate::judged::{
 use crate::limits::is_lawful_screen;
 use crate::line::{add_if, add_where};
 use crate::openings::starts_nowhere;
+use crate::starts::StartFaults;
 use std::alloc::{AllocError, Global};
-use tv_model::{Desc, Dialog, Ends, Fault, FaultKind, Menu, Node, Sequence, Window};
+use tv_model::{Desc, Dialog, Ends, Fault, FaultKind, Menu, Sequence, Window};
 
 // The faults, in the order of their numbers.
 const KINDS: [FaultKind; 17] = [
@@ -93,14 +96,12 @@ fn add_views(
     alloc: Global,
     found: &mut Sequence<Fault>,
     kind: FaultKind,
-    frame: &Node,
-    ends: Ends,
-    views: &[Node],
+    body: &Body,
 ) -> Result<(), AllocError>
-    ensures { OnOk result (found.new ≡ found.old ++ map (fault_at kind) (view_lines kind frame.now ends views.now)) }
+    ensures { OnOk result (found.new ≡ found.old ++ map (fault_at kind) (view_lines kind body.now.frame.now body.now.ends body.now.views.now)) }
 {
-    let faulty = faulty_views(alloc, kind, frame, ends, views)?;
-    add_where(found, kind, views, faulty.as_slice())
+    let faulty = faulty_views(alloc, kind, body)?;
+    add_where(found, kind, body.views, faulty.as_slice())
 }
 
 // Adds the rules of the dialog that have the fault.
@@ -144,7 +145,9 @@ fn add_windows(
     found: &mut Sequence<Fault>,
     kind: FaultKind,
     windows: &[Window],
+    starts: &[Sequence<StartFaults>],
 ) -> Result<(), AllocError>
+    requires { starts.now ≡ map (λ window. starts_of window.views) windows.now }
     ensures { OnOk result (found.new ≡ found.old ++ map (fault_at kind) (flat_map (λ pair. window_lines kind pair.0 pair.1) (after_seen [] windows.now))) }
 {
     let faulty = faulty_windows(alloc, kind, windows)?;
@@ -155,9 +158,12 @@ fn add_windows(
             alloc,
             found,
             kind,
-            &window.node,
-            NO_ENDS,
-            window.views.as_slice(),
+            &Body {
+                frame: &window.node,
+                ends: NO_ENDS,
+                views: window.views.as_slice(),
+                starts: starts[i].as_slice(),
+            },
         )?;
     }
     Ok(())
@@ -170,7 +176,9 @@ fn add_dialogs(
     found: &mut Sequence<Fault>,
     kind: FaultKind,
     desc: &Desc,
+    starts: &[Sequence<StartFaults>],
 ) -> Result<(), AllocError>
+    requires { starts.now ≡ map (λ dialog. starts_of dialog.views) desc.now.dialogs }
     ensures { OnOk result (found.new ≡ found.old ++ map (fault_at kind) (flat_map (λ pair. dialog_lines kind desc.now pair.0 pair.1) (after_seen [] desc.now.dialogs))) }
 {
     let dialogs = desc.dialogs.as_slice();
@@ -182,9 +190,12 @@ fn add_dialogs(
             alloc,
             found,
             kind,
-            &dialog.node,
-            dialog.head().ends,
-            dialog.views.as_slice(),
+            &Body {
+                frame: &dialog.node,
+                ends: dialog.head().ends,
+                views: dialog.views.as_slice(),
+                starts: starts[i].as_slice(),
+            },
         )?;
         add_rules(alloc, found, kind, dialog)?;
     }
@@ -197,14 +208,22 @@ fn add_kind(
     found: &mut Sequence<Fault>,
     kind: FaultKind,
     desc: &Desc,
+    starts: &Starts,
 ) -> Result<(), AllocError>
+    requires { AreStartsIn desc.now starts.now }
     ensures { OnOk result (found.new ≡ found.old ++ faults_at kind desc.now) }
 {
     add_head(found, kind, desc)?;
     add_menus(alloc, found, kind, desc.menus.as_slice())?;
     add_status(alloc, found, kind, desc)?;
-    add_windows(alloc, found, kind, desc.windows.as_slice())?;
-    add_dialogs(alloc, found, kind, desc)?;
+    add_windows(
+        alloc,
+        found,
+        kind,
+        desc.windows.as_slice(),
+        starts.in_windows.as_slice(),
+    )?;
+    add_dialogs(alloc, found, kind, desc, starts.in_dialogs.as_slice())?;
     Ok(())
 }
 
@@ -215,9 +234,10 @@ pub fn faults(alloc: Global, desc: &Desc) -> Result<Sequence<Fault>, AllocError>
     ensures order { IsDescription desc.now → IfOk result AreInOrder }
     ensures sound { IfOk result (λ list. (list ≡ []) ↔ Sound desc.now) }
 {
+    let starts = judge_all_starts(alloc, desc)?;
     let mut found = Sequence::new(alloc);
     for kind in &KINDS {
-        add_kind(alloc, &mut found, *kind, desc)?;
+        add_kind(alloc, &mut found, *kind, desc, &starts)?;
     }
     Ok(found)
 }

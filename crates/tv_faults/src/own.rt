@@ -2,16 +2,14 @@
 
 ghost use Rattle.std.specs.Prelude.{◌≡◌, false};
 ghost use Rattle.tv_model.specs.Faults.{dialog_has, item_has, menu_has, rule_has, status_has, view_has, window_has};
-ghost use Rattle.tv_faults.specs.Compared.{compares_dialogs, compares_items, compares_menus, compares_rules, compares_status_items, compares_views, compares_windows};
+ghost use Rattle.tv_faults.specs.Compared.{compares_dialogs, compares_items, compares_menus, compares_rules, compares_status_items, compares_views, compares_windows, is_judged_before};
 
-use crate::domains::has_no_text;
 use crate::ends::{lacks_cancel, lacks_end};
 use crate::judge::Judge;
 use crate::limits::{
     dialog_outside_limits, item_outside_limits, menu_outside_limits, rule_outside_limits,
     status_outside_limits, view_outside_limits, window_outside_limits,
 };
-use crate::starts::starts_badly;
 use crate::wide::{has_wide, is_wide_text};
 use std::alloc::{AllocError, Global};
 use tv_model::{Desc, Dialog, Ends, FaultKind, Menu, MenuItem, Node, Rule, StatusItem, Window};
@@ -63,6 +61,7 @@ pub struct OfViews<'a> {
     pub ends: Ends,
     pub views: &'a [Node],
     ghost own: { compares_views kind ≡ false },
+    ghost unjudged: { is_judged_before kind ≡ false },
 }
 
 /// Judges the rules of the dialog.
@@ -166,11 +165,9 @@ impl<'a> Judge for OfViews<'a> {
 
     ghost judges = { λ judge. view_has judge.kind judge.frame.now judge.ends judge.views.now };
 
-    fn judge(&self, alloc: Global, before: &[Node], node: &Node) -> Result<bool, AllocError> {
+    fn judge(&self, _alloc: Global, before: &[Node], node: &Node) -> Result<bool, AllocError> {
         Ok(match self.kind {
             FaultKind::MissingEnd => lacks_end(self.ends, node),
-            FaultKind::EmptyDomain => has_no_text(alloc, &node.kind)?,
-            FaultKind::BadStart => starts_badly(alloc, &node.kind)?,
             FaultKind::WideCharacter => has_wide(node),
             FaultKind::OutsideLimits => view_outside_limits(before, node),
             _ => false,

@@ -1,16 +1,26 @@
-//! F13: start values that can't be.
+//! F12 and F13: inputs whose domain is empty, and start values that can't be. Both ask for an input's domain, which is
+//! made once.
 
-ghost use Rattle.std.specs.Prelude.{◌≡◌, not, IfOk};
+ghost use Rattle.std.specs.Prelude.{◌≡◌, map, not, IfOk};
 ghost use Rattle.std.specs.List.{list_any};
 ghost use Rattle.tv_valid.specs.Deciding.{viable};
 ghost use Rattle.tv_model.specs.Description.Rules.{is_item};
 ghost use Rattle.tv_model.specs.Faults.Starts.{starts_outside};
-ghost use Rattle.tv_model.specs.Faults.Domains.{starts_badly, starts_unviable};
+ghost use Rattle.tv_faults.specs.Starts.{start_faults, starts_of};
 
 use crate::domains::domain_of;
 use std::alloc::{AllocError, Global};
-use tv_model::{Kind, is_item};
+use tv_model::{Input, Kind, Node, Sequence, is_item};
 use tv_valid::{Chars, Domain, Text};
+
+/// Which of F12 and F13 a view has.
+#[derive(Clone, Copy)]
+pub struct StartFaults {
+    /// Whether it is an input with a bad picture, or with a domain in which no text lies.
+    pub empty_domain: bool,
+    /// Whether it starts with a text that isn't viable, or with an item that it doesn't have.
+    pub bad_start: bool,
+}
 
 fn starts_among(start: &[i32], count: usize) -> bool
     ensures { result ≡ list_any (λ item. not (is_item item count)) start.now }
@@ -42,22 +52,56 @@ fn is_viable(domain: &Domain, text: &Chars) -> bool
     }
 }
 
-// Whether it is an input that has a domain and starts with a text that may not stand in it.
-fn starts_unviable(alloc: Global, kind: &Kind) -> Result<bool, AllocError>
-    ensures { IfOk result (λ bad. bad ≡ starts_unviable kind.now) }
+// What the domain and the start text of an input have.
+fn input_faults(alloc: Global, input: &Input) -> Result<StartFaults, AllocError>
+    ensures { IfOk result (λ faults. faults ≡ start_faults (Kind.Input input.now)) }
+{
+    Ok(match domain_of(alloc, &input.spec)? {
+        Some(domain) => StartFaults {
+            empty_domain: false,
+            bad_start: !is_viable(&domain, &input.start),
+        },
+        None => StartFaults {
+            empty_domain: true,
+            bad_start: false,
+        },
+    })
+}
+
+// What the domain and the start of a view have.
+fn start_faults(alloc: Global, kind: &Kind) -> Result<StartFaults, AllocError>
+    ensures { IfOk result (λ faults. faults ≡ start_faults kind.now) }
 {
     match kind {
-        Kind::Input(input) => match domain_of(alloc, &input.spec)? {
-            Some(domain) => Ok(!is_viable(&domain, &input.start)),
-            None => Ok(false),
-        },
-        _ => Ok(false),
+        Kind::Input(input) => input_faults(alloc, input),
+        _ => Ok(StartFaults {
+            empty_domain: false,
+            bad_start: starts_outside(kind),
+        }),
     }
 }
 
-/// Whether the declaration starts with a text that isn't viable, or with an item that it doesn't have.
-pub fn starts_badly(alloc: Global, kind: &Kind) -> Result<bool, AllocError>
-    ensures { IfOk result (λ bad. bad ≡ starts_badly kind.now) }
+/// Judges the domain and the start of each view of a window or dialog.
+pub fn judge_starts(alloc: Global, views: &[Node]) -> Result<Sequence<StartFaults>, AllocError>
+    ensures { IfOk result (λ starts. starts ≡ starts_of views.now) }
 {
-    Ok(starts_outside(kind) || starts_unviable(alloc, kind)?)
+    let mut starts = Sequence::new(alloc);
+    for view in views {
+        starts.push(start_faults(alloc, &view.kind)?)?;
+    }
+    Ok(starts)
+}
+
+/// Returns of each whether the domain is empty.
+pub fn empty_domains(alloc: Global, starts: &[StartFaults]) -> Result<Vec<bool>, AllocError>
+    ensures { IfOk result (λ empty. empty.items ≡ map (λ start. start.empty_domain) starts.now) }
+{
+    starts.iter().map(|start| start.empty_domain).collect(alloc)
+}
+
+/// Returns of each whether the start is bad.
+pub fn bad_starts(alloc: Global, starts: &[StartFaults]) -> Result<Vec<bool>, AllocError>
+    ensures { IfOk result (λ bad. bad.items ≡ map (λ start. start.bad_start) starts.now) }
+{
+    starts.iter().map(|start| start.bad_start).collect(alloc)
 }

@@ -3,4 +3,6 @@ use Rattle.tv_model.specs.Faults.{view_has}
 use Rattle.tv_faults.proofs.list.add_views.Goals as goal
 
 pub returns : goal.returns
-returns c = c.add_where.ensures (view_has c.args.kind c.args.frame.now c.args.ends c.args.views.now) (c.as_slice.ensures.value ∙ c.in_ok-faulty.ensures)
+returns c =
+    c.add_where.ensures (view_has c.args.kind c.args.body.now.frame.now c.args.body.now.ends c.args.body.now.views.now)
+    (c.as_slice.ensures.value ∙ c.in_ok-faulty.ensures)
