@@ -1,7 +1,7 @@
 //! Views by what they take of their owner.
 
 ghost use Rattle.std.specs.Prelude.{◌≡◌, fold};
-ghost use Rattle.tv_overlaps.specs.Marks.{span_of_both, nowhere};
+ghost use Rattle.tv_overlaps.specs.Marks.{collide, span_of_both, nowhere};
 ghost use Rattle.tv_overlaps.specs.Placing.{weight_of};
 
 use crate::span::Span;
@@ -18,6 +18,17 @@ pub struct Placed {
     pub columns: Span,
     /// A point has room for 3. So a pane weighs 3, a control 2 and any other view 1.
     pub weight: u8,
+}
+
+impl Placed {
+    /// Whether the two share a point, which hasn't room for both.
+    pub fn collides(&self, other: &Placed) -> bool
+        ensures { result ≡ collide self.now other.now }
+    {
+        self.rows.meets(&other.rows)
+            && self.columns.meets(&other.columns)
+            && u16::from(self.weight) + u16::from(other.weight) > 3
+    }
 }
 
 /// Returns what a view of this kind weighs.

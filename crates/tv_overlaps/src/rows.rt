@@ -1,13 +1,16 @@
 //! Views that clash with an earlier one in some point.
 
 ghost use Rattle.std.specs.Prelude.{◌≡◌, true, filter, length, IfOk, OnOk};
-ghost use Rattle.std.specs.List.{All};
+ghost use Rattle.std.specs.List.{All, list_any};
 ghost use Rattle.tv_overlaps.specs.Marks.{AreMarked, IsPlacedItem, collide, enters, meets};
 
 use crate::columns::mark_columns;
 use crate::placed::{Placed, columns_of};
 use crate::span::Span;
 use std::alloc::{AllocError, Global};
+
+// So many items are compared in pairs, which is faster than to part them. A lawful window or dialog has no more.
+const FEW: usize = 64;
 
 // The items that have rows of this half, and not all rows.
 fn inner(alloc: Global, rows: Span, half: Span, items: &[Placed]) -> Result<Vec<Placed>, AllocError>
@@ -18,6 +21,25 @@ fn inner(alloc: Global, rows: Span, half: Span, items: &[Placed]) -> Result<Vec<
         .filter(|item| item.rows.enters(&rows, &half))
         .copied()
         .collect(alloc)
+}
+
+// Whether the item clashes with one of those before it and shares a point with it.
+fn is_hit(before: &[Placed], item: &Placed) -> bool
+    ensures { result ≡ list_any (λ other. collide other item.now) before.now }
+{
+    before.iter().any(|other| other.collides(item))
+}
+
+// Marks the items that clash with an earlier one and share a point with it, each beside all those before it.
+fn mark_few(marks: &mut [bool], items: &[Placed])
+    requires { All (IsPlacedItem (length marks.old)) items.now }
+    ensures { AreMarked collide items.now marks.old marks.new }
+{
+    for (i, item) in items.iter().enumerate() {
+        if is_hit(&items[..i], item) {
+            marks[item.place] = true;
+        }
+    }
 }
 
 /// Marks the items that clash with an earlier one and share a point with it. They have something in the rows.
@@ -32,7 +54,8 @@ pub fn mark_rows(
     ensures len { length marks.new ≡ length marks.old }
     ensures marks { OnOk result (AreMarked collide items.now marks.old marks.new) }
 {
-    if items.len() < 2 {
+    if items.len() <= FEW {
+        mark_few(marks, items);
         return Ok(());
     }
     // What fills the rows shares one with every other item there. Two that don't share one in one of the halves.

@@ -2,12 +2,8 @@ use Rattle.std.proofs.Common.{length, ◌∙◌, arith}
 use Rattle.std.proofs.lemmas.Int.{ints}
 use Rattle.tv_overlaps.specs.Marks.{collide, collide_filling, enters}
 use Rattle.tv_overlaps.proofs.HalfLemmas.{columns_meet, enter_rows, narrow_rows, part_of, split_rows}
-use Rattle.tv_overlaps.proofs.HitLemmas.{all_parts, hit_few, marked_none, marked_same, marked_split}
+use Rattle.tv_overlaps.proofs.HitLemmas.{all_parts, marked_same, marked_split}
 use Rattle.tv_overlaps.proofs.rows.+mark_rows.Goals as goal
-
-pub returns-then-items-lt2-clause-marks : goal.returns-then-items-lt2-clause-marks
-returns-then-items-lt2-clause-marks t c =
-    marked_none collide c.args.items.now c.args.marks.now (λ place. hit_few collide place c.args.items.now c.if-items-lt2.true)
 
 pub returns-in_default-clause-marks : goal.returns-in_default-clause-marks
 returns-in_default-clause-marks t c =
