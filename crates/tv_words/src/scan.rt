@@ -1,6 +1,6 @@
 //! The words of a line, read character by character.
 
-ghost use Rattle.std.specs.Prelude.{◌≡◌, List, [], ◌∷◌, ◌++◌, chars, find, not, ◌==◌, IfOk, IfSome, Some};
+ghost use Rattle.std.specs.Prelude.{◌≡◌, ℕ, List, [], ◌∷◌, ◌++◌, chars, find, not, false, ◌==◌, IfOk, IfSome, IsTrue, None, Some, option_map};
 ghost use Rattle.std.specs.List.{list_any};
 ghost use Rattle.std.specs.Char.{is_control};
 ghost use Rattle.tv_words.specs.declared.word.Word.{Word as SeenWord};
@@ -10,6 +10,7 @@ ghost use Rattle.tv_words.specs.Words.{is_comment, SpellsWords};
 use crate::word::Word;
 use crate::words::Words;
 use std::alloc::{AllocError, Global};
+use std::mem;
 use tv_valid::Chars;
 
 // What the characters so far leave open.
@@ -35,27 +36,47 @@ impl Scanner {
     fn new(alloc: Global) -> Scanner
         ensures { result ≡ at [] Mode.Between }
     {
-        at(Words::new(alloc), Mode::Between)
+        Scanner {
+            words: Words::new(alloc),
+            mode: Mode::Between,
+        }
     }
 
-    // Adds the character to the text, or gives `None` where it can't stand there.
-    fn take(self, alloc: Global, ch: char) -> Result<Option<Scanner>, AllocError>
-        ensures { IfOk result (λ next. next ≡ take_char self ch) }
+    // Takes one character more. Returns whether it can stand there: where it can't, no more is read.
+    fn take(&mut self, alloc: Global, ch: char) -> Result<bool, AllocError>
+        ensures yes { IfOk result (λ took. IsTrue took → take_char self.old ch ≡ Some self.new) }
+        ensures no { IfOk result (λ took. took ≡ false → take_char self.old ch ≡ None) }
     {
-        let Scanner { words, mode } = self;
-        match (mode, ch) {
-            (Mode::Between | Mode::Closed, ' ') => Ok(Some(at(words, Mode::Between))),
-            (Mode::Between, '"') => Ok(Some(at(words, Mode::InQuoted(Chars::new(alloc))))),
-            (Mode::Between, _) => Ok(Some(at(words, Mode::InBare(with(Chars::new(alloc), ch)?)))),
-            (Mode::InBare(text), ' ') => end_word(words, Word::Bare(text), Mode::Between),
-            (Mode::InBare(_), '"') => Ok(None),
-            (Mode::InBare(text), _) => Ok(Some(at(words, Mode::InBare(with(text, ch)?)))),
-            (Mode::InQuoted(text), '"') => end_word(words, Word::Quoted(text), Mode::Closed),
-            (Mode::InQuoted(text), '\\') => Ok(Some(at(words, Mode::InEscape(text)))),
-            (Mode::InQuoted(text), _) => Ok(Some(at(words, Mode::InQuoted(with(text, ch)?)))),
-            (Mode::InEscape(text), _) => unescape(words, text, ch),
-            (Mode::Closed, _) => Ok(None),
+        match (&mut self.mode, ch) {
+            (Mode::Between | Mode::Closed, ' ') => self.mode = Mode::Between,
+            (Mode::Between, '"') => self.mode = Mode::InQuoted(Chars::new(alloc)),
+            (Mode::Between, _) => self.mode = Mode::InBare(with(Chars::new(alloc), ch)?),
+            (Mode::InBare(text), ' ') => {
+                let text = mem::replace(text, Chars::new(alloc));
+                self.words.push(Word::Bare(text))?;
+                self.mode = Mode::Between;
+            }
+            (Mode::InBare(_), '"') => return Ok(false),
+            (Mode::InBare(text), _) => text.push(ch)?,
+            (Mode::InQuoted(text), '"') => {
+                let text = mem::replace(text, Chars::new(alloc));
+                self.words.push(Word::Quoted(text))?;
+                self.mode = Mode::Closed;
+            }
+            (Mode::InQuoted(text), '\\') => {
+                self.mode = Mode::InEscape(mem::replace(text, Chars::new(alloc)));
+            }
+            (Mode::InQuoted(text), _) => text.push(ch)?,
+            (Mode::InEscape(text), _) => {
+                let Some(meant) = unescaped(ch) else {
+                    return Ok(false);
+                };
+                let text = mem::replace(text, Chars::new(alloc));
+                self.mode = Mode::InQuoted(with(text, meant)?);
+            }
+            (Mode::Closed, _) => return Ok(false),
         }
+        Ok(true)
     }
 
     // The words at the end of the line.
@@ -74,12 +95,6 @@ impl Scanner {
     }
 }
 
-fn at(words: Words, mode: Mode) -> Scanner
-    ensures { result ≡ at words mode }
-{
-    Scanner { words, mode }
-}
-
 fn with(mut text: Chars, ch: char) -> Result<Chars, AllocError>
     ensures { IfOk result (λ longer. longer ≡ text ++ ch ∷ []) }
 {
@@ -87,23 +102,16 @@ fn with(mut text: Chars, ch: char) -> Result<Chars, AllocError>
     Ok(text)
 }
 
-fn end_word(mut words: Words, word: Word, mode: Mode) -> Result<Option<Scanner>, AllocError>
-    ensures { IfOk result (λ next. next ≡ Some (at (words ++ word ∷ []) mode)) }
+// What the character after a backslash means.
+fn unescaped(ch: char) -> Option<char>
+    ensures { (words : List SeenWord) (text : List ℕ) → take_char (at words (Mode.InEscape text)) ch ≡ option_map (λ meant. at words (Mode.InQuoted (text ++ meant ∷ []))) result }
 {
-    words.push(word)?;
-    Ok(Some(at(words, mode)))
-}
-
-fn unescape(words: Words, text: Chars, ch: char) -> Result<Option<Scanner>, AllocError>
-    ensures { IfOk result (λ next. next ≡ take_char (at words (Mode.InEscape text)) ch) }
-{
-    let meant = match ch {
-        '"' => '"',
-        '\\' => '\\',
-        'n' => '\n',
-        _ => return Ok(None),
-    };
-    Ok(Some(at(words, Mode::InQuoted(with(text, meant)?))))
+    match ch {
+        '"' => Some('"'),
+        '\\' => Some('\\'),
+        'n' => Some('\n'),
+        _ => None,
+    }
 }
 
 fn first_visible(text: &str) -> Option<char>
@@ -129,9 +137,9 @@ fn scan(alloc: Global, text: &str) -> Result<Option<Words>, AllocError>
 {
     let mut scanner = Scanner::new(alloc);
     for ch in text.chars() {
-        match scanner.take(alloc, ch)? {
-            Some(next) => scanner = next,
-            None => return Ok(None),
+        let fits = scanner.take(alloc, ch)?;
+        if !fits {
+            return Ok(None);
         }
     }
     scanner.finish()
