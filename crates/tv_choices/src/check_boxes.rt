@@ -214,9 +214,9 @@ impl View for CheckBoxes {
     }
 
     fn draw(&self, screen: &mut Screen, canvas: Canvas, env: &Env) {
-        if !self.core.is_shown() {
+        let Some(seen) = self.core.seen(canvas) else {
             return;
-        }
+        };
         let items = self.declared().items.as_slice();
         let face = ClusterFace {
             items,
@@ -227,7 +227,7 @@ impl View for CheckBoxes {
         };
         let width = natural(&self.core.node().w);
         let height = items.len() as u32;
-        lay(screen, canvas.sub(self.core.bounds()), width, height, &face);
+        lay(screen, seen, width, height, &face);
     }
 
     fn focus_to(&mut self, id: Id) -> bool {

@@ -214,9 +214,9 @@ impl View for ListBox {
     }
 
     fn draw(&self, screen: &mut Screen, canvas: Canvas, env: &Env) {
-        if !self.core.is_shown() {
+        let Some(seen) = self.core.seen(canvas) else {
             return;
-        }
+        };
         let face = ListFace {
             items: self.declared().items.as_slice(),
             chosen: self.chosen.item,
@@ -226,7 +226,7 @@ impl View for ListBox {
         };
         let width = natural(&self.core.node().w);
         let height = self.height();
-        lay(screen, canvas.sub(self.core.bounds()), width, height, &face);
+        lay(screen, seen, width, height, &face);
     }
 
     fn focus_to(&mut self, id: Id) -> bool {

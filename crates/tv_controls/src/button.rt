@@ -181,9 +181,9 @@ impl View for Button {
     }
 
     fn draw(&self, screen: &mut Screen, canvas: Canvas, env: &Env) {
-        if !self.core.is_shown() {
+        let Some(seen) = self.core.seen(canvas) else {
             return;
-        }
+        };
         let look = ButtonLook {
             is_focused: has_focus(env, self.core.id()),
             is_default_now: is_default_now(env, self.core.id()),
@@ -199,7 +199,7 @@ impl View for Button {
             letter: look.attr(env.chain, true),
             rest: look.attr(env.chain, false),
         };
-        lay(screen, canvas.sub(self.core.bounds()), width, 1, &face);
+        lay(screen, seen, width, 1, &face);
     }
 
     fn focus_to(&mut self, id: Id) -> bool {

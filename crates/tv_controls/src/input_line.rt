@@ -241,9 +241,9 @@ impl View for InputLine {
     }
 
     fn draw(&self, screen: &mut Screen, canvas: Canvas, env: &Env) {
-        if !self.core.is_shown() {
+        let Some(seen) = self.core.seen(canvas) else {
             return;
-        }
+        };
         let width = natural(&self.core.node().w);
         let face = InputFace {
             width,
@@ -253,7 +253,7 @@ impl View for InputLine {
             is_focused: has_focus(env, self.core.id()),
             colours: InputColours::of(env.chain),
         };
-        lay(screen, canvas.sub(self.core.bounds()), width, 1, &face);
+        lay(screen, seen, width, 1, &face);
     }
 
     fn focus_to(&mut self, id: Id) -> bool {

@@ -191,9 +191,9 @@ impl View for Label {
     }
 
     fn draw(&self, screen: &mut Screen, canvas: Canvas, env: &Env) {
-        if !self.core.is_shown() {
+        let Some(seen) = self.core.seen(canvas) else {
             return;
-        }
+        };
         let text = &self.declared().text;
         let rest = text_role(is_focus(env, self.link(env)));
         let face = LabelFace {
@@ -203,7 +203,7 @@ impl View for Label {
             rest: Role::Label(rest).attr(env.chain),
         };
         let width = natural(&self.core.node().w);
-        lay(screen, canvas.sub(self.core.bounds()), width, 1, &face);
+        lay(screen, seen, width, 1, &face);
     }
 
     fn focus_to(&mut self, _id: Id) -> bool {

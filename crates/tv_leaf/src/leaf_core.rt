@@ -1,18 +1,24 @@
 //! The part that all controls have in common.
 
-ghost use Rattle.std.specs.Prelude.{◌≡◌, ◌↔◌, ◌==◌, ◌+ℤ◌, ◌≤ℤ◌, IfOk, IsTrue, None, Some, false, pos};
+ghost use Rattle.std.specs.Prelude.{◌≡◌, ◌↔◌, ◌==◌, ◌+ℤ◌, ◌≤ℤ◌, IfNone, IfOk, IfSome, IsTrue, None, Some, false, pos};
+ghost use Rattle.tv_cells.specs.Canvas.{sub};
+ghost use Rattle.tv_cells.specs.Picture.{Picture};
+ghost use Rattle.tv_cells.specs.Rectangle.{IsPointNear};
+ghost use Rattle.tv_model.specs.Controls.Contents.{Content};
+ghost use Rattle.tv_view.specs.Drawing.{Lays, leaf_layers};
+ghost use Rattle.tv_view.specs.declared.env.Env.{Env as Lent};
 ghost use Rattle.tv_model.specs.Description.Rectangles.{IsSmallRect, place_of_node};
 ghost use Rattle.tv_view.specs.Meaning.{has_item};
 ghost use Rattle.tv_model.specs.Description.LawfulNodes.{HasLawfulCount, IsLawfulCommand, IsLawfulNode};
 ghost use Rattle.tv_model.specs.Description.Commands.{command_of};
 ghost use Rattle.tv_model.specs.Description.Nodes.{height_of, is_cluster};
-ghost use Rattle.tv_leaf.specs.Core.{fresh_core, plain_leaf, ruled};
+ghost use Rattle.tv_leaf.specs.Core.{fresh_core, leaf_with, plain_leaf, ruled};
 ghost use Rattle.tv_view.specs.Calls.{is_kind_enabled_among, state_bits};
 
 use bitflags::Flags;
 use std::alloc::{AllocError, Global};
 use std::marker::Model;
-use tv_cells::Rect;
+use tv_cells::{Canvas, Rect};
 use tv_event::{CommandSet, State};
 use tv_faces::rect_at;
 use tv_model::{Id, Kind, Node};
@@ -108,6 +114,24 @@ impl LeafCore {
     {
         let height = height(&self.node.kind);
         rect_at(&self.node.x, &self.node.y, &self.node.w, &height)
+    }
+
+    /// Returns the canvas of its rectangle, or `None` where nothing of it can be seen: while it is hidden, and where its
+    /// rectangle misses the clip. A face costs much more than this test.
+    pub fn seen(&self, canvas: Canvas) -> Option<Canvas>
+        requires { IsPointNear canvas.origin }
+        ensures shown { IfSome result (λ _. IsTrue self.now.is_shown) }
+        ensures place { IfSome result (λ seen. seen ≡ sub canvas (place_of_node self.now.node)) }
+        ensures none { IfNone result ((env : Lent) (c : Content) (p : Picture) → Lays (leaf_layers env canvas (leaf_with self.now c)) p p) }
+    {
+        if !self.is_shown {
+            return None;
+        }
+        let seen = canvas.sub(self.bounds());
+        if seen.clip.is_empty() {
+            return None;
+        }
+        Some(seen)
     }
 
     /// Whether the focus was given to it last.

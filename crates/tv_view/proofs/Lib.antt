@@ -1,3 +1,4 @@
+pub mod ClippingLemmas
 pub mod LayingLemmas
 pub mod PassLemmas
 pub mod SameLayerLemmas

@@ -3,17 +3,21 @@ use Rattle.tv_cells.specs.Canvas.{sub}
 use Rattle.tv_cells.specs.Layers.{Shows}
 use Rattle.tv_faces.specs.Inputs.{colours_of}
 use Rattle.tv_model.specs.Description.Numbers.{natural}
+use Rattle.tv_model.specs.Kinds.InputLine.{edit_content}
 use Rattle.tv_model.specs.Description.Rectangles.{place_of_node}
 use Rattle.tv_view.specs.Colours.{has_focus}
 use Rattle.tv_controls.proofs.FaceLemmas.{input_lays, painted-alike}
 use Rattle.tv_controls.proofs.input_line.InputLineView.draw.Goals as goal
+
+pub returns-in_default : goal.returns-in_default
+returns-in_default c = c.in_default.ensures.none c.args.env.now (edit_content c.args.self.now.edit) c.args.screen.now
 
 pub returns : goal.returns
 returns c =
     let s = c.args.self.now in
     let env = c.args.env.now in
     let shown : IsTrue s.core.is_shown = search rules in
-    let at : c.sub.result ≡ sub c.args.canvas (place_of_node s.core.node) = search rules in
+    let at : c.in-Some.seen ≡ sub c.args.canvas (place_of_node s.core.node) = search rules in
     let width : c.natural-width.result ≡ natural s.core.node.w = search rules in
     let colours : c.of.result ≡ colours_of env.chain.now = search rules in
     let is_focused : c.has_focus.result ≡ has_focus env s.core.node.id = search rules in

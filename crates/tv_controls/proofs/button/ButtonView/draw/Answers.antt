@@ -1,0 +1,5 @@
+use Rattle.tv_leaf.specs.Core.{no_content}
+use Rattle.tv_controls.proofs.button.ButtonView.draw.Goals as goal
+
+pub returns-in_default : goal.returns-in_default
+returns-in_default c = c.in_default.ensures.none c.args.env.now no_content c.args.screen.now
