@@ -2,7 +2,7 @@
 
 ghost use Rattle.std.specs.Prelude.{◌≡◌};
 ghost use Rattle.tv_cells.specs.Rectangle.{IsPointNear};
-ghost use Rattle.tv_view.specs.Drawing.{Lays, is_near, leaf_layers, leaves_layers};
+ghost use Rattle.tv_view.specs.Drawing.{Lays, is_near, leaves_layers};
 
 use crate::group::{GroupOf, MemberOf};
 use tv_cells::{Canvas, Point, Screen};
@@ -14,17 +14,6 @@ fn is_near(point: Point) -> bool
     -100_000 <= point.x && point.x <= 100_000 && -100_000 <= point.y && point.y <= 100_000
 }
 
-// Draws a view, unless its rectangle misses the clip. A face costs much more than the test.
-fn draw_seen<V: View>(view: &V, screen: &mut Screen, canvas: Canvas, env: &Env)
-    requires { IsPointNear canvas.origin }
-    ensures { Lays (leaf_layers env.now canvas (V.meaning view.now)) screen.old screen.new }
-{
-    let seen = canvas.sub(view.bounds()).clip;
-    if !seen.is_empty() {
-        view.draw(screen, canvas, env);
-    }
-}
-
 impl<V: View> MemberOf<V> {
     ghost use Rattle.tv_group.specs.Opened.{opened_member};
 
@@ -34,7 +23,7 @@ impl<V: View> MemberOf<V> {
         ensures { Lays (leaves_layers env.now canvas (opened_member V.meaning self.now)) screen.old screen.new }
     {
         match self {
-            MemberOf::Leaf(view) => draw_seen(view, screen, canvas, env),
+            MemberOf::Leaf(view) => view.draw(screen, canvas, env),
             MemberOf::Pane(group) => group.draw(screen, canvas, env),
         }
     }

@@ -37,8 +37,8 @@ GroupOf::draw-returns g t c =
 
 pub MemberOf::draw-returns-in-Leaf : goal.MemberOf::draw-returns-in-Leaf
 MemberOf::draw-returns-in-Leaf g t c =
-    drawn-leaf g.V.View.meaning c.args.env.now c.args.canvas c.args.self.now c.in-Leaf.view c.args.screen.now c.draw_seen.new.screen c.in-Leaf.is c.draw_seen.ensures
+    drawn-leaf g.V.View.meaning c.args.env.now c.args.canvas c.args.self.now c.in-Leaf.view c.args.screen.now c.draw.new.screen c.in-Leaf.is c.draw.ensures
 
 pub MemberOf::draw-returns-in-Pane : goal.MemberOf::draw-returns-in-Pane
 MemberOf::draw-returns-in-Pane g t c =
-    drawn-pane g.V.View.meaning c.args.env.now c.args.canvas c.args.self.now c.in-Pane.group c.args.screen.now c.draw.new.screen c.in-Pane.is c.draw.ensures
+    drawn-pane g.V.View.meaning c.args.env.now c.args.canvas c.args.self.now c.in-Pane.group c.args.screen.now c.draw-in-Pane.new.screen c.in-Pane.is c.draw-in-Pane.ensures
