@@ -1,7 +1,7 @@
 //! Check boxes and radio buttons.
 
-ghost use Rattle.std.specs.Prelude.{◌≡◌, ◌==◌, ◌&&◌, ◌≤◌, ◌^◌, ◌+◌, ◌++◌, Some, length, ℕ};
-ghost use Rattle.tv_cells.specs.Glyph.{shown};
+ghost use Rattle.std.specs.Prelude.{◌≡◌, ◌==◌, ◌&&◌, ◌≤◌, ◌^◌, ◌+◌, ◌++◌, ◌∷◌, [], Some, length, ℕ};
+ghost use Rattle.tv_cells.specs.Glyph.{shown, shown_char};
 ghost use Rattle.tv_cells.specs.Row.{IsRow};
 ghost use Rattle.tv_model.specs.Kinds.Cluster.{is_marked, box_before, cluster_row};
 ghost use Rattle.tv_model.specs.Controls.Look.{is_mark_from};
@@ -12,8 +12,8 @@ ghost use Rattle.tv_palette.specs.declared.role.ClusterRole.TheVariants as clust
 ghost use Rattle.tv_palette.specs.declared.role.Role.TheVariants as roles;
 ghost use Rattle.tv_faces.specs.Choices.{item_cells, cluster_of_marks, value_of_marks};
 
-use crate::row::{put, text_char, write_over};
-use tv_cells::{Cell, Face};
+use crate::row::{put, text_char, write_first, write_over};
+use tv_cells::{Cell, Face, NarrowChar};
 use tv_model::MarkedText;
 use tv_palette::{Chain, ClusterRole, Role};
 
@@ -48,6 +48,18 @@ fn has_mark(marks: u16, place: u32) -> bool
     }
 }
 
+// A character between two others, and a space after them.
+fn enclosed(left: char, mark: char, right: char) -> [NarrowChar; 4]
+    ensures { result ≡ (shown_char left ∷ shown_char mark ∷ shown_char right ∷ 32 ∷ []) }
+{
+    [
+        NarrowChar::shown(left),
+        NarrowChar::shown(mark),
+        NarrowChar::shown(right),
+        NarrowChar::space(),
+    ]
+}
+
 impl ClusterMarks {
     fn has(self, selected: u8, place: u32) -> bool
         ensures { result ≡ is_marked (value_of_marks self selected) (place + 1) }
@@ -59,14 +71,15 @@ impl ClusterMarks {
     }
 
     // The four columns before an item.
-    fn before(self, is_marked: bool) -> [char; 4]
+    #[tactic(auto, using(crate::proofs::NarrowLemmas::shown_ascii))]
+    fn before(self, is_marked: bool) -> [NarrowChar; 4]
         ensures { result ≡ box_before (cluster_of_marks self) is_marked }
     {
         match self {
-            ClusterMarks::Boxes(_) if is_marked => ['[', 'X', ']', ' '],
-            ClusterMarks::Boxes(_) => ['[', ' ', ']', ' '],
-            ClusterMarks::Radios if is_marked => ['(', '*', ')', ' '],
-            ClusterMarks::Radios => ['(', ' ', ')', ' '],
+            ClusterMarks::Boxes(_) if is_marked => enclosed('[', 'X', ']'),
+            ClusterMarks::Boxes(_) => enclosed('[', ' ', ']'),
+            ClusterMarks::Radios if is_marked => enclosed('(', '*', ')'),
+            ClusterMarks::Radios => enclosed('(', ' ', ')'),
         }
     }
 }
@@ -75,7 +88,7 @@ impl ClusterMarks {
 #[derive(Clone, Copy)]
 struct ItemRow<'a> {
     // The columns before the text.
-    before: [char; 4],
+    before: [NarrowChar; 4],
     text: &'a [char],
     mark: Option<usize>,
     letter: u8,
@@ -88,7 +101,7 @@ impl ItemRow<'_> {
         ensures { result ≡ text_row (self.now.before ++ self.now.text.now) x }
     {
         match self.before.get(x) {
-            Some(ch) => *ch,
+            Some(ch) => ch.get(),
             None => text_char(self.text, x - 4),
         }
     }
@@ -121,7 +134,7 @@ impl ItemRow<'_> {
         ensures cells { IsRow (λ x. shown (text_row (self.now.before ++ self.now.text.now) x) self.now.rest) from cells.new }
     {
         cells.fill(Cell::space(self.rest));
-        write_over(&self.before, self.rest, 0, from, cells);
+        write_first(&self.before, self.rest, from, cells);
         write_over(self.text, self.rest, 4, from, cells);
     }
 

@@ -5,7 +5,7 @@ ghost use Rattle.tv_cells.specs.Glyph.{blank, shown};
 ghost use Rattle.tv_cells.specs.Row.{IsRow};
 ghost use Rattle.tv_model.specs.Screen.Faces.{text_row};
 
-use tv_cells::Cell;
+use tv_cells::{Cell, NarrowChar};
 
 /// The character of a text in a column, where the text begins in column 0.
 pub(crate) fn text_char(text: &[char], x: usize) -> char
@@ -46,6 +46,27 @@ pub(crate) fn put(cell: Cell, x: usize, from: usize, cells: &mut [Cell])
 {
     if from <= x && x - from < cells.len() {
         cells[x - from] = cell;
+    }
+}
+
+// The cell of a character that takes one column.
+#[tactic(auto, using(crate::proofs::NarrowLemmas::shown_narrow))]
+fn narrow_cell(ch: NarrowChar, attr: u8) -> Cell
+    ensures { result ≡ shown ch attr }
+{
+    Cell::of(ch, attr)
+}
+
+/// Writes characters that begin in column 0 over cells from a column on. The other cells stay.
+pub(crate) fn write_first(chars: &[NarrowChar], attr: u8, from: usize, cells: &mut [Cell])
+    requires { from + length cells.old ≤ 2 ^ 32 }
+    ensures count { length cells.new ≡ length cells.old }
+    ensures written { (i : ℕ) → i < length cells.new → from + i < length chars.now → slice_index_or cells.new i blank ≡ shown (slice_index_or chars.now (from + i) 32) attr }
+    ensures after { (i : ℕ) → i < length cells.new → length chars.now ≤ from + i → slice_index_or cells.new i blank ≡ slice_index_or cells.old i blank }
+{
+    let last = chars.len().saturating_sub(from).min(cells.len());
+    for i in 0..last {
+        cells[i] = narrow_cell(chars[from + i], attr);
     }
 }
 
