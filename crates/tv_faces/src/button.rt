@@ -102,6 +102,19 @@ impl ButtonFace<'_> {
     ghost use Rattle.tv_cells.specs.Glyph.{blank};
     ghost use Rattle.tv_model.specs.Screen.Faces.{button_cells};
 
+    // The brackets in the first and the last column, neither of which ever shows the marked letter.
+    #[tactic(auto, using(crate::proofs::LetterLemmas::letter_first, crate::proofs::LetterLemmas::letter_last))]
+    fn ends(&self) -> (Cell, Cell)
+        ensures left { result.0 ≡ button_cells self.now.width self.now.text.now self.now.mark self.now.is_default_now self.now.letter self.now.rest 0 0 }
+        ensures right { 1 < self.now.width → result.1 ≡ button_cells self.now.width self.now.text.now self.now.mark self.now.is_default_now self.now.letter self.now.rest (self.now.width - 1) 0 }
+    {
+        if self.is_default_now {
+            (Cell::shown('<', self.rest), Cell::shown('>', self.rest))
+        } else {
+            (Cell::shown('[', self.rest), Cell::shown(']', self.rest))
+        }
+    }
+
     // The text with its letter. The columns of the brackets are left to be written.
     fn write_text(&self, from: usize, cells: &mut [Cell])
         requires { from + length cells.old ≤ 2 ^ 32 }
@@ -140,13 +153,14 @@ impl Face for ButtonFace<'_> {
         Cell::shown(button_char(width, self.text, self.is_default_now, x), attr)
     }
 
-    fn row(&self, y: u32, from: u32, cells: &mut [Cell]) {
+    fn row(&self, _y: u32, from: u32, cells: &mut [Cell]) {
         let start = from as usize;
+        let width = self.width as usize;
+        let (left, right) = self.ends();
         self.write_text(start, cells);
-        put(self.at(0, y), 0, start, cells);
-        if self.width > 0 {
-            let last = self.width - 1;
-            put(self.at(last, y), last as usize, start, cells);
+        put(left, 0, start, cells);
+        if width > 1 {
+            put(right, width - 1, start, cells);
         }
     }
 }
