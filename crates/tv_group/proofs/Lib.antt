@@ -22,4 +22,5 @@ pub mod RestLemmas
 pub mod ScanLemmas
 pub mod SearchLemmas
 pub mod TreeLemmas
+pub mod TurnLemmas
 pub mod StackLemmas

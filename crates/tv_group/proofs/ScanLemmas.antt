@@ -1,5 +1,5 @@
 -- A loop that hands an event to the members in order, until one takes it.
-use Rattle.std.proofs.Common.{◌≡◌, ℕ, true, false, List, ◌++◌, ◌+◌, ◌<◌, ◌≤◌, [], ◌∷◌, length, get_or, map, set, refl, sym, ap, ◌∙◌, Option, None}
+use Rattle.std.proofs.Common.{◌≡◌, ℕ, true, false, List, ◌++◌, ◌||◌, ◌+◌, ◌<◌, ◌≤◌, [], ◌∷◌, length, get_or, map, set, sym, ap, ◌∙◌, Option, None}
 use Rattle.std.specs.Prelude.{find}
 use Rattle.tv_event.specs.declared.event.Event.{Event}
 use Rattle.tv_event.specs.declared.event.Phase.{Phase}
@@ -11,12 +11,12 @@ use Rattle.tv_view.specs.Points.{moved_into}
 use Rattle.tv_group.specs.Current.{is_at}
 use Rattle.tv_group.specs.Handling.{found_answer, is_pass, scan_after, scan_answer, takes}
 use Rattle.tv_group.specs.Opened.{opened, opened_member}
-use Rattle.tv_group.specs.Turns.{is_asked}
+use Rattle.tv_group.specs.Turns.{goes_to_all}
 use Rattle.tv_group.specs.declared.group.MemberOf.{MemberOf}
 use Rattle.tv_group.specs.declared.group.GroupOf.{GroupOf}
 use Rattle.tv_group.specs.declared.group.MemberOf.TheVariants.{Leaf as LeafM, Pane as PaneM}
 use Rattle.tv_group.proofs.FirstLemmas.{find-append-unfound}
-use Rattle.tv_group.proofs.HandlingLemmas.{pass_of, scan_after-append-taken, scan_after-append-untaken, scan_after-inside, scan_after-kept, scan_after-pass, scan_answer-append-taken, scan_answer-append-untaken, scan_answer-inside, scan_answer-kept, taker-none, taker-skipped}
+use Rattle.tv_group.proofs.HandlingLemmas.{pass_of, scan_after-append-taken, scan_after-append-untaken, scan_after-inside, scan_after-kept, scan_after-pass, scan_answer-append-taken, scan_answer-append-untaken, scan_answer-inside, scan_answer-kept, taker-none}
 use Rattle.tv_group.proofs.OpenedLemmas.{member-leaf, member-pane, opened_member-leaf, opened_member-pane, opened_to, opened_to-next, opened_to-none}
 use Rattle.tv_group.proofs.MembersLemmas.{leaves_of, leaves-same, leaves-split, leaves-written, opened-leaves, opened_from, opened_to-all}
 
@@ -58,7 +58,7 @@ module _ {V : Type 0} (look : V → Leaf) (e : Event) (p : Phase) (env : Env) wh
       }
 
       -- member i was asked
-      module _ (asked : is_asked e p current i ≡ true) (r : Reaction) (told : r ≡ scan_answer e p env own) where
+      module _ (asked : goes_to_all e p || is_at current i ≡ true) (r : Reaction) (told : r ≡ scan_answer e p env own) where
         here_is : scan_answer e p env here ≡ r
         here_is = scan_answer-kept e p env (is_at current i) own asked ∙ sym told
 
@@ -87,12 +87,6 @@ module _ {V : Type 0} (look : V → Leaf) (e : Event) (p : Phase) (env : Env) wh
                     (scan_after-append-taken e p env here rest here_taken
                     ∙ ap (λ t. t ++ rest) (scan_after-kept e p env (is_at current i) own asked ∙ ap (kept (is_at current i)) (sym does)))),
               )
-
-    -- member i was not asked, and was written as it was
-    pub scanning-skipped : (m : MemberOf V) → i < length ms → is_asked e p current i ≡ false
-        → Scanning whole current (i + 1) (set ms i (get_or ms i m))
-    scanning-skipped m h asked =
-        next h m (get_or ms i m) refl (taker-skipped e p env (is_at current i) (opened_member look (get_or ms i m)) asked)
 
     -- none takes the event
     pub scanning-done : length ms ≤ i → (Pass ≡ scan_answer e p env whole) × (leaves_of look current ms ≡ scan_after e p env whole)

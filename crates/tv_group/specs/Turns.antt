@@ -1,5 +1,5 @@
 -- Which members of a group are asked, and what is answered where a leaf was hit.
-use Rattle.std.specs.Prelude.{ℕ, Bool, true, false, ◌||◌, List, Option, Some, option_map}
+use Rattle.std.specs.Prelude.{Bool, true, false, List, Option, Some, option_map}
 use Rattle.tv_cells.specs.declared.rect.Point.{Point}
 use Rattle.tv_event.specs.declared.event.Event.{Event}
 use Rattle.tv_event.specs.declared.event.Event.TheVariants as events
@@ -8,7 +8,6 @@ use Rattle.tv_event.specs.declared.event.Phase.TheVariants as phases
 use Rattle.tv_view.specs.Meaning.{Placed}
 use Rattle.tv_view.specs.declared.env.Env.{Env}
 use Rattle.tv_view.specs.declared.reaction.Reaction.{Reaction}
-use Rattle.tv_group.specs.Current.{is_at}
 use Rattle.tv_group.specs.Handling.{hit_answer, hit_after, is_hit, last_changed, topmost}
 
 -- whether an event goes to every member in a phase: a key or a command in the focus goes to the current one
@@ -24,10 +23,6 @@ goes_to_all (events.Move point) p = true
 goes_to_all (events.Up point) p = true
 goes_to_all (events.Broadcast c) p = true
 goes_to_all (events.Down point) p = true
-
--- whether member i is asked
-abbrev pub is_asked : Event → Phase → Option ℕ → ℕ → Bool
-is_asked e p current i = goes_to_all e p || is_at current i
 
 -- the answer of the leaf that a mouse down hits, `None` where it hits none
 abbrev pub down_here : Point → Phase → Env → List Placed → Option Reaction

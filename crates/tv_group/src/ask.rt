@@ -33,7 +33,8 @@ fn is_focused<V: View>(view: &V) -> bool
     view.state().contains(State::FOCUSED)
 }
 
-fn is_awake<V: View>(view: &V) -> bool
+/// Whether a leaf is shown and enabled.
+pub(crate) fn is_awake<V: View>(view: &V) -> bool
     ensures { result ≡ is_awake (V.meaning view.now) }
 {
     let state = view.state();

@@ -4,11 +4,11 @@ ghost use Rattle.std.specs.Prelude.{◌≡◌, ◌∷◌, []};
 ghost use Rattle.tv_cells.specs.Layers.{is_in};
 ghost use Rattle.tv_view.specs.Meaning.{alone};
 ghost use Rattle.tv_view.specs.Points.{moved_into, point_into};
-ghost use Rattle.tv_group.specs.Handling.{group_after, group_answer, scan_after, scan_answer, has_turn, is_awake, is_hit, is_offered, is_pass};
-ghost use Rattle.tv_group.specs.Current.{is_at};
+ghost use Rattle.tv_group.specs.Handling.{group_after, group_answer, scan_after, scan_answer, has_turn, is_hit, is_offered, is_pass};
 ghost use Rattle.tv_group.specs.Opened.{group_bounds, level_of, opened, opened_member};
-ghost use Rattle.tv_group.specs.Turns.{down_after, down_here, is_asked};
+ghost use Rattle.tv_group.specs.Turns.{down_after, down_here, goes_to_all};
 
+use crate::ask::is_awake;
 use crate::group::{GroupOf, MemberOf};
 use bitflags::Flags;
 use tv_cells::{Point, Rect};
@@ -62,12 +62,6 @@ fn is_enabled<V: View>(view: &V) -> bool
     !view.state().contains(State::DISABLED)
 }
 
-fn is_awake<V: View>(view: &V) -> bool
-    ensures { result ≡ is_awake (V.meaning view.now) }
-{
-    is_shown(view) && is_enabled(view)
-}
-
 fn has_turn<V: View>(view: &V, phase: Phase) -> bool
     ensures { result ≡ has_turn phase (alone (V.meaning view.now)) }
 {
@@ -82,7 +76,7 @@ fn is_offered<V: View>(view: &V, event: &Event, phase: Phase) -> bool
     ensures { result ≡ is_offered event.now phase (alone (V.meaning view.now)) }
 {
     match event {
-        Event::Key(_) | Event::Command(_) => is_awake(view) && has_turn(view, phase),
+        Event::Key(_) | Event::Command(_) => has_turn(view, phase) && is_awake(view),
         Event::Move(_) | Event::Up(_) | Event::Broadcast(_) => true,
         Event::Down(_) => false,
     }
@@ -120,21 +114,12 @@ fn hit<V: View>(view: &mut V, point: Point, phase: Phase, env: &Env) -> Option<R
     }
 }
 
-fn is_at(current: Option<usize>, i: usize) -> bool
-    ensures { result ≡ is_at current i }
-{
-    match current {
-        Some(k) => k == i,
-        None => false,
-    }
-}
-
 // Keys and commands in the focus go to the current member alone, all else to each.
-fn is_asked(event: &Event, phase: Phase, current: Option<usize>, i: usize) -> bool
-    ensures { result ≡ is_asked event.now phase current i }
+fn goes_to_all(event: &Event, phase: Phase) -> bool
+    ensures { result ≡ goes_to_all event.now phase }
 {
     match (event, phase) {
-        (Event::Key(_) | Event::Command(_), Phase::Focused) => is_at(current, i),
+        (Event::Key(_) | Event::Command(_), Phase::Focused) => false,
         _ => true,
     }
 }
@@ -164,22 +149,25 @@ impl<V: View> MemberOf<V> {
 }
 
 impl<V: View> GroupOf<V> {
-    // Hands the event to the leaves in order, until one doesn't pass it on.
+    // Hands the event to the leaves in order, until one doesn't pass it on: to those of the current member alone, where
+    // no other gets it.
     #[cycle(scan)]
     fn scan(&mut self, event: &Event, phase: Phase, env: &Env) -> Reaction
         ensures reaction { result ≡ scan_answer event.now phase env.now (opened V.meaning self.old) }
         ensures after { opened V.meaning self.new ≡ scan_after event.now phase env.now (opened V.meaning self.old) }
         ensures shape { (group_bounds self.new ≡ group_bounds self.old) × (level_of self.new ≡ level_of self.old) }
     {
-        let current = self.current;
         let inner = moved_into(self.bounds.rect(), event);
-        for (i, member) in self.members.iter_mut().enumerate() {
-            let asked = is_asked(&inner, phase, current, i);
-            if asked {
-                let reaction = member.scan(&inner, phase, env);
-                if !is_pass(&reaction) {
-                    return reaction;
-                }
+        if !goes_to_all(&inner, phase) {
+            return match self.current {
+                Some(i) if i < self.members.len() => self.members[i].scan(&inner, phase, env),
+                _ => Reaction::Pass,
+            };
+        }
+        for member in self.members.iter_mut() {
+            let reaction = member.scan(&inner, phase, env);
+            if !is_pass(&reaction) {
+                return reaction;
             }
         }
         Reaction::Pass

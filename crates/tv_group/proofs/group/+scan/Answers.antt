@@ -1,17 +1,63 @@
-use Rattle.std.proofs.Common.{rules, arith, ◌<◌, ◌≤◌, ◌∷◌, [], length, ap, sym, ◌∙◌, refl}
+use Rattle.std.proofs.Common.{rules, arith, ◌||◌, ◌<◌, ◌≤◌, ◌∷◌, [], length, set, ap, sym, ◌∙◌, refl}
 use Rattle.std.proofs.lemmas.List.{length-set, with_items_is}
 use Rattle.tv_view.specs.Meaning.{alone}
 use Rattle.tv_view.specs.Points.{moved_into}
+use Rattle.tv_group.specs.Current.{is_at}
 use Rattle.tv_group.specs.Handling.{scan_after, scan_answer}
-use Rattle.tv_group.specs.Opened.{opened}
+use Rattle.tv_view.specs.declared.reaction.Reaction.TheVariants.{Pass}
+use Rattle.tv_group.specs.Opened.{opened, opened_member}
 use Rattle.tv_group.specs.declared.group.MemberOf.TheVariants.{outs-Leaf, outs-Pane}
 use Rattle.tv_group.proofs.MembersLemmas.{leaves_of}
-use Rattle.tv_group.proofs.ScanLemmas.{scan_after-leaf, scan_after-pane, scan_answer-leaf, scan_answer-pane, scanned-group, scanning-done, scanning-init, scanning-passed, scanning-skipped, scanning-taken}
+use Rattle.tv_group.proofs.ScanLemmas.{scan_after-leaf, scan_after-pane, scan_answer-leaf, scan_answer-pane, scanned-group, scanning-done, scanning-init, scanning-passed, scanning-taken}
+use Rattle.tv_group.proofs.TurnLemmas.{current-asked, none-current, none-there}
 use Rattle.tv_group.proofs.group.+scan.Goals as goal
-use Rattle.tv_group.proofs.group.+scan.Goals.{GroupOf::scan-then-asked+else-not-is_pass, GroupOf::scan-else-asked}
 
-pub GroupOf::scan-loop-i-init : goal.GroupOf::scan-loop-i-init
-GroupOf::scan-loop-i-init g t c =
+pub GroupOf::scan-returns-in-Some : goal.GroupOf::scan-returns-in-Some
+GroupOf::scan-returns-in-Some g t c =
+    let look = g.V.View.meaning in let e = c.args.event.now in let ph = c.args.phase in let env = c.args.env.now in
+    let s = c.args.self.now in let ms = s.members.items in let k = c.in-Some.i in let m = c.index_mut in
+    let inner = c.moved_into-inner.result in
+    let h : k < length ms = omega arith in
+    let asked =
+    current-asked look inner ph env (sym c.goes_to_all.ensures ∙ c.if-not-goes_to_all.true) k ms m.result.now c.scan.new.self h c.scan.result
+    (c.scan.ensures.reaction ∙ ap (λ x. scan_answer inner ph env (opened_member look x)) m.ensures.value)
+    (c.scan.ensures.after ∙ ap (λ x. scan_after inner ph env (opened_member look x)) m.ensures.value) in
+    let is = c.moved_into-inner.ensures ∙ ap (λ b. moved_into b e) c.rect.ensures.is in
+    let done = scanned-group look e ph env s _ c.scan.result inner is refl (
+      asked.0 ∙ ap (λ o. scan_answer inner ph env (leaves_of look o ms)) (sym c.in-Some.is),
+      ap (λ o. leaves_of look o (set ms k c.scan.new.self)) c.in-Some.is ∙ asked.1 ∙ ap (λ o. scan_after inner ph env (leaves_of look o ms)) (sym c.in-Some.is),
+    ) in
+    record { reaction = done.0; after = done.1; shape = (refl, refl) }
+
+pub GroupOf::scan-returns-in_default : goal.GroupOf::scan-returns-in_default
+GroupOf::scan-returns-in_default g t c =
+    let look = g.V.View.meaning in let e = c.args.event.now in let ph = c.args.phase in let env = c.args.env.now in
+    let s = c.args.self.now in let ms = s.members.items in
+    let inner = c.moved_into-inner.result in
+    let h : length ms ≤ c.in-Some.i = omega arith in
+    let none = none-there look inner ph env (sym c.goes_to_all.ensures ∙ c.if-not-goes_to_all.true) c.in-Some.i ms h in
+    let is = c.moved_into-inner.ensures ∙ ap (λ b. moved_into b e) c.rect.ensures.is in
+    let done = scanned-group look e ph env s s Pass inner is refl (
+      none.0 ∙ ap (λ o. scan_answer inner ph env (leaves_of look o ms)) (sym c.in-Some.is),
+      ap (λ o. leaves_of look o ms) c.in-Some.is ∙ none.1 ∙ ap (λ o. scan_after inner ph env (leaves_of look o ms)) (sym c.in-Some.is),
+    ) in
+    record { reaction = done.0; after = done.1; shape = (refl, refl) }
+
+pub GroupOf::scan-returns-in_default-2 : goal.GroupOf::scan-returns-in_default-2
+GroupOf::scan-returns-in_default-2 g t c =
+    let look = g.V.View.meaning in let e = c.args.event.now in let ph = c.args.phase in let env = c.args.env.now in
+    let s = c.args.self.now in let ms = s.members.items in
+    let inner = c.moved_into-inner.result in
+    let none = none-current look inner ph env (sym c.goes_to_all.ensures ∙ c.if-not-goes_to_all.true) ms in
+    let is = c.moved_into-inner.ensures ∙ ap (λ b. moved_into b e) c.rect.ensures.is in
+    let done = scanned-group look e ph env s s Pass inner is refl (
+      none.0 ∙ ap (λ o. scan_answer inner ph env (leaves_of look o ms)) (sym c.in_default.is),
+      ap (λ o. leaves_of look o ms) c.in_default.is ∙ none.1 ∙ ap (λ o. scan_after inner ph env (leaves_of look o ms)) (sym c.in_default.is),
+    ) in
+    record { reaction = done.0; after = done.1; shape = (refl, refl) }
+
+pub GroupOf::scan-loop-member-init : goal.GroupOf::scan-loop-member-init
+GroupOf::scan-loop-member-init g t c =
     let s = c.args.self.now in let at = c.deref_mut-member-items in
     let inner = c.moved_into-inner.result in
     record {
@@ -22,56 +68,43 @@ GroupOf::scan-loop-i-init g t c =
 pub GroupOf::scan-returns-then-not-is_pass : goal.GroupOf::scan-returns-then-not-is_pass
 GroupOf::scan-returns-then-not-is_pass g t c =
     let look = g.V.View.meaning in let e = c.args.event.now in let ph = c.args.phase in let env = c.args.env.now in
-    let s = c.args.self.now in let p = c.loop-i in let at = c.deref_mut-member-items in let r = c.scan-reaction in
+    let s = c.args.self.now in let p = c.loop-member in let at = c.deref_mut-member-items in let r = c.scan-reaction in
     let inner = c.moved_into-inner.result in
-    let h : p.i < length p.member-items = omega arith in
+    let h : p.member-index < length p.member-items = omega arith in
+    let asked = ap (λ b. b || is_at s.current p.member-index) (sym c.goes_to_all.ensures ∙ c.if-not-goes_to_all.false) in
     let taken =
-    scanning-taken look inner ph env (leaves_of look s.current s.members.items) s.current p.i p.member-items
-    p.invariant.scanning h c.member-item.result r.new.self
-    (sym c.is_asked-asked.ensures ∙ c.if-asked.true) r.result r.ensures.reaction r.ensures.after
+    scanning-taken look inner ph env (leaves_of look s.current s.members.items) s.current p.member-index p.member-items
+    p.invariant.scanning h c.member-item.result r.new.self asked r.result r.ensures.reaction r.ensures.after
     (sym c.is_pass.ensures ∙ c.if-not-is_pass.true) in
     let items =
     with_items_is s.members _
-    (length-set p.member-items p.i r.new.self ∙ p.auto.member-items ∙ ap length at.ensures.value ∙ sym s.members.ok.0) in
+    (length-set p.member-items p.member-index r.new.self ∙ p.auto.member-items ∙ ap length at.ensures.value ∙ sym s.members.ok.0) in
     let is = c.moved_into-inner.ensures ∙ ap (λ b. moved_into b e) c.rect.ensures.is in
     let done = scanned-group look e ph env s _ r.result inner is refl (taken.0, ap (leaves_of look s.current) items ∙ taken.1) in
     record { reaction = done.0; after = done.1; shape = (refl, refl) }
 
-pub GroupOf::scan-loop-i-preserved : goal.GroupOf::scan-loop-i-preserved
-GroupOf::scan-loop-i-preserved g t c =
+pub GroupOf::scan-loop-member-preserved : goal.GroupOf::scan-loop-member-preserved
+GroupOf::scan-loop-member-preserved g t c =
     let look = g.V.View.meaning in let ph = c.args.phase in let env = c.args.env.now in
-    let s = c.args.self.now in let p = c.loop-i in
+    let s = c.args.self.now in let p = c.loop-member in let r = c.scan-reaction in
     let inner = c.moved_into-inner.result in
-    let whole = leaves_of look s.current s.members.items in
-    let h : p.i < length p.member-items = omega arith in
-    elim c.if-asked.branch [
-      | GroupOf::scan-then-asked+else-not-is_pass w ↦
-          let r = w.scan-reaction in
-          record {
-            unvisited = search rules;
-            scanning = rw w.member-items-is
-                (scanning-passed look inner ph env whole s.current p.i p.member-items p.invariant.scanning h
-                c.member-item.result r.new.self (sym c.is_asked-asked.ensures ∙ w.if-asked.true)
-                r.result r.ensures.reaction r.ensures.after
-                (sym w.is_pass.ensures ∙ w.if-not-is_pass.false));
-          }
-      | GroupOf::scan-else-asked w ↦
-          record {
-            unvisited = search rules;
-            scanning = rw w.member-items-is
-                (scanning-skipped look inner ph env whole s.current p.i p.member-items p.invariant.scanning c.member-item.result h
-                (sym c.is_asked-asked.ensures ∙ w.if-asked.false));
-          }
-    ]
+    let h : p.member-index < length p.member-items = omega arith in
+    let asked = ap (λ b. b || is_at s.current p.member-index) (sym c.goes_to_all.ensures ∙ c.if-not-goes_to_all.false) in
+    record {
+      unvisited = search rules;
+      scanning = scanning-passed look inner ph env (leaves_of look s.current s.members.items) s.current p.member-index p.member-items
+          p.invariant.scanning h c.member-item.result r.new.self asked r.result r.ensures.reaction r.ensures.after
+          (sym c.is_pass.ensures ∙ c.if-not-is_pass.false);
+    }
 
 pub GroupOf::scan-returns : goal.GroupOf::scan-returns
 GroupOf::scan-returns g t c =
     let look = g.V.View.meaning in let e = c.args.event.now in let ph = c.args.phase in let env = c.args.env.now in
-    let s = c.args.self.now in let p = c.loop-i in let at = c.deref_mut-member-items in
+    let s = c.args.self.now in let p = c.loop-member in let at = c.deref_mut-member-items in
     let inner = c.moved_into-inner.result in
-    let h : length p.member-items ≤ p.i = omega arith in
+    let h : length p.member-items ≤ p.member-index = omega arith in
     let none =
-    scanning-done look inner ph env (leaves_of look s.current s.members.items) s.current p.i p.member-items p.invariant.scanning h in
+    scanning-done look inner ph env (leaves_of look s.current s.members.items) s.current p.member-index p.member-items p.invariant.scanning h in
     let items = with_items_is s.members p.member-items (p.auto.member-items ∙ ap length at.ensures.value ∙ sym s.members.ok.0) in
     let is = c.moved_into-inner.ensures ∙ ap (λ b. moved_into b e) c.rect.ensures.is in
     let done = scanned-group look e ph env s _ _ inner is refl (none.0, ap (leaves_of look s.current) items ∙ none.1) in
