@@ -119,6 +119,21 @@ some-next None true i = refl
 some-next None false i = refl
 some-next (Some k) has i = refl
 
+-- the first member that has the control stays the one that was found
+pub first-found : (found : Option ℕ) (has : Bool) (i : ℕ) → has ≡ true → is_some found ≡ false → Some i ≡ option_or found (then_some has i)
+first-found None true i h none = refl
+first-found None false i h none = cc
+first-found (Some k) has i h none = cc
+
+pub found-before : (found : Option ℕ) (has : Bool) (i : ℕ) → is_some found ≡ true → found ≡ option_or found (then_some has i)
+found-before None has i h = cc
+found-before (Some k) has i h = refl
+
+pub not-found : (found : Option ℕ) (has : Bool) (i : ℕ) → has ≡ false → found ≡ option_or found (then_some has i)
+not-found None true i h = cc
+not-found None false i h = refl
+not-found (Some k) has i h = refl
+
 at_itself : (i : ℕ) → (i == i) ≡ true
 at_itself i = grind (arith, nat_tests)
 

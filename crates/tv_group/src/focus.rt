@@ -58,7 +58,9 @@ impl<V: View> GroupOf<V> {
         let mut current = None;
         for (i, member) in self.members.iter_mut().enumerate() {
             let has = member.focus_to(id);
-            current = current.or(has.then_some(i));
+            if has && current.is_none() {
+                current = Some(i);
+            }
         }
         self.current = current;
         current.is_some()

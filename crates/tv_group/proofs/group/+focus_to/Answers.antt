@@ -1,12 +1,15 @@
-use Rattle.std.proofs.Common.{rules, arith, ◌≡◌, ◌<◌, ◌≤◌, length, ap, sym, ◌∙◌}
+use Rattle.std.proofs.Common.{rules, arith, ◌≡◌, ◌<◌, ◌≤◌, length, ap, sym, ◌∙◌, not}
 use Rattle.tv_view.specs.Calls.{focused_to, takes_focus}
+use Rattle.std.specs.Bool.{then_some}
+use Rattle.std.specs.Option.{option_or}
 use Rattle.tv_group.specs.Calls.{all_focused, has_control}
 use Rattle.tv_group.specs.Opened.{opened}
 use Rattle.tv_group.specs.declared.group.MemberOf.TheVariants.{outs-Leaf, outs-Pane}
-use Rattle.tv_group.proofs.FocusLemmas.{focusing-none, focusing-next, focusing-found, focusing-all, has_control-alone, leaf-left}
+use Rattle.tv_group.proofs.FocusLemmas.{first-found, focusing-none, focusing-next, focusing-found, focusing-all, found-before, has_control-alone, leaf-left, not-found}
 use Rattle.tv_group.proofs.FocusLemmas.{leaf-moved, pane-left, pane-moved}
 use Rattle.tv_group.proofs.OpenedLemmas.{member-leaf, member-pane, opened_member-leaf}
 use Rattle.tv_group.proofs.group.+focus_to.Goals as goal
+use Rattle.tv_group.proofs.group.+focus_to.Goals.{GroupOf::focus_to-then-has+then-is_none, GroupOf::focus_to-else-has, GroupOf::focus_to-else-has-via-then-has+else-is_none, GroupOf::focus_to-else-has-via-else-has}
 
 pub GroupOf::focus_to-loop-i-init : goal.GroupOf::focus_to-loop-i-init
 GroupOf::focus_to-loop-i-init g t c =
@@ -18,12 +21,19 @@ GroupOf::focus_to-loop-i-preserved g t c =
     let s = c.args.self.now in let p = c.loop-i in let at = c.deref_mut-member-items in let f = c.focus_to-has in
     let h : p.i < length p.member-items = omega arith in
     let same : length p.member-items ≡ length s.members.items = p.auto.member-items ∙ ap length at.ensures.value in
-    record {
-      unvisited = search rules;
-      focusing = rw (c.or-current.ensures, c.then_some.ensures)
-          (focusing-next g.V.View.meaning c.args.id s p.current f.result p.i p.member-items c.member-item.result f.new.self h same
-          f.ensures.found f.ensures.left f.ensures.moved p.invariant.focusing);
-    }
+    let focusing = focusing-next g.V.View.meaning c.args.id s p.current f.result p.i p.member-items c.member-item.result f.new.self h same
+    f.ensures.found f.ensures.left f.ensures.moved p.invariant.focusing in
+    let next : c.if-has.current ≡ option_or p.current (then_some f.result p.i) =
+    elim c.if-has.branch [
+      | GroupOf::focus_to-then-has+then-is_none w ↦ w.current-is ∙ first-found p.current f.result p.i w.if-has.true (w.is_none.ensures ∙ ap not w.if-is_none.true)
+      | GroupOf::focus_to-else-has w ↦
+          w.current-is
+          ∙ elim w.else-has.branch [
+            | GroupOf::focus_to-else-has-via-then-has+else-is_none u ↦ found-before p.current f.result p.i (u.is_none.ensures ∙ ap not u.if-is_none.false)
+            | GroupOf::focus_to-else-has-via-else-has u ↦ not-found p.current f.result p.i u.if-has.false
+          ]
+    ] in
+    record { unvisited = search rules; focusing = rw next focusing }
 
 pub GroupOf::focus_to-returns-clause-found : goal.GroupOf::focus_to-returns-clause-found
 GroupOf::focus_to-returns-clause-found g t c =
