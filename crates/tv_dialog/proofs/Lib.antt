@@ -13,6 +13,7 @@ pub mod SettleLemmas
 pub mod ShownLemmas
 pub mod StandsLemmas
 pub mod SteppingLemmas
+pub mod StopLemmas
 pub mod TurnCodeLemmas
 pub mod TurnEventLemmas
 pub mod UntakenLemmas

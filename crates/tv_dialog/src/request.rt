@@ -42,6 +42,17 @@ impl<V: View> DialogOf<V> {
         if !self.body.is_free(id) {
             return false;
         }
+        self.request_free(id)
+    }
+
+    // Asks for the focus for a free control, which doesn't have it. Returns whether that control has it then.
+    fn request_free(&mut self, id: Id) -> bool
+        ensures stands { (d : Dialog) (m : Modal) → IsLawfulDialog d → length m.log < 66 → (id.0 == m.focus.0) ≡ false → is_free_at d m.leaves id ≡ true
+            → Stands V.meaning d m.leaves m self.old → Stands V.meaning d (asked d id m).leaves (asked d id m) self.new }
+        ensures granted { (d : Dialog) (m : Modal) → IsLawfulDialog d → (id.0 == m.focus.0) ≡ false → is_free_at d m.leaves id ≡ true
+            → Stands V.meaning d m.leaves m self.old → result ≡ is_granted (requested d m id) }
+        ensures pending { self.new.pending ≡ self.old.pending }
+    {
         if self.body.refuses().is_some() {
             note(&mut self.log, LogLine::Invalid(self.focus));
             return false;
@@ -67,7 +78,9 @@ impl<V: View> DialogOf<V> {
         ensures pending { self.new.pending ≡ self.old.pending }
     {
         if let Some(id) = self.next_stop(dir) {
-            self.request(id);
+            if id != self.focus {
+                self.request_free(id);
+            }
         }
     }
 }
