@@ -8,6 +8,8 @@ ghost use Rattle.tv_machine.specs.Dialog.Modal.{Modal};
 ghost use Rattle.tv_machine.specs.Dialog.Mouse.{is_close_mark};
 ghost use Rattle.tv_machine.specs.Dialog.Step.{dialog_step};
 ghost use Rattle.tv_tree.specs.Ready.{HoldsLeaf};
+ghost use Rattle.tv_group.specs.Calls.{any_holds};
+ghost use Rattle.tv_group.specs.Opened.{opened};
 ghost use Rattle.tv_dialog.specs.Standing.{Stands};
 ghost use Rattle.tv_dialog.specs.Stepping.{IsHandedIn, posted, posted_free, posted_held, posted_key, begun_anew, walked};
 
@@ -98,9 +100,20 @@ impl<V: View> DialogOf<V> {
             → Stands V.meaning d (dialog_step d event.now (begun_anew m)).leaves (dialog_step d event.now (begun_anew m)) self.new }
         ensures pending { self.new.pending ≡ [] }
     {
+        self.step_told(self.held(), event, env);
+    }
+
+    /// Handles an event as `step` does, told whether one of its views holds the mouse. To ask that costs a call of each.
+    pub fn step_told(&mut self, is_held: bool, event: &Event, env: &Env)
+        requires going { self.old.is_open ≡ true }
+        requires held { is_held ≡ any_holds (opened V.meaning self.old.body) }
+        ensures stands { (d : Dialog) (m : Modal) → IsLawfulDialog d → env.now.views.now ≡ d.views → IsHandedIn event.now → HoldsLeaf d m
+            → is_free_at d m.leaves m.focus ≡ true → Stands V.meaning d m.leaves m self.old
+            → Stands V.meaning d (dialog_step d event.now (begun_anew m)).leaves (dialog_step d event.now (begun_anew m)) self.new }
+        ensures pending { self.new.pending ≡ [] }
+    {
         self.log.clear();
         self.pending.clear();
-        let is_held = self.body.held();
         match posted(is_held, event) {
             Some(event) => {
                 self.pending.post(event);
