@@ -92,9 +92,9 @@ new_at look (x ∷ dialogs) (y ∷ kept) zero d k new there found =
 new_at look (x ∷ dialogs) (y ∷ kept) (suc place) d k new there found = new_at look dialogs kept place d k new.1 there found
 
 -- none of them is open
-pub new-dialogs : {V : Type 0} (look : V → Leaf) (d : Desc) (dialogs : DialogsOf V) → AreNew look d.dialogs dialogs.kept.items → dialogs.open ≡ None
+pub new-dialogs : {V : Type 0} (look : V → Leaf) (d : Desc) (dialogs : DialogsOf V) → AreNew look d.dialogs dialogs.kept.items → dialogs.open ≡ None → dialogs.is_held ≡ false
     → ((number : ℕ) → number < 256 → slice_index_or dialogs.commands number false ≡ true) → AreDialogs look d (closed d) dialogs
-new-dialogs look d dialogs new shut commands = record {
+new-dialogs look d dialogs new shut held commands = record {
   count = new_count look d.dialogs dialogs.kept.items new;
   saved = copies-count (length d.dialogs) None;
   overwriting = copies-count (length d.dialogs) [];
@@ -103,6 +103,7 @@ new-dialogs look d dialogs new shut commands = record {
       (subst (λ ids. IsKeptAs look x None ids k) (sym (copy-at (length d.dialogs) [] place))
       (new_at look d.dialogs dialogs.kept.items place x k new there found));
   place = shut;
+  held = held;
   at = λ o e. absurd (nothing-some o e);
   commands = commands;
 }

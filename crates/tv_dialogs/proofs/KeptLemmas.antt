@@ -1,5 +1,5 @@
 -- The dialogs of a run after one of them has worked: it stands, or it has ended; the others are kept as they were.
-use Rattle.std.proofs.Common.{◌≡◌, ◌<◌, ◌==◌, ℕ, true, false, if◌then◌else◌, List, [], Option, Some, None, length, refl, sym, ap, subst, ◌∙◌}
+use Rattle.std.proofs.Common.{◌≡◌, ◌<◌, ◌==◌, ℕ, true, false, if◌then◌else◌, List, [], Option, Some, None, is_some, length, refl, sym, ap, subst, ◌∙◌}
 use Rattle.std.specs.Prelude.{slice_get, slice_index_or, slice_set, unwrap_or}
 use Rattle.std.proofs.lemmas.Bool.{eq-eqb, eqb-true, false≢true}
 use Rattle.std.proofs.lemmas.List.{length-set}
@@ -20,6 +20,7 @@ use Rattle.tv_dialog.specs.Standing.{Stands}
 use Rattle.tv_dialog.proofs.ReopenLemmas.{stands-rests}
 use Rattle.tv_dialogs.specs.Dialogs.{AreDialogs, IsOpenAmong}
 use Rattle.tv_dialogs.specs.Kept.{IsKeptAs, first_values}
+use Rattle.tv_dialog.proofs.StandsLemmas.{some-kept}
 use Rattle.tv_dialogs.specs.declared.kept.Kept.{Kept}
 use Rattle.tv_dialogs.specs.declared.dialogs.DialogsOf.{DialogsOf}
 use Rattle.tv_dialogs.proofs.PlaceLemmas.{get-set-other, get-set-same, nothing-some, same-some}
@@ -105,10 +106,10 @@ module _ {V : Type 0} (look : V → Leaf) (d : Desc) (s : State) (old new : Dial
 
   -- ---- it stands
 
-  pub stays-open : (origin : Point) (log : List LogLine) → origin ≡ corner_of dialog.node → m.ended ≡ None → new.open ≡ Some place
+  pub stays-open : (origin : Point) (log : List LogLine) → origin ≡ corner_of dialog.node → m.ended ≡ None → new.open ≡ Some place → new.is_held ≡ is_some m.held
       → after.values ≡ before.values → Stands look dialog m.leaves (record m { log = after.dialog.log.items }) after.dialog
       → AreDialogs look d (standing_state s place origin m log) new
-  stays-open origin log corner going opens values stands =
+  stays-open origin log corner going opens held values stands =
       let t = standing_state s place origin m log in
       let lines = after.dialog.log.items in
       record {
@@ -124,6 +125,7 @@ module _ {V : Type 0} (look : V → Leaf) (d : Desc) (s : State) (old new : Dial
             })
             (λ j apart. (refl, overwriting_other j apart));
         place = opens;
+        held = held ∙ sym (some-kept (is_some m.held) (worked_dialog place origin m));
         at = λ o e.
             let this : worked_dialog place origin m ≡ o = same-some (worked_dialog place origin m) o e in
             subst (λ x. IsOpenAmong look d t x new.kept.items) this (record {
@@ -159,9 +161,9 @@ module _ {V : Type 0} (look : V → Leaf) (d : Desc) (s : State) (old new : Dial
       bool_cases (number == 11) (λ b. length (if b then s.saved else slice_set s.saved place (Some (fields_of m.leaves))) ≡ length d.dialogs)
       (λ is. are.saved) (λ is. length-set s.saved place (Some (fields_of m.leaves)) ∙ are.saved)
 
-  pub has-ended : (number : ℕ) (log : List LogLine) → new.open ≡ None → after.values ≡ (if number == 11 then before.values else fields_of m.leaves)
+  pub has-ended : (number : ℕ) (log : List LogLine) → new.open ≡ None → new.is_held ≡ false → after.values ≡ (if number == 11 then before.values else fields_of m.leaves)
       → Stands look dialog m.leaves m after.dialog → AreDialogs look d (ended_state s place number m log) new
-  has-ended number log shut values stands =
+  has-ended number log shut held values stands =
       let t = ended_state s place number m log in
       record {
         count = now_count;
@@ -176,6 +178,7 @@ module _ {V : Type 0} (look : V → Leaf) (d : Desc) (s : State) (old new : Dial
             })
             (λ j apart. (saved_other number j apart, overwriting_other j apart));
         place = shut;
+        held = held;
         at = λ o e. absurd (nothing-some o e);
         commands = now_commands;
       }

@@ -1,6 +1,7 @@
 pub mod BodyLemmas
 pub mod CurrentLemmas
 pub mod DroppedLemmas
+pub mod HoldLemmas
 pub mod KeptLemmas
 pub mod OpenLemmas
 pub mod PlaceLemmas

@@ -1,5 +1,5 @@
 -- A dialog that opens with its record opens as the machine's does.
-use Rattle.std.proofs.Common.{◌≡◌, ◌++◌, ◌∷◌, [], ℕ, map, Some, None, refl, sym, ap, subst, ◌∙◌, append_assoc}
+use Rattle.std.proofs.Common.{◌≡◌, ◌++◌, ◌∷◌, [], ℕ, map, Some, None, false, is_some, refl, sym, ap, subst, ◌∙◌, append_assoc}
 use Rattle.std.specs.Prelude.{slice_get, slice_set}
 use Rattle.std.proofs.lemmas.Option.{slice_get_within}
 use Rattle.tv_model.specs.declared.desc.Desc.{Desc}
@@ -12,6 +12,7 @@ use Rattle.tv_machine.specs.Safe.{field_ids}
 use Rattle.tv_machine.specs.Dialog.Lawful.{IsLawfulDialog}
 use Rattle.tv_machine.specs.Dialog.Modal.{Modal}
 use Rattle.tv_machine.specs.Dialog.Opening.{first_focus, opened_dialog as opens, opened_leaves, unfocused}
+use Rattle.tv_machine.proofs.RefocusLemmas.{held-moved}
 use Rattle.tv_machine.specs.Session.Commands.{open_dialog, open_found, opened_at, overwriting_at, saved_at}
 use Rattle.tv_group.specs.Calls.{FitsAll}
 use Rattle.tv_group.specs.Opened.{opened}
@@ -75,10 +76,11 @@ module _ {V : Type 0} (look : V → Leaf) (d : Desc) (s : State) (old : DialogsO
         sym (ap (λ t. t.log) state_is) ∙ append_assoc s.log (lines.Open dialog.node.id ∷ []) opening.log
         ∙ ap (λ ls. s.log ++ lines.Open dialog.node.id ∷ ls) (sym opened_stands.log ∙ sym (ap lines_by here))
 
-    pub opened-dialogs : new.commands ≡ old.commands → new.open ≡ Some place → after.values ≡ before.values → AreDialogs look d (open_dialog d place s) new
-    opened-dialogs lent opens_at values =
+    pub opened-dialogs : new.commands ≡ old.commands → new.open ≡ Some place → new.is_held ≡ false → after.values ≡ before.values → AreDialogs look d (open_dialog d place s) new
+    opened-dialogs lent opens_at held values =
         let going : opening.ended ≡ None = ended-moved dialog (unfocused dialog (saved_at s place) (overwriting_at s place)) (first_focus dialog (opened_leaves dialog (saved_at s place))) in
+        let loose : opening.held ≡ None = held-moved dialog (sound-there look d s old run place dialog there).lawful (unfocused dialog (saved_at s place) (overwriting_at s place)) (first_focus dialog (opened_leaves dialog (saved_at s place))) in
         subst (λ t. AreDialogs look d t new) state_is
         (stays-open look d s old new run.are place dialog there before after found written lent opening
-        (corner_of dialog.node) ((s.log ++ lines.Open dialog.node.id ∷ []) ++ opening.log) refl going opens_at values
+        (corner_of dialog.node) ((s.log ++ lines.Open dialog.node.id ∷ []) ++ opening.log) refl going opens_at (held ∙ ap is_some (sym loose)) values
         (subst (λ ls. Stands look dialog opening.leaves (record opening { log = ls }) after.dialog) (sym opened_stands.log) opened_stands))

@@ -1,7 +1,8 @@
 -- What the open dialog makes of an event is what the machine makes of it.
-use Rattle.std.proofs.Common.{◌≡◌, ◌==◌, ◌++◌, ℕ, Bool, true, false, not, if◌then◌else◌, [], Option, Some, None, option_map, refl, sym, ap, subst, ◌∙◌}
+use Rattle.std.proofs.Common.{◌≡◌, ◌==◌, ◌++◌, ℕ, Bool, true, false, not, ◌&&◌, if◌then◌else◌, [], Option, Some, None, is_some, option_map, refl, sym, ap, subst, ◌∙◌}
 use Rattle.std.specs.Prelude.{is_none, slice_get, slice_index_or, slice_set}
 use Rattle.std.specs.Bool.{then_some}
+use Rattle.std.proofs.lemmas.List.Elements.{All-nil}
 use Rattle.std.proofs.lemmas.Option.{slice_get_within}
 use Rattle.tv_event.specs.declared.event.Command.{Command}
 use Rattle.tv_event.specs.declared.event.Event.{Event}
@@ -14,22 +15,28 @@ use Rattle.tv_machine.specs.Dialog.Ending.{fields_of}
 use Rattle.tv_machine.specs.Dialog.Modal.{Modal}
 use Rattle.tv_machine.specs.Dialog.Step.{dialog_step}
 use Rattle.tv_machine.specs.Session.Commands.{after_work, modal_of, works}
-use Rattle.tv_machine.specs.Session.Step.{event_from, to_dialog}
+use Rattle.tv_machine.specs.Session.Step.{event_from, held_of, to_dialog}
 use Rattle.tv_machine.proofs.ListLemmas.{option_cases}
-use Rattle.tv_group.specs.Calls.{all_gathered}
+use Rattle.tv_group.specs.Calls.{all_gathered, any_holds}
 use Rattle.tv_group.specs.Opened.{opened}
+use Rattle.tv_laws.specs.Ends.{NamesEndOf}
+use Rattle.tv_laws.specs.Steps.{RespectsHold}
+use Rattle.tv_laws.proofs.StepLemmas.{stays-fit}
+use Rattle.tv_tree.proofs.Mouse.TakenLemmas.{any-holds}
+use Rattle.tv_dialog.proofs.StandsLemmas.{some-kept}
 use Rattle.tv_dialog.specs.Standing.{Stands, end_number}
 use Rattle.tv_dialog.specs.Stepping.{begun_anew}
 use Rattle.tv_dialogs.specs.Dialogs.{AreDialogs, AreOfRun, IsOpenAmong, at_work, lines_by, log_of_last, kept_at}
 use Rattle.tv_dialogs.specs.Handed.{is_dropped}
-use Rattle.tv_dialogs.specs.Kept.{IsReady, saves, values_after}
+use Rattle.tv_dialogs.specs.Kept.{IsReady, holds_after, may_hold, saves, values_after}
 use Rattle.tv_dialogs.specs.declared.kept.Kept.{Kept}
 use Rattle.tv_dialogs.specs.declared.dialogs.DialogsOf.{DialogsOf}
 use Rattle.tv_dialogs.proofs.DroppedLemmas.{dropped-still}
+use Rattle.tv_dialogs.proofs.HoldLemmas.{asked-where, respects-from, unheld-stays}
 use Rattle.tv_dialogs.proofs.KeptLemmas.{has-ended, stays-open}
 use Rattle.tv_dialogs.proofs.PlaceLemmas.{get-set-same, set-itself}
 use Rattle.tv_dialogs.proofs.PlacedLemmas.{read-declared, read-kept}
-use Rattle.tv_dialogs.proofs.RunLemmas.{open-ready, sound-open}
+use Rattle.tv_dialogs.proofs.RunLemmas.{open-fit, open-ready, sound-open}
 use Rattle.tv_dialogs.proofs.ValueLemmas.{stands-values}
 
 -- ---- what is read at its place
@@ -105,6 +112,22 @@ module _ {V : Type 0} (look : V → Leaf) (d : Desc) (s : State) (old : DialogsO
   pub stepped-log : (to_dialog d o e s).log ≡ s.log ++ stepped.log
   stepped-log = sym (ap (λ t. t.log) state-is) ∙ worked-log s o stepped stepped.ended
 
+  -- ---- the mouse
+
+  was-held : old.is_held ≡ is_some o.held
+  was-held = run.are.held ∙ ap (λ x. is_some (held_of x)) is ∙ some-kept (is_some o.held) o
+
+  pub held-stepped : (after : Kept V) → Stands look among.dialog stepped.leaves stepped after.dialog → RespectsHold o.held e
+      → holds_after look old.is_held e after.dialog ≡ (after.dialog.is_open && is_some stepped.held)
+  held-stepped after stands given =
+      let sound = sound-open look d s old run o is in
+      let m : Modal = modal_of s o in
+      let done = stays-fit among.dialog sound m (event_from o.origin e)
+      (record { fit = open-fit d s o is run.fit among.dialog among.there; log = All-nil (NamesEndOf among.dialog); going = refl }) (respects-from o.held o.origin e given) in
+      asked-where after.dialog.is_open (may_hold old.is_held e) (any_holds (opened look after.dialog.body)) stepped.held
+      (λ may. ap any_holds stands.tree ∙ any-holds among.dialog stepped.leaves stepped (λ held h. ap is_some (done.fit.held held h).there))
+      (λ may. unheld-stays among.dialog sound.lawful e o.origin m old.is_held was-held may)
+
   -- ---- an event that is handed to it
 
   module _ (new : DialogsOf V) (after : Kept V) (written : new.kept.items ≡ slice_set old.kept.items o.place after) (stands : Stands look among.dialog stepped.leaves stepped after.dialog) where
@@ -116,6 +139,7 @@ module _ {V : Type 0} (look : V → Leaf) (d : Desc) (s : State) (old : DialogsO
         stepped-log ∙ ap (λ ls. s.log ++ ls) (sym stands.log ∙ sym (ap lines_by found))
 
     module _ (lent : new.commands ≡ old.commands) (opens : new.open ≡ then_some after.dialog.is_open o.place)
+        (holds : new.is_held ≡ (after.dialog.is_open && is_some stepped.held))
         (values : after.values ≡ values_after look among.kept.values after.dialog) where
       values_going : stepped.ended ≡ None → after.values ≡ among.kept.values
       values_going going =
@@ -138,12 +162,12 @@ module _ {V : Type 0} (look : V → Leaf) (d : Desc) (s : State) (old : DialogsO
           (λ none.
           let going : after.dialog.is_open ≡ true = stands.open ∙ ap is_none none in
           stays-open look d s old new run.are o.place among.dialog among.there among.kept after among.found written lent stepped
-          o.origin (s.log ++ stepped.log) among.corner none (opens ∙ ap (λ b. then_some b o.place) going) (values_going none)
+          o.origin (s.log ++ stepped.log) among.corner none (opens ∙ ap (λ b. then_some b o.place) going) (holds ∙ ap (λ b. b && is_some stepped.held) going) (values_going none)
           (subst (λ ls. Stands look among.dialog stepped.leaves (record stepped { log = ls }) after.dialog) (sym stands.log) stands))
           (λ number some.
           let shut : after.dialog.is_open ≡ false = stands.open ∙ ap is_none some in
           has-ended look d s old new run.are o.place among.dialog among.there among.kept after among.found written lent stepped
-          number (s.log ++ stepped.log) (opens ∙ ap (λ b. then_some b o.place) shut)
+          number (s.log ++ stepped.log) (opens ∙ ap (λ b. then_some b o.place) shut) (holds ∙ ap (λ b. b && is_some stepped.held) shut)
           (values_ended number some) stands))
 
   -- ---- an event that is dropped
@@ -155,10 +179,10 @@ module _ {V : Type 0} (look : V → Leaf) (d : Desc) (s : State) (old : DialogsO
     pub dropped-log : new.last ≡ None → (to_dialog d o e s).log ≡ s.log ++ log_of_last new
     dropped-log last = stepped-log ∙ ap (λ m. s.log ++ m.log) still ∙ ap (λ ls. s.log ++ ls) (sym (ap lines_by (ap (kept_at new) last)))
 
-    pub dropped-dialogs : new.commands ≡ old.commands → new.open ≡ old.open → AreDialogs look d (to_dialog d o e s) new
-    dropped-dialogs lent opens =
+    pub dropped-dialogs : new.commands ≡ old.commands → new.open ≡ old.open → new.is_held ≡ old.is_held → AreDialogs look d (to_dialog d o e s) new
+    dropped-dialogs lent opens holds =
         subst (λ t. AreDialogs look d t new) state-is
         (subst (λ m. AreDialogs look d (after_work s o m m.ended) new) (sym still)
         (stays-open look d s old new run.are o.place among.dialog among.there among.kept among.kept among.found
         (ap (λ v. v.items) kept ∙ sym (set-itself old.kept.items o.place among.kept among.found)) lent (modal_of s o)
-        o.origin (s.log ++ []) among.corner refl (opens ∙ run.are.place ∙ ap (λ x. option_map (λ y. y.place) x) is) refl among.stands))
+        o.origin (s.log ++ []) among.corner refl (opens ∙ run.are.place ∙ ap (λ x. option_map (λ y. y.place) x) is) (holds ∙ was-held) refl among.stands))

@@ -1,7 +1,9 @@
 -- What is kept of a dialog, whether it is open or not.
-use Rattle.std.specs.Prelude.{◌≡◌, ◌==◌, Bool, true, false, not, List, [], Option, Some, None, unwrap_or}
+use Rattle.std.specs.Prelude.{◌≡◌, ◌==◌, ◌&&◌, Bool, true, false, not, List, [], Option, Some, None, unwrap_or}
 use Rattle.std.specs.Prelude.{if◌then◌else◌}
 use Rattle.tv_event.specs.declared.event.Command.{Command}
+use Rattle.tv_event.specs.declared.event.Event.{Event}
+use Rattle.tv_event.specs.declared.event.Event.TheVariants as events
 use Rattle.tv_model.specs.declared.node.Id.{Id}
 use Rattle.tv_model.specs.declared.desc.Dialog.{Dialog}
 use Rattle.tv_view.specs.Meaning.{Leaf}
@@ -11,7 +13,7 @@ use Rattle.tv_machine.specs.Dialog.Focus.{is_free_at}
 use Rattle.tv_machine.specs.Dialog.Lawful.{IsLawfulDialog}
 use Rattle.tv_machine.specs.Dialog.Modal.{Modal}
 use Rattle.tv_machine.specs.Dialog.Opening.{opened_leaves}
-use Rattle.tv_group.specs.Calls.{all_gathered}
+use Rattle.tv_group.specs.Calls.{all_gathered, any_holds}
 use Rattle.tv_group.specs.Opened.{opened}
 use Rattle.tv_tree.specs.Ready.{HoldsLeaf}
 use Rattle.tv_dialog.specs.Resting.{Rests}
@@ -50,3 +52,14 @@ saves (Some command) = not (command.0 == 11)
 abbrev pub values_after : {V : Type 0} → (V → Leaf) → Entries → DialogOf V → Entries
 values_after look values dialog =
     if saves dialog.ended then all_gathered (opened look dialog.body) [] else values
+
+-- ---- the mouse
+
+-- whether a view may hold the mouse after an event: only a mouse down lets one take it
+abbrev pub may_hold : Bool → Event → Bool
+may_hold held (events.Down p) = true
+may_hold held _ = held
+
+-- whether a view of an open dialog holds the mouse after an event
+abbrev pub holds_after : {V : Type 0} → (V → Leaf) → Bool → Event → DialogOf V → Bool
+holds_after look held e dialog = dialog.is_open && may_hold held e && any_holds (opened look dialog.body)

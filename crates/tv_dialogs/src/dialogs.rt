@@ -23,6 +23,8 @@ pub struct DialogsOf<V> {
     pub(crate) kept: Vec<Kept<V>>,
     /// The place of the open one.
     pub(crate) open: Option<usize>,
+    /// Whether a view of the open one holds the mouse. To ask them costs a call of each.
+    pub(crate) is_held: bool,
     /// The place of the one that worked last.
     pub(crate) last: Option<usize>,
     /// All commands, which are lent while no dialog is open.
@@ -79,10 +81,7 @@ impl<V: View> DialogsOf<V> {
     pub fn held(&self) -> bool
         ensures { (d : Desc) (s : State) → AreOfRun V.meaning d s self.now → result ≡ is_some (held_of s.dialog) }
     {
-        match self.at(self.open) {
-            Some(kept) => kept.dialog.held(),
-            None => false,
-        }
+        self.is_held
     }
 
     /// Returns the commands that the open dialog enables, which are all of them while none is open.

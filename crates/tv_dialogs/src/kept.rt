@@ -10,7 +10,7 @@ ghost use Rattle.tv_machine.specs.State.{OpenDialog};
 ghost use Rattle.tv_model.specs.Description.Rectangles.{IsSmall, corner_of};
 ghost use Rattle.tv_model.specs.declared.desc.Desc.{Desc};
 ghost use Rattle.tv_model.specs.declared.node.Id.{Id};
-ghost use Rattle.tv_group.specs.Calls.{HasRoomForAll};
+ghost use Rattle.tv_group.specs.Calls.{HasRoomForAll, any_holds};
 ghost use Rattle.tv_group.specs.Opened.{opened};
 ghost use Rattle.tv_group.specs.Outline.{IsFreshBody};
 ghost use Rattle.tv_machine.specs.Dialog.Lawful.{IsLawfulDialog};
@@ -20,7 +20,7 @@ ghost use Rattle.tv_dialog.specs.Standing.{Stands};
 ghost use Rattle.tv_dialog.specs.Stepping.{begun_anew};
 ghost use Rattle.tv_dialogs.specs.Bodies.{kept_body};
 ghost use Rattle.tv_dialogs.specs.Handed.{HasPointGiven, is_dropped};
-ghost use Rattle.tv_dialogs.specs.Kept.{IsKeptAs, IsReady, saves, values_after};
+ghost use Rattle.tv_dialogs.specs.Kept.{IsKeptAs, IsReady, holds_after, may_hold, saves, values_after};
 
 use crate::colours::Colours;
 use crate::handed::event_from;
@@ -48,6 +48,16 @@ fn saves(ended: Option<Command>) -> bool
     match ended {
         Some(command) => command != Command::CANCEL,
         None => false,
+    }
+}
+
+// Whether a view may hold the mouse after an event: only a mouse down lets one take it.
+fn may_hold(is_held: bool, event: &Event) -> bool
+    ensures { result ≡ may_hold is_held event.now }
+{
+    match event {
+        Event::Down(_) => true,
+        _ => is_held,
     }
 }
 
@@ -93,16 +103,18 @@ impl<V: View> Kept<V> {
         }
     }
 
-    /// Hands the open dialog an event, whose point is in screen coordinates. Keeps the dialog's values where that ends
-    /// it by another command than `cancel`.
+    /// Hands the open dialog an event, whose point is in screen coordinates, told whether a view of it holds the mouse.
+    /// Keeps the dialog's values where that ends it by another command than `cancel`.
     pub(crate) fn step(
         &mut self,
         declared: &Declared,
+        is_held: bool,
         event: &Event,
         commands: &CommandSet,
         colours: &Colours,
     )
         requires ready { (m : Modal) × IsReady V.meaning declared.now m self.old.dialog }
+        requires held { is_held ≡ any_holds (opened V.meaning self.old.dialog.body) }
         requires given { HasPointGiven event.now }
         requires handed { is_dropped event.now ≡ false }
         ensures stands { (m : Modal) → IsReady V.meaning declared.now m self.old.dialog → Stands V.meaning declared.now
@@ -120,8 +132,16 @@ impl<V: View> Kept<V> {
             default_now: None,
             is_active: true,
         };
-        self.dialog.step(&event_from(corner, event), &env);
+        self.dialog
+            .step_told(is_held, &event_from(corner, event), &env);
         self.save();
+    }
+
+    /// Whether a view of the open dialog holds the mouse after an event. Asks the views only where one may.
+    pub(crate) fn held_after(&self, was_held: bool, event: &Event) -> bool
+        ensures { result ≡ holds_after V.meaning was_held event.now self.now.dialog }
+    {
+        self.dialog.is_open() && may_hold(was_held, event) && self.dialog.held()
     }
 
     /// Draws the open dialog over its shadow, both seen from the canvas's origin.

@@ -41,6 +41,7 @@ impl<V: View> DialogsOf<V> {
         Ok(DialogsOf {
             kept,
             open: None,
+            is_held: false,
             last: None,
             commands: CommandSet::all(),
             colours: Colours::new(),
@@ -58,6 +59,7 @@ impl<V: View> DialogsOf<V> {
         let kept = &mut self.kept[place];
         kept.dialog.reopen(&kept.values);
         self.open = Some(place);
+        self.is_held = false;
         self.last = Some(place);
     }
 }

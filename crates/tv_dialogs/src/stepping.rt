@@ -32,11 +32,13 @@ impl<V: View> DialogsOf<V> {
             let kept = &mut self.kept[place];
             kept.step(
                 &desc.dialogs.as_slice()[place],
+                self.is_held,
                 event,
                 &self.commands,
                 &self.colours,
             );
             self.open = kept.dialog.is_open().then_some(place);
+            self.is_held = kept.held_after(self.is_held, event);
             self.last = Some(place);
         }
     }

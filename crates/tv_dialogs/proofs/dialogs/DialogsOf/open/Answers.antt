@@ -1,4 +1,4 @@
-use Rattle.std.proofs.Common.{◌<◌, ℕ, length, Some, refl, sym, subst}
+use Rattle.std.proofs.Common.{◌<◌, ℕ, false, length, Some, refl, sym, subst}
 use Rattle.std.proofs.lemmas.Option.{slice_get_read}
 use Rattle.std.specs.Vec.{with_item}
 use Rattle.tv_dialogs.proofs.OpenLemmas.{open-fits, opened-dialogs, opened-log}
@@ -22,7 +22,7 @@ returns-clause-dialogs g c d s run =
     let x = there-is d.dialogs c.args.place (subst (λ (n : ℕ). c.args.place < n) run.are.count less) in
     opened-dialogs g.V.View.meaning d s c.args.self.now run c.args.place x.0 x.1 c.index_mut-kept.result.now
     (slice_get_read items (length items) c.args.place c.index_mut-kept.result.now refl less c.index_mut-kept.ensures.value)
-    _ (record { dialog = c.reopen.new.self; values = c.index_mut-kept.result.now.values }) refl c.reopen.ensures.stands refl refl refl
+    _ (record { dialog = c.reopen.new.self; values = c.index_mut-kept.result.now.values }) refl c.reopen.ensures.stands refl refl refl refl
 
 pub returns-clause-log : goal.returns-clause-log
 returns-clause-log g c d s dialog run there =
@@ -34,6 +34,7 @@ returns-clause-log g c d s dialog run there =
     (record c.args.self.now {
       kept = with_item c.args.self.now.kept c.args.place (record { dialog = c.reopen.new.self; values = c.index_mut-kept.result.now.values });
       «open» = Some c.args.place;
+      is_held = false;
       last = Some c.args.place;
     })
     (record { dialog = c.reopen.new.self; values = c.index_mut-kept.result.now.values }) refl c.reopen.ensures.stands refl

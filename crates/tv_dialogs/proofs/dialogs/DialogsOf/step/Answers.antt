@@ -1,15 +1,17 @@
 use Rattle.std.proofs.Common.{arith, ◌∙◌, ◌<◌, length, Some, None, refl, ap, sym, subst, slice_index_or, slice_set}
 use Rattle.std.specs.Bool.{then_some}
 use Rattle.std.specs.Vec.{with_item}
-use Rattle.tv_dialogs.specs.Dialogs.{at_work}
+use Rattle.std.proofs.lemmas.Option.{slice_get_read}
+use Rattle.tv_dialogs.specs.Dialogs.{at_work, kept_at}
 use Rattle.tv_dialogs.specs.Kept.{values_after}
-use Rattle.tv_dialogs.proofs.StepLemmas.{dropped-dialogs, dropped-log, handed-dialogs, handed-log, read-ready, read-stands}
+use Rattle.tv_dialogs.proofs.CurrentLemmas.{held-some}
+use Rattle.tv_dialogs.proofs.StepLemmas.{dropped-dialogs, dropped-log, handed-dialogs, handed-log, held-stepped, read-ready, read-stands}
 use Rattle.tv_dialogs.proofs.PlacedLemmas.{place-declared, place-kept, place-of, place-told, read-kept}
 use Rattle.tv_dialogs.proofs.dialogs.DialogsOf.step.Goals as goal
 
 pub returns-then-is_dropped-clause-dialogs : goal.returns-then-is_dropped-clause-dialogs
 returns-then-is_dropped-clause-dialogs g c s o is given run =
-    dropped-dialogs g.V.View.meaning c.args.desc.now s c.args.self.now run o is c.args.event.now _ (sym c.is_dropped.ensures ∙ c.if-is_dropped.true) refl refl refl
+    dropped-dialogs g.V.View.meaning c.args.desc.now s c.args.self.now run o is c.args.event.now _ (sym c.is_dropped.ensures ∙ c.if-is_dropped.true) refl refl refl refl
 
 pub returns-then-is_dropped-clause-log : goal.returns-then-is_dropped-clause-log
 returns-then-is_dropped-clause-log g c s o is run =
@@ -41,6 +43,18 @@ step-requires-clause-ready g c =
           (c.index-as_slice-place.is ∙ ap (λ ds. slice_index_or ds c.in-Some.place c.index-as_slice-place.result) c.as_slice.ensures) c.index_mut-kept.ensures.value,
     )
 
+pub step-requires-clause-held : goal.step-requires-clause-held
+step-requires-clause-held g c =
+    let look = g.V.View.meaning in
+    let old = c.args.self.now in
+    let s = c.requires.run.0 in
+    let run = c.requires.run.1 in
+    let kept = c.index_mut-kept.result.now in
+    let less = place-kept look c.args.desc.now s old run.are c.in-Some.place c.in-Some.is in
+    let found = slice_get_read old.kept.items (length old.kept.items) c.in-Some.place kept refl less c.index_mut-kept.ensures.value in
+    let here = ap (kept_at old) c.in-Some.is ∙ found in
+    run.are.held ∙ sym (held-some look c.args.desc.now s old run kept (sym here))
+
 pub returns-in-Some-clause-dialogs : goal.returns-in-Some-clause-dialogs
 returns-in-Some-clause-dialogs g c s o is given run =
     let look = g.V.View.meaning in
@@ -54,6 +68,7 @@ returns-in-Some-clause-dialogs g c s o is given run =
     let stands = read-stands look d s old run o is c.in-Some.place c.in-Some.is c.index-as_slice-place.result kept reads c.index_mut-kept.ensures.value e c.step.new.self c.step.ensures.stands in
     handed-dialogs look d s old run o is e _ c.step.new.self (ap (λ n. slice_set old.kept.items n c.step.new.self) at) stands refl
     (c.then_some-self.ensures ∙ ap (λ b. then_some b c.in-Some.place) c.is_open.ensures ∙ ap (then_some c.step.new.self.dialog.is_open) at)
+    (c.held_after-self.ensures ∙ held-stepped look d s old run o is e c.step.new.self stands given)
     (c.step.ensures.values ∙ ap (λ k. values_after look k.values c.step.new.self.dialog) same)
 
 pub returns-in-Some-clause-log : goal.returns-in-Some-clause-log
@@ -70,6 +85,7 @@ returns-in-Some-clause-log g c s o is run =
     (record {
       kept = with_item old.kept c.in-Some.place c.step.new.self;
       «open» = c.then_some-self.result;
+      is_held = c.held_after-self.result;
       last = Some c.in-Some.place;
       commands = old.commands;
       colours = old.colours;

@@ -17,7 +17,7 @@ save-requires g c =
     let r = c.requires.ready.1 in
     let small = c.bounds.ensures.small in
     let handed = subst IsHandedIn (sym c.event_from.ensures) (handed-in c.bounds.result.a c.args.event.now (small.left, small.top) c.requires.given c.requires.handed) in
-    stands-room look d r.lawful _ _ c.step.new.self (c.step.ensures.stands d m r.lawful c.as_slice.ensures handed r.leaf r.focus r.stands)
+    stands-room look d r.lawful _ _ c.step_told.new.self (c.step_told.ensures.stands d m r.lawful c.as_slice.ensures handed r.leaf r.focus r.stands)
 
 pub returns-clause-stands : goal.returns-clause-stands
 returns-clause-stands g c m r =
@@ -27,5 +27,5 @@ returns-clause-stands g c m r =
     let handed = subst IsHandedIn (sym c.event_from.ensures) (handed-in c.bounds.result.a c.args.event.now (small.left, small.top) c.requires.given c.requires.handed) in
     let same = c.event_from.ensures ∙ ap (λ p. event_from p c.args.event.now) (corner-is d _ r.stands.head c.bounds.result c.bounds.ensures.is) in
     subst (λ dialog. Stands look d (dialog_step d (event_from (corner_of d.node) c.args.event.now) (begun_anew m)).leaves (dialog_step d (event_from (corner_of d.node) c.args.event.now) (begun_anew m)) dialog) (sym c.save.ensures.dialog)
-    (subst (λ e. Stands look d (dialog_step d e (begun_anew m)).leaves (dialog_step d e (begun_anew m)) c.step.new.self) same
-    (c.step.ensures.stands d m r.lawful c.as_slice.ensures handed r.leaf r.focus r.stands))
+    (subst (λ e. Stands look d (dialog_step d e (begun_anew m)).leaves (dialog_step d e (begun_anew m)) c.step_told.new.self) same
+    (c.step_told.ensures.stands d m r.lawful c.as_slice.ensures handed r.leaf r.focus r.stands))
