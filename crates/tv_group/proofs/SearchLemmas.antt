@@ -1,5 +1,5 @@
 -- What a search through leaves comes to.
-use Rattle.std.proofs.Common.{◌≡◌, ℕ, Bool, true, false, List, [], ◌∷◌, ◌++◌, ◌+◌, ◌-◌, ◌<◌, ◌≤◌, length, get_or, map, reverse, find, refl, sym, ap, ◌∙◌, Some, option_map, if◌then◌else◌, cond, arith}
+use Rattle.std.proofs.Common.{◌≡◌, ℕ, zero, suc, Bool, true, false, List, [], ◌∷◌, ◌++◌, ◌+◌, ◌-◌, ◌<◌, ◌≤◌, length, get_or, map, reverse, find, refl, sym, ap, ◌∙◌, Some, is_some, option_map, if◌then◌else◌, cond, arith}
 use Rattle.std.proofs.lemmas.List.{get_or_default, map-append, reverse-append}
 use Rattle.tv_cells.specs.declared.rect.Rect.{Rect}
 use Rattle.tv_model.specs.declared.node.Id.{Id}
@@ -205,3 +205,16 @@ module _ {V : Type 0} (look : V → Leaf) where
       ∙ before
       ∙ ap (λ j. searched s (reverse (opened_to look g.current j g.members.items))) none
       ∙ ap (λ l. searched s (reverse l)) (opened_to-none look g.current g.members.items))
+
+  -- behind a find nothing is looked at
+  sought-behind : (dir : Dir) (from : Search) (id : Id) (j k : ℕ) (g : GroupOf V) → k + j ≡ length g.members.items → Sought dir from (Found id) k g
+      → Found id ≡ searched from (ordered dir (opened look g))
+  sought-behind dir from id zero k g count before = sought-all dir from (Found id) k g (omega arith) before
+  sought-behind dir from id (suc j) k g count before =
+      sought-behind dir from id j (k + 1) g (omega arith) (sought-skipped dir from (Found id) (Found id) k g (omega arith) refl refl before)
+
+  pub sought-found : (dir : Dir) (from s : Search) (k : ℕ) (g : GroupOf V) → is_some (found_in s) ≡ true → k ≤ length g.members.items
+      → Sought dir from s k g → s ≡ searched from (ordered dir (opened look g))
+  sought-found dir from Before k g found h before = cc
+  sought-found dir from Passed k g found h before = cc
+  sought-found dir from (Found id) k g found h before = sought-behind dir from id (length g.members.items - k) k g (omega arith) before

@@ -118,6 +118,9 @@ impl<V: View> GroupOf<V> {
             let i = dir.place(k, self.members.len());
             if search.looks_at(self.is_current(i)) {
                 search = self.members[i].search(dir, search);
+                if search.found().is_some() {
+                    return search;
+                }
             }
         }
         search

@@ -16,7 +16,7 @@ const MOST: usize = 64;
 fn has_room_for(values: &Record, id: Id) -> bool
     ensures { result ≡ (is_some (value_of values.now id.0) || nat_lt (length values.now) 64) }
 {
-    values.value(id).is_some() || values.len() < MOST
+    values.len() < MOST || values.value(id).is_some()
 }
 
 fn gather_leaf<V: View>(view: &V, values: &mut Record)
