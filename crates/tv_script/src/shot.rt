@@ -8,9 +8,9 @@ ghost use Rattle.tv_machine.specs.Output.{cells_text, hex_byte, hex_digit, row_t
 ghost use Rattle.tv_io.specs.Pen.{Puts};
 ghost use Rattle.tv_script.specs.ScreenText.{aspect_word, cell_text};
 
-use arrayvec::ArrayString;
+use arrayvec::ArrayVec;
 use tv_cells::{Cell, Screen};
-use tv_io::{Pen, Writer};
+use tv_io::{Pen, Writer, push_char};
 
 /// The most bytes of a row: 132 characters of at most four bytes each, two colons and the line end.
 const ROW: usize = 531;
@@ -56,42 +56,43 @@ fn put_row<W: Writer>(pen: &mut Pen<W>, aspect: Aspect, screen: &Screen, row: u3
     requires { row < screen.now.height }
     ensures { Puts W.seen pen.old pen.new (row_text (cell_text aspect) screen.now.width (cell_at screen.now) row) }
 {
-    let mut text: ArrayString<ROW> = ArrayString::new();
-    text.push_str(":");
+    let mut text: ArrayVec<u8, ROW> = ArrayVec::new();
+    text.push(b':');
     push_cells(&mut text, aspect, screen, row);
-    text.push_str(":\n");
-    pen.put(text.as_str().as_bytes());
+    text.push(b':');
+    text.push(b'\n');
+    pen.put(text.as_slice());
 }
 
-fn push_cells(text: &mut ArrayString<ROW>, aspect: Aspect, screen: &Screen, row: u32)
+fn push_cells(text: &mut ArrayVec<u8, ROW>, aspect: Aspect, screen: &Screen, row: u32)
     requires on { row < screen.now.height }
-    requires room { length text.old.bytes ≤ 1 }
-    ensures text { text.new.bytes ≡ text.old.bytes ++ cells_text (cell_text aspect) screen.now.width (cell_at screen.now) row }
-    ensures room { length text.new.bytes ≤ 529 }
+    requires room { length text.old.items ≤ 1 }
+    ensures text { text.new.items ≡ text.old.items ++ cells_text (cell_text aspect) screen.now.width (cell_at screen.now) row }
+    ensures room { length text.new.items ≤ 529 }
 {
     for column in 0..screen.width() {
         push_cell(text, aspect, screen.get(column, row));
     }
 }
 
-fn push_cell(text: &mut ArrayString<ROW>, aspect: Aspect, cell: Cell)
-    requires { length text.old.bytes + 4 ≤ 531 }
-    ensures text { text.new.bytes ≡ text.old.bytes ++ cell_text aspect cell }
-    ensures room { length text.new.bytes ≤ length text.old.bytes + 4 }
+fn push_cell(text: &mut ArrayVec<u8, ROW>, aspect: Aspect, cell: Cell)
+    requires { length text.old.items + 4 ≤ 531 }
+    ensures text { text.new.items ≡ text.old.items ++ cell_text aspect cell }
+    ensures room { length text.new.items ≤ length text.old.items + 4 }
 {
     match aspect {
-        Aspect::Characters => text.push(cell.ch()),
+        Aspect::Characters => push_char(text, cell.ch()),
         Aspect::Attributes => push_hex(text, cell.attr()),
     }
 }
 
 // Adds the byte in two lower case hexadecimal digits.
-fn push_hex(text: &mut ArrayString<ROW>, byte: u8)
-    requires { length text.old.bytes + 2 ≤ 531 }
-    ensures { text.new.bytes ≡ text.old.bytes ++ hex_byte byte }
+fn push_hex(text: &mut ArrayVec<u8, ROW>, byte: u8)
+    requires { length text.old.items + 2 ≤ 531 }
+    ensures { text.new.items ≡ text.old.items ++ hex_byte byte }
 {
-    text.push(char::from(hex_digit(byte / 16)));
-    text.push(char::from(hex_digit(byte % 16)));
+    text.push(hex_digit(byte / 16));
+    text.push(hex_digit(byte % 16));
 }
 
 fn hex_digit(value: u8) -> u8

@@ -6,4 +6,4 @@ use Rattle.tv_script.proofs.shot.push_cells.Given as goal
 
 abbrev pub invariant-loop-column : goal.invariant-loop-column
 invariant-loop-column l =
-    (l.text.bytes ≡ l.fn.text.bytes ++ cells_text (cell_text l.aspect) l.column (cell_at l.screen) l.row) × (length l.text.bytes ≤ 1 + 4 * l.column)
+    (l.text.items ≡ l.fn.text.items ++ cells_text (cell_text l.aspect) l.column (cell_at l.screen) l.row) × (length l.text.items ≤ 1 + 4 * l.column)
