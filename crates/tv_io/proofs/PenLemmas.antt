@@ -1,11 +1,11 @@
 -- One text after another, through a pen.
-use Rattle.std.proofs.Common.{◌≡◌, ℕ, ◌<◌, ◌+◌, Bool, true, false, List, ◌∷◌, [], ◌++◌, length, get_or, take, refl, ap, ◌∙◌}
+use Rattle.std.proofs.Common.{◌≡◌, ℕ, ◌<◌, ◌+◌, Bool, true, false, List, ◌∷◌, [], ◌++◌, length, get_or, take, refl, ap, sym, append_assoc, ◌∙◌}
 use Rattle.std.proofs.lemmas.List.{append-nil, take_more}
 use Rattle.std.proofs.lemmas.List.Concat.{flat_map-append}
 use Rattle.std.specs.List.{flat_map}
 use Rattle.tv_io.specs.declared.pen.Pen.{Pen}
 use Rattle.tv_io.specs.Writer.{Seen, Takes, Cuts}
-use Rattle.tv_io.specs.Pen.{Puts, PutsBy}
+use Rattle.tv_io.specs.Pen.{Puts, PutsBy, PutsPart}
 use Rattle.tv_io.proofs.WriterLemmas.{Takes-none, Takes-then, Cuts-longer, Cuts-after}
 
 PutsBy-none : (a : Seen) (s : Bool) → PutsBy a s a s []
@@ -31,7 +31,7 @@ PutsBy-went_on a b false true x f p = absurd cc
 PutsBy-went_on a b false false x f p = p
 
 -- one more piece of a text that is made piece by piece
-flat_map-take_more : {X : Type 0} (f : X → List ℕ) (xs : List X) (i : ℕ) (d : X) → i < length xs → flat_map f (take (i + 1) xs) ≡ flat_map f (take i xs) ++ f (get_or xs i d)
+pub flat_map-take_more : {X : Type 0} (f : X → List ℕ) (xs : List X) (i : ℕ) (d : X) → i < length xs → flat_map f (take (i + 1) xs) ≡ flat_map f (take i xs) ++ f (get_or xs i d)
 flat_map-take_more f xs i d lt = ap (flat_map f) (take_more xs i d lt) ∙ flat_map-append f (take i xs) (get_or xs i d ∷ []) ∙ ap (λ (t : List ℕ). flat_map f (take i xs) ++ t) (append-nil (f (get_or xs i d)))
 
 module _ {W : Type 0} {seen : W → Seen} where
@@ -46,6 +46,14 @@ module _ {W : Type 0} {seen : W → Seen} where
 
   pub Puts-more : {X : Type 0} {a b c : Pen W} (f : X → List ℕ) (xs : List X) (i : ℕ) (d : X) → i < length xs → Puts seen a b (flat_map f (take i xs)) → Puts seen b c (f (get_or xs i d)) → Puts seen a c (flat_map f (take (i + 1) xs))
   Puts-more f xs i d lt p q = rw (flat_map-take_more f xs i d lt) (Puts-then p q)
+
+  -- of a text that is put part by part, one part more
+  pub PutsPart-then : {a b c : Pen W} {old new : List ℕ} (text more : List ℕ) → PutsPart seen a b [] text old → PutsPart seen b c old more new → PutsPart seen a c [] (text ++ more) new
+  PutsPart-then {a} {b} {c} {old} {new} text more p q = (p.0 ++ q.0, Puts-then p.1 q.1, append_assoc p.0 q.0 new ∙ ap (λ (t : List ℕ). p.0 ++ t) q.2 ∙ sym (append_assoc p.0 old more) ∙ ap (λ (t : List ℕ). t ++ more) p.2)
+
+  -- what waits is put too
+  pub PutsPart-end : {a b c : Pen W} {text waits : List ℕ} → PutsPart seen a b [] text waits → Puts seen b c waits → Puts seen a c text
+  PutsPart-end p q = Puts-along p.2 (Puts-then p.1 q)
 
   pub Cuts-from_stopped : {a b : Pen W} {x : List ℕ} → a.stopped ≡ false → b.stopped ≡ true → Puts seen a b x → Cuts (seen a.out.now) (seen b.out.now) x
   Cuts-from_stopped {a} {b} {x} e f p = PutsBy-stopped (seen a.out.now) (seen b.out.now) a.stopped b.stopped x e f p.how

@@ -1,5 +1,5 @@
 -- What a pen writes.
-use Rattle.std.specs.Prelude.{◌≡◌, ℕ, Bool, true, false, List}
+use Rattle.std.specs.Prelude.{◌≡◌, ℕ, Bool, true, false, List, ◌++◌}
 use Rattle.tv_io.specs.declared.pen.Pen.{Pen}
 use Rattle.tv_io.specs.Writer.{Seen, Takes, Cuts}
 
@@ -14,3 +14,8 @@ PutsBy old false new true text = Cuts old new text
 pub record Puts {W : Type 0} (seen : W → Seen) (old new : Pen W) (text : List ℕ) : Type 0 where
   pub how : PutsBy (seen old.out.now) old.stopped (seen new.out.now) new.stopped text
   pub same : new.out.ghost_name ≡ old.out.ghost_name
+
+-- of what waited and the text after it, all but what waits now was put
+abbrev pub PutsPart : {W : Type 0} → (W → Seen) → Pen W → Pen W → (waited text waits : List ℕ) → Type 0
+PutsPart seen old new waited text waits =
+    (part : List ℕ) × Puts seen old new part × (part ++ waits ≡ waited ++ text)

@@ -1,10 +1,15 @@
 //! A pen writes texts one after another, and nothing more once its writer failed.
 
 ghost use Rattle.std.specs.Prelude.{◌≡◌, ◌∷◌, [], decimal, encode_utf8, flat_map};
-ghost use Rattle.tv_io.specs.Pen.{Puts};
+ghost use Rattle.tv_io.specs.Pen.{Puts, PutsPart};
 
+use crate::utf8::push_char;
 use crate::writer::{Writer, write_all};
+use arrayvec::ArrayVec;
 use itoa::Buffer;
+
+/// The most bytes of characters that are written at once.
+const RUN: usize = 64;
 
 /// A writer, and whether it failed.
 #[derive(Drop)]
@@ -38,9 +43,22 @@ impl<'a, W: Writer> Pen<'a, W> {
     pub fn put_chars(&mut self, chars: &[char])
         ensures { Puts W.seen self.old self.new (flat_map encode_utf8 chars.now) }
     {
+        let mut waiting: ArrayVec<u8, RUN> = ArrayVec::new();
         for ch in chars {
-            self.put_char(*ch);
+            self.gather(&mut waiting, *ch);
         }
+        self.put(waiting.as_slice());
+    }
+
+    // Adds the character to the bytes that wait. Writes those first where there may be no room for it.
+    fn gather(&mut self, waiting: &mut ArrayVec<u8, RUN>, ch: char)
+        ensures { PutsPart W.seen self.old self.new waiting.old.items (encode_utf8 ch) waiting.new.items }
+    {
+        if waiting.remaining_capacity() < 4 {
+            self.put(waiting.as_slice());
+            waiting.clear();
+        }
+        push_char(waiting, ch);
     }
 
     /// Writes the character in UTF-8.
