@@ -1,6 +1,7 @@
 //! The lines of the log, written.
 
-ghost use Rattle.std.specs.Prelude.{◌≡◌, ◌≤◌, ◌++◌, ◌∷◌, [], codes, decimal, flat_map};
+ghost use Rattle.std.specs.Prelude.{◌≡◌, ◌≤◌, ◌++◌, ◌∷◌, ◌==◌, ◌||◌, [], codes, decimal, flat_map};
+ghost use Rattle.std.specs.List.{list_any};
 ghost use Rattle.tv_model.specs.declared.log.LogLine.TheVariants as lines;
 ghost use Rattle.tv_model.specs.Description.Nodes.{node_of};
 ghost use Rattle.tv_model.specs.Description.Heads.{all_nodes};
@@ -120,6 +121,24 @@ fn put_quoted<W: Writer>(pen: &mut Pen<W>, text: &[char])
 }
 
 fn put_escaped<W: Writer>(pen: &mut Pen<W>, text: &[char])
+    ensures { Puts W.seen pen.old pen.new (flat_map escaped_in_log text.now) }
+{
+    // Most texts have nothing to escape, and go to the writer in runs.
+    if has_escapes(text) {
+        put_each_escaped(pen, text);
+    } else {
+        pen.put_chars(text);
+    }
+}
+
+// Whether there is a character that is escaped.
+fn has_escapes(text: &[char]) -> bool
+    ensures { result ≡ list_any (λ ch. ch == 34 || ch == 92) text.now }
+{
+    text.iter().any(|ch| matches!(*ch, '"' | '\\'))
+}
+
+fn put_each_escaped<W: Writer>(pen: &mut Pen<W>, text: &[char])
     ensures { Puts W.seen pen.old pen.new (flat_map escaped_in_log text.now) }
 {
     for ch in text {
