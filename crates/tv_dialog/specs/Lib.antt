@@ -1,6 +1,7 @@
 pub mod Drawn
 pub mod Fields
 pub mod Head
+pub mod Lines
 pub mod Placing
 pub mod Plan
 pub mod Resting

@@ -38,7 +38,9 @@ fn note_fields(log: &mut Log, leaves: &[LeafPlan], fields: &Record)
 }
 
 impl<V: View> DialogOf<V> {
-    // Logs the end and the fields, in description order.
+    // Logs the end and the fields, in description order. It isn't inlined, so that the record's room on the stack isn't its
+    // callers' too.
+    #[inline(never)]
     fn end(&mut self, command: Command)
         ensures stands { (d : Dialog) (m : Modal) → IsLawfulDialog d → length m.log ≤ 1
             → Stands V.meaning d m.leaves m self.old → Stands V.meaning d m.leaves (ended d command.0 m) self.new }

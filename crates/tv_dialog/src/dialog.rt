@@ -26,10 +26,10 @@ ghost use Rattle.tv_dialog.specs.declared.fault.DialogFault.TheVariants.{WrongKi
 
 use crate::fault::DialogFault;
 use crate::head::Head;
+use crate::held::{Held, empty_record};
 use crate::log::Log;
 use crate::plan::Plan;
 use crate::ruled::Ruled;
-use arrayvec::ArrayVec;
 use std::alloc::Global;
 use tv_cells::{Canvas, Rect, Screen, lay};
 use tv_event::{Command, CommandSet, Pending};
@@ -53,7 +53,7 @@ pub struct DialogOf<V> {
     pub(crate) focus: Id,
     pub(crate) ruled: Ruled,
     /// The values by which the rules were last applied.
-    pub(crate) marks: Record,
+    pub(crate) marks: Held<Record>,
     pub(crate) pending: Pending,
     pub(crate) log: Log,
 }
@@ -61,12 +61,14 @@ pub struct DialogOf<V> {
 /// A dialog whose views are boxed.
 pub type Dialog = DialogOf<Box<dyn View>>;
 
-/// What a dialog keeps of its description, and its queue.
+/// What a dialog keeps of its description, and its marks, queue and log, which are empty.
 #[derive(Drop)]
 struct Kept {
     head: Head,
     plan: Plan,
+    marks: Held<Record>,
     pending: Pending,
+    log: Log,
 }
 
 impl Kept {
@@ -74,17 +76,21 @@ impl Kept {
         requires { IfSome (declared_dialog_head node.now) IsLimitedDialogHead }
         ensures head { IfOk result (λ kept. Some kept.head ≡ declared_dialog_head node.now) }
         ensures plan { IfOk result (λ kept. kept.plan ≡ plan_of views.now rules.now) }
-        ensures pending { IfOk result (λ kept. kept.pending ≡ []) }
+        ensures empty { IfOk result (λ kept. (kept.marks ≡ []) × (kept.pending ≡ []) × (kept.log.items ≡ [])) }
         ensures wrong { declared_dialog_head node.now ≡ None → IfErr result (λ fault. fault ≡ WrongKind) }
         ensures right { IfErr result (λ fault. fault ≡ WrongKind → declared_dialog_head node.now ≡ None) }
     {
         let head = Head::of(node).ok_or(DialogFault::WrongKind)?;
         let plan = Plan::of(alloc, views, rules)?;
+        let marks = empty_record(alloc)?;
         let pending = Pending::new(alloc)?;
+        let log = Log::new(alloc)?;
         Ok(Kept {
             head,
             plan,
+            marks,
             pending,
+            log,
         })
     }
 }
@@ -128,9 +134,9 @@ impl<V: View> DialogOf<V> {
                 is_open: false,
                 ended: None,
                 ruled: Ruled::new(),
-                marks: Record::new(),
+                marks: kept.marks,
                 pending: kept.pending,
-                log: ArrayVec::new(),
+                log: kept.log,
             }),
             Err(fault) => Err((fault, body)),
         }

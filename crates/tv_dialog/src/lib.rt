@@ -6,7 +6,9 @@ mod condition;
 mod dialog;
 mod fault;
 mod head;
+mod held;
 mod log;
+mod log_lines;
 mod open;
 mod plan;
 mod request;
@@ -17,3 +19,5 @@ mod turn;
 
 pub use dialog::{Dialog, DialogOf};
 pub use fault::DialogFault;
+pub use held::{Held, empty_record};
+pub use log_lines::LogLines;

@@ -5,11 +5,23 @@ ghost use Rattle.tv_model.specs.declared.desc.Dialog.{Dialog};
 ghost use Rattle.tv_machine.specs.State.{LeafState};
 ghost use Rattle.tv_machine.specs.Dialog.Lawful.{IsLawfulDialog};
 ghost use Rattle.tv_machine.specs.Dialog.Modal.{Modal};
+ghost use Rattle.tv_group.specs.Calls.{gathered_within};
+ghost use Rattle.tv_group.specs.Opened.{opened};
 ghost use Rattle.tv_dialog.specs.Resting.{Rests};
 ghost use Rattle.tv_dialog.specs.Standing.{Stands};
 
 use crate::dialog::DialogOf;
+use crate::held::Held;
+use tv_group::GroupOf;
+use tv_model::Record;
 use tv_view::{Rules, View};
+
+// Puts the values of the fields into the record.
+fn gather<V: View>(body: &GroupOf<V>, values: &mut Held<Record>)
+    ensures { values.new ≡ gathered_within (opened V.meaning body.now) values.old }
+{
+    body.gather(&mut values.value);
+}
 
 impl<V: View> DialogOf<V> {
     // Applies the rules to the marks as they are now.
@@ -21,8 +33,8 @@ impl<V: View> DialogOf<V> {
         ensures is_open { self.new.is_open ≡ self.old.is_open }
         ensures pending { self.new.pending ≡ self.old.pending }
     {
-        self.body.gather(&mut self.marks);
-        self.ruled.update(&self.plan, &self.marks);
+        gather(&self.body, &mut self.marks);
+        self.ruled.update(&self.plan, self.marks.get());
         self.body.apply(&Rules {
             shown: self.ruled.shown.as_slice(),
             commands: &self.ruled.commands,
