@@ -10,7 +10,7 @@ ghost use Rattle.tv_machine.specs.State.{OpenDialog};
 ghost use Rattle.tv_model.specs.Description.Rectangles.{IsSmall, corner_of};
 ghost use Rattle.tv_model.specs.declared.desc.Desc.{Desc};
 ghost use Rattle.tv_model.specs.declared.node.Id.{Id};
-ghost use Rattle.tv_group.specs.Calls.{HasRoomForAll, any_holds};
+ghost use Rattle.tv_group.specs.Calls.{HasRoomForAll, all_gathered, any_holds};
 ghost use Rattle.tv_group.specs.Opened.{opened};
 ghost use Rattle.tv_group.specs.Outline.{IsFreshBody};
 ghost use Rattle.tv_machine.specs.Dialog.Lawful.{IsLawfulDialog};
@@ -26,7 +26,7 @@ use crate::colours::Colours;
 use crate::handed::event_from;
 use std::alloc::Global;
 use tv_cells::{Canvas, Screen, lay_shadow};
-use tv_dialog::DialogOf;
+use tv_dialog::{DialogOf, Held, empty_record};
 use tv_event::{Command, CommandSet, Event};
 use tv_group::GroupOf;
 use tv_model::{Dialog as Declared, Record};
@@ -38,7 +38,7 @@ use tv_view::{Env, View};
 pub(crate) struct Kept<V> {
     pub(crate) dialog: DialogOf<V>,
     /// The values of its last end other than `cancel`, else those declared.
-    pub(crate) values: Record,
+    pub(crate) values: Held<Record>,
 }
 
 // Whether a dialog that ended so keeps its values.
@@ -61,6 +61,14 @@ fn may_hold(is_held: bool, event: &Event) -> bool
     }
 }
 
+// Puts the values of all fields of the dialog into the record.
+fn record<V: View>(dialog: &DialogOf<V>, values: &mut Held<Record>)
+    requires { HasRoomForAll (opened V.meaning dialog.now.body) values.old }
+    ensures { values.new ≡ all_gathered (opened V.meaning dialog.now.body) values.old }
+{
+    dialog.record(&mut values.value);
+}
+
 impl<V: View> Kept<V> {
     /// Makes the declared dialog round a body of its views, to open with the values that they have.
     ///
@@ -80,17 +88,21 @@ impl<V: View> Kept<V> {
     {
         let views = declared.views.as_slice();
         let rules = declared.rules.as_slice();
+        let Ok(mut values) = empty_record(alloc) else {
+            return Err(body);
+        };
         match DialogOf::new(alloc, &declared.node, views, rules, body) {
             Ok(dialog) => {
-                let mut values = Record::new();
-                dialog.record(&mut values);
+                record(&dialog, &mut values);
                 Ok(Kept { dialog, values })
             }
             Err((_, body)) => Err(body),
         }
     }
 
-    // Keeps the values of the dialog where it has ended, and not by `cancel`.
+    // Keeps the values of the dialog where it has ended, and not by `cancel`. It isn't inlined, so that the record's room
+    // on the stack isn't its callers' too.
+    #[inline(never)]
     fn save(&mut self)
         requires { HasRoomForAll (opened V.meaning self.old.dialog.body) [] }
         ensures dialog { self.new.dialog ≡ self.old.dialog }
@@ -99,7 +111,7 @@ impl<V: View> Kept<V> {
         if saves(self.dialog.ended()) {
             let mut values = Record::new();
             self.dialog.record(&mut values);
-            self.values = values;
+            self.values.set(values);
         }
     }
 

@@ -57,7 +57,7 @@ impl<V: View> DialogsOf<V> {
             → (open_dialog d place s).log ≡ s.log ++ lines.Open dialog.node.id ∷ log_of_last self.new }
     {
         let kept = &mut self.kept[place];
-        kept.dialog.reopen(&kept.values);
+        kept.dialog.reopen(kept.values.get());
         self.open = Some(place);
         self.is_held = false;
         self.last = Some(place);
