@@ -1,5 +1,5 @@
 -- How a run begins, and why it can't.
-use Rattle.std.specs.Prelude.{◌≡◌, ℕ, List, Option, Some, None, position}
+use Rattle.std.specs.Prelude.{◌≡◌, ℕ, [], List, Option, Some, None, position}
 use Rattle.tv_window.specs.Desk.{AreFreshWindows, AreLawfulWindows}
 use Rattle.tv_dialogs.specs.Dialogs.{AreDialogs}
 use Rattle.tv_dialogs.specs.declared.dialogs.DialogsOf.{DialogsOf}
@@ -34,7 +34,7 @@ abbrev pub RefusesViews : {V : Type 0} → (V → Leaf) → Desc → List (Windo
 RefusesViews look d windows bodies NoMemory = Unit {0}
 RefusesViews look d windows bodies (ViewMismatch place) = IsFirstMismatch look d windows bodies (Some place)
 
--- what a session is made of before its start: each part is that of the description
+-- what a session is made of before its start: each part is that of the description, and no line is logged yet
 pub record CanStart {V : Type 0} (look : V → Leaf) (d : Desc) (parts : Parts) (windows : List (WindowOf V))
     (dialogs : DialogsOf V) : Type 0 where
   pub sound : HasSoundDialogs d
@@ -47,3 +47,4 @@ pub record CanStart {V : Type 0} (look : V → Leaf) (d : Desc) (parts : Parts) 
   pub line : IsLineOf d parts.line
   pub width : parts.screen.width ≡ natural d.width
   pub height : parts.screen.height ≡ natural d.height
+  pub log : parts.log.items ≡ []

@@ -2,12 +2,12 @@
 
 ghost use Rattle.std.specs.Prelude.{◌≡◌, ◌≤◌, ◌+◌, ◌++◌, ◌∷◌, [], length};
 
-use arrayvec::ArrayVec;
+use tv_dialog::LogLines;
 use tv_model::{LogLine, Value};
 
 /// The lines of the last event that aren't yet taken. One event gives at most those of a dialog, and the one of its
 /// opening.
-pub(crate) type Log = ArrayVec<LogLine, 67>;
+pub(crate) type Log = LogLines<67>;
 
 fn copy_value(value: &Value) -> Value
     ensures { result ≡ value.now }

@@ -1,6 +1,6 @@
 //! How a session is made.
 
-ghost use Rattle.std.specs.Prelude.{◌≡◌, ◌<◌, IfErr, IfOk, IfSome, None, length, position};
+ghost use Rattle.std.specs.Prelude.{◌≡◌, ◌<◌, [], IfErr, IfOk, IfSome, None, length, position};
 ghost use Rattle.tv_machine.specs.Run.{started};
 ghost use Rattle.tv_machine.specs.Session.Start.{closed, start};
 ghost use Rattle.tv_menu.specs.Bar.{IsBarOf, open_of};
@@ -38,6 +38,8 @@ struct Parts {
     bar: MenuBar,
     line: StatusLine,
     screen: Screen,
+    log: Log,
+    taken: Log,
 }
 
 // A screen of the description's size.
@@ -60,12 +62,15 @@ impl Parts {
         ensures bar { IfOk result (λ parts. IsBarOf desc.now parts.bar) }
         ensures closed { IfOk result (λ parts. open_of parts.bar ≡ None) }
         ensures line { IfOk result (λ parts. IsLineOf desc.now parts.line) }
+        ensures log { IfOk result (λ parts. parts.log.items ≡ []) }
         ensures screen { IfOk result (λ parts. (parts.screen.width ≡ natural desc.now.width) × (parts.screen.height ≡ natural desc.now.height)) }
     {
         Ok(Parts {
             bar: MenuBar::new(alloc, desc)?,
             line: StatusLine::new(alloc, desc)?,
             screen: blank_screen(alloc, desc)?,
+            log: Log::new(alloc)?,
+            taken: Log::new(alloc)?,
         })
     }
 }
@@ -194,7 +199,7 @@ impl<V: View> SessionOf<V> {
             dialogs,
             bar: parts.bar,
             is_over: false,
-            log: Log::new(),
+            log: parts.log,
             colours: Colours::new(),
         };
         let mut screen = parts.screen;
@@ -206,7 +211,7 @@ impl<V: View> SessionOf<V> {
             line: parts.line,
             run,
             screen,
-            taken: Log::new(),
+            taken: parts.taken,
         }
     }
 }

@@ -31,4 +31,5 @@ start-requires g c =
       line = subst (λ d. IsLineOf d c.in-Ok.parts.line) lent c.in-Ok.ensures.line;
       width = c.in-Ok.ensures.screen.0 ∙ ap (λ d. natural d.width) lent;
       height = c.in-Ok.ensures.screen.1 ∙ ap (λ d. natural d.height) lent;
+      log = c.in-Ok.ensures.log;
     }

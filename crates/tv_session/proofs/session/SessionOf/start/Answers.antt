@@ -12,9 +12,9 @@ pub begin-requires : goal.begin-requires
 begin-requires g c =
     let r = c.requires in
     let d = c.args.checked in
-    subst (λ x. IsAwake g.V.View.meaning x (closed x) (record { desk = c.new.result; dialogs = c.args.dialogs; bar = c.args.parts.bar; is_over = _; log = c.new-2.result; colours = c.new-3.result }))
+    subst (λ x. IsAwake g.V.View.meaning x (closed x) (record { desk = c.new.result; dialogs = c.args.dialogs; bar = c.args.parts.bar; is_over = _; log = c.args.parts.log; colours = c.new-2.result }))
     (sym c.desc-desc.ensures.value)
-    (first_awake g.V.View.meaning d _ r.sound r.size (c.new.ensures d r.lawful r.windows_of) r.dialogs_of r.bar r.none_open refl c.new-2.ensures)
+    (first_awake g.V.View.meaning d _ r.sound r.size (c.new.ensures d r.lawful r.windows_of) r.dialogs_of r.bar r.none_open refl r.log)
 
 pub returns : goal.returns
 returns g c =
