@@ -5,6 +5,7 @@ ghost use Rattle.tv_lang.specs.CanonicalDescription.{CanBeSpelled};
 ghost use Rattle.tv_machine.specs.Dialog.Lawful.{IsLawfulDialog};
 ghost use Rattle.tv_machine.specs.Dialog.Sound.{HasSoundDialogs};
 ghost use Rattle.tv_model.specs.Faults.{IsSound};
+ghost use Rattle.tv_faults.specs.Sound.Names.{HaveOwnNames};
 ghost use Rattle.tv_check.specs.Certificates.{IsSoundCertificate};
 ghost use Rattle.tv_check.specs.Refusals.{Accepts, IsFaulty, RefusesToAccept};
 
@@ -66,13 +67,15 @@ impl Model for Checked {
 
 impl Checked {
     /// Returns the description that was checked. Each of its dialogs has what the modal dialog asks of it (`lawful`),
-    /// and what the laws of every run ask (`sound_dialogs`).
+    /// and what the laws of every run ask (`sound_dialogs`). No two controls or panes of a dialog have a name in common
+    /// (`own_names`).
     pub fn desc(&self) -> &Desc
         ensures value { result.now ≡ self.now }
         ensures spelled { CanBeSpelled result.now }
         ensures sound { IsSound result.now }
         ensures lawful { All IsLawfulDialog result.now.dialogs }
         ensures sound_dialogs { HasSoundDialogs result.now }
+        ensures own_names { HaveOwnNames result.now }
     {
         &self.desc
     }

@@ -1,6 +1,6 @@
 -- Every run of a sound description goes by the laws.
 use Rattle.std.proofs.Common.{◌≡◌, Bool, true, false, cond, ◌&&◌, ◌||◌, ◌==◌, ℕ, zero, suc, ◌<◌, if◌then◌else◌, List, [], ◌∷◌, find, filter_map, get_or, length, Decides, Some, None, is_some, option_map, refl, sym, ap, ◌∙◌, arith}
-use Rattle.std.specs.Prelude.{All, position}
+use Rattle.std.specs.Prelude.{All, AllPairs, position}
 use Rattle.std.specs.List.{Any, list_any}
 use Rattle.std.proofs.lemmas.Bool.{eqb-true, false≢true}
 use Rattle.std.proofs.lemmas.List.Elements.{All-weaker}
@@ -32,7 +32,9 @@ use Rattle.tv_machine.specs.Leaves.{PlacedNode}
 use Rattle.tv_machine.specs.Dialog.Shortcuts.{marking_leaf}
 use Rattle.tv_machine.proofs.ListLemmas.{bool_cases, find-none, option_cases}
 use Rattle.tv_faults.specs.Sound.Letters.{IsShortcut, MarksLetter}
+use Rattle.tv_faults.specs.Sound.Names.{HaveOtherNames}
 use Rattle.tv_faults.proofs.ExcludeLemmas.{any_decides}
+use Rattle.tv_faults.proofs.LackLemmas.{bodies}
 use Rattle.tv_faults.proofs.LetterLemmas.{marks_decides}
 use Rattle.tv_faults.proofs.SoundLemmas.{sound_says}
 use Rattle.tv_check.proofs.MadeLemmas.{sound_made}
@@ -48,6 +50,7 @@ use Rattle.tv_laws.proofs.KeyLaws.LetterLemmas.{alt-acts, marks-alike, own-lette
 use Rattle.tv_laws.proofs.KeyLaws.NoneLemmas.{acts-on-none, refused-acts-on-none}
 use Rattle.tv_laws.proofs.KeyLaws.OrderLemmas.{free-are-controls, refusal-stays, shift-tab-previous, stops-are-tabs}
 use Rattle.tv_laws.proofs.KeyLaws.ValueLemmas.{tab-keeps-values}
+use Rattle.tv_laws.specs.Letters.{HasOwnNames}
 use Rattle.tv_laws.specs.Records.{state_after}
 use Rattle.tv_laws.proofs.RecordLaws.EscapeLemmas.{esc-cancels-open, reached-fit, stays-over, up-esc-cancels, up-esc-leaves, up-frees-mouse}
 use Rattle.tv_laws.proofs.RecordLaws.SavedLemmas.{declare-cancel, ends-as-declared, reopens-as-saved, saves-what-it-logs, starts-as-declared}
@@ -171,6 +174,9 @@ keys-reach d dialogs before o dialog k some there idle free =
 
 -- ---- dialogs
 
+names-of : (d : Desc) → IsSound d → All HasOwnNames d.dialogs
+names-of d sound = ((bodies d (λ body. AllPairs HaveOtherNames body.views)).0 (sound_says d sound).names.views).1
+
 tabs-of : (d : Dialog) → IsSoundDialog d → TabsByLaws d
 tabs-of d sound = record {
   stops = stops-are-tabs d sound;
@@ -228,6 +234,7 @@ leaves-of d dialogs = record {
 pub RunsByLaws-of : (d : Desc) → HasSoundDialogs d → IsSound d → RunsByLaws d
 RunsByLaws-of d dialogs sound = record {
   certified = sound_made d sound;
+  names = names-of d sound;
   scripts = scripts-reach d;
   safe = always-safe d dialogs;
   usable = reached-fit d dialogs;

@@ -24,7 +24,7 @@ use Rattle.tv_check.specs.Certificates.{IsSoundCertificate, certificate_of}
 use Rattle.tv_laws.specs.Leaving.{EscCancels, TabAsksNext, TabGoesOn, UpLetsGo}
 use Rattle.tv_laws.specs.Runs.{IsFitState}
 use Rattle.tv_laws.specs.Steps.{OpensFit, StaysFit}
-use Rattle.tv_laws.specs.Letters.{ActsOnNone, ActsOnOwner, ActsWhereItCan, AltActs, MarksAlike}
+use Rattle.tv_laws.specs.Letters.{ActsOnNone, ActsOnOwner, ActsWhereItCan, AltActs, HasOwnNames, MarksAlike}
 use Rattle.tv_laws.specs.Letters.{OwnLetterActs, RefusedActsOnNone, TypedActs, UnnamedActsOnNone}
 use Rattle.tv_laws.specs.Order.{FreeAreControls, RefusalStays, ShiftTabAsksPrevious, StopsAreTabs}
 use Rattle.tv_laws.specs.Order.{TabGoesRound, TabKeepsValues}
@@ -160,6 +160,8 @@ pub record KeysByLaws (d : Desc) : Type 0 where
 pub record RunsByLaws (d : Desc) : Type 0 where
   -- the certificate that is made of it names its order of Tab and the owners of its letters
   pub certified : IsSoundCertificate d (certificate_of d)
+  -- and each control by a name that no other view of its dialog has
+  pub names : All HasOwnNames d.dialogs
   -- each state that a script makes is one that its events lead to
   pub scripts : ScriptsReach d
   -- an open dialog's focus is free, and values, saved records and ends are such as are declared
