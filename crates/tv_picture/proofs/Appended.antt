@@ -10,7 +10,8 @@ use Rattle.tv_picture.specs.declared.row.Row.{Row}
 use Rattle.tv_picture.specs.Pattern.{Pattern, empty, one, sequence, group, Allows, IsMember}
 use Rattle.tv_picture.specs.Table.{HasPlace, NamesNext, either_next, MayFollow, IsTableRow, StandsAt}
 use Rattle.tv_picture.proofs.Language.{Through, follows_next, next_of_left, next_of_right}
-use Rattle.tv_picture.proofs.Rows.{dec, row_same, Names_same, Names_joined, Meets, spans_parted, spans_met, one_follows, through_at, at_through}
+use Rattle.tv_picture.proofs.Rows.{row_same, Meets, spans_parted, spans_met, one_follows, through_at, at_through}
+use Rattle.tv_picture.proofs.Gathered.{dec, Names_same, Names_joined}
 
 -- the mark stands at a place inside the text
 pub at_within : (m : Mark) (text : List ℕ) (p : ℕ) → StandsAt m text p → p < length text

@@ -10,7 +10,7 @@ use Rattle.tv_picture.specs.Pattern.{Pattern, empty, one, sequence, either, opti
 use Rattle.tv_picture.specs.Table.{NamesNext, either_next, MayFollow}
 use Rattle.tv_picture.specs.Matching.{allows, names_of, union, has_end, places_reached, ends, nexts, follows}
 use Rattle.tv_picture.proofs.Language.{Two, two_allowed, Through, follows_next, next_of_left, next_of_right, ThroughMany, follows_many, times_zero, times_one, no_end}
-use Rattle.tv_picture.proofs.Rows.{Names_same, Names_joined}
+use Rattle.tv_picture.proofs.Gathered.{Names_same, Names_joined}
 use Rattle.tv_picture.proofs.EndsLemmas.{At, union_to, union_from, start_from, start_to, end_from, end_to, plain, repeated_plain, Ends, IsEnds, one_more, one_last, many_snoc, grow, grown_keeps, ends_law}
 
 -- the character may follow the text in a member that begins in the set

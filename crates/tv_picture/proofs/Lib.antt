@@ -1,5 +1,6 @@
 pub mod BitLemmas
 pub mod Language
+pub mod Gathered
 pub mod Rows
 pub mod Appended
 pub mod Repeated

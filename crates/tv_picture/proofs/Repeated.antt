@@ -8,7 +8,8 @@ use Rattle.tv_picture.specs.declared.table.Table.{Table}
 use Rattle.tv_picture.specs.Pattern.{Pattern, sequence, many, times, IsMember}
 use Rattle.tv_picture.specs.Table.{HasPlace, NamesNext, either_next, Spans, MayFollow, IsTableRow, HasEachRow, Gathers}
 use Rattle.tv_picture.proofs.Language.{Through, ThroughMany, follows_next, follows_many, next_of_left, next_of_right, joined_text, drop_past, end_within, times_zero, times_one, times-add}
-use Rattle.tv_picture.proofs.Rows.{dec, Names_same, Names_joined, no_place, row_same, row_sequence, unended}
+use Rattle.tv_picture.proofs.Rows.{no_place, row_same, row_sequence, unended}
+use Rattle.tv_picture.proofs.Gathered.{dec, Names_same, Names_joined}
 
 -- what a prefix of the text leaves
 past_start : (text u v : List ℕ) → text ≡ u ++ v → drop (length u) text ≡ v

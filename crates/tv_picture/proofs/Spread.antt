@@ -8,7 +8,8 @@ use Rattle.tv_picture.specs.declared.places.Places.{Places}
 use Rattle.tv_picture.specs.declared.row.Row.{Row}
 use Rattle.tv_picture.specs.Pattern.{Pattern, one, sequence, many, Allows, IsMember}
 use Rattle.tv_picture.specs.Table.{HasPlace, NamesNext, either_next, Spans, MayFollow, IsTableRow, StandsAt}
-use Rattle.tv_picture.proofs.Rows.{dec, Names_same, Names_joined, one_follows}
+use Rattle.tv_picture.proofs.Rows.{one_follows}
+use Rattle.tv_picture.proofs.Gathered.{dec, Names_same, Names_joined}
 use Rattle.tv_picture.proofs.Appended.{at_within, NextAfter, follows_end, follows_only_end}
 use Rattle.tv_picture.proofs.Repeated.{FollowsIn, spans_more, row_grown}
 

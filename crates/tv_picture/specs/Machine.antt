@@ -1,5 +1,6 @@
 -- What stands on the stack of the machine that runs a pattern's code.
-use Rattle.std.specs.Prelude.{◌≡◌, ℕ, ◌+◌, ◌-◌, ◌≤◌, ◌⊎◌, ◌++◌, List, [], ◌∷◌, Option, Some, None, IfSome, slice_index_or}
+use Rattle.std.specs.Prelude.{◌≡◌, ℕ, ◌+◌, ◌-◌, ◌≤◌, ◌⊎◌, ◌++◌, List, [], ◌∷◌, Option, Some, None, IfSome}
+use Rattle.std.specs.Prelude.{slice_index_or}
 use Rattle.std.specs.Prelude.{Bool, true, if◌then◌else◌, nat_lt}
 use Rattle.std.specs.Option.{option_and_then}
 use Rattle.tv_picture.specs.declared.code.Op.{Op}
@@ -57,8 +58,9 @@ leaves_lowest h (Times n) = true
 -- the first row of the lowest pattern, and tables for those above it
 abbrev pub StandsOver : List ℕ → Row → List Table → ℕ → List Pattern → Type 0
 StandsOver text first tables height ps =
-    (over : List Pattern) × (lowest : Pattern) × (above : ℕ) × (ps ≡ over ++ lowest ∷ []) × (height ≡ above + 1)
-    × IsTableRow lowest text 0 first × StandsBelow (λ p t. HasEachRow p text t) tables above over
+    (over : List Pattern) × (lowest : Pattern) × (above : ℕ) × (ps ≡ over ++ lowest ∷ [])
+    × (height ≡ above + 1) × IsTableRow lowest text 0 first
+    × StandsBelow (λ p t. HasEachRow p text t) tables above over
 
 -- nothing stands on the stack, or these do
 abbrev pub StandsOn : List ℕ → Row → List Table → ℕ → List Pattern → Type 0

@@ -1,6 +1,6 @@
 use Rattle.std.proofs.Common.{ℕ, ◌≡◌, ◌+◌, ◌-◌, arith, subst, sym, true, false}
 use Rattle.tv_picture.specs.Table.{Gathers}
-use Rattle.tv_picture.proofs.Rows.{gathers_none, gathers_skip, gathers_more, gathers_rest, rest_here, rest_more, rest_none}
+use Rattle.tv_picture.proofs.Gathered.{gathers_none, gathers_skip, gathers_more, gathers_rest, rest_here, rest_more, rest_none}
 use Rattle.tv_picture.proofs.table.Table.gather.Goals as goal
 use Rattle.tv_picture.proofs.table.Table.gather.Goals.{then-has, else-has}
 

@@ -1,5 +1,5 @@
 use Rattle.tv_picture.specs.Table.{Gathers}
-use Rattle.tv_picture.proofs.Rows.{IsRest}
+use Rattle.tv_picture.proofs.Gathered.{IsRest}
 use Rattle.tv_picture.proofs.table.Table.gather.Given as goal
 
 abbrev pub invariant-loop-place : goal.invariant-loop-place

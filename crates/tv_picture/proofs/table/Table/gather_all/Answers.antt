@@ -1,5 +1,5 @@
 use Rattle.std.proofs.Common.{ℕ, ◌<◌, arith}
-use Rattle.tv_picture.proofs.Rows.{gathers_all}
+use Rattle.tv_picture.proofs.Gathered.{gathers_all}
 use Rattle.tv_picture.proofs.table.Table.gather_all.Goals as goal
 
 pub returns : goal.returns
