@@ -29,6 +29,8 @@ use tv_view::Rules;
 #[derive(Drop)]
 pub struct LeafCore {
     node: Node,
+    // Its rectangle. Each draw and each mouse event asks for it.
+    bounds: Rect,
     is_focused: bool,
     held: Option<u32>,
     is_shown: bool,
@@ -36,14 +38,16 @@ pub struct LeafCore {
 }
 
 impl Model for LeafCore {
+    ghost use Rattle.std.specs.Prelude.{◌≡◌};
     ghost use Rattle.tv_model.specs.Description.LawfulNodes.{IsLawfulNode};
+    ghost use Rattle.tv_model.specs.Description.Rectangles.{place_of_node};
     ghost use Rattle.tv_leaf.specs.Core.{Core};
 
     ghost Value = { Core };
 
     ghost view = { λ c. record { node = c.node; is_focused = c.is_focused; held = c.held; is_shown = c.is_shown; is_enabled = c.is_enabled } };
 
-    ghost invariant = { λ c. IsLawfulNode c.node };
+    ghost invariant = { λ c. IsLawfulNode c.node × (c.bounds ≡ place_of_node c.node) };
 }
 
 fn height(kind: &Kind) -> i32
@@ -60,6 +64,15 @@ fn height(kind: &Kind) -> i32
         Kind::RadioButtons(radios) => radios.items.as_slice().len() as i32,
         Kind::Label(_) | Kind::Button(_) | Kind::Input(_) => 1,
     }
+}
+
+// The rectangle of a node.
+fn place(node: &Node) -> Rect
+    requires { IsLawfulNode node.now }
+    ensures { result ≡ place_of_node node.now }
+{
+    let height = height(&node.kind);
+    rect_at(&node.x, &node.y, &node.w, &height)
 }
 
 fn is_kind_enabled(commands: &CommandSet, kind: &Kind) -> bool
@@ -84,6 +97,7 @@ impl LeafCore {
     {
         Ok(LeafCore {
             node: node.copy(alloc)?,
+            bounds: place(node),
             is_focused: false,
             held: None,
             is_shown: true,
@@ -112,8 +126,7 @@ impl LeafCore {
         ensures small { IsSmallRect result }
         ensures cluster { IsTrue (is_cluster self.now.node.kind) → result.b.y ≤ℤ (result.a.y +ℤ pos 16) }
     {
-        let height = height(&self.node.kind);
-        rect_at(&self.node.x, &self.node.y, &self.node.w, &height)
+        self.bounds
     }
 
     /// Returns the canvas of its rectangle, or `None` where nothing of it can be seen: while it is hidden, and where its
