@@ -26,7 +26,6 @@ ghost use Rattle.tv_dialog.specs.declared.fault.DialogFault.TheVariants.{WrongKi
 
 use crate::fault::DialogFault;
 use crate::head::Head;
-use crate::held::{Held, empty_record};
 use crate::log::Log;
 use crate::plan::Plan;
 use crate::ruled::Ruled;
@@ -34,7 +33,7 @@ use std::alloc::Global;
 use tv_cells::{Canvas, Rect, Screen, lay};
 use tv_event::{Command, CommandSet, Pending};
 use tv_group::GroupOf;
-use tv_model::{Id, LogLine, Node, Record, Rule};
+use tv_model::{Id, LogLine, Node, OnHeap, Record, Rule, empty_record};
 use tv_view::{Env, View};
 
 /// A frame with a title, and the group of views that it surrounds, as they work together.
@@ -53,7 +52,7 @@ pub struct DialogOf<V> {
     pub(crate) focus: Id,
     pub(crate) ruled: Ruled,
     /// The values by which the rules were last applied.
-    pub(crate) marks: Held<Record>,
+    pub(crate) marks: OnHeap<Record>,
     pub(crate) pending: Pending,
     pub(crate) log: Log,
 }
@@ -66,7 +65,7 @@ pub type Dialog = DialogOf<Box<dyn View>>;
 struct Kept {
     head: Head,
     plan: Plan,
-    marks: Held<Record>,
+    marks: OnHeap<Record>,
     pending: Pending,
     log: Log,
 }

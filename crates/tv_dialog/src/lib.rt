@@ -6,7 +6,6 @@ mod condition;
 mod dialog;
 mod fault;
 mod head;
-mod held;
 mod log;
 mod log_lines;
 mod open;
@@ -19,5 +18,4 @@ mod turn;
 
 pub use dialog::{Dialog, DialogOf};
 pub use fault::DialogFault;
-pub use held::{Held, empty_record};
 pub use log_lines::LogLines;

@@ -11,13 +11,12 @@ ghost use Rattle.tv_dialog.specs.Resting.{Rests};
 ghost use Rattle.tv_dialog.specs.Standing.{Stands};
 
 use crate::dialog::DialogOf;
-use crate::held::Held;
 use tv_group::GroupOf;
-use tv_model::Record;
+use tv_model::{OnHeap, Record};
 use tv_view::{Rules, View};
 
 // Puts the values of the fields into the record.
-fn gather<V: View>(body: &GroupOf<V>, values: &mut Held<Record>)
+fn gather<V: View>(body: &GroupOf<V>, values: &mut OnHeap<Record>)
     ensures { values.new ≡ gathered_within (opened V.meaning body.now) values.old }
 {
     body.gather(&mut values.value);

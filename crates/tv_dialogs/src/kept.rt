@@ -26,10 +26,10 @@ use crate::colours::Colours;
 use crate::handed::event_from;
 use std::alloc::Global;
 use tv_cells::{Canvas, Screen, lay_shadow};
-use tv_dialog::{DialogOf, Held, empty_record};
+use tv_dialog::DialogOf;
 use tv_event::{Command, CommandSet, Event};
 use tv_group::GroupOf;
-use tv_model::{Dialog as Declared, Record};
+use tv_model::{Dialog as Declared, OnHeap, Record, empty_record};
 use tv_palette::Owner;
 use tv_view::{Env, View};
 
@@ -38,7 +38,7 @@ use tv_view::{Env, View};
 pub(crate) struct Kept<V> {
     pub(crate) dialog: DialogOf<V>,
     /// The values of its last end other than `cancel`, else those declared.
-    pub(crate) values: Held<Record>,
+    pub(crate) values: OnHeap<Record>,
 }
 
 // Whether a dialog that ended so keeps its values.
@@ -62,7 +62,7 @@ fn may_hold(is_held: bool, event: &Event) -> bool
 }
 
 // Puts the values of all fields of the dialog into the record.
-fn record<V: View>(dialog: &DialogOf<V>, values: &mut Held<Record>)
+fn record<V: View>(dialog: &DialogOf<V>, values: &mut OnHeap<Record>)
     requires { HasRoomForAll (opened V.meaning dialog.now.body) values.old }
     ensures { values.new ≡ all_gathered (opened V.meaning dialog.now.body) values.old }
 {

@@ -2,7 +2,6 @@
 #![tactic(auto)]
 
 mod description;
-mod held;
 mod printing;
 mod progress;
 mod stage;

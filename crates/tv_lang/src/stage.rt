@@ -6,10 +6,9 @@ ghost use Rattle.tv_model.specs.Description.Nodes.{is_dialog, is_window};
 ghost use Rattle.tv_declarations.specs.Spelling.{is_text, is_view};
 ghost use Rattle.tv_lang.specs.Reading.Stages.{beside, may_end_at, menu_taken, no_dialogs, no_menus, no_status, no_windows, node_opened, open_panes, panes_after, part_taken, rules_taken, screen_taken, declaration_taken, version_taken, view_taken, views_taken, window_taken, with_dialog};
 
-use crate::held::Held;
 use std::alloc::{AllocError, Global};
 use tv_declarations::Declaration;
-use tv_model::{Desc, Dialog, Kind, Menu, MenuItem, Node, Rule, Sequence, Window};
+use tv_model::{Desc, Dialog, Kind, Menu, MenuItem, Node, OnHeap, Rule, Sequence, Window};
 
 /// What may come next in a description.
 #[derive(Drop)]
@@ -21,13 +20,13 @@ pub enum Stage {
     /// The start line, a menu, a status item, a window or a dialog, or the end of the text.
     Between,
     /// The items of this menu.
-    InMenu(Held<Menu>),
+    InMenu(OnHeap<Menu>),
     /// The texts of this window.
-    InWindow(Held<Window>),
+    InWindow(OnHeap<Window>),
     /// More views of this dialog, inside as many panes as are open; or its rules.
-    InViews { dialog: Held<Dialog>, panes: u8 },
+    InViews { dialog: OnHeap<Dialog>, panes: u8 },
     /// The rules of this dialog.
-    InRules(Held<Dialog>),
+    InRules(OnHeap<Dialog>),
 }
 
 // The stage after a declaration, where it can come there. The description then has what is declared.
@@ -143,7 +142,7 @@ fn part(alloc: Global, desc: &mut Desc, declaration: Declaration) -> Result<Furt
         }
         Declaration::Menu { id, title } if no_status(desc) => {
             let items = Sequence::new(alloc);
-            let menu = Held::new(alloc, Menu { id, title, items })?;
+            let menu = OnHeap::new(alloc, Menu { id, title, items })?;
             Ok(Some(Stage::InMenu(menu)))
         }
         Declaration::Status(item) if no_windows(desc) => {
@@ -177,7 +176,7 @@ fn window_opened(alloc: Global, desc: &Desc, node: Node) -> Result<Further, Allo
 {
     if no_dialogs(desc) {
         let views = Sequence::new(alloc);
-        let window = Held::new(alloc, Window { node, views })?;
+        let window = OnHeap::new(alloc, Window { node, views })?;
         Ok(Some(Stage::InWindow(window)))
     } else {
         drop(node);
@@ -191,13 +190,13 @@ fn dialog_opened(alloc: Global, node: Node) -> Result<Further, AllocError>
 {
     let views = Sequence::new(alloc);
     let rules = Sequence::new(alloc);
-    let dialog = Held::new(alloc, Dialog { node, views, rules })?;
+    let dialog = OnHeap::new(alloc, Dialog { node, views, rules })?;
     Ok(Some(Stage::InViews { dialog, panes: 0 }))
 }
 
 fn in_menu(
     desc: &mut Desc,
-    menu: Held<Menu>,
+    menu: OnHeap<Menu>,
     declaration: Declaration,
 ) -> Result<Further, AllocError>
     ensures { IfOk result (λ stage. beside desc.new stage ≡ menu_taken desc.old menu declaration) }
@@ -212,7 +211,7 @@ fn in_menu(
     }
 }
 
-fn with_item(mut menu: Held<Menu>, item: MenuItem) -> Result<Further, AllocError>
+fn with_item(mut menu: OnHeap<Menu>, item: MenuItem) -> Result<Further, AllocError>
     ensures { IfOk result (λ stage. (desc : SeenDesc) → beside desc stage ≡ menu_taken desc menu (Declaration.Item item)) }
 {
     menu.value.items.push(item)?;
@@ -220,7 +219,7 @@ fn with_item(mut menu: Held<Menu>, item: MenuItem) -> Result<Further, AllocError
 }
 
 // A menu has an item at least.
-fn with_menu(desc: &mut Desc, menu: Held<Menu>) -> Result<Further, AllocError>
+fn with_menu(desc: &mut Desc, menu: OnHeap<Menu>) -> Result<Further, AllocError>
     ensures { IfOk result (λ stage. beside desc.new stage ≡ menu_taken desc.old menu Declaration.End) }
 {
     let menu = menu.into_inner();
@@ -232,7 +231,7 @@ fn with_menu(desc: &mut Desc, menu: Held<Menu>) -> Result<Further, AllocError>
 }
 
 // A window holds static texts alone.
-fn with_text(mut window: Held<Window>, view: Node) -> Result<Further, AllocError>
+fn with_text(mut window: OnHeap<Window>, view: Node) -> Result<Further, AllocError>
     ensures { IfOk result (λ stage. (desc : SeenDesc) → beside desc stage ≡ window_taken desc window (Declaration.Node view)) }
 {
     if !is_text(&view.kind) {
@@ -243,7 +242,7 @@ fn with_text(mut window: Held<Window>, view: Node) -> Result<Further, AllocError
     Ok(Some(Stage::InWindow(window)))
 }
 
-fn with_window(desc: &mut Desc, window: Held<Window>) -> Result<Further, AllocError>
+fn with_window(desc: &mut Desc, window: OnHeap<Window>) -> Result<Further, AllocError>
     ensures { IfOk result (λ stage. beside desc.new stage ≡ window_taken desc.old window Declaration.End) }
 {
     desc.windows.push(window.into_inner())?;
@@ -252,7 +251,7 @@ fn with_window(desc: &mut Desc, window: Held<Window>) -> Result<Further, AllocEr
 
 fn in_window(
     desc: &mut Desc,
-    window: Held<Window>,
+    window: OnHeap<Window>,
     declaration: Declaration,
 ) -> Result<Further, AllocError>
     ensures { IfOk result (λ stage. beside desc.new stage ≡ window_taken desc.old window declaration) }
@@ -269,7 +268,7 @@ fn in_window(
 
 fn in_views(
     desc: &mut Desc,
-    dialog: Held<Dialog>,
+    dialog: OnHeap<Dialog>,
     panes: u8,
     declaration: Declaration,
 ) -> Result<Further, AllocError>
@@ -290,7 +289,7 @@ fn in_views(
     }
 }
 
-fn with_view(mut dialog: Held<Dialog>, panes: u8, view: Node) -> Result<Further, AllocError>
+fn with_view(mut dialog: OnHeap<Dialog>, panes: u8, view: Node) -> Result<Further, AllocError>
     ensures { IfOk result (λ stage. (desc : SeenDesc) → beside desc stage ≡ view_taken desc dialog panes view) }
 {
     if !is_view(&view.kind) {
@@ -320,7 +319,7 @@ fn panes_after(panes: u8, view: &Node) -> Option<u8>
 
 fn in_rules(
     desc: &mut Desc,
-    dialog: Held<Dialog>,
+    dialog: OnHeap<Dialog>,
     declaration: Declaration,
 ) -> Result<Further, AllocError>
     ensures { IfOk result (λ stage. beside desc.new stage ≡ rules_taken desc.old dialog declaration) }
@@ -335,14 +334,14 @@ fn in_rules(
     }
 }
 
-fn with_rule(mut dialog: Held<Dialog>, rule: Rule) -> Result<Further, AllocError>
+fn with_rule(mut dialog: OnHeap<Dialog>, rule: Rule) -> Result<Further, AllocError>
     ensures { IfOk result (λ stage. (desc : SeenDesc) → beside desc stage ≡ rules_taken desc dialog (Declaration.Rule rule)) }
 {
     dialog.value.rules.push(rule)?;
     Ok(Some(Stage::InRules(dialog)))
 }
 
-fn with_dialog(desc: &mut Desc, dialog: Held<Dialog>) -> Result<Further, AllocError>
+fn with_dialog(desc: &mut Desc, dialog: OnHeap<Dialog>) -> Result<Further, AllocError>
     ensures { IfOk result (λ stage. beside desc.new stage ≡ with_dialog desc.old dialog) }
 {
     desc.dialogs.push(dialog.into_inner())?;

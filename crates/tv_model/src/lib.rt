@@ -10,6 +10,7 @@ mod items;
 mod kind;
 mod log;
 mod node;
+mod on_heap;
 mod record;
 mod script;
 mod sequence;
@@ -24,6 +25,7 @@ pub use kind::{
 };
 pub use log::LogLine;
 pub use node::{Id, Node};
+pub use on_heap::{OnHeap, empty_record};
 pub use record::{Entry, Record, Value};
 pub use script::Item;
 pub use sequence::Sequence;

@@ -2,33 +2,33 @@
 
 ghost use Rattle.std.specs.Prelude.{◌≡◌, [], IfOk};
 
+use crate::record::Record;
 use std::alloc::{AllocError, Global};
 use std::marker::Model;
-use tv_model::Record;
 
-/// A value on the heap, so that what holds it is small to move. Contracts see the value.
+/// A value on the heap, so that what has it is small to move. Contracts see the value.
 #[derive(Drop)]
-pub struct Held<T> {
+pub struct OnHeap<T> {
     pub value: Box<T>,
 }
 
-impl<T> Model for Held<T> {
+impl<T> Model for OnHeap<T> {
     ghost Value = { T };
 
     ghost view = { λ h. h.value.value };
 }
 
-impl<T: Drop> Held<T> {
+impl<T: Drop> OnHeap<T> {
     /// Moves the value to the heap.
     ///
     /// # Errors
     ///
     /// `AllocError` where there is no memory for it.
-    pub fn new(alloc: Global, value: T) -> Result<Held<T>, AllocError>
-        ensures { IfOk result (λ held. held ≡ value) }
+    pub fn new(alloc: Global, value: T) -> Result<OnHeap<T>, AllocError>
+        ensures { IfOk result (λ there. there ≡ value) }
     {
         let value = Box::new(alloc, value)?;
-        Ok(Held { value })
+        Ok(OnHeap { value })
     }
 
     /// Returns the value.
@@ -38,11 +38,19 @@ impl<T: Drop> Held<T> {
         &self.value
     }
 
-    /// Puts another value in the place of the one that it holds. Takes no memory.
+    /// Puts another value in its place. Takes no memory.
     pub fn set(&mut self, value: T)
         ensures { self.new ≡ value }
     {
         *self.value = value;
+    }
+
+    /// Moves the value out of the heap.
+    pub fn into_inner(self) -> T
+        ensures { result ≡ self }
+    {
+        let OnHeap { value } = self;
+        Box::into_inner(value)
     }
 }
 
@@ -53,8 +61,8 @@ impl<T: Drop> Held<T> {
 /// `AllocError` where there is no memory for it.
 // On its way to the heap a record stands on the stack. Inlined, it would take that room for as long as its caller runs.
 #[inline(never)]
-pub fn empty_record(alloc: Global) -> Result<Held<Record>, AllocError>
+pub fn empty_record(alloc: Global) -> Result<OnHeap<Record>, AllocError>
     ensures { IfOk result (λ values. values ≡ []) }
 {
-    Held::new(alloc, Record::new())
+    OnHeap::new(alloc, Record::new())
 }
