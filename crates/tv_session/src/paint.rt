@@ -14,7 +14,7 @@ ghost use Rattle.tv_session.specs.Running.{IsRun};
 ghost use Rattle.tv_view.specs.Drawing.{Lays};
 
 use crate::run::RunOf;
-use tv_cells::{Canvas, Point, Rect, Screen, lay};
+use tv_cells::{Canvas, Face, Point, Rect, Screen, lay_ground};
 use tv_event::CommandSet;
 use tv_faces::{Background, natural};
 use tv_menu::StatusLine;
@@ -66,13 +66,12 @@ fn draw_background(screen: &mut Screen, desc: &Desc)
     ensures size { IsAlike screen.old screen.new }
     ensures shows { Shows (background_layer desc.now ∷ []) screen.new }
 {
-    screen.clear();
-    lay(
+    lay_ground(
         screen,
         desktop_canvas(desc),
         natural(&desc.width),
         natural(&desc.height),
-        &Background,
+        Background.at(0, 0),
     );
 }
 
