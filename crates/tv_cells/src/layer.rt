@@ -28,9 +28,9 @@ pub fn lay_ground(screen: &mut Screen, canvas: Canvas, width: u32, height: u32, 
     let rows = screen.height();
     if area.left == 0 && area.right == screen.width() {
         // Whole rows follow one another without a gap.
-        screen.fill_rows(0, area.top, Cell::space(0));
+        screen.blank_rows(0, area.top);
         screen.fill_rows(area.top, area.bottom, cell);
-        screen.fill_rows(area.bottom, rows, Cell::space(0));
+        screen.blank_rows(area.bottom, rows);
     } else {
         screen.clear();
         lay(screen, canvas, width, height, &cell);

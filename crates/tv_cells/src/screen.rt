@@ -150,6 +150,16 @@ impl Screen {
         self.cells[index] = cell;
     }
 
+    // Blanks the rows from `top` on and before `bottom`.
+    pub(crate) fn blank_rows(&mut self, top: u32, bottom: u32)
+        requires { (top ≤ bottom) × (bottom ≤ self.old.height) }
+        ensures { Changes (IsInRows top bottom) (λ _ _ _. blank) self.old self.new }
+    {
+        let start = (top * self.width) as usize;
+        let end = (bottom * self.width) as usize;
+        fill(&mut self.cells[start..end], Cell::space(0));
+    }
+
     // Writes one cell into all places of the rows from `top` on and before `bottom`.
     pub(crate) fn fill_rows(&mut self, top: u32, bottom: u32, cell: Cell)
         requires { (top ≤ bottom) × (bottom ≤ self.old.height) }
