@@ -1,9 +1,10 @@
 -- The bits of a union.
-use Rattle.std.proofs.Common.{suc, zero, ◌≡◌, ◌≢◌, ◌⊎◌, inl, inr, ◌↔◌, ℕ, ◌+◌, ◌*◌, ◌/◌, ◌%◌, ◌^◌, ◌<◌, ◌≤◌, max, bit_and, bit_or, arith, refl, ◌∙◌, sym, ap, subst, ◌-◌, div-le_self, min, bit_xor}
+use Rattle.std.proofs.Common.{suc, zero, ◌≡◌, ◌≢◌, ◌⊎◌, inl, inr, ◌↔◌, ℕ, ◌+◌, ◌*◌, ◌/◌, ◌%◌, ◌^◌, ◌<◌, ◌≤◌, max, true, false, ◌==◌, bit_and, bit_or, arith, refl, ◌∙◌, sym, ap, subst, ◌-◌, div-le_self, min, bit_xor}
 use Rattle.std.specs.Int.{IsBitSet, bit_at, trailing_zeros, w128}
 use Rattle.std.specs.Int.Count.{trailing_of_zero}
 use Rattle.std.proofs.lemmas.Nat.Bits.{and_pow, bit_at_and, bit_at_xor, bit_at-lt, bit_at-trailing_zeros, bit_at-zero, bit_at_or, bit_at_above, same_from_bits}
 use Rattle.std.proofs.lemmas.Nat.{pow_pos, shr-shr}
+use Rattle.std.proofs.lemmas.Bool.Decides.{eqb_tells}
 use Rattle.std.proofs.Math.Nat.{div-lt_iff_lt-mul}
 
 -- a product by 0 or 1 that isn't 0
@@ -117,3 +118,29 @@ edge_bits n k = (forth, λ h. back h.0 h.1)
         let one_bit : bit_at n k ≡ 1 = bit_is_one n k h in
         let zero_bit : bit_at n (1 + k) ≡ 0 = not_one (bit_at n (1 + k)) (bit_at-lt n (1 + k)) (λ e. none (subst (IsBitSet n) up (bit_is_set n (1 + k) e))) in
         bit_is_set (bit_xor n (bit_and n (n / 2))) k (edge_bit n k ∙ ap (λ (x : ℕ). (x + min x (bit_at n (1 + k))) % 2) one_bit ∙ ap (λ (x : ℕ). (1 + min 1 x) % 2) zero_bit)
+
+-- the bits of one number that aren't those of another
+left_bit : (m n k : ℕ) → bit_at (bit_xor m (bit_and m n)) k ≡ (bit_at m k + min (bit_at m k) (bit_at n k)) % 2
+left_bit m n k = bit_at_xor m (bit_and m n) k ∙ ap (λ (x : ℕ). (bit_at m k + x) % 2) (bit_at_and m n k)
+
+pub left_bits : (m n k : ℕ) → IsBitSet (bit_xor m (bit_and m n)) k ↔ (IsBitSet m k × (IsBitSet n k → ⊥))
+left_bits m n k = (forth, λ h. back h.0 h.1)
+  where
+    forth : IsBitSet (bit_xor m (bit_and m n)) k → IsBitSet m k × (IsBitSet n k → ⊥)
+    forth h =
+        let both = edge_cases (bit_at m k) (bit_at n k) (bit_at (bit_xor m (bit_and m n)) k) (bit_at-lt m k) (bit_at-lt n k) (left_bit m n k) (bit_is_one (bit_xor m (bit_and m n)) k h) in
+        (bit_is_set m k both.0, λ other. let one_bit = bit_is_one n k other in let none = both.1 in omega (arith, one_bit, none))
+
+    back : IsBitSet m k → (IsBitSet n k → ⊥) → IsBitSet (bit_xor m (bit_and m n)) k
+    back h none =
+        let one_bit : bit_at m k ≡ 1 = bit_is_one m k h in
+        let zero_bit : bit_at n k ≡ 0 = not_one (bit_at n k) (bit_at-lt n k) (λ e. none (bit_is_set n k e)) in
+        bit_is_set (bit_xor m (bit_and m n)) k (left_bit m n k ∙ ap (λ (x : ℕ). (x + min x (bit_at n k)) % 2) one_bit ∙ ap (λ (x : ℕ). (1 + min 1 x) % 2) zero_bit)
+
+-- a bit is set or not
+pub set_or_not : (n k : ℕ) → IsBitSet n k ⊎ (IsBitSet n k → ⊥)
+set_or_not n k = told (eqb_tells (bit_at n k) 1)
+  where
+    told : ((bit_at n k == 1) ≡ true) × (bit_at n k ≡ 1) ⊎ ((bit_at n k == 1) ≡ false) × (bit_at n k ≢ 1) → IsBitSet n k ⊎ (IsBitSet n k → ⊥)
+    told (inl h) = inl (bit_is_set n k h.1)
+    told (inr h) = inr (λ set. h.1 (bit_is_one n k set))

@@ -8,7 +8,7 @@ use Rattle.tv_picture.specs.declared.row.Next.TheVariants.{Nothing, Only, Severa
 use Rattle.tv_picture.specs.declared.row.Row.{Row}
 use Rattle.tv_picture.specs.declared.table.Table.{Table}
 use Rattle.tv_picture.specs.Pattern.{Pattern}
-use Rattle.tv_picture.specs.Table.{HasPlace, NamesNext, either_next, MayFollow, FollowsFrom, Gathers, row_at}
+use Rattle.tv_picture.specs.Table.{HasPlace, NamesNext, either_next, MayFollow, FollowsFrom, AnyRow, Gathers, row_at}
 
 pub dec : (m n : ℕ) → (m ≡ n) ⊎ (m ≢ n)
 dec m n = told (eqb_tells m n)
@@ -48,9 +48,6 @@ Names_joined P Q (Only x) Several h k = (k.0, k.1, inr k.2, inr k.3, k.4)
 Names_joined P Q Several n h k = (h.0, h.1, inl h.2, inl h.3, h.4)
 
 -- ---- rows gathered one place at a time
-
-abbrev pub AnyRow : Places → Table → ℕ → ℕ → ℕ → Type 0
-AnyRow places table start stop k = (r : ℕ) × (start ≤ r) × (r < stop) × HasPlace places r × HasPlace (row_at table r).ends k
 
 pub gathers_none : (places : Places) (table : Table) (start : ℕ) (first : Row) → Gathers places table start start first first
 gathers_none places table start first = record {

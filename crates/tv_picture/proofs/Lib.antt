@@ -2,6 +2,7 @@ pub mod BitLemmas
 pub mod Language
 pub mod Gathered
 pub mod Rows
+pub mod Joined
 pub mod Appended
 pub mod Repeated
 pub mod Spread

@@ -10,9 +10,9 @@ use Rattle.tv_picture.specs.declared.row.Next.TheVariants.{Nothing}
 use Rattle.tv_picture.specs.declared.row.Row.{Row}
 use Rattle.tv_picture.specs.declared.table.Table.{Table}
 use Rattle.tv_picture.specs.Pattern.{Pattern, empty, one, sequence, either, optional, many, times, Allows, IsMember}
-use Rattle.tv_picture.specs.Table.{HasPlace, NamesNext, either_next, Spans, MayFollow, IsTableRow, HasEachRow, FollowsFrom, Gathers, row_at, no_row}
+use Rattle.tv_picture.specs.Table.{HasPlace, NamesNext, either_next, Spans, MayFollow, IsTableRow, HasEachRow, FollowsFrom, AnyRow, Gathers, row_at, no_row}
 use Rattle.tv_picture.proofs.Language.{Through, follows_next, next_of_left, next_of_right, many_cons, many_parted, Parted, ThroughMany, follows_many, many_of_first, many_of_later, times_zero, times_one, times-add, drop_past, end_within, no_end}
-use Rattle.tv_picture.proofs.Gathered.{dec, Names_same, Names_joined, AnyRow}
+use Rattle.tv_picture.proofs.Gathered.{dec, Names_same, Names_joined, gathers_all}
 
 -- ---- tables
 
@@ -72,35 +72,44 @@ at_through a b text from r c (u, v, m, e, er) f =
 
 -- ---- the row of a sequence
 
-pub row_sequence : (a b : Pattern) (text : List ℕ) (start : Row) (B : Table) (from : ℕ) (first result : Row) → from ≤ length text → IsTableRow a (drop from text) from start → HasEachRow b text B → ((k : ℕ) → HasPlace first.ends k → ⊥) → first.next ≡ start.next → Gathers start.ends B from (length text + 1) first result → IsTableRow (sequence a b) (drop from text) from result
-row_sequence a b text start B from first result within ca cb none follow g = record {
-  ends = λ to. ((λ h. spans_met a b text from to (met to ((g.ends to).0 h))), (λ s. (g.ends to).1 (inr (parted to (spans_parted a b text from to within s)))));
-  next = Names_same (λ c. MayFollow a (drop from text) c ⊎ FollowsFrom start.ends b text from (length text + 1) c) (MayFollow (sequence a b) (drop from text)) result.next forth back
-      (g.next a b text from (subst (NamesNext (MayFollow a (drop from text))) (sym follow) ca.next) (λ r above below has. (cb.at r (omega arith)).next));
+-- from what is at the ends of the first part's row
+pub row_sequence_of : (a b : Pattern) (text : List ℕ) (start : Row) (B : Table) (from : ℕ) (result : Row) → from ≤ length text → IsTableRow a (drop from text) from start → HasEachRow b text B → ((k : ℕ) → HasPlace result.ends k ↔ AnyRow start.ends B 0 (length text + 1) k) → NamesNext (λ c. MayFollow a (drop from text) c ⊎ FollowsFrom start.ends b text 0 (length text + 1) c) result.next → IsTableRow (sequence a b) (drop from text) from result
+row_sequence_of a b text start B from result within ca cb ends names = record {
+  ends = λ to. ((λ h. spans_met a b text from to (met to ((ends to).0 h))), (λ s. (ends to).1 (parted to (spans_parted a b text from to within s))));
+  next = Names_same (λ c. MayFollow a (drop from text) c ⊎ FollowsFrom start.ends b text 0 (length text + 1) c) (MayFollow (sequence a b) (drop from text)) result.next forth back names;
 }
   where
-    met : (to : ℕ) → HasPlace first.ends to ⊎ AnyRow start.ends B from (length text + 1) to → Meets a b text from to
-    met to (inl h) = absurd (none to h)
-    met to (inr (r, above, below, at, ends)) =
+    met : (to : ℕ) → AnyRow start.ends B 0 (length text + 1) to → Meets a b text from to
+    met to (r, above, below, at, end) =
         let s = (ca.ends r).0 at in
-        (r, omega arith, omega arith, s, ((cb.at r (omega arith)).ends to).0 ends)
+        (r, (let e = s.4 in omega arith), omega arith, s, ((cb.at r (omega arith)).ends to).0 end)
 
-    parted : (to : ℕ) → Meets a b text from to → AnyRow start.ends B from (length text + 1) to
-    parted to (r, above, below, s, s') = (r, above, omega arith, (ca.ends r).1 s, ((cb.at r below).ends to).1 s')
+    parted : (to : ℕ) → Meets a b text from to → AnyRow start.ends B 0 (length text + 1) to
+    parted to (r, above, below, s, s') = (r, omega arith, omega arith, (ca.ends r).1 s, ((cb.at r below).ends to).1 s')
 
-    forth : (c : ℕ) → MayFollow a (drop from text) c ⊎ FollowsFrom start.ends b text from (length text + 1) c → MayFollow (sequence a b) (drop from text) c
+    forth : (c : ℕ) → MayFollow a (drop from text) c ⊎ FollowsFrom start.ends b text 0 (length text + 1) c → MayFollow (sequence a b) (drop from text) c
     forth c (inl f) = next_of_left a b (drop from text) c f
     forth c (inr (r, above, below, has, f)) = next_of_right a b (drop from text) c (at_through a b text from r c ((ca.ends r).0 has) f)
 
-    held : (c : ℕ) → Through a b (drop from text) c → FollowsFrom start.ends b text from (length text + 1) c
-    held c t = let p = through_at a b text from c within t in (p.0, (let e = p.2.4 in omega arith), (let h : p.0 ≤ length text = p.1 in omega arith), (ca.ends p.0).1 p.2, p.3)
+    held : (c : ℕ) → Through a b (drop from text) c → FollowsFrom start.ends b text 0 (length text + 1) c
+    held c t = let p = through_at a b text from c within t in (p.0, omega arith, (let h : p.0 ≤ length text = p.1 in omega arith), (ca.ends p.0).1 p.2, p.3)
 
-    back : (c : ℕ) → MayFollow (sequence a b) (drop from text) c → MayFollow a (drop from text) c ⊎ FollowsFrom start.ends b text from (length text + 1) c
+    back : (c : ℕ) → MayFollow (sequence a b) (drop from text) c → MayFollow a (drop from text) c ⊎ FollowsFrom start.ends b text 0 (length text + 1) c
     back c f = cases (follows_next a b (drop from text) c f)
       where
-        cases : MayFollow a (drop from text) c ⊎ Through a b (drop from text) c → MayFollow a (drop from text) c ⊎ FollowsFrom start.ends b text from (length text + 1) c
+        cases : MayFollow a (drop from text) c ⊎ Through a b (drop from text) c → MayFollow a (drop from text) c ⊎ FollowsFrom start.ends b text 0 (length text + 1) c
         cases (inl h) = inl h
         cases (inr h) = inr (held c h)
+
+pub row_sequence : (a b : Pattern) (text : List ℕ) (start : Row) (B : Table) (from : ℕ) (first result : Row) → from ≤ length text → IsTableRow a (drop from text) from start → HasEachRow b text B → ((k : ℕ) → HasPlace first.ends k → ⊥) → first.next ≡ start.next → Gathers start.ends B from (length text + 1) first result → IsTableRow (sequence a b) (drop from text) from result
+row_sequence a b text start B from first result within ca cb none follow g =
+    let all : Gathers start.ends B 0 (length text + 1) first result = gathers_all start.ends B from (length text + 1) first result (λ k low has. let e = ((ca.ends k).0 has).4 in omega arith) g in
+    row_sequence_of a b text start B from result within ca cb (λ k. ((λ h. past k ((all.ends k).0 h)), (λ h. (all.ends k).1 (inr h))))
+    (all.next a b text from (subst (NamesNext (MayFollow a (drop from text))) (sym follow) ca.next) (λ r above below has. (cb.at r (omega arith)).next))
+  where
+    past : (k : ℕ) → HasPlace first.ends k ⊎ AnyRow start.ends B 0 (length text + 1) k → AnyRow start.ends B 0 (length text + 1) k
+    past k (inl h) = absurd (none k h)
+    past k (inr h) = h
 
 -- ---- the row of a repetition
 

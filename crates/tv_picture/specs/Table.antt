@@ -62,12 +62,14 @@ abbrev pub FollowsFrom : Places → Pattern → List ℕ → ℕ → ℕ → ℕ
 FollowsFrom places b text start stop c =
     (r : ℕ) × (start ≤ r) × (r < stop) × HasPlace places r × MayFollow b (drop r text) c
 
+-- the row of one of these places has the end
+abbrev pub AnyRow : Places → Table → ℕ → ℕ → ℕ → Type 0
+AnyRow places table start stop k =
+    (r : ℕ) × (start ≤ r) × (r < stop) × HasPlace places r × HasPlace (row_at table r).ends k
+
 -- the result has what the first row has, and the rows of the table at these places
 pub record Gathers (places : Places) (table : Table) (start stop : ℕ) (first result : Row) : Type 0 where
-  pub ends : (k : ℕ)
-      → HasPlace result.ends k
-      ↔ (HasPlace first.ends k
-      ⊎ ((r : ℕ) × (start ≤ r) × (r < stop) × HasPlace places r × HasPlace (row_at table r).ends k))
+  pub ends : (k : ℕ) → HasPlace result.ends k ↔ (HasPlace first.ends k ⊎ AnyRow places table start stop k)
   pub next :
       (a b : Pattern) (text : List ℕ) (from : ℕ) →
       NamesNext (MayFollow a (drop from text)) first.next →
@@ -75,3 +77,8 @@ pub record Gathers (places : Places) (table : Table) (start stop : ℕ) (first r
       → NamesNext (MayFollow b (drop r text)) (row_at table r).next)
       →
       NamesNext (λ c. MayFollow a (drop from text) c ⊎ FollowsFrom places b text start stop c) result.next
+
+-- the row has what the pattern's rows at these places have
+pub record IsGathered (b : Pattern) (text : List ℕ) (places : Places) (table : Table) (row : Row) : Type 0 where
+  pub ends : (k : ℕ) → HasPlace row.ends k ↔ AnyRow places table 0 (length text + 1) k
+  pub next : NamesNext (FollowsFrom places b text 0 (length text + 1)) row.next

@@ -39,6 +39,24 @@ impl Places {
         }
     }
 
+    /// The places of the set that aren't in the other.
+    #[inline(always)]
+    pub fn without(self, other: Places) -> Places
+        ensures { (k : ℕ) → HasPlace result k ↔ (HasPlace self k × (HasPlace other k → ⊥)) }
+    {
+        Places {
+            bits: self.bits ^ (self.bits & other.bits),
+        }
+    }
+
+    /// Whether each place of the other set is in this one.
+    #[inline(always)]
+    pub fn contains_all(self, other: Places) -> bool
+        ensures { IsTrue result ↔ ((k : ℕ) → HasPlace other k → HasPlace self k) }
+    {
+        other.without(self).is_below(0)
+    }
+
     /// The places from this one on, counted from it.
     #[inline(always)]
     pub fn past(self, place: usize) -> Places

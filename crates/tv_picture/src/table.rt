@@ -2,7 +2,7 @@
 
 ghost use Rattle.std.specs.Prelude.{◌≡◌, ◌↔◌, ◌+◌, ◌≤◌, ◌<◌, ℕ, List, length, IsTrue};
 ghost use Rattle.tv_picture.specs.Pattern.{Pattern, Allows, empty, one, sequence, either, optional, many, times};
-ghost use Rattle.tv_picture.specs.Table.{HasEachRow, IsTableRow, Gathers, NamesNext};
+ghost use Rattle.tv_picture.specs.Table.{HasEachRow, IsTableRow, Gathers, IsGathered, NamesNext};
 
 use crate::code::Mark;
 use crate::places::Places;
@@ -57,14 +57,20 @@ impl Table {
         };
     }
 
-    /// Makes it the table of a sequence: itself, then the other.
+    /// Makes it the table of a sequence: itself, then the other. It goes from the last place down to the first, as the ends of a row
+    /// are often those of the next row and a few more.
     pub fn then(&mut self, other: &Table, len: usize)
         requires { len ≤ 120 }
         ensures { (a b : Pattern) (text : List ℕ) → length text ≡ len → HasEachRow a text self.old → HasEachRow b text other.now → HasEachRow (sequence a b) text self.new }
     {
-        for from in 0..len + 1 {
+        let mut ends = Places::NONE;
+        let mut gathered = Row::NONE;
+        for done in 0..len + 1 {
+            let from = len - done;
             let row = self.rows[from];
-            self.rows[from] = other.gather(row.ends, from, len + 1, row.unended());
+            gathered = other.gather_more(row.ends, ends, gathered, len);
+            ends = row.ends;
+            self.rows[from] = row.unended().join(gathered);
         }
     }
 
@@ -111,6 +117,20 @@ impl Table {
         ensures { Gathers places self.now 0 stop first result }
     {
         self.gather(places, places.first_from(0).min(stop), stop, first)
+    }
+
+    /// The rows of the table at these places, where those at the places before are gathered. If each of them is still among the
+    /// places, only the others are looked at.
+    fn gather_more(&self, places: Places, before: Places, gathered: Row, len: usize) -> Row
+        requires { len ≤ 120 }
+        ensures { (b : Pattern) (text : List ℕ) → length text ≡ len → HasEachRow b text self.now → IsGathered b text before self.now gathered → IsGathered b text places self.now result }
+    {
+        if places.contains_all(before) {
+            let more = self.gather_all(places.without(before), len + 1, Row::NONE);
+            gathered.join(more)
+        } else {
+            self.gather_all(places, len + 1, Row::NONE)
+        }
     }
 
     /// The row from the text's first place on of a sequence: what has this row there, then what has this table, any number of
