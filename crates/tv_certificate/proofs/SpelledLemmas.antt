@@ -108,6 +108,7 @@ end_stands = ((common_stands (codes "end") (λ e. cc) refl, tt), refl)
 
 version_stands : (version : Version) → StandInLine (version_words version)
 version_stands versions.One = ((common_stands (codes "tvcert") (λ e. cc) refl, (common_stands (codes "1") (λ e. cc) refl, tt)), refl)
+version_stands versions.Two = ((common_stands (codes "tvcert") (λ e. cc) refl, (common_stands (codes "2") (λ e. cc) refl, tt)), refl)
 
 each_stands : {A : Type 0} (P : A → Type 0) (f : A → List Word) → ((x : A) → P x → StandInLine (f x)) → (xs : List A) → AllByRecursion P xs → AllByRecursion StandInLine (map f xs)
 each_stands P f to [] are = tt

@@ -91,12 +91,17 @@ end_read [] e = absurd cc
 end_read (k ∷ []) e = ap (λ x. x ∷ []) (word_is k (codes "end") e)
 end_read (a ∷ b ∷ cs) e = absurd cc
 
-version_if : (w : Word) (v : Version) (b : Bool) → is_bare_word w (version_number versions.One) ≡ b → cond b (Some versions.One) None ≡ Some v → w ≡ Bare (version_number v)
-version_if w versions.One true eb e = word_is w (version_number versions.One) eb
-version_if w v false eb e = absurd cc
+version_if : (w : Word) (version v : Version) (other : Option Version) (b : Bool) → is_bare_word w (version_number version) ≡ b → (other ≡ Some v → w ≡ Bare (version_number v)) → cond b (Some version) other ≡ Some v → w ≡ Bare (version_number v)
+version_if w version v other true eb there e = let same : version ≡ v = cc in subst (λ x. w ≡ Bare (version_number x)) same (word_is w (version_number version) eb)
+version_if w version v other false eb there e = there e
+
+version_word : (w : Word) (v : Version) → version_of w ≡ Some v → w ≡ Bare (version_number v)
+version_word w v e =
+    version_if w versions.One v _ (is_bare_word w (version_number versions.One)) refl
+    (version_if w versions.Two v None (is_bare_word w (version_number versions.Two)) refl (λ none. absurd cc)) e
 
 first_if : (k w : Word) (v : Version) (b : Bool) → is_bare_word k (codes "tvcert") ≡ b → cond b (version_of w) None ≡ Some v → k ∷ w ∷ [] ≡ version_words v
-first_if k w v true eb e = ap (λ x. x ∷ w ∷ []) (word_is k (codes "tvcert") eb) ∙ ap (λ x. Bare (codes "tvcert") ∷ x ∷ []) (version_if w v (is_bare_word w (version_number versions.One)) refl e)
+first_if k w v true eb e = ap (λ x. x ∷ w ∷ []) (word_is k (codes "tvcert") eb) ∙ ap (λ x. Bare (codes "tvcert") ∷ x ∷ []) (version_word w v e)
 first_if k w v false eb e = absurd cc
 
 pub version_read : (ws : List Word) (v : Version) → certificate_version_in ws ≡ Some v → ws ≡ version_words v
@@ -107,3 +112,4 @@ version_read (a ∷ b ∷ c ∷ ds) v e = absurd cc
 
 pub read_version : (v : Version) → certificate_version_in (version_words v) ≡ Some v
 read_version versions.One = refl
+read_version versions.Two = refl

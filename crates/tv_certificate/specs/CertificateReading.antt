@@ -64,7 +64,10 @@ is_block_end _ = false
 
 -- the version that a word stands for
 abbrev pub version_of : Word → Option Version
-version_of word = if is_bare_word word (version_number versions.One) then Some versions.One else None
+version_of word =
+    if is_bare_word word (version_number versions.One) then Some versions.One
+    else if is_bare_word word (version_number versions.Two) then Some versions.Two
+    else None
 
 -- the version that a first line names
 abbrev pub certificate_version_in : List Word → Option Version

@@ -47,6 +47,12 @@ block_lines block =
 -- the word that stands for a version
 abbrev pub version_number : Version → List ℕ
 version_number versions.One = codes "1"
+version_number versions.Two = codes "2"
+
+-- the number that it stands for
+abbrev pub number_of_version : Version → ℕ
+number_of_version versions.One = 1
+number_of_version versions.Two = 2
 
 -- the first line
 abbrev pub version_words : Version → List Word

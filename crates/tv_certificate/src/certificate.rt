@@ -1,6 +1,7 @@
 //! Certificates: what a maker of a description may rely on at the keyboard.
 
 ghost use Rattle.std.specs.Prelude.{◌≡◌};
+ghost use Rattle.tv_certificate.specs.CertificateTexts.{number_of_version};
 
 use tv_model::{Sequence, Version};
 use tv_valid::Chars;
@@ -35,6 +36,16 @@ pub struct KeyLine {
 }
 
 impl Certificate {
+    /// Returns the number that the first line names.
+    pub fn version(&self) -> u8
+        ensures { result ≡ number_of_version self.now.version }
+    {
+        match self.version {
+            Version::One => 1,
+            Version::Two => 2,
+        }
+    }
+
     /// Returns the blocks, in the order of the text.
     pub fn blocks(&self) -> &[Block]
         ensures { result.now ≡ self.now.blocks }

@@ -13,6 +13,7 @@ pub fn version_number(version: Version) -> &'static [u8]
 {
     match version {
         Version::One => b"1",
+        Version::Two => b"2",
     }
 }
 
@@ -21,6 +22,8 @@ fn version_of(word: &Word) -> Option<Version>
 {
     if word.is(version_number(Version::One)) {
         Some(Version::One)
+    } else if word.is(version_number(Version::Two)) {
+        Some(Version::Two)
     } else {
         None
     }

@@ -173,6 +173,7 @@ names_apart seen (x ∷ ds) new =
 
 pub made_sound : (d : Desc) → All IsNewName (after_seen [] d.dialogs) → IsSoundCertificate d (certificate_of d)
 made_sound d new = record {
+  version = refl;
   tabs = tabs_made d.dialogs;
   owners = All-weaker (HasKeys d.dialogs) (NamesOwners (certificate_of d).blocks) (λ dialog keys. owners_made d.dialogs dialog keys) d.dialogs (All-from_recursion (HasKeys d.dialogs) d.dialogs (each_block d.dialogs (names_apart [] d.dialogs new)));
 }

@@ -6,7 +6,6 @@ use Rattle.tv_model.specs.Controls.Owner.{LetterOwner}
 use Rattle.tv_model.specs.Description.Owners.{owners_of}
 use Rattle.tv_model.specs.Description.Certificates.{dialog_name, letters, tab_order, tabs_of}
 use Rattle.tv_words.specs.Fields.{IsNumber}
-use Rattle.tv_model.specs.declared.desc.Version.TheVariants as versions
 use Rattle.tv_certificate.specs.declared.certificate.Certificate.{Certificate}
 use Rattle.tv_certificate.specs.declared.certificate.Block.{Block}
 use Rattle.tv_certificate.specs.declared.certificate.KeyLine.{KeyLine}
@@ -40,9 +39,10 @@ NamesOwner lines dialog letter = owners_in lines letter ≡ owners_of dialog let
 abbrev pub NamesOwners : List Block → Dialog → Type 0
 NamesOwners blocks dialog = All (NamesOwner (key_lines blocks (dialog_name dialog)) dialog) letters
 
--- the tab lines are the order of Tab, and each letter of each dialog has its owner. A dialog's lines may
--- stand in several blocks
+-- the version is the description's, the tab lines are the order of Tab, and each letter of each dialog has
+-- its owner. A dialog's lines may stand in several blocks
 pub record IsSoundCertificate (d : Desc) (certificate : Certificate) : Type 0 where
+  pub version : certificate.version ≡ d.version
   pub tabs : tab_lines certificate.blocks ≡ tab_order d
   pub owners : All (NamesOwners certificate.blocks) d.dialogs
 
@@ -64,6 +64,6 @@ keys_of dialog = flat_map (λ letter. map (key_line letter) (owners_of dialog le
 abbrev pub block_of : Dialog → Block
 block_of dialog = record { dialog = dialog_name dialog; tabs = tabs_of dialog; keys = keys_of dialog }
 
--- one block for each dialog, in description order
+-- the version of the description, and one block for each dialog, in description order
 abbrev pub certificate_of : Desc → Certificate
-certificate_of d = record { version = versions.One; blocks = map block_of d.dialogs }
+certificate_of d = record { version = d.version; blocks = map block_of d.dialogs }

@@ -49,20 +49,24 @@ IsFirstOwner d blocks letter =
     (dialog : Dialog) × IsFirstWithout (NamesOwners blocks) d.dialogs dialog
     × IsFirstWithout (NamesOwner (key_lines blocks (dialog_name dialog)) dialog) letters letter
 
--- what a refusal says: the faults are looked at first, then the tab lines, then the key lines
+-- what a refusal says: the faults are looked at first, then the version, the tab lines and the key lines
 abbrev pub RefusesToAccept : Desc → Certificate → Refusal → Type 0
 RefusesToAccept d certificate refusals.NoMemory = Unit {0}
 RefusesToAccept d certificate (refusals.Faulty fault) = IsFirstFault d fault
+RefusesToAccept d certificate refusals.CertVersion = IsSound d × (certificate.version ≢ d.version)
 RefusesToAccept d certificate (refusals.TabOrder place) =
-    IsSound d × DifferFirst (tab_lines certificate.blocks) (tab_order d) place
+    IsSound d × (certificate.version ≡ d.version)
+    × DifferFirst (tab_lines certificate.blocks) (tab_order d) place
 RefusesToAccept d certificate (refusals.Owner letter) =
-    IsSound d × (tab_lines certificate.blocks ≡ tab_order d) × IsFirstOwner d certificate.blocks letter
+    IsSound d × (certificate.version ≡ d.version) × (tab_lines certificate.blocks ≡ tab_order d)
+    × IsFirstOwner d certificate.blocks letter
 
 -- the answer is yes, unless memory ran out
 abbrev pub Accepts : {A : Type 0} → Result A (Refusal × Desc) → Type 0
 Accepts (Ok checked) = Unit {0}
 Accepts (Err (refusals.NoMemory, d)) = Unit {0}
 Accepts (Err (refusals.Faulty fault, d)) = ⊥
+Accepts (Err (refusals.CertVersion, d)) = ⊥
 Accepts (Err (refusals.TabOrder place, d)) = ⊥
 Accepts (Err (refusals.Owner letter, d)) = ⊥
 

@@ -28,6 +28,9 @@ pub enum Refusal {
     /// The description isn't sound: its first fault, by number and then by line.
     #[error("the description has a fault")]
     Faulty(Fault),
+    /// The description is of another version than the certificate.
+    #[error("the certificate is of another version")]
+    CertVersion,
     /// The first place, counted from 1, at which the tab lines differ from the order of Tab.
     #[error("tab line {0} is not in the order of Tab")]
     TabOrder(usize),
@@ -97,11 +100,14 @@ pub fn examine(alloc: Global, desc: Desc) -> Result<Checked, DescFault>
     }
 }
 
-// The first reason to refuse a sound description's certificate: the order of Tab, then the letters.
+// The first reason to refuse a sound description's certificate: its version, the order of Tab, then the letters.
 fn compare(alloc: Global, desc: &Desc, certificate: &Certificate) -> Result<(), Refusal>
     ensures yes { IfOk result (λ _. IsSoundCertificate desc.now certificate.now) }
     ensures no { IsSound desc.now → IfErr result (RefusesToAccept desc.now certificate.now) }
 {
+    if certificate.version != desc.version {
+        return Err(Refusal::CertVersion);
+    }
     let blocks = certificate.blocks();
     if let Some(place) = first_tab(alloc, desc, blocks)? {
         return Err(Refusal::TabOrder(place));

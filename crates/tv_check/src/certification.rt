@@ -18,7 +18,7 @@ use std::alloc::{AllocError, Global};
 use thiserror::Error;
 use tv_certificate::{Block, Certificate, KeyLine, letters};
 use tv_faults::faults;
-use tv_model::{Desc, Dialog, Fault, Kind, Sequence, Version};
+use tv_model::{Desc, Dialog, Fault, Kind, Sequence};
 use tv_valid::Chars;
 
 /// Why no certificate is made.
@@ -117,7 +117,7 @@ fn certificate_of(alloc: Global, desc: &Desc) -> Result<Certificate, AllocError>
         blocks.push(block_of(alloc, dialog)?)?;
     }
     Ok(Certificate {
-        version: Version::One,
+        version: desc.version,
         blocks,
     })
 }

@@ -129,6 +129,9 @@ fn owners(rt: HostRuntime) -> Result<(), Fail> {
 // Letters that don't rise in their block, and lines that stand where they can't.
 const LINES: &str = "- tvcert 1
 + tvcert 2
+=> version
+- tvcert 1
++ tvcert 3
 => syntax at line 1
 - key C no
 - key G opts 1

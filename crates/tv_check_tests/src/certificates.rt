@@ -111,6 +111,8 @@ const READ: &str = "# of no dialog
 
 tvcert  1\u{20}
 => tvcert 1
+tvcert  2
+=> tvcert 2
 tvcert 1
   dialog a
 
@@ -163,7 +165,7 @@ fn last_line_end(rt: HostRuntime) -> Result<(), Fail> {
     expect_answer(&PrintingCertificate, rt.alloc(), text, ORDER_CERTIFICATE)
 }
 
-const REFUSED: &str = "tvcert 2
+const REFUSED: &str = "tvcert 3
 => syntax at line 1
 tvcert 01
 => syntax at line 1

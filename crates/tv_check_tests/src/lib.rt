@@ -33,4 +33,6 @@ mod printing;
 #[cfg(test)]
 mod status_edges;
 #[cfg(test)]
+mod versions;
+#[cfg(test)]
 mod view_edges;

@@ -3,6 +3,7 @@ use Rattle.std.proofs.Common.{◌≡◌, ℕ, Bool, true, false, cond, List, [],
 use Rattle.std.specs.Prelude.{ℤ, IfSome, codes}
 use Rattle.tv_model.specs.declared.desc.Effect.{Effect}
 use Rattle.tv_model.specs.declared.desc.Effect.TheVariants as effects
+use Rattle.tv_model.specs.declared.desc.Version.{Version}
 use Rattle.tv_model.specs.declared.desc.Version.TheVariants as versions
 use Rattle.tv_model.specs.declared.command.CommandSpec.{CommandSpec}
 use Rattle.tv_model.specs.declared.kind.MarkedText.{MarkedText}
@@ -26,7 +27,7 @@ use Rattle.tv_declarations.specs.Reading.Nodes.{control_in, node_in}
 use Rattle.tv_declarations.specs.Reading.Declarations.{version_in, screen_in, start_in, menu_in, item_in, status_in, rule_in, show_in, enable_in, end_in, line_in, declaration_in}
 use Rattle.tv_words.specs.Fields.{number_word}
 use Rattle.tv_declarations.specs.Spelling.Nodes.{kind_words, IsSpelledKind}
-use Rattle.tv_declarations.specs.Spelling.Declarations.{declaration_words, effect_words, IsEffect, IsNode, IsDeclaration, IsInside, IsDeclarationLine}
+use Rattle.tv_declarations.specs.Spelling.Declarations.{declaration_words, effect_words, version_word, IsEffect, IsNode, IsDeclaration, IsInside, IsDeclarationLine}
 use Rattle.tv_declarations.proofs.OptionLemmas.{map_some, then_some, with2_some, with3_some}
 use Rattle.tv_words.proofs.FieldLemmas.{word_is, number_word_read, read_number_word, name_read, read_name, text_read}
 use Rattle.tv_declarations.proofs.CommandLemmas.{command_read, read_command, read_button_options}
@@ -65,13 +66,17 @@ node_line at w fs n e =
 abbrev DeclarationOf : Position → List Word → Word → Declaration → Type 0
 DeclarationOf at fields w d = IsDeclarationLine at d (w ∷ fields)
 
-version_if : (at : Position) (v : Word) (d : Declaration) (b : Bool) → is_bare_word v (codes "1") ≡ b → cond b (Some (declared.Version versions.One)) None ≡ Some d → IsDeclarationLine at d (Bare (codes "tvd") ∷ v ∷ [])
-version_if at v d true eb e = let same : declared.Version versions.One ≡ d = cc in subst (λ x. IsDeclarationLine at x (Bare (codes "tvd") ∷ v ∷ [])) same (record { is = tt; inside = tt; words = rw (word_is v (codes "1") eb) refl })
-version_if at v d false eb e = absurd cc
+abbrev VersionLine : Position → Word → Declaration → Type 0
+VersionLine at w d = IsDeclarationLine at d (Bare (codes "tvd") ∷ w ∷ [])
+
+version_named : (at : Position) (version : Version) (d : Declaration) → Some (declared.Version version) ≡ Some d → VersionLine at (version_word version) d
+version_named at version d e = let same : declared.Version version ≡ d = cc in subst (VersionLine at (version_word version)) same (record { is = tt; inside = tt; words = refl })
 
 version_line : (at : Position) (fs : List Word) (d : Declaration) → version_in fs ≡ Some d → IsDeclarationLine at d (Bare (codes "tvd") ∷ fs)
 version_line at [] d e = absurd cc
-version_line at (v ∷ []) d e = version_if at v d (is_bare_word v (codes "1")) refl e
+version_line at (v ∷ []) d e =
+    by_keyword (VersionLine at) v (codes "1") _ _ d (is_bare_word v (codes "1")) refl (version_named at versions.One d)
+    (by_keyword (VersionLine at) v (codes "2") _ None d (is_bare_word v (codes "2")) refl (version_named at versions.Two d) (λ none. absurd cc)) e
 version_line at (a ∷ b ∷ cs) d e = absurd cc
 
 screen_made : (at : Position) (a b : Word) (d : Declaration) → ((width : ℤ) × (height : ℤ) × (number_in a ≡ Some width) × (number_in b ≡ Some height) × (declared.Screen width height ≡ d)) → IsDeclarationLine at d (Bare (codes "screen") ∷ a ∷ b ∷ [])
@@ -225,6 +230,7 @@ rule_again line panes i (effects.Enable command) cluster item (ei, is, named, nu
 
 pub read_declaration : (line panes : ℕ) (d : Declaration) → IsDeclaration line d → IsInside panes d → declaration_in (on_line line panes) (declaration_words d) ≡ Some d
 read_declaration line panes (declared.Version versions.One) is inside = refl
+read_declaration line panes (declared.Version versions.Two) is inside = refl
 read_declaration line panes (declared.Screen width height) (across, down) inside = rw (read_number_word width across, read_number_word height down) refl
 read_declaration line panes (declared.Start name) is inside = rw (read_name name is) refl
 read_declaration line panes (declared.Menu i title) (ei, marks) inside = rw (same_line line i ei, read_mark title marks) refl

@@ -91,6 +91,7 @@ fn version(fields: &[Word]) -> Option<Declaration>
 {
     match fields {
         [version] if version.is(b"1") => Some(Declaration::Version(Version::One)),
+        [version] if version.is(b"2") => Some(Declaration::Version(Version::Two)),
         _ => None,
     }
 }

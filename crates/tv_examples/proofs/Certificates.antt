@@ -7,7 +7,7 @@ use Rattle.tv_lang.specs.Reading.Descriptions as readings
 use Rattle.tv_lang.specs.Reading.Descriptions.{DescriptionOutcome, description_outcome}
 use Rattle.tv_certificate.specs.CertificateTexts.{certificate_lines}
 use Rattle.tv_check.specs.Certificates.{certificate_of}
-use Rattle.tv_examples.specs.Descriptions.{cancel, order}
+use Rattle.tv_examples.specs.Descriptions.{replaced, cancel, order}
 use Rattle.tv_examples.specs.Running.{written, text}
 
 -- the text of the certificate of a description that was read, if one was
@@ -23,6 +23,11 @@ HasCertificate description lines = certificate_read (description_outcome (text d
 cancel_certificate : HasCertificate cancel ("tvcert 1" ∷ "dialog a" ∷ "tab c" ∷ "key C c" ∷ "end" ∷ [])
 unfolding written
 cancel_certificate = refl
+
+-- a certificate is of its description's version
+two_certificate : HasCertificate (replaced 1 "tvd 2" cancel) ("tvcert 2" ∷ "dialog a" ∷ "tab c" ∷ "key C c" ∷ "end" ∷ [])
+unfolding written
+two_certificate = refl
 
 -- a label's letter names its link, an item's its cluster and its number
 order_certificate : HasCertificate order (

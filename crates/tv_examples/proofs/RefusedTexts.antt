@@ -42,6 +42,11 @@ order_printed : printed (description_outcome (text order)) ≡ Some (text order)
 unfolding written
 order_printed = refl
 
+-- the version is kept
+two_printed : printed (description_outcome (text (replaced 1 "tvd 2" cancel))) ≡ Some (text (replaced 1 "tvd 2" cancel))
+unfolding written
+two_printed = refl
+
 -- comments, empty lines and further spaces are left out
 spaces_left_out : printed (description_outcome (text ("# a comment" ∷ inserted 1 "" (replaced 2 "  screen   20 10 " cancel)))) ≡ Some (text cancel)
 unfolding written

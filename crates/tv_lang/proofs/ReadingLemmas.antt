@@ -42,19 +42,17 @@ abbrev went : ℕ → List (List ℕ) → LineStep → DescriptionOutcome
 went n ls step = elim step as (λ _. DescriptionOutcome) [ Next q ↦ description_from (n + 1) q ls | Faulty ↦ Fault n | OfOtherVersion ↦ Other ]
 
 -- a line `tvd` of another version is no declaration
-is_one : is_other (Some (pos 1)) ≡ false
-is_one = refl
-
-version_clash : (v : Word) (b : Bool) → is_bare_word v (codes "1") ≡ b → is_other (number_in v) ≡ true → cond b (Some (declared.Version versions.One)) None ≡ None
-version_clash v true eb e = let one = rw (word_is v (codes "1") eb) at e in absurd cc
-version_clash v false eb e = refl
+version_clash : (v : Word) (one two : Bool) → is_bare_word v (codes "1") ≡ one → is_bare_word v (codes "2") ≡ two → is_other (number_in v) ≡ true → cond one (Some (declared.Version versions.One)) (cond two (Some (declared.Version versions.Two)) None) ≡ None
+version_clash v true two eo et e = let clash = rw (word_is v (codes "1") eo) at e in absurd cc
+version_clash v false true eo et e = let clash = rw (word_is v (codes "2") et) at e in absurd cc
+version_clash v false false eo et e = refl
 
 other_stops : (here : Position) (ws : List Word) → other_version ws ≡ true → declaration_in here ws ≡ None
 other_stops here [] e = absurd cc
 other_stops here (a ∷ []) e = absurd cc
 other_stops here (k ∷ v ∷ []) e =
     let h = both (is_bare_word k (codes "tvd")) (is_other (number_in v)) e in
-    ap (λ w. declaration_in here (w ∷ v ∷ [])) (word_is k (codes "tvd") h.0) ∙ version_clash v (is_bare_word v (codes "1")) refl h.1
+    ap (λ w. declaration_in here (w ∷ v ∷ [])) (word_is k (codes "tvd") h.0) ∙ version_clash v (is_bare_word v (codes "1")) (is_bare_word v (codes "2")) refl refl h.1
 other_stops here (a ∷ b ∷ c ∷ ds) e = absurd cc
 
 stops_of_other : (next : ℕ) (stage : Stage) (d : Desc) (ws : List Word) → is_other_version (record { next = next; stage = stage; desc = d }) ws ≡ true → description_line_taken (record { next = next; stage = stage; desc = d }) ws ≡ None
@@ -234,13 +232,18 @@ never_other [] n p h e = never_at_end n (finished_description p) e
 never_other (l ∷ ls) n p h e = never_by n p ls (line_words l) h (λ q. never_other ls (n + 1) q) e
 
 -- the words of a first declaration of another version
-number_is_other : (o : Option ℤ) → is_other o ≡ true → (n : ℤ) × (o ≡ Some n) × (n ≢ pos 1)
+number_is_other : (o : Option ℤ) → is_other o ≡ true → (n : ℤ) × (o ≡ Some n) × (n ≢ pos 1) × (n ≢ pos 2)
 number_is_other None e = absurd cc
-number_is_other (Some (pos k)) e = (pos k, refl, λ same. (let one : k ≡ 1 = cc in let clash = rw one at e in absurd cc))
-number_is_other (Some (negsuc k)) e = (negsuc k, refl, λ same. absurd cc)
+number_is_other (Some (pos k)) e = (
+  pos k,
+  refl,
+  λ same. (let one : k ≡ 1 = cc in let clash = rw one at e in absurd cc),
+  λ same. (let two : k ≡ 2 = cc in let clash = rw two at e in absurd cc),
+)
+number_is_other (Some (negsuc k)) e = (negsuc k, refl, (λ same. absurd cc), (λ same. absurd cc))
 
 abbrev OtherWords : List Word → Type 0
-OtherWords ws = (n : ℤ) × (ws ≡ Bare (codes "tvd") ∷ number_word n ∷ []) × IsNumber n × (n ≢ pos 1)
+OtherWords ws = (n : ℤ) × (ws ≡ Bare (codes "tvd") ∷ number_word n ∷ []) × IsNumber n × (n ≢ pos 1) × (n ≢ pos 2)
 
 other_words : (ws : List Word) → other_version ws ≡ true → OtherWords ws
 other_words [] e = absurd cc
@@ -250,14 +253,14 @@ other_words (k ∷ v ∷ []) e =
     let n = number_is_other (number_in v) h.1 in
     let word = number_word_read v n.0 n.1 in
     let version : k ≡ Bare (codes "tvd") = word_is k (codes "tvd") h.0 in
-    (n.0, ap (λ x. x ∷ v ∷ []) version ∙ ap (λ x. Bare (codes "tvd") ∷ x ∷ []) word.0, word.1, n.2)
+    (n.0, ap (λ x. x ∷ v ∷ []) version ∙ ap (λ x. Bare (codes "tvd") ∷ x ∷ []) word.0, word.1, n.2, n.3)
 other_words (a ∷ b ∷ c ∷ ds) e = absurd cc
 
 abbrev first : ℕ → Progress
 first next = record { next = next; stage = stages.Version; desc = nothing_read.desc }
 
 other_here : (l : List ℕ) (ls : List (List ℕ)) (ws : List Word) → SpellsWords l ws → OtherWords ws → IsOtherVersion (l ∷ ls)
-other_here l ls ws spells h = record { before = []; line = l; after = ls; number = h.0; parts = refl; skipped = tt; words = rw (← h.1) spells; fits = h.2; other = h.3 }
+other_here l ls ws spells h = record { before = []; line = l; after = ls; number = h.0; parts = refl; skipped = tt; words = rw (← h.1) spells; fits = h.2; other = (h.3, h.4) }
 
 other_later : (l : List ℕ) (ls : List (List ℕ)) → SpellsWords l [] → IsOtherVersion ls → IsOtherVersion (l ∷ ls)
 other_later l ls spells h = record { before = l ∷ h.before; line = h.line; after = h.after; number = h.number; parts = ap (λ x. l ∷ x) h.parts; skipped = (spells, h.skipped); words = h.words; fits = h.fits; other = h.other }
@@ -275,24 +278,24 @@ reading_other : (lines : List (List ℕ)) (n next : ℕ) → description_from n 
 reading_other [] n next e = absurd cc
 reading_other (l ∷ ls) n next e = other_by n next l ls (line_words l) refl (reading_other ls (n + 1) next) e
 
-other_if_not : (b : Bool) (k : ℕ) → k == 1 ≡ b → pos k ≢ pos 1 → not b ≡ true
-other_if_not true k e h = absurd (h (ap pos (eqb-true k 1 e)))
-other_if_not false k e h = refl
+other_if_not : (b : Bool) (k m : ℕ) → k == m ≡ b → pos k ≢ pos m → not b ≡ true
+other_if_not true k m e h = absurd (h (ap pos (eqb-true k m e)))
+other_if_not false k m e h = refl
 
-other_number : (n : ℤ) → n ≢ pos 1 → is_other (Some n) ≡ true
-other_number (pos k) h = other_if_not (k == 1) k refl h
-other_number (negsuc k) h = refl
+other_number : (n : ℤ) → n ≢ pos 1 → n ≢ pos 2 → is_other (Some n) ≡ true
+other_number (pos k) one two = rw (other_if_not (k == 1) k 1 refl one, other_if_not (k == 2) k 2 refl two) refl
+other_number (negsuc k) one two = refl
 
-other_read : (before : List (List ℕ)) (n : ℕ) (line : List ℕ) (after : List (List ℕ)) (number : ℤ) → AllByRecursion (λ l. SpellsWords l []) before → SpellsWords line (Bare (codes "tvd") ∷ number_word number ∷ []) → IsNumber number → number ≢ pos 1 → description_from n nothing_read (before ++ (line ∷ after)) ≡ Other
-other_read [] n line after number skipped words fits other =
+other_read : (before : List (List ℕ)) (n : ℕ) (line : List ℕ) (after : List (List ℕ)) (number : ℤ) → AllByRecursion (λ l. SpellsWords l []) before → SpellsWords line (Bare (codes "tvd") ∷ number_word number ∷ []) → IsNumber number → number ≢ pos 1 → number ≢ pos 2 → description_from n nothing_read (before ++ (line ∷ after)) ≡ Other
+other_read [] n line after number skipped words fits one two =
     let ws : List Word = Bare (codes "tvd") ∷ number_word number ∷ [] in
-    let is : is_other (number_in (number_word number)) ≡ true = ap is_other (read_number_word number fits) ∙ other_number number other in
+    let is : is_other (number_in (number_word number)) ≡ true = ap is_other (read_number_word number fits) ∙ other_number number one two in
     ap (λ o. went n after (words_step nothing_read o)) (spelled_line line ws words) ∙ ap (λ b. went n after (step_if b (description_line_taken nothing_read ws))) is
-other_read (l ∷ before) n line after number skipped words fits other =
-    ap (λ o. went n (before ++ (line ∷ after)) (words_step nothing_read o)) (spelled_line l [] skipped.0) ∙ other_read before (n + 1) line after number skipped.1 words fits other
+other_read (l ∷ before) n line after number skipped words fits one two =
+    ap (λ o. went n (before ++ (line ∷ after)) (words_step nothing_read o)) (spelled_line l [] skipped.0) ∙ other_read before (n + 1) line after number skipped.1 words fits one two
 
 pub other_reads : (lines : List (List ℕ)) → IsOtherVersion lines → description_from 1 nothing_read lines ≡ Other
-other_reads lines h = rw h.parts (other_read h.before 1 h.line h.after h.number h.skipped h.words h.fits h.other)
+other_reads lines h = rw h.parts (other_read h.before 1 h.line h.after h.number h.skipped h.words h.fits h.other.0 h.other.1)
 
 -- ---- the answers of `parse`
 

@@ -23,7 +23,7 @@ Spells text d = SpellsLines (lines_of text) d
 abbrev pub BeginsDescription : List (List ℕ) → Type 0
 BeginsDescription lines = BeginsBy word_lines IsDescription lines
 
--- the first declaration is a whole line `tvd` with another number than 1
+-- the first declaration is a whole line `tvd` with another number than 1 and 2
 pub record IsOtherVersion (lines : List (List ℕ)) : Type 0 where
   pub before : List (List ℕ)
   pub line : List ℕ
@@ -33,7 +33,7 @@ pub record IsOtherVersion (lines : List (List ℕ)) : Type 0 where
   pub skipped : AllByRecursion (λ l. SpellsWords l []) before
   pub words : SpellsWords line (Bare (codes "tvd") ∷ number_word number ∷ [])
   pub fits : IsNumber number
-  pub other : number ≢ pos 1
+  pub other : (number ≢ pos 1) × (number ≢ pos 2)
 
 -- what each refusal says of the text
 abbrev pub RefusesToParse : List ℕ → LangFault → Type 0

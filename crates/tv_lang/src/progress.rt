@@ -117,5 +117,5 @@ impl Progress {
 fn is_other(version: Option<i32>) -> bool
     ensures { result ≡ is_other version }
 {
-    version.is_some_and(|number| number != 1)
+    version.is_some_and(|number| number != 1 && number != 2)
 }

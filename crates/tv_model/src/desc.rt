@@ -14,6 +14,7 @@ use tv_valid::Chars;
 #[derive(Clone, Copy, Debug, PartialEq, Eq)]
 pub enum Version {
     One,
+    Two,
 }
 
 /// What a description text says, whether it is sound or not. Each list is in the order of the text.

@@ -80,6 +80,7 @@ impl Printer {
     {
         let number = match version {
             Version::One => b"1",
+            Version::Two => b"2",
         };
         let line = Line::new(self.alloc)
             .keyword(keywords::TVD)?

@@ -29,6 +29,7 @@ fault_line fault =
 abbrev pub refusal_text : Refusal → List ℕ
 refusal_text refusals.NoMemory = []
 refusal_text (refusals.Faulty fault) = codes "refused " ++ fault_line fault
+refusal_text refusals.CertVersion = line_of (codes "refused version") []
 refusal_text (refusals.TabOrder place) = line_of (codes "refused tab ") (decimal place)
 refusal_text (refusals.Owner letter) = line_of (codes "refused key ") (encode_utf8 letter)
 

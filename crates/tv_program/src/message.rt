@@ -71,6 +71,7 @@ fn put_refusal<W: Writer>(pen: &mut Pen<W>, refusal: &Refusal)
     match refusal {
         Refusal::NoMemory => {}
         Refusal::Faulty(fault) => put_first(pen, fault),
+        Refusal::CertVersion => put_version(pen),
         Refusal::TabOrder(place) => put_tab(pen, *place),
         Refusal::Owner(letter) => put_key(pen, *letter),
     }
@@ -81,6 +82,12 @@ fn put_first<W: Writer>(pen: &mut Pen<W>, fault: &Fault)
 {
     pen.put(b"refused ");
     put_fault(pen, fault);
+}
+
+fn put_version<W: Writer>(pen: &mut Pen<W>)
+    ensures { Puts W.seen pen.old pen.new (line_of (codes "refused version") []) }
+{
+    pen.put(b"refused version\n");
 }
 
 fn put_tab<W: Writer>(pen: &mut Pen<W>, place: usize)

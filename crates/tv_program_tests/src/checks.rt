@@ -137,6 +137,9 @@ tvcert 1
 => refused tab 1
 => status 1
 tvcert 2
+=> refused version
+=> status 1
+tvcert 3
 => tvdlg: NAME: syntax at line 1
 => status 1
 tvcert 1
@@ -167,6 +170,9 @@ fn certificates_too_long(rt: HostRuntime) -> Result<(), Fail> {
 
 // A description that can't be read is told first, then a certificate that can't be read, then the description's faults.
 const HIDDEN: &str = "tvcert 1
+=> refused F4 line 8
+=> status 1
+tvcert 2
 => refused F4 line 8
 => status 1
 tvcert 1

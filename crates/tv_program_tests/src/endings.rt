@@ -102,7 +102,7 @@ end
 ";
 
 // What is asked for, the description, the text beside it, and what is told.
-const TASKS: [(Task<'static>, &str, &str, &str); 14] = [
+const TASKS: [(Task<'static>, &str, &str, &str); 15] = [
     (
         CHECK,
         CANCEL,
@@ -137,8 +137,14 @@ const TASKS: [(Task<'static>, &str, &str, &str); 14] = [
     (
         ACCEPT,
         CANCEL,
-        "tvcert 2\n",
+        "tvcert 3\n",
         "tvdlg: BESIDE: syntax at line 1\nstatus 1\nopened 12\n",
+    ),
+    (
+        ACCEPT,
+        CANCEL,
+        "tvcert 2\n",
+        "refused version\nstatus 1\nopened 12\n",
     ),
     (
         ACCEPT,

@@ -8,10 +8,11 @@ use tv_test_support::{FirstDialog, Question, Reading, expect_answer, expect_answ
 // Texts that aren't UTF-8, and such without a last line end.
 #[test]
 fn refused_bytes(rt: HostRuntime) -> Result<(), Fail> {
-    const TABLE: [(&[u8], &str); 5] = [
+    const TABLE: [(&[u8], &str); 6] = [
         (b"", "syntax at line 1\n"),
         (b"tvd 1", "syntax at line 2\n"),
-        (b"tvd 2", "unknown version\n"),
+        (b"tvd 2", "syntax at line 2\n"),
+        (b"tvd 3", "unknown version\n"),
         (b"tvd 0\n\xff", "unknown version\n"),
         (b"#\xff\ntvd 3\n", "syntax at line 1\n"),
     ];
@@ -29,6 +30,8 @@ tvd 1
 => syntax at line 2
 tvd 1
 screen 40
+=> syntax at line 2
+tvd 2
 => syntax at line 2
 tvd 3
 => unknown version

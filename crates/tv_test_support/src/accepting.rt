@@ -83,6 +83,7 @@ fn expect_same(alloc: Global, desc: &Desc, printed: &str) -> Result<(), Fail> {
 fn refusal_told(alloc: Global, refusal: Refusal) -> Result<String, Fail> {
     match refusal {
         Refusal::Faulty(fault) => Ok(fault_told(alloc, "faulty ", &fault)?),
+        Refusal::CertVersion => Ok(String::from_str(alloc, "version\n")?),
         Refusal::TabOrder(place) => Ok(format!(in alloc; "tab {place}\n")?),
         Refusal::Owner(letter) => Ok(format!(in alloc; "key {letter}\n")?),
         Refusal::NoMemory => Err(Fail::new("no memory")),

@@ -19,7 +19,9 @@ use Rattle.tv_declarations.specs.Reading.Nodes.{node_in}
 -- what follows `tvd`
 abbrev pub version_in : List Word → Option Declaration
 version_in (version ∷ []) =
-    if is_bare_word version (codes "1") then Some (declared.Version versions.One) else None
+    if is_bare_word version (codes "1") then Some (declared.Version versions.One)
+    else if is_bare_word version (codes "2") then Some (declared.Version versions.Two)
+    else None
 version_in _ = None
 
 -- what follows `screen`

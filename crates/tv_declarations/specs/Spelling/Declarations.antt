@@ -23,6 +23,7 @@ effect_words (effects.Enable command) more = Bare (codes "enable") ∷ command_w
 -- the word of a version
 abbrev pub version_word : Version → Word
 version_word versions.One = Bare (codes "1")
+version_word versions.Two = Bare (codes "2")
 
 -- the words of the line of a declaration
 abbrev pub declaration_words : Declaration → List Word

@@ -167,10 +167,10 @@ nothing_read = record {
   };
 }
 
--- a number other than 1
+-- a number other than 1 and 2
 abbrev pub is_other : Option ℤ → Bool
 is_other None = false
-is_other (Some (pos n)) = not (n == 1)
+is_other (Some (pos n)) = not (n == 1) && not (n == 2)
 is_other (Some (negsuc n)) = true
 
 -- a line `tvd` of another version

@@ -4,7 +4,6 @@ use Rattle.std.proofs.lemmas.List.{drop_all}
 use Rattle.tv_certificate.specs.CertificateTexts.{IsSpelledCertificate}
 use Rattle.tv_faults.specs.Usable.{HasLawfulCounts}
 use Rattle.tv_faults.proofs.UsableLemmas.{lawful_counts}
-use Rattle.tv_model.specs.declared.desc.Version.TheVariants as versions
 use Rattle.tv_check.specs.Certificates.{IsSoundCertificate, block_of, certificate_of}
 use Rattle.tv_check.proofs.MadeLemmas.{sound_made, spelled_made}
 use Rattle.tv_check.proofs.certification.certificate_of.Goals as goal
@@ -22,10 +21,10 @@ pub returns-clause-sound : goal.returns-clause-sound
 returns-clause-sound c =
     let all : c.loop-dialog.blocks ≡ (certificate_of c.args.desc.now).blocks =
     all_made block_of c.as_slice-dialog-items.result.now c.loop-dialog.dialog-index c.loop-dialog.blocks _ (omega (arith, c.loop-dialog-test.false)) c.loop-dialog.invariant in
-    subst (λ blocks. IsSoundCertificate c.args.desc.now (record { version = versions.One; blocks = blocks })) (sym all) (sound_made c.args.desc.now c.requires.sound)
+    subst (λ blocks. IsSoundCertificate c.args.desc.now (record { version = c.args.desc.now.version; blocks = blocks })) (sym all) (sound_made c.args.desc.now c.requires.sound)
 
 pub returns-clause-spelled : goal.returns-clause-spelled
 returns-clause-spelled c =
     let all : c.loop-dialog.blocks ≡ (certificate_of c.args.desc.now).blocks =
     all_made block_of c.as_slice-dialog-items.result.now c.loop-dialog.dialog-index c.loop-dialog.blocks _ (omega (arith, c.loop-dialog-test.false)) c.loop-dialog.invariant in
-    subst (λ blocks. IsSpelledCertificate (record { version = versions.One; blocks = blocks })) (sym all) (spelled_made c.args.desc.now c.requires.sound c.requires.spelled)
+    subst (λ blocks. IsSpelledCertificate (record { version = c.args.desc.now.version; blocks = blocks })) (sym all) (spelled_made c.args.desc.now c.requires.sound c.requires.spelled)
