@@ -17,7 +17,7 @@ use Rattle.tv_cells.proofs.ChangeLemmas.{on_new}
 
 -- ---- the tests
 
-le_true : (a b : ℤ) → le_z a b ≡ true → a ≤ℤ b
+pub le_true : (a b : ℤ) → le_z a b ≡ true → a ≤ℤ b
 le_true a b e = grind (arith, ints)
 
 le_false : (a b : ℤ) → le_z a b ≡ false → a ≤ℤ b → ⊥
@@ -63,7 +63,7 @@ covers_false c r column row e i =
 
 -- ---- the layers
 
-on_old : {Region : ℕ → ℕ → Type 0} {f : ℕ → ℕ → Glyph → Glyph} {old new : Picture} {column row : ℕ} → Changes Region f old new → IsOn new column row → IsOn old column row
+pub on_old : {Region : ℕ → ℕ → Type 0} {f : ℕ → ℕ → Glyph → Glyph} {old new : Picture} {column row : ℕ} → Changes Region f old new → IsOn new column row → IsOn old column row
 on_old p on = record { across = rw (← p.size.width) on.across; down = rw (← p.size.height) on.down }
 
 painted_cell : (c : Canvas) (width height : ℕ) (face : ℕ → ℕ → Glyph) (old new : Picture) → Changes (Covers c (sized width height)) (λ x y _. face_at c face x y) old new → (column row : ℕ) → IsOn old column row → (b : Bool) → covers c (sized width height) column row ≡ b → cell_at new column row ≡ over (Painted c width height face) column row (cell_at old column row)

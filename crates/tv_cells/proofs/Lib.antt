@@ -6,6 +6,8 @@ pub mod RowLemmas
 pub mod CoverLemmas
 pub mod ShadowLemmas
 pub mod LayerLemmas
+pub mod DamageLemmas
+pub mod RepaintingLemmas
 pub mod TildeLemmas
 pub mod MarkLemmas
 pub mod HotTextLemmas

@@ -1,8 +1,8 @@
 -- Which cell a screen shows at a place, from the layers over it.
-use Rattle.std.specs.Prelude.{◌≡◌, ℕ, ℤ, pos, Bool, not, ◌&&◌, List, [], ◌∷◌, if◌then◌else◌}
+use Rattle.std.specs.Prelude.{◌≡◌, ℕ, ℤ, pos, Bool, not, ◌&&◌, List, [], ◌∷◌, ◌++◌, if◌then◌else◌}
 use Rattle.std.specs.Int.Signed.{le_z, lt_z}
 use Rattle.tv_cells.specs.Glyph.{Glyph, blank, shaded}
-use Rattle.tv_cells.specs.Picture.{Picture, IsOn, cell_at}
+use Rattle.tv_cells.specs.Picture.{Picture, IsAlike, IsOn, cell_at}
 use Rattle.tv_cells.specs.Canvas.{face_at, aside}
 use Rattle.tv_cells.specs.Rectangle.{shifted, sized}
 use Rattle.tv_cells.specs.declared.rect.Rect.{Rect}
@@ -30,6 +30,16 @@ over (Shadow c r) column row under =
     then shaded under
     else under
 
+-- what layers, from the top, show over a cell
+abbrev pub cell_over : List Layer → ℕ → ℕ → Glyph → Glyph
+cell_over [] column row under = under
+cell_over (layer ∷ layers) column row under = over layer column row (cell_over layers column row under)
+
+-- both show the same, whatever is below
+pub record ShowsSame (old new : List Layer) : Type 0 where
+  pub each : (column row : ℕ) (under : Glyph)
+      → cell_over old column row under ≡ cell_over new column row under
+
 -- the cell of layers from the top, above a blank screen
 abbrev pub cell_of : List Layer → ℕ → ℕ → Glyph
 cell_of [] column row = blank
@@ -38,3 +48,8 @@ cell_of (layer ∷ layers) column row = over layer column row (cell_of layers co
 -- each cell of the picture is that of the layers
 pub record Shows (layers : List Layer) (p : Picture) : Type 0 where
   pub each : (column row : ℕ) → IsOn p column row → cell_at p column row ≡ cell_of layers column row
+
+-- the new picture shows these layers over whatever the old one shows, and no more
+pub record Lays (layers : List Layer) (old new : Picture) : Type 0 where
+  pub size : IsAlike old new
+  pub shows : (below : List Layer) → Shows below old → Shows (layers ++ below) new

@@ -4,4 +4,6 @@ pub mod Picture
 pub mod Row
 pub mod Canvas
 pub mod Layers
+pub mod Damage
+pub mod Repainting
 pub mod HotText

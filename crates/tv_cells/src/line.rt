@@ -1,7 +1,8 @@
 //! Numbers on one axis of the screen.
 
 ghost use Rattle.std.specs.Int.{int_gap, int_max, int_min};
-ghost use Rattle.std.specs.Prelude.{◌^◌, ◌↔◌, ◌≡◌, ◌≤◌, ◌<◌, ◌≤ℤ◌, ◌<ℤ◌, IfSome, IfNone, IsTrue, ℕ, pos};
+ghost use Rattle.std.specs.Int.Signed.{le_z};
+ghost use Rattle.std.specs.Prelude.{◌&&◌, ◌^◌, ◌↔◌, ◌≡◌, ◌≤◌, ◌<◌, ◌≤ℤ◌, ◌<ℤ◌, IfSome, IfNone, IsTrue, ℕ, pos};
 ghost use Rattle.tv_cells.specs.Canvas.{IsAlong};
 
 // Whether a coordinate lies at or after one end and before the other.
@@ -9,6 +10,13 @@ pub(crate) fn is_between(from: &i32, at: &i32, to: &i32) -> bool
     ensures { IsTrue result ↔ ((from.now ≤ℤ at.now) × (at.now <ℤ to.now)) }
 {
     *from <= *at && *at < *to
+}
+
+// Whether the part of the line from `first` to `last` lies in another part.
+pub(crate) fn has_span(from: &i32, to: &i32, first: &i32, last: &i32) -> bool
+    ensures { result ≡ (le_z from.now first.now && le_z last.now to.now) }
+{
+    *from <= *first && *last <= *to
 }
 
 pub(crate) fn greater(a: &i32, b: &i32) -> i32

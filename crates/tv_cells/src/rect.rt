@@ -2,12 +2,13 @@
 
 ghost use Rattle.std.specs.Prelude.{◌≡◌, ◌↔◌, IsTrue, ℤ, ◌+ℤ◌};
 ghost use Rattle.std.specs.Int.{int_gap};
+ghost use Rattle.tv_cells.specs.Damage.{hull, is_part};
 ghost use Rattle.tv_cells.specs.Rectangle.{IsEmpty, IsIn, cut, IsPointNear, IsRectNear, shifted, shifted_point};
 
-use crate::line::{gap, greater, is_between, lesser};
+use crate::line::{gap, greater, has_span, is_between, lesser};
 
 /// A point of the plane that the screen is a part of. Columns count to the right, rows down.
-#[derive(Clone, Copy, Debug, PartialEq, Eq)]
+#[derive(Clone, Copy, Debug, Default, PartialEq, Eq)]
 pub struct Point {
     pub x: i32,
     pub y: i32,
@@ -30,7 +31,7 @@ impl Point {
 /// A rectangle, half open: it has the column of `a` and lacks that of `b`, and its rows likewise.
 ///
 /// Where a coordinate of `b` isn't greater than that of `a`, the rectangle is empty.
-#[derive(Clone, Copy, Debug, PartialEq, Eq)]
+#[derive(Clone, Copy, Debug, Default, PartialEq, Eq)]
 pub struct Rect {
     pub a: Point,
     pub b: Point,
@@ -93,5 +94,29 @@ impl Rect {
         ensures { result ≡ int_gap self.now.a.y self.now.b.y }
     {
         gap(&self.a.y, &self.b.y)
+    }
+
+    /// Whether the corners of another rectangle lie in this one.
+    pub fn has_part(&self, other: Rect) -> bool
+        ensures { result ≡ is_part other self.now }
+    {
+        has_span(&self.a.x, &self.b.x, &other.a.x, &other.b.x)
+            && has_span(&self.a.y, &self.b.y, &other.a.y, &other.b.y)
+    }
+
+    /// Returns the smallest rectangle that has the points of both, if neither is empty.
+    pub fn hull(&self, other: Rect) -> Rect
+        ensures { result ≡ hull self.now other }
+    {
+        Rect {
+            a: Point {
+                x: lesser(&self.a.x, &other.a.x),
+                y: lesser(&self.a.y, &other.a.y),
+            },
+            b: Point {
+                x: greater(&self.b.x, &other.b.x),
+                y: greater(&self.b.y, &other.b.y),
+            },
+        }
     }
 }

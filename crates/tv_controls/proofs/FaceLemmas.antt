@@ -4,7 +4,7 @@ use Rattle.std.proofs.lemmas.Bool.{false≢true}
 use Rattle.std.specs.Int.{int_gap}
 use Rattle.tv_cells.specs.Canvas.{sub}
 use Rattle.tv_cells.specs.Glyph.{shown}
-use Rattle.tv_cells.specs.Layers.{Layer, Painted, Shows, cell_of, covers}
+use Rattle.tv_cells.specs.Layers.{Layer, Painted, Shows, cell_of, covers, Lays}
 use Rattle.tv_cells.specs.Picture.{IsAlike, Picture}
 use Rattle.tv_cells.specs.Rectangle.{sized}
 use Rattle.tv_cells.specs.declared.canvas.Canvas.{Canvas}
@@ -21,7 +21,7 @@ use Rattle.tv_faces.specs.declared.input.InputColours.{InputColours}
 use Rattle.tv_faces.specs.Inputs.{input_attr, colours_of, input_cells, seen_edit}
 use Rattle.tv_model.specs.Controls.Look.{Look}
 use Rattle.tv_view.specs.Colours.{colour, has_focus, lent_look}
-use Rattle.tv_view.specs.Drawing.{Lays, leaf_layers}
+use Rattle.tv_view.specs.Drawing.{leaf_layers}
 use Rattle.tv_view.specs.declared.env.Env.{Env}
 use Rattle.tv_leaf.specs.Core.{Core}
 use Rattle.tv_model.specs.Description.Rectangles.{place_of_node}

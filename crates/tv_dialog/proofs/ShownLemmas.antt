@@ -4,7 +4,7 @@ use Rattle.std.proofs.lemmas.Bool.{false≢true}
 use Rattle.std.proofs.lemmas.Int.{ints}
 use Rattle.std.proofs.lemmas.List.Elements.{All-head}
 use Rattle.tv_cells.specs.Canvas.{sub}
-use Rattle.tv_cells.specs.Layers.{Layer, Painted}
+use Rattle.tv_cells.specs.Layers.{Layer, Painted, Lays}
 use Rattle.tv_cells.specs.Picture.{Picture}
 use Rattle.tv_cells.specs.declared.canvas.Canvas.{Canvas}
 use Rattle.tv_model.specs.declared.node.Id.{Id}
@@ -28,7 +28,7 @@ use Rattle.tv_machine.specs.Dialog.Modal.{Modal}
 use Rattle.tv_machine.specs.Screen.Layers.{dialog_layers}
 use Rattle.tv_group.specs.Opened.{opened}
 use Rattle.tv_view.specs.declared.env.Env.{Env}
-use Rattle.tv_view.specs.Drawing.{Lays, leaves_layers}
+use Rattle.tv_view.specs.Drawing.{leaves_layers}
 use Rattle.tv_view.proofs.LayingLemmas.{lays_as}
 use Rattle.tv_dialog.specs.Drawn as drawn
 use Rattle.tv_dialog.specs.Drawn.{lent}

@@ -3,7 +3,7 @@
 ghost use Rattle.std.specs.Prelude.{◌≡◌, ◌≤◌, ◌<◌, ◌∷◌, [], ℕ, length, slice_index_or, IfOk, IfErr, IfSome, List, None, Some, false, true};
 ghost use Rattle.tv_cells.specs.Rectangle.{IsRectNear};
 ghost use Rattle.tv_model.specs.Description.Rectangles.{IsSmall, IsSmallRect};
-ghost use Rattle.tv_view.specs.Drawing.{Lays};
+ghost use Rattle.tv_cells.specs.Layers.{Lays};
 ghost use Rattle.tv_group.specs.Calls.{HasRoomForAll, all_gathered, any_holds};
 ghost use Rattle.tv_group.specs.Opened.{opened};
 ghost use Rattle.tv_group.specs.Outline.{IsFreshBody};

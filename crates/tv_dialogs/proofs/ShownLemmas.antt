@@ -3,7 +3,7 @@ use Rattle.std.proofs.Common.{◌≡◌, List, [], ◌∷◌, ℕ, Some, IsTrue,
 use Rattle.std.specs.Prelude.{slice_get, slice_index_or}
 use Rattle.std.proofs.lemmas.Bool.{false≢true}
 use Rattle.std.proofs.lemmas.Option.{unwrap_or-slice_get}
-use Rattle.tv_cells.specs.Layers.{Layer, Shadow, Shows}
+use Rattle.tv_cells.specs.Layers.{Layer, Shadow, Shows, Lays}
 use Rattle.tv_cells.specs.Picture.{IsAlike, Picture}
 use Rattle.tv_cells.specs.declared.canvas.Canvas.{Canvas}
 use Rattle.tv_cells.specs.declared.rect.Rect.{Rect}
@@ -23,7 +23,6 @@ use Rattle.tv_machine.specs.Screen.Layers.{dialog_layers, open_layers}
 use Rattle.tv_laws.specs.Runs.{HasSoundDialogs}
 use Rattle.tv_laws.proofs.WorkLemmas.{sound-at}
 use Rattle.tv_tree.specs.Shown.{IsAtWork, desktop_canvas, open_bounds, shadow_layer}
-use Rattle.tv_view.specs.Drawing.{Lays}
 use Rattle.tv_view.proofs.LayingLemmas.{lays_as}
 use Rattle.tv_dialog.specs.Head.{KeptDialogHead, dialog_bounds, declared_dialog_head, kept_dialog_head}
 use Rattle.tv_dialog.specs.Standing.{Stands}

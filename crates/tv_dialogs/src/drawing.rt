@@ -6,7 +6,7 @@ ghost use Rattle.tv_machine.specs.Screen.Layers.{open_layers};
 ghost use Rattle.tv_machine.specs.State.{State};
 ghost use Rattle.tv_model.specs.Description.Rectangles.{IsSmall};
 ghost use Rattle.tv_tree.specs.Shown.{desktop_canvas};
-ghost use Rattle.tv_view.specs.Drawing.{Lays};
+ghost use Rattle.tv_cells.specs.Layers.{Lays};
 ghost use Rattle.tv_dialogs.specs.Dialogs.{AreDialogs};
 
 use crate::dialogs::DialogsOf;

@@ -15,7 +15,7 @@ ghost use Rattle.tv_group.specs.Opened.{opened};
 ghost use Rattle.tv_group.specs.Outline.{IsFreshBody};
 ghost use Rattle.tv_machine.specs.Dialog.Lawful.{IsLawfulDialog};
 ghost use Rattle.tv_tree.specs.Shown.{IsAtWork, desktop_canvas};
-ghost use Rattle.tv_view.specs.Drawing.{Lays};
+ghost use Rattle.tv_cells.specs.Layers.{Lays};
 ghost use Rattle.tv_dialog.specs.Standing.{Stands};
 ghost use Rattle.tv_dialog.specs.Stepping.{begun_anew};
 ghost use Rattle.tv_dialogs.specs.Bodies.{kept_body};

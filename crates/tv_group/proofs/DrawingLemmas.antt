@@ -6,7 +6,8 @@ use Rattle.tv_cells.specs.Rectangle.{IsEmpty}
 use Rattle.tv_cells.specs.declared.canvas.Canvas.{Canvas}
 use Rattle.tv_view.specs.Meaning.{Leaf, kept}
 use Rattle.tv_view.specs.declared.env.Env.{Env}
-use Rattle.tv_view.specs.Drawing.{Lays, is_near, leaf_layers, leaves_layers}
+use Rattle.tv_view.specs.Drawing.{is_near, leaf_layers, leaves_layers}
+use Rattle.tv_cells.specs.Layers.{Lays}
 use Rattle.tv_view.proofs.LayingLemmas.{lays_none, lays_then, lays_as, layers-kept, layers-append, layers-inside, layers-far}
 use Rattle.tv_group.specs.Current.{is_at}
 use Rattle.tv_group.specs.Opened.{opened, opened_member, joined}

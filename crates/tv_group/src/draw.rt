@@ -2,7 +2,8 @@
 
 ghost use Rattle.std.specs.Prelude.{◌≡◌};
 ghost use Rattle.tv_cells.specs.Rectangle.{IsPointNear};
-ghost use Rattle.tv_view.specs.Drawing.{Lays, is_near, leaves_layers};
+ghost use Rattle.tv_view.specs.Drawing.{is_near, leaves_layers};
+ghost use Rattle.tv_cells.specs.Layers.{Lays};
 
 use crate::group::{GroupOf, MemberOf};
 use tv_cells::{Canvas, Point, Screen};

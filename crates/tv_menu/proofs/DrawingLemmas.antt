@@ -4,7 +4,7 @@ use Rattle.std.specs.Prelude.{if◌then◌else◌}
 use Rattle.std.proofs.lemmas.Int.{ints}
 use Rattle.std.specs.Int.{int_gap}
 use Rattle.tv_cells.specs.Glyph.{Glyph}
-use Rattle.tv_cells.specs.Layers.{Layer, Painted, Shadow, Shows, covers}
+use Rattle.tv_cells.specs.Layers.{Layer, Painted, Shadow, Shows, covers, Lays, ShowsSame}
 use Rattle.tv_cells.specs.Picture.{Picture, IsAlike}
 use Rattle.tv_cells.specs.Rectangle.{shifted_point, sized}
 use Rattle.tv_cells.specs.declared.canvas.Canvas.{Canvas}
@@ -19,8 +19,7 @@ use Rattle.tv_machine.specs.State.{State}
 use Rattle.tv_machine.specs.Screen.Bars.{spot_in, status_cell, status_face, status_text}
 use Rattle.tv_machine.specs.Screen.Layers.{status_layer}
 use Rattle.tv_machine.specs.Session.Step.{is_item_enabled}
-use Rattle.tv_view.specs.Drawing.{Lays}
-use Rattle.tv_view.proofs.SameLayerLemmas.{IsSame, lays_same}
+use Rattle.tv_view.proofs.SameLayerLemmas.{lays_same}
 use Rattle.tv_menu.specs.Cells.{is_item_in}
 use Rattle.tv_menu.specs.Lawful.{IsLawfulStatusItem}
 use Rattle.tv_menu.specs.Line.{AreEnabled}
@@ -43,7 +42,7 @@ box_laid canvas face columns rows width height bounds old mid new wide high same
     })
 
 -- a face that shows the same
-pub face_same : (c : Canvas) (width height : ℕ) (face other : ℕ → ℕ → Glyph) → ((x y : ℕ) → face x y ≡ other x y) → IsSame (Painted c width height face ∷ []) (Painted c width height other ∷ [])
+pub face_same : (c : Canvas) (width height : ℕ) (face other : ℕ → ℕ → Glyph) → ((x y : ℕ) → face x y ≡ other x y) → ShowsSame (Painted c width height face ∷ []) (Painted c width height other ∷ [])
 face_same c width height face other same = record {
   each = λ column row under.
       ap (λ cell. if covers c (sized width height) column row then cell else under) (same (int_gap c.origin.x (pos column)) (int_gap c.origin.y (pos row)));

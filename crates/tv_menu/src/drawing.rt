@@ -3,14 +3,13 @@
 ghost use Rattle.std.specs.Prelude.{◌≡◌, ◌≤◌, ◌<◌, [], ◌∷◌, ◌-ℤ◌, pos, is_some};
 ghost use Rattle.tv_cells.specs.Picture.{IsAlike};
 ghost use Rattle.tv_cells.specs.Rectangle.{IsPointNear, IsRectNear, shifted_point, sized};
-ghost use Rattle.tv_cells.specs.Layers.{Painted, Shadow};
+ghost use Rattle.tv_cells.specs.Layers.{Painted, Shadow, Lays};
 ghost use Rattle.tv_machine.specs.State.{State};
 ghost use Rattle.tv_machine.specs.Screen.Bars.{box_face, box_height, box_width};
 ghost use Rattle.tv_machine.specs.Screen.Layers.{bar_layer, box_layers, open_place, status_layer};
 ghost use Rattle.tv_model.specs.declared.desc.Desc.{Desc as Declared};
 ghost use Rattle.tv_model.specs.Description.Rectangles.{desktop};
 ghost use Rattle.tv_machine.specs.Screen.Bodies.{canvas_at, whole_screen};
-ghost use Rattle.tv_view.specs.Drawing.{Lays};
 ghost use Rattle.tv_menu.specs.Bar.{IsBarOf, open_of};
 ghost use Rattle.tv_menu.specs.Lawful.{IsLawfulMenu};
 ghost use Rattle.tv_menu.specs.Line.{AreEnabled, IsLineOf};

@@ -1,7 +1,7 @@
 //! The whole screen, drawn from the back to the front.
 
 ghost use Rattle.std.specs.Prelude.{◌≡◌, ◌∷◌, [], ◌-ℤ◌, pos, is_none};
-ghost use Rattle.tv_cells.specs.Layers.{Shows};
+ghost use Rattle.tv_cells.specs.Layers.{Shows, Lays};
 ghost use Rattle.tv_cells.specs.Picture.{IsAlike};
 ghost use Rattle.tv_machine.specs.Dialog.Sound.{HasSoundDialogs};
 ghost use Rattle.tv_machine.specs.Screen.Layers.{layers_of, stack_layers};
@@ -11,7 +11,6 @@ ghost use Rattle.tv_menu.specs.Line.{IsLineOf};
 ghost use Rattle.tv_model.specs.Description.Rectangles.{desktop};
 ghost use Rattle.tv_machine.specs.Screen.Bodies.{background_layer, canvas_at, whole_screen};
 ghost use Rattle.tv_session.specs.Running.{IsRun};
-ghost use Rattle.tv_view.specs.Drawing.{Lays};
 
 use crate::run::RunOf;
 use tv_cells::{Canvas, Face, Point, Rect, Screen, lay_ground};

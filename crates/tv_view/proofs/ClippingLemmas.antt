@@ -1,7 +1,7 @@
 -- What is drawn through an empty clip changes nothing.
 use Rattle.std.proofs.Common.{◌≡◌, ℕ, pos, Bool, true, false, List, [], ◌∷◌, map, refl, sym}
 use Rattle.tv_cells.specs.Canvas.{sub}
-use Rattle.tv_cells.specs.Layers.{Layer, Painted, is_in}
+use Rattle.tv_cells.specs.Layers.{Layer, Painted, is_in, Lays, ShowsSame}
 use Rattle.tv_cells.specs.Picture.{Picture}
 use Rattle.tv_cells.specs.Rectangle.{IsEmpty, cut}
 use Rattle.tv_cells.specs.declared.canvas.Canvas.{Canvas}
@@ -13,9 +13,9 @@ use Rattle.tv_model.specs.Description.Nodes.{height_of}
 use Rattle.tv_model.specs.Screen.Faces.{FaceOf}
 use Rattle.tv_view.specs.Meaning.{Leaf, bounds_of}
 use Rattle.tv_view.specs.declared.env.Env.{Env}
-use Rattle.tv_view.specs.Drawing.{Lays, faces_of, leaf_layers}
+use Rattle.tv_view.specs.Drawing.{faces_of, leaf_layers}
 use Rattle.tv_view.proofs.LayingLemmas.{lays_none}
-use Rattle.tv_view.proofs.SameLayerLemmas.{IsSame, lays_same, same_append, same_refl}
+use Rattle.tv_view.proofs.SameLayerLemmas.{lays_same, same_append, same_refl}
 
 -- what is cut from nothing is nothing
 pub cut-empty : (r s : Rect) → IsEmpty r → IsEmpty (cut r s)
@@ -28,25 +28,25 @@ out-at r column row true e empty = absurd (empty (pos column) (pos row) (is_in_t
 out : (r : Rect) (column row : ℕ) → IsEmpty r → is_in r (pos column) (pos row) ≡ false
 out r column row empty = out-at r column row (is_in r (pos column) (pos row)) refl empty
 
-pub lays-nothing : (xs : List Layer) (p : Picture) → IsSame xs [] → Lays xs p p
+pub lays-nothing : (xs : List Layer) (p : Picture) → ShowsSame xs [] → Lays xs p p
 lays-nothing xs p same = lays_same [] xs p p (record { each = λ column row under. sym (same.each column row under) }) (lays_none p)
 
-painted-out : (c : Canvas) (width height : ℕ) (face : FaceOf) → IsEmpty c.clip → IsSame (Painted c width height face ∷ []) []
+painted-out : (c : Canvas) (width height : ℕ) (face : FaceOf) → IsEmpty c.clip → ShowsSame (Painted c width height face ∷ []) []
 painted-out c width height face empty = record { each = λ column row under. rw (out c.clip column row empty) refl }
 
-faces-out : (c : Canvas) (width height : ℕ) (faces : List FaceOf) → IsEmpty c.clip → IsSame (map (Painted c width height) faces) []
+faces-out : (c : Canvas) (width height : ℕ) (faces : List FaceOf) → IsEmpty c.clip → ShowsSame (map (Painted c width height) faces) []
 faces-out c width height [] empty = same_refl []
 faces-out c width height (face ∷ faces) empty =
     same_append (Painted c width height face ∷ []) [] (map (Painted c width height) faces) [] (painted-out c width height face empty) (faces-out c width height faces empty)
 
 module _ (env : Env) where
-  leaf-at : (c : Canvas) (leaf : Leaf) (b : Bool) → leaf.is_shown ≡ b → IsEmpty (sub c (bounds_of leaf)).clip → IsSame (leaf_layers env c leaf) []
+  leaf-at : (c : Canvas) (leaf : Leaf) (b : Bool) → leaf.is_shown ≡ b → IsEmpty (sub c (bounds_of leaf)).clip → ShowsSame (leaf_layers env c leaf) []
   unfolding leaf_layers
   leaf-at c leaf true shown empty =
       rw shown (faces-out (sub c (bounds_of leaf)) (natural leaf.node.w) (natural (height_of leaf.node.kind)) (faces_of env leaf) empty)
   leaf-at c leaf false hidden empty = rw hidden (same_refl [])
 
-  pub leaf-out : (c : Canvas) (leaf : Leaf) → IsEmpty (sub c (bounds_of leaf)).clip → IsSame (leaf_layers env c leaf) []
+  pub leaf-out : (c : Canvas) (leaf : Leaf) → IsEmpty (sub c (bounds_of leaf)).clip → ShowsSame (leaf_layers env c leaf) []
   leaf-out c leaf empty = leaf-at c leaf leaf.is_shown refl empty
 
   -- a hidden leaf

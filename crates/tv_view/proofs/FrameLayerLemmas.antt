@@ -3,7 +3,7 @@ use Rattle.std.proofs.Common.{◌≡◌, ℕ, ℤ, pos, ◌+ℤ◌, ◌-ℤ◌, 
 use Rattle.std.proofs.lemmas.Int.{ints}
 use Rattle.tv_cells.specs.Canvas.{aside, sub}
 use Rattle.tv_cells.specs.Glyph.{Glyph}
-use Rattle.tv_cells.specs.Layers.{Painted, Shadow}
+use Rattle.tv_cells.specs.Layers.{Painted, Shadow, ShowsSame}
 use Rattle.tv_cells.specs.Rectangle.{IsIn, shifted, sized}
 use Rattle.tv_cells.specs.declared.rect.Rect.{Rect}
 use Rattle.tv_cells.specs.declared.canvas.Canvas.{Canvas}
@@ -12,7 +12,7 @@ use Rattle.tv_model.specs.Description.Numbers.{natural}
 use Rattle.tv_model.specs.Description.Rectangles.{desktop, rect}
 use Rattle.tv_machine.specs.Screen.Bodies.{canvas_at}
 use Rattle.tv_model.specs.declared.desc.Desc.{Desc}
-use Rattle.tv_view.proofs.SameLayerLemmas.{IsSame, covers_sub, painted_same, resized, shadow_same, sub_covers, unsized}
+use Rattle.tv_view.proofs.SameLayerLemmas.{covers_sub, painted_same, resized, shadow_same, sub_covers, unsized}
 
 module _ (d : Desc) (x y w h : ℤ) where
   -- the desktop, seen from the corner of the screen
@@ -30,7 +30,7 @@ module _ (d : Desc) (x y w h : ℤ) where
   inner = sub desktop_canvas bounds
 
   pub frame_same : (face other : ℕ → ℕ → Glyph) → face ≡ other
-      → IsSame (Painted inner (natural w) (natural h) face ∷ []) (Painted corner (natural w) (natural h) other ∷ [])
+      → ShowsSame (Painted inner (natural w) (natural h) face ∷ []) (Painted corner (natural w) (natural h) other ∷ [])
   frame_same face other same =
       painted_same inner corner (natural w) (natural h) face other
       (point_is (x +ℤ pos 0) (y +ℤ pos 0) x y (omega (arith, ints)) (omega (arith, ints))) same
@@ -48,7 +48,7 @@ module _ (d : Desc) (x y w h : ℤ) where
             unsized x y w h desktop_canvas.origin corner.origin (omega (arith, ints)) (omega (arith, ints)) (pos column) (pos row) i.rect;
       }))
 
-  pub shadows_same : IsSame (Shadow desktop_canvas bounds ∷ []) (Shadow corner (sized (natural w) (natural h)) ∷ [])
+  pub shadows_same : ShowsSame (Shadow desktop_canvas bounds ∷ []) (Shadow corner (sized (natural w) (natural h)) ∷ [])
   shadows_same =
       shadow_same desktop_canvas corner bounds (sized (natural w) (natural h))
       (λ column row i. record {

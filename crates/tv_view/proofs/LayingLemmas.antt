@@ -2,12 +2,12 @@
 use Rattle.std.proofs.Common.{◌≡◌, Bool, true, false, List, [], ◌∷◌, ◌++◌, map, refl, sym, ap, ◌∙◌, append_assoc}
 use Rattle.tv_cells.specs.Picture.{Picture}
 use Rattle.tv_cells.specs.Canvas.{sub}
-use Rattle.tv_cells.specs.Layers.{Layer}
+use Rattle.tv_cells.specs.Layers.{Layer, Lays}
 use Rattle.tv_cells.specs.declared.rect.Rect.{Rect}
 use Rattle.tv_cells.specs.declared.canvas.Canvas.{Canvas}
 use Rattle.tv_view.specs.Meaning.{Placed, inside, kept, uncurrent}
 use Rattle.tv_view.specs.declared.env.Env.{Env}
-use Rattle.tv_view.specs.Drawing.{Lays, is_near, layers_in, leaves_layers}
+use Rattle.tv_view.specs.Drawing.{is_near, layers_in, leaves_layers}
 
 -- nothing is laid
 pub lays_none : (p : Picture) → Lays [] p p

@@ -4,7 +4,7 @@ use Rattle.std.specs.Prelude.{if◌then◌else◌}
 use Rattle.std.proofs.lemmas.Int.{ints}
 use Rattle.tv_cells.specs.Glyph.{Glyph, shaded}
 use Rattle.tv_cells.specs.Canvas.{Covers, aside, face_at, sub}
-use Rattle.tv_cells.specs.Layers.{Layer, Painted, Shadow, cell_of, covers, is_in, over}
+use Rattle.tv_cells.specs.Layers.{Lays, Layer, Painted, Shadow, ShowsSame, cell_of, cell_over, covers, is_in}
 use Rattle.tv_cells.specs.Picture.{Picture}
 use Rattle.tv_cells.specs.Rectangle.{IsIn, shifted, sized}
 use Rattle.tv_cells.specs.declared.rect.Point.{Point}
@@ -12,45 +12,30 @@ use Rattle.tv_cells.specs.declared.rect.Rect.{Rect}
 use Rattle.tv_cells.specs.declared.canvas.Canvas.{Canvas}
 use Rattle.tv_cells.proofs.LayerLemmas.{is_in_true, is_in_false, covers_true, covers_false}
 use Rattle.tv_cells.proofs.RectangleLemmas.{in_cut}
+use Rattle.tv_cells.proofs.RepaintingLemmas.{cell-append, over-append}
 use Rattle.tv_model.specs.Description.Rectangles.{rect}
 use Rattle.tv_model.specs.Description.Numbers.{natural}
 use Rattle.tv_model.specs.Screen.Faces.{FaceOf}
-use Rattle.tv_view.specs.Drawing.{Lays}
 
 -- ---- lists of layers
 
-abbrev pub over_all : List Layer → ℕ → ℕ → Glyph → Glyph
-over_all [] column row under = under
-over_all (layer ∷ layers) column row under = over layer column row (over_all layers column row under)
-
-pub record IsSame (xs ys : List Layer) : Type 0 where
-  pub each : (column row : ℕ) (under : Glyph) → over_all xs column row under ≡ over_all ys column row under
-
-over_append : (xs ys : List Layer) (column row : ℕ) (under : Glyph) → over_all (xs ++ ys) column row under ≡ over_all xs column row (over_all ys column row under)
-over_append [] ys column row under = refl
-over_append (x ∷ xs) ys column row under = ap (over x column row) (over_append xs ys column row under)
-
-cell_append : (xs ys : List Layer) (column row : ℕ) → cell_of (xs ++ ys) column row ≡ over_all xs column row (cell_of ys column row)
-cell_append [] ys column row = refl
-cell_append (x ∷ xs) ys column row = ap (over x column row) (cell_append xs ys column row)
-
-pub same_refl : (xs : List Layer) → IsSame xs xs
+pub same_refl : (xs : List Layer) → ShowsSame xs xs
 same_refl xs = record { each = λ column row under. refl }
 
-pub same_append : (xs xs' ys ys' : List Layer) → IsSame xs xs' → IsSame ys ys' → IsSame (xs ++ ys) (xs' ++ ys')
+pub same_append : (xs xs' ys ys' : List Layer) → ShowsSame xs xs' → ShowsSame ys ys' → ShowsSame (xs ++ ys) (xs' ++ ys')
 same_append xs xs' ys ys' p q = record {
   each = λ column row under.
-      over_append xs ys column row under ∙ (ap (over_all xs column row) (q.each column row under)
-      ∙ (p.each column row (over_all ys' column row under) ∙ sym (over_append xs' ys' column row under)));
+      over-append xs ys column row under ∙ (ap (cell_over xs column row) (q.each column row under)
+      ∙ (p.each column row (cell_over ys' column row under) ∙ sym (over-append xs' ys' column row under)));
 }
 
-pub lays_same : (xs ys : List Layer) (old new : Picture) → IsSame xs ys → Lays xs old new → Lays ys old new
+pub lays_same : (xs ys : List Layer) (old new : Picture) → ShowsSame xs ys → Lays xs old new → Lays ys old new
 lays_same xs ys old new same lays = record {
   size = lays.size;
   shows = λ below shown. record {
     each = λ column row on.
         (lays.shows below shown).each column row on
-        ∙ (cell_append xs below column row ∙ (same.each column row (cell_of below column row) ∙ sym (cell_append ys below column row)));
+        ∙ (cell-append xs below column row ∙ (same.each column row (cell_of below column row) ∙ sym (cell-append ys below column row)));
   };
 }
 
@@ -72,7 +57,7 @@ covers_same c d r s column row to back =
 pub painted_same : (c d : Canvas) (width height : ℕ) (face other : ℕ → ℕ → Glyph) → c.origin ≡ d.origin → face ≡ other
     → ((column row : ℕ) → Covers c (sized width height) column row → Covers d (sized width height) column row)
     → ((column row : ℕ) → Covers d (sized width height) column row → Covers c (sized width height) column row)
-    → IsSame (Painted c width height face ∷ []) (Painted d width height other ∷ [])
+    → ShowsSame (Painted c width height face ∷ []) (Painted d width height other ∷ [])
 painted_same c d width height face other origin same to back = record {
   each = λ column row under.
       ap (λ b. if b then face_at c face column row else under) (covers_same c d (sized width height) (sized width height) column row (to column row) (back column row))
@@ -85,7 +70,7 @@ pub shadow_same : (c d : Canvas) (r s : Rect)
     → ((column row : ℕ) → Covers d (shifted s aside) column row → Covers c (shifted r aside) column row)
     → ((column row : ℕ) → IsIn (shifted r c.origin) (pos column) (pos row) → IsIn (shifted s d.origin) (pos column) (pos row))
     → ((column row : ℕ) → IsIn (shifted s d.origin) (pos column) (pos row) → IsIn (shifted r c.origin) (pos column) (pos row))
-    → IsSame (Shadow c r ∷ []) (Shadow d s ∷ [])
+    → ShowsSame (Shadow c r ∷ []) (Shadow d s ∷ [])
 shadow_same c d r s to back lies lay = record {
   each = λ column row under.
       ap (λ b. if b && not (is_in (shifted r c.origin) (pos column) (pos row)) then shaded under else under) (covers_same c d (shifted r aside) (shifted s aside) column row (to column row) (back column row))
@@ -138,7 +123,7 @@ module _ (c : Canvas) (x y w h : ℤ) (column row : ℕ) where
 pub faces_same : (c d : Canvas) (width height : ℕ) (faces : List FaceOf) → c.origin ≡ d.origin
     → ((column row : ℕ) → Covers c (sized width height) column row → Covers d (sized width height) column row)
     → ((column row : ℕ) → Covers d (sized width height) column row → Covers c (sized width height) column row)
-    → IsSame (map (Painted c width height) faces) (map (Painted d width height) faces)
+    → ShowsSame (map (Painted c width height) faces) (map (Painted d width height) faces)
 faces_same c d width height [] origin to back = same_refl []
 faces_same c d width height (face ∷ faces) origin to back =
     same_append (Painted c width height face ∷ []) (Painted d width height face ∷ []) (map (Painted c width height) faces) (map (Painted d width height) faces)

@@ -1,9 +1,8 @@
 -- What views draw: layers on top of what a screen shows.
 use Rattle.std.specs.Prelude.{List, [], ◌∷◌, ◌++◌, map, Bool, ◌&&◌, pos, neg_ℤ, if◌then◌else◌}
 use Rattle.std.specs.Int.Signed.{le_z}
-use Rattle.tv_cells.specs.Picture.{Picture, IsAlike}
 use Rattle.tv_cells.specs.Canvas.{sub}
-use Rattle.tv_cells.specs.Layers.{Layer, Painted, Shows}
+use Rattle.tv_cells.specs.Layers.{Layer, Painted}
 use Rattle.tv_cells.specs.declared.rect.Point.{Point}
 use Rattle.tv_cells.specs.declared.rect.Rect.{Rect}
 use Rattle.tv_cells.specs.declared.canvas.Canvas.{Canvas}
@@ -15,11 +14,6 @@ use Rattle.tv_machine.specs.Screen.LeafFaces.{leaf_faces}
 use Rattle.tv_view.specs.declared.env.Env.{Env}
 use Rattle.tv_view.specs.Colours.{colour, lent_look}
 use Rattle.tv_view.specs.Fields.{content_of}
-
--- the new picture shows these layers over whatever the old one shows, and no more
-pub record Lays (layers : List Layer) (old new : Picture) : Type 0 where
-  pub size : IsAlike old new
-  pub shows : (below : List Layer) → Shows below old → Shows (layers ++ below) new
 
 -- the face of a leaf, by its kind
 abbrev pub faces_of : Env → Leaf → List FaceOf

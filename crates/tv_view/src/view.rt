@@ -1,11 +1,12 @@
 //! The contract of a view.
 
 ghost use Rattle.std.specs.Prelude.{◌≡◌, ◌↔◌, IsTrue};
+ghost use Rattle.tv_cells.specs.Layers.{Lays};
 ghost use Rattle.tv_cells.specs.Rectangle.{IsPointNear};
 ghost use Rattle.tv_view.specs.Meaning.{Leaf, bounds_of, fresh, holds_mouse};
 ghost use Rattle.tv_model.specs.Description.Rectangles.{IsSmallRect};
 ghost use Rattle.tv_view.specs.Calls.{Fits, HasRoom, applied, focused_to, gathered, invalid_id, item_pressed, option_bits, set_from, state_bits, takes_focus};
-ghost use Rattle.tv_view.specs.Drawing.{Lays, leaf_layers};
+ghost use Rattle.tv_view.specs.Drawing.{leaf_layers};
 ghost use Rattle.tv_view.specs.Effects.{StaysWherePassed, handled};
 ghost use Rattle.tv_view.specs.Reactions.{answer};
 

@@ -6,7 +6,7 @@ use Rattle.std.proofs.lemmas.List.{reverse-append}
 use Rattle.std.proofs.lemmas.List.Elements.{All-head, All-tail}
 use Rattle.tv_cells.specs.Canvas.{Covers, sub}
 use Rattle.tv_cells.specs.Glyph.{Glyph}
-use Rattle.tv_cells.specs.Layers.{Layer, Painted}
+use Rattle.tv_cells.specs.Layers.{Layer, Painted, ShowsSame}
 use Rattle.tv_cells.specs.Rectangle.{IsIn, cut, shifted, sized}
 use Rattle.tv_cells.specs.declared.canvas.Canvas.{Canvas}
 use Rattle.tv_cells.proofs.RectangleLemmas.{in_cut, point_is}
@@ -34,7 +34,7 @@ use Rattle.tv_view.specs.Drawing.{leaf_layers}
 use Rattle.tv_group.proofs.FreshLeafLemmas.{fresh_layers}
 use Rattle.tv_window.specs.DeclaredWindows.{IsOfWindow, IsTextInside, window_canvas}
 use Rattle.tv_view.proofs.FrameLayerLemmas.{bounds, inner}
-use Rattle.tv_view.proofs.SameLayerLemmas.{IsSame, covers_sub, painted_same, resized, same_append, same_refl, sub_covers, unsized}
+use Rattle.tv_view.proofs.SameLayerLemmas.{covers_sub, painted_same, resized, same_append, same_refl, sub_covers, unsized}
 
 module _ (d : Desc) (x y w h : ℤ) where
   -- the canvas of the body, which fills the window
@@ -71,7 +71,7 @@ module _ (d : Desc) (x y w h : ℤ) where
           rect = at;
         })
 
-    pub text_same : (face other : ℕ → ℕ → Glyph) → face ≡ other → IsSame (Painted (sub body (rect nx ny nw nh)) (natural nw) (natural nh) face ∷ []) (Painted leaf (natural nw) (natural nh) other ∷ [])
+    pub text_same : (face other : ℕ → ℕ → Glyph) → face ≡ other → ShowsSame (Painted (sub body (rect nx ny nw nh)) (natural nw) (natural nh) face ∷ []) (Painted leaf (natural nw) (natural nh) other ∷ [])
     text_same face other same =
         painted_same (sub body (rect nx ny nw nh)) leaf (natural nw) (natural nh) face other
         (point_is (nx +ℤ (pos 0 +ℤ (x +ℤ pos 0))) (ny +ℤ (pos 0 +ℤ (y +ℤ pos 0))) (x +ℤ nx) (y +ℤ ny) (omega (arith, ints)) (omega (arith, ints))) same text_to text_back
@@ -119,7 +119,7 @@ module _ (env : Env) (lent : IsOfWindow env) (d : Desc) (window : Window) (h : �
   place_is : (n : Node) (height : ℤ) (text : List ℕ) → n.kind ≡ kinds.Text (record { h = height; text = text }) → place_of_node n ≡ rect n.x n.y n.w height
   place_is n height text kind = rw kind refl
 
-  view_same : (n : Node) → IsTextInside window.node n → IsSame (leaf_layers env body_of_window (fresh n)) (window_leaf d (corner_of window.node) (bare n))
+  view_same : (n : Node) → IsTextInside window.node n → ShowsSame (leaf_layers env body_of_window (fresh n)) (window_leaf d (corner_of window.node) (bare n))
   view_same n is =
       let within : (p q : ℤ) → IsIn (rect n.x n.y n.w is.height) p q → IsIn (rect (pos 1) (pos 1) (window.node.w -ℤ pos 2) (h -ℤ pos 2)) p q = λ p q i. subst (λ r. IsIn r p q) tall (is.inside p q (subst (λ r. IsIn r p q) (sym (place_is n is.height is.text is.kind)) i)) in
       rw (view_drawn n is.height is.text is.kind, view_declared n is.height is.text is.kind)
@@ -134,13 +134,13 @@ module _ (env : Env) (lent : IsOfWindow env) (d : Desc) (window : Window) (h : �
       append_nil [] = refl
       append_nil (x ∷ xs) = ap (λ t. x ∷ t) (append_nil xs)
 
-  bare_same : (ns : List Node) → All (IsTextInside window.node) ns → IsSame (fresh_layers env body_of_window ns) (shown_views ns)
+  bare_same : (ns : List Node) → All (IsTextInside window.node) ns → ShowsSame (fresh_layers env body_of_window ns) (shown_views ns)
   bare_same [] texts = same_refl []
   bare_same (n ∷ ns) texts =
       rw (views_step n ns)
       (same_append (fresh_layers env body_of_window ns) (shown_views ns) (leaf_layers env body_of_window (fresh n)) (window_leaf d (corner_of window.node) (bare n))
       (bare_same ns (All-tail (IsTextInside window.node) n ns texts)) (view_same n (All-head (IsTextInside window.node) n ns texts)))
 
-  pub views_same : (ns : List Node) → All (IsTextInside window.node) ns → IsSame (fresh_layers env body_of_window ns) (flat_map (window_leaf d (corner_of window.node)) (reverse (leaf_list ns)))
+  pub views_same : (ns : List Node) → All (IsTextInside window.node) ns → ShowsSame (fresh_layers env body_of_window ns) (flat_map (window_leaf d (corner_of window.node)) (reverse (leaf_list ns)))
   views_same ns texts =
-      subst (λ leaves. IsSame (fresh_layers env body_of_window ns) (flat_map (window_leaf d (corner_of window.node)) (reverse leaves))) (sym (bare_list window.node ns texts)) (bare_same ns texts)
+      subst (λ leaves. ShowsSame (fresh_layers env body_of_window ns) (flat_map (window_leaf d (corner_of window.node)) (reverse leaves))) (sym (bare_list window.node ns texts)) (bare_same ns texts)

@@ -5,7 +5,7 @@ use Rattle.std.proofs.lemmas.List.Elements.{All-head, All-tail, All-cons, All-ni
 use Rattle.std.proofs.lemmas.Bool.{false≢true}
 use Rattle.std.specs.Int.Signed.{le_z}
 use Rattle.tv_cells.specs.Canvas.{sub}
-use Rattle.tv_cells.specs.Layers.{Layer, Painted, Shadow, Shows}
+use Rattle.tv_cells.specs.Layers.{Layer, Painted, Shadow, Shows, Lays, ShowsSame}
 use Rattle.tv_cells.specs.Picture.{Picture, IsAlike}
 use Rattle.tv_cells.specs.Rectangle.{sized}
 use Rattle.tv_cells.specs.declared.rect.Point.{Point}
@@ -31,7 +31,7 @@ use Rattle.tv_palette.specs.Attributes.{attribute_of}
 use Rattle.tv_palette.specs.Palettes.{colour_in}
 use Rattle.tv_palette.specs.declared.role.Owner.TheVariants as owners
 use Rattle.tv_view.specs.declared.env.Env.{Env}
-use Rattle.tv_view.specs.Drawing.{Lays, is_near, leaves_layers}
+use Rattle.tv_view.specs.Drawing.{is_near, leaves_layers}
 use Rattle.tv_view.proofs.LayingLemmas.{lays_none, lays_then}
 use Rattle.tv_group.specs.Opened.{opened}
 use Rattle.tv_group.specs.Outline.{IsFreshBody}
@@ -42,7 +42,7 @@ use Rattle.tv_window.specs.Window.{body_of, window_frame_layer, head_of, drawn_w
 use Rattle.tv_window.specs.declared.window.WindowOf.{WindowOf}
 use Rattle.tv_window.proofs.DeclaredWindowLemmas.{body, look_same, views_same}
 use Rattle.tv_view.proofs.FrameLayerLemmas.{corner, frame_same, inner, shadows_same}
-use Rattle.tv_view.proofs.SameLayerLemmas.{IsSame, lays_same, same_append}
+use Rattle.tv_view.proofs.SameLayerLemmas.{lays_same, same_append}
 
 -- ---- what a head says of its node
 
@@ -140,7 +140,7 @@ module _ {V : Type 0} (look : V → Leaf) (env : Env) (lent : IsOfWindow env) (d
         ≡ views ++ (Painted (corner d x y w own.h) (natural w) (natural own.h) (face_in (frame_look attribute_of owners.Window (natural own.number) a)) ∷ Shadow (corner d x y w own.h) (sized (natural w) (natural own.h)) ∷ [])
     shown a = refl
 
-    pub window_same : IsSame (drawn_window look env (window_canvas d) window ++ shadow_of window ∷ []) (declared_window d env.is_active (corner_of declared.node) declared)
+    pub window_same : ShowsSame (drawn_window look env (window_canvas d) window ++ shadow_of window ∷ []) (declared_window d env.is_active (corner_of declared.node) declared)
     window_same =
         let seen = frame_look (colour_in env.chain.now) owners.Window (natural own.number) env.is_active in
         let told = frame_look attribute_of owners.Window (natural own.number) env.is_active in

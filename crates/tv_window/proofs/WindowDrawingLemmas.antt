@@ -2,14 +2,13 @@
 use Rattle.std.proofs.Common.{◌≡◌, ◌∙◌, ℕ, ℤ, ap, ◌+ℤ◌, List, [], ◌∷◌, ◌++◌, arith, subst, sym, append_assoc}
 use Rattle.std.proofs.lemmas.Int.{ints}
 use Rattle.tv_cells.specs.Canvas.{sub}
-use Rattle.tv_cells.specs.Layers.{Layer, Painted, Shows}
+use Rattle.tv_cells.specs.Layers.{Layer, Painted, Shows, Lays}
 use Rattle.tv_cells.specs.Picture.{Picture, IsAlike}
 use Rattle.tv_cells.specs.Rectangle.{IsNear, IsPointNear}
 use Rattle.tv_cells.specs.declared.rect.Rect.{Rect}
 use Rattle.tv_cells.specs.declared.canvas.Canvas.{Canvas}
 use Rattle.tv_model.specs.Screen.Faces.{FrameLook, frame_face}
 use Rattle.tv_model.specs.Description.Rectangles.{IsSmall, IsSmallRect}
-use Rattle.tv_view.specs.Drawing.{Lays}
 
 -- one layer, and then layers on top of it
 pub lays_onto : (upper : List Layer) (layer : Layer) (old mid new : Picture) → IsAlike old mid → ((layers : List Layer) → Shows layers old → Shows (layer ∷ layers) mid) → Lays upper mid new → Lays (upper ++ layer ∷ []) old new

@@ -8,7 +8,7 @@ ghost use Rattle.tv_machine.specs.Session.Start.{closed};
 ghost use Rattle.tv_machine.specs.State.{OpenWindow, State};
 ghost use Rattle.tv_model.specs.Description.Rectangles.{IsSmall};
 ghost use Rattle.tv_model.specs.declared.desc.Desc.{Desc};
-ghost use Rattle.tv_view.specs.Drawing.{Lays};
+ghost use Rattle.tv_cells.specs.Layers.{Lays};
 ghost use Rattle.tv_window.specs.DeclaredWindows.{IsOfWindow, window_canvas};
 ghost use Rattle.tv_window.specs.Desk.{AreFreshWindows, AreLawfulWindows, IsDesk, down_on_desk, with_close_line};
 

@@ -5,7 +5,7 @@ ghost use Rattle.tv_machine.specs.Screen.Layers.{stack_layers as declared_layers
 ghost use Rattle.tv_model.specs.Description.Rectangles.{IsSmall};
 ghost use Rattle.tv_machine.specs.State.{OpenWindow};
 ghost use Rattle.tv_model.specs.declared.desc.Desc.{Desc};
-ghost use Rattle.tv_view.specs.Drawing.{Lays};
+ghost use Rattle.tv_cells.specs.Layers.{Lays};
 ghost use Rattle.tv_window.specs.DeclaredWindows.{AreDeclared, IsOfWindow, window_canvas};
 ghost use Rattle.tv_window.specs.Window.{drawn_stack};
 

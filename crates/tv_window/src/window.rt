@@ -3,7 +3,7 @@
 ghost use Rattle.std.specs.Prelude.{◌≡◌, ◌↔◌, IfOk, IfErr, IfSome, IsErr, IsTrue, Some, None};
 ghost use Rattle.tv_cells.specs.Rectangle.{IsRectNear};
 ghost use Rattle.tv_model.specs.Description.Rectangles.{IsSmall, IsSmallRect};
-ghost use Rattle.tv_view.specs.Drawing.{Lays};
+ghost use Rattle.tv_cells.specs.Layers.{Lays};
 ghost use Rattle.tv_window.specs.Head.{IsLimitedWindowHead, declared_window_head, window_bounds};
 ghost use Rattle.tv_window.specs.Window.{IsFreshWindow, body_of, head_of, drawn_window};
 

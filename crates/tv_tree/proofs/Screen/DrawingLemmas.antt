@@ -6,7 +6,7 @@ use Rattle.std.proofs.lemmas.Int.{ints}
 use Rattle.std.proofs.lemmas.List.{append-nil}
 use Rattle.std.proofs.lemmas.List.Elements.{All-nil, All-cons, All-filter, All-head, All-tail}
 use Rattle.tv_cells.specs.Canvas.{Covers, sub}
-use Rattle.tv_cells.specs.Layers.{Layer, Painted}
+use Rattle.tv_cells.specs.Layers.{Layer, Painted, Lays, ShowsSame}
 use Rattle.tv_cells.specs.Picture.{Picture}
 use Rattle.tv_cells.specs.Rectangle.{IsIn, shifted, sized}
 use Rattle.tv_cells.specs.declared.canvas.Canvas.{Canvas}
@@ -32,8 +32,8 @@ use Rattle.tv_machine.specs.Screen.Layers.{dialog_leaf}
 use Rattle.tv_machine.specs.Screen.Layers as screen
 use Rattle.tv_view.specs.declared.env.Env.{Env}
 use Rattle.tv_view.specs.Colours.{colour, lent_look}
-use Rattle.tv_view.specs.Drawing.{Lays, faces_of, layers_in, leaf_layers, leaves_layers}
-use Rattle.tv_view.proofs.SameLayerLemmas.{IsSame, covers_sub, faces_same, lays_same, resized, same_append, same_refl, sub_covers, unsized}
+use Rattle.tv_view.specs.Drawing.{faces_of, layers_in, leaf_layers, leaves_layers}
+use Rattle.tv_view.proofs.SameLayerLemmas.{covers_sub, faces_same, lays_same, resized, same_append, same_refl, sub_covers, unsized}
 use Rattle.tv_group.specs.Outline.{body_bounds}
 use Rattle.tv_group.proofs.ListLemmas.{reverse-step}
 use Rattle.tv_machine.specs.Dialog.Lawful.{IsLawfulDialog, LiesInside}
@@ -111,7 +111,7 @@ module _ (desc : Desc) (o : OpenDialog) (d : Dialog) where
 
   -- they show the same through both
   leaf_same : (leaf : PlacedNode) → LiesInside d.node leaf → (faces : List FaceOf)
-      → IsSame (painted leaf faces) (screen.layers_of_leaf desc o.origin leaf faces)
+      → ShowsSame (painted leaf faces) (screen.layers_of_leaf desc o.origin leaf faces)
   leaf_same leaf lies faces =
       faces_same (own leaf) (declared leaf) (natural leaf.node.w) (natural (height_of leaf.node.kind)) faces
       (point_is (own leaf).origin.x (own leaf).origin.y (declared leaf).origin.x (declared leaf).origin.y (sym (seen_x leaf))
@@ -155,7 +155,7 @@ module _ (desc : Desc) (d : Dialog) (rising : AreRising d.views) (o : OpenDialog
     y = record { low = omega (arith, ints, at.1.low); high = omega (arith, ints, at.1.high) };
   }
 
-  shown-or-not : (b : Bool) (xs ys : List Layer) → IsSame xs ys → IsSame (if b then xs else []) (if b then ys else [])
+  shown-or-not : (b : Bool) (xs ys : List Layer) → ShowsSame xs ys → ShowsSame (if b then xs else []) (if b then ys else [])
   shown-or-not true xs ys same = same
   shown-or-not false xs ys same = same_refl []
 
@@ -170,7 +170,7 @@ module _ (desc : Desc) (d : Dialog) (rising : AreRising d.views) (o : OpenDialog
 
   -- a leaf of the tree shows what the machine's does
   leaf-shown : (leaf : PlacedNode) → IsSoundLeaf d leaf
-      → IsSame (tree_layers leaf) (if is_visible d o.leaves leaf then dialog_leaf desc d o overwriting leaf else [])
+      → ShowsSame (tree_layers leaf) (if is_visible d o.leaves leaf then dialog_leaf desc d o overwriting leaf else [])
   leaf-shown leaf sound =
       rw (own-layers leaf sound)
       (shown-or-not (is_visible d o.leaves leaf) (painted desc o d leaf (told_faces leaf)) (dialog_leaf desc d o overwriting leaf)
@@ -195,7 +195,7 @@ module _ (desc : Desc) (d : Dialog) (rising : AreRising d.views) (o : OpenDialog
       step false = sym (append-nil (flat_map (dialog_leaf desc d o overwriting) (reverse shown)))
 
   leaves-shown : (leaves : List PlacedNode) → All (IsSoundLeaf d) leaves
-      → IsSame (leaves_layers env (dialog_canvas desc o d) (map (placed_as d m.leaves m) leaves)) (told leaves)
+      → ShowsSame (leaves_layers env (dialog_canvas desc o d) (map (placed_as d m.leaves m) leaves)) (told leaves)
   leaves-shown [] sound = same_refl []
   leaves-shown (leaf ∷ leaves) sound =
       rw (told-step leaf leaves)
@@ -273,7 +273,7 @@ module _ (desc : Desc) (d : Dialog) (lawful : IsLawfulDialog d) (one : HasOneDef
     (work : IsAtWork o overwriting m) (env : Env) (lent : IsLentBy d m env) (of : IsOfDialog env)
     (at : IsSmall o.origin.x × IsSmall o.origin.y) where
   -- what the views of the open dialog show is what the machine's layers of its leaves show
-  pub views-same : IsSame (leaves_layers env (dialog_canvas desc o d) (tree_of d m))
+  pub views-same : ShowsSame (leaves_layers env (dialog_canvas desc o d) (tree_of d m))
       (flat_map (dialog_leaf desc d o overwriting) (reverse (filter (is_visible d o.leaves) (leaf_list d.views))))
   views-same = leaves-shown desc d (views_rising d lawful) o overwriting m work env lent of at (leaf_list d.views)
       (sound_leaves d lawful one)

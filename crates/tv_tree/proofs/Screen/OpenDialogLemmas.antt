@@ -2,7 +2,7 @@
 use Rattle.std.proofs.Common.{◌≡◌, IsTrue, Bool, true, List, [], ◌∷◌, ◌++◌, filter, flat_map, Some, slice_get, slice_index_or, reverse, refl, sym, ap, ◌∙◌, append_assoc, subst}
 use Rattle.std.proofs.lemmas.Bool.{false≢true}
 use Rattle.std.proofs.lemmas.Option.{unwrap_or-slice_get}
-use Rattle.tv_cells.specs.Layers.{Layer, Painted, Shadow}
+use Rattle.tv_cells.specs.Layers.{Layer, Painted, Shadow, Lays, ShowsSame}
 use Rattle.tv_cells.specs.Picture.{Picture}
 use Rattle.tv_cells.specs.Rectangle.{sized}
 use Rattle.tv_model.specs.declared.desc.Desc.{Desc}
@@ -29,10 +29,10 @@ use Rattle.tv_machine.specs.Dialog.Rules.{is_visible}
 use Rattle.tv_machine.specs.Screen.Layers.{dialog_layers, dialog_leaf, open_layers}
 use Rattle.tv_machine.specs.Session.Commands.{modal_of}
 use Rattle.tv_view.specs.declared.env.Env.{Env}
-use Rattle.tv_view.specs.Drawing.{Lays, leaves_layers}
+use Rattle.tv_view.specs.Drawing.{leaves_layers}
 use Rattle.tv_view.proofs.FrameLayerLemmas.{corner, frame_same, shadows_same}
 use Rattle.tv_view.proofs.LayingLemmas.{lays_as, lays_then}
-use Rattle.tv_view.proofs.SameLayerLemmas.{IsSame, lays_same, same_append}
+use Rattle.tv_view.proofs.SameLayerLemmas.{lays_same, same_append}
 use Rattle.tv_machine.specs.Dialog.Lawful.{IsLawfulDialog}
 use Rattle.tv_tree.specs.Tree.{tree_of}
 use Rattle.tv_tree.specs.Turns.{IsLentBy}
@@ -96,19 +96,19 @@ module _ (desc : Desc) (d : Dialog) (lawful : IsLawfulDialog d) (one : HasOneDef
       ∷ Shadow (corner desc o.origin.x o.origin.y d.node.w h) (sized (natural d.node.w) (natural h)) ∷ []) (dialog-tall d)
 
   -- the open dialog with its shadow shows what the machine's layers show
-  pub dialog-same : IsSame (tree_layers desc env o d m ++ shadow_layer desc o d ∷ []) (dialog_layers desc o overwriting d)
+  pub dialog-same : ShowsSame (tree_layers desc env o d m ++ shadow_layer desc o d ∷ []) (dialog_layers desc o overwriting d)
   dialog-same =
       let h = height_of d.node.kind in
       let face = frame_face (natural d.node.w) (natural h) (dialog_head d).title in
       let seen = frame_look (colour_in env.chain.now) owners.Dialog 0 env.is_active in
       let looks : seen ≡ told_look =
       frame-coloured env of env.is_active ∙ ap (frame_look attribute_of owners.Dialog 0) active in
-      let framed : IsSame (frame_layer desc env o d ∷ []) (frame_at told_look ∷ []) =
+      let framed : ShowsSame (frame_layer desc env o d ∷ []) (frame_at told_look ∷ []) =
       frame_same desc o.origin.x o.origin.y d.node.w h (face seen) (face told_look) (ap face looks) in
-      let views : IsSame (tree_layers desc env o d m) (told ++ frame_at told_look ∷ []) =
+      let views : ShowsSame (tree_layers desc env o d m) (told ++ frame_at told_look ∷ []) =
       same_append (leaves_layers env (dialog_canvas desc o d) (tree_of d m)) told (frame_layer desc env o d ∷ []) (frame_at told_look ∷ [])
       (views-same desc d lawful one o overwriting m work env lent of at) framed in
-      subst (λ layers. IsSame (tree_layers desc env o d m ++ shadow_layer desc o d ∷ []) layers) machine-layers
+      subst (λ layers. ShowsSame (tree_layers desc env o d m ++ shadow_layer desc o d ∷ []) layers) machine-layers
       (same_append (tree_layers desc env o d m) (told ++ frame_at told_look ∷ []) (shadow_layer desc o d ∷ []) (shadow_at ∷ []) views
       (shadows_same desc o.origin.x o.origin.y d.node.w h))
 

@@ -1,4 +1,5 @@
-use Rattle.tv_view.specs.Drawing.{Lays, leaves_layers}
+use Rattle.tv_view.specs.Drawing.{leaves_layers}
+use Rattle.tv_cells.specs.Layers.{Lays}
 use Rattle.tv_group.proofs.OpenedLemmas.{opened_to}
 use Rattle.tv_group.proofs.group.+draw.Given as goal
 

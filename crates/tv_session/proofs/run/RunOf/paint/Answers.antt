@@ -1,7 +1,7 @@
 use Rattle.std.proofs.Common.{sym, subst, ◌++◌, ◌∷◌, [], is_none}
 use Rattle.tv_machine.specs.Screen.Layers.{bar_layer, box_layers, open_layers, stack_layers}
 use Rattle.tv_machine.specs.Screen.Bodies.{background_layer}
-use Rattle.tv_view.specs.Drawing.{Lays}
+use Rattle.tv_cells.specs.Layers.{Lays}
 use Rattle.tv_session.proofs.ScreenLemmas.{alike_then}
 use Rattle.tv_session.proofs.run.RunOf.paint.Goals as goal
 

@@ -1,9 +1,9 @@
 use Rattle.std.proofs.Common.{ap, subst, sym, ◌∙◌, ◌∷◌}
 use Rattle.tv_cells.specs.Canvas.{sub}
-use Rattle.tv_cells.specs.Layers.{Shows}
+use Rattle.tv_cells.specs.Layers.{Shows, Lays}
 use Rattle.tv_cells.specs.Rectangle.{IsPointNear}
 use Rattle.tv_group.specs.Opened.{opened}
-use Rattle.tv_view.specs.Drawing.{Lays, leaves_layers}
+use Rattle.tv_view.specs.Drawing.{leaves_layers}
 use Rattle.tv_window.proofs.WindowDrawingLemmas.{frame_is, lays_onto, near_corner}
 use Rattle.tv_window.proofs.window.WindowOf.draw.Goals as goal
 
