@@ -2,10 +2,13 @@
 
 ghost use Rattle.std.specs.Prelude.{◌≡◌, ◌↔◌, ◌==◌, ◌+ℤ◌, ◌≤ℤ◌, IfNone, IfOk, IfSome, IsTrue, None, Some, false, pos};
 ghost use Rattle.tv_cells.specs.Canvas.{sub};
+ghost use Rattle.tv_cells.specs.Damage.{Grows, HasAll};
+ghost use Rattle.tv_cells.specs.Layers.{Lays};
 ghost use Rattle.tv_cells.specs.Picture.{Picture};
 ghost use Rattle.tv_cells.specs.Rectangle.{IsPointNear};
 ghost use Rattle.tv_model.specs.Controls.Contents.{Content};
-ghost use Rattle.tv_view.specs.Drawing.{Lays, leaf_layers};
+ghost use Rattle.tv_view.specs.Damage.{EnvDamages};
+ghost use Rattle.tv_view.specs.Drawing.{leaf_layers};
 ghost use Rattle.tv_view.specs.declared.env.Env.{Env as Lent};
 ghost use Rattle.tv_model.specs.Description.Rectangles.{IsSmallRect, place_of_node};
 ghost use Rattle.tv_view.specs.Meaning.{has_item};
@@ -14,15 +17,18 @@ ghost use Rattle.tv_model.specs.Description.Commands.{command_of};
 ghost use Rattle.tv_model.specs.Description.Nodes.{height_of, is_cluster};
 ghost use Rattle.tv_leaf.specs.Core.{fresh_core, leaf_with, plain_leaf, ruled};
 ghost use Rattle.tv_view.specs.Calls.{is_kind_enabled_among, state_bits};
+ghost use Rattle.tv_view.specs.Colours.{has_focus, is_lent_default, is_link_focus, linked_by};
+ghost use Rattle.tv_model.specs.Kinds.{behaviour};
 
+use crate::looks::{has_focus, is_default_now};
 use bitflags::Flags;
 use std::alloc::{AllocError, Global};
 use std::marker::Model;
-use tv_cells::{Canvas, Rect};
+use tv_cells::{Canvas, Damage, Rect};
 use tv_event::{CommandSet, State};
 use tv_faces::rect_at;
 use tv_model::{Id, Kind, Node};
-use tv_view::Rules;
+use tv_view::{Env, Rules};
 
 /// What every control keeps: its declaration, whether it is shown, enabled and focused, and what it remembers while it
 /// holds the mouse. Each kind keeps for itself what else it holds.
@@ -83,6 +89,13 @@ fn is_kind_enabled(commands: &CommandSet, kind: &Kind) -> bool
         Kind::Button(button) => commands.has(button.command.command()),
         _ => true,
     }
+}
+
+// Whether an owner of the same kind lends the same palettes.
+fn has_same_colours(old: &Env, new: &Env) -> bool
+    ensures { IsTrue result → (new.now.owner ≡ old.now.owner) × (new.now.chain.now ≡ old.now.chain.now) }
+{
+    old.owner == new.owner && old.chain.is(new.chain)
 }
 
 impl LeafCore {
@@ -232,12 +245,60 @@ impl LeafCore {
         self.held = None;
     }
 
+    /// Adds its rectangle to the damage.
+    pub fn mark(&self, damage: &mut Damage)
+        ensures all { HasAll (place_of_node self.now.node) damage.new }
+        ensures grown { Grows (place_of_node self.now.node) damage.old damage.new }
+    {
+        damage.add(self.bounds());
+    }
+
     /// Shows or hides it, and enables or disables it, as the rules say.
     pub fn apply(&mut self, rules: &Rules)
         ensures { self.new ≡ ruled rules.now self.old }
     {
         self.is_shown = rules.shows(self.node.id);
         self.is_enabled = is_kind_enabled(rules.commands, &self.node.kind);
+    }
+
+    // Whether the id is the focus, and the default button, of both environments or of neither.
+    fn has_same_part(&self, old: &Env, new: &Env) -> bool
+        ensures { IsTrue result → (has_focus new.now self.now.node.id ≡ has_focus old.now self.now.node.id) × (is_lent_default new.now self.now.node.id ≡ is_lent_default old.now self.now.node.id) }
+    {
+        has_focus(old, self.node.id) == has_focus(new, self.node.id)
+            && is_default_now(old, self.node.id) == is_default_now(new, self.node.id)
+    }
+
+    // Whether two environments say the same of it, but for what it links.
+    fn is_told_same(&self, old: &Env, new: &Env) -> bool
+        ensures colours { IsTrue result → (new.now.owner ≡ old.now.owner) × (new.now.chain.now ≡ old.now.chain.now) }
+        ensures part { IsTrue result → (has_focus new.now self.now.node.id ≡ has_focus old.now self.now.node.id) × (is_lent_default new.now self.now.node.id ≡ is_lent_default old.now self.now.node.id) }
+    {
+        has_same_colours(old, new) && self.has_same_part(old, new)
+    }
+
+    /// Adds its rectangle to the damage if it is shown and the environments differ in what it may show of them.
+    /// `is_link_same` says that what it links has the focus in both or in neither.
+    pub fn link_damage(&self, old: &Env, new: &Env, is_link_same: bool, damage: &mut Damage)
+        requires { IsTrue is_link_same → is_link_focus new.now (linked_by new.now self.now.node.kind) ≡ is_link_focus old.now (linked_by old.now self.now.node.kind) }
+        ensures { (content : Content) → EnvDamages old.now new.now (leaf_with self.now content) damage.old damage.new }
+    {
+        if !self.is_shown {
+            return;
+        }
+        if is_link_same && self.is_told_same(old, new) {
+            return;
+        }
+        self.mark(damage);
+    }
+
+    /// Adds its rectangle to the damage if it is shown and the environments differ in what it may show of them. For
+    /// controls that link nothing, which are all but labels.
+    pub fn env_damage(&self, old: &Env, new: &Env, damage: &mut Damage)
+        requires { (behaviour self.now.node.kind).link ≡ None }
+        ensures { (content : Content) → EnvDamages old.now new.now (leaf_with self.now content) damage.old damage.new }
+    {
+        self.link_damage(old, new, true, damage);
     }
 
     /// Whether it stands as the node declares it, before any event.

@@ -86,10 +86,30 @@ impl Chain {
         Chain { palettes, attrs }
     }
 
+    /// Whether the two chains have the same palettes.
+    pub fn is(&self, other: &Chain) -> bool
+        ensures { IsTrue result ↔ (self.now ≡ other.now) }
+    {
+        are_same(self.palettes.as_slice(), other.palettes.as_slice())
+    }
+
     /// Returns the attribute that a view's number becomes, looked up in one palette after another.
     pub fn attr(&self, index: u8) -> u8
         ensures { result ≡ attr_of self.now index }
     {
         self.attrs[index as usize]
+    }
+}
+
+// Whether the palettes have the same entries, one by one.
+fn are_same(palettes: &[Palette], others: &[Palette]) -> bool
+    ensures { IsTrue result ↔ (entries_of palettes.now ≡ entries_of others.now) }
+{
+    match (palettes.split_first(), others.split_first()) {
+        (None, None) => true,
+        (Some((first, rest)), Some((other, left))) => {
+            first.entries() == other.entries() && are_same(rest, left)
+        }
+        _ => false,
     }
 }

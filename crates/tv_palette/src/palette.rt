@@ -62,6 +62,13 @@ impl Palette {
         }
     }
 
+    /// Returns its entries.
+    pub fn entries(self) -> &'static [u8]
+        ensures { result.now ≡ self.entries.now }
+    {
+        self.entries
+    }
+
     /// Returns what a number becomes: the entry that it counts to, or 0 where the palette lacks it.
     pub fn entry(self, index: u8) -> u8
         ensures { result ≡ entry self.entries.now index }

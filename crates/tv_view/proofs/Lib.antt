@@ -3,3 +3,4 @@ pub mod LayingLemmas
 pub mod PassLemmas
 pub mod SameLayerLemmas
 pub mod FrameLayerLemmas
+pub mod DamageLemmas

@@ -7,3 +7,4 @@ pub mod Fields
 pub mod Meaning
 pub mod Points
 pub mod Reactions
+pub mod Damage

@@ -4,6 +4,8 @@
 #[cfg(test)]
 mod broadcasts;
 #[cfg(test)]
+mod damages;
+#[cfg(test)]
 mod depths;
 #[cfg(test)]
 mod dialogs;

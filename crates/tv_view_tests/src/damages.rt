@@ -1,0 +1,134 @@
+//! Damage by itself: which points it has.
+
+ghost use Rattle.std.specs.Prelude.{All, IsTrue};
+ghost use Rattle.tv_cells.specs.Rectangle.{IsNear, IsPointNear, IsRectNear};
+
+use std::process::Abort;
+use std::test::Fail;
+use tv_cells::{Damage, Point, Rect};
+
+fn rect(left: i32, top: i32, right: i32, bottom: i32) -> Rect {
+    Rect {
+        a: Point { x: left, y: top },
+        b: Point {
+            x: right,
+            y: bottom,
+        },
+    }
+}
+
+fn damage_of(rects: &[Rect]) -> Damage {
+    let mut damage = Damage::new();
+    for rect in rects {
+        damage.add(*rect);
+    }
+    damage
+}
+
+fn is_near(at: i32) -> bool
+    ensures { IsTrue result → IsNear at }
+{
+    -100_000 <= at && at <= 100_000
+}
+
+fn is_point_near(point: Point) -> bool
+    ensures { IsTrue result → IsPointNear point }
+{
+    is_near(point.x) && is_near(point.y)
+}
+
+fn is_rect_near(rect: &Rect) -> bool
+    ensures { IsTrue result → IsRectNear rect.now }
+{
+    is_point_near(rect.a) && is_point_near(rect.b)
+}
+
+// Whether the rectangles may be moved.
+fn are_near(damage: &Damage) -> bool
+    ensures { IsTrue result → All IsRectNear damage.now }
+{
+    damage.rects().iter().all(|rect| is_rect_near(rect))
+}
+
+// Fails unless a damage has the points of these rectangles and no others, as far as a square round the origin goes.
+fn expect_points(damage: &Damage, rects: &[Rect]) -> Result<(), Fail> {
+    for y in -20..80 {
+        for x in -20..80 {
+            let point = Point { x, y };
+            if damage.has(point) != rects.iter().any(|rect| rect.contains(point)) {
+                return Err(Fail::new(format_args!("{point:?} of {damage:?}")));
+            }
+        }
+    }
+    Ok(())
+}
+
+// An empty rectangle adds nothing, and a half open one neither its right column nor its bottom row.
+#[test]
+fn rectangles_are_half_open(rt: HostRuntime) -> Result<(), Fail> {
+    let empty = [rect(3, 3, 3, 9), rect(3, 3, 9, 3), rect(9, 9, 3, 3)];
+    assert!(rt; Damage::new().rects().is_empty());
+    assert!(rt; damage_of(&empty).rects().is_empty());
+    let damage = damage_of(&[rect(2, 3, 5, 4)]);
+    for (x, y, has_point) in [
+        (2, 3, true),
+        (4, 3, true),
+        (1, 3, false),
+        (5, 3, false),
+        (2, 2, false),
+        (4, 4, false),
+    ] {
+        assert_eq!(rt; damage.has(Point { x, y }), has_point, "{x} {y}");
+    }
+    let overlapping = [rect(2, 3, 9, 6), rect(0, 5, 4, 20), rect(3, 4, 5, 5)];
+    expect_points(&damage_of(&overlapping), &overlapping)
+}
+
+// A point of the line from the lower left of a square to the upper right.
+fn cell(x: i32) -> Rect {
+    let y = 39i32.saturating_sub(x);
+    rect(x, y, x.saturating_add(1), y.saturating_add(1))
+}
+
+// Where there is no room for another rectangle, all points are there still, and none outside their hull.
+#[test]
+fn more_than_sixteen(rt: HostRuntime) -> Result<(), Fail> {
+    let hull = rect(0, 0, 40, 40);
+    let mut damage = Damage::new();
+    for x in 0..40 {
+        damage.add(cell(x));
+        assert!(rt; damage.rects().len() <= 16);
+        for at in 0..=x {
+            assert!(rt; damage.has(cell(at).a), "{at} of {x}");
+        }
+    }
+    for rect in damage.rects() {
+        assert!(rt; hull.has_part(*rect), "{rect:?}");
+    }
+    Ok(())
+}
+
+// What is added from another damage is moved, and cut where it is seen in a frame. What was there stays.
+#[test]
+fn from_another(rt: HostRuntime) -> Result<(), Fail> {
+    let old = rect(0, 0, 1, 1);
+    let inner = damage_of(&[rect(-2, -2, 3, 3), rect(8, 1, 30, 2), rect(0, 9, 9, 12)]);
+    let mut framed = damage_of(&[old]);
+    framed.add_within(&inner, rect(10, 5, 20, 10));
+    expect_points(&framed, &[old, rect(10, 5, 13, 8), rect(18, 6, 20, 7)])?;
+    if !are_near(&inner) {
+        return Err("far rectangles".into());
+    }
+    let mut moved = damage_of(&[old]);
+    moved.add_all(&inner, Point { x: 5, y: -3 });
+    let all = [
+        old,
+        rect(3, -5, 8, 0),
+        rect(13, -2, 35, -1),
+        rect(5, 6, 14, 9),
+    ];
+    expect_points(&moved, &all)?;
+    moved.clear();
+    assert!(rt; moved.rects().is_empty());
+    Ok(())
+}
