@@ -1,6 +1,7 @@
 pub mod ClippingLemmas
+pub mod CutLemmas
+pub mod DamageLemmas
+pub mod FrameLayerLemmas
 pub mod LayingLemmas
 pub mod PassLemmas
 pub mod SameLayerLemmas
-pub mod FrameLayerLemmas
-pub mod DamageLemmas

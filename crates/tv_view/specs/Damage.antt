@@ -5,10 +5,10 @@ use Rattle.tv_cells.specs.Glyph.{Glyph}
 use Rattle.tv_cells.specs.Layers.{Layer, cell_over}
 use Rattle.tv_cells.specs.declared.canvas.Canvas.{Canvas}
 use Rattle.tv_cells.specs.declared.rect.Rect.{Rect}
-use Rattle.tv_view.specs.Meaning.{Leaf, bounds_of}
+use Rattle.tv_view.specs.Meaning.{Leaf, Placed, bounds_of}
 use Rattle.tv_view.specs.declared.env.Env.{Env}
 use Rattle.tv_view.specs.Colours.{lent_look}
-use Rattle.tv_view.specs.Drawing.{leaf_layers}
+use Rattle.tv_view.specs.Drawing.{leaf_layers, leaves_layers}
 
 -- the damage, which is seen from the canvas's origin, has a cell of the screen
 abbrev pub has_seen : List Rect → Canvas → ℕ → ℕ → Bool
@@ -18,6 +18,14 @@ has_seen damage c column row = has damage (pos column -ℤ c.origin.x) (pos row 
 pub record IsDrawnAlike (damage : List Rect) (old new : Canvas → List Layer) : Type 0 where
   pub each : (c : Canvas) (column row : ℕ) → has_seen damage c column row ≡ false → (under : Glyph)
       → cell_over (old c) column row under ≡ cell_over (new c) column row under
+
+-- ---- a leaf
+
+-- it is drawn as before but in the damage, under any one environment; no point has left the damage, and what came in
+-- lies in the smallest rectangle that holds the old ones and the leaf's
+pub record Damages (old new : Leaf) (before after : List Rect) : Type 0 where
+  pub drawn : (env : Env) → IsDrawnAlike after (λ c. leaf_layers env c old) (λ c. leaf_layers env c new)
+  pub grown : Grows (bounds_of old) before after
 
 -- two environments say the same of all that a leaf shows
 pub record TellsSame (old new : Env) (leaf : Leaf) : Type 0 where
@@ -30,3 +38,25 @@ pub record TellsSame (old new : Env) (leaf : Leaf) : Type 0 where
 pub record EnvDamages (old new : Env) (leaf : Leaf) (before after : List Rect) : Type 0 where
   pub drawn : IsDrawnAlike after (λ c. leaf_layers old c leaf) (λ c. leaf_layers new c leaf)
   pub grown : Grows (bounds_of leaf) before after
+
+-- ---- a group
+
+-- leaves in their places are drawn as before but in the damage, under any one environment, and no point has left it
+pub record AllDrawn (old new : List Placed) (before after : List Rect) : Type 0 where
+  pub drawn : (env : Env) → IsDrawnAlike after (λ c. leaves_layers env c old) (λ c. leaves_layers env c new)
+  pub kept : (x y : ℤ) → has before x y ≡ true → has after x y ≡ true
+
+-- the same, and what came in lies in the smallest rectangle that holds the old ones and the group's
+pub record AllDamages (bounds : Rect) (old new : List Placed) (before after : List Rect) : Type 0 where
+  pub drawn : (env : Env) → IsDrawnAlike after (λ c. leaves_layers env c old) (λ c. leaves_layers env c new)
+  pub grown : Grows bounds before after
+
+-- leaves that stay are drawn under one environment as under the other but in the damage, and no point has left it
+pub record AllEnvDrawn (old new : Env) (leaves : List Placed) (before after : List Rect) : Type 0 where
+  pub drawn : IsDrawnAlike after (λ c. leaves_layers old c leaves) (λ c. leaves_layers new c leaves)
+  pub kept : (x y : ℤ) → has before x y ≡ true → has after x y ≡ true
+
+-- the same, and what came in lies in the smallest rectangle that holds the old ones and the group's
+pub record AllEnvDamages (bounds : Rect) (old new : Env) (leaves : List Placed) (before after : List Rect) : Type 0 where
+  pub drawn : IsDrawnAlike after (λ c. leaves_layers old c leaves) (λ c. leaves_layers new c leaves)
+  pub grown : Grows bounds before after
