@@ -7,7 +7,7 @@ ghost use Rattle.tv_cells.specs.Layers.{Lays};
 ghost use Rattle.tv_cells.specs.Picture.{Picture};
 ghost use Rattle.tv_cells.specs.Rectangle.{IsPointNear};
 ghost use Rattle.tv_model.specs.Controls.Contents.{Content};
-ghost use Rattle.tv_view.specs.Damage.{EnvDamages};
+ghost use Rattle.tv_view.specs.Damage.{Damages, EnvDamages};
 ghost use Rattle.tv_view.specs.Drawing.{leaf_layers};
 ghost use Rattle.tv_view.specs.declared.env.Env.{Env as Lent};
 ghost use Rattle.tv_model.specs.Description.Rectangles.{IsSmallRect, place_of_node};
@@ -253,12 +253,27 @@ impl LeafCore {
         damage.add(self.bounds());
     }
 
-    /// Shows or hides it, and enables or disables it, as the rules say.
-    pub fn apply(&mut self, rules: &Rules)
-        ensures { self.new ≡ ruled rules.now self.old }
+    // Shows or hides it, and enables or disables it. Returns whether that changes neither.
+    fn is_ruled_same(&mut self, rules: &Rules) -> bool
+        ensures core { self.new ≡ ruled rules.now self.old }
+        ensures same { IsTrue result → (self.new.is_shown ≡ self.old.is_shown) × (self.new.is_enabled ≡ self.old.is_enabled) }
     {
+        let was_shown = self.is_shown;
+        let was_enabled = self.is_enabled;
         self.is_shown = rules.shows(self.node.id);
         self.is_enabled = is_kind_enabled(rules.commands, &self.node.kind);
+        self.is_shown == was_shown && self.is_enabled == was_enabled
+    }
+
+    /// Shows or hides it, and enables or disables it, as the rules say. Adds its rectangle to the damage if that changes
+    /// something.
+    pub fn apply(&mut self, rules: &Rules, damage: &mut Damage)
+        ensures core { self.new ≡ ruled rules.now self.old }
+        ensures damage { (content : Content) → Damages (leaf_with self.old content) (leaf_with self.new content) damage.old damage.new }
+    {
+        if !self.is_ruled_same(rules) {
+            self.mark(damage);
+        }
     }
 
     // Whether the id is the focus, and the default button, of both environments or of neither.
