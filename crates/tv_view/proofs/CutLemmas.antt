@@ -4,7 +4,7 @@ use Rattle.std.specs.Int.{int_max, int_min}
 use Rattle.std.proofs.lemmas.Int.{ints, clamps}
 use Rattle.std.proofs.lemmas.List.{map-append}
 use Rattle.tv_cells.specs.Canvas.{sub}
-use Rattle.tv_cells.specs.Layers.{Layer, Painted}
+use Rattle.tv_cells.specs.Layers.{Painted}
 use Rattle.tv_cells.specs.Rectangle.{cut, shifted}
 use Rattle.tv_cells.specs.Repainting.{clipped, within}
 use Rattle.tv_cells.specs.declared.canvas.Canvas.{Canvas}

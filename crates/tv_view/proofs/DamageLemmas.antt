@@ -1,13 +1,11 @@
 -- What a leaf has to do so that it is drawn alike, under two environments too, and what a group of leaves has to.
-use Rattle.std.proofs.Common.{◌≡◌, ℕ, ℤ, pos, ◌+ℤ◌, ◌-ℤ◌, Bool, true, false, not, ◌&&◌, List, [], ◌∷◌, ◌++◌, map, refl, sym, ap, ◌∙◌, arith}
-use Rattle.std.specs.Prelude.{if◌then◌else◌}
-use Rattle.std.proofs.lemmas.Int.{ints, clamps}
-use Rattle.std.specs.Int.{int_max, int_min}
-use Rattle.tv_cells.specs.Canvas.{aside, face_at, sub}
+use Rattle.std.proofs.Common.{◌≡◌, ℕ, ℤ, pos, ◌+ℤ◌, ◌-ℤ◌, Bool, true, false, List, [], ◌∷◌, ◌++◌, map, refl, sym, ap, ◌∙◌, arith}
+use Rattle.std.proofs.lemmas.Int.{ints}
+use Rattle.tv_cells.specs.Canvas.{sub}
 use Rattle.tv_cells.specs.Damage.{Grows, HasAll, HasWithin, has}
-use Rattle.tv_cells.specs.Glyph.{Glyph, shaded}
+use Rattle.tv_cells.specs.Glyph.{Glyph}
 use Rattle.tv_cells.specs.Layers.{Layer, Painted, cell_over, is_in, over}
-use Rattle.tv_cells.specs.Rectangle.{IsIn, cut, shifted, sized}
+use Rattle.tv_cells.specs.Rectangle.{IsIn, cut, shifted}
 use Rattle.tv_cells.specs.declared.canvas.Canvas.{Canvas}
 use Rattle.tv_cells.specs.declared.rect.Rect.{Rect}
 use Rattle.tv_cells.proofs.LayerLemmas.{is_in_false, is_in_true}
@@ -21,7 +19,7 @@ use Rattle.tv_view.specs.declared.env.Env.{Env}
 use Rattle.tv_view.specs.Damage.{Damages, EnvDamages, IsDrawnAlike, TellsSame, has_seen}
 use Rattle.tv_view.specs.Drawing.{faces_of, is_near, layers_in, leaf_layers, leaves_layers}
 use Rattle.tv_view.specs.Fields.{content_of}
-use Rattle.tv_view.proofs.LayingLemmas.{layers-append, layers-far, layers-inside}
+use Rattle.tv_view.proofs.LayingLemmas.{layers-far, layers-inside}
 
 false-true : {b : Bool} → b ≡ false → b ≡ true → ⊥
 false-true e f = let g : false ≡ true = sym e ∙ f in absurd cc

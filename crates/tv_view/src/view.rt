@@ -49,13 +49,7 @@ pub trait View: Drop {
     /// Handles an event in a phase, and returns what it asks of its owner. The owner hands it only what it should get:
     /// a mouse down where it is the topmost visible view, moves and ups while it holds the mouse, and keys and commands
     /// while it is shown and enabled. A point may lie anywhere. A view that passes an event on stays as it is.
-    fn handle(
-        &mut self,
-        event: &Event,
-        phase: Phase,
-        env: &Env,
-        damage: &mut Damage,
-    ) -> Reaction
+    fn handle(&mut self, event: &Event, phase: Phase, env: &Env, damage: &mut Damage) -> Reaction
         ensures reaction { result ≡ answer event.now phase env.now (meaning self.old) }
         ensures after { meaning self.new ≡ handled event.now phase env.now (meaning self.old) }
         ensures passed { StaysWherePassed result (meaning self.old) (meaning self.new) }
@@ -129,13 +123,7 @@ impl View for Box<dyn View> {
         (**self).options()
     }
 
-    fn handle(
-        &mut self,
-        event: &Event,
-        phase: Phase,
-        env: &Env,
-        damage: &mut Damage,
-    ) -> Reaction {
+    fn handle(&mut self, event: &Event, phase: Phase, env: &Env, damage: &mut Damage) -> Reaction {
         (**self).handle(event, phase, env, damage)
     }
 
