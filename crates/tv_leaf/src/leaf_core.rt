@@ -20,7 +20,7 @@ ghost use Rattle.tv_view.specs.Calls.{is_kind_enabled_among, state_bits};
 ghost use Rattle.tv_view.specs.Colours.{has_focus, is_lent_default, is_link_focus, linked_by};
 ghost use Rattle.tv_model.specs.Kinds.{behaviour};
 
-use crate::looks::{has_focus, is_default_now};
+use crate::looks::{has_focus, has_same_colours, is_default_now};
 use bitflags::Flags;
 use std::alloc::{AllocError, Global};
 use std::marker::Model;
@@ -89,13 +89,6 @@ fn is_kind_enabled(commands: &CommandSet, kind: &Kind) -> bool
         Kind::Button(button) => commands.has(button.command.command()),
         _ => true,
     }
-}
-
-// Whether an owner of the same kind lends the same palettes.
-fn has_same_colours(old: &Env, new: &Env) -> bool
-    ensures { IsTrue result → (new.now.owner ≡ old.now.owner) × (new.now.chain.now ≡ old.now.chain.now) }
-{
-    old.owner == new.owner && old.chain.is(new.chain)
 }
 
 impl LeafCore {
@@ -298,13 +291,12 @@ impl LeafCore {
         requires { IsTrue is_link_same → is_link_focus new.now (linked_by new.now self.now.node.kind) ≡ is_link_focus old.now (linked_by old.now self.now.node.kind) }
         ensures { (content : Content) → EnvDamages old.now new.now (leaf_with self.now content) damage.old damage.new }
     {
-        if !self.is_shown {
-            return;
-        }
         if is_link_same && self.is_told_same(old, new) {
             return;
         }
-        self.mark(damage);
+        if self.is_shown {
+            self.mark(damage);
+        }
     }
 
     /// Adds its rectangle to the damage if it is shown and the environments differ in what it may show of them. For

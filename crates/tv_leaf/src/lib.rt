@@ -9,5 +9,5 @@ mod points;
 
 pub use fault::ControlFault;
 pub use leaf_core::LeafCore;
-pub use looks::{has_focus, is_default_now};
+pub use looks::{has_focus, has_same_colours, is_default_now};
 pub use points::{column_of, contains, row_of};

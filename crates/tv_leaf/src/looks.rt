@@ -1,6 +1,6 @@
 //! What a control's environment says of it.
 
-ghost use Rattle.std.specs.Prelude.{◌≡◌};
+ghost use Rattle.std.specs.Prelude.{◌≡◌, IsTrue};
 ghost use Rattle.tv_view.specs.Colours.{has_focus, is_lent_default, is_id};
 
 use tv_model::Id;
@@ -27,4 +27,11 @@ pub fn is_default_now(env: &Env, id: Id) -> bool
     ensures { result ≡ is_lent_default env.now id }
 {
     is_id(env.default_now, id)
+}
+
+/// Whether owners of the same kind lend the same palettes in two environments.
+pub fn has_same_colours(old: &Env, new: &Env) -> bool
+    ensures { IsTrue result → (new.now.owner ≡ old.now.owner) × (new.now.chain.now ≡ old.now.chain.now) }
+{
+    old.owner == new.owner && old.chain.is(new.chain)
 }

@@ -3,11 +3,6 @@ use Rattle.tv_leaf.specs.Core.{leaf_with}
 use Rattle.tv_view.proofs.DamageLemmas.{env-hidden, env-own, env-same}
 use Rattle.tv_leaf.proofs.leaf_core.LeafCore.link_damage.Goals as goal
 
-pub returns-then-not-self : goal.returns-then-not-self
-returns-then-not-self c content =
-    let hidden : c.args.self.now.is_shown ≡ false = search rules in
-    env-hidden c.args.old.now c.args.new.now (leaf_with c.args.self.now content) c.args.damage.now hidden
-
 pub returns-then-is_told_same : goal.returns-then-is_told_same
 returns-then-is_told_same c content =
     let colours = c.is_told_same.ensures.colours c.if-is_told_same.true in
@@ -15,5 +10,10 @@ returns-then-is_told_same c content =
     let link = c.requires c.if-is_link_same.true in
     env-same c.args.old.now c.args.new.now (leaf_with c.args.self.now content) c.args.damage.now (record { owner = colours.0; chain = colours.1; look = rw (part.0, part.1, link) refl })
 
-pub returns : goal.returns
-returns c content = env-own c.args.old.now c.args.new.now (leaf_with c.args.self.now content) c.args.damage.now c.mark.new.damage c.mark.ensures.all c.mark.ensures.grown
+pub returns-then-self : goal.returns-then-self
+returns-then-self c content = env-own c.args.old.now c.args.new.now (leaf_with c.args.self.now content) c.args.damage.now c.mark.new.damage c.mark.ensures.all c.mark.ensures.grown
+
+pub returns-else-self : goal.returns-else-self
+returns-else-self c content =
+    let hidden : c.args.self.now.is_shown ≡ false = search rules in
+    env-hidden c.args.old.now c.args.new.now (leaf_with c.args.self.now content) c.args.damage.now hidden
