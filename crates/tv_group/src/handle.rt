@@ -2,6 +2,7 @@
 
 ghost use Rattle.std.specs.Prelude.{◌≡◌, ◌∷◌, []};
 ghost use Rattle.tv_cells.specs.Layers.{is_in};
+ghost use Rattle.tv_view.specs.Damage.{AllDamages, AllDrawn, Damages};
 ghost use Rattle.tv_view.specs.Meaning.{alone};
 ghost use Rattle.tv_view.specs.Points.{moved_into, point_into};
 ghost use Rattle.tv_group.specs.Handling.{group_after, group_answer, scan_after, scan_answer, has_turn, is_hit, is_offered, is_pass};
@@ -11,7 +12,7 @@ ghost use Rattle.tv_group.specs.Turns.{down_after, down_here, goes_to_all};
 use crate::ask::is_awake;
 use crate::group::{GroupOf, MemberOf};
 use bitflags::Flags;
-use tv_cells::{Point, Rect};
+use tv_cells::{Damage, Point, Rect};
 use tv_event::{Event, Options, Phase, State};
 use tv_view::{Env, Reaction, View};
 
@@ -82,12 +83,19 @@ fn is_offered<V: View>(view: &V, event: &Event, phase: Phase) -> bool
     }
 }
 
-fn offer<V: View>(view: &mut V, event: &Event, phase: Phase, env: &Env) -> Reaction
+fn offer<V: View>(
+    view: &mut V,
+    event: &Event,
+    phase: Phase,
+    env: &Env,
+    damage: &mut Damage,
+) -> Reaction
     ensures reaction { result ≡ scan_answer event.now phase env.now (alone (V.meaning view.old) ∷ []) }
     ensures after { alone (V.meaning view.new) ∷ [] ≡ scan_after event.now phase env.now (alone (V.meaning view.old) ∷ []) }
+    ensures damage { Damages (V.meaning view.old) (V.meaning view.new) damage.old damage.new }
 {
     if is_offered(view, event, phase) {
-        view.handle(event, phase, env)
+        view.handle(event, phase, env, damage)
     } else {
         Reaction::Pass
     }
@@ -100,15 +108,22 @@ fn is_hit<V: View>(view: &V, point: Point) -> bool
 }
 
 // A disabled view keeps a mouse down from those below it.
-fn hit<V: View>(view: &mut V, point: Point, phase: Phase, env: &Env) -> Option<Reaction>
+fn hit<V: View>(
+    view: &mut V,
+    point: Point,
+    phase: Phase,
+    env: &Env,
+    damage: &mut Damage,
+) -> Option<Reaction>
     ensures reaction { result ≡ down_here point phase env.now (alone (V.meaning view.old) ∷ []) }
     ensures after { alone (V.meaning view.new) ∷ [] ≡ down_after point phase env.now (alone (V.meaning view.old) ∷ []) }
+    ensures damage { Damages (V.meaning view.old) (V.meaning view.new) damage.old damage.new }
 {
     if !is_hit(view, point) {
         return None;
     }
     if is_enabled(view) {
-        Some(view.handle(&Event::Down(point), phase, env))
+        Some(view.handle(&Event::Down(point), phase, env, damage))
     } else {
         Some(Reaction::Pass)
     }
@@ -126,24 +141,38 @@ fn goes_to_all(event: &Event, phase: Phase) -> bool
 
 impl<V: View> MemberOf<V> {
     #[cycle(scan)]
-    fn scan(&mut self, event: &Event, phase: Phase, env: &Env) -> Reaction
+    fn scan(
+        &mut self,
+        event: &Event,
+        phase: Phase,
+        env: &Env,
+        damage: &mut Damage,
+    ) -> Reaction
         ensures reaction { result ≡ scan_answer event.now phase env.now (opened_member V.meaning self.old) }
         ensures after { opened_member V.meaning self.new ≡ scan_after event.now phase env.now (opened_member V.meaning self.old) }
+        ensures damage { AllDrawn (opened_member V.meaning self.old) (opened_member V.meaning self.new) damage.old damage.new }
     {
         match self {
-            MemberOf::Leaf(view) => offer(view, event, phase, env),
-            MemberOf::Pane(group) => group.scan(event, phase, env),
+            MemberOf::Leaf(view) => offer(view, event, phase, env, damage),
+            MemberOf::Pane(group) => group.scan(event, phase, env, damage),
         }
     }
 
     #[cycle(down)]
-    fn down(&mut self, point: Point, phase: Phase, env: &Env) -> Option<Reaction>
+    fn down(
+        &mut self,
+        point: Point,
+        phase: Phase,
+        env: &Env,
+        damage: &mut Damage,
+    ) -> Option<Reaction>
         ensures reaction { result ≡ down_here point phase env.now (opened_member V.meaning self.old) }
         ensures after { opened_member V.meaning self.new ≡ down_after point phase env.now (opened_member V.meaning self.old) }
+        ensures damage { AllDrawn (opened_member V.meaning self.old) (opened_member V.meaning self.new) damage.old damage.new }
     {
         match self {
-            MemberOf::Leaf(view) => hit(view, point, phase, env),
-            MemberOf::Pane(group) => group.down(point, phase, env),
+            MemberOf::Leaf(view) => hit(view, point, phase, env, damage),
+            MemberOf::Pane(group) => group.down(point, phase, env, damage),
         }
     }
 }
@@ -152,21 +181,35 @@ impl<V: View> GroupOf<V> {
     // Hands the event to the leaves in order, until one doesn't pass it on: to those of the current member alone, where
     // no other gets it.
     #[cycle(scan)]
-    fn scan(&mut self, event: &Event, phase: Phase, env: &Env) -> Reaction
+    fn scan(
+        &mut self,
+        event: &Event,
+        phase: Phase,
+        env: &Env,
+        damage: &mut Damage,
+    ) -> Reaction
         ensures reaction { result ≡ scan_answer event.now phase env.now (opened V.meaning self.old) }
         ensures after { opened V.meaning self.new ≡ scan_after event.now phase env.now (opened V.meaning self.old) }
         ensures shape { (group_bounds self.new ≡ group_bounds self.old) × (level_of self.new ≡ level_of self.old) }
+        ensures damage { AllDamages (group_bounds self.old) (opened V.meaning self.old) (opened V.meaning self.new) damage.old damage.new }
     {
-        let inner = moved_into(self.bounds.rect(), event);
+        let bounds = self.bounds.rect();
+        let inner = moved_into(bounds, event);
+        let mut own = Damage::new();
         if !goes_to_all(&inner, phase) {
             return match self.current {
-                Some(i) if i < self.members.len() => self.members[i].scan(&inner, phase, env),
+                Some(i) if i < self.members.len() => {
+                    let reaction = self.members[i].scan(&inner, phase, env, &mut own);
+                    damage.add_within(&own, bounds);
+                    reaction
+                }
                 _ => Reaction::Pass,
             };
         }
         for member in self.members.iter_mut() {
-            let reaction = member.scan(&inner, phase, env);
+            let reaction = member.scan(&inner, phase, env, &mut own);
             if !is_pass(&reaction) {
+                damage.add_within(&own, bounds);
                 return reaction;
             }
         }
@@ -176,18 +219,27 @@ impl<V: View> GroupOf<V> {
     // Hands a mouse down to the last of the shown leaves that have the point. Returns `None` where none has it, so that
     // what lies below is asked.
     #[cycle(down)]
-    fn down(&mut self, point: Point, phase: Phase, env: &Env) -> Option<Reaction>
+    fn down(
+        &mut self,
+        point: Point,
+        phase: Phase,
+        env: &Env,
+        damage: &mut Damage,
+    ) -> Option<Reaction>
         ensures reaction { result ≡ down_here point phase env.now (opened V.meaning self.old) }
         ensures after { opened V.meaning self.new ≡ down_after point phase env.now (opened V.meaning self.old) }
         ensures shape { (group_bounds self.new ≡ group_bounds self.old) × (level_of self.new ≡ level_of self.old) }
+        ensures damage { AllDamages (group_bounds self.old) (opened V.meaning self.old) (opened V.meaning self.new) damage.old damage.new }
     {
         let bounds = self.bounds.rect();
         if !has_point(bounds, point) {
             return None;
         }
         let inner = point_into(bounds, point);
+        let mut own = Damage::new();
         for i in (0..self.members.len()).rev() {
-            if let Some(reaction) = self.members[i].down(inner, phase, env) {
+            if let Some(reaction) = self.members[i].down(inner, phase, env, &mut own) {
+                damage.add_within(&own, bounds);
                 return Some(reaction);
             }
         }
@@ -196,14 +248,23 @@ impl<V: View> GroupOf<V> {
 
     /// Hands an event to its leaves in a phase. A mouse down goes to the topmost shown leaf at the point, and to no
     /// other even if that one is disabled. Any other event goes from leaf to leaf, until one doesn't pass it on.
-    pub fn handle(&mut self, event: &Event, phase: Phase, env: &Env) -> Reaction
+    pub fn handle(
+        &mut self,
+        event: &Event,
+        phase: Phase,
+        env: &Env,
+        damage: &mut Damage,
+    ) -> Reaction
         ensures reaction { result ≡ group_answer event.now phase env.now (opened V.meaning self.old) }
         ensures after { opened V.meaning self.new ≡ group_after event.now phase env.now (opened V.meaning self.old) }
         ensures shape { (group_bounds self.new ≡ group_bounds self.old) × (level_of self.new ≡ level_of self.old) }
+        ensures damage { AllDamages (group_bounds self.old) (opened V.meaning self.old) (opened V.meaning self.new) damage.old damage.new }
     {
         match event {
-            Event::Down(point) => self.down(*point, phase, env).unwrap_or(Reaction::Pass),
-            _ => self.scan(event, phase, env),
+            Event::Down(point) => self
+                .down(*point, phase, env, damage)
+                .unwrap_or(Reaction::Pass),
+            _ => self.scan(event, phase, env, damage),
         }
     }
 }
