@@ -1,9 +1,11 @@
 pub mod AskedLemmas
 pub mod ClippingLemmas
 pub mod CurrentLemmas
+pub mod DamageLemmas
 pub mod DownLemmas
 pub mod DrawingLemmas
 pub mod EachLemmas
+pub mod EnvDamageLemmas
 pub mod FirstLemmas
 pub mod FitLemmas
 pub mod FocusLemmas

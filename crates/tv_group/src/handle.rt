@@ -141,13 +141,7 @@ fn goes_to_all(event: &Event, phase: Phase) -> bool
 
 impl<V: View> MemberOf<V> {
     #[cycle(scan)]
-    fn scan(
-        &mut self,
-        event: &Event,
-        phase: Phase,
-        env: &Env,
-        damage: &mut Damage,
-    ) -> Reaction
+    fn scan(&mut self, event: &Event, phase: Phase, env: &Env, damage: &mut Damage) -> Reaction
         ensures reaction { result ≡ scan_answer event.now phase env.now (opened_member V.meaning self.old) }
         ensures after { opened_member V.meaning self.new ≡ scan_after event.now phase env.now (opened_member V.meaning self.old) }
         ensures damage { AllDrawn (opened_member V.meaning self.old) (opened_member V.meaning self.new) damage.old damage.new }
@@ -181,13 +175,7 @@ impl<V: View> GroupOf<V> {
     // Hands the event to the leaves in order, until one doesn't pass it on: to those of the current member alone, where
     // no other gets it.
     #[cycle(scan)]
-    fn scan(
-        &mut self,
-        event: &Event,
-        phase: Phase,
-        env: &Env,
-        damage: &mut Damage,
-    ) -> Reaction
+    fn scan(&mut self, event: &Event, phase: Phase, env: &Env, damage: &mut Damage) -> Reaction
         ensures reaction { result ≡ scan_answer event.now phase env.now (opened V.meaning self.old) }
         ensures after { opened V.meaning self.new ≡ scan_after event.now phase env.now (opened V.meaning self.old) }
         ensures shape { (group_bounds self.new ≡ group_bounds self.old) × (level_of self.new ≡ level_of self.old) }

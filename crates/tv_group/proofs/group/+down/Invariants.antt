@@ -10,4 +10,5 @@ invariant-GroupOf::down-loop-i g l =
       falling : Falling look l.inner l.phase l.env (leaves_of look s.current s.members.items) l.self.current l.i l.self.members.items;
       bounds : l.self.bounds ≡ s.bounds;
       level : l.self.level ≡ s.level;
+      still : l.damage ≡ l.fn.damage;
     }

@@ -1,10 +1,12 @@
-use Rattle.std.proofs.Common.{rules, arith, ◌≡◌, ◌<◌, ◌≤◌, length, ap, sym, ◌∙◌, not}
+use Rattle.std.proofs.Common.{rules, arith, [], ◌≡◌, ◌<◌, ◌≤◌, length, ap, sym, ◌∙◌, not}
 use Rattle.tv_view.specs.Calls.{focused_to, takes_focus}
 use Rattle.std.specs.Bool.{then_some}
 use Rattle.std.specs.Option.{option_or}
 use Rattle.tv_group.specs.Calls.{all_focused, has_control}
 use Rattle.tv_group.specs.Opened.{opened}
 use Rattle.tv_group.specs.declared.group.MemberOf.TheVariants.{outs-Leaf, outs-Pane}
+use Rattle.tv_group.proofs.DamageLemmas.{damage-init, damage-next, damage-done, damage-marked, drawn-member-leaf, drawn-member-pane}
+use Rattle.tv_group.proofs.RestLemmas.{opened_from}
 use Rattle.tv_group.proofs.FocusLemmas.{first-found, focusing-none, focusing-next, focusing-found, focusing-all, found-before, has_control-alone, leaf-left, not-found}
 use Rattle.tv_group.proofs.FocusLemmas.{leaf-moved, pane-left, pane-moved}
 use Rattle.tv_group.proofs.OpenedLemmas.{member-leaf, member-pane, opened_member-leaf}
@@ -13,8 +15,12 @@ use Rattle.tv_group.proofs.group.+focus_to.Goals.{GroupOf::focus_to-then-has+the
 
 pub GroupOf::focus_to-loop-i-init : goal.GroupOf::focus_to-loop-i-init
 GroupOf::focus_to-loop-i-init g t c =
-    let at = c.deref_mut-member-items in
-    record { unvisited = search rules; focusing = focusing-none g.V.View.meaning c.args.id c.args.self.now at.result.now at.ensures.value }
+    let s = c.args.self.now in let at = c.deref_mut-member-items in
+    record {
+      unvisited = search rules;
+      focusing = focusing-none g.V.View.meaning c.args.id s at.result.now at.ensures.value;
+      damaged = rw c.new-inner.ensures (damage-init g.V.View.meaning s.current s.current s.members.items at.result.now [] at.ensures.value);
+    }
 
 pub GroupOf::focus_to-loop-i-preserved : goal.GroupOf::focus_to-loop-i-preserved
 GroupOf::focus_to-loop-i-preserved g t c =
@@ -33,7 +39,13 @@ GroupOf::focus_to-loop-i-preserved g t c =
             | GroupOf::focus_to-else-has-via-else-has u ↦ not-found p.current f.result p.i u.if-has.false
           ]
     ] in
-    record { unvisited = search rules; focusing = rw next focusing }
+    let m = c.member-item.result in
+    record {
+      unvisited = search rules;
+      focusing = rw next focusing;
+      damaged = damage-next g.V.View.meaning s.current s.current p.i p.member-items m f.new.self (opened_from g.V.View.meaning s.current 0 s.members.items) [] p.inner f.new.damage h c.member-item.is
+          (rw c.member-item.is f.ensures.damage) p.invariant.damaged;
+    }
 
 pub GroupOf::focus_to-returns-clause-found : goal.GroupOf::focus_to-returns-clause-found
 GroupOf::focus_to-returns-clause-found g t c =
@@ -47,6 +59,15 @@ GroupOf::focus_to-returns-clause-leaves g t c =
     let h : length p.member-items ≤ p.i = omega arith in
     let same : length p.member-items ≡ length s.members.items = p.auto.member-items ∙ ap length at.ensures.value in
     focusing-all g.V.View.meaning c.args.id s p.current p.i p.member-items h same p.invariant.focusing
+
+pub GroupOf::focus_to-returns-clause-damage : goal.GroupOf::focus_to-returns-clause-damage
+GroupOf::focus_to-returns-clause-damage g t c =
+    let look = g.V.View.meaning in let s = c.args.self.now in let p = c.loop-i in let at = c.deref_mut-member-items in
+    let h : length p.member-items ≤ p.i = omega arith in
+    let all = rw c.rect.ensures.is at c.add_within.ensures.added in
+    let grown = rw c.rect.ensures.is at c.add_within.ensures.grown in
+    let drawn = damage-marked look s.current p.current p.i p.member-items (opened_from look s.current p.i p.member-items) (opened_from look s.current 0 s.members.items) [] p.inner p.invariant.damaged in
+    damage-done look p.current s p.i p.member-items p.inner c.add_within.new.self c.args.damage.now (p.auto.member-items ∙ ap length at.ensures.value) h drawn all grown
 
 pub MemberOf::focus_to-returns-in-Leaf-clause-found : goal.MemberOf::focus_to-returns-in-Leaf-clause-found
 MemberOf::focus_to-returns-in-Leaf-clause-found g t c =
@@ -68,6 +89,12 @@ MemberOf::focus_to-returns-in-Leaf-clause-moved g t c =
     rw (c.in-Leaf.is, outs-Leaf c.in-Leaf.view, opened_member-leaf look v, opened_member-leaf look w)
     (leaf-moved c.args.id (look v) (look w) told)
 
+pub MemberOf::focus_to-returns-in-Leaf-clause-damage : goal.MemberOf::focus_to-returns-in-Leaf-clause-damage
+MemberOf::focus_to-returns-in-Leaf-clause-damage g t c =
+    let look = g.V.View.meaning in
+    rw (c.in-Leaf.is, outs-Leaf c.in-Leaf.view)
+    (drawn-member-leaf look c.in-Leaf.view c.focus_to.new.self c.args.damage.now c.focus_to.new.damage (rw c.in-Leaf.view-is at c.focus_to.ensures.damage))
+
 pub MemberOf::focus_to-returns-in-Pane-clause-found : goal.MemberOf::focus_to-returns-in-Pane-clause-found
 MemberOf::focus_to-returns-in-Pane-clause-found g t c =
     let look = g.V.View.meaning in
@@ -85,3 +112,9 @@ MemberOf::focus_to-returns-in-Pane-clause-moved g t c =
     let look = g.V.View.meaning in let h = c.focus_to-in-Pane in
     let told = h.ensures.leaves ∙ ap (λ x. all_focused c.args.id (opened look x)) c.in-Pane.group-is in
     rw (c.in-Pane.is, outs-Pane c.in-Pane.group) (λ _. pane-moved look c.args.id c.in-Pane.group h.new.self told)
+
+pub MemberOf::focus_to-returns-in-Pane-clause-damage : goal.MemberOf::focus_to-returns-in-Pane-clause-damage
+MemberOf::focus_to-returns-in-Pane-clause-damage g t c =
+    let look = g.V.View.meaning in let h = c.focus_to-in-Pane in
+    rw (c.in-Pane.is, outs-Pane c.in-Pane.group)
+    (drawn-member-pane look c.in-Pane.group h.new.self _ c.args.damage.now h.new.damage (rw c.in-Pane.group-is at h.ensures.damage))
