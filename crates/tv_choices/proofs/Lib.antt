@@ -1,3 +1,4 @@
 pub mod ClusterLemmas
+pub mod DamageLemmas
 pub mod ListLemmas
 pub mod MarkLemmas

@@ -5,6 +5,7 @@ mod check_boxes;
 mod chosen;
 mod cluster;
 mod list_box;
+mod marking;
 mod radio_buttons;
 
 pub use check_boxes::CheckBoxes;

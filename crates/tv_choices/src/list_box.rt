@@ -11,15 +11,16 @@ ghost use Rattle.tv_model.specs.Description.LawfulNodes.{IsLawfulNode};
 ghost use Rattle.tv_model.specs.Description.Numbers.{natural};
 ghost use Rattle.tv_model.specs.declared.kind.Kind.TheVariants as kinds;
 ghost use Rattle.tv_model.specs.declared.kind.ListBox.{ListBox as Declared};
-ghost use Rattle.tv_view.specs.Effects.{captured, leaf_keyed, lifted, moved};
+ghost use Rattle.tv_view.specs.Effects.{StaysWherePassed, captured, handled, leaf_keyed, lifted, moved};
 ghost use Rattle.tv_view.specs.Fields.{content_of, with_content};
-ghost use Rattle.tv_view.specs.Reactions.{captures, down_answer, keyed_answer, lifted_answer, move_answer};
+ghost use Rattle.tv_view.specs.Reactions.{answer, captures, down_answer, keyed_answer, lifted_answer, move_answer};
 ghost use Rattle.tv_view.specs.declared.env.Env.{Env as Lent};
 
 use crate::chosen::Chosen;
+use crate::marking::mark_unless_passed;
 use bitflags::Flags;
 use std::alloc::Global;
-use tv_cells::{Canvas, Point, Rect, Screen, lay};
+use tv_cells::{Canvas, Damage, Point, Rect, Screen, lay};
 use tv_event::{Event, Key, Options, Phase, State};
 use tv_faces::{ListFace, natural};
 use tv_leaf::{ControlFault, LeafCore, contains, has_focus, row_of};
@@ -181,7 +182,25 @@ impl ListBox {
     }
 }
 
-#[tactic(auto, unfolding(tv_view::specs::Reactions::answer, tv_view::specs::Effects::handled, tv_view::specs::Calls::focused_to, tv_view::specs::Calls::item_pressed, tv_view::specs::Calls::invalid_id, tv_view::specs::Calls::gathered, tv_view::specs::Calls::HasRoom, tv_view::specs::Calls::Fits, tv_view::specs::Calls::set_from, tv_view::specs::Calls::applied, tv_view::specs::Drawing::leaf_layers))]
+#[tactic(auto, unfolding(tv_view::specs::Reactions::answer, tv_view::specs::Effects::handled))]
+impl ListBox {
+    // What it answers to an event, and becomes.
+    fn react(&mut self, event: &Event, phase: Phase, env: &Env) -> Reaction
+        ensures reaction { result ≡ answer event.now phase env.now (list_leaf self.old.core self.old.chosen) }
+        ensures after { list_leaf self.new.core self.new.chosen ≡ handled event.now phase env.now (list_leaf self.old.core self.old.chosen) }
+        ensures passed { StaysWherePassed result (list_leaf self.old.core self.old.chosen) (list_leaf self.new.core self.new.chosen) }
+    {
+        match event {
+            Event::Key(key) => self.key_answer(*key, phase),
+            Event::Down(point) => self.down_answer(*point),
+            Event::Move(point) => self.move_answer(*point),
+            Event::Up(_) => self.up_answer(),
+            _ => Reaction::Pass,
+        }
+    }
+}
+
+#[tactic(auto, unfolding(tv_view::specs::Calls::focused_to, tv_view::specs::Calls::item_pressed, tv_view::specs::Calls::invalid_id, tv_view::specs::Calls::gathered, tv_view::specs::Calls::HasRoom, tv_view::specs::Calls::Fits, tv_view::specs::Calls::set_from, tv_view::specs::Calls::applied, tv_view::specs::Drawing::leaf_layers))]
 impl View for ListBox {
     ghost meaning = { λ view. list_leaf view.core view.chosen };
 
@@ -203,14 +222,10 @@ impl View for ListBox {
         options
     }
 
-    fn handle(&mut self, event: &Event, phase: Phase, env: &Env) -> Reaction {
-        match event {
-            Event::Key(key) => self.key_answer(*key, phase),
-            Event::Down(point) => self.down_answer(*point),
-            Event::Move(point) => self.move_answer(*point),
-            Event::Up(_) => self.up_answer(),
-            _ => Reaction::Pass,
-        }
+    fn handle(&mut self, event: &Event, phase: Phase, env: &Env, damage: &mut Damage) -> Reaction {
+        let reaction = self.react(event, phase, env);
+        mark_unless_passed(&self.core, reaction, damage);
+        reaction
     }
 
     fn draw(&self, screen: &mut Screen, canvas: Canvas, env: &Env) {
@@ -229,11 +244,11 @@ impl View for ListBox {
         lay(screen, seen, width, height, &face);
     }
 
-    fn focus_to(&mut self, id: Id) -> bool {
+    fn focus_to(&mut self, id: Id, _damage: &mut Damage) -> bool {
         self.core.focus_to(id)
     }
 
-    fn press_item(&mut self, _id: Id, _item: u8) {}
+    fn press_item(&mut self, _id: Id, _item: u8, _damage: &mut Damage) {}
 
     fn held(&self) -> bool {
         self.core.holds()
@@ -247,15 +262,20 @@ impl View for ListBox {
         values.put(self.core.id(), Value::Item(self.chosen.item));
     }
 
-    fn set(&mut self, values: &Record) {
+    fn set(&mut self, values: &Record, damage: &mut Damage) {
+        self.core.reset();
         if let Some(Value::Item(item)) = values.value(self.core.id()) {
+            self.core.mark(damage);
             self.chosen = Chosen::opened(self.height(), *item);
         }
-        self.core.reset();
     }
 
-    fn apply(&mut self, rules: &Rules) {
-        self.core.apply(rules);
+    fn apply(&mut self, rules: &Rules, damage: &mut Damage) {
+        self.core.apply(rules, damage);
+    }
+
+    fn env_damage(&self, old: &Env, new: &Env, damage: &mut Damage) {
+        self.core.env_damage(old, new, damage);
     }
 
     fn is_fresh(&self, node: &Node) -> bool {

@@ -10,14 +10,15 @@ ghost use Rattle.tv_model.specs.Description.LawfulNodes.{IsLawfulNode};
 ghost use Rattle.tv_model.specs.Description.Numbers.{natural};
 ghost use Rattle.tv_model.specs.declared.kind.Kind.TheVariants as kinds;
 ghost use Rattle.tv_model.specs.declared.kind.RadioButtons.{RadioButtons as Declared};
-ghost use Rattle.tv_view.specs.Effects.{captured, leaf_keyed, lifted};
-ghost use Rattle.tv_view.specs.Reactions.{captures, down_answer, keyed_answer, lifted_answer};
+ghost use Rattle.tv_view.specs.Effects.{StaysWherePassed, captured, handled, leaf_keyed, lifted};
+ghost use Rattle.tv_view.specs.Reactions.{answer, captures, down_answer, keyed_answer, lifted_answer};
 ghost use Rattle.tv_view.specs.declared.env.Env.{Env as Lent};
 
 use crate::cluster::{ClusterKey, cluster_key, is_item, item_released, letter_answer, row_item};
+use crate::marking::mark_unless_passed;
 use bitflags::Flags;
 use std::alloc::Global;
-use tv_cells::{Canvas, Point, Rect, Screen, lay};
+use tv_cells::{Canvas, Damage, Point, Rect, Screen, lay};
 use tv_event::{Event, Key, Options, Phase, State};
 use tv_faces::{ClusterFace, ClusterMarks, natural};
 use tv_leaf::{ControlFault, LeafCore, has_focus};
@@ -133,7 +134,25 @@ impl RadioButtons {
     }
 }
 
-#[tactic(auto, unfolding(tv_view::specs::Reactions::answer, tv_view::specs::Effects::handled, tv_view::specs::Calls::focused_to, tv_view::specs::Calls::item_pressed, tv_view::specs::Calls::invalid_id, tv_view::specs::Calls::gathered, tv_view::specs::Calls::HasRoom, tv_view::specs::Calls::Fits, tv_view::specs::Calls::set_from, tv_view::specs::Calls::applied, tv_view::specs::Drawing::leaf_layers))]
+#[tactic(auto, unfolding(tv_view::specs::Reactions::answer, tv_view::specs::Effects::handled))]
+impl RadioButtons {
+    // What they answer to an event, and become.
+    fn react(&mut self, event: &Event, phase: Phase, env: &Env) -> Reaction
+        ensures reaction { result ≡ answer event.now phase env.now (radios_leaf self.old.core self.old.marked) }
+        ensures after { radios_leaf self.new.core self.new.marked ≡ handled event.now phase env.now (radios_leaf self.old.core self.old.marked) }
+        ensures passed { StaysWherePassed result (radios_leaf self.old.core self.old.marked) (radios_leaf self.new.core self.new.marked) }
+    {
+        match event {
+            Event::Key(key) => self.key_answer(*key, phase),
+            Event::Down(point) => self.down_answer(*point),
+            Event::Move(_) if self.core.holds() => Reaction::Done,
+            Event::Up(point) => self.up_answer(*point),
+            _ => Reaction::Pass,
+        }
+    }
+}
+
+#[tactic(auto, unfolding(tv_view::specs::Calls::focused_to, tv_view::specs::Calls::item_pressed, tv_view::specs::Calls::invalid_id, tv_view::specs::Calls::gathered, tv_view::specs::Calls::HasRoom, tv_view::specs::Calls::Fits, tv_view::specs::Calls::set_from, tv_view::specs::Calls::applied, tv_view::specs::Drawing::leaf_layers))]
 impl View for RadioButtons {
     ghost meaning = { λ view. radios_leaf view.core view.marked };
 
@@ -157,14 +176,10 @@ impl View for RadioButtons {
         options
     }
 
-    fn handle(&mut self, event: &Event, phase: Phase, env: &Env) -> Reaction {
-        match event {
-            Event::Key(key) => self.key_answer(*key, phase),
-            Event::Down(point) => self.down_answer(*point),
-            Event::Move(_) if self.core.holds() => Reaction::Done,
-            Event::Up(point) => self.up_answer(*point),
-            _ => Reaction::Pass,
-        }
+    fn handle(&mut self, event: &Event, phase: Phase, env: &Env, damage: &mut Damage) -> Reaction {
+        let reaction = self.react(event, phase, env);
+        mark_unless_passed(&self.core, reaction, damage);
+        reaction
     }
 
     fn draw(&self, screen: &mut Screen, canvas: Canvas, env: &Env) {
@@ -184,12 +199,13 @@ impl View for RadioButtons {
         lay(screen, seen, width, height, &face);
     }
 
-    fn focus_to(&mut self, id: Id) -> bool {
+    fn focus_to(&mut self, id: Id, _damage: &mut Damage) -> bool {
         self.core.focus_to(id)
     }
 
-    fn press_item(&mut self, id: Id, item: u8) {
+    fn press_item(&mut self, id: Id, item: u8, damage: &mut Damage) {
         if self.core.id() == id && is_item(self.declared().items.as_slice().len(), item) {
+            self.core.mark(damage);
             self.marked = item;
         }
     }
@@ -206,15 +222,20 @@ impl View for RadioButtons {
         values.put(self.core.id(), Value::Item(self.marked));
     }
 
-    fn set(&mut self, values: &Record) {
+    fn set(&mut self, values: &Record, damage: &mut Damage) {
+        self.core.reset();
         if let Some(Value::Item(item)) = values.value(self.core.id()) {
+            self.core.mark(damage);
             self.marked = *item;
         }
-        self.core.reset();
     }
 
-    fn apply(&mut self, rules: &Rules) {
-        self.core.apply(rules);
+    fn apply(&mut self, rules: &Rules, damage: &mut Damage) {
+        self.core.apply(rules, damage);
+    }
+
+    fn env_damage(&self, old: &Env, new: &Env, damage: &mut Damage) {
+        self.core.env_damage(old, new, damage);
     }
 
     fn is_fresh(&self, node: &Node) -> bool {

@@ -1,22 +1,15 @@
+use Rattle.std.proofs.Common.{◌∙◌, ap, sym}
+use Rattle.tv_choices.proofs.DamageLemmas.{handled-node}
 use Rattle.tv_choices.proofs.check_boxes.CheckBoxesView.handle.Goals as goal
 use Rattle.tv_choices.specs.Choices.{boxes_leaf}
-use Rattle.tv_event.specs.declared.event.Event.TheVariants as events
-use Rattle.tv_leaf.proofs.PassedLemmas.{passed}
-use Rattle.tv_view.specs.Effects.{handled}
-use Rattle.tv_view.specs.Reactions.{answer}
+use Rattle.tv_view.specs.Fields.{content_of}
+use Rattle.tv_view.specs.Meaning.{Leaf}
 
-pub returns-in-Key-clause-passed : goal.returns-in-Key-clause-passed
-unfolding answer handled
-returns-in-Key-clause-passed c =
-    let before = c.args.self.now in
-    let after = c.key_answer.new.self in
-    passed (events.Key c.in-Key.key) c.args.phase c.args.env.now c.key_answer.result (boxes_leaf before.core before.marks before.selected) (boxes_leaf after.core after.marks after.selected)
-    (c.key_answer.ensures.reaction c.args.env.now) c.key_answer.ensures.after
-
-pub returns-in-Down-clause-passed : goal.returns-in-Down-clause-passed
-unfolding answer handled
-returns-in-Down-clause-passed c =
-    let before = c.args.self.now in
-    let after = c.down_answer.new.self in
-    passed (events.Down c.in-Down.point) c.args.phase c.args.env.now c.down_answer.result (boxes_leaf before.core before.marks before.selected) (boxes_leaf after.core after.marks after.selected)
-    (c.down_answer.ensures.reaction c.args.env.now) (c.down_answer.ensures.after c.args.env.now)
+pub returns-clause-damage : goal.returns-clause-damage
+returns-clause-damage c =
+    let s = c.args.self.now in
+    let after = c.react-reaction.new.self in
+    let old = boxes_leaf s.core s.marks s.selected in
+    let new = boxes_leaf after.core after.marks after.selected in
+    let node = ap (λ (leaf : Leaf). leaf.node) c.react-reaction.ensures.after ∙ handled-node c.args.event.now c.args.phase c.args.env.now old in
+    c.mark_unless_passed.ensures old (content_of new) (sym node) c.react-reaction.ensures.passed
