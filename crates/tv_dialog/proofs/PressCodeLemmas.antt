@@ -58,7 +58,7 @@ module _ (d : Dialog) (lawful : IsLawfulDialog d) (m : Modal) (env : Env) (p : P
 
 module _ {V : Type 0} (look : V → Leaf) (d : Dialog) (lawful : IsLawfulDialog d) (m : Modal) (env : Env) (p : Point) (ready : IsReadyForDown m p)
     (lentby : IsLentBy d m env) (old mid asked : DialogOf V) (s : Stands look d m.leaves m old) (i : Id)
-    (answers : answer_down env p (opened look old.body) ≡ Focus i) (same : mid ≡ record old { body = mid.body })
+    (answers : answer_down env p (opened look old.body) ≡ Focus i) (same : mid ≡ record old { body = mid.body; damage = mid.damage })
     (leaves : opened look mid.body ≡ leaves_down env p (opened look old.body)) where
   abbrev pub asks : AsksFocus d m env p i (down_at d (topmost_leaf d m p) p m)
   asks = press-asks d lawful m env p ready lentby s.steady i (ap (answer_down env p) (sym s.tree) ∙ answers)
@@ -74,7 +74,7 @@ module _ {V : Type 0} (look : V → Leaf) (d : Dialog) (lawful : IsLawfulDialog 
   stands-refused refused there = subst (λ t. Stands look d t.leaves t asked) (asks.refused refused) there
 
   pub stands-again : is_granted (requested d m i) ≡ true → Stands look d (request d i m).leaves (request d i m) asked
-      → (new : DialogOf V) → new ≡ record asked { body = new.body } → opened look new.body ≡ leaves_down env p (opened look asked.body)
+      → (new : DialogOf V) → new ≡ record asked { body = new.body; damage = new.damage } → opened look new.body ≡ leaves_down env p (opened look asked.body)
       → Stands look d (down_at d (topmost_leaf d m p) p m).leaves (down_at d (topmost_leaf d m p) p m) new
   stands-again granted there new rest changed =
       stands-handled look d (request d i m) (down_at d (topmost_leaf d m p) p m) asked new asks.like asks.steady

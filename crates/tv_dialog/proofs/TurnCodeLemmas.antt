@@ -84,7 +84,7 @@ module _ {V : Type 0} (look : V → Leaf) (d : Dialog) where
 
   -- only the body differs, as it does on the machine's dialog
   pub stands-body : (ruled : List LeafState) (m n : Modal) (old new : DialogOf V) → IsLike m n → IsSteady d n → Stands look d ruled m old
-      → new ≡ record old { body = new.body } → opened look new.body ≡ tree_as d ruled n → Stands look d ruled n new
+      → new ≡ record old { body = new.body; damage = new.damage } → opened look new.body ≡ tree_as d ruled n → Stands look d ruled n new
   stands-body ruled m n old new like steady s same tree =
       let kept : IsKept old new = record {
         head = ap (λ (x : DialogOf V). x.head) same;
@@ -99,7 +99,7 @@ module _ {V : Type 0} (look : V → Leaf) (d : Dialog) where
 
   -- the same where rules hold as they did
   pub stands-handled : (m n : Modal) (old new : DialogOf V) → IsLike m n → IsSteady d n → HoldSame d m.leaves n.leaves → Stands look d m.leaves m old
-      → new ≡ record old { body = new.body } → opened look new.body ≡ tree_of d n → Stands look d n.leaves n new
+      → new ≡ record old { body = new.body; damage = new.damage } → opened look new.body ≡ tree_of d n → Stands look d n.leaves n new
   stands-handled m n old new like steady hold s same tree =
       restands look d m.leaves n.leaves n new hold
       (stands-body m.leaves m n old new like steady s same (tree ∙ sym (flags-same d m.leaves n.leaves hold n)))
@@ -151,7 +151,7 @@ module _ {V : Type 0} (look : V → Leaf) (d : Dialog) where
 
   -- the views handled an event as the machine's leaves do, and then the dialog did what they asked for
   pub comes-handled : (m n target : Modal) (asked : Reaction) → IsFresh m → IsLike m n → IsSteady d n → (KeepsMarks asked → HoldSame d m.leaves n.leaves)
-      → reacted d asked n ≡ target → (old mid new : DialogOf V) (r : Reaction) → Stands look d m.leaves m old → mid ≡ record old { body = mid.body }
+      → reacted d asked n ≡ target → (old mid new : DialogOf V) (r : Reaction) → Stands look d m.leaves m old → mid ≡ record old { body = mid.body; damage = mid.damage }
       → r ≡ asked → opened look mid.body ≡ tree_as d m.leaves n
       → (length n.log ≤ 1 → n.ended ≡ None → (KeepsMarks r → HoldSame d m.leaves n.leaves) → Stands look d m.leaves n mid
       → Stands look d (reacted_first d r n).leaves (reacted_first d r n) new)

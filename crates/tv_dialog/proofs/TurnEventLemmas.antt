@@ -35,7 +35,7 @@ use Rattle.tv_tree.proofs.Mouse.ReleaseLemmas.{up-holds, up-turn}
 use Rattle.tv_dialog.proofs.TurnCodeLemmas.{comes-handled}
 
 module _ {V : Type 0} (look : V → Leaf) (d : Dialog) (lawful : IsLawfulDialog d) (m : Modal) (env : Env) (lentby : IsLentBy d m env)
-    (old mid new : DialogOf V) (r : Reaction) (s : Stands look d m.leaves m old) (same : mid ≡ record old { body = mid.body })
+    (old mid new : DialogOf V) (r : Reaction) (s : Stands look d m.leaves m old) (same : mid ≡ record old { body = mid.body; damage = mid.damage })
     (waits : new.pending ≡ posted_by r)
     (reacts : (ruled : List LeafState) (n : Modal) → length n.log ≤ 1 → n.ended ≡ None → (KeepsMarks r → HoldSame d ruled n.leaves)
     → Stands look d ruled n mid → Stands look d (reacted_first d r n).leaves (reacted_first d r n) new) where

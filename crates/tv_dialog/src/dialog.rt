@@ -30,7 +30,7 @@ use crate::log::Log;
 use crate::plan::Plan;
 use crate::ruled::Ruled;
 use std::alloc::Global;
-use tv_cells::{Canvas, Rect, Screen, lay};
+use tv_cells::{Canvas, Damage, Rect, Screen, lay};
 use tv_event::{Command, CommandSet, Pending};
 use tv_group::GroupOf;
 use tv_model::{Id, LogLine, Node, OnHeap, Record, Rule, empty_record};
@@ -55,6 +55,8 @@ pub struct DialogOf<V> {
     pub(crate) marks: OnHeap<Record>,
     pub(crate) pending: Pending,
     pub(crate) log: Log,
+    /// What of the body is to be painted again after the last event, seen from the dialog's corner.
+    pub(crate) damage: Damage,
 }
 
 /// A dialog whose views are boxed.
@@ -136,6 +138,7 @@ impl<V: View> DialogOf<V> {
                 marks: kept.marks,
                 pending: kept.pending,
                 log: kept.log,
+                damage: Damage::new(),
             }),
             Err(fault) => Err((fault, body)),
         }

@@ -12,14 +12,15 @@ ghost use Rattle.tv_dialog.specs.Resting.{Rests};
 ghost use Rattle.tv_dialog.specs.Standing.{Stands};
 
 use crate::dialog::DialogOf;
+use tv_cells::Damage;
 use tv_group::Dir;
 use tv_model::Record;
 use tv_view::View;
 
 impl<V: View> DialogOf<V> {
     /// Opens it with the values that the record has for its fields, in whatever order, and the focus on the first free
-    /// control. Inputs in which typing overwrites stay so.
-    pub fn reopen(&mut self, values: &Record)
+    /// control. Inputs in which typing overwrites stay so. Adds the dialog's rectangle to the damage.
+    pub fn reopen(&mut self, values: &Record, damage: &mut Damage)
         requires { FitsAll values.now (opened V.meaning self.old.body) }
         ensures stands { (d : Dialog) (m : Modal) → IsLawfulDialog d → Rests V.meaning d m self.old
             → Stands V.meaning d (opens d (Some (in_field_order d values.now)) m.overwriting).leaves
@@ -27,9 +28,10 @@ impl<V: View> DialogOf<V> {
         ensures is_open { self.new.is_open ≡ true }
         ensures pending { self.new.pending ≡ [] }
     {
+        damage.add(self.head.bounds());
         self.log.clear();
         self.pending.clear();
-        self.body.set(values);
+        self.body.set(values, &mut self.damage);
         self.is_open = true;
         self.ended = None;
         self.focus = self.head.id();

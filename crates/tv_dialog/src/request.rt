@@ -24,7 +24,7 @@ impl<V: View> DialogOf<V> {
         ensures is_open { self.new.is_open ≡ self.old.is_open }
         ensures pending { self.new.pending ≡ self.old.pending }
     {
-        self.body.focus_to(id);
+        self.body.focus_to(id, &mut self.damage);
         self.focus = id;
         note(&mut self.log, LogLine::Focus(id));
     }

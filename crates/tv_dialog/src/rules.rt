@@ -34,9 +34,10 @@ impl<V: View> DialogOf<V> {
     {
         gather(&self.body, &mut self.marks);
         self.ruled.update(&self.plan, self.marks.get());
-        self.body.apply(&Rules {
+        let rules = Rules {
             shown: self.ruled.shown.as_slice(),
             commands: &self.ruled.commands,
-        });
+        };
+        self.body.apply(&rules, &mut self.damage);
     }
 }

@@ -14,7 +14,7 @@ ghost use Rattle.tv_dialog.specs.Standing.{Stands};
 ghost use Rattle.tv_dialog.specs.Stepping.{IsHandedIn, posted, posted_free, posted_held, posted_key, begun_anew, walked};
 
 use crate::dialog::DialogOf;
-use tv_cells::Point;
+use tv_cells::{Damage, Point};
 use tv_event::{Command, Event, Key};
 use tv_group::Dir;
 use tv_view::{Env, View};
@@ -92,19 +92,37 @@ impl<V: View> DialogOf<V> {
     }
 
     /// Handles an event, whose point is seen from the dialog's corner. `env` is what the dialog's owner lends it, with
-    /// the dialog's own views; the dialog itself adds who has the focus and what Enter presses.
-    pub fn step(&mut self, event: &Event, env: &Env)
+    /// the dialog's own views; the dialog itself adds who has the focus and what Enter presses. Adds to the damage what
+    /// it shows otherwise then.
+    pub fn step(&mut self, event: &Event, env: &Env, damage: &mut Damage)
         requires { self.old.is_open ≡ true }
         ensures stands { (d : Dialog) (m : Modal) → IsLawfulDialog d → env.now.views.now ≡ d.views → IsHandedIn event.now → HoldsLeaf d m
             → is_free_at d m.leaves m.focus ≡ true → Stands V.meaning d m.leaves m self.old
             → Stands V.meaning d (dialog_step d event.now (begun_anew m)).leaves (dialog_step d event.now (begun_anew m)) self.new }
         ensures pending { self.new.pending ≡ [] }
     {
-        self.step_told(self.held(), event, env);
+        self.step_told(self.held(), event, env, damage);
     }
 
     /// Handles an event as `step` does, told whether one of its views holds the mouse. To ask that costs a call of each.
-    pub fn step_told(&mut self, is_held: bool, event: &Event, env: &Env)
+    pub fn step_told(&mut self, is_held: bool, event: &Event, env: &Env, damage: &mut Damage)
+        requires going { self.old.is_open ≡ true }
+        requires held { is_held ≡ any_holds (opened V.meaning self.old.body) }
+        ensures stands { (d : Dialog) (m : Modal) → IsLawfulDialog d → env.now.views.now ≡ d.views → IsHandedIn event.now → HoldsLeaf d m
+            → is_free_at d m.leaves m.focus ≡ true → Stands V.meaning d m.leaves m self.old
+            → Stands V.meaning d (dialog_step d event.now (begun_anew m)).leaves (dialog_step d event.now (begun_anew m)) self.new }
+        ensures pending { self.new.pending ≡ [] }
+    {
+        let before = self.lent(env);
+        self.damage.clear();
+        self.answer(is_held, event, env);
+        let after = self.lent(env);
+        self.body.env_damage(&before, &after, &mut self.damage);
+        damage.add_within(&self.damage, self.head.bounds());
+    }
+
+    // Does what an event comes to.
+    fn answer(&mut self, is_held: bool, event: &Event, env: &Env)
         requires going { self.old.is_open ≡ true }
         requires held { is_held ≡ any_holds (opened V.meaning self.old.body) }
         ensures stands { (d : Dialog) (m : Modal) → IsLawfulDialog d → env.now.views.now ≡ d.views → IsHandedIn event.now → HoldsLeaf d m

@@ -19,6 +19,7 @@ ghost use Rattle.tv_tree.specs.Turns.{IsLentBy, phases_after, phases_answer};
 
 use crate::dialog::DialogOf;
 use crate::log::note;
+use tv_cells::Damage;
 use tv_event::{Event, Key, Phase};
 use tv_group::GroupOf;
 use tv_model::LogLine;
@@ -54,31 +55,42 @@ fn may_take(event: &Event, phase: Phase) -> bool
 }
 
 // Hands an event to the views whose turn the phase is, unless none of them would take it.
-fn offer<V: View>(body: &mut GroupOf<V>, event: &Event, phase: Phase, env: &Env) -> Reaction
+fn offer<V: View>(
+    body: &mut GroupOf<V>,
+    event: &Event,
+    phase: Phase,
+    env: &Env,
+    damage: &mut Damage,
+) -> Reaction
     ensures reaction { result ≡ group_answer event.now phase env.now (opened V.meaning body.old) }
     ensures after { opened V.meaning body.new ≡ group_after event.now phase env.now (opened V.meaning body.old) }
 {
     if may_take(event, phase) {
-        body.handle(event, phase, env)
+        body.handle(event, phase, env, damage)
     } else {
         Reaction::Pass
     }
 }
 
 // Hands an event that isn't a mouse down to the views in the three phases, until one takes it.
-fn offer_in_phases<V: View>(body: &mut GroupOf<V>, event: &Event, env: &Env) -> Reaction
+fn offer_in_phases<V: View>(
+    body: &mut GroupOf<V>,
+    event: &Event,
+    env: &Env,
+    damage: &mut Damage,
+) -> Reaction
     ensures { ((p : Point) → event.now ≡ events.Down p → ⊥) → (result ≡ phases_answer event.now env.now (opened V.meaning body.old))
         × (opened V.meaning body.new ≡ phases_after event.now env.now (opened V.meaning body.old)) }
 {
-    let first = offer(body, event, Phase::Pre, env);
+    let first = offer(body, event, Phase::Pre, env, damage);
     if !is_pass(&first) {
         return first;
     }
-    let second = offer(body, event, Phase::Focused, env);
+    let second = offer(body, event, Phase::Focused, env, damage);
     if !is_pass(&second) {
         return second;
     }
-    offer(body, event, Phase::Post, env)
+    offer(body, event, Phase::Post, env, damage)
 }
 
 impl<V: View> DialogOf<V> {
@@ -96,7 +108,7 @@ impl<V: View> DialogOf<V> {
             }
             Reaction::FocusPress(id, item) => {
                 if self.request(id) {
-                    self.body.press_item(id, item);
+                    self.body.press_item(id, item, &mut self.damage);
                     self.apply_rules();
                 }
             }
@@ -120,10 +132,14 @@ impl<V: View> DialogOf<V> {
             → SettlesTo V.meaning d (turned d event.now m) self.new }
         ensures pending { IsPosted self.new.pending }
     {
-        match self.body.handle(event, Phase::Focused, env) {
+        match self
+            .body
+            .handle(event, Phase::Focused, env, &mut self.damage)
+        {
             Reaction::Focus(id) => {
                 if self.request(id) {
-                    self.body.handle(event, Phase::Focused, env);
+                    self.body
+                        .handle(event, Phase::Focused, env, &mut self.damage);
                 }
             }
             reaction => self.react(reaction),
@@ -137,7 +153,9 @@ impl<V: View> DialogOf<V> {
             → Stands V.meaning d m.leaves m self.old → SettlesTo V.meaning d (turned d event.now m) self.new }
         ensures pending { IsPosted self.new.pending }
     {
-        let reaction = self.body.handle(event, Phase::Focused, env);
+        let reaction = self
+            .body
+            .handle(event, Phase::Focused, env, &mut self.damage);
         self.react(reaction);
     }
 
@@ -151,13 +169,15 @@ impl<V: View> DialogOf<V> {
         let env = self.lent(env);
         match event {
             Event::Key(_) => {
-                let reaction = offer_in_phases(&mut self.body, event, &env);
+                let reaction = offer_in_phases(&mut self.body, event, &env, &mut self.damage);
                 self.react(reaction);
             }
-            Event::Command(command) => match offer_in_phases(&mut self.body, event, &env) {
-                Reaction::Pass => self.command(*command),
-                reaction => self.react(reaction),
-            },
+            Event::Command(command) => {
+                match offer_in_phases(&mut self.body, event, &env, &mut self.damage) {
+                    Reaction::Pass => self.command(*command),
+                    reaction => self.react(reaction),
+                }
+            }
             Event::Down(_) => self.press(event, &env),
             Event::Up(_) => self.tell(event, &env),
             Event::Move(_) => self.tell(event, &env),

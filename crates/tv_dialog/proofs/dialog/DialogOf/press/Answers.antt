@@ -18,9 +18,9 @@ returns-then-request-clause-stands g c d m lawful lentby p is ready s =
     let old = c.args.self.now in
     let env = c.args.env.now in
     let i = c.in-Focus.id in
-    let mid : DialogOf g.row.V.Denot = record old { body = c.handle.new.self } in
+    let mid : DialogOf g.row.V.Denot = record old { body = c.handle.new.self; damage = c.handle.new.damage } in
     let asked : DialogOf g.row.V.Denot = c.request.new.self in
-    let new : DialogOf g.row.V.Denot = record asked { body = c.handle-then-request.new.self } in
+    let new : DialogOf g.row.V.Denot = record asked { body = c.handle-then-request.new.self; damage = c.handle-then-request.new.damage } in
     let answers : answer_down env p (opened look old.body) ≡ Focus i
     = sym (ap (λ e. group_answer e phases.Focused env (opened look old.body)) is) ∙ sym c.handle.ensures.reaction ∙ c.in-Focus.is in
     let leaves : opened look mid.body ≡ leaves_down env p (opened look old.body)
@@ -43,7 +43,7 @@ returns-else-request-clause-stands g c d m lawful lentby p is ready s =
     let old = c.args.self.now in
     let env = c.args.env.now in
     let i = c.in-Focus.id in
-    let mid : DialogOf g.row.V.Denot = record old { body = c.handle.new.self } in
+    let mid : DialogOf g.row.V.Denot = record old { body = c.handle.new.self; damage = c.handle.new.damage } in
     let asked : DialogOf g.row.V.Denot = c.request.new.self in
     let answers : answer_down env p (opened look old.body) ≡ Focus i
     = sym (ap (λ e. group_answer e phases.Focused env (opened look old.body)) is) ∙ sym c.handle.ensures.reaction ∙ c.in-Focus.is in
@@ -65,7 +65,7 @@ returns-in_default g c = record {
       let look = g.V.View.meaning in
       let old = c.args.self.now in
       let env = c.args.env.now in
-      let mid : DialogOf g.row.V.Denot = record old { body = c.handle.new.self } in
+      let mid : DialogOf g.row.V.Denot = record old { body = c.handle.new.self; damage = c.handle.new.damage } in
       let answers : c.handle.result ≡ answer_down env p (opened look old.body)
       = c.handle.ensures.reaction ∙ ap (λ e. group_answer e phases.Focused env (opened look old.body)) is in
       let leaves : opened look mid.body ≡ leaves_down env p (opened look old.body)

@@ -29,7 +29,7 @@ returns-then-request-clause-stands g c d ruled m lawful few going keeps s =
     let granted : is_granted (requested d m i) ≡ true = sym (asked.ensures.granted d m lawful old) ∙ c.if-request.true in
     let n : Modal = request d i m in
     let there = asked.ensures.stands d m lawful (omega (arith, few)) old in
-    let pressed : DialogOf g.row.V.Denot = record asked.new.self { body = c.press_item.new.self } in
+    let pressed : DialogOf g.row.V.Denot = record asked.new.self { body = c.press_item.new.self; damage = c.press_item.new.damage } in
     let stands = stands-item look d lawful n i item asked.new.self pressed
     (record { head = refl; plan = refl; «open» = refl; ended = refl; ruled = refl; marks = refl }) refl refl c.press_item.ensures.leaves there in
     let goes : (pressed_at d i item n).ended ≡ None

@@ -6,7 +6,7 @@ use Rattle.tv_dialog.proofs.dialog.DialogOf.tell.Goals as goal
 
 pub returns-clause-stands : goal.returns-clause-stands
 returns-clause-stands g c d m lawful lentby ready s =
-    let mid : DialogOf g.row.V.Denot = record c.args.self.now { body = c.handle-reaction.new.self } in
+    let mid : DialogOf g.row.V.Denot = record c.args.self.now { body = c.handle-reaction.new.self; damage = c.handle-reaction.new.damage } in
     comes-told g.V.View.meaning d lawful m c.args.env.now lentby c.args.self.now mid c.react.new.self c.handle-reaction.result s refl
     c.react.ensures.pending (λ ruled n few going keeps there. c.react.ensures.stands d ruled n lawful few going keeps there)
     c.args.event.now ready c.handle-reaction.ensures.reaction c.handle-reaction.ensures.after

@@ -16,7 +16,7 @@ returns-in-Key-clause-stands g c d m lawful views ready s =
     let is = c.in-Key.is in
     let env = c.lent-env.result in
     let xs = opened look c.args.self.now.body in
-    let mid : DialogOf g.row.V.Denot = record c.args.self.now { body = c.offer_in_phases-reaction.new.body } in
+    let mid : DialogOf g.row.V.Denot = record c.args.self.now { body = c.offer_in_phases-reaction.new.body; damage = c.offer_in_phases-reaction.new.damage } in
     let both = c.offer_in_phases-reaction.ensures (λ p e. let f : events.Key k ≡ events.Down p = sym is ∙ e in cc) in
     let lentby = lent-by d m c.args.self.now.plan c.args.self.now.focus c.args.env.now env s.plan s.focus views c.lent-env.ensures in
     subst (λ e. SettlesTo look d (turned d e m) c.react.new.self) (sym is)
@@ -33,7 +33,7 @@ returns-in-Pass-clause-stands g c d m lawful views ready s =
     let env = c.lent-env.result in
     let old = c.args.self.now in
     let xs = opened look old.body in
-    let mid : DialogOf g.row.V.Denot = record old { body = c.offer_in_phases.new.body } in
+    let mid : DialogOf g.row.V.Denot = record old { body = c.offer_in_phases.new.body; damage = c.offer_in_phases.new.damage } in
     let both = c.offer_in_phases.ensures (λ p e. let f : events.Command k ≡ events.Down p = sym is ∙ e in cc) in
     let there = stands-body look d m.leaves m m old mid (record { focus = refl; log = refl; ended = refl }) s.steady s refl
     (both.1 ∙ ap (λ e. phases_after e env xs) is ∙ phases_after-command k env xs ∙ s.tree) in
