@@ -1,3 +1,5 @@
+pub mod AlikeLemmas
+pub mod DamageLemmas
 pub mod FieldLemmas
 pub mod FieldOrderLemmas
 pub mod FirstRecordLemmas

@@ -1,3 +1,4 @@
+pub mod Damage
 pub mod Drawn
 pub mod Fields
 pub mod Head

@@ -7,6 +7,7 @@ ghost use Rattle.tv_machine.specs.Dialog.Ending.{command as commanded, end_by, e
 ghost use Rattle.tv_machine.specs.Dialog.Lawful.{IsLawfulDialog};
 ghost use Rattle.tv_machine.specs.Dialog.Modal.{Modal, with_line};
 ghost use Rattle.tv_dialog.specs.Fields.{field_lines};
+ghost use Rattle.tv_dialog.specs.Damage.{BodyDrawn};
 ghost use Rattle.tv_dialog.specs.Standing.{Stands};
 
 use crate::dialog::DialogOf;
@@ -45,6 +46,7 @@ impl<V: View> DialogOf<V> {
         ensures stands { (d : Dialog) (m : Modal) → IsLawfulDialog d → length m.log ≤ 1
             → Stands V.meaning d m.leaves m self.old → Stands V.meaning d m.leaves (ended d command.0 m) self.new }
         ensures pending { self.new.pending ≡ self.old.pending }
+        ensures drawn { BodyDrawn V.meaning self.old self.new }
     {
         let mut fields = Record::new();
         self.body.gather(&mut fields);
@@ -60,6 +62,7 @@ impl<V: View> DialogOf<V> {
         ensures stands { (d : Dialog) (m : Modal) → IsLawfulDialog d → length m.log ≤ 1 → Stands V.meaning d m.leaves m self.old
             → Stands V.meaning d (shown_invalid d id (with_line (lines.Invalid id) m)).leaves (shown_invalid d id (with_line (lines.Invalid id) m)) self.new }
         ensures pending { self.new.pending ≡ self.old.pending }
+        ensures drawn { BodyDrawn V.meaning self.old self.new }
     {
         note(&mut self.log, LogLine::Invalid(id));
         if id != self.focus && self.body.is_free(id) {
@@ -72,6 +75,7 @@ impl<V: View> DialogOf<V> {
         ensures stands { (d : Dialog) (m : Modal) → IsLawfulDialog d → length m.log ≤ 1 → Stands V.meaning d m.leaves m self.old
             → Stands V.meaning d (end_by d command.0 (first_invalid d m) m).leaves (end_by d command.0 (first_invalid d m) m) self.new }
         ensures pending { self.new.pending ≡ self.old.pending }
+        ensures drawn { BodyDrawn V.meaning self.old self.new }
     {
         match self.body.first_invalid() {
             Some(id) => self.show_invalid(id),
@@ -84,6 +88,7 @@ impl<V: View> DialogOf<V> {
         ensures stands { (d : Dialog) (m : Modal) → IsLawfulDialog d → length m.log ≤ 1
             → Stands V.meaning d m.leaves m self.old → Stands V.meaning d (commanded d command.0 m).leaves (commanded d command.0 m) self.new }
         ensures pending { self.new.pending ≡ self.old.pending }
+        ensures drawn { BodyDrawn V.meaning self.old self.new }
     {
         if command == Command::CLOSE || command == Command::CANCEL {
             self.end(Command::CANCEL);

@@ -21,11 +21,12 @@ ghost use Rattle.tv_machine.specs.Dialog.Modal.{Modal};
 ghost use Rattle.tv_machine.specs.Screen.Layers.{dialog_layers as open_layers};
 ghost use Rattle.tv_dialog.specs.Head.{IsLimitedDialogHead, dialog_bounds, declared_dialog_head};
 ghost use Rattle.tv_dialog.specs.Plan.{plan_of};
+ghost use Rattle.tv_dialog.specs.Damage.{DialogEnvDamages};
 ghost use Rattle.tv_dialog.specs.Drawn.{default_now, drawn_dialog, lent};
 ghost use Rattle.tv_dialog.specs.declared.fault.DialogFault.TheVariants.{WrongKind};
 
 use crate::fault::DialogFault;
-use crate::head::Head;
+use crate::head::{Head, looks_same};
 use crate::log::Log;
 use crate::plan::Plan;
 use crate::ruled::Ruled;
@@ -254,5 +255,20 @@ impl<V: View> DialogOf<V> {
         let frame = self.head.frame(env);
         lay(screen, inner, frame.width, frame.height, &frame);
         self.body.draw(screen, inner, &self.lent(env));
+    }
+
+    /// Adds what it shows otherwise in another environment: all of it where the frame does, else what its views tell.
+    /// Both environments are what the dialog's owner lends it.
+    pub fn env_damage(&self, old: &Env, new: &Env, damage: &mut Damage)
+        ensures { DialogEnvDamages V.meaning old.now new.now self.now damage.old damage.new }
+    {
+        if looks_same(old, new) {
+            let mut inner = Damage::new();
+            self.body
+                .env_damage(&self.lent(old), &self.lent(new), &mut inner);
+            damage.add_within(&inner, self.head.bounds());
+        } else {
+            damage.add(self.head.bounds());
+        }
     }
 }

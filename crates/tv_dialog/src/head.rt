@@ -1,6 +1,6 @@
 //! What a dialog keeps of its node.
 
-ghost use Rattle.std.specs.Prelude.{◌≡◌, IfSome};
+ghost use Rattle.std.specs.Prelude.{◌≡◌, IfSome, IsTrue};
 ghost use Rattle.tv_cells.specs.Rectangle.{IsRectNear};
 ghost use Rattle.tv_model.specs.Screen.Faces.{frame_look};
 ghost use Rattle.tv_model.specs.Description.Rectangles.{IsSmallRect};
@@ -40,6 +40,14 @@ impl Model for Head {
     ghost view = { λ s. record { id = s.id; x = s.x; y = s.y; w = s.w; h = s.h; title = s.title; ends = s.ends } };
 
     ghost invariant = { λ s. IsLimitedDialogHead (record { id = s.id; x = s.x; y = s.y; w = s.w; h = s.h; title = s.title; ends = s.ends }) };
+}
+
+/// Whether a dialog's frame looks the same in both environments.
+pub(crate) fn looks_same(old: &Env, new: &Env) -> bool
+    ensures { IsTrue result → frame_look (colour_in new.now.chain.now) Dialog 0 new.now.is_active
+        ≡ frame_look (colour_in old.now.chain.now) Dialog 0 old.now.is_active }
+{
+    old.is_active == new.is_active && old.chain.is(new.chain)
 }
 
 impl Head {

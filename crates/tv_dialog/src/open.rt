@@ -7,7 +7,9 @@ ghost use Rattle.tv_machine.specs.Dialog.Modal.{Modal};
 ghost use Rattle.tv_machine.specs.Dialog.Opening.{opened_dialog as opens};
 ghost use Rattle.tv_group.specs.Calls.{FitsAll};
 ghost use Rattle.tv_group.specs.Opened.{opened};
+ghost use Rattle.tv_cells.specs.Damage.{Grows, HasAll};
 ghost use Rattle.tv_dialog.specs.Fields.{in_field_order};
+ghost use Rattle.tv_dialog.specs.Head.{dialog_bounds};
 ghost use Rattle.tv_dialog.specs.Resting.{Rests};
 ghost use Rattle.tv_dialog.specs.Standing.{Stands};
 
@@ -27,6 +29,8 @@ impl<V: View> DialogOf<V> {
             (opens d (Some (in_field_order d values.now)) m.overwriting) self.new }
         ensures is_open { self.new.is_open ≡ true }
         ensures pending { self.new.pending ≡ [] }
+        ensures added { HasAll (dialog_bounds self.old.head) damage.new }
+        ensures grown { Grows (dialog_bounds self.old.head) damage.old damage.new }
     {
         damage.add(self.head.bounds());
         self.log.clear();

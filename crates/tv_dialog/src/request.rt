@@ -8,6 +8,7 @@ ghost use Rattle.tv_machine.specs.Dialog.Lawful.{IsLawfulDialog};
 ghost use Rattle.tv_machine.specs.Dialog.Modal.{Modal};
 ghost use Rattle.tv_group.specs.Calls.{first_in, next_in};
 ghost use Rattle.tv_group.specs.Opened.{opened};
+ghost use Rattle.tv_dialog.specs.Damage.{BodyDrawn};
 ghost use Rattle.tv_dialog.specs.Standing.{Stands, stop_in};
 
 use crate::dialog::DialogOf;
@@ -23,6 +24,7 @@ impl<V: View> DialogOf<V> {
             → Stands V.meaning d m.leaves m self.old → Stands V.meaning d (focus_moved d id m).leaves (focus_moved d id m) self.new }
         ensures is_open { self.new.is_open ≡ self.old.is_open }
         ensures pending { self.new.pending ≡ self.old.pending }
+        ensures drawn { BodyDrawn V.meaning self.old self.new }
     {
         self.body.focus_to(id, &mut self.damage);
         self.focus = id;
@@ -35,6 +37,7 @@ impl<V: View> DialogOf<V> {
             → Stands V.meaning d m.leaves m self.old → Stands V.meaning d (asked d id m).leaves (asked d id m) self.new }
         ensures granted { (d : Dialog) (m : Modal) → IsLawfulDialog d → Stands V.meaning d m.leaves m self.old → result ≡ is_granted (requested d m id) }
         ensures pending { self.new.pending ≡ self.old.pending }
+        ensures drawn { BodyDrawn V.meaning self.old self.new }
     {
         if id == self.focus {
             return true;
@@ -52,6 +55,7 @@ impl<V: View> DialogOf<V> {
         ensures granted { (d : Dialog) (m : Modal) → IsLawfulDialog d → (id.0 == m.focus.0) ≡ false → is_free_at d m.leaves id ≡ true
             → Stands V.meaning d m.leaves m self.old → result ≡ is_granted (requested d m id) }
         ensures pending { self.new.pending ≡ self.old.pending }
+        ensures drawn { BodyDrawn V.meaning self.old self.new }
     {
         if self.body.refuses().is_some() {
             note(&mut self.log, LogLine::Invalid(self.focus));
@@ -76,6 +80,7 @@ impl<V: View> DialogOf<V> {
         ensures stands { (d : Dialog) (m : Modal) → IsLawfulDialog d → length m.log < 66
             → Stands V.meaning d m.leaves m self.old → Stands V.meaning d (asked d (stop_in d m dir) m).leaves (asked d (stop_in d m dir) m) self.new }
         ensures pending { self.new.pending ≡ self.old.pending }
+        ensures drawn { BodyDrawn V.meaning self.old self.new }
     {
         if let Some(id) = self.next_stop(dir) {
             if id != self.focus {

@@ -8,6 +8,7 @@ ghost use Rattle.tv_machine.specs.Dialog.Modal.{Modal};
 ghost use Rattle.tv_group.specs.Calls.{gathered_within};
 ghost use Rattle.tv_group.specs.Opened.{opened};
 ghost use Rattle.tv_dialog.specs.Resting.{Rests};
+ghost use Rattle.tv_dialog.specs.Damage.{BodyDrawn};
 ghost use Rattle.tv_dialog.specs.Standing.{Stands};
 
 use crate::dialog::DialogOf;
@@ -31,6 +32,7 @@ impl<V: View> DialogOf<V> {
             → self.old.focus ≡ m.focus → self.old.log.items ≡ m.log → self.old.is_open ≡ true → self.old.ended ≡ None → Stands V.meaning d m.leaves m self.new }
         ensures is_open { self.new.is_open ≡ self.old.is_open }
         ensures pending { self.new.pending ≡ self.old.pending }
+        ensures drawn { BodyDrawn V.meaning self.old self.new }
     {
         gather(&self.body, &mut self.marks);
         self.ruled.update(&self.plan, self.marks.get());

@@ -10,6 +10,7 @@ ghost use Rattle.tv_machine.specs.Dialog.Step.{dialog_step};
 ghost use Rattle.tv_tree.specs.Ready.{HoldsLeaf};
 ghost use Rattle.tv_group.specs.Calls.{any_holds};
 ghost use Rattle.tv_group.specs.Opened.{opened};
+ghost use Rattle.tv_dialog.specs.Damage.{BodyDrawn, DialogDamages};
 ghost use Rattle.tv_dialog.specs.Standing.{Stands};
 ghost use Rattle.tv_dialog.specs.Stepping.{IsHandedIn, posted, posted_free, posted_held, posted_key, begun_anew, walked};
 
@@ -83,6 +84,7 @@ impl<V: View> DialogOf<V> {
         ensures stands { (d : Dialog) (m : Modal) → IsLawfulDialog d → length m.log < 66
             → Stands V.meaning d m.leaves m self.old → Stands V.meaning d (walked d event.now m).leaves (walked d event.now m) self.new }
         ensures pending { self.new.pending ≡ self.old.pending }
+        ensures drawn { BodyDrawn V.meaning self.old self.new }
     {
         match event {
             Event::Key(Key::Tab) => self.advance(Dir::Forward),
@@ -100,6 +102,7 @@ impl<V: View> DialogOf<V> {
             → is_free_at d m.leaves m.focus ≡ true → Stands V.meaning d m.leaves m self.old
             → Stands V.meaning d (dialog_step d event.now (begun_anew m)).leaves (dialog_step d event.now (begun_anew m)) self.new }
         ensures pending { self.new.pending ≡ [] }
+        ensures damage { DialogDamages V.meaning env.now self.old self.new damage.old damage.new }
     {
         self.step_told(self.held(), event, env, damage);
     }
@@ -112,6 +115,7 @@ impl<V: View> DialogOf<V> {
             → is_free_at d m.leaves m.focus ≡ true → Stands V.meaning d m.leaves m self.old
             → Stands V.meaning d (dialog_step d event.now (begun_anew m)).leaves (dialog_step d event.now (begun_anew m)) self.new }
         ensures pending { self.new.pending ≡ [] }
+        ensures damage { DialogDamages V.meaning env.now self.old self.new damage.old damage.new }
     {
         let before = self.lent(env);
         self.damage.clear();
@@ -129,6 +133,7 @@ impl<V: View> DialogOf<V> {
             → is_free_at d m.leaves m.focus ≡ true → Stands V.meaning d m.leaves m self.old
             → Stands V.meaning d (dialog_step d event.now (begun_anew m)).leaves (dialog_step d event.now (begun_anew m)) self.new }
         ensures pending { self.new.pending ≡ [] }
+        ensures drawn { BodyDrawn V.meaning self.old self.new }
     {
         self.log.clear();
         self.pending.clear();

@@ -13,7 +13,9 @@ ghost use Rattle.tv_group.specs.Handling.{group_after, group_answer, is_pass};
 ghost use Rattle.tv_group.specs.Opened.{opened};
 ghost use Rattle.tv_machine.specs.Dialog.Alike.{HoldSame};
 ghost use Rattle.tv_tree.specs.Ready.{KeepsMarks};
+ghost use Rattle.tv_view.specs.Damage.{AllDrawn};
 ghost use Rattle.tv_dialog.specs.Settling.{SettlesTo, IsPosted, IsReadyFor, IsReadyForAll, IsReadyForDown, PostedAfter, may_call, may_take, posted_by, reacted_first, turned};
+ghost use Rattle.tv_dialog.specs.Damage.{BodyDrawn};
 ghost use Rattle.tv_dialog.specs.Standing.{Stands};
 ghost use Rattle.tv_tree.specs.Turns.{IsLentBy, phases_after, phases_answer};
 
@@ -64,6 +66,7 @@ fn offer<V: View>(
 ) -> Reaction
     ensures reaction { result ≡ group_answer event.now phase env.now (opened V.meaning body.old) }
     ensures after { opened V.meaning body.new ≡ group_after event.now phase env.now (opened V.meaning body.old) }
+    ensures drawn { AllDrawn (opened V.meaning body.old) (opened V.meaning body.new) damage.old damage.new }
 {
     if may_take(event, phase) {
         body.handle(event, phase, env, damage)
@@ -79,8 +82,9 @@ fn offer_in_phases<V: View>(
     env: &Env,
     damage: &mut Damage,
 ) -> Reaction
-    ensures { ((p : Point) → event.now ≡ events.Down p → ⊥) → (result ≡ phases_answer event.now env.now (opened V.meaning body.old))
+    ensures handled { ((p : Point) → event.now ≡ events.Down p → ⊥) → (result ≡ phases_answer event.now env.now (opened V.meaning body.old))
         × (opened V.meaning body.new ≡ phases_after event.now env.now (opened V.meaning body.old)) }
+    ensures drawn { AllDrawn (opened V.meaning body.old) (opened V.meaning body.new) damage.old damage.new }
 {
     let first = offer(body, event, Phase::Pre, env, damage);
     if !is_pass(&first) {
@@ -101,6 +105,7 @@ impl<V: View> DialogOf<V> {
             → (KeepsMarks reaction → HoldSame d ruled m.leaves) → Stands V.meaning d ruled m self.old
             → Stands V.meaning d (reacted_first d reaction m).leaves (reacted_first d reaction m) self.new }
         ensures pending { self.new.pending ≡ posted_by reaction }
+        ensures drawn { BodyDrawn V.meaning self.old self.new }
     {
         match reaction {
             Reaction::Focus(id) => {
@@ -131,6 +136,7 @@ impl<V: View> DialogOf<V> {
             → IsReadyForDown m p → Stands V.meaning d m.leaves m self.old
             → SettlesTo V.meaning d (turned d event.now m) self.new }
         ensures pending { IsPosted self.new.pending }
+        ensures drawn { BodyDrawn V.meaning self.old self.new }
     {
         match self
             .body
@@ -152,6 +158,7 @@ impl<V: View> DialogOf<V> {
         ensures stands { (d : Dialog) (m : Modal) → IsLawfulDialog d → IsLentBy d m env.now → IsReadyForAll d m event.now
             → Stands V.meaning d m.leaves m self.old → SettlesTo V.meaning d (turned d event.now m) self.new }
         ensures pending { IsPosted self.new.pending }
+        ensures drawn { BodyDrawn V.meaning self.old self.new }
     {
         let reaction = self
             .body
@@ -165,6 +172,7 @@ impl<V: View> DialogOf<V> {
         ensures stands { (d : Dialog) (m : Modal) → IsLawfulDialog d → env.now.views.now ≡ d.views → IsReadyFor d m event.now
             → Stands V.meaning d m.leaves m self.old → SettlesTo V.meaning d (turned d event.now m) self.new }
         ensures pending { PostedAfter event.now self.new.pending }
+        ensures drawn { BodyDrawn V.meaning self.old self.new }
     {
         let env = self.lent(env);
         match event {
@@ -193,6 +201,7 @@ impl<V: View> DialogOf<V> {
         ensures rests { self.old.pending ≡ [] → self.new ≡ self.old }
         ensures posted { IsPosted self.new.pending }
         ensures last { (c : Command) → self.old.pending ≡ events.Command c ∷ [] → self.new.pending ≡ [] }
+        ensures drawn { BodyDrawn V.meaning self.old self.new }
     {
         if let Some(event) = self.pending.next() {
             self.turn(&event, env);
@@ -208,6 +217,7 @@ impl<V: View> DialogOf<V> {
             → Stands V.meaning d (turned d e m).leaves (turned d e m) self.new }
         ensures rests { self.old.pending ≡ [] → self.new ≡ self.old }
         ensures pending { self.new.pending ≡ [] }
+        ensures drawn { BodyDrawn V.meaning self.old self.new }
     {
         self.turn_next(env);
         self.turn_next(env);

@@ -3,10 +3,11 @@ use Rattle.tv_event.specs.declared.event.Phase.TheVariants as phases
 use Rattle.tv_group.specs.Handling.{group_after, group_answer, is_pass}
 use Rattle.tv_group.specs.Opened.{opened}
 use Rattle.tv_tree.proofs.Keys.OfferLemmas.{phase-passed, phases-first, phases-second, phases-third}
+use Rattle.tv_dialog.proofs.AlikeLemmas.{all-drawn-then}
 use Rattle.tv_dialog.proofs.turn.offer_in_phases.Goals as goal
 
-pub returns-then-not-is_pass : goal.returns-then-not-is_pass
-returns-then-not-is_pass g c other =
+pub returns-then-not-is_pass-clause-handled : goal.returns-then-not-is_pass-clause-handled
+returns-then-not-is_pass-clause-handled g c other =
     let xs = opened g.V.View.meaning c.args.body.now in
     let e = c.args.event.now in
     let env = c.args.env.now in
@@ -14,8 +15,8 @@ returns-then-not-is_pass g c other =
     let both = phases-first e env xs taken in
     (c.offer-first.ensures.reaction ∙ sym both.0, c.offer-first.ensures.after ∙ sym both.1)
 
-pub returns-then-not-is_pass-2 : goal.returns-then-not-is_pass-2
-returns-then-not-is_pass-2 g c other =
+pub returns-then-not-is_pass-2-clause-handled : goal.returns-then-not-is_pass-2-clause-handled
+returns-then-not-is_pass-2-clause-handled g c other =
     let xs = opened g.V.View.meaning c.args.body.now in
     let e = c.args.event.now in
     let env = c.args.env.now in
@@ -26,8 +27,8 @@ returns-then-not-is_pass-2 g c other =
     let both = phases-second e env xs first taken in
     (answer ∙ sym both.0, c.offer-second.ensures.after ∙ (ap (group_after e phases.Focused env) same ∙ sym both.1))
 
-pub returns : goal.returns
-returns g c other =
+pub returns-clause-handled : goal.returns-clause-handled
+returns-clause-handled g c other =
     let xs = opened g.V.View.meaning c.args.body.now in
     let e = c.args.event.now in
     let env = c.args.env.now in
@@ -39,3 +40,10 @@ returns g c other =
     = c.offer-second.ensures.after ∙ (ap (group_after e phases.Focused env) same ∙ phase-passed e phases.Focused env xs other second) in
     let both = phases-third e env xs first second in
     (c.offer.ensures.reaction ∙ (ap (group_answer e phases.Post env) again ∙ sym both.0), c.offer.ensures.after ∙ (ap (group_after e phases.Post env) again ∙ sym both.1))
+
+pub returns-then-not-is_pass-2-clause-drawn : goal.returns-then-not-is_pass-2-clause-drawn
+returns-then-not-is_pass-2-clause-drawn g c = all-drawn-then _ _ _ _ _ _ c.offer-first.ensures.drawn c.offer-second.ensures.drawn
+
+pub returns-clause-drawn : goal.returns-clause-drawn
+returns-clause-drawn g c =
+    all-drawn-then _ _ _ _ _ _ c.offer-first.ensures.drawn (all-drawn-then _ _ _ _ _ _ c.offer-second.ensures.drawn c.offer.ensures.drawn)

@@ -7,6 +7,7 @@ use Rattle.tv_group.specs.Opened.{opened}
 use Rattle.tv_dialog.specs.declared.dialog.DialogOf.{DialogOf}
 use Rattle.tv_dialog.specs.Settling.{SettlesTo, turned}
 use Rattle.tv_tree.proofs.FlagLemmas.{flags-same}
+use Rattle.tv_dialog.proofs.DamageLemmas.{body-called, body-then}
 use Rattle.tv_dialog.proofs.PressCodeLemmas.{answer_down, leaves_down, over-comes, press-over, pressed, stands-again, stands-asking, stands-refused}
 use Rattle.tv_dialog.proofs.SettleLemmas.{posted-by}
 use Rattle.tv_dialog.proofs.TurnCodeLemmas.{comes-handled}
@@ -37,6 +38,16 @@ returns-then-request-clause-stands g c d m lawful lentby p is ready s =
           (c.request.ensures.stands d m lawful few asking) new refl again,
     ))
 
+pub returns-then-request-clause-drawn : goal.returns-then-request-clause-drawn
+returns-then-request-clause-drawn g c =
+    let look = g.V.View.meaning in
+    let old = c.args.self.now in
+    let mid : DialogOf g.row.V.Denot = record old { body = c.handle.new.self; damage = c.handle.new.damage } in
+    let asked : DialogOf g.row.V.Denot = c.request.new.self in
+    let new : DialogOf g.row.V.Denot = record asked { body = c.handle-then-request.new.self; damage = c.handle-then-request.new.damage } in
+    body-then look old mid new (body-called look old mid refl c.handle.ensures.damage)
+    (body-then look mid asked new c.request.ensures.drawn (body-called look asked new refl c.handle-then-request.ensures.damage))
+
 pub returns-else-request-clause-stands : goal.returns-else-request-clause-stands
 returns-else-request-clause-stands g c d m lawful lentby p is ready s =
     let look = g.V.View.meaning in
@@ -59,6 +70,13 @@ returns-else-request-clause-stands g c d m lawful lentby p is ready s =
           (c.request.ensures.stands d m lawful few asking),
     ))
 
+pub returns-else-request-clause-drawn : goal.returns-else-request-clause-drawn
+returns-else-request-clause-drawn g c =
+    let look = g.V.View.meaning in
+    let old = c.args.self.now in
+    let mid : DialogOf g.row.V.Denot = record old { body = c.handle.new.self; damage = c.handle.new.damage } in
+    body-then look old mid c.request.new.self (body-called look old mid refl c.handle.ensures.damage) c.request.ensures.drawn
+
 pub returns-in_default : goal.returns-in_default
 returns-in_default g c = record {
   stands = λ d m lawful lentby p is ready s.
@@ -80,4 +98,9 @@ returns-in_default g c = record {
       (λ few going keeps there. c.react.ensures.stands d m.leaves n lawful few going keeps there)
       c.react.ensures.pending);
   pending = posted-by c.handle.result c.react.new.self.pending c.react.ensures.pending;
+  drawn =
+      let look = g.V.View.meaning in
+      let old = c.args.self.now in
+      let mid : DialogOf g.row.V.Denot = record old { body = c.handle.new.self; damage = c.handle.new.damage } in
+      body-then look old mid c.react.new.self (body-called look old mid refl c.handle.ensures.damage) c.react.ensures.drawn;
 }

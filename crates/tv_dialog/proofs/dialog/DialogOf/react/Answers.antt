@@ -7,6 +7,7 @@ use Rattle.tv_dialog.specs.Settling.{reacted_first}
 use Rattle.tv_dialog.specs.Standing.{Stands}
 use Rattle.tv_tree.specs.Turns.{pressed_at}
 use Rattle.tv_tree.proofs.RuledLemmas.{pressed-keeps}
+use Rattle.tv_dialog.proofs.DamageLemmas.{body-called, body-then}
 use Rattle.tv_dialog.proofs.StandsLemmas.{restands}
 use Rattle.tv_dialog.proofs.TurnCodeLemmas.{ended-request, granted-then, keeps-as, refused-then, stands-item, stands-pressed}
 use Rattle.tv_dialog.proofs.dialog.DialogOf.react.Goals as goal
@@ -37,6 +38,14 @@ returns-then-request-clause-stands g c d ruled m lawful few going keeps s =
     subst (λ r. Stands look d (reacted_first d r m).leaves (reacted_first d r m) c.apply_rules.new.self) (sym is)
     (subst (λ t. Stands look d t.leaves t c.apply_rules.new.self) (sym (granted-then d i (pressed_at d i item) m granted))
     (c.apply_rules.ensures.stands d n.leaves (pressed_at d i item n) lawful goes stands))
+
+pub returns-then-request-clause-drawn : goal.returns-then-request-clause-drawn
+returns-then-request-clause-drawn g c =
+    let look = g.V.View.meaning in
+    let asked : DialogOf g.row.V.Denot = c.request-in-FocusPress.new.self in
+    let pressed : DialogOf g.row.V.Denot = record asked { body = c.press_item.new.self; damage = c.press_item.new.damage } in
+    body-then look c.args.self.now asked c.apply_rules.new.self c.request-in-FocusPress.ensures.drawn
+    (body-then look asked pressed c.apply_rules.new.self (body-called look asked pressed refl c.press_item.ensures.damage) c.apply_rules.ensures.drawn)
 
 pub returns-else-request-clause-stands : goal.returns-else-request-clause-stands
 returns-else-request-clause-stands g c d ruled m lawful few going keeps s =

@@ -1,6 +1,7 @@
 use Rattle.std.proofs.Common.{ap, ◌∙◌}
 use Rattle.tv_event.specs.declared.event.Event.TheVariants as events
 use Rattle.tv_dialog.specs.Settling.{turned}
+use Rattle.tv_dialog.proofs.DamageLemmas.{body-then}
 use Rattle.tv_dialog.proofs.SettleLemmas.{posted-few, settled-none, settles}
 use Rattle.tv_dialog.proofs.dialog.DialogOf.settle.Goals as goal
 
@@ -23,3 +24,7 @@ returns-clause-stands g c d m e lawful views ready waits s =
 pub returns-clause-rests : goal.returns-clause-rests
 returns-clause-rests g c none =
     c.turn_next-2.ensures.rests (ap (λ x. x.pending) (c.turn_next.ensures.rests none) ∙ none) ∙ c.turn_next.ensures.rests none
+
+pub returns-clause-drawn : goal.returns-clause-drawn
+returns-clause-drawn g c =
+    body-then g.V.View.meaning c.args.self.now c.turn_next.new.self c.turn_next-2.new.self c.turn_next.ensures.drawn c.turn_next-2.ensures.drawn

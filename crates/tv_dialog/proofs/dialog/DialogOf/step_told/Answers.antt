@@ -1,6 +1,7 @@
 use Rattle.std.proofs.Common.{refl}
 use Rattle.tv_machine.specs.Dialog.Step.{dialog_step}
 use Rattle.tv_dialog.specs.Stepping.{begun_anew}
+use Rattle.tv_dialog.proofs.DamageLemmas.{dialog-damages}
 use Rattle.tv_dialog.proofs.TurnCodeLemmas.{stands-alike}
 use Rattle.tv_dialog.proofs.dialog.DialogOf.step_told.Goals as goal
 
@@ -12,3 +13,9 @@ returns-clause-stands g c d m lawful views handed leaf focus s =
     let after = dialog_step d c.args.event.now (begun_anew m) in
     stands-alike look d after.leaves after c.answer.new.self _ (record { head = refl; plan = refl; «open» = refl; ended = refl; ruled = refl; marks = refl }) refl refl refl
     (c.answer.ensures.stands d m lawful views handed leaf focus begun)
+
+pub returns-clause-damage : goal.returns-clause-damage
+returns-clause-damage g c =
+    let done = c.answer.ensures.drawn in
+    dialog-damages g.V.View.meaning c.args.env.now c.lent-before.result c.lent-after.result c.args.self.now _ c.clear.new.self c.answer.new.self.damage c.env_damage.new.damage c.args.damage.now c.add_within.new.self
+    c.bounds.result done.head done.body c.lent-before.ensures c.lent-after.ensures c.env_damage.ensures c.bounds.ensures.is c.add_within.ensures.added c.add_within.ensures.grown

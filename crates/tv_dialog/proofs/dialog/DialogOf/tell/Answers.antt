@@ -1,5 +1,6 @@
 use Rattle.std.proofs.Common.{refl}
 use Rattle.tv_dialog.specs.declared.dialog.DialogOf.{DialogOf}
+use Rattle.tv_dialog.proofs.DamageLemmas.{body-called, body-then}
 use Rattle.tv_dialog.proofs.SettleLemmas.{posted-by}
 use Rattle.tv_dialog.proofs.TurnEventLemmas.{comes-told}
 use Rattle.tv_dialog.proofs.dialog.DialogOf.tell.Goals as goal
@@ -13,3 +14,10 @@ returns-clause-stands g c d m lawful lentby ready s =
 
 pub returns-clause-pending : goal.returns-clause-pending
 returns-clause-pending g c = posted-by c.handle-reaction.result c.react.new.self.pending c.react.ensures.pending
+
+pub returns-clause-drawn : goal.returns-clause-drawn
+returns-clause-drawn g c =
+    let look = g.V.View.meaning in
+    let old = c.args.self.now in
+    let mid : DialogOf g.row.V.Denot = record old { body = c.handle-reaction.new.self; damage = c.handle-reaction.new.damage } in
+    body-then look old mid c.react.new.self (body-called look old mid refl c.handle-reaction.ensures.damage) c.react.ensures.drawn

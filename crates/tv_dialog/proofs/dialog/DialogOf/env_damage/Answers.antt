@@ -1,0 +1,19 @@
+use Rattle.std.proofs.Common.{rules, subst}
+use Rattle.tv_view.specs.Damage.{AllEnvDamages}
+use Rattle.tv_group.specs.Opened.{group_bounds, opened}
+use Rattle.tv_dialog.proofs.DamageLemmas.{views-told, whole-told}
+use Rattle.tv_dialog.proofs.dialog.DialogOf.env_damage.Goals as goal
+
+pub returns-then-looks_same : goal.returns-then-looks_same
+returns-then-looks_same g c =
+    let look = g.V.View.meaning in
+    let dialog = c.args.self.now in
+    let told = subst (λ damage. AllEnvDamages (group_bounds dialog.body) c.lent.result c.lent-then-looks_same.result (opened look dialog.body) damage c.env_damage.new.damage)
+    c.new-inner.ensures c.env_damage.ensures in
+    views-told look c.args.old.now c.args.new.now dialog c.args.damage.now c.add_within.new.self c.bounds.result c.bounds.ensures.is c.add_within.ensures.grown
+    (c.looks_same.ensures (search rules)) c.lent.result c.lent-then-looks_same.result c.env_damage.new.damage c.lent.ensures c.lent-then-looks_same.ensures told c.add_within.ensures.added
+
+pub returns-else-looks_same : goal.returns-else-looks_same
+returns-else-looks_same g c =
+    let bounds = c.bounds-else-looks_same in
+    whole-told g.V.View.meaning c.args.old.now c.args.new.now c.args.self.now c.args.damage.now c.add.new.self bounds.result bounds.ensures.is c.add.ensures.grown c.add.ensures.added
