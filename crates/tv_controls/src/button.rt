@@ -17,7 +17,7 @@ ghost use Rattle.tv_controls.specs.Button.{is_pressed_by};
 
 use bitflags::Flags;
 use std::alloc::Global;
-use tv_cells::{Canvas, Point, Rect, Screen, lay};
+use tv_cells::{Canvas, Damage, Point, Rect, Screen, lay};
 use tv_event::{Command, Event, Key, Options, Phase, State};
 use tv_faces::{ButtonFace, ButtonLook, natural};
 use tv_leaf::{ControlFault, LeafCore, contains, has_focus, is_default_now};
@@ -106,6 +106,7 @@ impl Button {
     fn down_answer(&mut self) -> Reaction
         ensures reaction { (env : Lent) → result ≡ down_answer env (plain_leaf self.old.core) }
         ensures after { (env : Lent) (point : Point) → plain_leaf self.new.core ≡ (if captures (plain_leaf self.old.core) self.old.core.node.kind then captured env point (plain_leaf self.old.core) else plain_leaf self.old.core) }
+        ensures rest { self.new.core ≡ record self.old.core { held = self.new.core.held } }
     {
         if self.declared().grabs && !self.core.is_focused() {
             return Reaction::Focus(self.core.id());
@@ -118,6 +119,7 @@ impl Button {
     fn up_answer(&mut self, point: Point) -> Reaction
         ensures reaction { result ≡ lifted_answer (plain_leaf self.old.core) point self.old.core.held }
         ensures after { plain_leaf self.new.core ≡ lifted point self.old.core.held (plain_leaf self.old.core) }
+        ensures rest { self.new.core ≡ record self.old.core { held = self.new.core.held } }
     {
         if !self.core.holds() {
             return Reaction::Pass;
@@ -169,7 +171,7 @@ impl View for Button {
         options
     }
 
-    fn handle(&mut self, event: &Event, phase: Phase, env: &Env) -> Reaction {
+    fn handle(&mut self, event: &Event, phase: Phase, env: &Env, _damage: &mut Damage) -> Reaction {
         match event {
             Event::Key(key) => self.key_answer(*key, phase),
             Event::Down(_) => self.down_answer(),
@@ -202,11 +204,11 @@ impl View for Button {
         lay(screen, seen, width, 1, &face);
     }
 
-    fn focus_to(&mut self, id: Id) -> bool {
+    fn focus_to(&mut self, id: Id, _damage: &mut Damage) -> bool {
         self.core.focus_to(id)
     }
 
-    fn press_item(&mut self, _id: Id, _item: u8) {}
+    fn press_item(&mut self, _id: Id, _item: u8, _damage: &mut Damage) {}
 
     fn held(&self) -> bool {
         self.core.holds()
@@ -218,12 +220,16 @@ impl View for Button {
 
     fn get(&self, _values: &mut Record) {}
 
-    fn set(&mut self, _values: &Record) {
+    fn set(&mut self, _values: &Record, _damage: &mut Damage) {
         self.core.reset();
     }
 
-    fn apply(&mut self, rules: &Rules) {
-        self.core.apply(rules);
+    fn apply(&mut self, rules: &Rules, damage: &mut Damage) {
+        self.core.apply(rules, damage);
+    }
+
+    fn env_damage(&self, old: &Env, new: &Env, damage: &mut Damage) {
+        self.core.env_damage(old, new, damage);
     }
 
     fn is_fresh(&self, node: &Node) -> bool {

@@ -11,7 +11,7 @@ ghost use Rattle.tv_model.specs.declared.kind.Input.{Input as Declared};
 ghost use Rattle.tv_model.specs.declared.kind.Kind.TheVariants as kinds;
 ghost use Rattle.tv_cells.specs.declared.rect.Point.{Point};
 ghost use Rattle.tv_view.specs.Calls.{Fits, focused_to, set_from, takes_focus};
-ghost use Rattle.tv_view.specs.Effects.{captured, first_shown_before, leaf_keyed, lifted};
+ghost use Rattle.tv_view.specs.Effects.{StaysWherePassed, captured, first_shown_before, handled, leaf_keyed, lifted};
 ghost use Rattle.tv_view.specs.Reactions.{answer, captures, down_answer, lifted_answer};
 ghost use Rattle.tv_view.specs.declared.env.Env.{Env as Lent};
 ghost use Rattle.tv_event.specs.declared.event.Event.TheVariants as events;
@@ -20,7 +20,7 @@ ghost use Rattle.tv_controls.specs.InputLine.{asked_by, input_leaf, is_input, is
 use crate::line_edit::{LineEdit, is_edit_key};
 use bitflags::Flags;
 use std::alloc::Global;
-use tv_cells::{Canvas, Point, Rect, Screen, lay};
+use tv_cells::{Canvas, Damage, Point, Rect, Screen, lay};
 use tv_event::{Event, Key, Options, Phase, State};
 use tv_faces::{InputColours, InputFace, first_shown, natural};
 use tv_leaf::{ControlFault, LeafCore, column_of, has_focus};
@@ -133,6 +133,7 @@ impl InputLine {
     fn key(&mut self, key: Key, phase: Phase) -> Reaction
         ensures reaction { (env : Lent) → result ≡ answer (events.Key key) phase env (input_leaf self.old.core self.old.edit) }
         ensures after { input_leaf self.new.core self.new.edit ≡ leaf_keyed key phase (input_leaf self.old.core self.old.edit) }
+        ensures node { self.new.core.node ≡ self.old.core.node }
     {
         if !is_own_key(phase, key) {
             // Its owner may move the focus or end the dialog by the key, and asks before that whether the text is valid.
@@ -163,6 +164,7 @@ impl InputLine {
         ensures after { input_leaf self.new.core self.new.edit
             ≡ (if captures (input_leaf self.old.core self.old.edit) self.old.core.node.kind
             then captured env.now point (input_leaf self.old.core self.old.edit) else input_leaf self.old.core self.old.edit) }
+        ensures node { self.new.core.node ≡ self.old.core.node }
     {
         if !self.core.is_focused() {
             return Reaction::Focus(self.core.id());
@@ -179,6 +181,7 @@ impl InputLine {
         ensures reaction { (point : Point) → result ≡ lifted_answer (input_leaf self.old.core self.old.edit) point self.old.core.held }
         ensures after { (point : Point) → input_leaf self.new.core self.new.edit
             ≡ lifted point self.old.core.held (input_leaf self.old.core self.old.edit) }
+        ensures node { self.new.core.node ≡ self.old.core.node }
     {
         if !self.core.holds() {
             return Reaction::Pass;
@@ -190,7 +193,8 @@ impl InputLine {
     // Opens with the text of its field in the record.
     fn open(&mut self, values: &Record)
         requires { Fits values.now (input_leaf self.old.core self.old.edit) }
-        ensures { input_leaf self.new.core self.new.edit ≡ set_from values.now (input_leaf self.old.core self.old.edit) }
+        ensures after { input_leaf self.new.core self.new.edit ≡ set_from values.now (input_leaf self.old.core self.old.edit) }
+        ensures node { self.new.core.node ≡ self.old.core.node }
     {
         self.core.reset();
         match text_in(values, self.core.id()) {
@@ -201,6 +205,23 @@ impl InputLine {
                 self.edit.open(text);
             }
             None => unreachable!(),
+        }
+    }
+
+    // What it answers to an event, and becomes.
+    #[tactic(auto, unfolding(tv_view::specs::Reactions::answer, tv_view::specs::Effects::handled))]
+    fn react(&mut self, event: &Event, phase: Phase, env: &Env) -> Reaction
+        ensures reaction { result ≡ answer event.now phase env.now (input_leaf self.old.core self.old.edit) }
+        ensures after { input_leaf self.new.core self.new.edit ≡ handled event.now phase env.now (input_leaf self.old.core self.old.edit) }
+        ensures passed { StaysWherePassed result (input_leaf self.old.core self.old.edit) (input_leaf self.new.core self.new.edit) }
+        ensures node { self.new.core.node ≡ self.old.core.node }
+    {
+        match event {
+            Event::Key(key) => self.key(*key, phase),
+            Event::Down(point) => self.down(*point, env),
+            Event::Move(_) if self.core.holds() => Reaction::Done,
+            Event::Up(_) => self.up(),
+            _ => Reaction::Pass,
         }
     }
 }
@@ -230,14 +251,12 @@ impl View for InputLine {
         options
     }
 
-    fn handle(&mut self, event: &Event, phase: Phase, env: &Env) -> Reaction {
-        match event {
-            Event::Key(key) => self.key(*key, phase),
-            Event::Down(point) => self.down(*point, env),
-            Event::Move(_) if self.core.holds() => Reaction::Done,
-            Event::Up(_) => self.up(),
-            _ => Reaction::Pass,
+    fn handle(&mut self, event: &Event, phase: Phase, env: &Env, damage: &mut Damage) -> Reaction {
+        let reaction = self.react(event, phase, env);
+        if reaction != Reaction::Pass {
+            self.core.mark(damage);
         }
+        reaction
     }
 
     fn draw(&self, screen: &mut Screen, canvas: Canvas, env: &Env) {
@@ -256,19 +275,22 @@ impl View for InputLine {
         lay(screen, seen, width, 1, &face);
     }
 
-    fn focus_to(&mut self, id: Id) -> bool {
+    fn focus_to(&mut self, id: Id, damage: &mut Damage) -> bool {
         self.judge();
         let had_focus = self.core.is_focused();
         let has_focus = self.core.focus_to(id);
         if !has_focus {
-            self.edit.leave();
+            if self.edit.leave() {
+                self.core.mark(damage);
+            }
         } else if !had_focus {
             self.edit.enter();
+            self.core.mark(damage);
         }
         has_focus
     }
 
-    fn press_item(&mut self, _id: Id, _item: u8) {}
+    fn press_item(&mut self, _id: Id, _item: u8, _damage: &mut Damage) {}
 
     fn held(&self) -> bool {
         self.core.holds()
@@ -286,12 +308,17 @@ impl View for InputLine {
         values.put(self.core.id(), Value::Text(self.edit.text().copy()));
     }
 
-    fn set(&mut self, values: &Record) {
+    fn set(&mut self, values: &Record, damage: &mut Damage) {
         self.open(values);
+        self.core.mark(damage);
     }
 
-    fn apply(&mut self, rules: &Rules) {
-        self.core.apply(rules);
+    fn apply(&mut self, rules: &Rules, damage: &mut Damage) {
+        self.core.apply(rules, damage);
+    }
+
+    fn env_damage(&self, old: &Env, new: &Env, damage: &mut Damage) {
+        self.core.env_damage(old, new, damage);
     }
 
     fn is_fresh(&self, node: &Node) -> bool {

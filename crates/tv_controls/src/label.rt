@@ -15,7 +15,7 @@ ghost use Rattle.tv_controls.specs.Label.{is_label, label_text_role};
 
 use bitflags::Flags;
 use std::alloc::Global;
-use tv_cells::{Canvas, Rect, Screen, lay};
+use tv_cells::{Canvas, Damage, Rect, Screen, lay};
 use tv_event::{Event, Key, Options, Phase, State};
 use tv_faces::{LabelFace, natural};
 use tv_leaf::{ControlFault, LeafCore, has_focus};
@@ -158,6 +158,13 @@ impl Label {
             Reaction::Pass
         }
     }
+
+    // Whether its link has the focus in both environments or in neither.
+    fn is_link_same(&self, old: &Env, new: &Env) -> bool
+        ensures { IsTrue result → is_link_focus new.now (linked_by new.now self.now.core.node.kind) ≡ is_link_focus old.now (linked_by old.now self.now.core.node.kind) }
+    {
+        is_focus(old, self.link(old)) == is_focus(new, self.link(new))
+    }
 }
 
 #[tactic(auto, unfolding(tv_view::specs::Reactions::answer, tv_view::specs::Effects::handled, tv_view::specs::Calls::focused_to, tv_view::specs::Calls::item_pressed, tv_view::specs::Calls::invalid_id, tv_view::specs::Calls::gathered, tv_view::specs::Calls::set_from, tv_view::specs::Calls::applied, tv_view::specs::Drawing::leaf_layers))]
@@ -182,7 +189,7 @@ impl View for Label {
         options
     }
 
-    fn handle(&mut self, event: &Event, phase: Phase, env: &Env) -> Reaction {
+    fn handle(&mut self, event: &Event, phase: Phase, env: &Env, _damage: &mut Damage) -> Reaction {
         match event {
             Event::Key(key) => self.key_answer(*key, phase, env),
             Event::Down(_) => focus_on(self.link(env)),
@@ -206,11 +213,11 @@ impl View for Label {
         lay(screen, seen, width, 1, &face);
     }
 
-    fn focus_to(&mut self, _id: Id) -> bool {
+    fn focus_to(&mut self, _id: Id, _damage: &mut Damage) -> bool {
         false
     }
 
-    fn press_item(&mut self, _id: Id, _item: u8) {}
+    fn press_item(&mut self, _id: Id, _item: u8, _damage: &mut Damage) {}
 
     fn held(&self) -> bool {
         false
@@ -222,10 +229,15 @@ impl View for Label {
 
     fn get(&self, _values: &mut Record) {}
 
-    fn set(&mut self, _values: &Record) {}
+    fn set(&mut self, _values: &Record, _damage: &mut Damage) {}
 
-    fn apply(&mut self, rules: &Rules) {
-        self.core.apply(rules);
+    fn apply(&mut self, rules: &Rules, damage: &mut Damage) {
+        self.core.apply(rules, damage);
+    }
+
+    fn env_damage(&self, old: &Env, new: &Env, damage: &mut Damage) {
+        let is_link_same = self.is_link_same(old, new);
+        self.core.link_damage(old, new, is_link_same, damage);
     }
 
     fn is_fresh(&self, node: &Node) -> bool {

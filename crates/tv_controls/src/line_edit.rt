@@ -253,10 +253,13 @@ impl LineEdit {
         self.is_whole = !self.text.is_empty();
     }
 
-    /// Selects nothing and moves the cursor to the start, as the focus goes.
-    pub fn leave(&mut self)
-        ensures { self.new ≡ left self.old }
+    /// Selects nothing and moves the cursor to the start, as the focus goes. Returns whether that changes something.
+    pub fn leave(&mut self) -> bool
+        ensures after { self.new ≡ left self.old }
+        ensures same { result ≡ false → self.new ≡ self.old }
     {
+        let is_left = self.cursor == 0 && !self.is_whole;
         self.go(0);
+        !is_left
     }
 }

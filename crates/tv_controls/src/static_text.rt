@@ -8,10 +8,10 @@ ghost use Rattle.tv_controls.specs.StaticText.{is_text_kind, text_leaf};
 use bitflags::Flags;
 use std::alloc::Global;
 use std::marker::Model;
-use tv_cells::{Canvas, Rect, Screen, lay};
+use tv_cells::{Canvas, Damage, Rect, Screen, lay};
 use tv_event::{Event, Options, Phase, State};
 use tv_faces::{PiecedFace, PiecedText, natural, rect_at};
-use tv_leaf::ControlFault;
+use tv_leaf::{ControlFault, has_same_colours};
 use tv_model::{Id, Kind, Node, Record};
 use tv_palette::Role;
 use tv_valid::Chars;
@@ -95,7 +95,13 @@ impl View for StaticText {
         Options::empty()
     }
 
-    fn handle(&mut self, _event: &Event, _phase: Phase, _env: &Env) -> Reaction {
+    fn handle(
+        &mut self,
+        _event: &Event,
+        _phase: Phase,
+        _env: &Env,
+        _damage: &mut Damage,
+    ) -> Reaction {
         Reaction::Pass
     }
 
@@ -117,11 +123,11 @@ impl View for StaticText {
         );
     }
 
-    fn focus_to(&mut self, _id: Id) -> bool {
+    fn focus_to(&mut self, _id: Id, _damage: &mut Damage) -> bool {
         false
     }
 
-    fn press_item(&mut self, _id: Id, _item: u8) {}
+    fn press_item(&mut self, _id: Id, _item: u8, _damage: &mut Damage) {}
 
     fn held(&self) -> bool {
         false
@@ -133,10 +139,20 @@ impl View for StaticText {
 
     fn get(&self, _values: &mut Record) {}
 
-    fn set(&mut self, _values: &Record) {}
+    fn set(&mut self, _values: &Record, _damage: &mut Damage) {}
 
-    fn apply(&mut self, rules: &Rules) {
+    fn apply(&mut self, rules: &Rules, damage: &mut Damage) {
+        let was_shown = self.is_shown;
         self.is_shown = rules.shows(self.id);
+        if self.is_shown != was_shown {
+            damage.add(self.bounds());
+        }
+    }
+
+    fn env_damage(&self, old: &Env, new: &Env, damage: &mut Damage) {
+        if self.is_shown && !has_same_colours(old, new) {
+            damage.add(self.bounds());
+        }
     }
 
     fn is_fresh(&self, node: &Node) -> bool {

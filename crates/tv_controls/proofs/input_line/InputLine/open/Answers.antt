@@ -13,8 +13,8 @@ unreachable-requires c =
     let is = c.text_in.ensures ∙ ap (λ i. text_of_value (value_of c.args.values.now i.0)) id ∙ ap text_of_value found.1 in
     absurd cc
 
-pub returns : goal.returns
-returns c =
+pub returns-clause-after : goal.returns-clause-after
+returns-clause-after c =
     let s = c.args.self.now in
     let found = fitting_text c.args.values.now (input_leaf s.core s.edit) s.own_kind c.requires in
     let id = c.id.ensures ∙ ap (λ (core : Core). core.node.id) c.reset.ensures in

@@ -1,0 +1,5 @@
+use Rattle.tv_leaf.specs.Core.{no_content}
+use Rattle.tv_controls.proofs.button.ButtonView.env_damage.Goals as goal
+
+pub returns : goal.returns
+returns c = c.env_damage.ensures no_content
