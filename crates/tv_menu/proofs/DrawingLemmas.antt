@@ -6,7 +6,8 @@ use Rattle.std.specs.Int.{int_gap}
 use Rattle.tv_cells.specs.Glyph.{Glyph}
 use Rattle.tv_cells.specs.Layers.{Layer, Painted, Shadow, Shows, covers, Lays, ShowsSame}
 use Rattle.tv_cells.specs.Picture.{Picture, IsAlike}
-use Rattle.tv_cells.specs.Rectangle.{shifted_point, sized}
+use Rattle.tv_cells.specs.Rectangle.{cut, shifted_point, sized}
+use Rattle.tv_cells.specs.Repainting.{clipped, within}
 use Rattle.tv_cells.specs.declared.canvas.Canvas.{Canvas}
 use Rattle.tv_cells.specs.declared.rect.Point.{Point}
 use Rattle.tv_cells.specs.declared.rect.Rect.{Rect}
@@ -61,23 +62,23 @@ moved_corner clip canvas place by is moved =
 
 -- ---- the status line
 
--- the layer of a face that asks a set for what is enabled now is the machine's
-pub status_drawn : (d : Desc) (s : State) (enabled : List Bool) (items : List StatusItem) (width : ℕ) (canvas place : Canvas) (by : Point) (old new : Picture)
+-- the layer of a face that asks a set for what is enabled now is the machine's, cut by what cuts the canvas
+pub status_drawn : (d : Desc) (s : State) (r : Rect) (enabled : List Bool) (items : List StatusItem) (width : ℕ) (canvas place : Canvas) (by : Point) (old new : Picture)
     → items ≡ d.status → width ≡ natural d.width → AreEnabled d s enabled → All IsLawfulStatusItem items
-    → canvas ≡ canvas_at (whole_screen d) (pos 0) (pos 0) → by ≡ record { x = pos 0; y = d.height -ℤ pos 1 } → place ≡ record { clip = canvas.clip; origin = shifted_point canvas.origin by }
+    → canvas ≡ within r (canvas_at (whole_screen d) (pos 0) (pos 0)) → by ≡ record { x = pos 0; y = d.height -ℤ pos 1 } → place ≡ record { clip = canvas.clip; origin = shifted_point canvas.origin by }
     → IsAlike old new → ((layers : List Layer) → Shows layers old → Shows (Painted place width 1 (λ x y. status_cell (is_item_in enabled) (spot_in status_text 0 0 items x)) ∷ layers) new)
-    → Lays (status_layer d s ∷ []) old new
-status_drawn d s enabled items width canvas place by old new same wide are lawful seen corner moved alike shows =
-    lays_same (Painted (there d) (natural d.width) 1 (face d.status) ∷ []) (status_layer d s ∷ []) old new
+    → Lays (clipped r (status_layer d s) ∷ []) old new
+status_drawn d s r enabled items width canvas place by old new same wide are lawful seen corner moved alike shows =
+    lays_same (Painted (there d) (natural d.width) 1 (face d.status) ∷ []) (clipped r (status_layer d s) ∷ []) old new
     (face_same (there d) (natural d.width) 1 (face d.status) (status_face d (is_item_enabled d s))
     (λ x y. items_same (is_item_in enabled) (is_item_enabled d s) 0 0 x d.status (enabled_same d s enabled are d.status (subst (All IsLawfulStatusItem) same lawful))))
     (subst (λ xs. Lays (Painted (there d) (natural d.width) 1 (face xs) ∷ []) old new) same
     (subst (λ w. Lays (Painted (there d) w 1 (face items) ∷ []) old new) wide
-    (subst (λ c. Lays (Painted c width 1 (face items) ∷ []) old new) (moved_corner (whole_screen d) canvas place by seen moved ∙ ap (λ p. canvas_at (whole_screen d) p.x p.y) corner)
+    (subst (λ c. Lays (Painted c width 1 (face items) ∷ []) old new) (moved_corner (cut r (whole_screen d)) canvas place by seen moved ∙ ap (λ p. canvas_at (cut r (whole_screen d)) p.x p.y) corner)
     (lays_one (Painted place width 1 (face items)) old new alike shows))))
   where
     there : Desc → Canvas
-    there e = canvas_at (whole_screen e) (pos 0) (e.height -ℤ pos 1)
+    there e = within r (canvas_at (whole_screen e) (pos 0) (e.height -ℤ pos 1))
 
     face : List StatusItem → ℕ → ℕ → Glyph
     face xs x y = status_cell (is_item_in enabled) (spot_in status_text 0 0 xs x)

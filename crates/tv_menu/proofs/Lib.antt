@@ -8,3 +8,4 @@ pub mod PlaceLemmas
 pub mod RowLemmas
 pub mod SpotLemmas
 pub mod TitleLemmas
+pub mod WholeLemmas

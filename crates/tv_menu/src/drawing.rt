@@ -1,9 +1,11 @@
 //! The bar, the box of the open menu and the status line on the screen.
 
-ghost use Rattle.std.specs.Prelude.{◌≡◌, ◌≤◌, ◌<◌, [], ◌∷◌, ◌-ℤ◌, pos, is_some};
+ghost use Rattle.std.specs.Prelude.{◌≡◌, ◌≤◌, ◌<◌, [], ◌∷◌, ◌-ℤ◌, pos, is_some, map};
 ghost use Rattle.tv_cells.specs.Picture.{IsAlike};
 ghost use Rattle.tv_cells.specs.Rectangle.{IsPointNear, IsRectNear, shifted_point, sized};
 ghost use Rattle.tv_cells.specs.Layers.{Painted, Shadow, Lays};
+ghost use Rattle.tv_cells.specs.Repainting.{clipped, within};
+ghost use Rattle.tv_cells.specs.declared.rect.Rect.{Rect as Region};
 ghost use Rattle.tv_machine.specs.State.{State};
 ghost use Rattle.tv_machine.specs.Screen.Bars.{box_face, box_height, box_width};
 ghost use Rattle.tv_machine.specs.Screen.Layers.{bar_layer, box_layers, open_place, status_layer};
@@ -77,11 +79,12 @@ impl MenuBar {
         self.open.is_some()
     }
 
-    /// Draws the bar into the first row of the screen. The canvas must be that of the whole screen.
+    /// Draws the bar into the first row of the screen. The canvas must be that of the whole screen, which a rectangle
+    /// may cut.
     pub fn draw(&self, screen: &mut Screen, canvas: Canvas)
         ensures size { IsAlike screen.old screen.new }
-        ensures layers { (d : Declared) → IsBarOf d self.now → canvas ≡ canvas_at (whole_screen d) (pos 0) (pos 0)
-            → Lays (bar_layer d (open_of self.now) ∷ []) screen.old screen.new }
+        ensures layers { (d : Declared) (r : Region) → IsBarOf d self.now → canvas ≡ within r (canvas_at (whole_screen d) (pos 0) (pos 0))
+            → Lays (clipped r (bar_layer d (open_of self.now)) ∷ []) screen.old screen.new }
     {
         let face = BarFace {
             menus: self.menus.as_slice(),
@@ -100,12 +103,12 @@ impl MenuBar {
     }
 
     /// Draws the box of the open menu over its shadow. The canvas must be the desktop's, with its origin in the
-    /// screen's corner. Draws nothing while no menu is open.
+    /// screen's corner; a rectangle may cut it. Draws nothing while no menu is open.
     pub fn draw_box(&self, screen: &mut Screen, canvas: Canvas)
         requires { IsPointNear canvas.origin }
         ensures size { IsAlike screen.old screen.new }
-        ensures layers { (d : Declared) → IsBarOf d self.now → canvas ≡ canvas_at (desktop d) (pos 0) (pos 0)
-            → Lays (box_layers d (open_of self.now)) screen.old screen.new }
+        ensures layers { (d : Declared) (r : Region) → IsBarOf d self.now → canvas ≡ within r (canvas_at (desktop d) (pos 0) (pos 0))
+            → Lays (map (clipped r) (box_layers d (open_of self.now))) screen.old screen.new }
     {
         let Some(current) = self.open else {
             return;
@@ -118,14 +121,14 @@ impl MenuBar {
 }
 
 impl StatusLine {
-    /// Draws the line into the last row of the screen. The canvas must be that of the whole screen. Items whose
-    /// commands are not in the set are shown as disabled.
+    /// Draws the line into the last row of the screen. The canvas must be that of the whole screen, which a rectangle
+    /// may cut. Items whose commands are not in the set are shown as disabled.
     pub fn draw(&self, screen: &mut Screen, canvas: Canvas, enabled: &CommandSet)
         requires { IsPointNear canvas.origin }
         ensures size { IsAlike screen.old screen.new }
-        ensures layers { (d : Declared) (s : State) → IsLineOf d self.now → AreEnabled d s enabled.now
-            → canvas ≡ canvas_at (whole_screen d) (pos 0) (pos 0)
-            → Lays (status_layer d s ∷ []) screen.old screen.new }
+        ensures layers { (d : Declared) (s : State) (r : Region) → IsLineOf d self.now → AreEnabled d s enabled.now
+            → canvas ≡ within r (canvas_at (whole_screen d) (pos 0) (pos 0))
+            → Lays (clipped r (status_layer d s) ∷ []) screen.old screen.new }
     {
         let face = StatusFace {
             items: self.items.as_slice(),
