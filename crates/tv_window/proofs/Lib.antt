@@ -1,3 +1,4 @@
+pub mod CutLemmas
 pub mod DeclaredLemmas
 pub mod DeclaredWindowLemmas
 pub mod DeskLemmas
@@ -6,4 +7,5 @@ pub mod MarkLemmas
 pub mod OrderLemmas
 pub mod PlaceLemmas
 pub mod StackLemmas
+pub mod WholeLemmas
 pub mod WindowDrawingLemmas

@@ -1,6 +1,7 @@
 -- Declared windows, one over the other.
-use Rattle.std.proofs.Common.{◌≡◌, IsTrue, ℤ, pos, neg_ℤ, ◌-ℤ◌, ◌≤ℤ◌, Bool, true, false, ◌&&◌, All, List, [], ◌∷◌, ◌++◌, flat_map, length, reverse, Some, refl, sym, ap, ◌∙◌, arith, subst, append_assoc}
+use Rattle.std.proofs.Common.{◌≡◌, IsTrue, ℤ, pos, neg_ℤ, ◌-ℤ◌, ◌≤ℤ◌, Bool, true, false, ◌&&◌, All, List, [], ◌∷◌, ◌++◌, flat_map, length, map, reverse, Some, refl, sym, ap, ◌∙◌, arith, subst, append_assoc}
 use Rattle.std.proofs.lemmas.Int.{ints}
+use Rattle.std.proofs.lemmas.List.{map-append}
 use Rattle.std.proofs.lemmas.List.Elements.{All-head, All-tail, All-cons, All-nil}
 use Rattle.std.proofs.lemmas.Bool.{false≢true}
 use Rattle.std.specs.Int.Signed.{le_z}
@@ -8,6 +9,7 @@ use Rattle.tv_cells.specs.Canvas.{sub}
 use Rattle.tv_cells.specs.Layers.{Layer, Painted, Shadow, Shows, Lays, ShowsSame}
 use Rattle.tv_cells.specs.Picture.{Picture, IsAlike}
 use Rattle.tv_cells.specs.Rectangle.{sized}
+use Rattle.tv_cells.specs.Repainting.{clipped, within}
 use Rattle.tv_cells.specs.declared.rect.Point.{Point}
 use Rattle.tv_cells.specs.declared.rect.Rect.{Rect}
 use Rattle.tv_cells.specs.declared.canvas.Canvas.{Canvas}
@@ -32,7 +34,7 @@ use Rattle.tv_palette.specs.Palettes.{colour_in}
 use Rattle.tv_palette.specs.declared.role.Owner.TheVariants as owners
 use Rattle.tv_view.specs.declared.env.Env.{Env}
 use Rattle.tv_view.specs.Drawing.{is_near, leaves_layers}
-use Rattle.tv_view.proofs.LayingLemmas.{lays_none, lays_then}
+use Rattle.tv_view.proofs.LayingLemmas.{lays_as, lays_none, lays_then}
 use Rattle.tv_group.specs.Opened.{opened}
 use Rattle.tv_group.specs.Outline.{IsFreshBody}
 use Rattle.tv_group.proofs.FreshLeafLemmas.{IsLeafNode, fresh_layers, group_drawn}
@@ -40,6 +42,7 @@ use Rattle.tv_window.specs.DeclaredWindows.{AreDeclared, IsOfWindow, IsTextInsid
 use Rattle.tv_window.specs.Head.{KeptWindowHead, window_bounds, declared_window_head, kept_window_head}
 use Rattle.tv_window.specs.Window.{body_of, window_frame_layer, head_of, drawn_window}
 use Rattle.tv_window.specs.declared.window.WindowOf.{WindowOf}
+use Rattle.tv_window.proofs.CutLemmas.{clipped-same, window-within}
 use Rattle.tv_window.proofs.DeclaredWindowLemmas.{body, look_same, views_same}
 use Rattle.tv_view.proofs.FrameLayerLemmas.{corner, frame_same, inner, shadows_same}
 use Rattle.tv_view.proofs.SameLayerLemmas.{lays_same, same_append}
@@ -150,33 +153,38 @@ module _ {V : Type 0} (look : V → Leaf) (env : Env) (lent : IsOfWindow env) (d
         rw (drawn, shown env.is_active, ← append_assoc views (Painted (corner d x y w own.h) (natural w) (natural own.h) (face_in told) ∷ []) (Shadow (corner d x y w own.h) (sized (natural w) (natural own.h)) ∷ []))
         (same_append _ _ _ _ (same_append _ _ _ _ text framed) (shadows_same d x y w own.h))
 
-  -- ---- one over the other
+  -- ---- one over the other, through a canvas that a rectangle cuts
 
-  pub none_declared : (stack : List OpenWindow) (windows : List (WindowOf V)) (p : Picture) → length windows ≡ 0 → AreDeclared look d stack windows → Lays (declared_layers d env.is_active stack) p p
-  none_declared [] [] p e are = lays_none p
-  none_declared (o ∷ stack) [] p e are = absurd are
-  none_declared stack (window ∷ windows) p e are = absurd cc
+  module _ (r : Rect) where
+    pub none_declared : (stack : List OpenWindow) (windows : List (WindowOf V)) (p : Picture) → length windows ≡ 0 → AreDeclared look d stack windows → Lays (map (clipped r) (declared_layers d env.is_active stack)) p p
+    none_declared [] [] p e are = lays_none p
+    none_declared (o ∷ stack) [] p e are = absurd are
+    none_declared stack (window ∷ windows) p e are = absurd cc
 
-  stack_declared : (stack : List OpenWindow) (front : WindowOf V) (behind : List (WindowOf V)) (old mid after new : Picture) → AreDeclared look d stack (front ∷ behind)
-      → IsSmallRect (window_bounds (head_of front))
-      → ((rest : List OpenWindow) → AreDeclared look d rest behind → Lays (declared_layers d false rest) old mid)
-      → Lays (shadow_of front ∷ []) mid after → Lays (drawn_window look env (window_canvas d) front) after new
-      → Lays (declared_layers d env.is_active stack) old new
-  stack_declared [] front behind old mid after new are small below shadow here = absurd are
-  stack_declared (o ∷ stack) front behind old mid after new are small below shadow here =
-      let one = are.0 in
-      let window = lays_same _ _ mid new (window_same front one.declared (head_is one.declared (head_of front) one.fresh.head) one.fresh.body one.texts small)
-      (lays_then (shadow_of front ∷ []) (drawn_window look env (window_canvas d) front) mid after new shadow here) in
-      rw (one.named, one.corner) (lays_then (declared_layers d false stack) (declared_window d env.is_active (corner_of one.declared.node) one.declared) old mid new (below stack are.1) window)
+    stack_declared : (stack : List OpenWindow) (front : WindowOf V) (behind : List (WindowOf V)) (old mid after new : Picture) → AreDeclared look d stack (front ∷ behind)
+        → IsSmallRect (window_bounds (head_of front))
+        → ((rest : List OpenWindow) → AreDeclared look d rest behind → Lays (map (clipped r) (declared_layers d false rest)) old mid)
+        → Lays (map (clipped r) (shadow_of front ∷ [])) mid after → Lays (drawn_window look env (within r (window_canvas d)) front) after new
+        → Lays (map (clipped r) (declared_layers d env.is_active stack)) old new
+    stack_declared [] front behind old mid after new are small below shadow here = absurd are
+    stack_declared (o ∷ stack) front behind old mid after new are small below shadow here =
+        let one = are.0 in
+        let drawn = drawn_window look env (window_canvas d) front in
+        let shown = declared_window d env.is_active (corner_of one.declared.node) one.declared in
+        let same = clipped-same r (drawn ++ shadow_of front ∷ []) shown (window_same front one.declared (head_is one.declared (head_of front) one.fresh.head) one.fresh.body one.texts small) in
+        let laid = subst (λ layers. Lays layers after new) (window-within look env r (window_canvas d) front) here in
+        let window = lays_same _ _ mid new same (lays_as _ _ mid new (sym (map-append (clipped r) drawn (shadow_of front ∷ []))) (lays_then (map (clipped r) (shadow_of front ∷ [])) (map (clipped r) drawn) mid after new shadow laid)) in
+        rw (one.named, one.corner)
+        (lays_as _ _ old new (sym (map-append (clipped r) shown (declared_layers d false stack))) (lays_then (map (clipped r) (declared_layers d false stack)) (map (clipped r) shown) old mid new (below stack are.1) window))
 
-  -- as they were drawn through a canvas, with the shadow of a rectangle
-  pub stack_drawn : (stack : List OpenWindow) (windows : List (WindowOf V)) (front : WindowOf V) (behind : List (WindowOf V)) (c : Canvas) (r : Rect) (old mid after new : Picture)
-      → windows ≡ front ∷ behind → c ≡ window_canvas d → r ≡ window_bounds (head_of front) → IsSmallRect r → AreDeclared look d stack windows
-      → ((rest : List OpenWindow) → AreDeclared look d rest behind → Lays (declared_layers d false rest) old mid)
-      → IsAlike mid after → ((layers : List Layer) → Shows layers mid → Shows (Shadow c r ∷ layers) after)
-      → Lays (drawn_window look env c front) after new
-      → Lays (declared_layers d env.is_active stack) old new
-  stack_drawn stack windows front behind c r old mid after new split seen bounds small are below size shows here =
-      stack_declared stack front behind old mid after new (subst (AreDeclared look d stack) split are) (subst IsSmallRect bounds small) below
-      (record { size = size; shows = λ layers shown. subst (λ s. Shows (Shadow (window_canvas d) s ∷ layers) after) bounds (subst (λ k. Shows (Shadow k r ∷ layers) after) seen (shows layers shown)) })
-      (subst (λ k. Lays (drawn_window look env k front) after new) seen here)
+    -- as they were drawn, with the shadow of a rectangle
+    pub stack_drawn : (stack : List OpenWindow) (windows : List (WindowOf V)) (front : WindowOf V) (behind : List (WindowOf V)) (c : Canvas) (s : Rect) (old mid after new : Picture)
+        → windows ≡ front ∷ behind → c ≡ within r (window_canvas d) → s ≡ window_bounds (head_of front) → IsSmallRect s → AreDeclared look d stack windows
+        → ((rest : List OpenWindow) → AreDeclared look d rest behind → Lays (map (clipped r) (declared_layers d false rest)) old mid)
+        → IsAlike mid after → ((layers : List Layer) → Shows layers mid → Shows (Shadow c s ∷ layers) after)
+        → Lays (drawn_window look env c front) after new
+        → Lays (map (clipped r) (declared_layers d env.is_active stack)) old new
+    stack_drawn stack windows front behind c s old mid after new split seen bounds small are below size shows here =
+        stack_declared stack front behind old mid after new (subst (AreDeclared look d stack) split are) (subst IsSmallRect bounds small) below
+        (record { size = size; shows = λ layers shown. subst (λ q. Shows (Shadow (within r (window_canvas d)) q ∷ layers) after) bounds (subst (λ k. Shows (Shadow k s ∷ layers) after) seen (shows layers shown)) })
+        (subst (λ k. Lays (drawn_window look env k front) after new) seen here)

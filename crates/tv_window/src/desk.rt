@@ -1,6 +1,6 @@
 //! The open windows.
 
-ghost use Rattle.std.specs.Prelude.{◌≡◌, ◌==◌, List, length, reverse};
+ghost use Rattle.std.specs.Prelude.{◌≡◌, ◌==◌, List, length, map, reverse};
 ghost use Rattle.tv_machine.specs.Screen.Layers.{stack_layers};
 ghost use Rattle.tv_machine.specs.Session.Commands.{close_front, do_command, last_first};
 ghost use Rattle.tv_machine.specs.Session.Desktop.{raise_found, window_of_digit};
@@ -9,6 +9,8 @@ ghost use Rattle.tv_machine.specs.State.{OpenWindow, State};
 ghost use Rattle.tv_model.specs.Description.Rectangles.{IsSmall};
 ghost use Rattle.tv_model.specs.declared.desc.Desc.{Desc};
 ghost use Rattle.tv_cells.specs.Layers.{Lays};
+ghost use Rattle.tv_cells.specs.Repainting.{clipped, within};
+ghost use Rattle.tv_cells.specs.declared.rect.Rect.{Rect};
 ghost use Rattle.tv_window.specs.DeclaredWindows.{IsOfWindow, window_canvas};
 ghost use Rattle.tv_window.specs.Desk.{AreFreshWindows, AreLawfulWindows, IsDesk, down_on_desk, with_close_line};
 
@@ -115,12 +117,12 @@ impl<V: View> DeskOf<V> {
         Some(window.id())
     }
 
-    /// Draws the windows with their shadows on the desktop, whose canvas is handed in. Only the front one is drawn as
-    /// active, and only where the environment says so.
+    /// Draws the windows with their shadows on the desktop, whose canvas is handed in; a rectangle may cut it. Only the
+    /// front one is drawn as active, and only where the environment says so.
     pub fn draw(&self, screen: &mut Screen, canvas: Canvas, env: &Env)
         requires { IsSmall canvas.origin.x × IsSmall canvas.origin.y }
-        ensures { (d : Desc) (stack : List OpenWindow) → IsDesk V.meaning d stack self.now → IsOfWindow env.now → canvas ≡ window_canvas d
-            → Lays (stack_layers d env.now.is_active stack) screen.old screen.new }
+        ensures { (d : Desc) (r : Rect) (stack : List OpenWindow) → IsDesk V.meaning d stack self.now → IsOfWindow env.now → canvas ≡ within r (window_canvas d)
+            → Lays (map (clipped r) (stack_layers d env.now.is_active stack)) screen.old screen.new }
     {
         draw_stack(&self.windows.items, screen, canvas, env);
     }
