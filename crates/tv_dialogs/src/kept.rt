@@ -15,7 +15,9 @@ ghost use Rattle.tv_group.specs.Opened.{opened};
 ghost use Rattle.tv_group.specs.Outline.{IsFreshBody};
 ghost use Rattle.tv_machine.specs.Dialog.Lawful.{IsLawfulDialog};
 ghost use Rattle.tv_tree.specs.Shown.{IsAtWork, desktop_canvas};
+ghost use Rattle.tv_cells.specs.Canvas.{aside};
 ghost use Rattle.tv_cells.specs.Layers.{Lays};
+ghost use Rattle.tv_cells.specs.Rectangle.{IsRectNear, shifted};
 ghost use Rattle.tv_dialog.specs.Standing.{Stands};
 ghost use Rattle.tv_dialog.specs.Stepping.{begun_anew};
 ghost use Rattle.tv_dialogs.specs.Bodies.{kept_body};
@@ -25,7 +27,7 @@ ghost use Rattle.tv_dialogs.specs.Kept.{IsKeptAs, IsReady, holds_after, may_hold
 use crate::colours::Colours;
 use crate::handed::event_from;
 use std::alloc::Global;
-use tv_cells::{Canvas, Screen, lay_shadow};
+use tv_cells::{Canvas, Damage, Point, Rect, Screen, lay_shadow};
 use tv_dialog::DialogOf;
 use tv_event::{Command, CommandSet, Event};
 use tv_group::GroupOf;
@@ -59,6 +61,14 @@ fn may_hold(is_held: bool, event: &Event) -> bool
         Event::Down(_) => true,
         _ => is_held,
     }
+}
+
+// Where the shadow of a rectangle falls, and what the rectangle has of it.
+fn shadow_of(rect: Rect) -> Rect
+    requires { IsRectNear rect }
+    ensures { result ≡ shifted rect aside }
+{
+    rect.shift(Point { x: 2, y: 1 })
 }
 
 // Puts the values of all fields of the dialog into the record.
@@ -116,7 +126,8 @@ impl<V: View> Kept<V> {
     }
 
     /// Hands the open dialog an event, whose point is in screen coordinates, told whether a view of it holds the mouse.
-    /// Keeps the dialog's values where that ends it by another command than `cancel`.
+    /// Keeps the dialog's values where that ends it by another command than `cancel`. Adds to the damage what shows
+    /// otherwise then: all of a dialog that has ended, with its shadow.
     pub(crate) fn step(
         &mut self,
         declared: &Declared,
@@ -124,6 +135,7 @@ impl<V: View> Kept<V> {
         event: &Event,
         commands: &CommandSet,
         colours: &Colours,
+        damage: &mut Damage,
     )
         requires ready { (m : Modal) × IsReady V.meaning declared.now m self.old.dialog }
         requires held { is_held ≡ any_holds (opened V.meaning self.old.dialog.body) }
@@ -145,8 +157,23 @@ impl<V: View> Kept<V> {
             is_active: true,
         };
         self.dialog
-            .step_told(is_held, &event_from(corner, event), &env);
+            .step_told(is_held, &event_from(corner, event), &env, damage);
         self.save();
+        self.mark_ended(damage);
+    }
+
+    /// Adds the dialog's rectangle and its shadow.
+    pub(crate) fn mark(&self, damage: &mut Damage) {
+        let bounds = self.dialog.bounds();
+        damage.add(bounds);
+        damage.add(shadow_of(bounds));
+    }
+
+    // The same where it has ended.
+    fn mark_ended(&self, damage: &mut Damage) {
+        if !self.dialog.is_open() {
+            self.mark(damage);
+        }
     }
 
     /// Whether a view of the open dialog holds the mouse after an event. Asks the views only where one may.

@@ -15,6 +15,7 @@ use crate::bodies::keep_all;
 use crate::colours::Colours;
 use crate::dialogs::DialogsOf;
 use std::alloc::{AllocError, Global};
+use tv_cells::Damage;
 use tv_event::CommandSet;
 use tv_group::GroupOf;
 use tv_model::Desc as Declared;
@@ -49,15 +50,16 @@ impl<V: View> DialogsOf<V> {
     }
 
     /// Opens the dialog at a place, counted from 0 in description order, with the values of its last end other than
-    /// `cancel`, and before any such end with those declared.
-    pub fn open(&mut self, place: usize)
+    /// `cancel`, and before any such end with those declared. Adds the dialog and its shadow to the damage.
+    pub fn open(&mut self, place: usize, damage: &mut Damage)
         requires { MayOpen V.meaning place self.old }
         ensures dialogs { (d : Desc) (s : State) → AreOfRun V.meaning d s self.old → AreDialogs V.meaning d (open_dialog d place s) self.new }
         ensures log { (d : Desc) (s : State) (dialog : Dialog) → AreOfRun V.meaning d s self.old → slice_get d.dialogs place ≡ Some dialog
             → (open_dialog d place s).log ≡ s.log ++ lines.Open dialog.node.id ∷ log_of_last self.new }
     {
         let kept = &mut self.kept[place];
-        kept.dialog.reopen(kept.values.get());
+        kept.dialog.reopen(kept.values.get(), damage);
+        kept.mark(damage);
         self.open = Some(place);
         self.is_held = false;
         self.last = Some(place);

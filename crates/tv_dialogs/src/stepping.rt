@@ -9,14 +9,15 @@ ghost use Rattle.tv_dialogs.specs.Handed.{HasPointGiven};
 
 use crate::dialogs::DialogsOf;
 use crate::handed::is_dropped;
+use tv_cells::Damage;
 use tv_event::Event;
 use tv_model::Desc;
 use tv_view::View;
 
 impl<V: View> DialogsOf<V> {
     /// Hands the open dialog an event, whose point is in screen coordinates. Does nothing where none is open. No
-    /// command may come while a view holds the mouse.
-    pub fn step(&mut self, desc: &Desc, event: &Event)
+    /// command may come while a view holds the mouse. Adds to the damage what shows otherwise then.
+    pub fn step(&mut self, desc: &Desc, event: &Event, damage: &mut Damage)
         requires run { (s : State) × AreOfRun V.meaning desc.now s self.old }
         requires given { HasPointGiven event.now }
         ensures dialogs { (s : State) (o : OpenDialog) → s.dialog ≡ Some o → RespectsHold o.held event.now → AreOfRun V.meaning desc.now s self.old
@@ -36,6 +37,7 @@ impl<V: View> DialogsOf<V> {
                 event,
                 &self.commands,
                 &self.colours,
+                damage,
             );
             self.open = kept.dialog.is_open().then_some(place);
             self.is_held = kept.held_after(self.is_held, event);
