@@ -4,7 +4,7 @@ use Rattle.std.proofs.lemmas.Bool.{false≢true}
 use Rattle.std.proofs.lemmas.Int.{ints}
 use Rattle.std.proofs.lemmas.List.Elements.{All-head}
 use Rattle.tv_cells.specs.Canvas.{sub}
-use Rattle.tv_cells.specs.Layers.{Layer, Painted, Lays}
+use Rattle.tv_cells.specs.Layers.{Layer, Painted, Shadow, Lays, ShowsSame}
 use Rattle.tv_cells.specs.Picture.{Picture}
 use Rattle.tv_cells.specs.declared.canvas.Canvas.{Canvas}
 use Rattle.tv_model.specs.declared.node.Id.{Id}
@@ -37,7 +37,7 @@ use Rattle.tv_tree.specs.Shown.{IsShown, desktop_canvas, dialog_canvas, shadow_l
 use Rattle.tv_dialog.specs.Standing.{Stands}
 use Rattle.tv_tree.specs.Tree.{tree_of}
 use Rattle.tv_dialog.specs.declared.dialog.DialogOf.{DialogOf}
-use Rattle.tv_tree.proofs.Screen.OpenDialogLemmas.{dialog-laid, dialog-tall, tree_layers}
+use Rattle.tv_tree.proofs.Screen.OpenDialogLemmas.{dialog-laid, dialog-same, dialog-tall, tree_layers}
 use Rattle.tv_dialog.proofs.TurnCodeLemmas.{lent-by}
 
 -- what a dialog keeps of its node
@@ -107,6 +107,23 @@ module _ {V : Type 0} (look : V → Leaf) (desc : Desc) (d : Dialog) (o : OpenDi
       ∙ ap (λ xs. leaves_layers here (dialog_canvas desc o d) xs ++ framed env (dialog_canvas desc o d) dialog.head.w dialog.head.h dialog.head.title ∷ []) s.tree
       ∙ ap (λ k. leaves_layers here (dialog_canvas desc o d) (tree_of d m) ++ framed env (dialog_canvas desc o d) k.w k.h k.title ∷ []) (head-is d dialog.head s.head)
       ∙ ap (λ h. leaves_layers here (dialog_canvas desc o d) (tree_of d m) ++ framed env (dialog_canvas desc o d) d.node.w h (dialog_head d).title ∷ []) (sym (dialog-tall d))
+
+  shadow-is : Shadow c (dialog_bounds dialog.head) ≡ shadow_layer desc o d
+  shadow-is =
+      ap (λ k. Shadow k (dialog_bounds dialog.head)) shown.desktop
+      ∙ ap (λ k. Shadow (desktop_canvas desc) (dialog_bounds k)) (head-is d dialog.head s.head)
+      ∙ ap (λ h. Shadow (desktop_canvas desc) (rect d.node.x d.node.y d.node.w h)) (sym (dialog-tall d))
+      ∙ ap (λ p. Shadow (desktop_canvas desc) (rect p.x p.y d.node.w (height_of d.node.kind))) (sym shown.corner)
+
+  -- over its shadow it shows what the machine's layers show
+  pub dialog-shows : ShowsSame (drawn.drawn_dialog look env c dialog ++ Shadow c (dialog_bounds dialog.head) ∷ []) (dialog_layers desc o overwriting d)
+  dialog-shows =
+      subst (λ layers. ShowsSame layers (dialog_layers desc o overwriting d))
+      (ap (λ layers. layers ++ shadow_layer desc o d ∷ []) (sym layers-are) ∙ ap (λ layer. drawn.drawn_dialog look env c dialog ++ layer ∷ []) (sym shadow-is))
+      (dialog-same desc d own own.defaults o overwriting m shown.work here
+      (lent-by d m dialog.plan dialog.focus env here s.plan s.focus shown.views refl)
+      (record { owner = shown.palettes.owner; chain = shown.palettes.chain }) shown.active
+      (subst (λ p. IsSmall p.x × IsSmall p.y) (sym shown.corner) (small_corner d own)))
 
   pub dialog-shown : (old mid new : Picture) → Lays (shadow_layer desc o d ∷ []) old mid → Lays (drawn.drawn_dialog look env c dialog) mid new
       → Lays (dialog_layers desc o overwriting d) old new
