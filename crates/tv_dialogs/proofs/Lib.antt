@@ -1,5 +1,6 @@
 pub mod BodyLemmas
 pub mod CurrentLemmas
+pub mod DamageLemmas
 pub mod DroppedLemmas
 pub mod HoldLemmas
 pub mod KeptLemmas

@@ -1,9 +1,11 @@
 -- What the open dialog makes of an event is what the machine makes of it.
-use Rattle.std.proofs.Common.{◌≡◌, ◌==◌, ◌++◌, ℕ, Bool, true, false, not, ◌&&◌, if◌then◌else◌, [], Option, Some, None, is_some, option_map, refl, sym, ap, subst, ◌∙◌}
-use Rattle.std.specs.Prelude.{is_none, slice_get, slice_index_or, slice_set}
+use Rattle.std.proofs.Common.{◌≡◌, ◌<◌, ◌==◌, ◌++◌, ℕ, List, Bool, true, false, not, ◌&&◌, if◌then◌else◌, [], length, Option, Some, None, is_some, option_map, refl, sym, ap, subst, ◌∙◌}
+use Rattle.std.specs.Prelude.{is_none, slice_get, slice_index_or, slice_set, unwrap_or}
 use Rattle.std.specs.Bool.{then_some}
 use Rattle.std.proofs.lemmas.List.Elements.{All-nil}
 use Rattle.std.proofs.lemmas.Option.{slice_get_within}
+use Rattle.tv_cells.specs.Layers.{cell_over}
+use Rattle.tv_cells.specs.declared.rect.Rect.{Rect}
 use Rattle.tv_event.specs.declared.event.Command.{Command}
 use Rattle.tv_event.specs.declared.event.Event.{Event}
 use Rattle.tv_model.specs.declared.desc.Desc.{Desc}
@@ -14,8 +16,9 @@ use Rattle.tv_machine.specs.State.{OpenDialog, State}
 use Rattle.tv_machine.specs.Dialog.Ending.{fields_of}
 use Rattle.tv_machine.specs.Dialog.Modal.{Modal}
 use Rattle.tv_machine.specs.Dialog.Step.{dialog_step}
-use Rattle.tv_machine.specs.Session.Commands.{after_work, modal_of, works}
+use Rattle.tv_machine.specs.Session.Commands.{after_work, modal_of, overwriting_at, works}
 use Rattle.tv_machine.specs.Session.Step.{event_from, held_of, to_dialog}
+use Rattle.tv_machine.specs.Screen.Layers.{open_layers}
 use Rattle.tv_machine.proofs.ListLemmas.{option_cases}
 use Rattle.tv_group.specs.Calls.{all_gathered, any_holds}
 use Rattle.tv_group.specs.Opened.{opened}
@@ -26,6 +29,7 @@ use Rattle.tv_tree.proofs.Mouse.TakenLemmas.{any-holds}
 use Rattle.tv_dialog.proofs.StandsLemmas.{some-kept}
 use Rattle.tv_dialog.specs.Standing.{Stands, end_number}
 use Rattle.tv_dialog.specs.Stepping.{begun_anew}
+use Rattle.tv_dialogs.specs.Damage.{OpenAlike}
 use Rattle.tv_dialogs.specs.Dialogs.{AreDialogs, AreOfRun, IsOpenAmong, at_work, lines_by, log_of_last, kept_at}
 use Rattle.tv_dialogs.specs.Handed.{is_dropped}
 use Rattle.tv_dialogs.specs.Kept.{IsReady, holds_after, may_hold, saves, values_after}
@@ -34,7 +38,7 @@ use Rattle.tv_dialogs.specs.declared.dialogs.DialogsOf.{DialogsOf}
 use Rattle.tv_dialogs.proofs.DroppedLemmas.{dropped-still}
 use Rattle.tv_dialogs.proofs.HoldLemmas.{asked-where, respects-from, unheld-stays}
 use Rattle.tv_dialogs.proofs.KeptLemmas.{has-ended, stays-open}
-use Rattle.tv_dialogs.proofs.PlaceLemmas.{get-set-same, set-itself}
+use Rattle.tv_dialogs.proofs.PlaceLemmas.{get-set-same, set-itself, there-is}
 use Rattle.tv_dialogs.proofs.PlacedLemmas.{read-declared, read-kept}
 use Rattle.tv_dialogs.proofs.RunLemmas.{open-fit, open-ready, sound-open}
 use Rattle.tv_dialogs.proofs.ValueLemmas.{stands-values}
@@ -186,3 +190,18 @@ module _ {V : Type 0} (look : V → Leaf) (d : Desc) (s : State) (old : DialogsO
         (stays-open look d s old new run.are o.place among.dialog among.there among.kept among.kept among.found
         (ap (λ v. v.items) kept ∙ sym (set-itself old.kept.items o.place among.kept among.found)) lent (modal_of s o)
         o.origin (s.log ++ []) among.corner refl (opens ∙ run.are.place ∙ ap (λ x. option_map (λ y. y.place) x) is) (holds ∙ was-held) refl among.stands))
+
+  -- the dialog shows what it showed
+  pub dropped-alike : is_dropped e ≡ true → (damage : List Rect) → OpenAlike d damage s (to_dialog d o e s)
+  dropped-alike dropped damage =
+      let less : o.place < length s.overwriting = subst (λ (n : ℕ). o.place < n) (sym run.are.overwriting) (slice_get_within d.dialogs o.place among.dialog among.there) in
+      let there = there-is s.overwriting o.place less in
+      let same : slice_set s.overwriting o.place (overwriting_at s o.place) ≡ s.overwriting =
+      set-itself s.overwriting o.place (overwriting_at s o.place) (there.1 ∙ ap (λ x. Some (unwrap_or x [])) (sym there.1)) in
+      subst (λ t. OpenAlike d damage s t) state-is
+      (subst (λ m. OpenAlike d damage s (after_work s o m m.ended)) (sym (dropped-still among.dialog o.origin e (modal_of s o) dropped))
+      (λ p. record {
+        each = λ column row on off under.
+            ap (λ x. cell_over (open_layers d s.overwriting x) column row under) is
+            ∙ ap (λ ids. cell_over (open_layers d ids (Some o)) column row under) (sym same);
+      }))

@@ -1,4 +1,5 @@
 pub mod Bodies
+pub mod Damage
 pub mod Dialogs
 pub mod Handed
 pub mod Kept

@@ -18,9 +18,11 @@ ghost use Rattle.tv_tree.specs.Shown.{IsAtWork, desktop_canvas};
 ghost use Rattle.tv_cells.specs.Canvas.{aside};
 ghost use Rattle.tv_cells.specs.Layers.{Lays};
 ghost use Rattle.tv_cells.specs.Rectangle.{IsRectNear, shifted};
+ghost use Rattle.tv_dialog.specs.Head.{dialog_bounds};
 ghost use Rattle.tv_dialog.specs.Standing.{Stands};
 ghost use Rattle.tv_dialog.specs.Stepping.{begun_anew};
 ghost use Rattle.tv_dialogs.specs.Bodies.{kept_body};
+ghost use Rattle.tv_dialogs.specs.Damage.{HasShadowed, Keeps, KeptDamages};
 ghost use Rattle.tv_dialogs.specs.Handed.{HasPointGiven, is_dropped};
 ghost use Rattle.tv_dialogs.specs.Kept.{IsKeptAs, IsReady, holds_after, may_hold, saves, values_after};
 
@@ -145,6 +147,9 @@ impl<V: View> Kept<V> {
             (dialog_step declared.now (event_from (corner_of declared.now.node) event.now) (begun_anew m)).leaves
             (dialog_step declared.now (event_from (corner_of declared.now.node) event.now) (begun_anew m)) self.new.dialog }
         ensures values { self.new.values ≡ values_after V.meaning self.old.values self.new.dialog }
+        ensures damage { KeptDamages V.meaning declared.now self.old.dialog self.new.dialog damage.new }
+        ensures ended { self.new.dialog.is_open ≡ false → HasShadowed (dialog_bounds self.new.dialog.head) damage.new }
+        ensures kept { Keeps damage.old damage.new }
     {
         let corner = self.dialog.bounds().a;
         let env = Env {
@@ -163,14 +168,20 @@ impl<V: View> Kept<V> {
     }
 
     /// Adds the dialog's rectangle and its shadow.
-    pub(crate) fn mark(&self, damage: &mut Damage) {
+    pub(crate) fn mark(&self, damage: &mut Damage)
+        ensures shadowed { HasShadowed (dialog_bounds self.now.dialog.head) damage.new }
+        ensures kept { Keeps damage.old damage.new }
+    {
         let bounds = self.dialog.bounds();
         damage.add(bounds);
         damage.add(shadow_of(bounds));
     }
 
     // The same where it has ended.
-    fn mark_ended(&self, damage: &mut Damage) {
+    fn mark_ended(&self, damage: &mut Damage)
+        ensures ended { self.now.dialog.is_open ≡ false → HasShadowed (dialog_bounds self.now.dialog.head) damage.new }
+        ensures kept { Keeps damage.old damage.new }
+    {
         if !self.dialog.is_open() {
             self.mark(damage);
         }

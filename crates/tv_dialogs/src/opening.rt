@@ -1,6 +1,6 @@
 //! Dialogs before a run, and how one opens.
 
-ghost use Rattle.std.specs.Prelude.{◌≡◌, ◌∷◌, ◌++◌, [], IfErr, IfOk, Some, slice_get};
+ghost use Rattle.std.specs.Prelude.{◌≡◌, ◌∷◌, ◌++◌, [], IfErr, IfOk, None, Some, slice_get};
 ghost use Rattle.tv_laws.specs.Runs.{HasSoundDialogs};
 ghost use Rattle.tv_machine.specs.Session.Commands.{open_dialog};
 ghost use Rattle.tv_machine.specs.Session.Start.{closed};
@@ -9,6 +9,7 @@ ghost use Rattle.tv_model.specs.declared.desc.Desc.{Desc};
 ghost use Rattle.tv_model.specs.declared.desc.Dialog.{Dialog};
 ghost use Rattle.tv_model.specs.declared.log.LogLine.TheVariants as lines;
 ghost use Rattle.tv_dialogs.specs.Bodies.{AreFreshBodies};
+ghost use Rattle.tv_dialogs.specs.Damage.{Keeps, OpenAlike};
 ghost use Rattle.tv_dialogs.specs.Dialogs.{AreDialogs, AreOfRun, MayOpen, log_of_last};
 
 use crate::bodies::keep_all;
@@ -56,6 +57,8 @@ impl<V: View> DialogsOf<V> {
         ensures dialogs { (d : Desc) (s : State) → AreOfRun V.meaning d s self.old → AreDialogs V.meaning d (open_dialog d place s) self.new }
         ensures log { (d : Desc) (s : State) (dialog : Dialog) → AreOfRun V.meaning d s self.old → slice_get d.dialogs place ≡ Some dialog
             → (open_dialog d place s).log ≡ s.log ++ lines.Open dialog.node.id ∷ log_of_last self.new }
+        ensures damage { (d : Desc) (s : State) → s.dialog ≡ None → AreOfRun V.meaning d s self.old → OpenAlike d damage.new s (open_dialog d place s) }
+        ensures kept { Keeps damage.old damage.new }
     {
         let kept = &mut self.kept[place];
         kept.dialog.reopen(kept.values.get(), damage);

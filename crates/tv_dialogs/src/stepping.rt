@@ -4,6 +4,7 @@ ghost use Rattle.std.specs.Prelude.{◌≡◌, ◌++◌, Some};
 ghost use Rattle.tv_laws.specs.Steps.{RespectsHold};
 ghost use Rattle.tv_machine.specs.Session.Step.{to_dialog};
 ghost use Rattle.tv_machine.specs.State.{OpenDialog, State};
+ghost use Rattle.tv_dialogs.specs.Damage.{Keeps, OpenAlike};
 ghost use Rattle.tv_dialogs.specs.Dialogs.{AreDialogs, AreOfRun, log_of_last};
 ghost use Rattle.tv_dialogs.specs.Handed.{HasPointGiven};
 
@@ -24,6 +25,9 @@ impl<V: View> DialogsOf<V> {
             → AreDialogs V.meaning desc.now (to_dialog desc.now o event.now s) self.new }
         ensures log { (s : State) (o : OpenDialog) → s.dialog ≡ Some o → AreOfRun V.meaning desc.now s self.old
             → (to_dialog desc.now o event.now s).log ≡ s.log ++ log_of_last self.new }
+        ensures damage { (s : State) (o : OpenDialog) → s.dialog ≡ Some o → RespectsHold o.held event.now → AreOfRun V.meaning desc.now s self.old
+            → OpenAlike desc.now damage.new s (to_dialog desc.now o event.now s) }
+        ensures kept { Keeps damage.old damage.new }
     {
         self.last = None;
         if is_dropped(event) {

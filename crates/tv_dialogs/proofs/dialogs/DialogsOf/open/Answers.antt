@@ -6,12 +6,15 @@ use Rattle.tv_group.specs.Opened.{opened}
 use Rattle.tv_machine.specs.Dialog.Lawful.{IsLawfulDialog}
 use Rattle.tv_machine.specs.Dialog.Modal.{Modal}
 use Rattle.tv_machine.specs.Dialog.Opening.{opened_dialog as opens}
+use Rattle.tv_machine.specs.Session.Commands.{open_dialog}
 use Rattle.tv_model.specs.declared.desc.Dialog.{Dialog}
 use Rattle.tv_dialog.specs.Fields.{in_field_order}
 use Rattle.tv_dialog.specs.Resting.{Rests}
 use Rattle.tv_dialog.specs.Standing.{Stands}
+use Rattle.tv_dialogs.specs.declared.kept.Kept.{Kept}
+use Rattle.tv_dialogs.proofs.DamageLemmas.{opened-alike}
 use Rattle.tv_dialogs.proofs.OpenLemmas.{open-fits, opened-dialogs, opened-log}
-use Rattle.tv_dialogs.proofs.PlaceLemmas.{there-is}
+use Rattle.tv_dialogs.proofs.PlaceLemmas.{get-set-same, there-is}
 use Rattle.tv_dialogs.proofs.dialogs.DialogsOf.open.Goals as goal
 
 pub reopen-requires : goal.reopen-requires
@@ -54,3 +57,11 @@ returns-clause-log g c d s dialog run there =
       last = Some c.args.place;
     })
     (record { dialog = c.reopen.new.self; values = c.index_mut-kept.result.now.values }) refl stands refl
+
+pub returns-clause-damage : goal.returns-clause-damage
+returns-clause-damage g c d s none run =
+    let items = c.args.self.now.kept.items in
+    let less : c.args.place < length items = subst (λ (n : ℕ). c.args.place < n) (sym c.requires.run.are.count) c.requires.there in
+    let after : Kept g.row.V.Denot = record { dialog = c.reopen.new.self; values = c.index_mut-kept.result.now.values } in
+    opened-alike g.V.View.meaning d run.sound s (open_dialog d c.args.place s) c.args.self.now _ run.are (returns-clause-dialogs g c d s run) c.mark.new.damage none c.args.place after
+    (get-set-same items c.args.place after less) refl c.mark.ensures.shadowed

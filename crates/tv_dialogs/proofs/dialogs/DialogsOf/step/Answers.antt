@@ -4,9 +4,13 @@ use Rattle.std.specs.Vec.{with_item}
 use Rattle.std.proofs.lemmas.Option.{slice_get_read}
 use Rattle.tv_dialogs.specs.Dialogs.{at_work, kept_at}
 use Rattle.tv_dialogs.specs.Kept.{values_after}
+use Rattle.tv_machine.specs.Session.Step.{to_dialog}
+use Rattle.tv_dialogs.specs.Damage.{KeptDamages}
+use Rattle.tv_dialogs.proofs.PlaceLemmas.{same-some}
+use Rattle.tv_dialogs.proofs.DamageLemmas.{stepped-alike}
 use Rattle.tv_dialogs.proofs.CurrentLemmas.{held-some}
-use Rattle.tv_dialogs.proofs.StepLemmas.{dropped-dialogs, dropped-log, handed-dialogs, handed-log, held-stepped, read-ready, read-stands}
-use Rattle.tv_dialogs.proofs.PlacedLemmas.{place-declared, place-kept, place-of, place-told, read-kept}
+use Rattle.tv_dialogs.proofs.StepLemmas.{dropped-alike, dropped-dialogs, dropped-log, handed-dialogs, handed-log, held-stepped, read-ready, read-stands}
+use Rattle.tv_dialogs.proofs.PlacedLemmas.{place-declared, place-kept, place-of, place-told, read-declared, read-kept}
 use Rattle.tv_dialogs.proofs.dialogs.DialogsOf.step.Goals as goal
 
 pub returns-then-is_dropped-clause-dialogs : goal.returns-then-is_dropped-clause-dialogs
@@ -17,6 +21,10 @@ pub returns-then-is_dropped-clause-log : goal.returns-then-is_dropped-clause-log
 returns-then-is_dropped-clause-log g c s o is run =
     dropped-log g.V.View.meaning c.args.desc.now s c.args.self.now run o is c.args.event.now (record c.args.self.now { last = None })
     (sym c.is_dropped.ensures ∙ c.if-is_dropped.true) refl refl
+
+pub returns-then-is_dropped-clause-damage : goal.returns-then-is_dropped-clause-damage
+returns-then-is_dropped-clause-damage g c s o is given run =
+    dropped-alike g.V.View.meaning c.args.desc.now s c.args.self.now run o is c.args.event.now (sym c.is_dropped.ensures ∙ c.if-is_dropped.true) c.args.damage.now
 
 declared_less : (g : _) (c : goal.After-as_slice g) → c.in-Some.place < length c.args.desc.now.dialogs
 declared_less g c = place-declared g.V.View.meaning c.args.desc.now c.requires.run.0 c.args.self.now c.requires.run.1.are c.in-Some.place c.in-Some.is
@@ -91,3 +99,24 @@ returns-in-Some-clause-log g c s o is run =
       colours = old.colours;
     })
     c.step.new.self (ap (λ n. slice_set old.kept.items n c.step.new.self) at) stands (ap (λ n. Some n) at)
+
+pub returns-in-Some-clause-damage : goal.returns-in-Some-clause-damage
+returns-in-Some-clause-damage g c s o is given run =
+    let look = g.V.View.meaning in
+    let d = c.args.desc.now in
+    let old = c.args.self.now in
+    let e = c.args.event.now in
+    let kept = c.index_mut-kept.result.now in
+    let among = run.are.at o is in
+    let at = place-of look d s old run.are c.in-Some.place c.in-Some.is o is in
+    let declared = c.index-as_slice-place.result in
+    let reads = c.index-as_slice-place.is ∙ ap (λ ds. slice_index_or ds c.in-Some.place declared) c.as_slice.ensures in
+    let stands = read-stands look d s old run o is c.in-Some.place c.in-Some.is declared kept reads c.index_mut-kept.ensures.value e c.step.new.self c.step.ensures.stands in
+    let told = subst (λ k. KeptDamages look among.dialog k.dialog c.step.new.self.dialog c.step.new.damage)
+    (read-kept look d s old run.are c.in-Some.place c.in-Some.is o is kept c.index_mut-kept.ensures.value)
+    (subst (λ x. KeptDamages look x kept.dialog c.step.new.self.dialog c.step.new.damage)
+    (read-declared look d s old run.are c.in-Some.place c.in-Some.is o is declared reads) c.step.ensures.damage) in
+    stepped-alike look d run.sound s (to_dialog d o e s) old _ run.are (returns-in-Some-clause-dialogs g c s o is given run) c.step.new.damage o is c.step.new.self
+    (ap (λ n. slice_set old.kept.items n c.step.new.self) at)
+    (c.then_some-self.ensures ∙ ap (λ b. then_some b c.in-Some.place) c.is_open.ensures ∙ ap (then_some c.step.new.self.dialog.is_open) at)
+    (same-some c.step.new.self.dialog.head among.kept.dialog.head (stands.head ∙ sym among.stands.head)) told c.step.ensures.ended

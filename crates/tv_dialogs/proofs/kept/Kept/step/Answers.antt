@@ -1,9 +1,12 @@
-use Rattle.std.proofs.Common.{◌∙◌, ap, subst, sym}
+use Rattle.std.proofs.Common.{◌∙◌, ap, refl, subst, sym}
+use Rattle.tv_palette.specs.Chain.{coloured}
 use Rattle.tv_model.specs.Description.Rectangles.{corner_of}
 use Rattle.tv_machine.specs.Dialog.Step.{dialog_step}
 use Rattle.tv_machine.specs.Session.Step.{event_from}
 use Rattle.tv_dialog.specs.Standing.{Stands}
 use Rattle.tv_dialog.specs.Stepping.{IsHandedIn, begun_anew}
+use Rattle.tv_dialogs.specs.Damage.{KeptDamages}
+use Rattle.tv_dialogs.proofs.DamageLemmas.{kept-damages}
 use Rattle.tv_dialogs.proofs.DroppedLemmas.{handed-in}
 use Rattle.tv_dialogs.proofs.ShownLemmas.{corner-is}
 use Rattle.tv_dialogs.proofs.ValueLemmas.{stands-room}
@@ -29,3 +32,12 @@ returns-clause-stands g c m r =
     subst (λ dialog. Stands look d (dialog_step d (event_from (corner_of d.node) c.args.event.now) (begun_anew m)).leaves (dialog_step d (event_from (corner_of d.node) c.args.event.now) (begun_anew m)) dialog) (sym c.save.ensures.dialog)
     (subst (λ e. Stands look d (dialog_step d e (begun_anew m)).leaves (dialog_step d e (begun_anew m)) c.step_told.new.self) same
     (c.step_told.ensures.stands d m r.lawful c.as_slice.ensures handed r.leaf r.focus r.stands))
+
+pub returns-clause-damage : goal.returns-clause-damage
+returns-clause-damage g c =
+    let look = g.V.View.meaning in
+    let d = c.args.declared.now in
+    let old = c.args.self.now.dialog in
+    subst (λ dialog. KeptDamages look d old dialog c.mark_ended.new.damage) (sym c.save.ensures.dialog)
+    (kept-damages look d _ old c.step_told.new.self _ _ _ c.step_told.ensures.damage c.mark_ended.ensures.kept
+    (record { views = c.as_slice.ensures; palettes = record { owner = refl; chain = ap coloured c.chain.ensures }; active = refl }))
