@@ -1,5 +1,6 @@
 pub mod BoxLemmas
 pub mod CommandLemmas
+pub mod DamageLemmas
 pub mod DrawingLemmas
 pub mod FaceLemmas
 pub mod LawfulLemmas

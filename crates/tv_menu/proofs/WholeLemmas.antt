@@ -1,11 +1,11 @@
--- The whole screen cuts nothing off the bar, the box and the status line.
+-- The whole screen cuts nothing off its canvas, the desktop's, the bar, the box and the status line.
 use Rattle.std.proofs.Common.{◌≡◌, ℤ, pos, ◌+ℤ◌, ◌-ℤ◌, List, [], ◌∷◌, map, Option, Some, None, refl, ap, arith}
 use Rattle.std.specs.Int.{int_max, int_min}
 use Rattle.std.specs.Prelude.{slice_get}
 use Rattle.std.proofs.lemmas.Int.{ints, clamps}
 use Rattle.tv_cells.specs.Layers.{Layer, Painted, Shadow}
 use Rattle.tv_cells.specs.Rectangle.{cut, sized}
-use Rattle.tv_cells.specs.Repainting.{clipped}
+use Rattle.tv_cells.specs.Repainting.{clipped, within}
 use Rattle.tv_cells.specs.declared.rect.Rect.{Rect}
 use Rattle.tv_cells.proofs.RectangleLemmas.{point_is, rect_is}
 use Rattle.tv_model.specs.declared.desc.Desc.{Desc}
@@ -33,6 +33,12 @@ last-row h = omega (arith, ints, clamps)
 -- the desktop is a part of the screen
 cut-desktop : (d : Desc) → cut (whole_screen d) (desktop d) ≡ desktop d
 cut-desktop d = rect_is _ _ _ _ (point_is _ _ _ _ refl refl) (point_is _ _ _ _ (min-same (pos 0 +ℤ d.width)) (last-row d.height))
+
+pub canvas-screen : (d : Desc) → within (whole_screen d) (canvas_at (whole_screen d) (pos 0) (pos 0)) ≡ canvas_at (whole_screen d) (pos 0) (pos 0)
+canvas-screen d = ap (λ r. canvas_at r (pos 0) (pos 0)) (cut-same (whole_screen d))
+
+pub canvas-desktop : (d : Desc) → within (whole_screen d) (canvas_at (desktop d) (pos 0) (pos 0)) ≡ canvas_at (desktop d) (pos 0) (pos 0)
+canvas-desktop d = ap (λ r. canvas_at r (pos 0) (pos 0)) (cut-desktop d)
 
 pub bar-whole : (d : Desc) (o : Option OpenMenu) → clipped (whole_screen d) (bar_layer d o) ≡ bar_layer d o
 bar-whole d o = ap (λ r. Painted (canvas_at r (pos 0) (pos 0)) (natural d.width) 1 (bar_face d (open_place o))) (cut-same (whole_screen d))

@@ -20,6 +20,7 @@ use crate::bar_face::BarFace;
 use crate::bars::{MenuBar, StatusLine};
 use crate::box_face::BoxFace;
 use crate::boxes::{box_height, box_width};
+use crate::effect::menu_of;
 use crate::menus::menu_at;
 use crate::status_face::StatusFace;
 use tv_cells::{Canvas, Point, Rect, Screen, lay, lay_shadow};
@@ -93,13 +94,10 @@ impl MenuBar {
         lay(screen, canvas, natural(&self.width), 1, &face);
     }
 
-    fn open_place(&self) -> Option<usize>
+    pub(crate) fn open_place(&self) -> Option<usize>
         ensures { result ≡ open_place (open_of self.now) }
     {
-        match self.open {
-            Some(current) => Some(current.menu),
-            None => None,
-        }
+        menu_of(self.open)
     }
 
     /// Draws the box of the open menu over its shadow. The canvas must be the desktop's, with its origin in the

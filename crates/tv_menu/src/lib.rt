@@ -7,6 +7,7 @@ mod bars;
 mod box_face;
 mod boxes;
 mod colours;
+mod damage;
 mod drawing;
 mod effect;
 mod keys;
@@ -20,4 +21,5 @@ mod status_face;
 mod titles;
 
 pub use bars::{MenuBar, StatusLine};
+pub use effect::Place;
 pub use offered::Offered;
