@@ -14,6 +14,7 @@ ghost use Rattle.tv_session.specs.Running.{IsAwake, IsRun};
 
 use crate::log::{note, note_all};
 use crate::run::RunOf;
+use tv_cells::Damage;
 use tv_event::{Command, Event};
 use tv_model::{Desc, Dialog, LogLine};
 use tv_view::View;
@@ -85,7 +86,7 @@ impl<V: View> RunOf<V> {
             return;
         };
         note(&mut self.log, LogLine::Open(dialog.node.id));
-        self.dialogs.open(place);
+        self.dialogs.open(place, &mut Damage::new());
         note_all(&mut self.log, self.dialogs.log());
     }
 
@@ -127,7 +128,7 @@ impl<V: View> RunOf<V> {
         ensures { (s : State) (o : OpenDialog) → IsAwake V.meaning desc.now s self.old → s.dialog ≡ Some o → RespectsHold o.held event.now
             → IsRun V.meaning desc.now (to_dialog desc.now o event.now s) self.new }
     {
-        self.dialogs.step(desc, event);
+        self.dialogs.step(desc, event, &mut Damage::new());
         note_all(&mut self.log, self.dialogs.log());
     }
 
