@@ -2,11 +2,11 @@
 
 use crate::making::{checked, first_control, plan, views};
 use crate::setting::open;
-use crate::telling::{push_face, push_reaction, push_token, push_word, value_told};
+use crate::telling::{damage_told, push_face, push_reaction, push_token, push_word, value_told};
 use bitflags::Flags;
 use std::alloc::Global;
 use std::test::Fail;
-use tv_cells::{Point, Screen};
+use tv_cells::{Damage, Point, Screen};
 use tv_event::{Command, CommandSet, Event, Phase};
 use tv_model::{Id, Item, Node, Record, Sequence};
 use tv_palette::{Chain, Owner};
@@ -21,7 +21,9 @@ use tv_view::{Env, Rules, View};
 /// line 4; with `grant` it gets the focus by the event that comes next. `hide`, `show`, `disable` and `enable` are what rules
 /// come to. `pre`, `main` and `post` set the phase of the keys after them. `default` lets the control be the default now, and
 /// `enter` is the broadcast of Enter. `press N` presses an item. `set` opens it with the value that follows, as long as it
-/// stands as it is declared. `facts` tells its line, its rectangle and its options, and `state` how it stands.
+/// stands as it is declared. `facts` tells its line, its rectangle and its options, and `state` how it stands. `damage` tells
+/// what it has damaged since that was told last. `lend` asks it for what another environment damages: where the control in the
+/// line that follows has the focus, in a `window`, as the `default`, or where its owner is `idle`.
 #[derive(Clone, Copy)]
 pub struct Playing {
     /// The point of what the control stands in from which a script's points are seen.
@@ -62,6 +64,7 @@ impl Question for Playing {
             lent: Lent::new(views(&checked)?),
             phase: Phase::Focused,
             corner: self.corner,
+            damage: Damage::new(),
         };
         bench.perform(alloc, script)
     }
@@ -107,6 +110,7 @@ struct Bench<'a> {
     lent: Lent<'a>,
     phase: Phase,
     corner: Point,
+    damage: Damage,
 }
 
 impl Bench<'_> {
@@ -139,6 +143,7 @@ impl Bench<'_> {
             b"enable" => self.enable(true),
             b"facts" => self.push_facts(alloc, told)?,
             b"state" => self.push_state(alloc, told)?,
+            b"damage" => self.push_damage(told)?,
             [b'p', b'r', b'e', b's', b's', b' ', digit] => {
                 self.press(alloc, told, digit.saturating_sub(b'0'))?;
             }
@@ -147,13 +152,43 @@ impl Bench<'_> {
         Ok(())
     }
 
-    // The opening with a value, and the lines of a script.
+    // Another environment, the opening with a value, and the lines of a script.
     fn other(&mut self, alloc: Global, told: &mut String, command: &str) -> Result<(), Fail> {
+        if let Some(word) = command.strip_prefix("lend ") {
+            return self.lend(word);
+        }
         let Some(value) = command.strip_prefix("set ") else {
             return self.play(alloc, told, command);
         };
         let node = self.lent.views.get(1).ok_or("no view")?;
-        open(alloc, &mut self.view, node, value)
+        open(alloc, &mut self.view, node, value, &mut self.damage)
+    }
+
+    // What it would be lent otherwise, which it is asked for and not lent.
+    fn lend(&mut self, word: &str) -> Result<(), Fail> {
+        let window = Chain::of_window();
+        let old = self.lent.env();
+        let new = match word.as_bytes() {
+            b"window" => Env {
+                owner: Owner::Window,
+                chain: &window,
+                ..old
+            },
+            b"default" => Env {
+                default_now: Some(self.view.id()),
+                ..old
+            },
+            b"idle" => Env {
+                is_active: false,
+                ..old
+            },
+            _ => Env {
+                focus: Some(Id(word.parse()?)),
+                ..old
+            },
+        };
+        self.view.env_damage(&old, &new, &mut self.damage);
+        Ok(())
     }
 
     // The focus moves to a control, and the control tells whether it is that one.
@@ -163,7 +198,7 @@ impl Bench<'_> {
     }
 
     fn grant(&mut self, told: &mut String, id: Id) -> Result<(), Fail> {
-        let is_own = self.view.focus_to(id);
+        let is_own = self.view.focus_to(id, &mut self.damage);
         Ok(push_token(told, if is_own { "own" } else { "other" })?)
     }
 
@@ -172,7 +207,7 @@ impl Bench<'_> {
             shown,
             commands: &self.lent.commands,
         };
-        self.view.apply(&rules);
+        self.view.apply(&rules, &mut self.damage);
     }
 
     // Enables or disables command 120, and with it the buttons that give it.
@@ -187,7 +222,7 @@ impl Bench<'_> {
     }
 
     fn press(&mut self, alloc: Global, told: &mut String, item: u8) -> Result<(), Fail> {
-        self.view.press_item(self.view.id(), item);
+        self.view.press_item(self.view.id(), item, &mut self.damage);
         self.push_state(alloc, told)
     }
 
@@ -208,7 +243,8 @@ impl Bench<'_> {
     fn handle(&mut self, alloc: Global, told: &mut String, event: &Event) -> Result<(), Fail> {
         let id = self.view.id();
         let before = value_told(alloc, &self.record(), id)?;
-        let reaction = self.view.handle(event, self.phase, &self.lent.env());
+        let env = self.lent.env();
+        let reaction = self.view.handle(event, self.phase, &env, &mut self.damage);
         push_reaction(told, alloc, reaction)?;
         let after = value_told(alloc, &self.record(), id)?;
         if before.as_str() != after.as_str() {
@@ -253,6 +289,13 @@ impl Bench<'_> {
         if self.is_fresh() {
             push_word(told, "fresh")?;
         }
+        Ok(())
+    }
+
+    // What it has damaged, of which nothing is left.
+    fn push_damage(&mut self, told: &mut String) -> Result<(), Fail> {
+        push_token(told, damage_told(&self.damage, self.view.bounds()))?;
+        self.damage.clear();
         Ok(())
     }
 

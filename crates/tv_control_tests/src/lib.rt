@@ -11,6 +11,8 @@ mod buttons;
 #[cfg(test)]
 mod clusters;
 #[cfg(test)]
+mod damages;
+#[cfg(test)]
 mod events;
 #[cfg(test)]
 mod inputs;

@@ -8,6 +8,7 @@ ghost use Rattle.tv_view.specs.Calls.{IsFieldValue};
 
 use std::alloc::Global;
 use std::test::Fail;
+use tv_cells::Damage;
 use tv_model::{Kind, Node, Record, Value};
 use tv_valid::{Domain, DomainFault, InputSpec, Text};
 use tv_view::View;
@@ -17,7 +18,13 @@ use tv_view::View;
 /// # Errors
 ///
 /// Where it stands otherwise, or is a field that may not have the value.
-pub fn open<V: View>(alloc: Global, view: &mut V, node: &Node, text: &str) -> Result<(), Fail> {
+pub fn open<V: View>(
+    alloc: Global,
+    view: &mut V,
+    node: &Node,
+    text: &str,
+    damage: &mut Damage,
+) -> Result<(), Fail> {
     let value = value_read(alloc, &node.kind, text)?;
     if !may_have(alloc, &node.kind, &value)? {
         Err("it may not have this value")?;
@@ -25,17 +32,17 @@ pub fn open<V: View>(alloc: Global, view: &mut V, node: &Node, text: &str) -> Re
     if !view.is_fresh(node) {
         Err("it has changed")?;
     }
-    set(view, node, value);
+    set(view, node, value, damage);
     Ok(())
 }
 
-fn set<V: View>(view: &mut V, node: &Node, value: Value)
+fn set<V: View>(view: &mut V, node: &Node, value: Value, damage: &mut Damage)
     requires fresh { V.meaning view.old ≡ fresh node.now }
     requires value { IsFieldValue node.now.kind (Some value) }
 {
     let mut values = Record::new();
     values.put(node.id, value);
-    view.set(&values);
+    view.set(&values, damage);
 }
 
 fn value_read(alloc: Global, kind: &Kind, text: &str) -> Result<Value, Fail> {

@@ -2,7 +2,7 @@
 
 use std::alloc::{AllocError, Global};
 use std::test::Fail;
-use tv_cells::{Cell, Point, Rect, Screen};
+use tv_cells::{Cell, Damage, Point, Rect, Screen};
 use tv_model::{Id, Record, Value};
 use tv_view::Reaction;
 
@@ -59,6 +59,22 @@ fn quoted(alloc: Global, text: &[char]) -> Result<String, AllocError> {
     }
     told.push('"')?;
     Ok(told)
+}
+
+/// Whether nothing is damaged, or a rectangle, or on the largest screen other points than its own.
+pub fn damage_told(damage: &Damage, rect: Rect) -> &'static str {
+    if damage.rects().is_empty() {
+        return "intact";
+    }
+    for y in 0..60 {
+        for x in 0..132 {
+            let point = Point { x, y };
+            if damage.has(point) != rect.contains(point) {
+                return "astray";
+            }
+        }
+    }
+    "damaged"
 }
 
 /// Adds the cells of a rectangle of the screen, a line for each row between colons: their characters, or their attributes in

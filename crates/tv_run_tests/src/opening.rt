@@ -5,6 +5,7 @@ ghost use Rattle.tv_machine.specs.Dialog.Lawful.{IsLawfulDialog};
 use crate::fitting::expect_fit;
 use std::alloc::Global;
 use std::test::Fail;
+use tv_cells::Damage;
 use tv_dialog::Dialog;
 use tv_group::Group;
 use tv_model::{Dialog as Declared, Record};
@@ -30,7 +31,7 @@ pub fn open(
     dialog.record(&mut first);
     let values = values.unwrap_or(&first);
     expect_fit(alloc, views, values)?;
-    dialog.reopen(values);
+    dialog.reopen(values, &mut Damage::new());
     Ok(dialog)
 }
 
@@ -46,6 +47,6 @@ pub fn with_values(
         return Err("the body isn't fresh".into());
     }
     expect_fit(alloc, views, values)?;
-    body.set(values);
+    body.set(values, &mut Damage::new());
     Ok(body)
 }

@@ -6,7 +6,7 @@ use crate::telling::push_lines;
 use std::alloc::Global;
 use std::process::Abort;
 use std::test::Fail;
-use tv_cells::Point;
+use tv_cells::{Damage, Point};
 use tv_check::Checked;
 use tv_dialog::Dialog;
 use tv_event::{Command, CommandSet, Event, Key};
@@ -64,7 +64,7 @@ fn step(dialog: &mut Dialog, declared: &Declared, event: &Event) -> Result<(), F
         default_now: None,
         is_active: true,
     };
-    dialog.step(&event, &env);
+    dialog.step(&event, &env, &mut Damage::new());
     Ok(())
 }
 

@@ -8,6 +8,7 @@ use crate::opening::open;
 use std::alloc::Global;
 use std::process::Abort;
 use std::test::Fail;
+use tv_cells::Damage;
 use tv_check::Checked;
 use tv_event::{Command, CommandSet};
 use tv_group::{Advanced, Dir, Group};
@@ -30,12 +31,12 @@ fn all_but(alloc: Global, dialog: &Dialog, name: &str) -> Result<Vec<Id>, Fail> 
 // Fails unless a walk from a control passes these, and ends at the edge.
 fn expect_walk(body: &mut Group, dialog: &Dialog, dir: Dir, names: &[&str]) -> Result<(), Fail> {
     for name in names {
-        let found = body.advance(dir);
+        let found = body.advance(dir, &mut Damage::new());
         if found != Advanced::Moved(id_of(dialog, name)?) {
             return Err(Fail::new(format_args!("{found:?} for {name}")));
         }
     }
-    if body.advance(dir) == Advanced::Edge {
+    if body.advance(dir, &mut Damage::new()) == Advanced::Edge {
         return Ok(());
     }
     Err("there is more than these".into())
@@ -48,11 +49,11 @@ fn expect_walks(
     names: &[&str],
     back: &[&str],
 ) -> Result<(), Fail> {
-    if !body.focus_to(id_of(dialog, "amount")?) {
+    if !body.focus_to(id_of(dialog, "amount")?, &mut Damage::new()) {
         return Err("there is no amount".into());
     }
     expect_walk(body, dialog, Dir::Forward, names)?;
-    if body.enter(Dir::Backward) != Some(id_of(dialog, "log")?) {
+    if body.enter(Dir::Backward, &mut Damage::new()) != Some(id_of(dialog, "log")?) {
         return Err("entered elsewhere".into());
     }
     expect_walk(body, dialog, Dir::Backward, back)
@@ -104,10 +105,11 @@ fn rule(
     commands: &CommandSet,
 ) -> Result<(), Fail> {
     let shown = all_but(alloc, dialog, hidden)?;
-    body.apply(&Rules {
+    let rules = Rules {
         shown: &shown,
         commands,
-    });
+    };
+    body.apply(&rules, &mut Damage::new());
     Ok(())
 }
 

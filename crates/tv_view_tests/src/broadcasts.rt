@@ -4,6 +4,7 @@ use crate::forms::{FIRST, INPUT, LABEL, LAST, LEAVES, TEXT, env, form};
 use crate::probes::Journal;
 use std::process::Abort;
 use std::test::Fail;
+use tv_cells::Damage;
 use tv_event::{Command, CommandSet, Event, Key, Phase};
 use tv_model::Id;
 use tv_palette::Chain;
@@ -17,17 +18,22 @@ fn hidden_and_disabled_leaves_hear_broadcasts(rt: HostRuntime) -> Result<(), Fai
     let chain = Chain::of_dialog();
     let mut commands = CommandSet::all();
     commands.disable(Command(120));
-    form.apply(&Rules {
+    let mut damage = Damage::new();
+    let rules = Rules {
         shown: &[Id(LABEL), Id(FIRST), Id(TEXT), Id(INPUT)],
         commands: &commands,
-    });
+    };
+    form.apply(&rules, &mut damage);
     let env = env(&chain, &commands, &[]);
     let key = Event::Key(Key::Function(5));
     let told = Event::Broadcast(Command::RECEIVED_FOCUS);
     for phase in [Phase::Pre, Phase::Post] {
-        assert_eq!(rt; form.handle(&key, phase, &env), Reaction::Pass);
+        assert_eq!(rt; form.handle(&key, phase, &env, &mut damage), Reaction::Pass);
         journal.expect_handed(key, phase, &[LABEL])?;
-        assert_eq!(rt; form.handle(&told, phase, &env), Reaction::Pass);
+        assert_eq!(rt;
+            form.handle(&told, phase, &env, &mut damage),
+            Reaction::Pass
+        );
         journal.expect_handed(told, phase, &LEAVES)?;
     }
     Ok(())
@@ -42,13 +48,16 @@ fn a_hidden_default_button_is_pressed(rt: HostRuntime) -> Result<(), Fail> {
     let mut commands = CommandSet::all();
     let enter = Event::Broadcast(Command::DEFAULT);
     for reaction in [Reaction::Post(Id(LAST), Command(120)), Reaction::Pass] {
-        form.apply(&Rules {
+        let mut damage = Damage::new();
+        let rules = Rules {
             shown: &[],
             commands: &commands,
-        });
+        };
+        form.apply(&rules, &mut damage);
         let mut env = env(&chain, &commands, &[]);
         env.default_now = Some(Id(LAST));
-        assert_eq!(rt; form.handle(&enter, Phase::Focused, &env), reaction);
+        let answer = form.handle(&enter, Phase::Focused, &env, &mut damage);
+        assert_eq!(rt; answer, reaction);
         journal.expect_handed(enter, Phase::Focused, &LEAVES)?;
         commands.disable(Command(120));
     }

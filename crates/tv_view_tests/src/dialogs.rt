@@ -11,7 +11,7 @@ use crate::samples::sized;
 use std::alloc::Global;
 use std::rc::Rc;
 use std::test::Fail;
-use tv_cells::{Point, Rect};
+use tv_cells::{Damage, Point, Rect};
 use tv_controls::Button;
 use tv_dialog::DialogOf;
 use tv_event::{Command, CommandSet, Event};
@@ -151,7 +151,7 @@ fn body(alloc: Global, journal: &Rc<Journal>) -> Result<GroupOf<Probed>, Fail> {
 fn open(dialog: &mut DialogOf<Probed>)
     ensures { dialog.new.is_open ≡ true }
 {
-    dialog.reopen(&Record::new());
+    dialog.reopen(&Record::new(), &mut Damage::new());
 }
 
 /// The dialog, with what it is lent and what its buttons were told.
@@ -201,7 +201,7 @@ impl Scene {
             Err("it has ended")?;
         }
         let env = env(&self.chain, &self.commands, &self.views);
-        self.dialog.step(event, &env);
+        self.dialog.step(event, &env, &mut Damage::new());
         Ok(format!(in self.alloc; "{:?}", self.dialog.log())?)
     }
 }

@@ -6,6 +6,7 @@ use bitflags::Flags;
 use std::process::Abort;
 use std::rc::Rc;
 use std::test::Fail;
+use tv_cells::Damage;
 use tv_event::{CommandSet, State};
 use tv_group::{Advanced, Dir, Group};
 use tv_model::Id;
@@ -25,17 +26,19 @@ fn walk(
     dir: Dir,
     stops: &[u32],
 ) -> Result<(), Fail> {
+    let mut damage = Damage::new();
     let mut is_entered = false;
     for stop in stops {
         if is_entered {
-            assert_eq!(rt; group.advance(dir), Advanced::Moved(Id(*stop)), "to {stop}");
+            let moved = group.advance(dir, &mut damage);
+            assert_eq!(rt; moved, Advanced::Moved(Id(*stop)), "to {stop}");
         } else {
-            assert_eq!(rt; group.enter(dir), Some(Id(*stop)));
+            assert_eq!(rt; group.enter(dir, &mut damage), Some(Id(*stop)));
             is_entered = true;
         }
         journal.expect(&[(*stop, Call::Focused)])?;
     }
-    assert_eq!(rt; group.advance(dir), Advanced::Edge);
+    assert_eq!(rt; group.advance(dir, &mut damage), Advanced::Edge);
     assert_eq!(rt; group.state().contains(State::FOCUSED), is_entered);
     journal.expect(&[])
 }
@@ -52,10 +55,15 @@ fn both_ways_to_the_edge(rt: HostRuntime) -> Result<(), Fail> {
 fn no_current_leaf_is_an_edge(rt: HostRuntime) -> Result<(), Fail> {
     let journal = Journal::new(rt.alloc())?;
     let mut form = form(rt.alloc(), &journal)?;
-    assert_eq!(rt; form.advance(Dir::Forward), Advanced::Edge);
-    assert_eq!(rt; form.advance(Dir::Backward), Advanced::Edge);
+    let mut damage = Damage::new();
+    assert_eq!(rt; form.advance(Dir::Forward, &mut damage), Advanced::Edge);
+    assert_eq!(rt; form.advance(Dir::Backward, &mut damage), Advanced::Edge);
     assert!(rt; !form.state().contains(State::FOCUSED));
     journal.expect(&[])
+}
+
+fn apply(group: &mut Group, shown: &[Id], commands: &CommandSet) {
+    group.apply(&Rules { shown, commands }, &mut Damage::new());
 }
 
 // Hidden controls are no stops, and with none shown there is nothing to enter.
@@ -65,17 +73,12 @@ fn hidden_controls_are_passed_over(rt: HostRuntime) -> Result<(), Fail> {
     let mut form = form(rt.alloc(), &journal)?;
     let commands = CommandSet::all();
     let shown = [Id(INNER), Id(INPUT)];
-    form.apply(&Rules {
-        shown: &shown,
-        commands: &commands,
-    });
+    apply(&mut form, &shown, &commands);
     walk(&rt, &mut form, &journal, Dir::Forward, &[INNER, INPUT])?;
     walk(&rt, &mut form, &journal, Dir::Backward, &[INPUT, INNER])?;
-    form.apply(&Rules {
-        shown: &[],
-        commands: &commands,
-    });
-    assert_eq!(rt; form.enter(Dir::Forward), None);
-    assert_eq!(rt; form.enter(Dir::Backward), None);
+    apply(&mut form, &[], &commands);
+    let mut damage = Damage::new();
+    assert_eq!(rt; form.enter(Dir::Forward, &mut damage), None);
+    assert_eq!(rt; form.enter(Dir::Backward, &mut damage), None);
     journal.expect(&[])
 }

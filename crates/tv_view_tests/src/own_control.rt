@@ -6,7 +6,7 @@ use crate::samples::reads;
 use bitflags::Flags;
 use std::process::Abort;
 use std::test::Fail;
-use tv_cells::Screen;
+use tv_cells::{Damage, Screen};
 use tv_event::{CommandSet, State};
 use tv_model::Id;
 use tv_palette::Chain;
@@ -33,12 +33,13 @@ fn it_is_drawn(rt: HostRuntime) -> Result<(), Fail> {
 fn it_is_focused(rt: HostRuntime) -> Result<(), Fail> {
     let journal = Journal::new(rt.alloc())?;
     let mut form = form(rt.alloc(), &journal)?;
+    let mut damage = Damage::new();
     for id in [INNER, LAST, FIRST] {
-        assert!(rt; form.focus_to(Id(id)));
+        assert!(rt; form.focus_to(Id(id), &mut damage));
         journal.expect(&[(id, Call::Focused)])?;
         assert!(rt; form.state().contains(State::FOCUSED));
     }
-    assert!(rt; !form.focus_to(Id(LABEL)));
+    assert!(rt; !form.focus_to(Id(LABEL), &mut damage));
     journal.expect(&[])?;
     assert!(rt; !form.state().contains(State::FOCUSED));
     Ok(())

@@ -6,6 +6,7 @@ use std::alloc::Global;
 use std::process::Abort;
 use std::rc::Rc;
 use std::test::Fail;
+use tv_cells::Damage;
 use tv_event::{Command, CommandSet, Event, Key, Phase};
 use tv_group::Group;
 use tv_model::Id;
@@ -23,6 +24,7 @@ fn handle(group: &mut Group, event: &Event, phase: Phase) -> Reaction {
         event,
         phase,
         &env(&Chain::of_dialog(), &CommandSet::all(), &[]),
+        &mut Damage::new(),
     )
 }
 
@@ -43,7 +45,7 @@ fn expect_passed(
 }
 
 fn focus(group: &mut Group, journal: &Rc<Journal>, id: u32) -> Result<(), Fail> {
-    group.focus_to(Id(id));
+    group.focus_to(Id(id), &mut Damage::new());
     journal.expect(&[(id, Call::Focused)])
 }
 

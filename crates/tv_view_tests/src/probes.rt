@@ -4,7 +4,7 @@ use std::alloc::{AllocError, Global};
 use std::cell::RefCell;
 use std::rc::Rc;
 use std::test::Fail;
-use tv_cells::{Canvas, Rect, Screen};
+use tv_cells::{Canvas, Damage, Rect, Screen};
 use tv_event::{Event, Options, Phase, State};
 use tv_model::{Id, Node, Record};
 use tv_view::{Env, Reaction, Rules, View};
@@ -126,9 +126,9 @@ impl<V: View> View for Probe<V> {
         self.view.options()
     }
 
-    fn handle(&mut self, event: &Event, phase: Phase, env: &Env) -> Reaction {
+    fn handle(&mut self, event: &Event, phase: Phase, env: &Env, damage: &mut Damage) -> Reaction {
         self.note(Call::Handed(*event, phase));
-        self.view.handle(event, phase, env)
+        self.view.handle(event, phase, env, damage)
     }
 
     fn draw(&self, screen: &mut Screen, canvas: Canvas, env: &Env) {
@@ -136,16 +136,16 @@ impl<V: View> View for Probe<V> {
         self.view.draw(screen, canvas, env)
     }
 
-    fn focus_to(&mut self, id: Id) -> bool {
-        let has_focus = self.view.focus_to(id);
+    fn focus_to(&mut self, id: Id, damage: &mut Damage) -> bool {
+        let has_focus = self.view.focus_to(id, damage);
         if has_focus {
             self.note(Call::Focused);
         }
         has_focus
     }
 
-    fn press_item(&mut self, id: Id, item: u8) {
-        self.view.press_item(id, item)
+    fn press_item(&mut self, id: Id, item: u8, damage: &mut Damage) {
+        self.view.press_item(id, item, damage)
     }
 
     fn held(&self) -> bool {
@@ -160,12 +160,16 @@ impl<V: View> View for Probe<V> {
         self.view.get(values)
     }
 
-    fn set(&mut self, values: &Record) {
-        self.view.set(values)
+    fn set(&mut self, values: &Record, damage: &mut Damage) {
+        self.view.set(values, damage)
     }
 
-    fn apply(&mut self, rules: &Rules) {
-        self.view.apply(rules)
+    fn apply(&mut self, rules: &Rules, damage: &mut Damage) {
+        self.view.apply(rules, damage)
+    }
+
+    fn env_damage(&self, old: &Env, new: &Env, damage: &mut Damage) {
+        self.view.env_damage(old, new, damage)
     }
 
     fn is_fresh(&self, node: &Node) -> bool {

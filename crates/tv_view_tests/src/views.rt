@@ -7,7 +7,7 @@ use crate::samples::{body, chars, rows_node, sized, text_node};
 use std::alloc::Global;
 use std::process::Abort;
 use std::test::Fail;
-use tv_cells::{Canvas, Point, Rect, Screen};
+use tv_cells::{Canvas, Damage, Point, Rect, Screen};
 use tv_controls::{ControlFault, StaticText};
 use tv_event::{Command, CommandSet, Event, Key, Options, Phase, State};
 use tv_group::{Group, Member, TooDeep};
@@ -43,21 +43,21 @@ impl View for Tally {
         self.text.options()
     }
 
-    fn handle(&mut self, event: &Event, phase: Phase, env: &Env) -> Reaction {
+    fn handle(&mut self, event: &Event, phase: Phase, env: &Env, damage: &mut Damage) -> Reaction {
         self.events = self.events.saturating_add(1);
-        self.text.handle(event, phase, env)
+        self.text.handle(event, phase, env, damage)
     }
 
     fn draw(&self, screen: &mut Screen, canvas: Canvas, env: &Env) {
         self.text.draw(screen, canvas, env)
     }
 
-    fn focus_to(&mut self, id: Id) -> bool {
-        self.text.focus_to(id)
+    fn focus_to(&mut self, id: Id, damage: &mut Damage) -> bool {
+        self.text.focus_to(id, damage)
     }
 
-    fn press_item(&mut self, id: Id, item: u8) {
-        self.text.press_item(id, item)
+    fn press_item(&mut self, id: Id, item: u8, damage: &mut Damage) {
+        self.text.press_item(id, item, damage)
     }
 
     fn held(&self) -> bool {
@@ -72,12 +72,16 @@ impl View for Tally {
         self.text.get(values)
     }
 
-    fn set(&mut self, values: &Record) {
-        self.text.set(values)
+    fn set(&mut self, values: &Record, damage: &mut Damage) {
+        self.text.set(values, damage)
     }
 
-    fn apply(&mut self, rules: &Rules) {
-        self.text.apply(rules)
+    fn apply(&mut self, rules: &Rules, damage: &mut Damage) {
+        self.text.apply(rules, damage)
+    }
+
+    fn env_damage(&self, old: &Env, new: &Env, damage: &mut Damage) {
+        self.text.env_damage(old, new, damage)
     }
 
     fn is_fresh(&self, node: &Node) -> bool {
@@ -122,7 +126,8 @@ fn a_view_counts_its_events(rt: HostRuntime) -> Result<(), Fail> {
         Event::Broadcast(Command::DEFAULT),
         Event::Down(Point { x: 1, y: 1 }),
     ] {
-        let reaction = tally.handle(&event, Phase::Post, &env(&chain, &commands));
+        let env = env(&chain, &commands);
+        let reaction = tally.handle(&event, Phase::Post, &env, &mut Damage::new());
         assert_eq!(rt; reaction, Reaction::Pass);
     }
     assert_eq!(rt; tally.events, 3);

@@ -7,6 +7,7 @@ use anyhow::Result;
 use std::alloc::Global;
 use std::rt::Clock;
 use std::time::Instant;
+use tv_cells::Damage;
 use tv_controls::InputLine;
 use tv_event::{CommandSet, Event, Key, Phase};
 use tv_model::Node;
@@ -38,7 +39,8 @@ const KEYS: [Key; 16] = [
 
 fn type_keys(input: &mut InputLine, env: &Env) {
     for key in KEYS {
-        input.handle(&Event::Key(key), Phase::Focused, env);
+        let mut damage = Damage::new();
+        input.handle(&Event::Key(key), Phase::Focused, env, &mut damage);
     }
 }
 
@@ -55,7 +57,7 @@ pub fn run<R: Clock + Eprint + Alloc>(rt: &R, alloc: Global, node: &Node) -> Res
         focus: Some(node.id),
         ..env(Owner::Dialog, &chain, &commands)
     };
-    input.focus_to(node.id);
+    input.focus_to(node.id, &mut Damage::new());
     let start = Instant::now(rt)?;
     for _ in 0..ROUNDS {
         type_keys(&mut input, &env);

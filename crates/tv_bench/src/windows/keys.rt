@@ -10,7 +10,7 @@ use anyhow::{Result, bail};
 use std::alloc::Global;
 use std::rt::Clock;
 use std::time::Instant;
-use tv_cells::{Point, Rect, is_narrow};
+use tv_cells::{Damage, Point, Rect, is_narrow};
 use tv_controls::Button;
 use tv_dialog::DialogOf;
 use tv_event::{CommandSet, Event, Key};
@@ -143,7 +143,7 @@ fn add_pane(
 fn open(dialog: &mut DialogOf<Button>)
     ensures { dialog.new.is_open ≡ true }
 {
-    dialog.reopen(&Record::new());
+    dialog.reopen(&Record::new(), &mut Damage::new());
 }
 
 // The open dialog of these views. None where a constructor refuses what it is given.
@@ -167,7 +167,7 @@ fn hand_in(dialog: &mut DialogOf<Button>, env: &Env) -> u64 {
     let mut lines = 0u64;
     for key in KEYS {
         if dialog.is_open() {
-            dialog.step(&Event::Key(key), env);
+            dialog.step(&Event::Key(key), env, &mut Damage::new());
             lines = lines.saturating_add(dialog.log().len() as u64);
         }
     }
