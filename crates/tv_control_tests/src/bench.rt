@@ -73,33 +73,37 @@ impl Question for Playing {
 // What the control is lent.
 #[derive(Drop)]
 struct Lent<'a> {
+    owner: Owner,
     views: &'a [Node],
     chain: Chain,
     commands: CommandSet,
     focus: Option<Id>,
     default_now: Option<Id>,
+    is_active: bool,
 }
 
 impl<'a> Lent<'a> {
     fn new(views: &'a [Node]) -> Lent<'a> {
         Lent {
+            owner: Owner::Dialog,
             views,
             chain: Chain::of_dialog(),
             commands: CommandSet::all(),
             focus: None,
             default_now: None,
+            is_active: true,
         }
     }
 
     fn env(&self) -> Env<'_> {
         Env {
-            owner: Owner::Dialog,
+            owner: self.owner,
             chain: &self.chain,
             views: self.views,
             commands: &self.commands,
             focus: self.focus,
             default_now: self.default_now,
-            is_active: true,
+            is_active: self.is_active,
         }
     }
 }
@@ -166,27 +170,20 @@ impl Bench<'_> {
 
     // What it would be lent otherwise, which it is asked for and not lent.
     fn lend(&mut self, word: &str) -> Result<(), Fail> {
-        let window = Chain::of_window();
+        let mut other = Lent::new(self.lent.views);
+        other.focus = self.lent.focus;
+        other.default_now = self.lent.default_now;
+        match word.as_bytes() {
+            b"window" => {
+                other.owner = Owner::Window;
+                other.chain = Chain::of_window();
+            }
+            b"default" => other.default_now = Some(self.view.id()),
+            b"idle" => other.is_active = false,
+            _ => other.focus = Some(Id(word.parse()?)),
+        }
         let old = self.lent.env();
-        let new = match word.as_bytes() {
-            b"window" => Env {
-                owner: Owner::Window,
-                chain: &window,
-                ..old
-            },
-            b"default" => Env {
-                default_now: Some(self.view.id()),
-                ..old
-            },
-            b"idle" => Env {
-                is_active: false,
-                ..old
-            },
-            _ => Env {
-                focus: Some(Id(word.parse()?)),
-                ..old
-            },
-        };
+        let new = other.env();
         self.view.env_damage(&old, &new, &mut self.damage);
         Ok(())
     }
