@@ -1,10 +1,11 @@
 -- What damage has.
-use Rattle.std.proofs.Common.{◌≡◌, ◌↔◌, ℕ, ℤ, pos, ◌+ℤ◌, ◌-ℤ◌, ◌≤ℤ◌, ◌<◌, ◌+◌, Bool, true, false, ◌&&◌, ◌||◌, List, [], ◌∷◌, ◌++◌, All, length, get_or, take, refl, sym, ◌∙◌, arith, inl, inr, ◌⊎◌}
-use Rattle.std.specs.List.{list_any}
+use Rattle.std.proofs.Common.{◌≡◌, ◌↔◌, ℕ, ℤ, pos, ◌+ℤ◌, ◌-ℤ◌, ◌≤ℤ◌, ◌<◌, ◌+◌, Bool, true, false, ◌&&◌, ◌||◌, List, [], ◌∷◌, ◌++◌, All, length, get_or, set, zero, suc, take, drop, refl, sym, ◌∙◌, arith, inl, inr, ◌⊎◌}
+use Rattle.std.specs.List.{list_any, refill}
 use Rattle.std.specs.Int.Signed.{le_z}
 use Rattle.std.proofs.lemmas.Int.{ints, clamps}
 use Rattle.std.proofs.lemmas.List.Folds.{list_any_at, list_any_more}
-use Rattle.std.proofs.lemmas.List.Elements.{All-append, All-cons, All-nil, All-head, All-tail}
+use Rattle.std.proofs.lemmas.List.{get_or-set_same, length-set, take-append-le, take_all}
+use Rattle.std.proofs.lemmas.List.Elements.{All-get_or, All-set}
 use Rattle.tv_cells.specs.Damage.{Grows, HasAll, HasMoved, HasWithin, Holds, IsPart, IsSolid, has, hull, is_part, seen_within}
 use Rattle.tv_cells.specs.Layers.{is_in}
 use Rattle.tv_cells.specs.Rectangle.{IsIn, shifted}
@@ -89,7 +90,7 @@ hull-part r s q solid other p part =
       bottom = omega (arith, ints, clamps, i.bottom, j.bottom);
     })
 
-pub hull-solid : (r s : Rect) → IsSolid r → IsSolid (hull r s)
+hull-solid : (r s : Rect) → IsSolid r → IsSolid (hull r s)
 hull-solid r s solid = record { across = omega (arith, ints, clamps, solid.across); down = omega (arith, ints, clamps, solid.down) }
 
 -- ---- lists of rectangles
@@ -135,9 +136,6 @@ part-then p t = record { each = λ x y i. t.each x y (p.each x y i) }
 pub grows-part : (rect more : Rect) (old new : List Rect) → IsPart rect more → Grows rect old new → Grows more old new
 grows-part rect more old new part p = record { kept = p.kept; within = λ r h t. p.within r h (part-then part t) }
 
-pub pushed-all : (rect : Rect) (old new : List Rect) → new ≡ old ++ rect ∷ [] → HasAll rect new
-pushed-all rect old new e = record { each = λ x y i. rw e (has-right old (rect ∷ []) x y (has-one rect x y i)) }
-
 pub pushed-grows : (rect : Rect) (old new : List Rect) → new ≡ old ++ rect ∷ [] → Grows rect old new
 pushed-grows rect old new e = record {
   kept = λ x y h. rw e (has-left old (rect ∷ []) x y h);
@@ -149,28 +147,65 @@ pushed-grows rect old new e = record {
   };
 }
 
--- the last rectangle grows
-pub hulled-all : (last rect : Rect) (front new : List Rect) → new ≡ front ++ hull last rect ∷ [] → HasAll rect new
-hulled-all last rect front new e = record {
-  each = λ x y i. rw e (has-right front (hull last rect ∷ []) x y (has-one (hull last rect) x y ((hull-right last rect).each x y i)));
+-- ---- a rectangle that takes the place of another
+
+has-item : (rects : List Rect) (i : ℕ) (d : Rect) (x y : ℤ) → i < length rects → IsIn (get_or rects i d) x y → has rects x y ≡ true
+has-item rects i d x y h e = list_any_at (λ r. is_in r x y) rects i d h (is_in-true (get_or rects i d) x y e)
+
+set-kept : (rects : List Rect) (i : ℕ) (d s : Rect) (x y : ℤ) → i < length rects → IsPart (get_or rects i d) s → has rects x y ≡ true → has (set rects i s) x y ≡ true
+set-kept [] i d s x y h part e = absurd cc
+set-kept (r ∷ rects) zero d s x y h part e = elim (or_split (is_in r x y) (has rects x y) e) [
+  | inl here ↦ or_left (is_in s x y) (has rects x y) (is_in-true s x y (part.each x y (is_in_true r x y here)))
+  | inr there ↦ or_right (is_in s x y) (has rects x y) there
+]
+set-kept (r ∷ rects) (suc i) d s x y h part e = elim (or_split (is_in r x y) (has rects x y) e) [
+  | inl here ↦ or_left (is_in r x y) (has (set rects i s) x y) here
+  | inr there ↦ or_right (is_in r x y) (has (set rects i s) x y) (set-kept rects i d s x y (omega arith) part there)
+]
+
+set-split : (rects : List Rect) (i : ℕ) (s : Rect) (x y : ℤ) → has (set rects i s) x y ≡ true → (has rects x y ≡ true) ⊎ IsIn s x y
+set-split [] i s x y e = absurd cc
+set-split (r ∷ rects) zero s x y e = elim (or_split (is_in s x y) (has rects x y) e) [
+  | inl here ↦ inr (is_in_true s x y here)
+  | inr there ↦ inl (or_right (is_in r x y) (has rects x y) there)
+]
+set-split (r ∷ rects) (suc i) s x y e = elim (or_split (is_in r x y) (has (set rects i s) x y) e) [
+  | inl here ↦ inl (or_left (is_in r x y) (has rects x y) here)
+  | inr there ↦ elim (set-split rects i s x y there) [
+    | inl was ↦ inl (or_right (is_in r x y) (has rects x y) was)
+    | inr is ↦ inr is
+  ]
+]
+
+-- what a write through the slice leaves
+pub set-written : (rects was front : List Rect) (i : ℕ) (d s rect : Rect) → was ≡ rects → front ≡ rects → s ≡ hull (get_or was i d) rect
+    → refill (length rects) rects (set front i s) ≡ set rects i (hull (get_or rects i d) rect)
+set-written rects was front i d s rect read lent is =
+    let new = set rects i s in
+    let long = length-set rects i s in
+    let same : refill (length rects) rects new ≡ new = take-append-le (length rects) new (drop (length new) rects) (omega arith) ∙ take_all (length rects) new (omega arith) in
+    rw lent (same ∙ rw (is, read) refl)
+
+pub hulled-solid : (rects : List Rect) (i : ℕ) (d rect : Rect) → i < length rects → All IsSolid rects → All IsSolid (set rects i (hull (get_or rects i d) rect))
+hulled-solid rects i d rect h solid = All-set IsSolid rects i (hull (get_or rects i d) rect) (hull-solid (get_or rects i d) rect (All-get_or IsSolid rects i d h solid)) solid
+
+pub hulled-all : (rects : List Rect) (i : ℕ) (d rect : Rect) → i < length rects → HasAll rect (set rects i (hull (get_or rects i d) rect))
+hulled-all rects i d rect h = record {
+  each = λ x y e.
+      let s = hull (get_or rects i d) rect in
+      has-item (set rects i s) i d x y (rw length-set h) (rw get_or-set_same ((hull-right (get_or rects i d) rect).each x y e));
 }
 
-pub hulled-grows : (last rect : Rect) (front old new : List Rect) → IsSolid last → IsSolid rect → old ≡ front ++ last ∷ [] → new ≡ front ++ hull last rect ∷ [] → Grows rect old new
-hulled-grows last rect front old new solid other d e = record {
-  kept = λ x y h. elim (has-split front (last ∷ []) x y (rw d at h)) [
-    | inl was ↦ rw e (has-left front (hull last rect ∷ []) x y was)
-    | inr is ↦ rw e (has-right front (hull last rect ∷ []) x y (has-one (hull last rect) x y ((hull-left last rect).each x y (one-has last x y is))))
-  ];
-  within = λ r h part.
-      let here : IsPart last r = record { each = λ x y i. h.each x y (rw d (has-right front (last ∷ []) x y (has-one last x y i))) } in
-      let whole = hull-part last rect r solid other here part in
-      record {
-        each = λ x y t. elim (has-split front (hull last rect ∷ []) x y (rw e at t)) [
-          | inl was ↦ h.each x y (rw d (has-left front (last ∷ []) x y was))
-          | inr is ↦ whole.each x y (one-has (hull last rect) x y is)
-        ];
-      };
-}
+pub hulled-grows : (rects : List Rect) (i : ℕ) (d rect : Rect) → i < length rects → All IsSolid rects → IsSolid rect → Grows rect rects (set rects i (hull (get_or rects i d) rect))
+hulled-grows rects i d rect h solid other =
+    let s = hull (get_or rects i d) rect in
+    record {
+      kept = λ x y e. set-kept rects i d s x y h (hull-left (get_or rects i d) rect) e;
+      within = λ r holds part.
+          let here : IsPart (get_or rects i d) r = record { each = λ x y e. holds.each x y (has-item rects i d x y h e) } in
+          let whole = hull-part (get_or rects i d) rect r (All-get_or IsSolid rects i d h solid) other here part in
+          record { each = λ x y e. elim (set-split rects i s x y e) [ inl was ↦ holds.each x y was | inr is ↦ whole.each x y is ] };
+    }
 
 -- ---- a rectangle that lies in another
 
@@ -229,19 +264,6 @@ within-part r frame = record {
   };
 }
 
--- ---- lists whose last rectangle is another
-
-pub solid-init : (front : List Rect) (last : Rect) → All IsSolid (front ++ last ∷ []) → All IsSolid front
-solid-init [] last h = All-nil IsSolid
-solid-init (r ∷ front) last h = All-cons IsSolid r front (All-head IsSolid r (front ++ last ∷ []) h) (solid-init front last (All-tail IsSolid r (front ++ last ∷ []) h))
-
-pub solid-last : (front : List Rect) (last : Rect) → All IsSolid (front ++ last ∷ []) → IsSolid last
-solid-last [] last h = All-head IsSolid last [] h
-solid-last (r ∷ front) last h = solid-last front last (All-tail IsSolid r (front ++ last ∷ []) h)
-
-pub solid-pushed : (front new : List Rect) (rect : Rect) → new ≡ front ++ rect ∷ [] → All IsSolid front → IsSolid rect → All IsSolid new
-solid-pushed front new rect e h solid = rw e (All-append IsSolid front (rect ∷ []) h (All-cons IsSolid rect [] solid (All-nil IsSolid)))
-
 -- ---- loops over rectangles
 
 has-taken : (rects : List Rect) (i : ℕ) (d : Rect) (x y : ℤ) → i < length rects → has (take (i + 1) rects) x y ≡ true → (has (take i rects) x y ≡ true) ⊎ (is_in (get_or rects i d) x y ≡ true)
@@ -274,9 +296,6 @@ moved-next by moved other i d mid new h is done all grown = record {
     | inr here ↦ all.each (x +ℤ by.x) (y +ℤ by.y) ((is x y).1 (is_in_true (get_or other i d) x y here))
   ];
 }
-
-has-item : (rects : List Rect) (i : ℕ) (d : Rect) (x y : ℤ) → i < length rects → IsIn (get_or rects i d) x y → has rects x y ≡ true
-has-item rects i d x y h e = list_any_at (λ r. is_in r x y) rects i d h (is_in-true (get_or rects i d) x y e)
 
 -- a moved rectangle lies in what holds them all, moved
 pub moved-part : (by : Point) (moved r : Rect) (other : List Rect) (i : ℕ) (d : Rect) → i < length other

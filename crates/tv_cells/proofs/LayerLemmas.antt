@@ -9,7 +9,6 @@ use Rattle.tv_cells.specs.Picture.{Picture, IsOn, Changes, cell_at}
 use Rattle.tv_cells.specs.Canvas.{Covers, IsInArea, IsShadow, face_at, aside}
 use Rattle.tv_cells.specs.Rectangle.{sized}
 use Rattle.tv_cells.specs.Layers.{Layer, Painted, Shadow, Shows, is_in, covers, over}
-use Rattle.tv_cells.specs.Row.{IsInRows}
 use Rattle.tv_cells.specs.declared.canvas.Area.{Area}
 use Rattle.tv_cells.specs.declared.rect.Rect.{Rect}
 use Rattle.tv_cells.specs.declared.canvas.Canvas.{Canvas}
@@ -92,35 +91,3 @@ shows_shaded c r layers old new shows p = record {
       shaded_cell c r old new p column row at (covers c (shifted r aside) column row) (is_in (shifted r c.origin) (pos column) (pos row)) refl refl
       ∙ ap (over (Shadow c r) column row) (shows.each column row at);
 }
-
--- ---- the lowest layer
-
--- rows of one cell between blank rows, which are all that an area has
-module _ (c : Canvas) (width height : ℕ) (cell : Glyph) (area : Area) (old above inside new : Picture)
-    (places : (column row : ℕ) → IsOn old column row → IsInArea area column row ↔ Covers c (sized width height) column row)
-    (left : area.left ≡ 0) (right : area.right ≡ old.width) (down : area.top ≤ area.bottom)
-    (p : Changes (IsInRows 0 area.top) (λ _ _ _. blank) old above) (q : Changes (IsInRows area.top area.bottom) (λ _ _ _. cell) above inside)
-    (r : Changes (IsInRows area.bottom old.height) (λ _ _ _. blank) inside new) where
-  ground_cell : (column row : ℕ) → IsOn old column row → (b : Bool) → covers c (sized width height) column row ≡ b → cell_at new column row ≡ over (Painted c width height (λ _ _. cell)) column row blank
-  ground_cell column row on true e =
-      let here = (places column row on).1 (covers_true c (sized width height) column row e) in
-      rw e (r.outside column row (on_new q (on_new p on)) (λ h. omega (arith, here.bottom, h.after))
-      ∙ q.inside column row (on_new p on) (record { after = here.top; before = here.bottom }))
-  ground_cell column row on false e =
-      let other : IsInArea area column row → ⊥ = λ h. covers_false c (sized width height) column row e ((places column row on).0 h) in
-      rw e (elim (cases_lt row area.top) [
-        | inl lt ↦
-            r.outside column row (on_new q (on_new p on)) (λ h. omega (arith, lt, down, h.after))
-            ∙ (q.outside column row (on_new p on) (λ h. omega (arith, lt, h.after))
-            ∙ p.inside column row on (record { after = omega arith; before = lt }))
-        | inr le ↦ elim (cases_lt row area.bottom) [
-          | inl gt ↦ absurd (other (record { left = omega (arith, left); right = rw right on.across; top = le; bottom = gt }))
-          | inr ge ↦ r.inside column row (on_new q (on_new p on)) (record { after = ge; before = on.down })
-        ]
-      ])
-
-  pub shows_ground : Shows (Painted c width height (λ _ _. cell) ∷ []) new
-  shows_ground = record {
-    each = λ column row on.
-        ground_cell column row (on_old p (on_old q (on_old r on))) (covers c (sized width height) column row) refl;
-  }

@@ -7,6 +7,7 @@ pub mod CoverLemmas
 pub mod ShadowLemmas
 pub mod LayerLemmas
 pub mod DamageLemmas
+pub mod AddedLemmas
 pub mod RepaintingLemmas
 pub mod TildeLemmas
 pub mod MarkLemmas

@@ -9,7 +9,7 @@ use borrow.Rule.Slice.PartMut.{put_mid, post_of}
 use Rattle.tv_cells.specs.Glyph.{Glyph, blank, shaded}
 use Rattle.tv_cells.specs.Picture.{Picture, IsOn, Changes, cell_at}
 use Rattle.tv_cells.specs.Canvas.{IsInArea}
-use Rattle.tv_cells.specs.Row.{IsRow, IsInRow, IsInRows}
+use Rattle.tv_cells.specs.Row.{IsRow, IsInRow}
 use Rattle.tv_cells.specs.declared.canvas.Area.{Area}
 use Rattle.tv_cells.proofs.ChangeLemmas.{changes_both, changes_none}
 
@@ -146,39 +146,6 @@ changes_copied p row left right ys full across down is =
     ∙ (get_or-drop above (take start p.cells) i blank
     ∙ (get_or-take start p.cells (above + i) blank (omega (arith, lt, rows, across.1))
     ∙ ap (λ j. slice_index_or p.cells j blank) there)))))
-
--- whole rows of one cell
-abbrev pub with_rows : Picture → ℕ → ℕ → List Glyph → Picture
-with_rows p top bottom ys = record { width = p.width; height = p.height; cells = put_mid (top * p.width) (bottom * p.width - top * p.width) p.cells ys }
-
-pub changes_filled : (p : Picture) (top bottom : ℕ) (ys : List Glyph) (cell : Glyph) → length p.cells ≡ p.width * p.height
-    → (top ≤ bottom) × (bottom ≤ p.height) → length ys ≡ length (take (bottom * p.width - top * p.width) (drop (top * p.width) p.cells))
-    → ((i : ℕ) → i < length ys → slice_index_or ys i blank ≡ cell)
-    → Changes (IsInRows top bottom) (λ _ _ _. cell) p (with_rows p top bottom ys)
-changes_filled p top bottom ys cell full down count is =
-    let first : top * p.width ≤ bottom * p.width = mul-le-mul_right p.width down.0 in
-    let last : bottom * p.width ≤ p.height * p.width = mul-le-mul_right p.width down.1 in
-    let long : length ys ≡ bottom * p.width - top * p.width = count ∙ part_long (top * p.width) (bottom * p.width - top * p.width) p.cells (omega (arith, first, last, full)) in
-    let within : top * p.width ≤ length p.cells = omega (arith, first, last, full) in
-    record {
-      size = record { width = refl; height = refl };
-      inside = λ column row on here.
-          let h : top * p.width ≤ row * p.width = mul-le-mul_right p.width here.after in
-          let k : suc row * p.width ≤ bottom * p.width = mul-le-mul_right p.width here.before in
-          let lt : row * p.width + column - top * p.width < length ys = omega (arith, h, k, long, on.across) in
-          in_part _ _ _ p.cells ys within (omega (arith, h)) lt ∙ is (row * p.width + column - top * p.width) lt;
-      outside = λ column row on other. elim (cases_lt row top) [
-        | inl lt ↦
-            let h : suc row * p.width ≤ top * p.width = mul-le-mul_right p.width lt in
-            before_part _ _ _ p.cells ys (omega (arith, h, on.across)) within
-        | inr le ↦ elim (cases_lt row bottom) [
-          | inl gt ↦ absurd (other (record { after = le; before = gt }))
-          | inr ge ↦
-              let h : bottom * p.width ≤ row * p.width = mul-le-mul_right p.width ge in
-              after_part _ _ _ p.cells ys within long (omega (arith, first, h))
-        ]
-      ];
-    }
 
 -- the same cells, shaded
 pub changes_shaded : (p : Picture) (row left right : ℕ) (ys : List Glyph) → length p.cells ≡ p.width * p.height

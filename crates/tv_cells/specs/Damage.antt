@@ -1,10 +1,11 @@
 -- Points that are to be painted again, in rectangles that may overlap.
-use Rattle.std.specs.Prelude.{◌≡◌, ◌<ℤ◌, ◌+ℤ◌, ℤ, Bool, true, ◌&&◌, List}
+use Rattle.std.specs.Prelude.{◌≡◌, ◌<ℤ◌, ◌+ℤ◌, ℤ, Bool, true, ◌&&◌, List, [], ◌∷◌}
 use Rattle.std.specs.Int.{int_max, int_min}
 use Rattle.std.specs.Int.Signed.{le_z}
 use Rattle.std.specs.List.{list_any}
+use Rattle.tv_cells.specs.Canvas.{aside}
 use Rattle.tv_cells.specs.Layers.{is_in}
-use Rattle.tv_cells.specs.Rectangle.{IsIn}
+use Rattle.tv_cells.specs.Rectangle.{IsIn, shifted}
 use Rattle.tv_cells.specs.declared.rect.Point.{Point}
 use Rattle.tv_cells.specs.declared.rect.Rect.{Rect}
 
@@ -59,6 +60,20 @@ pub record HasAll (r : Rect) (rects : List Rect) : Type 0 where
 pub record Grows (rect : Rect) (old new : List Rect) : Type 0 where
   pub kept : (x y : ℤ) → has old x y ≡ true → has new x y ≡ true
   pub within : (r : Rect) → Holds r old → IsPart rect r → Holds r new
+
+-- no point is lost, and none is outside the smallest rectangle that holds the old ones and those of others
+pub record GrowsIn (rects old new : List Rect) : Type 0 where
+  pub kept : (x y : ℤ) → has old x y ≡ true → has new x y ≡ true
+  pub within : (r : Rect) → Holds r old → Holds r rects → Holds r new
+
+-- and all of theirs are there
+pub record AddsAll (rects old new : List Rect) : Type 0 where
+  pub grown : GrowsIn rects old new
+  pub added : (x y : ℤ) → has rects x y ≡ true → has new x y ≡ true
+
+-- a rectangle, and where its shadow falls
+abbrev pub with_shadow : Rect → List Rect
+with_shadow r = r ∷ shifted r aside ∷ []
 
 -- it has what is seen from the corner of a frame, where the frame has the point
 pub record HasWithin (frame : Rect) (inner rects : List Rect) : Type 0 where

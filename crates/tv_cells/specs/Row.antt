@@ -11,8 +11,3 @@ pub record IsInRow (left right this column row : ℕ) : Type 0 where
   pub after : left ≤ column
   pub before : column < right
   pub here : row ≡ this
-
--- all columns, in rows from one on and before another
-pub record IsInRows (top bottom column row : ℕ) : Type 0 where
-  pub after : top ≤ row
-  pub before : row < bottom

@@ -1,8 +1,8 @@
 //! What is to be painted again.
 
-ghost use Rattle.std.specs.Prelude.{◌≡◌, ◌≤◌, ◌↔◌, ◌+ℤ◌, ℤ, [], All, IsTrue, length};
+ghost use Rattle.std.specs.Prelude.{◌≡◌, ◌≤◌, ◌↔◌, ◌+ℤ◌, ℤ, [], All, IsTrue, MatchOption, ◌<◌, length};
 ghost use Rattle.std.specs.List.{list_any};
-ghost use Rattle.tv_cells.specs.Damage.{Grows, HasAll, HasMoved, HasWithin, Holds, IsPart, IsSolid, has, is_part, seen_along, seen_within};
+ghost use Rattle.tv_cells.specs.Damage.{AddsAll, Grows, HasAll, HasMoved, HasWithin, Holds, IsPart, IsSolid, has, is_part, seen_along, seen_within, with_shadow};
 ghost use Rattle.tv_cells.specs.Layers.{is_in};
 ghost use Rattle.tv_cells.specs.Rectangle.{IsIn, IsPointNear, IsRectNear, shifted};
 ghost use Rattle.tv_cells.specs.declared.rect.Rect.{Rect as Declared};
@@ -11,6 +11,10 @@ use crate::line::lesser;
 use crate::rect::{Point, Rect};
 use arrayvec::ArrayVec;
 use std::marker::Model;
+
+// How many points more than two rectangles together their hull may have, so that it takes their place. To paint one
+// rectangle more costs a pass over the views, about as much as to paint this many cells.
+const PASS: u64 = 40;
 
 /// The points that are to be painted again: those of at most 16 rectangles, which may overlap. Its calls allocate nothing.
 ///
@@ -45,6 +49,16 @@ fn is_solid(rect: &Rect) -> bool
     ensures { IsTrue result ↔ IsSolid rect.now }
 {
     rect.a.x < rect.b.x && rect.a.y < rect.b.y
+}
+
+// How many points a rectangle has.
+fn area(rect: &Rect) -> u64 {
+    u64::from(rect.width()) * u64::from(rect.height())
+}
+
+// By how many points a rectangle grows when another is joined to it.
+fn growth(rect: &Rect, other: Rect) -> u64 {
+    area(&rect.hull(other)).saturating_sub(area(rect))
 }
 
 // A coordinate that is seen from the first edge of a frame, or the nearer edge where it lies outside.
@@ -88,7 +102,10 @@ impl Damage {
         }
     }
 
-    /// Adds the points of a rectangle. If there is no room for it, the last rectangle grows until it has them.
+    /// Adds the points of a rectangle.
+    ///
+    /// Neighbours are merged: where the smallest rectangle round two has few points more than the two together, it takes
+    /// their place. If there is no room for another rectangle, it is merged with the one that grows least by it.
     pub fn add(&mut self, rect: Rect)
         ensures added { HasAll rect self.new }
         ensures grown { Grows rect self.old self.new }
@@ -96,6 +113,16 @@ impl Damage {
         if is_solid(&rect) && !self.has_part(rect) {
             self.put(rect);
         }
+    }
+
+    /// Adds the points of a rectangle that casts a shadow, and those on which the shadow falls: two columns to the right
+    /// and one row below.
+    pub fn add_with_shadow(&mut self, rect: Rect)
+        requires { IsRectNear rect }
+        ensures { AddsAll (with_shadow rect) self.old self.new }
+    {
+        self.add(rect);
+        self.add(rect.shift(Point { x: 2, y: 1 }));
     }
 
     /// Adds the points of another damage, moved by the coordinates of a point.
@@ -156,16 +183,41 @@ impl Damage {
             .any(|other| other.has_part(rect))
     }
 
-    // Adds a rectangle that isn't empty. If it is full, the last one grows to the hull of both.
+    // Where the rectangle is that grows least when another is joined to it, and by how many points.
+    fn nearest(&self, rect: Rect) -> Option<(usize, u64)>
+        ensures { MatchOption result (self.now ≡ []) (λ near. near.0 < length self.now) }
+    {
+        self.rects
+            .as_slice()
+            .iter()
+            .map(|other| growth(other, rect))
+            .enumerate()
+            .min_by_key(|(_, growth)| *growth)
+    }
+
+    // Joins a rectangle that isn't empty to the one at a place, which becomes the hull of both.
+    fn grow(&mut self, place: usize, rect: Rect)
+        requires place { place < length self.old }
+        requires solid { IsSolid rect }
+        ensures added { HasAll rect self.new }
+        ensures grown { Grows rect self.old self.new }
+    {
+        self.rects[place] = self.rects[place].hull(rect);
+    }
+
+    // Adds a rectangle that isn't empty: to the one that grows least by it, if that is cheap or there is no room for
+    // another, and else beside the others.
     fn put(&mut self, rect: Rect)
         requires { IsSolid rect }
         ensures added { HasAll rect self.new }
         ensures grown { Grows rect self.old self.new }
     {
-        if !self.rects.is_full() {
-            self.rects.push(rect);
-        } else if let Some(last) = self.rects.pop() {
-            self.rects.push(last.hull(rect));
+        let cheap = area(&rect).saturating_add(PASS);
+        match self.nearest(rect) {
+            Some((place, growth)) if growth <= cheap || self.rects.is_full() => {
+                self.grow(place, rect);
+            }
+            _ => self.rects.push(rect),
         }
     }
 }

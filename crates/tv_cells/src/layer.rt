@@ -1,12 +1,11 @@
 //! Layers, which are drawn one over the other.
 
-ghost use Rattle.std.specs.Prelude.{List, [], ◌∷◌};
+ghost use Rattle.std.specs.Prelude.{List, ◌∷◌};
 ghost use Rattle.tv_cells.specs.Rectangle.{IsRectNear};
 ghost use Rattle.tv_cells.specs.Picture.{IsAlike};
 ghost use Rattle.tv_cells.specs.Layers.{Layer, Painted, Shadow, Shows};
 
 use crate::canvas::Canvas;
-use crate::cell::Cell;
 use crate::face::{Face, paint};
 use crate::rect::Rect;
 use crate::screen::Screen;
@@ -17,24 +16,6 @@ pub fn lay<F: Face>(screen: &mut Screen, canvas: Canvas, width: u32, height: u32
     ensures shows { (layers : List Layer) → Shows layers screen.old → Shows (Painted canvas width height (F.face face.now) ∷ layers) screen.new }
 {
     paint(screen, canvas, width, height, face);
-}
-
-/// Draws one cell all over a face of this size, with its corner at the canvas's origin, and blanks the screen elsewhere.
-pub fn lay_ground(screen: &mut Screen, canvas: Canvas, width: u32, height: u32, cell: Cell)
-    ensures size { IsAlike screen.old screen.new }
-    ensures shows { Shows (Painted canvas width height (λ _ _. cell) ∷ []) screen.new }
-{
-    let area = canvas.face_area(screen, width, height);
-    let rows = screen.height();
-    if area.left == 0 && area.right == screen.width() {
-        // Whole rows follow one another without a gap.
-        screen.blank_rows(0, area.top);
-        screen.fill_rows(area.top, area.bottom, cell);
-        screen.blank_rows(area.bottom, rows);
-    } else {
-        screen.clear();
-        lay(screen, canvas, width, height, &cell);
-    }
 }
 
 /// Draws the shadow of a rectangle, which is seen from the canvas's origin, over what the screen shows.

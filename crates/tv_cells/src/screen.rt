@@ -5,13 +5,12 @@ ghost use Rattle.tv_cells.specs.Glyph.{blank, shaded};
 ghost use Rattle.tv_cells.specs.Layers.{Shows};
 ghost use Rattle.tv_cells.specs.Picture.{Picture, IsAlike, IsOn, IsPlace, IsScreenSize, Changes, cell_at};
 ghost use Rattle.tv_cells.specs.Rectangle.{IsIn, sized};
-ghost use Rattle.tv_cells.specs.Row.{IsInRow, IsInRows};
+ghost use Rattle.tv_cells.specs.Row.{IsInRow};
 ghost use Rattle.tv_cells.specs.Canvas.{whole};
 
 use crate::canvas::Canvas;
 use crate::cell::Cell;
 use crate::face::Face;
-use crate::filling::fill;
 use crate::rect::{Point, Rect};
 use std::alloc::{AllocError, Global};
 use std::marker::Model;
@@ -132,14 +131,6 @@ impl Screen {
         self.cells[(row * self.width + column) as usize]
     }
 
-    /// Makes all cells spaces with attribute 00 again.
-    pub fn clear(&mut self)
-        ensures size { IsAlike self.old self.new }
-        ensures blank { Shows [] self.new }
-    {
-        fill(&mut self.cells, Cell::space(0));
-    }
-
     /// Sets the cell in a column and a row.
     #[inline]
     pub(crate) fn set(&mut self, column: u32, row: u32, cell: Cell)
@@ -148,26 +139,6 @@ impl Screen {
     {
         let index = (row * self.width + column) as usize;
         self.cells[index] = cell;
-    }
-
-    // Blanks the rows from `top` on and before `bottom`.
-    pub(crate) fn blank_rows(&mut self, top: u32, bottom: u32)
-        requires { (top ≤ bottom) × (bottom ≤ self.old.height) }
-        ensures { Changes (IsInRows top bottom) (λ _ _ _. blank) self.old self.new }
-    {
-        let start = (top * self.width) as usize;
-        let end = (bottom * self.width) as usize;
-        fill(&mut self.cells[start..end], Cell::space(0));
-    }
-
-    // Writes one cell into all places of the rows from `top` on and before `bottom`.
-    pub(crate) fn fill_rows(&mut self, top: u32, bottom: u32, cell: Cell)
-        requires { (top ≤ bottom) × (bottom ≤ self.old.height) }
-        ensures { Changes (IsInRows top bottom) (λ _ _ _. cell) self.old self.new }
-    {
-        let start = (top * self.width) as usize;
-        let end = (bottom * self.width) as usize;
-        fill(&mut self.cells[start..end], cell);
     }
 
     // Writes row `y` of a face, from its column `from` on, into a row of the screen, from column `left` on and before
