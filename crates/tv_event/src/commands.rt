@@ -1,6 +1,6 @@
 //! Sets of commands.
 
-ghost use Rattle.std.specs.Prelude.{◌↔◌, ◌≢◌, ℕ, ◌<◌, IsTrue};
+ghost use Rattle.std.specs.Prelude.{◌↔◌, ◌≡◌, ◌≢◌, ℕ, ◌<◌, IsTrue};
 ghost use Rattle.tv_event.specs.Commands.{HasCommand};
 
 use crate::event::Command;
@@ -26,6 +26,13 @@ impl CommandSet {
         ensures { (number : ℕ) → number < 256 → HasCommand result number }
     {
         CommandSet { has: [true; 256] }
+    }
+
+    /// Makes a set of the same commands.
+    pub fn copy(&self) -> CommandSet
+        ensures { result ≡ self.now }
+    {
+        CommandSet { has: self.has }
     }
 
     /// Whether the command is in the set.
