@@ -1,5 +1,5 @@
 -- What rectangles have come in, and what the bars show off them.
-use Rattle.std.proofs.Common.{◌≡◌, ◌==◌, ◌∙◌, ℕ, ℤ, pos, ◌+ℤ◌, ◌-ℤ◌, Bool, true, false, List, [], ◌∷◌, ◌++◌, Option, Some, None, All, IsTrue, ◌↔◌, refl, sym, ap, subst, arith, inl, inr}
+use Rattle.std.proofs.Common.{◌≡◌, ◌==◌, ◌∙◌, ℕ, ℤ, pos, ◌+ℤ◌, ◌-ℤ◌, Bool, true, false, List, [], ◌∷◌, ◌++◌, Option, Some, None, All, IsTrue, ◌↔◌, refl, sym, ap, subst, arith}
 use Rattle.std.specs.Prelude.{not, slice_get}
 use Rattle.std.specs.Option.{option_eq}
 use mathlib.Core.Bool.{beq}
@@ -7,7 +7,7 @@ use Rattle.std.proofs.lemmas.Bool.Decides.{nat_tests}
 use Rattle.std.proofs.lemmas.Int.{ints}
 use Rattle.std.proofs.lemmas.List.Elements.{All-cons, All-tail}
 use Rattle.tv_cells.specs.Canvas.{Covers, aside}
-use Rattle.tv_cells.specs.Damage.{Grows, HasAll, Holds, has}
+use Rattle.tv_cells.specs.Damage.{AddsAll, Grows, HasAll, Holds, has, with_shadow}
 use Rattle.tv_cells.specs.Glyph.{Glyph}
 use Rattle.tv_cells.specs.Layers.{Layer, Painted, Shadow, ShowsSame, cell_over, covers, over}
 use Rattle.tv_cells.specs.Picture.{Picture}
@@ -15,7 +15,8 @@ use Rattle.tv_cells.specs.Rectangle.{shifted, sized}
 use Rattle.tv_cells.specs.Repainting.{AreAlike, has_cell}
 use Rattle.tv_cells.specs.declared.canvas.Canvas.{Canvas}
 use Rattle.tv_cells.specs.declared.rect.Rect.{Rect}
-use Rattle.tv_cells.proofs.DamageLemmas.{has-left, has-one, has-right, has-split, one-has}
+use Rattle.tv_cells.proofs.AddedLemmas.{adds-then, false-true, lacks}
+use Rattle.tv_cells.proofs.DamageLemmas.{has-left, has-one, has-right}
 use Rattle.tv_cells.proofs.LayerLemmas.{covers_true}
 use Rattle.tv_model.specs.declared.desc.Desc.{Desc}
 use Rattle.tv_model.specs.declared.desc.Menu.{Menu}
@@ -30,7 +31,7 @@ use Rattle.tv_machine.specs.Session.Step.{is_item_enabled}
 use Rattle.tv_machine.specs.State.{OpenMenu, State}
 use Rattle.tv_menu.specs.Bar.{IsBarOf}
 use Rattle.tv_menu.specs.Cells.{is_item_in}
-use Rattle.tv_menu.specs.Damage.{AddsAll, bar_row, box_rects, line_row, with_shadow}
+use Rattle.tv_menu.specs.Damage.{bar_row, box_rects, line_row}
 use Rattle.tv_menu.specs.Lawful.{IsLawfulStatusItem}
 use Rattle.tv_menu.specs.Line.{AreEnabled, IsLineOf}
 use Rattle.tv_menu.specs.declared.bars.MenuBar.{MenuBar}
@@ -40,46 +41,21 @@ use Rattle.tv_menu.proofs.FaceLemmas.{enabled_same, items_same}
 
 -- ---- rectangles that come in
 
-pub adds-none : (damage : List Rect) → AddsAll [] damage damage
-adds-none damage = record { kept = λ x y e. e; added = λ x y e. absurd cc; within = λ r old also. old }
-
-pub adds-one : (r : Rect) (old new : List Rect) → HasAll r new → Grows r old new → AddsAll (r ∷ []) old new
-adds-one r old new all grown = record {
-  kept = grown.kept;
-  added = λ x y e. all.each x y (one-has r x y e);
-  within = λ s h holds. grown.within s h (record { each = λ x y i. holds.each x y (has-one r x y i) });
-}
-
-pub adds-then : (xs ys old mid new : List Rect) → AddsAll xs old mid → AddsAll ys mid new → AddsAll (xs ++ ys) old new
-adds-then xs ys old mid new p q = record {
-  kept = λ x y e. q.kept x y (p.kept x y e);
-  added = λ x y e. elim (has-split xs ys x y e) [ inl left ↦ q.kept x y (p.added x y left) | inr right ↦ q.added x y right ];
-  within = λ r h holds.
-      q.within r (p.within r h (record { each = λ x y e. holds.each x y (has-left xs ys x y e) })) (record { each = λ x y e. holds.each x y (has-right xs ys x y e) });
-}
-
-false-true : {b : Bool} → b ≡ false → b ≡ true → ⊥
-false-true e f = let g : false ≡ true = sym e ∙ f in absurd cc
-
-lacks : (rects damage : List Rect) (x y : ℤ) (b : Bool) → has rects x y ≡ b → (has rects x y ≡ true → has damage x y ≡ true) → has damage x y ≡ false → has rects x y ≡ false
-lacks rects damage x y false e kept off = e
-lacks rects damage x y true e kept off = absurd (false-true off (kept e))
-
 -- what has come in lacks what the damage lacks
 pub added-lacks : (rects old new : List Rect) (x y : ℤ) → AddsAll rects old new → has new x y ≡ false → has rects x y ≡ false
-added-lacks rects old new x y p off = lacks rects new x y (has rects x y) refl (p.added x y) off
+added-lacks rects old new x y p off = lacks rects new x y (p.added x y) off
 
 -- more damage
 pub alike-more : (p : Picture) (old new : List Rect) (xs ys : List Layer) → ((x y : ℤ) → has old x y ≡ true → has new x y ≡ true) → AreAlike p old xs ys → AreAlike p new xs ys
 alike-more p old new xs ys kept alike = record {
-  each = λ column row on off under. alike.each column row on (lacks old new (pos column) (pos row) (has old (pos column) (pos row)) refl (kept (pos column) (pos row)) off) under;
+  each = λ column row on off under. alike.each column row on (lacks old new (pos column) (pos row) (kept (pos column) (pos row)) off) under;
 }
 
 -- the row of the bar may have come in, and two boxes have
 pub box-within : (row r : Rect) (xs ys old rowed mid new : List Rect) → Grows row old rowed → AddsAll xs rowed mid → AddsAll ys mid new → Holds r old → Holds r (row ∷ xs ++ ys) → Holds r new
 box-within row r xs ys old rowed mid new grown first second h holds =
     let both = adds-then xs ys rowed mid new first second in
-    both.within r
+    both.grown.within r
     (grown.within r h (record { each = λ x y i. holds.each x y (has-left (row ∷ []) (xs ++ ys) x y (has-one row x y i)) }))
     (record { each = λ x y e. holds.each x y (has-right (row ∷ []) (xs ++ ys) x y e) })
 
@@ -171,7 +147,7 @@ pub boxes-added : (d : Desc) (p : Picture) (before now : Option OpenMenu) (old m
 boxes-added d p before now old mid new first second = record {
   each = λ column row on off under.
       let both = adds-then (box_rects d before) (box_rects d now) old mid new first second in
-      box-off d before column row under (lacks (box_rects d before) new (pos column) (pos row) (has (box_rects d before) (pos column) (pos row)) refl (λ e. both.added (pos column) (pos row) (has-left (box_rects d before) (box_rects d now) (pos column) (pos row) e)) off)
+      box-off d before column row under (lacks (box_rects d before) new (pos column) (pos row) (λ e. both.added (pos column) (pos row) (has-left (box_rects d before) (box_rects d now) (pos column) (pos row) e)) off)
       ∙ sym (box-off d now column row under (added-lacks (box_rects d now) mid new (pos column) (pos row) second off));
 }
 

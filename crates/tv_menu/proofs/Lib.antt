@@ -9,4 +9,3 @@ pub mod PlaceLemmas
 pub mod RowLemmas
 pub mod SpotLemmas
 pub mod TitleLemmas
-pub mod WholeLemmas

@@ -1,8 +1,6 @@
 -- What the menu bar and the status line damage.
-use Rattle.std.specs.Prelude.{◌≡◌, ℤ, pos, ◌-ℤ◌, true, List, [], ◌∷◌, Option, Some, None, option_map}
-use Rattle.tv_cells.specs.Canvas.{aside}
-use Rattle.tv_cells.specs.Damage.{Holds, has}
-use Rattle.tv_cells.specs.Rectangle.{shifted}
+use Rattle.std.specs.Prelude.{pos, ◌-ℤ◌, List, [], Option, Some, None, option_map}
+use Rattle.tv_cells.specs.Damage.{with_shadow}
 use Rattle.tv_cells.specs.declared.rect.Rect.{Rect}
 use Rattle.tv_model.specs.declared.desc.Desc.{Desc}
 use Rattle.tv_model.specs.Description.Rectangles.{rect}
@@ -12,17 +10,6 @@ use Rattle.tv_menu.specs.Bar.{seen_place}
 use Rattle.tv_menu.specs.declared.bars.MenuBar.{MenuBar}
 use Rattle.tv_menu.specs.declared.bars.StatusLine.{StatusLine}
 use Rattle.tv_menu.specs.declared.effect.Place.{Place}
-
--- the points of rectangles have come in. No point is lost, and none is outside the smallest rectangle that holds
--- the old ones and theirs
-pub record AddsAll (rects old new : List Rect) : Type 0 where
-  pub kept : (x y : ℤ) → has old x y ≡ true → has new x y ≡ true
-  pub added : (x y : ℤ) → has rects x y ≡ true → has new x y ≡ true
-  pub within : (r : Rect) → Holds r old → Holds r rects → Holds r new
-
--- a rectangle, and where its shadow lies
-abbrev pub with_shadow : Rect → List Rect
-with_shadow r = r ∷ shifted r aside ∷ []
 
 -- the menu at a place
 abbrev pub opened : Option Place → Option OpenMenu

@@ -1,9 +1,8 @@
 //! What the bar, the box of the open menu and the status line show otherwise than before.
 
 ghost use Rattle.std.specs.Prelude.{◌≡◌, ◌↔◌, [], ◌∷◌, ◌++◌, All, IsTrue, ℤ, true};
-ghost use Rattle.tv_cells.specs.Damage.{Grows, Holds, has};
+ghost use Rattle.tv_cells.specs.Damage.{AddsAll, Grows, Holds, has};
 ghost use Rattle.tv_cells.specs.Picture.{Picture};
-ghost use Rattle.tv_cells.specs.Rectangle.{IsRectNear};
 ghost use Rattle.tv_cells.specs.Repainting.{AreAlike};
 ghost use Rattle.tv_cells.specs.declared.rect.Rect.{Rect as Region};
 ghost use Rattle.tv_machine.specs.State.{State};
@@ -11,26 +10,17 @@ ghost use Rattle.tv_machine.specs.Screen.Layers.{bar_layer, box_layers, status_l
 ghost use Rattle.tv_model.specs.declared.desc.Desc.{Desc as Declared};
 ghost use Rattle.tv_menu.specs.Bar.{IsBarOf, open_of};
 ghost use Rattle.tv_menu.specs.Cells.{is_item_in};
-ghost use Rattle.tv_menu.specs.Damage.{AddsAll, bar_row, box_rects, line_row, opened, with_shadow};
+ghost use Rattle.tv_menu.specs.Damage.{bar_row, box_rects, line_row, opened};
 ghost use Rattle.tv_menu.specs.Lawful.{IsLawfulStatusItem};
 ghost use Rattle.tv_menu.specs.Line.{AreEnabled, IsLineOf};
 
 use crate::bars::{MenuBar, StatusLine};
 use crate::effect::{Place, menu_of};
 use crate::status::is_enabled;
-use tv_cells::{Damage, Point, Rect};
+use tv_cells::{Damage, Rect};
 use tv_event::CommandSet;
 use tv_faces::rect_at;
 use tv_model::StatusItem;
-
-// Adds a rectangle, and where its shadow lies.
-fn add_with_shadow(bounds: Rect, damage: &mut Damage)
-    requires { IsRectNear bounds }
-    ensures { AddsAll (with_shadow bounds) damage.old damage.new }
-{
-    damage.add(bounds);
-    damage.add(bounds.shift(Point { x: 2, y: 1 }));
-}
 
 // Whether each item is enabled in both sets, or in neither.
 #[tactic(auto, using(crate::proofs::LawfulLemmas::items_behind, crate::proofs::LawfulLemmas::item_ahead))]
@@ -98,7 +88,7 @@ impl MenuBar {
         ensures added { (d : Declared) → IsBarOf d self.now → AddsAll (box_rects d (opened place)) damage.old damage.new }
     {
         if let Some(current) = place {
-            add_with_shadow(self.box_of(current.menu), damage);
+            damage.add_with_shadow(self.box_of(current.menu));
         }
     }
 }
