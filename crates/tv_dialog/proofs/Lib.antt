@@ -1,4 +1,5 @@
 pub mod AlikeLemmas
+pub mod CutLemmas
 pub mod DamageLemmas
 pub mod FieldLemmas
 pub mod FieldOrderLemmas

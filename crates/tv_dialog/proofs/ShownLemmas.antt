@@ -1,12 +1,16 @@
 -- What a dialog draws is what the machine shows of the open one.
-use Rattle.std.proofs.Common.{◌≡◌, ◌∙◌, IsTrue, List, [], ◌∷◌, ◌++◌, ℤ, ℕ, Some, ap, sym, subst, arith, refl}
+use Rattle.std.proofs.Common.{◌≡◌, ◌∙◌, IsTrue, List, [], ◌∷◌, ◌++◌, ℤ, ℕ, Some, ap, map, sym, subst, arith, refl}
 use Rattle.std.proofs.lemmas.Bool.{false≢true}
 use Rattle.std.proofs.lemmas.Int.{ints}
+use Rattle.std.proofs.lemmas.List.{map-append}
 use Rattle.std.proofs.lemmas.List.Elements.{All-head}
 use Rattle.tv_cells.specs.Canvas.{sub}
 use Rattle.tv_cells.specs.Layers.{Layer, Painted, Shadow, Lays, ShowsSame}
 use Rattle.tv_cells.specs.Picture.{Picture}
+use Rattle.tv_cells.specs.Repainting.{clipped, within}
 use Rattle.tv_cells.specs.declared.canvas.Canvas.{Canvas}
+use Rattle.tv_cells.specs.declared.rect.Rect.{Rect}
+use Rattle.tv_cells.proofs.RepaintingLemmas.{same-clipped}
 use Rattle.tv_model.specs.declared.node.Id.{Id}
 use Rattle.tv_model.specs.declared.node.Node.{Node}
 use Rattle.tv_model.specs.declared.kind.Kind.{Kind}
@@ -29,15 +33,17 @@ use Rattle.tv_machine.specs.Screen.Layers.{dialog_layers}
 use Rattle.tv_group.specs.Opened.{opened}
 use Rattle.tv_view.specs.declared.env.Env.{Env}
 use Rattle.tv_view.specs.Drawing.{leaves_layers}
-use Rattle.tv_view.proofs.LayingLemmas.{lays_as}
+use Rattle.tv_view.proofs.LayingLemmas.{lays_as, lays_then}
+use Rattle.tv_view.proofs.SameLayerLemmas.{lays_same}
 use Rattle.tv_dialog.specs.Drawn as drawn
 use Rattle.tv_dialog.specs.Drawn.{lent}
 use Rattle.tv_dialog.specs.Head.{KeptDialogHead, dialog_bounds, declared_dialog_head}
-use Rattle.tv_tree.specs.Shown.{IsShown, desktop_canvas, dialog_canvas, shadow_layer}
+use Rattle.tv_tree.specs.Shown.{IsShown, desktop_canvas, dialog_canvas, open_bounds, shadow_layer}
 use Rattle.tv_dialog.specs.Standing.{Stands}
 use Rattle.tv_tree.specs.Tree.{tree_of}
 use Rattle.tv_dialog.specs.declared.dialog.DialogOf.{DialogOf}
-use Rattle.tv_tree.proofs.Screen.OpenDialogLemmas.{dialog-laid, dialog-same, dialog-tall, tree_layers}
+use Rattle.tv_tree.proofs.Screen.OpenDialogLemmas.{dialog-same, dialog-tall, tree_layers}
+use Rattle.tv_dialog.proofs.CutLemmas.{dialog-within}
 use Rattle.tv_dialog.proofs.TurnCodeLemmas.{lent-by}
 
 -- what a dialog keeps of its node
@@ -89,47 +95,49 @@ small_corner d own =
       record { low = omega (arith, ints, y.0, y.1); high = omega (arith, ints, y.0, y.1) },
     )
 
-module _ {V : Type 0} (look : V → Leaf) (desc : Desc) (d : Dialog) (o : OpenDialog) (overwriting : List Id) (m : Modal) (env : Env) (c : Canvas)
-    (dialog : DialogOf V) (own : IsLawfulDialog d) (s : Stands look d m.leaves m dialog) (shown : IsShown desc d o overwriting m env c) where
+module _ {V : Type 0} (look : V → Leaf) (desc : Desc) (d : Dialog) (o : OpenDialog) (overwriting : List Id) (m : Modal) (env : Env)
+    (dialog : DialogOf V) (own : IsLawfulDialog d) (s : Stands look d m.leaves m dialog) (shown : IsShown d o overwriting m env) where
   abbrev here : Env
   here = lent dialog.plan dialog.focus env
 
-  canvas-is : sub c (dialog_bounds dialog.head) ≡ dialog_canvas desc o d
-  canvas-is =
-      ap (λ k. sub k (dialog_bounds dialog.head)) shown.desktop
-      ∙ ap (λ k. sub (desktop_canvas desc) (dialog_bounds k)) (head-is d dialog.head s.head)
-      ∙ ap (λ h. sub (desktop_canvas desc) (rect d.node.x d.node.y d.node.w h)) (sym (dialog-tall d))
-      ∙ ap (λ p. sub (desktop_canvas desc) (rect p.x p.y d.node.w (height_of d.node.kind))) (sym shown.corner)
+  abbrev layers : List Layer
+  layers = drawn.drawn_dialog look env (desktop_canvas desc) dialog
 
-  layers-are : drawn.drawn_dialog look env c dialog ≡ tree_layers desc here o d m
+  bounds-are : dialog_bounds dialog.head ≡ open_bounds o d
+  bounds-are =
+      ap dialog_bounds (head-is d dialog.head s.head)
+      ∙ ap (λ h. rect d.node.x d.node.y d.node.w h) (sym (dialog-tall d))
+      ∙ ap (λ p. rect p.x p.y d.node.w (height_of d.node.kind)) (sym shown.corner)
+
+  layers-are : layers ≡ tree_layers desc here o d m
   layers-are =
-      ap (λ k. leaves_layers here k (opened look dialog.body) ++ framed env k dialog.head.w dialog.head.h dialog.head.title ∷ []) canvas-is
+      ap (λ r. leaves_layers here (sub (desktop_canvas desc) r) (opened look dialog.body) ++ framed env (sub (desktop_canvas desc) r) dialog.head.w dialog.head.h dialog.head.title ∷ []) bounds-are
       ∙ ap (λ xs. leaves_layers here (dialog_canvas desc o d) xs ++ framed env (dialog_canvas desc o d) dialog.head.w dialog.head.h dialog.head.title ∷ []) s.tree
       ∙ ap (λ k. leaves_layers here (dialog_canvas desc o d) (tree_of d m) ++ framed env (dialog_canvas desc o d) k.w k.h k.title ∷ []) (head-is d dialog.head s.head)
       ∙ ap (λ h. leaves_layers here (dialog_canvas desc o d) (tree_of d m) ++ framed env (dialog_canvas desc o d) d.node.w h (dialog_head d).title ∷ []) (sym (dialog-tall d))
 
-  shadow-is : Shadow c (dialog_bounds dialog.head) ≡ shadow_layer desc o d
-  shadow-is =
-      ap (λ k. Shadow k (dialog_bounds dialog.head)) shown.desktop
-      ∙ ap (λ k. Shadow (desktop_canvas desc) (dialog_bounds k)) (head-is d dialog.head s.head)
-      ∙ ap (λ h. Shadow (desktop_canvas desc) (rect d.node.x d.node.y d.node.w h)) (sym (dialog-tall d))
-      ∙ ap (λ p. Shadow (desktop_canvas desc) (rect p.x p.y d.node.w (height_of d.node.kind))) (sym shown.corner)
-
-  -- over its shadow it shows what the machine's layers show
-  pub dialog-shows : ShowsSame (drawn.drawn_dialog look env c dialog ++ Shadow c (dialog_bounds dialog.head) ∷ []) (dialog_layers desc o overwriting d)
-  dialog-shows =
-      subst (λ layers. ShowsSame layers (dialog_layers desc o overwriting d))
-      (ap (λ layers. layers ++ shadow_layer desc o d ∷ []) (sym layers-are) ∙ ap (λ layer. drawn.drawn_dialog look env c dialog ++ layer ∷ []) (sym shadow-is))
+  over-shadow : ShowsSame (layers ++ shadow_layer desc o d ∷ []) (dialog_layers desc o overwriting d)
+  over-shadow =
+      subst (λ xs. ShowsSame (xs ++ shadow_layer desc o d ∷ []) (dialog_layers desc o overwriting d)) (sym layers-are)
       (dialog-same desc d own own.defaults o overwriting m shown.work here
       (lent-by d m dialog.plan dialog.focus env here s.plan s.focus shown.views refl)
       (record { owner = shown.palettes.owner; chain = shown.palettes.chain }) shown.active
       (subst (λ p. IsSmall p.x × IsSmall p.y) (sym shown.corner) (small_corner d own)))
 
-  pub dialog-shown : (old mid new : Picture) → Lays (shadow_layer desc o d ∷ []) old mid → Lays (drawn.drawn_dialog look env c dialog) mid new
-      → Lays (dialog_layers desc o overwriting d) old new
-  dialog-shown old mid new shadow laid =
-      dialog-laid desc d own own.defaults o overwriting m shown.work here
-      (lent-by d m dialog.plan dialog.focus env here s.plan s.focus shown.views refl)
-      (record { owner = shown.palettes.owner; chain = shown.palettes.chain }) shown.active
-      (subst (λ p. IsSmall p.x × IsSmall p.y) (sym shown.corner) (small_corner d own)) old mid new shadow
-      (lays_as (drawn.drawn_dialog look env c dialog) (tree_layers desc here o d m) mid new layers-are laid)
+  -- over its shadow it shows what the machine's layers show
+  pub dialog-shows : ShowsSame (layers ++ Shadow (desktop_canvas desc) (dialog_bounds dialog.head) ∷ []) (dialog_layers desc o overwriting d)
+  dialog-shows =
+      subst (λ r. ShowsSame (layers ++ Shadow (desktop_canvas desc) r ∷ []) (dialog_layers desc o overwriting d)) (sym bounds-are) over-shadow
+
+  -- and so it does through a canvas that a rectangle cuts
+  pub dialog-shown : (r : Rect) (c : Canvas) → c ≡ within r (desktop_canvas desc) → (old mid new : Picture) → Lays (clipped r (shadow_layer desc o d) ∷ []) old mid
+      → Lays (drawn.drawn_dialog look env c dialog) mid new → Lays (map (clipped r) (dialog_layers desc o overwriting d)) old new
+  dialog-shown r c seen old mid new shadow laid =
+      let shade = shadow_layer desc o d in
+      let same : drawn.drawn_dialog look env c dialog ≡ map (clipped r) layers =
+      ap (λ k. drawn.drawn_dialog look env k dialog) seen ∙ dialog-within look env r (desktop_canvas desc) dialog in
+      lays_same (map (clipped r) (layers ++ shade ∷ [])) (map (clipped r) (dialog_layers desc o overwriting d)) old new
+      (record { each = same-clipped r (layers ++ shade ∷ []) (dialog_layers desc o overwriting d) over-shadow.each })
+      (lays_as (map (clipped r) layers ++ clipped r shade ∷ []) (map (clipped r) (layers ++ shade ∷ [])) old new (sym (map-append (clipped r) layers (shade ∷ [])))
+      (lays_then (clipped r shade ∷ []) (map (clipped r) layers) old mid new shadow
+      (lays_as (drawn.drawn_dialog look env c dialog) (map (clipped r) layers) mid new same laid)))

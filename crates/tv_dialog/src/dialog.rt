@@ -1,9 +1,11 @@
 //! Dialogs.
 
-ghost use Rattle.std.specs.Prelude.{◌≡◌, ◌≤◌, ◌<◌, ◌∷◌, [], ℕ, length, slice_index_or, IfOk, IfErr, IfSome, List, None, Some, false, true};
+ghost use Rattle.std.specs.Prelude.{◌≡◌, ◌≤◌, ◌<◌, ◌∷◌, [], ℕ, length, slice_index_or, IfOk, IfErr, IfSome, List, None, Some, false, map, true};
 ghost use Rattle.tv_cells.specs.Rectangle.{IsRectNear};
 ghost use Rattle.tv_model.specs.Description.Rectangles.{IsSmall, IsSmallRect};
 ghost use Rattle.tv_cells.specs.Layers.{Lays};
+ghost use Rattle.tv_cells.specs.Repainting.{clipped, within};
+ghost use Rattle.tv_cells.specs.declared.rect.Rect.{Rect as Rectangle};
 ghost use Rattle.tv_group.specs.Calls.{HasRoomForAll, all_gathered, any_holds};
 ghost use Rattle.tv_group.specs.Opened.{opened};
 ghost use Rattle.tv_group.specs.Outline.{IsFreshBody};
@@ -11,7 +13,7 @@ ghost use Rattle.tv_machine.specs.Dialog.Lawful.{IsLawfulDialog};
 ghost use Rattle.tv_machine.specs.Dialog.Opening.{unfocused};
 ghost use Rattle.tv_model.specs.declared.desc.Dialog.{Dialog as Declared};
 ghost use Rattle.tv_dialog.specs.Resting.{Rests};
-ghost use Rattle.tv_tree.specs.Shown.{IsShown, shadow_layer};
+ghost use Rattle.tv_tree.specs.Shown.{IsShown, desktop_canvas, shadow_layer};
 ghost use Rattle.tv_dialog.specs.Standing.{Stands};
 ghost use Rattle.tv_cells.specs.Picture.{Picture};
 ghost use Rattle.tv_model.specs.declared.desc.Desc.{Desc};
@@ -243,13 +245,14 @@ impl<V: View> DialogOf<V> {
 
     /// Draws the frame, the space in it, and the views on top, all seen from the canvas's origin. `env` is what the
     /// dialog's owner lends it; the dialog itself adds who has the focus and what Enter presses. Doesn't draw the
-    /// shadow: if that was drawn before, the screen then shows the flat machine's layers of the open dialog.
+    /// shadow: if that was drawn before, the screen then shows the flat machine's layers of the open dialog, cut by
+    /// whatever rectangle cuts the desktop's canvas.
     pub fn draw(&self, screen: &mut Screen, canvas: Canvas, env: &Env)
         requires { IsSmall canvas.origin.x × IsSmall canvas.origin.y }
         ensures layers { Lays (drawn_dialog V.meaning env.now canvas self.now) screen.old screen.new }
-        ensures machine { (desc : Desc) (d : Declared) (o : OpenDialog) (overwriting : List Ident) (m : Modal) (before : Picture) → IsLawfulDialog d
-            → Stands V.meaning d m.leaves m self.now → IsShown desc d o overwriting m env.now canvas
-            → Lays (shadow_layer desc o d ∷ []) before screen.old → Lays (open_layers desc o overwriting d) before screen.new }
+        ensures machine { (desc : Desc) (r : Rectangle) (d : Declared) (o : OpenDialog) (overwriting : List Ident) (m : Modal) (before : Picture) → IsLawfulDialog d
+            → Stands V.meaning d m.leaves m self.now → IsShown d o overwriting m env.now → canvas ≡ within r (desktop_canvas desc)
+            → Lays (clipped r (shadow_layer desc o d) ∷ []) before screen.old → Lays (map (clipped r) (open_layers desc o overwriting d)) before screen.new }
     {
         let inner = canvas.sub(self.head.bounds());
         let frame = self.head.frame(env);

@@ -5,13 +5,14 @@ use Rattle.std.specs.Prelude.{slice_get, slice_index_or, slice_set}
 use Rattle.std.proofs.lemmas.Int.{ints}
 use Rattle.std.proofs.lemmas.Option.{slice_get_within, unwrap_or-slice_get}
 use Rattle.tv_cells.specs.Canvas.{aside}
-use Rattle.tv_cells.specs.Damage.{HasAll, has}
+use Rattle.tv_cells.specs.Damage.{AddsAll, HasAll, has, with_shadow}
 use Rattle.tv_cells.specs.Glyph.{Glyph}
 use Rattle.tv_cells.specs.Layers.{Layer, Shadow, ShowsSame, cell_over, is_in, over}
 use Rattle.tv_cells.specs.Rectangle.{shifted}
 use Rattle.tv_cells.specs.Repainting.{AreAlike, has_cell}
 use Rattle.tv_cells.specs.declared.canvas.Canvas.{Canvas}
 use Rattle.tv_cells.specs.declared.rect.Rect.{Rect}
+use Rattle.tv_cells.proofs.DamageLemmas.{has-left, has-one, has-right}
 use Rattle.tv_cells.proofs.RepaintingLemmas.{over-append}
 use Rattle.tv_model.specs.declared.desc.Desc.{Desc}
 use Rattle.tv_model.specs.declared.desc.Dialog.{Dialog}
@@ -40,6 +41,13 @@ use Rattle.tv_dialogs.specs.Dialogs.{AreDialogs, IsOpenAmong, at_work}
 use Rattle.tv_dialogs.specs.declared.kept.Kept.{Kept}
 use Rattle.tv_dialogs.specs.declared.dialogs.DialogsOf.{DialogsOf}
 use Rattle.tv_dialogs.proofs.PlaceLemmas.{get-set-same, nothing-some, same-some}
+
+-- a rectangle has come in with its shadow
+pub shadowed-added : (r : Rect) (old new : List Rect) → AddsAll (with_shadow r) old new → HasShadowed r new
+shadowed-added r old new p = record {
+  own = record { each = λ x y i. p.added x y (has-left (r ∷ []) (shifted r aside ∷ []) x y (has-one r x y i)) };
+  shadow = record { each = λ x y i. p.added x y (has-right (r ∷ []) (shifted r aside ∷ []) x y (has-one (shifted r aside) x y i)) };
+}
 
 -- ---- damage
 
@@ -134,8 +142,8 @@ module _ {V : Type 0} (look : V → Leaf) (d : Desc) (sound : HasSoundDialogs d)
       let same : open_layers d s.overwriting (Some o) ≡ dialog_layers d o overwriting x = rw among.there refl in
       subst (λ layers. ShowsSame (drawn_dialog look env (desktop_canvas d) k ++ Shadow (desktop_canvas d) (dialog_bounds k.head) ∷ []) layers)
       (sym (ap (open_layers d s.overwriting) is ∙ same))
-      (dialog-shows look d x o overwriting m env (desktop_canvas d) k (sound-at d sound o.place x among.there).lawful among.stands
-      (record { work = work; corner = among.corner; views = lent.views; palettes = lent.palettes; active = lent.active; desktop = refl }))
+      (dialog-shows look d x o overwriting m env k (sound-at d sound o.place x among.there).lawful among.stands
+      (record { work = work; corner = among.corner; views = lent.views; palettes = lent.palettes; active = lent.active }))
 
 -- ---- what becomes of it
 

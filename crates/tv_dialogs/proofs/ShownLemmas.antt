@@ -1,10 +1,11 @@
 -- The open dialog with its shadow on the screen.
-use Rattle.std.proofs.Common.{◌≡◌, List, [], ◌∷◌, ℕ, Some, IsTrue, refl, sym, ap, subst, ◌∙◌}
+use Rattle.std.proofs.Common.{◌≡◌, List, [], ◌∷◌, ℕ, Some, IsTrue, map, refl, sym, ap, subst, ◌∙◌}
 use Rattle.std.specs.Prelude.{slice_get, slice_index_or}
 use Rattle.std.proofs.lemmas.Bool.{false≢true}
 use Rattle.std.proofs.lemmas.Option.{unwrap_or-slice_get}
 use Rattle.tv_cells.specs.Layers.{Layer, Shadow, Shows, Lays}
 use Rattle.tv_cells.specs.Picture.{IsAlike, Picture}
+use Rattle.tv_cells.specs.Repainting.{clipped, within}
 use Rattle.tv_cells.specs.declared.canvas.Canvas.{Canvas}
 use Rattle.tv_cells.specs.declared.rect.Rect.{Rect}
 use Rattle.tv_model.specs.declared.desc.Desc.{Desc}
@@ -43,31 +44,31 @@ pub corner-is : (d : Dialog) (head : KeptDialogHead) → Some head ≡ declared_
 corner-is d head e bounds is = ap (λ r. r.a) (is ∙ bounds_are d.node d.node.kind d.own_kind head e)
 
 -- its shadow is the machine's
-pub shadow-laid : {V : Type 0} (look : V → Leaf) (desc : Desc) (d : Dialog) (o : OpenDialog) (m : Modal) (dialog : DialogOf V) (c : Canvas) (bounds : Rect) (old new : Picture)
-    → Stands look d m.leaves m dialog → o.origin ≡ corner_of d.node → c ≡ desktop_canvas desc → bounds ≡ dialog_bounds dialog.head
+pub shadow-laid : {V : Type 0} (look : V → Leaf) (desc : Desc) (r : Rect) (d : Dialog) (o : OpenDialog) (m : Modal) (dialog : DialogOf V) (c : Canvas) (bounds : Rect) (old new : Picture)
+    → Stands look d m.leaves m dialog → o.origin ≡ corner_of d.node → c ≡ within r (desktop_canvas desc) → bounds ≡ dialog_bounds dialog.head
     → IsAlike old new → ((layers : List Layer) → Shows layers old → Shows (Shadow c bounds ∷ layers) new)
-    → Lays (shadow_layer desc o d ∷ []) old new
-shadow-laid look desc d o m dialog c bounds old new s corner desktop is alike shows =
-    let same : Shadow c bounds ≡ shadow_layer desc o d =
-    ap (λ k. Shadow k bounds) desktop ∙ ap (Shadow (desktop_canvas desc)) (is ∙ bounds_are d.node d.node.kind d.own_kind dialog.head s.head
+    → Lays (clipped r (shadow_layer desc o d) ∷ []) old new
+shadow-laid look desc r d o m dialog c bounds old new s corner desktop is alike shows =
+    let same : Shadow c bounds ≡ clipped r (shadow_layer desc o d) =
+    ap (λ k. Shadow k bounds) desktop ∙ ap (Shadow (within r (desktop_canvas desc))) (is ∙ bounds_are d.node d.node.kind d.own_kind dialog.head s.head
     ∙ ap (λ p. open_bounds (record o { origin = p }) d) (sym corner)) in
     record { size = alike; shows = λ below shown. subst (λ layer. Shows (layer ∷ below) new) same (shows below shown) }
 
-module _ {V : Type 0} (look : V → Leaf) (d : Desc) (s : State) (dialogs : DialogsOf V) (are : AreDialogs look d s dialogs) where
+module _ {V : Type 0} (look : V → Leaf) (d : Desc) (r : Rect) (s : State) (dialogs : DialogsOf V) (are : AreDialogs look d s dialogs) where
   -- one is open, and is drawn as the machine's
   pub some-shown : (o : OpenDialog) (dialog : Dialog) (old new : Picture) → s.dialog ≡ Some o → slice_get d.dialogs o.place ≡ Some dialog
-      → Lays (dialog_layers d o (slice_index_or s.overwriting o.place []) dialog) old new → Lays (open_layers d s.overwriting s.dialog) old new
+      → Lays (map (clipped r) (dialog_layers d o (slice_index_or s.overwriting o.place []) dialog)) old new → Lays (map (clipped r) (open_layers d s.overwriting s.dialog)) old new
   some-shown o dialog old new some there laid =
       let same : open_layers d s.overwriting (Some o) ≡ dialog_layers d o (slice_index_or s.overwriting o.place []) dialog = rw there refl in
-      lays_as (dialog_layers d o (slice_index_or s.overwriting o.place []) dialog) (open_layers d s.overwriting s.dialog) old new
-      (sym (ap (open_layers d s.overwriting) some ∙ same)) laid
+      lays_as (map (clipped r) (dialog_layers d o (slice_index_or s.overwriting o.place []) dialog)) (map (clipped r) (open_layers d s.overwriting s.dialog)) old new
+      (ap (map (clipped r)) (sym (ap (open_layers d s.overwriting) some ∙ same))) laid
 
   -- what is read at its place is drawn
   module _ (place : ℕ) (opens : dialogs.open ≡ Some place) (declared : Dialog) (kept : Kept V)
       (reads : declared ≡ slice_index_or d.dialogs place declared) (has : kept ≡ slice_index_or dialogs.kept.items place kept) where
     pub read-shown : (old new : Picture) → HasSoundDialogs d → ((o : OpenDialog) (overwriting : List Id) (m : Modal) → IsLawfulDialog declared
         → Stands look declared m.leaves m kept.dialog → IsAtWork o overwriting m → o.origin ≡ corner_of declared.node
-        → Lays (dialog_layers d o overwriting declared) old new) → Lays (open_layers d s.overwriting s.dialog) old new
+        → Lays (map (clipped r) (dialog_layers d o overwriting declared)) old new) → Lays (map (clipped r) (open_layers d s.overwriting s.dialog)) old new
     read-shown old new sound draws =
         let told = place-told look d s dialogs are place opens in
         let o = told.0 in

@@ -1,6 +1,6 @@
 //! A dialog, and the record that it opens with.
 
-ghost use Rattle.std.specs.Prelude.{◌≡◌, [], false, IfErr, IfOk, List, None};
+ghost use Rattle.std.specs.Prelude.{◌≡◌, [], false, IfErr, IfOk, List, None, map};
 ghost use Rattle.tv_machine.specs.Dialog.Sound.{IsSoundDialog};
 ghost use Rattle.tv_machine.specs.Dialog.Modal.{Modal};
 ghost use Rattle.tv_machine.specs.Dialog.Step.{dialog_step};
@@ -15,9 +15,9 @@ ghost use Rattle.tv_group.specs.Opened.{opened};
 ghost use Rattle.tv_group.specs.Outline.{IsFreshBody};
 ghost use Rattle.tv_machine.specs.Dialog.Lawful.{IsLawfulDialog};
 ghost use Rattle.tv_tree.specs.Shown.{IsAtWork, desktop_canvas};
-ghost use Rattle.tv_cells.specs.Canvas.{aside};
 ghost use Rattle.tv_cells.specs.Layers.{Lays};
-ghost use Rattle.tv_cells.specs.Rectangle.{IsRectNear, shifted};
+ghost use Rattle.tv_cells.specs.Repainting.{clipped, within};
+ghost use Rattle.tv_cells.specs.declared.rect.Rect.{Rect as Rectangle};
 ghost use Rattle.tv_dialog.specs.Head.{dialog_bounds};
 ghost use Rattle.tv_dialog.specs.Standing.{Stands};
 ghost use Rattle.tv_dialog.specs.Stepping.{begun_anew};
@@ -29,7 +29,7 @@ ghost use Rattle.tv_dialogs.specs.Kept.{IsKeptAs, IsReady, holds_after, may_hold
 use crate::colours::Colours;
 use crate::handed::event_from;
 use std::alloc::Global;
-use tv_cells::{Canvas, Damage, Point, Rect, Screen, lay_shadow};
+use tv_cells::{Canvas, Damage, Screen, lay_shadow};
 use tv_dialog::DialogOf;
 use tv_event::{Command, CommandSet, Event};
 use tv_group::GroupOf;
@@ -63,14 +63,6 @@ fn may_hold(is_held: bool, event: &Event) -> bool
         Event::Down(_) => true,
         _ => is_held,
     }
-}
-
-// Where the shadow of a rectangle falls, and what the rectangle has of it.
-fn shadow_of(rect: Rect) -> Rect
-    requires { IsRectNear rect }
-    ensures { result ≡ shifted rect aside }
-{
-    rect.shift(Point { x: 2, y: 1 })
 }
 
 // Puts the values of all fields of the dialog into the record.
@@ -172,9 +164,7 @@ impl<V: View> Kept<V> {
         ensures shadowed { HasShadowed (dialog_bounds self.now.dialog.head) damage.new }
         ensures kept { Keeps damage.old damage.new }
     {
-        let bounds = self.dialog.bounds();
-        damage.add(bounds);
-        damage.add(shadow_of(bounds));
+        damage.add_with_shadow(self.dialog.bounds());
     }
 
     // The same where it has ended.
@@ -194,7 +184,7 @@ impl<V: View> Kept<V> {
         self.dialog.is_open() && may_hold(was_held, event) && self.dialog.held()
     }
 
-    /// Draws the open dialog over its shadow, both seen from the canvas's origin.
+    /// Draws the open dialog over its shadow, both seen from the canvas's origin. A rectangle may cut the canvas.
     pub(crate) fn draw(
         &self,
         screen: &mut Screen,
@@ -203,9 +193,9 @@ impl<V: View> Kept<V> {
         colours: &Colours,
     )
         requires { IsSmall canvas.origin.x × IsSmall canvas.origin.y }
-        ensures { (desc : Desc) (o : OpenDialog) (overwriting : List Id) (m : Modal) → IsLawfulDialog declared.now
+        ensures { (desc : Desc) (r : Rectangle) (o : OpenDialog) (overwriting : List Id) (m : Modal) → IsLawfulDialog declared.now
             → Stands V.meaning declared.now m.leaves m self.now.dialog → IsAtWork o overwriting m → o.origin ≡ corner_of declared.now.node
-            → canvas ≡ desktop_canvas desc → Lays (dialog_layers desc o overwriting declared.now) screen.old screen.new }
+            → canvas ≡ within r (desktop_canvas desc) → Lays (map (clipped r) (dialog_layers desc o overwriting declared.now)) screen.old screen.new }
     {
         let env = Env {
             owner: Owner::Dialog,

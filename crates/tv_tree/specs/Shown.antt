@@ -44,13 +44,11 @@ pub record IsAtWork (o : OpenDialog) (overwriting : List Id) (m : Modal) : Type 
   pub focus : m.focus ≡ o.focus
   pub overwriting_in : m.overwriting ≡ overwriting
 
--- the dialog at work is the open one of the description, where it is declared, and it is drawn on the desktop
--- as the active one
-pub record IsShown (desc : Desc) (d : Dialog) (o : OpenDialog) (overwriting : List Id) (m : Modal) (env : Env)
-    (c : Canvas) : Type 0 where
+-- the dialog at work is the open one, where it is declared, and it is drawn as the active one
+pub record IsShown (d : Dialog) (o : OpenDialog) (overwriting : List Id) (m : Modal)
+    (env : Env) : Type 0 where
   pub work : IsAtWork o overwriting m
   pub corner : o.origin ≡ corner_of d.node
   pub views : env.views.now ≡ d.views
   pub palettes : IsOfDialog env
   pub active : env.is_active ≡ true
-  pub desktop : c ≡ desktop_canvas desc

@@ -1,9 +1,7 @@
 -- The open dialog shows what the machine's layers show: its views, its frame and its shadow.
-use Rattle.std.proofs.Common.{◌≡◌, IsTrue, Bool, true, List, [], ◌∷◌, ◌++◌, filter, flat_map, Some, slice_get, slice_index_or, reverse, refl, sym, ap, ◌∙◌, append_assoc, subst}
+use Rattle.std.proofs.Common.{◌≡◌, IsTrue, Bool, true, List, [], ◌∷◌, ◌++◌, filter, flat_map, reverse, refl, ap, ◌∙◌, append_assoc, subst}
 use Rattle.std.proofs.lemmas.Bool.{false≢true}
-use Rattle.std.proofs.lemmas.Option.{unwrap_or-slice_get}
-use Rattle.tv_cells.specs.Layers.{Layer, Painted, Shadow, Lays, ShowsSame}
-use Rattle.tv_cells.specs.Picture.{Picture}
+use Rattle.tv_cells.specs.Layers.{Layer, Painted, Shadow, ShowsSame}
 use Rattle.tv_cells.specs.Rectangle.{sized}
 use Rattle.tv_model.specs.declared.desc.Desc.{Desc}
 use Rattle.tv_model.specs.declared.desc.Dialog.{Dialog}
@@ -22,17 +20,15 @@ use Rattle.tv_palette.specs.Palettes.{colour_in}
 use Rattle.tv_palette.specs.declared.role.Owner.TheVariants as owners
 use Rattle.tv_palette.specs.declared.role.Role.TheVariants as roles
 use Rattle.tv_palette.specs.declared.role.FrameRole.TheVariants as frame
-use Rattle.tv_machine.specs.State.{OpenDialog, State}
+use Rattle.tv_machine.specs.State.{OpenDialog}
 use Rattle.tv_machine.specs.Leaves.{leaf_list}
 use Rattle.tv_machine.specs.Dialog.Modal.{Modal}
 use Rattle.tv_machine.specs.Dialog.Rules.{is_visible}
-use Rattle.tv_machine.specs.Screen.Layers.{dialog_layers, dialog_leaf, open_layers}
-use Rattle.tv_machine.specs.Session.Commands.{modal_of}
+use Rattle.tv_machine.specs.Screen.Layers.{dialog_layers, dialog_leaf}
 use Rattle.tv_view.specs.declared.env.Env.{Env}
 use Rattle.tv_view.specs.Drawing.{leaves_layers}
 use Rattle.tv_view.proofs.FrameLayerLemmas.{corner, frame_same, shadows_same}
-use Rattle.tv_view.proofs.LayingLemmas.{lays_as, lays_then}
-use Rattle.tv_view.proofs.SameLayerLemmas.{lays_same, same_append}
+use Rattle.tv_view.proofs.SameLayerLemmas.{same_append}
 use Rattle.tv_machine.specs.Dialog.Lawful.{IsLawfulDialog}
 use Rattle.tv_tree.specs.Tree.{tree_of}
 use Rattle.tv_tree.specs.Turns.{IsLentBy}
@@ -111,31 +107,3 @@ module _ (desc : Desc) (d : Dialog) (lawful : IsLawfulDialog d) (one : HasOneDef
       subst (λ layers. ShowsSame (tree_layers desc env o d m ++ shadow_layer desc o d ∷ []) layers) machine-layers
       (same_append (tree_layers desc env o d m) (told ++ frame_at told_look ∷ []) (shadow_layer desc o d ∷ []) (shadow_at ∷ []) views
       (shadows_same desc o.origin.x o.origin.y d.node.w h))
-
-  -- the shadow is drawn first, and then the frame with the views on top
-  pub dialog-laid : (old mid new : Picture) → Lays (shadow_layer desc o d ∷ []) old mid → Lays (tree_layers desc env o d m) mid new
-      → Lays (dialog_layers desc o overwriting d) old new
-  dialog-laid old mid new shadow here =
-      lays_same (tree_layers desc env o d m ++ shadow_layer desc o d ∷ []) (dialog_layers desc o overwriting d) old new dialog-same
-      (lays_then (shadow_layer desc o d ∷ []) (tree_layers desc env o d m) old mid new shadow here)
-
--- ---- the dialog of a state
-
-at-work : (s : State) (o : OpenDialog) → IsAtWork o (slice_index_or s.overwriting o.place []) (modal_of s o)
-at-work s o = record { leaves = refl; focus = refl; overwriting_in = unwrap_or-slice_get s.overwriting o.place [] }
-
-open-layers : (desc : Desc) (overwriting : List (List Id)) (o : OpenDialog) (d : Dialog) → slice_get desc.dialogs o.place ≡ Some d
-    → open_layers desc overwriting (Some o) ≡ dialog_layers desc o (slice_index_or overwriting o.place []) d
-open-layers desc overwriting o d e = rw e refl
-
--- the dialog that is open in a state, drawn with its shadow, shows the machine's layers of it
-pub open-laid : (desc : Desc) (d : Dialog) → IsLawfulDialog d → HasOneDefault d → (s : State) (o : OpenDialog)
-    → slice_get desc.dialogs o.place ≡ Some d
-    → (env : Env) → IsLentBy d (modal_of s o) env → IsOfDialog env → env.is_active ≡ true → IsSmall o.origin.x × IsSmall o.origin.y
-    → (old mid new : Picture) → Lays (shadow_layer desc o d ∷ []) old mid → Lays (tree_layers desc env o d (modal_of s o)) mid new
-    → Lays (open_layers desc s.overwriting (Some o)) old new
-open-laid desc d lawful one s o is env lent of active at old mid new shadow here =
-    lays_as (dialog_layers desc o (slice_index_or s.overwriting o.place []) d) (open_layers desc s.overwriting (Some o)) old new
-    (sym (open-layers desc s.overwriting o d is))
-    (dialog-laid desc d lawful one o (slice_index_or s.overwriting o.place []) (modal_of s o)
-    (at-work s o) env lent of active at old mid new shadow here)

@@ -23,6 +23,6 @@ returns-clause-layers g c =
     (subst (λ env. Lays (leaves_layers env c.sub-inner.result (opened g.V.View.meaning c.args.self.now.body)) c.lay.new.screen c.draw.new.screen) c.lent.ensures c.draw.ensures))
 
 pub returns-clause-machine : goal.returns-clause-machine
-returns-clause-machine g c desc d o overwriting m before lawful stands shown shadow =
-    dialog-shown g.V.View.meaning desc d o overwriting m c.args.env.now c.args.canvas c.args.self.now lawful stands shown before c.args.screen.now c.draw.new.screen shadow
+returns-clause-machine g c desc r d o overwriting m before lawful stands shown seen shadow =
+    dialog-shown g.V.View.meaning desc d o overwriting m c.args.env.now c.args.self.now lawful stands shown r c.args.canvas seen before c.args.screen.now c.draw.new.screen shadow
     (returns-clause-layers g c)

@@ -4,17 +4,17 @@ use Rattle.tv_dialogs.proofs.ShownLemmas.{shadow-laid}
 use Rattle.tv_dialogs.proofs.kept.Kept.draw.Goals as goal
 
 pub returns : goal.returns
-returns g c desc o overwriting m lawful stands work corner desktop =
+returns g c desc r o overwriting m lawful stands work corner desktop =
     let d = c.args.declared.now in
     let screen = c.args.screen.now in
-    c.draw.ensures.machine desc d o overwriting m screen lawful stands
+    c.draw.ensures.machine desc r d o overwriting m screen lawful stands
     (record {
       work = work;
       corner = corner;
       views = c.as_slice.ensures;
       palettes = record { owner = refl; chain = ap coloured c.chain.ensures };
       active = refl;
-      desktop = desktop;
     })
-    (shadow-laid g.V.View.meaning desc d o m c.args.self.now.dialog c.args.canvas c.bounds.result screen c.lay_shadow.new.screen
+    desktop
+    (shadow-laid g.V.View.meaning desc r d o m c.args.self.now.dialog c.args.canvas c.bounds.result screen c.lay_shadow.new.screen
     stands corner desktop c.bounds.ensures.is c.lay_shadow.ensures.size c.lay_shadow.ensures.shows)
