@@ -79,10 +79,10 @@ module _ (d : Desc) (x y w h : ℤ) where
 -- ---- the views of a declared window
 
 -- a view round which there are no panes
-abbrev bare : Node → PlacedNode
+abbrev pub bare : Node → PlacedNode
 bare n = record { node = n; panes = [] }
 
-bare_list : (owner : Node) (ns : List Node) → All (IsTextInside owner) ns → leaf_list ns ≡ map bare ns
+pub bare_list : (owner : Node) (ns : List Node) → All (IsTextInside owner) ns → leaf_list ns ≡ map bare ns
 bare_list owner [] texts = refl
 bare_list owner (n ∷ ns) texts =
     let is_leaf : is_pane n.kind ≡ false = ap is_pane (All-head (IsTextInside owner) n ns texts).kind in

@@ -1,11 +1,14 @@
 pub mod CutLemmas
 pub mod DeclaredLemmas
 pub mod DeclaredWindowLemmas
+pub mod DeskDamageLemmas
 pub mod DeskLemmas
+pub mod EnvDamageLemmas
 pub mod FreshLemmas
 pub mod MarkLemmas
+pub mod OffLemmas
 pub mod OrderLemmas
 pub mod PlaceLemmas
+pub mod RaisedLemmas
 pub mod StackLemmas
-pub mod WholeLemmas
 pub mod WindowDrawingLemmas

@@ -57,7 +57,7 @@ pub record IsHead (window : Window) (head : KeptWindowHead) : Type 0 where
 some_is : {A : Type 0} (a b : A) → Some a ≡ Some b → a ≡ b
 some_is a b e = cc
 
-head_is : (window : Window) (head : KeptWindowHead) → Some head ≡ declared_window_head window.node → IsHead window head
+pub head_is : (window : Window) (head : KeptWindowHead) → Some head ≡ declared_window_head window.node → IsHead window head
 head_is window head same = by_kind window.node.kind window.own_kind refl
   where
     by_kind : (k : Kind) (own : IsTrue (is_window k)) → window.node.kind ≡ k → IsHead window head

@@ -2,3 +2,4 @@ pub mod DeclaredWindows
 pub mod Head
 pub mod Window
 pub mod Desk
+pub mod Damage

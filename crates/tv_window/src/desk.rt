@@ -1,6 +1,6 @@
 //! The open windows.
 
-ghost use Rattle.std.specs.Prelude.{◌≡◌, ◌==◌, List, length, map, reverse};
+ghost use Rattle.std.specs.Prelude.{◌≡◌, ◌==◌, ◌-◌, List, length, map, reverse};
 ghost use Rattle.tv_machine.specs.Screen.Layers.{stack_layers};
 ghost use Rattle.tv_machine.specs.Session.Commands.{close_front, do_command, last_first};
 ghost use Rattle.tv_machine.specs.Session.Desktop.{raise_found, window_of_digit};
@@ -12,11 +12,13 @@ ghost use Rattle.tv_cells.specs.Layers.{Lays};
 ghost use Rattle.tv_cells.specs.Repainting.{clipped, within};
 ghost use Rattle.tv_cells.specs.declared.rect.Rect.{Rect};
 ghost use Rattle.tv_window.specs.DeclaredWindows.{IsOfWindow, window_canvas};
+ghost use Rattle.tv_cells.specs.Damage.{GrowsIn};
+ghost use Rattle.tv_window.specs.Damage.{AreStacksAlike, closed_rects, digit_place, moved_rects, point_place, raised_rects, windows_of};
 ghost use Rattle.tv_window.specs.Desk.{AreFreshWindows, AreLawfulWindows, IsDesk, down_on_desk, with_close_line};
 
 use crate::places::{is_on_close_mark, place_of_digit, place_under};
 use crate::{WindowOf, draw_stack};
-use tv_cells::{Canvas, Point, Screen};
+use tv_cells::{Canvas, Damage, Point, Screen};
 use tv_group::Stack;
 use tv_model::Id;
 use tv_view::{Env, View};
@@ -26,7 +28,7 @@ use tv_view::{Env, View};
 /// It is generic in their views, as a window is; the toolkit's own has boxed ones. It never grows, and takes no memory.
 #[derive(Drop)]
 pub struct DeskOf<V> {
-    windows: Stack<WindowOf<V>>,
+    pub(crate) windows: Stack<WindowOf<V>>,
 }
 
 /// The open windows of a run, whose views are boxed.
@@ -61,32 +63,39 @@ impl<V: View> DeskOf<V> {
         self.windows.items.is_empty()
     }
 
-    /// Raises the window of a number to the front, as Alt with a digit from 1 to 9 asks. Does nothing for any other
-    /// character.
-    pub fn raise_number(&mut self, letter: char)
-        ensures { (d : Desc) (s : State) → IsDesk V.meaning d s.windows self.old
+    /// Raises the window of a number to the front, as Alt with a digit from 1 to 9 asks, and adds what then shows
+    /// otherwise to the damage. Does nothing for any other character.
+    pub fn raise_number(&mut self, letter: char, damage: &mut Damage)
+        ensures desk { (d : Desc) (s : State) → IsDesk V.meaning d s.windows self.old
             → IsDesk V.meaning d (raise_found (window_of_digit d s letter) s).windows self.new }
+        ensures damage { (d : Desc) (s : State) → IsDesk V.meaning d s.windows self.old
+            → AreStacksAlike d damage.new s.windows (raise_found (window_of_digit d s letter) s).windows }
+        ensures grown { GrowsIn (moved_rects (windows_of self.old) (digit_place (windows_of self.old) letter)) damage.old damage.new }
     {
         if let Some(place) = place_of_digit(&self.windows.items, letter) {
-            self.windows.raise(place);
+            self.raise(place, damage);
         }
     }
 
     /// Handles a mouse down on the desktop while neither a menu nor a dialog is open: brings a window that isn't the
-    /// front one to the front. Returns what is left to be done.
-    pub fn down(&mut self, point: Point) -> Hit
+    /// front one to the front, and adds what then shows otherwise to the damage. Returns what is left to be done.
+    pub fn down(&mut self, point: Point, damage: &mut Damage) -> Hit
         ensures kept { result ≡ Hit.CloseMark → self.new ≡ self.old }
         ensures mark { (d : Desc) (s : State) → IsDesk V.meaning d s.windows self.old → result ≡ Hit.CloseMark
             → down_on_desk d point s ≡ do_command d 4 s }
         ensures done { (d : Desc) (s : State) → IsDesk V.meaning d s.windows self.old → result ≡ Hit.Done
             → IsDesk V.meaning d (down_on_desk d point s).windows self.new
             × (down_on_desk d point s ≡ record s { windows = (down_on_desk d point s).windows }) }
+        ensures damage { (d : Desc) (s : State) → IsDesk V.meaning d s.windows self.old → result ≡ Hit.Done
+            → AreStacksAlike d damage.new s.windows (down_on_desk d point s).windows }
+        ensures grown { GrowsIn (moved_rects (windows_of self.old) (point_place (windows_of self.old) point)) damage.old damage.new }
+        ensures unmarked { result ≡ Hit.CloseMark → damage.new ≡ damage.old }
     {
         let Some(place) = place_under(&self.windows.items, point) else {
             return Hit::Done;
         };
         if place > 0 {
-            self.windows.raise(place);
+            self.raise(place, damage);
             return Hit::Done;
         }
         if is_on_close_mark(self.windows.items[place].bounds(), point) {
@@ -96,24 +105,33 @@ impl<V: View> DeskOf<V> {
         }
     }
 
-    /// Brings the rearmost window to the front.
-    pub fn next(&mut self)
-        ensures { (d : Desc) (stack : List OpenWindow) → IsDesk V.meaning d stack self.old
+    /// Brings the rearmost window to the front, and adds what then shows otherwise to the damage.
+    pub fn next(&mut self, damage: &mut Damage)
+        ensures desk { (d : Desc) (stack : List OpenWindow) → IsDesk V.meaning d stack self.old
             → IsDesk V.meaning d (last_first (reverse stack)) self.new }
+        ensures damage { (d : Desc) (stack : List OpenWindow) → IsDesk V.meaning d stack self.old
+            → AreStacksAlike d damage.new stack (last_first (reverse stack)) }
+        ensures grown { GrowsIn (raised_rects (windows_of self.old) (length (windows_of self.old) - 1)) damage.old damage.new }
     {
         if let Some(last) = self.windows.items.len().checked_sub(1) {
-            self.windows.raise(last);
+            self.raise(last, damage);
         }
     }
 
-    /// Closes the front window. Returns its id, or `None` where no window is open.
-    pub fn close_front(&mut self) -> Option<Id>
+    /// Closes the front window, and adds what then shows otherwise to the damage. Returns the window's id, or `None`
+    /// where no window is open.
+    pub fn close_front(&mut self, damage: &mut Damage) -> Option<Id>
         ensures desk { (d : Desc) (s : State) → IsDesk V.meaning d s.windows self.old
             → IsDesk V.meaning d (close_front s.windows s).windows self.new }
         ensures line { (d : Desc) (s : State) → IsDesk V.meaning d s.windows self.old
             → close_front s.windows s ≡ with_close_line result (record s { windows = (close_front s.windows s).windows }) }
+        ensures damage { (d : Desc) (s : State) → IsDesk V.meaning d s.windows self.old
+            → AreStacksAlike d damage.new s.windows (close_front s.windows s).windows }
+        ensures grown { GrowsIn (closed_rects (windows_of self.old)) damage.old damage.new }
     {
         let window = self.windows.remove(0)?;
+        damage.add_with_shadow(window.bounds());
+        self.front_damage(damage);
         Some(window.id())
     }
 

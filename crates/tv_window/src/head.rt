@@ -40,6 +40,13 @@ impl Model for Head {
     ghost invariant = { λ s. IsLimitedWindowHead (record { id = s.id; x = s.x; y = s.y; w = s.w; h = s.h; number = s.number; title = s.title }) };
 }
 
+/// Whether a window's frame looks the same in both environments.
+pub(crate) fn looks_same(old: &Env, new: &Env) -> bool
+    ensures { IsTrue result → (new.now.is_active ≡ old.now.is_active) × (new.now.chain.now ≡ old.now.chain.now) }
+{
+    old.is_active == new.is_active && old.chain.is(new.chain)
+}
+
 impl Head {
     /// Makes the head of a window's node, or returns `None` for another node.
     pub(crate) fn of(node: &Node) -> Option<Head>

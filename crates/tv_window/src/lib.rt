@@ -1,6 +1,7 @@
 //! Windows: frames round groups of views, one over the other, and the open ones of a run.
 #![tactic(auto)]
 
+mod damage;
 mod desk;
 mod head;
 mod places;
