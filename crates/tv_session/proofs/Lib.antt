@@ -5,3 +5,7 @@ pub mod OfferLemmas
 pub mod RunningLemmas
 pub mod ScreenLemmas
 pub mod StartLemmas
+pub mod MarkedLemmas
+pub mod PaintingLemmas
+pub mod ChangedLemmas
+pub mod RepaintLemmas

@@ -1,5 +1,6 @@
 -- What a run's dialogs are where other parts of the state change.
 use Rattle.std.proofs.Common.{false, arith, refl, ◌≡◌, ◌≤◌, List, [], length, Option, Some, None, sym, ap, subst, ◌∙◌}
+use Rattle.tv_cells.specs.declared.rect.Rect.{Rect}
 use Rattle.tv_view.specs.Meaning.{Leaf}
 use Rattle.tv_model.specs.declared.desc.Desc.{Desc}
 use Rattle.tv_model.specs.declared.log.LogLine.{LogLine}
@@ -72,11 +73,11 @@ module _ {V : Type 0} (look : V → Leaf) (d : Desc) where
   no_lines s run a = ap (λ (ls : List LogLine). length ls) (empty_log s run a)
 
   -- a window that was found comes to the front
-  pub run_raised : (s : State) (found : Option OpenWindow) (old mid : RunOf V) (desk : DeskOf V) → IsRun look d s old → mid ≡ old
-      → IsDesk look d (raise_found found s).windows desk → IsRun look d (raise_found found s) (record mid { desk = desk })
-  run_raised s None old mid desk r same is = run_windows s s old (record mid { desk = desk }) r is (ap (λ x. x.dialogs) same) (ap (λ x. x.bar) same) refl refl refl refl
+  pub run_raised : (s : State) (found : Option OpenWindow) (old mid : RunOf V) (desk : DeskOf V) (damage : List Rect) → IsRun look d s old → mid ≡ old
+      → IsDesk look d (raise_found found s).windows desk → IsRun look d (raise_found found s) (record mid { desk = desk; damage = damage })
+  run_raised s None old mid desk damage r same is = run_windows s s old (record mid { desk = desk; damage = damage }) r is (ap (λ x. x.dialogs) same) (ap (λ x. x.bar) same) refl refl refl refl
       (ap (λ x. x.is_over) same ∙ r.over) (ap (λ x. x.log.items) same ∙ r.log)
-  run_raised s (Some w) old mid desk r same is = run_windows s (raise_found (Some w) s) old (record mid { desk = desk }) r is (ap (λ x. x.dialogs) same) (ap (λ x. x.bar) same) refl refl refl refl
+  run_raised s (Some w) old mid desk damage r same is = run_windows s (raise_found (Some w) s) old (record mid { desk = desk; damage = damage }) r is (ap (λ x. x.dialogs) same) (ap (λ x. x.bar) same) refl refl refl refl
       (ap (λ x. x.is_over) same ∙ r.over) (ap (λ x. x.log.items) same ∙ r.log)
 
   -- the log is taken

@@ -1,5 +1,5 @@
 -- The views that are handed in, and the run before its start.
-use Rattle.std.proofs.Common.{◌≡◌, inl, inr, refl, ℕ, zero, suc, ◌+◌, List, [], ◌∷◌, length, Some, None, ap, subst, sym, false}
+use Rattle.std.proofs.Common.{◌≡◌, inl, inr, refl, ℕ, zero, suc, ◌+◌, List, [], ◌∷◌, length, Option, Some, None, ap, subst, sym, false, ◌∙◌}
 use Rattle.std.specs.Prelude.{slice_get}
 use Rattle.std.specs.List.{AllZip}
 use Rattle.tv_view.specs.Meaning.{Leaf}
@@ -9,14 +9,20 @@ use Rattle.tv_window.specs.declared.window.WindowOf.{WindowOf}
 use Rattle.tv_window.specs.Desk.{AreFreshWindows, IsDesk}
 use Rattle.tv_dialogs.specs.Bodies.{AreFreshBodies}
 use Rattle.tv_dialogs.specs.Dialogs.{AreDialogs}
+use Rattle.tv_dialogs.specs.declared.dialogs.DialogsOf.{DialogsOf}
 use Rattle.tv_laws.proofs.RunLemmas.{closed_kept}
 use Rattle.tv_laws.proofs.CommandLemmas.{idle-fit}
 use Rattle.tv_machine.specs.Dialog.Sound.{HasSoundDialogs}
-use Rattle.tv_machine.specs.Session.Start.{closed}
+use Rattle.tv_machine.specs.Session.Start.{closed, start, started_at, started_by}
+use Rattle.tv_machine.specs.Session.Commands.{open_dialog}
 use Rattle.tv_menu.specs.Bar.{IsBarOf, open_of}
 use Rattle.tv_menu.specs.Lawful.{IsLawfulScreen}
+use Rattle.tv_menu.specs.Line.{IsLineOf}
+use Rattle.tv_model.specs.Description.Numbers.{natural}
 use Rattle.tv_session.specs.Freshness.{IsFirstMismatch, IsFirstStale, IsFreshBodyFor, IsFreshFor}
-use Rattle.tv_session.specs.Running.{IsAwake}
+use Rattle.tv_session.specs.Running.{CanPaint, IsAwake, IsRun}
+use Rattle.tv_session.specs.Starting.{CanStart, place_named}
+use Rattle.tv_session.specs.declared.making.Parts.{Parts}
 use Rattle.tv_session.specs.declared.run.RunOf.{RunOf}
 use Rattle.tv_session.proofs.CommandLemmas.{none_some, same_some}
 
@@ -65,3 +71,20 @@ module _ {V : Type 0} (look : V → Leaf) (d : Desc) where
     over = refl;
     empty = refl;
   }
+
+-- the start dialog is the one of that name
+pub started-there : (d : Desc) (place : ℕ) (o : Option (List ℕ)) → Some place ≡ place_named d o → started_by d o ≡ open_dialog d place (closed d)
+started-there d place None is = absurd (none_some place (sym is))
+started-there d place (Some name) is = ap (started_at d) (sym is)
+
+-- the run that has begun may be painted
+pub can-start : {V : Type 0} (look : V → Leaf) (d lent : Desc) (parts : Parts) (windows : List (WindowOf V)) (dialogs : DialogsOf V) (run : RunOf V) → lent ≡ d
+    → CanStart look d parts windows dialogs → IsRun look lent (start lent) run → CanPaint look lent (start lent) run parts.line parts.screen
+can-start look d lent parts windows dialogs run same r ran = record {
+  stands = ran;
+  sound = subst HasSoundDialogs (sym same) r.sound;
+  size = subst (λ x. IsLawfulScreen x.width x.height) (sym same) r.size;
+  is_line = subst (λ x. IsLineOf x parts.line) (sym same) r.line;
+  width = r.width ∙ ap (λ x. natural x.width) (sym same);
+  height = r.height ∙ ap (λ x. natural x.height) (sym same);
+}

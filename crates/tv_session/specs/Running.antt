@@ -1,5 +1,9 @@
 -- A run that stands as the flat machine's does.
-use Rattle.std.specs.Prelude.{◌≡◌, false, []}
+use Rattle.std.specs.Prelude.{◌≡◌, Bool, false, List, []}
+use Rattle.tv_cells.specs.Picture.{Picture}
+use Rattle.tv_cells.specs.Repainting.{AreAlike}
+use Rattle.tv_cells.specs.declared.rect.Rect.{Rect}
+use Rattle.tv_machine.specs.Screen.Layers.{open_layers, stack_layers}
 use Rattle.tv_view.specs.Meaning.{Leaf}
 use Rattle.tv_model.specs.declared.desc.Desc.{Desc}
 use Rattle.tv_machine.specs.State.{State}
@@ -7,6 +11,9 @@ use Rattle.tv_machine.specs.Dialog.Sound.{HasSoundDialogs}
 use Rattle.tv_laws.specs.Runs.{IsFitState}
 use Rattle.tv_menu.specs.Bar.{IsBarOf, open_of}
 use Rattle.tv_menu.specs.Lawful.{IsLawfulScreen}
+use Rattle.tv_menu.specs.Line.{IsLineOf}
+use Rattle.tv_menu.specs.declared.bars.StatusLine.{StatusLine}
+use Rattle.tv_model.specs.Description.Numbers.{natural}
 use Rattle.tv_window.specs.Desk.{IsDesk}
 use Rattle.tv_dialogs.specs.Dialogs.{AreDialogs}
 use Rattle.tv_session.specs.declared.run.RunOf.{RunOf}
@@ -28,3 +35,29 @@ pub record IsAwake {V : Type 0} (look : V → Leaf) (d : Desc) (s : State) (run 
   pub size : IsLawfulScreen d.width d.height
   pub over : s.is_over ≡ false
   pub empty : s.log ≡ []
+
+-- a picture of the screen's size may be painted by a run that stands as the state
+pub record CanPaint {V : Type 0} (look : V → Leaf) (d : Desc) (s : State) (run : RunOf V) (line : StatusLine)
+    (p : Picture) : Type 0 where
+  pub stands : IsRun look d s run
+  pub sound : HasSoundDialogs d
+  pub size : IsLawfulScreen d.width d.height
+  pub is_line : IsLineOf d line
+  pub width : p.width ≡ natural d.width
+  pub height : p.height ≡ natural d.height
+
+-- ---- damage
+
+-- the open dialog and the windows of two states show the same but in the damage
+pub record IsMarked (d : Desc) (since s : State) (damage : List Rect) : Type 0 where
+  pub dialog : (p : Picture)
+      → AreAlike p damage (open_layers d since.overwriting since.dialog) (open_layers d s.overwriting s.dialog)
+  pub windows : (p : Picture) (is_active : Bool)
+      → AreAlike p damage (stack_layers d is_active since.windows) (stack_layers d is_active s.windows)
+
+-- the same of a run that stands as the second state, by the damage that it keeps
+abbrev pub IsRunSince : {V : Type 0} → (V → Leaf) → Desc → State → State → RunOf V → Type 0
+IsRunSince look d since s run = IsRun look d s run × IsMarked d since s run.damage
+
+abbrev pub IsAwakeSince : {V : Type 0} → (V → Leaf) → Desc → State → State → RunOf V → Type 0
+IsAwakeSince look d since s run = IsAwake look d s run × IsMarked d since s run.damage

@@ -10,11 +10,10 @@ ghost use Rattle.tv_dialogs.specs.Handed.{HasPointGiven};
 ghost use Rattle.tv_laws.specs.Steps.{RespectsHold};
 ghost use Rattle.tv_model.specs.Description.Heads.{dialog_head};
 ghost use Rattle.tv_model.specs.Faults.Starts.{is_option_number};
-ghost use Rattle.tv_session.specs.Running.{IsAwake, IsRun};
+ghost use Rattle.tv_session.specs.Running.{IsAwake, IsAwakeSince, IsRunSince};
 
 use crate::log::{note, note_all};
 use crate::run::RunOf;
-use tv_cells::Damage;
 use tv_event::{Command, Event};
 use tv_model::{Desc, Dialog, LogLine};
 use tv_view::View;
@@ -43,8 +42,8 @@ fn dialog_at(desc: &Desc, place: usize) -> Option<&Dialog>
 
 impl<V: View> RunOf<V> {
     fn quit(&mut self)
-        ensures { (d : Declared) (s : State) → IsAwake V.meaning d s self.old
-            → IsRun V.meaning d (logged QuitLine (record s { is_over = true })) self.new }
+        ensures { (d : Declared) (since s : State) → IsAwakeSince V.meaning d since s self.old
+            → IsRunSince V.meaning d since (logged QuitLine (record s { is_over = true })) self.new }
     {
         self.is_over = true;
         note(&mut self.log, LogLine::Quit);
@@ -52,49 +51,49 @@ impl<V: View> RunOf<V> {
 
     // Opens the first menu, if there is one.
     fn open_menu(&mut self)
-        ensures { (d : Declared) (s : State) → IsAwake V.meaning d s self.old → s.menu ≡ None
-            → IsRun V.meaning d (open_first d.menus s) self.new }
+        ensures { (d : Declared) (since s : State) → IsAwakeSince V.meaning d since s self.old → s.menu ≡ None
+            → IsRunSince V.meaning d since (open_first d.menus s) self.new }
     {
         self.bar.open_first();
     }
 
     // Closes the front window, if there is one.
     fn close_window(&mut self)
-        ensures { (d : Declared) (s : State) → IsAwake V.meaning d s self.old → IsRun V.meaning d (close_front s.windows s) self.new }
+        ensures { (d : Declared) (since s : State) → IsAwakeSince V.meaning d since s self.old → IsRunSince V.meaning d since (close_front s.windows s) self.new }
     {
-        if let Some(id) = self.desk.close_front() {
+        if let Some(id) = self.desk.close_front(&mut self.damage) {
             note(&mut self.log, LogLine::Close(id));
         }
     }
 
     // Brings the rearmost window to the front.
     fn next_window(&mut self)
-        ensures { (d : Declared) (s : State) → IsAwake V.meaning d s self.old
-            → IsRun V.meaning d (record s { windows = last_first (reverse s.windows) }) self.new }
+        ensures { (d : Declared) (since s : State) → IsAwakeSince V.meaning d since s self.old
+            → IsRunSince V.meaning d since (record s { windows = last_first (reverse s.windows) }) self.new }
     {
-        self.desk.next();
+        self.desk.next(&mut self.damage);
     }
 
     /// Opens the dialog at a place.
     pub(crate) fn open_dialog(&mut self, desc: &Desc, place: usize)
         requires there { place < length desc.now.dialogs }
         requires awake { (s : State) × IsAwake V.meaning desc.now s self.old × (s.dialog ≡ None) }
-        ensures { (s : State) → IsAwake V.meaning desc.now s self.old → s.dialog ≡ None
-            → IsRun V.meaning desc.now (open_dialog desc.now place s) self.new }
+        ensures { (since s : State) → IsAwakeSince V.meaning desc.now since s self.old → s.dialog ≡ None
+            → IsRunSince V.meaning desc.now since (open_dialog desc.now place s) self.new }
     {
         let Some(dialog) = dialog_at(desc, place) else {
             return;
         };
         note(&mut self.log, LogLine::Open(dialog.node.id));
-        self.dialogs.open(place, &mut Damage::new());
+        self.dialogs.open(place, &mut self.damage);
         note_all(&mut self.log, self.dialogs.log());
     }
 
     // Handles a command of the description's own: opens its dialog, or logs the command.
     fn own_command(&mut self, desc: &Desc, number: u8)
         requires awake { (s : State) × IsAwake V.meaning desc.now s self.old × (s.dialog ≡ None) }
-        ensures { (s : State) → IsAwake V.meaning desc.now s self.old → s.dialog ≡ None
-            → IsRun V.meaning desc.now (own_command desc.now number (opener_of desc.now number) s) self.new }
+        ensures { (since s : State) → IsAwakeSince V.meaning desc.now since s self.old → s.dialog ≡ None
+            → IsRunSince V.meaning desc.now since (own_command desc.now number (opener_of desc.now number) s) self.new }
     {
         match opener_of(desc, number) {
             Some(place) => self.open_dialog(desc, place),
@@ -109,8 +108,8 @@ impl<V: View> RunOf<V> {
     // Handles a command while neither a dialog nor a menu is open.
     fn idle_command(&mut self, desc: &Desc, command: Command)
         requires awake { (s : State) × IsAwake V.meaning desc.now s self.old × (s.dialog ≡ None) }
-        ensures { (s : State) → IsAwake V.meaning desc.now s self.old → s.dialog ≡ None → s.menu ≡ None
-            → IsRun V.meaning desc.now (idle_command desc.now command.0 s) self.new }
+        ensures { (since s : State) → IsAwakeSince V.meaning desc.now since s self.old → s.dialog ≡ None → s.menu ≡ None
+            → IsRunSince V.meaning desc.now since (idle_command desc.now command.0 s) self.new }
     {
         match command {
             Command::QUIT => self.quit(),
@@ -125,18 +124,18 @@ impl<V: View> RunOf<V> {
     pub(crate) fn hand_to_dialog(&mut self, desc: &Desc, event: &Event)
         requires near { HasPointGiven event.now }
         requires awake { (s : State) × IsAwake V.meaning desc.now s self.old }
-        ensures { (s : State) (o : OpenDialog) → IsAwake V.meaning desc.now s self.old → s.dialog ≡ Some o → RespectsHold o.held event.now
-            → IsRun V.meaning desc.now (to_dialog desc.now o event.now s) self.new }
+        ensures { (since s : State) (o : OpenDialog) → IsAwakeSince V.meaning desc.now since s self.old → s.dialog ≡ Some o → RespectsHold o.held event.now
+            → IsRunSince V.meaning desc.now since (to_dialog desc.now o event.now s) self.new }
     {
-        self.dialogs.step(desc, event, &mut Damage::new());
+        self.dialogs.step(desc, event, &mut self.damage);
         note_all(&mut self.log, self.dialogs.log());
     }
 
     /// Handles a command while no menu is open and nothing holds the mouse.
     pub(crate) fn command(&mut self, desc: &Desc, command: Command)
         requires awake { (s : State) × IsAwake V.meaning desc.now s self.old × (held_of s.dialog ≡ None) }
-        ensures { (s : State) → IsAwake V.meaning desc.now s self.old → s.menu ≡ None → held_of s.dialog ≡ None
-            → IsRun V.meaning desc.now (do_command desc.now command.0 s) self.new }
+        ensures { (since s : State) → IsAwakeSince V.meaning desc.now since s self.old → s.menu ≡ None → held_of s.dialog ≡ None
+            → IsRunSince V.meaning desc.now since (do_command desc.now command.0 s) self.new }
     {
         if self.dialogs.is_open() {
             self.hand_to_dialog(desc, &Event::Command(command));

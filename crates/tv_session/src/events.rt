@@ -12,7 +12,8 @@ ghost use Rattle.tv_cells.specs.Layers.{is_in};
 ghost use Rattle.tv_dialogs.specs.Handed.{HasPointGiven, IsPointGiven};
 ghost use Rattle.tv_laws.specs.Runs.{HasSoundDialogs, IsFitState};
 ghost use Rattle.tv_model.specs.Description.Rectangles.{desktop};
-ghost use Rattle.tv_session.specs.Running.{IsAwake, IsRun};
+ghost use Rattle.tv_session.specs.Running.{IsAwake, IsAwakeSince, IsRun, IsRunSince};
+ghost use Rattle.tv_session.specs.Showing.{AreShownAlike};
 
 use crate::paint::desktop;
 use crate::run::RunOf;
@@ -35,8 +36,8 @@ impl<V: View> RunOf<V> {
     // Offers the menu bar a key or a mouse down while no dialog is open. Returns whether the bar took it.
     fn offer_bar(&mut self, desc: &Desc, event: &Event) -> bool
         requires awake { (s : State) × IsAwake V.meaning desc.now s self.old × (s.dialog ≡ None) }
-        ensures takes { (s after : State) → IsAwake V.meaning desc.now s self.old → s.dialog ≡ None → bar_offer desc.now event.now s ≡ Some after
-            → (result ≡ true) × IsRun V.meaning desc.now after self.new }
+        ensures takes { (since s after : State) → IsAwakeSince V.meaning desc.now since s self.old → s.dialog ≡ None → bar_offer desc.now event.now s ≡ Some after
+            → (result ≡ true) × IsRunSince V.meaning desc.now since after self.new }
         ensures leaves { (s : State) → IsAwake V.meaning desc.now s self.old → s.dialog ≡ None → bar_offer desc.now event.now s ≡ None
             → (result ≡ false) × (self.new ≡ self.old) }
     {
@@ -53,22 +54,22 @@ impl<V: View> RunOf<V> {
     // Handles a key while neither a menu nor a dialog is open.
     fn desktop_key(&mut self, desc: &Desc, key: Key)
         requires awake { (s : State) × IsAwake V.meaning desc.now s self.old × (s.dialog ≡ None) }
-        ensures { (s : State) → IsAwake V.meaning desc.now s self.old → s.dialog ≡ None → s.menu ≡ None
-            → IsRun V.meaning desc.now (desktop_key desc.now key s) self.new }
+        ensures { (since s : State) → IsAwakeSince V.meaning desc.now since s self.old → s.dialog ≡ None → s.menu ≡ None
+            → IsRunSince V.meaning desc.now since (desktop_key desc.now key s) self.new }
     {
         if self.offer_bar(desc, &Event::Key(key)) {
             return;
         }
         if let Key::Alt(letter) = key {
-            self.desk.raise_number(letter);
+            self.desk.raise_number(letter, &mut self.damage);
         }
     }
 
     // Handles a key that neither a menu nor the status line takes.
     fn key_below(&mut self, desc: &Desc, key: Key)
         requires awake { (s : State) × IsAwake V.meaning desc.now s self.old }
-        ensures { (s : State) → IsAwake V.meaning desc.now s self.old → s.menu ≡ None
-            → IsRun V.meaning desc.now (key_below desc.now s.dialog key s) self.new }
+        ensures { (since s : State) → IsAwakeSince V.meaning desc.now since s self.old → s.menu ≡ None
+            → IsRunSince V.meaning desc.now since (key_below desc.now s.dialog key s) self.new }
     {
         if self.dialogs.is_open() {
             self.hand_to_dialog(desc, &Event::Key(key));
@@ -80,8 +81,8 @@ impl<V: View> RunOf<V> {
     // Handles a key while no menu is open.
     fn key_at_status(&mut self, desc: &Desc, line: &StatusLine, key: Key)
         requires awake { (s : State) × IsAwake V.meaning desc.now s self.old × (held_of s.dialog ≡ None) }
-        ensures { (s : State) → IsAwake V.meaning desc.now s self.old → s.menu ≡ None → held_of s.dialog ≡ None → IsLineOf desc.now line.now
-            → IsRun V.meaning desc.now (key_at_status desc.now (status_item_of desc.now s key) key s) self.new }
+        ensures { (since s : State) → IsAwakeSince V.meaning desc.now since s self.old → s.menu ≡ None → held_of s.dialog ≡ None → IsLineOf desc.now line.now
+            → IsRunSince V.meaning desc.now since (key_at_status desc.now (status_item_of desc.now s key) key s) self.new }
     {
         match line.offer(&Event::Key(key), self.dialogs.commands()) {
             Offered::Turned(command) => self.command(desc, command),
@@ -92,8 +93,8 @@ impl<V: View> RunOf<V> {
     // Handles a key while nothing holds the mouse.
     fn key(&mut self, desc: &Desc, line: &StatusLine, key: Key)
         requires awake { (s : State) × IsAwake V.meaning desc.now s self.old × (held_of s.dialog ≡ None) }
-        ensures { (s : State) → IsAwake V.meaning desc.now s self.old → held_of s.dialog ≡ None → IsLineOf desc.now line.now
-            → IsRun V.meaning desc.now (key_at_menu desc.now s.menu key s) self.new }
+        ensures { (since s : State) → IsAwakeSince V.meaning desc.now since s self.old → held_of s.dialog ≡ None → IsLineOf desc.now line.now
+            → IsRunSince V.meaning desc.now since (key_at_menu desc.now s.menu key s) self.new }
     {
         if self.bar.is_open() {
             self.offer_bar(desc, &Event::Key(key));
@@ -105,10 +106,10 @@ impl<V: View> RunOf<V> {
     // Handles a mouse down on the topmost window there.
     fn window_down(&mut self, desc: &Desc, point: Point)
         requires awake { (s : State) × IsAwake V.meaning desc.now s self.old × (s.dialog ≡ None) }
-        ensures { (s : State) → IsAwake V.meaning desc.now s self.old → s.dialog ≡ None → s.menu ≡ None
-            → IsRun V.meaning desc.now (down_on_desktop desc.now (window_under desc.now s point) point s) self.new }
+        ensures { (since s : State) → IsAwakeSince V.meaning desc.now since s self.old → s.dialog ≡ None → s.menu ≡ None
+            → IsRunSince V.meaning desc.now since (down_on_desktop desc.now (window_under desc.now s point) point s) self.new }
     {
-        match self.desk.down(point) {
+        match self.desk.down(point, &mut self.damage) {
             Hit::CloseMark => self.command(desc, Command::CLOSE),
             Hit::Done => {}
         }
@@ -117,8 +118,8 @@ impl<V: View> RunOf<V> {
     // Handles a mouse down while neither a menu nor a dialog is open.
     fn desktop_down(&mut self, desc: &Desc, point: Point)
         requires awake { (s : State) × IsAwake V.meaning desc.now s self.old × (s.dialog ≡ None) }
-        ensures { (s : State) → IsAwake V.meaning desc.now s self.old → s.dialog ≡ None → s.menu ≡ None
-            → IsRun V.meaning desc.now (desktop_down desc.now point s) self.new }
+        ensures { (since s : State) → IsAwakeSince V.meaning desc.now since s self.old → s.dialog ≡ None → s.menu ≡ None
+            → IsRunSince V.meaning desc.now since (desktop_down desc.now point s) self.new }
     {
         if self.offer_bar(desc, &Event::Down(point)) {
             return;
@@ -132,8 +133,8 @@ impl<V: View> RunOf<V> {
     fn down_below(&mut self, desc: &Desc, point: Point)
         requires near { IsPointGiven point }
         requires awake { (s : State) × IsAwake V.meaning desc.now s self.old × (held_of s.dialog ≡ None) }
-        ensures { (s : State) → IsAwake V.meaning desc.now s self.old → s.menu ≡ None
-            → IsRun V.meaning desc.now (down_below desc.now s.dialog point s) self.new }
+        ensures { (since s : State) → IsAwakeSince V.meaning desc.now since s self.old → s.menu ≡ None
+            → IsRunSince V.meaning desc.now since (down_below desc.now s.dialog point s) self.new }
     {
         if self.dialogs.is_open() {
             if is_on_desktop(desc, point) {
@@ -148,8 +149,8 @@ impl<V: View> RunOf<V> {
     fn down_at_status(&mut self, desc: &Desc, line: &StatusLine, point: Point)
         requires near { IsPointGiven point }
         requires awake { (s : State) × IsAwake V.meaning desc.now s self.old × (held_of s.dialog ≡ None) }
-        ensures { (s : State) → IsAwake V.meaning desc.now s self.old → s.menu ≡ None → held_of s.dialog ≡ None → IsLineOf desc.now line.now
-            → IsRun V.meaning desc.now (down_at_status desc.now point s) self.new }
+        ensures { (since s : State) → IsAwakeSince V.meaning desc.now since s self.old → s.menu ≡ None → held_of s.dialog ≡ None → IsLineOf desc.now line.now
+            → IsRunSince V.meaning desc.now since (down_at_status desc.now point s) self.new }
     {
         match line.offer(&Event::Down(point), self.dialogs.commands()) {
             Offered::Turned(command) => self.command(desc, command),
@@ -162,8 +163,8 @@ impl<V: View> RunOf<V> {
     fn down(&mut self, desc: &Desc, line: &StatusLine, point: Point)
         requires near { IsPointGiven point }
         requires awake { (s : State) × IsAwake V.meaning desc.now s self.old × (held_of s.dialog ≡ None) }
-        ensures { (s : State) → IsAwake V.meaning desc.now s self.old → held_of s.dialog ≡ None → IsLineOf desc.now line.now
-            → IsRun V.meaning desc.now (down_at_menu desc.now s.menu point s) self.new }
+        ensures { (since s : State) → IsAwakeSince V.meaning desc.now since s self.old → held_of s.dialog ≡ None → IsLineOf desc.now line.now
+            → IsRunSince V.meaning desc.now since (down_at_menu desc.now s.menu point s) self.new }
     {
         if self.bar.is_open() {
             self.offer_bar(desc, &Event::Down(point));
@@ -177,8 +178,8 @@ impl<V: View> RunOf<V> {
     fn free_event(&mut self, desc: &Desc, line: &StatusLine, event: &Event)
         requires near { HasPointGiven event.now }
         requires awake { (s : State) × IsAwake V.meaning desc.now s self.old × (held_of s.dialog ≡ None) }
-        ensures { (s : State) → IsAwake V.meaning desc.now s self.old → held_of s.dialog ≡ None → IsLineOf desc.now line.now
-            → IsRun V.meaning desc.now (step_below desc.now event.now s) self.new }
+        ensures { (since s : State) → IsAwakeSince V.meaning desc.now since s self.old → held_of s.dialog ≡ None → IsLineOf desc.now line.now
+            → IsRunSince V.meaning desc.now since (step_below desc.now event.now s) self.new }
     {
         match event {
             Event::Key(key) => self.key(desc, line, *key),
@@ -191,8 +192,8 @@ impl<V: View> RunOf<V> {
     fn held_event(&mut self, desc: &Desc, event: &Event)
         requires near { HasPointGiven event.now }
         requires awake { (s : State) × IsAwake V.meaning desc.now s self.old }
-        ensures { (s : State) (o : OpenDialog) → IsAwake V.meaning desc.now s self.old → held_of s.dialog ≡ Some o
-            → IsRun V.meaning desc.now (step_held desc.now o event.now s) self.new }
+        ensures { (since s : State) (o : OpenDialog) → IsAwakeSince V.meaning desc.now since s self.old → held_of s.dialog ≡ Some o
+            → IsRunSince V.meaning desc.now since (step_held desc.now o event.now s) self.new }
     {
         match event {
             Event::Move(_) | Event::Up(_) => self.hand_to_dialog(desc, event),
@@ -200,16 +201,17 @@ impl<V: View> RunOf<V> {
         }
     }
 
-    /// Handles one event.
-    pub(crate) fn step(&mut self, desc: &Desc, line: &StatusLine, event: &Event)
+    // Handles one event, but for what bars show.
+    fn handle(&mut self, desc: &Desc, line: &StatusLine, event: &Event)
         requires near { HasPointGiven event.now }
         requires sound { HasSoundDialogs desc.now }
         requires size { IsLawfulScreen desc.now.width desc.now.height }
         requires fit { (s : State) × IsRun V.meaning desc.now s self.old × IsFitState desc.now s }
         ensures { (s : State) → IsRun V.meaning desc.now s self.old → IsFitState desc.now s → IsLineOf desc.now line.now
-            → IsRun V.meaning desc.now (step desc.now s event.now) self.new }
+            → IsRunSince V.meaning desc.now s (step desc.now s event.now) self.new }
     {
         self.log.clear();
+        self.damage.clear();
         if self.is_over {
             return;
         }
@@ -218,5 +220,19 @@ impl<V: View> RunOf<V> {
         } else {
             self.free_event(desc, line, event);
         }
+    }
+
+    /// Handles one event. Afterwards the damage has what the screen shows otherwise.
+    pub(crate) fn step(&mut self, desc: &Desc, line: &StatusLine, event: &Event)
+        requires near { HasPointGiven event.now }
+        requires sound { HasSoundDialogs desc.now }
+        requires size { IsLawfulScreen desc.now.width desc.now.height }
+        requires fit { (s : State) × IsRun V.meaning desc.now s self.old × IsFitState desc.now s }
+        ensures { (s : State) → IsRun V.meaning desc.now s self.old → IsFitState desc.now s → IsLineOf desc.now line.now
+            → IsRun V.meaning desc.now (step desc.now s event.now) self.new × AreShownAlike desc.now s (step desc.now s event.now) self.new.damage }
+    {
+        let before = self.before();
+        self.handle(desc, line, event);
+        self.mark_changes(line, &before);
     }
 }

@@ -1,6 +1,7 @@
 //! A run of a checked description through its views, and its screen.
 #![tactic(auto)]
 
+mod before;
 mod colours;
 mod commands;
 mod events;

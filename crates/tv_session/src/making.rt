@@ -22,7 +22,7 @@ use crate::run::RunOf;
 use crate::session::SessionOf;
 use std::alloc::{AllocError, Global};
 use tv_building::parts_are_lawful;
-use tv_cells::{Screen, ScreenFault};
+use tv_cells::{Damage, Screen, ScreenFault};
 use tv_check::Checked;
 use tv_dialogs::DialogsOf;
 use tv_faces::natural;
@@ -136,6 +136,7 @@ impl<V: View> SessionOf<V> {
         bodies: Vec<GroupOf<V>>,
     ) -> Result<SessionOf<V>, Refused<V>>
         ensures made { IfOk result (λ session. StandsFor V.meaning session (started checked)) }
+        ensures none_repainted { IfOk result (λ session. session.repainted ≡ []) }
         ensures fresh { IfOk result (λ _. IsFirstMismatch V.meaning checked windows.items bodies.items None) }
         ensures mismatch { IfErr result (λ refused. RefusesViews V.meaning checked windows.items bodies.items refused.fault) }
         ensures back { IfErr result (λ refused. (refused.checked ≡ checked) × (refused.windows.items ≡ windows.items) × (refused.bodies.items ≡ bodies.items)) }
@@ -160,6 +161,7 @@ impl<V: View> SessionOf<V> {
     ) -> Result<SessionOf<V>, Refused<V>>
         requires { IsFirstMismatch V.meaning checked windows.items bodies.items None }
         ensures made { IfOk result (λ session. StandsFor V.meaning session (started checked)) }
+        ensures none_repainted { IfOk result (λ session. session.repainted ≡ []) }
         ensures memory { IfErr result (λ refused. refused.fault ≡ NoMemory) }
         ensures back { IfErr result (λ refused. (refused.checked ≡ checked) × (refused.windows.items ≡ windows.items) × (refused.bodies.items ≡ bodies.items)) }
     {
@@ -192,7 +194,8 @@ impl<V: View> SessionOf<V> {
         dialogs: DialogsOf<V>,
     ) -> SessionOf<V>
         requires { CanStart V.meaning checked parts windows.items dialogs }
-        ensures { StandsFor V.meaning result (started checked) }
+        ensures stands { StandsFor V.meaning result (started checked) }
+        ensures none_repainted { result.repainted ≡ [] }
     {
         let mut run = RunOf {
             desk: DeskOf::new(windows),
@@ -201,6 +204,7 @@ impl<V: View> SessionOf<V> {
             is_over: false,
             log: parts.log,
             colours: Colours::new(),
+            damage: Damage::new(),
         };
         let mut screen = parts.screen;
         let desc = checked.desc();
@@ -212,6 +216,7 @@ impl<V: View> SessionOf<V> {
             run,
             screen,
             taken: parts.taken,
+            repainted: Damage::new(),
         }
     }
 }

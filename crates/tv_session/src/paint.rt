@@ -1,19 +1,22 @@
-//! The whole screen, drawn from the back to the front.
+//! The screen, drawn from the back to the front, or painted again where it is damaged.
 
-ghost use Rattle.std.specs.Prelude.{◌≡◌, ◌∷◌, [], ◌-ℤ◌, pos, is_none};
-ghost use Rattle.tv_cells.specs.Layers.{Shows, Lays};
+ghost use Rattle.std.specs.Prelude.{◌≡◌, ◌∷◌, [], ◌-ℤ◌, pos, is_none, List, map};
+ghost use Rattle.tv_cells.specs.Layers.{Layer, Shows, Lays};
 ghost use Rattle.tv_cells.specs.Picture.{IsAlike};
+ghost use Rattle.tv_cells.specs.Repainting.{AreAlike, KeepsRest, clipped, within};
+ghost use Rattle.tv_cells.specs.declared.rect.Rect.{Rect as Region};
 ghost use Rattle.tv_machine.specs.Dialog.Sound.{HasSoundDialogs};
 ghost use Rattle.tv_machine.specs.Screen.Layers.{layers_of, stack_layers};
 ghost use Rattle.tv_machine.specs.State.{State};
 ghost use Rattle.tv_menu.specs.Lawful.{IsLawfulScreen};
 ghost use Rattle.tv_menu.specs.Line.{IsLineOf};
 ghost use Rattle.tv_model.specs.Description.Rectangles.{desktop};
+ghost use Rattle.tv_model.specs.declared.desc.Desc.{Desc as Declared};
 ghost use Rattle.tv_machine.specs.Screen.Bodies.{background_layer, canvas_at, whole_screen};
-ghost use Rattle.tv_session.specs.Running.{IsRun};
+ghost use Rattle.tv_session.specs.Running.{CanPaint, IsRun};
 
 use crate::run::RunOf;
-use tv_cells::{Canvas, Face, Point, Rect, Screen, lay_ground};
+use tv_cells::{Canvas, Damage, Face, Point, Rect, Screen, lay};
 use tv_event::CommandSet;
 use tv_faces::{Background, natural};
 use tv_menu::StatusLine;
@@ -45,41 +48,58 @@ fn desktop_canvas(desc: &Desc) -> Canvas
     }
 }
 
+/// Returns all cells of the description's screen.
+pub(crate) fn whole_screen(desc: &Desc) -> Rect
+    ensures { result ≡ whole_screen desc.now }
+{
+    Rect {
+        a: Point { x: 0, y: 0 },
+        b: Point {
+            x: desc.width,
+            y: desc.height,
+        },
+    }
+}
+
 fn whole_canvas(desc: &Desc) -> Canvas
     ensures { result ≡ canvas_at (whole_screen desc.now) (pos 0) (pos 0) }
 {
     Canvas {
-        clip: Rect {
-            a: Point { x: 0, y: 0 },
-            b: Point {
-                x: desc.width,
-                y: desc.height,
-            },
-        },
+        clip: whole_screen(desc),
         origin: Point { x: 0, y: 0 },
     }
 }
 
-fn draw_background(screen: &mut Screen, desc: &Desc)
-    requires { IsLawfulScreen desc.now.width desc.now.height }
-    ensures size { IsAlike screen.old screen.new }
-    ensures shows { Shows (background_layer desc.now ∷ []) screen.new }
+// The canvas, cut by a rectangle of the screen.
+fn within(rect: Rect, canvas: Canvas) -> Canvas
+    ensures { result ≡ within rect canvas }
 {
-    lay_ground(
+    Canvas {
+        clip: rect.intersect(canvas.clip),
+        origin: canvas.origin,
+    }
+}
+
+fn draw_background(screen: &mut Screen, desc: &Desc, canvas: Canvas)
+    ensures { (r : Region) → canvas ≡ within r (canvas_at (desktop desc.now) (pos 0) (pos 0))
+        → Lays (clipped r (background_layer desc.now) ∷ []) screen.old screen.new }
+{
+    lay(
         screen,
-        desktop_canvas(desc),
+        canvas,
         natural(&desc.width),
         natural(&desc.height),
-        Background.at(0, 0),
+        &Background,
     );
 }
 
 impl<V: View> RunOf<V> {
-    // The front window is active where no dialog is open.
-    fn draw_windows(&self, screen: &mut Screen, desc: &Desc)
-        requires { IsLawfulScreen desc.now.width desc.now.height }
-        ensures { (s : State) → IsRun V.meaning desc.now s self.now
-            → Lays (stack_layers desc.now (is_none s.dialog) s.windows) screen.old screen.new }
+    // Draws the windows through the desktop's canvas, which a rectangle may cut. The front window is active where no
+    // dialog is open.
+    fn draw_windows(&self, screen: &mut Screen, canvas: Canvas)
+        requires { (canvas.origin.x ≡ pos 0) × (canvas.origin.y ≡ pos 0) }
+        ensures { (d : Declared) (s : State) (r : Region) → IsRun V.meaning d s self.now → canvas ≡ within r (canvas_at (desktop d) (pos 0) (pos 0))
+            → Lays (map (clipped r) (stack_layers d (is_none s.dialog) s.windows)) screen.old screen.new }
     {
         let commands = CommandSet::all();
         let env = Env {
@@ -91,22 +111,52 @@ impl<V: View> RunOf<V> {
             default_now: None,
             is_active: !self.dialogs.is_open(),
         };
-        self.desk.draw(screen, desktop_canvas(desc), &env);
+        self.desk.draw(screen, canvas, &env);
     }
 
-    /// Draws the whole screen.
-    pub(crate) fn paint(&self, screen: &mut Screen, desc: &Desc, line: &StatusLine)
+    // Draws what lies in a rectangle of the screen, from the back to the front.
+    fn draw_within(&self, screen: &mut Screen, desc: &Desc, line: &StatusLine, rect: Rect)
         requires screen { IsLawfulScreen desc.now.width desc.now.height }
         requires known { (s : State) × IsRun V.meaning desc.now s self.now }
         ensures { (s : State) → HasSoundDialogs desc.now → IsRun V.meaning desc.now s self.now → IsLineOf desc.now line.now
+            → Lays (map (clipped rect) (layers_of desc.now s)) screen.old screen.new }
+    {
+        let desktop = within(rect, desktop_canvas(desc));
+        let whole = within(rect, whole_canvas(desc));
+        draw_background(screen, desc, desktop);
+        self.draw_windows(screen, desktop);
+        self.dialogs.draw(screen, desc, desktop);
+        self.bar.draw_box(screen, desktop);
+        line.draw(screen, whole, self.dialogs.commands());
+        self.bar.draw(screen, whole);
+    }
+
+    /// Paints the whole screen.
+    pub(crate) fn paint(&self, screen: &mut Screen, desc: &Desc, line: &StatusLine)
+        requires { (s : State) × CanPaint V.meaning desc.now s self.now line.now screen.old }
+        ensures { (s : State) → CanPaint V.meaning desc.now s self.now line.now screen.old
             → IsAlike screen.old screen.new × Shows (layers_of desc.now s) screen.new }
     {
-        let canvas = desktop_canvas(desc);
-        draw_background(screen, desc);
-        self.draw_windows(screen, desc);
-        self.dialogs.draw(screen, desc, canvas);
-        self.bar.draw_box(screen, canvas);
-        line.draw(screen, whole_canvas(desc), self.dialogs.commands());
-        self.bar.draw(screen, whole_canvas(desc));
+        self.draw_within(screen, desc, line, whole_screen(desc));
+    }
+
+    /// Paints again what was damaged. If the screen showed layers that differ from those of the run only in the damage,
+    /// it then shows the run. No other cell changes.
+    pub(crate) fn repaint(
+        &self,
+        screen: &mut Screen,
+        desc: &Desc,
+        line: &StatusLine,
+        damage: &Damage,
+    )
+        requires { (s : State) × CanPaint V.meaning desc.now s self.now line.now screen.old }
+        ensures size { IsAlike screen.old screen.new }
+        ensures shows { (s : State) (before : List Layer) → CanPaint V.meaning desc.now s self.now line.now screen.old → Shows before screen.old
+            → AreAlike screen.old damage.now before (layers_of desc.now s) → Shows (layers_of desc.now s) screen.new }
+        ensures rest { KeepsRest damage.now screen.old screen.new }
+    {
+        for rect in damage.rects() {
+            self.draw_within(screen, desc, line, *rect);
+        }
     }
 }

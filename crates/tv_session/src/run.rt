@@ -2,6 +2,7 @@
 
 use crate::colours::Colours;
 use crate::log::Log;
+use tv_cells::Damage;
 use tv_dialogs::DialogsOf;
 use tv_menu::MenuBar;
 use tv_view::View;
@@ -18,4 +19,6 @@ pub(crate) struct RunOf<V> {
     pub(crate) log: Log,
     /// Those of windows, which stay.
     pub(crate) colours: Colours,
+    /// What the last event changed of what the screen shows.
+    pub(crate) damage: Damage,
 }

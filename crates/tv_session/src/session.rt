@@ -3,16 +3,20 @@
 ghost use Rattle.std.specs.Prelude.{◌≡◌, option_map};
 ghost use Rattle.std.specs.Borrow.{sem};
 ghost use Rattle.std.specs.Io.BufRead.{Rests};
+ghost use Rattle.tv_cells.specs.Damage.{Holds};
+ghost use Rattle.tv_cells.specs.Repainting.{KeepsRest};
+ghost use Rattle.tv_machine.specs.Screen.Bodies.{whole_screen};
 ghost use Rattle.tv_machine.specs.Run.{Session as Standing, quiet, stepped};
 ghost use Rattle.tv_script.specs.Performed.{IsScreenOf};
 ghost use Rattle.tv_dialogs.specs.Handed.{HasPointGiven};
 ghost use Rattle.tv_session.specs.Session.{StandsFor};
 
 use crate::log::Log;
+use crate::paint::whole_screen;
 use crate::run::RunOf;
 use std::mem::swap;
 use tv_building::parts_are_lawful;
-use tv_cells::Screen;
+use tv_cells::{Damage, Rect, Screen};
 use tv_check::Checked;
 use tv_event::Event;
 use tv_menu::StatusLine;
@@ -32,6 +36,8 @@ pub struct SessionOf<V> {
     pub(crate) screen: Screen,
     /// The lines that were taken last, which `take_log` lends.
     pub(crate) taken: Log,
+    /// What of the screen the last event had painted again.
+    pub(crate) repainted: Damage,
 }
 
 /// A session whose views are boxed.
@@ -41,16 +47,32 @@ impl<V: View> SessionOf<V> {
     ghost use Rattle.tv_session.specs.contracts.session.SessionOf.{the_row};
 
     /// Handles one event. Its point is in screen coordinates, at most 10,000 from the origin. Afterwards the log holds
-    /// this event's lines only, and the screen shows what the event left.
+    /// this event's lines only, and the screen shows what the event left. It is painted again where that may be something
+    /// else, and nowhere else.
     pub fn step(&mut self, event: &Event)
         requires near { HasPointGiven event.now }
         requires there { (s : Standing) × StandsFor V.meaning self.old s }
-        ensures { (s : Standing) → StandsFor V.meaning self.old s → StandsFor V.meaning self.new (stepped s event.now) }
+        ensures stands { (s : Standing) → StandsFor V.meaning self.old s → StandsFor V.meaning self.new (stepped s event.now) }
+        ensures rest { KeepsRest self.new.repainted self.old.screen self.new.screen }
+        ensures within { (s : Standing) → StandsFor V.meaning self.old s → Holds (whole_screen s.desc) self.new.repainted }
     {
-        parts_are_lawful(self.checked.desc());
-        self.run.step(self.checked.desc(), &self.line, event);
+        let desc = self.checked.desc();
+        parts_are_lawful(desc);
+        self.run.step(desc, &self.line, event);
+        self.repainted.clear();
+        self.repainted
+            .add_within(&self.run.damage, whole_screen(desc));
         self.run
-            .paint(&mut self.screen, self.checked.desc(), &self.line);
+            .repaint(&mut self.screen, desc, &self.line, &self.repainted);
+    }
+
+    /// Returns the rectangles that the last event had painted again, in screen coordinates. They lie on the screen and may
+    /// overlap. A cell outside them is as before the event. Before the first event there are none, and a second call
+    /// returns the same.
+    pub fn repainted(&self) -> &[Rect]
+        ensures { result.now ≡ self.now.repainted }
+    {
+        self.repainted.rects()
     }
 
     /// Returns the screen after the last event.

@@ -2,7 +2,7 @@ use Rattle.std.proofs.Common.{Bool, if◌then◌else◌, ap, subst, sym, ◌∙�
 use Rattle.tv_event.specs.declared.event.Event.TheVariants as events
 use Rattle.tv_laws.proofs.RunLemmas.{given_down}
 use Rattle.tv_machine.specs.Session.Step.{down_below, to_dialog}
-use Rattle.tv_session.specs.Running.{IsRun}
+use Rattle.tv_session.specs.Running.{IsRunSince}
 use Rattle.tv_session.proofs.CommandLemmas.{none_is, some_is}
 use Rattle.tv_session.proofs.run.RunOf.down_below.Goals as goal
 
@@ -12,26 +12,29 @@ desktop_down-requires g c =
     record { awake = (r.0, r.1, none_is r.0.dialog (sym (c.is_open.ensures c.args.desc.now r.0 r.1.stands.dialogs) ∙ c.if-is_open.false)) }
 
 pub returns-else-is_open : goal.returns-else-is_open
-returns-else-is_open g c = λ s a menu.
+returns-else-is_open g c = λ since s w menu.
+    let a = w.0 in
     let d = c.args.desc.now in
     let none = none_is s.dialog (sym (c.is_open.ensures d s a.stands.dialogs) ∙ c.if-is_open.false) in
-    subst (λ t. IsRun g.V.View.meaning d t c.desktop_down.new.self) (sym (ap (λ o. down_below d o c.args.point s) none)) (c.desktop_down.ensures s a none menu)
+    subst (λ t. IsRunSince g.V.View.meaning d since t c.desktop_down.new.self) (sym (ap (λ o. down_below d o c.args.point s) none)) (c.desktop_down.ensures since s w none menu)
 
 pub returns-then-is_on_desktop : goal.returns-then-is_on_desktop
-returns-then-is_on_desktop g c = λ s a menu.
+returns-then-is_on_desktop g c = λ since s w menu.
+    let a = w.0 in
     let d = c.args.desc.now in
     let p = c.args.point in
     let found = some_is s.dialog (sym (c.is_open.ensures d s a.stands.dialogs) ∙ c.if-is_open.true) in
     let inside = sym c.is_on_desktop.ensures ∙ c.if-is_on_desktop.true in
-    subst (λ t. IsRun g.V.View.meaning d t c.hand_to_dialog.new.self)
+    subst (λ t. IsRunSince g.V.View.meaning d since t c.hand_to_dialog.new.self)
     (sym (ap (λ o. down_below d o p s) found.1 ∙ ap (λ (b : Bool). if b then to_dialog d found.0 (events.Down p) s else s) inside))
-    (c.hand_to_dialog.ensures s found.0 a found.1 (given_down found.0.held p))
+    (c.hand_to_dialog.ensures since s found.0 w found.1 (given_down found.0.held p))
 
 pub returns-else-is_on_desktop : goal.returns-else-is_on_desktop
-returns-else-is_on_desktop g c = λ s a menu.
+returns-else-is_on_desktop g c = λ since s w menu.
+    let a = w.0 in
     let d = c.args.desc.now in
     let p = c.args.point in
     let found = some_is s.dialog (sym (c.is_open.ensures d s a.stands.dialogs) ∙ c.if-is_open.true) in
     let outside = sym c.is_on_desktop.ensures ∙ c.if-is_on_desktop.false in
-    subst (λ t. IsRun g.V.View.meaning d t c.args.self.now)
-    (sym (ap (λ o. down_below d o p s) found.1 ∙ ap (λ (b : Bool). if b then to_dialog d found.0 (events.Down p) s else s) outside)) a.stands
+    subst (λ t. IsRunSince g.V.View.meaning d since t c.args.self.now)
+    (sym (ap (λ o. down_below d o p s) found.1 ∙ ap (λ (b : Bool). if b then to_dialog d found.0 (events.Down p) s else s) outside)) (a.stands, w.1)

@@ -4,10 +4,12 @@ use Rattle.tv_model.specs.declared.log.LogLine.{LogLine}
 use Rattle.tv_model.specs.declared.log.LogLine.TheVariants as lines
 use Rattle.tv_dialogs.proofs.SessionLemmas.{open-aside}
 use Rattle.tv_session.proofs.RunningLemmas.{empty_log, of_run, run_dialogs, short_log}
+use Rattle.tv_session.proofs.MarkedLemmas.{marked-dialog}
 use Rattle.tv_session.proofs.run.RunOf.open_dialog.Goals as goal
 
 pub returns : goal.returns
-returns g c = λ s a none.
+returns g c = λ since s w none.
+    let a = w.0 in
     let d = c.args.desc.now in
     let look = g.V.View.meaning in
     let aside = open-aside d c.args.place s in
@@ -16,9 +18,11 @@ returns g c = λ s a none.
     let one : length c.note.new.log.items ≡ 1 =
     ap (λ (ls : List LogLine). length ls) (noted ∙ ap (λ ls. ls ++ lines.Open c.in-Some.dialog.now.node.id ∷ []) (empty_log look d s c.args.self.now a)) in
     let few = c.log.ensures.few in
+    let stands =
     run_dialogs look d s (open_dialog d c.args.place s) c.args.self.now _ a.stands (c.open.ensures.dialogs d s run) refl refl
     aside.menu aside.windows (a.stands.over ∙ sym aside.over)
     (c.note_all.ensures (omega (arith, one, few)) ∙ ap (λ ls. ls ++ c.log.result.now) (noted ∙ ap (λ ls. ls ++ lines.Open c.in-Some.dialog.now.node.id ∷ []) a.stands.log)
     ∙ append_assoc s.log (lines.Open c.in-Some.dialog.now.node.id ∷ []) c.log.result.now
     ∙ ap (λ ls. s.log ++ lines.Open c.in-Some.dialog.now.node.id ∷ ls) c.log.ensures.lines
-    ∙ sym (c.open.ensures.log d s c.in-Some.dialog.now run (sym c.in-Some.ensures)))
+    ∙ sym (c.open.ensures.log d s c.in-Some.dialog.now run (sym c.in-Some.ensures))) in
+    (stands, marked-dialog d since s (open_dialog d c.args.place s) c.args.self.now.damage c.open.new.damage w.1 c.open.ensures.kept (c.open.ensures.damage d s none run) aside.windows)

@@ -1,29 +1,41 @@
-use Rattle.std.proofs.Common.{subst, sym, ◌∙◌}
-use Rattle.tv_laws.specs.Runs.{IsFitState}
-use Rattle.tv_laws.proofs.RunLemmas.{runs-fit}
-use Rattle.tv_machine.specs.Dialog.Sound.{HasSoundDialogs}
+use Rattle.std.proofs.Common.{subst, ◌∙◌}
+use Rattle.tv_cells.specs.Damage.{HasWithin, Holds}
+use Rattle.tv_machine.specs.Screen.Bodies.{whole_screen}
+use Rattle.tv_machine.specs.Screen.Layers.{layers_of}
 use Rattle.tv_machine.specs.Session.Step.{step}
-use Rattle.tv_menu.specs.Line.{IsLineOf}
-use Rattle.tv_session.specs.Running.{IsRun}
-use Rattle.tv_session.proofs.ScreenLemmas.{shown_again}
+use Rattle.tv_session.proofs.RepaintLemmas.{can-repaint, held-screen, shown-alike, shown-before, stands-again, stepped-run}
 use Rattle.tv_session.proofs.session.SessionOf.step.Goals as goal
 
-pub returns : goal.returns
-returns g c = λ s r.
+pub repaint-requires : goal.repaint-requires
+repaint-requires g c =
     let look = g.V.View.meaning in
+    let s = c.requires.there.0 in
+    let r = c.requires.there.1 in
+    let old = c.args.self.now in
+    let d = c.desc-desc.result.now in
     let e = c.args.event.now in
-    let sound = subst HasSoundDialogs (c.desc.ensures.value ∙ r.desc) c.desc.ensures.sound_dialogs in
-    let lent = c.desc-2.ensures.value ∙ r.desc in
-    let ran = subst (λ d. IsRun look d (step d s.state e) c.step.new.self) lent
-    (c.step.ensures s.state (subst (λ d. IsRun look d s.state c.args.self.now.run) (sym lent) r.run) (subst (λ d. IsFitState d s.state) (sym lent) r.fit)
-    (subst (λ d. IsLineOf d c.args.self.now.line) (sym lent) r.line)) in
-    let shown = c.desc-3.ensures.value ∙ r.desc in
-    record {
-      desc = r.desc;
-      run = ran;
-      line = r.line;
-      fit = runs-fit s.desc sound s.state e r.fit;
-      screen = shown_again s.desc c.desc-3.result.now s.state (step s.desc s.state e) c.args.self.now.screen c.paint.new.screen shown r.screen
-          (c.paint.ensures (step s.desc s.state e) (subst HasSoundDialogs (sym shown) sound) (subst (λ d. IsRun look d (step s.desc s.state e) c.step.new.self) (sym shown) ran)
-          (subst (λ d. IsLineOf d c.args.self.now.line) (sym shown) r.line));
-    }
+    let lent = c.desc-desc.ensures.value in
+    let ran = stepped-run look old s d e c.step.new.self lent r c.step.ensures in
+    (step d s.state e, can-repaint look old s d e c.step.new.self lent r c.desc-desc.ensures.sound_dialogs c.parts_are_lawful.ensures.screen ran.0)
+
+pub returns-clause-stands : goal.returns-clause-stands
+returns-clause-stands g c = λ s r.
+    let look = g.V.View.meaning in
+    let old = c.args.self.now in
+    let d = c.desc-desc.result.now in
+    let e = c.args.event.now in
+    let run = c.step.new.self in
+    let lent = c.desc-desc.ensures.value in
+    let sound = c.desc-desc.ensures.sound_dialogs in
+    let ran = stepped-run look old s d e run lent r c.step.ensures in
+    let can = can-repaint look old s d e run lent r sound c.parts_are_lawful.ensures.screen ran.0 in
+    let whole = subst (λ q. HasWithin q run.damage c.add_within.new.self) c.whole_screen.ensures c.add_within.ensures.added in
+    let alike = shown-alike d s.state (step d s.state e) run.damage c.add_within.new.self old.screen can.size can.width can.height whole ran.1 in
+    stands-again look old s d e run lent r c.repaint.new.screen c.add_within.new.self sound ran.0 c.repaint.ensures.size
+    (c.repaint.ensures.shows (step d s.state e) (layers_of d s.state) can (shown-before look old s d e run lent r) alike)
+
+pub returns-clause-within : goal.returns-clause-within
+returns-clause-within g c = λ s r.
+    subst (λ d. Holds (whole_screen d) c.add_within.new.self) (c.desc-desc.ensures.value ∙ r.desc)
+    (subst (λ q. Holds q c.add_within.new.self) c.whole_screen.ensures
+    (held-screen c.whole_screen.result c.clear.new.self c.add_within.new.self c.clear.ensures c.add_within.ensures.grown))
