@@ -1,4 +1,4 @@
-//! How long a session takes over keys and full repaints, on a screen of 80 by 25 with one large dialog of boxed views.
+//! How long a session takes over keys, and over events with which it does nothing, on a screen of 80 by 25 with one large dialog of boxed views.
 
 mod form;
 mod measure;

@@ -29,8 +29,8 @@ shot 30 12
 ",
 };
 
-// A status line, and nothing else.
-const STATUS_ALONE: Run = Run {
+/// A status line, and nothing else.
+pub const STATUS_ALONE: Run = Run {
     desc: r#"tvd 1
 screen 20 10
 status "j" Alt-H no
@@ -118,8 +118,8 @@ colors 20 10
 "#,
 };
 
-// A menu over a dialog of labels.
-const MENU_OVER_LABELS: Run = Run {
+/// A menu over a dialog of labels.
+pub const MENU_OVER_LABELS: Run = Run {
     desc: r#"tvd 1
 screen 20 10
 start box1

@@ -104,8 +104,8 @@ const CHECKS_LOGS: [(&str, &str); 2] = [
     ),
 ];
 
-// Buttons, one of which a rule shows, a list and an input.
-const HIDDEN_DEFAULT: Run = Run {
+/// Buttons, one of which a rule shows, a list and an input.
+pub const HIDDEN_DEFAULT: Run = Run {
     desc: r#"tvd 1
 screen 33 18
 start b1

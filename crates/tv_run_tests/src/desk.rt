@@ -28,8 +28,8 @@ const CLOSING_LOGS: [(&str, &str); 2] = [
     ("down 3 1; down 3 1", "close one"),
 ];
 
-// Three windows that reach over the edges, and menus without items of their own.
-const THREE_WINDOWS: Run = Run {
+/// Three windows that reach over the edges, and menus without items of their own.
+pub const THREE_WINDOWS: Run = Run {
     desc: r#"tvd 1
 screen 34 19
 menu "~3~"

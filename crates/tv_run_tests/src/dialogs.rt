@@ -31,7 +31,8 @@ const CLOSED_ALL_THE_TIME: Run = Run {
     wanted: "",
 };
 
-const TWO_BUTTONS: &str = r#"tvd 1
+/// A button that cancels the dialog, and one below it.
+pub const TWO_BUTTONS: &str = r#"tvd 1
 screen 20 10
 start a
 dialog a 2 2 14 4 "Q" ends cancel

@@ -3,8 +3,8 @@
 use crate::running::{Run, expect_runs};
 use std::test::Fail;
 
-// An input of any text, and a button in a pane.
-const FILLED_INPUT: Run = Run {
+/// An input of any text, and a button in a pane.
+pub const FILLED_INPUT: Run = Run {
     desc: r#"tvd 1
 screen 20 10
 start b1
@@ -146,8 +146,8 @@ colors 20 10
 "#,
 };
 
-// Inputs of ranges, one of which a mark shows.
-const RANGES: Run = Run {
+/// Inputs of ranges, one of which a mark shows.
+pub const RANGES: Run = Run {
     desc: r#"tvd 1
 screen 20 10
 start b1

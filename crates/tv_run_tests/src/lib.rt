@@ -31,6 +31,8 @@ mod fields;
 #[cfg(test)]
 mod fitting;
 #[cfg(test)]
+mod kept_screen;
+#[cfg(test)]
 mod large;
 #[cfg(test)]
 mod lists;
@@ -52,6 +54,8 @@ mod panes;
 mod pieces;
 #[cfg(test)]
 mod probes;
+#[cfg(test)]
+mod repainted;
 #[cfg(test)]
 mod running;
 #[cfg(test)]

@@ -8,6 +8,7 @@ use std::test::Fail;
 use tv_check::Checked;
 use tv_io::{FileReader, Reader, Writer};
 use tv_program::{PlayFault, run};
+use tv_session::Session;
 use tv_test_support::Memory;
 
 /// A run: what is read, and what is written.
@@ -39,9 +40,20 @@ pub fn run_on<R: Reader, W: Writer>(
     journal: Option<&Rc<Journal>>,
     out: &mut W,
 ) -> Result<(), PlayFault> {
-    let make = move |alloc: Global, checked: &Checked| views(alloc, checked, journal);
-    run(alloc, desc.as_bytes(), script, &make, out)?;
+    play_on(alloc, desc, script, journal, out)?;
     Ok(())
+}
+
+// The same, and hands back the session as the script left it.
+fn play_on<R: Reader, W: Writer>(
+    alloc: Global,
+    desc: &str,
+    script: &mut R,
+    journal: Option<&Rc<Journal>>,
+    out: &mut W,
+) -> Result<Session, PlayFault> {
+    let make = move |alloc: Global, checked: &Checked| views(alloc, checked, journal);
+    run(alloc, desc.as_bytes(), script, &make, out)
 }
 
 // More than any of these runs writes.
@@ -52,6 +64,16 @@ pub fn ran(alloc: Global, desc: &str, script: &str) -> Result<Memory, Fail> {
     let mut out = Memory::new(alloc, ROOM, ROOM)?;
     match run_into(alloc, desc, script, None, &mut out) {
         Ok(()) => Ok(out),
+        Err(fault) => Err(Fail::new(format_args!("{fault:?} in {script}"))),
+    }
+}
+
+/// The session that a script leaves, run on a description over boxed controls.
+pub fn played(alloc: Global, desc: &str, script: &str) -> Result<Session, Fail> {
+    let mut reader = FileReader::new(script.as_bytes());
+    let mut out = Memory::new(alloc, ROOM, ROOM)?;
+    match play_on(alloc, desc, &mut reader, None, &mut out) {
+        Ok(session) => Ok(session),
         Err(fault) => Err(Fail::new(format_args!("{fault:?} in {script}"))),
     }
 }

@@ -3,8 +3,8 @@
 use crate::running::{Run, expect_runs};
 use std::test::Fail;
 
-// Five windows, some of them off the screen, and `quit`.
-const FIVE_WINDOWS: Run = Run {
+/// Five windows, some of them off the screen, and `quit`.
+pub const FIVE_WINDOWS: Run = Run {
     desc: r#"tvd 1
 screen 35 12
 menu "~D~"

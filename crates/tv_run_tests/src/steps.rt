@@ -50,7 +50,8 @@ fn handed(dialog: &Dialog, event: &Event) -> Event {
     }
 }
 
-fn step(dialog: &mut Dialog, declared: &Declared, event: &Event) -> Result<(), Fail> {
+/// Hands the open dialog an event, whose point is in screen coordinates. F2 is `ok`, where that is enabled.
+pub fn step(dialog: &mut Dialog, declared: &Declared, event: &Event) -> Result<(), Fail> {
     if !dialog.is_open() {
         return Err("the dialog isn't open".into());
     }

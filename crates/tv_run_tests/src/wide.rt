@@ -3,8 +3,8 @@
 use crate::running::{Run, expect_runs};
 use std::test::Fail;
 
-// A pane with check boxes and a list, beside other controls.
-const PANE_OF_LISTS: Run = Run {
+/// A pane with check boxes and a list, beside other controls.
+pub const PANE_OF_LISTS: Run = Run {
     desc: r#"tvd 1
 screen 52 12
 start box3
@@ -119,8 +119,8 @@ colors 52 12
 "#,
 };
 
-// Inputs that marks show, over windows that leave the screen.
-const SHOWN_INPUTS: Run = Run {
+/// Inputs that marks show, over windows that leave the screen.
+pub const SHOWN_INPUTS: Run = Run {
     desc: r#"tvd 1
 screen 55 14
 start b4

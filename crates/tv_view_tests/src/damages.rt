@@ -84,16 +84,29 @@ fn rectangles_are_half_open(rt: HostRuntime) -> Result<(), Fail> {
     expect_points(&damage_of(&overlapping), &overlapping)
 }
 
-// A point of the line from the lower left of a square to the upper right.
-fn cell(x: i32) -> Rect {
-    let y = 39i32.saturating_sub(x);
+// One of forty cells on the line from the lower left of a square to the upper right, too far apart to be merged.
+fn cell(place: i32) -> Rect {
+    let x = place.saturating_mul(7);
+    let y = 273i32.saturating_sub(x);
     rect(x, y, x.saturating_add(1), y.saturating_add(1))
+}
+
+// A rectangle beside another, or across it, becomes one with it where that takes few cells more.
+#[test]
+fn neighbours_are_merged(rt: HostRuntime) -> Result<(), Fail> {
+    let row = damage_of(&[rect(4, 4, 14, 5), rect(4, 3, 14, 4)]);
+    assert_eq!(rt; row.rects(), &[rect(4, 3, 14, 5)]);
+    let window = damage_of(&[rect(2, 2, 16, 6), rect(4, 3, 18, 7)]);
+    assert_eq!(rt; window.rects(), &[rect(2, 2, 18, 7)]);
+    let apart = damage_of(&[rect(0, 0, 20, 1), rect(0, 20, 20, 21)]);
+    assert_eq!(rt; apart.rects().len(), 2);
+    Ok(())
 }
 
 // Where there is no room for another rectangle, all points are there still, and none outside their hull.
 #[test]
 fn more_than_sixteen(rt: HostRuntime) -> Result<(), Fail> {
-    let hull = rect(0, 0, 40, 40);
+    let hull = rect(0, 0, 280, 280);
     let mut damage = Damage::new();
     for x in 0..40 {
         damage.add(cell(x));
@@ -112,20 +125,20 @@ fn more_than_sixteen(rt: HostRuntime) -> Result<(), Fail> {
 #[test]
 fn from_another(rt: HostRuntime) -> Result<(), Fail> {
     let old = rect(0, 0, 1, 1);
-    let inner = damage_of(&[rect(-2, -2, 3, 3), rect(8, 1, 30, 2), rect(0, 9, 9, 12)]);
+    let inner = damage_of(&[rect(-2, -2, 3, 3), rect(8, 12, 30, 13), rect(0, 19, 9, 22)]);
     let mut framed = damage_of(&[old]);
-    framed.add_within(&inner, rect(10, 5, 20, 10));
-    expect_points(&framed, &[old, rect(10, 5, 13, 8), rect(18, 6, 20, 7)])?;
+    framed.add_within(&inner, rect(10, 5, 20, 20));
+    expect_points(&framed, &[old, rect(10, 5, 13, 8), rect(18, 17, 20, 18)])?;
     if !are_near(&inner) {
         return Err("far rectangles".into());
     }
     let mut moved = damage_of(&[old]);
-    moved.add_all(&inner, Point { x: 5, y: -3 });
+    moved.add_all(&inner, Point { x: 15, y: 7 });
     let all = [
         old,
-        rect(3, -5, 8, 0),
-        rect(13, -2, 35, -1),
-        rect(5, 6, 14, 9),
+        rect(13, 5, 18, 10),
+        rect(23, 19, 45, 20),
+        rect(15, 26, 24, 29),
     ];
     expect_points(&moved, &all)?;
     moved.clear();

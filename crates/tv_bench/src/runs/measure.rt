@@ -1,4 +1,4 @@
-//! Keys and repaints of a session.
+//! Keys of a session, and events with which it does nothing.
 
 ghost use Rattle.std.specs.Prelude.{All};
 ghost use Rattle.tv_dialogs.specs.Handed.{HasPointGiven};
@@ -18,8 +18,8 @@ use tv_view::View;
 /// How often the keys are handed to the session.
 const ROUNDS: u32 = 2_000;
 
-/// How often the screen is painted where nothing has changed.
-const REPAINTS: u32 = 20_000;
+/// How often an event is handed to the session with which it does nothing.
+const IDLE_ROUNDS: u32 = 20_000;
 
 /// The focus goes on by four controls, and what it passes is typed into, pressed and moved in.
 const KEYS: [Event; 16] = [
@@ -41,7 +41,7 @@ const KEYS: [Event; 16] = [
     Event::Key(Key::ShiftTab),
 ];
 
-/// A broadcast from outside, with which a session does nothing.
+/// A broadcast from outside, with which a session does nothing: no cell is painted again.
 const IDLE: [Event; 1] = [Event::Broadcast(Command::DEFAULT)];
 
 fn play<V: View>(session: &mut SessionOf<V>, events: &[Event], rounds: u32)
@@ -79,15 +79,15 @@ fn measure_events<V: View, R: Clock + Eprint>(
     Ok(())
 }
 
-// Prints how many keys a second the session handles, and how often it paints the screen.
+// Prints how many keys a second the session handles and draws, and how many events with which it does nothing.
 fn measure<V: View, R: Clock + Eprint>(rt: &R, session: &mut SessionOf<V>) -> Result<()>
     requires { (s : Standing) × StandsFor V.meaning session.old s }
 {
     measure_events(rt, session, "keys", &KEYS, ROUNDS)?;
-    measure_events(rt, session, "repaints", &IDLE, REPAINTS)
+    measure_events(rt, session, "idle events", &IDLE, IDLE_ROUNDS)
 }
 
-/// Prints how many keys a second a session of these views handles, and how often it paints the screen.
+/// Prints how many keys a second a session of these views handles and draws, and how many events with which it does nothing.
 pub fn measure_form<V: View, R: Clock + Eprint>(
     rt: &R,
     alloc: Global,
