@@ -1,5 +1,5 @@
 -- The toolkit's palettes.
-use Rattle.std.specs.Prelude.{ℕ, List, [], ◌∷◌}
+use Rattle.std.specs.Prelude.{◌≡◌, ℕ, List, [], ◌∷◌, Option, Some, None}
 use Rattle.tv_palette.specs.Chain.{attr_of}
 use Rattle.tv_palette.specs.declared.role.Owner.{Owner}
 use Rattle.tv_palette.specs.declared.role.Owner.TheVariants as owners
@@ -94,3 +94,8 @@ owner_palettes (roles.List role) = dialog ∷ application ∷ []
 -- the attribute of a role, for a view whose owners have these palettes
 abbrev pub colour_in : List (List ℕ) → Role → ℕ
 colour_in owners role = attr_of (palette_of role ∷ owners) (place_of role)
+
+-- the chain of what a window or a dialog owns, where it is known whose it is
+abbrev pub IsOwned : Option Owner → List (List ℕ) → Type 0
+IsOwned None chain = Unit {0}
+IsOwned (Some owner) chain = chain ≡ owners_of_part owner

@@ -6,6 +6,7 @@ ghost use Rattle.tv_palette.specs.Entries.{entries_of};
 ghost use Rattle.tv_palette.specs.Palettes.{application, window, dialog};
 
 use crate::palette::Palette;
+use crate::role::Owner;
 use arrayvec::ArrayVec;
 use std::marker::Model;
 
@@ -15,18 +16,21 @@ pub struct Chain {
     palettes: ArrayVec<Palette, 16>,
     /// What each number becomes along them, so that no look-up goes through them again.
     attrs: [u8; 256],
+    /// Whose views it is of, where those are a window's or a dialog's, so that two such chains are compared at once.
+    owner: Option<Owner>,
 }
 
 impl Model for Chain {
     ghost use Rattle.std.specs.Prelude.{ℕ, List, length, ◌≤◌};
     ghost use Rattle.tv_palette.specs.Chain.{IsLookUp};
+    ghost use Rattle.tv_palette.specs.Palettes.{IsOwned};
     ghost use Rattle.tv_palette.specs.Entries.{entries_of};
 
     ghost Value = { List (List ℕ) };
 
     ghost view = { λ c. entries_of c.palettes.items };
 
-    ghost invariant = { λ c. (length c.palettes.items ≤ 16) × IsLookUp (entries_of c.palettes.items) c.attrs };
+    ghost invariant = { λ c. (length c.palettes.items ≤ 16) × IsLookUp (entries_of c.palettes.items) c.attrs × IsOwned c.owner (entries_of c.palettes.items) };
 }
 
 impl Chain {
@@ -41,6 +45,7 @@ impl Chain {
         Chain {
             palettes: ArrayVec::new(),
             attrs,
+            owner: None,
         }
     }
 
@@ -48,18 +53,22 @@ impl Chain {
     pub fn of_window() -> Chain
         ensures { result ≡ window ∷ application ∷ [] }
     {
-        Chain::new()
+        let mut chain = Chain::new()
             .extended(Palette::application())
-            .extended(Palette::window())
+            .extended(Palette::window());
+        chain.owner = Some(Owner::Window);
+        chain
     }
 
     /// Makes the chain of what a dialog owns.
     pub fn of_dialog() -> Chain
         ensures { result ≡ dialog ∷ application ∷ [] }
     {
-        Chain::new()
+        let mut chain = Chain::new()
             .extended(Palette::application())
-            .extended(Palette::dialog())
+            .extended(Palette::dialog());
+        chain.owner = Some(Owner::Dialog);
+        chain
     }
 
     /// Whether there are 16 palettes, and so no room for another.
@@ -83,13 +92,20 @@ impl Chain {
         for (index, attr) in attrs.iter_mut().enumerate() {
             *attr = self.attr(own.entry(index as u8));
         }
-        Chain { palettes, attrs }
+        Chain {
+            palettes,
+            attrs,
+            owner: None,
+        }
     }
 
     /// Whether the two chains have the same palettes.
     pub fn is(&self, other: &Chain) -> bool
         ensures { IsTrue result ↔ (self.now ≡ other.now) }
     {
+        if self.owner.is_some() && self.owner == other.owner {
+            return true;
+        }
         are_same(self.palettes.as_slice(), other.palettes.as_slice())
     }
 
