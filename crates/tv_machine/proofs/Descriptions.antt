@@ -24,15 +24,15 @@ use Rattle.tv_model.specs.declared.desc.Window.{Window}
 -- ---- declarations
 
 -- a view by its line, the panes around it, its corner, its width and what it is
-abbrev view : (line depth x y w : ℕ) → Kind → Node
+abbrev pub view : (line depth x y w : ℕ) → Kind → Node
 view line depth x y w kind = record { id = record { 0 = line }; depth = depth; x = pos x; y = pos y; w = pos w; kind = kind }
 
 -- a text whose first letter is its shortcut
-abbrev marked : String → MarkedText
+abbrev pub marked : String → MarkedText
 marked text = record { text = codes text; mark = Some 0 }
 
 -- a button that isn't the default and grabs nothing
-abbrev button : String → String → CommandSpec → Kind
+abbrev pub button : String → String → CommandSpec → Kind
 button name text command = kinds.Button (record { name = codes name; text = marked text; command = command; is_default = false; grabs = false })
 
 -- the default button of `ok`
@@ -53,11 +53,11 @@ input start domain = kinds.Input (record {
 })
 
 -- a rule by its line
-abbrev rule : ℕ → Effect → String → ℕ → Rule
+abbrev pub rule : ℕ → Effect → String → ℕ → Rule
 rule line effect cluster item = record { id = record { 0 = line }; effect = effect; cluster = codes cluster; item = pos item }
 
 -- a dialog `d` of 24 columns and 8 rows, which the command 100 opens and `ok` and `cancel` end
-abbrev dialog : ℕ → List Node → List Rule → Dialog
+abbrev pub dialog : ℕ → List Node → List Rule → Dialog
 dialog line views rules = record {
   node = view line 0 1 1 24 (kinds.Dialog (record {
     name = codes "d";
@@ -76,7 +76,7 @@ abbrev open_key : StatusItem
 open_key = record { id = record { 0 = 4 }; text = codes "F3 Open"; key = keys.Function 3; command = commands.Number (pos 100) }
 
 -- a screen of 30 columns and 12 rows with one dialog, which is open at the start
-abbrev one_dialog : Dialog → Desc
+abbrev pub one_dialog : Dialog → Desc
 one_dialog d = record {
   version = One;
   width = pos 30;
@@ -170,3 +170,7 @@ two_windows = record {
   windows = window 3 1 1 16 4 "one" ∷ window 5 8 3 14 4 "two" ∷ [];
   dialogs = [];
 }
+
+-- a menu above them
+abbrev pub windows_under_menu : Desc
+windows_under_menu = record two_windows { menus = file_menu ∷ [] }

@@ -1,4 +1,5 @@
 pub mod Descriptions
+pub mod DragExamples
 pub mod LeafLemmas
 pub mod ListLemmas
 pub mod MarkLemmas

@@ -1,6 +1,7 @@
 -- What holds at the start of a run and after each event.
 use Rattle.std.specs.Prelude.{◌≡◌, ◌≤◌, ℕ, Bool, false, true, List, map, filter, length, slice_get, Option}
-use Rattle.std.specs.Prelude.{Some, None, All, is_some}
+use Rattle.std.specs.Prelude.{Some, None, All, is_some, ℤ, pos, ◌+ℤ◌, ◌-ℤ◌, ◌≤ℤ◌, ◌<ℤ◌, [], ◌∷◌, option_map}
+use Rattle.tv_cells.specs.declared.rect.Point.{Point}
 use Rattle.tv_event.specs.declared.event.Event.{Event}
 use Rattle.tv_valid.specs.declared.domain.Domain.{Domain}
 use Rattle.tv_valid.specs.Domain.{IsViableText, InDomain}
@@ -18,10 +19,11 @@ use Rattle.tv_model.specs.declared.log.LogLine.TheVariants as lines
 use Rattle.tv_model.specs.Description.Commands.{is_end}
 use Rattle.tv_model.specs.Description.Heads.{dialog_head}
 use Rattle.tv_model.specs.Description.Nodes.{node_of}
+use Rattle.tv_model.specs.Description.Rectangles.{corner_of}
 use Rattle.tv_model.specs.Controls.Contents.{Content, text_of}
 use Rattle.tv_model.specs.Log.Record.{Entries}
 use Rattle.tv_machine.specs.Controls.Declared.{declared_value}
-use Rattle.tv_machine.specs.State.{State, OpenDialog, Held}
+use Rattle.tv_machine.specs.State.{State, OpenDialog, OpenWindow, Held, HeldFrame}
 use Rattle.tv_model.specs.Controls.Private.{Private}
 use Rattle.tv_model.specs.Kinds.InputLine.{cursor_of}
 use Rattle.tv_machine.specs.Leaves.{PlacedNode, leaf_list}
@@ -29,7 +31,8 @@ use Rattle.tv_machine.specs.Dialog.Rules.{content_held, is_among, is_visible, is
 use Rattle.tv_machine.specs.Dialog.Modal.{leaf_at}
 use Rattle.tv_machine.specs.Dialog.Focus.{is_free_at}
 use Rattle.tv_machine.specs.Session.Commands.{overwriting_at}
-use Rattle.tv_machine.specs.Session.Step.{step}
+use Rattle.tv_machine.specs.Screen.Bodies.{window_of}
+use Rattle.tv_machine.specs.Session.Step.{held_of, step}
 use Rattle.tv_machine.specs.Session.Start.{start}
 use Rattle.tv_machine.specs.Output.{states}
 
@@ -81,7 +84,19 @@ abbrev pub IsSafeLeaf : State → OpenDialog → PlacedNode → Type 0
 IsSafeLeaf s o leaf =
     IsSafeContent leaf.node.kind (content_held o.leaves (overwriting_at s o.place) leaf.node.id)
 
--- the open dialog is one of the description, with its leaves in order; its focus is free, and no menu is open
+-- the top row of a frame with this corner and width has a cell on the desktop
+pub record HasTopCell (d : Desc) (corner : Point) (width : ℤ) : Type 0 where
+  pub row : (pos 1 ≤ℤ corner.y) × (corner.y ≤ℤ (d.height -ℤ pos 2))
+  pub column : ℤ
+  pub on_screen : (pos 0 ≤ℤ column) × (column <ℤ d.width)
+  pub in_frame : (corner.x ≤ℤ column) × (column <ℤ (corner.x +ℤ width))
+
+-- each dialog has such a cell where it is declared
+abbrev pub StandOnDesktop : Desc → Type 0
+StandOnDesktop d = All (λ dialog. HasTopCell d (corner_of dialog.node) dialog.node.w) d.dialogs
+
+-- the open dialog is one of the description, with its leaves in order; its focus is free, no menu is open,
+-- and its top row can be seen
 pub record IsSafeDialog (d : Desc) (s : State) (o : OpenDialog) : Type 0 where
   pub dialog : Dialog
   pub there : slice_get d.dialogs o.place ≡ Some dialog
@@ -89,6 +104,29 @@ pub record IsSafeDialog (d : Desc) (s : State) (o : OpenDialog) : Type 0 where
   pub focus : is_free_at dialog o.leaves o.focus ≡ true
   pub held : (held : Held) → o.held ≡ Some held → IsSafeHold dialog o held
   pub contents : All (IsSafeLeaf s o) (leaf_list dialog.views)
+  pub menu : s.menu ≡ None
+  pub over : s.is_over ≡ false
+  pub top : HasTopCell d o.origin dialog.node.w
+
+-- ---- a held frame
+
+-- the width of the front window
+abbrev pub front_width : Desc → List OpenWindow → Option ℤ
+front_width d [] = None
+front_width d (front ∷ behind) = option_map (λ window. window.node.w) (window_of d front.id)
+
+-- the width of the frame that is dragged: the open dialog's or, without one, the front window's
+abbrev pub dragged_width : Desc → Option OpenDialog → List OpenWindow → Option ℤ
+dragged_width d None windows = front_width d windows
+dragged_width d (Some o) windows = option_map (λ dialog. dialog.node.w) (slice_get d.dialogs o.place)
+
+-- there is a frame that the mouse holds by a column of it; no leaf holds the mouse beside it, and no menu is
+-- open
+pub record IsSafeFrame (d : Desc) (s : State) (frame : HeldFrame) : Type 0 where
+  pub width : ℤ
+  pub there : dragged_width d s.dialog s.windows ≡ Some width
+  pub column : (pos 0 ≤ℤ frame.off) × (frame.off <ℤ width)
+  pub leaf : held_of s.dialog ≡ None
   pub menu : s.menu ≡ None
   pub over : s.is_over ≡ false
 
@@ -133,9 +171,11 @@ HasDeclaredEnd d _ = Unit {0}
 
 -- ---- the safe state
 
--- an open dialog can be used, saved records lie in their domains, and dialogs end as they declare
+-- an open dialog can be used, a held frame is there, saved records lie in their domains, and dialogs end as
+-- they declare
 pub record IsSafe (d : Desc) (s : State) : Type 0 where
   pub dialog : (o : OpenDialog) → s.dialog ≡ Some o → IsSafeDialog d s o
+  pub frame : (frame : HeldFrame) → s.frame ≡ Some frame → IsSafeFrame d s frame
   pub saved : (place : ℕ) (entries : Entries) → slice_get s.saved place ≡ Some (Some entries)
       → IsSafeSaved d place entries
   pub ends : All (HasDeclaredEnd d) s.log

@@ -8,6 +8,8 @@ pub mod Commands
 pub mod Menu
 -- windows on the desktop
 pub mod Desktop
+-- windows and dialogs, dragged
+pub mod Dragging
 -- one event
 pub mod Step
 -- the state before the first event

@@ -1,5 +1,5 @@
 -- The state of a run.
-use Rattle.std.specs.Prelude.{ℕ, Bool, List, Option}
+use Rattle.std.specs.Prelude.{ℕ, ℤ, Bool, List, Option}
 use Rattle.tv_cells.specs.declared.rect.Point.{Point}
 use Rattle.tv_model.specs.declared.node.Id.{Id}
 use Rattle.tv_model.specs.declared.record.Value.{Value}
@@ -38,6 +38,12 @@ pub record OpenMenu : Type 0 where
   pub menu : ℕ
   pub item : ℕ
 
+-- the frame that is dragged, which is the open dialog's or, without one, the front window's: the column of it
+-- that the mouse holds, and where its corner stood at the down
+pub record HeldFrame : Type 0 where
+  pub off : ℤ
+  pub from : Point
+
 -- the state of a run
 pub record State : Type 0 where
   -- whether the run is over
@@ -46,6 +52,7 @@ pub record State : Type 0 where
   pub windows : List OpenWindow
   pub menu : Option OpenMenu
   pub dialog : Option OpenDialog
+  pub frame : Option HeldFrame
   -- for each dialog of the description the record that its last end saved
   pub saved : List (Option Entries)
   -- for each dialog of the description its inputs in which typing overwrites, in description order

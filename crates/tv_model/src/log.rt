@@ -2,6 +2,7 @@
 
 use crate::node::Id;
 use crate::record::Value;
+use tv_cells::Point;
 use tv_event::Command;
 
 /// What a run logs of an event.
@@ -26,4 +27,6 @@ pub enum LogLine {
     End(Id, Command),
     /// The value of a field of the dialog that ended.
     Field(Id, Value),
+    /// A window or dialog was dragged, and its corner stands here.
+    Moved(Id, Point),
 }

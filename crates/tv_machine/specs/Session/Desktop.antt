@@ -1,5 +1,5 @@
--- Keys and mouse downs while neither a menu nor a dialog is open: menus open, and windows come to the front
--- and close.
+-- Keys and mouse downs while neither a menu nor a dialog is open: menus open, and windows come to the front,
+-- close and are held.
 use Rattle.std.specs.Prelude.{[], ℕ, Bool, false, ◌&&◌, List, ◌∷◌, find, Option, Some, None, pos, ◌-ℤ◌, ◌==◌}
 use Rattle.std.specs.Prelude.{◌-◌, nat_le, if◌then◌else◌}
 use Rattle.std.specs.Ordering.{int_eq}
@@ -16,6 +16,7 @@ use Rattle.tv_machine.specs.Screen.Bodies.{window_of}
 use Rattle.tv_machine.specs.State.{State, OpenWindow}
 use Rattle.tv_machine.specs.Dialog.Mouse.{is_close_mark}
 use Rattle.tv_machine.specs.Session.Commands.{raised, do_command}
+use Rattle.tv_machine.specs.Session.Dragging.{grabbed, is_grip}
 use Rattle.tv_machine.specs.Session.Menu.{open_menu, title_of_letter, title_at}
 
 -- ---- windows
@@ -71,9 +72,17 @@ desktop_key d _ s = s
 
 -- ---- mouse downs
 
--- a down on the front window gives `close` where it is on its close mark
+-- the top row of the front window is held, beside its close mark
+abbrev pub grab_window : Option Window → OpenWindow → Point → State → State
+grab_window None w p s = s
+grab_window (Some window) w p s =
+    if is_grip window.node.w (seen_from w.origin p) then grabbed w.origin p s else s
+
+-- a down on the front window gives `close` where it is on its close mark, and holds it where it is on the top
+-- row beside that
 abbrev pub down_in_front : Desc → OpenWindow → Point → State → State
-down_in_front d w p s = if is_close_mark (seen_from w.origin p) then do_command d 4 s else s
+down_in_front d w p s =
+    if is_close_mark (seen_from w.origin p) then do_command d 4 s else grab_window (window_of d w.id) w p s
 
 -- a window that isn't the front one comes to the front, and nothing else is done
 abbrev pub down_on_window : Desc → List OpenWindow → OpenWindow → Point → State → State

@@ -19,6 +19,7 @@ closed d = record {
   windows = reverse (map open_window d.windows);
   menu = None;
   dialog = None;
+  frame = None;
   saved = replicate (length d.dialogs) None;
   overwriting = replicate (length d.dialogs) [];
   log = [];

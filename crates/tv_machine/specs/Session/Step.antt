@@ -1,7 +1,6 @@
--- One event of a run. The first case that holds decides: the run is over; a leaf holds the mouse; a menu is
--- open; a status
--- item's key or cells; then the open dialog, or the desktop without one.
-use Rattle.std.specs.Prelude.{[], Bool, not, ◌&&◌, find, Option, Some, None, is_some, pos, ◌-ℤ◌}
+-- One event of a run. The first case that holds decides: the run is over; the mouse holds a frame, or a leaf;
+-- a menu is open; a status item's key or cells; then the open dialog, or the desktop without one.
+use Rattle.std.specs.Prelude.{[], Bool, not, ◌&&◌, find, Option, Some, None, is_some, pos, ◌-ℤ◌, slice_get}
 use Rattle.std.specs.Prelude.{if◌then◌else◌}
 use Rattle.std.specs.Ordering.{int_eq}
 use Rattle.tv_cells.specs.Layers.{is_in}
@@ -14,13 +13,14 @@ use Rattle.tv_model.specs.declared.desc.StatusItem.{StatusItem}
 use Rattle.tv_model.specs.Description.Commands.{command_number}
 use Rattle.tv_model.specs.Description.Rectangles.{rect, desktop}
 use Rattle.tv_model.specs.Faults.Letters.{is_same_key}
-use Rattle.tv_machine.specs.State.{State, OpenDialog, OpenMenu}
+use Rattle.tv_machine.specs.State.{State, HeldFrame, OpenDialog, OpenMenu}
 use Rattle.tv_machine.specs.Screen.Bars.{status_under}
 use Rattle.tv_machine.specs.Dialog.Step.{dialog_step}
 use Rattle.tv_machine.specs.Session.Enabled.{is_enabled_now}
 use Rattle.tv_machine.specs.Session.Commands.{in_dialog, do_command}
 use Rattle.tv_machine.specs.Session.Menu.{menu_key, menu_down}
 use Rattle.tv_machine.specs.Session.Desktop.{seen_from, desktop_key, desktop_down}
+use Rattle.tv_machine.specs.Session.Dragging.{grabbed, is_grip_of, step_dragged}
 
 -- ---- the open dialog
 
@@ -76,10 +76,16 @@ key_at_menu d (Some o) k s = menu_key d o k s
 
 -- ---- mouse downs
 
+-- a down on the desktop while a dialog is open: its top row is held, and anything else is the dialog's
+abbrev pub down_on_dialog : Desc → OpenDialog → Point → State → State
+down_on_dialog d o p s =
+    if is_grip_of (slice_get d.dialogs o.place) (seen_from o.origin p) then grabbed o.origin p s
+    else to_dialog d o (events.Down p) s
+
 -- a down with a dialog or without one: with one only the desktop counts
 abbrev pub down_below : Desc → Option OpenDialog → Point → State → State
 down_below d None p s = desktop_down d p s
-down_below d (Some o) p s = if is_in (desktop d) p.x p.y then to_dialog d o (events.Down p) s else s
+down_below d (Some o) p s = if is_in (desktop d) p.x p.y then down_on_dialog d o p s else s
 
 -- a down while no menu is open; off the screen it does nothing
 abbrev pub down_at_status : Desc → Point → State → State
@@ -127,10 +133,15 @@ step_at d (Some o) e s = step_held d o e s
 
 -- ---- the step
 
+-- an event, by whether a frame is held
+abbrev pub step_under : Desc → Option HeldFrame → Event → State → State
+step_under d None e s = step_at d (held_of s.dialog) e s
+step_under d (Some f) e s = step_dragged d f e s
+
 -- the state with no log
 abbrev pub emptied : State → State
 emptied s = record s { log = [] }
 
 -- one event: the log is emptied, and nothing more happens once the run is over
 abbrev pub step : Desc → State → Event → State
-step d s e = if s.is_over then emptied s else step_at d (held_of s.dialog) e (emptied s)
+step d s e = if s.is_over then emptied s else step_under d s.frame e (emptied s)

@@ -3,6 +3,7 @@ use Rattle.std.specs.Prelude.{[], ℕ, Bool, List, ◌∷◌, ◌++◌, map, fil
 use Rattle.std.specs.Prelude.{unwrap_or, encode_utf8, codes, decimal, ◌-◌, ◌/◌, ◌%◌, ◌^◌, ◌==◌}
 use Rattle.std.specs.Prelude.{if◌then◌else◌}
 use Rattle.std.specs.List.{range_with_len}
+use Rattle.std.specs.Fmt.{signed_decimal}
 use Rattle.tv_model.specs.declared.node.Id.{Id}
 use Rattle.tv_model.specs.declared.node.Node.{Node}
 use Rattle.tv_model.specs.declared.desc.Desc.{Desc}
@@ -77,6 +78,8 @@ log_line d lines.Quit = line_of (codes "quit") []
 log_line d (lines.Command number) = line_of (codes "command ") (decimal number)
 log_line d (lines.End i command) = line_of (codes "end ") (name_text d i ++ codes " " ++ end_word command.0)
 log_line d (lines.Field i value) = line_of (codes "field ") (name_text d i ++ codes " " ++ value_text value)
+log_line d (lines.Moved i p) = line_of (codes "moved ")
+    (name_text d i ++ codes " " ++ signed_decimal p.x ++ codes " " ++ signed_decimal p.y)
 
 -- the lines of the log
 abbrev pub log_text : Desc → List LogLine → List ℕ
