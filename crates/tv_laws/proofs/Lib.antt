@@ -11,8 +11,10 @@ pub mod MouseLemmas
 pub mod StepLemmas
 pub mod OpenLemmas
 pub mod WorkLemmas
+pub mod DragLemmas
 pub mod CommandLemmas
 pub mod RunLemmas
+pub mod DeclaredLemmas
 pub mod LeavingLemmas
 pub mod TabLemmas
 pub mod KeyLaws

@@ -1,5 +1,5 @@
 -- Every event keeps a run fit, and a fit run is safe; so every run is.
-use Rattle.std.proofs.Common.{◌≡◌, false, not, ◌<◌, ℕ, zero, suc, if◌then◌else◌, List, [], ◌∷◌, map, length, position, replicate, Option, Some, None, is_some, refl, sym, ap, subst, ◌∙◌, arith}
+use Rattle.std.proofs.Common.{◌≡◌, false, not, ◌<◌, ℕ, zero, suc, if◌then◌else◌, List, [], ◌∷◌, map, length, position, replicate, Option, Some, None, is_some, option_map, refl, sym, ap, subst, ◌∙◌, arith}
 use Rattle.std.specs.Prelude.{pos, slice_get}
 use Rattle.std.proofs.lemmas.Bool.{true≢false}
 use Rattle.std.proofs.lemmas.List.Elements.{All-nil}
@@ -12,21 +12,24 @@ use Rattle.tv_model.specs.declared.desc.Desc.{Desc}
 use Rattle.tv_model.specs.declared.desc.StatusItem.{StatusItem}
 use Rattle.tv_model.specs.Description.Commands.{command_number}
 use Rattle.tv_model.specs.Description.Heads.{is_named}
-use Rattle.tv_model.specs.Description.Rectangles.{desktop, rect}
+use Rattle.tv_model.specs.Description.Rectangles.{corner_of, desktop, rect}
 use Rattle.tv_machine.specs.State.{Held, OpenDialog, OpenMenu, State}
 use Rattle.tv_machine.specs.Dialog.Step.{dialog_step}
 use Rattle.tv_machine.specs.Output.{states}
-use Rattle.tv_machine.specs.Safe.{HasDeclaredEnd, IsAlwaysSafe, IsFitOverwriting, IsSafe}
+use Rattle.tv_machine.specs.Safe.{HasDeclaredEnd, HasTopCell, IsAlwaysSafe, IsFitOverwriting, IsSafe, StandOnDesktop, dragged_width}
 use Rattle.tv_machine.specs.Screen.Bars.{status_under}
 use Rattle.tv_machine.specs.Session.Commands.{do_command, modal_of}
+use Rattle.tv_machine.specs.Session.Desktop.{seen_from}
+use Rattle.tv_machine.specs.Session.Dragging.{grabbed, is_grip_of}
 use Rattle.tv_machine.specs.Session.Start.{closed, start, started_at, started_by}
-use Rattle.tv_machine.specs.Session.Step.{down_at_menu, down_at_status, down_below, emptied, event_from, held_of, is_item_enabled, is_status_row, key_at_menu, key_at_status, key_below, status_command, status_item_of, step, step_at, step_below, step_held, to_dialog}
+use Rattle.tv_machine.specs.Session.Step.{down_at_menu, down_at_status, down_below, down_on_dialog, emptied, event_from, held_of, is_item_enabled, is_status_row, key_at_menu, key_at_status, key_below, status_command, status_item_of, step, step_at, step_below, step_held, step_under, to_dialog}
 use Rattle.tv_laws.specs.Runs.{HasSoundDialogs, IsFitState, IsKept, RunsFit}
 use Rattle.tv_laws.specs.Steps.{RespectsHold}
 use Rattle.tv_laws.proofs.CommandLemmas.{IsReady, command-fit, desktop_down-fit, desktop_key-fit, idle-fit, menu_down-fit, menu_key-fit, ready-idle}
 use Rattle.tv_machine.proofs.ListLemmas.{bool_cases, option_cases}
+use Rattle.tv_laws.proofs.DragLemmas.{dragged-fit, grabbed-fit}
 use Rattle.tv_laws.proofs.StepLemmas.{stays-fit}
-use Rattle.tv_laws.proofs.WorkLemmas.{dialog-opens, dialog-works, filter_none, nothing}
+use Rattle.tv_laws.proofs.WorkLemmas.{dialog-opens, dialog-works, filter_none, get_all, nothing, relogged-fit}
 
 -- ---- events that may come at any time
 
@@ -54,9 +57,9 @@ module _ (d : Desc) (sound : HasSoundDialogs d) where
   -- ---- the open dialog
 
   to_dialog_fit : (s : State) (o : OpenDialog) (e : Event) → s.dialog ≡ Some o → IsFitState d s
-      → RespectsHold o.held (event_from o.origin e) → IsFitState d (to_dialog d o e s)
-  to_dialog_fit s o e some f given =
-      dialog-works d sound s o (λ dialog m. dialog_step dialog (event_from o.origin e) m) some f
+      → s.frame ≡ None → RespectsHold o.held (event_from o.origin e) → IsFitState d (to_dialog d o e s)
+  to_dialog_fit s o e some f free given =
+      dialog-works d sound s o (λ dialog m. dialog_step dialog (event_from o.origin e) m) some f free
       (λ dialog is going. stays-fit dialog is (modal_of s o) (event_from o.origin e) going given)
 
   -- no menu is open over a dialog
@@ -69,7 +72,7 @@ module _ (d : Desc) (sound : HasSoundDialogs d) where
   key_below_fit : (k : Key) (s : State) → IsReady d sound s → IsFitState d (key_below d s.dialog k s)
   key_below_fit k s r =
       option_cases s.dialog (λ o. IsFitState d (key_below d o k s)) (λ none. desktop_key-fit d sound k s (ready-idle d sound s r none))
-      (λ o some. to_dialog_fit s o (events.Key k) some r.fit (given_key o.held k))
+      (λ o some. to_dialog_fit s o (events.Key k) some r.fit r.free (given_key o.held k))
 
   key_status_fit : (item : Option StatusItem) (k : Key) (s : State) → IsReady d sound s → s.menu ≡ None
       → IsFitState d (key_at_status d item k s)
@@ -89,11 +92,22 @@ module _ (d : Desc) (sound : HasSoundDialogs d) where
       bool_cases (is_item_enabled d s item) (λ b. IsFitState d (if b then do_command d (command_number item.command) s else s))
       (λ enabled. command-fit d sound (command_number item.command) s r menu) (λ disabled. r.fit)
 
+  on_dialog_fit : (o : OpenDialog) (p : Point) (s : State) → s.dialog ≡ Some o → IsReady d sound s → s.menu ≡ None → IsFitState d (down_on_dialog d o p s)
+  on_dialog_fit o p s some r menu =
+      let x = r.fit.«open» o some in
+      let there : dragged_width d s.dialog s.windows ≡ Some x.dialog.node.w =
+      ap (λ y. dragged_width d y s.windows) some ∙ ap (option_map (λ y. y.node.w)) x.there in
+      let loose : held_of s.dialog ≡ None = ap held_of some ∙ ap (λ h. if is_some h then Some o else None) (r.idle o some) in
+      bool_cases (is_grip_of (slice_get d.dialogs o.place) (seen_from o.origin p))
+      (λ b. IsFitState d (if b then grabbed o.origin p s else to_dialog d o (events.Down p) s))
+      (λ grip. grabbed-fit d sound o.origin p s x.dialog.node.w r.fit there (sym (ap (λ y. is_grip_of y (seen_from o.origin p)) x.there) ∙ grip) loose menu r.over)
+      (λ beside. to_dialog_fit s o (events.Down p) some r.fit r.free (given_down o.held _))
+
   down_below_fit : (p : Point) (s : State) → IsReady d sound s → s.menu ≡ None → IsFitState d (down_below d s.dialog p s)
   down_below_fit p s r menu =
       option_cases s.dialog (λ o. IsFitState d (down_below d o p s)) (λ none. desktop_down-fit d sound p s (ready-idle d sound s r none) menu)
-      (λ o some. bool_cases (is_in (desktop d) p.x p.y) (λ b. IsFitState d (if b then to_dialog d o (events.Down p) s else s))
-      (λ inside. to_dialog_fit s o (events.Down p) some r.fit (given_down o.held _)) (λ outside. r.fit))
+      (λ o some. bool_cases (is_in (desktop d) p.x p.y) (λ b. IsFitState d (if b then down_on_dialog d o p s else s))
+      (λ inside. on_dialog_fit o p s some r menu) (λ outside. r.fit))
 
   down_status_fit : (p : Point) (s : State) → IsReady d sound s → s.menu ≡ None → IsFitState d (down_at_status d p s)
   down_status_fit p s r menu =
@@ -118,36 +132,37 @@ module _ (d : Desc) (sound : HasSoundDialogs d) where
   below_fit (events.Command c) s r = r.fit
   below_fit (events.Broadcast c) s r = r.fit
 
-  held_fit : (o : OpenDialog) (e : Event) (s : State) → s.dialog ≡ Some o → IsFitState d s → IsFitState d (step_held d o e s)
-  held_fit o (events.Move p) s some f = to_dialog_fit s o (events.Move p) some f (given_move o.held _)
-  held_fit o (events.Up p) s some f = to_dialog_fit s o (events.Up p) some f (given_up o.held _)
-  held_fit o (events.Key k) s some f = f
-  held_fit o (events.Down p) s some f = f
-  held_fit o (events.Command c) s some f = f
-  held_fit o (events.Broadcast c) s some f = f
+  held_fit : (o : OpenDialog) (e : Event) (s : State) → s.dialog ≡ Some o → IsFitState d s → s.frame ≡ None
+      → IsFitState d (step_held d o e s)
+  held_fit o (events.Move p) s some f free = to_dialog_fit s o (events.Move p) some f free (given_move o.held _)
+  held_fit o (events.Up p) s some f free = to_dialog_fit s o (events.Up p) some f free (given_up o.held _)
+  held_fit o (events.Key k) s some f free = f
+  held_fit o (events.Down p) s some f free = f
+  held_fit o (events.Command c) s some f free = f
+  held_fit o (events.Broadcast c) s some f free = f
 
   -- the log is taken
   emptied_fit : (s : State) → IsFitState d s → IsFitState d (emptied s)
-  emptied_fit s f = record {
-    kept = record { saved = f.kept.saved; places = f.kept.places; ordered = f.kept.ordered; ends = All-nil (HasDeclaredEnd d) };
-    «open» = λ o e. let x = f.«open» o e in record { dialog = x.dialog; there = x.there; fit = x.fit; menu = x.menu; over = x.over };
-  }
+  emptied_fit s f = relogged-fit d sound s [] (All-nil (HasDeclaredEnd d)) f
 
-  step_at_fit : (e : Event) (s : State) → IsFitState d s → s.is_over ≡ false → IsFitState d (step_at d (held_of s.dialog) e s)
-  step_at_fit e s f over =
+  step_at_fit : (e : Event) (s : State) → IsFitState d s → s.is_over ≡ false → s.frame ≡ None
+      → IsFitState d (step_at d (held_of s.dialog) e s)
+  step_at_fit e s f over free =
       option_cases s.dialog (λ o. IsFitState d (step_at d (held_of o) e s))
-      (λ none. below_fit e s (record { fit = f; over = over; idle = λ o is. absurd (nothing o (sym none ∙ is)) }))
-      (λ o some. bool_cases (is_some o.held) (λ b. IsFitState d (step_at d (if b then Some o else None) e s)) (λ holds. held_fit o e s some f)
+      (λ none. below_fit e s (record { fit = f; over = over; free = free; idle = λ o is. absurd (nothing o (sym none ∙ is)) }))
+      (λ o some. bool_cases (is_some o.held) (λ b. IsFitState d (step_at d (if b then Some o else None) e s)) (λ holds. held_fit o e s some f free)
       (λ loose. below_fit e s (record {
         fit = f;
         over = over;
+        free = free;
         idle = λ x is. let both : Some o ≡ Some x = sym some ∙ is in let same : o ≡ x = cc in subst (λ y. y.held ≡ None) same (not_some o.held loose);
       })))
 
   pub runs-fit : RunsFit d
   runs-fit s e f =
-      bool_cases s.is_over (λ b. IsFitState d (if b then emptied s else step_at d (held_of s.dialog) e (emptied s))) (λ over. emptied_fit s f)
-      (λ goes. step_at_fit e (emptied s) (emptied_fit s f) goes)
+      bool_cases s.is_over (λ b. IsFitState d (if b then emptied s else step_under d s.frame e (emptied s))) (λ over. emptied_fit s f)
+      (λ goes. option_cases s.frame (λ frame. IsFitState d (step_under d frame e (emptied s))) (λ free. step_at_fit e (emptied s) (emptied_fit s f) goes free)
+      (λ frame held. dragged-fit d sound frame e (emptied s) held (emptied_fit s f)))
 
   -- ---- the start
 
@@ -177,8 +192,8 @@ module _ (d : Desc) (sound : HasSoundDialogs d) where
   }
 
   at_fit : (place : Option ℕ) → IsFitState d (started_at d place)
-  at_fit None = idle-fit d sound (closed d) closed_kept refl
-  at_fit (Some place) = dialog-opens d sound place (closed d) (idle-fit d sound (closed d) closed_kept refl) refl refl
+  at_fit None = idle-fit d sound (closed d) closed_kept refl refl
+  at_fit (Some place) = dialog-opens d sound place (closed d) (idle-fit d sound (closed d) closed_kept refl refl) refl refl refl
 
   by_fit : (name : Option (List ℕ)) → IsFitState d (started_by d name)
   by_fit None = at_fit None
@@ -189,8 +204,8 @@ module _ (d : Desc) (sound : HasSoundDialogs d) where
 
   -- ---- every run
 
-  pub fit-safe : (s : State) → IsFitState d s → IsSafe d s
-  fit-safe s f = record {
+  pub fit-safe : StandOnDesktop d → (s : State) → IsFitState d s → IsSafe d s
+  fit-safe stand s f = record {
     dialog = λ o e. let x = f.«open» o e in record {
       dialog = x.dialog;
       there = x.there;
@@ -200,7 +215,9 @@ module _ (d : Desc) (sound : HasSoundDialogs d) where
       contents = λ k y h. (x.fit.standing.contents k y h).safe;
       menu = x.menu;
       over = x.over;
+      top = x.top (get_all (λ dialog. HasTopCell d (corner_of dialog.node) dialog.node.w) d.dialogs o.place x.dialog stand x.there);
     };
+    frame = f.frame;
     saved = f.kept.saved;
     ends = f.kept.ends;
   }
@@ -209,5 +226,5 @@ module _ (d : Desc) (sound : HasSoundDialogs d) where
   states-fit [] s f = f
   states-fit (e ∷ es) s f = states-fit es (step d s e) (runs-fit s e f)
 
-  pub always-safe : IsAlwaysSafe d
-  always-safe es = fit-safe (states (step d) (start d) es) (states-fit es (start d) start-fit)
+  pub always-safe : StandOnDesktop d → IsAlwaysSafe d
+  always-safe stand es = fit-safe stand (states (step d) (start d) es) (states-fit es (start d) start-fit)

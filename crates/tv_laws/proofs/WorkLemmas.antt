@@ -10,12 +10,12 @@ use Rattle.tv_model.specs.declared.log.LogLine.{LogLine}
 use Rattle.tv_model.specs.declared.log.LogLine.TheVariants as lines
 use Rattle.tv_model.specs.Description.Rectangles.{corner_of}
 use Rattle.tv_model.specs.Log.Record.{Entries}
-use Rattle.tv_machine.specs.State.{OpenDialog, OpenMenu, OpenWindow, State}
+use Rattle.tv_machine.specs.State.{HeldFrame, OpenDialog, OpenMenu, OpenWindow, State}
 use Rattle.tv_machine.specs.Dialog.Ending.{fields_of}
 use Rattle.tv_machine.specs.Dialog.Modal.{Modal}
 use Rattle.tv_machine.specs.Dialog.Opening.{opened_dialog}
 use Rattle.tv_machine.specs.Dialog.Rules.{is_among}
-use Rattle.tv_machine.specs.Safe.{HasDeclaredEnd, IsFitOverwriting, IsSafeRecord, IsSafeSaved}
+use Rattle.tv_machine.specs.Safe.{HasDeclaredEnd, HasTopCell, IsFitOverwriting, IsSafeFrame, IsSafeRecord, IsSafeSaved}
 use Rattle.tv_machine.specs.Session.Commands.{after_work, in_dialog, logged, modal_of, open_dialog, open_found, overwriting_at, saved_at, saved_by, worked, works}
 use Rattle.tv_laws.specs.Ends.{IsDone, NamesEndOf, IsOpen}
 use Rattle.tv_laws.specs.Fit.{IsFitModal}
@@ -56,7 +56,7 @@ get_less [] i x e = absurd cc
 get_less (y ∷ xs) zero x e = omega arith
 get_less (y ∷ xs) (suc i) x e = let r = get_less xs i x e in omega (arith, r)
 
-get_all : {A : Type 0} (P : A → Type 0) (xs : List A) (i : ℕ) (x : A) → All P xs → slice_get xs i ≡ Some x → P x
+pub get_all : {A : Type 0} (P : A → Type 0) (xs : List A) (i : ℕ) (x : A) → All P xs → slice_get xs i ≡ Some x → P x
 get_all P [] i x all e = absurd cc
 get_all P (y ∷ xs) zero x all e = let same : y ≡ x = cc in subst P same (All-head P y xs all)
 get_all P (y ∷ xs) (suc i) x all e = get_all P xs i x (All-tail P y xs all) e
@@ -78,6 +78,20 @@ module _ (d : Desc) (sound : HasSoundDialogs d) where
 
   pub kept-logged : (line : LogLine) (s : State) → HasDeclaredEnd d line → IsKept d s → IsKept d (logged line s)
   kept-logged line s is k = record { saved = k.saved; places = k.places; ordered = k.ordered; ends = All-push (HasDeclaredEnd d) s.log line k.ends is }
+
+  -- no frame is held
+  pub no-frame : (s : State) → s.frame ≡ None → (frame : HeldFrame) → s.frame ≡ Some frame → IsSafeFrame d s frame
+  no-frame s free frame e = absurd (nothing frame (sym free ∙ e))
+
+  -- nothing but the log changes
+  pub relogged-fit : (s : State) (log : List LogLine) → All (HasDeclaredEnd d) log → IsFitState d s → IsFitState d (record s { log = log })
+  relogged-fit s log ends f = record {
+    kept = record { saved = f.kept.saved; places = f.kept.places; ordered = f.kept.ordered; ends = ends };
+    «open» = λ o e. let x = f.«open» o e in record { dialog = x.dialog; there = x.there; fit = x.fit; menu = x.menu; over = x.over; top = x.top };
+    frame = λ frame e.
+        let x = f.frame frame e in
+        record { width = x.width; there = x.there; column = x.column; leaf = x.leaf; menu = x.menu; over = x.over };
+  }
 
   pub sound-at : (place : ℕ) (dialog : Dialog) → slice_get d.dialogs place ≡ Some dialog → IsSoundDialog dialog
   sound-at place dialog there = get_all IsSoundDialog d.dialogs place dialog sound there
@@ -126,9 +140,10 @@ module _ (d : Desc) (sound : HasSoundDialogs d) where
           at j ids (inr old) = k.ordered j ids old
 
       -- the dialog stands
-      stands : (origin : Point) → s.menu ≡ None → s.is_over ≡ false
+      stands : (origin : Point) → s.menu ≡ None → s.is_over ≡ false → s.frame ≡ None
+          → (HasTopCell d (corner_of dialog.node) dialog.node.w → HasTopCell d origin dialog.node.w)
           → IsFitState d (record (worked s place m) { dialog = Some (record { place = place; origin = origin; leaves = m.leaves; focus = m.focus; held = m.held }) })
-      stands origin menu over =
+      stands origin menu over free top =
           let o : OpenDialog = record { place = place; origin = origin; leaves = m.leaves; focus = m.focus; held = m.held } in
           let after : State = record (worked s place m) { dialog = Some o } in
           let less : place < length s.overwriting = subst (λ (n : ℕ). place < n) (sym k.places) (get_less d.dialogs place dialog there) in
@@ -138,17 +153,20 @@ module _ (d : Desc) (sound : HasSoundDialogs d) where
           (fit-logged dialog (sound-at place dialog there) m [] None done.fit) in
           record {
             kept = kept-beside (worked s place m) (worked s place m).is_over (worked s place m).windows (worked s place m).menu (Some o) worked_kept;
-            «open» = λ x e. let this : o ≡ x = cc in subst (IsFitOpen d after) this (record { dialog = dialog; there = there; fit = fit; menu = menu; over = over });
+            «open» = λ x e. let this : o ≡ x = cc in subst (IsFitOpen d after) this (record { dialog = dialog; there = there; fit = fit; menu = menu; over = over; top = top });
+            frame = no-frame after free;
           }
 
       -- the dialog has ended
-      ends : (number : ℕ) → m.ended ≡ Some number
+      ends : (number : ℕ) → m.ended ≡ Some number → s.frame ≡ None
           → IsFitState d (record (worked s place m) { dialog = None; saved = saved_by place number m s.saved })
-      ends number e =
+      ends number e free =
           let w = worked_kept in
+          let after : State = record (worked s place m) { dialog = None; saved = saved_by place number m s.saved } in
           record {
             kept = record { saved = λ j entries f. at j entries f; places = w.places; ordered = w.ordered; ends = w.ends };
             «open» = λ x f. absurd (nothing x f);
+            frame = no-frame after free;
           }
         where
           new : (j : ℕ) (entries : Entries) → (number == 11) ≡ false
@@ -168,21 +186,23 @@ module _ (d : Desc) (sound : HasSoundDialogs d) where
 
   -- the open dialog works
   pub dialog-works : (s : State) (o : OpenDialog) (work : Dialog → Modal → Modal) → s.dialog ≡ Some o → IsFitState d s
-      → ((dialog : Dialog) → IsSoundDialog dialog → IsOpen dialog (modal_of s o) → IsDone dialog (work dialog (modal_of s o)))
+      → s.frame ≡ None → ((dialog : Dialog) → IsSoundDialog dialog → IsOpen dialog (modal_of s o) → IsDone dialog (work dialog (modal_of s o)))
       → IsFitState d (in_dialog d s o work)
-  dialog-works s o work e f keeps =
+  dialog-works s o work e f free keeps =
       let x = f.«open» o e in
       let m = work x.dialog (modal_of s o) in
       let done = keeps x.dialog (sound-at o.place x.dialog x.there) (record { fit = x.fit; log = All-nil (NamesEndOf x.dialog); going = refl }) in
       subst (λ found. IsFitState d (works s o work found)) (sym x.there)
-      (option_cases m.ended (λ over. IsFitState d (after_work s o m over)) (λ none. stands s f.kept o.place x.dialog x.there m done o.origin x.menu x.over)
-      (λ number ended. ends s f.kept o.place x.dialog x.there m done number ended))
+      (option_cases m.ended (λ over. IsFitState d (after_work s o m over)) (λ none. stands s f.kept o.place x.dialog x.there m done o.origin x.menu x.over free x.top)
+      (λ number ended. ends s f.kept o.place x.dialog x.there m done number ended free))
 
   -- a dialog opens
-  pub dialog-opens : (place : ℕ) (s : State) → IsFitState d s → s.menu ≡ None → s.is_over ≡ false → IsFitState d (open_dialog d place s)
-  dialog-opens place s f menu over =
+  pub dialog-opens : (place : ℕ) (s : State) → IsFitState d s → s.menu ≡ None → s.is_over ≡ false → s.frame ≡ None
+      → IsFitState d (open_dialog d place s)
+  dialog-opens place s f menu over free =
       option_cases (slice_get d.dialogs place) (λ found. IsFitState d (open_found s place found)) (λ none. f)
       (λ dialog there.
       let m = opened_dialog dialog (saved_at s place) (overwriting_at s place) in
       let is = opens-fit dialog (sound-at place dialog there) (saved_at s place) (overwriting_at s place) (saved_safe s f.kept place dialog there) (ordered_at s f.kept place dialog there) in
-      stands (logged (lines.Open dialog.node.id) s) (kept-logged (lines.Open dialog.node.id) s tt f.kept) place dialog there m (open-done dialog m is.0) (corner_of dialog.node) menu over)
+      stands (logged (lines.Open dialog.node.id) s) (kept-logged (lines.Open dialog.node.id) s tt f.kept) place dialog there m (open-done dialog m is.0) (corner_of dialog.node) menu over free
+      (λ top. top))

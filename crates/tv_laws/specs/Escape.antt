@@ -25,17 +25,24 @@ pub record IsCancelled (d : Desc) (s : State) (o : OpenDialog) (after : State) :
   pub written : after.log ≡ end_lines dialog 11 (fields_of o.leaves)
   pub saved : after.saved ≡ s.saved
 
--- wherever a run has come to an open dialog in which nothing holds the mouse, Esc cancels it
+-- wherever a run has come to an open dialog, while the mouse holds neither a leaf of it nor a frame, Esc
+-- cancels it
 abbrev pub EscCancelsOpen : Desc → Type 0
 EscCancelsOpen d =
     (before : List Event) (o : OpenDialog) → (state_after d before).dialog ≡ Some o → o.held ≡ None
+    → (state_after d before).frame ≡ None
     → IsCancelled d (state_after d before) o (step d (state_after d before) escape)
 
--- wherever a run has come, nothing holds the mouse after a mouse up
+-- wherever a run has come, no leaf holds the mouse after a mouse up
 abbrev pub UpFreesMouse : Desc → Type 0
 UpFreesMouse d =
     (before : List Event) (p : Point) (o : OpenDialog)
     → (step d (state_after d before) (events.Up p)).dialog ≡ Some o → o.held ≡ None
+
+-- nor does the mouse hold a frame
+abbrev pub UpFreesFrame : Desc → Type 0
+UpFreesFrame d =
+    (before : List Event) (p : Point) → (step d (state_after d before) (events.Up p)).frame ≡ None
 
 -- wherever a run has come, no dialog is open after a mouse up and Esc
 abbrev pub UpEscLeaves : Desc → Type 0

@@ -1,5 +1,5 @@
 //! What runs log and save of dialogs that end, what they show of it, and how dialogs can be left, as contracts.
-ghost use Rattle.tv_laws.specs.Escape.{EscCancelsOpen, UpEscCancels, UpEscLeaves, UpFreesMouse};
+ghost use Rattle.tv_laws.specs.Escape.{EscCancelsOpen, UpEscCancels, UpEscLeaves, UpFreesFrame, UpFreesMouse};
 ghost use Rattle.tv_laws.specs.Records.{DeclareCancel, EndsAsDeclared, SavesWhatItLogs, StaysOver};
 ghost use Rattle.tv_laws.specs.Records.{OpensAsSaved, ReopensAsSaved, StartsAsDeclared};
 ghost use Rattle.tv_laws.specs.Runs.{HasSoundDialogs};
@@ -24,6 +24,7 @@ pub fn dialogs_can_be_left(_desc: &Desc)
     requires sound { HasSoundDialogs _desc.now }
     ensures cancels { EscCancelsOpen _desc.now }
     ensures frees { UpFreesMouse _desc.now }
+    ensures frees_frame { UpFreesFrame _desc.now }
     ensures leaves { UpEscLeaves _desc.now }
     ensures cancels_left { UpEscCancels _desc.now }
     ensures over { StaysOver _desc.now }

@@ -1,5 +1,5 @@
 //! What holds of every run and of every open dialog, as contracts.
-ghost use Rattle.tv_machine.specs.Safe.{IsAlwaysSafe};
+ghost use Rattle.tv_machine.specs.Safe.{IsAlwaysSafe, StandOnDesktop};
 ghost use Rattle.tv_laws.specs.Leaving.{EscCancels, TabGoesOn, UpLetsGo};
 ghost use Rattle.tv_laws.specs.Runs.{HasSoundDialogs};
 ghost use Rattle.tv_laws.specs.Sound.{IsSoundDialog};
@@ -7,9 +7,11 @@ ghost use Rattle.tv_laws.specs.Steps.{OpensFit, StaysFit};
 
 use tv_model::{Desc, Dialog};
 
-/// A theorem, as a function without a body: every run of a description whose dialogs are sound is safe.
+/// A theorem, as a function without a body: every run of a description is safe whose dialogs are sound and stand on the
+/// desktop.
 pub fn runs_are_safe(_desc: &Desc)
     requires sound { HasSoundDialogs _desc.now }
+    requires stand { StandOnDesktop _desc.now }
     ensures safe { IsAlwaysSafe _desc.now }
 {}
 

@@ -10,25 +10,27 @@ use Rattle.tv_event.specs.declared.event.Key.TheVariants as keys
 use Rattle.tv_model.specs.declared.desc.Desc.{Desc}
 use Rattle.tv_model.specs.declared.desc.Dialog.{Dialog}
 use Rattle.tv_model.specs.Faults.Letters.{is_same_key}
-use Rattle.tv_machine.specs.State.{OpenDialog, State}
+use Rattle.tv_machine.specs.State.{HeldFrame, OpenDialog, State}
 use Rattle.tv_machine.specs.Dialog.Ending.{ended}
 use Rattle.tv_machine.specs.Dialog.Modal.{Modal}
 use Rattle.tv_machine.specs.Dialog.Step.{dialog_step}
 use Rattle.tv_machine.specs.Output.{states}
 use Rattle.tv_machine.specs.Session.Commands.{after_work, modal_of, dialog_after, works}
+use Rattle.tv_machine.specs.Session.Dragging.{corner_at, let_go, placed, step_dragged}
 use Rattle.tv_machine.specs.Session.Start.{start}
-use Rattle.tv_machine.specs.Session.Step.{emptied, event_from, held_of, is_item_enabled, key_at_menu, key_at_status, key_below, status_item_of, step, step_at, to_dialog}
-use Rattle.tv_laws.specs.Escape.{EscCancelsOpen, IsCancelled, UpEscCancels, UpEscLeaves, UpFreesMouse, escape}
+use Rattle.tv_machine.specs.Session.Step.{emptied, event_from, held_of, is_item_enabled, key_at_menu, key_at_status, key_below, status_item_of, step, step_at, step_under, to_dialog}
+use Rattle.tv_laws.specs.Escape.{EscCancelsOpen, IsCancelled, UpEscCancels, UpEscLeaves, UpFreesFrame, UpFreesMouse, escape}
 use Rattle.tv_laws.specs.Records.{StaysOver, state_after}
 use Rattle.tv_laws.specs.Runs.{HasSoundDialogs, IsFitState}
+use Rattle.tv_laws.proofs.DragLemmas.{dropped-cases, moved_to, placed-frame}
 use Rattle.tv_laws.proofs.LeavingLemmas.{esc-cancels, up-lets-go}
 use Rattle.tv_machine.proofs.ListLemmas.{bool_cases, find-none, option_cases}
-use Rattle.tv_laws.proofs.RunLemmas.{runs-fit, start-fit}
+use Rattle.tv_laws.proofs.RunLemmas.{not_some, runs-fit, start-fit}
 use Rattle.tv_laws.proofs.WorkLemmas.{nothing, sound-at}
 
 -- nothing happens once the run is over
 pub stays-over : (d : Desc) → StaysOver d
-stays-over d s e over = ap (λ b. if b then emptied s else step_at d (held_of s.dialog) e (emptied s)) over
+stays-over d s e over = ap (λ b. if b then emptied s else step_under d s.frame e (emptied s)) over
 
 -- ---- no status item has Esc
 
@@ -55,10 +57,11 @@ module _ (d : Desc) (sound : HasSoundDialogs d) where
 
   -- ---- Esc while a dialog is open
 
-  esc_step : (s : State) (o : OpenDialog) → s.dialog ≡ Some o → o.held ≡ None → s.menu ≡ None → s.is_over ≡ false
+  esc_step : (s : State) (o : OpenDialog) → s.dialog ≡ Some o → o.held ≡ None → s.frame ≡ None → s.menu ≡ None → s.is_over ≡ false
       → step d s escape ≡ to_dialog d o escape (emptied s)
-  esc_step s o some idle menu over =
-      ap (λ b. if b then emptied s else step_at d (held_of s.dialog) escape (emptied s)) over
+  esc_step s o some idle free menu over =
+      ap (λ b. if b then emptied s else step_under d s.frame escape (emptied s)) over
+      ∙ ap (λ frame. step_under d frame escape (emptied s)) free
       ∙ ap (λ x. step_at d (held_of x) escape (emptied s)) some
       ∙ ap (λ h. step_at d (if is_some h then Some o else None) escape (emptied s)) idle
       ∙ ap (λ m. key_at_menu d m keys.Esc (emptied s)) menu
@@ -71,18 +74,18 @@ module _ (d : Desc) (sound : HasSoundDialogs d) where
       ap (works s o (λ x m. dialog_step x (event_from o.origin escape) m)) there
       ∙ ap (λ m. after_work s o m m.ended) (esc-cancels dialog (modal_of s o) idle)
 
-  cancelled : (s : State) (o : OpenDialog) → IsFitState d s → s.dialog ≡ Some o → o.held ≡ None → IsCancelled d s o (step d s escape)
-  cancelled s o f some idle =
+  cancelled : (s : State) (o : OpenDialog) → IsFitState d s → s.dialog ≡ Some o → o.held ≡ None → s.frame ≡ None → IsCancelled d s o (step d s escape)
+  cancelled s o f some idle free =
       let x = f.«open» o some in
-      subst (IsCancelled d s o) (sym (esc_step s o some idle x.menu x.over ∙ esc_ends (emptied s) o x.dialog x.there idle))
+      subst (IsCancelled d s o) (sym (esc_step s o some idle free x.menu x.over ∙ esc_ends (emptied s) o x.dialog x.there idle))
       (record { dialog = x.dialog; there = x.there; closed = refl; written = refl; saved = refl })
 
   pub esc-cancels-open : EscCancelsOpen d
-  esc-cancels-open before o some idle = cancelled (state_after d before) o (reached-fit before) some idle
+  esc-cancels-open before o some idle free = cancelled (state_after d before) o (reached-fit before) some idle free
 
   -- ---- a mouse up
 
-  -- nothing holds the mouse
+  -- no leaf holds the mouse
   abbrev IsLoose : State → Type 0
   IsLoose s = (o : OpenDialog) → s.dialog ≡ Some o → o.held ≡ None
 
@@ -111,36 +114,90 @@ module _ (d : Desc) (sound : HasSoundDialogs d) where
       (λ o some. bool_cases (is_some o.held) (λ b. IsLoose (step_at d (if b then Some o else None) (events.Up p) (emptied s)))
       (λ holds. loose_up s o p f some) (λ idle. not_holding s o some idle))
 
+  -- while a frame is held no leaf is
+  loose_held : (o : OpenDialog) → held_of (Some o) ≡ None → o.held ≡ None
+  loose_held o =
+      bool_cases (is_some o.held) (λ b. is_some o.held ≡ b → (if b then Some o else None) ≡ None → o.held ≡ None)
+      (λ is holds e. absurd (nothing o (sym e))) (λ is loose e. not_some o.held loose) refl
+
+  loose_drop : (s : State) (p : Point) (frame : HeldFrame) → s.frame ≡ Some frame → IsFitState d s
+      → IsLoose (step_dragged d frame (events.Up p) (emptied s))
+  loose_drop s p frame held f =
+      let corner = corner_at d frame p in
+      let t = let_go (emptied s) in
+      let moved : IsLoose (placed s.dialog corner t) =
+      option_cases s.dialog (λ x. s.dialog ≡ x → IsLoose (placed x corner t)) (λ is none x e. absurd (nothing x (sym none ∙ e)))
+      (λ o is some x e.
+      let same : moved_to corner o ≡ x = cc in
+      subst (λ y. y.held ≡ None) same (loose_held o (sym (ap held_of some) ∙ (f.frame frame held).leaf))) refl in
+      dropped-cases d IsLoose frame corner (placed s.dialog corner t) moved (λ i. moved)
+
   up_loose : (s : State) (p : Point) → IsFitState d s → IsLoose (step d s (events.Up p))
   up_loose s p f =
-      bool_cases s.is_over (λ b. s.is_over ≡ b → IsLoose (if b then emptied s else step_at d (held_of s.dialog) (events.Up p) (emptied s)))
-      (λ is over x e. absurd (false≢true (sym (f.«open» x e).over ∙ over))) (λ is goes. loose_at s p f) refl
+      bool_cases s.is_over (λ b. s.is_over ≡ b → IsLoose (if b then emptied s else step_under d s.frame (events.Up p) (emptied s)))
+      (λ is over x e. absurd (false≢true (sym (f.«open» x e).over ∙ over)))
+      (λ is goes. option_cases s.frame (λ frame. IsLoose (step_under d frame (events.Up p) (emptied s))) (λ free. loose_at s p f)
+      (λ frame held. loose_drop s p frame held f)) refl
 
   pub up-frees-mouse : UpFreesMouse d
   up-frees-mouse before p = up_loose (state_after d before) p (reached-fit before)
 
+  -- ---- and no frame is held after it
+
+  same_frame : (s : State) (o : OpenDialog) (m : Modal) (over : Option ℕ) → (after_work s o m over).frame ≡ s.frame
+  same_frame s o m None = refl
+  same_frame s o m (Some number) = refl
+
+  free_work : (s : State) (o : OpenDialog) (p : Point) → s.frame ≡ None → (to_dialog d o (events.Up p) s).frame ≡ None
+  free_work s o p free =
+      let work : Dialog → Modal → Modal = λ dialog m. dialog_step dialog (event_from o.origin (events.Up p)) m in
+      option_cases (slice_get d.dialogs o.place) (λ found. (works s o work found).frame ≡ None) (λ none. free)
+      (λ dialog there. same_frame s o (work dialog (modal_of s o)) (work dialog (modal_of s o)).ended ∙ free)
+
+  free_at : (s : State) (p : Point) → s.frame ≡ None → (step_at d (held_of s.dialog) (events.Up p) (emptied s)).frame ≡ None
+  free_at s p free =
+      option_cases (held_of s.dialog) (λ o. (step_at d o (events.Up p) (emptied s)).frame ≡ None) (λ none. free)
+      (λ o holds. free_work (emptied s) o p free)
+
+  free_drop : (s : State) (p : Point) (frame : HeldFrame) → (step_dragged d frame (events.Up p) s).frame ≡ None
+  free_drop s p frame =
+      let corner = corner_at d frame p in
+      let is : (placed s.dialog corner (let_go s)).frame ≡ None = placed-frame s.dialog corner (let_go s) in
+      dropped-cases d (λ t. t.frame ≡ None) frame corner (placed s.dialog corner (let_go s)) is (λ i. is)
+
+  up_frees : (s : State) (p : Point) → IsFitState d s → (step d s (events.Up p)).frame ≡ None
+  up_frees s p f =
+      option_cases s.frame (λ x. s.frame ≡ x → (if s.is_over then emptied s else step_under d x (events.Up p) (emptied s)).frame ≡ None)
+      (λ is free. bool_cases s.is_over (λ b. (if b then emptied s else step_at d (held_of s.dialog) (events.Up p) (emptied s)).frame ≡ None) (λ over. free) (λ goes. free_at s p free))
+      (λ frame is held.
+      ap (λ b. (if b then emptied s else step_dragged d frame (events.Up p) (emptied s)).frame) (f.frame frame held).over ∙ free_drop (emptied s) p frame) refl
+
+  pub up-frees-frame : UpFreesFrame d
+  up-frees-frame before p = up_frees (state_after d before) p (reached-fit before)
+
   -- ---- a mouse up and Esc
 
   -- no dialog is open, and Esc opens none
-  esc_idle : (s : State) → s.dialog ≡ None → (step d s escape).dialog ≡ None
-  esc_idle s none =
-      bool_cases s.is_over (λ b. (if b then emptied s else step_at d (held_of s.dialog) escape (emptied s)).dialog ≡ None) (λ over. none)
-      (λ goes. ap (λ x. (step_at d (held_of x) escape (emptied s)).dialog) none
+  esc_idle : (s : State) → s.dialog ≡ None → s.frame ≡ None → (step d s escape).dialog ≡ None
+  esc_idle s none free =
+      bool_cases s.is_over (λ b. (if b then emptied s else step_under d s.frame escape (emptied s)).dialog ≡ None) (λ over. none)
+      (λ goes. ap (λ frame. (step_under d frame escape (emptied s)).dialog) free ∙ ap (λ x. (step_at d (held_of x) escape (emptied s)).dialog) none
       ∙ option_cases s.menu (λ menu. (key_at_menu d menu keys.Esc (emptied s)).dialog ≡ None)
       (λ shut. ap (λ item. (key_at_status d item keys.Esc (emptied s)).dialog) (no_item d (emptied s)) ∙ ap (λ x. (key_below d x keys.Esc (emptied s)).dialog) none ∙ none)
       (λ menu is. none))
 
-  esc_loose : (s : State) → IsFitState d s → IsLoose s → (step d s escape).dialog ≡ None
-  esc_loose s f idle =
-      option_cases s.dialog (λ x. s.dialog ≡ x → (step d s escape).dialog ≡ None) (λ none e. esc_idle s e) (λ o some e. (cancelled s o f e (idle o e)).closed) refl
+  esc_loose : (s : State) → IsFitState d s → IsLoose s → s.frame ≡ None → (step d s escape).dialog ≡ None
+  esc_loose s f idle free =
+      option_cases s.dialog (λ x. s.dialog ≡ x → (step d s escape).dialog ≡ None) (λ none e. esc_idle s e free) (λ o some e. (cancelled s o f e (idle o e) free).closed) refl
 
   pub up-esc-leaves : UpEscLeaves d
   up-esc-leaves before p =
       let s = state_after d before in
-      esc_loose (step d s (events.Up p)) (runs-fit d sound s (events.Up p) (reached-fit before)) (up_loose s p (reached-fit before))
+      let f = reached-fit before in
+      esc_loose (step d s (events.Up p)) (runs-fit d sound s (events.Up p) f) (up_loose s p f) (up_frees s p f)
 
   pub up-esc-cancels : UpEscCancels d
   up-esc-cancels before p o some =
       let s = state_after d before in
       let f = reached-fit before in
-      cancelled (step d s (events.Up p)) o (runs-fit d sound s (events.Up p) f) some (up_loose s p f o some)
+      cancelled (step d s (events.Up p)) o (runs-fit d sound s (events.Up p) f) some (up_loose s p f o some) (up_frees s p f)

@@ -1,30 +1,35 @@
 -- Each event of a run logs no end and saves nothing, or ends the open dialog and saves what it logs.
 use Rattle.std.proofs.Common.{◌≡◌, ◌⊎◌, inl, inr, false, not, ◌==◌, ◌<◌, ℕ, if◌then◌else◌, ◌++◌, length, map, is_some, Option, Some, None, option_map, unwrap_or, refl, sym, ap, subst, ◌∙◌}
 use Rattle.std.specs.Prelude.{pos, slice_get, slice_set}
-use Rattle.std.proofs.lemmas.List.Elements.{All-nil}
+use Rattle.std.proofs.lemmas.List.Elements.{All-nil, All-push}
 use Rattle.tv_cells.specs.Layers.{is_in}
 use Rattle.tv_cells.specs.declared.rect.Point.{Point}
 use Rattle.tv_event.specs.declared.event.Event.{Event}
 use Rattle.tv_event.specs.declared.event.Event.TheVariants as events
 use Rattle.tv_event.specs.declared.event.Key.{Key}
+use Rattle.tv_model.specs.declared.node.Id.{Id}
 use Rattle.tv_model.specs.declared.desc.Desc.{Desc}
 use Rattle.tv_model.specs.declared.desc.Dialog.{Dialog}
 use Rattle.tv_model.specs.declared.desc.StatusItem.{StatusItem}
+use Rattle.tv_model.specs.declared.log.LogLine.TheVariants as lines
 use Rattle.tv_model.specs.Description.Commands.{command_number}
 use Rattle.tv_model.specs.Description.Rectangles.{desktop, rect}
-use Rattle.tv_machine.specs.State.{OpenDialog, State}
+use Rattle.tv_machine.specs.State.{HeldFrame, OpenDialog, State}
 use Rattle.tv_machine.specs.Dialog.Ending.{command, ended, fields_of}
 use Rattle.tv_machine.specs.Dialog.Modal.{Modal}
 use Rattle.tv_machine.specs.Dialog.Step.{dialog_step}
 use Rattle.tv_machine.specs.Safe.{IsSafeRecord}
 use Rattle.tv_machine.specs.Screen.Bars.{status_under}
-use Rattle.tv_machine.specs.Session.Commands.{after_work, command_by_dialog, do_command, in_dialog, modal_of, saved_by, works}
-use Rattle.tv_machine.specs.Session.Step.{down_at_menu, down_at_status, down_below, emptied, event_from, held_of, is_item_enabled, is_status_row, key_at_menu, key_at_status, key_below, status_command, status_item_of, step, step_at, step_below, step_held, to_dialog}
+use Rattle.tv_machine.specs.Session.Commands.{after_work, command_by_dialog, do_command, in_dialog, logged, modal_of, saved_by, works}
+use Rattle.tv_machine.specs.Session.Desktop.{seen_from}
+use Rattle.tv_machine.specs.Session.Dragging.{corner_at, grabbed, is_grip_of, let_go, placed, step_dragged}
+use Rattle.tv_machine.specs.Session.Step.{down_at_menu, down_at_status, down_below, down_on_dialog, emptied, event_from, held_of, is_item_enabled, is_status_row, key_at_menu, key_at_status, key_below, status_command, status_item_of, step, step_at, step_below, step_held, step_under, to_dialog}
 use Rattle.tv_laws.specs.Ends.{IsDone, NamesEndOf, IsOpen}
 use Rattle.tv_laws.specs.Records.{IsEnd, IsEndless, IsNoEnd, ShowsSaved, end_lines}
 use Rattle.tv_laws.specs.Runs.{HasSoundDialogs, IsFitState}
 use Rattle.tv_laws.specs.Sound.{IsSoundDialog}
 use Rattle.tv_laws.specs.Steps.{RespectsHold}
+use Rattle.tv_laws.proofs.DragLemmas.{dropped-cases}
 use Rattle.tv_laws.proofs.EndLemmas.{command-done}
 use Rattle.tv_laws.proofs.RecordLaws.IdleLemmas.{IsBeside, IsStill, command-beside, desktop_down-beside, desktop_key-beside, menu_down-beside, menu_key-beside}
 use Rattle.tv_machine.proofs.ListLemmas.{bool_cases, option_cases}
@@ -53,6 +58,12 @@ module _ (d : Desc) (sound : HasSoundDialogs d) (s : State) (f : IsFitState d s)
 
   unchanged : IsTold quiet
   unchanged = inl (record {
+    endless = record { log = All-nil IsNoEnd; saved = refl; stays = λ o some. ap (option_map place_of) some };
+    shows = λ o was e. absurd (nothing o (sym was ∙ e));
+  })
+
+  grabbed_told : (corner p : Point) → IsTold (grabbed corner p quiet)
+  grabbed_told corner p = inl (record {
     endless = record { log = All-nil IsNoEnd; saved = refl; stays = λ o some. ap (option_map place_of) some };
     shows = λ o was e. absurd (nothing o (sym was ∙ e));
   })
@@ -126,6 +137,12 @@ module _ (d : Desc) (sound : HasSoundDialogs d) (s : State) (f : IsFitState d s)
         dialog_told (λ dialog m. dialog_step dialog seen m)
         (λ dialog is going. (stays-fit dialog is (modal_of s o) seen going given, last-step dialog seen (modal_of s o) (All-nil IsNoEnd, refl)))
 
+    down_told_at : (p : Point) → IsTold (down_on_dialog d o p quiet)
+    down_told_at p =
+        bool_cases (is_grip_of (slice_get d.dialogs o.place) (seen_from o.origin p))
+        (λ b. IsTold (if b then grabbed o.origin p quiet else to_dialog d o (events.Down p) quiet)) (λ grip. grabbed_told o.origin p)
+        (λ beside. to_dialog_told (events.Down p) (given_down o.held _))
+
     held_told : (e : Event) → IsTold (step_held d o e quiet)
     held_told (events.Move p) = to_dialog_told (events.Move p) (given_move o.held _)
     held_told (events.Up p) = to_dialog_told (events.Up p) (given_up o.held _)
@@ -133,6 +150,37 @@ module _ (d : Desc) (sound : HasSoundDialogs d) (s : State) (f : IsFitState d s)
     held_told (events.Down p) = unchanged
     held_told (events.Command c) = unchanged
     held_told (events.Broadcast c) = unchanged
+
+  -- ---- while a frame is held
+
+  -- only where the frame stands changes
+  placed_calm : (o : Option OpenDialog) (corner : Point) (frame : Option HeldFrame) → s.dialog ≡ o
+      → IsCalm d s (placed o corner (record quiet { frame = frame }))
+  placed_calm None corner frame none = record {
+    endless = record { log = All-nil IsNoEnd; saved = refl; stays = λ o some. ap (option_map place_of) some };
+    shows = λ o was e. absurd (nothing o (sym was ∙ e));
+  }
+  placed_calm (Some o) corner frame some = record {
+    endless = record { log = All-nil IsNoEnd; saved = refl; stays = λ x is. ap (option_map place_of) (sym some ∙ is) };
+    shows = λ x was e. absurd (nothing o (sym was ∙ some));
+  }
+
+  logged_calm : (i : Id) (corner : Point) (t : State) → IsCalm d s t → IsCalm d s (logged (lines.Moved i corner) t)
+  logged_calm i corner t c = record {
+    endless = record { log = All-push IsNoEnd t.log (lines.Moved i corner) c.endless.log tt; saved = c.endless.saved; stays = c.endless.stays };
+    shows = c.shows;
+  }
+
+  dragged_told : (frame : HeldFrame) (e : Event) → IsTold (step_dragged d frame e quiet)
+  dragged_told frame (events.Move p) = inl (placed_calm s.dialog (corner_at d frame p) s.frame refl)
+  dragged_told frame (events.Up p) =
+      let corner = corner_at d frame p in
+      let t = placed s.dialog corner (let_go quiet) in
+      inl (dropped-cases d (IsCalm d s) frame corner t (placed_calm s.dialog corner None refl) (λ i. logged_calm i corner t (placed_calm s.dialog corner None refl)))
+  dragged_told frame (events.Key k) = unchanged
+  dragged_told frame (events.Down p) = unchanged
+  dragged_told frame (events.Command c) = unchanged
+  dragged_told frame (events.Broadcast c) = unchanged
 
   -- ---- while nothing holds the mouse
 
@@ -174,8 +222,8 @@ module _ (d : Desc) (sound : HasSoundDialogs d) (s : State) (f : IsFitState d s)
     down_below_told : (p : Point) → IsTold (down_below d s.dialog p quiet)
     down_below_told p =
         option_cases s.dialog (λ x. IsTold (down_below d x p quiet)) (λ none. idle_told _ none (desktop_down-beside d sound s f.kept p quiet (still none)))
-        (λ o some. bool_cases (is_in (desktop d) p.x p.y) (λ b. IsTold (if b then to_dialog d o (events.Down p) quiet else quiet))
-        (λ inside. to_dialog_told o some (events.Down p) (given_down o.held _)) (λ outside. unchanged))
+        (λ o some. bool_cases (is_in (desktop d) p.x p.y) (λ b. IsTold (if b then down_on_dialog d o p quiet else quiet))
+        (λ inside. down_told_at o some p) (λ outside. unchanged))
 
     down_status_told : (p : Point) → IsTold (down_at_status d p quiet)
     down_status_told p =
@@ -209,4 +257,5 @@ module _ (d : Desc) (sound : HasSoundDialogs d) (s : State) (f : IsFitState d s)
 
   pub event-told : (e : Event) → IsTold (step d s e)
   event-told e =
-      bool_cases s.is_over (λ b. IsTold (if b then quiet else step_at d (held_of s.dialog) e quiet)) (λ over. unchanged) (λ goes. at_told e)
+      bool_cases s.is_over (λ b. IsTold (if b then quiet else step_under d s.frame e quiet)) (λ over. unchanged)
+      (λ goes. option_cases s.frame (λ frame. IsTold (step_under d frame e quiet)) (λ free. at_told e) (λ frame held. dragged_told frame e))

@@ -10,6 +10,7 @@ use Rattle.tv_model.specs.declared.desc.Desc.{Desc}
 use Rattle.tv_model.specs.declared.desc.Dialog.{Dialog}
 use Rattle.tv_model.specs.declared.desc.Menu.{Menu}
 use Rattle.tv_model.specs.declared.desc.MenuItem.{MenuItem}
+use Rattle.tv_model.specs.declared.desc.Window.{Window}
 use Rattle.tv_model.specs.declared.log.LogLine.{LogLine}
 use Rattle.tv_model.specs.declared.log.LogLine.TheVariants as lines
 use Rattle.tv_model.specs.Description.Commands.{command_number}
@@ -21,8 +22,10 @@ use Rattle.tv_machine.specs.Dialog.Modal.{Modal}
 use Rattle.tv_machine.specs.Dialog.Mouse.{is_close_mark}
 use Rattle.tv_machine.specs.Dialog.Opening.{first_focus, opened_dialog, opened_leaves, unfocused}
 use Rattle.tv_machine.specs.Screen.Bars.{item_under}
+use Rattle.tv_machine.specs.Screen.Bodies.{window_of}
 use Rattle.tv_machine.specs.Session.Commands.{close_front, command_by_dialog, do_command, idle_command, last_first, logged, open_dialog, open_first, open_found, opener_of, overwriting_at, own_command, saved_at}
-use Rattle.tv_machine.specs.Session.Desktop.{alt_pressed, desktop_down, desktop_key, down_beside_title, down_in_front, down_on_desktop, down_on_window, raise, raise_found, seen_from, window_of_digit, window_under}
+use Rattle.tv_machine.specs.Session.Desktop.{alt_pressed, desktop_down, desktop_key, down_beside_title, down_in_front, down_on_desktop, down_on_window, grab_window, raise, raise_found, seen_from, window_of_digit, window_under}
+use Rattle.tv_machine.specs.Session.Dragging.{grabbed, is_grip}
 use Rattle.tv_machine.specs.Session.Menu.{choose, choose_at, close_menu, down_on_item, down_on_title, item_of_letter, menu_down, menu_key, open_items, open_menu, title_at, title_of_letter}
 use Rattle.tv_laws.specs.Records.{IsNoEnd, ShowsSaved, opened_record}
 use Rattle.tv_laws.specs.Runs.{HasSoundDialogs, IsKept}
@@ -151,9 +154,16 @@ module _ (d : Desc) (sound : HasSoundDialogs d) (s : State) (kept : IsKept d s) 
   desktop_key-beside (keys.Alt ch) t i = alt_beside ch (title_of_letter d ch) t i
   desktop_key-beside _ t i = still-beside t i
 
+  grab_beside : (window : Option Window) (w : OpenWindow) (p : Point) (t : State) → IsStill t → IsBeside d s (grab_window window w p t)
+  grab_beside None w p t i = still-beside t i
+  grab_beside (Some window) w p t i =
+      bool_cases (is_grip window.node.w (seen_from w.origin p)) (λ b. IsBeside d s (if b then grabbed w.origin p t else t))
+      (λ grip. still-beside (grabbed w.origin p t) i) (λ beside. still-beside t i)
+
   in_front_beside : (w : OpenWindow) (p : Point) (t : State) → IsStill t → IsBeside d s (down_in_front d w p t)
   in_front_beside w p t i =
-      bool_cases (is_close_mark (seen_from w.origin p)) (λ b. IsBeside d s (if b then do_command d 4 t else t)) (λ mark. command-beside 4 t i) (λ off. still-beside t i)
+      bool_cases (is_close_mark (seen_from w.origin p)) (λ b. IsBeside d s (if b then do_command d 4 t else grab_window (window_of d w.id) w p t))
+      (λ mark. command-beside 4 t i) (λ off. grab_beside (window_of d w.id) w p t i)
 
   on_window_beside : (windows : List OpenWindow) (w : OpenWindow) (p : Point) (t : State) → IsStill t
       → IsBeside d s (down_on_window d windows w p t)

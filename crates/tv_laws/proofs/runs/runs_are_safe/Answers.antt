@@ -2,4 +2,4 @@ use Rattle.tv_laws.proofs.RunLemmas.{always-safe}
 use Rattle.tv_laws.proofs.runs.runs_are_safe.Goals as goal
 
 pub returns : goal.returns
-returns c = record { safe = always-safe c.args._desc.now c.requires.sound }
+returns c = record { safe = always-safe c.args._desc.now c.requires.sound c.requires.stand }
