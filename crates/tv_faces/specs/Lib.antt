@@ -1,4 +1,5 @@
 pub mod Choices
+pub mod Corners
 pub mod Inputs
 pub mod Labels
 pub mod Looks

@@ -4,6 +4,7 @@
 mod background;
 mod button;
 mod cluster;
+mod corner;
 mod frame;
 mod input;
 mod label;
@@ -17,6 +18,7 @@ mod static_text;
 pub use background::Background;
 pub use button::ButtonFace;
 pub use cluster::{ClusterFace, ClusterMarks};
+pub use corner::Corner;
 pub use frame::Frame;
 pub use input::{InputColours, InputFace, first_shown};
 pub use label::LabelFace;

@@ -23,8 +23,8 @@ use Rattle.tv_machine.specs.Session.Desktop.{has_point, is_numbered, is_under, s
 use Rattle.tv_machine.specs.State.{OpenWindow}
 use Rattle.tv_machine.proofs.ListLemmas.{found-passes, same-id}
 use Rattle.tv_window.specs.DeclaredWindows.{AreDeclared, IsDeclared}
-use Rattle.tv_window.specs.Head.{KeptWindowHead, window_bounds, declared_window_head, kept_window_head}
-use Rattle.tv_window.specs.Window.{head_of}
+use Rattle.tv_window.specs.Head.{KeptWindowHead, declared_window_head, kept_window_head}
+use Rattle.tv_window.specs.Window.{head_of, moved_to, window_bounds}
 use Rattle.tv_window.specs.declared.window.WindowOf.{WindowOf}
 
 -- ---- what a window keeps of its node
@@ -55,22 +55,33 @@ module _ {V : Type 0} (look : V → Leaf) (d : Desc) where
 
   module _ (o : OpenWindow) (w : WindowOf V) (is : IsDeclared look d o w) where
     kept : head_of w ≡ kept_window_head is.declared.node (window_head is.declared)
-    kept = head-is is.declared (head_of w) is.fresh.head
+    kept = head-is is.declared (head_of w) is.of.head
 
     pub id-same : (head_of w).id ≡ o.id
     id-same = ap (λ head. head.id) kept ∙ same-id is.declared.node.id o.id (found-passes (λ window. has_id o.id window.node) d.windows is.declared is.named)
 
-    pub corner-same : (window_bounds (head_of w)).a ≡ o.origin
-    corner-same = ap (λ head. (window_bounds head).a) kept ∙ sym is.corner
+    pub width-same : (head_of w).w ≡ is.declared.node.w
+    width-same = ap (λ head. head.w) kept
 
     pub number-same : (number : ℕ) → int_eq (head_of w).number (pos number) ≡ is_numbered number (window_of d o.id)
     number-same number = ap (λ head. int_eq head.number (pos number)) kept ∙ sym (ap (is_numbered number) is.named)
 
-    pub point-same : (p : Point) → is_in (window_bounds (head_of w)) p.x p.y ≡ is_under d p o
+    pub point-same : (p : Point) → is_in (window_bounds w) p.x p.y ≡ is_under d p o
     point-same p =
-        ap (λ head. is_in (window_bounds head) p.x p.y) kept
-        ∙ (in-seen is.declared.node.x is.declared.node.y is.declared.node.w (window_head is.declared).h p
-        ∙ sym (ap (λ window. has_point window (seen_from o.origin p)) is.named ∙ ap (λ corner. has_point (Some is.declared) (seen_from corner p)) is.corner))
+        ap (λ head. is_in (rect w.corner.x w.corner.y head.w head.h) p.x p.y) kept
+        ∙ (in-seen w.corner.x w.corner.y is.declared.node.w (window_head is.declared).h p
+        ∙ (ap (λ corner. has_point (Some is.declared) (seen_from corner p)) is.corner ∙ sym (ap (λ window. has_point window (seen_from o.origin p)) is.named)))
+
+    -- where it moves, it is the same window
+    pub declared-moved : (corner : Point) → IsDeclared look d (record o { origin = corner }) (moved_to corner w)
+    declared-moved corner = record {
+      declared = is.declared;
+      named = is.named;
+      corner = refl;
+      of = record { head = is.of.head; body = is.of.body };
+      limited = is.limited;
+      texts = is.texts;
+    }
 
   -- ---- in another order
 

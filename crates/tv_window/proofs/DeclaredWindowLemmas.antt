@@ -9,10 +9,11 @@ use Rattle.tv_cells.specs.Glyph.{Glyph}
 use Rattle.tv_cells.specs.Layers.{Layer, Painted, ShowsSame}
 use Rattle.tv_cells.specs.Rectangle.{IsIn, cut, shifted, sized}
 use Rattle.tv_cells.specs.declared.canvas.Canvas.{Canvas}
+use Rattle.tv_cells.specs.declared.rect.Point.{Point}
 use Rattle.tv_cells.proofs.RectangleLemmas.{in_cut, point_is}
 use Rattle.tv_model.specs.Screen.Faces.{FaceOf, frame_look, frame_role, static_text_face, text_face}
 use Rattle.tv_model.specs.Description.Nodes.{is_pane}
-use Rattle.tv_model.specs.Description.Rectangles.{corner_of, desktop, interior, place_of_node, rect}
+use Rattle.tv_model.specs.Description.Rectangles.{desktop, interior, place_of_node, rect}
 use Rattle.tv_machine.specs.Screen.Bodies.{canvas_at}
 use Rattle.tv_machine.specs.Leaves.{PlacedNode, leaf_list}
 use Rattle.tv_machine.specs.Screen.Layers.{window_leaf}
@@ -99,13 +100,13 @@ pub look_same : (env : Env) → IsOfWindow env → (number : ℕ) (is_active : B
 look_same env lent number is_active =
     rw (leads_through (roles.Frame owners.Window (frame_role is_active)) env.chain.now lent.chain, leads_through (roles.Frame owners.Window frame.Body) env.chain.now lent.chain) refl
 
-module _ (env : Env) (lent : IsOfWindow env) (d : Desc) (window : Window) (h : ℤ) (tall : interior window.node ≡ rect (pos 1) (pos 1) (window.node.w -ℤ pos 2) (h -ℤ pos 2)) where
+module _ (env : Env) (lent : IsOfWindow env) (d : Desc) (origin : Point) (window : Window) (h : ℤ) (tall : interior window.node ≡ rect (pos 1) (pos 1) (window.node.w -ℤ pos 2) (h -ℤ pos 2)) where
   abbrev pub body_of_window : Canvas
-  body_of_window = body d window.node.x window.node.y window.node.w h
+  body_of_window = body d origin.x origin.y window.node.w h
 
   -- what the machine shows of views round which there are no panes
   abbrev shown_views : List Node → List Layer
-  shown_views ns = flat_map (window_leaf d (corner_of window.node)) (reverse (map bare ns))
+  shown_views ns = flat_map (window_leaf d origin) (reverse (map bare ns))
 
   view_drawn : (n : Node) (height : ℤ) (text : List ℕ) → n.kind ≡ kinds.Text (record { h = height; text = text })
       → leaf_layers env body_of_window (fresh n) ≡ Painted (sub body_of_window (rect n.x n.y n.w height)) (natural n.w) (natural height) (text_face_in env text) ∷ []
@@ -113,22 +114,22 @@ module _ (env : Env) (lent : IsOfWindow env) (d : Desc) (window : Window) (h : �
   view_drawn n height text kind = rw kind refl
 
   view_declared : (n : Node) (height : ℤ) (text : List ℕ) → n.kind ≡ kinds.Text (record { h = height; text = text })
-      → window_leaf d (corner_of window.node) (bare n) ≡ Painted (canvas_at (desktop d) (window.node.x +ℤ n.x) (window.node.y +ℤ n.y)) (natural n.w) (natural height) (static_text_face owners.Window text) ∷ []
+      → window_leaf d origin (bare n) ≡ Painted (canvas_at (desktop d) (origin.x +ℤ n.x) (origin.y +ℤ n.y)) (natural n.w) (natural height) (static_text_face owners.Window text) ∷ []
   view_declared n height text kind = rw kind refl
 
   place_is : (n : Node) (height : ℤ) (text : List ℕ) → n.kind ≡ kinds.Text (record { h = height; text = text }) → place_of_node n ≡ rect n.x n.y n.w height
   place_is n height text kind = rw kind refl
 
-  view_same : (n : Node) → IsTextInside window.node n → ShowsSame (leaf_layers env body_of_window (fresh n)) (window_leaf d (corner_of window.node) (bare n))
+  view_same : (n : Node) → IsTextInside window.node n → ShowsSame (leaf_layers env body_of_window (fresh n)) (window_leaf d origin (bare n))
   view_same n is =
       let within : (p q : ℤ) → IsIn (rect n.x n.y n.w is.height) p q → IsIn (rect (pos 1) (pos 1) (window.node.w -ℤ pos 2) (h -ℤ pos 2)) p q = λ p q i. subst (λ r. IsIn r p q) tall (is.inside p q (subst (λ r. IsIn r p q) (sym (place_is n is.height is.text is.kind)) i)) in
       rw (view_drawn n is.height is.text is.kind, view_declared n is.height is.text is.kind)
-      (text_same d window.node.x window.node.y window.node.w h n.x n.y n.w is.height within (text_face_in env is.text) (static_text_face owners.Window is.text) (text_face_same env lent is.text))
+      (text_same d origin.x origin.y window.node.w h n.x n.y n.w is.height within (text_face_in env is.text) (static_text_face owners.Window is.text) (text_face_same env lent is.text))
 
-  views_step : (n : Node) (ns : List Node) → shown_views (n ∷ ns) ≡ shown_views ns ++ window_leaf d (corner_of window.node) (bare n)
+  views_step : (n : Node) (ns : List Node) → shown_views (n ∷ ns) ≡ shown_views ns ++ window_leaf d origin (bare n)
   views_step n ns =
-      ap (flat_map (window_leaf d (corner_of window.node))) (reverse-append (bare n ∷ []) (map bare ns))
-      ∙ (flat_map-append (window_leaf d (corner_of window.node)) (reverse (map bare ns)) (bare n ∷ []) ∙ ap (λ t. shown_views ns ++ t) (append_nil (window_leaf d (corner_of window.node) (bare n))))
+      ap (flat_map (window_leaf d origin)) (reverse-append (bare n ∷ []) (map bare ns))
+      ∙ (flat_map-append (window_leaf d origin) (reverse (map bare ns)) (bare n ∷ []) ∙ ap (λ t. shown_views ns ++ t) (append_nil (window_leaf d origin (bare n))))
     where
       append_nil : (xs : List Layer) → xs ++ [] ≡ xs
       append_nil [] = refl
@@ -138,9 +139,9 @@ module _ (env : Env) (lent : IsOfWindow env) (d : Desc) (window : Window) (h : �
   bare_same [] texts = same_refl []
   bare_same (n ∷ ns) texts =
       rw (views_step n ns)
-      (same_append (fresh_layers env body_of_window ns) (shown_views ns) (leaf_layers env body_of_window (fresh n)) (window_leaf d (corner_of window.node) (bare n))
+      (same_append (fresh_layers env body_of_window ns) (shown_views ns) (leaf_layers env body_of_window (fresh n)) (window_leaf d origin (bare n))
       (bare_same ns (All-tail (IsTextInside window.node) n ns texts)) (view_same n (All-head (IsTextInside window.node) n ns texts)))
 
-  pub views_same : (ns : List Node) → All (IsTextInside window.node) ns → ShowsSame (fresh_layers env body_of_window ns) (flat_map (window_leaf d (corner_of window.node)) (reverse (leaf_list ns)))
+  pub views_same : (ns : List Node) → All (IsTextInside window.node) ns → ShowsSame (fresh_layers env body_of_window ns) (flat_map (window_leaf d origin) (reverse (leaf_list ns)))
   views_same ns texts =
-      subst (λ leaves. ShowsSame (fresh_layers env body_of_window ns) (flat_map (window_leaf d (corner_of window.node)) (reverse leaves))) (sym (bare_list window.node ns texts)) (bare_same ns texts)
+      subst (λ leaves. ShowsSame (fresh_layers env body_of_window ns) (flat_map (window_leaf d origin) (reverse leaves))) (sym (bare_list window.node ns texts)) (bare_same ns texts)

@@ -1,5 +1,5 @@
 -- What the flat machine makes of its open windows, by the place of the one that is meant.
-use Rattle.std.proofs.Common.{◌≡◌, ◌≢◌, ℕ, suc, ◌+◌, ◌<◌, Bool, true, false, ◌&&◌, ◌==◌, ◌-◌, nat_le, if◌then◌else◌, List, [], ◌∷◌, length, reverse, find, position, Option, Some, None, ℤ, pos, refl, sym, ap, ◌∙◌, subst, arith}
+use Rattle.std.proofs.Common.{◌≡◌, ◌≢◌, ℕ, suc, ◌+◌, ◌<◌, Bool, true, false, ◌&&◌, ◌==◌, ◌-◌, nat_le, if◌then◌else◌, List, [], ◌∷◌, length, reverse, find, position, Option, Some, None, option_map, ℤ, pos, refl, sym, ap, ◌∙◌, subst, arith}
 use Rattle.std.specs.List.{remove, slice_get, slice_index_or}
 use Rattle.std.specs.Ordering.{int_eq}
 use Rattle.std.proofs.lemmas.Option.{slice_get_read}
@@ -12,16 +12,19 @@ use Rattle.tv_model.specs.declared.desc.Desc.{Desc}
 use Rattle.tv_model.specs.declared.node.Id.{Id}
 use Rattle.tv_machine.specs.Dialog.Mouse.{is_close_mark}
 use Rattle.tv_machine.specs.Session.Commands.{close_front, do_command, last_first}
-use Rattle.tv_machine.specs.Session.Desktop.{down_in_front, down_on_desktop, down_on_window, is_numbered, is_under, raise, raise_found, seen_from, window_of_digit}
+use Rattle.tv_machine.specs.Session.Desktop.{down_in_front, down_on_desktop, down_on_window, grab_window, is_numbered, is_under, raise, raise_found, seen_from, window_of_digit}
+use Rattle.tv_machine.specs.Session.Dragging.{front_at, grabbed, is_grip}
 use Rattle.tv_machine.specs.State.{OpenWindow, State}
-use Rattle.tv_machine.proofs.ListLemmas.{bool_cases, id-itself, pairs-tail}
-use Rattle.tv_window.specs.DeclaredWindows.{AreDeclared}
-use Rattle.tv_window.specs.Head.{window_bounds}
-use Rattle.tv_window.specs.Window.{head_of}
+use Rattle.std.proofs.lemmas.List.Kept.{AllPairs-cons}
+use Rattle.tv_machine.proofs.ListLemmas.{bool_cases, id-itself, pairs-head, pairs-tail}
+use Rattle.tv_window.specs.DeclaredWindows.{AreDeclared, IsDeclared}
+use Rattle.tv_window.specs.Window.{head_of, window_bounds}
 use Rattle.tv_window.specs.declared.window.WindowOf.{WindowOf}
-use Rattle.tv_window.specs.Desk.{AreDistinct, IsDesk, down_on_desk, with_close_line}
+use Rattle.tv_window.specs.Desk.{AreDistinct, IsDesk, down_on_desk, front_id, front_moved, hit_on, with_close_line}
 use Rattle.tv_window.specs.declared.desk.DeskOf.{DeskOf}
-use Rattle.tv_window.proofs.DeclaredLemmas.{corner-same, declared-raised, id-same, number-same, one-declared, point-same, position-same, same-length}
+use Rattle.tv_window.specs.declared.desk.Hit.{Hit}
+use Rattle.tv_window.specs.declared.desk.Hit.TheVariants as hits
+use Rattle.tv_window.proofs.DeclaredLemmas.{declared-moved, declared-raised, id-same, number-same, one-declared, point-same, position-same, same-length, width-same}
 use Rattle.tv_window.proofs.OrderLemmas.{apart-at, front-only, last-raised, raised-at}
 use Rattle.tv_window.proofs.PlaceLemmas.{IsFoundAt, found-at, not-found}
 
@@ -29,6 +32,12 @@ use Rattle.tv_window.proofs.PlaceLemmas.{IsFoundAt, found-at, not-found}
 pub raise_found-windows : (o : Option OpenWindow) (s : State) → raise_found o s ≡ record s { windows = (raise_found o s).windows }
 raise_found-windows None s = refl
 raise_found-windows (Some w) s = refl
+
+-- what a mouse down on the front window does, by what it hits
+abbrev pub done_by : Desc → Point → State → Hit → State
+done_by d p s hits.CloseMark = do_command d 4 s
+done_by d p s (hits.Grip corner) = grabbed corner p s
+done_by d p s hits.Done = s
 
 -- the place of a digit's number
 pub digit-placed : {V : Type 0} (windows : List (WindowOf V)) (letter : ℕ) (number : ℤ) (place : Option ℕ) → place ≡ position (λ w. int_eq (head_of w).number number) windows → number ≡ pos (letter - 48)
@@ -99,7 +108,7 @@ module _ {V : Type 0} (look : V → Leaf) (d : Desc) where
 
   module _ (s : State) (desk after : DeskOf V) (is : IsDesk look d s.windows desk) (seen : List (WindowOf V)) (all : seen ≡ shown desk) (p : Point) where
     abbrev under : WindowOf V → Bool
-    under w = is_in (window_bounds (head_of w)) p.x p.y
+    under w = is_in (window_bounds w) p.x p.y
 
     under-same : position under seen ≡ position (is_under d p) s.windows
     under-same = ap (position under) all ∙ position-same look d (is_under d p) under (λ o w declared. point-same look d o w declared p) s.windows (shown desk) is.windows
@@ -138,19 +147,40 @@ module _ {V : Type 0} (look : V → Leaf) (d : Desc) where
         at : slice_get (shown desk) place ≡ Some w
         at = slice_get_read (shown desk) (length (shown desk)) place w refl (subst (λ ws. place < length ws) all (found-at under seen place e).within) read
 
-        tests : down_on_desk d p s ≡ (if is_close_mark (seen_from (window_bounds (head_of w)).a p) then do_command d 4 s else s)
+        is_declared : IsDeclared look d there.item w
+        is_declared = one-declared look d s.windows (shown desk) place there.item w is.windows there.at at
+
+        abbrev on_mark : Bool
+        on_mark = is_close_mark (seen_from w.corner p)
+
+        abbrev on_grip : Bool
+        on_grip = is_grip (head_of w).w (seen_from w.corner p)
+
+        grabs : grab_window (window_of d there.item.id) there.item p s ≡ (if on_grip then grabbed w.corner p s else s)
+        grabs =
+            ap (λ window. grab_window window there.item p s) is_declared.named
+            ∙ (ap (λ width. if is_grip width (seen_from there.item.origin p) then grabbed there.item.origin p s else s) (sym (width-same look d there.item w is_declared))
+            ∙ ap (λ corner. if is_grip (head_of w).w (seen_from corner p) then grabbed corner p s else s) (sym is_declared.corner))
+
+        tests : down_on_desk d p s ≡ (if on_mark then do_command d 4 s else if on_grip then grabbed w.corner p s else s)
         tests =
             ap (λ o. down_on_desktop d o p s) there.found
             ∙ (in-front there.item (ap (slice_get s.windows) (sym first) ∙ there.at)
-            ∙ ap (λ corner. if is_close_mark (seen_from corner p) then do_command d 4 s else s) (sym (corner-same look d there.item w (one-declared look d s.windows (shown desk) place there.item w is.windows there.at at))))
+            ∙ (ap (λ corner. if is_close_mark (seen_from corner p) then do_command d 4 s else grab_window (window_of d there.item.id) there.item p s) (sym is_declared.corner)
+            ∙ ap (λ held. if on_mark then do_command d 4 s else held) grabs))
 
-        -- on the close mark of the front window
-        pub down-mark : is_close_mark (seen_from (window_bounds (head_of w)).a p) ≡ true → down_on_desk d p s ≡ do_command d 4 s
-        down-mark mark = tests ∙ ap (λ b. if b then do_command d 4 s else s) mark
+        hit_told : (mark grip : Bool) → (if mark then do_command d 4 s else if grip then grabbed w.corner p s else s) ≡ done_by d p s (if mark then hits.CloseMark else if grip then hits.Grip w.corner else hits.Done)
+        hit_told true grip = refl
+        hit_told false true = refl
+        hit_told false false = refl
+
+        -- in front
+        pub down-hit : (hit : Hit) → hit ≡ hit_on w p → down_on_desk d p s ≡ done_by d p s hit
+        down-hit hit e = tests ∙ (hit_told on_mark on_grip ∙ ap (done_by d p s) (sym e))
 
         -- elsewhere on it
-        pub down-beside : is_close_mark (seen_from (window_bounds (head_of w)).a p) ≡ false → after ≡ desk → Comes s after (down_on_desk d p s)
-        down-beside beside same = subst (Comes s after) (sym (tests ∙ ap (λ b. if b then do_command d 4 s else s) beside)) (kept-desk s.windows desk after same is, refl)
+        pub down-beside : (hit : Hit) → hit ≡ hit_on w p → hit ≡ hits.Done → after ≡ desk → Comes s after (down_on_desk d p s)
+        down-beside hit e done same = subst (Comes s after) (sym (down-hit hit e ∙ ap (done_by d p s) done)) (kept-desk s.windows desk after same is, refl)
 
     -- on none
     pub down-kept : position under seen ≡ None → after ≡ desk → Comes s after (down_on_desk d p s)
@@ -197,3 +227,29 @@ module _ {V : Type 0} (look : V → Leaf) (d : Desc) where
           let same : v ≡ w = cc in
           let named : i ≡ o.id = kept ∙ (ap (λ u. (head_of u).id) (sym same) ∙ id-same look d o v are.0) in
           subst (λ j. close_front (o ∷ stack) s ≡ with_close_line (Some j) (record s { windows = stack })) (sym named) refl
+
+  -- ---- the front one moves
+
+  moved-declared : (corner : Point) (stack : List OpenWindow) (windows : List (WindowOf V)) → AreDeclared look d stack windows → AreDeclared look d (front_at corner stack) (front_moved corner windows)
+  moved-declared corner [] [] are = tt
+  moved-declared corner [] (w ∷ windows) are = absurd are
+  moved-declared corner (o ∷ behind) [] are = absurd are
+  moved-declared corner (o ∷ behind) (w ∷ windows) are = (declared-moved look d o w are.0 corner, are.1)
+
+  moved-apart : (corner : Point) (stack : List OpenWindow) → AreDistinct stack → AreDistinct (front_at corner stack)
+  moved-apart corner [] apart = apart
+  moved-apart corner (o ∷ behind) apart =
+      let Differ : OpenWindow → OpenWindow → Type 0 = λ v other. v.id.0 ≢ other.id.0 in
+      AllPairs-cons Differ (record o { origin = corner }) behind (pairs-head Differ o behind apart) (pairs-tail Differ o behind apart)
+
+  pub moved-desk : (corner : Point) (stack : List OpenWindow) (desk after : DeskOf V) → IsDesk look d stack desk → shown after ≡ front_moved corner (shown desk) → IsDesk look d (front_at corner stack) after
+  moved-desk corner stack desk after is items = record {
+    windows = subst (AreDeclared look d (front_at corner stack)) (sym items) (moved-declared corner stack (shown desk) is.windows);
+    apart = moved-apart corner stack is.apart;
+  }
+
+  pub front-told : (stack : List OpenWindow) (windows : List (WindowOf V)) → AreDeclared look d stack windows → option_map (λ w. (head_of w).id) (slice_get windows 0) ≡ front_id stack
+  front-told [] [] are = refl
+  front-told [] (w ∷ windows) are = absurd are
+  front-told (o ∷ stack) [] are = absurd are
+  front-told (o ∷ stack) (w ∷ windows) are = ap (λ i. Some i) (id-same look d o w are.0)

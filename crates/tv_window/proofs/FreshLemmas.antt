@@ -1,5 +1,5 @@
 -- The windows of a sound description, as they stand before any event.
-use Rattle.std.proofs.Common.{◌≡◌, ◌≢◌, false, List, [], ◌∷◌, map, reverse, Some, All, AllPairs, refl, sym, ◌∙◌, subst, arith}
+use Rattle.std.proofs.Common.{◌≡◌, ◌≢◌, false, List, [], ◌∷◌, map, reverse, Some, All, AllPairs, sym, ◌∙◌, subst, arith}
 use Rattle.std.proofs.lemmas.List.Elements.{All-head, All-map, All-tail, All-weaker}
 use Rattle.std.proofs.lemmas.List.Kept.{AllPairs-cons}
 use Rattle.tv_view.specs.Meaning.{Leaf}
@@ -9,7 +9,9 @@ use Rattle.tv_model.specs.declared.desc.Window.{Window}
 use Rattle.tv_model.specs.declared.node.Id.{Id}
 use Rattle.tv_machine.specs.Session.Start.{closed, open_window}
 use Rattle.tv_machine.proofs.ListLemmas.{AreApart as AreApartIds, fails-absent, find-member, has, pairs-head, pairs-tail}
+use Rattle.std.specs.Prelude.{IfSome}
 use Rattle.tv_window.specs.DeclaredWindows.{AreDeclared}
+use Rattle.tv_window.specs.Head.{IsLimitedWindowHead}
 use Rattle.tv_window.specs.declared.window.WindowOf.{WindowOf}
 use Rattle.tv_window.specs.Desk.{AreDistinct, AreFreshWindows, AreLawfulWindows, IsDesk, IsLawfulWindow}
 use Rattle.tv_window.specs.declared.desk.DeskOf.{DeskOf}
@@ -53,8 +55,9 @@ module _ {V : Type 0} (look : V → Leaf) (d : Desc) where
     record {
       declared = window;
       named = All-head (λ one. window_of d one.node.id ≡ Some one) window declared found;
-      corner = refl;
-      fresh = fresh.0;
+      corner = fresh.0.corner;
+      of = fresh.0.of;
+      limited = subst (λ head. IfSome head IsLimitedWindowHead) (sym fresh.0.of.head) (All-head IsLawfulWindow window declared lawful).head;
       texts = (All-head IsLawfulWindow window declared lawful).texts;
     },
     fresh-declared declared windows (All-tail (λ one. window_of d one.node.id ≡ Some one) window declared found) (All-tail IsLawfulWindow window declared lawful) fresh.1,

@@ -9,6 +9,7 @@ pub mod MarkLemmas
 pub mod OffLemmas
 pub mod OrderLemmas
 pub mod PlaceLemmas
+pub mod PointLemmas
 pub mod RaisedLemmas
 pub mod StackLemmas
 pub mod WindowDrawingLemmas

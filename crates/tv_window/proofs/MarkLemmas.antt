@@ -21,7 +21,7 @@ to-right a p = grind (arith, ints)
 same-row : (a p : ℤ) → le_z a p ≡ true → lt_z p (a +ℤ pos 1) ≡ true → p -ℤ a ≡ pos 0
 same-row a p from to = grind (arith, ints)
 
-on-row : (a p : ℤ) → (le_z a p && lt_z p (a +ℤ pos 1)) ≡ int_eq (p -ℤ a) (pos 0)
+pub on-row : (a p : ℤ) → (le_z a p && lt_z p (a +ℤ pos 1)) ≡ int_eq (p -ℤ a) (pos 0)
 on-row a p =
     bool_cases (int_eq (p -ℤ a) (pos 0)) (λ b. (le_z a p && lt_z p (a +ℤ pos 1)) ≡ b)
     (λ is. let same : p -ℤ a ≡ pos 0 = (Decides-int_eq (p -ℤ a) (pos 0)).0 is in grind (arith, ints, same))

@@ -15,7 +15,7 @@ use Rattle.tv_cells.specs.declared.rect.Rect.{Rect}
 use Rattle.tv_cells.specs.declared.canvas.Canvas.{Canvas}
 use Rattle.tv_model.specs.Screen.Faces.{FaceOf, FrameLook, frame_face, frame_look}
 use Rattle.tv_model.specs.Description.Heads.{window_head}
-use Rattle.tv_model.specs.Description.Rectangles.{corner_of, interior, rect, IsSmall, IsSmallRect}
+use Rattle.tv_model.specs.Description.Rectangles.{interior, rect, IsSmall, IsSmallRect}
 use Rattle.tv_machine.specs.Leaves.{leaf_list}
 use Rattle.tv_machine.specs.Screen.Layers.{stack_layers as declared_layers, window_layers as declared_window, window_leaf}
 use Rattle.tv_view.specs.Meaning.{Leaf}
@@ -39,8 +39,8 @@ use Rattle.tv_group.specs.Opened.{opened}
 use Rattle.tv_group.specs.Outline.{IsFreshBody}
 use Rattle.tv_group.proofs.FreshLeafLemmas.{IsLeafNode, fresh_layers, group_drawn}
 use Rattle.tv_window.specs.DeclaredWindows.{AreDeclared, IsOfWindow, IsTextInside, window_canvas}
-use Rattle.tv_window.specs.Head.{KeptWindowHead, window_bounds, declared_window_head, kept_window_head}
-use Rattle.tv_window.specs.Window.{body_of, window_frame_layer, head_of, drawn_window}
+use Rattle.tv_window.specs.Head.{KeptWindowHead, declared_window_head, kept_window_head}
+use Rattle.tv_window.specs.Window.{body_of, window_frame_layer, head_of, drawn_window, window_bounds}
 use Rattle.tv_window.specs.declared.window.WindowOf.{WindowOf}
 use Rattle.tv_window.proofs.CutLemmas.{clipped-same, window-within}
 use Rattle.tv_window.proofs.DeclaredWindowLemmas.{body, look_same, views_same}
@@ -92,29 +92,29 @@ leaf_nodes owner (n ∷ ns) texts =
 
 module _ {V : Type 0} (look : V → Leaf) (env : Env) (lent : IsOfWindow env) (d : Desc) where
   abbrev pub shadow_of : WindowOf V → Layer
-  shadow_of window = Shadow (window_canvas d) (window_bounds (head_of window))
+  shadow_of window = Shadow (window_canvas d) (window_bounds window)
 
   leaves_drawn : (owner : Node) (views : List Node) (h : ℤ) (window : WindowOf V) → IsFreshBody look owner views (body_of window) → height_of owner.kind ≡ h
-      → window_bounds (head_of window) ≡ rect owner.x owner.y owner.w h → IsSmallRect (window_bounds (head_of window)) → All (IsTextInside owner) views
-      → leaves_layers env (sub (window_canvas d) (window_bounds (head_of window))) (opened look (body_of window)) ≡ fresh_layers env (body d owner.x owner.y owner.w h) views
+      → window_bounds window ≡ rect window.corner.x window.corner.y owner.w h → IsSmallRect (window_bounds window) → All (IsTextInside owner) views
+      → leaves_layers env (sub (window_canvas d) (window_bounds window)) (opened look (body_of window)) ≡ fresh_layers env (body d window.corner.x window.corner.y owner.w h) views
   leaves_drawn owner views h window fresh tall is small texts =
       let whole : (body_of window).bounds ≡ rect (pos 0) (pos 0) owner.w h = sym fresh.bounds ∙ ap (λ k. rect (pos 0) (pos 0) owner.w k) tall in
-      let place : sub (sub (window_canvas d) (window_bounds (head_of window))) (body_of window).bounds ≡ body d owner.x owner.y owner.w h =
-      ap (λ r. sub (sub (window_canvas d) r) (body_of window).bounds) is ∙ ap (λ r. sub (sub (window_canvas d) (rect owner.x owner.y owner.w h)) r) whole in
-      let narrow : IsSmallRect (rect owner.x owner.y owner.w h) = subst IsSmallRect is small in
-      let near : is_near (sub (sub (window_canvas d) (window_bounds (head_of window))) (body_of window).bounds).origin ≡ true =
+      let place : sub (sub (window_canvas d) (window_bounds window)) (body_of window).bounds ≡ body d window.corner.x window.corner.y owner.w h =
+      ap (λ r. sub (sub (window_canvas d) r) (body_of window).bounds) is ∙ ap (λ r. sub (sub (window_canvas d) (rect window.corner.x window.corner.y owner.w h)) r) whole in
+      let narrow : IsSmallRect (rect window.corner.x window.corner.y owner.w h) = subst IsSmallRect is small in
+      let near : is_near (sub (sub (window_canvas d) (window_bounds window)) (body_of window).bounds).origin ≡ true =
       ap (λ c. is_near c.origin) place
-      ∙ near_point owner.x owner.y (body d owner.x owner.y owner.w h).origin narrow.left narrow.top (omega (arith, ints)) (omega (arith, ints)) in
-      group_drawn look env (sub (window_canvas d) (window_bounds (head_of window))) (body_of window) views (leaf_nodes owner views texts) near fresh.parts
+      ∙ near_point window.corner.x window.corner.y (body d window.corner.x window.corner.y owner.w h).origin narrow.left narrow.top (omega (arith, ints)) (omega (arith, ints)) in
+      group_drawn look env (sub (window_canvas d) (window_bounds window)) (body_of window) views (leaf_nodes owner views texts) near fresh.parts
       ∙ ap (λ c. fresh_layers env c views) place
 
   module _ (window : WindowOf V) (declared : Window) (is : IsHead declared (head_of window)) (fresh : IsFreshBody look declared.node declared.views (body_of window))
-      (texts : All (IsTextInside declared.node) declared.views) (small : IsSmallRect (window_bounds (head_of window))) where
+      (texts : All (IsTextInside declared.node) declared.views) (small : IsSmallRect (window_bounds window)) where
     abbrev x : ℤ
-    x = declared.node.x
+    x = window.corner.x
 
     abbrev y : ℤ
-    y = declared.node.y
+    y = window.corner.y
 
     abbrev w : ℤ
     w = declared.node.w
@@ -122,34 +122,34 @@ module _ {V : Type 0} (look : V → Leaf) (env : Env) (lent : IsOfWindow env) (d
     abbrev own : WindowHead
     own = window_head declared
 
-    placed : window_bounds (head_of window) ≡ rect x y w own.h
-    placed = ap window_bounds is.is
+    placed : window_bounds window ≡ rect x y w own.h
+    placed = ap (λ head. rect x y head.w head.h) is.is
 
     abbrev face_in : FrameLook → FaceOf
     face_in frame = frame_face (natural w) (natural own.h) own.title frame
 
     abbrev views : List Layer
-    views = flat_map (window_leaf d (corner_of declared.node)) (reverse (leaf_list declared.views))
+    views = flat_map (window_leaf d window.corner) (reverse (leaf_list declared.views))
 
     drawn : drawn_window look env (window_canvas d) window ++ shadow_of window ∷ []
         ≡ (fresh_layers env (body d x y w own.h) declared.views
         ++ Painted (inner d x y w own.h) (natural w) (natural own.h) (face_in (frame_look (colour_in env.chain.now) owners.Window (natural own.number) env.is_active)) ∷ [])
         ++ Shadow (window_canvas d) (rect x y w own.h) ∷ []
     drawn =
-        ap (λ t. (t ++ window_frame_layer env (window_canvas d) (head_of window) ∷ []) ++ shadow_of window ∷ []) (leaves_drawn declared.node declared.views own.h window fresh is.tall placed small texts)
-        ∙ ap (λ head. (fresh_layers env (body d x y w own.h) declared.views ++ window_frame_layer env (window_canvas d) head ∷ []) ++ Shadow (window_canvas d) (window_bounds head) ∷ []) is.is
+        ap (λ t. (t ++ window_frame_layer env (sub (window_canvas d) (window_bounds window)) (head_of window) ∷ []) ++ shadow_of window ∷ []) (leaves_drawn declared.node declared.views own.h window fresh is.tall placed small texts)
+        ∙ ap (λ head. (fresh_layers env (body d x y w own.h) declared.views ++ window_frame_layer env (sub (window_canvas d) (rect x y head.w head.h)) head ∷ []) ++ Shadow (window_canvas d) (rect x y head.w head.h) ∷ []) is.is
 
-    shown : (a : Bool) → declared_window d a (corner_of declared.node) declared
+    shown : (a : Bool) → declared_window d a window.corner declared
         ≡ views ++ (Painted (corner d x y w own.h) (natural w) (natural own.h) (face_in (frame_look attribute_of owners.Window (natural own.number) a)) ∷ Shadow (corner d x y w own.h) (sized (natural w) (natural own.h)) ∷ [])
     shown a = refl
 
-    pub window_same : ShowsSame (drawn_window look env (window_canvas d) window ++ shadow_of window ∷ []) (declared_window d env.is_active (corner_of declared.node) declared)
+    pub window_same : ShowsSame (drawn_window look env (window_canvas d) window ++ shadow_of window ∷ []) (declared_window d env.is_active window.corner declared)
     window_same =
         let seen = frame_look (colour_in env.chain.now) owners.Window (natural own.number) env.is_active in
         let told = frame_look attribute_of owners.Window (natural own.number) env.is_active in
         let inside : interior declared.node ≡ rect (pos 1) (pos 1) (w -ℤ pos 2) (own.h -ℤ pos 2) = ap (λ k. rect (pos 1) (pos 1) (w -ℤ pos 2) (k -ℤ pos 2)) is.tall in
         let framed = frame_same d x y w own.h (face_in seen) (face_in told) (ap face_in (look_same env lent (natural own.number) env.is_active)) in
-        let text = views_same env lent d declared own.h inside declared.views texts in
+        let text = views_same env lent d window.corner declared own.h inside declared.views texts in
         rw (drawn, shown env.is_active, ← append_assoc views (Painted (corner d x y w own.h) (natural w) (natural own.h) (face_in told) ∷ []) (Shadow (corner d x y w own.h) (sized (natural w) (natural own.h)) ∷ []))
         (same_append _ _ _ _ (same_append _ _ _ _ text framed) (shadows_same d x y w own.h))
 
@@ -162,7 +162,7 @@ module _ {V : Type 0} (look : V → Leaf) (env : Env) (lent : IsOfWindow env) (d
     none_declared stack (window ∷ windows) p e are = absurd cc
 
     stack_declared : (stack : List OpenWindow) (front : WindowOf V) (behind : List (WindowOf V)) (old mid after new : Picture) → AreDeclared look d stack (front ∷ behind)
-        → IsSmallRect (window_bounds (head_of front))
+        → IsSmallRect (window_bounds front)
         → ((rest : List OpenWindow) → AreDeclared look d rest behind → Lays (map (clipped r) (declared_layers d false rest)) old mid)
         → Lays (map (clipped r) (shadow_of front ∷ [])) mid after → Lays (drawn_window look env (within r (window_canvas d)) front) after new
         → Lays (map (clipped r) (declared_layers d env.is_active stack)) old new
@@ -170,16 +170,17 @@ module _ {V : Type 0} (look : V → Leaf) (env : Env) (lent : IsOfWindow env) (d
     stack_declared (o ∷ stack) front behind old mid after new are small below shadow here =
         let one = are.0 in
         let drawn = drawn_window look env (window_canvas d) front in
-        let shown = declared_window d env.is_active (corner_of one.declared.node) one.declared in
-        let same = clipped-same r (drawn ++ shadow_of front ∷ []) shown (window_same front one.declared (head_is one.declared (head_of front) one.fresh.head) one.fresh.body one.texts small) in
+        let shown = declared_window d env.is_active o.origin one.declared in
+        let same = clipped-same r (drawn ++ shadow_of front ∷ []) shown (subst (λ corner. ShowsSame (drawn ++ shadow_of front ∷ []) (declared_window d env.is_active corner one.declared)) one.corner
+        (window_same front one.declared (head_is one.declared (head_of front) one.of.head) one.of.body one.texts small)) in
         let laid = subst (λ layers. Lays layers after new) (window-within look env r (window_canvas d) front) here in
         let window = lays_same _ _ mid new same (lays_as _ _ mid new (sym (map-append (clipped r) drawn (shadow_of front ∷ []))) (lays_then (map (clipped r) (shadow_of front ∷ [])) (map (clipped r) drawn) mid after new shadow laid)) in
-        rw (one.named, one.corner)
+        rw one.named
         (lays_as _ _ old new (sym (map-append (clipped r) shown (declared_layers d false stack))) (lays_then (map (clipped r) (declared_layers d false stack)) (map (clipped r) shown) old mid new (below stack are.1) window))
 
     -- as they were drawn, with the shadow of a rectangle
     pub stack_drawn : (stack : List OpenWindow) (windows : List (WindowOf V)) (front : WindowOf V) (behind : List (WindowOf V)) (c : Canvas) (s : Rect) (old mid after new : Picture)
-        → windows ≡ front ∷ behind → c ≡ within r (window_canvas d) → s ≡ window_bounds (head_of front) → IsSmallRect s → AreDeclared look d stack windows
+        → windows ≡ front ∷ behind → c ≡ within r (window_canvas d) → s ≡ window_bounds front → IsSmallRect s → AreDeclared look d stack windows
         → ((rest : List OpenWindow) → AreDeclared look d rest behind → Lays (map (clipped r) (declared_layers d false rest)) old mid)
         → IsAlike mid after → ((layers : List Layer) → Shows layers mid → Shows (Shadow c s ∷ layers) after)
         → Lays (drawn_window look env c front) after new

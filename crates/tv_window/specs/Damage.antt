@@ -1,6 +1,7 @@
 -- What windows damage.
 use Rattle.std.specs.Ordering.{int_eq}
-use Rattle.std.specs.Prelude.{ℕ, zero, suc, pos, ◌-◌, nat_le, Bool, ◌&&◌, if◌then◌else◌, List, [], ◌∷◌, ◌++◌, Option, Some, None, position, slice_get}
+use Rattle.std.specs.Prelude.{ℕ, zero, suc, pos, ◌-◌, nat_le, Bool, ◌&&◌, if◌then◌else◌, List, [], ◌∷◌, ◌++◌}
+use Rattle.std.specs.Prelude.{Option, Some, None, position, slice_get}
 use Rattle.tv_cells.specs.Damage.{Grows, with_shadow}
 use Rattle.tv_cells.specs.Layers.{is_in}
 use Rattle.tv_cells.specs.Picture.{Picture}
@@ -9,12 +10,12 @@ use Rattle.tv_cells.specs.declared.rect.Point.{Point}
 use Rattle.tv_cells.specs.declared.rect.Rect.{Rect}
 use Rattle.tv_model.specs.declared.desc.Desc.{Desc}
 use Rattle.tv_machine.specs.Screen.Layers.{stack_layers}
+use Rattle.tv_machine.specs.Session.Dragging.{is_same_point}
 use Rattle.tv_machine.specs.State.{OpenWindow}
 use Rattle.tv_view.specs.Damage.{IsDrawnAlike}
 use Rattle.tv_view.specs.Meaning.{Leaf}
 use Rattle.tv_view.specs.declared.env.Env.{Env}
-use Rattle.tv_window.specs.Head.{window_bounds}
-use Rattle.tv_window.specs.Window.{drawn_window, head_of}
+use Rattle.tv_window.specs.Window.{drawn_window, head_of, moved_to, window_bounds}
 use Rattle.tv_window.specs.declared.desk.DeskOf.{DeskOf}
 use Rattle.tv_window.specs.declared.window.WindowOf.{WindowOf}
 
@@ -25,7 +26,14 @@ use Rattle.tv_window.specs.declared.window.WindowOf.{WindowOf}
 pub record WindowEnvDamages {V : Type 0} (look : V → Leaf) (old new : Env) (window : WindowOf V)
     (before after : List Rect) : Type 0 where
   pub drawn : IsDrawnAlike after (λ c. drawn_window look old c window) (λ c. drawn_window look new c window)
-  pub grown : Grows (window_bounds (head_of window)) before after
+  pub grown : Grows (window_bounds window) before after
+
+-- what shows otherwise where it moves to a corner: it with its shadow, where it stood and where it stands
+-- then. Nothing where it stood there
+abbrev pub dragged_rects : {V : Type 0} → WindowOf V → Point → List Rect
+dragged_rects window corner =
+    if is_same_point window.corner corner then []
+    else with_shadow (window_bounds window) ++ with_shadow (window_bounds (moved_to corner window))
 
 -- ---- the open windows
 
@@ -35,15 +43,20 @@ windows_of desk = desk.windows.items.items
 -- the rectangle of the front one
 abbrev pub front_rects : {V : Type 0} → List (WindowOf V) → List Rect
 front_rects [] = []
-front_rects (front ∷ behind) = window_bounds (head_of front) ∷ []
+front_rects (front ∷ behind) = window_bounds front ∷ []
 
 -- the rectangle of a window with its shadow, if there is a window
 abbrev pub shadowed_rects : {V : Type 0} → Option (WindowOf V) → List Rect
 shadowed_rects None = []
-shadowed_rects (Some window) = with_shadow (window_bounds (head_of window))
+shadowed_rects (Some window) = with_shadow (window_bounds window)
 
--- what shows otherwise where a window comes to the front: it with its shadow, and the one that was in front. Nothing
--- where it is in front
+-- what shows otherwise where the front one moves to a corner
+abbrev pub dragged_front_rects : {V : Type 0} → List (WindowOf V) → Point → List Rect
+dragged_front_rects [] corner = []
+dragged_front_rects (front ∷ behind) corner = dragged_rects front corner
+
+-- what shows otherwise where a window comes to the front: it with its shadow, and the one that was in front.
+-- Nothing where it is in front
 abbrev pub raised_rects : {V : Type 0} → List (WindowOf V) → ℕ → List Rect
 raised_rects windows zero = []
 raised_rects windows (suc place) = shadowed_rects (slice_get windows (suc place)) ++ front_rects windows
@@ -56,7 +69,7 @@ moved_rects windows (Some place) = raised_rects windows place
 -- what shows otherwise where the front one closes: it with its shadow, and the one that is in front then
 abbrev pub closed_rects : {V : Type 0} → List (WindowOf V) → List Rect
 closed_rects [] = []
-closed_rects (front ∷ behind) = with_shadow (window_bounds (head_of front)) ++ front_rects behind
+closed_rects (front ∷ behind) = with_shadow (window_bounds front) ++ front_rects behind
 
 -- the place of the window of a digit's number
 abbrev pub digit_place : {V : Type 0} → List (WindowOf V) → ℕ → Option ℕ
@@ -67,7 +80,7 @@ digit_place windows digit =
 
 -- the place of the topmost one at a point
 abbrev pub point_place : {V : Type 0} → List (WindowOf V) → Point → Option ℕ
-point_place windows p = position (λ window. is_in (window_bounds (head_of window)) p.x p.y) windows
+point_place windows p = position (λ window. is_in (window_bounds window) p.x p.y) windows
 
 -- they show the same in each cell that the damage lacks, whether the front one is active or not
 abbrev pub AreStacksAlike : Desc → List Rect → List OpenWindow → List OpenWindow → Type 0

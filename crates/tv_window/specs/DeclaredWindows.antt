@@ -1,8 +1,8 @@
--- The windows of a description, as they are before any event.
+-- The windows of a description, wherever they stand.
 use Rattle.std.specs.Prelude.{◌≡◌, ℤ, ℕ, All, List, [], ◌∷◌, Some, pos}
 use Rattle.tv_cells.specs.Rectangle.{IsIn}
 use Rattle.tv_cells.specs.declared.canvas.Canvas.{Canvas}
-use Rattle.tv_model.specs.Description.Rectangles.{corner_of, desktop, interior, place_of_node}
+use Rattle.tv_model.specs.Description.Rectangles.{desktop, interior, place_of_node}
 use Rattle.tv_machine.specs.Screen.Bodies.{canvas_at, window_of}
 use Rattle.tv_view.specs.Meaning.{Leaf}
 use Rattle.tv_machine.specs.State.{OpenWindow}
@@ -14,7 +14,8 @@ use Rattle.tv_palette.specs.Chain.{coloured}
 use Rattle.tv_palette.specs.Palettes.{owners_of_part}
 use Rattle.tv_palette.specs.declared.role.Owner.TheVariants as owners
 use Rattle.tv_view.specs.declared.env.Env.{Env}
-use Rattle.tv_window.specs.Window.{IsFreshWindow}
+use Rattle.tv_window.specs.Head.{IsLimitedWindowHead}
+use Rattle.tv_window.specs.Window.{IsWindowOf, head_of}
 use Rattle.tv_window.specs.declared.window.WindowOf.{WindowOf}
 
 -- a static text inside the frame of its window
@@ -24,13 +25,14 @@ pub record IsTextInside (owner node : Node) : Type 0 where
   pub kind : node.kind ≡ kinds.Text (record { h = height; text = text })
   pub inside : (x y : ℤ) → IsIn (place_of_node node) x y → IsIn (interior owner) x y
 
--- an open window of the description, where it is declared, with static texts inside its frame
+-- an open window of the description, where it stands, with static texts inside its frame
 pub record IsDeclared {V : Type 0} (look : V → Leaf) (d : Desc) (o : OpenWindow)
     (window : WindowOf V) : Type 0 where
   pub declared : Window
   pub named : window_of d o.id ≡ Some declared
-  pub corner : o.origin ≡ corner_of declared.node
-  pub fresh : IsFreshWindow look declared.node declared.views window
+  pub corner : window.corner ≡ o.origin
+  pub of : IsWindowOf look declared.node declared.views window
+  pub limited : IsLimitedWindowHead (head_of window)
   pub texts : All (IsTextInside declared.node) declared.views
 
 -- these open windows, one for one

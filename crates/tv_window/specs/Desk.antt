@@ -1,5 +1,5 @@
 -- The open windows of a run, and what a description has to have so that its windows can stand so.
-use Rattle.std.specs.Prelude.{◌≢◌, All, List, Option, Some, None, IfSome}
+use Rattle.std.specs.Prelude.{◌≡◌, ◌≢◌, All, List, [], ◌∷◌, Option, Some, None, IfSome, if◌then◌else◌}
 use Rattle.std.specs.List.{AllPairs, AllZip}
 use Rattle.tv_cells.specs.declared.rect.Point.{Point}
 use Rattle.tv_view.specs.Meaning.{Leaf}
@@ -7,18 +7,22 @@ use Rattle.tv_model.specs.declared.desc.Desc.{Desc}
 use Rattle.tv_model.specs.declared.desc.Window.{Window}
 use Rattle.tv_model.specs.declared.log.LogLine.TheVariants as lines
 use Rattle.tv_model.specs.declared.node.Id.{Id}
+use Rattle.tv_machine.specs.Dialog.Mouse.{is_close_mark}
 use Rattle.tv_machine.specs.Session.Commands.{logged}
-use Rattle.tv_machine.specs.Session.Desktop.{down_on_desktop, window_under}
+use Rattle.tv_machine.specs.Session.Desktop.{down_on_desktop, seen_from, window_under}
+use Rattle.tv_machine.specs.Session.Dragging.{is_grip}
 use Rattle.tv_machine.specs.State.{OpenWindow, State}
 use Rattle.tv_window.specs.DeclaredWindows.{AreDeclared, IsTextInside}
 use Rattle.tv_window.specs.Head.{IsLimitedWindowHead, declared_window_head}
-use Rattle.tv_window.specs.Window.{IsFreshWindow}
+use Rattle.tv_window.specs.Window.{IsFreshWindow, head_of, moved_to}
 use Rattle.tv_window.specs.declared.window.WindowOf.{WindowOf}
 use Rattle.tv_window.specs.declared.desk.DeskOf.{DeskOf}
+use Rattle.tv_window.specs.declared.desk.Hit.{Hit}
+use Rattle.tv_window.specs.declared.desk.Hit.TheVariants as hits
 
 -- ---- what is declared
 
--- near numbers, a short title, and static texts inside the frame
+-- a size and a number within limits, a short title, and static texts inside the frame
 pub record IsLawfulWindow (window : Window) : Type 0 where
   pub head : IfSome (declared_window_head window.node) IsLimitedWindowHead
   pub texts : All (IsTextInside window.node) window.views
@@ -44,6 +48,27 @@ pub record IsDesk {V : Type 0} (look : V → Leaf) (d : Desc) (stack : List Open
     (desk : DeskOf V) : Type 0 where
   pub windows : AreDeclared look d stack desk.windows.items.items
   pub apart : AreDistinct stack
+
+-- the id of the front one
+abbrev pub front_id : List OpenWindow → Option Id
+front_id [] = None
+front_id (front ∷ behind) = Some front.id
+
+-- they stand as they stood, but for the front one, which stands there
+abbrev pub front_moved : {V : Type 0} → Point → List (WindowOf V) → List (WindowOf V)
+front_moved corner [] = []
+front_moved corner (front ∷ behind) = moved_to corner front ∷ behind
+
+-- the front window, if there is one, has this corner
+abbrev pub FrontStandsAt : {V : Type 0} → Point → List (WindowOf V) → Type 0
+FrontStandsAt corner [] = Unit {0}
+FrontStandsAt corner (front ∷ behind) = front.corner ≡ corner
+
+-- what is left to be done after a mouse down on the front window
+abbrev pub hit_on : {V : Type 0} → WindowOf V → Point → Hit
+hit_on window p =
+    if is_close_mark (seen_from window.corner p) then hits.CloseMark
+    else if is_grip (head_of window).w (seen_from window.corner p) then hits.Grip window.corner else hits.Done
 
 -- ---- what the flat machine does
 

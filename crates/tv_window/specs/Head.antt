@@ -1,18 +1,15 @@
--- What a window keeps of its node: all but its name.
+-- What a window keeps of its node: all but its name and where it stands.
 use Rattle.std.specs.Prelude.{ℕ, ℤ, pos, List, length, ◌≤◌, ◌≤ℤ◌, Option, Some, None}
-use Rattle.tv_cells.specs.declared.rect.Rect.{Rect}
+use Rattle.tv_faces.specs.Corners.{IsFrameSize}
 use Rattle.tv_model.specs.declared.node.Id.{Id}
 use Rattle.tv_model.specs.declared.node.Node.{Node}
 use Rattle.tv_model.specs.declared.kind.Kind.{Kind}
 use Rattle.tv_model.specs.declared.kind.Kind.TheVariants as kinds
 use Rattle.tv_model.specs.declared.kind.WindowHead.{WindowHead}
-use Rattle.tv_model.specs.Description.Rectangles.{rect, IsSmallRect}
 
--- a window's rectangle, number and title
+-- a window's size, number and title
 pub record KeptWindowHead : Type 0 where
   pub id : Id
-  pub x : ℤ
-  pub y : ℤ
   pub w : ℤ
   pub h : ℤ
   pub number : ℤ
@@ -22,8 +19,6 @@ pub record KeptWindowHead : Type 0 where
 abbrev pub kept_window_head : Node → WindowHead → KeptWindowHead
 kept_window_head node head = record {
   id = node.id;
-  x = node.x;
-  y = node.y;
   w = node.w;
   h = head.h;
   number = head.number;
@@ -38,13 +33,9 @@ declared_window_head node = head node.kind
     head (kinds.Window own) = Some (kept_window_head node own)
     head _ = None
 
--- a window's rectangle on the screen
-abbrev pub window_bounds : KeptWindowHead → Rect
-window_bounds head = rect head.x head.y head.w head.h
-
--- a rectangle near the screen, one digit, and a title that fits
+-- a size that a screen has, one digit, and a title that fits
 pub record IsLimitedWindowHead (head : KeptWindowHead) : Type 0 where
-  pub bounds : IsSmallRect (window_bounds head)
+  pub size : IsFrameSize head.w head.h
   pub from : pos 0 ≤ℤ head.number
   pub to : head.number ≤ℤ pos 9
   pub title : length head.title ≤ 120

@@ -1,22 +1,25 @@
 //! The open windows.
 
-ghost use Rattle.std.specs.Prelude.{◌≡◌, ◌==◌, ◌-◌, List, length, map, reverse};
+ghost use Rattle.std.specs.Prelude.{◌≡◌, ◌≢◌, ◌==◌, ◌-◌, List, length, map, reverse};
 ghost use Rattle.tv_machine.specs.Screen.Layers.{stack_layers};
 ghost use Rattle.tv_machine.specs.Session.Commands.{close_front, do_command, last_first};
 ghost use Rattle.tv_machine.specs.Session.Desktop.{raise_found, window_of_digit};
+ghost use Rattle.tv_machine.specs.Session.Dragging.{front_at, grabbed};
 ghost use Rattle.tv_machine.specs.Session.Start.{closed};
 ghost use Rattle.tv_machine.specs.State.{OpenWindow, State};
 ghost use Rattle.tv_model.specs.Description.Rectangles.{IsSmall};
 ghost use Rattle.tv_model.specs.declared.desc.Desc.{Desc};
 ghost use Rattle.tv_cells.specs.Layers.{Lays};
 ghost use Rattle.tv_cells.specs.Repainting.{clipped, within};
+ghost use Rattle.tv_cells.specs.declared.rect.Point.{Point as Declared};
 ghost use Rattle.tv_cells.specs.declared.rect.Rect.{Rect};
+ghost use Rattle.tv_faces.specs.Corners.{IsCorner};
 ghost use Rattle.tv_window.specs.DeclaredWindows.{IsOfWindow, window_canvas};
 ghost use Rattle.tv_cells.specs.Damage.{GrowsIn};
-ghost use Rattle.tv_window.specs.Damage.{AreStacksAlike, closed_rects, digit_place, moved_rects, point_place, raised_rects, windows_of};
-ghost use Rattle.tv_window.specs.Desk.{AreFreshWindows, AreLawfulWindows, IsDesk, down_on_desk, with_close_line};
+ghost use Rattle.tv_window.specs.Damage.{AreStacksAlike, closed_rects, digit_place, dragged_front_rects, moved_rects, point_place, raised_rects, windows_of};
+ghost use Rattle.tv_window.specs.Desk.{AreFreshWindows, AreLawfulWindows, FrontStandsAt, IsDesk, down_on_desk, front_id, with_close_line};
 
-use crate::places::{is_on_close_mark, place_of_digit, place_under};
+use crate::places::{hit_on, place_of_digit, place_under};
 use crate::{WindowOf, draw_stack};
 use tv_cells::{Canvas, Damage, Point, Screen};
 use tv_group::Stack;
@@ -39,6 +42,9 @@ pub type Desk = DeskOf<Box<dyn View>>;
 pub enum Hit {
     /// It was on the close mark of the front window, which is to be closed.
     CloseMark,
+    /// It was on the top row of the front window, beside the close mark: the mouse now holds the window, whose corner
+    /// this is.
+    Grip(Point),
     /// Nothing more.
     Done,
 }
@@ -80,16 +86,19 @@ impl<V: View> DeskOf<V> {
     /// Handles a mouse down on the desktop while neither a menu nor a dialog is open: brings a window that isn't the
     /// front one to the front, and adds what then shows otherwise to the damage. Returns what is left to be done.
     pub fn down(&mut self, point: Point, damage: &mut Damage) -> Hit
-        ensures kept { result ≡ Hit.CloseMark → self.new ≡ self.old }
+        ensures kept { result ≢ Hit.Done → self.new ≡ self.old }
         ensures mark { (d : Desc) (s : State) → IsDesk V.meaning d s.windows self.old → result ≡ Hit.CloseMark
             → down_on_desk d point s ≡ do_command d 4 s }
+        ensures grip { (corner : Declared) (d : Desc) (s : State) → IsDesk V.meaning d s.windows self.old → result ≡ Hit.Grip corner
+            → down_on_desk d point s ≡ grabbed corner point s }
+        ensures corner { (corner : Declared) → result ≡ Hit.Grip corner → IsCorner corner }
         ensures done { (d : Desc) (s : State) → IsDesk V.meaning d s.windows self.old → result ≡ Hit.Done
             → IsDesk V.meaning d (down_on_desk d point s).windows self.new
             × (down_on_desk d point s ≡ record s { windows = (down_on_desk d point s).windows }) }
         ensures damage { (d : Desc) (s : State) → IsDesk V.meaning d s.windows self.old → result ≡ Hit.Done
             → AreStacksAlike d damage.new s.windows (down_on_desk d point s).windows }
         ensures grown { GrowsIn (moved_rects (windows_of self.old) (point_place (windows_of self.old) point)) damage.old damage.new }
-        ensures unmarked { result ≡ Hit.CloseMark → damage.new ≡ damage.old }
+        ensures unmarked { result ≢ Hit.Done → damage.new ≡ damage.old }
     {
         let Some(place) = place_under(&self.windows.items, point) else {
             return Hit::Done;
@@ -98,11 +107,31 @@ impl<V: View> DeskOf<V> {
             self.raise(place, damage);
             return Hit::Done;
         }
-        if is_on_close_mark(self.windows.items[place].bounds(), point) {
-            Hit::CloseMark
-        } else {
-            Hit::Done
+        hit_on(&self.windows.items[place], point)
+    }
+
+    /// Moves the corner of the front window to a point within -132 to 132, and adds what then shows otherwise to the
+    /// damage. Does nothing where it stands there already, or where no window is open.
+    pub fn move_front(&mut self, corner: Point, damage: &mut Damage)
+        requires { IsCorner corner }
+        ensures desk { (d : Desc) (stack : List OpenWindow) → IsDesk V.meaning d stack self.old
+            → IsDesk V.meaning d (front_at corner stack) self.new }
+        ensures damage { (d : Desc) (stack : List OpenWindow) → IsDesk V.meaning d stack self.old
+            → AreStacksAlike d damage.new stack (front_at corner stack) }
+        ensures grown { GrowsIn (dragged_front_rects (windows_of self.old) corner) damage.old damage.new }
+        ensures unmoved { FrontStandsAt corner (windows_of self.old) → damage.new ≡ damage.old }
+    {
+        if let Some(front) = self.windows.items.first_mut() {
+            front.move_to(corner, damage);
         }
+    }
+
+    /// Returns the id of the front window, or `None` where no window is open.
+    pub fn front(&self) -> Option<Id>
+        ensures { (d : Desc) (stack : List OpenWindow) → IsDesk V.meaning d stack self.now → result ≡ front_id stack }
+    {
+        let front = self.windows.items.first()?;
+        Some(front.id())
     }
 
     /// Brings the rearmost window to the front, and adds what then shows otherwise to the damage.

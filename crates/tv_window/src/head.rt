@@ -2,28 +2,26 @@
 
 ghost use Rattle.std.specs.Prelude.{◌≡◌, ◌↔◌, IfSome, IsTrue, Some};
 ghost use Rattle.tv_cells.specs.Rectangle.{IsRectNear};
+ghost use Rattle.tv_model.specs.Description.Rectangles.{rect, IsSmallRect};
 ghost use Rattle.tv_model.specs.Screen.Faces.{frame_look};
 ghost use Rattle.tv_faces.specs.Looks.{frame_look_of};
-ghost use Rattle.tv_model.specs.Description.Rectangles.{IsSmallRect};
 ghost use Rattle.tv_model.specs.Description.Numbers.{natural};
 ghost use Rattle.tv_palette.specs.Palettes.{colour_in};
 ghost use Rattle.tv_palette.specs.declared.role.Owner.TheVariants.{Window};
-ghost use Rattle.tv_window.specs.Head.{IsLimitedWindowHead, declared_window_head, window_bounds};
+ghost use Rattle.tv_window.specs.Head.{IsLimitedWindowHead, declared_window_head};
 
 use std::marker::Model;
 use tv_cells::Rect;
-use tv_faces::{Frame, FrameLook, natural, rect_at};
+use tv_faces::{Corner, Frame, FrameLook, natural};
 use tv_model::{Id, Kind, Node};
 use tv_palette::Owner;
 use tv_valid::Text;
 use tv_view::Env;
 
-/// A window's node without its name.
+/// A window's node without its name and its corner.
 #[derive(Drop)]
 pub(crate) struct Head {
     id: Id,
-    x: i32,
-    y: i32,
     w: i32,
     h: i32,
     number: i32,
@@ -35,9 +33,9 @@ impl Model for Head {
 
     ghost Value = { KeptWindowHead };
 
-    ghost view = { λ s. record { id = s.id; x = s.x; y = s.y; w = s.w; h = s.h; number = s.number; title = s.title } };
+    ghost view = { λ s. record { id = s.id; w = s.w; h = s.h; number = s.number; title = s.title } };
 
-    ghost invariant = { λ s. IsLimitedWindowHead (record { id = s.id; x = s.x; y = s.y; w = s.w; h = s.h; number = s.number; title = s.title }) };
+    ghost invariant = { λ s. IsLimitedWindowHead (record { id = s.id; w = s.w; h = s.h; number = s.number; title = s.title }) };
 }
 
 /// Whether a window's frame looks the same in both environments.
@@ -56,8 +54,6 @@ impl Head {
         match &node.kind {
             Kind::Window(declared) => Some(Head {
                 id: node.id,
-                x: node.x,
-                y: node.y,
                 w: node.w,
                 h: declared.h,
                 number: declared.number,
@@ -67,14 +63,14 @@ impl Head {
         }
     }
 
-    /// Whether it is the head of this node.
+    /// Whether it is the head of this node, wherever that stands.
     pub(crate) fn is_of(&self, node: &Node) -> bool
         ensures { IsTrue result ↔ (Some self.now ≡ declared_window_head node.now) }
     {
         match &node.kind {
             Kind::Window(declared) => {
                 self.id == node.id
-                    && self.is_at(&node.x, &node.y, &node.w, &declared.h)
+                    && self.has_size(&node.w, &declared.h)
                     && self.number == declared.number
                     && self.title.as_slice() == declared.title.as_slice()
             }
@@ -82,10 +78,10 @@ impl Head {
         }
     }
 
-    fn is_at(&self, x: &i32, y: &i32, w: &i32, h: &i32) -> bool
-        ensures { IsTrue result ↔ ((self.now.x ≡ x.now) × (self.now.y ≡ y.now) × (self.now.w ≡ w.now) × (self.now.h ≡ h.now)) }
+    fn has_size(&self, w: &i32, h: &i32) -> bool
+        ensures { IsTrue result ↔ ((self.now.w ≡ w.now) × (self.now.h ≡ h.now)) }
     {
-        self.x == *x && self.y == *y && self.w == *w && self.h == *h
+        self.w == *w && self.h == *h
     }
 
     pub(crate) fn id(&self) -> Id
@@ -100,12 +96,13 @@ impl Head {
         self.number
     }
 
-    pub(crate) fn bounds(&self) -> Rect
-        ensures is { result ≡ window_bounds self.now }
+    /// Returns the window's rectangle at a corner.
+    pub(crate) fn rect(&self, corner: &Corner) -> Rect
+        ensures is { result ≡ rect corner.now.x corner.now.y self.now.w self.now.h }
         ensures small { IsSmallRect result }
         ensures near { IsRectNear result }
     {
-        rect_at(&self.x, &self.y, &self.w, &self.h)
+        corner.rect(&self.w, &self.h)
     }
 
     /// Returns the face of the frame, in the colours that the window's views are lent.

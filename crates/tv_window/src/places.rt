@@ -1,27 +1,31 @@
 //! Which of the windows, from the front, a point or a digit means.
 
-ghost use Rattle.std.specs.Prelude.{◌≡◌, ◌-◌, ◌+ℤ◌, ◌&&◌, if◌then◌else◌, nat_le, None, pos, position};
+ghost use Rattle.std.specs.Prelude.{◌≡◌, ◌-◌, ◌+ℤ◌, ◌-ℤ◌, ◌&&◌, if◌then◌else◌, nat_le, None, pos, position};
 ghost use Rattle.std.specs.Ordering.{int_eq};
 ghost use Rattle.tv_cells.specs.Layers.{is_in};
 ghost use Rattle.tv_cells.specs.Rectangle.{IsPointNear, IsRectNear};
+ghost use Rattle.tv_cells.specs.declared.rect.Point.{Point as Declared};
+ghost use Rattle.tv_faces.specs.Corners.{IsCorner};
 ghost use Rattle.tv_machine.specs.Dialog.Mouse.{is_close_mark};
 ghost use Rattle.tv_machine.specs.Session.Desktop.{seen_from};
+ghost use Rattle.tv_machine.specs.Session.Dragging.{is_grip};
 ghost use Rattle.tv_model.specs.Description.Rectangles.{rect};
-ghost use Rattle.tv_window.specs.Head.{window_bounds};
-ghost use Rattle.tv_window.specs.Window.{head_of};
+ghost use Rattle.tv_window.specs.Desk.{hit_on};
+ghost use Rattle.tv_window.specs.Window.{head_of, window_bounds};
 
 use crate::WindowOf;
+use crate::desk::Hit;
 use tv_cells::{Point, Rect};
 
 fn has_point<V>(window: &WindowOf<V>, point: Point) -> bool
-    ensures { result ≡ is_in (window_bounds (head_of window.now)) point.x point.y }
+    ensures { result ≡ is_in (window_bounds window.now) point.x point.y }
 {
     window.bounds().contains(point)
 }
 
 /// Finds the topmost window at a point.
 pub(crate) fn place_under<V>(windows: &[WindowOf<V>], point: Point) -> Option<usize>
-    ensures { result ≡ position (λ window. is_in (window_bounds (head_of window)) point.x point.y) windows.now }
+    ensures { result ≡ position (λ window. is_in (window_bounds window) point.x point.y) windows.now }
 {
     windows.iter().position(|window| has_point(window, point))
 }
@@ -48,7 +52,7 @@ pub(crate) fn place_of_digit<V>(windows: &[WindowOf<V>], digit: char) -> Option<
     }
 }
 
-/// Returns the close mark of a window with this corner: columns 2 to 4 of its top row.
+// The close mark of a window with this corner: columns 2 to 4 of its top row.
 fn close_mark(corner: &Point) -> Rect
     requires { IsPointNear corner.now }
     ensures { result ≡ rect (corner.now.x +ℤ pos 2) corner.now.y (pos 3) (pos 1) }
@@ -66,10 +70,47 @@ fn close_mark(corner: &Point) -> Rect
     }
 }
 
-/// Whether the point lies on the close mark of a window with these bounds.
-pub(crate) fn is_on_close_mark(bounds: Rect, point: Point) -> bool
+// Whether the point lies on the close mark of a window with these bounds.
+fn is_on_close_mark(bounds: Rect, point: Point) -> bool
     requires { IsRectNear bounds }
     ensures { result ≡ is_close_mark (seen_from bounds.a point) }
 {
     close_mark(&bounds.a).contains(point)
+}
+
+// The top row of a window with these bounds.
+fn top_row(bounds: Rect) -> Rect
+    requires { IsRectNear bounds }
+    ensures { result ≡ rect bounds.a.x bounds.a.y (bounds.b.x -ℤ bounds.a.x) (pos 1) }
+{
+    Rect {
+        a: bounds.a,
+        b: Point {
+            x: bounds.b.x,
+            y: bounds.a.y + 1,
+        },
+    }
+}
+
+// Whether the point lies on the top row of a window with these bounds, beside the close mark.
+fn is_on_grip(bounds: Rect, point: Point) -> bool
+    requires { IsRectNear bounds }
+    ensures { result ≡ is_grip (bounds.b.x -ℤ bounds.a.x) (seen_from bounds.a point) }
+{
+    top_row(bounds).contains(point) && !is_on_close_mark(bounds, point)
+}
+
+/// Returns what is left to be done after a mouse down on the front window.
+pub(crate) fn hit_on<V>(window: &WindowOf<V>, point: Point) -> Hit
+    ensures is { result ≡ hit_on window.now point }
+    ensures corner { (corner : Declared) → result ≡ Hit.Grip corner → IsCorner corner }
+{
+    let bounds = window.bounds();
+    if is_on_close_mark(bounds, point) {
+        Hit::CloseMark
+    } else if is_on_grip(bounds, point) {
+        Hit::Grip(window.corner.point())
+    } else {
+        Hit::Done
+    }
 }

@@ -2,13 +2,17 @@
 
 ghost use Rattle.std.specs.Prelude.{◌≡◌, ◌↔◌, IfOk, IfErr, IfSome, IsErr, IsTrue, Some, None};
 ghost use Rattle.tv_cells.specs.Rectangle.{IsRectNear};
-ghost use Rattle.tv_model.specs.Description.Rectangles.{IsSmall, IsSmallRect};
+ghost use Rattle.tv_model.specs.Description.Rectangles.{IsSmall, IsSmallRect, corner_of};
+ghost use Rattle.tv_cells.specs.Damage.{AddsAll};
 ghost use Rattle.tv_cells.specs.Layers.{Lays};
-ghost use Rattle.tv_window.specs.Head.{IsLimitedWindowHead, declared_window_head, window_bounds};
-ghost use Rattle.tv_window.specs.Window.{IsFreshWindow, body_of, head_of, drawn_window};
+ghost use Rattle.tv_faces.specs.Corners.{IsCorner};
+ghost use Rattle.tv_window.specs.Damage.{dragged_rects};
+ghost use Rattle.tv_window.specs.Head.{IsLimitedWindowHead, declared_window_head};
+ghost use Rattle.tv_window.specs.Window.{IsFreshWindow, body_of, head_of, drawn_window, moved_to, window_bounds};
 
 use crate::head::Head;
-use tv_cells::{Canvas, Rect, Screen, lay};
+use tv_cells::{Canvas, Damage, Point, Rect, Screen, lay};
+use tv_faces::Corner;
 use tv_group::GroupOf;
 use tv_model::{Id, Node};
 use tv_view::{Env, View};
@@ -19,6 +23,8 @@ use tv_view::{Env, View};
 #[derive(Drop)]
 pub struct WindowOf<V> {
     pub(crate) head: Head,
+    /// Where it stands, which changes when it is dragged.
+    pub(crate) corner: Corner,
     pub(crate) body: GroupOf<V>,
 }
 
@@ -29,22 +35,38 @@ pub type Window = WindowOf<Box<dyn View>>;
 #[derive(Clone, Copy, Debug, PartialEq, Eq)]
 pub struct WrongKind;
 
+// Where a node stands.
+fn corner(node: &Node) -> Point
+    ensures { result ≡ corner_of node.now }
+{
+    Point {
+        x: node.x,
+        y: node.y,
+    }
+}
+
 impl<V> WindowOf<V> {
-    /// Makes the window of a node round a body, whose bounds should be 0 0 and the node's width and height. The title
-    /// has at most 120 characters, the number one digit, and the rectangle lies within -300 to 300, as those of sound
-    /// descriptions do.
+    /// Makes the window of a node round a body, whose bounds should be 0 0 and the node's width and height. It stands
+    /// where it is declared. The title has at most 120 characters, the number one digit, the size is at most 132 by 60,
+    /// and the corner lies within -132 to 132, as those of sound descriptions do.
     ///
     /// # Errors
     ///
     /// `WrongKind`, with the body, for another node.
     pub fn new(node: &Node, body: GroupOf<V>) -> Result<WindowOf<V>, (WrongKind, GroupOf<V>)>
-        requires { IfSome (declared_window_head node.now) IsLimitedWindowHead }
+        requires limited { IfSome (declared_window_head node.now) IsLimitedWindowHead }
+        requires corner { IsCorner (corner_of node.now) }
         ensures made { IfOk result (λ window. (Some (head_of window) ≡ declared_window_head node.now) × (body_of window ≡ body)) }
+        ensures corner { IfOk result (λ window. window.corner ≡ corner_of node.now) }
         ensures wrong { IsErr result ↔ (declared_window_head node.now ≡ None) }
         ensures back { IfErr result (λ e. e.1 ≡ body) }
     {
         match Head::of(node) {
-            Some(head) => Ok(WindowOf { head, body }),
+            Some(head) => Ok(WindowOf {
+                head,
+                corner: Corner::new(corner(node)),
+                body,
+            }),
             None => Err((WrongKind, body)),
         }
     }
@@ -65,11 +87,27 @@ impl<V> WindowOf<V> {
 
     /// Returns its rectangle on the screen.
     pub fn bounds(&self) -> Rect
-        ensures is { result ≡ window_bounds (head_of self.now) }
+        ensures is { result ≡ window_bounds self.now }
         ensures small { IsSmallRect result }
         ensures near { IsRectNear result }
     {
-        self.head.bounds()
+        self.head.rect(&self.corner)
+    }
+
+    /// Moves its corner to a point within -132 to 132, and adds where it stood and where it stands to the damage, both
+    /// with the shadow. Adds nothing where it stands there already.
+    pub fn move_to(&mut self, corner: Point, damage: &mut Damage)
+        requires { IsCorner corner }
+        ensures moved { self.new ≡ moved_to corner self.old }
+        ensures damage { AddsAll (dragged_rects self.old corner) damage.old damage.new }
+        ensures unmoved { self.old.corner ≡ corner → damage.new ≡ damage.old }
+    {
+        if self.corner.point() == corner {
+            return;
+        }
+        damage.add_with_shadow(self.bounds());
+        self.corner = Corner::new(corner);
+        damage.add_with_shadow(self.bounds());
     }
 }
 
@@ -79,7 +117,9 @@ impl<V: View> WindowOf<V> {
     pub fn is_fresh(&self, node: &Node, views: &[Node]) -> bool
         ensures { IsTrue result ↔ IsFreshWindow V.meaning node.now views.now self.now }
     {
-        self.head.is_of(node) && self.body.is_fresh(node, views)
+        self.head.is_of(node)
+            && self.corner.point() == corner(node)
+            && self.body.is_fresh(node, views)
     }
 
     /// Draws the frame, the space in it, and the views on top, all seen from the canvas's origin. `env` is what the
@@ -88,7 +128,7 @@ impl<V: View> WindowOf<V> {
         requires { IsSmall canvas.origin.x × IsSmall canvas.origin.y }
         ensures { Lays (drawn_window V.meaning env.now canvas self.now) screen.old screen.new }
     {
-        let inner = canvas.sub(self.head.bounds());
+        let inner = canvas.sub(self.bounds());
         let frame = self.head.frame(env);
         lay(screen, inner, frame.width, frame.height, &frame);
         self.body.draw(screen, inner, env);
