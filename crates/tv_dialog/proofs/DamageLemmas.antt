@@ -8,6 +8,7 @@ use Rattle.tv_cells.specs.Rectangle.{shifted}
 use Rattle.tv_cells.specs.declared.canvas.Canvas.{Canvas}
 use Rattle.tv_cells.specs.declared.rect.Rect.{Rect}
 use Rattle.tv_model.specs.Description.Numbers.{natural}
+use Rattle.tv_model.specs.Description.Rectangles.{rect}
 use Rattle.tv_model.specs.Screen.Faces.{FrameLook, frame_face, frame_look}
 use Rattle.tv_palette.specs.Palettes.{colour_in}
 use Rattle.tv_palette.specs.declared.role.Owner.TheVariants as owners
@@ -18,9 +19,10 @@ use Rattle.tv_view.specs.declared.env.Env.{Env}
 use Rattle.tv_view.proofs.DamageLemmas.{alike-more, alike-then}
 use Rattle.tv_group.specs.Opened.{group_bounds, opened}
 use Rattle.tv_group.proofs.DamageLemmas.{all-drawn-refl}
+use Rattle.tv_dialog.specs.Bounds.{dialog_bounds}
 use Rattle.tv_dialog.specs.Damage.{BodyDrawn, DialogDamages, DialogEnvDamages}
 use Rattle.tv_dialog.specs.Drawn.{drawn_dialog, lent}
-use Rattle.tv_dialog.specs.Head.{KeptDialogHead, dialog_bounds}
+use Rattle.tv_dialog.specs.Head.{KeptDialogHead}
 use Rattle.tv_dialog.specs.declared.dialog.DialogOf.{DialogOf}
 use Rattle.tv_dialog.proofs.AlikeLemmas.{all-drawn-of, all-drawn-then, damage-outside, framed-alike, framed-outside}
 
@@ -28,72 +30,85 @@ module _ {V : Type 0} (look : V → Leaf) where
   -- ---- bodies
 
   -- a body that stays
-  pub body-same : (old new : DialogOf V) → new.head ≡ old.head → new.body ≡ old.body → new.damage ≡ old.damage → BodyDrawn look old new
-  body-same old new head body damage = record {
+  pub body-same : (old new : DialogOf V) → new.head ≡ old.head → new.corner ≡ old.corner → new.body ≡ old.body → new.damage ≡ old.damage
+      → BodyDrawn look old new
+  body-same old new head corner body damage = record {
     head = head;
+    corner = corner;
     body = rw (body, damage) (all-drawn-refl (opened look old.body) old.damage);
   }
 
   -- one that a call changes
-  pub body-called : (old new : DialogOf V) → new.head ≡ old.head
+  pub body-called : (old new : DialogOf V) → new.head ≡ old.head → new.corner ≡ old.corner
       → AllDamages (group_bounds old.body) (opened look old.body) (opened look new.body) old.damage new.damage → BodyDrawn look old new
-  body-called old new head called = record {
+  body-called old new head corner called = record {
     head = head;
+    corner = corner;
     body = all-drawn-of (group_bounds old.body) (opened look old.body) (opened look new.body) old.damage new.damage called;
   }
 
   pub body-then : (old mid new : DialogOf V) → BodyDrawn look old mid → BodyDrawn look mid new → BodyDrawn look old new
   body-then old mid new p q = record {
     head = q.head ∙ p.head;
+    corner = q.corner ∙ p.corner;
     body = all-drawn-then (opened look old.body) (opened look mid.body) (opened look new.body) old.damage mid.damage new.damage p.body q.body;
   }
 
   -- ---- dialogs
 
-  -- a dialog with a head and a frame's look
-  abbrev shown : KeptDialogHead → FrameLook → Env → DialogOf V → Canvas → List Layer
-  shown head seen env dialog c =
-      leaves_layers env (sub c (dialog_bounds head)) (opened look dialog.body)
-      ++ Painted (sub c (dialog_bounds head)) (natural head.w) (natural head.h) (frame_face (natural head.w) (natural head.h) head.title seen) ∷ []
+  -- a dialog in a rectangle, with a head and a frame's look
+  abbrev shown : Rect → KeptDialogHead → FrameLook → Env → DialogOf V → Canvas → List Layer
+  shown place head seen env dialog c =
+      leaves_layers env (sub c place) (opened look dialog.body)
+      ++ Painted (sub c place) (natural head.w) (natural head.h) (frame_face (natural head.w) (natural head.h) head.title seen) ∷ []
 
   abbrev seen_in : Env → FrameLook
   seen_in env = frame_look (colour_in env.chain.now) owners.Dialog 0 env.is_active
 
   -- outside its rectangle it draws nothing
   pub dialog-outside : (env : Env) (c : Canvas) (dialog : DialogOf V) (column row : ℕ) (under : Glyph)
-      → is_in (shifted (dialog_bounds dialog.head) c.origin) (pos column) (pos row) ≡ false → cell_over (drawn_dialog look env c dialog) column row under ≡ under
+      → is_in (shifted (dialog_bounds dialog) c.origin) (pos column) (pos row) ≡ false → cell_over (drawn_dialog look env c dialog) column row under ≡ under
   dialog-outside env c dialog column row under out =
       let head = dialog.head in
-      framed-outside (lent dialog.plan dialog.focus env) (dialog_bounds head) (opened look dialog.body) (natural head.w) (natural head.h)
+      framed-outside (lent dialog.plan dialog.focus env) (dialog_bounds dialog) (opened look dialog.body) (natural head.w) (natural head.h)
       (frame_face (natural head.w) (natural head.h) head.title (seen_in env)) c column row under out
 
+  -- the same head and corner have the same rectangle
+  bounds-same : (old new : DialogOf V) → new.head ≡ old.head → new.corner ≡ old.corner → dialog_bounds new ≡ dialog_bounds old
+  bounds-same old new head corner =
+      ap (λ h. rect new.corner.x new.corner.y h.w h.h) head ∙ ap (λ p. rect p.x p.y old.head.w old.head.h) corner
+
   -- what its views show otherwise by an event and by what it lends them then
-  pub dialog-damages : (env first last : Env) (old new : DialogOf V) (start mid inner before after : List Rect) (bounds : Rect) → new.head ≡ old.head
+  pub dialog-damages : (env first last : Env) (old new : DialogOf V) (start mid inner before after : List Rect) (bounds : Rect)
+      → new.head ≡ old.head → new.corner ≡ old.corner
       → AllDrawn (opened look old.body) (opened look new.body) start mid → first ≡ lent old.plan old.focus env → last ≡ lent new.plan new.focus env
       → AllEnvDamages (group_bounds new.body) first last (opened look new.body) mid inner
-      → bounds ≡ dialog_bounds new.head → HasWithin bounds inner after → Grows bounds before after → DialogDamages look env old new before after
-  dialog-damages env first last old new start mid inner before after bounds head body lends relends told is within grown =
+      → bounds ≡ dialog_bounds new → HasWithin bounds inner after → Grows bounds before after → DialogDamages look env old new before after
+  dialog-damages env first last old new start mid inner before after bounds head corner body lends relends told is within grown =
       let xs = opened look old.body in
       let ys = opened look new.body in
-      let at : bounds ≡ dialog_bounds old.head = is ∙ ap dialog_bounds head in
+      let place = dialog_bounds old in
+      let same : dialog_bounds new ≡ place = bounds-same old new head corner in
+      let at : bounds ≡ place = is ∙ same in
       let alike : IsDrawnAlike inner (λ c. leaves_layers first c xs) (λ c. leaves_layers last c ys) =
       alike-then inner (λ c. leaves_layers first c xs) (λ c. leaves_layers first c ys) (λ c. leaves_layers last c ys)
       (alike-more mid inner (λ c. leaves_layers first c xs) (λ c. leaves_layers first c ys) told.grown.kept (body.drawn first)) told.drawn in
-      let framed : IsDrawnAlike after (shown old.head (seen_in env) first old) (shown old.head (seen_in env) last new) =
-      framed-alike first last (dialog_bounds old.head) xs ys (natural old.head.w) (natural old.head.h)
+      let framed : IsDrawnAlike after (shown place old.head (seen_in env) first old) (shown place old.head (seen_in env) last new) =
+      framed-alike first last place xs ys (natural old.head.w) (natural old.head.h)
       (frame_face (natural old.head.w) (natural old.head.h) old.head.title (seen_in env)) inner after
       (subst (λ r. HasWithin r inner after) at within) alike in
       record {
         drawn =
-            subst (λ h. IsDrawnAlike after (λ c. drawn_dialog look env c old) (shown h (seen_in env) (lent new.plan new.focus env) new)) (sym head)
-            (subst (λ e. IsDrawnAlike after (λ c. drawn_dialog look env c old) (shown old.head (seen_in env) e new)) relends
-            (subst (λ e. IsDrawnAlike after (shown old.head (seen_in env) e old) (shown old.head (seen_in env) last new)) lends framed));
+            subst (λ r. IsDrawnAlike after (λ c. drawn_dialog look env c old) (shown r new.head (seen_in env) (lent new.plan new.focus env) new)) (sym same)
+            (subst (λ h. IsDrawnAlike after (λ c. drawn_dialog look env c old) (shown place h (seen_in env) (lent new.plan new.focus env) new)) (sym head)
+            (subst (λ e. IsDrawnAlike after (λ c. drawn_dialog look env c old) (shown place old.head (seen_in env) e new)) relends
+            (subst (λ e. IsDrawnAlike after (shown place old.head (seen_in env) e old) (shown place old.head (seen_in env) last new)) lends framed)));
         grown = subst (λ r. Grows r before after) at grown;
       }
 
   -- ---- under another environment
 
-  module _ (old new : Env) (dialog : DialogOf V) (before after : List Rect) (bounds : Rect) (is : bounds ≡ dialog_bounds dialog.head) (grown : Grows bounds before after) where
+  module _ (old new : Env) (dialog : DialogOf V) (before after : List Rect) (bounds : Rect) (is : bounds ≡ dialog_bounds dialog) (grown : Grows bounds before after) where
     -- the frame looks the same
     pub views-told : seen_in new ≡ seen_in old → (first last : Env) (inner : List Rect)
         → first ≡ lent dialog.plan dialog.focus old → last ≡ lent dialog.plan dialog.focus new
@@ -101,16 +116,17 @@ module _ {V : Type 0} (look : V → Leaf) where
         → DialogEnvDamages look old new dialog before after
     views-told same first last inner lends relends told within =
         let head = dialog.head in
+        let place = dialog_bounds dialog in
         let xs = opened look dialog.body in
-        let framed : IsDrawnAlike after (shown head (seen_in old) first dialog) (shown head (seen_in old) last dialog) =
-        framed-alike first last (dialog_bounds head) xs xs (natural head.w) (natural head.h)
+        let framed : IsDrawnAlike after (shown place head (seen_in old) first dialog) (shown place head (seen_in old) last dialog) =
+        framed-alike first last place xs xs (natural head.w) (natural head.h)
         (frame_face (natural head.w) (natural head.h) head.title (seen_in old)) inner after
         (subst (λ r. HasWithin r inner after) is within) told.drawn in
         record {
           drawn =
-              subst (λ seen. IsDrawnAlike after (λ c. drawn_dialog look old c dialog) (shown head seen (lent dialog.plan dialog.focus new) dialog)) (sym same)
-              (subst (λ e. IsDrawnAlike after (λ c. drawn_dialog look old c dialog) (shown head (seen_in old) e dialog)) relends
-              (subst (λ e. IsDrawnAlike after (shown head (seen_in old) e dialog) (shown head (seen_in old) last dialog)) lends framed));
+              subst (λ seen. IsDrawnAlike after (λ c. drawn_dialog look old c dialog) (shown place head seen (lent dialog.plan dialog.focus new) dialog)) (sym same)
+              (subst (λ e. IsDrawnAlike after (λ c. drawn_dialog look old c dialog) (shown place head (seen_in old) e dialog)) relends
+              (subst (λ e. IsDrawnAlike after (shown place head (seen_in old) e dialog) (shown place head (seen_in old) last dialog)) lends framed));
           grown = subst (λ r. Grows r before after) is grown;
         }
 
@@ -119,7 +135,7 @@ module _ {V : Type 0} (look : V → Leaf) where
     whole-told all = record {
       drawn = record {
         each = λ c column row off under.
-            let out = damage-outside (dialog_bounds dialog.head) after c column row (subst (λ r. HasAll r after) is all) off in
+            let out = damage-outside (dialog_bounds dialog) after c column row (subst (λ r. HasAll r after) is all) off in
             dialog-outside old c dialog column row under out ∙ sym (dialog-outside new c dialog column row under out);
       };
       grown = subst (λ r. Grows r before after) is grown;

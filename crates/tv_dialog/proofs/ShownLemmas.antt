@@ -1,9 +1,7 @@
 -- What a dialog draws is what the machine shows of the open one.
-use Rattle.std.proofs.Common.{◌≡◌, ◌∙◌, IsTrue, List, [], ◌∷◌, ◌++◌, ℤ, ℕ, Some, ap, map, sym, subst, arith, refl}
+use Rattle.std.proofs.Common.{◌≡◌, ◌∙◌, IsTrue, List, [], ◌∷◌, ◌++◌, ℤ, ℕ, Some, ap, map, sym, subst, refl}
 use Rattle.std.proofs.lemmas.Bool.{false≢true}
-use Rattle.std.proofs.lemmas.Int.{ints}
 use Rattle.std.proofs.lemmas.List.{map-append}
-use Rattle.std.proofs.lemmas.List.Elements.{All-head}
 use Rattle.tv_cells.specs.Canvas.{sub}
 use Rattle.tv_cells.specs.Layers.{Layer, Painted, Shadow, Lays, ShowsSame}
 use Rattle.tv_cells.specs.Picture.{Picture}
@@ -17,10 +15,9 @@ use Rattle.tv_model.specs.declared.kind.Kind.{Kind}
 use Rattle.tv_model.specs.declared.kind.Kind.TheVariants as kinds
 use Rattle.tv_model.specs.declared.desc.Desc.{Desc}
 use Rattle.tv_model.specs.declared.desc.Dialog.{Dialog}
-use Rattle.tv_model.specs.Description.Rectangles.{IsSmall, rect}
+use Rattle.tv_model.specs.Description.Rectangles.{IsSmall, IsSmallRect, rect}
 use Rattle.tv_view.specs.Meaning.{Leaf}
 use Rattle.tv_model.specs.Description.Heads.{dialog_head, dialog_head_of}
-use Rattle.tv_model.specs.Description.LawfulNodes as lawful
 use Rattle.tv_model.specs.Description.Nodes.{height_of, is_dialog}
 use Rattle.tv_model.specs.Description.Numbers.{natural}
 use Rattle.tv_model.specs.Screen.Faces.{frame_face, frame_look}
@@ -35,9 +32,10 @@ use Rattle.tv_view.specs.declared.env.Env.{Env}
 use Rattle.tv_view.specs.Drawing.{leaves_layers}
 use Rattle.tv_view.proofs.LayingLemmas.{lays_as, lays_then}
 use Rattle.tv_view.proofs.SameLayerLemmas.{lays_same}
+use Rattle.tv_dialog.specs.Bounds.{dialog_bounds}
 use Rattle.tv_dialog.specs.Drawn as drawn
 use Rattle.tv_dialog.specs.Drawn.{lent}
-use Rattle.tv_dialog.specs.Head.{KeptDialogHead, dialog_bounds, declared_dialog_head}
+use Rattle.tv_dialog.specs.Head.{KeptDialogHead, declared_dialog_head}
 use Rattle.tv_tree.specs.Shown.{IsShown, desktop_canvas, dialog_canvas, open_bounds, shadow_layer}
 use Rattle.tv_dialog.specs.Standing.{Stands}
 use Rattle.tv_tree.specs.Tree.{tree_of}
@@ -50,8 +48,6 @@ use Rattle.tv_dialog.proofs.TurnCodeLemmas.{lent-by}
 abbrev own_head : Dialog → KeptDialogHead
 own_head d = record {
   id = d.node.id;
-  x = d.node.x;
-  y = d.node.y;
   w = d.node.w;
   h = (dialog_head d).h;
   title = (dialog_head d).title;
@@ -61,8 +57,6 @@ own_head d = record {
 kept_is : (node : Node) (kind : Kind) (is : IsTrue (is_dialog kind)) (head : KeptDialogHead) → Some head ≡ declared_dialog_head (record node { kind = kind })
     → head ≡ record {
       id = node.id;
-      x = node.x;
-      y = node.y;
       w = node.w;
       h = (dialog_head_of kind is).h;
       title = (dialog_head_of kind is).title;
@@ -86,28 +80,20 @@ head-is d head e = kept_is d.node d.node.kind d.own_kind head e
 abbrev framed : Env → Canvas → ℤ → ℤ → List ℕ → Layer
 framed env c w h title = Painted c (natural w) (natural h) (frame_face (natural w) (natural h) title (frame_look (colour_in env.chain.now) owners.Dialog 0 env.is_active))
 
-small_corner : (d : Dialog) → IsLawfulDialog d → IsSmall d.node.x × IsSmall d.node.y
-small_corner d own =
-    let limits = All-head lawful.IsLimited d.node d.views own.limits in
-    let x = limits.x in
-    let y = limits.y in (
-      record { low = omega (arith, ints, x.0, x.1); high = omega (arith, ints, x.0, x.1) },
-      record { low = omega (arith, ints, y.0, y.1); high = omega (arith, ints, y.0, y.1) },
-    )
-
 module _ {V : Type 0} (look : V → Leaf) (desc : Desc) (d : Dialog) (o : OpenDialog) (overwriting : List Id) (m : Modal) (env : Env)
-    (dialog : DialogOf V) (own : IsLawfulDialog d) (s : Stands look d m.leaves m dialog) (shown : IsShown d o overwriting m env) where
+    (dialog : DialogOf V) (own : IsLawfulDialog d) (s : Stands look d m.leaves m dialog) (shown : IsShown d o overwriting m env)
+    (at : dialog.corner ≡ o.origin) (small : IsSmallRect (dialog_bounds dialog)) where
   abbrev here : Env
   here = lent dialog.plan dialog.focus env
 
   abbrev layers : List Layer
   layers = drawn.drawn_dialog look env (desktop_canvas desc) dialog
 
-  bounds-are : dialog_bounds dialog.head ≡ open_bounds o d
+  bounds-are : dialog_bounds dialog ≡ open_bounds o d
   bounds-are =
-      ap dialog_bounds (head-is d dialog.head s.head)
-      ∙ ap (λ h. rect d.node.x d.node.y d.node.w h) (sym (dialog-tall d))
-      ∙ ap (λ p. rect p.x p.y d.node.w (height_of d.node.kind)) (sym shown.corner)
+      ap (λ h. rect dialog.corner.x dialog.corner.y h.w h.h) (head-is d dialog.head s.head)
+      ∙ ap (λ h. rect dialog.corner.x dialog.corner.y d.node.w h) (sym (dialog-tall d))
+      ∙ ap (λ p. rect p.x p.y d.node.w (height_of d.node.kind)) at
 
   layers-are : layers ≡ tree_layers desc here o d m
   layers-are =
@@ -122,10 +108,10 @@ module _ {V : Type 0} (look : V → Leaf) (desc : Desc) (d : Dialog) (o : OpenDi
       (dialog-same desc d own own.defaults o overwriting m shown.work here
       (lent-by d m dialog.plan dialog.focus env here s.plan s.focus shown.views refl)
       (record { owner = shown.palettes.owner; chain = shown.palettes.chain }) shown.active
-      (subst (λ p. IsSmall p.x × IsSmall p.y) (sym shown.corner) (small_corner d own)))
+      (subst (λ p. IsSmall p.x × IsSmall p.y) at (small.left, small.top)))
 
   -- over its shadow it shows what the machine's layers show
-  pub dialog-shows : ShowsSame (layers ++ Shadow (desktop_canvas desc) (dialog_bounds dialog.head) ∷ []) (dialog_layers desc o overwriting d)
+  pub dialog-shows : ShowsSame (layers ++ Shadow (desktop_canvas desc) (dialog_bounds dialog) ∷ []) (dialog_layers desc o overwriting d)
   dialog-shows =
       subst (λ r. ShowsSame (layers ++ Shadow (desktop_canvas desc) r ∷ []) (dialog_layers desc o overwriting d)) (sym bounds-are) over-shadow
 

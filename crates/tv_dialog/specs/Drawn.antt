@@ -12,7 +12,7 @@ use Rattle.tv_palette.specs.Palettes.{colour_in}
 use Rattle.tv_palette.specs.declared.role.Owner.TheVariants as owners
 use Rattle.tv_view.specs.Drawing.{leaves_layers}
 use Rattle.tv_view.specs.declared.env.Env.{Env}
-use Rattle.tv_dialog.specs.Head.{KeptDialogHead, dialog_bounds}
+use Rattle.tv_dialog.specs.Bounds.{dialog_bounds}
 use Rattle.tv_dialog.specs.Plan.{has_button_at}
 use Rattle.tv_dialog.specs.declared.dialog.DialogOf.{DialogOf}
 use Rattle.tv_dialog.specs.declared.plan.Plan.{Plan}
@@ -26,14 +26,14 @@ abbrev pub lent : Plan → Id → Env → Env
 lent plan focus env = record env { focus = Some focus; default_now = default_now plan focus }
 
 -- the frame with what it surrounds, in the dialog's rectangle
-abbrev pub dialog_frame_layer : Env → Canvas → KeptDialogHead → Layer
-dialog_frame_layer env c head = Painted (sub c (dialog_bounds head)) (natural head.w) (natural head.h)
-    (frame_face (natural head.w) (natural head.h) head.title
+abbrev pub dialog_frame_layer : {V : Type 0} → Env → Canvas → DialogOf V → Layer
+dialog_frame_layer env c dialog =
+    Painted (sub c (dialog_bounds dialog)) (natural dialog.head.w) (natural dialog.head.h)
+    (frame_face (natural dialog.head.w) (natural dialog.head.h) dialog.head.title
     (frame_look (colour_in env.chain.now) owners.Dialog 0 env.is_active))
 
 -- the leaves of the body in the dialog's rectangle, the last on top, and the frame below them
 abbrev pub drawn_dialog : {V : Type 0} → (V → Leaf) → Env → Canvas → DialogOf V → List Layer
 drawn_dialog look env c dialog =
-    leaves_layers (lent dialog.plan dialog.focus env) (sub c (dialog_bounds dialog.head))
-    (opened look dialog.body)
-    ++ dialog_frame_layer env c dialog.head ∷ []
+    leaves_layers (lent dialog.plan dialog.focus env) (sub c (dialog_bounds dialog)) (opened look dialog.body)
+    ++ dialog_frame_layer env c dialog ∷ []

@@ -1,19 +1,16 @@
--- What a dialog keeps of its node: all but its name and the command that opens it.
+-- What a dialog keeps of its node: all but its name, the command that opens it, and its corner.
 use Rattle.std.specs.Prelude.{ℕ, ℤ, List, length, ◌≤◌, Option, Some, None}
-use Rattle.tv_cells.specs.declared.rect.Rect.{Rect}
+use Rattle.tv_faces.specs.Corners.{IsFrameSize}
 use Rattle.tv_model.specs.declared.command.Ends.{Ends}
 use Rattle.tv_model.specs.declared.node.Id.{Id}
 use Rattle.tv_model.specs.declared.node.Node.{Node}
 use Rattle.tv_model.specs.declared.kind.Kind.{Kind}
 use Rattle.tv_model.specs.declared.kind.Kind.TheVariants as kinds
 use Rattle.tv_model.specs.declared.kind.DialogHead.{DialogHead}
-use Rattle.tv_model.specs.Description.Rectangles.{rect, IsSmallRect}
 
--- a dialog's rectangle, title and ends
+-- a dialog's size, title and ends
 pub record KeptDialogHead : Type 0 where
   pub id : Id
-  pub x : ℤ
-  pub y : ℤ
   pub w : ℤ
   pub h : ℤ
   pub title : List ℕ
@@ -23,8 +20,6 @@ pub record KeptDialogHead : Type 0 where
 abbrev pub kept_dialog_head : Node → DialogHead → KeptDialogHead
 kept_dialog_head node head = record {
   id = node.id;
-  x = node.x;
-  y = node.y;
   w = node.w;
   h = head.h;
   title = head.title;
@@ -39,11 +34,7 @@ declared_dialog_head node = head node.kind
     head (kinds.Dialog own) = Some (kept_dialog_head node own)
     head _ = None
 
--- a dialog's rectangle, seen from the corner of the desktop
-abbrev pub dialog_bounds : KeptDialogHead → Rect
-dialog_bounds head = rect head.x head.y head.w head.h
-
--- a rectangle near the screen, and a title that fits
+-- a size that a dialog may have, and a title that fits
 pub record IsLimitedDialogHead (head : KeptDialogHead) : Type 0 where
-  pub bounds : IsSmallRect (dialog_bounds head)
+  pub size : IsFrameSize head.w head.h
   pub title : length head.title ≤ 120

@@ -1,3 +1,4 @@
+pub mod Bounds
 pub mod Damage
 pub mod Drawn
 pub mod Fields

@@ -3,5 +3,5 @@ use Rattle.std.specs.Prelude.{map}
 use Rattle.tv_machine.specs.Leaves.{PlacedNode}
 use Rattle.tv_dialog.specs.declared.plan.Placed.{Placed}
 
-abbrev pub placed : Placed → PlacedNode
-placed leaf = record { node = leaf.node.now; panes = map (λ pane. pane.now) leaf.panes.now }
+abbrev pub placed_node : Placed → PlacedNode
+placed_node leaf = record { node = leaf.node.now; panes = map (λ pane. pane.now) leaf.panes.now }

@@ -1,8 +1,10 @@
 //! Dialogs.
 
-ghost use Rattle.std.specs.Prelude.{◌≡◌, ◌≤◌, ◌<◌, ◌∷◌, [], ℕ, length, slice_index_or, IfOk, IfErr, IfSome, List, None, Some, false, map, true};
+ghost use Rattle.std.specs.Prelude.{◌≡◌, ◌⊎◌, ◌≤◌, ◌<◌, ◌∷◌, [], ℕ, length, slice_index_or, IfOk, IfErr, IfSome, List, None, Some, false, map, true};
 ghost use Rattle.tv_cells.specs.Rectangle.{IsRectNear};
-ghost use Rattle.tv_model.specs.Description.Rectangles.{IsSmall, IsSmallRect};
+ghost use Rattle.tv_faces.specs.Corners.{IsCorner};
+ghost use Rattle.tv_model.specs.Description.Rectangles.{IsSmall, IsSmallRect, corner_of};
+ghost use Rattle.tv_cells.specs.Damage.{AddsAll};
 ghost use Rattle.tv_cells.specs.Layers.{Lays};
 ghost use Rattle.tv_cells.specs.Repainting.{clipped, within};
 ghost use Rattle.tv_cells.specs.declared.rect.Rect.{Rect as Rectangle};
@@ -21,7 +23,8 @@ ghost use Rattle.tv_model.specs.declared.node.Id.{Id as Ident};
 ghost use Rattle.tv_machine.specs.State.{OpenDialog};
 ghost use Rattle.tv_machine.specs.Dialog.Modal.{Modal};
 ghost use Rattle.tv_machine.specs.Screen.Layers.{dialog_layers as open_layers};
-ghost use Rattle.tv_dialog.specs.Head.{IsLimitedDialogHead, dialog_bounds, declared_dialog_head};
+ghost use Rattle.tv_dialog.specs.Bounds.{dialog_bounds, moved_dialog_rects};
+ghost use Rattle.tv_dialog.specs.Head.{IsLimitedDialogHead, declared_dialog_head};
 ghost use Rattle.tv_dialog.specs.Plan.{plan_of};
 ghost use Rattle.tv_dialog.specs.Damage.{DialogEnvDamages};
 ghost use Rattle.tv_dialog.specs.Drawn.{default_now, drawn_dialog, lent};
@@ -33,8 +36,9 @@ use crate::log::Log;
 use crate::plan::Plan;
 use crate::ruled::Ruled;
 use std::alloc::Global;
-use tv_cells::{Canvas, Damage, Rect, Screen, lay};
+use tv_cells::{Canvas, Damage, Point, Rect, Screen, lay};
 use tv_event::{Command, CommandSet, Pending};
+use tv_faces::Corner;
 use tv_group::GroupOf;
 use tv_model::{Id, LogLine, Node, OnHeap, Record, Rule, empty_record};
 use tv_view::{Env, View};
@@ -46,6 +50,7 @@ use tv_view::{Env, View};
 #[derive(Drop)]
 pub struct DialogOf<V> {
     pub(crate) head: Head,
+    pub(crate) corner: Corner,
     pub(crate) plan: Plan,
     pub(crate) body: GroupOf<V>,
     pub(crate) is_open: bool,
@@ -101,8 +106,8 @@ impl Kept {
 
 impl<V: View> DialogOf<V> {
     /// Makes the dialog of a node with these views, panes opened out, and rules, round a body that is as they declare
-    /// it. The dialog is closed. Its title has at most 120 characters, and its rectangle lies within -300 to 300, as
-    /// those of sound descriptions do.
+    /// it. The dialog is closed, and its corner stands where the node declares it. That is within -132 to 132, its width
+    /// and height are at most 132 and 60, and its title has at most 120 characters, as in sound descriptions.
     ///
     /// # Errors
     ///
@@ -115,8 +120,10 @@ impl<V: View> DialogOf<V> {
         rules: &[Rule],
         body: GroupOf<V>,
     ) -> Result<DialogOf<V>, (DialogFault, GroupOf<V>)>
-        requires { IfSome (declared_dialog_head node.now) IsLimitedDialogHead }
+        requires limited { IfSome (declared_dialog_head node.now) IsLimitedDialogHead }
+        requires corner { IsCorner (corner_of node.now) }
         ensures head { IfOk result (λ dialog. Some dialog.head ≡ declared_dialog_head node.now) }
+        ensures corner { IfOk result (λ dialog. dialog.corner ≡ corner_of node.now) }
         ensures plan { IfOk result (λ dialog. dialog.plan ≡ plan_of views.now rules.now) }
         ensures body { IfOk result (λ dialog. dialog.body ≡ body) }
         ensures closed { IfOk result (λ dialog. dialog.is_open ≡ false) }
@@ -133,6 +140,10 @@ impl<V: View> DialogOf<V> {
             Ok(kept) => Ok(DialogOf {
                 focus: kept.head.id(),
                 head: kept.head,
+                corner: Corner::new(Point {
+                    x: node.x,
+                    y: node.y,
+                }),
                 plan: kept.plan,
                 body,
                 is_open: false,
@@ -151,11 +162,42 @@ impl<V: View> DialogOf<V> {
 impl<V> DialogOf<V> {
     /// Returns its rectangle, seen from the corner of what it stands in.
     pub fn bounds(&self) -> Rect
-        ensures is { result ≡ dialog_bounds self.now.head }
+        ensures is { result ≡ dialog_bounds self.now }
         ensures small { IsSmallRect result }
         ensures near { IsRectNear result }
     {
-        self.head.bounds()
+        self.head.bounds_at(&self.corner)
+    }
+
+    /// Returns where its corner stands, seen from that of what it stands in.
+    pub fn corner(&self) -> Point
+        ensures is { result ≡ self.now.corner }
+        ensures near { IsCorner result }
+    {
+        self.corner.point()
+    }
+
+    /// Stands it with its corner at the point, and damages nothing: for a dialog that isn't shown.
+    pub fn stand_at(&mut self, corner: Point)
+        requires { IsCorner corner }
+        ensures { self.new ≡ record self.old { corner = corner } }
+    {
+        self.corner = Corner::new(corner);
+    }
+
+    /// Moves it so that its corner stands at the point. Adds to the damage what shows otherwise then: the dialog with
+    /// its shadow, where it was and where it is. Adds nothing if its corner stands there already.
+    pub fn move_to(&mut self, corner: Point, damage: &mut Damage)
+        requires { IsCorner corner }
+        ensures moved { self.new ≡ record self.old { corner = corner } }
+        ensures unmoved { self.old.corner ≡ corner → damage.new ≡ damage.old }
+        ensures damaged { (self.old.corner ≡ corner) ⊎ AddsAll (moved_dialog_rects self.old self.new) damage.old damage.new }
+    {
+        if corner != self.corner() {
+            damage.add_with_shadow(self.bounds());
+            self.stand_at(corner);
+            damage.add_with_shadow(self.bounds());
+        }
     }
 
     /// Whether it is open.
@@ -251,10 +293,10 @@ impl<V: View> DialogOf<V> {
         requires { IsSmall canvas.origin.x × IsSmall canvas.origin.y }
         ensures layers { Lays (drawn_dialog V.meaning env.now canvas self.now) screen.old screen.new }
         ensures machine { (desc : Desc) (r : Rectangle) (d : Declared) (o : OpenDialog) (overwriting : List Ident) (m : Modal) (before : Picture) → IsLawfulDialog d
-            → Stands V.meaning d m.leaves m self.now → IsShown d o overwriting m env.now → canvas ≡ within r (desktop_canvas desc)
-            → Lays (clipped r (shadow_layer desc o d) ∷ []) before screen.old → Lays (map (clipped r) (open_layers desc o overwriting d)) before screen.new }
+            → Stands V.meaning d m.leaves m self.now → IsShown d o overwriting m env.now → self.now.corner ≡ o.origin
+            → canvas ≡ within r (desktop_canvas desc) → Lays (clipped r (shadow_layer desc o d) ∷ []) before screen.old → Lays (map (clipped r) (open_layers desc o overwriting d)) before screen.new }
     {
-        let inner = canvas.sub(self.head.bounds());
+        let inner = canvas.sub(self.bounds());
         let frame = self.head.frame(env);
         lay(screen, inner, frame.width, frame.height, &frame);
         self.body.draw(screen, inner, &self.lent(env));
@@ -269,9 +311,9 @@ impl<V: View> DialogOf<V> {
             let mut inner = Damage::new();
             self.body
                 .env_damage(&self.lent(old), &self.lent(new), &mut inner);
-            damage.add_within(&inner, self.head.bounds());
+            damage.add_within(&inner, self.bounds());
         } else {
-            damage.add(self.head.bounds());
+            damage.add(self.bounds());
         }
     }
 }

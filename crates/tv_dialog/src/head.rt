@@ -3,29 +3,27 @@
 ghost use Rattle.std.specs.Prelude.{◌≡◌, IfSome, IsTrue};
 ghost use Rattle.tv_cells.specs.Rectangle.{IsRectNear};
 ghost use Rattle.tv_model.specs.Screen.Faces.{frame_look};
-ghost use Rattle.tv_model.specs.Description.Rectangles.{IsSmallRect};
+ghost use Rattle.tv_model.specs.Description.Rectangles.{IsSmallRect, rect};
 ghost use Rattle.tv_model.specs.Description.Commands.{is_declared};
 ghost use Rattle.tv_model.specs.Description.Numbers.{natural};
 ghost use Rattle.tv_faces.specs.Looks.{frame_look_of};
 ghost use Rattle.tv_palette.specs.Palettes.{colour_in};
 ghost use Rattle.tv_palette.specs.declared.role.Owner.TheVariants.{Dialog};
-ghost use Rattle.tv_dialog.specs.Head.{IsLimitedDialogHead, dialog_bounds, declared_dialog_head};
+ghost use Rattle.tv_dialog.specs.Head.{IsLimitedDialogHead, declared_dialog_head};
 
 use std::marker::Model;
 use tv_cells::Rect;
 use tv_event::Command;
-use tv_faces::{Frame, FrameLook, natural, rect_at};
+use tv_faces::{Corner, Frame, FrameLook, natural};
 use tv_model::{Ends, Id, Kind, Node};
 use tv_palette::Owner;
 use tv_valid::Text;
 use tv_view::Env;
 
-/// A dialog's node without its name and the command that opens it.
+/// A dialog's node without its name, the command that opens it, and its corner, which may move.
 #[derive(Drop)]
 pub(crate) struct Head {
     id: Id,
-    x: i32,
-    y: i32,
     w: i32,
     h: i32,
     title: Text,
@@ -37,9 +35,9 @@ impl Model for Head {
 
     ghost Value = { KeptDialogHead };
 
-    ghost view = { λ s. record { id = s.id; x = s.x; y = s.y; w = s.w; h = s.h; title = s.title; ends = s.ends } };
+    ghost view = { λ s. record { id = s.id; w = s.w; h = s.h; title = s.title; ends = s.ends } };
 
-    ghost invariant = { λ s. IsLimitedDialogHead (record { id = s.id; x = s.x; y = s.y; w = s.w; h = s.h; title = s.title; ends = s.ends }) };
+    ghost invariant = { λ s. IsLimitedDialogHead (record { id = s.id; w = s.w; h = s.h; title = s.title; ends = s.ends }) };
 }
 
 /// Whether a dialog's frame looks the same in both environments.
@@ -59,8 +57,6 @@ impl Head {
         match &node.kind {
             Kind::Dialog(declared) => Some(Head {
                 id: node.id,
-                x: node.x,
-                y: node.y,
                 w: node.w,
                 h: declared.h,
                 title: Text::from_chars(declared.title.as_slice())?,
@@ -76,12 +72,13 @@ impl Head {
         self.id
     }
 
-    pub(crate) fn bounds(&self) -> Rect
-        ensures is { result ≡ dialog_bounds self.now }
+    /// Returns the dialog's rectangle, where its corner stands there.
+    pub(crate) fn bounds_at(&self, corner: &Corner) -> Rect
+        ensures is { result ≡ rect corner.now.x corner.now.y self.now.w self.now.h }
         ensures small { IsSmallRect result }
         ensures near { IsRectNear result }
     {
-        rect_at(&self.x, &self.y, &self.w, &self.h)
+        corner.rect(&self.w, &self.h)
     }
 
     /// Whether the dialog declares the command as one of its ends other than `cancel`.

@@ -19,3 +19,4 @@ mod turn;
 pub use dialog::{Dialog, DialogOf};
 pub use fault::DialogFault;
 pub use log_lines::LogLines;
+pub use step::is_close_mark;

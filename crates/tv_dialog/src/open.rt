@@ -9,7 +9,7 @@ ghost use Rattle.tv_group.specs.Calls.{FitsAll};
 ghost use Rattle.tv_group.specs.Opened.{opened};
 ghost use Rattle.tv_cells.specs.Damage.{Grows, HasAll};
 ghost use Rattle.tv_dialog.specs.Fields.{in_field_order};
-ghost use Rattle.tv_dialog.specs.Head.{dialog_bounds};
+ghost use Rattle.tv_dialog.specs.Bounds.{dialog_bounds};
 ghost use Rattle.tv_dialog.specs.Resting.{Rests};
 ghost use Rattle.tv_dialog.specs.Standing.{Stands};
 
@@ -20,8 +20,8 @@ use tv_model::Record;
 use tv_view::View;
 
 impl<V: View> DialogOf<V> {
-    /// Opens it with the values that the record has for its fields, in whatever order, and the focus on the first free
-    /// control. Inputs in which typing overwrites stay so. Adds the dialog's rectangle to the damage.
+    /// Opens it where it stands, with the values that the record has for its fields, in whatever order, and the focus on
+    /// the first free control. Inputs in which typing overwrites stay so. Adds the dialog's rectangle to the damage.
     pub fn reopen(&mut self, values: &Record, damage: &mut Damage)
         requires { FitsAll values.now (opened V.meaning self.old.body) }
         ensures stands { (d : Dialog) (m : Modal) → IsLawfulDialog d → Rests V.meaning d m self.old
@@ -29,10 +29,11 @@ impl<V: View> DialogOf<V> {
             (opens d (Some (in_field_order d values.now)) m.overwriting) self.new }
         ensures is_open { self.new.is_open ≡ true }
         ensures pending { self.new.pending ≡ [] }
-        ensures added { HasAll (dialog_bounds self.old.head) damage.new }
-        ensures grown { Grows (dialog_bounds self.old.head) damage.old damage.new }
+        ensures corner { self.new.corner ≡ self.old.corner }
+        ensures added { HasAll (dialog_bounds self.old) damage.new }
+        ensures grown { Grows (dialog_bounds self.old) damage.old damage.new }
     {
-        damage.add(self.head.bounds());
+        damage.add(self.bounds());
         self.log.clear();
         self.pending.clear();
         self.body.set(values, &mut self.damage);

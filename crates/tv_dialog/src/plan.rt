@@ -8,7 +8,7 @@ ghost use Rattle.tv_model.specs.Description.Commands.{command_number};
 ghost use Rattle.tv_model.specs.Description.Nodes.{is_default};
 ghost use Rattle.tv_machine.specs.Dialog.Rules.{shows};
 ghost use Rattle.tv_machine.specs.Leaves.{leaf_list};
-ghost use Rattle.tv_dialog.specs.Placing.{placed};
+ghost use Rattle.tv_dialog.specs.Placing.{placed_node};
 ghost use Rattle.tv_dialog.specs.Plan.{condition_of, conditions_of, gate_of, has_button_at, is_shown_by, leaf_plan, plan_of};
 
 use crate::condition::Condition;
@@ -97,7 +97,7 @@ fn any_gives(panes: &[&Node], name: &Chars) -> bool
 }
 
 fn shows(leaf: Placed, effect: &Effect) -> bool
-    ensures { result ≡ shows (placed leaf.entry) effect.now }
+    ensures { result ≡ shows (placed_node leaf.entry) effect.now }
 {
     match effect {
         Effect::Show(name) => gives_name(name, leaf.node) || any_gives(leaf.panes, name),
@@ -111,7 +111,7 @@ fn kept_conditions(
     views: &[Node],
     rules: &[Rule],
 ) -> Result<Sequence<Condition>, AllocError>
-    ensures { IfOk result (λ conditions. conditions ≡ conditions_of views.now rules.now (placed leaf.entry)) }
+    ensures { IfOk result (λ conditions. conditions ≡ conditions_of views.now rules.now (placed_node leaf.entry)) }
 {
     let mut conditions = Sequence::new(alloc);
     for rule in rules {

@@ -1,6 +1,6 @@
 //! What a dialog makes of an event that it is handed.
 
-ghost use Rattle.std.specs.Prelude.{◌≡◌, ◌<◌, [], length, true};
+ghost use Rattle.std.specs.Prelude.{◌≡◌, ◌<◌, [], IsTrue, length, true};
 ghost use Rattle.tv_model.specs.declared.desc.Dialog.{Dialog};
 ghost use Rattle.tv_machine.specs.Dialog.Focus.{is_free_at};
 ghost use Rattle.tv_machine.specs.Dialog.Lawful.{IsLawfulDialog};
@@ -9,7 +9,8 @@ ghost use Rattle.tv_machine.specs.Dialog.Mouse.{is_close_mark};
 ghost use Rattle.tv_machine.specs.Dialog.Step.{dialog_step};
 ghost use Rattle.tv_tree.specs.Ready.{HoldsLeaf};
 ghost use Rattle.tv_group.specs.Calls.{any_holds};
-ghost use Rattle.tv_group.specs.Opened.{opened};
+ghost use Rattle.tv_group.specs.Opened.{group_bounds, opened};
+ghost use Rattle.tv_view.specs.Damage.{AllEnvDamages};
 ghost use Rattle.tv_dialog.specs.Damage.{BodyDrawn, DialogDamages};
 ghost use Rattle.tv_dialog.specs.Standing.{Stands};
 ghost use Rattle.tv_dialog.specs.Stepping.{IsHandedIn, posted, posted_free, posted_held, posted_key, begun_anew, walked};
@@ -17,11 +18,11 @@ ghost use Rattle.tv_dialog.specs.Stepping.{IsHandedIn, posted, posted_free, post
 use crate::dialog::DialogOf;
 use tv_cells::{Damage, Point};
 use tv_event::{Command, Event, Key};
-use tv_group::Dir;
+use tv_group::{Dir, GroupOf};
 use tv_view::{Env, View};
 
-// A dialog's own button, which lies in its frame.
-fn is_close_mark(point: Point) -> bool
+/// Whether a point, seen from a dialog's corner, lies on the mark in its frame that closes it.
+pub fn is_close_mark(point: Point) -> bool
     ensures { result ≡ is_close_mark point }
 {
     point.y == 0 && 2 <= point.x && point.x <= 4
@@ -78,6 +79,24 @@ fn posted(is_held: bool, event: &Event) -> Option<Event>
     }
 }
 
+// Whether the focus, and the default button, are the same in both environments.
+fn is_lent_same(old: &Env, new: &Env) -> bool
+    ensures { IsTrue result → (old.now.focus ≡ new.now.focus) × (old.now.default_now ≡ new.now.default_now) }
+{
+    old.focus == new.focus && old.default_now == new.default_now
+}
+
+// Adds what the views show otherwise where the focus is elsewhere, or the default button. It asks no view where both stay.
+fn env_damage<V: View>(body: &GroupOf<V>, old: &Env, new: &Env, damage: &mut Damage)
+    requires { new.now ≡ record old.now { focus = new.now.focus; default_now = new.now.default_now } }
+    ensures { AllEnvDamages (group_bounds body.now) old.now new.now (opened V.meaning body.now) damage.old damage.new }
+{
+    if is_lent_same(old, new) {
+        return;
+    }
+    body.env_damage(old, new, damage);
+}
+
 impl<V: View> DialogOf<V> {
     // Handles the keys that lead from control to control.
     fn walk(&mut self, event: &Event)
@@ -102,6 +121,7 @@ impl<V: View> DialogOf<V> {
             → is_free_at d m.leaves m.focus ≡ true → Stands V.meaning d m.leaves m self.old
             → Stands V.meaning d (dialog_step d event.now (begun_anew m)).leaves (dialog_step d event.now (begun_anew m)) self.new }
         ensures pending { self.new.pending ≡ [] }
+        ensures corner { self.new.corner ≡ self.old.corner }
         ensures damage { DialogDamages V.meaning env.now self.old self.new damage.old damage.new }
     {
         self.step_told(self.held(), event, env, damage);
@@ -115,14 +135,15 @@ impl<V: View> DialogOf<V> {
             → is_free_at d m.leaves m.focus ≡ true → Stands V.meaning d m.leaves m self.old
             → Stands V.meaning d (dialog_step d event.now (begun_anew m)).leaves (dialog_step d event.now (begun_anew m)) self.new }
         ensures pending { self.new.pending ≡ [] }
+        ensures corner { self.new.corner ≡ self.old.corner }
         ensures damage { DialogDamages V.meaning env.now self.old self.new damage.old damage.new }
     {
         let before = self.lent(env);
         self.damage.clear();
         self.answer(is_held, event, env);
         let after = self.lent(env);
-        self.body.env_damage(&before, &after, &mut self.damage);
-        damage.add_within(&self.damage, self.head.bounds());
+        env_damage(&self.body, &before, &after, &mut self.damage);
+        damage.add_within(&self.damage, self.bounds());
     }
 
     // Does what an event comes to.

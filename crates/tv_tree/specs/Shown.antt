@@ -8,7 +8,7 @@ use Rattle.tv_model.specs.declared.node.Id.{Id}
 use Rattle.tv_model.specs.declared.desc.Desc.{Desc}
 use Rattle.tv_model.specs.declared.desc.Dialog.{Dialog}
 use Rattle.tv_model.specs.Description.Nodes.{height_of}
-use Rattle.tv_model.specs.Description.Rectangles.{corner_of, desktop, rect}
+use Rattle.tv_model.specs.Description.Rectangles.{desktop, rect}
 use Rattle.tv_machine.specs.Screen.Bodies.{canvas_at}
 use Rattle.tv_palette.specs.Chain.{coloured}
 use Rattle.tv_palette.specs.Palettes.{owners_of_part}
@@ -44,11 +44,10 @@ pub record IsAtWork (o : OpenDialog) (overwriting : List Id) (m : Modal) : Type 
   pub focus : m.focus ≡ o.focus
   pub overwriting_in : m.overwriting ≡ overwriting
 
--- the dialog at work is the open one, where it is declared, and it is drawn as the active one
+-- the dialog at work is the open one, and it is drawn as the active one
 pub record IsShown (d : Dialog) (o : OpenDialog) (overwriting : List Id) (m : Modal)
     (env : Env) : Type 0 where
   pub work : IsAtWork o overwriting m
-  pub corner : o.origin ≡ corner_of d.node
   pub views : env.views.now ≡ d.views
   pub palettes : IsOfDialog env
   pub active : env.is_active ≡ true

@@ -2,6 +2,7 @@ use Rattle.std.proofs.Common.{ap, subst, sym, ◌∙◌, ◌∷◌}
 use Rattle.tv_cells.specs.Canvas.{sub}
 use Rattle.tv_cells.specs.Layers.{Shows, Lays}
 use Rattle.tv_cells.specs.Rectangle.{IsPointNear}
+use Rattle.tv_model.specs.Description.Rectangles.{IsSmallRect}
 use Rattle.tv_group.specs.Opened.{opened}
 use Rattle.tv_dialog.specs.Drawn.{lent}
 use Rattle.tv_view.specs.Drawing.{leaves_layers}
@@ -23,6 +24,6 @@ returns-clause-layers g c =
     (subst (λ env. Lays (leaves_layers env c.sub-inner.result (opened g.V.View.meaning c.args.self.now.body)) c.lay.new.screen c.draw.new.screen) c.lent.ensures c.draw.ensures))
 
 pub returns-clause-machine : goal.returns-clause-machine
-returns-clause-machine g c desc r d o overwriting m before lawful stands shown seen shadow =
-    dialog-shown g.V.View.meaning desc d o overwriting m c.args.env.now c.args.self.now lawful stands shown r c.args.canvas seen before c.args.screen.now c.draw.new.screen shadow
+returns-clause-machine g c desc r d o overwriting m before lawful stands shown at seen shadow =
+    dialog-shown g.V.View.meaning desc d o overwriting m c.args.env.now c.args.self.now lawful stands shown at (subst IsSmallRect c.bounds.ensures.is c.bounds.ensures.small) r c.args.canvas seen before c.args.screen.now c.draw.new.screen shadow
     (returns-clause-layers g c)
