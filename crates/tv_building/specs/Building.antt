@@ -8,6 +8,7 @@ use Rattle.tv_view.specs.Meaning.{Leaf}
 use Rattle.tv_model.specs.declared.kind.Kind.{Kind}
 use Rattle.tv_model.specs.declared.kind.Kind.TheVariants as kinds
 use Rattle.tv_model.specs.declared.node.Node.{Node}
+use Rattle.tv_model.specs.Description.Rectangles.{corner_of}
 use Rattle.tv_window.specs.Head.{declared_window_head}
 use Rattle.tv_window.specs.Window.{body_of, head_of}
 use Rattle.tv_window.specs.declared.window.WindowOf.{WindowOf}
@@ -55,11 +56,12 @@ pub record Adds {V : Type 0} (member : MemberOf V) (old new : List (Begun V)) : 
 
 -- ---- ending
 
--- a window of the node stands, the last of the windows, round this body
+-- a window of the node stands where that is declared, the last of the windows, round this body
 pub record StandsWindow {V : Type 0} (node : Node) (body : GroupOf V)
     (old new : List (WindowOf V)) : Type 0 where
   pub window : WindowOf V
   pub head : Some (head_of window) ≡ declared_window_head node
+  pub corner : window.corner ≡ corner_of node
   pub body_is : body_of window ≡ body
   pub last : new ≡ old ++ window ∷ []
 

@@ -4,8 +4,10 @@ ghost use Rattle.std.specs.Option.{ForSome};
 ghost use Rattle.std.specs.Prelude.{◌≡◌, ◌≤◌, ◌++◌, ◌∷◌, [], false, IfErr, IfOk, OnOk};
 ghost use Rattle.tv_building.specs.Groups.{IsGroupOf, area_of, is_group};
 ghost use Rattle.tv_building.specs.declared.fault.BuildFault.TheVariants.{NoMemory, WrongPlan};
+ghost use Rattle.tv_faces.specs.Corners.{IsCorner};
 ghost use Rattle.tv_group.specs.Opened.{members_level};
 ghost use Rattle.tv_model.specs.Description.LawfulNodes.{IsLawfulNode};
+ghost use Rattle.tv_model.specs.Description.Rectangles.{corner_of};
 ghost use Rattle.tv_window.specs.Head.{IsLimitedWindowHead, declared_window_head};
 
 use crate::area::{Area, area_of};
@@ -22,6 +24,7 @@ pub(crate) struct Begun<'a, V> {
     pub(crate) members: Vec<MemberOf<V>>,
     ghost stands: { area.rect ≡ area_of node.now node.now.kind },
     ghost limited: { ForSome (declared_window_head node.now) IsLimitedWindowHead },
+    ghost near: { IsCorner (corner_of node.now) },
 }
 
 impl<'a, V: View> Begun<'a, V> {

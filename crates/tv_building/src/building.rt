@@ -5,8 +5,10 @@ ghost use Rattle.std.specs.Prelude.{◌≡◌, ◌≢◌, [], false, None, IfErr
 ghost use Rattle.tv_building.specs.Building.{Adds, BeginsNode, EndsNode, IsMisplaced, KeepsViews, StandsWindow, begun_of, bodies_built, windows_of};
 ghost use Rattle.tv_building.specs.Groups.{is_group};
 ghost use Rattle.tv_building.specs.declared.fault.BuildFault.TheVariants.{WrongPlan};
+ghost use Rattle.tv_faces.specs.Corners.{IsCorner};
 ghost use Rattle.tv_group.specs.declared.group.MemberOf.TheVariants as members;
 ghost use Rattle.tv_model.specs.Description.LawfulNodes.{IsLawfulNode};
+ghost use Rattle.tv_model.specs.Description.Rectangles.{corner_of};
 ghost use Rattle.tv_window.specs.Head.{IsLimitedWindowHead, declared_window_head};
 
 use crate::begun::Begun;
@@ -147,7 +149,8 @@ fn stand_window<V: View>(
     node: &Node,
     body: GroupOf<V>,
 ) -> Result<(), BuildFault>
-    requires { ForSome (declared_window_head node.now) IsLimitedWindowHead }
+    requires limited { ForSome (declared_window_head node.now) IsLimitedWindowHead }
+    requires corner { IsCorner (corner_of node.now) }
     ensures stands { OnOk result (StandsWindow node.now body windows.old.items windows.new.items) }
     ensures same { IfErr result (λ _. windows.new.items ≡ windows.old.items) }
     ensures refused { IfErr result (λ fault. fault ≡ WrongPlan → declared_window_head node.now ≡ None) }

@@ -1,5 +1,5 @@
 -- Where the open dialog shows otherwise, there it is to be painted again.
-use Rattle.std.proofs.Common.{◌≡◌, ℕ, pos, ◌-ℤ◌, Bool, true, false, List, [], ◌∷◌, ◌++◌, Some, None, option_map, refl, sym, ap, subst, ◌∙◌, arith}
+use Rattle.std.proofs.Common.{◌≡◌, ◌⊎◌, inl, inr, ℕ, pos, ◌-ℤ◌, Bool, true, false, List, [], ◌∷◌, ◌++◌, Some, None, option_map, refl, sym, ap, subst, ◌∙◌, arith}
 use Rattle.std.specs.Bool.{then_some}
 use Rattle.std.specs.Prelude.{slice_get, slice_index_or, slice_set}
 use Rattle.std.proofs.lemmas.Int.{ints}
@@ -11,14 +11,17 @@ use Rattle.tv_cells.specs.Layers.{Layer, Shadow, ShowsSame, cell_over, is_in, ov
 use Rattle.tv_cells.specs.Rectangle.{shifted}
 use Rattle.tv_cells.specs.Repainting.{AreAlike, has_cell}
 use Rattle.tv_cells.specs.declared.canvas.Canvas.{Canvas}
+use Rattle.tv_cells.specs.declared.rect.Point.{Point}
 use Rattle.tv_cells.specs.declared.rect.Rect.{Rect}
 use Rattle.tv_cells.proofs.DamageLemmas.{has-left, has-one, has-right}
 use Rattle.tv_cells.proofs.RepaintingLemmas.{over-append}
+use Rattle.tv_model.specs.Description.Rectangles.{IsSmallRect}
 use Rattle.tv_model.specs.declared.desc.Desc.{Desc}
 use Rattle.tv_model.specs.declared.desc.Dialog.{Dialog}
 use Rattle.tv_machine.specs.State.{OpenDialog, State}
 use Rattle.tv_machine.specs.Dialog.Modal.{Modal}
 use Rattle.tv_machine.specs.Screen.Layers.{dialog_layers, open_layers}
+use Rattle.tv_machine.specs.Session.Dragging.{placed}
 use Rattle.tv_machine.proofs.ListLemmas.{option_cases}
 use Rattle.tv_laws.specs.Runs.{HasSoundDialogs}
 use Rattle.tv_laws.proofs.WorkLemmas.{sound-at}
@@ -29,9 +32,9 @@ use Rattle.tv_view.specs.Damage.{IsDrawnAlike, has_seen}
 use Rattle.tv_view.specs.Meaning.{Leaf}
 use Rattle.tv_view.specs.declared.env.Env.{Env}
 use Rattle.tv_view.proofs.DamageLemmas.{alike-more}
+use Rattle.tv_dialog.specs.Bounds.{dialog_bounds, moved_dialog_rects}
 use Rattle.tv_dialog.specs.Damage.{DialogDamages}
 use Rattle.tv_dialog.specs.Drawn.{drawn_dialog}
-use Rattle.tv_dialog.specs.Head.{dialog_bounds}
 use Rattle.tv_dialog.specs.declared.dialog.DialogOf.{DialogOf}
 use Rattle.tv_dialog.proofs.AlikeLemmas.{damage-outside}
 use Rattle.tv_dialog.proofs.DamageLemmas.{dialog-outside}
@@ -40,7 +43,21 @@ use Rattle.tv_dialogs.specs.Damage.{HasShadowed, IsLentOpen, KeptDamages, Keeps,
 use Rattle.tv_dialogs.specs.Dialogs.{AreDialogs, IsOpenAmong, at_work}
 use Rattle.tv_dialogs.specs.declared.kept.Kept.{Kept}
 use Rattle.tv_dialogs.specs.declared.dialogs.DialogsOf.{DialogsOf}
+use Rattle.tv_dialogs.proofs.CornerLemmas.{bounds-at, bounds-small}
 use Rattle.tv_dialogs.proofs.PlaceLemmas.{get-set-same, nothing-some, same-some}
+
+-- two rectangles have come in with their shadows: the first, and the second
+left-shadowed : (r q : Rect) (old new : List Rect) → AddsAll (with_shadow r ++ with_shadow q) old new → HasShadowed r new
+left-shadowed r q old new p = record {
+  own = record { each = λ x y i. p.added x y (has-left (with_shadow r) (with_shadow q) x y (has-left (r ∷ []) (shifted r aside ∷ []) x y (has-one r x y i))) };
+  shadow = record { each = λ x y i. p.added x y (has-left (with_shadow r) (with_shadow q) x y (has-right (r ∷ []) (shifted r aside ∷ []) x y (has-one (shifted r aside) x y i))) };
+}
+
+right-shadowed : (r q : Rect) (old new : List Rect) → AddsAll (with_shadow r ++ with_shadow q) old new → HasShadowed q new
+right-shadowed r q old new p = record {
+  own = record { each = λ x y i. p.added x y (has-right (with_shadow r) (with_shadow q) x y (has-left (q ∷ []) (shifted q aside ∷ []) x y (has-one q x y i))) };
+  shadow = record { each = λ x y i. p.added x y (has-right (with_shadow r) (with_shadow q) x y (has-right (q ∷ []) (shifted q aside ∷ []) x y (has-one (shifted q aside) x y i))) };
+}
 
 -- a rectangle has come in with its shadow
 pub shadowed-added : (r : Rect) (old new : List Rect) → AddsAll (with_shadow r) old new → HasShadowed r new
@@ -86,24 +103,24 @@ module _ {V : Type 0} (look : V → Leaf) (desc : Desc) (env : Env) (damage : Li
   own_layers dialog = drawn_dialog look env (desktop_canvas desc) dialog
 
   abbrev shade : DialogOf V → Layer
-  shade dialog = Shadow (desktop_canvas desc) (dialog_bounds dialog.head)
+  shade dialog = Shadow (desktop_canvas desc) (dialog_bounds dialog)
 
   unseen : has_seen damage (desktop_canvas desc) column row ≡ false
   unseen = seen-cell desc damage column row ∙ off
 
-  block-alike : (old new : DialogOf V) → new.head ≡ old.head → IsDrawnAlike damage (λ c. drawn_dialog look env c old) (λ c. drawn_dialog look env c new)
+  block-alike : (old new : DialogOf V) → dialog_bounds new ≡ dialog_bounds old → IsDrawnAlike damage (λ c. drawn_dialog look env c old) (λ c. drawn_dialog look env c new)
       → cell_over (own_layers old ++ shade old ∷ []) column row under ≡ cell_over (own_layers new ++ shade new ∷ []) column row under
-  block-alike old new head alike =
+  block-alike old new bounds alike =
       over-append (own_layers old) (shade old ∷ []) column row under
       ∙ alike.each (desktop_canvas desc) column row unseen (over (shade old) column row under)
-      ∙ ap (λ h. cell_over (own_layers new) column row (over (Shadow (desktop_canvas desc) (dialog_bounds h)) column row under)) (sym head)
+      ∙ ap (λ r. cell_over (own_layers new) column row (over (Shadow (desktop_canvas desc) r) column row under)) (sym bounds)
       ∙ sym (over-append (own_layers new) (shade new ∷ []) column row under)
 
   -- all of it is damaged
-  block-outside : (dialog : DialogOf V) → HasShadowed (dialog_bounds dialog.head) damage → cell_over (own_layers dialog ++ shade dialog ∷ []) column row under ≡ under
+  block-outside : (dialog : DialogOf V) → HasShadowed (dialog_bounds dialog) damage → cell_over (own_layers dialog ++ shade dialog ∷ []) column row under ≡ under
   block-outside dialog all =
       let c = desktop_canvas desc in
-      let r = dialog_bounds dialog.head in
+      let r = dialog_bounds dialog in
       over-append (own_layers dialog) (shade dialog ∷ []) column row under
       ∙ dialog-outside look env c dialog column row (over (shade dialog) column row under) (damage-outside r damage c column row all.own unseen)
       ∙ shadow-outside c r column row under (damage-outside (shifted r aside) damage c column row all.shadow unseen)
@@ -132,18 +149,19 @@ module _ {V : Type 0} (look : V → Leaf) (d : Desc) (sound : HasSoundDialogs d)
 
   -- it shows what the machine shows of it
   open-shows : (env : Env) → IsLentOpen among.dialog env
-      → ShowsSame (drawn_dialog look env (desktop_canvas d) among.kept.dialog ++ Shadow (desktop_canvas d) (dialog_bounds among.kept.dialog.head) ∷ []) (open_layers d s.overwriting s.dialog)
+      → ShowsSame (drawn_dialog look env (desktop_canvas d) among.kept.dialog ++ Shadow (desktop_canvas d) (dialog_bounds among.kept.dialog) ∷ []) (open_layers d s.overwriting s.dialog)
   open-shows env lent =
       let x = among.dialog in
       let k = among.kept.dialog in
+      let own = (sound-at d sound o.place x among.there).lawful in
       let overwriting = slice_index_or s.overwriting o.place [] in
       let m : Modal = at_work s o k.log.items in
       let work : IsAtWork o overwriting m = record { leaves = refl; focus = refl; overwriting_in = unwrap_or-slice_get s.overwriting o.place [] } in
       let same : open_layers d s.overwriting (Some o) ≡ dialog_layers d o overwriting x = rw among.there refl in
-      subst (λ layers. ShowsSame (drawn_dialog look env (desktop_canvas d) k ++ Shadow (desktop_canvas d) (dialog_bounds k.head) ∷ []) layers)
+      subst (λ layers. ShowsSame (drawn_dialog look env (desktop_canvas d) k ++ Shadow (desktop_canvas d) (dialog_bounds k) ∷ []) layers)
       (sym (ap (open_layers d s.overwriting) is ∙ same))
-      (dialog-shows look d x o overwriting m env k (sound-at d sound o.place x among.there).lawful among.stands
-      (record { work = work; corner = among.corner; views = lent.views; palettes = lent.palettes; active = lent.active }))
+      (dialog-shows look d x o overwriting m env k own among.stands
+      (record { work = work; views = lent.views; palettes = lent.palettes; active = lent.active }) among.corner (subst IsSmallRect (sym (bounds-at k o.origin among.corner)) (bounds-small x own k.head o.origin among.stands.head among.near)))
 
 -- ---- what becomes of it
 
@@ -159,7 +177,7 @@ module _ {V : Type 0} (look : V → Leaf) (d : Desc) (sound : HasSoundDialogs d)
     (damage : List Rect) where
   -- a dialog opens where none was open
   module _ (none : s.dialog ≡ None) (place : ℕ) (after : Kept V) (found : slice_get new.kept.items place ≡ Some after) (opens : new.open ≡ Some place)
-      (all : HasShadowed (dialog_bounds after.dialog.head) damage) where
+      (all : HasShadowed (dialog_bounds after.dialog) damage) where
     pub opened-alike : OpenAlike d damage s t
     opened-alike p =
         option_cases t.dialog (λ x. t.dialog ≡ x → AreAlike p damage (open_layers d s.overwriting s.dialog) (open_layers d t.overwriting t.dialog))
@@ -173,7 +191,7 @@ module _ {V : Type 0} (look : V → Leaf) (d : Desc) (sound : HasSoundDialogs d)
         record {
           each = λ column row on off under.
               ap (λ o. cell_over (open_layers d s.overwriting o) column row under) none
-              ∙ sym (block-outside look d env damage column row off under x.kept.dialog (subst (λ k. HasShadowed (dialog_bounds k.dialog.head) damage) same all))
+              ∙ sym (block-outside look d env damage column row off under x.kept.dialog (subst (λ k. HasShadowed (dialog_bounds k.dialog) damage) same all))
               ∙ shows.each column row under;
         })
         refl
@@ -184,8 +202,8 @@ module _ {V : Type 0} (look : V → Leaf) (d : Desc) (sound : HasSoundDialogs d)
     here = are.at o is
 
     module _ (written : new.kept.items ≡ slice_set old.kept.items o.place after) (opens : new.open ≡ then_some after.dialog.is_open o.place)
-        (head : after.dialog.head ≡ here.kept.dialog.head) (told : KeptDamages look here.dialog here.kept.dialog after.dialog damage)
-        (ended : after.dialog.is_open ≡ false → HasShadowed (dialog_bounds after.dialog.head) damage) where
+        (bounds : dialog_bounds after.dialog ≡ dialog_bounds here.kept.dialog) (told : KeptDamages look here.dialog here.kept.dialog after.dialog damage)
+        (ended : after.dialog.is_open ≡ false → HasShadowed (dialog_bounds after.dialog) damage) where
       now_found : slice_get new.kept.items o.place ≡ Some after
       now_found =
           ap (λ xs. slice_get xs o.place) written ∙ get-set-same old.kept.items o.place after (slice_get_within old.kept.items o.place here.kept here.found)
@@ -197,7 +215,7 @@ module _ {V : Type 0} (look : V → Leaf) (d : Desc) (sound : HasSoundDialogs d)
           option_cases t.dialog (λ x. t.dialog ≡ x → AreAlike p damage (open_layers d s.overwriting s.dialog) (open_layers d t.overwriting t.dialog))
           (λ e gone.
           let shut = open-then after.dialog.is_open o.place (sym opens ∙ will.place ∙ ap (option_map (λ x. x.place)) gone) in
-          let all = subst (λ h. HasShadowed (dialog_bounds h) damage) head (ended shut) in
+          let all = subst (λ r. HasShadowed r damage) bounds (ended shut) in
           record {
             each = λ column row on off under.
                 sym (shows.each column row under)
@@ -213,8 +231,54 @@ module _ {V : Type 0} (look : V → Leaf) (d : Desc) (sound : HasSoundDialogs d)
           record {
             each = λ column row on off under.
                 sym (shows.each column row under)
-                ∙ block-alike look d env damage column row off under here.kept.dialog after.dialog head told.drawn
-                ∙ ap (λ (k : Kept V). cell_over (drawn_dialog look env (desktop_canvas d) k.dialog ++ Shadow (desktop_canvas d) (dialog_bounds k.dialog.head) ∷ []) column row under) same
+                ∙ block-alike look d env damage column row off under here.kept.dialog after.dialog bounds told.drawn
+                ∙ ap (λ (k : Kept V). cell_over (drawn_dialog look env (desktop_canvas d) k.dialog ++ Shadow (desktop_canvas d) (dialog_bounds k.dialog) ∷ []) column row under) same
                 ∙ later.each column row under;
           })
           refl
+
+-- ---- where it is moved
+
+module _ {V : Type 0} (look : V → Leaf) (d : Desc) (sound : HasSoundDialogs d) (s : State) (old new : DialogsOf V) (are : AreDialogs look d s old)
+    (o : OpenDialog) (is : s.dialog ≡ Some o) (corner : Point) (will : AreDialogs look d (placed (Some o) corner s) new) (before damage : List Rect) where
+  abbrev moved_one : IsOpenAmong look d s o old.kept.items
+  moved_one = are.at o is
+
+  -- it stays
+  unmoved-alike : o.origin ≡ corner → OpenAlike d damage s (placed (Some o) corner s)
+  unmoved-alike same p = record {
+    each = λ column row on off under.
+        ap (λ x. cell_over (open_layers d s.overwriting x) column row under) (is ∙ ap (λ q. Some (record o { origin = q })) same);
+  }
+
+  -- it is damaged where it stood and where it stands
+  module _ (after : Kept V) (found : slice_get new.kept.items o.place ≡ Some after)
+      (all : AddsAll (moved_dialog_rects moved_one.kept.dialog after.dialog) before damage) where
+    abbrev was_all : HasShadowed (dialog_bounds moved_one.kept.dialog) damage
+    was_all = left-shadowed (dialog_bounds moved_one.kept.dialog) (dialog_bounds after.dialog) before damage all
+
+    abbrev is_all : HasShadowed (dialog_bounds after.dialog) damage
+    is_all = right-shadowed (dialog_bounds moved_one.kept.dialog) (dialog_bounds after.dialog) before damage all
+
+    away-alike : OpenAlike d damage s (placed (Some o) corner s)
+    away-alike p =
+        let q : OpenDialog = record o { origin = corner } in
+        let x = will.at q refl in
+        let same : after ≡ x.kept = same-some after x.kept (sym found ∙ x.found) in
+        let env = lent_open moved_one.dialog in
+        let later = lent_open x.dialog in
+        let shown = open-shows look d sound s old are o is env (is-lent moved_one.dialog) in
+        let shows = open-shows look d sound (placed (Some o) corner s) new will q refl later (is-lent x.dialog) in
+        record {
+          each = λ column row on off under.
+              sym (shown.each column row under)
+              ∙ block-outside look d env damage column row off under moved_one.kept.dialog was_all
+              ∙ sym (block-outside look d later damage column row off under x.kept.dialog (subst (λ k. HasShadowed (dialog_bounds k.dialog) damage) same is_all))
+              ∙ shows.each column row under;
+        }
+
+  pub moved-alike : (after : Kept V) → slice_get new.kept.items o.place ≡ Some after
+      → (moved_one.kept.dialog.corner ≡ corner) ⊎ AddsAll (moved_dialog_rects moved_one.kept.dialog after.dialog) before damage
+      → OpenAlike d damage s (placed (Some o) corner s)
+  moved-alike after found (inl same) = unmoved-alike (sym moved_one.corner ∙ same)
+  moved-alike after found (inr all) = away-alike after found all

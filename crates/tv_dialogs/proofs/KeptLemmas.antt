@@ -10,7 +10,7 @@ use Rattle.tv_model.specs.declared.desc.Desc.{Desc}
 use Rattle.tv_model.specs.declared.desc.Dialog.{Dialog}
 use Rattle.tv_model.specs.declared.log.LogLine.{LogLine}
 use Rattle.tv_view.specs.Meaning.{Leaf}
-use Rattle.tv_model.specs.Description.Rectangles.{corner_of}
+use Rattle.tv_faces.specs.Corners.{IsCorner}
 use Rattle.tv_machine.specs.State.{OpenDialog, State}
 use Rattle.tv_machine.specs.Dialog.Ending.{fields_of}
 use Rattle.tv_machine.specs.Dialog.Modal.{Modal}
@@ -58,18 +58,18 @@ module _ {V : Type 0} (look : V → Leaf) (d : Desc) (s : State) (old new : Dial
     (place : ℕ) (dialog : Dialog) (there : slice_get d.dialogs place ≡ Some dialog)
     (before after : Kept V) (found : slice_get old.kept.items place ≡ Some before)
     (written : new.kept.items ≡ slice_set old.kept.items place after) (lent : new.commands ≡ old.commands) (m : Modal) where
-  now_found : slice_get new.kept.items place ≡ Some after
-  now_found =
+  pub written-found : slice_get new.kept.items place ≡ Some after
+  written-found =
       ap (λ xs. slice_get xs place) written ∙ get-set-same old.kept.items place after (slice_get_within old.kept.items place before found)
 
   others_found : (j : ℕ) → (j ≡ place → ⊥) → slice_get new.kept.items j ≡ slice_get old.kept.items j
   others_found j apart = ap (λ xs. slice_get xs j) written ∙ get-set-other old.kept.items place j after apart
 
-  now_count : length new.kept.items ≡ length d.dialogs
-  now_count = ap length written ∙ length-set old.kept.items place after ∙ are.count
+  pub written-count : length new.kept.items ≡ length d.dialogs
+  written-count = ap length written ∙ length-set old.kept.items place after ∙ are.count
 
-  now_commands : (number : ℕ) → number < 256 → slice_index_or new.commands number false ≡ true
-  now_commands number less = ap (λ set. slice_index_or set number false) lent ∙ are.commands number less
+  pub written-commands : (number : ℕ) → number < 256 → slice_index_or new.commands number false ≡ true
+  written-commands number less = ap (λ set. slice_index_or set number false) lent ∙ are.commands number less
 
   within_overwriting : place < length s.overwriting
   within_overwriting = subst (λ (n : ℕ). place < n) (sym are.overwriting) (slice_get_within d.dialogs place dialog there)
@@ -84,16 +84,16 @@ module _ {V : Type 0} (look : V → Leaf) (d : Desc) (s : State) (old new : Dial
   overwriting_other j apart = ap (λ o. unwrap_or o []) (get-set-other s.overwriting place j m.overwriting apart)
 
   -- all are kept where the one is, and nothing else was told
-  all_kept : (t : State) → IsKeptAs look dialog (saved_at t place) (overwriting_at t place) after
+  pub written-kept : (t : State) → IsKeptAs look dialog (saved_at t place) (overwriting_at t place) after
       → ((j : ℕ) → (j ≡ place → ⊥) → (saved_at t j ≡ saved_at s j) × (overwriting_at t j ≡ overwriting_at s j))
       → (j : ℕ) (x : Dialog) (y : Kept V) → slice_get d.dialogs j ≡ Some x → slice_get new.kept.items j ≡ Some y
       → IsKeptAs look x (saved_at t j) (overwriting_at t j) y
-  all_kept t here others j x y e f =
+  written-kept t here others j x y e f =
       bool_cases (j == place) (λ b. (j == place) ≡ b → IsKeptAs look x (saved_at t j) (overwriting_at t j) y)
       (λ is g.
       let at : place ≡ j = sym (eqb-true j place g) in
       let one : dialog ≡ x = same-some dialog x (sym there ∙ ap (slice_get d.dialogs) at ∙ e) in
-      let two : after ≡ y = same-some after y (sym now_found ∙ ap (slice_get new.kept.items) at ∙ f) in
+      let two : after ≡ y = same-some after y (sym written-found ∙ ap (slice_get new.kept.items) at ∙ f) in
       subst (λ (n : ℕ). IsKeptAs look x (saved_at t n) (overwriting_at t n) y) at
       (subst (λ z. IsKeptAs look z (saved_at t place) (overwriting_at t place) y) one
       (subst (λ z. IsKeptAs look dialog (saved_at t place) (overwriting_at t place) z) two here)))
@@ -106,17 +106,17 @@ module _ {V : Type 0} (look : V → Leaf) (d : Desc) (s : State) (old new : Dial
 
   -- ---- it stands
 
-  pub stays-open : (origin : Point) (log : List LogLine) → origin ≡ corner_of dialog.node → m.ended ≡ None → new.open ≡ Some place → new.is_held ≡ is_some m.held
+  pub stays-open : (origin : Point) (log : List LogLine) → after.dialog.corner ≡ origin → IsCorner origin → m.ended ≡ None → new.open ≡ Some place → new.is_held ≡ is_some m.held
       → after.values ≡ before.values → Stands look dialog m.leaves (record m { log = after.dialog.log.items }) after.dialog
       → AreDialogs look d (standing_state s place origin m log) new
-  stays-open origin log corner going opens held values stands =
+  stays-open origin log corner near going opens held values stands =
       let t = standing_state s place origin m log in
       let lines = after.dialog.log.items in
       record {
-        count = now_count;
+        count = written-count;
         saved = are.saved;
         overwriting = length-set s.overwriting place m.overwriting ∙ are.overwriting;
-        kept = all_kept t
+        kept = written-kept t
             (record {
               values = values ∙ (are.kept place dialog before there found).values;
               modal = record m { log = lines };
@@ -132,11 +132,12 @@ module _ {V : Type 0} (look : V → Leaf) (d : Desc) (s : State) (old new : Dial
               dialog = dialog;
               there = there;
               kept = after;
-              found = now_found;
+              found = written-found;
               stands = subst (λ n. Stands look dialog m.leaves n after.dialog) (sym (again m (overwriting_at t place) lines overwriting_here going)) stands;
               corner = corner;
+              near = near;
             });
-        commands = now_commands;
+        commands = written-commands;
       }
 
   -- ---- it has ended
@@ -166,10 +167,10 @@ module _ {V : Type 0} (look : V → Leaf) (d : Desc) (s : State) (old new : Dial
   has-ended number log shut held values stands =
       let t = ended_state s place number m log in
       record {
-        count = now_count;
+        count = written-count;
         saved = saved_count number;
         overwriting = length-set s.overwriting place m.overwriting ∙ are.overwriting;
-        kept = all_kept t
+        kept = written-kept t
             (record {
               values = values ∙ saved_here number;
               modal = m;
@@ -180,5 +181,5 @@ module _ {V : Type 0} (look : V → Leaf) (d : Desc) (s : State) (old new : Dial
         place = shut;
         held = held;
         at = λ o e. absurd (nothing-some o e);
-        commands = now_commands;
+        commands = written-commands;
       }

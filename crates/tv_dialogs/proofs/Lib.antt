@@ -1,9 +1,12 @@
 pub mod BodyLemmas
+pub mod CornerLemmas
 pub mod CurrentLemmas
 pub mod DamageLemmas
 pub mod DroppedLemmas
+pub mod GripLemmas
 pub mod HoldLemmas
 pub mod KeptLemmas
+pub mod MovedLemmas
 pub mod OpenLemmas
 pub mod PlaceLemmas
 pub mod PlacedLemmas

@@ -1,7 +1,7 @@
 -- A dialog that opens with its record opens as the machine's does.
-use Rattle.std.proofs.Common.{◌≡◌, ◌++◌, ◌∷◌, [], ℕ, map, Some, None, false, is_some, refl, sym, ap, subst, ◌∙◌, append_assoc}
-use Rattle.std.specs.Prelude.{slice_get, slice_set}
-use Rattle.std.proofs.lemmas.Option.{slice_get_within}
+use Rattle.std.proofs.Common.{◌≡◌, ◌<◌, length, ◌++◌, ◌∷◌, [], ℕ, map, Some, None, false, is_some, refl, sym, ap, subst, ◌∙◌, append_assoc}
+use Rattle.std.specs.Prelude.{slice_get, slice_index_or, slice_set}
+use Rattle.std.proofs.lemmas.Option.{slice_get_read, slice_get_within}
 use Rattle.tv_model.specs.declared.desc.Desc.{Desc}
 use Rattle.tv_model.specs.declared.desc.Dialog.{Dialog}
 use Rattle.tv_model.specs.declared.log.LogLine.TheVariants as lines
@@ -21,14 +21,22 @@ use Rattle.tv_dialog.specs.Resting.{Rests}
 use Rattle.tv_dialog.specs.Standing.{Stands}
 use Rattle.tv_dialog.proofs.FieldOrderLemmas.{ordered-itself}
 use Rattle.tv_dialog.proofs.StandsLemmas.{ended-moved}
-use Rattle.tv_dialogs.specs.Dialogs.{AreDialogs, AreOfRun, kept_at, lines_by, log_of_last}
+use Rattle.tv_dialogs.specs.Dialogs.{AreDialogs, AreOfRun, MayOpen, kept_at, lines_by, log_of_last}
 use Rattle.tv_dialogs.specs.Kept.{IsKeptAs, first_values}
 use Rattle.tv_dialogs.specs.declared.kept.Kept.{Kept}
 use Rattle.tv_dialogs.specs.declared.dialogs.DialogsOf.{DialogsOf}
 use Rattle.tv_dialogs.proofs.KeptLemmas.{stays-open}
 use Rattle.tv_dialogs.proofs.PlaceLemmas.{get-set-same}
 use Rattle.tv_dialogs.proofs.RunLemmas.{save-safe, sound-there}
+use Rattle.tv_dialogs.proofs.CornerLemmas.{lawful-corner}
 use Rattle.tv_dialogs.proofs.ValueLemmas.{first-fields, first-fits, first-opened}
+
+-- what is read at the place is kept there
+pub kept-found : {V : Type 0} (look : V → Leaf) (d : Desc) (place : ℕ) (old : DialogsOf V) → MayOpen look d place old → (kept : Kept V)
+    → kept ≡ slice_index_or old.kept.items place kept → slice_get old.kept.items place ≡ Some kept
+kept-found look d place old may kept reads =
+    let less : place < length old.kept.items = subst (λ (n : ℕ). place < n) (sym may.run.are.count) may.there in
+    slice_get_read old.kept.items (length old.kept.items) place kept refl less reads
 
 module _ {V : Type 0} (look : V → Leaf) (d : Desc) (s : State) (old : DialogsOf V) (run : AreOfRun look d s old)
     (place : ℕ) (dialog : Dialog) (there : slice_get d.dialogs place ≡ Some dialog)
@@ -76,11 +84,12 @@ module _ {V : Type 0} (look : V → Leaf) (d : Desc) (s : State) (old : DialogsO
         sym (ap (λ t. t.log) state_is) ∙ append_assoc s.log (lines.Open dialog.node.id ∷ []) opening.log
         ∙ ap (λ ls. s.log ++ lines.Open dialog.node.id ∷ ls) (sym opened_stands.log ∙ sym (ap lines_by here))
 
-    pub opened-dialogs : new.commands ≡ old.commands → new.open ≡ Some place → new.is_held ≡ false → after.values ≡ before.values → AreDialogs look d (open_dialog d place s) new
-    opened-dialogs lent opens_at held values =
+    pub opened-dialogs : new.commands ≡ old.commands → new.open ≡ Some place → new.is_held ≡ false → after.values ≡ before.values → after.dialog.corner ≡ corner_of dialog.node
+        → AreDialogs look d (open_dialog d place s) new
+    opened-dialogs lent opens_at held values corner =
         let going : opening.ended ≡ None = ended-moved dialog (unfocused dialog (saved_at s place) (overwriting_at s place)) (first_focus dialog (opened_leaves dialog (saved_at s place))) in
         let loose : opening.held ≡ None = held-moved dialog (sound-there look d s old run place dialog there).lawful (unfocused dialog (saved_at s place) (overwriting_at s place)) (first_focus dialog (opened_leaves dialog (saved_at s place))) in
         subst (λ t. AreDialogs look d t new) state_is
         (stays-open look d s old new run.are place dialog there before after found written lent opening
-        (corner_of dialog.node) ((s.log ++ lines.Open dialog.node.id ∷ []) ++ opening.log) refl going opens_at (held ∙ ap is_some (sym loose)) values
+        (corner_of dialog.node) ((s.log ++ lines.Open dialog.node.id ∷ []) ++ opening.log) corner (lawful-corner dialog (sound-there look d s old run place dialog there).lawful) going opens_at (held ∙ ap is_some (sym loose)) values
         (subst (λ ls. Stands look dialog opening.leaves (record opening { log = ls }) after.dialog) (sym opened_stands.log) opened_stands))

@@ -18,18 +18,18 @@ use Rattle.tv_dialogs.specs.Dialogs.{AreDialogs, IsAside}
 use Rattle.tv_dialogs.specs.declared.dialogs.DialogsOf.{DialogsOf}
 
 after_aside : (s : State) (o : OpenDialog) (m : Modal) (over : Option ℕ) → IsAside s (after_work s o m over)
-after_aside s o m None = record { windows = refl; menu = refl; over = refl }
-after_aside s o m (Some number) = record { windows = refl; menu = refl; over = refl }
+after_aside s o m None = record { windows = refl; menu = refl; over = refl; frame = refl }
+after_aside s o m (Some number) = record { windows = refl; menu = refl; over = refl; frame = refl }
 
 works_aside : (s : State) (o : OpenDialog) (work : Dialog → Modal → Modal) (found : Option Dialog) → IsAside s (works s o work found)
-works_aside s o work None = record { windows = refl; menu = refl; over = refl }
+works_aside s o work None = record { windows = refl; menu = refl; over = refl; frame = refl }
 works_aside s o work (Some dialog) = after_aside s o (work dialog _) _
 
 open_aside : (s : State) (place : ℕ) (found : Option Dialog) → IsAside s (open_found s place found)
-open_aside s place None = record { windows = refl; menu = refl; over = refl }
-open_aside s place (Some dialog) = record { windows = refl; menu = refl; over = refl }
+open_aside s place None = record { windows = refl; menu = refl; over = refl; frame = refl }
+open_aside s place (Some dialog) = record { windows = refl; menu = refl; over = refl; frame = refl }
 
--- an event of the open dialog leaves windows, the menu and whether the run is over
+-- an event of the open dialog leaves windows, the menu, whether the run is over, and a held frame
 pub step-aside : (d : Desc) (o : OpenDialog) (e : Event) (s : State) → IsAside s (to_dialog d o e s)
 step-aside d o e s = works_aside s o (λ dialog m. dialog_step dialog (event_from o.origin e) m) (slice_get d.dialogs o.place)
 
@@ -54,7 +54,7 @@ same-dialogs look d s t dialogs dialog saved overwriting are =
       kept = λ place x k there found. let is = all.kept place x k there found in record { values = is.values; modal = is.modal; overwrites = is.overwrites; rests = is.rests };
       place = all.place;
       held = all.held;
-      at = λ o is. let x = all.at o is in record { dialog = x.dialog; there = x.there; kept = x.kept; found = x.found; stands = x.stands; corner = x.corner };
+      at = λ o is. let x = all.at o is in record { dialog = x.dialog; there = x.there; kept = x.kept; found = x.found; stands = x.stands; corner = x.corner; near = x.near };
       commands = all.commands;
     }
 

@@ -7,6 +7,7 @@ use Rattle.tv_cells.specs.Layers.{Layer, Shadow, Shows, Lays}
 use Rattle.tv_cells.specs.Picture.{IsAlike, Picture}
 use Rattle.tv_cells.specs.Repainting.{clipped, within}
 use Rattle.tv_cells.specs.declared.canvas.Canvas.{Canvas}
+use Rattle.tv_cells.specs.declared.rect.Point.{Point}
 use Rattle.tv_cells.specs.declared.rect.Rect.{Rect}
 use Rattle.tv_model.specs.declared.desc.Desc.{Desc}
 use Rattle.tv_model.specs.declared.desc.Dialog.{Dialog}
@@ -16,7 +17,7 @@ use Rattle.tv_model.specs.declared.kind.Kind.{Kind}
 use Rattle.tv_model.specs.declared.kind.Kind.TheVariants as kinds
 use Rattle.tv_view.specs.Meaning.{Leaf}
 use Rattle.tv_model.specs.Description.Nodes.{height_of, is_dialog}
-use Rattle.tv_model.specs.Description.Rectangles.{corner_of, rect}
+use Rattle.tv_model.specs.Description.Rectangles.{rect}
 use Rattle.tv_machine.specs.State.{OpenDialog, State}
 use Rattle.tv_machine.specs.Dialog.Lawful.{IsLawfulDialog}
 use Rattle.tv_machine.specs.Dialog.Modal.{Modal}
@@ -25,7 +26,8 @@ use Rattle.tv_laws.specs.Runs.{HasSoundDialogs}
 use Rattle.tv_laws.proofs.WorkLemmas.{sound-at}
 use Rattle.tv_tree.specs.Shown.{IsAtWork, desktop_canvas, open_bounds, shadow_layer}
 use Rattle.tv_view.proofs.LayingLemmas.{lays_as}
-use Rattle.tv_dialog.specs.Head.{KeptDialogHead, dialog_bounds, declared_dialog_head, kept_dialog_head}
+use Rattle.tv_dialog.specs.Bounds.{dialog_bounds}
+use Rattle.tv_dialog.specs.Head.{KeptDialogHead, declared_dialog_head, kept_dialog_head}
 use Rattle.tv_dialog.specs.Standing.{Stands}
 use Rattle.tv_dialog.specs.declared.dialog.DialogOf.{DialogOf}
 use Rattle.tv_dialogs.specs.Dialogs.{AreDialogs, at_work}
@@ -33,25 +35,21 @@ use Rattle.tv_dialogs.specs.declared.kept.Kept.{Kept}
 use Rattle.tv_dialogs.specs.declared.dialogs.DialogsOf.{DialogsOf}
 use Rattle.tv_dialogs.proofs.PlacedLemmas.{place-told, read-declared, read-kept}
 
--- a dialog's rectangle is that of its node
-bounds_are : (node : Node) (kind : Kind) → IsTrue (is_dialog kind) → (head : KeptDialogHead) → Some head ≡ declared_dialog_head (record node { kind = kind })
-    → dialog_bounds head ≡ rect node.x node.y node.w (height_of kind)
-bounds_are node (kinds.Dialog own) is head e = let same : head ≡ kept_dialog_head (record node { kind = kinds.Dialog own }) own = cc in ap dialog_bounds same
-bounds_are node _ is head e = absurd (false≢true is)
-
--- its corner is that of its node
-pub corner-is : (d : Dialog) (head : KeptDialogHead) → Some head ≡ declared_dialog_head d.node → (bounds : Rect) → bounds ≡ dialog_bounds head → bounds.a ≡ corner_of d.node
-corner-is d head e bounds is = ap (λ r. r.a) (is ∙ bounds_are d.node d.node.kind d.own_kind head e)
+-- a dialog is as large as its node
+sizes_are : (node : Node) (kind : Kind) → IsTrue (is_dialog kind) → (head : KeptDialogHead) → Some head ≡ declared_dialog_head (record node { kind = kind })
+    → (p : Point) → rect p.x p.y head.w head.h ≡ rect p.x p.y node.w (height_of kind)
+sizes_are node (kinds.Dialog own) is head e p = let same : head ≡ kept_dialog_head (record node { kind = kinds.Dialog own }) own = cc in ap (λ h. rect p.x p.y h.w h.h) same
+sizes_are node _ is head e p = absurd (false≢true is)
 
 -- its shadow is the machine's
 pub shadow-laid : {V : Type 0} (look : V → Leaf) (desc : Desc) (r : Rect) (d : Dialog) (o : OpenDialog) (m : Modal) (dialog : DialogOf V) (c : Canvas) (bounds : Rect) (old new : Picture)
-    → Stands look d m.leaves m dialog → o.origin ≡ corner_of d.node → c ≡ within r (desktop_canvas desc) → bounds ≡ dialog_bounds dialog.head
+    → Stands look d m.leaves m dialog → dialog.corner ≡ o.origin → c ≡ within r (desktop_canvas desc) → bounds ≡ dialog_bounds dialog
     → IsAlike old new → ((layers : List Layer) → Shows layers old → Shows (Shadow c bounds ∷ layers) new)
     → Lays (clipped r (shadow_layer desc o d) ∷ []) old new
 shadow-laid look desc r d o m dialog c bounds old new s corner desktop is alike shows =
     let same : Shadow c bounds ≡ clipped r (shadow_layer desc o d) =
-    ap (λ k. Shadow k bounds) desktop ∙ ap (Shadow (within r (desktop_canvas desc))) (is ∙ bounds_are d.node d.node.kind d.own_kind dialog.head s.head
-    ∙ ap (λ p. open_bounds (record o { origin = p }) d) (sym corner)) in
+    ap (λ k. Shadow k bounds) desktop ∙ ap (Shadow (within r (desktop_canvas desc))) (is ∙ sizes_are d.node d.node.kind d.own_kind dialog.head s.head dialog.corner
+    ∙ ap (λ p. open_bounds (record o { origin = p }) d) corner) in
     record { size = alike; shows = λ below shown. subst (λ layer. Shows (layer ∷ below) new) same (shows below shown) }
 
 module _ {V : Type 0} (look : V → Leaf) (d : Desc) (r : Rect) (s : State) (dialogs : DialogsOf V) (are : AreDialogs look d s dialogs) where
@@ -67,7 +65,7 @@ module _ {V : Type 0} (look : V → Leaf) (d : Desc) (r : Rect) (s : State) (dia
   module _ (place : ℕ) (opens : dialogs.open ≡ Some place) (declared : Dialog) (kept : Kept V)
       (reads : declared ≡ slice_index_or d.dialogs place declared) (has : kept ≡ slice_index_or dialogs.kept.items place kept) where
     pub read-shown : (old new : Picture) → HasSoundDialogs d → ((o : OpenDialog) (overwriting : List Id) (m : Modal) → IsLawfulDialog declared
-        → Stands look declared m.leaves m kept.dialog → IsAtWork o overwriting m → o.origin ≡ corner_of declared.node
+        → Stands look declared m.leaves m kept.dialog → IsAtWork o overwriting m → kept.dialog.corner ≡ o.origin
         → Lays (map (clipped r) (dialog_layers d o overwriting declared)) old new) → Lays (map (clipped r) (open_layers d s.overwriting s.dialog)) old new
     read-shown old new sound draws =
         let told = place-told look d s dialogs are place opens in
@@ -81,4 +79,4 @@ module _ {V : Type 0} (look : V → Leaf) (d : Desc) (r : Rect) (s : State) (dia
         (draws o (slice_index_or s.overwriting o.place []) m (sound-at d sound o.place declared there).lawful
         (subst (λ k. Stands look declared o.leaves m k.dialog) (sym (read-kept look d s dialogs are place opens o told.1 kept has))
         (subst (λ x. Stands look x o.leaves m among.kept.dialog) same among.stands))
-        work (subst (λ x. o.origin ≡ corner_of x.node) same among.corner))
+        work (ap (λ k. k.dialog.corner) (read-kept look d s dialogs are place opens o told.1 kept has) ∙ among.corner))

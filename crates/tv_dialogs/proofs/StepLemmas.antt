@@ -11,7 +11,6 @@ use Rattle.tv_event.specs.declared.event.Event.{Event}
 use Rattle.tv_model.specs.declared.desc.Desc.{Desc}
 use Rattle.tv_model.specs.declared.desc.Dialog.{Dialog}
 use Rattle.tv_view.specs.Meaning.{Leaf}
-use Rattle.tv_model.specs.Description.Rectangles.{corner_of}
 use Rattle.tv_machine.specs.State.{OpenDialog, State}
 use Rattle.tv_machine.specs.Dialog.Ending.{fields_of}
 use Rattle.tv_machine.specs.Dialog.Modal.{Modal}
@@ -63,18 +62,22 @@ module _ {V : Type 0} (look : V → Leaf) (d : Desc) (s : State) (dialogs : Dial
       subst (λ k. IsReady look declared (at_work s o k.dialog.log.items) k.dialog) (sym kept_is)
       (subst (λ x. IsReady look x (at_work s o open_one.kept.dialog.log.items) open_one.kept.dialog) (sym declared_is) (open-ready look d s dialogs run o is))
 
+  -- it stands where the machine's does
+  pub read-corner : kept.dialog.corner ≡ o.origin
+  read-corner = ap (λ k. k.dialog.corner) kept_is ∙ open_one.corner
+
   -- what comes of it
   pub read-stands : (e : Event) (after : Kept V)
       → ((m : Modal) → IsReady look declared m kept.dialog
-      → Stands look declared (dialog_step declared (event_from (corner_of declared.node) e) (begun_anew m)).leaves
-      (dialog_step declared (event_from (corner_of declared.node) e) (begun_anew m)) after.dialog)
+      → Stands look declared (dialog_step declared (event_from kept.dialog.corner e) (begun_anew m)).leaves
+      (dialog_step declared (event_from kept.dialog.corner e) (begun_anew m)) after.dialog)
       → Stands look open_one.dialog (dialog_step open_one.dialog (event_from o.origin e) (modal_of s o)).leaves
       (dialog_step open_one.dialog (event_from o.origin e) (modal_of s o)) after.dialog
   read-stands e after steps =
       subst (λ p. Stands look open_one.dialog (dialog_step open_one.dialog (event_from p e) (modal_of s o)).leaves
-      (dialog_step open_one.dialog (event_from p e) (modal_of s o)) after.dialog) (sym open_one.corner)
-      (subst (λ x. Stands look x (dialog_step x (event_from (corner_of x.node) e) (modal_of s o)).leaves
-      (dialog_step x (event_from (corner_of x.node) e) (modal_of s o)) after.dialog) declared_is
+      (dialog_step open_one.dialog (event_from p e) (modal_of s o)) after.dialog) read-corner
+      (subst (λ x. Stands look x (dialog_step x (event_from kept.dialog.corner e) (modal_of s o)).leaves
+      (dialog_step x (event_from kept.dialog.corner e) (modal_of s o)) after.dialog) declared_is
       (steps (at_work s o kept.dialog.log.items) read-ready))
 
 -- ---- how it ended
@@ -143,7 +146,7 @@ module _ {V : Type 0} (look : V → Leaf) (d : Desc) (s : State) (old : DialogsO
         stepped-log ∙ ap (λ ls. s.log ++ ls) (sym stands.log ∙ sym (ap lines_by found))
 
     module _ (lent : new.commands ≡ old.commands) (opens : new.open ≡ then_some after.dialog.is_open o.place)
-        (holds : new.is_held ≡ (after.dialog.is_open && is_some stepped.held))
+        (holds : new.is_held ≡ (after.dialog.is_open && is_some stepped.held)) (corner : after.dialog.corner ≡ o.origin)
         (values : after.values ≡ values_after look among.kept.values after.dialog) where
       values_going : stepped.ended ≡ None → after.values ≡ among.kept.values
       values_going going =
@@ -166,7 +169,7 @@ module _ {V : Type 0} (look : V → Leaf) (d : Desc) (s : State) (old : DialogsO
           (λ none.
           let going : after.dialog.is_open ≡ true = stands.open ∙ ap is_none none in
           stays-open look d s old new run.are o.place among.dialog among.there among.kept after among.found written lent stepped
-          o.origin (s.log ++ stepped.log) among.corner none (opens ∙ ap (λ b. then_some b o.place) going) (holds ∙ ap (λ b. b && is_some stepped.held) going) (values_going none)
+          o.origin (s.log ++ stepped.log) corner among.near none (opens ∙ ap (λ b. then_some b o.place) going) (holds ∙ ap (λ b. b && is_some stepped.held) going) (values_going none)
           (subst (λ ls. Stands look among.dialog stepped.leaves (record stepped { log = ls }) after.dialog) (sym stands.log) stands))
           (λ number some.
           let shut : after.dialog.is_open ≡ false = stands.open ∙ ap is_none some in
@@ -189,7 +192,7 @@ module _ {V : Type 0} (look : V → Leaf) (d : Desc) (s : State) (old : DialogsO
         (subst (λ m. AreDialogs look d (after_work s o m m.ended) new) (sym still)
         (stays-open look d s old new run.are o.place among.dialog among.there among.kept among.kept among.found
         (ap (λ v. v.items) kept ∙ sym (set-itself old.kept.items o.place among.kept among.found)) lent (modal_of s o)
-        o.origin (s.log ++ []) among.corner refl (opens ∙ run.are.place ∙ ap (λ x. option_map (λ y. y.place) x) is) (holds ∙ was-held) refl among.stands))
+        o.origin (s.log ++ []) among.corner among.near refl (opens ∙ run.are.place ∙ ap (λ x. option_map (λ y. y.place) x) is) (holds ∙ was-held) refl among.stands))
 
   -- the dialog shows what it showed
   pub dropped-alike : is_dropped e ≡ true → (damage : List Rect) → OpenAlike d damage s (to_dialog d o e s)

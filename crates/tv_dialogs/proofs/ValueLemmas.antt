@@ -53,22 +53,18 @@ use Rattle.tv_dialogs.specs.declared.kept.Kept.{Kept}
 
 head_limited : (node : Node) (k : Kind) → lawful_nodes.IsLimited (record node { kind = k }) → IfSome (declared_dialog_head (record node { kind = k })) IsLimitedDialogHead
 head_limited node (kinds.Dialog own) limits =
-    let x = limits.x in
-    let y = limits.y in
     let w = limits.w in
     let h = limits.h in
     record {
-      bounds = record {
-        left = record { low = omega (arith, ints, x.0, x.1); high = omega (arith, ints, x.0, x.1) };
-        top = record { low = omega (arith, ints, y.0, y.1); high = omega (arith, ints, y.0, y.1) };
-        right = record { low = omega (arith, ints, x.0, x.1, w.0, w.1); high = omega (arith, ints, x.0, x.1, w.0, w.1) };
-        bottom = record { low = omega (arith, ints, y.0, y.1, h.0, h.1); high = omega (arith, ints, y.0, y.1, h.0, h.1) };
+      size = record {
+        across = (omega (arith, ints, w.0), w.1);
+        down = (omega (arith, ints, h.0), h.1);
       };
       title = All-head lawful_nodes.IsShort own.title [] limits.texts;
     }
 head_limited node _ limits = tt
 
--- a lawful dialog has a rectangle near the screen and a title that fits
+-- a lawful dialog is no larger than the largest screen, and has a title that fits
 pub lawful-limited : (d : Dialog) → IsLawfulDialog d → IfSome (declared_dialog_head d.node) IsLimitedDialogHead
 lawful-limited d lawful = head_limited d.node d.node.kind (All-head lawful_nodes.IsLimited d.node d.views lawful.limits)
 

@@ -6,7 +6,7 @@ use Rattle.tv_model.specs.declared.desc.Desc.{Desc}
 use Rattle.tv_model.specs.declared.desc.Dialog.{Dialog}
 use Rattle.tv_model.specs.declared.log.LogLine.{LogLine}
 use Rattle.tv_view.specs.Meaning.{Leaf}
-use Rattle.tv_model.specs.Description.Rectangles.{corner_of}
+use Rattle.tv_faces.specs.Corners.{IsCorner}
 use Rattle.tv_machine.specs.State.{OpenDialog, State}
 use Rattle.tv_machine.specs.Dialog.Modal.{Modal}
 use Rattle.tv_machine.specs.Session.Commands.{modal_of, overwriting_at, saved_at}
@@ -21,7 +21,7 @@ use Rattle.tv_dialogs.specs.declared.dialogs.DialogsOf.{DialogsOf}
 abbrev pub at_work : State → OpenDialog → List LogLine → Modal
 at_work s o log = record (modal_of s o) { log = log }
 
--- the dialog at the open one's place stands as the machine's does, where it is declared
+-- the dialog at the open one's place stands as the machine's does, and where it does, which is near the screen
 pub record IsOpenAmong {V : Type 0} (look : V → Leaf) (d : Desc) (s : State) (o : OpenDialog)
     (all : List (Kept V)) : Type 0 where
   pub dialog : Dialog
@@ -29,7 +29,8 @@ pub record IsOpenAmong {V : Type 0} (look : V → Leaf) (d : Desc) (s : State) (
   pub kept : Kept V
   pub found : slice_get all o.place ≡ Some kept
   pub stands : Stands look dialog o.leaves (at_work s o kept.dialog.log.items) kept.dialog
-  pub corner : o.origin ≡ corner_of dialog.node
+  pub corner : kept.dialog.corner ≡ o.origin
+  pub near : IsCorner o.origin
 
 -- the dialogs of the description, with what their last ends saved and where typing overwrites, and which is
 -- open. Nothing else
@@ -72,11 +73,11 @@ pub record AreOfRun {V : Type 0} (look : V → Leaf) (d : Desc) (s : State)
   pub are : AreDialogs look d s dialogs
 
 -- and the description has a dialog at the place
-pub record MayOpen {V : Type 0} (look : V → Leaf) (place : ℕ) (dialogs : DialogsOf V) : Type 0 where
-  pub desc : Desc
+pub record MayOpen {V : Type 0} (look : V → Leaf) (d : Desc) (place : ℕ)
+    (dialogs : DialogsOf V) : Type 0 where
   pub state : State
-  pub run : AreOfRun look desc state dialogs
-  pub there : place < length desc.dialogs
+  pub run : AreOfRun look d state dialogs
+  pub there : place < length d.dialogs
 
 -- ---- what dialogs leave
 
@@ -85,3 +86,4 @@ pub record IsAside (s t : State) : Type 0 where
   pub windows : t.windows ≡ s.windows
   pub menu : t.menu ≡ s.menu
   pub over : t.is_over ≡ s.is_over
+  pub frame : t.frame ≡ s.frame

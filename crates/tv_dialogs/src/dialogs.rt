@@ -37,8 +37,8 @@ pub struct DialogsOf<V> {
 pub type Dialogs = DialogsOf<Box<dyn View>>;
 
 impl<V> DialogsOf<V> {
-    // The one at a place, if a place is given.
-    fn at(&self, place: Option<usize>) -> Option<&Kept<V>>
+    /// Returns the one at a place, if a place is given.
+    pub(crate) fn at(&self, place: Option<usize>) -> Option<&Kept<V>>
         ensures { option_copied result ≡ kept_at self.now place }
     {
         match place {

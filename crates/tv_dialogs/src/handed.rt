@@ -9,8 +9,8 @@ ghost use Rattle.tv_dialogs.specs.Handed.{HasPointGiven, IsPointGiven, is_droppe
 use tv_cells::Point;
 use tv_event::{Event, Key};
 
-// A point of the screen, seen from a corner on it.
-fn seen_from(corner: Point, point: Point) -> Point
+/// Returns a point of the screen, seen from a corner.
+pub(crate) fn seen_from(corner: Point, point: Point) -> Point
     requires corner { IsSmall corner.x × IsSmall corner.y }
     requires point { IsPointGiven point }
     ensures { result ≡ seen_from corner point }

@@ -7,7 +7,7 @@ ghost use Rattle.tv_machine.specs.Dialog.Step.{dialog_step};
 ghost use Rattle.tv_machine.specs.Screen.Layers.{dialog_layers};
 ghost use Rattle.tv_machine.specs.Session.Step.{event_from};
 ghost use Rattle.tv_machine.specs.State.{OpenDialog};
-ghost use Rattle.tv_model.specs.Description.Rectangles.{IsSmall, corner_of};
+ghost use Rattle.tv_model.specs.Description.Rectangles.{IsSmall};
 ghost use Rattle.tv_model.specs.declared.desc.Desc.{Desc};
 ghost use Rattle.tv_model.specs.declared.node.Id.{Id};
 ghost use Rattle.tv_group.specs.Calls.{HasRoomForAll, all_gathered, any_holds};
@@ -18,7 +18,7 @@ ghost use Rattle.tv_tree.specs.Shown.{IsAtWork, desktop_canvas};
 ghost use Rattle.tv_cells.specs.Layers.{Lays};
 ghost use Rattle.tv_cells.specs.Repainting.{clipped, within};
 ghost use Rattle.tv_cells.specs.declared.rect.Rect.{Rect as Rectangle};
-ghost use Rattle.tv_dialog.specs.Head.{dialog_bounds};
+ghost use Rattle.tv_dialog.specs.Bounds.{dialog_bounds};
 ghost use Rattle.tv_dialog.specs.Standing.{Stands};
 ghost use Rattle.tv_dialog.specs.Stepping.{begun_anew};
 ghost use Rattle.tv_dialogs.specs.Bodies.{kept_body};
@@ -136,14 +136,15 @@ impl<V: View> Kept<V> {
         requires given { HasPointGiven event.now }
         requires handed { is_dropped event.now ≡ false }
         ensures stands { (m : Modal) → IsReady V.meaning declared.now m self.old.dialog → Stands V.meaning declared.now
-            (dialog_step declared.now (event_from (corner_of declared.now.node) event.now) (begun_anew m)).leaves
-            (dialog_step declared.now (event_from (corner_of declared.now.node) event.now) (begun_anew m)) self.new.dialog }
+            (dialog_step declared.now (event_from self.old.dialog.corner event.now) (begun_anew m)).leaves
+            (dialog_step declared.now (event_from self.old.dialog.corner event.now) (begun_anew m)) self.new.dialog }
+        ensures corner { self.new.dialog.corner ≡ self.old.dialog.corner }
         ensures values { self.new.values ≡ values_after V.meaning self.old.values self.new.dialog }
         ensures damage { KeptDamages V.meaning declared.now self.old.dialog self.new.dialog damage.new }
-        ensures ended { self.new.dialog.is_open ≡ false → HasShadowed (dialog_bounds self.new.dialog.head) damage.new }
+        ensures ended { self.new.dialog.is_open ≡ false → HasShadowed (dialog_bounds self.new.dialog) damage.new }
         ensures kept { Keeps damage.old damage.new }
     {
-        let corner = self.dialog.bounds().a;
+        let corner = self.dialog.corner();
         let env = Env {
             owner: Owner::Dialog,
             chain: colours.chain(),
@@ -161,7 +162,7 @@ impl<V: View> Kept<V> {
 
     /// Adds the dialog's rectangle and its shadow.
     pub(crate) fn mark(&self, damage: &mut Damage)
-        ensures shadowed { HasShadowed (dialog_bounds self.now.dialog.head) damage.new }
+        ensures shadowed { HasShadowed (dialog_bounds self.now.dialog) damage.new }
         ensures kept { Keeps damage.old damage.new }
     {
         damage.add_with_shadow(self.dialog.bounds());
@@ -169,7 +170,7 @@ impl<V: View> Kept<V> {
 
     // The same where it has ended.
     fn mark_ended(&self, damage: &mut Damage)
-        ensures ended { self.now.dialog.is_open ≡ false → HasShadowed (dialog_bounds self.now.dialog.head) damage.new }
+        ensures ended { self.now.dialog.is_open ≡ false → HasShadowed (dialog_bounds self.now.dialog) damage.new }
         ensures kept { Keeps damage.old damage.new }
     {
         if !self.dialog.is_open() {
@@ -194,7 +195,7 @@ impl<V: View> Kept<V> {
     )
         requires { IsSmall canvas.origin.x × IsSmall canvas.origin.y }
         ensures { (desc : Desc) (r : Rectangle) (o : OpenDialog) (overwriting : List Id) (m : Modal) → IsLawfulDialog declared.now
-            → Stands V.meaning declared.now m.leaves m self.now.dialog → IsAtWork o overwriting m → o.origin ≡ corner_of declared.now.node
+            → Stands V.meaning declared.now m.leaves m self.now.dialog → IsAtWork o overwriting m → self.now.dialog.corner ≡ o.origin
             → canvas ≡ within r (desktop_canvas desc) → Lays (map (clipped r) (dialog_layers desc o overwriting declared.now)) screen.old screen.new }
     {
         let env = Env {

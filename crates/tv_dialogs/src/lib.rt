@@ -4,6 +4,7 @@
 mod bodies;
 mod colours;
 mod dialogs;
+mod dragging;
 mod drawing;
 mod handed;
 mod kept;

@@ -1,6 +1,7 @@
-use Rattle.std.proofs.Common.{◌<◌, ℕ, false, length, Some, refl, sym, subst}
+use Rattle.std.proofs.Common.{◌≡◌, ◌<◌, ◌∙◌, ℕ, List, false, length, Some, ap, refl, sym, subst, slice_get, slice_index_or}
 use Rattle.std.proofs.lemmas.Option.{slice_get_read}
 use Rattle.std.specs.Vec.{with_item}
+use Rattle.tv_faces.specs.Corners.{IsCorner}
 use Rattle.tv_group.specs.Calls.{FitsAll}
 use Rattle.tv_group.specs.Opened.{opened}
 use Rattle.tv_machine.specs.Dialog.Lawful.{IsLawfulDialog}
@@ -11,57 +12,79 @@ use Rattle.tv_model.specs.declared.desc.Dialog.{Dialog}
 use Rattle.tv_dialog.specs.Fields.{in_field_order}
 use Rattle.tv_dialog.specs.Resting.{Rests}
 use Rattle.tv_dialog.specs.Standing.{Stands}
+use Rattle.tv_dialogs.specs.Dialogs.{MayOpen}
+use Rattle.tv_dialogs.specs.declared.dialogs.DialogsOf.{DialogsOf}
 use Rattle.tv_dialogs.specs.declared.kept.Kept.{Kept}
+use Rattle.tv_dialogs.proofs.CornerLemmas.{lawful-corner, rests-at}
 use Rattle.tv_dialogs.proofs.DamageLemmas.{opened-alike}
-use Rattle.tv_dialogs.proofs.OpenLemmas.{open-fits, opened-dialogs, opened-log}
-use Rattle.tv_dialogs.proofs.PlaceLemmas.{get-set-same, there-is}
+use Rattle.tv_dialogs.proofs.OpenLemmas.{kept-found, open-fits, opened-dialogs, opened-log}
+use Rattle.tv_dialogs.proofs.PlaceLemmas.{get-set-same}
+use Rattle.tv_dialogs.proofs.RunLemmas.{sound-there}
 use Rattle.tv_dialogs.proofs.dialogs.DialogsOf.open.Goals as goal
+
+pub stand_at-requires : goal.stand_at-requires
+stand_at-requires g c =
+    let d = c.args.desc.now in
+    let r = c.requires in
+    let declared = c.index-as_slice-place.result in
+    let reads = c.index-as_slice-place.is ∙ ap (λ ds. slice_index_or ds c.args.place declared) c.as_slice.ensures in
+    let there = slice_get_read d.dialogs (length d.dialogs) c.args.place declared refl r.there reads in
+    subst IsCorner (sym c.corner_of.ensures) (lawful-corner declared (sound-there g.V.View.meaning d r.state c.args.self.now r.run c.args.place declared there).lawful)
 
 pub reopen-requires : goal.reopen-requires
 reopen-requires g c =
+    let look = g.V.View.meaning in
+    let d = c.args.desc.now in
     let r = c.requires in
-    let x = there-is r.desc.dialogs c.args.place r.there in
-    let items = c.args.self.now.kept.items in
-    let less : c.args.place < length items = subst (λ (n : ℕ). c.args.place < n) (sym r.run.are.count) r.there in
-    subst (λ values. FitsAll values (opened g.V.View.meaning c.index_mut-kept.result.now.dialog.body)) (sym c.get.ensures)
-    (open-fits g.V.View.meaning r.desc r.state c.args.self.now r.run c.args.place x.0 x.1 c.index_mut-kept.result.now
-    (slice_get_read items (length items) c.args.place c.index_mut-kept.result.now refl less c.index_mut-kept.ensures.value))
+    let declared = c.index-as_slice-place.result in
+    let before = c.index_mut-kept.result.now in
+    let reads = c.index-as_slice-place.is ∙ ap (λ ds. slice_index_or ds c.args.place declared) c.as_slice.ensures in
+    let there = slice_get_read d.dialogs (length d.dialogs) c.args.place declared refl r.there reads in
+    let found = kept-found look d c.args.place c.args.self.now r before c.index_mut-kept.ensures.value in
+    subst (λ values. FitsAll values (opened look c.stand_at.new.self.body)) (sym c.get.ensures)
+    (subst (λ dialog. FitsAll before.values (opened look dialog.body)) (sym c.stand_at.ensures)
+    (open-fits look d r.state c.args.self.now r.run c.args.place declared there before found))
 
 pub returns-clause-dialogs : goal.returns-clause-dialogs
-returns-clause-dialogs g c d s run =
-    let r = c.requires in
-    let items = c.args.self.now.kept.items in
-    let less : c.args.place < length items = subst (λ (n : ℕ). c.args.place < n) (sym r.run.are.count) r.there in
-    let x = there-is d.dialogs c.args.place (subst (λ (n : ℕ). c.args.place < n) run.are.count less) in
-    let stands = λ (declared : Dialog) (m : Modal) (lawful : IsLawfulDialog declared) (rests : Rests g.V.View.meaning declared m c.index_mut-kept.result.now.dialog).
-    subst (λ values. Stands g.V.View.meaning declared (opens declared (Some (in_field_order declared values)) m.overwriting).leaves
-    (opens declared (Some (in_field_order declared values)) m.overwriting) c.reopen.new.self) c.get.ensures (c.reopen.ensures.stands declared m lawful rests) in
-    opened-dialogs g.V.View.meaning d s c.args.self.now run c.args.place x.0 x.1 c.index_mut-kept.result.now
-    (slice_get_read items (length items) c.args.place c.index_mut-kept.result.now refl less c.index_mut-kept.ensures.value)
-    _ (record { dialog = c.reopen.new.self; values = c.index_mut-kept.result.now.values }) refl stands refl refl refl refl
+returns-clause-dialogs g c s run =
+    let look = g.V.View.meaning in
+    let d = c.args.desc.now in
+    let declared = c.index-as_slice-place.result in
+    let before = c.index_mut-kept.result.now in
+    let reads = c.index-as_slice-place.is ∙ ap (λ ds. slice_index_or ds c.args.place declared) c.as_slice.ensures in
+    let there = slice_get_read d.dialogs (length d.dialogs) c.args.place declared refl c.requires.there reads in
+    let found = kept-found look d c.args.place c.args.self.now c.requires before c.index_mut-kept.ensures.value in
+    let stands = λ (x : Dialog) (m : Modal) (lawful : IsLawfulDialog x) (rests : Rests look x m before.dialog).
+    subst (λ values. Stands look x (opens x (Some (in_field_order x values)) m.overwriting).leaves (opens x (Some (in_field_order x values)) m.overwriting) c.reopen.new.self) c.get.ensures
+    (c.reopen.ensures.stands x m lawful (subst (Rests look x m) (sym c.stand_at.ensures) (rests-at look x m before.dialog c.corner_of.result rests))) in
+    opened-dialogs look d s c.args.self.now run c.args.place declared there before found
+    _ (record { dialog = c.reopen.new.self; values = before.values }) refl stands refl refl refl refl
+    (c.reopen.ensures.corner ∙ ap (λ x. x.corner) c.stand_at.ensures ∙ c.corner_of.ensures)
 
 pub returns-clause-log : goal.returns-clause-log
-returns-clause-log g c d s dialog run there =
-    let r = c.requires in
-    let items = c.args.self.now.kept.items in
-    let less : c.args.place < length items = subst (λ (n : ℕ). c.args.place < n) (sym r.run.are.count) r.there in
-    let stands = λ (declared : Dialog) (m : Modal) (lawful : IsLawfulDialog declared) (rests : Rests g.V.View.meaning declared m c.index_mut-kept.result.now.dialog).
-    subst (λ values. Stands g.V.View.meaning declared (opens declared (Some (in_field_order declared values)) m.overwriting).leaves
-    (opens declared (Some (in_field_order declared values)) m.overwriting) c.reopen.new.self) c.get.ensures (c.reopen.ensures.stands declared m lawful rests) in
-    opened-log g.V.View.meaning d s c.args.self.now run c.args.place dialog there c.index_mut-kept.result.now
-    (slice_get_read items (length items) c.args.place c.index_mut-kept.result.now refl less c.index_mut-kept.ensures.value)
+returns-clause-log g c s dialog run there =
+    let look = g.V.View.meaning in
+    let d = c.args.desc.now in
+    let before = c.index_mut-kept.result.now in
+    let after : Kept g.row.V.Denot = record { dialog = c.reopen.new.self; values = before.values } in
+    let found = kept-found look d c.args.place c.args.self.now c.requires before c.index_mut-kept.ensures.value in
+    let stands = λ (x : Dialog) (m : Modal) (lawful : IsLawfulDialog x) (rests : Rests look x m before.dialog).
+    subst (λ values. Stands look x (opens x (Some (in_field_order x values)) m.overwriting).leaves (opens x (Some (in_field_order x values)) m.overwriting) c.reopen.new.self) c.get.ensures
+    (c.reopen.ensures.stands x m lawful (subst (Rests look x m) (sym c.stand_at.ensures) (rests-at look x m before.dialog c.corner_of.result rests))) in
+    opened-log look d s c.args.self.now run c.args.place dialog there before found
     (record c.args.self.now {
-      kept = with_item c.args.self.now.kept c.args.place (record { dialog = c.reopen.new.self; values = c.index_mut-kept.result.now.values });
+      kept = with_item c.args.self.now.kept c.args.place after;
       «open» = Some c.args.place;
       is_held = false;
       last = Some c.args.place;
     })
-    (record { dialog = c.reopen.new.self; values = c.index_mut-kept.result.now.values }) refl stands refl
+    after refl stands refl
 
 pub returns-clause-damage : goal.returns-clause-damage
-returns-clause-damage g c d s none run =
+returns-clause-damage g c s none run =
     let items = c.args.self.now.kept.items in
+    let d = c.args.desc.now in
     let less : c.args.place < length items = subst (λ (n : ℕ). c.args.place < n) (sym c.requires.run.are.count) c.requires.there in
     let after : Kept g.row.V.Denot = record { dialog = c.reopen.new.self; values = c.index_mut-kept.result.now.values } in
-    opened-alike g.V.View.meaning d run.sound s (open_dialog d c.args.place s) c.args.self.now _ run.are (returns-clause-dialogs g c d s run) c.mark.new.damage none c.args.place after
+    opened-alike g.V.View.meaning d run.sound s (open_dialog d c.args.place s) c.args.self.now _ run.are (returns-clause-dialogs g c s run) c.mark.new.damage none c.args.place after
     (get-set-same items c.args.place after less) refl c.mark.ensures.shadowed

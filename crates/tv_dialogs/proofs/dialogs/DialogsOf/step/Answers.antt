@@ -6,10 +6,11 @@ use Rattle.tv_dialogs.specs.Dialogs.{at_work, kept_at}
 use Rattle.tv_dialogs.specs.Kept.{values_after}
 use Rattle.tv_machine.specs.Session.Step.{to_dialog}
 use Rattle.tv_dialogs.specs.Damage.{KeptDamages}
+use Rattle.tv_dialogs.proofs.CornerLemmas.{same-bounds}
 use Rattle.tv_dialogs.proofs.PlaceLemmas.{same-some}
 use Rattle.tv_dialogs.proofs.DamageLemmas.{stepped-alike}
 use Rattle.tv_dialogs.proofs.CurrentLemmas.{held-some}
-use Rattle.tv_dialogs.proofs.StepLemmas.{dropped-alike, dropped-dialogs, dropped-log, handed-dialogs, handed-log, held-stepped, read-ready, read-stands}
+use Rattle.tv_dialogs.proofs.StepLemmas.{dropped-alike, dropped-dialogs, dropped-log, handed-dialogs, handed-log, held-stepped, read-corner, read-ready, read-stands}
 use Rattle.tv_dialogs.proofs.PlacedLemmas.{place-declared, place-kept, place-of, place-told, read-declared, read-kept}
 use Rattle.tv_dialogs.proofs.dialogs.DialogsOf.step.Goals as goal
 
@@ -77,6 +78,7 @@ returns-in-Some-clause-dialogs g c s o is given run =
     handed-dialogs look d s old run o is e _ c.step.new.self (ap (λ n. slice_set old.kept.items n c.step.new.self) at) stands refl
     (c.then_some-self.ensures ∙ ap (λ b. then_some b c.in-Some.place) c.is_open.ensures ∙ ap (then_some c.step.new.self.dialog.is_open) at)
     (c.held_after-self.ensures ∙ held-stepped look d s old run o is e c.step.new.self stands given)
+    (c.step.ensures.corner ∙ read-corner look d s old run o is c.in-Some.place c.in-Some.is c.index-as_slice-place.result kept reads c.index_mut-kept.ensures.value)
     (c.step.ensures.values ∙ ap (λ k. values_after look k.values c.step.new.self.dialog) same)
 
 pub returns-in-Some-clause-log : goal.returns-in-Some-clause-log
@@ -119,4 +121,5 @@ returns-in-Some-clause-damage g c s o is given run =
     stepped-alike look d run.sound s (to_dialog d o e s) old _ run.are (returns-in-Some-clause-dialogs g c s o is given run) c.step.new.damage o is c.step.new.self
     (ap (λ n. slice_set old.kept.items n c.step.new.self) at)
     (c.then_some-self.ensures ∙ ap (λ b. then_some b c.in-Some.place) c.is_open.ensures ∙ ap (then_some c.step.new.self.dialog.is_open) at)
-    (same-some c.step.new.self.dialog.head among.kept.dialog.head (stands.head ∙ sym among.stands.head)) told c.step.ensures.ended
+    (same-bounds among.kept.dialog c.step.new.self.dialog (same-some c.step.new.self.dialog.head among.kept.dialog.head (stands.head ∙ sym among.stands.head))
+    (c.step.ensures.corner ∙ ap (λ k. k.dialog.corner) (read-kept look d s old run.are c.in-Some.place c.in-Some.is o is kept c.index_mut-kept.ensures.value))) told c.step.ensures.ended

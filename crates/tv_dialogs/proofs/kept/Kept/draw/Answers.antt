@@ -10,11 +10,10 @@ returns g c desc r o overwriting m lawful stands work corner desktop =
     c.draw.ensures.machine desc r d o overwriting m screen lawful stands
     (record {
       work = work;
-      corner = corner;
       views = c.as_slice.ensures;
       palettes = record { owner = refl; chain = ap coloured c.chain.ensures };
       active = refl;
     })
-    desktop
+    corner desktop
     (shadow-laid g.V.View.meaning desc r d o m c.args.self.now.dialog c.args.canvas c.bounds.result screen c.lay_shadow.new.screen
     stands corner desktop c.bounds.ensures.is c.lay_shadow.ensures.size c.lay_shadow.ensures.shows)

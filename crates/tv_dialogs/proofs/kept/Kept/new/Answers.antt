@@ -2,11 +2,15 @@ use Rattle.std.proofs.Common.{◌∙◌, refl, ap, sym, subst}
 use Rattle.tv_group.specs.Calls.{HasRoomForAll, all_gathered}
 use Rattle.tv_group.specs.Opened.{opened}
 use Rattle.tv_group.specs.Outline.{IsFreshBody}
+use Rattle.tv_dialogs.proofs.CornerLemmas.{lawful-corner}
 use Rattle.tv_dialogs.proofs.ValueLemmas.{lawful-limited, new-kept, new-room}
 use Rattle.tv_dialogs.proofs.kept.Kept.new.Goals as goal
 
-pub new-requires : goal.new-requires
-new-requires g c = lawful-limited c.args.declared.now c.requires.sound.lawful
+pub new-requires-clause-limited : goal.new-requires-clause-limited
+new-requires-clause-limited g c = lawful-limited c.args.declared.now c.requires.sound.lawful
+
+pub new-requires-clause-corner : goal.new-requires-clause-corner
+new-requires-clause-corner g c = lawful-corner c.args.declared.now c.requires.sound.lawful
 
 pub record-requires : goal.record-requires
 record-requires g c =
