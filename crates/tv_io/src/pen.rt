@@ -1,6 +1,7 @@
 //! A pen writes texts one after another, and nothing more once its writer failed.
 
 ghost use Rattle.std.specs.Prelude.{◌≡◌, ◌∷◌, [], decimal, encode_utf8, flat_map};
+ghost use Rattle.std.specs.Fmt.{signed_decimal};
 ghost use Rattle.tv_io.specs.Pen.{Puts, PutsPart};
 
 use crate::utf8::push_char;
@@ -83,5 +84,13 @@ impl<'a, W: Writer> Pen<'a, W> {
     {
         let mut buffer = Buffer::new();
         self.put(buffer.format(number).as_bytes());
+    }
+
+    /// Writes the number in decimal digits, with `-` before those of a negative one.
+    pub fn put_signed(&mut self, value: i32)
+        ensures { Puts W.seen self.old self.new (signed_decimal value) }
+    {
+        let mut buffer = Buffer::new();
+        self.put(buffer.format(value).as_bytes());
     }
 }

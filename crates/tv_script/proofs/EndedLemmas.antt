@@ -1,5 +1,5 @@
 -- Lines with their ends, and the bytes after the last end.
-use Rattle.std.proofs.Common.{◌≡◌, ℕ, suc, ◌+◌, ◌-◌, ◌<◌, ◌≤◌, ◌==◌, nat_le, Bool, true, false, cond, ◌||◌, List, [], ◌∷◌, ◌++◌, length, take, refl, sym, ap, subst, ◌∙◌, append_assoc, min, arith, length-append}
+use Rattle.std.proofs.Common.{◌≡◌, ℕ, ◌+◌, ◌-◌, ◌<◌, ◌≤◌, ◌==◌, nat_le, Bool, true, false, ◌||◌, List, [], ◌∷◌, ◌++◌, length, take, refl, sym, ap, subst, ◌∙◌, append_assoc, min, arith, length-append}
 use Rattle.std.specs.List.{AllByRecursion, list_any}
 use Rattle.std.proofs.lemmas.List.{append-nil, length-take, take-append-le, take_all}
 use Rattle.std.proofs.lemmas.Bool.Decides.{nat_tests}
@@ -7,7 +7,7 @@ use Rattle.std.proofs.Math.Seq.{take-append-add}
 use Rattle.tv_script.specs.Lines.{is_line_end}
 use Rattle.tv_script.specs.Reading.Streams.{IsUnended, with_line_ends}
 use Rattle.tv_script.specs.Streams.{before_end, judged, up_to_last_end}
-use Rattle.tv_words.specs.Lines.{lines_of, onto_first}
+use Rattle.tv_words.specs.Lines.{lines_of}
 
 -- ---- lines without line ends
 

@@ -1,12 +1,12 @@
 -- What a line, a byte and a piece add to what was performed of a script.
-use Rattle.std.proofs.Common.{◌≡◌, ◌≢◌, ℕ, ℤ, ◌+◌, ◌<◌, ◌≤◌, ◌==◌, Bool, true, false, List, [], ◌∷◌, ◌++◌, length, Option, Some, None, Result, Ok, Err, IfErr, IsErrAnd, OnOk, refl, sym, ap, ◌∙◌, append_assoc, subst, arith, length-append}
+use Rattle.std.proofs.Common.{◌≡◌, ◌≢◌, ℕ, ◌+◌, ◌<◌, Bool, true, false, List, [], ◌∷◌, ◌++◌, length, Result, Ok, Err, IsErrAnd, OnOk, refl, sym, ap, ◌∙◌, append_assoc, subst, arith, length-append}
 use Rattle.std.specs.List.{AllByRecursion}
 use Rattle.std.specs.Prelude.{MatchResult}
 use Rattle.std.proofs.lemmas.List.{append-nil}
 use Rattle.tv_io.specs.declared.pen.Pen.{Pen}
 use Rattle.tv_io.specs.Pen.{Puts}
 use Rattle.tv_io.specs.Writer.{Cuts, Seen, Takes}
-use Rattle.tv_io.proofs.PenLemmas.{Cuts-from_stopped, Takes-from_went_on}
+use Rattle.tv_io.proofs.PenLemmas.{Cuts-from_stopped}
 use Rattle.tv_io.proofs.WriterLemmas.{Takes-then}
 use Rattle.tv_machine.specs.Output.{output}
 use Rattle.tv_machine.specs.Run.{Session}
@@ -21,7 +21,7 @@ use Rattle.tv_script.specs.declared.stream_fault.StreamFault.TheVariants as stre
 use Rattle.tv_script.specs.Lines.{is_line_end}
 use Rattle.tv_script.specs.Performed.{Stops}
 use Rattle.tv_script.specs.Reading.Scripts.{script_from, with_bytes}
-use Rattle.tv_script.specs.Reading.Streams.{BeginsLine, HasPlayed, HasScreenOf, IsFed, IsUnended, IsRefusedLine, IsUnplayed, with_line_ends, stream_fault}
+use Rattle.tv_script.specs.Reading.Streams.{BeginsLine, HasPlayed, HasScreenOf, IsFed, IsUnended, IsUnplayed, with_line_ends, stream_fault}
 use Rattle.tv_script.specs.Streams.{Breaks, Performs}
 
 -- ---- answers

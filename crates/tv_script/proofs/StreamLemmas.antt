@@ -1,5 +1,5 @@
 -- A script in pieces: one line more, one byte more, and what its faults say of the whole.
-use Rattle.std.proofs.Common.{◌≡◌, ◌≢◌, ℕ, ℤ, ◌+◌, ◌<◌, ◌≤◌, inl, inr, nat_le, Bool, true, false, cond, List, [], ◌∷◌, ◌++◌, length, take, Result, Ok, Err, IsErrAnd, refl, sym, ap, ◌∙◌, append_assoc, subst, arith, length-append}
+use Rattle.std.proofs.Common.{◌≡◌, ◌≢◌, ℕ, ℤ, ◌+◌, ◌<◌, ◌≤◌, inl, inr, nat_le, Bool, true, false, List, [], ◌∷◌, ◌++◌, length, take, Result, Ok, Err, IsErrAnd, refl, sym, ap, ◌∙◌, append_assoc, subst, arith, length-append}
 use Rattle.std.specs.List.{AllByRecursion}
 use Rattle.std.specs.Prelude.{MatchResult}
 use Rattle.std.proofs.lemmas.Bool.Decides.{nat_tests}
@@ -10,19 +10,18 @@ use Rattle.tv_io.specs.Reader.{Given, HasGiven}
 use Rattle.tv_io.specs.Writer.{Seen}
 use Rattle.tv_machine.specs.Run.{Session}
 use Rattle.tv_model.specs.declared.script.Item.{Item}
-use Rattle.tv_script.proofs.EndedLemmas.{all_push, begins_judged, ended_push, judged_full, judged_whole, last_line, lines_of_ended, lines_up, open_push}
+use Rattle.tv_script.proofs.EndedLemmas.{all_push, begins_judged, ended_push, judged_full, judged_whole, last_line, lines_of_ended, lines_up}
 use Rattle.tv_script.proofs.ScriptLemmas.{read_items, read_left, read_spelled}
 use Rattle.tv_script.specs.declared.feed.Feed.{Feed}
 use Rattle.tv_script.specs.declared.script_text.ScriptFault.{ScriptFault}
 use Rattle.tv_script.specs.declared.script_text.ScriptFault.TheVariants as scripts
 use Rattle.tv_script.specs.declared.stream_fault.StreamFault.{StreamFault}
 use Rattle.tv_script.specs.declared.stream_fault.StreamFault.TheVariants as streams
-use Rattle.tv_script.specs.Lines.{is_line_end}
 use Rattle.tv_script.specs.Performed.{Stops}
 use Rattle.tv_script.specs.Reading.Scripts.{ScriptOutcome, script_from, script_of, with_bytes}
-use Rattle.tv_script.specs.Reading.Streams.{BeginsLine, HasPlayed, HasScreenOf, IsFed, IsUnended, IsRefusedLine, IsUnplayed, with_line_ends}
+use Rattle.tv_script.specs.Reading.Streams.{HasPlayed, IsFed, IsUnended, IsRefusedLine, IsUnplayed, with_line_ends}
 use Rattle.tv_script.specs.Scripts.{SpellsAScript}
-use Rattle.tv_script.specs.Streams.{Breaks, ComesFrom, ComesTo, Decides, HasItems, IsCutOff, IsLeft, OfEach, Performs, judged, up_to_last_end}
+use Rattle.tv_script.specs.Streams.{Breaks, ComesFrom, ComesTo, Decides, HasItems, IsCutOff, IsLeft, OfEach, judged, up_to_last_end}
 use Rattle.tv_words.specs.Lines.{lines_of}
 
 -- ---- one line more

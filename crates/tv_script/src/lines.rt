@@ -8,6 +8,7 @@ ghost use Rattle.tv_model.specs.Description.Heads.{all_nodes};
 ghost use Rattle.tv_model.specs.Log.LogText.{name_of_node, log_line, log_text, name_text, end_word, line_of, value_text, marks_text, has_bit, quoted_text, escaped_in_log};
 ghost use Rattle.tv_io.specs.Pen.{Puts};
 
+use tv_cells::Point;
 use tv_event::Command;
 use tv_io::{Pen, Writer};
 use tv_model::{Desc, Id, LogLine, Value};
@@ -35,6 +36,7 @@ fn put_line<W: Writer>(pen: &mut Pen<W>, desc: &Desc, line: &LogLine)
         LogLine::Command(number) => put_command(pen, *number),
         LogLine::End(id, command) => put_end(pen, desc, *id, *command),
         LogLine::Field(id, value) => put_field(pen, desc, *id, value),
+        LogLine::Moved(id, corner) => put_moved(pen, desc, *id, *corner),
     }
 }
 
@@ -98,6 +100,18 @@ fn put_field<W: Writer>(pen: &mut Pen<W>, desc: &Desc, id: Id, value: &Value)
     pen.put_chars(name(desc, id));
     pen.put(b" ");
     put_value(pen, value);
+    pen.put(b"\n");
+}
+
+fn put_moved<W: Writer>(pen: &mut Pen<W>, desc: &Desc, id: Id, corner: Point)
+    ensures { Puts W.seen pen.old pen.new (log_line desc.now (lines.Moved id corner)) }
+{
+    pen.put(b"moved ");
+    pen.put_chars(name(desc, id));
+    pen.put(b" ");
+    pen.put_signed(corner.x);
+    pen.put(b" ");
+    pen.put_signed(corner.y);
     pen.put(b"\n");
 }
 

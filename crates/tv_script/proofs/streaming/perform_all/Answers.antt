@@ -1,4 +1,4 @@
-use Rattle.std.proofs.Common.{◌≡◌, ◌≤◌, ◌++◌, [], length, take, true, refl, sym, ap, subst, ◌∙◌, arith, rules, length-append}
+use Rattle.std.proofs.Common.{◌≡◌, ◌≤◌, ◌++◌, [], length, take, refl, ap, subst, ◌∙◌, arith, rules, length-append}
 use Rattle.std.proofs.lemmas.List.{append-nil, length-take-le}
 use Rattle.tv_io.proofs.PenLemmas.{Takes-from_went_on}
 use Rattle.tv_io.proofs.ReaderLemmas.{HasGiven-none, HasGiven-then}

@@ -1,4 +1,4 @@
-use Rattle.std.proofs.Common.{◌≡◌, ◌≤◌, ◌-◌, ℕ, List, [], length, false}
+use Rattle.std.proofs.Common.{◌≡◌, ◌-◌, ℕ, List, [], length, false}
 use Rattle.tv_io.specs.Reader.{HasGiven}
 use Rattle.tv_io.specs.Writer.{Seen}
 use Rattle.tv_machine.specs.Run.{Session}

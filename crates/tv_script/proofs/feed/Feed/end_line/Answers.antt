@@ -28,6 +28,13 @@ returns-in_err-items-in-Some-clause-played g c = λ s from lines screen number p
     (judged_here s feed lines played.items (Ok (played.items ++ more)) screen number judged) cut.1 cut.2)
     c.from_residual-in_err-items-in-Some.result c.from_residual-in_err-items-in-Some.ensures.1
 
+pub returns-clause-there : goal.returns-clause-there
+returns-clause-there g c =
+    elim c.match-branch-2.branch [
+      | in-Some+in_ok-items-in-Some w ↦ rw w.stage-is w.perform_line.ensures.there
+      | in-None w ↦ rw w.stage-is c.requires.there
+    ]
+
 pub returns-clause-played : goal.returns-clause-played
 returns-clause-played g c = λ s from lines screen number played.
     let feed = c.args.self.now in

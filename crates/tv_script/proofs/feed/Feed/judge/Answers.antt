@@ -1,4 +1,4 @@
-use Rattle.std.proofs.Common.{rules, true}
+use Rattle.std.proofs.Common.{rules}
 use Rattle.tv_script.specs.ScriptLines.{line_meant}
 use Rattle.tv_script.proofs.EventLemmas.{shown_line}
 use Rattle.tv_script.proofs.feed.Feed.judge.Goals as goal

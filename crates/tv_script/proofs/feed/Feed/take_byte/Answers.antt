@@ -1,8 +1,6 @@
-use Rattle.std.proofs.Common.{◌≡◌, ◌<◌, ◌+◌, length, rules, arith}
-use Rattle.std.proofs.lemmas.Bool.{eqb-true}
-use Rattle.tv_script.proofs.FeedLemmas.{breaks_end_of_line, fed_end, fed_push, match_map}
+use Rattle.std.proofs.Common.{◌≡◌, ◌<◌, length, rules, arith}
+use Rattle.tv_script.proofs.FeedLemmas.{breaks_end_of_line, fed_end, match_map}
 use Rattle.tv_script.proofs.StreamLemmas.{too_many}
-use Rattle.tv_script.specs.Lines.{is_line_end}
 use Rattle.tv_script.proofs.feed.Feed.take_byte.Goals as goal
 
 pub returns-then-self-eq-MOST_BYTES-clause-fed : goal.returns-then-self-eq-MOST_BYTES-clause-fed
