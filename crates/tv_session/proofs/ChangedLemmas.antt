@@ -1,5 +1,5 @@
 -- What the whole screen shows otherwise after an event, and what of it lies on the screen.
-use Rattle.std.proofs.Common.{◌≡◌, ℕ, ℤ, pos, ◌+ℤ◌, Bool, true, false, not, List, [], ◌∷◌, refl, sym, ap, subst, ◌∙◌, arith}
+use Rattle.std.proofs.Common.{◌≡◌, ℤ, pos, ◌+ℤ◌, Bool, true, false, not, List, [], ◌∷◌, refl, sym, ap, subst, arith}
 use mathlib.Core.Bool.{beq}
 use Rattle.std.specs.Prelude.{is_none, is_some}
 use Rattle.std.proofs.lemmas.Int.{ints}
@@ -64,7 +64,7 @@ module _ {V : Type 0} (look : V → Leaf) (d : Desc) (s t : State) where
       → ((p : Picture) → AreAlike p last (stack_layers d (is_none s.dialog) t.windows) (stack_layers d (is_none t.dialog) t.windows))
       → IsRun look d t (record run { damage = last }) × AreShownAlike d s t last
   changed run barred lined last r marked first second third bar menu status front = (
-    record { desk = r.desk; dialogs = r.dialogs; bar = r.bar; menu = r.menu; over = r.over; log = r.log },
+    record { desk = r.desk; dialogs = r.dialogs; bar = r.bar; menu = r.menu; frame = r.frame; over = r.over; log = r.log },
     λ p.
         let later : Keeps barred last = λ x y e. third x y (second x y e) in
         layers-alike d s t p last (alike-more p barred last _ _ later (bar p)) (alike-more p lined last _ _ third (status p)) (alike-more p barred last _ _ later (menu p))

@@ -48,11 +48,12 @@ pub record IsAsideOfMenu (s t : State) : Type 0 where
   pub saved : t.saved ≡ s.saved
   pub overwriting : t.overwriting ≡ s.overwriting
   pub over : t.is_over ≡ s.is_over
+  pub frame : t.frame ≡ s.frame
   pub log : t.log ≡ s.log
 
 pub first_aside : (menus : List Menu) (s : State) → IsAsideOfMenu s (open_first menus s)
-first_aside [] s = record { windows = refl; dialog = refl; saved = refl; overwriting = refl; over = refl; log = refl }
-first_aside (menu ∷ menus) s = record { windows = refl; dialog = refl; saved = refl; overwriting = refl; over = refl; log = refl }
+first_aside [] s = record { windows = refl; dialog = refl; saved = refl; overwriting = refl; over = refl; frame = refl; log = refl }
+first_aside (menu ∷ menus) s = record { windows = refl; dialog = refl; saved = refl; overwriting = refl; over = refl; frame = refl; log = refl }
 
 -- ---- commands
 

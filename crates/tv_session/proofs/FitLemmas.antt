@@ -12,12 +12,14 @@ use Rattle.tv_session.proofs.CommandLemmas.{none_some}
 pub emptied_fit : (d : Desc) (s : State) → IsFitState d s → IsFitState d (emptied s)
 emptied_fit d s f = record {
   kept = record { saved = f.kept.saved; places = f.kept.places; ordered = f.kept.ordered; ends = All-nil (HasDeclaredEnd d) };
-  «open» = λ o e. let x = f.«open» o e in record { dialog = x.dialog; there = x.there; fit = x.fit; menu = x.menu; over = x.over };
+  «open» = λ o e. let x = f.«open» o e in record { dialog = x.dialog; there = x.there; fit = x.fit; menu = x.menu; over = x.over; top = x.top };
+  frame = λ held e. let x = f.frame held e in record { width = x.width; there = x.there; column = x.column; leaf = x.leaf; menu = x.menu; over = x.over };
 }
 
--- without a dialog any menu may be open
-pub menu_fit : (d : Desc) (s : State) (menu : Option OpenMenu) → s.dialog ≡ None → IsFitState d s → IsFitState d (record s { menu = menu })
-menu_fit d s menu none f = record {
+-- without a dialog, and while no frame is held, any menu may be open
+pub menu_fit : (d : Desc) (s : State) (menu : Option OpenMenu) → s.dialog ≡ None → s.frame ≡ None → IsFitState d s → IsFitState d (record s { menu = menu })
+menu_fit d s menu none loose f = record {
   kept = record { saved = f.kept.saved; places = f.kept.places; ordered = f.kept.ordered; ends = f.kept.ends };
   «open» = λ o e. absurd (none_some o (sym none ∙ e));
+  frame = λ held e. absurd (none_some held (sym loose ∙ e));
 }

@@ -1,4 +1,5 @@
 pub mod CommandLemmas
+pub mod DraggingLemmas
 pub mod EventLemmas
 pub mod FitLemmas
 pub mod OfferLemmas

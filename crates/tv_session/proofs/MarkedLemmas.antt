@@ -1,5 +1,5 @@
 -- What damage says of parts of the screen, one over the other and one after the other.
-use Rattle.std.proofs.Common.{◌≡◌, ℕ, ℤ, pos, Bool, true, false, List, [], ◌∷◌, ◌++◌, refl, sym, ap, ◌∙◌, subst, Option, Some, None}
+use Rattle.std.proofs.Common.{◌≡◌, ℤ, pos, Bool, true, false, List, [], ◌∷◌, ◌++◌, refl, sym, ap, ◌∙◌, subst, Option, Some, None}
 use Rattle.tv_cells.specs.Damage.{has}
 use Rattle.tv_cells.specs.Layers.{Layer, cell_over}
 use Rattle.tv_cells.specs.Picture.{Picture}

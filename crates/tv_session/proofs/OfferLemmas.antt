@@ -14,13 +14,14 @@ module _ {V : Type 0} (look : V → Leaf) (d : Desc) where
   pub offered_run : (s : State) (run : RunOf V) (bar : MenuBar) → IsAwake look d s run → IsBarOf d bar
       → IsRun look d (record s { menu = open_of bar }) (record run { bar = bar })
   offered_run s run bar a is =
-      run_menu look d s (record s { menu = open_of bar }) run (record run { bar = bar }) a.stands refl refl is refl refl refl refl refl a.stands.over a.stands.log
+      run_menu look d s (record s { menu = open_of bar }) run (record run { bar = bar }) a.stands refl refl is refl refl refl refl refl a.stands.over a.stands.frame a.stands.log
 
   pub offered_awake : (s : State) (run : RunOf V) (bar : MenuBar) → IsAwake look d s run → s.dialog ≡ None → IsBarOf d bar
       → IsAwake look d (record s { menu = open_of bar }) (record run { bar = bar })
   offered_awake s run bar a none is = record {
     stands = offered_run s run bar a is;
-    fit = menu_fit d s (open_of bar) none a.fit;
+    held = a.held;
+    fit = menu_fit d s (open_of bar) none a.held a.fit;
     sound = a.sound;
     size = a.size;
     over = a.over;

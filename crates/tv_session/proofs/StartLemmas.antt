@@ -2,6 +2,7 @@
 use Rattle.std.proofs.Common.{◌≡◌, inl, inr, refl, ℕ, zero, suc, ◌+◌, List, [], ◌∷◌, length, Option, Some, None, ap, subst, sym, false, ◌∙◌}
 use Rattle.std.specs.Prelude.{slice_get}
 use Rattle.std.specs.List.{AllZip}
+use Rattle.std.specs.Option.{option_map}
 use Rattle.tv_view.specs.Meaning.{Leaf}
 use Rattle.tv_model.specs.declared.desc.Desc.{Desc}
 use Rattle.tv_group.specs.declared.group.GroupOf.{GroupOf}
@@ -20,7 +21,7 @@ use Rattle.tv_menu.specs.Lawful.{IsLawfulScreen}
 use Rattle.tv_menu.specs.Line.{IsLineOf}
 use Rattle.tv_model.specs.Description.Numbers.{natural}
 use Rattle.tv_session.specs.Freshness.{IsFirstMismatch, IsFirstStale, IsFreshBodyFor, IsFreshFor}
-use Rattle.tv_session.specs.Running.{CanPaint, IsAwake, IsRun}
+use Rattle.tv_session.specs.Running.{CanPaint, IsAwake, IsRun, seen_frame}
 use Rattle.tv_session.specs.Starting.{CanStart, place_named}
 use Rattle.tv_session.specs.declared.making.Parts.{Parts}
 use Rattle.tv_session.specs.declared.run.RunOf.{RunOf}
@@ -61,11 +62,12 @@ module _ {V : Type 0} (look : V → Leaf) (d : Desc) where
 
   -- before the start nothing is logged
   pub first_awake : (run : RunOf V) → HasSoundDialogs d → IsLawfulScreen d.width d.height → IsDesk look d (closed d).windows run.desk
-      → AreDialogs look d (closed d) run.dialogs → IsBarOf d run.bar → open_of run.bar ≡ None → run.is_over ≡ false → run.log.items ≡ []
+      → AreDialogs look d (closed d) run.dialogs → IsBarOf d run.bar → open_of run.bar ≡ None → run.frame ≡ None → run.is_over ≡ false → run.log.items ≡ []
       → IsAwake look d (closed d) run
-  first_awake run sound size desk dialogs bar none over log = record {
-    stands = record { desk = desk; dialogs = dialogs; bar = bar; menu = sym none; over = over; log = log };
-    fit = idle-fit d sound (closed d) (closed_kept d sound) refl;
+  first_awake run sound size desk dialogs bar none loose over log = record {
+    stands = record { desk = desk; dialogs = dialogs; bar = bar; menu = sym none; frame = sym (ap (option_map seen_frame) loose); over = over; log = log };
+    held = refl;
+    fit = idle-fit d sound (closed d) (closed_kept d sound) refl refl;
     sound = sound;
     size = size;
     over = refl;

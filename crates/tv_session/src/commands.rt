@@ -85,7 +85,7 @@ impl<V: View> RunOf<V> {
             return;
         };
         note(&mut self.log, LogLine::Open(dialog.node.id));
-        self.dialogs.open(place, &mut self.damage);
+        self.dialogs.open(desc, place, &mut self.damage);
         note_all(&mut self.log, self.dialogs.log());
     }
 

@@ -4,7 +4,7 @@ ghost use Rattle.std.specs.Prelude.{◌≡◌, None, Some, true, false, is_some}
 ghost use Rattle.tv_event.specs.declared.event.Event.TheVariants.{Down as DownEvent};
 ghost use Rattle.tv_machine.specs.State.{State, OpenDialog};
 ghost use Rattle.tv_machine.specs.Session.Desktop.{desktop_down, desktop_key, down_on_desktop, window_under};
-ghost use Rattle.tv_machine.specs.Session.Step.{down_at_menu, down_at_status, down_below, emptied, held_of, key_at_menu, key_at_status, key_below, status_item_of, step, step_below, step_held};
+ghost use Rattle.tv_machine.specs.Session.Step.{down_at_menu, down_at_status, down_below, down_on_dialog, emptied, held_of, key_at_menu, key_at_status, key_below, status_item_of, step, step_below, step_held};
 ghost use Rattle.tv_menu.specs.Bar.{bar_offer};
 ghost use Rattle.tv_menu.specs.Lawful.{IsLawfulScreen};
 ghost use Rattle.tv_menu.specs.Line.{IsLineOf};
@@ -105,18 +105,21 @@ impl<V: View> RunOf<V> {
 
     // Handles a mouse down on the topmost window there.
     fn window_down(&mut self, desc: &Desc, point: Point)
+        requires near { IsPointGiven point }
         requires awake { (s : State) × IsAwake V.meaning desc.now s self.old × (s.dialog ≡ None) }
         ensures { (since s : State) → IsAwakeSince V.meaning desc.now since s self.old → s.dialog ≡ None → s.menu ≡ None
             → IsRunSince V.meaning desc.now since (down_on_desktop desc.now (window_under desc.now s point) point s) self.new }
     {
         match self.desk.down(point, &mut self.damage) {
             Hit::CloseMark => self.command(desc, Command::CLOSE),
+            Hit::Grip(corner) => self.grab(corner, point),
             Hit::Done => {}
         }
     }
 
     // Handles a mouse down while neither a menu nor a dialog is open.
     fn desktop_down(&mut self, desc: &Desc, point: Point)
+        requires near { IsPointGiven point }
         requires awake { (s : State) × IsAwake V.meaning desc.now s self.old × (s.dialog ≡ None) }
         ensures { (since s : State) → IsAwakeSince V.meaning desc.now since s self.old → s.dialog ≡ None → s.menu ≡ None
             → IsRunSince V.meaning desc.now since (desktop_down desc.now point s) self.new }
@@ -129,6 +132,19 @@ impl<V: View> RunOf<V> {
         }
     }
 
+    // Handles a mouse down on the desktop while a dialog is open: holds it by its top row, or hands it the down.
+    fn dialog_down(&mut self, desc: &Desc, point: Point)
+        requires near { IsPointGiven point }
+        requires awake { (s : State) × IsAwake V.meaning desc.now s self.old × (held_of s.dialog ≡ None) }
+        ensures { (since s : State) (o : OpenDialog) → IsAwakeSince V.meaning desc.now since s self.old → s.dialog ≡ Some o
+            → IsRunSince V.meaning desc.now since (down_on_dialog desc.now o point s) self.new }
+    {
+        match self.dialogs.grip(point) {
+            Some(corner) => self.grab(corner, point),
+            None => self.hand_to_dialog(desc, &Event::Down(point)),
+        }
+    }
+
     // Handles a mouse down above the status line.
     fn down_below(&mut self, desc: &Desc, point: Point)
         requires near { IsPointGiven point }
@@ -138,7 +154,7 @@ impl<V: View> RunOf<V> {
     {
         if self.dialogs.is_open() {
             if is_on_desktop(desc, point) {
-                self.hand_to_dialog(desc, &Event::Down(point));
+                self.dialog_down(desc, point);
             }
         } else {
             self.desktop_down(desc, point);
@@ -215,7 +231,9 @@ impl<V: View> RunOf<V> {
         if self.is_over {
             return;
         }
-        if self.dialogs.held() {
+        if let Some(frame) = self.frame {
+            self.drag(desc, frame, event);
+        } else if self.dialogs.held() {
             self.held_event(desc, event);
         } else {
             self.free_event(desc, line, event);

@@ -4,6 +4,7 @@
 mod before;
 mod colours;
 mod commands;
+mod dragging;
 mod events;
 mod fault;
 mod freshness;

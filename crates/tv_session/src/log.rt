@@ -32,6 +32,7 @@ fn copy_line(line: &LogLine) -> LogLine
         LogLine::Command(number) => LogLine::Command(*number),
         LogLine::End(id, command) => LogLine::End(*id, *command),
         LogLine::Field(id, value) => LogLine::Field(*id, copy_value(value)),
+        LogLine::Moved(id, corner) => LogLine::Moved(*id, *corner),
     }
 }
 

@@ -201,6 +201,7 @@ impl<V: View> SessionOf<V> {
             desk: DeskOf::new(windows),
             dialogs,
             bar: parts.bar,
+            frame: None,
             is_over: false,
             log: parts.log,
             colours: Colours::new(),

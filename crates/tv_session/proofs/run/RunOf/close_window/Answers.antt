@@ -13,7 +13,7 @@ returns-in-Some g c = λ d since s w.
     let stands =
     run_windows g.V.View.meaning d s (close_front s.windows s) c.args.self.now _ a.stands
     (c.close_front.ensures.desk d s a.stands.desk) refl refl (ap (λ x. x.menu) closed) (ap (λ x. x.dialog) closed) (ap (λ x. x.saved) closed)
-    (ap (λ x. x.overwriting) closed) (a.stands.over ∙ sym (ap (λ x. x.is_over) closed))
+    (ap (λ x. x.overwriting) closed) (a.stands.over ∙ sym (ap (λ x. x.is_over) closed)) (ap (λ x. x.frame) closed ∙ a.stands.frame)
     (c.note.ensures (short_log g.V.View.meaning d s c.args.self.now a) ∙ ap (λ ls. ls ++ Close c.in-Some.id ∷ []) a.stands.log ∙ sym (ap (λ x. x.log) closed)) in
     (stands, marked-windows d since s (close_front s.windows s) c.args.self.now.damage c.close_front.new.damage w.1 c.close_front.ensures.grown.kept (c.close_front.ensures.damage d s a.stands.desk) (ap (λ x. x.dialog) closed) (ap (λ x. x.overwriting) closed))
 
@@ -24,5 +24,5 @@ returns-in_default g c = λ d since s w.
     let stands =
     run_windows g.V.View.meaning d s (close_front s.windows s) c.args.self.now _ a.stands
     (c.close_front.ensures.desk d s a.stands.desk) refl refl (ap (λ x. x.menu) closed) (ap (λ x. x.dialog) closed) (ap (λ x. x.saved) closed)
-    (ap (λ x. x.overwriting) closed) (a.stands.over ∙ sym (ap (λ x. x.is_over) closed)) (a.stands.log ∙ sym (ap (λ x. x.log) closed)) in
+    (ap (λ x. x.overwriting) closed) (a.stands.over ∙ sym (ap (λ x. x.is_over) closed)) (ap (λ x. x.frame) closed ∙ a.stands.frame) (a.stands.log ∙ sym (ap (λ x. x.log) closed)) in
     (stands, marked-windows d since s (close_front s.windows s) c.args.self.now.damage c.close_front.new.damage w.1 c.close_front.ensures.grown.kept (c.close_front.ensures.damage d s a.stands.desk) (ap (λ x. x.dialog) closed) (ap (λ x. x.overwriting) closed))

@@ -14,7 +14,7 @@ window_down-requires g c =
     let a = c.requires.awake.1 in
     let none = c.requires.awake.2 in
     let is = left_none c.offer_bar.result (bar_offer d (events.Down c.args.point) s) (λ after e. (c.offer_bar.ensures.takes s s after (a, marked-same d s c.args.self.now.damage) none e).0) c.if-offer_bar.false in
-    record { awake = (s, subst (IsAwake g.V.View.meaning d s) (sym (c.offer_bar.ensures.leaves s a none is).1) a, none) }
+    record { near = c.requires.near; awake = (s, subst (IsAwake g.V.View.meaning d s) (sym (c.offer_bar.ensures.leaves s a none is).1) a, none) }
 
 pub returns-then-is_on_desktop : goal.returns-then-is_on_desktop
 returns-then-is_on_desktop g c = λ since s w none menu.

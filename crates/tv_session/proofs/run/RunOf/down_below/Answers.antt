@@ -1,7 +1,5 @@
 use Rattle.std.proofs.Common.{Bool, if◌then◌else◌, ap, subst, sym, ◌∙◌}
-use Rattle.tv_event.specs.declared.event.Event.TheVariants as events
-use Rattle.tv_laws.proofs.RunLemmas.{given_down}
-use Rattle.tv_machine.specs.Session.Step.{down_below, to_dialog}
+use Rattle.tv_machine.specs.Session.Step.{down_below, down_on_dialog}
 use Rattle.tv_session.specs.Running.{IsRunSince}
 use Rattle.tv_session.proofs.CommandLemmas.{none_is, some_is}
 use Rattle.tv_session.proofs.run.RunOf.down_below.Goals as goal
@@ -9,7 +7,7 @@ use Rattle.tv_session.proofs.run.RunOf.down_below.Goals as goal
 pub desktop_down-requires : goal.desktop_down-requires
 desktop_down-requires g c =
     let r = c.requires.awake in
-    record { awake = (r.0, r.1, none_is r.0.dialog (sym (c.is_open.ensures c.args.desc.now r.0 r.1.stands.dialogs) ∙ c.if-is_open.false)) }
+    record { near = c.requires.near; awake = (r.0, r.1, none_is r.0.dialog (sym (c.is_open.ensures c.args.desc.now r.0 r.1.stands.dialogs) ∙ c.if-is_open.false)) }
 
 pub returns-else-is_open : goal.returns-else-is_open
 returns-else-is_open g c = λ since s w menu.
@@ -25,9 +23,9 @@ returns-then-is_on_desktop g c = λ since s w menu.
     let p = c.args.point in
     let found = some_is s.dialog (sym (c.is_open.ensures d s a.stands.dialogs) ∙ c.if-is_open.true) in
     let inside = sym c.is_on_desktop.ensures ∙ c.if-is_on_desktop.true in
-    subst (λ t. IsRunSince g.V.View.meaning d since t c.hand_to_dialog.new.self)
-    (sym (ap (λ o. down_below d o p s) found.1 ∙ ap (λ (b : Bool). if b then to_dialog d found.0 (events.Down p) s else s) inside))
-    (c.hand_to_dialog.ensures since s found.0 w found.1 (given_down found.0.held p))
+    subst (λ t. IsRunSince g.V.View.meaning d since t c.dialog_down.new.self)
+    (sym (ap (λ o. down_below d o p s) found.1 ∙ ap (λ (b : Bool). if b then down_on_dialog d found.0 p s else s) inside))
+    (c.dialog_down.ensures since s found.0 w found.1)
 
 pub returns-else-is_on_desktop : goal.returns-else-is_on_desktop
 returns-else-is_on_desktop g c = λ since s w menu.
@@ -37,4 +35,4 @@ returns-else-is_on_desktop g c = λ since s w menu.
     let found = some_is s.dialog (sym (c.is_open.ensures d s a.stands.dialogs) ∙ c.if-is_open.true) in
     let outside = sym c.is_on_desktop.ensures ∙ c.if-is_on_desktop.false in
     subst (λ t. IsRunSince g.V.View.meaning d since t c.args.self.now)
-    (sym (ap (λ o. down_below d o p s) found.1 ∙ ap (λ (b : Bool). if b then to_dialog d found.0 (events.Down p) s else s) outside)) (a.stands, w.1)
+    (sym (ap (λ o. down_below d o p s) found.1 ∙ ap (λ (b : Bool). if b then down_on_dialog d found.0 p s else s) outside)) (a.stands, w.1)

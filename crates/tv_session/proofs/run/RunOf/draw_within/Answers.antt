@@ -1,4 +1,4 @@
-use Rattle.std.proofs.Common.{◌≡◌, [], ◌∷◌, map, ap, subst, sym, ◌∙◌}
+use Rattle.std.proofs.Common.{[], ◌∷◌, map, ap, subst, sym, ◌∙◌}
 use Rattle.tv_cells.specs.Layers.{Lays}
 use Rattle.tv_cells.specs.Repainting.{clipped, within}
 use Rattle.tv_machine.specs.Screen.Layers.{bar_layer, box_layers}

@@ -16,7 +16,7 @@ returns g c = λ since s o w some given.
     let few = c.log.ensures.few in
     let stands =
     run_dialogs look d s (to_dialog d o c.args.event.now s) c.args.self.now _ a.stands (c.step.ensures.dialogs s o some given run) refl refl
-    aside.menu aside.windows (a.stands.over ∙ sym aside.over)
+    aside.menu aside.windows (a.stands.over ∙ sym aside.over) (aside.frame ∙ a.stands.frame)
     (c.note_all.ensures (omega (arith, none, few)) ∙ ap (λ ls. ls ++ c.log.result.now) a.stands.log ∙ ap (λ ls. s.log ++ ls) c.log.ensures.lines
     ∙ sym (c.step.ensures.log s o some run)) in
     (stands, marked-dialog d since s (to_dialog d o c.args.event.now s) c.args.self.now.damage c.step.new.damage w.1 c.step.ensures.kept (c.step.ensures.damage s o some given run) aside.windows)

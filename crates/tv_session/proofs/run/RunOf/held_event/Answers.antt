@@ -1,5 +1,4 @@
 use Rattle.std.proofs.Common.{Some, inl, inr, is_some, ap, subst, sym, ◌∙◌}
-use Rattle.tv_event.specs.declared.event.Event.TheVariants as events
 use Rattle.tv_laws.specs.Steps.{RespectsHold}
 use Rattle.tv_laws.proofs.RunLemmas.{given_move, given_up}
 use Rattle.tv_machine.specs.Session.Step.{step_held, to_dialog}

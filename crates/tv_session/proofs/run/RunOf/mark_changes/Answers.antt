@@ -1,4 +1,4 @@
-use Rattle.std.proofs.Common.{◌≡◌, [], ◌∷◌, is_none, sym, subst, ◌∙◌}
+use Rattle.std.proofs.Common.{[], ◌∷◌, is_none, sym, subst, ◌∙◌}
 use Rattle.tv_cells.specs.Repainting.{AreAlike}
 use Rattle.tv_machine.specs.Screen.Layers.{bar_layer, box_layers}
 use Rattle.tv_menu.specs.Damage.{opened}

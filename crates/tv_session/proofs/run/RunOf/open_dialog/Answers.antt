@@ -19,10 +19,10 @@ returns g c = λ since s w none.
     ap (λ (ls : List LogLine). length ls) (noted ∙ ap (λ ls. ls ++ lines.Open c.in-Some.dialog.now.node.id ∷ []) (empty_log look d s c.args.self.now a)) in
     let few = c.log.ensures.few in
     let stands =
-    run_dialogs look d s (open_dialog d c.args.place s) c.args.self.now _ a.stands (c.open.ensures.dialogs d s run) refl refl
-    aside.menu aside.windows (a.stands.over ∙ sym aside.over)
+    run_dialogs look d s (open_dialog d c.args.place s) c.args.self.now _ a.stands (c.open.ensures.dialogs s run) refl refl
+    aside.menu aside.windows (a.stands.over ∙ sym aside.over) (aside.frame ∙ a.stands.frame)
     (c.note_all.ensures (omega (arith, one, few)) ∙ ap (λ ls. ls ++ c.log.result.now) (noted ∙ ap (λ ls. ls ++ lines.Open c.in-Some.dialog.now.node.id ∷ []) a.stands.log)
     ∙ append_assoc s.log (lines.Open c.in-Some.dialog.now.node.id ∷ []) c.log.result.now
     ∙ ap (λ ls. s.log ++ lines.Open c.in-Some.dialog.now.node.id ∷ ls) c.log.ensures.lines
-    ∙ sym (c.open.ensures.log d s c.in-Some.dialog.now run (sym c.in-Some.ensures))) in
-    (stands, marked-dialog d since s (open_dialog d c.args.place s) c.args.self.now.damage c.open.new.damage w.1 c.open.ensures.kept (c.open.ensures.damage d s none run) aside.windows)
+    ∙ sym (c.open.ensures.log s c.in-Some.dialog.now run (sym c.in-Some.ensures))) in
+    (stands, marked-dialog d since s (open_dialog d c.args.place s) c.args.self.now.damage c.open.new.damage w.1 c.open.ensures.kept (c.open.ensures.damage s none run) aside.windows)

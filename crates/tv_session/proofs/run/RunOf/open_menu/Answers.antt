@@ -12,5 +12,5 @@ returns g c = λ d since s w closed.
     let stands =
     run_menu g.V.View.meaning d s (open_first d.menus s) c.args.self.now _ a.stands refl refl (c.open_first.ensures.stays d a.stands.bar)
     (c.open_first.ensures.opened d s a.stands.bar a.stands.menu) aside.windows aside.dialog aside.saved aside.overwriting
-    (a.stands.over ∙ sym aside.over) (a.stands.log ∙ sym aside.log) in
+    (a.stands.over ∙ sym aside.over) (aside.frame ∙ a.stands.frame) (a.stands.log ∙ sym aside.log) in
     (stands, marked-aside d since s (open_first d.menus s) c.args.self.now.damage w.1 aside.dialog aside.overwriting aside.windows)

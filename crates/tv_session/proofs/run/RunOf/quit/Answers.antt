@@ -9,6 +9,6 @@ pub returns : goal.returns
 returns g c = λ d since s w.
     let a = w.0 in
     let stands =
-    run_windows g.V.View.meaning d s (logged QuitLine (record s { is_over = true })) c.args.self.now _ a.stands a.stands.desk refl refl refl refl refl refl refl
+    run_windows g.V.View.meaning d s (logged QuitLine (record s { is_over = true })) c.args.self.now _ a.stands a.stands.desk refl refl refl refl refl refl refl a.stands.frame
     (c.note.ensures (short_log g.V.View.meaning d s c.args.self.now a) ∙ ap (λ ls. ls ++ QuitLine ∷ []) a.stands.log) in
     (stands, marked-aside d since s (logged QuitLine (record s { is_over = true })) c.args.self.now.damage w.1 refl refl refl)

@@ -1,4 +1,4 @@
-use Rattle.std.proofs.Common.{refl, subst, sym}
+use Rattle.std.proofs.Common.{None, refl, subst, sym}
 use Rattle.tv_cells.specs.Layers.{Shows}
 use Rattle.tv_cells.specs.Picture.{IsAlike}
 use Rattle.tv_laws.proofs.RunLemmas.{start-fit}
@@ -13,9 +13,9 @@ pub begin-requires : goal.begin-requires
 begin-requires g c =
     let r = c.requires in
     let d = c.args.checked in
-    subst (λ x. IsAwake g.V.View.meaning x (closed x) (record { desk = c.new.result; dialogs = c.args.dialogs; bar = c.args.parts.bar; is_over = _; log = c.args.parts.log; colours = c.new-2.result; damage = c.new-3.result }))
+    subst (λ x. IsAwake g.V.View.meaning x (closed x) (record { desk = c.new.result; dialogs = c.args.dialogs; bar = c.args.parts.bar; frame = None; is_over = _; log = c.args.parts.log; colours = c.new-2.result; damage = c.new-3.result }))
     (sym c.desc-desc.ensures.value)
-    (first_awake g.V.View.meaning d _ r.sound r.size (c.new.ensures d r.lawful r.windows_of) r.dialogs_of r.bar r.none_open refl r.log)
+    (first_awake g.V.View.meaning d _ r.sound r.size (c.new.ensures d r.lawful r.windows_of) r.dialogs_of r.bar r.none_open refl refl r.log)
 
 pub paint-requires : goal.paint-requires
 paint-requires g c =

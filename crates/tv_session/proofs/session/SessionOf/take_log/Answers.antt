@@ -11,7 +11,7 @@ returns g c = (
     λ _. tt,
     λ s r. record {
       desc = r.desc;
-      run = run_windows g.V.View.meaning s.desc s.state (emptied s.state) c.args.self.now.run _ r.run r.run.desk refl refl refl refl refl refl r.run.over c.clear.ensures;
+      run = run_windows g.V.View.meaning s.desc s.state (emptied s.state) c.args.self.now.run _ r.run r.run.desk refl refl refl refl refl refl r.run.over r.run.frame c.clear.ensures;
       line = r.line;
       fit = emptied_fit s.desc s.state r.fit;
       screen = record { width = r.screen.width; height = r.screen.height; cells = r.screen.cells };
