@@ -3,7 +3,7 @@ use Rattle.std.proofs.Common.{◌≡◌, Bool, true, false, cond, ◌&&◌, ◌|
 use Rattle.std.specs.Prelude.{All, AllPairs, position}
 use Rattle.std.specs.List.{Any, list_any}
 use Rattle.std.proofs.lemmas.Bool.{eqb-true, false≢true}
-use Rattle.std.proofs.lemmas.List.Elements.{All-weaker}
+use Rattle.std.proofs.lemmas.List.Elements.{All-head, All-weaker}
 use Rattle.std.proofs.lemmas.List.Quantifiers.{position-Some}
 use Rattle.tv_event.specs.declared.event.Event.TheVariants as events
 use Rattle.tv_event.specs.declared.event.Key.{Key}
@@ -14,6 +14,7 @@ use Rattle.tv_model.specs.declared.script.Item.{Item}
 use Rattle.tv_model.specs.declared.script.Item.TheVariants as items
 use Rattle.tv_model.specs.declared.kind.Kind.{Kind}
 use Rattle.tv_model.specs.declared.kind.Kind.TheVariants as kinds
+use Rattle.tv_model.specs.Description.LawfulNodes.{IsLimited}
 use Rattle.tv_model.specs.Description.Letters.{is_shortcut, marked_of}
 use Rattle.tv_model.specs.Description.Marks.{marks}
 use Rattle.tv_model.specs.Controls.Owner.{LetterOwner}
@@ -25,19 +26,23 @@ use Rattle.tv_machine.specs.Dialog.Sound.{HasSoundDialogs, IsSoundDialog}
 use Rattle.tv_machine.specs.Dialog.Step.{dialog_step}
 use Rattle.tv_machine.specs.Output.{session_after, states}
 use Rattle.tv_machine.specs.Run.{Session, quiet}
+use Rattle.tv_machine.specs.Safe.{StandOnDesktop}
 use Rattle.tv_machine.specs.Session.Commands.{works}
 use Rattle.tv_machine.specs.Session.Start.{start}
-use Rattle.tv_machine.specs.Session.Step.{emptied, event_from, held_of, is_item_enabled, key_at_menu, key_at_status, key_below, status_item_of, step, step_at, to_dialog}
+use Rattle.tv_machine.specs.Session.Step.{emptied, event_from, held_of, is_item_enabled, key_at_menu, key_at_status, key_below, status_item_of, step, step_at, step_under, to_dialog}
 use Rattle.tv_machine.specs.Leaves.{PlacedNode}
 use Rattle.tv_machine.specs.Dialog.Shortcuts.{marking_leaf}
 use Rattle.tv_machine.proofs.ListLemmas.{bool_cases, find-none, option_cases}
 use Rattle.tv_faults.specs.Sound.Letters.{IsShortcut, MarksLetter}
 use Rattle.tv_faults.specs.Sound.Names.{HaveOtherNames}
+use Rattle.tv_faults.specs.Usable.{IsUsableDialog}
 use Rattle.tv_faults.proofs.ExcludeLemmas.{any_decides}
 use Rattle.tv_faults.proofs.LackLemmas.{bodies}
 use Rattle.tv_faults.proofs.LetterLemmas.{marks_decides}
 use Rattle.tv_faults.proofs.SoundLemmas.{sound_says}
+use Rattle.tv_faults.proofs.UsableLemmas.{sound_usable}
 use Rattle.tv_check.proofs.MadeLemmas.{sound_made}
+use Rattle.tv_laws.proofs.DeclaredLemmas.{declared-top}
 use Rattle.tv_laws.proofs.LeavingLemmas.{esc-cancels, tab-next, up-lets-go}
 use Rattle.tv_laws.proofs.OpenLemmas.{opens-fit}
 use Rattle.tv_laws.proofs.RunLemmas.{always-safe}
@@ -52,7 +57,7 @@ use Rattle.tv_laws.proofs.KeyLaws.OrderLemmas.{free-are-controls, refusal-stays,
 use Rattle.tv_laws.proofs.KeyLaws.ValueLemmas.{tab-keeps-values}
 use Rattle.tv_laws.specs.Letters.{HasOwnNames}
 use Rattle.tv_laws.specs.Records.{state_after}
-use Rattle.tv_laws.proofs.RecordLaws.EscapeLemmas.{esc-cancels-open, reached-fit, stays-over, up-esc-cancels, up-esc-leaves, up-frees-mouse}
+use Rattle.tv_laws.proofs.RecordLaws.EscapeLemmas.{esc-cancels-open, reached-fit, stays-over, up-esc-cancels, up-esc-leaves, up-frees-frame, up-frees-mouse}
 use Rattle.tv_laws.proofs.RecordLaws.SavedLemmas.{declare-cancel, ends-as-declared, reopens-as-saved, saves-what-it-logs, starts-as-declared}
 use Rattle.tv_laws.proofs.RecordLaws.ShowLemmas.{fields-opened}
 use Rattle.tv_program.specs.Laws.{AltLettersAreFree, IsNoStatusKey, KeysReachDialog, LeavesByLaws, LettersByLaws, PlainKeysAreFree, RecordsByLaws, RunsByLaws, ScriptsReach, TabsByLaws, WorksByLaws, event_in, may_be_status_key}
@@ -155,10 +160,11 @@ no-item d s k free =
     (λ i item less. ap (λ b. b && is_item_enabled d s (get_or d.status i item)) (free i item less))
 
 -- a key that no status item has comes to the open dialog
-key-step : (d : Desc) (s : State) (o : OpenDialog) (k : Key) → s.dialog ≡ Some o → o.held ≡ None → s.menu ≡ None → s.is_over ≡ false
+key-step : (d : Desc) (s : State) (o : OpenDialog) (k : Key) → s.dialog ≡ Some o → o.held ≡ None → s.frame ≡ None → s.menu ≡ None → s.is_over ≡ false
     → IsNoStatusKey d k → step d s (events.Key k) ≡ to_dialog d o (events.Key k) (emptied s)
-key-step d s o k some idle menu over free =
-    ap (λ b. if b then emptied s else step_at d (held_of s.dialog) (events.Key k) (emptied s)) over
+key-step d s o k some idle loose menu over free =
+    ap (λ b. if b then emptied s else step_under d s.frame (events.Key k) (emptied s)) over
+    ∙ ap (λ frame. step_under d frame (events.Key k) (emptied s)) loose
     ∙ ap (λ x. step_at d (held_of x) (events.Key k) (emptied s)) some
     ∙ ap (λ h. step_at d (if is_some h then Some o else None) (events.Key k) (emptied s)) idle
     ∙ ap (λ m. key_at_menu d m k (emptied s)) menu
@@ -166,16 +172,22 @@ key-step d s o k some idle menu over free =
     ∙ ap (λ x. key_below d x k (emptied s)) some
 
 keys-reach : (d : Desc) → HasSoundDialogs d → KeysReachDialog d
-keys-reach d dialogs before o dialog k some there idle free =
+keys-reach d dialogs before o dialog k some there idle loose free =
     let s = state_after d before in
     let x = (reached-fit d dialogs before).«open» o some in
-    key-step d s o k some idle x.menu x.over free
+    key-step d s o k some idle loose x.menu x.over free
     ∙ ap (works (emptied s) o (λ y m. dialog_step y (event_from o.origin (events.Key k)) m)) there
 
 -- ---- dialogs
 
 names-of : (d : Desc) → IsSound d → All HasOwnNames d.dialogs
 names-of d sound = ((bodies d (λ body. AllPairs HaveOtherNames body.views)).0 (sound_says d sound).names.views).1
+
+stand-on-desktop : (d : Desc) → IsSound d → StandOnDesktop d
+stand-on-desktop d sound k dialog less =
+    let own : Dialog = get_or d.dialogs k dialog in
+    let use_of : IsUsableDialog d own = (sound_usable d sound).dialogs k dialog less in
+    declared-top d own (All-head IsLimited own.node own.views use_of.nodes) use_of.within
 
 tabs-of : (d : Dialog) → IsSoundDialog d → TabsByLaws d
 tabs-of d sound = record {
@@ -226,6 +238,7 @@ leaves-of : (d : Desc) → HasSoundDialogs d → LeavesByLaws d
 leaves-of d dialogs = record {
   cancels = esc-cancels-open d dialogs;
   frees = up-frees-mouse d dialogs;
+  frees_frame = up-frees-frame d dialogs;
   leaves = up-esc-leaves d dialogs;
   cancels_left = up-esc-cancels d dialogs;
   over = stays-over d;
@@ -236,7 +249,7 @@ RunsByLaws-of d dialogs sound = record {
   certified = sound_made d sound;
   names = names-of d sound;
   scripts = scripts-reach d;
-  safe = always-safe d dialogs;
+  safe = always-safe d dialogs (stand-on-desktop d sound);
   usable = reached-fit d dialogs;
   keys = record { reach = keys-reach d dialogs; plain = plain-keys d; alt = alt-letters d sound };
   tabs = All-weaker IsSoundDialog TabsByLaws tabs-of d.dialogs dialogs;

@@ -28,7 +28,7 @@ use Rattle.tv_laws.specs.Letters.{ActsOnNone, ActsOnOwner, ActsWhereItCan, AltAc
 use Rattle.tv_laws.specs.Letters.{OwnLetterActs, RefusedActsOnNone, TypedActs, UnnamedActsOnNone}
 use Rattle.tv_laws.specs.Order.{FreeAreControls, RefusalStays, ShiftTabAsksPrevious, StopsAreTabs}
 use Rattle.tv_laws.specs.Order.{TabGoesRound, TabKeepsValues}
-use Rattle.tv_laws.specs.Escape.{EscCancelsOpen, UpEscCancels, UpEscLeaves, UpFreesMouse}
+use Rattle.tv_laws.specs.Escape.{EscCancelsOpen, UpEscCancels, UpEscLeaves, UpFreesFrame, UpFreesMouse}
 use Rattle.tv_laws.specs.Records.{DeclareCancel, EndsAsDeclared, OpensAsSaved, ReopensAsSaved}
 use Rattle.tv_laws.specs.Records.{SavesWhatItLogs, StartsAsDeclared, StaysOver, state_after}
 
@@ -66,13 +66,14 @@ worked_on s o m = after_work (emptied s) o m m.ended
 abbrev pub after_key : State → OpenDialog → Dialog → Key → State
 after_key s o dialog k = worked_on s o (dialog_step dialog (events.Key k) (modal_of s o))
 
--- wherever a run has come to an open dialog in which nothing holds the mouse, a key that no status item has
--- is the dialog's
+-- wherever a run has come to an open dialog, while the mouse holds neither a leaf of it nor a frame, a key
+-- that no status item has is the dialog's
 abbrev pub KeysReachDialog : Desc → Type 0
 KeysReachDialog d =
     (before : List Event) (o : OpenDialog) (dialog : Dialog) (k : Key)
     → (state_after d before).dialog ≡ Some o
-    → slice_get d.dialogs o.place ≡ Some dialog → o.held ≡ None → IsNoStatusKey d k
+    → slice_get d.dialogs o.place ≡ Some dialog → o.held ≡ None
+    → (state_after d before).frame ≡ None → IsNoStatusKey d k
     → step d (state_after d before) (events.Key k) ≡ after_key (state_after d before) o dialog k
 
 -- a function key, or Ctrl or Alt with a character
@@ -144,6 +145,7 @@ pub record RecordsByLaws (d : Desc) : Type 0 where
 pub record LeavesByLaws (d : Desc) : Type 0 where
   pub cancels : EscCancelsOpen d
   pub frees : UpFreesMouse d
+  pub frees_frame : UpFreesFrame d
   pub leaves : UpEscLeaves d
   pub cancels_left : UpEscCancels d
   pub over : StaysOver d
@@ -164,7 +166,8 @@ pub record RunsByLaws (d : Desc) : Type 0 where
   pub names : All HasOwnNames d.dialogs
   -- each state that a script makes is one that its events lead to
   pub scripts : ScriptsReach d
-  -- an open dialog's focus is free, and values, saved records and ends are such as are declared
+  -- an open dialog's focus is free and its top row can be seen, a frame that is dragged is there, and values,
+  -- saved records and ends are such as are declared
   pub safe : IsAlwaysSafe d
   pub usable : StaysUsable d
   pub keys : KeysByLaws d
