@@ -1,9 +1,14 @@
 //! Buttons.
 
 ghost use Rattle.std.specs.Prelude.{◌≡◌, ◌↔◌, IfOk, IsErrOf, IsTrue, Some, false, if◌then◌else◌};
+ghost use Rattle.tv_cells.specs.Canvas.{sub};
+ghost use Rattle.tv_cells.specs.Layers.{Lays};
+ghost use Rattle.tv_cells.specs.declared.canvas.Canvas.{Canvas as Given};
 ghost use Rattle.tv_model.specs.Description.Marks.{marks, upper};
 ghost use Rattle.tv_model.specs.Description.LawfulNodes.{IsLawfulCommand, IsLawfulNode};
 ghost use Rattle.tv_model.specs.Description.Nodes.{is_button};
+ghost use Rattle.tv_model.specs.Description.Rectangles.{place_of_node};
+ghost use Rattle.tv_view.specs.Drawing.{leaf_layers};
 ghost use Rattle.tv_view.specs.Meaning.{fresh};
 ghost use Rattle.tv_model.specs.declared.kind.Button.{Button as Declared};
 ghost use Rattle.tv_model.specs.declared.kind.Kind.TheVariants as kinds;
@@ -145,6 +150,32 @@ impl Button {
             Reaction::Pass
         }
     }
+
+    // Draws its face, where its rectangle can be seen. It isn't inlined, so that one that can't be costs the test alone.
+    #[inline(never)]
+    #[tactic(auto, unfolding(tv_view::specs::Drawing::leaf_layers))]
+    fn draw_face(&self, screen: &mut Screen, seen: Canvas, env: &Env)
+        requires { IsTrue self.now.core.is_shown }
+        ensures { (canvas : Given) → seen ≡ sub canvas (place_of_node self.now.core.node)
+            → Lays (leaf_layers env.now canvas (plain_leaf self.now.core)) screen.old screen.new }
+    {
+        let look = ButtonLook {
+            is_focused: has_focus(env, self.core.id()),
+            is_default_now: is_default_now(env, self.core.id()),
+            is_disabled: !self.core.is_enabled(),
+        };
+        let width = natural(&self.core.node().w);
+        let text = &self.declared().text;
+        let face = ButtonFace {
+            width,
+            text: text.text.as_slice(),
+            mark: text.mark,
+            is_default_now: look.is_default_now,
+            letter: look.attr(env.chain, true),
+            rest: look.attr(env.chain, false),
+        };
+        lay(screen, seen, width, 1, &face);
+    }
 }
 
 #[tactic(auto, unfolding(tv_view::specs::Reactions::answer, tv_view::specs::Effects::handled, tv_view::specs::Calls::focused_to, tv_view::specs::Calls::item_pressed, tv_view::specs::Calls::invalid_id, tv_view::specs::Calls::gathered, tv_view::specs::Calls::set_from, tv_view::specs::Calls::applied, tv_view::specs::Drawing::leaf_layers))]
@@ -186,22 +217,7 @@ impl View for Button {
         let Some(seen) = self.core.seen(canvas) else {
             return;
         };
-        let look = ButtonLook {
-            is_focused: has_focus(env, self.core.id()),
-            is_default_now: is_default_now(env, self.core.id()),
-            is_disabled: !self.core.is_enabled(),
-        };
-        let width = natural(&self.core.node().w);
-        let text = &self.declared().text;
-        let face = ButtonFace {
-            width,
-            text: text.text.as_slice(),
-            mark: text.mark,
-            is_default_now: look.is_default_now,
-            letter: look.attr(env.chain, true),
-            rest: look.attr(env.chain, false),
-        };
-        lay(screen, seen, width, 1, &face);
+        self.draw_face(screen, seen, env);
     }
 
     fn focus_to(&mut self, id: Id, _damage: &mut Damage) -> bool {

@@ -3,9 +3,14 @@
 ghost use Rattle.std.specs.Prelude.{◌≡◌, ◌↔◌, ◌≤◌, IfOk, IsErrOf, IsTrue, Some, false, if◌then◌else◌, length, unwrap_or};
 ghost use Rattle.tv_valid.specs.Asking.{domain_of};
 ghost use Rattle.tv_valid.specs.Deciding.{in_domain};
+ghost use Rattle.tv_view.specs.Drawing.{leaf_layers};
 ghost use Rattle.tv_view.specs.Meaning.{fresh, holds_mouse};
 ghost use Rattle.tv_model.specs.Kinds.InputLine.{HasAnyText, MayStand};
+ghost use Rattle.tv_cells.specs.Canvas.{sub};
+ghost use Rattle.tv_cells.specs.Layers.{Lays};
+ghost use Rattle.tv_cells.specs.declared.canvas.Canvas.{Canvas as Given};
 ghost use Rattle.tv_model.specs.Description.LawfulNodes.{IsLawfulNode};
+ghost use Rattle.tv_model.specs.Description.Rectangles.{place_of_node};
 ghost use Rattle.tv_model.specs.Log.Record.{value_of};
 ghost use Rattle.tv_model.specs.declared.kind.Input.{Input as Declared};
 ghost use Rattle.tv_model.specs.declared.kind.Kind.TheVariants as kinds;
@@ -127,7 +132,9 @@ impl InputLine {
         ensures core { self.new.core ≡ self.old.core }
         ensures edit { self.new.edit ≡ self.old.edit }
     {
-        self.verdict = Some(self.is_valid());
+        if self.verdict.is_none() {
+            self.verdict = Some(self.is_valid());
+        }
     }
 
     fn key(&mut self, key: Key, phase: Phase) -> Reaction
@@ -208,6 +215,25 @@ impl InputLine {
         }
     }
 
+    // Draws its face, where its rectangle can be seen. It isn't inlined, so that one that can't be costs the test alone.
+    #[inline(never)]
+    fn draw_face(&self, screen: &mut Screen, seen: Canvas, env: &Env)
+        requires { IsTrue self.now.core.is_shown }
+        ensures { (canvas : Given) → seen ≡ sub canvas (place_of_node self.now.core.node)
+            → Lays (leaf_layers env.now canvas (input_leaf self.now.core self.now.edit)) screen.old screen.new }
+    {
+        let width = natural(&self.core.node().w);
+        let face = InputFace {
+            width,
+            text: self.edit.text().as_slice(),
+            cursor: self.edit.cursor(),
+            is_whole: self.edit.is_whole(),
+            is_focused: has_focus(env, self.core.id()),
+            colours: InputColours::of(env.chain),
+        };
+        lay(screen, seen, width, 1, &face);
+    }
+
     // What it answers to an event, and becomes.
     #[tactic(auto, unfolding(tv_view::specs::Reactions::answer, tv_view::specs::Effects::handled))]
     fn react(&mut self, event: &Event, phase: Phase, env: &Env) -> Reaction
@@ -263,16 +289,7 @@ impl View for InputLine {
         let Some(seen) = self.core.seen(canvas) else {
             return;
         };
-        let width = natural(&self.core.node().w);
-        let face = InputFace {
-            width,
-            text: self.edit.text().as_slice(),
-            cursor: self.edit.cursor(),
-            is_whole: self.edit.is_whole(),
-            is_focused: has_focus(env, self.core.id()),
-            colours: InputColours::of(env.chain),
-        };
-        lay(screen, seen, width, 1, &face);
+        self.draw_face(screen, seen, env);
     }
 
     fn focus_to(&mut self, id: Id, damage: &mut Damage) -> bool {

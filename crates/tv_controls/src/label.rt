@@ -1,8 +1,13 @@
 //! Labels.
 
-ghost use Rattle.std.specs.Prelude.{◌≡◌, ◌↔◌, IfOk, IsErrOf, IsTrue, None, false, if◌then◌else◌, option_copied};
+ghost use Rattle.std.specs.Prelude.{◌≡◌, ◌↔◌, IfOk, IsErrOf, IsTrue, None, false, true, bytes_eq, if◌then◌else◌, option_copied};
+ghost use Rattle.tv_cells.specs.Canvas.{sub};
+ghost use Rattle.tv_cells.specs.Layers.{Lays};
+ghost use Rattle.tv_cells.specs.declared.canvas.Canvas.{Canvas as Given};
 ghost use Rattle.tv_model.specs.Description.LawfulNodes.{IsLawfulNode};
+ghost use Rattle.tv_model.specs.Description.Rectangles.{place_of_node};
 ghost use Rattle.tv_model.specs.Description.Names.{gives_name, meant};
+ghost use Rattle.tv_view.specs.Drawing.{leaf_layers};
 ghost use Rattle.tv_view.specs.Meaning.{fresh};
 ghost use Rattle.tv_model.specs.declared.kind.Label.{Label as Declared};
 ghost use Rattle.tv_model.specs.declared.kind.Kind.TheVariants as kinds;
@@ -39,11 +44,24 @@ fn is_label(kind: &Kind) -> bool
     matches!(kind, Kind::Label(_))
 }
 
+// Most names that differ do so in their lengths.
+fn has_same_length(name: &Chars, other: &Chars) -> bool
+    ensures { bytes_eq name.now other.now ≡ true → result ≡ true }
+{
+    name.as_slice().len() == other.as_slice().len()
+}
+
+fn is_same(name: &Chars, other: &Chars) -> bool
+    ensures { result ≡ bytes_eq name.now other.now }
+{
+    name.as_slice() == other.as_slice()
+}
+
 fn gives_name(node: &Node, name: &Chars) -> bool
     ensures { result ≡ gives_name name.now node.now }
 {
     match node.kind.name() {
-        Some(other) => other.as_slice() == name.as_slice(),
+        Some(other) => has_same_length(other, name) && is_same(other, name),
         None => false,
     }
 }
@@ -159,6 +177,26 @@ impl Label {
         }
     }
 
+    // Draws its face, where its rectangle can be seen. It isn't inlined, so that one that can't be costs the test alone.
+    #[inline(never)]
+    #[tactic(auto, unfolding(tv_view::specs::Drawing::leaf_layers))]
+    fn draw_face(&self, screen: &mut Screen, seen: Canvas, env: &Env)
+        requires { IsTrue self.now.core.is_shown }
+        ensures { (canvas : Given) → seen ≡ sub canvas (place_of_node self.now.core.node)
+            → Lays (leaf_layers env.now canvas (plain_leaf self.now.core)) screen.old screen.new }
+    {
+        let text = &self.declared().text;
+        let rest = text_role(is_focus(env, self.link(env)));
+        let face = LabelFace {
+            text: text.text.as_slice(),
+            mark: text.mark,
+            letter: Role::Label(LabelRole::Letter).attr(env.chain),
+            rest: Role::Label(rest).attr(env.chain),
+        };
+        let width = natural(&self.core.node().w);
+        lay(screen, seen, width, 1, &face);
+    }
+
     // Whether its link has the focus in both environments or in neither.
     fn is_link_same(&self, old: &Env, new: &Env) -> bool
         ensures { IsTrue result → is_link_focus new.now (linked_by new.now self.now.core.node.kind) ≡ is_link_focus old.now (linked_by old.now self.now.core.node.kind) }
@@ -201,16 +239,7 @@ impl View for Label {
         let Some(seen) = self.core.seen(canvas) else {
             return;
         };
-        let text = &self.declared().text;
-        let rest = text_role(is_focus(env, self.link(env)));
-        let face = LabelFace {
-            text: text.text.as_slice(),
-            mark: text.mark,
-            letter: Role::Label(LabelRole::Letter).attr(env.chain),
-            rest: Role::Label(rest).attr(env.chain),
-        };
-        let width = natural(&self.core.node().w);
-        lay(screen, seen, width, 1, &face);
+        self.draw_face(screen, seen, env);
     }
 
     fn focus_to(&mut self, _id: Id, _damage: &mut Damage) -> bool {
