@@ -5,6 +5,8 @@ mod OrderDialog
 mod ReopenedRecords
 mod RadioRules
 mod TwoWindows
+-- windows and dialogs that are dragged
+mod Dragging
 mod MenuKeys
 mod ControlKeys
 -- panes
@@ -21,3 +23,5 @@ mod RefusedScripts
 mod Certificates
 -- descriptions and scripts that reach every rule
 mod Cases
+-- the same of dragging alone
+mod Drags

@@ -104,6 +104,7 @@ script =
     ∷ "key Ins"
     ∷ "key Backspace"
     ∷ "down 46 8"
+    ∷ "up 46 8"
     ∷ "up 39 6"
     ∷ "type \"5\""
     ∷ "shot"

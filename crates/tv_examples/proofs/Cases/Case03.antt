@@ -65,6 +65,7 @@ script =
     ∷ "key Down"
     ∷ "type \" \""
     ∷ "down 8 1"
+    ∷ "up 8 1"
     ∷ "move 18 23"
     ∷ "type \" \""
     ∷ "key Tab"

@@ -105,6 +105,7 @@ script =
     ∷ "up 12 9"
     ∷ "shot"
     ∷ "down 18 1"
+    ∷ "up 18 1"
     ∷ "move 26 2"
     ∷ "down 18 8"
     ∷ "key Tab"

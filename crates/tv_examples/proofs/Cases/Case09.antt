@@ -74,6 +74,7 @@ description =
 abbrev script : List String
 script =
     "down 1 1"
+    ∷ "up 1 1"
     ∷ "key Ctrl-S"
     ∷ "type \"euj\""
     ∷ "type \"j]02\""

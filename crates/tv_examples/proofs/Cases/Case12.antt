@@ -69,6 +69,7 @@ script =
     ∷ "key Alt-G"
     ∷ "key Shift-Tab"
     ∷ "down 39 1"
+    ∷ "up 39 1"
     ∷ "move 19 11"
     ∷ "down 11 15"
     ∷ "up 10 13"

@@ -94,6 +94,7 @@ script =
     ∷ "up 10 3"
     ∷ "colors"
     ∷ "down 11 2"
+    ∷ "up 11 2"
     ∷ "move 7 7"
     ∷ "key PgDn"
     ∷ "key PgUp"

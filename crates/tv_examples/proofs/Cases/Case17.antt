@@ -56,6 +56,7 @@ script =
     ∷ "key Alt-O"
     ∷ "key Tab"
     ∷ "down 22 3"
+    ∷ "up 22 3"
     ∷ "move 26 2"
     ∷ "shot"
     ∷ "colors"

@@ -124,6 +124,7 @@ script =
     ∷ "key Alt-0"
     ∷ "down 35 13"
     ∷ "down 20 8"
+    ∷ "up 20 8"
     ∷ "up 5 4"
     ∷ "shot"
     ∷ "move 22 6"

@@ -118,6 +118,7 @@ script =
     ∷ "colors"
     ∷ "key Down"
     ∷ "down 22 1"
+    ∷ "up 22 1"
     ∷ "colors"
     ∷ "key Tab"
     ∷ "type \"5\""

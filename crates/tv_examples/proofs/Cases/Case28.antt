@@ -72,6 +72,7 @@ script =
     ∷ "down 30 3"
     ∷ "up 32 3"
     ∷ "down 37 1"
+    ∷ "up 37 1"
     ∷ "up 34 1"
     ∷ "key Tab"
     ∷ "down 8 2"

@@ -115,6 +115,7 @@ script =
     ∷ "key Home"
     ∷ "colors"
     ∷ "down 10 4"
+    ∷ "up 10 4"
     ∷ "move 22 0"
     ∷ "down 18 6"
     ∷ "up 19 6"

@@ -101,6 +101,7 @@ script =
     "type \" \""
     ∷ "shot"
     ∷ "down 19 1"
+    ∷ "up 19 1"
     ∷ "move 48 12"
     ∷ "key Down"
     ∷ "key Up"

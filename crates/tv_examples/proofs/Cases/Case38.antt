@@ -73,6 +73,7 @@ description =
 abbrev script : List String
 script =
     "down 24 1"
+    ∷ "up 24 1"
     ∷ "up 8 4"
     ∷ "key Alt-7"
     ∷ "down 0 15"

@@ -128,6 +128,7 @@ script =
     ∷ "key Ctrl-D"
     ∷ "down 51 15"
     ∷ "down 45 13"
+    ∷ "up 45 13"
     ∷ "up 38 2"
     ∷ "colors"
     ∷ "down 38 13"

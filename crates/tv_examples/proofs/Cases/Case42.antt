@@ -60,6 +60,7 @@ script =
     ∷ "down 7 3"
     ∷ "up 11 3"
     ∷ "down 1 1"
+    ∷ "up 1 1"
     ∷ "down 13 9"
     ∷ "down 6 5"
     ∷ "type \" \""

@@ -1,0 +1,71 @@
+-- A down on a close mark drags nothing; one beside it does.
+use Prim.Native.String.{String}
+use Rattle.std.specs.Prelude.{List, [], ◌∷◌}
+use Rattle.std.proofs.Common.{refl}
+use Rattle.tv_examples.specs.Running.{written, Writes}
+
+abbrev description : List String
+description =
+    "tvd 1"
+    ∷ "screen 30 12"
+    ∷ "start d"
+    ∷ "status \"F8 One\" F8 101"
+    ∷ "dialog d 5 2 14 4 \"One\" opens 101 ends cancel"
+    ∷ "button b 1 1 8 \"~B~ee\" 120"
+    ∷ "end"
+    ∷ []
+
+abbrev script : List String
+script =
+    "down 6 2"
+    ∷ "up 8 5"
+    ∷ "down 9 2"
+    ∷ "down 11 5"
+    ∷ "key F8"
+    ∷ "down 10 2"
+    ∷ "up 11 2"
+    ∷ "shot"
+    ∷ "down 8 2"
+    ∷ "down 8 2"
+    ∷ "up 20 8"
+    ∷ "shot"
+    ∷ []
+
+drag_06 : Writes description script (
+    "open d"
+    ∷ "focus b"
+    ∷ "moved d 7 5"
+    ∷ "end d cancel"
+    ∷ "open d"
+    ∷ "focus b"
+    ∷ "moved d 6 2"
+    ∷ "shot 30 12"
+    ∷ ":                              :"
+    ∷ ":..............................:"
+    ∷ ":......+=[x] On ====+..........:"
+    ∷ ":......|< Bee  >    |..........:"
+    ∷ ":......|            |..........:"
+    ∷ ":......+============+..........:"
+    ∷ ":..............................:"
+    ∷ ":..............................:"
+    ∷ ":..............................:"
+    ∷ ":..............................:"
+    ∷ ":..............................:"
+    ∷ ": F8 One                       :"
+    ∷ "end d cancel"
+    ∷ "shot 30 12"
+    ∷ ":                              :"
+    ∷ ":..............................:"
+    ∷ ":..............................:"
+    ∷ ":..............................:"
+    ∷ ":..............................:"
+    ∷ ":..............................:"
+    ∷ ":..............................:"
+    ∷ ":..............................:"
+    ∷ ":..............................:"
+    ∷ ":..............................:"
+    ∷ ":..............................:"
+    ∷ ": F8 One                       :"
+    ∷ [])
+unfolding written
+drag_06 = refl
