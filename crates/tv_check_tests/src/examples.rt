@@ -8,7 +8,7 @@ use tv_test_support::certificates::{
     CANCEL_CERTIFICATE, COLOUR_CERTIFICATE, NO_BLOCKS, ORDER_CERTIFICATE,
 };
 use tv_test_support::descriptions::{CANCEL, COLOUR, MENUS, ORDER, WINDOWS};
-use tv_test_support::examples::{CONFIRM, DESK, SEARCH, SETTINGS, WIZARD};
+use tv_test_support::examples::{CONFIRM, DESK, PRICES, SEARCH, SETTINGS, WIZARD};
 use tv_test_support::{Accepting, Certifying, expect_answer, expect_canonical, expect_finding};
 
 // A description and its certificate.
@@ -147,6 +147,23 @@ end
 ",
 };
 
+// Two windows, and a dialog that covers both.
+const PRICES_EXAMPLE: Example = Example {
+    desc: PRICES,
+    certificate: "tvcert 1
+dialog buy
+tab what
+tab amount
+tab ok
+tab leave
+key A amount
+key C leave
+key O ok
+key W what
+end
+",
+};
+
 #[test]
 fn descriptions_of_other_tests(rt: HostRuntime) -> Result<(), Fail> {
     for (desc, certificate) in [
@@ -184,4 +201,9 @@ fn settings_of_each_kind(rt: HostRuntime) -> Result<(), Fail> {
 #[test]
 fn desk_with_windows(rt: HostRuntime) -> Result<(), Fail> {
     expect_example(rt.alloc(), &DESK_EXAMPLE)
+}
+
+#[test]
+fn prices_to_be_dragged(rt: HostRuntime) -> Result<(), Fail> {
+    expect_example(rt.alloc(), &PRICES_EXAMPLE)
 }

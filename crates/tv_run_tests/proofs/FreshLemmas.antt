@@ -1,18 +1,15 @@
--- What a fresh body may be handed, and the heads of nodes.
-use Rattle.std.proofs.Common.{◌≡◌, ◌≤◌, List, [], map, length, arith, refl, sym, subst}
+-- What a fresh body may be handed, and the head that a button's node lacks.
+use Rattle.std.proofs.Common.{◌≡◌, ◌≤◌, List, [], map, length, arith, sym, subst}
 use Rattle.std.specs.Prelude.{IfSome}
 use Rattle.std.proofs.lemmas.List.{length-map}
-use Rattle.std.proofs.lemmas.List.Elements.{All-head, All-map}
+use Rattle.std.proofs.lemmas.List.Elements.{All-map}
 use Rattle.tv_model.specs.declared.node.Node.{Node}
 use Rattle.tv_model.specs.declared.kind.Button.{Button}
-use Rattle.tv_model.specs.declared.kind.Kind.{Kind}
 use Rattle.tv_model.specs.declared.kind.Kind.TheVariants as kinds
 use Rattle.tv_view.specs.Meaning.{Leaf}
-use Rattle.tv_model.specs.Description.LawfulNodes.{IsLimited, IsShort}
 use Rattle.tv_model.specs.Log.Record.{Entries}
 use Rattle.tv_machine.specs.Leaves.{leaf_list}
 use Rattle.tv_view.specs.Calls.{Fits}
-use Rattle.tv_leaf.proofs.CoreLemmas.{limited_small}
 use Rattle.tv_group.specs.Calls.{FitsAll, HasRoomForAll}
 use Rattle.tv_group.specs.Opened.{opened}
 use Rattle.tv_group.specs.Outline.{IsFreshBody, body_bounds}
@@ -40,25 +37,6 @@ module _ {V : Type 0} (look : V → Leaf) (owner : Node) (views : List Node) (g 
       let fewer = fewer_leaves [] views in
       subst (λ xs. HasRoomForAll xs []) (sym (opened-fresh look owner views g fresh))
       (few-room (map (fresh_placed (body_bounds owner)) (leaf_list views)) [] (omega (arith, fewer, few, same)))
-
--- what a dialog keeps of a limited node is limited
-pub limited_head : (node : Node) → IsLimited node → IfSome (declared_dialog_head node) heads.IsLimitedDialogHead
-limited_head node limited = by node.kind refl
-  where
-    by : (kind : Kind) → node.kind ≡ kind → IfSome (declared_dialog_head node) heads.IsLimitedDialogHead
-    by (kinds.Dialog own) is = rw is (record {
-      bounds = rw is at (limited_small node limited);
-      title = All-head IsShort own.title [] (rw is at limited.texts);
-    })
-    by (kinds.Window own) is = rw is tt
-    by (kinds.Text own) is = rw is tt
-    by (kinds.Label own) is = rw is tt
-    by (kinds.Button own) is = rw is tt
-    by (kinds.Input own) is = rw is tt
-    by (kinds.CheckBoxes own) is = rw is tt
-    by (kinds.RadioButtons own) is = rw is tt
-    by (kinds.List own) is = rw is tt
-    by (kinds.Pane own) is = rw is tt
 
 -- a button's node has no head
 pub button_headless : (node : Node) (own : Button) → node.kind ≡ kinds.Button own → IfSome (declared_dialog_head node) heads.IsLimitedDialogHead

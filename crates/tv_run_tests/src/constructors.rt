@@ -2,6 +2,7 @@
 
 use crate::bodies::{checked, first_body, first_dialog};
 use crate::opening::open;
+use crate::stepping::is_corner;
 use std::alloc::Global;
 use std::process::Abort;
 use std::test::Fail;
@@ -43,6 +44,12 @@ fn refused(alloc: Global, node: &Node, declared: &Declared, body: Group) -> Resu
     let Kind::Button(_) = &node.kind else {
         return Err("no button".into());
     };
+    if !is_corner(&Point {
+        x: node.x,
+        y: node.y,
+    }) {
+        return Err("a corner far away".into());
+    }
     let views = declared.views.as_slice();
     match Dialog::new(alloc, node, views, declared.rules.as_slice(), body) {
         Err((DialogFault::WrongKind, body)) => Ok(body),

@@ -3,8 +3,8 @@
 use crate::running::{Run, expect_runs};
 use std::test::Fail;
 
-// Nine windows and three dialogs.
-const NINE_WINDOWS: Run = Run {
+/// Nine windows and three dialogs.
+pub const NINE_WINDOWS: Run = Run {
     desc: r#"tvd 1
 screen 20 10
 start dialog-number-12
@@ -163,8 +163,8 @@ colors 20 10
 "#,
 };
 
-// Eight menus, and panes in panes.
-const EIGHT_MENUS: Run = Run {
+/// Eight menus, and panes in panes.
+pub const EIGHT_MENUS: Run = Run {
     desc: r#"tvd 1
 screen 30 15
 start box1

@@ -5,8 +5,8 @@ use std::test::Fail;
 use tv_test_support::descriptions::{MENUS, WINDOWS};
 use tv_test_support::examples::{DESK, SETTINGS};
 
-// Each script beside its description, and what is kept beside both.
-const RUNS: [Run; 4] = [
+/// Each script beside its description, and what is kept beside both.
+pub const RUNS: [Run; 4] = [
     Run {
         desc: SETTINGS,
         script: r#"# Each kind of control by keys: the picture of the date writes its hyphens itself.

@@ -5,8 +5,8 @@ use std::test::Fail;
 use tv_test_support::descriptions::{CANCEL, COLOUR, ORDER};
 use tv_test_support::examples::{CONFIRM, SEARCH, WIZARD};
 
-// Each script beside its description, and what is kept beside both.
-const RUNS: [Run; 7] = [
+/// Each script beside its description, and what is kept beside both.
+pub const RUNS: [Run; 7] = [
     Run {
         desc: CANCEL,
         script: r#"key Tab

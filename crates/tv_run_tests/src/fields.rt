@@ -70,6 +70,7 @@ end
 end
 "#,
     script: r#"down 1 1
+up 1 1
 key Ctrl-S
 type "euj"
 type "j]02"

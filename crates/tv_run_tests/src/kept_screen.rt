@@ -1,316 +1,128 @@
 //! The screen that a session keeps, of which an event paints again only what it damages, beside one that is painted whole.
 //!
-//! The test has the windows, the start dialog and the bars of a description beside the session, and hands them the same events
-//! by the rules of a run. After each line of a script it paints all of them on a blank screen, from the back to the front, each
-//! by its own drawing through a canvas that no damage cuts. No damage is looked at. Each cell of the session's screen, which
-//! has been kept since its start, must have the character and the attribute of the screen so painted.
+//! The test has the windows, the dialogs and the bars of a description beside the session, and hands them the same events by the
+//! rules of a run. Before the first event and after each it paints all of them on a blank screen. Each cell of the session's
+//! screen, which has been kept since its start, must have the character and the attribute of the screen so painted.
 
-ghost use Rattle.std.specs.Prelude.{◌≡◌, pos};
+ghost use Rattle.tv_machine.specs.Run.{Session as Standing};
+ghost use Rattle.tv_session.specs.Session.{StandsFor};
 
 use crate::bars::{MENU_OVER_LABELS, STATUS_ALONE};
-use crate::bodies::{checked, first_dialog};
+use crate::bodies::checked;
+use crate::cases::CASES;
 use crate::controls::HIDDEN_DEFAULT;
+use crate::crowded::{EIGHT_MENUS, NINE_WINDOWS};
 use crate::desk::THREE_WINDOWS;
+use crate::drags::DRAGS;
+use crate::example_desks::RUNS as DESKS;
+use crate::example_dialogs::RUNS as DIALOGS;
+use crate::example_drags::PRICES_RUN;
 use crate::fields::{FILLED_INPUT, RANGES};
+use crate::lists::{LISTS_AMONG_CONTROLS, LONG_LISTS};
 use crate::making::views;
-use crate::opening::open;
-use crate::running::{Run, lines, played};
-use crate::stacked::FIVE_WINDOWS;
-use crate::steps::step;
+use crate::panes::{NESTED_PANES, SHOWN_PANES};
+use crate::parts::Parts;
+use crate::running::{Run, lines};
+use crate::stacked::{DIALOGS_OVER_WINDOWS, FIVE_WINDOWS};
+use crate::stepping::is_given;
 use crate::wide::{PANE_OF_LISTS, SHOWN_INPUTS};
 use std::alloc::Global;
 use std::test::Fail;
-use tv_building::parts_are_lawful;
-use tv_cells::{Canvas, Cell, Damage, Point, Rect, Screen};
+use tv_building::Views;
+use tv_cells::{Point, Screen};
 use tv_check::Checked;
-use tv_dialog::Dialog;
-use tv_event::{Command, CommandSet, Event, Key};
-use tv_group::Group;
-use tv_menu::{MenuBar, Offered, StatusLine};
 use tv_model::{Desc, Item};
-use tv_palette::{Chain, Owner};
 use tv_script::parse_items;
-use tv_test_support::descriptions::{COLOUR, MENUS, ORDER, WINDOWS};
-use tv_view::Env;
-use tv_window::{Desk, Hit};
+use tv_session::SessionOf;
+use tv_test_support::descriptions::{CANCEL, COLOUR, MENUS, ORDER, WINDOWS};
+use tv_view::View;
 
-// What a description declares, beside a session of it. A dialog that has ended isn't opened again.
-#[derive(Drop)]
-struct Parts {
-    desk: Desk,
-    dialog: Option<Dialog>,
-    bar: MenuBar,
-    line: StatusLine,
-    all: CommandSet,
-    is_over: bool,
+// The first cell in which two screens of a description differ.
+fn difference(kept: &Screen, whole: &Screen, desc: &Desc) -> Option<Point> {
+    for y in 0..desc.height {
+        for x in 0..desc.width {
+            let cell = Point { x, y };
+            if kept.at(cell) != whole.at(cell) {
+                return Some(cell);
+            }
+        }
+    }
+    None
 }
 
-fn bars(alloc: Global, checked: &Checked) -> Result<(MenuBar, StatusLine), Fail> {
-    let desc = checked.desc();
-    parts_are_lawful(desc);
-    Ok((MenuBar::new(alloc, desc)?, StatusLine::new(alloc, desc)?))
-}
-
-// The dialog that is open at the start, which is the first, if there is one.
-fn start_dialog(
+// Fails unless a screen shows the parts after so many items of a script.
+fn expect_shown(
+    kept: &Screen,
+    parts: &Parts,
     alloc: Global,
     checked: &Checked,
-    mut bodies: Vec<Group>,
-) -> Result<Option<Dialog>, Fail> {
-    if checked.desc().start.is_none() || bodies.is_empty() {
-        return Ok(None);
-    }
-    let declared = first_dialog(checked)?;
-    Ok(Some(open(alloc, declared, bodies.swap_remove(0), None)?))
-}
-
-impl Parts {
-    fn new(alloc: Global, checked: &Checked) -> Result<Parts, Fail> {
-        let views = views(alloc, checked, None)?;
-        let (bar, line) = bars(alloc, checked)?;
-        Ok(Parts {
-            desk: Desk::new(views.windows),
-            dialog: start_dialog(alloc, checked, views.bodies)?,
-            bar,
-            line,
-            all: CommandSet::all(),
-            is_over: false,
-        })
-    }
-
-    // Those that the open dialog enables.
-    fn commands(&self) -> &CommandSet {
-        match &self.dialog {
-            Some(dialog) => dialog.commands(),
-            None => &self.all,
-        }
-    }
-
-    fn is_held(&self) -> bool {
-        match &self.dialog {
-            Some(dialog) => dialog.held(),
-            None => false,
-        }
-    }
-
-    fn step(&mut self, desc: &Desc, event: &Event) -> Result<(), Fail> {
-        if self.is_over {
-            return Ok(());
-        }
-        match event {
-            Event::Key(_) | Event::Down(_) if !self.is_held() => self.free_event(desc, event),
-            Event::Move(_) | Event::Up(_) if self.is_held() => self.dialog_event(desc, event),
-            _ => Ok(()),
-        }
-    }
-
-    // A key or a mouse down while nothing is held.
-    fn free_event(&mut self, desc: &Desc, event: &Event) -> Result<(), Fail> {
-        if self.bar.is_open() {
-            return self.bar_event(desc, event);
-        }
-        match self.line.offer(event, self.commands()) {
-            Offered::Turned(command) => self.command(desc, command),
-            Offered::Taken => Ok(()),
-            Offered::Left if self.dialog.is_none() => self.bar_event(desc, event),
-            Offered::Left if is_on_bar(desc, event) => Ok(()),
-            Offered::Left => self.dialog_event(desc, event),
-        }
-    }
-
-    fn bar_event(&mut self, desc: &Desc, event: &Event) -> Result<(), Fail> {
-        match self.bar.offer(event, &self.all) {
-            Offered::Turned(command) => self.command(desc, command),
-            Offered::Taken => Ok(()),
-            Offered::Left => {
-                self.desk_event(desc, event);
-                Ok(())
-            }
-        }
-    }
-
-    fn desk_event(&mut self, desc: &Desc, event: &Event) {
-        let mut unread = Damage::new();
-        match event {
-            Event::Key(Key::Alt(letter)) => self.desk.raise_number(*letter, &mut unread),
-            Event::Down(point) if desktop(desc).contains(*point) => {
-                if self.desk.down(*point, &mut unread) == Hit::CloseMark {
-                    self.desk.close_front(&mut unread);
-                }
-            }
-            _ => {}
-        }
-    }
-
-    fn command(&mut self, desc: &Desc, command: Command) -> Result<(), Fail> {
-        if self.dialog.is_some() {
-            return self.dialog_event(desc, &Event::Command(command));
-        }
-        match command {
-            Command::QUIT => self.is_over = true,
-            Command::MENU => self.bar.open_first(),
-            Command::NEXT => self.desk.next(&mut Damage::new()),
-            Command::CLOSE => {
-                self.desk.close_front(&mut Damage::new());
-            }
-            Command(number) => return expect_no_opener(desc, number),
-        }
-        Ok(())
-    }
-
-    fn dialog_event(&mut self, desc: &Desc, event: &Event) -> Result<(), Fail> {
-        let declared = desc.dialogs.as_slice().first().ok_or("no dialog")?;
-        let Some(dialog) = &mut self.dialog else {
-            return Ok(());
-        };
-        step(dialog, declared, event)?;
-        if !dialog.is_open() {
-            self.dialog = None;
-        }
-        Ok(())
-    }
-
-    // All that is shown, from the back to the front.
-    fn painted(&self, alloc: Global, desc: &Desc) -> Result<Screen, Fail> {
-        let mut screen = Screen::new(
-            alloc,
-            u32::try_from(desc.width)?,
-            u32::try_from(desc.height)?,
-        )?;
-        let whole = screen.canvas();
-        let desktop = Canvas {
-            clip: desktop(desc),
-            origin: Point { x: 0, y: 0 },
-        };
-        draw_ground(&mut screen, desktop)?;
-        self.draw_windows(&mut screen, desktop);
-        if let Some(dialog) = &self.dialog {
-            draw_dialog(dialog, &mut screen, desc, desktop)?;
-        }
-        self.bar.draw_box(&mut screen, desktop);
-        self.line.draw(&mut screen, whole, self.commands());
-        self.bar.draw(&mut screen, whole);
-        Ok(screen)
-    }
-
-    fn draw_windows(&self, screen: &mut Screen, desktop: Canvas)
-        requires { (desktop.origin.x ≡ pos 0) × (desktop.origin.y ≡ pos 0) }
-    {
-        let env = Env {
-            owner: Owner::Window,
-            chain: &Chain::of_window(),
-            views: &[],
-            commands: &self.all,
-            focus: None,
-            default_now: None,
-            is_active: self.dialog.is_none(),
-        };
-        self.desk.draw(screen, desktop, &env);
-    }
-}
-
-// The rows between the menu bar and the status line.
-fn desktop(desc: &Desc) -> Rect {
-    Rect {
-        a: Point { x: 0, y: 1 },
-        b: Point {
-            x: desc.width,
-            y: desc.height.saturating_sub(1),
-        },
-    }
-}
-
-// Whether a mouse down lies on no row of the desktop.
-fn is_on_bar(desc: &Desc, event: &Event) -> bool {
-    match event {
-        Event::Down(point) => !desktop(desc).contains(*point),
-        _ => false,
-    }
-}
-
-fn expect_no_opener(desc: &Desc, number: u8) -> Result<(), Fail> {
-    for dialog in desc.dialogs.as_slice() {
-        if dialog.head().opens == Some(i32::from(number)) {
-            return Err("a dialog opens after the start".into());
-        }
-    }
-    Ok(())
-}
-
-fn draw_ground(screen: &mut Screen, desktop: Canvas) -> Result<(), Fail> {
-    let ground = Cell::new('.', 0x71).ok_or("no cell")?;
-    for y in 0..60 {
-        for x in 0..132 {
-            desktop.put(screen, x, y, ground);
-        }
-    }
-    Ok(())
-}
-
-// Draws the dialog with its shadow.
-fn draw_dialog(
-    dialog: &Dialog,
-    screen: &mut Screen,
-    desc: &Desc,
-    desktop: Canvas,
-) -> Result<(), Fail>
-    requires { (desktop.origin.x ≡ pos 0) × (desktop.origin.y ≡ pos 0) }
-{
-    let declared = desc.dialogs.as_slice().first().ok_or("no dialog")?;
-    let env = Env {
-        owner: Owner::Dialog,
-        chain: &Chain::of_dialog(),
-        views: declared.views.as_slice(),
-        commands: dialog.commands(),
-        focus: None,
-        default_now: None,
-        is_active: true,
-    };
-    desktop.shade(screen, dialog.bounds().shift(Point { x: 2, y: 1 }));
-    dialog.draw(screen, desktop, &env);
-    Ok(())
-}
-
-// Fails unless both screens have the same cells.
-fn expect_same(kept: &Screen, whole: &Screen, script: &str) -> Result<(), Fail> {
-    for y in 0..60 {
-        for x in 0..132 {
-            let cell = Point { x, y };
+    after: (usize, &str),
+) -> Result<(), Fail> {
+    let whole = parts.painted(alloc, checked)?;
+    match difference(kept, &whole, checked.desc()) {
+        None => Ok(()),
+        Some(cell) => {
+            let (count, script) = after;
             let (kept, whole) = (kept.at(cell), whole.at(cell));
-            if kept != whole {
-                return Err(Fail::new(format_args!(
-                    "{x} {y}: {kept:?} for {whole:?} after {script}"
-                )));
+            Err(Fail::new(format_args!(
+                "{cell:?}: {kept:?} for {whole:?} after {count} items of {script}"
+            )))
+        }
+    }
+}
+
+// Looks at the screen of a session before the first event and after each.
+fn expect_kept_by<V: View>(
+    session: &mut SessionOf<V>,
+    alloc: Global,
+    checked: &Checked,
+    script: &str,
+) -> Result<(), Fail>
+    requires { (s : Standing) × StandsFor V.meaning session.old s }
+{
+    let desc = checked.desc();
+    let items = parse_items(alloc, script.as_bytes(), desc.width, desc.height)?;
+    let mut parts = Parts::new(alloc, checked)?;
+    expect_shown(session.screen(), &parts, alloc, checked, (0, script))?;
+    for (index, item) in items.as_slice().iter().enumerate() {
+        if let Item::Event(event) = item {
+            if !is_given(event) {
+                return Err("a point far away".into());
             }
+            session.step(event);
+            parts.step(alloc, checked, event)?;
+            expect_shown(
+                session.screen(),
+                &parts,
+                alloc,
+                checked,
+                (index + 1, script),
+            )?;
         }
     }
     Ok(())
 }
 
-fn perform(parts: &mut Parts, alloc: Global, desc: &Desc, line: &str) -> Result<(), Fail> {
-    let items = parse_items(alloc, line.as_bytes(), desc.width, desc.height)?;
-    for item in items.as_slice() {
-        if let Item::Event(event) = item {
-            parts.step(desc, event)?;
-        }
+// Looks at the screen of a session of these views.
+fn expect_kept_over<V: View>(
+    alloc: Global,
+    own: Checked,
+    views: Views<V>,
+    checked: &Checked,
+    script: &str,
+) -> Result<(), Fail> {
+    let Views { windows, bodies } = views;
+    match SessionOf::new(alloc, own, windows, bodies) {
+        Ok(mut session) => expect_kept_by(&mut session, alloc, checked, script),
+        Err(refused) => Err(Fail::new(format_args!("{}", refused.fault))),
     }
-    Ok(())
 }
 
 fn expect_kept(alloc: Global, desc: &str, script: &str) -> Result<(), Fail> {
+    let own = checked(alloc, desc)?;
+    let views = views(alloc, &own, None)?;
     let checked = checked(alloc, desc)?;
-    let declared = checked.desc();
-    let mut parts = Parts::new(alloc, &checked)?;
-    let mut performed = String::new(alloc);
-    for line in script.lines() {
-        performed.push_str(line)?;
-        performed.push('\n')?;
-        perform(&mut parts, alloc, declared, line)?;
-        let session = played(alloc, desc, &performed)?;
-        let whole = parts.painted(alloc, declared)?;
-        expect_same(session.screen(), &whole, &performed)?;
-    }
-    Ok(())
+    expect_kept_over(alloc, own, views, &checked, script)
 }
 
 // An order that is refused three times, with a pane that a rule shows and a command that one enables.
@@ -337,8 +149,14 @@ const CHOSEN: &str = "key F10; key Right; key Enter; key Alt-F; key Up; key Ente
 const CHOSEN_BY_MOUSE: &str =
     "down 9 0; down 3 0; down 3 2; down 3 0; key Right; down 20 8; down 3 11; key Esc; key Alt-E; type \"c\"; down 2 0; down 4 3";
 
+// A dialog that is dragged off the screen and pressed there, and a window that is raised, dragged and closed.
+const DIALOG_DRAGGED: &str = "down 8 2; key Esc; move 0 0; move 19 9; up 0 0; down 5 2; up 5 2";
+
+const WINDOW_DRAGGED: &str =
+    "down 13 3; up 2 9; down 3 1; down 7 1; up 7 1; move 7 7; up 9 8; down 12 8; move 23 1; up 0 5";
+
 // Scripts in one line.
-const SHORT_RUNS: [(&str, &str); 8] = [
+const SHORT_RUNS: [(&str, &str); 10] = [
     (ORDER, REFUSED_ORDER),
     (ORDER, ORDER_BY_MOUSE),
     (COLOUR, COLOUR_BY_KEYS),
@@ -347,30 +165,90 @@ const SHORT_RUNS: [(&str, &str); 8] = [
     (WINDOWS, CLOSED),
     (MENUS, CHOSEN),
     (MENUS, CHOSEN_BY_MOUSE),
+    (CANCEL, DIALOG_DRAGGED),
+    (WINDOWS, WINDOW_DRAGGED),
 ];
 
-// Longer ones, with a line for each item.
-const LONG_RUNS: [Run; 9] = [
+// Longer ones, with a line for each item: of windows, menus and the status line, of inputs and buttons, and of lists and panes.
+const DESK_RUNS: [Run; 8] = [
     THREE_WINDOWS,
     FIVE_WINDOWS,
     STATUS_ALONE,
     MENU_OVER_LABELS,
-    HIDDEN_DEFAULT,
-    FILLED_INPUT,
-    RANGES,
-    PANE_OF_LISTS,
-    SHOWN_INPUTS,
+    NINE_WINDOWS,
+    EIGHT_MENUS,
+    DIALOGS_OVER_WINDOWS,
+    PRICES_RUN,
 ];
 
-/// Looks at the screen after each line of each script.
+const FIELD_RUNS: [Run; 4] = [HIDDEN_DEFAULT, FILLED_INPUT, RANGES, SHOWN_INPUTS];
+
+const LIST_RUNS: [Run; 5] = [
+    PANE_OF_LISTS,
+    LISTS_AMONG_CONTROLS,
+    LONG_LISTS,
+    NESTED_PANES,
+    SHOWN_PANES,
+];
+
+fn expect_all_kept(alloc: Global, runs: &[Run]) -> Result<(), Fail> {
+    for run in runs {
+        expect_kept(alloc, run.desc, run.script)?;
+    }
+    Ok(())
+}
+
+/// Looks at the screen after each event of short scripts.
 #[test]
 fn kept_screen(rt: HostRuntime) -> Result<(), Fail> {
     let alloc = rt.alloc();
     for (desc, script) in SHORT_RUNS {
         expect_kept(alloc, desc, &lines(alloc, script)?)?;
     }
-    for run in LONG_RUNS {
-        expect_kept(alloc, run.desc, run.script)?;
+    Ok(())
+}
+
+/// The same of the runs of this crate that have windows, menus or status items.
+#[test]
+fn kept_on_desks(rt: HostRuntime) -> Result<(), Fail> {
+    expect_all_kept(rt.alloc(), &DESK_RUNS)
+}
+
+/// The same of those of inputs and buttons.
+#[test]
+fn kept_in_fields(rt: HostRuntime) -> Result<(), Fail> {
+    expect_all_kept(rt.alloc(), &FIELD_RUNS)
+}
+
+/// The same of those of lists and panes.
+#[test]
+fn kept_in_lists(rt: HostRuntime) -> Result<(), Fail> {
+    expect_all_kept(rt.alloc(), &LIST_RUNS)
+}
+
+/// The same of the dialogs of examples/.
+#[test]
+fn kept_in_example_dialogs(rt: HostRuntime) -> Result<(), Fail> {
+    expect_all_kept(rt.alloc(), &DIALOGS)
+}
+
+/// The same of the menus and windows of examples/.
+#[test]
+fn kept_on_example_desks(rt: HostRuntime) -> Result<(), Fail> {
+    expect_all_kept(rt.alloc(), &DESKS)
+}
+
+/// The same of scripts that reach every rule.
+#[test]
+fn kept_in_cases(rt: HostRuntime) -> Result<(), Fail> {
+    for (desc, script) in CASES {
+        expect_kept(rt.alloc(), desc, script)?;
     }
     Ok(())
+}
+
+/// The same while windows and dialogs are dragged.
+#[test]
+fn kept_while_dragged(rt: HostRuntime) -> Result<(), Fail> {
+    expect_all_kept(rt.alloc(), &DRAGS)
 }

@@ -11,6 +11,8 @@ mod bars;
 #[cfg(test)]
 mod bodies;
 #[cfg(test)]
+mod cases;
+#[cfg(test)]
 mod colours;
 #[cfg(test)]
 mod constructors;
@@ -23,9 +25,15 @@ mod desk;
 #[cfg(test)]
 mod dialogs;
 #[cfg(test)]
+mod dragging;
+#[cfg(test)]
+mod drags;
+#[cfg(test)]
 mod example_desks;
 #[cfg(test)]
 mod example_dialogs;
+#[cfg(test)]
+mod example_drags;
 #[cfg(test)]
 mod fields;
 #[cfg(test)]
@@ -51,6 +59,8 @@ mod order;
 #[cfg(test)]
 mod panes;
 #[cfg(test)]
+mod parts;
+#[cfg(test)]
 mod pieces;
 #[cfg(test)]
 mod probes;
@@ -60,6 +70,8 @@ mod repainted;
 mod running;
 #[cfg(test)]
 mod stacked;
+#[cfg(test)]
+mod stepping;
 #[cfg(test)]
 mod steps;
 #[cfg(test)]

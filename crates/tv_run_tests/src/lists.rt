@@ -17,8 +17,8 @@ const TWO_ITEMS_LOGS: [(&str, &str); 1] = [(
     "open f; focus l; press k; end f ok; field l 2",
 )];
 
-// Lists, buttons and an input, some of which a mark shows.
-const LISTS_AMONG_CONTROLS: Run = Run {
+/// Lists, buttons and an input, some of which a mark shows.
+pub const LISTS_AMONG_CONTROLS: Run = Run {
     desc: r#"tvd 1
 screen 43 16
 start dialog-number-2
@@ -66,6 +66,7 @@ key F3
 key Alt-O
 key Tab
 down 22 3
+up 22 3
 move 26 2
 shot
 colors
@@ -139,8 +140,8 @@ colors 43 16
 "#,
 };
 
-// Lists over which the mouse goes, and a long list.
-const LONG_LISTS: Run = Run {
+/// Lists over which the mouse goes, and a long list.
+pub const LONG_LISTS: Run = Run {
     desc: r#"tvd 1
 screen 20 10
 start dialog-number-3
@@ -226,13 +227,16 @@ type "  "
 down 3 1
 shot
 down 3 1
+up 3 1
 up 11 4
 down 7 1
+up 7 1
 up 2 9
 key Alt-W
 down 13 1
 down 9 7
 down 0 1
+up 0 1
 move 6 0
 key Alt-5
 key Ctrl-O

@@ -3,8 +3,8 @@
 use crate::running::{Run, expect_runs};
 use std::test::Fail;
 
-// A pane in a pane, which two rules show.
-const NESTED_PANES: Run = Run {
+/// A pane in a pane, which two rules show.
+pub const NESTED_PANES: Run = Run {
     desc: r#"tvd 1
 screen 20 10
 start b1
@@ -56,6 +56,7 @@ up 4 3
 down 7 3
 up 11 3
 down 1 1
+up 1 1
 down 13 9
 down 6 5
 type " "
@@ -177,8 +178,8 @@ colors 20 10
 "#,
 };
 
-// Three dialogs, two of them with panes.
-const SHOWN_PANES: Run = Run {
+/// Three dialogs, two of them with panes.
+pub const SHOWN_PANES: Run = Run {
     desc: r#"tvd 1
 screen 20 10
 start dialog-number-3
@@ -220,6 +221,7 @@ colors
 type "i"
 shot
 down 8 1
+up 8 1
 type "b"
 key Left
 type "ac"
@@ -227,6 +229,7 @@ type "жbq1ao"
 type "x"
 type "cY"
 down 1 1
+up 1 1
 colors
 key Esc
 shot

@@ -14,7 +14,7 @@ type Corners = [i32; 4];
 // A script, in one line, with the rectangles of what its last event has painted again.
 type Row = (&'static str, &'static [Corners]);
 
-const CANCEL_ROWS: [Row; 6] = [
+const CANCEL_ROWS: [Row; 14] = [
     // The start paints the screen, and isn't an event.
     ("", &[]),
     // The only control has the focus already, so nothing is painted.
@@ -25,7 +25,23 @@ const CANCEL_ROWS: [Row; 6] = [
     ("down 5 3; key Esc", &[]),
     // The dialog ends: its bounds and its shadow.
     ("key Esc", &[[2, 2, 16, 6], [4, 3, 18, 7]]),
+    // A dialog that is held shows what it showed, and so does one that is moved to where it stands.
+    ("down 8 2", &[]),
+    ("down 8 2; key Esc", &[]),
+    ("down 8 2; move 8 2", &[]),
+    ("down 8 2; move 9 4; up 9 4", &[]),
+    ("down 8 2; move 0 8; up 0 9", &[]),
+    // Moved by a move, or by an up: its bounds and its shadow, as they were and as they are then.
+    ("down 8 2; move 9 4", &CANCEL_MOVED),
+    ("down 8 2; up 9 4", &CANCEL_MOVED),
+    // What lies off the screen is left out.
+    (
+        "down 8 2; up 0 9",
+        &[[2, 2, 16, 6], [4, 3, 18, 7], [0, 8, 8, 10], [0, 9, 10, 10]],
+    ),
 ];
+
+const CANCEL_MOVED: [Corners; 4] = [[2, 2, 16, 6], [4, 3, 18, 7], [3, 4, 17, 8], [5, 5, 19, 9]];
 
 const TWO_BUTTONS_ROWS: [Row; 3] = [
     // The focus goes from one to the other.
@@ -56,7 +72,7 @@ const ORDER_ROWS: [Row; 5] = [
 const COLOUR_ROWS: [Row; 1] = [("key Up", &[[3, 2, 15, 4], [3, 5, 11, 6]])];
 
 // Shadows end at the right edge of the screen.
-const WINDOW_ROWS: [Row; 7] = [
+const WINDOW_ROWS: [Row; 13] = [
     // The first window comes to the front, and the second is active no longer.
     ("down 3 1", &[[1, 1, 17, 5], [3, 2, 19, 6], [8, 3, 24, 7]]),
     ("key Alt-1", &[[1, 1, 17, 5], [3, 2, 19, 6], [8, 3, 24, 7]]),
@@ -66,6 +82,21 @@ const WINDOW_ROWS: [Row; 7] = [
     // The second window is closed by its mark, and the first becomes active.
     ("down 11 3", &[[8, 3, 24, 7], [10, 4, 24, 8], [1, 1, 17, 5]]),
     ("down 11 3; down 4 1", &[[1, 1, 17, 5], [3, 2, 19, 6]]),
+    // The second window is held, moved to where it stands, and dragged over the left edge and the last row.
+    ("down 13 3", &[]),
+    ("down 13 3; key Alt-1", &[]),
+    ("down 13 3; down 3 1", &[]),
+    ("down 13 3; move 13 3", &[]),
+    ("down 13 3; move 2 9; up 2 9", &[]),
+    (
+        "down 13 3; up 2 9",
+        &[
+            [8, 3, 24, 7],
+            [10, 4, 24, 8],
+            [0, 8, 17, 10],
+            [0, 9, 19, 10],
+        ],
+    ),
 ];
 
 // A dialog at the right edge of the screen, over two windows.
@@ -81,12 +112,30 @@ button c 1 1 10 "~C~ancel" cancel
 end
 "#;
 
-const QUESTION_ROWS: [Row; 2] = [
+const QUESTION_ROWS: [Row; 5] = [
     // The dialog opens, and the front window is active no longer.
     ("key F3", &[[18, 5, 30, 9], [20, 6, 30, 10], [8, 3, 28, 8]]),
     // The dialog ends, and the front window is active again.
     (
         "key F3; key Esc",
+        &[[18, 5, 30, 9], [20, 6, 30, 10], [8, 3, 28, 8]],
+    ),
+    // The dialog is dragged over the windows, which stay as they are; it ends there, and opens where it is declared.
+    (
+        "key F3; down 26 5; up 10 3",
+        &[
+            [18, 5, 30, 9],
+            [20, 6, 30, 10],
+            [2, 3, 14, 7],
+            [4, 4, 16, 8],
+        ],
+    ),
+    (
+        "key F3; down 26 5; up 10 3; key Esc",
+        &[[2, 3, 14, 7], [4, 4, 16, 8], [8, 3, 28, 8]],
+    ),
+    (
+        "key F3; down 26 5; up 10 3; key Esc; key F3",
         &[[18, 5, 30, 9], [20, 6, 30, 10], [8, 3, 28, 8]],
     ),
 ];

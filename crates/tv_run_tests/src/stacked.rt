@@ -118,8 +118,8 @@ colors 35 12
 "#,
 };
 
-// Three dialogs over three windows.
-const DIALOGS_OVER_WINDOWS: Run = Run {
+/// Three dialogs over three windows.
+pub const DIALOGS_OVER_WINDOWS: Run = Run {
     desc: r#"tvd 1
 screen 20 10
 start a6
@@ -183,12 +183,14 @@ colors
 down 5 3
 shot
 down 5 1
+up 5 1
 down 13 4
 colors
 up 8 4
 key F8
 shot
 down 5 4
+up 5 4
 key Ctrl-W
 down 9 7
 up 1 8

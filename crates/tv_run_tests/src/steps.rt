@@ -33,15 +33,8 @@ fn seen_from(corner: Point, point: &Point) -> Point {
     }
 }
 
-// What a dialog is handed of an event: points are seen from its corner, and the key of a status item is its command, where that
-// is enabled.
-fn handed(dialog: &Dialog, event: &Event) -> Event {
-    if let Some(command) = status_command(event) {
-        if dialog.commands().has(command) {
-            return Event::Command(command);
-        }
-    }
-    let corner = dialog.bounds().a;
+// What a dialog is handed of an event: its point is seen from the dialog's corner.
+fn event_from(corner: Point, event: &Event) -> Event {
     match event {
         Event::Down(point) => Event::Down(seen_from(corner, point)),
         Event::Up(point) => Event::Up(seen_from(corner, point)),
@@ -50,12 +43,12 @@ fn handed(dialog: &Dialog, event: &Event) -> Event {
     }
 }
 
-/// Hands the open dialog an event, whose point is in screen coordinates. F2 is `ok`, where that is enabled.
-pub fn step(dialog: &mut Dialog, declared: &Declared, event: &Event) -> Result<(), Fail> {
+/// Hands the open dialog an event, whose point is in screen coordinates.
+pub fn hand_in(dialog: &mut Dialog, declared: &Declared, event: &Event) -> Result<(), Fail> {
     if !dialog.is_open() {
         return Err("the dialog isn't open".into());
     }
-    let event = handed(dialog, event);
+    let event = event_from(dialog.bounds().a, event);
     let env = Env {
         owner: Owner::Dialog,
         chain: &Chain::of_dialog(),
@@ -67,6 +60,16 @@ pub fn step(dialog: &mut Dialog, declared: &Declared, event: &Event) -> Result<(
     };
     dialog.step(&event, &env, &mut Damage::new());
     Ok(())
+}
+
+// The same, where F2 is `ok`, if that is enabled.
+fn step(dialog: &mut Dialog, declared: &Declared, event: &Event) -> Result<(), Fail> {
+    match status_command(event) {
+        Some(command) if dialog.commands().has(command) => {
+            hand_in(dialog, declared, &Event::Command(command))
+        }
+        _ => hand_in(dialog, declared, event),
+    }
 }
 
 // Hands in the events, and tells what is logged.

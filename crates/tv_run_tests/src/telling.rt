@@ -37,6 +37,10 @@ fn line_told(alloc: Global, dialog: &Dialog, line: &LogLine) -> Result<String, A
             let value = value_told(alloc, value)?;
             format!(in alloc; "{name} {value}")
         }
+        LogLine::Moved(id, corner) => {
+            let name = id_told(alloc, dialog, "moved", *id)?;
+            format!(in alloc; "{name} {} {}", corner.x, corner.y)
+        }
     }
 }
 

@@ -213,6 +213,7 @@ end
     script: r#"type " "
 shot
 down 19 1
+up 19 1
 move 48 12
 key Down
 key Up

@@ -125,3 +125,24 @@ text 3 1 28 2 "The desk, an example with\nmenus, windows and dialogs."
 button shut 11 4 10 "~C~lose" close default
 end
 "#;
+
+/// Two windows, one over the other, and a dialog that covers both.
+pub const PRICES: &str = r#"tvd 1
+screen 50 14
+status "F3 Buy" F3 100
+status "F6 Next" F6 next
+window stock 2 2 22 6 1 "Stock"
+text 2 1 18 3 "Flour   40 pounds\nMilk    12 pints\nButter   7 pounds"
+end
+window prices 10 4 22 6 2 "Prices"
+text 2 1 18 3 "Flour   1.20\nMilk    0.95\nButter  2.10"
+end
+dialog buy 6 3 34 8 "Buy" opens 100 ends ok cancel
+label 2 1 10 "~W~hat" what
+input what 13 1 18 20 any ""
+label 2 3 10 "~A~mount" amount
+input amount 13 3 6 3 range 1 99 "1" validate
+button ok 4 5 10 "~O~K" ok default
+button leave 18 5 12 "~C~ancel" cancel
+end
+"#;

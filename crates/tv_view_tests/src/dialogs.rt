@@ -3,6 +3,8 @@
 ghost use Rattle.std.specs.Prelude.{◌≡◌, ◌≤ℤ◌, IfOk, IfSome, Some, pos, true};
 ghost use Rattle.tv_model.specs.Description.LawfulNodes.{IsLawfulCommand, IsLawfulNode};
 ghost use Rattle.tv_dialog.specs.Head.{IsLimitedDialogHead, declared_dialog_head};
+ghost use Rattle.tv_faces.specs.Corners.{IsCorner};
+ghost use Rattle.tv_model.specs.Description.Rectangles.{corner_of};
 
 use crate::forms::env;
 use crate::nodes::button_node;
@@ -41,7 +43,8 @@ pub const OWN: Command = Command(120);
 type Probed = Probe<Button>;
 
 fn dialog_node(alloc: Global) -> Node
-    ensures { IfSome (declared_dialog_head result) IsLimitedDialogHead }
+    ensures head { IfSome (declared_dialog_head result) IsLimitedDialogHead }
+    ensures corner { IsCorner (corner_of result) }
 {
     Node {
         id: Id(DIALOG),

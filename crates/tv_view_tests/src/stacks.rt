@@ -1,6 +1,8 @@
 //! A stack of windows, from which one is taken out.
 
 ghost use Rattle.std.specs.Prelude.{◌≤◌, ◌≤ℤ◌, pos, IfSome};
+ghost use Rattle.tv_faces.specs.Corners.{IsCorner};
+ghost use Rattle.tv_model.specs.Description.Rectangles.{corner_of};
 ghost use Rattle.tv_window.specs.Head.{IsLimitedWindowHead, declared_window_head};
 
 use crate::forms::text;
@@ -57,7 +59,8 @@ fn node(alloc: Global, number: i32, corner: Point) -> Node
     requires number { (pos 0 ≤ℤ number) × (number ≤ℤ pos 9) }
     requires across { (pos 0 ≤ℤ corner.x) × (corner.x ≤ℤ pos 50) }
     requires down { (pos 0 ≤ℤ corner.y) × (corner.y ≤ℤ pos 50) }
-    ensures { IfSome (declared_window_head result) IsLimitedWindowHead }
+    ensures head { IfSome (declared_window_head result) IsLimitedWindowHead }
+    ensures corner { IsCorner (corner_of result) }
 {
     Node {
         id: Id(1),
@@ -94,7 +97,8 @@ fn window(alloc: Global, journal: &Rc<Journal>, place: u8) -> Result<Window, Fai
 }
 
 fn stood(node: &Node, body: Group) -> Result<Window, Fail>
-    requires { IfSome (declared_window_head node.now) IsLimitedWindowHead }
+    requires head { IfSome (declared_window_head node.now) IsLimitedWindowHead }
+    requires corner { IsCorner (corner_of node.now) }
 {
     Ok(Window::new(node, body).ok().ok_or("a window's node")?)
 }

@@ -1,7 +1,8 @@
 //! Two windows over groups of boxed texts, one over the other.
 
 ghost use Rattle.std.specs.Prelude.{◌≤ℤ◌, pos, IfOk, IfSome};
-ghost use Rattle.tv_model.specs.Description.Rectangles.{place_of_node, IsSmallRect};
+ghost use Rattle.tv_faces.specs.Corners.{IsCorner};
+ghost use Rattle.tv_model.specs.Description.Rectangles.{corner_of, place_of_node, IsSmallRect};
 ghost use Rattle.tv_window.specs.Head.{IsLimitedWindowHead, declared_window_head};
 
 use crate::samples::{body, chars, sized, text_node};
@@ -56,7 +57,8 @@ fn member(alloc: Global, node: &Node) -> Result<Member, Fail>
 }
 
 fn first_node(alloc: Global) -> Result<Node, Fail>
-    ensures { IfOk result (λ node. IfSome (declared_window_head node) IsLimitedWindowHead) }
+    ensures head { IfOk result (λ node. IfSome (declared_window_head node) IsLimitedWindowHead) }
+    ensures corner { IfOk result (λ node. IsCorner (corner_of node)) }
 {
     let title = chars(alloc, "One")?;
     Ok(Node {
@@ -75,7 +77,8 @@ fn first_node(alloc: Global) -> Result<Node, Fail>
 }
 
 fn second_node(alloc: Global) -> Result<Node, Fail>
-    ensures { IfOk result (λ node. IfSome (declared_window_head node) IsLimitedWindowHead) }
+    ensures head { IfOk result (λ node. IfSome (declared_window_head node) IsLimitedWindowHead) }
+    ensures corner { IfOk result (λ node. IsCorner (corner_of node)) }
 {
     let title = chars(alloc, "Two")?;
     Ok(Node {
@@ -95,6 +98,7 @@ fn second_node(alloc: Global) -> Result<Node, Fail>
 
 fn window(alloc: Global, node: &Node, width: i32, text: &Node) -> Result<Window, Fail>
     requires node { IfSome (declared_window_head node.now) IsLimitedWindowHead }
+    requires corner { IsCorner (corner_of node.now) }
     requires text { IsSmallRect (place_of_node text.now) }
     requires across { (pos 0 ≤ℤ width) × (width ≤ℤ pos 50) }
 {

@@ -4,6 +4,8 @@ ghost use Rattle.std.specs.Prelude.{◌≡◌, ◌≤◌, ◌≤ℤ◌, length, 
 ghost use Rattle.tv_cells.specs.Glyph.{IsNarrow};
 ghost use Rattle.tv_model.specs.Description.LawfulNodes.{IsLawfulNode};
 ghost use Rattle.tv_dialog.specs.Head.{IsLimitedDialogHead, declared_dialog_head};
+ghost use Rattle.tv_faces.specs.Corners.{IsCorner};
+ghost use Rattle.tv_model.specs.Description.Rectangles.{corner_of};
 
 use crate::lent::env;
 use anyhow::{Result, bail};
@@ -88,7 +90,8 @@ fn pane_node(alloc: Global, id: u32, x: i32) -> Node {
 }
 
 fn dialog_node(alloc: Global) -> Node
-    ensures { IfSome (declared_dialog_head result) IsLimitedDialogHead }
+    ensures head { IfSome (declared_dialog_head result) IsLimitedDialogHead }
+    ensures corner { IsCorner (corner_of result) }
 {
     Node {
         id: Id(1),

@@ -1,6 +1,8 @@
 //! A large screen that nine windows of texts cover.
 
 ghost use Rattle.std.specs.Prelude.{◌≤◌, ◌≤ℤ◌, pos, IfSome};
+ghost use Rattle.tv_faces.specs.Corners.{IsCorner};
+ghost use Rattle.tv_model.specs.Description.Rectangles.{corner_of};
 ghost use Rattle.tv_window.specs.Head.{IsLimitedWindowHead, declared_window_head};
 
 use super::parts::{BAR, rows, text};
@@ -39,7 +41,8 @@ fn window_node(alloc: Global, x: i32, y: i32, number: i32) -> Node
     requires across { (pos 0 ≤ℤ x) × (x ≤ℤ pos 100) }
     requires down { (pos 0 ≤ℤ y) × (y ≤ℤ pos 100) }
     requires number { (pos 0 ≤ℤ number) × (number ≤ℤ pos 9) }
-    ensures { IfSome (declared_window_head result) IsLimitedWindowHead }
+    ensures head { IfSome (declared_window_head result) IsLimitedWindowHead }
+    ensures corner { IsCorner (corner_of result) }
 {
     Node {
         id: Id(1),

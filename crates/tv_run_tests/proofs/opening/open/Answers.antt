@@ -1,14 +1,17 @@
 use Rattle.std.proofs.Common.{◌≤◌, [], length, sym, subst}
-use Rattle.std.proofs.lemmas.List.Elements.{All-head}
-use Rattle.tv_model.specs.Description.LawfulNodes.{IsLimited}
 use Rattle.tv_view.specs.contracts.view.BoxDynViewView.TheImpl.{meaning-value}
 use Rattle.tv_group.specs.Calls.{FitsAll, HasRoomForAll}
 use Rattle.tv_group.specs.Opened.{opened}
-use Rattle.tv_run_tests.proofs.FreshLemmas.{fresh_fits, fresh_room, limited_head}
+use Rattle.tv_dialogs.proofs.CornerLemmas.{lawful-corner}
+use Rattle.tv_dialogs.proofs.ValueLemmas.{lawful-limited}
+use Rattle.tv_run_tests.proofs.FreshLemmas.{fresh_fits, fresh_room}
 use Rattle.tv_run_tests.proofs.opening.open.Goals as goal
 
-pub new-requires : goal.new-requires
-new-requires g c = limited_head c.args.declared.now.node (All-head IsLimited c.args.declared.now.node c.args.declared.now.views c.requires.limits)
+pub new-requires-clause-limited : goal.new-requires-clause-limited
+new-requires-clause-limited g c = lawful-limited c.args.declared.now c.requires
+
+pub new-requires-clause-corner : goal.new-requires-clause-corner
+new-requires-clause-corner g c = lawful-corner c.args.declared.now c.requires
 
 pub record-requires : goal.record-requires
 record-requires g c =
