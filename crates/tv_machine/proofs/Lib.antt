@@ -5,3 +5,5 @@ pub mod ListLemmas
 pub mod MarkLemmas
 pub mod RefocusLemmas
 pub mod RuleExamples
+pub mod SharedExamples
+pub mod SharedLemmas

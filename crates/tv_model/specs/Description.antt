@@ -26,6 +26,8 @@ pub mod Rectangles
 pub mod Panes
 -- what rules name and stand over
 pub mod Rules
+-- letters that several views may mark
+pub mod Sharing
 -- what shortcut letters act on
 pub mod Owners
 -- Tab's order and the letters of a certificate

@@ -1,6 +1,6 @@
 -- Sound descriptions: each fault is a condition on the lists of declarations. A fault names a line of the
 -- canonical text.
-use Rattle.std.specs.Prelude.{◌≡◌, ℕ, Bool, false, not, List, [], ◌∷◌, ◌++◌, map, flat_map}
+use Rattle.std.specs.Prelude.{◌≡◌, ℕ, Bool, false, not, List, [], ◌∷◌, ◌++◌, map, flat_map, Option, None}
 use Rattle.tv_model.specs.declared.node.Node.{Node}
 use Rattle.tv_model.specs.declared.desc.Desc.{Desc}
 use Rattle.tv_model.specs.declared.desc.Menu.{Menu}
@@ -51,6 +51,7 @@ pub use Rattle.tv_model.specs.Faults.Starts.{is_second_default, lacks_cancel, la
 pub use Rattle.tv_model.specs.Faults.Starts.{starts_nowhere}
 use Rattle.tv_model.specs.Description.Commands.{no_ends}
 use Rattle.tv_model.specs.Description.Heads.{dialog_head}
+use Rattle.tv_model.specs.Description.Sharing.{is_shared_by, sharing_rules}
 
 -- ---- the faults of each kind of line
 
@@ -100,20 +101,22 @@ dialog_has faults.OutsideLimits d before dialog = dialog_outside_limits before d
 dialog_has faults.BadOpening d before dialog = opens_badly before dialog
 dialog_has _ d before dialog = false
 
--- a view of a window or dialog, its frame, with these ends, among all its views
-abbrev pub view_has : FaultKind → Node → Ends → List Node → List Node → Node → Bool
-view_has faults.NameTwice frame ends views before node = names_again before node
-view_has faults.OutsideOwner frame ends views before node = is_outside frame before node
-view_has faults.Overlap frame ends views before node = overlaps_earlier before node
-view_has faults.LetterTwice frame ends views before node = marks_again before node
-view_has faults.LabelLink frame ends views before node = links_nothing views node
-view_has faults.MissingEnd frame ends views before node = lacks_end ends node
-view_has faults.SecondDefault frame ends views before node = is_second_default before node
-view_has faults.EmptyDomain frame ends views before node = has_no_text node.kind
-view_has faults.BadStart frame ends views before node = starts_badly node.kind
-view_has faults.WideCharacter frame ends views before node = has_wide node
-view_has faults.OutsideLimits frame ends views before node = view_outside_limits before node
-view_has _ frame ends views before node = false
+-- a view of a window or dialog, its frame, with these ends and with rules by which letters may be shared, if
+-- any, among all its views
+abbrev pub view_has : FaultKind → Node → Ends → Option (List Rule) → List Node → List Node → Node → Bool
+view_has faults.NameTwice frame ends sharing views before node = names_again before node
+view_has faults.OutsideOwner frame ends sharing views before node = is_outside frame before node
+view_has faults.Overlap frame ends sharing views before node = overlaps_earlier before node
+view_has faults.LetterTwice frame ends sharing views before node =
+    marks_again (is_shared_by sharing views) before node
+view_has faults.LabelLink frame ends sharing views before node = links_nothing views node
+view_has faults.MissingEnd frame ends sharing views before node = lacks_end ends node
+view_has faults.SecondDefault frame ends sharing views before node = is_second_default before node
+view_has faults.EmptyDomain frame ends sharing views before node = has_no_text node.kind
+view_has faults.BadStart frame ends sharing views before node = starts_badly node.kind
+view_has faults.WideCharacter frame ends sharing views before node = has_wide node
+view_has faults.OutsideLimits frame ends sharing views before node = view_outside_limits before node
+view_has _ frame ends sharing views before node = false
 
 -- a rule of a dialog
 abbrev pub rule_has : FaultKind → List Node → List Rule → Rule → Bool
@@ -133,13 +136,14 @@ menu_lines kind before menu =
 abbrev pub status_lines : FaultKind → Desc → List ℕ
 status_lines kind d = lines_where (λ item. item.id.0) (status_has kind d) [] d.status
 
-abbrev pub view_lines : FaultKind → Node → Ends → List Node → List ℕ
-view_lines kind frame ends views = lines_where (λ node. node.id.0) (view_has kind frame ends views) [] views
+abbrev pub view_lines : FaultKind → Node → Ends → Option (List Rule) → List Node → List ℕ
+view_lines kind frame ends sharing views =
+    lines_where (λ node. node.id.0) (view_has kind frame ends sharing views) [] views
 
 abbrev pub window_lines : FaultKind → List Window → Window → List ℕ
 window_lines kind before window =
     line_if (window_has kind before window) window.node.id.0
-    ++ view_lines kind window.node no_ends window.views
+    ++ view_lines kind window.node no_ends None window.views
 
 abbrev pub rule_lines : FaultKind → Dialog → List ℕ
 rule_lines kind dialog = lines_where (λ rule. rule.id.0) (rule_has kind dialog.views) [] dialog.rules
@@ -147,7 +151,9 @@ rule_lines kind dialog = lines_where (λ rule. rule.id.0) (rule_has kind dialog.
 abbrev pub dialog_lines : FaultKind → Desc → List Dialog → Dialog → List ℕ
 dialog_lines kind d before dialog =
     line_if (dialog_has kind d before dialog) dialog.node.id.0
-    ++ (view_lines kind dialog.node (dialog_head dialog).ends dialog.views ++ rule_lines kind dialog)
+    ++ (view_lines kind dialog.node (dialog_head dialog).ends (sharing_rules d.version dialog.rules)
+    dialog.views
+    ++ rule_lines kind dialog)
 
 unfoldable pub fault_lines : FaultKind → Desc → List ℕ
 fault_lines kind d =

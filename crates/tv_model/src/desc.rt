@@ -167,6 +167,15 @@ pub struct Rule {
     pub item: i32,
 }
 
+/// An item of radio buttons, by their name. While it is marked, a letter that several views share acts on one of them.
+#[derive(Debug, Drop)]
+pub struct When {
+    /// The name of the radio buttons.
+    pub radios: Chars,
+    /// The item, counted from 1.
+    pub item: i32,
+}
+
 /// What a rule does.
 #[derive(Debug, Drop)]
 pub enum Effect {

@@ -16,7 +16,9 @@ mod script;
 mod sequence;
 
 pub use command::{CommandSpec, Ends};
-pub use desc::{Desc, Dialog, Effect, Menu, MenuItem, Rule, StatusItem, Version, Window, node_of};
+pub use desc::{
+    Desc, Dialog, Effect, Menu, MenuItem, Rule, StatusItem, Version, When, Window, node_of,
+};
 pub use fault::{Fault, FaultKind};
 pub use items::is_item;
 pub use kind::{

@@ -39,7 +39,7 @@ press_enabled d (Some leaf) m = if is_enabled d m.leaves leaf.node then press d 
 
 -- a character that the focused control didn't consume calls its marker, in either case; other keys do nothing
 abbrev pub passed_on : Dialog → Key → Modal → Modal
-passed_on d (keys.Char ch) m = act_on d (upper ch) (marking_leaf d (upper ch)) m
+passed_on d (keys.Char ch) m = act_on d (upper ch) (marking_leaf d m.leaves (upper ch)) m
 passed_on d _ m = m
 
 -- what the focused control answers to a key
@@ -70,5 +70,5 @@ key d keys.Tab m = request d (next_free (stops_of d m.leaves) m.focus) m
 key d keys.ShiftTab m = request d (previous_free (stops_of d m.leaves) m.focus) m
 key d keys.Esc m = command d 11 m
 key d keys.Enter m = press_enabled d (enter_target d m) m
-key d (keys.Alt letter) m = alt_keyed d letter (marking_leaf d letter) m
+key d (keys.Alt letter) m = alt_keyed d letter (marking_leaf d m.leaves letter) m
 key d k m = focus_keyed d k m

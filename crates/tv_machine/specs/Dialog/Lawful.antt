@@ -1,5 +1,5 @@
 -- What a dialog has where its description can be spelled and is sound: no more is asked of it here.
-use Rattle.std.specs.Prelude.{◌≡◌, ◌≤◌, ℕ, List, [], ◌∷◌, length, All, Some, IsSome, IsTrue, is_some}
+use Rattle.std.specs.Prelude.{◌≡◌, ◌≢◌, ◌≤◌, ℕ, List, [], ◌∷◌, length, All, Any, Some, IsSome, IsTrue, is_some}
 use Rattle.std.specs.List.{AllPairs}
 use Rattle.tv_model.specs.declared.node.Node.{Node}
 use Rattle.tv_model.specs.declared.desc.Dialog.{Dialog}
@@ -11,9 +11,12 @@ use Rattle.tv_model.specs.Description.Names.{meant}
 use Rattle.tv_model.specs.Description.Nodes.{AreRising, is_cluster, is_default}
 use Rattle.tv_model.specs.Description.Owners.{owner_by}
 use Rattle.tv_model.specs.Description.Rectangles.{interior, is_within, place_of_node, whole_area}
+use Rattle.tv_model.specs.Description.Numbers.{natural}
+use Rattle.tv_model.specs.Description.Sharing.{is_radios}
 use Rattle.tv_machine.specs.State.{LeafState}
 use Rattle.tv_machine.specs.Leaves.{PlacedNode, leaf_list}
 use Rattle.tv_machine.specs.Dialog.Focus.{first_free, stops_of}
+use Rattle.tv_machine.specs.Dialog.Rules.{shows}
 
 -- the view marks the letter
 abbrev pub Marks : ℕ → Node → Type 0
@@ -34,6 +37,22 @@ LiesInside owner leaf = LiesIn owner leaf.node leaf.panes
 abbrev pub NamesCluster : List Node → Rule → Type 0
 NamesCluster views rule = (node : Node) → meant views rule.cluster ≡ Some node → IsTrue (is_cluster node.kind)
 
+-- the rule shows the leaf, or a pane around it, while this item of the radio buttons is marked
+pub record ShowsBy (d : Dialog) (radios : Node) (item : ℕ) (leaf : PlacedNode) (rule : Rule) : Type 0 where
+  pub showing : IsTrue (shows leaf rule.effect)
+  pub cluster : meant d.views rule.cluster ≡ Some radios
+  pub marked : natural rule.item ≡ item
+
+-- rules show the two leaves by different items of the same radio buttons
+pub record AreShownApart (d : Dialog) (leaf other : PlacedNode) : Type 0 where
+  pub radios : Node
+  pub kind : IsTrue (is_radios radios.kind)
+  pub item : ℕ
+  pub other_item : ℕ
+  pub apart : item ≢ other_item
+  pub shown : Any (ShowsBy d radios item leaf) d.rules
+  pub other_shown : Any (ShowsBy d radios other_item other) d.rules
+
 -- the command of an enable rule is one of the language
 abbrev pub IsLawfulEffect : Effect → Type 0
 IsLawfulEffect (effects.Show name) = Unit {0}
@@ -50,8 +69,10 @@ pub record IsLawfulDialog (d : Dialog) : Type 0 where
   pub effects : All (λ rule. IsLawfulEffect rule.effect) d.rules
   -- no leaf sticks out of the panes around it, or over the frame
   pub places : All (LiesInside d.node) (leaf_list d.views)
-  -- no letter is marked by two views
-  pub letters : (letter : ℕ) → AllPairs (λ view other. Marks letter view → Marks letter other → ⊥) d.views
+  -- two leaves mark a letter only where they are shown by different items of the same radio buttons
+  pub letters : (letter : ℕ)
+      → AllPairs (λ leaf other. Marks letter leaf.node → Marks letter other.node → AreShownApart d leaf other)
+      (leaf_list d.views)
   -- no two buttons are declared to be the default
   pub defaults : AllPairs (λ view other. IsTrue (is_default view) → IsTrue (is_default other) → ⊥) d.views
   -- whatever is marked, a control is free to focus

@@ -1,5 +1,6 @@
 -- What letters act on in a dialog.
-use Rattle.std.specs.Prelude.{ℕ, Option, Some, None, find, is_some, if◌then◌else◌}
+use Rattle.std.specs.Prelude.{[], ℕ, Bool, List, ◌∷◌, Option, Some, None, filter, find, is_some, ◌&&◌, if◌then◌else◌, IsTrue}
+use Rattle.std.specs.List.{AllPairs}
 use Rattle.tv_model.specs.declared.node.Id.{Id}
 use Rattle.tv_model.specs.declared.node.Node.{Node}
 use Rattle.tv_model.specs.declared.kind.Kind.{Kind}
@@ -9,6 +10,7 @@ use Rattle.tv_model.specs.Controls.Shortcut.{ClusterKind}
 use Rattle.tv_model.specs.declared.desc.Dialog.{Dialog}
 use Rattle.tv_model.specs.Description.Names.{meant}
 use Rattle.tv_model.specs.Description.Owners.{owner_by}
+use Rattle.tv_machine.specs.State.{LeafState}
 use Rattle.tv_machine.specs.Leaves.{PlacedNode, leaf_list}
 use Rattle.tv_model.specs.Kinds.Cluster.{cluster_item_pressed}
 use Rattle.tv_machine.specs.Dialog.Rules.{is_visible, is_enabled}
@@ -16,9 +18,33 @@ use Rattle.tv_machine.specs.Dialog.Focus.{request, request_then}
 use Rattle.tv_machine.specs.Dialog.Ending.{press}
 use Rattle.tv_machine.specs.Dialog.Modal.{Modal, content_at, content_put}
 
--- the leaf that marks the letter, hidden or not
-abbrev pub marking_leaf : Dialog → ℕ → Option PlacedNode
-marking_leaf d letter = find (λ leaf. is_some (owner_by letter leaf.node.kind)) (leaf_list d.views)
+-- the leaves that mark the letter, hidden or not
+abbrev pub marking_leaves : Dialog → ℕ → List PlacedNode
+marking_leaves d letter = filter (λ leaf. is_some (owner_by letter leaf.node.kind)) (leaf_list d.views)
+
+-- of leaves that mark a letter its marker: the one, hidden or not, and of several the visible one, if any is
+abbrev pub marker_among : Dialog → List LeafState → List PlacedNode → Option PlacedNode
+marker_among d leaves [] = None
+marker_among d leaves (marker ∷ []) = Some marker
+marker_among d leaves (marker ∷ other ∷ others) = find (is_visible d leaves) (marker ∷ other ∷ others)
+
+-- the marker of the letter, for the marks that these leaves have
+abbrev pub marking_leaf : Dialog → List LeafState → ℕ → Option PlacedNode
+marking_leaf d leaves letter = marker_among d leaves (marking_leaves d letter)
+
+-- the leaf marks the letter, and is visible
+abbrev pub is_visible_marker : Dialog → List LeafState → ℕ → PlacedNode → Bool
+is_visible_marker d leaves letter leaf =
+    is_some (owner_by letter leaf.node.kind) && is_visible d leaves leaf
+
+-- no letter has two visible markers
+abbrev pub HaveOneMarker : Dialog → List LeafState → Type 0
+HaveOneMarker d leaves =
+    (letter : ℕ)
+    → AllPairs (λ leaf other.
+    IsTrue (is_visible_marker d leaves letter leaf)
+    → IsTrue (is_visible_marker d leaves letter other)
+    → ⊥) (leaf_list d.views)
 
 -- a label asks for the focus of its link
 abbrev pub request_link : Dialog → Option Node → Modal → Modal

@@ -1,6 +1,7 @@
 -- Texts that mark a letter.
 use Rattle.std.specs.Prelude.{ℕ, Bool, false, ◌&&◌, slice_get, Option, Some, None, option_and_then}
 use Rattle.std.specs.Prelude.{option_map, ◌-◌, ◌==◌, nat_le, if◌then◌else◌}
+use Rattle.std.specs.Option.{option_map_or}
 use Rattle.tv_model.specs.declared.kind.MarkedText.{MarkedText}
 
 -- an ASCII letter in upper case
@@ -19,6 +20,10 @@ is_option_letter letter (Some other) = other == letter
 -- whether the text marks the letter
 abbrev pub marks : ℕ → MarkedText → Bool
 marks letter text = is_option_letter letter (marked_letter text)
+
+-- the text marks a letter, and one that passes the test
+abbrev pub marks_any : (ℕ → Bool) → MarkedText → Bool
+marks_any test text = option_map_or test (marked_letter text) false
 
 -- the first text marks a letter, and the second marks it too
 abbrev pub shares_letter : MarkedText → MarkedText → Bool

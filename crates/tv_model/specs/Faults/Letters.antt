@@ -17,17 +17,19 @@ use Rattle.tv_model.specs.declared.desc.Effect.{Effect}
 use Rattle.tv_model.specs.declared.desc.Effect.TheVariants as effects
 use Rattle.tv_model.specs.Faults.Lines.{after_seen}
 use Rattle.tv_model.specs.Description.Letters.{marked_of, is_capital, is_digit, is_shortcut}
-use Rattle.tv_model.specs.Description.Marks.{marks, shares_letter}
+use Rattle.tv_model.specs.Description.Marks.{marks, marks_any, shares_letter}
 use Rattle.tv_model.specs.Description.Heads.{window_head}
 
 -- ---- marks
 
--- F4: a line that marks a letter marked before in its dialog, on an earlier line or on its own
-abbrev pub marks_again : List Node → Node → Bool
-marks_again before node =
+-- F4: a line that marks a letter marked before in its dialog, on an earlier line or on its own, and not one
+-- that views share lawfully
+abbrev pub marks_again : (ℕ → Bool) → List Node → Node → Bool
+marks_again shared before node =
     list_any (λ pair.
-    list_any (λ other. list_any (shares_letter pair.1) (marked_of other.kind)) before
-    || list_any (shares_letter pair.1) pair.0) (after_seen [] (marked_of node.kind))
+    not (marks_any shared pair.1)
+    && (list_any (λ other. list_any (shares_letter pair.1) (marked_of other.kind)) before
+    || list_any (shares_letter pair.1) pair.0)) (after_seen [] (marked_of node.kind))
 
 -- ---- menus and windows
 
