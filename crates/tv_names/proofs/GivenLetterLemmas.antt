@@ -1,14 +1,15 @@
 -- Letters that were marked before.
-use Rattle.std.proofs.Common.{◌≡◌, ℕ, Bool, false, ◌||◌, List, [], refl, sym, ap, ◌∙◌}
+use Rattle.std.proofs.Common.{◌≡◌, ℕ, Bool, false, not, ◌&&◌, ◌||◌, List, [], refl, sym, ap, ◌∙◌}
 use Rattle.std.specs.List.{list_any}
+use Rattle.std.specs.Option.{option_map_or}
 use Rattle.std.specs.Prelude.{Option, Some, None}
-use Rattle.tv_model.specs.Description.Marks.{marked_letter, marks, shares_letter}
+use Rattle.tv_model.specs.Description.Marks.{marked_letter, marks, marks_any, shares_letter}
 use Rattle.tv_model.specs.Description.Letters.{marked_of}
 use Rattle.tv_model.specs.Faults.Letters.{marks_again}
 use Rattle.tv_model.specs.Faults.Lines.{after_seen}
 use Rattle.tv_model.specs.declared.kind.MarkedText.{MarkedText}
 use Rattle.tv_model.specs.declared.node.Node.{Node}
-use Rattle.tv_names.specs.Marked.{is_marked_by, is_marked_in, mark_again, marks_any}
+use Rattle.tv_names.specs.Marked.{is_marked_by, is_marked_in, mark_again}
 use Rattle.tv_model.proofs.TestLemmas.{any_none, any_same}
 
 module _ (text : MarkedText) (test : ℕ → Bool) where
@@ -17,6 +18,14 @@ module _ (text : MarkedText) (test : ℕ → Bool) where
 
   marked : (letter : ℕ) → marked_letter text ≡ Some letter → marks_any test text ≡ test letter
   marked letter some = rw some refl
+
+-- tests that agree
+marks_same : (f g : ℕ → Bool) → ((letter : ℕ) → f letter ≡ g letter) → (text : MarkedText) → marks_any f text ≡ marks_any g text
+marks_same f g same text = at (marked_letter text)
+  where
+    at : (o : Option ℕ) → option_map_or f o false ≡ option_map_or g o false
+    at None = refl
+    at (Some letter) = same letter
 
 module _ (text : MarkedText) where
   unshared : marked_letter text ≡ None → (other : MarkedText) → shares_letter text other ≡ false
@@ -48,10 +57,13 @@ marks_given_by test views h text =
     (λ none view. any_none (shares_letter text) (unshared text none) (marked_of view.kind))
     (λ letter some view. any_same (marks letter) (shares_letter text) (shared text letter some) (marked_of view.kind)) test views (marked_letter text) refl h
 
-pub view_marks_again : (test : ℕ → Bool) (views : List Node) → ((letter : ℕ) → test letter ≡ is_marked_by views letter) → (view : Node) → mark_again test (marked_of view.kind) ≡ marks_again views view
-view_marks_again test views h view =
-    any_same (λ pair. marks_any test pair.1 || list_any (shares_letter pair.1) pair.0) _
-    (λ pair. ap (λ b. b || list_any (shares_letter pair.1) pair.0) (marks_given_by test views h pair.1))
+-- the letters that are shared may be told in two ways
+pub view_marks_again : (shared all test : ℕ → Bool) (views : List Node) → ((letter : ℕ) → shared letter ≡ all letter) → ((letter : ℕ) → test letter ≡ is_marked_by views letter) → (view : Node)
+    → mark_again shared test (marked_of view.kind) ≡ marks_again all views view
+view_marks_again shared all test views same h view =
+    any_same (λ pair. not (marks_any shared pair.1) && (marks_any test pair.1 || list_any (shares_letter pair.1) pair.0)) _
+    (λ pair. ap (λ b. not b && (marks_any test pair.1 || list_any (shares_letter pair.1) pair.0)) (marks_same shared all same pair.1)
+    ∙ ap (λ b. not (marks_any all pair.1) && (b || list_any (shares_letter pair.1) pair.0)) (marks_given_by test views h pair.1))
     (after_seen [] (marked_of view.kind))
 
 -- some letters were marked before the texts

@@ -4,3 +4,4 @@ pub mod GivenLetterLemmas
 pub mod GivenNameLemmas
 pub mod ReachLemmas
 pub mod ReachSetLemmas
+pub mod SharingLemmas

@@ -3,3 +3,4 @@ pub mod Marked
 pub mod Named
 pub mod Focus
 pub mod Reach
+pub mod Sharing

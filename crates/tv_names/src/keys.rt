@@ -9,13 +9,13 @@ ghost use Rattle.tv_model.specs.Description.Marks.{is_option_letter, marks};
 ghost use Rattle.tv_model.specs.Description.Letters.{is_shortcut};
 ghost use Rattle.tv_model.specs.Faults.Each.{each_after};
 ghost use Rattle.tv_names.specs.Keys.{is_alt_of};
-ghost use Rattle.tv_names.specs.Marked.{is_marked_by};
+ghost use Rattle.tv_names.specs.Marked.{is_marked_by, is_marked_in};
 
-use crate::letters::{add_letter, add_letters, marked_of};
+use crate::letters::{add_letter, marked_of};
 use std::alloc::{AllocError, Global};
 use std::collections::HashSet;
 use tv_event::Key;
-use tv_model::{Desc, Dialog, Menu, Node, Window};
+use tv_model::{Desc, Dialog, MarkedText, Menu, Node, Window};
 
 // Whether a status item may have the key.
 fn is_status_key(key: Key) -> bool
@@ -27,6 +27,16 @@ fn is_status_key(key: Key) -> bool
         Key::Alt(letter) => letter.is_ascii_uppercase() || letter.is_ascii_digit(),
         _ => false,
     }
+}
+
+// Adds the letters that the texts mark.
+fn add_letters(letters: &mut HashSet<char>, texts: &[MarkedText]) -> Result<(), AllocError>
+    ensures { OnOk result ((ch : ℕ) → set.contains nat_eq letters.new ch ≡ (set.contains nat_eq letters.old ch || is_marked_in texts.now ch)) }
+{
+    for text in texts {
+        add_letter(letters, text)?;
+    }
+    Ok(())
 }
 
 // Adds the letters that the views mark.

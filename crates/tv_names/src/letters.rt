@@ -2,17 +2,16 @@
 
 ghost use Rattle.std.specs.Prelude.{◌≡◌, ◌||◌, ℕ, nat_eq, IfOk, OnOk};
 ghost use Rattle.std.specs.HashSet as set;
-ghost use Rattle.tv_model.specs.Description.Marks.{marked_letter, marks};
+ghost use Rattle.tv_model.specs.Description.Marks.{marked_letter, marks, marks_any};
 ghost use Rattle.tv_model.specs.Description.Letters.{marked_of};
-ghost use Rattle.tv_names.specs.Marked.{is_marked_in, mark_again, marks_any};
 
 use std::alloc::{AllocError, Global};
 use std::collections::HashSet;
 use std::slice;
 use tv_model::{Kind, MarkedText};
 
-// The letter that the text marks, in upper case.
-fn letter_of(marked: &MarkedText) -> Option<char>
+/// Returns the letter that the text marks, in upper case.
+pub fn letter_of(marked: &MarkedText) -> Option<char>
     ensures { result ≡ marked_letter marked.now }
 {
     let letter = marked.text.as_slice().get(marked.mark?)?;
@@ -42,6 +41,16 @@ pub fn marks(letter: char, text: &MarkedText) -> bool
     }
 }
 
+/// Whether the text marks one of the letters.
+pub fn marks_any(letters: &HashSet<char>, text: &MarkedText) -> bool
+    ensures { result ≡ marks_any (set.contains nat_eq letters.now) text.now }
+{
+    match letter_of(text) {
+        Some(letter) => letters.contains(&letter),
+        None => false,
+    }
+}
+
 /// Adds the letter that the text marks. Returns whether it was among the letters before.
 pub fn add_letter(letters: &mut HashSet<char>, text: &MarkedText) -> Result<bool, AllocError>
     ensures again { IfOk result (λ again. again ≡ marks_any (set.contains nat_eq letters.old) text.now) }
@@ -51,16 +60,4 @@ pub fn add_letter(letters: &mut HashSet<char>, text: &MarkedText) -> Result<bool
         Some(letter) => Ok(!letters.insert(letter)?),
         None => Ok(false),
     }
-}
-
-/// Adds the letters that the texts mark. Returns whether one of them was among the letters before, or is marked twice.
-pub fn add_letters(letters: &mut HashSet<char>, texts: &[MarkedText]) -> Result<bool, AllocError>
-    ensures again { IfOk result (λ again. again ≡ mark_again (set.contains nat_eq letters.old) texts.now) }
-    ensures added { OnOk result ((ch : ℕ) → set.contains nat_eq letters.new ch ≡ (set.contains nat_eq letters.old ch || is_marked_in texts.now ch)) }
-{
-    let mut again = false;
-    for text in texts {
-        again |= add_letter(letters, text)?;
-    }
-    Ok(again)
 }

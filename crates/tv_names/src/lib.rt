@@ -10,6 +10,7 @@ mod letters;
 mod marked;
 mod menus;
 mod names;
+mod sharing;
 mod showing;
 mod unknown;
 
@@ -22,5 +23,6 @@ pub use letters::marks;
 pub use marked::marks_again;
 pub use menus::{items_again, numbered_again, titled_again};
 pub use names::gives_name;
+pub use sharing::Sharing;
 pub use showing::show_themselves;
 pub use unknown::unknown_names;
