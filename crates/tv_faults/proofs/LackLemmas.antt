@@ -1,5 +1,5 @@
 -- A fault names no line exactly where no declaration has it.
-use Rattle.std.proofs.Common.{◌≡◌, ◌↔◌, ℕ, Bool, true, false, cond, List, [], ◌∷◌, ◌++◌, map, filter, flat_map, refl}
+use Rattle.std.proofs.Common.{◌≡◌, ◌↔◌, ℕ, Bool, true, false, cond, List, [], ◌∷◌, ◌++◌, map, filter, flat_map, None, refl}
 use Rattle.std.specs.List.{All}
 use Rattle.std.proofs.lemmas.List.Elements.{All-nil, All-cons, All-head, All-tail}
 use Rattle.tv_model.specs.declared.desc.Desc.{Desc}
@@ -8,6 +8,7 @@ use Rattle.tv_model.specs.declared.desc.Dialog.{Dialog}
 use Rattle.tv_model.specs.declared.fault.FaultKind.{FaultKind}
 use Rattle.tv_model.specs.Description.Commands.{no_ends}
 use Rattle.tv_model.specs.Description.Heads.{dialog_head}
+use Rattle.tv_model.specs.Description.Sharing.{sharing_rules}
 use Rattle.tv_model.specs.Faults.{dialog_has, dialog_lines, fault_lines, head_lines, item_has, menu_has, menu_lines, rule_has, rule_lines, status_has, status_lines, view_has, view_lines, window_has, window_lines}
 use Rattle.tv_model.specs.Faults.Lines.{after_seen, line_if, lines_where}
 use Rattle.tv_faults.specs.Sound.Bodies.{Body, EachBody, dialog_body, window_body}
@@ -75,7 +76,7 @@ abbrev pub NoItem : FaultKind → Menu → Type 0
 NoItem kind menu = NoneAfter (item_has kind) menu.items
 
 abbrev pub NoView : FaultKind → Body → Type 0
-NoView kind body = NoneAfter (view_has kind body.frame body.ends body.views) body.views
+NoView kind body = NoneAfter (view_has kind body.frame body.ends body.sharing body.views) body.views
 
 abbrev pub NoRule : FaultKind → Dialog → Type 0
 NoRule kind dialog = NoneAfter (rule_has kind dialog.views) dialog.rules
@@ -91,8 +92,8 @@ pub record Lacks (kind : FaultKind) (d : Desc) : Type 0 where
   pub rules : All (NoRule kind) d.dialogs
 
 -- what holds of windows and dialogs by themselves holds of each body
-pub bodies : (d : Desc) (P : Body → Type 0) → EachBody d P ↔ (All (λ window. P (window_body window)) d.windows × All (λ dialog. P (dialog_body dialog)) d.dialogs)
-bodies d P = chain (all_append P (map window_body d.windows) (map dialog_body d.dialogs)) (both (all_map P window_body d.windows) (all_map P dialog_body d.dialogs))
+pub bodies : (d : Desc) (P : Body → Type 0) → EachBody d P ↔ (All (λ window. P (window_body window)) d.windows × All (λ dialog. P (dialog_body d.version dialog)) d.dialogs)
+bodies d P = chain (all_append P (map window_body d.windows) (map (dialog_body d.version) d.dialogs)) (both (all_map P window_body d.windows) (all_map P (dialog_body d.version) d.dialogs))
 
 module _ (kind : FaultKind) (d : Desc) where
   menus_nil : flat_map (λ pair. menu_lines kind pair.0 pair.1) (after_seen [] d.menus) ≡ [] ↔ (NoneAfter (menu_has kind) d.menus × All (NoItem kind) d.menus)
@@ -101,18 +102,18 @@ module _ (kind : FaultKind) (d : Desc) where
   status_nil : status_lines kind d ≡ [] ↔ NoneAfter (status_has kind d) d.status
   status_nil = where_nil (λ item. item.id.0) (status_has kind d) d.status
 
-  views_nil : (body : Body) → view_lines kind body.frame body.ends body.views ≡ [] ↔ NoView kind body
-  views_nil body = where_nil (λ node. node.id.0) (view_has kind body.frame body.ends body.views) body.views
+  views_nil : (body : Body) → view_lines kind body.frame body.ends body.sharing body.views ≡ [] ↔ NoView kind body
+  views_nil body = where_nil (λ node. node.id.0) (view_has kind body.frame body.ends body.sharing body.views) body.views
 
   windows_nil : flat_map (λ pair. window_lines kind pair.0 pair.1) (after_seen [] d.windows) ≡ [] ↔ (NoneAfter (window_has kind) d.windows × All (λ window. NoView kind (window_body window)) d.windows)
   windows_nil =
-      parts_nil (λ window. window.node.id.0) (window_has kind) (λ window. view_lines kind window.node no_ends window.views) (λ window. NoView kind (window_body window)) (λ window. views_nil (window_body window)) d.windows
+      parts_nil (λ window. window.node.id.0) (window_has kind) (λ window. view_lines kind window.node no_ends None window.views) (λ window. NoView kind (window_body window)) (λ window. views_nil (window_body window)) d.windows
 
-  dialogs_nil : flat_map (λ pair. dialog_lines kind d pair.0 pair.1) (after_seen [] d.dialogs) ≡ [] ↔ (NoneAfter (dialog_has kind d) d.dialogs × All (λ dialog. NoView kind (dialog_body dialog) × NoRule kind dialog) d.dialogs)
+  dialogs_nil : flat_map (λ pair. dialog_lines kind d pair.0 pair.1) (after_seen [] d.dialogs) ≡ [] ↔ (NoneAfter (dialog_has kind d) d.dialogs × All (λ dialog. NoView kind (dialog_body d.version dialog) × NoRule kind dialog) d.dialogs)
   dialogs_nil =
-      parts_nil (λ dialog. dialog.node.id.0) (dialog_has kind d) (λ dialog. view_lines kind dialog.node (dialog_head dialog).ends dialog.views ++ rule_lines kind dialog)
-      (λ dialog. NoView kind (dialog_body dialog) × NoRule kind dialog)
-      (λ dialog. chain (append_nil (view_lines kind dialog.node (dialog_head dialog).ends dialog.views) (rule_lines kind dialog)) (both (views_nil (dialog_body dialog)) (where_nil (λ rule. rule.id.0) (rule_has kind dialog.views) dialog.rules)))
+      parts_nil (λ dialog. dialog.node.id.0) (dialog_has kind d) (λ dialog. view_lines kind dialog.node (dialog_head dialog).ends (sharing_rules d.version dialog.rules) dialog.views ++ rule_lines kind dialog)
+      (λ dialog. NoView kind (dialog_body d.version dialog) × NoRule kind dialog)
+      (λ dialog. chain (append_nil (view_lines kind dialog.node (dialog_head dialog).ends (sharing_rules d.version dialog.rules) dialog.views) (rule_lines kind dialog)) (both (views_nil (dialog_body d.version dialog)) (where_nil (λ rule. rule.id.0) (rule_has kind dialog.views) dialog.rules)))
       d.dialogs
 
   forward : fault_lines kind d ≡ [] → Lacks kind d

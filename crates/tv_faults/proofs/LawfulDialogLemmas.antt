@@ -9,16 +9,18 @@ use Rattle.tv_model.specs.Faults.{IsSound}
 use Rattle.tv_machine.specs.Dialog.Lawful.{IsLawfulDialog}
 use Rattle.tv_declarations.specs.Spelling.{IsDescription, IsDialog}
 use Rattle.tv_faults.specs.Sound.{Sound}
+use Rattle.tv_faults.specs.Sound.Bodies.{dialog_body}
 use Rattle.tv_faults.specs.Sound.Ends.{AreNotBothDefault}
-use Rattle.tv_faults.specs.Sound.Letters.{MarkOtherLetters, marked_texts}
+use Rattle.tv_faults.specs.Sound.Letters.{HasOwnLetters}
 use Rattle.tv_faults.specs.Sound.Limits.{EnablesLawfulCommand}
 use Rattle.tv_faults.specs.Sound.Names.{HaveOtherNames}
 use Rattle.tv_faults.specs.Usable.{IsUsableDialog}
 use Rattle.tv_faults.proofs.LackLemmas.{bodies}
 use Rattle.tv_faults.proofs.LawfulFocusLemmas.{some_free}
-use Rattle.tv_faults.proofs.LawfulPartLemmas.{lawful_effect, names_cluster, own_letters}
+use Rattle.tv_faults.proofs.LawfulPartLemmas.{lawful_effect, names_cluster}
 use Rattle.tv_faults.proofs.LawfulPlaceLemmas.{leaves_lie}
-use Rattle.tv_faults.proofs.RisingLemmas.{nodes_rise}
+use Rattle.tv_faults.proofs.RisingLemmas.{nodes_rise, views_rise}
+use Rattle.tv_faults.proofs.SharedLetterLemmas.{letters_apart}
 use Rattle.tv_faults.proofs.SoundLemmas.{sound_says}
 use Rattle.tv_faults.proofs.UsableLemmas.{usable}
 
@@ -30,8 +32,7 @@ lawful_dialogs d is s k dialog less =
     let limited : All IsLimited own.views = All-tail IsLimited own.node own.views use_of.nodes in
     let apart : AllPairs HaveOtherNames own.views =
     ((bodies d (λ body. AllPairs HaveOtherNames body.views)).0 s.names.views).1 k dialog less in
-    let texts : AllPairs MarkOtherLetters (marked_texts own.views) =
-    ((bodies d (λ body. AllPairs MarkOtherLetters (marked_texts body.views))).0 s.letters).1 k dialog less in
+    let letters : HasOwnLetters (dialog_body d.version own) = ((bodies d HasOwnLetters).0 s.letters).1 k dialog less in
     let fits : All (λ rule. EnablesLawfulCommand rule.effect) own.rules = s.limits.texts.rules k dialog less in
     record {
       rising = nodes_rise d is k dialog less;
@@ -40,7 +41,7 @@ lawful_dialogs d is s k dialog less =
       rules = λ i rule within. names_cluster own.views (get_or own.rules i rule) (s.rules k dialog less i rule within);
       effects = λ i rule within. lawful_effect (get_or own.rules i rule).effect (fits i rule within);
       places = leaves_lie own.node own.views stands.views use_of.inside;
-      letters = own_letters own.views texts;
+      letters = letters_apart own d.version (views_rise d is k dialog less) stands.views (s.rules k dialog less) letters;
       defaults = ((bodies d (λ body. AllPairs AreNotBothDefault body.views)).0 s.defaults).1 k dialog less;
       «free» = λ leaves. some_free own leaves stands.views apart limited fits (s.focus k dialog less);
     }

@@ -19,7 +19,7 @@ use Rattle.tv_model.specs.Controls.Owner.{LetterOwner}
 use Rattle.tv_model.specs.Description.Owners.{owner_by}
 use Rattle.tv_machine.specs.Dialog.Lawful.{Marks, NamesCluster}
 use Rattle.tv_machine.specs.Dialog.Lawful as machine
-use Rattle.tv_faults.specs.Sound.Letters.{MarkOtherLetters, marked_texts}
+use Rattle.tv_faults.specs.Sound.Letters.{MarkOthersUnlessShared, marked_texts}
 use Rattle.tv_faults.specs.Sound.Limits.{EnablesLawfulCommand}
 use Rattle.tv_faults.specs.Sound.Rules.{HasItem, NamesThings}
 use Rattle.tv_faults.proofs.LetterLemmas.{marks_decides}
@@ -71,27 +71,27 @@ any_own true o some = refl
 any_own false o some = absurd (false≢true some)
 
 -- a letter is marked by a text
-marks_some : (letter : ℕ) (kind : Kind) → IsTrue (is_some (owner_by letter kind)) → list_any (marks letter) (marked_of kind) ≡ true
+pub marks_some : (letter : ℕ) (kind : Kind) → IsTrue (is_some (owner_by letter kind)) → list_any (marks letter) (marked_of kind) ≡ true
 marks_some letter (kinds.Label label) some = any_own (marks letter label.text) _ some
 marks_some letter (kinds.Button button) some = any_own (marks letter button.text) _ some
 marks_some letter (kinds.CheckBoxes boxes) some = any_found (marks letter) _ boxes.items some
 marks_some letter (kinds.RadioButtons radios) some = any_found (marks letter) _ radios.items some
 marks_some letter _ some = absurd (false≢true some)
 
-not_both : (letter : ℕ) (texts others : List MarkedText) → Across MarkOtherLetters texts others
-    → list_any (marks letter) texts ≡ true → list_any (marks letter) others ≡ true → ⊥
-not_both letter texts others apart one other =
+not_both : (shared : ℕ → Bool) (letter : ℕ) (texts others : List MarkedText) → Across (MarkOthersUnlessShared shared) texts others
+    → shared letter ≡ false → list_any (marks letter) texts ≡ true → list_any (marks letter) others ≡ true → ⊥
+not_both shared letter texts others apart alone one other =
     let h = Any-from_list_any (marks letter) texts one in
     let k = Any-from_list_any (marks letter) others other in
-    let from : All (MarkOtherLetters h.1) others =
-    of_any (λ text. All (MarkOtherLetters text) others) (λ text. marks letter text ≡ true) texts apart h in
-    let differ : MarkOtherLetters h.1 k.1 = of_any (MarkOtherLetters h.1) (λ text. marks letter text ≡ true) others from k in
-    differ letter ((marks_decides letter h.1).0 h.4) ((marks_decides letter k.1).0 k.4)
+    let from : All (MarkOthersUnlessShared shared h.1) others =
+    of_any (λ text. All (MarkOthersUnlessShared shared text) others) (λ text. marks letter text ≡ true) texts apart h in
+    let differ : MarkOthersUnlessShared shared h.1 k.1 = of_any (MarkOthersUnlessShared shared h.1) (λ text. marks letter text ≡ true) others from k in
+    differ letter alone ((marks_decides letter h.1).0 h.4) ((marks_decides letter k.1).0 k.4)
 
-pub own_letters : (views : List Node) → AllPairs MarkOtherLetters (marked_texts views) → (letter : ℕ)
+pub own_letters : (shared : ℕ → Bool) (views : List Node) → AllPairs (MarkOthersUnlessShared shared) (marked_texts views) → (letter : ℕ) → shared letter ≡ false
     → AllPairs (λ view other. Marks letter view → Marks letter other → ⊥) views
-own_letters views apart letter i j view less below one other =
+own_letters shared views apart letter alone i j view less below one other =
     let texts : List MarkedText = marked_of (get_or views i view).kind in
     let others : List MarkedText = marked_of (get_or views j view).kind in
-    not_both letter texts others (((pairs_flat MarkOtherLetters (λ view. marked_of view.kind) views).0 apart).0 i j view less below)
+    not_both shared letter texts others (((pairs_flat (MarkOthersUnlessShared shared) (λ view. marked_of view.kind) views).0 apart).0 i j view less below) alone
     (marks_some letter (get_or views i view).kind one) (marks_some letter (get_or views j view).kind other)

@@ -1,8 +1,9 @@
 -- What the want of faults of letters and keys says: F4, F5 and F17.
-use Rattle.std.proofs.Common.{◌≡◌, ◌≢◌, ◌↔◌, ℕ, ◌+◌, ◌-◌, ◌≤◌, ◌==◌, true, false, not, ◌&&◌, ◌||◌, Decides, List, [], get_or, Option, Some, None, ℤ, pos, int_le, nat_le, refl, sym, ap, subst, ◌∙◌, arith}
+use Rattle.std.proofs.Common.{◌≡◌, ◌≢◌, ◌↔◌, ℕ, ◌+◌, ◌-◌, ◌≤◌, ◌==◌, Bool, true, false, not, ◌&&◌, ◌||◌, Decides, List, [], get_or, Option, Some, None, ℤ, pos, int_le, nat_le, refl, sym, ap, subst, ◌∙◌, arith}
 use Rattle.std.specs.List.{All, AllPairs, Any, list_any}
 use Rattle.std.specs.Ordering.{int_eq}
-use Rattle.std.proofs.lemmas.Bool.{false≢true, false_from_ne_true, leb-true, le-leb, and_parts, and_from}
+use Rattle.std.specs.Option.{option_map_or}
+use Rattle.std.proofs.lemmas.Bool.{not-true, false≢true, false_from_ne_true, leb-true, le-leb, and_parts, and_from}
 use Rattle.std.proofs.lemmas.Bool.Decides.{Decides-and, Decides-eqb, Decides-int_eq, Decides-not, Decides-or}
 use Rattle.tv_event.specs.declared.event.Key.{Key}
 use Rattle.tv_event.specs.declared.event.Key.TheVariants as keys
@@ -19,13 +20,14 @@ use Rattle.tv_model.specs.declared.desc.Effect.TheVariants as effects
 use Rattle.tv_model.specs.declared.fault.FaultKind.TheVariants as faults
 use Rattle.tv_model.specs.Description.Heads.{window_head}
 use Rattle.tv_model.specs.Description.Letters.{is_capital, is_digit, is_shortcut, marked_of}
-use Rattle.tv_model.specs.Description.Marks.{is_option_letter, marked_letter, marks, shares_letter}
+use Rattle.tv_model.specs.Description.Marks.{is_option_letter, marked_letter, marks, marks_any, shares_letter}
 use Rattle.tv_model.specs.Description.Numbers.{IsBetween, is_between}
+use Rattle.tv_model.specs.Description.Sharing.{is_shared_by}
 use Rattle.tv_model.specs.Faults.{menu_has, status_has, window_has}
 use Rattle.tv_model.specs.Faults.Lines.{after_seen}
 use Rattle.tv_model.specs.Faults.Letters.{has_bad_key, is_same_key, is_status_key, is_taken, is_window_digit, marks_again, numbered_again, rules_cancel}
 use Rattle.tv_faults.specs.Sound.Bodies.{Body, bodies_of}
-use Rattle.tv_faults.specs.Sound.Letters.{HaveOwnKeys, HaveOwnLetters, HaveOwnMenuLetters, IsCapital, IsDigit, IsDigitOf, IsFreeWithAlt, IsShortcut, MarkOtherLetters, MarksLetter, MayBeStatusKey, marked_texts}
+use Rattle.tv_faults.specs.Sound.Letters.{HaveOwnKeys, HaveOwnLetters, HaveOwnMenuLetters, IsCapital, IsDigit, IsDigitOf, IsFreeWithAlt, HasOwnLetters, IsShortcut, MarkOtherLetters, MarkOthersUnlessShared, MarksLetter, MayBeStatusKey, marked_texts}
 use Rattle.tv_faults.proofs.ExcludeLemmas.{Excludes, again_excludes, and_excludes, any_decides, any_excludes, not_excludes, or_excludes, test_excludes}
 use Rattle.tv_faults.proofs.LackLemmas.{Lacks, NoItem, NoRule, NoView, NoneAfter}
 use Rattle.tv_faults.proofs.PairLemmas.{Across, after_each, after_own, all_and, all_swap, both, chain, each, pairs_flat}
@@ -64,45 +66,79 @@ at_most_decides a b = (leb-true a b, le-leb a b)
 abbrev own_texts : Node → List MarkedText
 own_texts node = marked_of node.kind
 
-abbrev OwnLetters : Node → Type 0
-OwnLetters node = AllPairs MarkOtherLetters (own_texts node)
+-- the text marks no letter that is shared, and then no other that the other text marks
+unless_shared : (shared : ℕ → Bool) (one text : MarkedText) → (not (marks_any shared text) ≡ true → MarkOtherLetters one text) ↔ MarkOthersUnlessShared shared one text
+unless_shared shared one text =
+    let same : (letter : ℕ) → MarksLetter text letter → marks_any shared text ≡ shared letter = λ letter own. ap (λ o. option_map_or shared o false) own in (
+      λ f letter alone has own. f (ap not (same letter own ∙ alone)) letter has own,
+      λ h is letter has own. h letter (sym (same letter own) ∙ not-true (marks_any shared text) is) has own,
+    )
 
-again_iff : (before : List Node) (node : Node) → Excludes (marks_again before node) (All (λ other. Across MarkOtherLetters (own_texts other) (own_texts node)) before × OwnLetters node)
-again_iff before node =
-    let texts : List (List MarkedText × MarkedText) = after_seen [] (own_texts node) in
-    let inside : (text : MarkedText) (other : Node) → Excludes (list_any (shares_letter text) (own_texts other)) (All (λ one. MarkOtherLetters one text) (own_texts other)) =
-    λ text other. any_excludes (shares_letter text) (λ one. MarkOtherLetters one text) (shares_excludes text) (own_texts other) in
-    chain
-    (any_excludes (λ pair. list_any (λ other. list_any (shares_letter pair.1) (own_texts other)) before || list_any (shares_letter pair.1) pair.0)
-    (λ pair. All (λ other. All (λ one. MarkOtherLetters one pair.1) (own_texts other)) before × All (λ one. MarkOtherLetters one pair.1) pair.0)
-    (λ pair. or_excludes (list_any (λ other. list_any (shares_letter pair.1) (own_texts other)) before) (list_any (shares_letter pair.1) pair.0)
-    (any_excludes (λ other. list_any (shares_letter pair.1) (own_texts other)) (λ other. All (λ one. MarkOtherLetters one pair.1) (own_texts other)) (inside pair.1) before)
-    (any_excludes (shares_letter pair.1) (λ one. MarkOtherLetters one pair.1) (shares_excludes pair.1) pair.0))
-    texts)
-    (chain
-    (all_and (λ pair. All (λ other. All (λ one. MarkOtherLetters one pair.1) (own_texts other)) before) (λ pair. All (λ one. MarkOtherLetters one pair.1) pair.0) texts)
-    (both
-    (chain
-    (after_own (λ text. All (λ other. All (λ one. MarkOtherLetters one text) (own_texts other)) before) [] (own_texts node))
-    (chain
-    (all_swap (λ text other. All (λ one. MarkOtherLetters one text) (own_texts other)) (own_texts node) before)
-    (each (λ other. All (λ text. All (λ one. MarkOtherLetters one text) (own_texts other)) (own_texts node)) (λ other. Across MarkOtherLetters (own_texts other) (own_texts node))
-    (λ other. all_swap (λ text one. MarkOtherLetters one text) (own_texts node) (own_texts other)) before)))
-    (after_each MarkOtherLetters (own_texts node))))
+module _ (shared : ℕ → Bool) where
+  abbrev MarkOthers : MarkedText → MarkedText → Type 0
+  MarkOthers = MarkOthersUnlessShared shared
 
-views_marked : (body : Body) → NoView faults.LetterTwice body ↔ AllPairs MarkOtherLetters (marked_texts body.views)
-views_marked body =
-    let flat = pairs_flat MarkOtherLetters own_texts body.views in
-    chain
-    (each (λ pair. marks_again pair.0 pair.1 ≡ false) (λ pair. All (λ other. Across MarkOtherLetters (own_texts other) (own_texts pair.1)) pair.0 × OwnLetters pair.1) (λ pair. again_iff pair.0 pair.1) (after_seen [] body.views))
-    (chain
-    (all_and (λ pair. All (λ other. Across MarkOtherLetters (own_texts other) (own_texts pair.1)) pair.0) (λ pair. OwnLetters pair.1) (after_seen [] body.views))
-    (chain
-    (both (after_each (λ x y. Across MarkOtherLetters (own_texts x) (own_texts y)) body.views) (after_own OwnLetters [] body.views))
-    (flat.1, flat.0)))
+  abbrev OwnLetters : Node → Type 0
+  OwnLetters node = AllPairs MarkOthers (own_texts node)
+
+  -- a text beside those on earlier lines and those before it on its own
+  abbrev Repeats : List Node → List MarkedText × MarkedText → Bool
+  Repeats before pair = list_any (λ other. list_any (shares_letter pair.1) (own_texts other)) before || list_any (shares_letter pair.1) pair.0
+
+  repeats_iff : (before : List Node) (pair : List MarkedText × MarkedText)
+      → Excludes (not (marks_any shared pair.1) && Repeats before pair) (All (λ other. All (λ one. MarkOthers one pair.1) (own_texts other)) before × All (λ one. MarkOthers one pair.1) pair.0)
+  repeats_iff before pair =
+      let inside : (other : Node) → Excludes (list_any (shares_letter pair.1) (own_texts other)) (All (λ one. MarkOtherLetters one pair.1) (own_texts other)) =
+      λ other. any_excludes (shares_letter pair.1) (λ one. MarkOtherLetters one pair.1) (shares_excludes pair.1) (own_texts other) in
+      let here : Excludes (Repeats before pair) (All (λ other. All (λ one. MarkOtherLetters one pair.1) (own_texts other)) before × All (λ one. MarkOtherLetters one pair.1) pair.0) =
+      or_excludes (list_any (λ other. list_any (shares_letter pair.1) (own_texts other)) before) (list_any (shares_letter pair.1) pair.0)
+      (any_excludes (λ other. list_any (shares_letter pair.1) (own_texts other)) (λ other. All (λ one. MarkOtherLetters one pair.1) (own_texts other)) inside before)
+      (any_excludes (shares_letter pair.1) (λ one. MarkOtherLetters one pair.1) (shares_excludes pair.1) pair.0) in
+      chain (and_excludes (not (marks_any shared pair.1)) (Repeats before pair) here) (
+        λ f. (
+          λ k d less j e within. (unless_shared shared (get_or (own_texts (get_or before k d)) j e) pair.1).0 (λ is. (f is).0 k d less j e within),
+          λ k d less. (unless_shared shared (get_or pair.0 k d) pair.1).0 (λ is. (f is).1 k d less),
+        ),
+        λ h is. (
+          λ k d less j e within. (unless_shared shared (get_or (own_texts (get_or before k d)) j e) pair.1).1 (h.0 k d less j e within) is,
+          λ k d less. (unless_shared shared (get_or pair.0 k d) pair.1).1 (h.1 k d less) is,
+        ),
+      )
+
+  again_iff : (before : List Node) (node : Node) → Excludes (marks_again shared before node) (All (λ other. Across MarkOthers (own_texts other) (own_texts node)) before × OwnLetters node)
+  again_iff before node =
+      let texts : List (List MarkedText × MarkedText) = after_seen [] (own_texts node) in
+      chain
+      (any_excludes (λ pair. not (marks_any shared pair.1) && Repeats before pair)
+      (λ pair. All (λ other. All (λ one. MarkOthers one pair.1) (own_texts other)) before × All (λ one. MarkOthers one pair.1) pair.0)
+      (repeats_iff before) texts)
+      (chain
+      (all_and (λ pair. All (λ other. All (λ one. MarkOthers one pair.1) (own_texts other)) before) (λ pair. All (λ one. MarkOthers one pair.1) pair.0) texts)
+      (both
+      (chain
+      (after_own (λ text. All (λ other. All (λ one. MarkOthers one text) (own_texts other)) before) [] (own_texts node))
+      (chain
+      (all_swap (λ text other. All (λ one. MarkOthers one text) (own_texts other)) (own_texts node) before)
+      (each (λ other. All (λ text. All (λ one. MarkOthers one text) (own_texts other)) (own_texts node)) (λ other. Across MarkOthers (own_texts other) (own_texts node))
+      (λ other. all_swap (λ text one. MarkOthers one text) (own_texts node) (own_texts other)) before)))
+      (after_each MarkOthers (own_texts node))))
+
+  lines_marked : (views : List Node) → NoneAfter (marks_again shared) views ↔ AllPairs MarkOthers (marked_texts views)
+  lines_marked views =
+      let flat = pairs_flat MarkOthers own_texts views in
+      chain
+      (each (λ pair. marks_again shared pair.0 pair.1 ≡ false) (λ pair. All (λ other. Across MarkOthers (own_texts other) (own_texts pair.1)) pair.0 × OwnLetters pair.1) (λ pair. again_iff pair.0 pair.1) (after_seen [] views))
+      (chain
+      (all_and (λ pair. All (λ other. Across MarkOthers (own_texts other) (own_texts pair.1)) pair.0) (λ pair. OwnLetters pair.1) (after_seen [] views))
+      (chain
+      (both (after_each (λ x y. Across MarkOthers (own_texts x) (own_texts y)) views) (after_own OwnLetters [] views))
+      (flat.1, flat.0)))
+
+views_marked : (body : Body) → NoView faults.LetterTwice body ↔ HasOwnLetters body
+views_marked body = lines_marked (is_shared_by body.sharing body.views) body.views
 
 pub letters : (d : Desc) → Lacks faults.LetterTwice d ↔ HaveOwnLetters d
-letters d = let views = each (NoView faults.LetterTwice) (λ body. AllPairs MarkOtherLetters (marked_texts body.views)) views_marked (bodies_of d) in (
+letters d = let views = each (NoView faults.LetterTwice) HasOwnLetters views_marked (bodies_of d) in (
   λ h. views.0 h.views,
   λ s. record {
     head = refl;

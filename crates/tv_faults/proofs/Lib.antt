@@ -16,6 +16,7 @@ pub mod PairLemmas
 pub mod RisingLemmas
 pub mod RuleLemmas
 pub mod SeenLemmas
+pub mod SharedLetterLemmas
 pub mod SoundDialogLemmas
 pub mod SoundLemmas
 pub mod StartTextLemmas

@@ -57,7 +57,7 @@ nodes_iff P d =
     (chain
     (both
     (chain (all_flat P window_nodes d.windows) (each (λ window. All P (window_nodes window)) (λ window. OfBody P (window_body window)) (λ window. first_rest P window.node window.views) d.windows))
-    (chain (all_flat P dialog_nodes d.dialogs) (each (λ dialog. All P (dialog_nodes dialog)) (λ dialog. OfBody P (dialog_body dialog)) (λ dialog. first_rest P dialog.node dialog.views) d.dialogs)))
+    (chain (all_flat P dialog_nodes d.dialogs) (each (λ dialog. All P (dialog_nodes dialog)) (λ dialog. OfBody P (dialog_body d.version dialog)) (λ dialog. first_rest P dialog.node dialog.views) d.dialogs)))
     (ends.1, ends.0))
 
 -- what is tested on the line of each node

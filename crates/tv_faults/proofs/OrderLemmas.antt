@@ -12,7 +12,9 @@ use Rattle.tv_model.specs.declared.command.Ends.{Ends}
 use Rattle.tv_model.specs.declared.desc.Menu.{Menu}
 use Rattle.tv_model.specs.Description.Commands.{no_ends}
 use Rattle.tv_model.specs.Description.Heads.{dialog_head}
+use Rattle.tv_model.specs.declared.desc.Rule.{Rule}
 use Rattle.tv_model.specs.declared.desc.Window.{Window}
+use Rattle.tv_model.specs.Description.Sharing.{sharing_rules}
 use Rattle.tv_model.specs.Faults.Starts.{means_dialog}
 use Rattle.tv_model.specs.Faults.Lines.{after_seen, line_if, lines_where}
 use Rattle.tv_model.specs.Faults.{all_kinds, dialog_has, dialog_lines, fault_at, fault_lines, fault_number, faults_at, faults_of, head_lines, item_has, menu_has, menu_lines, rule_has, rule_lines, status_has, view_has, view_lines, window_has, window_lines}
@@ -92,19 +94,19 @@ kept_menu kind before menu =
     kept_append (lines_where (λ item. item.id.0) (item_has kind) [] menu.items) (map (λ item. item.id.0) menu.items)
     (kept_if (menu_has kind before menu) menu.id.0) (kept_where (λ item. item.id.0) (item_has kind) [] menu.items)
 
-kept_views : (kind : FaultKind) (frame : Node) (ends : Ends) (views : List Node) → Kept (view_lines kind frame ends views) (map (λ node. node.id.0) views)
-kept_views kind frame ends views = kept_where (λ node. node.id.0) (view_has kind frame ends views) [] views
+kept_views : (kind : FaultKind) (frame : Node) (ends : Ends) (sharing : Option (List Rule)) (views : List Node) → Kept (view_lines kind frame ends sharing views) (map (λ node. node.id.0) views)
+kept_views kind frame ends sharing views = kept_where (λ node. node.id.0) (view_has kind frame ends sharing views) [] views
 
 kept_window : (kind : FaultKind) (before : List Window) (window : Window) → Kept (window_lines kind before window) (lines_of_window window)
 kept_window kind before window =
-    kept_append (view_lines kind window.node no_ends window.views) (map (λ node. node.id.0) window.views)
-    (kept_if (window_has kind before window) window.node.id.0) (kept_views kind window.node no_ends window.views)
+    kept_append (view_lines kind window.node no_ends None window.views) (map (λ node. node.id.0) window.views)
+    (kept_if (window_has kind before window) window.node.id.0) (kept_views kind window.node no_ends None window.views)
 
 kept_dialog : (kind : FaultKind) (d : Desc) (before : List Dialog) (dialog : Dialog) → Kept (dialog_lines kind d before dialog) (lines_of_dialog dialog)
 kept_dialog kind d before dialog =
-    kept_append (view_lines kind dialog.node (dialog_head dialog).ends dialog.views ++ rule_lines kind dialog) (map (λ node. node.id.0) dialog.views ++ map (λ rule. rule.id.0) dialog.rules)
+    kept_append (view_lines kind dialog.node (dialog_head dialog).ends (sharing_rules d.version dialog.rules) dialog.views ++ rule_lines kind dialog) (map (λ node. node.id.0) dialog.views ++ map (λ rule. rule.id.0) dialog.rules)
     (kept_if (dialog_has kind d before dialog) dialog.node.id.0)
-    (kept_append (rule_lines kind dialog) (map (λ rule. rule.id.0) dialog.rules) (kept_views kind dialog.node (dialog_head dialog).ends dialog.views)
+    (kept_append (rule_lines kind dialog) (map (λ rule. rule.id.0) dialog.rules) (kept_views kind dialog.node (dialog_head dialog).ends (sharing_rules d.version dialog.rules) dialog.views)
     (kept_where (λ rule. rule.id.0) (rule_has kind dialog.views) [] dialog.rules))
 
 abbrev Heads : FaultKind → Desc → Type 0

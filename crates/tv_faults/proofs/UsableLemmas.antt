@@ -34,8 +34,8 @@ module _ (d : Desc) (s : Sound d) where
   usable_dialogs : All (IsUsableDialog d) d.dialogs
   usable_dialogs k dialog less =
       let own : Dialog = get_or d.dialogs k dialog in
-      let limited : OfBody IsLimited (dialog_body own) = ((bodies d (OfBody IsLimited)).0 ((nodes_iff IsLimited d).0 s.limits.nodes)).1 k dialog less in
-      let narrow : OfBody IsNarrowNode (dialog_body own) = ((bodies d (OfBody IsNarrowNode)).0 ((nodes_iff IsNarrowNode d).0 s.widths.nodes)).1 k dialog less in
+      let limited : OfBody IsLimited (dialog_body d.version own) = ((bodies d (OfBody IsLimited)).0 ((nodes_iff IsLimited d).0 s.limits.nodes)).1 k dialog less in
+      let narrow : OfBody IsNarrowNode (dialog_body d.version own) = ((bodies d (OfBody IsNarrowNode)).0 ((nodes_iff IsNarrowNode d).0 s.widths.nodes)).1 k dialog less in
       record {
         nodes = All-cons IsLimited own.node own.views limited.0 limited.1;
         few = ((bodies d (λ body. length body.views ≤ 64)).0 s.limits.counts.views).1 k dialog less;
@@ -65,5 +65,5 @@ new_names d sound = let none = lacks_at d sound 0 (omega arith) in none.dialogs
 pub lawful_counts : (d : Desc) → IsSound d → All HasLawfulCounts d.dialogs
 lawful_counts d sound k dialog less i view within =
     let own : Dialog = get_or d.dialogs k dialog in
-    let limited : OfBody IsLimited (dialog_body own) = ((bodies d (OfBody IsLimited)).0 ((nodes_iff IsLimited d).0 (sound_says d sound).limits.nodes)).1 k dialog less in
+    let limited : OfBody IsLimited (dialog_body d.version own) = ((bodies d (OfBody IsLimited)).0 ((nodes_iff IsLimited d).0 (sound_says d sound).limits.nodes)).1 k dialog less in
     count_holds (get_or own.views i view) (limited.1 i view within)

@@ -32,7 +32,7 @@ pub record Sound (d : Desc) : Type 0 where
   pub places : ArePlacedWell d
   -- F3: no point lies in two controls of one owner, nor in a pane and another view
   pub siblings : AreViewsApart d
-  -- F4: no letter is marked twice in a window or dialog
+  -- F4: no letter is marked twice in a window or dialog, but one that views share lawfully
   pub letters : HaveOwnLetters d
   -- F5: each status item has a key that it may have, that means nothing else and that no other has
   pub keys : HaveOwnKeys d

@@ -1,17 +1,20 @@
 //! Windows and dialogs as what has views, whose domains and starts were judged.
 
-ghost use Rattle.std.specs.Prelude.{◌≡◌, map, IfOk};
+ghost use Rattle.std.specs.Prelude.{◌≡◌, map, IfOk, option_copied};
+ghost use Rattle.tv_model.specs.Description.Sharing.{sharing_rules};
 ghost use Rattle.tv_faults.specs.Starts.{AreStartsIn, starts_of};
 
 use crate::starts::{StartFaults, judge_starts};
 use std::alloc::{AllocError, Global};
-use tv_model::{Desc, Dialog, Ends, Node, Sequence, Window};
+use tv_model::{Desc, Dialog, Ends, Node, Rule, Sequence, Version, Window};
 
-/// The views of a window or dialog, its frame, with its ends and with what their domains and starts have.
+/// The views of a window or dialog, its frame, with its ends, with the rules by which letters may be shared, if any, and
+/// with what their domains and starts have.
 #[derive(Drop)]
 pub struct Body<'a> {
     pub frame: &'a Node,
     pub ends: Ends,
+    pub sharing: Option<&'a [Rule]>,
     pub views: &'a [Node],
     pub starts: &'a [StartFaults],
     ghost judged: { starts.now ≡ starts_of views.now },
@@ -22,6 +25,16 @@ pub struct Body<'a> {
 pub struct Starts {
     pub in_windows: Sequence<Sequence<StartFaults>>,
     pub in_dialogs: Sequence<Sequence<StartFaults>>,
+}
+
+/// Returns the rules by which letters of the dialog may be shared: in version 1 there are none.
+pub fn sharing_rules(version: Version, dialog: &Dialog) -> Option<&[Rule]>
+    ensures { option_copied result ≡ sharing_rules version dialog.now.rules }
+{
+    match version {
+        Version::One => None,
+        Version::Two => Some(dialog.rules.as_slice()),
+    }
 }
 
 fn judge_windows(

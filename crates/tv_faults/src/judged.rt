@@ -1,7 +1,7 @@
 //! Searches each list for the lines that have a fault. Where that compares a line with others, another crate has the
 //! search. Domains and starts were judged before.
 
-ghost use Rattle.std.specs.Prelude.{◌≡◌, IfOk};
+ghost use Rattle.std.specs.Prelude.{◌≡◌, IfOk, option_copied};
 ghost use Rattle.tv_model.specs.Faults.{dialog_has, item_has, menu_has, rule_has, status_has, view_has, window_has};
 ghost use Rattle.tv_model.specs.Faults.Each.{each_after};
 
@@ -85,11 +85,12 @@ pub fn faulty_dialogs(alloc: Global, kind: FaultKind, desc: &Desc) -> Result<Vec
 
 /// Returns for each view of a window or dialog whether its line has the fault.
 pub fn faulty_views(alloc: Global, kind: FaultKind, body: &Body) -> Result<Vec<bool>, AllocError>
-    ensures { IfOk result (λ faulty. faulty.items ≡ each_after (view_has kind body.now.frame.now body.now.ends body.now.views.now) body.now.views.now) }
+    ensures { IfOk result (λ faulty. faulty.items ≡ each_after (view_has kind body.now.frame.now body.now.ends (option_copied body.now.sharing) body.now.views.now) body.now.views.now) }
 {
     let Body {
         frame,
         ends,
+        sharing,
         views,
         starts,
     } = *body;
@@ -97,7 +98,7 @@ pub fn faulty_views(alloc: Global, kind: FaultKind, body: &Body) -> Result<Vec<b
         FaultKind::NameTwice => names_again(alloc, views),
         FaultKind::OutsideOwner => are_outside(alloc, frame, views),
         FaultKind::Overlap => overlaps(alloc, views),
-        FaultKind::LetterTwice => marks_again(alloc, views),
+        FaultKind::LetterTwice => marks_again(alloc, views, sharing),
         FaultKind::LabelLink => unlinked_labels(alloc, views),
         FaultKind::SecondDefault => second_defaults(alloc, views),
         FaultKind::EmptyDomain => empty_domains(alloc, starts),
@@ -108,6 +109,7 @@ pub fn faulty_views(alloc: Global, kind: FaultKind, body: &Body) -> Result<Vec<b
                 kind,
                 frame,
                 ends,
+                sharing,
                 views,
             },
             views,

@@ -1,6 +1,6 @@
 //! The list of all faults.
 
-ghost use Rattle.std.specs.Prelude.{◌≡◌, ◌↔◌, [], ◌++◌, map, flat_map, IfOk, OnOk};
+ghost use Rattle.std.specs.Prelude.{◌≡◌, ◌↔◌, [], ◌++◌, map, flat_map, IfOk, OnOk, option_copied};
 ghost use Rattle.tv_model.specs.Faults.Lines.{after_seen, lines_where};
 ghost use Rattle.tv_model.specs.Faults.{dialog_lines, fault_at, faults_at, faults_of, head_lines, item_has, menu_lines, rule_lines, status_lines, view_lines, window_lines};
 ghost use Rattle.tv_declarations.specs.Spelling.{IsDescription};
@@ -8,7 +8,7 @@ ghost use Rattle.tv_faults.specs.Order.{AreInOrder};
 ghost use Rattle.tv_faults.specs.Sound.{Sound};
 ghost use Rattle.tv_faults.specs.Starts.{AreStartsIn, starts_of};
 
-use crate::bodies::{Body, Starts, judge_all_starts};
+use crate::bodies::{Body, Starts, judge_all_starts, sharing_rules};
 use crate::judged::{
     faulty_dialogs, faulty_items, faulty_menus, faulty_rules, faulty_status_items, faulty_views,
     faulty_windows,
@@ -98,7 +98,7 @@ fn add_views(
     kind: FaultKind,
     body: &Body,
 ) -> Result<(), AllocError>
-    ensures { OnOk result (found.new ≡ found.old ++ map (fault_at kind) (view_lines kind body.now.frame.now body.now.ends body.now.views.now)) }
+    ensures { OnOk result (found.new ≡ found.old ++ map (fault_at kind) (view_lines kind body.now.frame.now body.now.ends (option_copied body.now.sharing) body.now.views.now)) }
 {
     let faulty = faulty_views(alloc, kind, body)?;
     add_where(found, kind, body.views, faulty.as_slice())
@@ -140,12 +140,12 @@ fn add_menus(
 
 // Adds the windows that have the fault, and their texts.
 #[tactic(auto, using(tv_model::proofs::EachAfterLemmas::length_each_after))]
-fn add_windows(
+fn add_windows<'a>(
     alloc: Global,
     found: &mut Sequence<Fault>,
     kind: FaultKind,
-    windows: &[Window],
-    starts: &[Sequence<StartFaults>],
+    windows: &'a [Window],
+    starts: &'a [Sequence<StartFaults>],
 ) -> Result<(), AllocError>
     requires { starts.now ≡ map (λ window. starts_of window.views) windows.now }
     ensures { OnOk result (found.new ≡ found.old ++ map (fault_at kind) (flat_map (λ pair. window_lines kind pair.0 pair.1) (after_seen [] windows.now))) }
@@ -161,6 +161,7 @@ fn add_windows(
             &Body {
                 frame: &window.node,
                 ends: NO_ENDS,
+                sharing: None,
                 views: window.views.as_slice(),
                 starts: starts[i].as_slice(),
             },
@@ -193,6 +194,7 @@ fn add_dialogs(
             &Body {
                 frame: &dialog.node,
                 ends: dialog.head().ends,
+                sharing: sharing_rules(desc.version, dialog),
                 views: dialog.views.as_slice(),
                 starts: starts[i].as_slice(),
             },

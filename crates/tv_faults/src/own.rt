@@ -1,6 +1,6 @@
 //! Faults that show on a line by itself, or by how many lines stand before it: one judge for each list.
 
-ghost use Rattle.std.specs.Prelude.{◌≡◌, false};
+ghost use Rattle.std.specs.Prelude.{◌≡◌, false, option_copied};
 ghost use Rattle.tv_model.specs.Faults.{dialog_has, item_has, menu_has, rule_has, status_has, view_has, window_has};
 ghost use Rattle.tv_faults.specs.Compared.{compares_dialogs, compares_items, compares_menus, compares_rules, compares_status_items, compares_views, compares_windows, is_judged_before};
 
@@ -53,12 +53,14 @@ pub struct OfDialogs<'a> {
     ghost own: { compares_dialogs kind ≡ false },
 }
 
-/// Judges the views of a window or dialog, its frame, with these ends.
+/// Judges the views of a window or dialog, its frame, with these ends and with the rules by which letters may be shared,
+/// if any.
 #[derive(Drop)]
 pub struct OfViews<'a> {
     pub kind: FaultKind,
     pub frame: &'a Node,
     pub ends: Ends,
+    pub sharing: Option<&'a [Rule]>,
     pub views: &'a [Node],
     ghost own: { compares_views kind ≡ false },
     ghost unjudged: { is_judged_before kind ≡ false },
@@ -163,7 +165,7 @@ impl<'a> Judge for OfDialogs<'a> {
 impl<'a> Judge for OfViews<'a> {
     type Line = Node;
 
-    ghost judges = { λ judge. view_has judge.kind judge.frame.now judge.ends judge.views.now };
+    ghost judges = { λ judge. view_has judge.kind judge.frame.now judge.ends (option_copied judge.sharing) judge.views.now };
 
     fn judge(&self, _alloc: Global, before: &[Node], node: &Node) -> Result<bool, AllocError> {
         Ok(match self.kind {

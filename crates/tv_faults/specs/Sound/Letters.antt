@@ -1,5 +1,6 @@
 -- Letters that are marked, and the keys of status items.
-use Rattle.std.specs.Prelude.{◌≡◌, ◌≢◌, ℕ, ◌≤◌, ◌+◌, ◌⊎◌, List, flat_map, All, AllPairs, Any, Some, pos}
+use Rattle.std.specs.Prelude.{◌≡◌, ◌≢◌, ℕ, ◌≤◌, ◌+◌, ◌⊎◌, Bool, false, List, flat_map, All, AllPairs, Any}
+use Rattle.std.specs.Prelude.{Some, pos}
 use Rattle.tv_event.specs.declared.event.Key.{Key}
 use Rattle.tv_event.specs.declared.event.Key.TheVariants as keys
 use Rattle.tv_model.specs.declared.node.Node.{Node}
@@ -13,7 +14,8 @@ use Rattle.tv_model.specs.Description.Heads.{window_head}
 use Rattle.tv_model.specs.Description.Marks.{marked_letter}
 use Rattle.tv_model.specs.Description.Letters.{marked_of}
 use Rattle.tv_model.specs.Description.Numbers.{IsBetween}
-use Rattle.tv_faults.specs.Sound.Bodies.{EachBody}
+use Rattle.tv_model.specs.Description.Sharing.{is_shared_by}
+use Rattle.tv_faults.specs.Sound.Bodies.{Body, EachBody}
 
 -- ---- letters
 
@@ -29,9 +31,18 @@ MarkOtherLetters text other = (letter : ℕ) → MarksLetter text letter → Mar
 abbrev pub marked_texts : List Node → List MarkedText
 marked_texts views = flat_map (λ view. marked_of view.kind) views
 
--- no letter is marked twice in a window or dialog
+-- no letter is marked in both, but one that is shared
+abbrev pub MarkOthersUnlessShared : (ℕ → Bool) → MarkedText → MarkedText → Type 0
+MarkOthersUnlessShared shared text other =
+    (letter : ℕ) → shared letter ≡ false → MarksLetter text letter → MarksLetter other letter → ⊥
+
+-- no letter is marked twice in a window or dialog, but one that views of a dialog share lawfully
+abbrev pub HasOwnLetters : Body → Type 0
+HasOwnLetters body =
+    AllPairs (MarkOthersUnlessShared (is_shared_by body.sharing body.views)) (marked_texts body.views)
+
 abbrev pub HaveOwnLetters : Desc → Type 0
-HaveOwnLetters d = EachBody d (λ body. AllPairs MarkOtherLetters (marked_texts body.views))
+HaveOwnLetters d = EachBody d HasOwnLetters
 
 -- ---- keys of status items
 
