@@ -57,9 +57,9 @@ pub record KeysEnd (read : Certificate) (block : Block) (wss : List (List Word))
   more : List Block
   value : all ≡ with_blocks read (with_keys block keys ∷ more)
   lines : wss ≡ map key_words keys ++ end_words ∷ flat_map block_lines more
-  each : AllByRecursion IsKeyLine keys
-  rising : LettersRise block.keys keys
-  others : AreBlocks more
+  each : AllByRecursion (IsKeyLine read.version) keys
+  rising : LettersRise read.version block.keys keys
+  others : AreBlocks read.version more
 
 -- from where tab lines or key lines come
 pub record TabsEnd (read : Certificate) (name : List ℕ) (tabs : List (List ℕ)) (wss : List (List Word)) (all : Certificate) : Type 0 where
@@ -70,16 +70,16 @@ pub record TabsEnd (read : Certificate) (name : List ℕ) (tabs : List (List ℕ
   lines : wss ≡ rest_of_block names keys (flat_map block_lines more)
   some : tabs ++ names ≢ []
   are_names : AllByRecursion IsName names
-  each : AllByRecursion IsKeyLine keys
-  rising : LettersRise [] keys
-  others : AreBlocks more
+  each : AllByRecursion (IsKeyLine read.version) keys
+  rising : LettersRise read.version [] keys
+  others : AreBlocks read.version more
 
 -- from where blocks come
 pub record BlocksEnd (read : Certificate) (wss : List (List Word)) (all : Certificate) : Type 0 where
   more : List Block
   value : all ≡ with_blocks read more
   lines : wss ≡ flat_map block_lines more
-  others : AreBlocks more
+  others : AreBlocks read.version more
 
 abbrev EndsAt : Certificate → Stage → List (List Word) → Certificate → Type 0
 EndsAt read stages.Between wss all = BlocksEnd read wss all
@@ -110,9 +110,9 @@ module _ (ws : List Word) (wss : List (List Word)) (all : Certificate) (later : 
         others = (record { dialog = r.1; some = t.some; tabs = t.are_names; keys = t.each; rising = t.rising }, t.others);
       }
 
-  line_step : (read : Certificate) (block : Block) (line : KeyLine) (b : Bool) → key_line_read ws ≡ Some line → is_above block.keys line ≡ b → went wss (cond b (Some (Begun read (stages.Keys (with_key block line)))) None) ≡ Some all → KeysEnd read block (ws ∷ wss) all
+  line_step : (read : Certificate) (block : Block) (line : KeyLine) (b : Bool) → key_line_read read.version ws ≡ Some line → is_above read.version block.keys line ≡ b → went wss (cond b (Some (Begun read (stages.Keys (with_key block line)))) None) ≡ Some all → KeysEnd read block (ws ∷ wss) all
   line_step read block line true el eb e =
-      let r = key_read ws line el in
+      let r = key_read read.version ws line el in
       let t = later (Begun read (stages.Keys (with_key block line))) e in
       record {
         keys = line ∷ t.keys;
@@ -125,11 +125,11 @@ module _ (ws : List Word) (wss : List (List Word)) (all : Certificate) (later : 
       }
   line_step read block line false el eb e = absurd cc
 
-  maybe_line : (read : Certificate) (block : Block) (o : Option KeyLine) → key_line_read ws ≡ o → went wss (key_line_taken read block o) ≡ Some all → KeysEnd read block (ws ∷ wss) all
+  maybe_line : (read : Certificate) (block : Block) (o : Option KeyLine) → key_line_read read.version ws ≡ o → went wss (key_line_taken read block o) ≡ Some all → KeysEnd read block (ws ∷ wss) all
   maybe_line read block None eo e = absurd cc
-  maybe_line read block (Some line) eo e = line_step read block line (is_above block.keys line) eo refl e
+  maybe_line read block (Some line) eo e = line_step read block line (is_above read.version block.keys line) eo refl e
 
-  key_step : (read : Certificate) (block : Block) (b : Bool) → is_block_end ws ≡ b → went wss (cond b (Some (Begun (with_block read block) stages.Between)) (key_line_taken read block (key_line_read ws))) ≡ Some all → KeysEnd read block (ws ∷ wss) all
+  key_step : (read : Certificate) (block : Block) (b : Bool) → is_block_end ws ≡ b → went wss (cond b (Some (Begun (with_block read block) stages.Between)) (key_line_taken read block (key_line_read read.version ws))) ≡ Some all → KeysEnd read block (ws ∷ wss) all
   key_step read block true eb e =
       let t = later (Begun (with_block read block) stages.Between) e in
       record {
@@ -141,7 +141,7 @@ module _ (ws : List Word) (wss : List (List Word)) (all : Certificate) (later : 
         rising = tt;
         others = t.others;
       }
-  key_step read block false eb e = maybe_line read block (key_line_read ws) refl e
+  key_step read block false eb e = maybe_line read block (key_line_read read.version ws) refl e
 
   some_tabs : (tab : List ℕ) (tabs : List (List ℕ)) → (tab ∷ tabs) ++ [] ≢ []
   some_tabs tab tabs e = cc
@@ -198,22 +198,22 @@ tabs_given [] seen read name after are = ap (λ tabs. given (Begun read (stages.
 tabs_given (tab ∷ tabs) seen read name after are =
     rw (read_named (codes "tab") tab are.0) (tabs_given tabs (seen ++ tab ∷ []) read name after are.1 ∙ ap (λ all. given (Begun read (stages.Tabs name all)) after) (append_assoc seen (tab ∷ []) tabs))
 
-keys_given : (keys : List KeyLine) (read : Certificate) (block : Block) (after : List (List Word)) → AllByRecursion IsKeyLine keys → LettersRise block.keys keys → given (Begun read (stages.Keys block)) (map key_words keys ++ after) ≡ given (Begun read (stages.Keys (with_keys block keys))) after
+keys_given : (keys : List KeyLine) (read : Certificate) (block : Block) (after : List (List Word)) → AllByRecursion (IsKeyLine read.version) keys → LettersRise read.version block.keys keys → given (Begun read (stages.Keys block)) (map key_words keys ++ after) ≡ given (Begun read (stages.Keys (with_keys block keys))) after
 keys_given [] read block after are rising = ap (λ keys. given (Begun read (stages.Keys (record block { keys = keys }))) after) (sym (append-nil block.keys))
 keys_given (line ∷ keys) read block after are rising =
-    rw (read_key line are.0, rising.0) (keys_given keys read (with_key block line) after are.1 rising.1 ∙ ap (λ all. given (Begun read (stages.Keys (record block { keys = all }))) after) (append_assoc block.keys (line ∷ []) keys))
+    rw (read_key read.version line are.0, rising.0) (keys_given keys read (with_key block line) after are.1 rising.1 ∙ ap (λ all. given (Begun read (stages.Keys (record block { keys = all }))) after) (append_assoc block.keys (line ∷ []) keys))
 
 -- after a block's tab lines, its key lines go on as after a key line
 as_keys : (keys : List KeyLine) (read : Certificate) (name tab : List ℕ) (tabs : List (List ℕ)) (after : List (List Word)) → given (Begun read (stages.Tabs name (tab ∷ tabs))) (map key_words keys ++ end_words ∷ after) ≡ given (Begun read (stages.Keys (record { dialog = name; tabs = tab ∷ tabs; keys = [] }))) (map key_words keys ++ end_words ∷ after)
 as_keys [] read name tab tabs after = refl
 as_keys (line ∷ keys) read name tab tabs after = refl
 
-block_ends : (read : Certificate) (name : List ℕ) (tabs : List (List ℕ)) (keys : List KeyLine) (after : List (List Word)) → tabs ≢ [] → AllByRecursion IsKeyLine keys → LettersRise [] keys → given (Begun read (stages.Tabs name tabs)) (map key_words keys ++ end_words ∷ after) ≡ given (Begun (with_block read (record { dialog = name; tabs = tabs; keys = keys })) stages.Between) after
+block_ends : (read : Certificate) (name : List ℕ) (tabs : List (List ℕ)) (keys : List KeyLine) (after : List (List Word)) → tabs ≢ [] → AllByRecursion (IsKeyLine read.version) keys → LettersRise read.version [] keys → given (Begun read (stages.Tabs name tabs)) (map key_words keys ++ end_words ∷ after) ≡ given (Begun (with_block read (record { dialog = name; tabs = tabs; keys = keys })) stages.Between) after
 block_ends read name [] keys after some are rising = absurd (some refl)
 block_ends read name (tab ∷ tabs) keys after some are rising =
     as_keys keys read name tab tabs after ∙ keys_given keys read (record { dialog = name; tabs = tab ∷ tabs; keys = [] }) (end_words ∷ after) are rising
 
-blocks_given : (more : List Block) (read : Certificate) → AreBlocks more → given (Begun read stages.Between) (flat_map block_lines more) ≡ Some (with_blocks read more)
+blocks_given : (more : List Block) (read : Certificate) → AreBlocks read.version more → given (Begun read stages.Between) (flat_map block_lines more) ≡ Some (with_blocks read more)
 blocks_given [] read are = ap (λ blocks. Some (record read { blocks = blocks })) (sym (append-nil read.blocks))
 blocks_given (block ∷ more) read are =
     let after : List (List Word) = flat_map block_lines more in

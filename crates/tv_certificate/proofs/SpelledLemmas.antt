@@ -20,10 +20,11 @@ use Rattle.tv_words.proofs.CanonicalLineLemmas.{Stands, is_plain}
 use Rattle.tv_words.proofs.CanonicalTextLemmas.{StandInLine, stand_spelled}
 use Rattle.tv_model.specs.declared.desc.Version.{Version}
 use Rattle.tv_model.specs.declared.desc.Version.TheVariants as versions
+use Rattle.tv_model.specs.declared.desc.When.{When}
 use Rattle.tv_certificate.specs.declared.certificate.Certificate.{Certificate}
 use Rattle.tv_certificate.specs.declared.certificate.Block.{Block}
 use Rattle.tv_certificate.specs.declared.certificate.KeyLine.{KeyLine}
-use Rattle.tv_certificate.specs.CertificateTexts.{AreBlocks, IsBlock, IsCertificate, IsKeyLine, SpellsACertificate, block_lines, certificate_lines, dialog_words, end_words, is_letter, item_words, key_words, tab_words, version_words}
+use Rattle.tv_certificate.specs.CertificateTexts.{AreBlocks, IsBlock, IsCertificate, IsKeyLine, IsWhen, SpellsACertificate, block_lines, certificate_lines, dialog_words, end_words, is_letter, item_words, key_words, tab_words, version_words, when_words}
 
 -- ---- words
 
@@ -92,6 +93,14 @@ item_stands : (item : Option ℤ) → IfSome item IsNumber → AllByRecursion St
 item_stands None fits = tt
 item_stands (Some n) fits = (number_stands n fits, tt)
 
+when_stands : (version : Version) (shown : Option When) → IfSome shown (IsWhen version) → AllByRecursion Stands (when_words shown)
+when_stands version None is = tt
+when_stands version (Some shown) is = (common_stands (codes "when") (λ e. cc) refl, (name_stands shown.radios is.radios, (number_stands shown.item is.item, tt)))
+
+each_word : (ws more : List Word) → AllByRecursion Stands ws → AllByRecursion Stands more → AllByRecursion Stands (ws ++ more)
+each_word [] more p q = q
+each_word (w ∷ ws) more p q = (p.0, each_word ws more p.1 q)
+
 -- ---- lines
 
 tab_stands : (name : List ℕ) → IsName name → StandInLine (tab_words name)
@@ -100,8 +109,8 @@ tab_stands name is = ((common_stands (codes "tab") (λ e. cc) refl, (name_stands
 dialog_stands : (name : List ℕ) → IsName name → StandInLine (dialog_words name)
 dialog_stands name is = ((common_stands (codes "dialog") (λ e. cc) refl, (name_stands name is, tt)), refl)
 
-key_stands : (line : KeyLine) → IsKeyLine line → StandInLine (key_words line)
-key_stands line is = ((common_stands (codes "key") (λ e. cc) refl, (letter_stands line.letter is.letter, (name_stands line.owner is.owner, item_stands line.item is.item))), refl)
+key_stands : (version : Version) (line : KeyLine) → IsKeyLine version line → StandInLine (key_words line)
+key_stands version line is = ((common_stands (codes "key") (λ e. cc) refl, (letter_stands line.letter is.letter, (name_stands line.owner is.owner, each_word (item_words line.item) (when_words line.when) (item_stands line.item is.item) (when_stands version line.when is.when)))), refl)
 
 end_stands : StandInLine end_words
 end_stands = ((common_stands (codes "end") (λ e. cc) refl, tt), refl)
@@ -118,16 +127,16 @@ both_stand : (a b : List (List Word)) → AllByRecursion StandInLine a → AllBy
 both_stand [] b p q = q
 both_stand (ws ∷ a) b p q = (p.0, both_stand a b p.1 q)
 
-block_stands : (block : Block) → IsBlock block → AllByRecursion StandInLine (block_lines block)
-block_stands block is = (
+block_stands : (version : Version) (block : Block) → IsBlock version block → AllByRecursion StandInLine (block_lines block)
+block_stands version block is = (
   dialog_stands block.dialog is.dialog,
   both_stand (map tab_words block.tabs) (map key_words block.keys ++ end_words ∷ []) (each_stands IsName tab_words tab_stands block.tabs is.tabs)
-      (both_stand (map key_words block.keys) (end_words ∷ []) (each_stands IsKeyLine key_words key_stands block.keys is.keys) (end_stands, tt)),
+      (both_stand (map key_words block.keys) (end_words ∷ []) (each_stands (IsKeyLine version) key_words (key_stands version) block.keys is.keys) (end_stands, tt)),
 )
 
-blocks_stand : (blocks : List Block) → AreBlocks blocks → AllByRecursion StandInLine (flat_map block_lines blocks)
-blocks_stand [] are = tt
-blocks_stand (block ∷ blocks) are = both_stand (block_lines block) (flat_map block_lines blocks) (block_stands block are.0) (blocks_stand blocks are.1)
+blocks_stand : (version : Version) (blocks : List Block) → AreBlocks version blocks → AllByRecursion StandInLine (flat_map block_lines blocks)
+blocks_stand version [] are = tt
+blocks_stand version (block ∷ blocks) are = both_stand (block_lines block) (flat_map block_lines blocks) (block_stands version block are.0) (blocks_stand version blocks are.1)
 
 -- ---- texts
 
@@ -140,5 +149,5 @@ all_declared ((w ∷ ws) ∷ wss) stand = ap (λ x. (w ∷ ws) ∷ x) (all_decla
 pub canonical_spelled : (certificate : Certificate) → IsCertificate certificate → SpellsACertificate (canonical_text (certificate_lines certificate)) certificate
 canonical_spelled certificate are =
     let lines : List (List Word) = certificate_lines certificate in
-    let stand : AllByRecursion StandInLine lines = (version_stands certificate.version, blocks_stand certificate.blocks are) in
+    let stand : AllByRecursion StandInLine lines = (version_stands certificate.version, blocks_stand certificate.version certificate.blocks are) in
     record { words = lines; each = stand_spelled lines stand; declared = all_declared lines stand; can = are }

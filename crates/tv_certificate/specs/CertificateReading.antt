@@ -9,6 +9,8 @@ use Rattle.tv_words.specs.Reading.LineWords.{line_taken}
 use Rattle.tv_words.specs.Reading.Numbers.{number_in}
 use Rattle.tv_model.specs.declared.desc.Version.{Version}
 use Rattle.tv_model.specs.declared.desc.Version.TheVariants as versions
+use Rattle.tv_model.specs.declared.desc.When.{When}
+use Rattle.tv_model.specs.Description.Owners.{when_from}
 use Rattle.tv_certificate.specs.declared.certificate.Certificate.{Certificate}
 use Rattle.tv_certificate.specs.declared.certificate.Block.{Block}
 use Rattle.tv_certificate.specs.declared.certificate.KeyLine.{KeyLine}
@@ -32,25 +34,44 @@ abbrev pub letter_in : Word → Option ℕ
 letter_in (Bare text) = one_letter text
 letter_in (Quoted text) = None
 
--- the number at the end of a key line, or its absence
+-- the number after a key line's owner, or its absence: before three words it is the first
 abbrev pub key_item_in : List Word → Option (Option ℤ)
 key_item_in [] = Some None
 key_item_in (word ∷ []) = option_map (λ item. Some item) (number_in word)
+key_item_in (keyword ∷ radios ∷ number ∷ []) = Some None
+key_item_in (word ∷ keyword ∷ radios ∷ number ∷ []) = option_map (λ item. Some item) (number_in word)
 key_item_in _ = None
 
+-- the item of radio buttons that three words name: in version 1 none do
+abbrev pub when_in : Version → Word → Word → Word → Option When
+when_in versions.One keyword radios number = None
+when_in versions.Two keyword radios number =
+    if is_bare_word keyword (codes "when") then when_from (name_in radios) (number_in number) else None
+
+-- the item of radio buttons at the end of a key line, or its absence
+abbrev pub key_when_in : Version → List Word → Option (Option When)
+key_when_in version [] = Some None
+key_when_in version (word ∷ []) = Some None
+key_when_in version (keyword ∷ radios ∷ number ∷ []) =
+    option_map (λ shown. Some shown) (when_in version keyword radios number)
+key_when_in version (word ∷ keyword ∷ radios ∷ number ∷ []) =
+    option_map (λ shown. Some shown) (when_in version keyword radios number)
+key_when_in version _ = None
+
 -- the key line of these parts
-abbrev pub key_line_from : Option ℕ → Option (List ℕ) → Option (Option ℤ) → Option KeyLine
-key_line_from (Some letter) (Some owner) (Some item) =
-    Some (record { letter = letter; owner = owner; item = item })
-key_line_from _ _ _ = None
+abbrev pub key_line_from : Option ℕ → Option (List ℕ) → Option (Option ℤ) → Option (Option When)
+    → Option KeyLine
+key_line_from (Some letter) (Some owner) (Some item) (Some shown) =
+    Some (record { letter = letter; owner = owner; item = item; when = shown })
+key_line_from _ _ _ _ = None
 
 -- the key line that words are
-abbrev pub key_line_read : List Word → Option KeyLine
-key_line_read (keyword ∷ letter ∷ owner ∷ item) =
+abbrev pub key_line_read : Version → List Word → Option KeyLine
+key_line_read version (keyword ∷ letter ∷ owner ∷ rest) =
     if is_bare_word keyword (codes "key")
-    then key_line_from (letter_in letter) (name_in owner) (key_item_in item)
+    then key_line_from (letter_in letter) (name_in owner) (key_item_in rest) (key_when_in version rest)
     else None
-key_line_read _ = None
+key_line_read version _ = None
 
 -- the name in a line of a keyword and a name
 abbrev pub named_in : List ℕ → List Word → Option (List ℕ)
@@ -97,17 +118,17 @@ with_block read block = record read { blocks = read.blocks ++ block ∷ [] }
 abbrev pub with_key : Block → KeyLine → Block
 with_key block line = record block { keys = block.keys ++ line ∷ [] }
 
--- a key line has to be above those before it
+-- a key line may have to be above those before it
 abbrev pub key_line_taken : Certificate → Block → Option KeyLine → Option Progress
 key_line_taken read block None = None
 key_line_taken read block (Some line) =
-    if is_above block.keys line then Some (Begun read (stages.Keys (with_key block line))) else None
+    if is_above read.version block.keys line then Some (Begun read (stages.Keys (with_key block line))) else None
 
 -- in a block with its tab lines comes a key line or the end
 abbrev pub key_taken : Certificate → Block → List Word → Option Progress
 key_taken read block ws =
     if is_block_end ws then Some (Begun (with_block read block) stages.Between)
-    else key_line_taken read block (key_line_read ws)
+    else key_line_taken read block (key_line_read read.version ws)
 
 -- a line that is no tab line can come only after one
 abbrev pub after_tab : Certificate → List ℕ → List (List ℕ) → Option (List ℕ) → List Word → Option Progress

@@ -1,5 +1,5 @@
 -- The texts that spell certificates, and why a text is refused.
-use Rattle.std.specs.Prelude.{◌≡◌, ◌≢◌, ℕ, ◌<◌, ◌==◌, nat_lt, ℤ, Bool, List, [], ◌∷◌, ◌++◌, map, flat_map}
+use Rattle.std.specs.Prelude.{◌≡◌, ◌≢◌, ℕ, ◌<◌, ◌==◌, nat_le, nat_lt, ℤ, Bool, List, [], ◌∷◌, ◌++◌, map, flat_map}
 use Rattle.std.specs.Prelude.{length, Option, Some, None, IfSome, IsTrue, Result, Ok, Err, codes}
 use Rattle.std.specs.List.{AllByRecursion, list_all, list_any}
 use Rattle.tv_words.specs.declared.word.Word.{Word}
@@ -10,6 +10,7 @@ use Rattle.tv_words.specs.Texts.{SpellsBy, IsFirstFaultyLine}
 use Rattle.tv_model.specs.Description.Certificates.{letters}
 use Rattle.tv_model.specs.declared.desc.Version.{Version}
 use Rattle.tv_model.specs.declared.desc.Version.TheVariants as versions
+use Rattle.tv_model.specs.declared.desc.When.{When}
 use Rattle.tv_certificate.specs.declared.certificate.Certificate.{Certificate}
 use Rattle.tv_certificate.specs.declared.certificate.Block.{Block}
 use Rattle.tv_certificate.specs.declared.certificate.KeyLine.{KeyLine}
@@ -27,9 +28,16 @@ abbrev pub item_words : Option ℤ → List Word
 item_words None = []
 item_words (Some item) = number_word item ∷ []
 
+-- while which item of radio buttons is marked, where that matters
+abbrev pub when_words : Option When → List Word
+when_words None = []
+when_words (Some shown) = Bare (codes "when") ∷ Bare shown.radios ∷ number_word shown.item ∷ []
+
 -- a letter with its owner
 abbrev pub key_words : KeyLine → List Word
-key_words line = Bare (codes "key") ∷ Bare (line.letter ∷ []) ∷ Bare line.owner ∷ item_words line.item
+key_words line =
+    Bare (codes "key") ∷ Bare (line.letter ∷ []) ∷ Bare line.owner
+    ∷ (item_words line.item ++ when_words line.when)
 
 -- the end of a block
 abbrev pub end_words : List Word
@@ -68,36 +76,50 @@ certificate_lines certificate = version_words certificate.version ∷ flat_map b
 abbrev pub is_letter : ℕ → Bool
 is_letter ch = list_any (λ letter. letter == ch) letters
 
--- a letter that can be marked, with a name and perhaps a number
-pub record IsKeyLine (line : KeyLine) : Type 0 where
+-- an item of radio buttons by their name, which version 1 knows nothing of
+pub record IsWhen (version : Version) (shown : When) : Type 0 where
+  pub allowed : version ≡ versions.Two
+  pub radios : IsName shown.radios
+  pub item : IsNumber shown.item
+
+-- a letter that can be marked, with a name and perhaps a number and an item of radio buttons
+pub record IsKeyLine (version : Version) (line : KeyLine) : Type 0 where
   pub letter : IsTrue (is_letter line.letter)
   pub owner : IsName line.owner
   pub item : IfSome line.item IsNumber
+  pub when : IfSome line.when (IsWhen version)
 
--- the letter of the line comes after those of the lines before it
-abbrev pub is_above : List KeyLine → KeyLine → Bool
-is_above before line = list_all (λ earlier. nat_lt earlier.letter line.letter) before
+-- a line of the second letter may come after one of the first: in version 1 letters rise, in version 2 they
+-- don't fall
+abbrev pub may_follow : Version → ℕ → ℕ → Bool
+may_follow versions.One earlier later = nat_lt earlier later
+may_follow versions.Two earlier later = nat_le earlier later
 
--- each letter is above those before it, of which some were seen already
-abbrev pub LettersRise : List KeyLine → List KeyLine → Type 0
-LettersRise before [] = Unit {0}
-LettersRise before (line ∷ lines) = IsTrue (is_above before line) × LettersRise (before ++ line ∷ []) lines
+-- the line may come after the lines before it
+abbrev pub is_above : Version → List KeyLine → KeyLine → Bool
+is_above version before line = list_all (λ earlier. may_follow version earlier.letter line.letter) before
 
--- a block has at least one tab line, and its letters rise, digits first
-pub record IsBlock (block : Block) : Type 0 where
+-- each line may come after those before it, of which some were seen already
+abbrev pub LettersRise : Version → List KeyLine → List KeyLine → Type 0
+LettersRise version before [] = Unit {0}
+LettersRise version before (line ∷ lines) =
+    IsTrue (is_above version before line) × LettersRise version (before ++ line ∷ []) lines
+
+-- a block has at least one tab line, and its letters rise or don't fall, digits first
+pub record IsBlock (version : Version) (block : Block) : Type 0 where
   pub dialog : IsName block.dialog
   pub some : block.tabs ≢ []
   pub tabs : AllByRecursion IsName block.tabs
-  pub keys : AllByRecursion IsKeyLine block.keys
-  pub rising : LettersRise [] block.keys
+  pub keys : AllByRecursion (IsKeyLine version) block.keys
+  pub rising : LettersRise version [] block.keys
 
 -- blocks that can be spelled
-abbrev pub AreBlocks : List Block → Type 0
-AreBlocks blocks = AllByRecursion IsBlock blocks
+abbrev pub AreBlocks : Version → List Block → Type 0
+AreBlocks version blocks = AllByRecursion (IsBlock version) blocks
 
 -- a certificate that can be spelled
 abbrev pub IsCertificate : Certificate → Type 0
-IsCertificate certificate = AreBlocks certificate.blocks
+IsCertificate certificate = AreBlocks certificate.version certificate.blocks
 
 -- ---- texts
 

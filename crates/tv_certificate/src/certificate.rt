@@ -3,7 +3,7 @@
 ghost use Rattle.std.specs.Prelude.{◌≡◌};
 ghost use Rattle.tv_certificate.specs.CertificateTexts.{number_of_version};
 
-use tv_model::{Sequence, Version};
+use tv_model::{Sequence, Version, When};
 use tv_valid::Chars;
 
 /// The order of Tab in each dialog, and the control on which each shortcut letter acts.
@@ -33,6 +33,8 @@ pub struct KeyLine {
     pub owner: Chars,
     /// The item, counted from 1, where an item of a cluster marks the letter.
     pub item: Option<i32>,
+    /// The item of radio buttons while which is marked the letter acts on this owner, where it has several.
+    pub when: Option<When>,
 }
 
 impl Certificate {

@@ -3,12 +3,12 @@
 ghost use Rattle.std.specs.Prelude.{◌≡◌, [], ◌∷◌, ◌++◌, List, ℕ, flat_map, map, IfOk, string_bytes};
 ghost use Rattle.tv_words.specs.Canonical.{canonical_text, ended_line};
 ghost use Rattle.tv_certificate.specs.declared.certificate.Certificate.{Certificate as SeenCertificate};
-ghost use Rattle.tv_certificate.specs.CertificateTexts.{block_lines, certificate_lines, end_words, key_words, SpellsACertificate, tab_words, version_words};
+ghost use Rattle.tv_certificate.specs.CertificateTexts.{block_lines, certificate_lines, end_words, item_words, key_words, SpellsACertificate, tab_words, version_words, when_words};
 
 use crate::certificate::{Block, Certificate, KeyLine};
 use crate::version::version_number;
 use std::alloc::{AllocError, Global};
-use tv_model::Version;
+use tv_model::{Version, When};
 use tv_printing::Line;
 use tv_valid::Chars;
 use tv_words::Word;
@@ -28,6 +28,29 @@ fn letter_word(alloc: Global, letter: char) -> Result<Word, AllocError>
     Ok(Word::Bare(chars))
 }
 
+// Adds the number of the item, where there is one.
+fn with_item(line: Line, item: Option<i32>) -> Result<Line, AllocError>
+    ensures { IfOk result (λ words. words ≡ line ++ item_words item) }
+{
+    match item {
+        Some(item) => line.number(item),
+        None => Ok(line),
+    }
+}
+
+// Adds the words of the item of radio buttons, where there is one.
+fn with_when(line: Line, shown: &Option<When>) -> Result<Line, AllocError>
+    ensures { IfOk result (λ words. words ≡ line ++ when_words shown.now) }
+{
+    match shown {
+        Some(shown) => line
+            .keyword(b"when")?
+            .name(&shown.radios)?
+            .number(shown.item),
+        None => Ok(line),
+    }
+}
+
 fn key_line(alloc: Global, line: &KeyLine) -> Result<Line, AllocError>
     ensures { IfOk result (λ words. words ≡ key_words line.now) }
 {
@@ -35,10 +58,7 @@ fn key_line(alloc: Global, line: &KeyLine) -> Result<Line, AllocError>
         .keyword(b"key")?
         .word(letter_word(alloc, line.letter)?)?
         .name(&line.owner)?;
-    match line.item {
-        Some(item) => words.number(item),
-        None => Ok(words),
-    }
+    with_when(with_item(words, line.item)?, &line.when)
 }
 
 fn with_tabs(alloc: Global, mut text: String, block: &Block) -> Result<String, AllocError>

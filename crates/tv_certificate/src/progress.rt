@@ -1,14 +1,15 @@
 //! How far a certificate is read, declaration by declaration.
 
-ghost use Rattle.std.specs.Prelude.{◌≡◌, IfOk, option_copied};
-ghost use Rattle.tv_certificate.specs.CertificateReading.{begun, dialog_taken, finished_certificate, is_block_end, key_item_in, key_line_read, key_taken, letter_in, named_in, one_letter, tab_taken, certificate_line_taken, block_line_taken};
-ghost use Rattle.tv_certificate.specs.CertificateTexts.{is_above, is_letter};
+ghost use Rattle.std.specs.Prelude.{◌≡◌, IfOk, Some, option_copied, option_map};
+ghost use Rattle.tv_model.specs.declared.desc.Version.TheVariants.{Two};
+ghost use Rattle.tv_certificate.specs.CertificateReading.{begun, dialog_taken, finished_certificate, is_block_end, key_item_in, key_line_read, key_taken, key_when_in, letter_in, named_in, one_letter, tab_taken, certificate_line_taken, block_line_taken, when_in};
+ghost use Rattle.tv_certificate.specs.CertificateTexts.{is_above, is_letter, may_follow};
 
 use crate::alphabet::letters;
 use crate::certificate::{Block, Certificate, KeyLine};
 use crate::version::version_in;
 use std::alloc::{AllocError, Global};
-use tv_model::{Sequence, Version};
+use tv_model::{Sequence, Version, When};
 use tv_valid::Chars;
 use tv_words::Word;
 
@@ -139,30 +140,32 @@ fn key(
         read.blocks.push(block)?;
         return Ok(Some(Progress::Begun(read, Stage::Between)));
     }
-    let Some(line) = key_line(alloc, words)? else {
+    let Some(line) = key_line(alloc, read.version, words)? else {
         return Ok(None);
     };
-    if !is_above(block.keys.as_slice(), &line) {
+    if !is_above(read.version, block.keys.as_slice(), &line) {
         return Ok(None);
     }
     block.keys.push(line)?;
     Ok(Some(Progress::Begun(read, Stage::Keys(block))))
 }
 
-fn key_line(alloc: Global, words: &[Word]) -> Result<Option<KeyLine>, AllocError>
-    ensures { IfOk result (λ line. line ≡ key_line_read words.now) }
+fn key_line(alloc: Global, version: Version, words: &[Word]) -> Result<Option<KeyLine>, AllocError>
+    ensures { IfOk result (λ line. line ≡ key_line_read version words.now) }
 {
-    let [keyword, letter, owner, item @ ..] = words else {
+    let [keyword, letter, owner, rest @ ..] = words else {
         return Ok(None);
     };
     if !keyword.is(b"key") {
         return Ok(None);
     }
-    match (letter_in(letter), owner.name(), item_in(item)) {
-        (Some(letter), Some(owner), Some(item)) => Ok(Some(KeyLine {
+    let shown = key_when_in(alloc, version, rest)?;
+    match (letter_in(letter), owner.name(), item_in(rest), shown) {
+        (Some(letter), Some(owner), Some(item), Some(when)) => Ok(Some(KeyLine {
             letter,
             owner: owner.copy(alloc)?,
             item,
+            when,
         })),
         _ => Ok(None),
     }
@@ -192,20 +195,104 @@ fn letter_in(word: &Word) -> Option<char>
     }
 }
 
-// The number at the end of a key line, where there is one.
+// The number after the owner of a key line, where there is one.
 fn item_in(words: &[Word]) -> Option<Option<i32>>
     ensures { result ≡ key_item_in words.now }
 {
     match words {
         [] => Some(None),
         [word] => Some(Some(word.number()?)),
+        [_, _, _] => Some(None),
+        [word, _, _, _] => Some(Some(word.number()?)),
         _ => None,
     }
 }
 
-// Whether the letter is above those before it.
-fn is_above(before: &[KeyLine], line: &KeyLine) -> bool
-    ensures { result ≡ is_above before.now line.now }
+// The item of radio buttons that three words name in version 2.
+fn when_of(
+    alloc: Global,
+    keyword: &Word,
+    radios: &Word,
+    number: &Word,
+) -> Result<Option<When>, AllocError>
+    ensures { IfOk result (λ shown. shown ≡ when_in Two keyword.now radios.now number.now) }
 {
-    before.iter().all(|earlier| earlier.letter < line.letter)
+    if !keyword.is(b"when") {
+        return Ok(None);
+    }
+    match (radios.name(), number.number()) {
+        (Some(radios), Some(item)) => Ok(Some(When {
+            radios: radios.copy(alloc)?,
+            item,
+        })),
+        _ => Ok(None),
+    }
+}
+
+// The same in any version: in version 1 no words name one.
+fn when_in(
+    alloc: Global,
+    version: Version,
+    keyword: &Word,
+    radios: &Word,
+    number: &Word,
+) -> Result<Option<When>, AllocError>
+    ensures { IfOk result (λ shown. shown ≡ when_in version keyword.now radios.now number.now) }
+{
+    match version {
+        Version::One => Ok(None),
+        Version::Two => when_of(alloc, keyword, radios, number),
+    }
+}
+
+// What the three words at the end of a key line name.
+fn last_three(
+    alloc: Global,
+    version: Version,
+    keyword: &Word,
+    radios: &Word,
+    number: &Word,
+) -> Result<Option<Option<When>>, AllocError>
+    ensures { IfOk result (λ shown. shown ≡ option_map (λ one. Some one) (when_in version keyword.now radios.now number.now)) }
+{
+    match when_in(alloc, version, keyword, radios, number)? {
+        Some(shown) => Ok(Some(Some(shown))),
+        None => Ok(None),
+    }
+}
+
+// The item of radio buttons at the end of a key line, where there is one.
+fn key_when_in(
+    alloc: Global,
+    version: Version,
+    words: &[Word],
+) -> Result<Option<Option<When>>, AllocError>
+    ensures { IfOk result (λ shown. shown ≡ key_when_in version words.now) }
+{
+    match words {
+        [] => Ok(Some(None)),
+        [_] => Ok(Some(None)),
+        [keyword, radios, number] => last_three(alloc, version, keyword, radios, number),
+        [_, keyword, radios, number] => last_three(alloc, version, keyword, radios, number),
+        _ => Ok(None),
+    }
+}
+
+// Whether a line of the second letter may come after one of the first.
+fn may_follow(version: Version, earlier: char, later: char) -> bool
+    ensures { result ≡ may_follow version earlier later }
+{
+    match version {
+        Version::One => earlier < later,
+        Version::Two => earlier <= later,
+    }
+}
+
+// Whether the line may come after those before it.
+fn is_above(version: Version, before: &[KeyLine], line: &KeyLine) -> bool
+    ensures { result ≡ is_above version before.now line.now }
+{
+    before
+        .iter()
+        .all(|earlier| may_follow(version, earlier.letter, line.letter))
 }
