@@ -56,4 +56,4 @@ sound_accepted A d certificate refusals.NoMemory back why sound fits = tt
 sound_accepted A d certificate (refusals.Faulty fault) back why sound fits = let clash : fault ∷ why.0 ≡ [] = sym why.1 ∙ sound in absurd cc
 sound_accepted A d certificate refusals.CertVersion back why sound fits = absurd (why.1 fits.version)
 sound_accepted A d certificate (refusals.TabOrder place) back why sound fits = absurd (why.2.differ (ap (λ tabs. slice_get tabs why.2.before) fits.tabs))
-sound_accepted A d certificate (refusals.Owner letter) back why sound fits = absurd (never_first (NamesOwners certificate.blocks) d.dialogs why.3.0 fits.owners why.3.1)
+sound_accepted A d certificate (refusals.Owner letter) back why sound fits = absurd (never_first (NamesOwners d.version certificate.blocks) d.dialogs why.3.0 fits.owners why.3.1)

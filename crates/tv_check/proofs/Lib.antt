@@ -4,5 +4,6 @@ pub mod FirstOwnerLemmas
 pub mod MadeLemmas
 pub mod OwnerLemmas
 pub mod PlanLemmas
+pub mod SharedOwnerLemmas
 pub mod SoundLemmas
 pub mod SpelledLemmas

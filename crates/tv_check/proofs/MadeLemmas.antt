@@ -33,4 +33,4 @@ all_ready d (dialog ∷ dialogs) are lawful usable = (
 pub spelled_made : (d : Desc) → IsSound d → CanBeSpelled d → IsSpelledCertificate (certificate_of d)
 spelled_made d sound can =
     let ready = all_ready d d.dialogs (dialogs_spelled d can) (recursion_from_All HasLawfulCounts d.dialogs (lawful_counts d sound)) (recursion_from_All (IsUsableDialog d) d.dialogs (sound_usable d sound).dialogs) in
-    (canonical_text (certificate_lines (certificate_of d)), canonical_spelled (certificate_of d) (certificate_spelled d.dialogs ready))
+    (canonical_text (certificate_lines (certificate_of d)), canonical_spelled (certificate_of d) (certificate_spelled d.version d.dialogs ready))

@@ -13,8 +13,8 @@ use Rattle.tv_model.specs.declared.desc.Desc.{Desc}
 use Rattle.tv_model.specs.declared.desc.Dialog.{Dialog}
 use Rattle.tv_model.specs.Description.Nodes.{is_dialog, name_of}
 use Rattle.tv_model.specs.Description.Heads.{dialog_head_of}
-use Rattle.tv_model.specs.Controls.Owner.{LetterOwner}
-use Rattle.tv_model.specs.Description.Owners.{owners_of}
+use Rattle.tv_model.specs.declared.desc.Version.{Version}
+use Rattle.tv_model.specs.Description.Owners.{KeyOwner, owners_of}
 use Rattle.tv_model.specs.Description.Certificates.{dialog_name, letters, tabs_of}
 use Rattle.tv_model.specs.Faults.Lines.{after_seen}
 use Rattle.tv_model.specs.Description.Names.{is_option_named, shares_name}
@@ -43,7 +43,7 @@ both P Q R f (x ∷ xs) p q = (f x p.0 q.0, both P Q R f xs p.1 q.1)
 
 -- ---- key lines of letters
 
-module _ (owners : ℕ → List LetterOwner) where
+module _ (owners : ℕ → List KeyOwner) where
   abbrev pub lines_for : List ℕ → List KeyLine
   lines_for ls = flat_map (λ letter. map (key_line letter) (owners letter)) ls
 
@@ -51,7 +51,7 @@ module _ (owners : ℕ → List LetterOwner) where
   alike a b = a == b
 
   -- lines of another letter
-  passed_over : (l letter : ℕ) (os : List LetterOwner) (rest : List KeyLine) → l == letter ≡ false → owners_in (map (key_line l) os ++ rest) letter ≡ owners_in rest letter
+  passed_over : (l letter : ℕ) (os : List KeyOwner) (rest : List KeyLine) → l == letter ≡ false → owners_in (map (key_line l) os ++ rest) letter ≡ owners_in rest letter
   passed_over l letter [] rest other = refl
   passed_over l letter (o ∷ os) rest other = rw other (passed_over l letter os rest other)
 
@@ -59,7 +59,7 @@ module _ (owners : ℕ → List LetterOwner) where
   no_line letter [] apart = refl
   no_line letter (l ∷ ls) apart = passed_over l letter (owners l) (lines_for ls) apart.0.1 ∙ no_line letter ls apart.1
 
-  here : (letter : ℕ) (os : List LetterOwner) (rest : List KeyLine) → letter == letter ≡ true → owners_in rest letter ≡ [] → owners_in (map (key_line letter) os ++ rest) letter ≡ os
+  here : (letter : ℕ) (os : List KeyOwner) (rest : List KeyLine) → letter == letter ≡ true → owners_in rest letter ≡ [] → owners_in (map (key_line letter) os ++ rest) letter ≡ os
   here letter [] rest same none = none
   here letter (o ∷ os) rest same none = rw same (ap (λ others. o ∷ others) (here letter os rest same none))
 
@@ -81,39 +81,40 @@ module _ (owners : ℕ → List LetterOwner) where
 abbrev named_alike : Dialog → Dialog → Bool
 named_alike a b = bytes_eq (dialog_name a) (dialog_name b)
 
-other_block : (d : Dialog) (name : List ℕ) (ds : List Dialog) → bytes_eq (dialog_name d) name ≡ false → key_lines (map block_of (d ∷ ds)) name ≡ key_lines (map block_of ds) name
-other_block d name ds other = rw other refl
+module _ (version : Version) where
+  other_block : (d : Dialog) (name : List ℕ) (ds : List Dialog) → bytes_eq (dialog_name d) name ≡ false → key_lines (map (block_of version) (d ∷ ds)) name ≡ key_lines (map (block_of version) ds) name
+  other_block d name ds other = rw other refl
 
-no_block : (d : Dialog) (ds : List Dialog) → AllByRecursion (Differ named_alike d) ds → key_lines (map block_of ds) (dialog_name d) ≡ []
-no_block d [] apart = refl
-no_block d (e ∷ ds) apart = other_block e (dialog_name d) ds apart.0.1 ∙ no_block d ds apart.1
+  no_block : (d : Dialog) (ds : List Dialog) → AllByRecursion (Differ named_alike d) ds → key_lines (map (block_of version) ds) (dialog_name d) ≡ []
+  no_block d [] apart = refl
+  no_block d (e ∷ ds) apart = other_block e (dialog_name d) ds apart.0.1 ∙ no_block d ds apart.1
 
-own_block : (d : Dialog) (ds : List Dialog) → key_lines (map block_of ds) (dialog_name d) ≡ [] → key_lines (map block_of (d ∷ ds)) (dialog_name d) ≡ keys_of d
-own_block d ds none = rw ((bytes_eq-Decides (dialog_name d) (dialog_name d)).1 refl, none) (append-nil (keys_of d))
+  own_block : (d : Dialog) (ds : List Dialog) → key_lines (map (block_of version) ds) (dialog_name d) ≡ [] → key_lines (map (block_of version) (d ∷ ds)) (dialog_name d) ≡ keys_of version d
+  own_block d ds none = rw ((bytes_eq-Decides (dialog_name d) (dialog_name d)).1 refl, none) (append-nil (keys_of version d))
 
-abbrev HasKeys : List Dialog → Dialog → Type 0
-HasKeys ds d = key_lines (map block_of ds) (dialog_name d) ≡ keys_of d
+  abbrev HasKeys : List Dialog → Dialog → Type 0
+  HasKeys ds d = key_lines (map (block_of version) ds) (dialog_name d) ≡ keys_of version d
 
-each_block : (ds : List Dialog) → is_apart named_alike ds ≡ true → AllByRecursion (HasKeys ds) ds
-each_block [] apart = tt
-each_block (d ∷ ds) apart =
-    let split = and_parts (list_all (λ y. not (named_alike d y) && not (named_alike y d)) ds) (is_apart named_alike ds) apart in
-    let others = all_differ named_alike d ds split.0 in (
-      own_block d ds (no_block d ds others),
-      both (Differ named_alike d) (HasKeys ds) (HasKeys (d ∷ ds)) (λ e differ later. other_block d (dialog_name e) ds differ.0 ∙ later) ds others (each_block ds split.1),
-    )
+  each_block : (ds : List Dialog) → is_apart named_alike ds ≡ true → AllByRecursion (HasKeys ds) ds
+  each_block [] apart = tt
+  each_block (d ∷ ds) apart =
+      let split = and_parts (list_all (λ y. not (named_alike d y) && not (named_alike y d)) ds) (is_apart named_alike ds) apart in
+      let others = all_differ named_alike d ds split.0 in (
+        own_block d ds (no_block d ds others),
+        both (Differ named_alike d) (HasKeys ds) (HasKeys (d ∷ ds)) (λ e differ later. other_block d (dialog_name e) ds differ.0 ∙ later) ds others (each_block ds split.1),
+      )
 
--- ---- the whole certificate
+  -- ---- the whole certificate
 
-tabs_made : (ds : List Dialog) → tab_lines (map block_of ds) ≡ flat_map (λ dialog. map (λ name. (dialog_name dialog, name)) (tabs_of dialog)) ds
-tabs_made [] = refl
-tabs_made (d ∷ ds) = ap (λ tabs. map (λ name. (dialog_name d, name)) (tabs_of d) ++ tabs) (tabs_made ds)
+  tabs_made : (ds : List Dialog) → tab_lines (map (block_of version) ds) ≡ flat_map (λ dialog. map (λ name. (dialog_name dialog, name)) (tabs_of dialog)) ds
+  tabs_made [] = refl
+  tabs_made (d ∷ ds) = ap (λ tabs. map (λ name. (dialog_name d, name)) (tabs_of d) ++ tabs) (tabs_made ds)
 
-owners_named : (d : Dialog) → All (NamesOwner (keys_of d) d) letters
-owners_named d = All-from_recursion (NamesOwner (keys_of d) d) letters (each_named (owners_of d) letters refl)
+  owners_named : (d : Dialog) → All (NamesOwner version (keys_of version d) d) letters
+  owners_named d = All-from_recursion (NamesOwner version (keys_of version d) d) letters (each_named (owners_of version d) letters refl)
 
-owners_made : (ds : List Dialog) (d : Dialog) → HasKeys ds d → NamesOwners (map block_of ds) d
-owners_made ds d keys = subst (λ lines. All (NamesOwner lines d) letters) (sym keys) (owners_named d)
+  owners_made : (ds : List Dialog) (d : Dialog) → HasKeys ds d → NamesOwners version (map (block_of version) ds) d
+  owners_made ds d keys = subst (λ lines. All (NamesOwner version lines d) letters) (sym keys) (owners_named d)
 
 differ_of : (a b : List ℕ) (t : Bool) → bytes_eq a b ≡ t → a ≢ b → t ≡ false
 differ_of a b true e h = absurd (h ((bytes_eq-Decides a b).0 e))
@@ -174,6 +175,7 @@ names_apart seen (x ∷ ds) new =
 pub made_sound : (d : Desc) → All IsNewName (after_seen [] d.dialogs) → IsSoundCertificate d (certificate_of d)
 made_sound d new = record {
   version = refl;
-  tabs = tabs_made d.dialogs;
-  owners = All-weaker (HasKeys d.dialogs) (NamesOwners (certificate_of d).blocks) (λ dialog keys. owners_made d.dialogs dialog keys) d.dialogs (All-from_recursion (HasKeys d.dialogs) d.dialogs (each_block d.dialogs (names_apart [] d.dialogs new)));
+  tabs = tabs_made d.version d.dialogs;
+  owners = All-weaker (HasKeys d.version d.dialogs) (NamesOwners d.version (certificate_of d).blocks) (λ dialog keys. owners_made d.version d.dialogs dialog keys) d.dialogs
+      (All-from_recursion (HasKeys d.version d.dialogs) d.dialogs (each_block d.version d.dialogs (names_apart [] d.dialogs new)));
 }

@@ -43,11 +43,11 @@ pub record IsFirstWithout {A : Type 0} (P : A → Type 0) (xs : List A) (x : A) 
   pub passed : All P before
   pub stops : P x → ⊥
 
--- the first letter without its owner in the first dialog, in description order, that has one
+-- the first letter without its owners in the first dialog, in description order, that has one
 abbrev pub IsFirstOwner : Desc → List Block → ℕ → Type 0
 IsFirstOwner d blocks letter =
-    (dialog : Dialog) × IsFirstWithout (NamesOwners blocks) d.dialogs dialog
-    × IsFirstWithout (NamesOwner (key_lines blocks (dialog_name dialog)) dialog) letters letter
+    (dialog : Dialog) × IsFirstWithout (NamesOwners d.version blocks) d.dialogs dialog
+    × IsFirstWithout (NamesOwner d.version (key_lines blocks (dialog_name dialog)) dialog) letters letter
 
 -- what a refusal says: the faults are looked at first, then the version, the tab lines and the key lines
 abbrev pub RefusesToAccept : Desc → Certificate → Refusal → Type 0

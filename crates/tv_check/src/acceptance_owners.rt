@@ -1,12 +1,12 @@
 //! The key lines of a certificate beside the owners of a description's letters.
 
-ghost use Rattle.std.specs.Prelude.{◌≡◌, ◌++◌, ◌↔◌, IfOk, OnOk, IsTrue, MatchOption, option_map, option_to_list, map, All};
+ghost use Rattle.std.specs.Prelude.{◌≡◌, ◌++◌, ◌↔◌, IfOk, OnOk, IsTrue, MatchOption, map, All};
 ghost use Rattle.tv_model.specs.Description.Certificates.{letters};
 ghost use Rattle.tv_check.specs.Certificates.{key_lines, NamesOwner, NamesOwners, owners_in};
-ghost use Rattle.tv_check.specs.Lent.{lent_owner};
+ghost use Rattle.tv_check.specs.Lent.{lent_key_owner};
 ghost use Rattle.tv_check.specs.Refusals.{IsFirstOwner, IsFirstWithout};
 
-use crate::owner::Owner;
+use crate::owner::KeyOwner;
 use crate::owners::Owners;
 use std::alloc::{AllocError, Global};
 use tv_certificate::{Block, KeyLine, letters};
@@ -38,43 +38,48 @@ fn add_keys<'a>(lines: &mut Vec<&'a KeyLine>, block: &'a Block) -> Result<(), Al
     Ok(())
 }
 
-// Whether the letter has just the one line of its owner, or none where it has no owner.
-fn names_owner(lines: &[&KeyLine], letter: char, owner: Option<Owner>) -> bool
-    ensures { IsTrue result ↔ (owners_in (map (λ line. line.now) lines.now) letter ≡ option_to_list (option_map lent_owner owner.entry)) }
+// Whether the letter has just the lines of its owners, in their order.
+fn names_owners(lines: &[&KeyLine], letter: char, owners: &[KeyOwner]) -> bool
+    ensures { IsTrue result ↔ (owners_in (map (λ line. line.now) lines.now) letter ≡ map lent_key_owner owners.now) }
 {
-    let mut left = owner;
+    let mut left = owners;
     for line in lines {
         if line.letter == letter {
             match left {
-                Some(owner) if owner.is_named(line) => left = None,
+                [owner, others @ ..] if owner.is_named(line) => left = others,
                 _ => return false,
             }
         }
     }
-    left.is_none()
+    left.is_empty()
 }
 
-// The first letter that doesn't have its owner.
-fn first_letter(lines: &[&KeyLine], owners: &Owners) -> Option<char>
-    ensures { MatchOption result (All (NamesOwner (map (λ line. line.now) lines.now) owners.now) letters) (IsFirstWithout (NamesOwner (map (λ line. line.now) lines.now) owners.now) letters) }
+// The first letter that doesn't have its owners.
+fn first_letter(
+    alloc: Global,
+    lines: &[&KeyLine],
+    owners: &Owners,
+) -> Result<Option<char>, AllocError>
+    ensures { IfOk result (λ letter. MatchOption letter (All (NamesOwner owners.now.version (map (λ line. line.now) lines.now) owners.now.dialog) letters) (IsFirstWithout (NamesOwner owners.now.version (map (λ line. line.now) lines.now) owners.now.dialog) letters)) }
 {
     for letter in letters() {
-        if !names_owner(lines, *letter, owners.owner(*letter)) {
-            return Some(*letter);
+        let own = owners.owners(alloc, *letter)?;
+        if !names_owners(lines, *letter, &own) {
+            return Ok(Some(*letter));
         }
     }
-    None
+    Ok(None)
 }
 
-/// Finds the first dialog with a letter whose key lines don't name its owner. Returns the first such letter of that
+/// Finds the first dialog with a letter whose key lines don't name its owners. Returns the first such letter of that
 /// dialog.
 pub fn first_owner(alloc: Global, desc: &Desc, blocks: &[Block]) -> Result<Option<char>, AllocError>
-    ensures { IfOk result (λ letter. MatchOption letter (All (NamesOwners blocks.now) desc.now.dialogs) (IsFirstOwner desc.now blocks.now)) }
+    ensures { IfOk result (λ letter. MatchOption letter (All (NamesOwners desc.now.version blocks.now) desc.now.dialogs) (IsFirstOwner desc.now blocks.now)) }
 {
     for dialog in desc.dialogs.as_slice() {
         let lines = key_lines(alloc, blocks, dialog.head().name.as_slice())?;
-        let owners = Owners::new(alloc, dialog)?;
-        if let Some(letter) = first_letter(&lines, &owners) {
+        let owners = Owners::new(alloc, desc.version, dialog)?;
+        if let Some(letter) = first_letter(alloc, &lines, &owners)? {
             return Ok(Some(letter));
         }
     }

@@ -1,24 +1,24 @@
 //! The certificate that is made of a sound description.
 
-ghost use Rattle.std.specs.Prelude.{◌≡◌, ◌∷◌, [], List, IfOk, IfErr, MatchOption, option_copied};
+ghost use Rattle.std.specs.Prelude.{◌≡◌, ◌∷◌, ◌++◌, [], List, All, IfOk, IfErr, MatchOption, OnOk, map, option_copied, option_map};
 ghost use Rattle.tv_model.specs.Description.Certificates.{control_name, tabs_of};
 ghost use Rattle.tv_model.specs.Faults.{IsSound};
 ghost use Rattle.tv_faults.specs.Usable.{HasLawfulCounts};
 ghost use Rattle.tv_model.specs.declared.fault.Fault.{Fault as SeenFault};
-ghost use Rattle.tv_check.specs.Certificates.{FitsKeyLine, IsSoundCertificate, block_of, certificate_of, key_line, keys_of};
+ghost use Rattle.tv_check.specs.Certificates.{FitsKeyLine, FitsOwner, IsSoundCertificate, block_of, certificate_of, key_line, keys_of};
 ghost use Rattle.tv_certificate.specs.CertificateTexts.{IsSpelledCertificate};
-ghost use Rattle.tv_check.specs.Lent.{lent_owner};
+ghost use Rattle.tv_check.specs.Lent.{lent_key_owner, lent_owner, lent_when};
 ghost use Rattle.tv_lang.specs.CanonicalDescription.{CanBeSpelled};
 ghost use Rattle.tv_check.specs.Refusals.{IsFirstFault, RefusesToCertify};
 
 use crate::acceptance::Checked;
-use crate::owner::Owner;
+use crate::owner::{KeyOwner, Shown};
 use crate::owners::Owners;
 use std::alloc::{AllocError, Global};
 use thiserror::Error;
 use tv_certificate::{Block, Certificate, KeyLine, letters};
 use tv_faults::faults;
-use tv_model::{Desc, Dialog, Fault, Kind, Sequence};
+use tv_model::{Desc, Dialog, Fault, Kind, Sequence, Version, When};
 use tv_valid::Chars;
 
 /// Why no certificate is made.
@@ -68,35 +68,64 @@ fn tabs_of(alloc: Global, dialog: &Dialog) -> Result<Sequence<Chars>, AllocError
     Ok(tabs)
 }
 
-fn key_line(alloc: Global, letter: char, owner: &Owner) -> Result<KeyLine, AllocError>
-    requires { FitsKeyLine (lent_owner owner.now) }
-    ensures { IfOk result (λ line. line ≡ key_line letter (lent_owner owner.now)) }
+// Copies an item of radio buttons.
+fn when_of(alloc: Global, shown: Option<Shown>) -> Result<Option<When>, AllocError>
+    ensures { IfOk result (λ when. when ≡ option_map lent_when shown.entry) }
+{
+    match shown {
+        Some(shown) => Ok(Some(When {
+            radios: copy(alloc, shown.radios)?,
+            item: shown.item,
+        })),
+        None => Ok(None),
+    }
+}
+
+fn key_line(alloc: Global, letter: char, owner: &KeyOwner) -> Result<KeyLine, AllocError>
+    requires { FitsKeyLine (lent_owner owner.now.owner) }
+    ensures { IfOk result (λ line. line ≡ key_line letter (lent_key_owner owner.now)) }
 {
     Ok(KeyLine {
         letter,
-        owner: copy(alloc, owner.name)?,
-        item: owner.item(),
+        owner: copy(alloc, owner.owner.name)?,
+        item: owner.owner.item(),
+        when: when_of(alloc, owner.when)?,
     })
 }
 
+// Adds a key line for each of the letter's owners.
+fn add_keys(
+    alloc: Global,
+    keys: &mut Sequence<KeyLine>,
+    letter: char,
+    owners: &[KeyOwner],
+) -> Result<(), AllocError>
+    requires { All (λ owner. FitsOwner (lent_key_owner owner)) owners.now }
+    ensures { OnOk result (keys.new ≡ keys.old ++ map (key_line letter) (map lent_key_owner owners.now)) }
+{
+    for owner in owners {
+        keys.push(key_line(alloc, letter, owner)?)?;
+    }
+    Ok(())
+}
+
 fn keys_of(alloc: Global, owners: &Owners) -> Result<Sequence<KeyLine>, AllocError>
-    requires { HasLawfulCounts owners.now }
-    ensures { IfOk result (λ keys. keys ≡ keys_of owners.now) }
+    requires { HasLawfulCounts owners.now.dialog }
+    ensures { IfOk result (λ keys. keys ≡ keys_of owners.now.version owners.now.dialog) }
 {
     let mut keys = Sequence::new(alloc);
     for letter in letters() {
-        if let Some(owner) = owners.owner(*letter) {
-            keys.push(key_line(alloc, *letter, &owner)?)?;
-        }
+        let own = owners.owners(alloc, *letter)?;
+        add_keys(alloc, &mut keys, *letter, &own)?;
     }
     Ok(keys)
 }
 
-fn block_of(alloc: Global, dialog: &Dialog) -> Result<Block, AllocError>
+fn block_of(alloc: Global, version: Version, dialog: &Dialog) -> Result<Block, AllocError>
     requires { HasLawfulCounts dialog.now }
-    ensures { IfOk result (λ block. block ≡ block_of dialog.now) }
+    ensures { IfOk result (λ block. block ≡ block_of version dialog.now) }
 {
-    let owners = Owners::new(alloc, dialog)?;
+    let owners = Owners::new(alloc, version, dialog)?;
     Ok(Block {
         dialog: copy(alloc, &dialog.head().name)?,
         tabs: tabs_of(alloc, dialog)?,
@@ -114,7 +143,7 @@ fn certificate_of(alloc: Global, desc: &Desc) -> Result<Certificate, AllocError>
 {
     let mut blocks = Sequence::new(alloc);
     for dialog in desc.dialogs.as_slice() {
-        blocks.push(block_of(alloc, dialog)?)?;
+        blocks.push(block_of(alloc, desc.version, dialog)?)?;
     }
     Ok(Certificate {
         version: desc.version,

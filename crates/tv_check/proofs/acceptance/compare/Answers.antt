@@ -19,5 +19,5 @@ returns-in-None-clause-yes c =
     let version : c.args.certificate.now.version ≡ desc.version = search rules in
     let same = c.blocks-blocks.ensures in
     let tabs : tab_lines c.blocks-blocks.result.now ≡ tab_order desc = rw c.in_default.is at c.in_ok-place.ensures in
-    let owners : All (NamesOwners c.blocks-blocks.result.now) desc.dialogs = rw c.in-None.is at c.in_ok-letter.ensures in
-    record { version = version; tabs = ap tab_lines (sym same) ∙ tabs; owners = subst (λ blocks. All (NamesOwners blocks) desc.dialogs) same owners }
+    let owners : All (NamesOwners desc.version c.blocks-blocks.result.now) desc.dialogs = rw c.in-None.is at c.in_ok-letter.ensures in
+    record { version = version; tabs = ap tab_lines (sym same) ∙ tabs; owners = subst (λ blocks. All (NamesOwners desc.version blocks) desc.dialogs) same owners }

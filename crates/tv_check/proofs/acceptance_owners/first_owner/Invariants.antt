@@ -3,4 +3,4 @@ use Rattle.tv_check.specs.Certificates.{NamesOwners}
 use Rattle.tv_check.proofs.acceptance_owners.first_owner.Given as goal
 
 abbrev pub invariant-loop-dialog : goal.invariant-loop-dialog
-invariant-loop-dialog l = All (NamesOwners l.blocks) (take l.dialog-index l.dialog-items)
+invariant-loop-dialog l = All (NamesOwners l.desc.version l.blocks) (take l.dialog-index l.dialog-items)

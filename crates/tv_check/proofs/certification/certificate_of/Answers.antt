@@ -20,11 +20,11 @@ all_made f items i made whole past so_far = sym (append-nil made) ∙ ap (λ res
 pub returns-clause-sound : goal.returns-clause-sound
 returns-clause-sound c =
     let all : c.loop-dialog.blocks ≡ (certificate_of c.args.desc.now).blocks =
-    all_made block_of c.as_slice-dialog-items.result.now c.loop-dialog.dialog-index c.loop-dialog.blocks _ (omega (arith, c.loop-dialog-test.false)) c.loop-dialog.invariant in
+    all_made (block_of c.args.desc.now.version) c.as_slice-dialog-items.result.now c.loop-dialog.dialog-index c.loop-dialog.blocks _ (omega (arith, c.loop-dialog-test.false)) c.loop-dialog.invariant in
     subst (λ blocks. IsSoundCertificate c.args.desc.now (record { version = c.args.desc.now.version; blocks = blocks })) (sym all) (sound_made c.args.desc.now c.requires.sound)
 
 pub returns-clause-spelled : goal.returns-clause-spelled
 returns-clause-spelled c =
     let all : c.loop-dialog.blocks ≡ (certificate_of c.args.desc.now).blocks =
-    all_made block_of c.as_slice-dialog-items.result.now c.loop-dialog.dialog-index c.loop-dialog.blocks _ (omega (arith, c.loop-dialog-test.false)) c.loop-dialog.invariant in
+    all_made (block_of c.args.desc.now.version) c.as_slice-dialog-items.result.now c.loop-dialog.dialog-index c.loop-dialog.blocks _ (omega (arith, c.loop-dialog-test.false)) c.loop-dialog.invariant in
     subst (λ blocks. IsSpelledCertificate (record { version = c.args.desc.now.version; blocks = blocks })) (sym all) (spelled_made c.args.desc.now c.requires.sound c.requires.spelled)
