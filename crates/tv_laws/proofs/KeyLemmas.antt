@@ -1,5 +1,5 @@
 -- Keys while nothing holds the mouse: the dialog goes on, or it ends as it should.
-use Rattle.std.proofs.Common.{◌≡◌, true, ◌==◌, ℕ, if◌then◌else◌, ◌∷◌, is_some, Option, Some, None, refl, sym, ap, subst, ◌∙◌, All}
+use Rattle.std.proofs.Common.{◌≡◌, true, ◌==◌, ℕ, if◌then◌else◌, ◌∷◌, Option, Some, None, refl, sym, ap, subst, ◌∙◌, All}
 use Rattle.std.proofs.lemmas.List.Elements.{All-tail}
 use Rattle.tv_event.specs.declared.event.Key.{Key}
 use Rattle.tv_event.specs.declared.event.Key.TheVariants as keys
@@ -10,7 +10,6 @@ use Rattle.tv_model.specs.declared.desc.Dialog.{Dialog}
 use Rattle.tv_model.specs.Controls.Shortcut.{item_marking, Shortcut, NoMark, LinkMark, PressMark, ItemMarks}
 use Rattle.tv_model.specs.Description.LawfulNodes.{HasLawfulCount, IsLimited, IsNarrowNode, IsNarrowText}
 use Rattle.tv_model.specs.Description.Marks.{upper}
-use Rattle.tv_model.specs.Description.Owners.{owner_by}
 use Rattle.tv_model.specs.Description.Names.{meant}
 use Rattle.tv_model.specs.Description.Texts.{shown_texts}
 use Rattle.tv_machine.specs.Leaves.{PlacedNode}
@@ -31,8 +30,9 @@ use Rattle.tv_laws.proofs.EndLemmas.{command-done, press-done}
 use Rattle.tv_laws.proofs.FreeLemmas.{IsFree, free-done, free-focus, free-request, request-then}
 use Rattle.tv_laws.proofs.ItemLemmas.{marking-item}
 use Rattle.tv_laws.proofs.KindLemmas.{IsFitAnswer, item-called, key-fit}
-use Rattle.tv_machine.proofs.LeafLemmas.{IsIn, found-in, leaf_at-in, leaf_at-is, leaf_at-node}
+use Rattle.tv_machine.proofs.LeafLemmas.{IsIn, leaf_at-in, leaf_at-is, leaf_at-node}
 use Rattle.tv_machine.proofs.ListLemmas.{bool_cases, id-itself, option_cases}
+use Rattle.tv_laws.proofs.MarkerLemmas.{marker-in}
 use Rattle.tv_laws.proofs.StandLemmas.{standing-leaf}
 
 module _ (d : Dialog) (sound : IsSoundDialog d) where
@@ -89,10 +89,10 @@ module _ (d : Dialog) (sound : IsSoundDialog d) where
       bool_cases (is_visible d m.leaves leaf) (λ b. IsDone d (if b then called d letter leaf leaf.node.kind m else m))
       (λ shown. called_done m leaf letter (behaviour leaf.node.kind).shortcut e refl f) (λ hidden. free-done d m f)
 
-  marker_done : (letter : ℕ) (m : Modal) → IsFree d m → IsDone d (act_on d letter (marking_leaf d letter) m)
+  marker_done : (letter : ℕ) (m : Modal) → IsFree d m → IsDone d (act_on d letter (marking_leaf d m.leaves letter) m)
   marker_done letter m f =
-      option_cases (marking_leaf d letter) (λ o. IsDone d (act_on d letter o m)) (λ none. free-done d m f)
-      (λ leaf found. act_done letter leaf m (found-in d sound.lawful (λ x. is_some (owner_by letter x.node.kind)) leaf found) f)
+      option_cases (marking_leaf d m.leaves letter) (λ o. IsDone d (act_on d letter o m)) (λ none. free-done d m f)
+      (λ leaf found. act_done letter leaf m (marker-in d m.leaves sound.lawful letter leaf found) f)
 
   -- ---- the focused control
 
@@ -120,10 +120,10 @@ module _ (d : Dialog) (sound : IsSoundDialog d) where
   enter_done (Some leaf) m f =
       bool_cases (is_enabled d m.leaves leaf.node) (λ b. IsDone d (if b then press d leaf m else m)) (λ enabled. press-done d sound leaf m f) (λ disabled. free-done d m f)
 
-  alt_done : (letter : ℕ) (m : Modal) → IsFree d m → IsDone d (alt_keyed d letter (marking_leaf d letter) m)
+  alt_done : (letter : ℕ) (m : Modal) → IsFree d m → IsDone d (alt_keyed d letter (marking_leaf d m.leaves letter) m)
   alt_done letter m f =
-      option_cases (marking_leaf d letter) (λ o. IsDone d (alt_keyed d letter o m)) (λ none. focus_done (keys.Alt letter) m f)
-      (λ leaf found. act_done letter leaf m (found-in d sound.lawful (λ x. is_some (owner_by letter x.node.kind)) leaf found) f)
+      option_cases (marking_leaf d m.leaves letter) (λ o. IsDone d (alt_keyed d letter o m)) (λ none. focus_done (keys.Alt letter) m f)
+      (λ leaf found. act_done letter leaf m (marker-in d m.leaves sound.lawful letter leaf found) f)
 
   -- a key while nothing holds the mouse
   pub key-done : (k : Key) (m : Modal) → IsFree d m → IsDone d (key d k m)

@@ -3,6 +3,7 @@ pub mod ItemLemmas
 pub mod KindLemmas
 pub mod ComingLemmas
 pub mod StandLemmas
+pub mod MarkerLemmas
 pub mod FreeLemmas
 pub mod RecordLemmas
 pub mod EndLemmas

@@ -23,13 +23,16 @@ use Rattle.tv_machine.specs.Session.Desktop.{seen_from}
 use Rattle.tv_machine.specs.Session.Dragging.{grabbed, is_grip_of}
 use Rattle.tv_machine.specs.Session.Start.{closed, start, started_at, started_by}
 use Rattle.tv_machine.specs.Session.Step.{down_at_menu, down_at_status, down_below, down_on_dialog, emptied, event_from, held_of, is_item_enabled, is_status_row, key_at_menu, key_at_status, key_below, status_command, status_item_of, step, step_at, step_below, step_held, step_under, to_dialog}
+use Rattle.tv_laws.specs.Letters.{AlwaysMarksOnce}
 use Rattle.tv_laws.specs.Runs.{HasSoundDialogs, IsFitState, IsKept, RunsFit}
 use Rattle.tv_laws.specs.Steps.{RespectsHold}
 use Rattle.tv_laws.proofs.CommandLemmas.{IsReady, command-fit, desktop_down-fit, desktop_key-fit, idle-fit, menu_down-fit, menu_key-fit, ready-idle}
 use Rattle.tv_machine.proofs.ListLemmas.{bool_cases, option_cases}
 use Rattle.tv_laws.proofs.DragLemmas.{dragged-fit, grabbed-fit}
+use Rattle.tv_machine.specs.Dialog.Shortcuts.{HaveOneMarker}
+use Rattle.tv_laws.proofs.MarkerLemmas.{one_marker}
 use Rattle.tv_laws.proofs.StepLemmas.{stays-fit}
-use Rattle.tv_laws.proofs.WorkLemmas.{dialog-opens, dialog-works, filter_none, get_all, nothing, relogged-fit}
+use Rattle.tv_laws.proofs.WorkLemmas.{dialog-opens, dialog-works, filter_none, get_all, nothing, relogged-fit, sound-at}
 
 -- ---- events that may come at any time
 
@@ -228,3 +231,10 @@ module _ (d : Desc) (sound : HasSoundDialogs d) where
 
   pub always-safe : StandOnDesktop d → IsAlwaysSafe d
   always-safe stand es = fit-safe stand (states (step d) (start d) es) (states-fit es (start d) start-fit)
+
+  pub always-marks-once : AlwaysMarksOnce d
+  always-marks-once es o dialog some there =
+      let x = (states-fit es (start d) start-fit).«open» o some in
+      let both : Some x.dialog ≡ Some dialog = sym x.there ∙ there in
+      let same : x.dialog ≡ dialog = cc in
+      subst (λ own. HaveOneMarker own o.leaves) same (one_marker x.dialog (modal_of (states (step d) (start d) es) o) (sound-at d sound o.place x.dialog x.there) x.fit.standing)

@@ -1,24 +1,30 @@
 -- What letters act on in an open dialog, and all that they may change.
-use Rattle.std.specs.Prelude.{[], ◌≡◌, ◌⊎◌, ℕ, Bool, true, false, ◌&&◌, List, ◌∷◌, ◌++◌, Option, Some, None}
-use Rattle.std.specs.Prelude.{option_map, pos, IsTrue, All, ◌==◌}
+use Rattle.std.specs.Prelude.{[], ◌≡◌, ◌≢◌, ◌⊎◌, ℕ, Bool, true, false, ◌&&◌, List, ◌∷◌, ◌++◌, filter, Option, Some}
+use Rattle.std.specs.Prelude.{None, option_map, option_to_list, pos, slice_get, IsTrue, All, Any, ◌==◌}
 use Rattle.std.specs.List.{AllPairs}
+use Rattle.tv_event.specs.declared.event.Event.{Event}
 use Rattle.tv_event.specs.declared.event.Event.TheVariants as events
 use Rattle.tv_event.specs.declared.event.Key.TheVariants as keys
 use Rattle.tv_model.specs.declared.node.Id.{Id}
 use Rattle.tv_model.specs.declared.node.Node.{Node}
 use Rattle.tv_model.specs.declared.kind.Kind.{Kind}
 use Rattle.tv_model.specs.declared.kind.Kind.TheVariants as kinds
+use Rattle.tv_model.specs.declared.desc.Desc.{Desc}
 use Rattle.tv_model.specs.declared.desc.Dialog.{Dialog}
+use Rattle.tv_model.specs.declared.desc.Version.{Version}
+use Rattle.tv_model.specs.declared.desc.Version.TheVariants as versions
+use Rattle.tv_model.specs.declared.desc.When.{When}
 use Rattle.tv_model.specs.declared.log.LogLine.{LogLine}
 use Rattle.tv_model.specs.declared.log.LogLine.TheVariants as lines
 use Rattle.tv_model.specs.Controls.Shortcut.{item_marking, ClusterKind, Boxes, Radios}
 use Rattle.tv_model.specs.Description.Marks.{upper}
 use Rattle.tv_model.specs.Description.Names.{gives_name, meant}
 use Rattle.tv_model.specs.Description.Nodes.{is_button, name_of}
+use Rattle.tv_model.specs.Description.Numbers.{natural}
 use Rattle.tv_model.specs.Description.Owners as owners
-use Rattle.tv_model.specs.Controls.Owner.{LetterOwner}
-use Rattle.tv_model.specs.Description.Owners.{owners_of}
-use Rattle.tv_machine.specs.State.{LeafState}
+use Rattle.tv_model.specs.Description.Owners.{KeyOwner, owner_by, owners_of}
+use Rattle.tv_model.specs.Description.Sharing.{is_radios, sharer_by, sharing_rules}
+use Rattle.tv_machine.specs.State.{LeafState, OpenDialog}
 use Rattle.tv_machine.specs.Leaves.{PlacedNode, leaf_list}
 use Rattle.tv_model.specs.Controls.Behaviour.{Passed}
 use Rattle.tv_model.specs.Kinds.Cluster.{cluster_item_pressed}
@@ -26,17 +32,105 @@ use Rattle.tv_machine.specs.Controls.Tables.{key_answer}
 use Rattle.tv_machine.specs.Dialog.Ending.{first_invalid}
 use Rattle.tv_machine.specs.Dialog.Focus.{Refused, is_free_at, keeps_focus, requested}
 use Rattle.tv_machine.specs.Dialog.Modal.{Modal, content_at, leaf_at, with_line}
-use Rattle.tv_machine.specs.Dialog.Rules.{is_kind_enabled, is_visible}
-use Rattle.tv_machine.specs.Dialog.Shortcuts.{act, act_on, marking_leaf}
+use Rattle.tv_machine.specs.Dialog.Lawful.{ShowsBy}
+use Rattle.tv_machine.specs.Dialog.Rules.{is_kind_enabled, is_marked_at, is_visible}
+use Rattle.tv_machine.specs.Dialog.Shortcuts.{HaveOneMarker, act, act_on, is_visible_marker, marking_leaf}
+use Rattle.tv_machine.specs.Dialog.Shortcuts.{marking_leaves}
 use Rattle.tv_machine.specs.Dialog.Step.{dialog_step}
 use Rattle.tv_laws.specs.Fit.{IsFitModal}
+use Rattle.tv_laws.specs.Records.{state_after}
+
+-- ---- markers
+
+-- no letter has two visible markers in an open dialog at work
+abbrev pub MarksOnce : Dialog → Type 0
+MarksOnce d = (m : Modal) → IsFitModal d m → HaveOneMarker d m.leaves
+
+-- nor has one in the dialog that is open wherever events lead a run
+abbrev pub AlwaysMarksOnce : Desc → Type 0
+AlwaysMarksOnce d =
+    (events : List Event) (o : OpenDialog) (dialog : Dialog)
+    → (state_after d events).dialog ≡ Some o → slice_get d.dialogs o.place ≡ Some dialog
+    → HaveOneMarker dialog o.leaves
+
+-- a visible leaf that marks a letter is its marker
+abbrev pub VisibleIsMarker : Dialog → Type 0
+VisibleIsMarker d =
+    (m : Modal) → IsFitModal d m → (letter : ℕ)
+    → All (λ leaf.
+    is_visible_marker d m.leaves letter leaf ≡ true → marking_leaf d m.leaves letter ≡ Some leaf)
+    (leaf_list d.views)
+
+-- ---- the lines of the certificate
+
+-- a line of the certificate for a letter holds: it has no `when`, or the item of its radio buttons is marked
+abbrev pub holds_now : Dialog → List LeafState → Option When → Bool
+holds_now d leaves None = true
+holds_now d leaves (Some shown) = is_marked_at leaves (natural shown.item) (meant d.views shown.radios)
+
+-- the lines of a letter that hold for the marks of these leaves. In version 1 all do: there is at most one
+abbrev pub lines_now : Version → Dialog → List LeafState → ℕ → List KeyOwner
+lines_now version d leaves letter =
+    filter (λ line. holds_now d leaves line.when) (owners_of version d letter)
+
+-- these are radio buttons, and by a rule the leaf is shown only while their item is marked
+pub record IsShownWhile (d : Dialog) (leaf : PlacedNode) (shown : When) : Type 0 where
+  pub radios : Node
+  pub named : meant d.views shown.radios ≡ Some radios
+  pub kind : IsTrue (is_radios radios.kind)
+  pub rule : Any (ShowsBy d radios (natural shown.item) leaf) d.rules
+
+-- so it is where there is a `when`
+abbrev pub IsShownWhen : Dialog → PlacedNode → Option When → Type 0
+IsShownWhen d leaf None = Unit {0}
+IsShownWhen d leaf (Some shown) = IsShownWhile d leaf shown
+
+-- the line names what the letter acts on by this marker, and its `when` is one by which the marker is shown
+pub record IsLineOf (d : Dialog) (letter : ℕ) (line : KeyOwner) (marker : PlacedNode) : Type 0 where
+  pub owner : owner_by letter marker.node.kind ≡ Some line.owner
+  pub when : IsShownWhen d marker line.when
+
+-- a line for each marker, in description order
+abbrev pub AreLinesOf : Dialog → ℕ → List KeyOwner → List PlacedNode → Type 0
+AreLinesOf d letter [] [] = Unit {0}
+AreLinesOf d letter (line ∷ lines) (marker ∷ markers) =
+    IsLineOf d letter line marker × AreLinesOf d letter lines markers
+AreLinesOf d letter _ _ = ⊥
+
+-- different items of the same radio buttons
+abbrev pub AreOtherItems : Option When → Option When → Type 0
+AreOtherItems (Some shown) (Some other) =
+    (shown.radios ≡ other.radios) × (natural shown.item ≢ natural other.item)
+AreOtherItems _ _ = ⊥
+
+-- the lines of a letter are those of its markers. An only line has no `when`, and of several each has another
+-- item of the same radio buttons
+pub record HasLinesOf (version : Version) (d : Dialog) (letter : ℕ) : Type 0 where
+  pub markers : AreLinesOf d letter (owners_of version d letter) (marking_leaves d letter)
+  pub alone : (line : KeyOwner) → owners_of version d letter ≡ line ∷ [] → line.when ≡ None
+  pub apart : AllPairs (λ line other. AreOtherItems line.when other.when) (owners_of version d letter)
+
+-- so it is for each letter, as in a dialog of a sound description of this version: in version 1 at most one
+-- view marks it
+abbrev pub HasLines : Version → Dialog → Type 0
+HasLines version d = (letter : ℕ) → HasLinesOf version d letter
+
+-- in version 1 the lines that hold are those that there are: the one owner of the letter, if it has one
+abbrev pub OneLineInFirstVersion : Dialog → Type 0
+OneLineInFirstVersion d =
+    (leaves : List LeafState) (letter : ℕ)
+    → lines_now versions.One d leaves letter
+    ≡ option_to_list (option_map owners.always (owners.owner_of d letter))
 
 -- ---- what the certificate names
 
--- the marker of a letter is the view whose owner the certificate names
-abbrev pub MarksAlike : Dialog → Type 0
-MarksAlike d =
-    (letter : ℕ) → option_map (λ leaf. leaf.node) (marking_leaf d letter) ≡ owners.marker_of d letter
+-- the marker of a letter that isn't shared is the view whose owner the certificate names. In version 1 none
+-- is shared
+abbrev pub MarksAlike : Version → Dialog → Type 0
+MarksAlike version d =
+    (leaves : List LeafState) (letter : ℕ)
+    → sharer_by (sharing_rules version d.rules) d.views letter ≡ None
+    → option_map (λ leaf. leaf.node) (marking_leaf d leaves letter) ≡ owners.marker_of d letter
 
 -- what a marker acts on: a label on the control that its link means, any other marker on itself
 abbrev pub control_by : Dialog → Node → Kind → Option Node
@@ -55,15 +149,16 @@ HasOwnNames d =
     AllPairs (λ view other.
     (name : List ℕ) → name_of view.kind ≡ Some name → name_of other.kind ≡ Some name → ⊥) d.views
 
--- the one owner that a sound certificate has for the letter names the control, with the item that the letter
--- presses
-pub record IsOwner (d : Dialog) (letter : ℕ) (marker : Node) (control : Node) : Type 0 where
-  pub owner : LetterOwner
-  pub named : owners_of d letter ≡ owner ∷ []
-  pub name : IsTrue (gives_name owner.name control)
+-- the one line that a sound certificate has for the letter and that holds names the control, with the item
+-- that the letter presses
+pub record IsOwner (version : Version) (d : Dialog) (leaves : List LeafState) (letter : ℕ) (marker : Node) (control : Node)
+    : Type 0 where
+  pub line : KeyOwner
+  pub named : lines_now version d leaves letter ≡ line ∷ []
+  pub name : IsTrue (gives_name line.owner.name control)
   -- and no other view, where no name is given twice
-  pub only : HasOwnNames d → meant d.views owner.name ≡ Some control
-  pub item : owner.item ≡ option_map (λ item. pos item) (item_by letter marker.kind)
+  pub only : HasOwnNames d → meant d.views line.owner.name ≡ Some control
+  pub item : line.owner.item ≡ option_map (λ item. pos item) (item_by letter marker.kind)
 
 -- ---- all that an act may change
 
@@ -95,12 +190,12 @@ pub record IsActOn (d : Dialog) (is_press : Bool) (i : Id) (m : Modal) (n : Moda
   pub ended : is_press ≡ false → n.ended ≡ m.ended
 
 -- the marker of a letter acts on the control that the certificate names for it, and on no other
-abbrev pub ActsOnOwner : Dialog → Type 0
-ActsOnOwner d =
+abbrev pub ActsOnOwner : Version → Dialog → Type 0
+ActsOnOwner version d =
     (m : Modal) (letter : ℕ) (marker : PlacedNode) (control : Node) → IsFitModal d m
-    → marking_leaf d letter ≡ Some marker
+    → marking_leaf d m.leaves letter ≡ Some marker
     → control_by d marker.node marker.node.kind ≡ Some control
-    → IsOwner d letter marker.node control
+    → IsOwner version d m.leaves letter marker.node control
     × IsActOn d (is_button marker.node.kind) control.id m (act d letter marker m)
 
 -- ---- whether a marker can act
@@ -146,17 +241,25 @@ HasActed letter _ i m n = Unit {0}
 abbrev pub ActsWhereItCan : Dialog → Type 0
 ActsWhereItCan d =
     (m : Modal) (letter : ℕ) (marker : PlacedNode) (control : Node) → IsFitModal d m
-    → marking_leaf d letter ≡ Some marker
+    → marking_leaf d m.leaves letter ≡ Some marker
     → control_by d marker.node marker.node.kind ≡ Some control → can_act d m.leaves marker ≡ true
     → (is_button marker.node.kind ≡ false → keeps_focus m (leaf_at d m.focus) ≡ false)
     → HasActed letter marker.node.kind control.id m (act d letter marker m)
 
 -- ---- acts on none
 
--- a letter for which the certificate names no control acts on nothing
-abbrev pub UnnamedActsOnNone : Dialog → Type 0
-UnnamedActsOnNone d =
-    (m : Modal) (letter : ℕ) → owners_of d letter ≡ [] → act_on d letter (marking_leaf d letter) m ≡ m
+-- a letter acts on nothing while no line of the certificate for it holds, as where it has no line
+abbrev pub UnnamedActsOnNone : Version → Dialog → Type 0
+UnnamedActsOnNone version d =
+    (m : Modal) (letter : ℕ) → lines_now version d m.leaves letter ≡ []
+    → act_on d letter (marking_leaf d m.leaves letter) m ≡ m
+
+-- nor does it while no leaf that marks it is visible
+abbrev pub HiddenActsOnNone : Dialog → Type 0
+HiddenActsOnNone d =
+    (m : Modal) (letter : ℕ)
+    → All (λ leaf. is_visible_marker d m.leaves letter leaf ≡ false) (leaf_list d.views)
+    → act_on d letter (marking_leaf d m.leaves letter) m ≡ m
 
 -- a marker that can't act leaves everything as it was
 abbrev pub ActsOnNone : Dialog → Type 0
@@ -178,14 +281,15 @@ RefusedActsOnNone d =
 abbrev pub AltActs : Dialog → Type 0
 AltActs d =
     (m : Modal) (letter : ℕ) → m.held ≡ None
-    → dialog_step d (events.Key (keys.Alt letter)) m ≡ act_on d letter (marking_leaf d letter) m
+    → dialog_step d (events.Key (keys.Alt letter)) m ≡ act_on d letter (marking_leaf d m.leaves letter) m
 
 -- so is a character that the focused control doesn't take, in upper case
 abbrev pub TypedActs : Dialog → Type 0
 TypedActs d =
     (m : Modal) (ch : ℕ) (focus : PlacedNode) → m.held ≡ None → leaf_at d m.focus ≡ Some focus
     → key_answer focus.node.kind (keys.Char ch) (content_at m focus.node.id) ≡ Passed
-    → dialog_step d (events.Key (keys.Char ch)) m ≡ act_on d (upper ch) (marking_leaf d (upper ch)) m
+    → dialog_step d (events.Key (keys.Char ch)) m
+    ≡ act_on d (upper ch) (marking_leaf d m.leaves (upper ch)) m
 
 -- and so is a letter of a focused cluster's own items, whose marker is that cluster. Space isn't one
 abbrev pub OwnLetterActs : Dialog → Type 0
@@ -193,5 +297,5 @@ OwnLetterActs d =
     (m : Modal) (ch item : ℕ) (focus : PlacedNode) → IsFitModal d m → m.held ≡ None
     → leaf_at d m.focus ≡ Some focus
     → (ch == 32) ≡ false → item_by ch focus.node.kind ≡ Some item
-    → (marking_leaf d (upper ch) ≡ Some focus)
+    → (marking_leaf d m.leaves (upper ch) ≡ Some focus)
     × (dialog_step d (events.Key (keys.Char ch)) m ≡ act d (upper ch) focus m)

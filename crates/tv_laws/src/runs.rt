@@ -1,5 +1,6 @@
 //! What holds of every run and of every open dialog, as contracts.
 ghost use Rattle.tv_machine.specs.Safe.{IsAlwaysSafe, StandOnDesktop};
+ghost use Rattle.tv_laws.specs.Letters.{AlwaysMarksOnce};
 ghost use Rattle.tv_laws.specs.Leaving.{EscCancels, TabGoesOn, UpLetsGo};
 ghost use Rattle.tv_laws.specs.Runs.{HasSoundDialogs};
 ghost use Rattle.tv_laws.specs.Sound.{IsSoundDialog};
@@ -8,11 +9,12 @@ ghost use Rattle.tv_laws.specs.Steps.{OpensFit, StaysFit};
 use tv_model::{Desc, Dialog};
 
 /// A theorem, as a function without a body: every run of a description is safe whose dialogs are sound and stand on the
-/// desktop.
+/// desktop. No letter ever has two visible markers.
 pub fn runs_are_safe(_desc: &Desc)
     requires sound { HasSoundDialogs _desc.now }
     requires stand { StandOnDesktop _desc.now }
     ensures safe { IsAlwaysSafe _desc.now }
+    ensures once { AlwaysMarksOnce _desc.now }
 {}
 
 /// A theorem, as a function without a body: a sound dialog opens, stays usable and can be left.

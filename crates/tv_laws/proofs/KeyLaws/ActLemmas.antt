@@ -19,6 +19,7 @@ use Rattle.tv_model.specs.Controls.Shortcut.{item_marking, ClusterKind, Shortcut
 use Rattle.tv_model.specs.Kinds.InputLine.{Edit, entered, left, edit_of}
 use Rattle.tv_model.specs.Description.Commands.{command_number, command_of, is_declared}
 use Rattle.tv_model.specs.Description.Heads.{dialog_head}
+use Rattle.tv_model.specs.declared.desc.Version.{Version}
 use Rattle.tv_machine.specs.Leaves.{PlacedNode, leaf_list}
 use Rattle.tv_model.specs.Controls.Contents.{Content, text_of}
 use Rattle.tv_model.specs.Kinds.Cluster.{cluster_item_pressed}
@@ -29,7 +30,7 @@ use Rattle.tv_machine.specs.Dialog.Rules.{is_enabled, is_visible}
 use Rattle.tv_machine.specs.Dialog.Shortcuts.{act, call_item, called_by, press_item, request_link}
 use Rattle.tv_machine.specs.Safe.{HasValueOf}
 use Rattle.tv_laws.specs.Fit.{IsStanding}
-use Rattle.tv_laws.specs.Letters.{ActsOnOwner, IsActOn, IsFocusAfter, IsPressOf, KeepsOthers}
+use Rattle.tv_laws.specs.Letters.{ActsOnOwner, HasLines, IsActOn, IsFocusAfter, IsPressOf, KeepsOthers}
 use Rattle.tv_laws.specs.Sound.{IsSoundDialog}
 use Rattle.tv_machine.proofs.RefocusLemmas.{content_at-moved, leaves-moved, moved_content, refocused-keeps, refocused_content}
 use Rattle.tv_machine.proofs.LeafLemmas.{HasLeaves, IsIn, content_at-other, leaves-are}
@@ -267,10 +268,10 @@ module _ (d : Dialog) (sound : IsSoundDialog d) where
   called_act m letter marker control (ItemMarks kind name items) s e =
       on_itself false marker.node control m (called_by d letter marker (ItemMarks kind name items) m) e (item_act kind marker.node.id (item_marking items letter) m s)
 
-  pub acts-on-owner : ActsOnOwner d
-  acts-on-owner m letter marker control fit there e =
+  pub acts-on-owner : (version : Version) → HasLines version d → ActsOnOwner version d
+  acts-on-owner version has m letter marker control fit there e =
       let shortcut = (behaviour marker.node.kind).shortcut in (
-        is-owner d letter marker control there e,
+        is-owner d version has sound.lawful m fit.standing letter marker control there e,
         subst (λ b. IsActOn d b control.id m (act d letter marker m)) (sym (press-mark marker.node.kind))
             (bool_cases (is_visible d m.leaves marker)
             (λ b. IsActOn d (is_press_mark shortcut) control.id m (if b then called_by d letter marker shortcut m else m))

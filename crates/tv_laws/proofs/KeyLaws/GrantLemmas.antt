@@ -19,7 +19,7 @@ use Rattle.tv_model.specs.Description.Names.{meant}
 use Rattle.tv_model.specs.Description.Nodes.{is_button, is_cluster, is_control}
 use Rattle.tv_model.specs.Controls.Owner.{item_at}
 use Rattle.tv_model.specs.Description.Owners.{owner_by}
-use Rattle.tv_machine.specs.Leaves.{PlacedNode, leaf_list}
+use Rattle.tv_machine.specs.Leaves.{PlacedNode}
 use Rattle.tv_model.specs.Controls.Contents.{Content}
 use Rattle.tv_model.specs.Kinds.Cluster.{cluster_item_pressed}
 use Rattle.tv_machine.specs.Dialog.Ending.{command, end_by, ended, field_line, fields_of, first_invalid, press, pressed_kind, shown_invalid}
@@ -32,9 +32,10 @@ use Rattle.tv_laws.specs.Letters.{ActsWhereItCan, HasActed, HasPressed, control_
 use Rattle.tv_laws.specs.Sound.{IsSoundDialog}
 use Rattle.tv_laws.proofs.KeyLaws.ActLemmas.{moved-value}
 use Rattle.tv_machine.proofs.RefocusLemmas.{content_at-moved, leaves-moved, moved_content, refocused-keeps, refocused_content}
-use Rattle.tv_machine.proofs.LeafLemmas.{HasLeaves, IsIn, content_at-same, found-in, leaf_at-in, leaf_at-is}
+use Rattle.tv_machine.proofs.LeafLemmas.{HasLeaves, IsIn, content_at-same, leaf_at-in, leaf_at-is}
 use Rattle.tv_laws.proofs.KeyLaws.LetterLemmas.{found-upper}
-use Rattle.tv_machine.proofs.ListLemmas.{bool_cases, found-passes, option_cases, same-id}
+use Rattle.tv_laws.proofs.MarkerLemmas.{marker-in, marker-marks}
+use Rattle.tv_machine.proofs.ListLemmas.{bool_cases, option_cases, same-id}
 
 -- ---- the coming and going of the focus leaves clusters alone
 
@@ -219,8 +220,8 @@ module _ (d : Dialog) (sound : IsSoundDialog d) where
 
   pub acts-where-it-can : ActsWhereItCan d
   acts-where-it-can m letter marker control fit there e can goes =
-      let marked : is_some (owner_by letter marker.node.kind) ≡ true = found-passes (λ leaf. is_some (owner_by letter leaf.node.kind)) (leaf_list d.views) marker there in
-      let in_it : IsIn d marker = found-in d sound.lawful (λ leaf. is_some (owner_by letter leaf.node.kind)) marker there in
+      let marked : is_some (owner_by letter marker.node.kind) ≡ true = marker-marks d m.leaves letter marker there in
+      let in_it : IsIn d marker = marker-in d m.leaves sound.lawful letter marker there in
       let parts = and_parts (is_visible d m.leaves marker) (is_kind_enabled d m.leaves marker.node.kind && has_link d m.leaves marker.node.kind) can in
       subst (λ b. HasActed letter marker.node.kind control.id m (if b then called d letter marker marker.node.kind m else m)) (sym parts.0)
       (called_acts m letter marker fit.standing in_it control marker.node.kind

@@ -1,9 +1,9 @@
 -- Letters: the machine's marker of a letter is the view whose owner the certificate names, and each shortcut is its act.
-use Rattle.std.proofs.Common.{[], ◌≡◌, Bool, true, false, cond, ◌&&◌, ◌+◌, ◌-◌, ◌==◌, ℕ, nat_le, if◌then◌else◌, List, ◌∷◌, find, get_or, Option, Some, None, option_map, option_and_then, is_some, refl, sym, ap, subst, ◌∙◌, All, AllPairs, IsTrue, arith}
+use Rattle.std.proofs.Common.{[], ◌≡◌, Bool, true, false, cond, ◌&&◌, ◌+◌, ◌-◌, ◌==◌, ℕ, nat_le, if◌then◌else◌, List, ◌∷◌, filter, find, get_or, Option, Some, None, option_map, option_and_then, is_some, refl, sym, ap, subst, ◌∙◌, AllPairs, IsTrue, arith}
 use Rattle.std.specs.Prelude.{not, option_to_list, pos, position, slice_get}
-use Rattle.std.proofs.lemmas.Bool.{and_parts, eqb-true, false≢true}
+use Rattle.std.proofs.lemmas.Bool.{and_from, and_parts, eqb-true, false≢true}
 use Rattle.std.proofs.lemmas.Bool.Decides.{nat_tests}
-use Rattle.std.proofs.lemmas.List.Elements.{All-cons, All-nil}
+use Rattle.std.proofs.lemmas.List.Kept.{AllPairs-cons}
 use Rattle.std.proofs.lemmas.List.Quantifiers.{position-Some}
 use Rattle.std.proofs.lemmas.Slice.Eq.{bytes_eq-Decides}
 use Rattle.tv_event.specs.declared.event.Event.TheVariants as events
@@ -14,6 +14,7 @@ use Rattle.tv_model.specs.declared.kind.Kind.TheVariants as kinds
 use Rattle.tv_model.specs.Kinds.{behaviour}
 use Rattle.tv_model.specs.declared.kind.MarkedText.{MarkedText}
 use Rattle.tv_model.specs.declared.desc.Dialog.{Dialog}
+use Rattle.tv_model.specs.declared.desc.Version.{Version}
 use Rattle.tv_model.specs.Controls.Shortcut.{item_marking, ClusterKind, Boxes, Radios, Shortcut, LinkMark, PressMark}
 use Rattle.tv_model.specs.Kinds.Cluster as clusters
 use Rattle.tv_model.specs.Kinds.Cluster.{of_letter, selected_of, cluster_answer}
@@ -22,7 +23,10 @@ use Rattle.tv_model.specs.Description.Names.{gives_name, is_option_named, meant}
 use Rattle.tv_model.specs.Description.Nodes.{is_button, is_control, is_pane, name_of}
 use Rattle.tv_model.specs.Description.Owners as owners
 use Rattle.tv_model.specs.Controls.Owner.{LetterOwner, control, item_at}
-use Rattle.tv_model.specs.Description.Owners.{owner_by, owners_of}
+use Rattle.tv_model.specs.Description.Owners.{KeyOwner, always, owner_by, owners_at, owners_of}
+use Rattle.tv_model.specs.Description.Sharing.{sharer_by, sharing_rules}
+use Rattle.tv_machine.specs.State.{LeafState}
+use Rattle.tv_machine.specs.Dialog.Lawful.{IsLawfulDialog, Marks}
 use Rattle.tv_machine.specs.Leaves.{PlacedNode, leaf_list, leaves_in, open_after, open_at}
 use Rattle.tv_model.specs.Controls.Contents.{Content}
 use Rattle.tv_model.specs.Controls.Behaviour.{Passed}
@@ -31,13 +35,14 @@ use Rattle.tv_machine.specs.Dialog.Focus.{Moved, NotFree, Refused, Same, after_r
 use Rattle.tv_machine.specs.Dialog.Keys.{alt_keyed, answered, keyed}
 use Rattle.tv_machine.specs.Dialog.Modal.{Modal, content_at, leaf_at}
 use Rattle.tv_machine.specs.Dialog.Rules.{is_enabled, is_visible}
-use Rattle.tv_machine.specs.Dialog.Shortcuts.{act_on, call_item, called, marking_leaf, press_item}
+use Rattle.tv_machine.specs.Dialog.Shortcuts.{act_on, call_item, called, is_visible_marker, marker_among, marking_leaf, marking_leaves, press_item}
 use Rattle.tv_machine.specs.Dialog.Step.{step_by}
-use Rattle.tv_laws.specs.Fit.{IsFitModal}
-use Rattle.tv_laws.specs.Letters.{AltActs, HasOwnNames, IsOwner, MarksAlike, OwnLetterActs, TypedActs, UnnamedActsOnNone, control_by, item_by}
+use Rattle.tv_laws.specs.Fit.{IsFitModal, IsStanding}
+use Rattle.tv_laws.specs.Letters.{AltActs, AreLinesOf, AreOtherItems, HasLines, HasLinesOf, HasOwnNames, IsOwner, MarksAlike, OneLineInFirstVersion, OwnLetterActs, TypedActs, control_by, holds_now, item_by}
 use Rattle.tv_laws.specs.Sound.{IsSoundDialog}
-use Rattle.tv_machine.proofs.LeafLemmas.{IsIn, found-in, leaf_at-in, leaf_at-is, leaf_at-node}
-use Rattle.tv_machine.proofs.ListLemmas.{bool_cases, found-all, found-passes, id-itself, option_cases, pairs-head, pairs-tail}
+use Rattle.tv_machine.proofs.LeafLemmas.{IsIn, leaf_at-all, leaf_at-is, leaf_at-node, leaves-all}
+use Rattle.tv_machine.proofs.ListLemmas.{bool_cases, found-passes, id-itself, none-fails, option_cases, pairs-head, pairs-tail}
+use Rattle.tv_laws.proofs.MarkerLemmas.{marker-in, marker-line, none_kept, only_found, only_kept, visible-is-marker}
 
 -- ---- letters in upper case
 
@@ -68,19 +73,6 @@ found-upper letter items place e =
   where
     nothing : MarkedText
     nothing = record { text = []; mark = None }
-
--- ---- what is found
-
--- what alone passes is found
-only_found : {A : Type 0} (p : A → Bool) (xs : List A) → AllPairs (λ x y. IsTrue (p x) → IsTrue (p y) → ⊥) xs
-    → All (λ x. p x ≡ true → find p xs ≡ Some x) xs
-only_found p [] pairs = All-nil (λ x. p x ≡ true → find p [] ≡ Some x)
-only_found p (x ∷ xs) pairs =
-    All-cons (λ y. p y ≡ true → find p (x ∷ xs) ≡ Some y) x xs (λ is. ap (λ b. cond b (Some x) (find p xs)) is)
-    (λ k e h is.
-    bool_cases (p x) (λ b. p x ≡ b → cond b (Some x) (find p xs) ≡ Some (get_or xs k e))
-    (λ first f. absurd (pairs-head (λ y z. IsTrue (p y) → IsTrue (p z) → ⊥) x xs pairs k e h first is))
-    (λ later f. only_found p xs (pairs-tail (λ y z. IsTrue (p y) → IsTrue (p z) → ⊥) x xs pairs) k e h is) refl)
 
 -- ---- what a marker acts on, by what marks its letter
 
@@ -125,25 +117,96 @@ same_marker letter panes (view ∷ views) =
     (λ is. bool_cases (is_some (owner_by letter view.kind))
     (λ b. option_map (λ x. x.node) (cond b (Some leaf) (find (marks_it letter) rest)) ≡ cond b (Some view) later) (λ yes. refl) (λ no. more))
 
+-- the first of some
+abbrev first : {A : Type 0} → List A → Option A
+first [] = None
+first (x ∷ xs) = Some x
+
+first_passing : {A : Type 0} (p : A → Bool) (xs : List A) → first (filter p xs) ≡ find p xs
+first_passing p [] = refl
+first_passing p (x ∷ xs) =
+    bool_cases (p x) (λ b. first (cond b (x ∷ filter p xs) (filter p xs)) ≡ cond b (Some x) (find p xs)) (λ yes. refl) (λ no. first_passing p xs)
+
+-- where one line at most is for some markers, the first of these acts
+one_line : (d : Dialog) (leaves : List LeafState) (letter : ℕ) (line : Option KeyOwner) (markers : List PlacedNode)
+    → AreLinesOf d letter (option_to_list line) markers → marker_among d leaves markers ≡ first markers
+one_line d leaves letter None [] are = refl
+one_line d leaves letter None (marker ∷ markers) are = absurd are
+one_line d leaves letter (Some line) [] are = refl
+one_line d leaves letter (Some line) (marker ∷ []) are = refl
+one_line d leaves letter (Some line) (marker ∷ other ∷ markers) are = absurd are.1
+
+pub marks-alike : (version : Version) (d : Dialog) → HasLines version d → MarksAlike version d
+marks-alike version d has leaves letter unshared =
+    ap (option_map (λ leaf. leaf.node))
+    (one_line d leaves letter (option_map always (owners.owner_of d letter)) (marking_leaves d letter)
+    (subst (λ o. AreLinesOf d letter (owners_at d letter o) (marking_leaves d letter)) unshared (has letter).markers)
+    ∙ first_passing (marks_it letter) (leaf_list d.views))
+    ∙ same_marker letter [] d.views
+
+-- ---- the lines of a letter that one leaf at most marks
+
+-- what is so of each two views is so of each two leaves
+leaves_pairs : (R : Node → Node → Type 0) (panes views : List Node) → AllPairs R views → AllPairs (λ leaf other. R leaf.node other.node) (leaves_in panes views)
+leaves_pairs R panes [] pairs = λ i j e less h. absurd (omega (arith, less, h))
+leaves_pairs R panes (view ∷ views) pairs =
+    let rest = leaves_in (open_after panes view) views in
+    let leaf : PlacedNode = record { node = view; panes = open_at view.depth panes } in
+    let more = leaves_pairs R (open_after panes view) views (pairs-tail R view views pairs) in
+    bool_cases (is_pane view.kind) (λ b. AllPairs (λ x y. R x.node y.node) (if b then rest else leaf ∷ rest)) (λ is. more)
+    (λ is. AllPairs-cons (λ x y. R x.node y.node) leaf rest (leaves-all (R view) (open_after panes view) views (pairs-head R view views pairs)) more)
+
+-- the line of a leaf alone
+one_is : (version : Version) (d : Dialog) (letter : ℕ) (line : Option KeyOwner) (markers : List PlacedNode) → owners_of version d letter ≡ option_to_list line
+    → marking_leaves d letter ≡ markers → AreLinesOf d letter (option_to_list line) markers → ((own : KeyOwner) → line ≡ Some own → own.when ≡ None)
+    → HasLinesOf version d letter
+one_is version d letter line markers owned marked are alone = record {
+  markers = subst (λ leaves. AreLinesOf d letter (owners_of version d letter) leaves) (sym marked)
+      (subst (λ lines. AreLinesOf d letter lines markers) (sym owned) are);
+  alone = λ own e. alone own (of line own (sym owned ∙ e));
+  apart = subst (AllPairs (λ own other. AreOtherItems own.when other.when)) (sym owned) (single line);
+}
+  where
+    of : (o : Option KeyOwner) (own : KeyOwner) → option_to_list o ≡ own ∷ [] → o ≡ Some own
+    of None own e = absurd cc
+    of (Some other) own e = cc
+
+    single : (o : Option KeyOwner) → AllPairs (λ own other. AreOtherItems own.when other.when) (option_to_list o)
+    single None = λ i j e less h. absurd (omega (arith, less, h))
+    single (Some own) = λ i j e less h. absurd (omega (arith, less, h))
+
+-- a letter that isn't shared, and that no two views mark, has the line of its marker
+pub lines-alone : (version : Version) (d : Dialog) (letter : ℕ) → sharer_by (sharing_rules version d.rules) d.views letter ≡ None
+    → AllPairs (λ view other. Marks letter view → Marks letter other → ⊥) d.views → HasLinesOf version d letter
+lines-alone version d letter unshared pairs =
+    let same = same_marker letter [] d.views in
+    let owned : owners_of version d letter ≡ option_to_list (option_map always (owners.owner_of d letter)) = ap (owners_at d letter) unshared in
+    option_cases (find (marks_it letter) (leaf_list d.views)) (λ o. find (marks_it letter) (leaf_list d.views) ≡ o → HasLinesOf version d letter)
+    (λ none e.
+    let no_marker : owners.marker_of d letter ≡ None = sym same ∙ ap (option_map (λ leaf. leaf.node)) e in
+    one_is version d letter None [] (owned ∙ ap (λ o. option_to_list (option_map always (option_and_then (λ node. owner_by letter node.kind) o))) no_marker)
+    (none_kept (marks_it letter) (leaf_list d.views) (none-fails (marks_it letter) (leaf_list d.views) e)) tt (λ own f. absurd cc))
+    (λ leaf some e.
+    let marker : owners.marker_of d letter ≡ Some leaf.node = sym same ∙ ap (option_map (λ x. x.node)) e in
+    let kept : marking_leaves d letter ≡ leaf ∷ [] = only_kept (marks_it letter) (leaf_list d.views) leaf (leaves_pairs (λ view other. Marks letter view → Marks letter other → ⊥) [] d.views pairs) e in
+    option_cases (owner_by letter leaf.node.kind) (λ o. owner_by letter leaf.node.kind ≡ o → HasLinesOf version d letter)
+    (λ none f. absurd (false≢true (sym (ap is_some f) ∙ found-passes (marks_it letter) (leaf_list d.views) leaf e)))
+    (λ owner given f.
+    one_is version d letter (Some (always owner)) (leaf ∷ [])
+    (owned ∙ ap (λ o. option_to_list (option_map always (option_and_then (λ node. owner_by letter node.kind) o))) marker ∙ ap (λ o. option_to_list (option_map always o)) f)
+    kept (record { owner = f; when = tt }, tt) (λ own g. let is : always owner ≡ own = cc in ap (λ x. x.when) (sym is)))
+    refl)
+    refl
+
+-- in version 1 the line of a letter holds
+pub one-line-in-first-version : (d : Dialog) → OneLineInFirstVersion d
+one-line-in-first-version d leaves letter = of (owners.owner_of d letter)
+  where
+    of : (o : Option LetterOwner) → filter (λ line. holds_now d leaves line.when) (option_to_list (option_map always o)) ≡ option_to_list (option_map always o)
+    of None = refl
+    of (Some owner) = refl
+
 module _ (d : Dialog) where
-  pub marks-alike : MarksAlike d
-  marks-alike letter = same_marker letter [] d.views
-
-  marker_same : (letter : ℕ) (marker : PlacedNode) → marking_leaf d letter ≡ Some marker → owners.marker_of d letter ≡ Some marker.node
-  marker_same letter marker e = sym (marks-alike letter) ∙ ap (option_map (λ leaf. leaf.node)) e
-
-  owner_of : (letter : ℕ) (marker : PlacedNode) → marking_leaf d letter ≡ Some marker → owners_of d letter ≡ option_to_list (owner_by letter marker.node.kind)
-  owner_of letter marker e = ap (λ o. option_to_list (option_and_then (λ node. owner_by letter node.kind) o)) (marker_same letter marker e)
-
-  pub unnamed-acts-on-none : UnnamedActsOnNone d
-  unnamed-acts-on-none m letter none =
-      option_cases (marking_leaf d letter) (λ o. act_on d letter o m ≡ m) (λ e. refl)
-      (λ marker e. absurd (unnamed (owner_by letter marker.node.kind) (found-passes (marks_it letter) (leaf_list d.views) marker e) (sym (owner_of letter marker e) ∙ none)))
-    where
-      unnamed : (o : Option LetterOwner) → is_some o ≡ true → option_to_list o ≡ [] → ⊥
-      unnamed None is e = false≢true is
-      unnamed (Some owner) is e = cc
-
   -- ---- the owner that the certificate names
 
   -- what is so of the owner of a marker of this kind
@@ -207,11 +270,11 @@ module _ (d : Dialog) where
       λ i j e less h one other. own i j e less h name (named_so (name_of (get_or d.views i e).kind) name one) (named_so (name_of (get_or d.views j e).kind) name other)
 
   -- the marker is what its own name means
-  own_meant : (letter : ℕ) (marker : PlacedNode) (name : List ℕ) → marking_leaf d letter ≡ Some marker → HasOwnNames d
-      → gives_name name marker.node ≡ true → meant d.views name ≡ Some marker.node
-  own_meant letter marker name e own is =
-      found-all (λ node. gives_name name node ≡ true → find (gives_name name) d.views ≡ Some node) (λ node. is_some (owner_by letter node.kind)) d.views marker.node
-      (only_found (gives_name name) d.views (gives_once own name)) (marker_same letter marker e) is
+  own_meant : (marker : PlacedNode) (name : List ℕ) → IsIn d marker → HasOwnNames d → gives_name name marker.node ≡ true
+      → meant d.views name ≡ Some marker.node
+  own_meant marker name e own is =
+      leaf_at-node (λ node. gives_name name node ≡ true → find (gives_name name) d.views ≡ Some node) d marker.node.id marker
+      (only_found (gives_name name) d.views (gives_once own name)) e is
 
   meant_it : (letter : ℕ) (node : Node) (k : Kind) (control : Node) (owner : LetterOwner) → owner_by letter k ≡ Some owner → control_by d node k ≡ Some control
       → gives_name owner.name control ≡ true → (gives_name owner.name node ≡ true → meant d.views owner.name ≡ Some node) → meant d.views owner.name ≡ Some control
@@ -221,20 +284,21 @@ module _ (d : Dialog) where
       let here : other ≡ node = cc in
       itself (ap (gives_name owner.name) (sym here) ∙ gives) ∙ e
 
-  pub is-owner : (letter : ℕ) (marker : PlacedNode) (control : Node) → marking_leaf d letter ≡ Some marker
-      → control_by d marker.node marker.node.kind ≡ Some control → IsOwner d letter marker.node control
-  is-owner letter marker other e there =
-      option_cases (owner_by letter marker.node.kind) (λ o. owner_by letter marker.node.kind ≡ o → IsOwner d letter marker.node other)
-      (λ none f. absurd (false≢true (sym (ap is_some none) ∙ found-passes (marks_it letter) (leaf_list d.views) marker e)))
-      (λ owner some f.
-      let names = names_it letter marker.node marker.node.kind other owner refl f there in
+  pub is-owner : (version : Version) → HasLines version d → IsLawfulDialog d → (m : Modal) → IsStanding d m → (letter : ℕ) (marker : PlacedNode) (control : Node)
+      → marking_leaf d m.leaves letter ≡ Some marker → control_by d marker.node marker.node.kind ≡ Some control
+      → IsOwner version d m.leaves letter marker.node control
+  is-owner version has lawful m stands letter marker other e there =
+      let own = marker-line d m stands version letter marker (has letter) e in
+      let owner : LetterOwner = own.0.owner in
+      let names = names_it letter marker.node marker.node.kind other owner refl own.2 there in
+      let in_it : IsIn d marker = marker-in d m.leaves lawful letter marker e in
       record {
-        owner = owner;
-        named = owner_of letter marker e ∙ ap option_to_list f;
+        line = own.0;
+        named = own.1;
         name = names.0;
         item = names.1;
-        only = λ own. meant_it letter marker.node marker.node.kind other owner f there names.0 (own_meant letter marker owner.name e own);
-      }) refl
+        only = λ each. meant_it letter marker.node marker.node.kind other owner own.2 there names.0 (own_meant marker owner.name in_it each);
+      }
 
   -- ---- shortcuts
 
@@ -253,7 +317,7 @@ module _ (d : Dialog) where
   alt_same letter (Some marker) m = refl
 
   pub alt-acts : AltActs d
-  alt-acts m letter idle = ap (λ h. step_by d h (events.Key (keys.Alt letter)) m) idle ∙ alt_same letter (marking_leaf d letter) m
+  alt-acts m letter idle = ap (λ h. step_by d h (events.Key (keys.Alt letter)) m) idle ∙ alt_same letter (marking_leaf d m.leaves letter) m
 
   -- a character goes to the focus
   char_step : (m : Modal) (ch : ℕ) (focus : PlacedNode) → m.held ≡ None → leaf_at d m.focus ≡ Some focus
@@ -309,25 +373,9 @@ module _ (d : Dialog) where
       placed (Some place) name item e = refl
   item_marks ch item _ e = absurd cc
 
--- ---- no letter is marked twice
+-- ---- a visible cluster is the marker of its letters
 
 module _ (d : Dialog) (sound : IsSoundDialog d) where
-  -- the marker of a letter is the leaf that marks it
-  marker_is : (letter : ℕ) (leaf : PlacedNode) → IsIn d leaf → marks_it letter leaf ≡ true → marking_leaf d letter ≡ Some leaf
-  marker_is letter leaf e is =
-      let first : owners.marker_of d letter ≡ Some leaf.node =
-      leaf_at-node (λ node. is_some (owner_by letter node.kind) ≡ true → find (λ other. is_some (owner_by letter other.kind)) d.views ≡ Some node) d leaf.node.id leaf
-      (only_found (λ node. is_some (owner_by letter node.kind)) d.views (sound.lawful.letters letter)) e is in
-      option_cases (marking_leaf d letter) (λ o. marking_leaf d letter ≡ o → o ≡ Some leaf)
-      (λ none f. absurd (no_marker leaf.node (sym (ap (option_map (λ x. x.node)) none) ∙ same_marker letter [] d.views ∙ first)))
-      (λ marker some f.
-      let both : Some marker.node ≡ Some leaf.node = sym (marker_same d letter marker some) ∙ first in
-      let same : marker.node ≡ leaf.node = cc in
-      sym (found-in d sound.lawful (marks_it letter) marker some) ∙ ap (λ node. leaf_at d node.id) same ∙ e) refl
-    where
-      no_marker : (node : Node) → None ≡ Some node → ⊥
-      no_marker node e = cc
-
   -- the focus is visible
   focus_visible : (m : Modal) (focus : PlacedNode) → IsFitModal d m → leaf_at d m.focus ≡ Some focus → is_visible d m.leaves focus ≡ true
   focus_visible m focus fit there =
@@ -337,7 +385,9 @@ module _ (d : Dialog) (sound : IsSoundDialog d) where
 
   pub own-letter-acts : OwnLetterActs d
   own-letter-acts m ch item focus fit idle there other e = (
-    marker_is (upper ch) focus (leaf_at-in d sound.lawful m.focus focus there) (item_marks d ch item focus.node.kind e),
+    leaf_at-all (λ leaf. is_visible_marker d m.leaves (upper ch) leaf ≡ true → marking_leaf d m.leaves (upper ch) ≡ Some leaf) d m.focus focus
+        (visible-is-marker d sound m fit (upper ch)) there
+        (and_from (is_some (owner_by (upper ch) focus.node.kind)) (is_visible d m.leaves focus) (item_marks d ch item focus.node.kind e) (focus_visible m focus fit there)),
     char_step d m ch focus idle there ∙ own_called d m focus ch item focus.node.kind (leaf_at-is d m.focus focus there) other e
         ∙ sym (ap (λ b. if b then called d (upper ch) focus focus.node.kind m else m) (focus_visible m focus fit there)),
   )

@@ -147,7 +147,7 @@ module _ (d : Dialog) where
   -- ---- keys
 
   last_passed : (k : Key) (m : Modal) → IsQuiet m → EndsLast d m.leaves (passed_on d k m)
-  last_passed (keys.Char ch) m q = last_act (upper ch) (marking_leaf d (upper ch)) m q
+  last_passed (keys.Char ch) m q = last_act (upper ch) (marking_leaf d m.leaves (upper ch)) m q
   last_passed _ m q = inl q
 
   last_answered : (k : Key) (leaf : PlacedNode) (a : Answer) (m : Modal) → IsQuiet m → EndsLast d m.leaves (answered d k leaf a m)
@@ -175,7 +175,7 @@ module _ (d : Dialog) where
   last_key keys.ShiftTab m q = inl (quiet_request (previous_free (stops_of d m.leaves) m.focus) m q)
   last_key keys.Esc m q = last-command 11 m q
   last_key keys.Enter m q = last_enter (enter_target d m) m q
-  last_key (keys.Alt letter) m q = last_alt letter (marking_leaf d letter) m q
+  last_key (keys.Alt letter) m q = last_alt letter (marking_leaf d m.leaves letter) m q
   last_key k m q = last_focus k m q
 
   -- ---- the mouse
