@@ -49,7 +49,7 @@ module _ (d : Desc) (s : Sound d) where
 
   -- ---- windows and dialogs
 
-  of_bodies : All (λ window. OfBody IsLimited (window_body window)) d.windows × All (λ dialog. OfBody IsLimited (dialog_body dialog)) d.dialogs
+  of_bodies : All (λ window. OfBody IsLimited (window_body window)) d.windows × All (λ dialog. OfBody IsLimited (dialog_body d.version dialog)) d.dialogs
   of_bodies = (bodies d (OfBody IsLimited)).0 ((nodes_iff IsLimited d).0 s.limits.nodes)
 
   pub windows_limited : All (λ window. IsLimited window.node) d.windows

@@ -11,6 +11,7 @@ use Rattle.tv_machine.specs.Dialog.Focus.{is_free_at}
 use Rattle.tv_machine.specs.Dialog.Keys.{key}
 use Rattle.tv_machine.specs.Dialog.Modal.{Modal}
 use Rattle.tv_machine.specs.Dialog.Mouse.{down_at, is_close_mark, topmost_leaf}
+use Rattle.tv_machine.specs.Dialog.Shortcuts.{HaveOneMarker}
 use Rattle.tv_machine.specs.Dialog.Step.{dialog_step, free_step, held_step, step_by}
 use Rattle.tv_tree.specs.Ready.{HoldsLeaf}
 use Rattle.tv_dialog.specs.Settling.{IsFresh, IsReadyFor, turned}
@@ -20,7 +21,8 @@ use Rattle.tv_machine.proofs.ListLemmas.{bool_cases, option_cases}
 through : {A : Type 0} (P : A → Type 0) (x y : A) → Some x ≡ Some y → P x → P y
 through P x y e p = let same : x ≡ y = cc in subst P same p
 
-module _ (d : Dialog) (m : Modal) (fresh : IsFresh m) (focus : is_free_at d m.leaves m.focus ≡ true) (leaf : HoldsLeaf d m) where
+module _ (d : Dialog) (m : Modal) (fresh : IsFresh m) (focus : is_free_at d m.leaves m.focus ≡ true)
+    (markers : HaveOneMarker d m.leaves) (leaf : HoldsLeaf d m) where
   short : length m.log ≤ 1
   short = let none : length m.log ≡ 0 = ap length fresh.log in omega arith
 
@@ -33,7 +35,7 @@ module _ (d : Dialog) (m : Modal) (fresh : IsFresh m) (focus : is_free_at d m.le
   comes_key keys.ShiftTab e handed is = absurd cc
   comes_key keys.Esc e handed is = through (Comes (key d keys.Esc m)) (events.Command (record { 0 = 11 })) e is (short, refl)
   comes_key keys.Enter e handed is = through (Comes (key d keys.Enter m)) (events.Broadcast (record { 0 = 14 })) e is ((fresh, refl), refl)
-  comes_key k e handed is = through (Comes (key d k m)) (events.Key k) e is (record { fresh = fresh; other = refl; free = focus; capital = handed }, refl)
+  comes_key k e handed is = through (Comes (key d k m)) (events.Key k) e is (record { fresh = fresh; other = refl; free = focus; markers = markers; capital = handed }, refl)
 
   comes_free : m.held ≡ None → (e posted_one : Event) → IsHandedIn e → posted_free e ≡ Some posted_one → Comes (free_step d e m) posted_one
   comes_free none (events.Key k) one handed is = comes_key k one handed is

@@ -42,7 +42,7 @@ module _ {V : Type 0} (look : V → Leaf) (d : Dialog) (lawful : IsLawfulDialog 
   pub comes-key : (k : Key) → IsReadyForKey d m k → r ≡ phases_answer (events.Key k) env (opened look old.body)
       → opened look mid.body ≡ phases_after (events.Key k) env (opened look old.body) → SettlesTo look d (key d k m) new
   comes-key k ready is leaves =
-      let turn = key_turn d lawful m env lentby s.steady k ready.other ready.free ready.capital in
+      let turn = key_turn d lawful m env lentby s.steady ready.markers k ready.other ready.free ready.capital in
       comes-handled look d m turn.after (key d k m) (phases_answer (events.Key k) env (tree_of d m)) ready.fresh
       (record { focus = turn.focus; log = turn.log; ended = turn.ended }) turn.steady turn.holds turn.comes old mid new r s same
       (is ∙ ap (phases_answer (events.Key k) env) s.tree) (leaves ∙ ap (phases_after (events.Key k) env) s.tree ∙ turn.leaves)

@@ -19,6 +19,7 @@ use Rattle.tv_machine.specs.Dialog.Focus.{is_free_at}
 use Rattle.tv_machine.specs.Dialog.Keys.{enter_target, key, press_enabled}
 use Rattle.tv_machine.specs.Dialog.Modal.{Modal, with_line}
 use Rattle.tv_machine.specs.Dialog.Mouse.{down_at, topmost_leaf}
+use Rattle.tv_machine.specs.Dialog.Shortcuts.{HaveOneMarker}
 use Rattle.tv_machine.specs.Dialog.Step.{dialog_step}
 use Rattle.tv_view.specs.declared.reaction.Reaction.{Reaction}
 use Rattle.tv_view.specs.declared.reaction.Reaction.TheVariants as reactions
@@ -115,6 +116,8 @@ pub record IsReadyForKey (d : Dialog) (m : Modal) (k : Key) : Type 0 where
   -- it isn't one that the dialog keeps for itself
   pub other : is_own k ≡ false
   pub free : is_free_at d m.leaves m.focus ≡ true
+  -- no letter has two visible markers, of which the first would take it
+  pub markers : HaveOneMarker d m.leaves
   -- Alt comes with a capital letter or a digit
   pub capital : (letter : ℕ) → k ≡ keys.Alt letter → upper letter ≡ letter
 

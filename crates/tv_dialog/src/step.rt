@@ -6,6 +6,7 @@ ghost use Rattle.tv_machine.specs.Dialog.Focus.{is_free_at};
 ghost use Rattle.tv_machine.specs.Dialog.Lawful.{IsLawfulDialog};
 ghost use Rattle.tv_machine.specs.Dialog.Modal.{Modal};
 ghost use Rattle.tv_machine.specs.Dialog.Mouse.{is_close_mark};
+ghost use Rattle.tv_machine.specs.Dialog.Shortcuts.{HaveOneMarker};
 ghost use Rattle.tv_machine.specs.Dialog.Step.{dialog_step};
 ghost use Rattle.tv_tree.specs.Ready.{HoldsLeaf};
 ghost use Rattle.tv_group.specs.Calls.{any_holds};
@@ -118,7 +119,7 @@ impl<V: View> DialogOf<V> {
     pub fn step(&mut self, event: &Event, env: &Env, damage: &mut Damage)
         requires { self.old.is_open ≡ true }
         ensures stands { (d : Dialog) (m : Modal) → IsLawfulDialog d → env.now.views.now ≡ d.views → IsHandedIn event.now → HoldsLeaf d m
-            → is_free_at d m.leaves m.focus ≡ true → Stands V.meaning d m.leaves m self.old
+            → is_free_at d m.leaves m.focus ≡ true → HaveOneMarker d m.leaves → Stands V.meaning d m.leaves m self.old
             → Stands V.meaning d (dialog_step d event.now (begun_anew m)).leaves (dialog_step d event.now (begun_anew m)) self.new }
         ensures pending { self.new.pending ≡ [] }
         ensures corner { self.new.corner ≡ self.old.corner }
@@ -132,7 +133,7 @@ impl<V: View> DialogOf<V> {
         requires going { self.old.is_open ≡ true }
         requires held { is_held ≡ any_holds (opened V.meaning self.old.body) }
         ensures stands { (d : Dialog) (m : Modal) → IsLawfulDialog d → env.now.views.now ≡ d.views → IsHandedIn event.now → HoldsLeaf d m
-            → is_free_at d m.leaves m.focus ≡ true → Stands V.meaning d m.leaves m self.old
+            → is_free_at d m.leaves m.focus ≡ true → HaveOneMarker d m.leaves → Stands V.meaning d m.leaves m self.old
             → Stands V.meaning d (dialog_step d event.now (begun_anew m)).leaves (dialog_step d event.now (begun_anew m)) self.new }
         ensures pending { self.new.pending ≡ [] }
         ensures corner { self.new.corner ≡ self.old.corner }
@@ -151,7 +152,7 @@ impl<V: View> DialogOf<V> {
         requires going { self.old.is_open ≡ true }
         requires held { is_held ≡ any_holds (opened V.meaning self.old.body) }
         ensures stands { (d : Dialog) (m : Modal) → IsLawfulDialog d → env.now.views.now ≡ d.views → IsHandedIn event.now → HoldsLeaf d m
-            → is_free_at d m.leaves m.focus ≡ true → Stands V.meaning d m.leaves m self.old
+            → is_free_at d m.leaves m.focus ≡ true → HaveOneMarker d m.leaves → Stands V.meaning d m.leaves m self.old
             → Stands V.meaning d (dialog_step d event.now (begun_anew m)).leaves (dialog_step d event.now (begun_anew m)) self.new }
         ensures pending { self.new.pending ≡ [] }
         ensures drawn { BodyDrawn V.meaning self.old self.new }

@@ -1,6 +1,6 @@
 -- Alt with a letter in lower case: no view marks one, and so no dialog does anything.
-use Rattle.std.proofs.Common.{arith, ◌≡◌, Bool, true, false, ◌&&◌, ◌-◌, ◌==◌, ℕ, nat_le, if◌then◌else◌, List, [], get_or, Option, Some, None, option_map, option_and_then, is_some, refl, sym, ap, ◌∙◌}
-use Rattle.std.specs.Prelude.{ℤ, ◌-ℤ◌, position, slice_get}
+use Rattle.std.proofs.Common.{arith, ◌≡◌, Bool, true, false, ◌&&◌, ◌-◌, ◌==◌, ℕ, nat_le, if◌then◌else◌, List, [], ◌∷◌, get_or, Option, Some, None, option_map, option_and_then, is_some, refl, sym, ap, ◌∙◌}
+use Rattle.std.specs.Prelude.{ℤ, ◌-ℤ◌, filter, position, slice_get}
 use Rattle.std.proofs.lemmas.Bool.{eqb-true, false≢true}
 use Rattle.std.proofs.lemmas.Bool.Decides.{nat_tests}
 use Rattle.std.proofs.lemmas.Int.{ints}
@@ -23,10 +23,10 @@ use Rattle.tv_model.specs.Controls.Contents.{Content}
 use Rattle.tv_machine.specs.Controls.Tables.{key_answer}
 use Rattle.tv_machine.specs.Dialog.Keys.{alt_keyed, answered, keyed}
 use Rattle.tv_machine.specs.Dialog.Modal.{Modal, content_at, leaf_at}
-use Rattle.tv_machine.specs.Dialog.Shortcuts.{marking_leaf}
+use Rattle.tv_machine.specs.Dialog.Shortcuts.{marker_among, marking_leaf}
 use Rattle.tv_machine.specs.Dialog.Step.{dialog_step, step_by}
 use Rattle.tv_machine.specs.Session.Step.{event_from}
-use Rattle.tv_machine.proofs.ListLemmas.{bool_cases, find-none, option_cases}
+use Rattle.tv_machine.proofs.ListLemmas.{bool_cases, option_cases}
 use Rattle.tv_tree.specs.Ready.{LiesWithin}
 use Rattle.tv_dialog.specs.Stepping.{IsHandedIn}
 use Rattle.tv_dialogs.specs.Handed.{HasPointGiven, is_dropped, is_small_alt, is_small_letter}
@@ -80,9 +80,16 @@ module _ (letter : ℕ) (small : is_small_letter letter ≡ true) where
 
   -- ---- the dialog
 
+  abbrev marks_it : PlacedNode → Bool
+  marks_it leaf = is_some (owner_by letter leaf.node.kind)
+
+  no-markers : (leaves : List PlacedNode) → filter marks_it leaves ≡ []
+  no-markers [] = refl
+  no-markers (leaf ∷ leaves) = ap (λ b. if b then leaf ∷ filter marks_it leaves else filter marks_it leaves) (unowned leaf.node.kind) ∙ no-markers leaves
+
   module _ (d : Dialog) (m : Modal) where
-    no-marker : marking_leaf d letter ≡ None
-    no-marker = find-none (λ leaf. is_some (owner_by letter leaf.node.kind)) (leaf_list d.views) (λ k e h. unowned (get_or (leaf_list d.views) k e).node.kind)
+    no-marker : marking_leaf d m.leaves letter ≡ None
+    no-marker = ap (marker_among d m.leaves) (no-markers (leaf_list d.views))
 
     unanswered : (leaf : PlacedNode) (k : Kind) (c : Content) → answered d (keys.Alt letter) leaf (key_answer k (keys.Alt letter) c) m ≡ m
     unanswered leaf (kinds.Button button) c = refl

@@ -73,7 +73,7 @@ module _ (d : Dialog) (lawful : IsLawfulDialog d) where
       (λ is. marked letter leaf (behaviour leaf.node.kind).shortcut m) (λ isnt. refl)
 
   passed : (k : Key) (m : Modal) → Keeps m (passed_on d k m)
-  passed (keys.Char ch) m = lettered (upper ch) (marking_leaf d (upper ch)) m
+  passed (keys.Char ch) m = lettered (upper ch) (marking_leaf d m.leaves (upper ch)) m
   passed _ m = refl
 
   given : (k : Key) (leaf : PlacedNode) (a : Answer) (m : Modal) → Keeps m (answered d k leaf a m)
@@ -94,7 +94,7 @@ module _ (d : Dialog) (lawful : IsLawfulDialog d) where
   key_keeps keys.ShiftTab m = held-request d lawful m (previous_free (stops_of d m.leaves) m.focus)
   key_keeps keys.Esc m = held-command d lawful 11 m
   key_keeps keys.Enter m = held-enter d lawful m (enter_target d m)
-  key_keeps (keys.Alt letter) m = lettered_first letter (marking_leaf d letter) m
+  key_keeps (keys.Alt letter) m = lettered_first letter (marking_leaf d m.leaves letter) m
   key_keeps k m = handed k (leaf_at d m.focus) m
 
   -- ---- nor does any event but a mouse down

@@ -11,6 +11,7 @@ use Rattle.tv_machine.specs.Session.Commands.{modal_of, saved_at}
 use Rattle.tv_laws.specs.Fit.{IsFitModal}
 use Rattle.tv_laws.specs.Runs.{IsFitState}
 use Rattle.tv_laws.specs.Steps.{IsSafeSave}
+use Rattle.tv_laws.proofs.MarkerLemmas.{one_marker}
 use Rattle.tv_laws.proofs.WorkLemmas.{saved_safe, sound-at}
 use Rattle.tv_dialogs.specs.Dialogs.{AreOfRun, IsOpenAmong, at_work}
 use Rattle.tv_dialogs.specs.Kept.{IsReady}
@@ -52,5 +53,6 @@ module _ {V : Type 0} (look : V → Leaf) (d : Desc) (s : State) (dialogs : Dial
       going = among.stands.open;
       leaf = holds-leaf d s o is run.fit among.dialog among.there;
       focus = (open-fit d s o is run.fit among.dialog among.there).focus;
+      markers = one_marker among.dialog (modal_of s o) sound-open (open-fit d s o is run.fit among.dialog among.there).standing;
       stands = among.stands;
     }

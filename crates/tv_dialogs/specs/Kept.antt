@@ -13,6 +13,7 @@ use Rattle.tv_machine.specs.Dialog.Focus.{is_free_at}
 use Rattle.tv_machine.specs.Dialog.Lawful.{IsLawfulDialog}
 use Rattle.tv_machine.specs.Dialog.Modal.{Modal}
 use Rattle.tv_machine.specs.Dialog.Opening.{opened_leaves}
+use Rattle.tv_machine.specs.Dialog.Shortcuts.{HaveOneMarker}
 use Rattle.tv_group.specs.Calls.{all_gathered, any_holds}
 use Rattle.tv_group.specs.Opened.{opened}
 use Rattle.tv_tree.specs.Ready.{HoldsLeaf}
@@ -41,6 +42,7 @@ pub record IsReady {V : Type 0} (look : V → Leaf) (d : Dialog) (m : Modal)
   pub going : dialog.is_open ≡ true
   pub leaf : HoldsLeaf d m
   pub focus : is_free_at d m.leaves m.focus ≡ true
+  pub markers : HaveOneMarker d m.leaves
   pub stands : Stands look d m.leaves m dialog
 
 -- whether a dialog that ended so keeps its values: not one that is open, or ended by `cancel`

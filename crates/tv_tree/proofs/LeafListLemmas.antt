@@ -1,4 +1,4 @@
--- No two leaves of a dialog have an id or mark a letter.
+-- No two leaves of a dialog have an id.
 use Rattle.std.proofs.Common.{◌≡◌, ℕ, Bool, ◌<◌, ◌==◌, List, [], ◌∷◌, is_some, if◌then◌else◌, arith}
 use Rattle.std.specs.List.{AllPairs}
 use Rattle.std.proofs.lemmas.Bool.{eqb-true}
@@ -9,7 +9,7 @@ use Rattle.tv_model.specs.declared.desc.Dialog.{Dialog}
 use Rattle.tv_model.specs.Description.Nodes.{is_pane}
 use Rattle.tv_model.specs.Description.Owners.{owner_by}
 use Rattle.tv_machine.specs.Leaves.{PlacedNode, leaf_list, leaves_in, open_after, open_at}
-use Rattle.tv_machine.specs.Dialog.Lawful.{IsLawfulDialog, Marks}
+use Rattle.tv_machine.specs.Dialog.Lawful.{IsLawfulDialog}
 use Rattle.tv_tree.proofs.FirstLemmas.{AtMostOne, NotBoth}
 use Rattle.tv_machine.proofs.ListLemmas.{bool_cases, pairs-head, pairs-tail}
 use Rattle.tv_machine.proofs.LeafLemmas.{leaves-all}
@@ -56,6 +56,3 @@ module _ (d : Dialog) (lawful : IsLawfulDialog d) where
       let two : later.node.id.0 ≡ i.0 = eqb-true later.node.id.0 i.0 there in
       omega arith)
       (leaves-pairs Rising [] d.views (pairs-tail Rising d.node d.views lawful.rising))
-
-  pub letters_differ : (letter : ℕ) → AtMostOne (marks_letter letter) (leaf_list d.views)
-  letters_differ letter = leaves-pairs (λ view other. Marks letter view → Marks letter other → ⊥) [] d.views (lawful.letters letter)

@@ -22,7 +22,7 @@ use Rattle.tv_machine.specs.Dialog.Keys as machine
 use Rattle.tv_machine.specs.Dialog.Keys.{alt_keyed, answered, focus_keyed, key, passed_on}
 use Rattle.tv_machine.specs.Dialog.Modal.{Modal, content_at, leaf_at, content_put}
 use Rattle.tv_machine.specs.Dialog.Rules.{is_free}
-use Rattle.tv_machine.specs.Dialog.Shortcuts.{act_on, marking_leaf}
+use Rattle.tv_machine.specs.Dialog.Shortcuts.{HaveOneMarker, act_on, marking_leaf}
 use Rattle.tv_view.specs.declared.env.Env.{Env}
 use Rattle.tv_view.specs.declared.reaction.Reaction.{Reaction}
 use Rattle.tv_view.specs.declared.reaction.Reaction.TheVariants.{Pass}
@@ -87,7 +87,8 @@ alt-passed : (kind : Kind) (letter : ℕ) (c : Content) → key_answer kind (key
 alt-passed (kinds.Button button) letter c = refl
 alt-passed _ letter c = refl
 
-module _ (d : Dialog) (lawful : IsLawfulDialog d) (m : Modal) (env : Env) (E : IsLentBy d m env) (S : IsSteady d m) where
+module _ (d : Dialog) (lawful : IsLawfulDialog d) (m : Modal) (env : Env) (E : IsLentBy d m env) (S : IsSteady d m)
+    (markers : HaveOneMarker d m.leaves) where
   -- what a key is answered in a phase
   abbrev answer_to : Key → Phase → Reaction
   answer_to k p = group_answer (events.Key k) p env (tree_of d m)
@@ -219,15 +220,15 @@ module _ (d : Dialog) (lawful : IsLawfulDialog d) (m : Modal) (env : Env) (E : I
         still-turn k (passed-after k passes)
         (ap (λ r. reacted d r m)
         (phases_answer-pre (events.Key k) env (tree_of d m) (focus-is k Passed passes) (after-none k env (tree_of d m) refl))
-        ∙ letter_turn d m env E lawful k phases.Pre letter (λ l. refl) (λ x. refl)
-        ∙ ap (λ c. act_on d c (marking_leaf d c) m) capital
-        ∙ alt-machine letter (marking_leaf d letter))
+        ∙ letter_turn d m env E lawful markers k phases.Pre letter (λ l. refl) (λ x. refl)
+        ∙ ap (λ c. act_on d c (marking_leaf d m.leaves c) m) capital
+        ∙ alt-machine letter (marking_leaf d m.leaves letter))
 
     -- ---- each key
 
     char-turn : (ch : ℕ) → KeyTurn d m env (keys.Char ch)
     char-turn ch =
-        by_answer (keys.Char ch) refl refl (letter_turn d m env E lawful (keys.Char ch) phases.Post ch (λ l. refl) (λ x. refl))
+        by_answer (keys.Char ch) refl refl (letter_turn d m env E lawful markers (keys.Char ch) phases.Post ch (λ l. refl) (λ x. refl))
         (own (keys.Char ch)) refl
 
     -- one that calls no view

@@ -1,5 +1,5 @@
 -- What a letter that any focus leaves to others makes of a dialog, through the views as in the machine.
-use Rattle.std.proofs.Common.{◌≡◌, ℕ, Bool, true, false, ◌&&◌, not, ◌+◌, ◌-◌, ◌<◌, nat_le, List, [], length, Option, Some, None, is_some, option_map, if◌then◌else◌, refl, sym, ap, ◌∙◌, arith}
+use Rattle.std.proofs.Common.{◌≡◌, ℕ, Bool, true, false, ◌&&◌, not, ◌+◌, ◌-◌, ◌<◌, nat_le, List, [], length, find, Option, Some, None, is_some, option_map, if◌then◌else◌, refl, sym, ap, ◌∙◌, arith}
 use Rattle.std.specs.List.{position}
 use Rattle.std.proofs.lemmas.Bool.{and_parts, not-true}
 use Rattle.std.proofs.lemmas.Bool.Decides.{nat_tests}
@@ -26,7 +26,7 @@ use Rattle.tv_machine.specs.Leaves.{PlacedNode, leaf_list}
 use Rattle.tv_machine.specs.Dialog.Focus.{request, request_then, requested, is_granted}
 use Rattle.tv_machine.specs.Dialog.Modal.{Modal, content_at, leaf_at, content_put}
 use Rattle.tv_machine.specs.Dialog.Rules.{is_enabled, is_kind_enabled, is_visible}
-use Rattle.tv_machine.specs.Dialog.Shortcuts.{act_on, call_item, called, marking_leaf, press_item, request_link}
+use Rattle.tv_machine.specs.Dialog.Shortcuts.{HaveOneMarker, act_on, call_item, called, is_visible_marker, marking_leaf, press_item, request_link}
 use Rattle.tv_view.specs.declared.env.Env.{Env}
 use Rattle.tv_view.specs.declared.reaction.Reaction.{Reaction}
 use Rattle.tv_view.specs.declared.reaction.Reaction.TheVariants.{Pass}
@@ -36,8 +36,9 @@ use Rattle.tv_group.specs.Handling.{group_answer, is_awake, is_offered, is_pass,
 use Rattle.tv_machine.specs.Dialog.Lawful.{IsLawfulDialog}
 use Rattle.tv_tree.specs.Tree.{leaf_as, placed_as, tree_of}
 use Rattle.tv_tree.specs.Turns.{IsLentBy, cluster_pressed_at, leaf_pressed, pressed_at, reacted}
-use Rattle.tv_tree.proofs.LeafListLemmas.{letters_differ, marks_letter}
+use Rattle.tv_tree.proofs.LeafListLemmas.{marks_letter}
 use Rattle.tv_machine.proofs.ListLemmas.{found-passes}
+use Rattle.tv_machine.proofs.SharedLemmas.{acts_visible}
 use Rattle.tv_machine.proofs.LeafLemmas.{IsIn, found-in}
 use Rattle.tv_tree.proofs.Keys.TurnLemmas.{key-answer, scan-turn, turn_answer}
 
@@ -189,7 +190,7 @@ module _ (d : Dialog) (m : Modal) where
     shown_acts leaf ch true at there = kind_acts leaf leaf.node.kind ch at there
     shown_acts leaf ch false at there = refl
 
-    module _ (lawful : IsLawfulDialog d) (k : Key) (p : Phase) (ch : ℕ)
+    module _ (lawful : IsLawfulDialog d) (markers : HaveOneMarker d m.leaves) (k : Key) (p : Phase) (ch : ℕ)
         (asks : (leaf : Leaf) → keyed_answer env leaf k p ≡ letter_answer env leaf leaf.node.kind (Some ch))
         (turn : (x : Placed) → is_offered (events.Key k) p x ≡ (is_awake x.leaf && marks_letters x.leaf.node.kind)) where
       -- the leaf in its place, and what it answers
@@ -202,27 +203,41 @@ module _ (d : Dialog) (m : Modal) where
       answer-letter : (leaf : PlacedNode) → answer_of leaf ≡ letter_answer env (seen leaf) leaf.node.kind (Some ch)
       answer-letter leaf = key-answer p env (placed leaf) k ∙ asks (seen leaf)
 
-      letter_takes : (leaf : PlacedNode) → takes (events.Key k) p env (placed leaf) ≡ true → marks_letter (upper ch) leaf ≡ true
-      letter_takes leaf h =
-          letter-marks env (seen leaf) leaf.node.kind ch
-          (sym (ap is_pass (answer-letter leaf))
-          ∙ not-true (is_pass (answer_of leaf))
-          (and_parts (is_offered (events.Key k) p (placed leaf)) (not (is_pass (answer_of leaf))) h).1)
+      -- a leaf that marks the letter, and is visible
+      abbrev is_marker : PlacedNode → Bool
+      is_marker = is_visible_marker d m.leaves (upper ch)
 
-      marker_acts : (o : Option PlacedNode) → marking_leaf d (upper ch) ≡ o
+      -- only visible leaves are offered it
+      offered_visible : (leaf : PlacedNode) → is_offered (events.Key k) p (placed leaf) ≡ true → is_visible d m.leaves leaf ≡ true
+      offered_visible leaf offered =
+          let awake : is_awake (seen leaf) ≡ true =
+          (and_parts (is_awake (seen leaf)) (marks_letters leaf.node.kind) (sym (turn (placed leaf)) ∙ offered)).0 in
+          (and_parts (is_visible d m.leaves leaf) (is_enabled d m.leaves leaf.node) awake).0
+
+      letter_takes : (leaf : PlacedNode) → takes (events.Key k) p env (placed leaf) ≡ true → is_marker leaf ≡ true
+      letter_takes leaf h =
+          let parts = and_parts (is_offered (events.Key k) p (placed leaf)) (not (is_pass (answer_of leaf))) h in
+          let there : marks_letter (upper ch) leaf ≡ true =
+          letter-marks env (seen leaf) leaf.node.kind ch
+          (sym (ap is_pass (answer-letter leaf)) ∙ not-true (is_pass (answer_of leaf)) parts.1) in
+          ap (λ b. b && is_visible d m.leaves leaf) there ∙ offered_visible leaf parts.0
+
+      marker_acts : (o : Option PlacedNode) → find is_marker (leaf_list d.views) ≡ o
           → reacted d (turn_answer (events.Key k) p env (option_map placed o)) m ≡ act_on d (upper ch) o m
       marker_acts None is = refl
       marker_acts (Some leaf) is =
-          let there : marks_letter (upper ch) leaf ≡ true = found-passes (marks_letter (upper ch)) (leaf_list d.views) leaf is in
+          let there : marks_letter (upper ch) leaf ≡ true =
+          (and_parts (marks_letter (upper ch) leaf) (is_visible d m.leaves leaf) (found-passes is_marker (leaf_list d.views) leaf is)).0 in
           ap (λ b. reacted d (if b then answer_of leaf else Pass) m) (turn (placed leaf))
           ∙ ap (λ r. reacted d (if is_awake (seen leaf) && marks_letters leaf.node.kind then r else Pass) m) (answer-letter leaf)
-          ∙ shown_acts leaf ch (is_visible d m.leaves leaf) (found-in d lawful (marks_letter (upper ch)) leaf is) there
+          ∙ shown_acts leaf ch (is_visible d m.leaves leaf) (found-in d lawful is_marker leaf is) there
 
       -- a letter acts on its marker
-      pub letter_turn : reacted d (group_answer (events.Key k) p env (tree_of d m)) m ≡ act_on d (upper ch) (marking_leaf d (upper ch)) m
+      pub letter_turn : reacted d (group_answer (events.Key k) p env (tree_of d m)) m
+          ≡ act_on d (upper ch) (marking_leaf d m.leaves (upper ch)) m
       unfolding group_answer
       letter_turn =
           ap (λ r. reacted d r m)
-          (scan-turn (events.Key k) p env placed (marks_letter (upper ch)) (leaf_list d.views) letter_takes
-          (letters_differ d lawful (upper ch)))
-          ∙ marker_acts (marking_leaf d (upper ch)) refl
+          (scan-turn (events.Key k) p env placed is_marker (leaf_list d.views) letter_takes (markers (upper ch)))
+          ∙ marker_acts (find is_marker (leaf_list d.views)) refl
+          ∙ sym (acts_visible d (upper ch) m)

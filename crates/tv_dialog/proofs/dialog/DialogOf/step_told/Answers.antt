@@ -7,13 +7,13 @@ use Rattle.tv_dialog.proofs.TurnCodeLemmas.{stands-alike}
 use Rattle.tv_dialog.proofs.dialog.DialogOf.step_told.Goals as goal
 
 pub returns-clause-stands : goal.returns-clause-stands
-returns-clause-stands g c d m lawful views handed leaf focus s =
+returns-clause-stands g c d m lawful views handed leaf focus markers s =
     let look = g.V.View.meaning in
     let old = c.args.self.now in
     let begun = stands-alike look d m.leaves m old (record old { damage = c.clear.new.self }) (record { head = refl; plan = refl; «open» = refl; ended = refl; ruled = refl; marks = refl }) refl refl refl s in
     let after = dialog_step d c.args.event.now (begun_anew m) in
     stands-alike look d after.leaves after c.answer.new.self _ (record { head = refl; plan = refl; «open» = refl; ended = refl; ruled = refl; marks = refl }) refl refl refl
-    (c.answer.ensures.stands d m lawful views handed leaf focus begun)
+    (c.answer.ensures.stands d m lawful views handed leaf focus markers begun)
 
 pub returns-clause-damage : goal.returns-clause-damage
 returns-clause-damage g c =

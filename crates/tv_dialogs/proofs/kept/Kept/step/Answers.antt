@@ -21,7 +21,7 @@ save-requires g c =
     let m = c.requires.ready.0 in
     let r = c.requires.ready.1 in
     let handed = subst IsHandedIn (sym c.event_from.ensures) (handed-in c.corner-corner.result c.args.event.now (corner-small c.corner-corner.result c.corner-corner.ensures.near) c.requires.given c.requires.handed) in
-    stands-room look d r.lawful _ _ c.step_told.new.self (c.step_told.ensures.stands d m r.lawful c.as_slice.ensures handed r.leaf r.focus r.stands)
+    stands-room look d r.lawful _ _ c.step_told.new.self (c.step_told.ensures.stands d m r.lawful c.as_slice.ensures handed r.leaf r.focus r.markers r.stands)
 
 pub returns-clause-stands : goal.returns-clause-stands
 returns-clause-stands g c m r =
@@ -32,7 +32,7 @@ returns-clause-stands g c m r =
     let at = c.args.self.now.dialog.corner in
     subst (λ dialog. Stands look d (dialog_step d (event_from at c.args.event.now) (begun_anew m)).leaves (dialog_step d (event_from at c.args.event.now) (begun_anew m)) dialog) (sym c.save.ensures.dialog)
     (subst (λ e. Stands look d (dialog_step d e (begun_anew m)).leaves (dialog_step d e (begun_anew m)) c.step_told.new.self) same
-    (c.step_told.ensures.stands d m r.lawful c.as_slice.ensures handed r.leaf r.focus r.stands))
+    (c.step_told.ensures.stands d m r.lawful c.as_slice.ensures handed r.leaf r.focus r.markers r.stands))
 
 pub returns-clause-damage : goal.returns-clause-damage
 returns-clause-damage g c =
