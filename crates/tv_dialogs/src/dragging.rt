@@ -31,6 +31,7 @@ impl<V: View> DialogsOf<V> {
         requires given { IsPointGiven point }
         ensures held { (d : Declared) (s : State) (o : OpenDialog) → AreDialogs V.meaning d s self.now → s.dialog ≡ Some o
             → result ≡ (if is_grip_of (slice_get d.dialogs o.place) (seen_from o.origin point) then Some o.origin else None) }
+        ensures none { (d : Declared) (s : State) → AreDialogs V.meaning d s self.now → s.dialog ≡ None → result ≡ None }
         ensures corner { IfSome result IsCorner }
     {
         let dialog = &self.at(self.open)?.dialog;
@@ -59,6 +60,8 @@ impl<V: View> DialogsOf<V> {
             → OpenAlike d damage.new s (placed (Some o) corner s) }
         ensures unmoved { (d : Declared) (s : State) (o : OpenDialog) → AreDialogs V.meaning d s self.old → s.dialog ≡ Some o → o.origin ≡ corner
             → damage.new ≡ damage.old }
+        ensures unopened { (d : Declared) (s : State) → AreDialogs V.meaning d s self.old → s.dialog ≡ None
+            → AreDialogs V.meaning d s self.new × (damage.new ≡ damage.old) }
         ensures kept { Keeps damage.old damage.new }
     {
         let Some(place) = self.open else {
