@@ -1,24 +1,22 @@
 -- Every run of a sound description goes by the laws.
-use Rattle.std.proofs.Common.{◌≡◌, Bool, true, false, cond, ◌&&◌, ◌||◌, ◌==◌, ℕ, zero, suc, ◌<◌, if◌then◌else◌, List, [], ◌∷◌, find, filter_map, get_or, length, Decides, Some, None, is_some, option_map, refl, sym, ap, ◌∙◌, arith}
-use Rattle.std.specs.Prelude.{All, AllPairs, position}
+use Rattle.std.proofs.Common.{◌≡◌, Bool, true, false, ◌&&◌, ◌||◌, ◌==◌, ℕ, zero, suc, ◌<◌, if◌then◌else◌, List, [], ◌∷◌, filter_map, get_or, length, Decides, Some, None, is_some, refl, ap, ◌∙◌, arith}
+use Rattle.std.specs.Prelude.{All, AllPairs}
 use Rattle.std.specs.List.{Any, list_any}
-use Rattle.std.proofs.lemmas.Bool.{eqb-true, false≢true}
-use Rattle.std.proofs.lemmas.List.Elements.{All-head, All-weaker}
-use Rattle.std.proofs.lemmas.List.Quantifiers.{position-Some}
+use Rattle.std.proofs.lemmas.Bool.{eqb-true}
+use Rattle.std.proofs.lemmas.List.Elements.{All-from_recursion, All-head, All-weaker}
 use Rattle.tv_event.specs.declared.event.Event.TheVariants as events
 use Rattle.tv_event.specs.declared.event.Key.{Key}
 use Rattle.tv_event.specs.declared.event.Key.TheVariants as keys
 use Rattle.tv_model.specs.declared.desc.Desc.{Desc}
 use Rattle.tv_model.specs.declared.desc.Dialog.{Dialog}
+use Rattle.tv_model.specs.declared.desc.Version.{Version}
+use Rattle.tv_model.specs.declared.desc.Version.TheVariants as versions
+use Rattle.tv_model.specs.declared.node.Node.{Node}
 use Rattle.tv_model.specs.declared.script.Item.{Item}
 use Rattle.tv_model.specs.declared.script.Item.TheVariants as items
-use Rattle.tv_model.specs.declared.kind.Kind.{Kind}
-use Rattle.tv_model.specs.declared.kind.Kind.TheVariants as kinds
 use Rattle.tv_model.specs.Description.LawfulNodes.{IsLimited}
 use Rattle.tv_model.specs.Description.Letters.{is_shortcut, marked_of}
 use Rattle.tv_model.specs.Description.Marks.{marks}
-use Rattle.tv_model.specs.Controls.Owner.{LetterOwner}
-use Rattle.tv_model.specs.Description.Owners.{owner_by}
 use Rattle.tv_model.specs.Faults.{IsSound}
 use Rattle.tv_model.specs.Faults.Letters.{is_same_key}
 use Rattle.tv_machine.specs.State.{OpenDialog, State}
@@ -30,37 +28,42 @@ use Rattle.tv_machine.specs.Safe.{StandOnDesktop}
 use Rattle.tv_machine.specs.Session.Commands.{works}
 use Rattle.tv_machine.specs.Session.Start.{start}
 use Rattle.tv_machine.specs.Session.Step.{emptied, event_from, held_of, is_item_enabled, key_at_menu, key_at_status, key_below, status_item_of, step, step_at, step_under, to_dialog}
-use Rattle.tv_machine.specs.Leaves.{PlacedNode}
-use Rattle.tv_machine.specs.Dialog.Shortcuts.{marking_leaf}
-use Rattle.tv_machine.proofs.ListLemmas.{bool_cases, find-none, option_cases}
-use Rattle.tv_faults.specs.Sound.Letters.{IsShortcut, MarksLetter}
+use Rattle.tv_machine.specs.Dialog.Lawful.{Marks}
+use Rattle.tv_machine.proofs.ListLemmas.{bool_cases, find-none}
+use Rattle.tv_declarations.specs.Spelling.{IsDescription, IsDialog}
+use Rattle.tv_faults.specs.Sound.Bodies.{dialog_body}
+use Rattle.tv_faults.specs.Sound.Letters.{HasOwnLetters, IsShortcut, MarksLetter}
 use Rattle.tv_faults.specs.Sound.Names.{HaveOtherNames}
 use Rattle.tv_faults.specs.Usable.{IsUsableDialog}
 use Rattle.tv_faults.proofs.ExcludeLemmas.{any_decides}
 use Rattle.tv_faults.proofs.LackLemmas.{bodies}
+use Rattle.tv_faults.proofs.LawfulPartLemmas.{marks_some}
 use Rattle.tv_faults.proofs.LetterLemmas.{marks_decides}
+use Rattle.tv_faults.proofs.RisingLemmas.{views_rise}
 use Rattle.tv_faults.proofs.SoundLemmas.{sound_says}
 use Rattle.tv_faults.proofs.UsableLemmas.{sound_usable}
 use Rattle.tv_check.proofs.MadeLemmas.{sound_made}
 use Rattle.tv_laws.proofs.DeclaredLemmas.{declared-top}
 use Rattle.tv_laws.proofs.LeavingLemmas.{esc-cancels, tab-next, up-lets-go}
 use Rattle.tv_laws.proofs.OpenLemmas.{opens-fit}
-use Rattle.tv_laws.proofs.RunLemmas.{always-safe}
+use Rattle.tv_laws.proofs.MarkerLemmas.{hidden-acts-on-none, marks-once, unnamed-acts-on-none, visible-is-marker}
+use Rattle.tv_laws.proofs.RunLemmas.{always-marks-once, always-safe}
 use Rattle.tv_laws.proofs.StepLemmas.{stays-fit}
 use Rattle.tv_laws.proofs.TabLemmas.{tab-goes-on}
 use Rattle.tv_laws.proofs.KeyLaws.ActLemmas.{acts-on-owner}
 use Rattle.tv_laws.proofs.KeyLaws.CycleLemmas.{tab-goes-round}
 use Rattle.tv_laws.proofs.KeyLaws.GrantLemmas.{acts-where-it-can}
-use Rattle.tv_laws.proofs.KeyLaws.LetterLemmas.{alt-acts, marks-alike, own-letter-acts, typed-acts, unnamed-acts-on-none}
+use Rattle.tv_laws.proofs.KeyLaws.LetterLemmas.{alt-acts, marks-alike, one-line-in-first-version, own-letter-acts, typed-acts}
 use Rattle.tv_laws.proofs.KeyLaws.NoneLemmas.{acts-on-none, refused-acts-on-none}
 use Rattle.tv_laws.proofs.KeyLaws.OrderLemmas.{free-are-controls, refusal-stays, shift-tab-previous, stops-are-tabs}
 use Rattle.tv_laws.proofs.KeyLaws.ValueLemmas.{tab-keeps-values}
-use Rattle.tv_laws.specs.Letters.{HasOwnNames}
+use Rattle.tv_laws.specs.Letters.{HasLines, HasOwnNames}
 use Rattle.tv_laws.specs.Records.{state_after}
 use Rattle.tv_laws.proofs.RecordLaws.EscapeLemmas.{esc-cancels-open, reached-fit, stays-over, up-esc-cancels, up-esc-leaves, up-frees-frame, up-frees-mouse}
 use Rattle.tv_laws.proofs.RecordLaws.SavedLemmas.{declare-cancel, ends-as-declared, reopens-as-saved, saves-what-it-logs, starts-as-declared}
 use Rattle.tv_laws.proofs.RecordLaws.ShowLemmas.{fields-opened}
-use Rattle.tv_program.specs.Laws.{AltLettersAreFree, IsNoStatusKey, KeysReachDialog, LeavesByLaws, LettersByLaws, PlainKeysAreFree, RecordsByLaws, RunsByLaws, ScriptsReach, TabsByLaws, WorksByLaws, event_in, may_be_status_key}
+use Rattle.tv_program.proofs.LineLemmas.{has-lines}
+use Rattle.tv_program.specs.Laws.{AltLettersAreFree, IsNoStatusKey, KeysReachDialog, LeavesByLaws, LettersByLaws, MarksApartInFirstVersion, PlainKeysAreFree, RecordsByLaws, RunsByLaws, ScriptsReach, TabsByLaws, WorksByLaws, event_in, may_be_status_key}
 
 -- ---- scripts
 
@@ -90,55 +93,25 @@ any-at p [] i d less is = absurd (omega (arith, less))
 any-at p (x ∷ xs) zero d less is = ap (λ b. b || list_any p xs) is
 any-at p (x ∷ xs) (suc i) d less is = ap (λ b. p x || b) (any-at p xs i d (omega (arith, less)) is) ∙ or-true (p x)
 
-any-placed : {A : Type 0} (p : A → Bool) (xs : List A) (i : ℕ) → position p xs ≡ Some i → list_any p xs ≡ true
-any-placed p [] i e = absurd cc
-any-placed p (x ∷ xs) i e = let h = position-Some p (x ∷ xs) i x e in any-at p (x ∷ xs) i x h.0 h.1
-
--- what is found passes a weaker test
-any-found : {A : Type 0} (p q : A → Bool) → ((x : A) → p x ≡ true → q x ≡ true) → (xs : List A) (x : A) → find p xs ≡ Some x
-    → list_any q xs ≡ true
-any-found p q weaker [] x e = absurd cc
-any-found p q weaker (y ∷ ys) x e =
-    bool_cases (p y) (λ b. cond b (Some y) (find p ys) ≡ Some x → list_any q (y ∷ ys) ≡ true)
-    (λ is f. ap (λ b. b || list_any q ys) (weaker y is)) (λ is f. ap (λ b. q y || b) (any-found p q weaker ys x f) ∙ or-true (q y)) e
-
-marks-own : (b : Bool) (o : LetterOwner) → is_some (if b then Some o else None) ≡ true → (b || false) ≡ true
-marks-own true o is = refl
-marks-own false o is = absurd (false≢true is)
-
-marks-item : {A : Type 0} (p : A → Bool) (f : ℕ → LetterOwner) (xs : List A) → is_some (option_map f (position p xs)) ≡ true → list_any p xs ≡ true
-marks-item p f xs is =
-    option_cases (position p xs) (λ o. position p xs ≡ o → is_some (option_map f o) ≡ true → list_any p xs ≡ true) (λ none e g. absurd (false≢true g))
-    (λ i some e g. any-placed p xs i some) refl is
-
--- what has an owner by a letter marks it
-marks-some : (letter : ℕ) (kind : Kind) → is_some (owner_by letter kind) ≡ true → list_any (marks letter) (marked_of kind) ≡ true
-marks-some letter (kinds.Label label) is = marks-own (marks letter label.text) _ is
-marks-some letter (kinds.Button button) is = marks-own (marks letter button.text) _ is
-marks-some letter (kinds.CheckBoxes boxes) is = marks-item (marks letter) _ boxes.items is
-marks-some letter (kinds.RadioButtons radios) is = marks-item (marks letter) _ radios.items is
-marks-some letter _ is = absurd (false≢true is)
-
 shortcut-is : (letter : ℕ) (dialog : Dialog) → Decides (is_shortcut letter dialog) (IsShortcut letter dialog)
 shortcut-is letter dialog =
     any_decides (λ node. list_any (marks letter) (marked_of node.kind)) (λ node. Any (λ text. MarksLetter text letter) (marked_of node.kind))
     (λ node. any_decides (marks letter) (λ text. MarksLetter text letter) (marks_decides letter) (marked_of node.kind)) dialog.views
 
-shortcut-of : (letter : ℕ) (dialog : Dialog) (marker : PlacedNode) → marking_leaf dialog letter ≡ Some marker → IsShortcut letter dialog
-shortcut-of letter dialog marker e =
+shortcut-of : (letter : ℕ) (dialog : Dialog) (k : ℕ) (view : Node) → k < length dialog.views → Marks letter (get_or dialog.views k view) → IsShortcut letter dialog
+shortcut-of letter dialog k view less marked =
     (shortcut-is letter dialog).0
-    (any-found (λ node. is_some (owner_by letter node.kind)) (λ node. list_any (marks letter) (marked_of node.kind)) (λ node is. marks-some letter node.kind is)
-    dialog.views marker.node (sym (marks-alike dialog letter) ∙ ap (option_map (λ leaf. leaf.node)) e))
+    (any-at (λ node. list_any (marks letter) (marked_of node.kind)) dialog.views k view less (marks_some letter (get_or dialog.views k view).kind marked))
 
 differs : (own : Key) (letter : ℕ) → (own ≡ keys.Alt letter → ⊥) → is_same_key own (keys.Alt letter) ≡ false
 differs (keys.Alt ch) letter other = bool_cases (ch == letter) (λ b. b ≡ false) (λ is. absurd (other (ap keys.Alt (eqb-true ch letter is)))) (λ is. refl)
 differs _ letter other = refl
 
 alt-letters : (d : Desc) → IsSound d → All (AltLettersAreFree d) d.dialogs
-alt-letters d sound i dialog less letter marker marked j item fewer =
+alt-letters d sound i dialog less k view within letter marked j item fewer =
     let here = get_or d.dialogs i dialog in
     differs (get_or d.status j item).key letter
-    (λ same. ((sound_says d sound).keys.free j item fewer letter same).dialogs i dialog less (shortcut-of letter here marker marked))
+    (λ same. ((sound_says d sound).keys.free j item fewer letter same).dialogs i dialog less (shortcut-of letter here k view within marked))
 
 -- ---- keys
 
@@ -201,15 +174,34 @@ tabs-of d sound = record {
   round = tab-goes-round d sound;
 }
 
-letters-of : (d : Dialog) → IsSoundDialog d → LettersByLaws d
-letters-of d sound = record {
+own-of : (d : Desc) → IsSound d → All (λ own. HasOwnLetters (dialog_body d.version own)) d.dialogs
+own-of d sound = ((bodies d HasOwnLetters).0 (sound_says d sound).letters).1
+
+lines-of : (d : Desc) → IsDescription d → IsSound d → All (HasLines d.version) d.dialogs
+lines-of d is sound k dialog less =
+    let s = sound_says d sound in
+    let stands : IsDialog (get_or d.dialogs k dialog) = All-from_recursion IsDialog d.dialogs is.dialogs k dialog less in
+    has-lines (get_or d.dialogs k dialog) (views_rise d is k dialog less) stands.views (s.rules k dialog less) d.version (own-of d sound k dialog less)
+
+apart-in-first : (version : Version) (d : Dialog) → HasOwnLetters (dialog_body version d) → MarksApartInFirstVersion version d
+apart-in-first versions.One d own = λ i j text less below letter has other. own i j text less below letter refl has other
+apart-in-first versions.Two d own = tt
+
+letters-of : (version : Version) (d : Dialog) → IsSoundDialog d → HasOwnLetters (dialog_body version d) → HasLines version d → LettersByLaws version d
+letters-of version d sound own lines = record {
+  lines = lines;
+  once = marks-once d sound;
+  visible = visible-is-marker d sound;
   alt = alt-acts d;
   typed = typed-acts d;
   own = own-letter-acts d sound;
-  alike = marks-alike d;
-  owner = acts-on-owner d sound;
+  alike = marks-alike version d lines;
+  first = one-line-in-first-version d;
+  apart = apart-in-first version d own;
+  owner = acts-on-owner d sound version lines;
   does = acts-where-it-can d sound;
-  unnamed = unnamed-acts-on-none d;
+  unnamed = unnamed-acts-on-none version d lines;
+  hidden = hidden-acts-on-none d;
   none = acts-on-none d;
   refused = refused-acts-on-none d;
 }
@@ -244,16 +236,17 @@ leaves-of d dialogs = record {
   over = stays-over d;
 }
 
-pub RunsByLaws-of : (d : Desc) → HasSoundDialogs d → IsSound d → RunsByLaws d
-RunsByLaws-of d dialogs sound = record {
+pub RunsByLaws-of : (d : Desc) → IsDescription d → HasSoundDialogs d → IsSound d → RunsByLaws d
+RunsByLaws-of d is dialogs sound = record {
   certified = sound_made d sound;
   names = names-of d sound;
   scripts = scripts-reach d;
   safe = always-safe d dialogs (stand-on-desktop d sound);
   usable = reached-fit d dialogs;
+  once = always-marks-once d dialogs;
   keys = record { reach = keys-reach d dialogs; plain = plain-keys d; alt = alt-letters d sound };
   tabs = All-weaker IsSoundDialog TabsByLaws tabs-of d.dialogs dialogs;
-  letters = All-weaker IsSoundDialog LettersByLaws letters-of d.dialogs dialogs;
+  letters = λ k dialog less. letters-of d.version (get_or d.dialogs k dialog) (dialogs k dialog less) (own-of d sound k dialog less) (lines-of d is sound k dialog less);
   dialogs = All-weaker IsSoundDialog WorksByLaws works-of d.dialogs dialogs;
   records = records-of d dialogs;
   leaves = leaves-of d dialogs;

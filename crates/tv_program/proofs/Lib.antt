@@ -1,3 +1,4 @@
 pub mod CheckLemmas
 pub mod RunLemmas
+mod LineLemmas
 pub mod LawLemmas

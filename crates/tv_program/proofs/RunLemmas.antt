@@ -42,7 +42,7 @@ faulty-RefusesDesc text d spelled fault is (Err other) told = rw told (desc_run-
 
 -- the laws of every run of what the text spells
 pub lawful : (text : List ℕ) → IsLawfulText text
-lawful text = λ d read. RunsByLaws-of d (sound_dialogs d read.spelled.can read.sound) read.sound
+lawful text = λ d read. RunsByLaws-of d read.spelled.can (sound_dialogs d read.spelled.can read.sound) read.sound
 
 -- ---- views
 

@@ -1,31 +1,35 @@
 -- What the laws say of every run of a sound description: of each state that events lead to, and so of each
 -- that a script makes.
-use Rattle.std.specs.Prelude.{◌≡◌, ℕ, Bool, true, false, List, filter_map, slice_get, Option, Some, None, All}
+use Rattle.std.specs.Prelude.{◌≡◌, ℕ, Bool, true, false, List, filter_map, slice_get, Option, Some, None, All, AllPairs}
 use Rattle.tv_event.specs.declared.event.Event.{Event}
 use Rattle.tv_event.specs.declared.event.Event.TheVariants as events
 use Rattle.tv_event.specs.declared.event.Key.{Key}
 use Rattle.tv_event.specs.declared.event.Key.TheVariants as keys
 use Rattle.tv_model.specs.declared.desc.Desc.{Desc}
 use Rattle.tv_model.specs.declared.desc.Dialog.{Dialog}
+use Rattle.tv_model.specs.declared.desc.Version.{Version}
+use Rattle.tv_model.specs.declared.desc.Version.TheVariants as versions
 use Rattle.tv_model.specs.declared.script.Item.{Item}
 use Rattle.tv_model.specs.declared.script.Item.TheVariants as items
 use Rattle.tv_model.specs.Faults.Letters.{is_same_key}
 use Rattle.tv_machine.specs.State.{OpenDialog, State}
 use Rattle.tv_machine.specs.Dialog.Modal.{Modal}
-use Rattle.tv_machine.specs.Dialog.Shortcuts.{marking_leaf}
+use Rattle.tv_machine.specs.Dialog.Lawful.{Marks}
 use Rattle.tv_machine.specs.Dialog.Step.{dialog_step}
-use Rattle.tv_machine.specs.Leaves.{PlacedNode}
 use Rattle.tv_machine.specs.Output.{after}
 use Rattle.tv_machine.specs.Run.{quiet, started}
 use Rattle.tv_machine.specs.Safe.{IsAlwaysSafe}
 use Rattle.tv_machine.specs.Session.Commands.{after_work, modal_of}
 use Rattle.tv_machine.specs.Session.Step.{emptied, step}
+use Rattle.tv_faults.specs.Sound.Letters.{MarkOtherLetters, marked_texts}
 use Rattle.tv_check.specs.Certificates.{IsSoundCertificate, certificate_of}
 use Rattle.tv_laws.specs.Leaving.{EscCancels, TabAsksNext, TabGoesOn, UpLetsGo}
 use Rattle.tv_laws.specs.Runs.{IsFitState}
 use Rattle.tv_laws.specs.Steps.{OpensFit, StaysFit}
-use Rattle.tv_laws.specs.Letters.{ActsOnNone, ActsOnOwner, ActsWhereItCan, AltActs, HasOwnNames, MarksAlike}
-use Rattle.tv_laws.specs.Letters.{OwnLetterActs, RefusedActsOnNone, TypedActs, UnnamedActsOnNone}
+use Rattle.tv_laws.specs.Letters.{ActsOnNone, ActsOnOwner, ActsWhereItCan, AltActs, AlwaysMarksOnce}
+use Rattle.tv_laws.specs.Letters.{HasLines, HasOwnNames, HiddenActsOnNone, MarksAlike, MarksOnce}
+use Rattle.tv_laws.specs.Letters.{OneLineInFirstVersion, OwnLetterActs, RefusedActsOnNone, TypedActs}
+use Rattle.tv_laws.specs.Letters.{UnnamedActsOnNone, VisibleIsMarker}
 use Rattle.tv_laws.specs.Order.{FreeAreControls, RefusalStays, ShiftTabAsksPrevious, StopsAreTabs}
 use Rattle.tv_laws.specs.Order.{TabGoesRound, TabKeepsValues}
 use Rattle.tv_laws.specs.Escape.{EscCancelsOpen, UpEscCancels, UpEscLeaves, UpFreesFrame, UpFreesMouse}
@@ -87,11 +91,10 @@ may_be_status_key _ = false
 abbrev pub PlainKeysAreFree : Desc → Type 0
 PlainKeysAreFree d = (k : Key) → may_be_status_key k ≡ false → IsNoStatusKey d k
 
--- nor is Alt with a letter that the dialog marks
+-- nor is Alt with a letter that a view of the dialog marks
 abbrev pub AltLettersAreFree : Desc → Dialog → Type 0
 AltLettersAreFree d dialog =
-    (letter : ℕ) (marker : PlacedNode) → marking_leaf dialog letter ≡ Some marker
-    → IsNoStatusKey d (keys.Alt letter)
+    All (λ view. (letter : ℕ) → Marks letter view → IsNoStatusKey d (keys.Alt letter)) dialog.views
 
 -- ---- what is so of each dialog
 
@@ -107,15 +110,28 @@ pub record TabsByLaws (dialog : Dialog) : Type 0 where
   pub keeps : TabKeepsValues dialog
   pub round : TabGoesRound dialog
 
--- a shortcut acts on the control that the certificate's `key` line names for its letter, or on none
-pub record LettersByLaws (dialog : Dialog) : Type 0 where
+-- in version 1 no two texts of a dialog mark one letter, whatever its rules show
+abbrev pub MarksApartInFirstVersion : Version → Dialog → Type 0
+MarksApartInFirstVersion versions.One dialog = AllPairs MarkOtherLetters (marked_texts dialog.views)
+MarksApartInFirstVersion versions.Two dialog = Unit {0}
+
+-- a shortcut acts on the control that the certificate names for its letter by the `key` line that holds, or
+-- on none. A letter that isn't shared has one line at most, without a `when`, which always holds; of one that
+-- is, each marker has its own, with a `when`, and no two hold at once
+pub record LettersByLaws (version : Version) (dialog : Dialog) : Type 0 where
+  pub lines : HasLines version dialog
+  pub once : MarksOnce dialog
+  pub visible : VisibleIsMarker dialog
   pub alt : AltActs dialog
   pub typed : TypedActs dialog
   pub own : OwnLetterActs dialog
-  pub alike : MarksAlike dialog
-  pub owner : ActsOnOwner dialog
+  pub alike : MarksAlike version dialog
+  pub first : OneLineInFirstVersion dialog
+  pub apart : MarksApartInFirstVersion version dialog
+  pub owner : ActsOnOwner version dialog
   pub does : ActsWhereItCan dialog
-  pub unnamed : UnnamedActsOnNone dialog
+  pub unnamed : UnnamedActsOnNone version dialog
+  pub hidden : HiddenActsOnNone dialog
   pub none : ActsOnNone dialog
   pub refused : RefusedActsOnNone dialog
 
@@ -170,9 +186,11 @@ pub record RunsByLaws (d : Desc) : Type 0 where
   -- saved records and ends are such as are declared
   pub safe : IsAlwaysSafe d
   pub usable : StaysUsable d
+  -- no letter has two visible markers then
+  pub once : AlwaysMarksOnce d
   pub keys : KeysByLaws d
   pub tabs : All TabsByLaws d.dialogs
-  pub letters : All LettersByLaws d.dialogs
+  pub letters : All (LettersByLaws d.version) d.dialogs
   pub dialogs : All WorksByLaws d.dialogs
   pub records : RecordsByLaws d
   pub leaves : LeavesByLaws d
