@@ -1,6 +1,6 @@
 //! A window that was dragged is closed by its mark where it stands, and the one behind can be dragged then.
 
-use crate::running::Run;
+use crate::Run;
 
 /// A description, a script and what it writes.
 pub const DRAG: Run = Run {

@@ -1,6 +1,6 @@
 //! A dialog that is dragged down keeps its top row on the desktop, and takes keys while its controls can't be seen.
 
-use crate::running::Run;
+use crate::Run;
 
 /// A description, a script and what it writes.
 pub const DRAG: Run = Run {

@@ -1,6 +1,6 @@
 //! In a dialog that was dragged the mouse sets the cursor of an input, and a drag moves no focus.
 
-use crate::running::Run;
+use crate::Run;
 
 /// A description, a script and what it writes.
 pub const DRAG: Run = Run {

@@ -1,6 +1,6 @@
 //! A dialog is dragged off the right edge and back by the one column that stays.
 
-use crate::running::Run;
+use crate::Run;
 
 /// A description, a script and what it writes.
 pub const DRAG: Run = Run {

@@ -1,6 +1,6 @@
 //! The up moves too, and where the dialog stands as at the down, nothing is logged.
 
-use crate::running::Run;
+use crate::Run;
 
 /// A description, a script and what it writes.
 pub const DRAG: Run = Run {

@@ -1,6 +1,6 @@
 //! While a dialog is dragged, keys and downs do nothing; after the up they do again.
 
-use crate::running::Run;
+use crate::Run;
 
 /// A description, a script and what it writes.
 pub const DRAG: Run = Run {

@@ -1,6 +1,6 @@
 //! The controls of a dialog that was dragged down are hit where they stand, and on the desktop alone.
 
-use crate::running::Run;
+use crate::Run;
 
 /// A description, a script and what it writes.
 pub const DRAG: Run = Run {

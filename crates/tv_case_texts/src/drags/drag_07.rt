@@ -1,6 +1,6 @@
 //! A down on a window behind only brings it to the front; the next one drags it.
 
-use crate::running::Run;
+use crate::Run;
 
 /// A description, a script and what it writes.
 pub const DRAG: Run = Run {

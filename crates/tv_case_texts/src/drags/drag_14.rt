@@ -1,6 +1,6 @@
 //! A window whose top row is declared above the desktop can't be dragged; one declared off the left edge can.
 
-use crate::running::Run;
+use crate::Run;
 
 /// A description, a script and what it writes.
 pub const DRAG: Run = Run {

@@ -1,6 +1,6 @@
 //! The shadow of what is dragged is cut at the edges of the desktop, falls on a window below, and lies under a menu's box.
 
-use crate::running::Run;
+use crate::Run;
 
 /// A description, a script and what it writes.
 pub const DRAG: Run = Run {

@@ -1,6 +1,6 @@
 //! A down that closes a menu drags nothing, and while a window is dragged no menu opens and no window is raised.
 
-use crate::running::Run;
+use crate::Run;
 
 /// A description, a script and what it writes.
 pub const DRAG: Run = Run {

@@ -1,6 +1,6 @@
 //! A down on a close mark drags nothing; one beside it does.
 
-use crate::running::Run;
+use crate::Run;
 
 /// A description, a script and what it writes.
 pub const DRAG: Run = Run {

@@ -1,6 +1,6 @@
 //! A dialog is dragged off the left edge, then from there, by columns that count from its corner.
 
-use crate::running::Run;
+use crate::Run;
 
 /// A description, a script and what it writes.
 pub const DRAG: Run = Run {

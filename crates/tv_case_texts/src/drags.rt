@@ -1,6 +1,6 @@
 //! Runs in which windows and dialogs are dragged, each made for a rule of dragging.
 
-use crate::running::Run;
+use crate::Run;
 
 mod drag_01;
 mod drag_02;

@@ -1,6 +1,6 @@
 //! A dialog opens where it is declared each time; a window that was dragged keeps its place.
 
-use crate::running::Run;
+use crate::Run;
 
 /// A description, a script and what it writes.
 pub const DRAG: Run = Run {

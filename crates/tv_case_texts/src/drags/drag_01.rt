@@ -1,6 +1,6 @@
 //! A dialog is dragged off the left edge, so that one column of it stays, and a click where its button was does nothing.
 
-use crate::running::Run;
+use crate::Run;
 
 /// A description, a script and what it writes.
 pub const DRAG: Run = Run {
