@@ -1,107 +1,16 @@
 //! The windows and the dialog of examples/ that are dragged, run on the script beside them.
 
-use crate::running::{Run, expect_runs};
+use crate::running::expect_runs;
 use std::test::Fail;
+use tv_case_texts::Run;
+use tv_case_texts::example_drags::{PRICES_OUTPUT, PRICES_SCRIPT};
 use tv_test_support::examples::PRICES;
 
 /// The script beside its description, and what is kept beside both.
 pub const PRICES_RUN: Run = Run {
     desc: PRICES,
-    script: r#"# The prices hide half of the stock. They are dragged aside by their top row.
-shot
-down 20 4
-move 30 3
-up 36 2
-shot
-# A dialog opens over both. It is dragged down to the status line, and takes what is typed all the same.
-key F3
-down 30 3
-up 32 8
-type "Butter"
-key Tab
-type "3"
-shot
-key Enter
-# It opens again where it is declared, with what it handed on.
-key F3
-shot
-key Esc
-"#,
-    wanted: r#"shot 50 14
-:                                                  :
-:..................................................:
-:..+------ Stock ----1--+..........................:
-:..| Flour   40 pounds  |..........................:
-:..| Milk  +=[x]== Prices ===2==+..................:
-:..| Butter| Flour   1.20       |..................:
-:..|       | Milk    0.95       |..................:
-:..+-------| Butter  2.10       |..................:
-:..........|                    |..................:
-:..........+====================+..................:
-:..................................................:
-:..................................................:
-:..................................................:
-: F3 Buy  F6 Next                                  :
-moved prices 26 2
-shot 50 14
-:                                                  :
-:..................................................:
-:..+------ Stock ----1--+..+=[x]== Prices ===2==+..:
-:..| Flour   40 pounds  |..| Flour   1.20       |..:
-:..| Milk    12 pints   |..| Milk    0.95       |..:
-:..| Butter   7 pounds  |..| Butter  2.10       |..:
-:..|                    |..|                    |..:
-:..+--------------------+..+====================+..:
-:..................................................:
-:..................................................:
-:..................................................:
-:..................................................:
-:..................................................:
-: F3 Buy  F6 Next                                  :
-open buy
-focus what
-moved buy 8 8
-focus amount
-shot 50 14
-:                                                  :
-:..................................................:
-:..+------ Stock ----1--+..+------ Prices ---2--+..:
-:..| Flour   40 pounds  |..| Flour   1.20       |..:
-:..| Milk    12 pints   |..| Milk    0.95       |..:
-:..| Butter   7 pounds  |..| Butter  2.10       |..:
-:..|                    |..|                    |..:
-:..+--------------------+..+--------------------+..:
-:........+=[x]========= Buy ==============+........:
-:........| What        Butter             |........:
-:........|                                |........:
-:........| Amount      3                  |........:
-:........|                                |........:
-: F3 Buy  F6 Next                                  :
-press ok
-end buy ok
-field what "Butter"
-field amount "3"
-open buy
-focus what
-shot 50 14
-:                                                  :
-:..................................................:
-:..+------ Stock ----1--+..+------ Prices ---2--+..:
-:..| Fl+=[x]========= Buy ==============+       |..:
-:..| Mi| What        Butter             |       |..:
-:..| Bu|                                |       |..:
-:..|   | Amount      3                  |       |..:
-:..+---|                                |-------+..:
-:......|   <   OK   >    [  Cancel  ]   |..........:
-:......|                                |..........:
-:......+================================+..........:
-:..................................................:
-:..................................................:
-: F3 Buy  F6 Next                                  :
-end buy cancel
-field what "Butter"
-field amount "3"
-"#,
+    script: PRICES_SCRIPT,
+    wanted: PRICES_OUTPUT,
 };
 
 #[test]
