@@ -1,7 +1,8 @@
 //! Runs of dialogs of buttons, texts and radio buttons.
 
-use crate::running::{Run, expect_logs, expect_runs};
+use crate::running::{expect_logs, expect_runs};
 use std::test::Fail;
+use tv_case_texts::Run;
 use tv_test_support::descriptions::{CANCEL, CLOSED, COLOUR};
 
 const SHOWN: Run = Run {

@@ -4,15 +4,16 @@ ghost use Rattle.tv_machine.specs.Run.{Session as Standing};
 ghost use Rattle.tv_session.specs.Session.{StandsFor};
 
 use crate::bodies::checked;
-use crate::drags::DRAGS;
 use crate::making::views;
 use crate::pieces::Pieces;
-use crate::running::{Run, expect_logs, expect_runs};
+use crate::running::{expect_logs, expect_runs};
 use crate::stepping::is_given;
 use crate::streams::expect_end;
 use std::alloc::Global;
 use std::test::Fail;
 use tv_building::Views;
+use tv_case_texts::Run;
+use tv_case_texts::drags::DRAGS;
 use tv_cells::Point;
 use tv_check::Checked;
 use tv_event::{Command, Event, Key};

@@ -7,28 +7,30 @@
 ghost use Rattle.tv_machine.specs.Run.{Session as Standing};
 ghost use Rattle.tv_session.specs.Session.{StandsFor};
 
-use crate::bars::{MENU_OVER_LABELS, STATUS_ALONE};
 use crate::bodies::checked;
-use crate::cases::CASES;
-use crate::controls::HIDDEN_DEFAULT;
-use crate::crowded::{EIGHT_MENUS, NINE_WINDOWS};
-use crate::desk::THREE_WINDOWS;
-use crate::drags::DRAGS;
 use crate::example_desks::RUNS as DESKS;
 use crate::example_dialogs::RUNS as DIALOGS;
 use crate::example_drags::PRICES_RUN;
-use crate::fields::{FILLED_INPUT, RANGES};
-use crate::lists::{LISTS_AMONG_CONTROLS, LONG_LISTS};
 use crate::making::views;
-use crate::panes::{NESTED_PANES, SHOWN_PANES};
 use crate::parts::Parts;
-use crate::running::{Run, lines};
-use crate::stacked::{DIALOGS_OVER_WINDOWS, FIVE_WINDOWS};
+use crate::running::lines;
 use crate::stepping::is_given;
-use crate::wide::{PANE_OF_LISTS, SHOWN_INPUTS};
 use std::alloc::Global;
 use std::test::Fail;
 use tv_building::Views;
+use tv_case_texts::Run;
+use tv_case_texts::bars::{MENU_OVER_LABELS, STATUS_ALONE};
+use tv_case_texts::cases::CASES;
+use tv_case_texts::controls::HIDDEN_DEFAULT;
+use tv_case_texts::crowded::{EIGHT_MENUS, NINE_WINDOWS};
+use tv_case_texts::desk::THREE_WINDOWS;
+use tv_case_texts::drags::DRAGS;
+use tv_case_texts::fields::{FILLED_INPUT, RANGES};
+use tv_case_texts::lists::{LISTS_AMONG_CONTROLS, LONG_LISTS};
+use tv_case_texts::panes::{NESTED_PANES, SHOWN_PANES};
+use tv_case_texts::shares::SHARES;
+use tv_case_texts::stacked::{DIALOGS_OVER_WINDOWS, FIVE_WINDOWS};
+use tv_case_texts::wide::{PANE_OF_LISTS, SHOWN_INPUTS};
 use tv_cells::{Point, Screen};
 use tv_check::Checked;
 use tv_model::{Desc, Item};
@@ -251,4 +253,10 @@ fn kept_in_cases(rt: HostRuntime) -> Result<(), Fail> {
 #[test]
 fn kept_while_dragged(rt: HostRuntime) -> Result<(), Fail> {
     expect_all_kept(rt.alloc(), &DRAGS)
+}
+
+/// The same where controls that share a letter are shown in turn.
+#[test]
+fn kept_while_shared(rt: HostRuntime) -> Result<(), Fail> {
+    expect_all_kept(rt.alloc(), &SHARES)
 }

@@ -27,8 +27,6 @@ mod dialogs;
 #[cfg(test)]
 mod dragging;
 #[cfg(test)]
-mod drags;
-#[cfg(test)]
 mod example_desks;
 #[cfg(test)]
 mod example_dialogs;
@@ -68,6 +66,8 @@ mod probes;
 mod repainted;
 #[cfg(test)]
 mod running;
+#[cfg(test)]
+mod sharing;
 #[cfg(test)]
 mod stacked;
 #[cfg(test)]

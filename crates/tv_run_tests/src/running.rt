@@ -5,19 +5,12 @@ use crate::probes::Journal;
 use std::alloc::{AllocError, Global};
 use std::rc::Rc;
 use std::test::Fail;
+use tv_case_texts::Run;
 use tv_check::Checked;
 use tv_io::{FileReader, Reader, Writer};
 use tv_program::{PlayFault, run};
 use tv_session::Session;
 use tv_test_support::Memory;
-
-/// A run: what is read, and what is written.
-#[derive(Clone, Copy)]
-pub struct Run {
-    pub desc: &'static str,
-    pub script: &'static str,
-    pub wanted: &'static str,
-}
 
 /// Runs a script on a description over boxed controls, by the program's own call. Where there is a journal, the button `y`
 /// notes there what it is told.
@@ -78,14 +71,31 @@ pub fn played(alloc: Global, desc: &str, script: &str) -> Result<Session, Fail> 
     }
 }
 
-/// Fails where a run writes something else than this.
-pub fn expect_run(alloc: Global, desc: &str, script: &str, wanted: &str) -> Result<(), Fail> {
+// Fails where a run writes something else than this.
+fn expect_written(alloc: Global, desc: &str, script: &str, wanted: &str) -> Result<(), Fail> {
     let out = ran(alloc, desc, script)?;
     let found = str::from_utf8(out.taken())?;
     if found == wanted {
         return Ok(());
     }
-    Err(Fail::new(format_args!("written:\n{found}wanted:\n{wanted}in:\n{script}")))
+    Err(Fail::new(format_args!("written:\n{found}wanted:\n{wanted}of:\n{desc}in:\n{script}")))
+}
+
+/// Fails where a run writes something else than this. A description of version 1 is run as one of version 2 too: it says the same.
+pub fn expect_run(alloc: Global, desc: &str, script: &str, wanted: &str) -> Result<(), Fail> {
+    expect_written(alloc, desc, script, wanted)?;
+    match in_version_two(alloc, desc)? {
+        Some(later) => expect_written(alloc, &later, script, wanted),
+        None => Ok(()),
+    }
+}
+
+/// A description of version 1 as one of version 2.
+pub fn in_version_two(alloc: Global, desc: &str) -> Result<Option<String>, AllocError> {
+    match desc.strip_prefix("tvd 1\n") {
+        Some(rest) => Ok(Some(format!(in alloc; "tvd 2\n{rest}")?)),
+        None => Ok(None),
+    }
 }
 
 /// Fails where some run writes something else than is wanted.
