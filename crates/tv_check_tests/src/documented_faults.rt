@@ -74,6 +74,20 @@ button shut 0 0 10 "C~l~ose" close
 end
 end
 => sound
+tvd 2
+screen 40 12
+dialog edit 4 2 32 8 "Edit" ends cancel
+radios at 1 4 14 "~T~ext" "~P~age" start 1
+pane left 1 1 14 1
+button stop 0 0 10 "~C~ancel" cancel
+end
+pane right 16 1 14 1
+button shut 0 0 10 "~C~lose" close
+end
+show left when at 1
+show right when at 2
+end
+=> sound
 tvd 1
 screen 40 12
 status "Exit" Alt-C quit

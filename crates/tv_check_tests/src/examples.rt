@@ -8,7 +8,7 @@ use tv_test_support::certificates::{
     CANCEL_CERTIFICATE, COLOUR_CERTIFICATE, NO_BLOCKS, ORDER_CERTIFICATE,
 };
 use tv_test_support::descriptions::{CANCEL, COLOUR, MENUS, ORDER, WINDOWS};
-use tv_test_support::examples::{CONFIRM, DESK, PRICES, SEARCH, SETTINGS, WIZARD};
+use tv_test_support::examples::{CONFIRM, DESK, PAY, PRICES, SEARCH, SETTINGS, WIZARD};
 use tv_test_support::{Accepting, Certifying, expect_answer, expect_canonical, expect_finding};
 
 // A description and its certificate.
@@ -164,6 +164,33 @@ end
 ",
 };
 
+// A payment by card or by invoice, whose letters are shared.
+const PAY_EXAMPLE: Example = Example {
+    desc: PAY,
+    certificate: "tvcert 2
+dialog pay
+tab by
+tab number
+tab expires
+tab keep
+tab name
+tab mail
+tab paper
+tab pay
+tab leave
+key C by 1
+key E expires when by 1
+key E mail when by 2
+key I by 2
+key N number when by 1
+key N name when by 2
+key P pay
+key S keep 1 when by 1
+key S paper 1 when by 2
+end
+",
+};
+
 #[test]
 fn descriptions_of_other_tests(rt: HostRuntime) -> Result<(), Fail> {
     for (desc, certificate) in [
@@ -206,4 +233,9 @@ fn desk_with_windows(rt: HostRuntime) -> Result<(), Fail> {
 #[test]
 fn prices_to_be_dragged(rt: HostRuntime) -> Result<(), Fail> {
     expect_example(rt.alloc(), &PRICES_EXAMPLE)
+}
+
+#[test]
+fn payment_by_shared_letters(rt: HostRuntime) -> Result<(), Fail> {
+    expect_example(rt.alloc(), &PAY_EXAMPLE)
 }

@@ -7,7 +7,7 @@ use tv_button_views::buttons;
 use tv_io::{FileReader, Writer};
 use tv_lang::parse;
 use tv_program::{RunFault, accept_files, accept_text, check, report, run};
-use tv_test_support::{Idle, Memory, Question, expect_answer};
+use tv_test_support::{Idle, Memory, Question, expect_row};
 
 /// A call of the program about a text.
 #[derive(Clone, Copy)]
@@ -120,7 +120,7 @@ fn streams_told(alloc: Global, out: &[u8], err: &[u8], status: u8) -> Result<Str
 
 /// Fails where something else is written and told of a run than this.
 pub fn expect_run(alloc: Global, desc: &str, script: &str, wanted: &str) -> Result<(), Fail> {
-    expect_answer(&Call::Run { script }, alloc, desc, wanted)
+    expect_row(&Call::Run { script }, alloc, desc, wanted)
 }
 
 // What is told of a call: `made`, or its fault.

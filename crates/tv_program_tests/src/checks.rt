@@ -6,7 +6,7 @@ use std::test::Fail;
 use tv_test_support::certificates::{CANCEL_CERTIFICATE, NO_BLOCKS, ORDER_CERTIFICATE};
 use tv_test_support::descriptions::{CANCEL, COLOUR, MENUS, ORDER, SHARED_LETTER, WINDOWS};
 use tv_test_support::large::{large_certificate, large_description};
-use tv_test_support::{expect_answer, expect_answers, expect_rows};
+use tv_test_support::{expect_answer, expect_answers, expect_row, expect_rows};
 
 #[test]
 fn checked_descriptions(rt: HostRuntime) -> Result<(), Fail> {
@@ -23,12 +23,12 @@ fn checked_descriptions(rt: HostRuntime) -> Result<(), Fail> {
 
 fn expect_checked(alloc: Global, text: &str, certificate: &str) -> Result<(), Fail> {
     let wanted = format!(in alloc; "{certificate}status 0\n")?;
-    expect_answer(&Call::Check, alloc, text, &wanted)
+    expect_row(&Call::Check, alloc, text, &wanted)
 }
 
 #[test]
 fn checked_with_a_fault(rt: HostRuntime) -> Result<(), Fail> {
-    expect_answer(
+    expect_row(
         &Call::Check,
         rt.alloc(),
         SHARED_LETTER,

@@ -42,6 +42,8 @@ mod scripts;
 #[cfg(test)]
 mod sessions;
 #[cfg(test)]
+mod sharing;
+#[cfg(test)]
 mod shelf;
 #[cfg(test)]
 mod sink;

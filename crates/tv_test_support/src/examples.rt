@@ -146,3 +146,32 @@ button ok 4 5 10 "~O~K" ok default
 button leave 18 5 12 "~C~ancel" cancel
 end
 "#;
+
+/// A payment by card or by invoice, on whose pages the same letters stand for what is shown.
+pub const PAY: &str = r###"tvd 2
+screen 64 18
+start pay
+status "F2 Pay" F2 100
+dialog pay 5 2 54 14 "Pay" opens 100 ends ok cancel
+text 2 1 50 1 "Your order comes to 86.50."
+radios by 2 3 14 "~C~ard" "~I~nvoice" start 1
+pane card 18 3 34 3
+label 0 0 10 "~N~umber" number
+input number 10 0 22 19 picture "*3{*4#-}*4#" "" optional fill
+label 0 1 10 "~E~xpires" expires
+input expires 10 1 8 5 picture "##/##" "" optional fill
+checks keep 0 2 26 "~S~ave this card"
+end
+pane invoice 18 7 34 3
+label 0 0 10 "~N~ame" name
+input name 10 0 22 40 any "" optional
+label 0 1 10 "~E~-mail" mail
+input mail 10 1 22 60 any "" optional
+checks paper 0 2 26 "~S~end it on paper"
+end
+button pay 12 11 12 "~P~ay" ok default
+button leave 30 11 12 "Cancel" cancel
+show card when by 1
+show invoice when by 2
+end
+"###;

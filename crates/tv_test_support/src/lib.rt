@@ -23,5 +23,7 @@ pub use dialogs::FirstDialog;
 pub use findings::{Findings, Reading, expect_finding, expect_findings};
 pub use planning::{Planning, PlanningWith};
 pub use printing::{Printing, expect_canonical};
-pub use tables::{Question, expect_answer, expect_answers, expect_edits, expect_rows, push_line};
+pub use tables::{
+    Question, expect_answer, expect_answers, expect_edits, expect_row, expect_rows, push_line,
+};
 pub use writers::{Idle, Memory};

@@ -33,6 +33,34 @@ pub fn expect_answer<Q: Question>(
     Err(Fail::new(format_args!("answered:\n{found}wanted:\n{wanted}about:\n{text}")))
 }
 
+// What is answered about a description in version 2 of the language: the same, but for the first line of a text that is printed.
+fn in_version_two(alloc: Global, answer: &str) -> Result<String, AllocError> {
+    if let Some(rest) = answer.strip_prefix("tvd 1\n") {
+        return format!(in alloc; "tvd 2\n{rest}");
+    }
+    match answer.strip_prefix("tvcert 1\n") {
+        Some(rest) => format!(in alloc; "tvcert 2\n{rest}"),
+        None => String::from_str(alloc, answer),
+    }
+}
+
+/// Fails where another answer is given about a text than the wanted one. A description of version 1 is asked about as one of
+/// version 2 too: it says the same.
+pub fn expect_row<Q: Question>(
+    question: &Q,
+    alloc: Global,
+    text: &str,
+    wanted: &str,
+) -> Result<(), Fail> {
+    expect_answer(question, alloc, text, wanted)?;
+    if let Some(rest) = text.strip_prefix("tvd 1\n") {
+        let later = format!(in alloc; "tvd 2\n{rest}")?;
+        let wanted = in_version_two(alloc, wanted)?;
+        expect_answer(question, alloc, &later, &wanted)?;
+    }
+    Ok(())
+}
+
 /// Fails where about some text of a table another answer is given than the one beside it.
 pub fn expect_rows<Q: Question>(
     question: &Q,
@@ -40,7 +68,7 @@ pub fn expect_rows<Q: Question>(
     rows: &[(&str, &str)],
 ) -> Result<(), Fail> {
     for (text, wanted) in rows {
-        expect_answer(question, alloc, text, wanted)?;
+        expect_row(question, alloc, text, wanted)?;
     }
     Ok(())
 }
@@ -103,7 +131,7 @@ fn judge<Q: Question>(
     after: &str,
 ) -> Result<(), Fail> {
     let whole = format!(in alloc; "{before}{}{after}", row.text)?;
-    expect_answer(question, alloc, &whole, &row.wanted)
+    expect_row(question, alloc, &whole, &row.wanted)
 }
 
 // An edit of a text, as far as it is read.
@@ -163,5 +191,5 @@ fn judge_edit<Q: Question>(
     let (before, after) = text.split_once(edit.old.as_str()).ok_or("nothing to edit")?;
     let edited = format!(in alloc; "{before}{}{after}", edit.new)?;
     let wanted = format!(in alloc; "{wanted}\n")?;
-    expect_answer(question, alloc, &edited, &wanted)
+    expect_row(question, alloc, &edited, &wanted)
 }
