@@ -11,13 +11,13 @@ use Rattle.tv_examples.specs.Descriptions.{replaced, cancel, order}
 use Rattle.tv_examples.specs.Running.{written, text}
 
 -- the text of the certificate of a description that was read, if one was
-abbrev certificate_read : DescriptionOutcome → Option (List ℕ)
+abbrev pub certificate_read : DescriptionOutcome → Option (List ℕ)
 certificate_read (readings.Value d) = Some (canonical_text (certificate_lines (certificate_of d)))
 certificate_read (readings.Fault line) = None
 certificate_read readings.Other = None
 
 -- the description of these lines has the certificate of these lines
-abbrev HasCertificate : List String → List String → Type 0
+abbrev pub HasCertificate : List String → List String → Type 0
 HasCertificate description lines = certificate_read (description_outcome (text description)) ≡ Some (text lines)
 
 cancel_certificate : HasCertificate cancel ("tvcert 1" ∷ "dialog a" ∷ "tab c" ∷ "key C c" ∷ "end" ∷ [])

@@ -21,7 +21,11 @@ mod Faults
 mod RefusedTexts
 mod RefusedScripts
 mod Certificates
+-- letters that several controls share
+mod Sharing
 -- descriptions and scripts that reach every rule
 mod Cases
 -- the same of dragging alone
 mod Drags
+-- and of shared letters
+mod Shares

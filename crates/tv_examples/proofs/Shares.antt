@@ -1,0 +1,8 @@
+mod Share01
+mod Share02
+mod Share03
+mod Share04
+mod Share05
+mod Share06
+mod Share07
+mod Share08
