@@ -33,7 +33,7 @@ pub struct KeyLine {
     pub owner: Chars,
     /// The item, counted from 1, where an item of a cluster marks the letter.
     pub item: Option<i32>,
-    /// The item of radio buttons while which is marked the letter acts on this owner, where it has several.
+    /// The item of radio buttons that is marked while the letter acts on this owner, where it has several.
     pub when: Option<When>,
 }
 

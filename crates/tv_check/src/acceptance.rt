@@ -34,7 +34,7 @@ pub enum Refusal {
     /// The first place, counted from 1, at which the tab lines differ from the order of Tab.
     #[error("tab line {0} is not in the order of Tab")]
     TabOrder(usize),
-    /// The least letter, in the first dialog that differs, whose key lines don't name its owner.
+    /// The least letter, in the first dialog that differs, whose key lines aren't those of its owners.
     #[error("the letter {0} has another owner")]
     Owner(char),
 }

@@ -71,7 +71,7 @@ fn first_letter(
     Ok(None)
 }
 
-/// Finds the first dialog with a letter whose key lines don't name its owners. Returns the first such letter of that
+/// Finds the first dialog with a letter whose key lines aren't those of its owners. Returns the first such letter of that
 /// dialog.
 pub fn first_owner(alloc: Global, desc: &Desc, blocks: &[Block]) -> Result<Option<char>, AllocError>
     ensures { IfOk result (λ letter. MatchOption letter (All (NamesOwners desc.now.version blocks.now) desc.now.dialogs) (IsFirstOwner desc.now blocks.now)) }

@@ -30,7 +30,7 @@ owner_of dialog letter = option_and_then (λ node. owner_by letter node.kind) (m
 
 -- ---- letters with several
 
--- an owner of a letter, and the item of radio buttons while which is marked it is the owner. Without one it
+-- an owner of a letter, and the item of radio buttons that is marked while it is the owner. Without one it
 -- always is
 pub record KeyOwner : Type 0 where
   pub owner : LetterOwner
