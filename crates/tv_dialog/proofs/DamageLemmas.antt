@@ -14,7 +14,7 @@ use Rattle.tv_palette.specs.Palettes.{colour_in}
 use Rattle.tv_palette.specs.declared.role.Owner.TheVariants as owners
 use Rattle.tv_view.specs.Damage.{AllDamages, AllDrawn, AllEnvDamages, IsDrawnAlike}
 use Rattle.tv_view.specs.Drawing.{leaves_layers}
-use Rattle.tv_view.specs.Meaning.{Leaf}
+use Rattle.tv_view.specs.Meaning.{Leaf, Placed}
 use Rattle.tv_view.specs.declared.env.Env.{Env}
 use Rattle.tv_view.proofs.DamageLemmas.{alike-more, alike-then}
 use Rattle.tv_group.specs.Opened.{group_bounds, opened}
@@ -26,24 +26,33 @@ use Rattle.tv_dialog.specs.Head.{KeptDialogHead}
 use Rattle.tv_dialog.specs.declared.dialog.DialogOf.{DialogOf}
 use Rattle.tv_dialog.proofs.AlikeLemmas.{all-drawn-of, all-drawn-then, damage-outside, framed-alike, framed-outside}
 
+-- where both environments are the same, nothing is drawn otherwise
+pub told-none : (bounds : Rect) (old new : Env) (leaves : List Placed) (damage : List Rect) → old ≡ new → AllEnvDamages bounds old new leaves damage damage
+told-none bounds old new leaves damage same = record {
+  drawn = record { each = λ c column row e under. ap (λ (env : Env). cell_over (leaves_layers env c leaves) column row under) same };
+  grown = record { kept = λ x y e. e; within = λ r h p. h };
+}
+
 module _ {V : Type 0} (look : V → Leaf) where
   -- ---- bodies
 
   -- a body that stays
-  pub body-same : (old new : DialogOf V) → new.head ≡ old.head → new.corner ≡ old.corner → new.body ≡ old.body → new.damage ≡ old.damage
+  pub body-same : (old new : DialogOf V) → new.head ≡ old.head → new.corner ≡ old.corner → new.plan ≡ old.plan → new.body ≡ old.body → new.damage ≡ old.damage
       → BodyDrawn look old new
-  body-same old new head corner body damage = record {
+  body-same old new head corner plan body damage = record {
     head = head;
     corner = corner;
+    plan = plan;
     body = rw (body, damage) (all-drawn-refl (opened look old.body) old.damage);
   }
 
   -- one that a call changes
-  pub body-called : (old new : DialogOf V) → new.head ≡ old.head → new.corner ≡ old.corner
+  pub body-called : (old new : DialogOf V) → new.head ≡ old.head → new.corner ≡ old.corner → new.plan ≡ old.plan
       → AllDamages (group_bounds old.body) (opened look old.body) (opened look new.body) old.damage new.damage → BodyDrawn look old new
-  body-called old new head corner called = record {
+  body-called old new head corner plan called = record {
     head = head;
     corner = corner;
+    plan = plan;
     body = all-drawn-of (group_bounds old.body) (opened look old.body) (opened look new.body) old.damage new.damage called;
   }
 
@@ -51,6 +60,7 @@ module _ {V : Type 0} (look : V → Leaf) where
   body-then old mid new p q = record {
     head = q.head ∙ p.head;
     corner = q.corner ∙ p.corner;
+    plan = q.plan ∙ p.plan;
     body = all-drawn-then (opened look old.body) (opened look mid.body) (opened look new.body) old.damage mid.damage new.damage p.body q.body;
   }
 

@@ -5,7 +5,6 @@ pub mod FieldLemmas
 pub mod FieldOrderLemmas
 pub mod FirstRecordLemmas
 pub mod FreshLemmas
-pub mod LentLemmas
 pub mod NewLemmas
 pub mod PaneLemmas
 pub mod PendingLemmas

@@ -1,13 +1,16 @@
 -- How a dialog goes on standing as the machine's does.
-use Rattle.std.proofs.Common.{◌≡◌, ◌<◌, ◌||◌, ◌==◌, Bool, true, false, ℕ, List, [], ◌∷◌, ◌++◌, Some, None, is_some, slice_index_or, if◌then◌else◌, map, refl, sym, ap, subst, ◌∙◌, IsTrue}
+use Rattle.std.proofs.Common.{arith, ◌≡◌, ◌<◌, ◌||◌, ◌==◌, not, Bool, true, false, ℕ, suc, length, List, [], ◌∷◌, ◌++◌, Some, None, is_some, slice_index_or, if◌then◌else◌, map, refl, sym, ap, subst, ◌∙◌, All, IsTrue}
 use Rattle.std.specs.Prelude.{is_none, unwrap_or}
 use Rattle.std.specs.Option.{option_or}
 use Rattle.std.proofs.lemmas.Bool.{false≢true}
+use Rattle.std.proofs.lemmas.Bool.Decides.{nat_tests}
+use Rattle.std.proofs.lemmas.List.Elements.{All-nil}
 use Rattle.tv_model.specs.declared.node.Id.{Id}
 use Rattle.tv_model.specs.declared.node.Node.{Node}
 use Rattle.tv_model.specs.declared.kind.Kind.{Kind}
 use Rattle.tv_model.specs.declared.kind.Kind.TheVariants as kinds
 use Rattle.tv_model.specs.declared.desc.Dialog.{Dialog}
+use Rattle.tv_model.specs.declared.desc.Rule.{Rule}
 use Rattle.tv_model.specs.declared.log.LogLine.TheVariants as lines
 use Rattle.tv_model.specs.Kinds.InputLine.{entered, left}
 use Rattle.tv_view.specs.Meaning.{Leaf}
@@ -17,7 +20,7 @@ use Rattle.tv_machine.specs.State.{LeafState}
 use Rattle.tv_machine.specs.Dialog.Focus.{Request, Same, NotFree, Refused, Moved, after_request, focus_moved, is_free_at, keeps_focus, refocused, request, requested}
 use Rattle.tv_machine.specs.Dialog.Lawful.{IsLawfulDialog}
 use Rattle.tv_machine.specs.Dialog.Modal.{Modal, leaf_at}
-use Rattle.tv_machine.specs.Dialog.Rules.{is_command_enabled}
+use Rattle.tv_machine.specs.Dialog.Rules.{holds, is_command_enabled}
 use Rattle.tv_machine.specs.Dialog.Ending.{ended, field_line, fields_of, shown_invalid}
 use Rattle.tv_group.specs.Calls.{all_focused, first_in, next_in}
 use Rattle.tv_group.specs.declared.focus.Dir.{Dir}
@@ -25,6 +28,7 @@ use Rattle.tv_group.specs.declared.focus.Dir.TheVariants as dirs
 use Rattle.tv_group.specs.Opened.{opened}
 use Rattle.tv_dialog.specs.declared.dialog.DialogOf.{DialogOf}
 use Rattle.tv_dialog.specs.Head.{KeptDialogHead, declared_dialog_head}
+use Rattle.tv_dialog.specs.Plan.{has_rules}
 use Rattle.tv_dialog.specs.Standing.{AreFields, Stands, end_number, stop_in}
 use Rattle.tv_machine.specs.Dialog.Alike.{HoldSame}
 use Rattle.tv_dialog.specs.Stepping.{begun_anew}
@@ -92,6 +96,16 @@ pub record IsKept {V : Type 0} (old new : DialogOf V) : Type 0 where
   pub ended : new.ended ≡ old.ended
   pub ruled : new.ruled ≡ old.ruled
   pub marks : new.marks ≡ old.marks
+
+none-of : (rules : List Rule) (P : Rule → Type 0) → has_rules rules ≡ false → All P rules
+none-of [] P none = All-nil P
+none-of (rule ∷ rules) P none =
+    let some : (suc (length rules) == 0) ≡ false = grind (arith, nat_tests) in
+    absurd (false≢true (sym none ∙ ap not some))
+
+-- without rules they hold alike whatever is marked
+pub ruleless : (d : Dialog) (ruled other : List LeafState) → has_rules d.rules ≡ false → HoldSame d ruled other
+ruleless d ruled other none = none-of d.rules (λ rule. holds d ruled rule ≡ holds d other rule) none
 
 module _ {V : Type 0} (look : V → Leaf) (d : Dialog) where
   -- the same where the rules hold alike

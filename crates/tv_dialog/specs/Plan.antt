@@ -1,5 +1,5 @@
 -- What a dialog keeps of its description beside its own line: ids and numbers, and no texts.
-use Rattle.std.specs.Prelude.{ℕ, Bool, false, List, map, filter, filter_map, find, not, ◌&&◌, ◌==◌, Option}
+use Rattle.std.specs.Prelude.{ℕ, Bool, false, List, length, map, filter, filter_map, find, not, ◌&&◌, ◌==◌, Option}
 use Rattle.std.specs.Prelude.{Some, None, option_map}
 use Rattle.std.specs.List.{list_all}
 use Rattle.tv_model.specs.declared.node.Id.{Id}
@@ -54,11 +54,16 @@ gate_of views rule = gate_by (condition_of views rule) rule.effect
 abbrev pub default_of : List Node → Option Id
 default_of views = option_map (λ leaf. leaf.node.id) (find (λ leaf. is_default leaf.node) (leaf_list views))
 
+-- there are rules
+abbrev pub has_rules : List Rule → Bool
+has_rules rules = not (length rules == 0)
+
 abbrev pub plan_of : List Node → List Rule → Plan
 plan_of views rules = record {
   leaves = map (leaf_plan views rules) (leaf_list views);
   gates = filter_map (gate_of views) rules;
   default_button = default_of views;
+  has_rules = has_rules rules;
 }
 
 -- a button, if there is a leaf

@@ -27,7 +27,7 @@ ghost use Rattle.tv_dialog.specs.Bounds.{dialog_bounds, moved_dialog_rects};
 ghost use Rattle.tv_dialog.specs.Head.{IsLimitedDialogHead, declared_dialog_head};
 ghost use Rattle.tv_dialog.specs.Plan.{plan_of};
 ghost use Rattle.tv_dialog.specs.Damage.{DialogEnvDamages};
-ghost use Rattle.tv_dialog.specs.Drawn.{default_now, drawn_dialog, lent};
+ghost use Rattle.tv_dialog.specs.Drawn.{drawn_dialog, lent};
 ghost use Rattle.tv_dialog.specs.declared.fault.DialogFault.TheVariants.{WrongKind};
 
 use crate::fault::DialogFault;
@@ -246,26 +246,11 @@ impl<V> DialogOf<V> {
         body
     }
 
-    /// Returns what Enter presses: the focus if it is a button, else the declared default button.
-    fn default_now(&self) -> Option<Id>
-        ensures { result ≡ default_now self.now.plan self.now.focus }
-    {
-        if self.plan.is_button(self.focus) {
-            Some(self.focus)
-        } else {
-            self.plan.default_button
-        }
-    }
-
     /// Makes the environment that it lends its views: adds who has the focus, and what Enter presses.
     pub(crate) fn lent<'a>(&self, env: &Env<'a>) -> Env<'a>
         ensures { result ≡ lent self.now.plan self.now.focus env.now }
     {
-        Env {
-            focus: Some(self.focus),
-            default_now: self.default_now(),
-            ..*env
-        }
+        self.plan.lent(self.focus, env)
     }
 }
 

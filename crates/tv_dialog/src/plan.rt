@@ -9,13 +9,15 @@ ghost use Rattle.tv_model.specs.Description.Nodes.{is_default};
 ghost use Rattle.tv_machine.specs.Dialog.Rules.{shows};
 ghost use Rattle.tv_machine.specs.Leaves.{leaf_list};
 ghost use Rattle.tv_dialog.specs.Placing.{placed_node};
-ghost use Rattle.tv_dialog.specs.Plan.{condition_of, conditions_of, gate_of, has_button_at, is_shown_by, leaf_plan, plan_of};
+ghost use Rattle.tv_dialog.specs.Plan.{condition_of, conditions_of, gate_of, has_button_at, has_rules, is_shown_by, leaf_plan, plan_of};
+ghost use Rattle.tv_dialog.specs.Drawn.{default_now, lent};
 
 use crate::condition::Condition;
 use std::alloc::{AllocError, Global};
 use tv_faces::natural;
 use tv_model::{CommandSpec, Effect, Id, Kind, Node, Record, Rule, Sequence};
 use tv_valid::Chars;
+use tv_view::Env;
 
 /// What a dialog keeps of a leaf.
 #[derive(Debug, Drop)]
@@ -41,6 +43,8 @@ pub(crate) struct Plan {
     pub(crate) gates: Sequence<Gate>,
     /// The declared default button, hidden or not.
     pub(crate) default_button: Option<Id>,
+    /// Whether there are rules.
+    pub(crate) has_rules: bool,
 }
 
 impl LeafPlan {
@@ -208,6 +212,12 @@ fn default_button(views: &[Node]) -> Option<Id>
         .map(|view| view.id)
 }
 
+fn has_rules(rules: &[Rule]) -> bool
+    ensures { result ≡ has_rules rules.now }
+{
+    !rules.is_empty()
+}
+
 // The first of the leaves that has the id.
 fn leaf_of(leaves: &[LeafPlan], id: Id) -> Option<&LeafPlan>
     ensures { option_copied result ≡ find (λ leaf. leaf.id.0 == id.0) leaves.now }
@@ -224,16 +234,40 @@ impl Plan {
             leaves: leaf_plans(alloc, views, rules)?,
             gates: kept_gates(alloc, views, rules)?,
             default_button: default_button(views),
+            has_rules: has_rules(rules),
         })
     }
 
     /// Whether the first leaf of the id is a button.
-    pub(crate) fn is_button(&self, id: Id) -> bool
+    fn is_button(&self, id: Id) -> bool
         ensures { result ≡ has_button_at self.now.leaves id }
     {
         match leaf_of(self.leaves.as_slice(), id) {
             Some(leaf) => leaf.is_button,
             None => false,
+        }
+    }
+
+    /// Returns what Enter presses while the focus is there: the focus if it is a button, else the declared default button.
+    fn default_now(&self, focus: Id) -> Option<Id>
+        ensures { result ≡ default_now self.now focus }
+    {
+        if self.is_button(focus) {
+            Some(focus)
+        } else {
+            self.default_button
+        }
+    }
+
+    /// Makes the environment that a dialog lends its views while the focus is there: adds who has the focus, and what
+    /// Enter presses.
+    pub(crate) fn lent<'a>(&self, focus: Id, env: &Env<'a>) -> Env<'a>
+        ensures { result ≡ lent self.now focus env.now }
+    {
+        Env {
+            focus: Some(focus),
+            default_now: self.default_now(focus),
+            ..*env
         }
     }
 }

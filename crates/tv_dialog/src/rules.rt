@@ -42,4 +42,17 @@ impl<V: View> DialogOf<V> {
         };
         self.body.apply(&rules, &mut self.damage);
     }
+
+    // Applies the rules to the marks as they are now, unless there are none: what holds without rules was applied as it
+    // opened.
+    pub(crate) fn reapply_rules(&mut self)
+        ensures stands { (d : Dialog) (ruled : List LeafState) (m : Modal) → IsLawfulDialog d → m.ended ≡ None
+            → Stands V.meaning d ruled m self.old → Stands V.meaning d m.leaves m self.new }
+        ensures pending { self.new.pending ≡ self.old.pending }
+        ensures drawn { BodyDrawn V.meaning self.old self.new }
+    {
+        if self.plan.has_rules {
+            self.apply_rules();
+        }
+    }
 }

@@ -1,6 +1,6 @@
 //! What a dialog makes of an event that it is handed.
 
-ghost use Rattle.std.specs.Prelude.{◌≡◌, ◌<◌, [], IsTrue, length, true};
+ghost use Rattle.std.specs.Prelude.{◌≡◌, ◌<◌, [], length, true};
 ghost use Rattle.tv_model.specs.declared.desc.Dialog.{Dialog};
 ghost use Rattle.tv_machine.specs.Dialog.Focus.{is_free_at};
 ghost use Rattle.tv_machine.specs.Dialog.Lawful.{IsLawfulDialog};
@@ -13,13 +13,16 @@ ghost use Rattle.tv_group.specs.Calls.{any_holds};
 ghost use Rattle.tv_group.specs.Opened.{group_bounds, opened};
 ghost use Rattle.tv_view.specs.Damage.{AllEnvDamages};
 ghost use Rattle.tv_dialog.specs.Damage.{BodyDrawn, DialogDamages};
+ghost use Rattle.tv_dialog.specs.Drawn.{lent};
 ghost use Rattle.tv_dialog.specs.Standing.{Stands};
 ghost use Rattle.tv_dialog.specs.Stepping.{IsHandedIn, posted, posted_free, posted_held, posted_key, begun_anew, walked};
 
 use crate::dialog::DialogOf;
+use crate::plan::Plan;
 use tv_cells::{Damage, Point};
 use tv_event::{Command, Event, Key};
 use tv_group::{Dir, GroupOf};
+use tv_model::Id;
 use tv_view::{Env, View};
 
 /// Whether a point, seen from a dialog's corner, lies on the mark in its frame that closes it.
@@ -80,22 +83,24 @@ fn posted(is_held: bool, event: &Event) -> Option<Event>
     }
 }
 
-// Whether the focus, and the default button, are the same in both environments.
-fn is_lent_same(old: &Env, new: &Env) -> bool
-    ensures { IsTrue result → (old.now.focus ≡ new.now.focus) × (old.now.default_now ≡ new.now.default_now) }
+// Adds what the views show otherwise once the focus, and with it the default button, is elsewhere. It asks no view where
+// the focus has stayed.
+fn refocus_damage<V: View>(
+    body: &GroupOf<V>,
+    plan: &Plan,
+    was: Id,
+    focus: Id,
+    env: &Env,
+    damage: &mut Damage,
+)
+    ensures { AllEnvDamages (group_bounds body.now) (lent plan.now was env.now) (lent plan.now focus env.now) (opened V.meaning body.now) damage.old damage.new }
 {
-    old.focus == new.focus && old.default_now == new.default_now
-}
-
-// Adds what the views show otherwise where the focus is elsewhere, or the default button. It asks no view where both stay.
-fn env_damage<V: View>(body: &GroupOf<V>, old: &Env, new: &Env, damage: &mut Damage)
-    requires { new.now ≡ record old.now { focus = new.now.focus; default_now = new.now.default_now } }
-    ensures { AllEnvDamages (group_bounds body.now) old.now new.now (opened V.meaning body.now) damage.old damage.new }
-{
-    if is_lent_same(old, new) {
+    if was == focus {
         return;
     }
-    body.env_damage(old, new, damage);
+    let old = plan.lent(was, env);
+    let new = plan.lent(focus, env);
+    body.env_damage(&old, &new, damage);
 }
 
 impl<V: View> DialogOf<V> {
@@ -139,11 +144,17 @@ impl<V: View> DialogOf<V> {
         ensures corner { self.new.corner ≡ self.old.corner }
         ensures damage { DialogDamages V.meaning env.now self.old self.new damage.old damage.new }
     {
-        let before = self.lent(env);
+        let was = self.focus;
         self.damage.clear();
         self.answer(is_held, event, env);
-        let after = self.lent(env);
-        env_damage(&self.body, &before, &after, &mut self.damage);
+        refocus_damage(
+            &self.body,
+            &self.plan,
+            was,
+            self.focus,
+            env,
+            &mut self.damage,
+        );
         damage.add_within(&self.damage, self.bounds());
     }
 

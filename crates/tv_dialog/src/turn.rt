@@ -114,14 +114,14 @@ impl<V: View> DialogOf<V> {
             Reaction::FocusPress(id, item) => {
                 if self.request(id) {
                     self.body.press_item(id, item, &mut self.damage);
-                    self.apply_rules();
+                    self.reapply_rules();
                 }
             }
             Reaction::Post(id, command) => {
                 note(&mut self.log, LogLine::Press(id));
                 self.pending.post(Event::Command(command));
             }
-            Reaction::Changed(_) => self.apply_rules(),
+            Reaction::Changed(_) => self.reapply_rules(),
             Reaction::Pass => {}
             Reaction::Done => {}
             Reaction::Capture(_) => {}

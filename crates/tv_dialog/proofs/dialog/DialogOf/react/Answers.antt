@@ -35,17 +35,17 @@ returns-then-request-clause-stands g c d ruled m lawful few going keeps s =
     (record { head = refl; plan = refl; «open» = refl; ended = refl; ruled = refl; marks = refl }) refl refl c.press_item.ensures.leaves there in
     let goes : (pressed_at d i item n).ended ≡ None
     = pressed-keeps (λ x. x.ended ≡ None) d (λ j k x p. p) (leaf_at d i) item n (ended-request d m i ∙ going) in
-    subst (λ r. Stands look d (reacted_first d r m).leaves (reacted_first d r m) c.apply_rules.new.self) (sym is)
-    (subst (λ t. Stands look d t.leaves t c.apply_rules.new.self) (sym (granted-then d i (pressed_at d i item) m granted))
-    (c.apply_rules.ensures.stands d n.leaves (pressed_at d i item n) lawful goes stands))
+    subst (λ r. Stands look d (reacted_first d r m).leaves (reacted_first d r m) c.reapply_rules.new.self) (sym is)
+    (subst (λ t. Stands look d t.leaves t c.reapply_rules.new.self) (sym (granted-then d i (pressed_at d i item) m granted))
+    (c.reapply_rules.ensures.stands d n.leaves (pressed_at d i item n) lawful goes stands))
 
 pub returns-then-request-clause-drawn : goal.returns-then-request-clause-drawn
 returns-then-request-clause-drawn g c =
     let look = g.V.View.meaning in
     let asked : DialogOf g.row.V.Denot = c.request-in-FocusPress.new.self in
     let pressed : DialogOf g.row.V.Denot = record asked { body = c.press_item.new.self; damage = c.press_item.new.damage } in
-    body-then look c.args.self.now asked c.apply_rules.new.self c.request-in-FocusPress.ensures.drawn
-    (body-then look asked pressed c.apply_rules.new.self (body-called look asked pressed refl refl c.press_item.ensures.damage) c.apply_rules.ensures.drawn)
+    body-then look c.args.self.now asked c.reapply_rules.new.self c.request-in-FocusPress.ensures.drawn
+    (body-then look asked pressed c.reapply_rules.new.self (body-called look asked pressed refl refl refl c.press_item.ensures.damage) c.reapply_rules.ensures.drawn)
 
 pub returns-else-request-clause-stands : goal.returns-else-request-clause-stands
 returns-else-request-clause-stands g c d ruled m lawful few going keeps s =

@@ -1,8 +1,8 @@
-use Rattle.std.proofs.Common.{refl}
+use Rattle.std.proofs.Common.{refl, ap}
 use Rattle.tv_machine.specs.Dialog.Step.{dialog_step}
+use Rattle.tv_dialog.specs.Drawn.{lent}
 use Rattle.tv_dialog.specs.Stepping.{begun_anew}
 use Rattle.tv_dialog.proofs.DamageLemmas.{dialog-damages}
-use Rattle.tv_dialog.proofs.LentLemmas.{lent-apart}
 use Rattle.tv_dialog.proofs.TurnCodeLemmas.{stands-alike}
 use Rattle.tv_dialog.proofs.dialog.DialogOf.step_told.Goals as goal
 
@@ -17,11 +17,9 @@ returns-clause-stands g c d m lawful views handed leaf focus markers s =
 
 pub returns-clause-damage : goal.returns-clause-damage
 returns-clause-damage g c =
-    let done = c.answer.ensures.drawn in
-    dialog-damages g.V.View.meaning c.args.env.now c.lent-before.result c.lent-after.result c.args.self.now _ c.clear.new.self c.answer.new.self.damage c.env_damage.new.damage c.args.damage.now c.add_within.new.self
-    c.bounds.result done.head done.corner done.body c.lent-before.ensures c.lent-after.ensures c.env_damage.ensures c.bounds.ensures.is c.add_within.ensures.added c.add_within.ensures.grown
-
-pub env_damage-requires : goal.env_damage-requires
-env_damage-requires g c =
     let old = c.args.self.now in
-    lent-apart c.args.env.now c.lent-before.result c.lent-after.result old.plan c.answer.new.self.plan old.focus c.answer.new.self.focus c.lent-before.ensures c.lent-after.ensures
+    let answered = c.answer.new.self in
+    let done = c.answer.ensures.drawn in
+    let env = c.args.env.now in
+    dialog-damages g.V.View.meaning env (lent answered.plan old.focus env) (lent answered.plan answered.focus env) old _ c.clear.new.self answered.damage c.refocus_damage.new.damage c.args.damage.now c.add_within.new.self
+    c.bounds.result done.head done.corner done.body (ap (λ p. lent p old.focus env) done.plan) refl c.refocus_damage.ensures c.bounds.ensures.is c.add_within.ensures.added c.add_within.ensures.grown
