@@ -4,6 +4,7 @@ pub mod CurrentLemmas
 pub mod DamageLemmas
 pub mod DroppedLemmas
 pub mod GripLemmas
+pub mod HidingLemmas
 pub mod HoldLemmas
 pub mod KeptLemmas
 pub mod MovedLemmas

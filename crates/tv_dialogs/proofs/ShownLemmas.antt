@@ -3,8 +3,8 @@ use Rattle.std.proofs.Common.{◌≡◌, List, [], ◌∷◌, ℕ, Some, IsTrue,
 use Rattle.std.specs.Prelude.{slice_get, slice_index_or}
 use Rattle.std.proofs.lemmas.Bool.{false≢true}
 use Rattle.std.proofs.lemmas.Option.{unwrap_or-slice_get}
-use Rattle.tv_cells.specs.Layers.{Layer, Shadow, Shows, Lays}
-use Rattle.tv_cells.specs.Picture.{IsAlike, Picture}
+use Rattle.tv_cells.specs.Layers.{Shadow, Lays}
+use Rattle.tv_cells.specs.Picture.{Picture}
 use Rattle.tv_cells.specs.Repainting.{clipped, within}
 use Rattle.tv_cells.specs.declared.canvas.Canvas.{Canvas}
 use Rattle.tv_cells.specs.declared.rect.Point.{Point}
@@ -36,7 +36,7 @@ use Rattle.tv_dialogs.specs.declared.dialogs.DialogsOf.{DialogsOf}
 use Rattle.tv_dialogs.proofs.PlacedLemmas.{place-told, read-declared, read-kept}
 
 -- a dialog is as large as its node
-sizes_are : (node : Node) (kind : Kind) → IsTrue (is_dialog kind) → (head : KeptDialogHead) → Some head ≡ declared_dialog_head (record node { kind = kind })
+pub sizes_are : (node : Node) (kind : Kind) → IsTrue (is_dialog kind) → (head : KeptDialogHead) → Some head ≡ declared_dialog_head (record node { kind = kind })
     → (p : Point) → rect p.x p.y head.w head.h ≡ rect p.x p.y node.w (height_of kind)
 sizes_are node (kinds.Dialog own) is head e p = let same : head ≡ kept_dialog_head (record node { kind = kinds.Dialog own }) own = cc in ap (λ h. rect p.x p.y h.w h.h) same
 sizes_are node _ is head e p = absurd (false≢true is)
@@ -44,13 +44,12 @@ sizes_are node _ is head e p = absurd (false≢true is)
 -- its shadow is the machine's
 pub shadow-laid : {V : Type 0} (look : V → Leaf) (desc : Desc) (r : Rect) (d : Dialog) (o : OpenDialog) (m : Modal) (dialog : DialogOf V) (c : Canvas) (bounds : Rect) (old new : Picture)
     → Stands look d m.leaves m dialog → dialog.corner ≡ o.origin → c ≡ within r (desktop_canvas desc) → bounds ≡ dialog_bounds dialog
-    → IsAlike old new → ((layers : List Layer) → Shows layers old → Shows (Shadow c bounds ∷ layers) new)
-    → Lays (clipped r (shadow_layer desc o d) ∷ []) old new
-shadow-laid look desc r d o m dialog c bounds old new s corner desktop is alike shows =
+    → Lays (Shadow c bounds ∷ []) old new → Lays (clipped r (shadow_layer desc o d) ∷ []) old new
+shadow-laid look desc r d o m dialog c bounds old new s corner desktop is laid =
     let same : Shadow c bounds ≡ clipped r (shadow_layer desc o d) =
     ap (λ k. Shadow k bounds) desktop ∙ ap (Shadow (within r (desktop_canvas desc))) (is ∙ sizes_are d.node d.node.kind d.own_kind dialog.head s.head dialog.corner
     ∙ ap (λ p. open_bounds (record o { origin = p }) d) corner) in
-    record { size = alike; shows = λ below shown. subst (λ layer. Shows (layer ∷ below) new) same (shows below shown) }
+    subst (λ layer. Lays (layer ∷ []) old new) same laid
 
 module _ {V : Type 0} (look : V → Leaf) (d : Desc) (r : Rect) (s : State) (dialogs : DialogsOf V) (are : AreDialogs look d s dialogs) where
   -- one is open, and is drawn as the machine's

@@ -1,18 +1,21 @@
 //! The open dialog on the screen.
 
-ghost use Rattle.std.specs.Prelude.{◌≡◌, map};
+ghost use Rattle.std.specs.Prelude.{◌≡◌, IsTrue, map, true};
 ghost use Rattle.tv_laws.specs.Runs.{HasSoundDialogs};
 ghost use Rattle.tv_machine.specs.Screen.Layers.{open_layers};
 ghost use Rattle.tv_machine.specs.State.{State};
-ghost use Rattle.tv_model.specs.Description.Rectangles.{IsSmall};
+ghost use Rattle.tv_model.specs.Description.Rectangles.{IsSmall, desktop};
+ghost use Rattle.tv_model.specs.declared.desc.Desc.{Desc as Declared};
 ghost use Rattle.tv_tree.specs.Shown.{desktop_canvas};
+ghost use Rattle.tv_cells.specs.Damage.{is_part};
 ghost use Rattle.tv_cells.specs.Layers.{Lays};
 ghost use Rattle.tv_cells.specs.Repainting.{clipped, within};
 ghost use Rattle.tv_cells.specs.declared.rect.Rect.{Rect as Rectangle};
-ghost use Rattle.tv_dialogs.specs.Dialogs.{AreDialogs};
+ghost use Rattle.tv_dialogs.specs.Damage.{HidesWithin, lies_in};
+ghost use Rattle.tv_dialogs.specs.Dialogs.{AreDialogs, kept_at};
 
 use crate::dialogs::DialogsOf;
-use tv_cells::{Canvas, Screen};
+use tv_cells::{Canvas, Rect, Screen};
 use tv_model::Desc;
 use tv_view::View;
 
@@ -32,6 +35,19 @@ impl<V: View> DialogsOf<V> {
                 canvas,
                 &self.colours,
             );
+        }
+    }
+
+    /// Whether a rectangle of the screen lies whole in the open dialog. If it lies on the desktop too, the dialog hides what
+    /// is below it there.
+    pub fn hides(&self, rect: Rect) -> bool
+        ensures within { result ≡ lies_in rect (kept_at self.now self.now.open) }
+        ensures hidden { (d : Declared) (s : State) → AreDialogs V.meaning d s self.now → is_part rect (desktop d) ≡ true
+            → IsTrue result → HidesWithin rect (open_layers d s.overwriting s.dialog) }
+    {
+        match self.at(self.open) {
+            Some(kept) => kept.dialog.bounds().has_part(rect),
+            None => false,
         }
     }
 }

@@ -1,6 +1,6 @@
 //! A dialog, and the record that it opens with.
 
-ghost use Rattle.std.specs.Prelude.{◌≡◌, [], false, IfErr, IfOk, List, None, map};
+ghost use Rattle.std.specs.Prelude.{◌≡◌, ◌∷◌, [], false, pos, IfErr, IfOk, List, None, map};
 ghost use Rattle.tv_machine.specs.Dialog.Sound.{IsSoundDialog};
 ghost use Rattle.tv_machine.specs.Dialog.Modal.{Modal};
 ghost use Rattle.tv_machine.specs.Dialog.Step.{dialog_step};
@@ -15,7 +15,8 @@ ghost use Rattle.tv_group.specs.Opened.{opened};
 ghost use Rattle.tv_group.specs.Outline.{IsFreshBody};
 ghost use Rattle.tv_machine.specs.Dialog.Lawful.{IsLawfulDialog};
 ghost use Rattle.tv_tree.specs.Shown.{IsAtWork, desktop_canvas};
-ghost use Rattle.tv_cells.specs.Layers.{Lays};
+ghost use Rattle.tv_cells.specs.Layers.{Lays, Shadow};
+ghost use Rattle.tv_cells.specs.Rectangle.{IsRectNear};
 ghost use Rattle.tv_cells.specs.Repainting.{clipped, within};
 ghost use Rattle.tv_cells.specs.declared.rect.Rect.{Rect as Rectangle};
 ghost use Rattle.tv_dialog.specs.Bounds.{dialog_bounds};
@@ -29,7 +30,7 @@ ghost use Rattle.tv_dialogs.specs.Kept.{IsKeptAs, IsReady, holds_after, may_hold
 use crate::colours::Colours;
 use crate::handed::event_from;
 use std::alloc::Global;
-use tv_cells::{Canvas, Damage, Screen, lay_shadow};
+use tv_cells::{Canvas, Damage, Rect, Screen, lay_shadow};
 use tv_dialog::DialogOf;
 use tv_event::{Command, CommandSet, Event};
 use tv_group::GroupOf;
@@ -73,6 +74,17 @@ fn record<V: View>(dialog: &DialogOf<V>, values: &mut OnHeap<Record>)
     dialog.record(&mut values.value);
 }
 
+// Draws the shadow of a rectangle, both seen from the corner of the screen. Most rectangles that are painted again lie in
+// the dialog, where its shadow isn't seen.
+fn draw_shadow(screen: &mut Screen, canvas: Canvas, rect: Rect)
+    requires { IsRectNear rect }
+    ensures { canvas.origin.x ≡ pos 0 → canvas.origin.y ≡ pos 0 → Lays (Shadow canvas rect ∷ []) screen.old screen.new }
+{
+    if !rect.has_part(canvas.clip) {
+        lay_shadow(screen, canvas, rect);
+    }
+}
+
 impl<V: View> Kept<V> {
     /// Makes the declared dialog round a body of its views, to open with the values that they have.
     ///
@@ -104,18 +116,27 @@ impl<V: View> Kept<V> {
         }
     }
 
-    // Keeps the values of the dialog where it has ended, and not by `cancel`. It isn't inlined, so that the record's room
-    // on the stack isn't its callers' too.
+    // Keeps the values of the dialog. It isn't inlined, so that the record's room on the stack isn't its callers' too, and an
+    // event that ends no dialog doesn't take it.
     #[inline(never)]
+    fn keep_values(&mut self)
+        requires { HasRoomForAll (opened V.meaning self.old.dialog.body) [] }
+        ensures dialog { self.new.dialog ≡ self.old.dialog }
+        ensures values { self.new.values ≡ all_gathered (opened V.meaning self.old.dialog.body) [] }
+    {
+        let mut values = Record::new();
+        self.dialog.record(&mut values);
+        self.values.set(values);
+    }
+
+    // Keeps the values of the dialog where it has ended, and not by `cancel`.
     fn save(&mut self)
         requires { HasRoomForAll (opened V.meaning self.old.dialog.body) [] }
         ensures dialog { self.new.dialog ≡ self.old.dialog }
         ensures values { self.new.values ≡ values_after V.meaning self.old.values self.old.dialog }
     {
         if saves(self.dialog.ended()) {
-            let mut values = Record::new();
-            self.dialog.record(&mut values);
-            self.values.set(values);
+            self.keep_values();
         }
     }
 
@@ -207,7 +228,7 @@ impl<V: View> Kept<V> {
             default_now: None,
             is_active: true,
         };
-        lay_shadow(screen, canvas, self.dialog.bounds());
+        draw_shadow(screen, canvas, self.dialog.bounds());
         self.dialog.draw(screen, canvas, &env);
     }
 }

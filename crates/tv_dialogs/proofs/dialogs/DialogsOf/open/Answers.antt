@@ -1,4 +1,4 @@
-use Rattle.std.proofs.Common.{◌≡◌, ◌<◌, ◌∙◌, ℕ, List, false, length, Some, ap, refl, sym, subst, slice_get, slice_index_or}
+use Rattle.std.proofs.Common.{◌<◌, ◌∙◌, ℕ, false, length, Some, ap, refl, sym, subst, slice_index_or}
 use Rattle.std.proofs.lemmas.Option.{slice_get_read}
 use Rattle.std.specs.Vec.{with_item}
 use Rattle.tv_faces.specs.Corners.{IsCorner}
@@ -12,8 +12,6 @@ use Rattle.tv_model.specs.declared.desc.Dialog.{Dialog}
 use Rattle.tv_dialog.specs.Fields.{in_field_order}
 use Rattle.tv_dialog.specs.Resting.{Rests}
 use Rattle.tv_dialog.specs.Standing.{Stands}
-use Rattle.tv_dialogs.specs.Dialogs.{MayOpen}
-use Rattle.tv_dialogs.specs.declared.dialogs.DialogsOf.{DialogsOf}
 use Rattle.tv_dialogs.specs.declared.kept.Kept.{Kept}
 use Rattle.tv_dialogs.proofs.CornerLemmas.{lawful-corner, rests-at}
 use Rattle.tv_dialogs.proofs.DamageLemmas.{opened-alike}

@@ -1,4 +1,5 @@
 use Rattle.std.proofs.Common.{ap, refl}
+use Rattle.tv_cells.specs.declared.canvas.Canvas.{Canvas}
 use Rattle.tv_palette.specs.Chain.{coloured}
 use Rattle.tv_dialogs.proofs.ShownLemmas.{shadow-laid}
 use Rattle.tv_dialogs.proofs.kept.Kept.draw.Goals as goal
@@ -15,5 +16,5 @@ returns g c desc r o overwriting m lawful stands work corner desktop =
       active = refl;
     })
     corner desktop
-    (shadow-laid g.V.View.meaning desc r d o m c.args.self.now.dialog c.args.canvas c.bounds.result screen c.lay_shadow.new.screen
-    stands corner desktop c.bounds.ensures.is c.lay_shadow.ensures.size c.lay_shadow.ensures.shows)
+    (shadow-laid g.V.View.meaning desc r d o m c.args.self.now.dialog c.args.canvas c.bounds.result screen c.draw_shadow.new.screen stands corner desktop c.bounds.ensures.is
+    (c.draw_shadow.ensures (ap (λ (k : Canvas). k.origin.x) desktop) (ap (λ (k : Canvas). k.origin.y) desktop)))
