@@ -6,7 +6,7 @@ use Rattle.std.proofs.lemmas.Int.{ints}
 use Rattle.std.proofs.lemmas.List.{map-append}
 use Rattle.tv_cells.specs.Canvas.{Covers}
 use Rattle.tv_cells.specs.Glyph.{Glyph, blank}
-use Rattle.tv_cells.specs.Layers.{Layer, Lays, Painted, Shows, cell_of, cell_over, covers}
+use Rattle.tv_cells.specs.Layers.{Layer, Lays, Painted, Shows, cell_of, cell_over, covers, is_in}
 use Rattle.tv_cells.specs.Picture.{IsOn, Picture, cell_at}
 use Rattle.tv_cells.specs.Rectangle.{IsIn, sized}
 use Rattle.tv_cells.specs.Repainting.{Hides, clipped}
@@ -14,7 +14,7 @@ use Rattle.tv_cells.specs.declared.canvas.Canvas.{Canvas}
 use Rattle.tv_cells.specs.declared.rect.Rect.{Rect}
 use Rattle.tv_cells.proofs.DamageLemmas.{is_in-true}
 use Rattle.tv_cells.proofs.LayerLemmas.{covers_false}
-use Rattle.tv_cells.proofs.RepaintingLemmas.{cell-blank, clipped-inside, covered-hides, laid-cell, over-append}
+use Rattle.tv_cells.proofs.RepaintingLemmas.{cell-blank, clipped-inside, clipped-outside, covered-hides, laid-cell, over-append}
 use Rattle.tv_model.specs.declared.desc.Desc.{Desc}
 use Rattle.tv_model.specs.Description.Numbers.{natural}
 use Rattle.tv_model.specs.Description.Rectangles.{desktop}
@@ -25,21 +25,24 @@ use Rattle.tv_machine.specs.Session.Step.{is_item_enabled}
 use Rattle.tv_model.specs.Screen.Faces.{background}
 use Rattle.tv_machine.specs.Screen.Layers.{bar_layer, box_layers, desktop_layers, layers_of, open_layers, open_place, stack_layers, status_layer}
 use Rattle.tv_menu.specs.Lawful.{IsLawfulScreen}
+use Rattle.tv_dialogs.specs.Damage.{HidesWithin}
+use Rattle.tv_session.specs.Showing.{standing_layers}
 use Rattle.tv_view.proofs.LayingLemmas.{lays_as, lays_then}
+use Rattle.tv_view.proofs.SameLayerLemmas.{lays_same}
 
 -- ---- a list of layers, cut
 
 pub cut-layers : (d : Desc) (s : State) (r : Rect) → map (clipped r) (layers_of d s)
-    ≡ clipped r (bar_layer d s.menu) ∷ clipped r (status_layer d s) ∷ (map (clipped r) (box_layers d s.menu)
-    ++ (map (clipped r) (open_layers d s.overwriting s.dialog)
-    ++ (map (clipped r) (stack_layers d (is_none s.dialog) s.windows) ++ clipped r (background_layer d) ∷ [])))
+    ≡ clipped r (bar_layer d s.menu) ∷ clipped r (status_layer d s) ∷ (map (clipped r) (box_layers d s.menu) ++ map (clipped r) (standing_layers d s))
 cut-layers d s r =
-    ap (λ layers. clipped r (bar_layer d s.menu) ∷ clipped r (status_layer d s) ∷ layers)
-    (map-append (clipped r) (box_layers d s.menu) (open_layers d s.overwriting s.dialog ++ (stack_layers d (is_none s.dialog) s.windows ++ background_layer d ∷ []))
-    ∙ ap (λ layers. map (clipped r) (box_layers d s.menu) ++ layers)
-    (map-append (clipped r) (open_layers d s.overwriting s.dialog) (stack_layers d (is_none s.dialog) s.windows ++ background_layer d ∷ [])
+    ap (λ layers. clipped r (bar_layer d s.menu) ∷ clipped r (status_layer d s) ∷ layers) (map-append (clipped r) (box_layers d s.menu) (standing_layers d s))
+
+cut-standing : (d : Desc) (s : State) (r : Rect) → map (clipped r) (standing_layers d s)
+    ≡ map (clipped r) (open_layers d s.overwriting s.dialog) ++ (map (clipped r) (stack_layers d (is_none s.dialog) s.windows) ++ clipped r (background_layer d) ∷ [])
+cut-standing d s r =
+    map-append (clipped r) (open_layers d s.overwriting s.dialog) (stack_layers d (is_none s.dialog) s.windows ++ background_layer d ∷ [])
     ∙ ap (λ layers. map (clipped r) (open_layers d s.overwriting s.dialog) ++ layers)
-    (map-append (clipped r) (stack_layers d (is_none s.dialog) s.windows) (background_layer d ∷ []))))
+    (map-append (clipped r) (stack_layers d (is_none s.dialog) s.windows) (background_layer d ∷ []))
 
 -- ---- all that is below them is hidden
 
@@ -148,14 +151,34 @@ layers-hide d s p size width height = record { each = λ column row on under oth
 
 -- ---- one layer over the other
 
-pub lays-bar : (d : Desc) (s : State) (r : Rect) (old ground windows opened boxed lined new : Picture)
-    → Lays (clipped r (background_layer d) ∷ []) old ground → Lays (map (clipped r) (stack_layers d (is_none s.dialog) s.windows)) ground windows
-    → Lays (map (clipped r) (open_layers d s.overwriting s.dialog)) windows opened → Lays (map (clipped r) (box_layers d s.menu)) opened boxed
+pub lays-bar : (d : Desc) (s : State) (r : Rect) (old opened boxed lined new : Picture)
+    → Lays (map (clipped r) (standing_layers d s)) old opened → Lays (map (clipped r) (box_layers d s.menu)) opened boxed
     → Lays (clipped r (status_layer d s) ∷ []) boxed lined → Lays (clipped r (bar_layer d s.menu) ∷ []) lined new
     → Lays (map (clipped r) (layers_of d s)) old new
-lays-bar d s r old ground windows opened boxed lined new a b c e f h =
+lays-bar d s r old opened boxed lined new c e f h =
     lays_as _ _ old new (sym (cut-layers d s r))
-    (lays_then _ _ old lined new (lays_then _ _ old boxed lined (lays_then _ _ old opened boxed (lays_then _ _ old windows opened (lays_then _ _ old ground windows a b) c) e) f) h)
+    (lays_then _ _ old lined new (lays_then _ _ old boxed lined (lays_then _ _ old opened boxed c e) f) h)
+
+-- what is below the dialog is drawn before it
+pub lays-standing : (d : Desc) (s : State) (r : Rect) (old ground windows opened : Picture)
+    → Lays (clipped r (background_layer d) ∷ []) old ground → Lays (map (clipped r) (stack_layers d (is_none s.dialog) s.windows)) ground windows
+    → Lays (map (clipped r) (open_layers d s.overwriting s.dialog)) windows opened → Lays (map (clipped r) (standing_layers d s)) old opened
+lays-standing d s r old ground windows opened a b c =
+    lays_as _ _ old opened (sym (cut-standing d s r)) (lays_then _ _ old windows opened (lays_then _ _ old ground windows a b) c)
+
+-- and needn't be where the dialog hides it
+module _ (r : Rect) (layers below : List Layer) (hides : HidesWithin r layers) where
+  hidden-cell : (column row : ℕ) (under : Glyph) (b : Bool) → is_in r (pos column) (pos row) ≡ b
+      → cell_over (map (clipped r) layers) column row under ≡ cell_over (map (clipped r) (layers ++ below)) column row under
+  hidden-cell column row under true here =
+      clipped-inside r column row layers under here ∙ hides.each column row here under (cell_over below column row under)
+      ∙ sym (over-append layers below column row under) ∙ sym (clipped-inside r column row (layers ++ below) under here)
+  hidden-cell column row under false out = clipped-outside r column row layers under out ∙ sym (clipped-outside r column row (layers ++ below) under out)
+
+  pub lays-hidden : (old new : Picture) → Lays (map (clipped r) layers) old new → Lays (map (clipped r) (layers ++ below)) old new
+  lays-hidden old new laid =
+      lays_same (map (clipped r) layers) (map (clipped r) (layers ++ below)) old new
+      (record { each = λ column row under. hidden-cell column row under (is_in r (pos column) (pos row)) refl }) laid
 
 -- ---- all of it
 

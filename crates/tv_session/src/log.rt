@@ -19,23 +19,6 @@ fn copy_value(value: &Value) -> Value
     }
 }
 
-fn copy_line(line: &LogLine) -> LogLine
-    ensures { result ≡ line.now }
-{
-    match line {
-        LogLine::Open(id) => LogLine::Open(*id),
-        LogLine::Focus(id) => LogLine::Focus(*id),
-        LogLine::Press(id) => LogLine::Press(*id),
-        LogLine::Invalid(id) => LogLine::Invalid(*id),
-        LogLine::Close(id) => LogLine::Close(*id),
-        LogLine::Quit => LogLine::Quit,
-        LogLine::Command(number) => LogLine::Command(*number),
-        LogLine::End(id, command) => LogLine::End(*id, *command),
-        LogLine::Field(id, value) => LogLine::Field(*id, copy_value(value)),
-        LogLine::Moved(id, corner) => LogLine::Moved(*id, *corner),
-    }
-}
-
 /// Adds a line.
 pub(crate) fn note(log: &mut Log, line: LogLine)
     ensures { length log.old.items ≤ 66 → log.new.items ≡ log.old.items ++ line ∷ [] }
@@ -45,11 +28,29 @@ pub(crate) fn note(log: &mut Log, line: LogLine)
     }
 }
 
+// Adds a copy of a line. Each kind has an arm of its own, so that only a line with a text costs the copy of one.
+fn note_copy(log: &mut Log, line: &LogLine)
+    ensures { length log.old.items ≤ 66 → log.new.items ≡ log.old.items ++ line.now ∷ [] }
+{
+    match line {
+        LogLine::Open(id) => note(log, LogLine::Open(*id)),
+        LogLine::Focus(id) => note(log, LogLine::Focus(*id)),
+        LogLine::Press(id) => note(log, LogLine::Press(*id)),
+        LogLine::Invalid(id) => note(log, LogLine::Invalid(*id)),
+        LogLine::Close(id) => note(log, LogLine::Close(*id)),
+        LogLine::Quit => note(log, LogLine::Quit),
+        LogLine::Command(number) => note(log, LogLine::Command(*number)),
+        LogLine::End(id, command) => note(log, LogLine::End(*id, *command)),
+        LogLine::Field(id, value) => note(log, LogLine::Field(*id, copy_value(value))),
+        LogLine::Moved(id, corner) => note(log, LogLine::Moved(*id, *corner)),
+    }
+}
+
 /// Adds the lines of a dialog, which are at most 66.
 pub(crate) fn note_all(log: &mut Log, lines: &[LogLine])
     ensures { length log.old.items + length lines.now ≤ 67 → log.new.items ≡ log.old.items ++ lines.now }
 {
     for line in lines {
-        note(log, copy_line(line));
+        note_copy(log, line);
     }
 }

@@ -1,19 +1,21 @@
 //! The screen, drawn from the back to the front, or painted again where it is damaged.
 
-ghost use Rattle.std.specs.Prelude.{◌≡◌, ◌∷◌, [], ◌-ℤ◌, pos, is_none, List, map};
+ghost use Rattle.std.specs.Prelude.{◌≡◌, ◌∷◌, [], ◌-ℤ◌, pos, is_none, IsTrue, List, map};
 ghost use Rattle.tv_cells.specs.Layers.{Layer, Shows, Lays};
-ghost use Rattle.tv_cells.specs.Picture.{IsAlike};
+ghost use Rattle.tv_cells.specs.Picture.{IsAlike, Picture};
 ghost use Rattle.tv_cells.specs.Repainting.{AreAlike, KeepsRest, clipped, within};
 ghost use Rattle.tv_cells.specs.declared.rect.Rect.{Rect as Region};
 ghost use Rattle.tv_machine.specs.Dialog.Sound.{HasSoundDialogs};
-ghost use Rattle.tv_machine.specs.Screen.Layers.{layers_of, stack_layers};
+ghost use Rattle.tv_machine.specs.Screen.Layers.{layers_of, open_layers, stack_layers};
 ghost use Rattle.tv_machine.specs.State.{State};
 ghost use Rattle.tv_menu.specs.Lawful.{IsLawfulScreen};
 ghost use Rattle.tv_menu.specs.Line.{IsLineOf};
 ghost use Rattle.tv_model.specs.Description.Rectangles.{desktop};
 ghost use Rattle.tv_model.specs.declared.desc.Desc.{Desc as Declared};
 ghost use Rattle.tv_machine.specs.Screen.Bodies.{background_layer, canvas_at, whole_screen};
+ghost use Rattle.tv_dialogs.specs.Damage.{HidesWithin};
 ghost use Rattle.tv_session.specs.Running.{CanPaint, IsRun};
+ghost use Rattle.tv_session.specs.Showing.{standing_layers};
 
 use crate::run::RunOf;
 use tv_cells::{Canvas, Damage, Face, Point, Rect, Screen, lay};
@@ -114,6 +116,33 @@ impl<V: View> RunOf<V> {
         self.desk.draw(screen, canvas, &env);
     }
 
+    // Whether the open dialog hides what is below it in a rectangle of the screen.
+    fn hides_below(&self, desc: &Desc, rect: Rect) -> bool
+        requires { IsLawfulScreen desc.now.width desc.now.height }
+        ensures { (s : State) → IsRun V.meaning desc.now s self.now → IsTrue result → HidesWithin rect (open_layers desc.now s.overwriting s.dialog) }
+    {
+        if !desktop(desc).has_part(rect) {
+            return false;
+        }
+        self.dialogs.hides(rect)
+    }
+
+    // Draws what is below the open dialog, unless that hides it. What the dialog is then drawn over shows with it what all
+    // of them show.
+    fn draw_below(&self, screen: &mut Screen, desc: &Desc, rect: Rect, canvas: Canvas)
+        requires screen { IsLawfulScreen desc.now.width desc.now.height }
+        requires canvas { canvas ≡ within rect (canvas_at (desktop desc.now) (pos 0) (pos 0)) }
+        ensures { (s : State) (after : Picture) → IsRun V.meaning desc.now s self.now
+            → Lays (map (clipped rect) (open_layers desc.now s.overwriting s.dialog)) screen.new after
+            → Lays (map (clipped rect) (standing_layers desc.now s)) screen.old after }
+    {
+        if self.hides_below(desc, rect) {
+            return;
+        }
+        draw_background(screen, desc, canvas);
+        self.draw_windows(screen, canvas);
+    }
+
     // Draws what lies in a rectangle of the screen, from the back to the front.
     fn draw_within(&self, screen: &mut Screen, desc: &Desc, line: &StatusLine, rect: Rect)
         requires screen { IsLawfulScreen desc.now.width desc.now.height }
@@ -123,8 +152,7 @@ impl<V: View> RunOf<V> {
     {
         let desktop = within(rect, desktop_canvas(desc));
         let whole = within(rect, whole_canvas(desc));
-        draw_background(screen, desc, desktop);
-        self.draw_windows(screen, desktop);
+        self.draw_below(screen, desc, rect, desktop);
         self.dialogs.draw(screen, desc, desktop);
         self.bar.draw_box(screen, desktop);
         line.draw(screen, whole, self.dialogs.commands());
