@@ -1,0 +1,2 @@
+pub mod ToldLemmas
+mod Examples

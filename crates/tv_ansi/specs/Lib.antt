@@ -1,0 +1,6 @@
+-- A terminal, as what it makes of bytes
+pub mod Terminal
+-- The sequences that are written
+pub mod Sequences
+-- What a terminal shows of a picture
+pub mod Displays

@@ -1,0 +1,173 @@
+-- A terminal, as what it makes of bytes: the sequences of ECMA-48 and of xterm that are used here. Columns and rows count
+-- from 0, and a sequence counts them from 1.
+use Rattle.std.specs.Prelude.{ℕ, ◌+◌, ◌-◌, ◌*◌, List, [], ◌∷◌, Option, Some, None, Bool, true, false, ◌&&◌, ◌||◌, ◌==◌, nat_le, nat_lt, if◌then◌else◌}
+use Rattle.tv_cells.specs.Glyph.{is_narrow}
+
+-- ---- what it shows
+
+-- a place: its character, and its colours as the numbers that set them
+pub record Spot : Type 0 where
+  pub ch : ℕ
+  pub front : ℕ
+  pub back : ℕ
+
+-- the normal screen, while the alternate one shows
+pub record Covered : Type 0 where
+  pub cells : ℕ → ℕ → Spot
+  pub column : ℕ
+  pub row : ℕ
+
+-- a cell in each column and row; the cursor, whose column is the count of columns where it stands behind the last; the
+-- colours to come; the mouse, and whether its reports are of the long form
+pub record Display : Type 0 where
+  pub columns : ℕ
+  pub rows : ℕ
+  pub cells : ℕ → ℕ → Spot
+  pub column : ℕ
+  pub row : ℕ
+  pub front : ℕ
+  pub back : ℕ
+  pub has_cursor : Bool
+  pub has_mouse : Bool
+  pub has_long_reports : Bool
+  pub covered : Option Covered
+  -- it was told what isn't said here: a character behind the last column, or another sequence
+  pub is_lost : Bool
+
+-- ---- what changes it
+
+abbrev pub lost : Display → Display
+lost d = record d { is_lost = true }
+
+-- the cells with another one at a place
+abbrev pub with_spot : (ℕ → ℕ → Spot) → ℕ → ℕ → Spot → ℕ → ℕ → Spot
+with_spot cells column row spot x y = if (x == column) && (y == row) then spot else cells x y
+
+-- a character of one column at the cursor, which goes behind it
+abbrev pub put : ℕ → Display → Display
+put ch d =
+    if is_narrow ch && nat_lt d.column d.columns
+    then record d {
+      cells = with_spot d.cells d.column d.row (record { ch = ch; front = d.front; back = d.back });
+      column = d.column + 1;
+    }
+    else lost d
+
+-- the place of a number from 1 on, of which there are so many; 0 means 1
+abbrev pub place_of : (count number : ℕ) → ℕ
+place_of count number = if nat_le number count then number - 1 else count - 1
+
+abbrev pub placed : (row column : ℕ) → Display → Display
+placed row column d = record d { column = place_of d.columns column; row = place_of d.rows row }
+
+-- all cells are spaces
+abbrev pub cleared : Display → Display
+cleared d = record d { cells = λ _ _. record { ch = 32; front = d.front; back = d.back } }
+
+-- the colours that no number has set
+abbrev pub plain_front : ℕ
+plain_front = 39
+
+abbrev pub plain_back : ℕ
+plain_back = 49
+
+-- a number of `m`: 0 for the plain colours, eight for the front and eight for the ground behind, and the same bright
+abbrev pub coloured : ℕ → Display → Display
+coloured n d =
+    if n == 0 then record d { front = plain_front; back = plain_back }
+    else if (nat_le 30 n && nat_le n 37) || (nat_le 90 n && nat_le n 97) then record d { front = n }
+    else if (nat_le 40 n && nat_le n 47) || (nat_le 100 n && nat_le n 107) then record d { back = n }
+    else lost d
+
+-- several of them, of which the last stands first
+abbrev pub all_coloured : List ℕ → Display → Display
+all_coloured [] d = d
+all_coloured (n ∷ before) d = coloured n (all_coloured before d)
+
+-- the alternate screen comes up, empty
+abbrev pub covering : Option Covered → Display → Display
+covering None d =
+    cleared (record d { covered = Some (record { cells = d.cells; column = d.column; row = d.row }) })
+covering (Some c) d = lost d
+
+-- the normal screen comes back as it was
+abbrev pub uncovered : Option Covered → Display → Display
+uncovered None d = d
+uncovered (Some c) d =
+    record d { cells = c.cells; column = c.column; row = c.row; covered = None }
+
+abbrev pub switched : (mode : ℕ) (is_on : Bool) → Display → Display
+switched mode is_on d =
+    if mode == 25 then record d { has_cursor = is_on }
+    else if mode == 1002 then record d { has_mouse = is_on }
+    else if mode == 1006 then record d { has_long_reports = is_on }
+    else if mode == 1049 then (if is_on then covering d.covered d else uncovered d.covered d)
+    else lost d
+
+-- ---- sequences
+
+-- between sequences; behind ESC; behind ESC [ with the numbers so far, and whether a `?` stood before them; or in a
+-- character, of which so many more bytes are to come after the next
+pub data Mode : Type 0 where
+  Ground : Mode
+  Escape : Mode
+  Numbers : (is_private : Bool) (last : ℕ) (before : List ℕ) → Mode
+  Character : (more part : ℕ) → Mode
+
+pub record Terminal : Type 0 where
+  pub mode : Mode
+  pub display : Display
+
+abbrev pub in_mode : Mode → Display → Terminal
+in_mode m d = record { mode = m; display = d }
+
+abbrev pub ground : Display → Terminal
+ground d = in_mode Ground d
+
+-- the last byte of a sequence: H (72) places the cursor, m (109) sets colours, J (74) clears, and with a `?` before the
+-- number h (104) and l (108) switch a mode
+abbrev pub ended : ℕ → Bool → ℕ → List ℕ → Display → Display
+ended c true last before d =
+    if c == 104 then switched last true d else if c == 108 then switched last false d else lost d
+ended c false last [] d =
+    if c == 109 then coloured last d
+    else if (c == 74) && (last == 2) then cleared d
+    else lost d
+ended c false last (first ∷ before) d =
+    if c == 109 then all_coloured (last ∷ first ∷ before) d
+    else if c == 72 then placed first last d
+    else lost d
+
+abbrev pub is_digit : ℕ → Bool
+is_digit c = nat_le 48 c && nat_le c 57
+
+-- a byte between sequences: a character or its first byte in UTF-8, or ESC (27)
+abbrev pub first_told : ℕ → Display → Terminal
+first_told c d =
+    if c == 27 then in_mode Escape d
+    else if nat_lt c 128 then ground (put c d)
+    else if nat_lt c 192 then ground (lost d)
+    else if nat_lt c 224 then in_mode (Character 0 (c - 192)) d
+    else if nat_lt c 240 then in_mode (Character 1 (c - 224)) d
+    else if nat_lt c 248 then in_mode (Character 2 (c - 240)) d
+    else ground (lost d)
+
+abbrev pub byte_told : Mode → ℕ → Display → Terminal
+byte_told Ground c d = first_told c d
+byte_told Escape c d = if c == 91 then in_mode (Numbers false 0 []) d else ground (lost d)
+byte_told (Numbers is_private last before) c d =
+    if is_digit c then in_mode (Numbers is_private (last * 10 + (c - 48)) before) d
+    else if c == 59 then in_mode (Numbers is_private 0 (last ∷ before)) d
+    else if c == 63 then in_mode (Numbers true last before) d
+    else ground (ended c is_private last before d)
+byte_told (Character more part) c d =
+    if nat_le 128 c && nat_lt c 192
+    then (if more == 0
+    then ground (put (part * 64 + (c - 128)) d)
+    else in_mode (Character (more - 1) (part * 64 + (c - 128))) d)
+    else ground (lost d)
+
+-- what a terminal is after some bytes
+abbrev pub told : Terminal → List ℕ → Terminal
+told t [] = t
+told t (c ∷ cs) = told (byte_told t.mode c t.display) cs

@@ -1,0 +1,4 @@
+//! A screen's changes, as a terminal is told of them.
+#![tactic(auto)]
+
+mod hand;
