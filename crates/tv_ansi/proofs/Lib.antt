@@ -1,2 +1,6 @@
 pub mod ToldLemmas
+pub mod SpotLemmas
+pub mod DrawLemmas
+pub mod RegionLemmas
+pub mod PaintLemmas
 mod Examples

@@ -4,3 +4,5 @@ pub mod Terminal
 pub mod Sequences
 -- What a terminal shows of a picture
 pub mod Displays
+-- What is written, and what a terminal makes of it
+pub mod Writing

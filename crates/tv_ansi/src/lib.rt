@@ -2,3 +2,7 @@
 #![tactic(auto)]
 
 mod hand;
+mod painter;
+mod span;
+
+pub use painter::Painter;
