@@ -9,7 +9,7 @@ use Rattle.tv_io.specs.Pen.{PutsPart}
 use Rattle.tv_io.specs.Writer.{Seen}
 use Rattle.tv_io.specs.declared.pen.Pen.{Pen}
 use Rattle.tv_io.proofs.PenLemmas.{Puts-none, Puts-then}
-use Rattle.tv_ansi.specs.Displays.{Displays, HasRoom, IsPrintable, ShowsIn, Stays, Tells, drawn, spot_of}
+use Rattle.tv_ansi.specs.Displays.{Displays, HasSpace, IsPrintable, ShowsIn, Stays, Becomes, drawn, tile_of}
 use Rattle.tv_ansi.specs.Sequences.{cell_bytes}
 use Rattle.tv_ansi.specs.Terminal.{Display, Terminal, ground, told}
 use Rattle.tv_ansi.specs.Writing.{Drawn, Draws, IsRight}
@@ -20,10 +20,10 @@ use Rattle.tv_ansi.proofs.SpotLemmas.{place-test, spot-here, spot-other}
 
 -- ---- one text after another
 
-pub tells-as : {P Q : Display → Type 0} {a : List ℕ} {d : Display} → ((e : Display) → P e → Q e) → Tells a d P → Tells a d Q
+pub tells-as : {P Q : Display → Type 0} {a : List ℕ} {d : Display} → ((e : Display) → P e → Q e) → Becomes a d P → Becomes a d Q
 tells-as to p = record { after = p.after; is = p.is; law = to p.after p.law }
 
-pub tells-then : {P Q : Display → Type 0} {b : List ℕ} {d : Display} (a : List ℕ) → Tells a d P → ((e : Display) → P e → Tells b e Q) → Tells (a ++ b) d Q
+pub tells-then : {P Q : Display → Type 0} {b : List ℕ} {d : Display} (a : List ℕ) → Becomes a d P → ((e : Display) → P e → Becomes b e Q) → Becomes (a ++ b) d Q
 tells-then {b = b} {d = d} a p next = record {
   after = (next p.after p.law).after;
   is = told-++ (ground d) a b ∙ ap (λ (t : Terminal). told t b) p.is ∙ (next p.after p.law).is;
@@ -54,7 +54,7 @@ stays-then p q = record {
   lost = q.lost ∙ p.lost;
 }
 
-pub room-still : {p q : Picture} {d e : Display} → IsAlike p q → Stays d e → HasRoom p d → HasRoom q e
+pub room-still : {p q : Picture} {d e : Display} → IsAlike p q → Stays d e → HasSpace p d → HasSpace q e
 room-still alike stays room = record {
   across = rw (alike.width, stays.columns) room.across;
   down = rw (alike.height, stays.rows) room.down;
@@ -177,7 +177,7 @@ draws-same hand column row alike known same = record {
       knows,
       record {
         shows = record {
-          inside = λ a b on here. (right known).each a b (on-alike alike on) ∙ ap spot_of (rw (here.0, here.1) same);
+          inside = λ a b on here. (right known).each a b (on-alike alike on) ∙ ap tile_of (rw (here.0, here.1) same);
           outside = λ a b other. refl;
         };
         right = right;
@@ -192,20 +192,20 @@ module _ (screen : Picture) (old new : Painter) (column row : ℕ) (cell : Glyph
   taken : cell_at new.shown column row ≡ cell
   taken = took.inside column row on (refl, refl)
 
-  shown-cell : (d : Display) (a b : ℕ) → Displays old.shown d → IsOn new.shown a b → (drawn column row cell d).cells a b ≡ spot_of (cell_at new.shown a b)
+  shown-cell : (d : Display) (a b : ℕ) → Displays old.shown d → IsOn new.shown a b → (drawn column row cell d).cells a b ≡ tile_of (cell_at new.shown a b)
   shown-cell d a b shows there = elim (place-test column row a b) [
-    | inl here ↦ rw (here.0, here.1) (spot-here d.cells column row (spot_of cell) ∙ ap spot_of (sym taken))
+    | inl here ↦ rw (here.0, here.1) (spot-here d.cells column row (tile_of cell) ∙ ap tile_of (sym taken))
     | inr other ↦
-        spot-other d.cells column row (spot_of cell) a b other
+        spot-other d.cells column row (tile_of cell) a b other
         ∙ shows.each a b (on_old took there)
-        ∙ ap spot_of (sym (took.outside a b (on_old took there) other))
+        ∙ ap tile_of (sym (took.outside a b (on_old took there) other))
   ]
 
-  drawn-cell : (d : Display) → HasRoom old.shown d → IsRight old d → Drawn (IsPlace column row) screen new d (drawn column row cell d)
+  drawn-cell : (d : Display) → HasSpace old.shown d → IsRight old d → Drawn (IsPlace column row) screen new d (drawn column row cell d)
   drawn-cell d room right = record {
     shows = record {
-      inside = λ a b there here. rw (here.0, here.1) (spot-here d.cells column row (spot_of cell) ∙ ap spot_of is);
-      outside = λ a b other. spot-other d.cells column row (spot_of cell) a b other;
+      inside = λ a b there here. rw (here.0, here.1) (spot-here d.cells column row (tile_of cell) ∙ ap tile_of is);
+      outside = λ a b other. spot-other d.cells column row (tile_of cell) a b other;
     };
     right = λ k. record {
       room = record { across = rw took.size.width room.across; down = rw took.size.height room.down };

@@ -10,10 +10,10 @@ use Rattle.tv_io.specs.Pen.{Puts, PutsPart}
 use Rattle.tv_io.specs.Writer.{Seen}
 use Rattle.tv_io.specs.declared.pen.Pen.{Pen}
 use Rattle.tv_io.proofs.PenLemmas.{Puts-then, Puts-along}
-use Rattle.tv_ansi.specs.Displays.{HasCursor, HasRoom, Knows, spot_of}
+use Rattle.tv_ansi.specs.Displays.{HasCursor, HasSpace, Knows, tile_of}
 use Rattle.tv_ansi.specs.Sequences.{begin_bytes, cursor_bytes, end_bytes, place_bytes}
 use Rattle.tv_ansi.specs.Terminal.{Covered, Display, Terminal, ground, plain_back, plain_front, told}
-use Rattle.tv_ansi.specs.Writing.{Begins, Drawn, Draws, Paints, restored}
+use Rattle.tv_ansi.specs.Writing.{Starts, Drawn, Draws, Paints, restored}
 use Rattle.tv_ansi.specs.declared.hand.Hand.{Hand}
 use Rattle.tv_ansi.specs.declared.painter.Painter.{Painter}
 use Rattle.tv_ansi.proofs.ToldLemmas.{told-++, told-going-anew}
@@ -128,7 +128,7 @@ whole-rect r screen e column row on = subst (λ (q : Rect). has_cell (q ∷ []) 
 module _ {W : Type 0} {seen : W → Seen} {screen : Picture} {cursor : Option (ℕ × ℕ)} {old blind new last : Painter} {x y z : Pen W} where
   pub begins : IsAlike old.shown screen → blind.shown ≡ old.shown → blind.is_known ≡ false → last.shown ≡ new.shown → last.is_known ≡ true → Puts seen x y begin_bytes
       → (rects : List Rect) → ((column row : ℕ) → IsOn screen column row → has_cell rects column row ≡ true)
-      → Paints seen (λ column row. has_cell rects column row ≡ true) screen cursor blind new y z → Begins seen screen cursor old last x z
+      → Paints seen (λ column row. has_cell rects column row ≡ true) screen cursor blind new y z → Starts seen screen cursor old last x z
   begins alike same unknown end known opened rects all p = record {
     known = known;
     size = record { width = ap (λ (q : Picture). q.width) end ∙ p.changes.size.width ∙ ap (λ (q : Picture). q.width) same; height = ap (λ (q : Picture). q.height) end ∙ p.changes.size.height ∙ ap (λ (q : Picture). q.height) same };
@@ -136,7 +136,7 @@ module _ {W : Type 0} {seen : W → Seen} {screen : Picture} {cursor : Option (�
     bytes = begin_bytes ++ p.bytes;
     puts = Puts-then opened p.puts;
     tells = λ d room free.
-        let room' : HasRoom blind.shown (begun d) = rw same (record { across = omega (arith, alike.width, room.across); down = omega (arith, alike.height, room.down) }) in
+        let room' : HasSpace blind.shown (begun d) = rw same (record { across = omega (arith, alike.width, room.across); down = omega (arith, alike.height, room.down) }) in
         let q = p.tells (begun d) room' (λ k. absurd (true-not-false k unknown)) in
         record {
           after = q.after;
@@ -151,7 +151,7 @@ module _ {W : Type 0} {seen : W → Seen} {screen : Picture} {cursor : Option (�
               each = λ column row on.
                   let there : IsOn screen column row = record { across = omega (arith, on.across, p.changes.size.width, ap (λ (o : Picture). o.width) same, alike.width); down = omega (arith, on.down, p.changes.size.height, ap (λ (o : Picture). o.height) same, alike.height) } in
                   q.law.drawn.shows.inside column row there (all column row there)
-                  ∙ ap spot_of (sym (p.changes.inside column row (rw same (on-alike alike there)) (all column row there)));
+                  ∙ ap tile_of (sym (p.changes.inside column row (rw same (on-alike alike there)) (all column row there)));
             });
             points = q.law.points;
             columns = q.law.drawn.stays.columns;

@@ -3,7 +3,7 @@ use Rattle.std.proofs.Common.{◌≡◌, ℕ, Bool, true, false, ◌⊎◌, inl,
 use Rattle.std.proofs.lemmas.Bool.{cases_lt}
 use Rattle.tv_cells.specs.Picture.{IsPlace}
 use Rattle.tv_cells.specs.Row.{IsInRow}
-use Rattle.tv_ansi.specs.Terminal.{Spot, with_spot}
+use Rattle.tv_ansi.specs.Terminal.{Tile, with_tile}
 use Rattle.tv_ansi.proofs.ToldLemmas.{and-left, and-right, eq-true, from-eq}
 
 same-or-not : (m n : ℕ) → (m ≡ n) ⊎ (m ≡ n → ⊥)
@@ -34,13 +34,13 @@ pub true-test : (b : Bool) → (b ≡ true) ⊎ (b ≡ true → ⊥)
 true-test true = inl refl
 true-test false = inr (λ e. absurd cc)
 
-module _ (cells : ℕ → ℕ → Spot) (column row : ℕ) (spot : Spot) where
-  pub spot-here : with_spot cells column row spot column row ≡ spot
+module _ (cells : ℕ → ℕ → Tile) (column row : ℕ) (spot : Tile) where
+  pub spot-here : with_tile cells column row spot column row ≡ spot
   spot-here = rw (eq-true column column refl, eq-true row row refl) refl
 
   spot-by : (x y : ℕ) (b : Bool) → ((x == column) && (y == row)) ≡ b → (IsPlace column row x y → ⊥) → (if b then spot else cells x y) ≡ cells x y
   spot-by x y true e other = absurd (other (from-eq x column (and-left _ (y == row) e), from-eq y row (and-right (x == column) _ e)))
   spot-by x y false e other = refl
 
-  pub spot-other : (x y : ℕ) → (IsPlace column row x y → ⊥) → with_spot cells column row spot x y ≡ cells x y
+  pub spot-other : (x y : ℕ) → (IsPlace column row x y → ⊥) → with_tile cells column row spot x y ≡ cells x y
   spot-other x y other = spot-by x y ((x == column) && (y == row)) refl other

@@ -7,7 +7,7 @@ use lib.Utf8.{encode}
 use Rattle.unicode_width.specs.Width.{char_width}
 use Rattle.tv_cells.specs.Glyph.{Glyph, IsNarrow, is_narrow}
 use Rattle.tv_ansi.specs.Sequences.{number_bytes, place_bytes, colour_bytes, front_number, back_number, going, colouring, cell_bytes}
-use Rattle.tv_ansi.specs.Terminal.{Display, Terminal, Numbers, Character, in_mode, ground, told, byte_told, placed, put, with_spot, is_digit, coloured, first_told, place_of}
+use Rattle.tv_ansi.specs.Terminal.{Display, Terminal, Numbers, Character, in_mode, ground, told, byte_told, cursor_placed, put, with_tile, is_digit, colour_set, first_told, place_of}
 use Rattle.tv_ansi.specs.Displays.{Knows, drawn}
 
 pub told-++ : (t : Terminal) (a b : List ℕ) → told t (a ++ b) ≡ told (told t a) b
@@ -55,7 +55,7 @@ module _ (is_private : Bool) (before : List ℕ) (d : Display) where
   ]
 
 -- the cursor's place
-told-place : (column row : ℕ) (d : Display) → column < 999 → row < 999 → told (ground d) (place_bytes column row) ≡ ground (placed (row + 1) (column + 1) d)
+told-place : (column row : ℕ) (d : Display) → column < 999 → row < 999 → told (ground d) (place_bytes column row) ≡ ground (cursor_placed (row + 1) (column + 1) d)
 told-place column row d across down =
     told-++ (ground d) (27 ∷ 91 ∷ number_bytes (row + 1) ++ 59 ∷ number_bytes (column + 1)) (72 ∷ [])
     ∙ ap (λ (t : Terminal). told t (72 ∷ [])) (
@@ -67,7 +67,7 @@ told-place column row d across down =
 abbrev with_colours : ℕ → Display → Display
 with_colours attr d = record d { front = front_number attr; back = back_number attr }
 
-told-colours-of : (front back : ℕ) (d : Display) → front < 1000 → back < 1000 → told (ground d) (27 ∷ 91 ∷ number_bytes front ++ 59 ∷ number_bytes back ++ 109 ∷ []) ≡ ground (coloured back (coloured front d))
+told-colours-of : (front back : ℕ) (d : Display) → front < 1000 → back < 1000 → told (ground d) (27 ∷ 91 ∷ number_bytes front ++ 59 ∷ number_bytes back ++ 109 ∷ []) ≡ ground (colour_set back (colour_set front d))
 told-colours-of front back d f b =
     told-++ (ground d) (27 ∷ 91 ∷ number_bytes front ++ 59 ∷ number_bytes back) (109 ∷ [])
     ∙ ap (λ (t : Terminal). told t (109 ∷ [])) (
@@ -111,7 +111,7 @@ not-true : (b : Bool) → not b ≡ true → b ≡ false
 not-true false e = refl
 not-true true e = absurd cc
 
-front-set : (attr : ℕ) (d : Display) → attr < 256 → coloured (front_number attr) d ≡ record d { front = front_number attr }
+front-set : (attr : ℕ) (d : Display) → attr < 256 → colour_set (front_number attr) d ≡ record d { front = front_number attr }
 front-set attr d lt =
     let all = all-at fits 256 attr all_fit lt in
     let front = and-left (is_front (front_number attr)) _ all in
@@ -120,7 +120,7 @@ front-set attr d lt =
     let some = not-true (front_number attr == 0) (and-left (not (front_number attr == 0)) _ rest) in
     rw (some, front) refl
 
-back-set : (attr : ℕ) (d : Display) → attr < 256 → coloured (back_number attr) d ≡ record d { back = back_number attr }
+back-set : (attr : ℕ) (d : Display) → attr < 256 → colour_set (back_number attr) d ≡ record d { back = back_number attr }
 back-set attr d lt =
     let all = all-at fits 256 attr all_fit lt in
     let after = and-right (is_front (front_number attr)) _ all in
@@ -146,7 +146,7 @@ told-colours attr d lt =
     let front = below (front_number attr) 1000 (and-left (nat_lt (front_number attr) 1000) _ all) in
     let back = below (back_number attr) 1000 (and-right (nat_lt (front_number attr) 1000) _ all) in
     told-colours-of (front_number attr) (back_number attr) d front back
-    ∙ ap (λ (e : Display). ground (coloured (back_number attr) e)) (front-set attr d lt)
+    ∙ ap (λ (e : Display). ground (colour_set (back_number attr) e)) (front-set attr d lt)
     ∙ ap ground (back-set attr (record d { front = front_number attr }) lt)
 
 -- ---- characters
@@ -325,7 +325,7 @@ told-colouring (Some a) attr d is lt =
     lt
 
 put-within : (ch : ℕ) (d : Display) → IsNarrow ch → d.column < d.columns → put ch d ≡ record d {
-  cells = with_spot d.cells d.column d.row (record { ch = ch; front = d.front; back = d.back });
+  cells = with_tile d.cells d.column d.row (record { ch = ch; front = d.front; back = d.back });
   column = d.column + 1;
 }
 put-within ch d narrow lt =

@@ -3,21 +3,21 @@ use Rattle.std.specs.Prelude.{◌≡◌, ℕ, ◌≤◌, ◌<◌, ◌+◌, true,
 use Rattle.tv_cells.specs.Glyph.{Glyph, IsNarrow}
 use Rattle.tv_cells.specs.Picture.{Picture, IsOn, cell_at}
 use Rattle.tv_ansi.specs.Sequences.{front_number, back_number}
-use Rattle.tv_ansi.specs.Terminal.{Spot, Display, ground, told, with_spot}
+use Rattle.tv_ansi.specs.Terminal.{Tile, Display, ground, told, with_tile}
 
 -- the place that shows a glyph
-abbrev pub spot_of : Glyph → Spot
-spot_of g = record { ch = g.ch; front = front_number g.attr; back = back_number g.attr }
+abbrev pub tile_of : Glyph → Tile
+tile_of g = record { ch = g.ch; front = front_number g.attr; back = back_number g.attr }
 
 -- there is room for the picture
-pub record HasRoom (p : Picture) (d : Display) : Type 0 where
+pub record HasSpace (p : Picture) (d : Display) : Type 0 where
   pub across : p.width ≤ d.columns
   pub down : p.height ≤ d.rows
 
 -- and each of its cells shows, from the corner on
 pub record Displays (p : Picture) (d : Display) : Type 0 where
-  pub room : HasRoom p d
-  pub each : (column row : ℕ) → IsOn p column row → d.cells column row ≡ spot_of (cell_at p column row)
+  pub room : HasSpace p d
+  pub each : (column row : ℕ) → IsOn p column row → d.cells column row ≡ tile_of (cell_at p column row)
 
 -- the size and the modes are as before, and nothing was told that is not in the definition
 pub record Stays (old new : Display) : Type 0 where
@@ -31,7 +31,7 @@ pub record Stays (old new : Display) : Type 0 where
 -- in a region each cell of the picture shows, and no place outside it has changed
 pub record ShowsIn (Region : ℕ → ℕ → Type 0) (p : Picture) (old new : Display) : Type 0 where
   pub inside : (column row : ℕ) → IsOn p column row → Region column row
-      → new.cells column row ≡ spot_of (cell_at p column row)
+      → new.cells column row ≡ tile_of (cell_at p column row)
   pub outside : (column row : ℕ) → (Region column row → ⊥) → new.cells column row ≡ old.cells column row
 
 -- the cursor shows at a place, or not at all
@@ -40,7 +40,7 @@ HasCursor None d = d.has_cursor ≡ false
 HasCursor (Some p) d = (d.has_cursor ≡ true) × (d.column ≡ p.0) × (d.row ≡ p.1)
 
 -- told the bytes, the terminal is between sequences again, and shows what meets a law
-pub record Tells (bytes : List ℕ) (d : Display) (After : Display → Type 0) : Type 0 where
+pub record Becomes (bytes : List ℕ) (d : Display) (After : Display → Type 0) : Type 0 where
   pub after : Display
   pub is : told (ground d) bytes ≡ ground after
   pub law : After after
@@ -57,7 +57,7 @@ drawn column row g d = record d {
   row = row;
   front = front_number g.attr;
   back = back_number g.attr;
-  cells = with_spot d.cells column row (spot_of g);
+  cells = with_tile d.cells column row (tile_of g);
 }
 
 -- the cell has a character of one column, and an attribute

@@ -6,14 +6,14 @@ use Rattle.tv_cells.specs.Glyph.{is_narrow}
 -- ---- what it shows
 
 -- a place: its character, and its colours as the numbers that set them
-pub record Spot : Type 0 where
+pub record Tile : Type 0 where
   pub ch : ℕ
   pub front : ℕ
   pub back : ℕ
 
 -- the normal screen, while the alternate one shows
 pub record Covered : Type 0 where
-  pub cells : ℕ → ℕ → Spot
+  pub cells : ℕ → ℕ → Tile
   pub column : ℕ
   pub row : ℕ
 
@@ -22,7 +22,7 @@ pub record Covered : Type 0 where
 pub record Display : Type 0 where
   pub columns : ℕ
   pub rows : ℕ
-  pub cells : ℕ → ℕ → Spot
+  pub cells : ℕ → ℕ → Tile
   pub column : ℕ
   pub row : ℕ
   pub front : ℕ
@@ -40,15 +40,15 @@ abbrev pub lost : Display → Display
 lost d = record d { is_lost = true }
 
 -- the cells with another one at a place
-abbrev pub with_spot : (ℕ → ℕ → Spot) → ℕ → ℕ → Spot → ℕ → ℕ → Spot
-with_spot cells column row spot x y = if (x == column) && (y == row) then spot else cells x y
+abbrev pub with_tile : (ℕ → ℕ → Tile) → ℕ → ℕ → Tile → ℕ → ℕ → Tile
+with_tile cells column row tile x y = if (x == column) && (y == row) then tile else cells x y
 
 -- a character of one column at the cursor, which goes behind it
 abbrev pub put : ℕ → Display → Display
 put ch d =
     if is_narrow ch && nat_lt d.column d.columns
     then record d {
-      cells = with_spot d.cells d.column d.row (record { ch = ch; front = d.front; back = d.back });
+      cells = with_tile d.cells d.column d.row (record { ch = ch; front = d.front; back = d.back });
       column = d.column + 1;
     }
     else lost d
@@ -57,8 +57,8 @@ put ch d =
 abbrev pub place_of : (count number : ℕ) → ℕ
 place_of count number = if nat_le number count then number - 1 else count - 1
 
-abbrev pub placed : (row column : ℕ) → Display → Display
-placed row column d = record d { column = place_of d.columns column; row = place_of d.rows row }
+abbrev pub cursor_placed : (row column : ℕ) → Display → Display
+cursor_placed row column d = record d { column = place_of d.columns column; row = place_of d.rows row }
 
 -- all cells are spaces
 abbrev pub cleared : Display → Display
@@ -72,17 +72,17 @@ abbrev pub plain_back : ℕ
 plain_back = 49
 
 -- a number of `m`: 0 for the plain colours, eight for the front and eight for the ground behind, and the same bright
-abbrev pub coloured : ℕ → Display → Display
-coloured n d =
+abbrev pub colour_set : ℕ → Display → Display
+colour_set n d =
     if n == 0 then record d { front = plain_front; back = plain_back }
     else if (nat_le 30 n && nat_le n 37) || (nat_le 90 n && nat_le n 97) then record d { front = n }
     else if (nat_le 40 n && nat_le n 47) || (nat_le 100 n && nat_le n 107) then record d { back = n }
     else lost d
 
 -- several of them, of which the last stands first
-abbrev pub all_coloured : List ℕ → Display → Display
-all_coloured [] d = d
-all_coloured (n ∷ before) d = coloured n (all_coloured before d)
+abbrev pub colours_set : List ℕ → Display → Display
+colours_set [] d = d
+colours_set (n ∷ before) d = colour_set n (colours_set before d)
 
 -- the alternate screen comes up, empty
 abbrev pub covering : Option Covered → Display → Display
@@ -130,12 +130,12 @@ abbrev pub ended : ℕ → Bool → ℕ → List ℕ → Display → Display
 ended c true last before d =
     if c == 104 then switched last true d else if c == 108 then switched last false d else lost d
 ended c false last [] d =
-    if c == 109 then coloured last d
+    if c == 109 then colour_set last d
     else if (c == 74) && (last == 2) then cleared d
     else lost d
 ended c false last (first ∷ before) d =
-    if c == 109 then all_coloured (last ∷ first ∷ before) d
-    else if c == 72 then placed first last d
+    if c == 109 then colours_set (last ∷ first ∷ before) d
+    else if c == 72 then cursor_placed first last d
     else lost d
 
 abbrev pub is_digit : ℕ → Bool

@@ -4,7 +4,7 @@ use Rattle.tv_cells.specs.Picture.{Picture, IsAlike, IsOn, Changes, cell_at}
 use Rattle.tv_io.specs.Pen.{Puts, PutsPart}
 use Rattle.tv_io.specs.Writer.{Seen}
 use Rattle.tv_io.specs.declared.pen.Pen.{Pen}
-use Rattle.tv_ansi.specs.Displays.{Displays, HasCursor, HasRoom, Knows, ShowsIn, Stays, Tells}
+use Rattle.tv_ansi.specs.Displays.{Displays, HasCursor, HasSpace, Knows, ShowsIn, Stays, Becomes}
 use Rattle.tv_ansi.specs.Terminal.{Covered, Display, plain_back, plain_front}
 use Rattle.tv_ansi.specs.declared.hand.Hand.{Hand}
 use Rattle.tv_ansi.specs.declared.painter.Painter.{Painter}
@@ -27,8 +27,8 @@ pub record Draws {W : Type 0} (seen : W → Seen) (Region : ℕ → ℕ → Type
   pub changes : Changes Region (λ column row _. cell_at screen column row) old.shown new.shown
   pub text : List ℕ
   pub puts : PutsPart seen before later hand.waiting.items text after.waiting.items
-  pub tells : (d : Display) → Knows hand.place hand.attr d → HasRoom old.shown d → IsRight old d
-      → Tells text d (λ e. Knows after.place after.attr e × Drawn Region screen new d e)
+  pub tells : (d : Display) → Knows hand.place hand.attr d → HasSpace old.shown d → IsRight old d
+      → Becomes text d (λ e. Knows after.place after.attr e × Drawn Region screen new d e)
 
 -- ---- a screen
 
@@ -43,8 +43,8 @@ pub record Paints {W : Type 0} (seen : W → Seen) (Region : ℕ → ℕ → Typ
   pub changes : Changes Region (λ column row _. cell_at screen column row) old.shown new.shown
   pub bytes : List ℕ
   pub puts : Puts seen before after bytes
-  pub tells : (d : Display) → HasRoom old.shown d → IsRight old d
-      → Tells bytes d (Painted Region screen cursor new d)
+  pub tells : (d : Display) → HasSpace old.shown d → IsRight old d
+      → Becomes bytes d (Painted Region screen cursor new d)
 
 -- ---- the begin and the end
 
@@ -60,13 +60,13 @@ pub record Begun (screen : Picture) (cursor : Option (ℕ × ℕ)) (new : Painte
   pub covered : e.covered ≡ Some (record { cells = d.cells; column = d.column; row = d.row })
   pub lost : e.is_lost ≡ d.is_lost
 
-pub record Begins {W : Type 0} (seen : W → Seen) (screen : Picture) (cursor : Option (ℕ × ℕ)) (old new : Painter) (before after : Pen W) : Type 0 where
+pub record Starts {W : Type 0} (seen : W → Seen) (screen : Picture) (cursor : Option (ℕ × ℕ)) (old new : Painter) (before after : Pen W) : Type 0 where
   pub known : new.is_known ≡ true
   pub size : IsAlike old.shown new.shown
   pub taken : (column row : ℕ) → IsOn screen column row → cell_at new.shown column row ≡ cell_at screen column row
   pub bytes : List ℕ
   pub puts : Puts seen before after bytes
-  pub tells : (d : Display) → HasRoom screen d → d.covered ≡ None → Tells bytes d (Begun screen cursor new d)
+  pub tells : (d : Display) → HasSpace screen d → d.covered ≡ None → Becomes bytes d (Begun screen cursor new d)
 
 -- the normal screen as it was kept, with the cursor where it stood, plain colours and no mouse
 abbrev pub restored : Covered → Display → Display
