@@ -1,0 +1,4 @@
+pub mod Table
+pub mod Sequences
+pub mod Decoding
+pub mod Points

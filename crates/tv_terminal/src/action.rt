@@ -1,0 +1,13 @@
+//! What a decoder gives.
+
+use tv_event::Event;
+
+/// What a terminal's user did.
+#[derive(Clone, Copy, Debug, PartialEq, Eq)]
+pub enum Action {
+    /// A key, a character, or what the mouse did. Its point is on the screen or beyond its right or lower edge, with
+    /// columns and rows from 0 to 9,999.
+    Event(Event),
+    /// Ctrl-\, which is no key of the language: the user wants to leave.
+    Quit,
+}
