@@ -173,7 +173,27 @@ const MENU_ROWS: [Row; 9] = [
     ("key F10; key Up; key Enter; key F10", &[]),
 ];
 
-const TABLE: [(&str, &[Row]); 7] = [
+// A screen of which a menu's row and box and a dialog are most.
+const SMALL: &str = r#"tvd 1
+screen 20 10
+menu "~M~enu"
+item "~O~pen" 100
+item "~A~gain" 100
+item "~Q~uit" quit
+end
+status "F10" F10 menu
+dialog d 8 4 12 5 "D" opens 100 ends cancel
+button c 1 1 10 "~C~ancel" cancel
+end
+"#;
+
+// The dialog opens from the menu, which closes: to paint the screen costs less than to paint the row, the box and the dialog.
+const SMALL_ROWS: [Row; 2] = [
+    ("key F10; key Down", &[[1, 1, 10, 6], [3, 2, 12, 7]]),
+    ("key F10; key Enter", &[[0, 0, 20, 10]]),
+];
+
+const TABLE: [(&str, &[Row]); 8] = [
     (CANCEL, &CANCEL_ROWS),
     (TWO_BUTTONS, &TWO_BUTTONS_ROWS),
     (ORDER, &ORDER_ROWS),
@@ -181,6 +201,7 @@ const TABLE: [(&str, &[Row]); 7] = [
     (WINDOWS, &WINDOW_ROWS),
     (QUESTION, &QUESTION_ROWS),
     (MENUS, &MENU_ROWS),
+    (SMALL, &SMALL_ROWS),
 ];
 
 fn rect_of(corners: &Corners) -> Rect {

@@ -1,6 +1,6 @@
 -- A session that is painted again after an event.
-use Rattle.std.proofs.Common.{◌≡◌, true, List, [], refl, ap, subst, sym, ◌∙◌}
-use Rattle.tv_cells.specs.Damage.{Grows, HasWithin, Holds, has}
+use Rattle.std.proofs.Common.{◌≡◌, List, refl, ap, subst, sym, ◌∙◌}
+use Rattle.tv_cells.specs.Damage.{HasWithin}
 use Rattle.tv_cells.specs.Layers.{Shows}
 use Rattle.tv_cells.specs.Picture.{IsAlike, Picture}
 use Rattle.tv_cells.specs.Repainting.{AreAlike}
@@ -31,11 +31,6 @@ use Rattle.tv_view.specs.Meaning.{Leaf}
 pub shown-alike : (d : Desc) (s t : State) (inner damage : List Rect) (p : Picture) → IsLawfulScreen d.width d.height → p.width ≡ natural d.width → p.height ≡ natural d.height
     → HasWithin (whole_screen d) inner damage → AreShownAlike d s t inner → AreAlike p damage (layers_of d s) (layers_of d t)
 shown-alike d s t inner damage p size width height added alike = alike-within d s t inner damage p size width height added (layers_of d s) (layers_of d t) (alike p)
-
--- what came in lies on the screen
-pub held-screen : (whole : Rect) (old new : List Rect) → old ≡ [] → Grows whole old new → Holds whole new
-held-screen whole old new none grown =
-    grown.within whole (record { each = λ x y e. let never : has [] x y ≡ true = subst (λ rects. has rects x y ≡ true) none e in absurd cc }) (record { each = λ x y i. i })
 
 module _ {V : Type 0} (look : V → Leaf) (session : SessionOf V) (s : Session) (d : Desc) (e : Event) (run : RunOf V) (lent : d ≡ session.checked) (r : StandsFor look session s) where
   same : d ≡ s.desc

@@ -3,6 +3,7 @@
 ghost use Rattle.std.specs.Prelude.{◌≡◌, ◌∷◌, [], ◌-ℤ◌, pos, is_none, IsTrue, List, map};
 ghost use Rattle.tv_cells.specs.Layers.{Layer, Shows, Lays};
 ghost use Rattle.tv_cells.specs.Picture.{IsAlike, Picture};
+ghost use Rattle.tv_cells.specs.Damage.{HasWithin, Holds};
 ghost use Rattle.tv_cells.specs.Repainting.{AreAlike, KeepsRest, clipped, within};
 ghost use Rattle.tv_cells.specs.declared.rect.Rect.{Rect as Region};
 ghost use Rattle.tv_machine.specs.Dialog.Sound.{HasSoundDialogs};
@@ -79,6 +80,29 @@ fn within(rect: Rect, canvas: Canvas) -> Canvas
     Canvas {
         clip: rect.intersect(canvas.clip),
         origin: canvas.origin,
+    }
+}
+
+// How many cells could be painted in the time of one more pass over the views, which each rectangle costs.
+const PASS: u64 = 40;
+
+// What it costs to paint a rectangle, counted in cells.
+fn cost(rect: &Rect) -> u64 {
+    u64::from(rect.width()) * u64::from(rect.height()) + PASS
+}
+
+/// Replaces what was painted again by what of a damage lies on the screen. It is the whole screen where one pass over that
+/// costs less than a pass for each rectangle.
+pub(crate) fn replace_damage(painted: &mut Damage, damage: &Damage, whole: Rect)
+    ensures all { HasWithin whole damage.now painted.new }
+    ensures within { Holds whole painted.new }
+{
+    painted.clear();
+    painted.add_within(damage, whole);
+    let costs = painted.rects().iter().map(cost);
+    if costs.fold(0, u64::saturating_add) > cost(&whole) {
+        painted.clear();
+        painted.add(whole);
     }
 }
 

@@ -12,7 +12,7 @@ ghost use Rattle.tv_dialogs.specs.Handed.{HasPointGiven};
 ghost use Rattle.tv_session.specs.Session.{StandsFor};
 
 use crate::log::Log;
-use crate::paint::whole_screen;
+use crate::paint::{replace_damage, whole_screen};
 use crate::run::RunOf;
 use std::mem::swap;
 use tv_building::parts_are_lawful;
@@ -59,9 +59,7 @@ impl<V: View> SessionOf<V> {
         let desc = self.checked.desc();
         parts_are_lawful(desc);
         self.run.step(desc, &self.line, event);
-        self.repainted.clear();
-        self.repainted
-            .add_within(&self.run.damage, whole_screen(desc));
+        replace_damage(&mut self.repainted, &self.run.damage, whole_screen(desc));
         self.run
             .repaint(&mut self.screen, desc, &self.line, &self.repainted);
     }

@@ -3,7 +3,7 @@ use Rattle.tv_cells.specs.Damage.{HasWithin, Holds}
 use Rattle.tv_machine.specs.Screen.Bodies.{whole_screen}
 use Rattle.tv_machine.specs.Screen.Layers.{layers_of}
 use Rattle.tv_machine.specs.Session.Step.{step}
-use Rattle.tv_session.proofs.RepaintLemmas.{can-repaint, held-screen, shown-alike, shown-before, stands-again, stepped-run}
+use Rattle.tv_session.proofs.RepaintLemmas.{can-repaint, shown-alike, shown-before, stands-again, stepped-run}
 use Rattle.tv_session.proofs.session.SessionOf.step.Goals as goal
 
 pub repaint-requires : goal.repaint-requires
@@ -29,13 +29,12 @@ returns-clause-stands g c = λ s r.
     let sound = c.desc-desc.ensures.sound_dialogs in
     let ran = stepped-run look old s d e run lent r c.step.ensures in
     let can = can-repaint look old s d e run lent r sound c.parts_are_lawful.ensures.screen ran.0 in
-    let whole = subst (λ q. HasWithin q run.damage c.add_within.new.self) c.whole_screen.ensures c.add_within.ensures.added in
-    let alike = shown-alike d s.state (step d s.state e) run.damage c.add_within.new.self old.screen can.size can.width can.height whole ran.1 in
-    stands-again look old s d e run lent r c.repaint.new.screen c.add_within.new.self sound ran.0 c.repaint.ensures.size
+    let whole = subst (λ q. HasWithin q run.damage c.replace_damage.new.painted) c.whole_screen.ensures c.replace_damage.ensures.all in
+    let alike = shown-alike d s.state (step d s.state e) run.damage c.replace_damage.new.painted old.screen can.size can.width can.height whole ran.1 in
+    stands-again look old s d e run lent r c.repaint.new.screen c.replace_damage.new.painted sound ran.0 c.repaint.ensures.size
     (c.repaint.ensures.shows (step d s.state e) (layers_of d s.state) can (shown-before look old s d e run lent r) alike)
 
 pub returns-clause-within : goal.returns-clause-within
 returns-clause-within g c = λ s r.
-    subst (λ d. Holds (whole_screen d) c.add_within.new.self) (c.desc-desc.ensures.value ∙ r.desc)
-    (subst (λ q. Holds q c.add_within.new.self) c.whole_screen.ensures
-    (held-screen c.whole_screen.result c.clear.new.self c.add_within.new.self c.clear.ensures c.add_within.ensures.grown))
+    subst (λ d. Holds (whole_screen d) c.replace_damage.new.painted) (c.desc-desc.ensures.value ∙ r.desc)
+    (subst (λ q. Holds q c.replace_damage.new.painted) c.whole_screen.ensures c.replace_damage.ensures.within)
