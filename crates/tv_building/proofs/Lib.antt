@@ -2,6 +2,8 @@
 pub mod AreaLemmas
 -- what a node's end makes, by its kind
 pub mod EndLemmas
+-- what is begun after a refusal
+pub mod KeptLemmas
 -- the last of a list
 pub mod ListLemmas
 -- what follows from a fact on a result

@@ -1,5 +1,5 @@
 -- What stands while views are put together, and what each step makes of it.
-use Rattle.std.specs.Prelude.{◌≡◌, ◌≢◌, ◌⊎◌, ◌≤◌, List, [], ◌∷◌, ◌++◌, Some}
+use Rattle.std.specs.Prelude.{◌≡◌, ◌≢◌, ◌⊎◌, ◌≤◌, ◌-◌, List, [], ◌∷◌, ◌++◌, length, map, take, Some}
 use Rattle.tv_group.specs.Opened.{members_level}
 use Rattle.tv_group.specs.declared.group.GroupOf.{GroupOf}
 use Rattle.tv_group.specs.declared.group.MemberOf.{MemberOf}
@@ -54,7 +54,16 @@ pub record Adds {V : Type 0} (member : MemberOf V) (old new : List (Begun V)) : 
   pub node : after.node.now ≡ before.node.now
   pub members : after.members.items ≡ before.members.items ++ member ∷ []
 
+-- the same groups are begun, and the same members stand in each
+pub record AreSameGroups {V : Type 0} (old new : List (Begun V)) : Type 0 where
+  pub nodes : map (λ begun. begun.node.now) new ≡ map (λ begun. begun.node.now) old
+  pub members : map (λ begun. begun.members.items) new ≡ map (λ begun. begun.members.items) old
+
 -- ---- ending
+
+-- all but the innermost of what was begun; nothing where nothing was begun
+abbrev pub but_innermost : {V : Type 0} → List (Begun V) → List (Begun V)
+but_innermost begun = take (length begun - 1) begun
 
 -- a window of the node stands where that is declared, the last of the windows, round this body
 pub record StandsWindow {V : Type 0} (node : Node) (body : GroupOf V)

@@ -48,6 +48,7 @@ impl<'a, V: View> Begun<'a, V> {
     pub(crate) fn add(&mut self, member: MemberOf<V>) -> Result<(), BuildFault>
         ensures node { self.new.node.now ≡ self.old.node.now }
         ensures added { OnOk result (self.new.members.items ≡ self.old.members.items ++ member ∷ []) }
+        ensures kept { IfErr result (λ _. self.new.members.items ≡ self.old.members.items) }
         ensures refused { IfErr result (λ fault. fault ≡ NoMemory) }
     {
         self.members.push(member)?;

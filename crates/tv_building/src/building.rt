@@ -2,7 +2,7 @@
 
 ghost use Rattle.std.specs.Option.{ForSome};
 ghost use Rattle.std.specs.Prelude.{◌≡◌, ◌≢◌, [], false, None, IfErr, IfOk, OnOk};
-ghost use Rattle.tv_building.specs.Building.{Adds, BeginsNode, EndsNode, IsMisplaced, KeepsViews, StandsWindow, begun_of, bodies_built, windows_of};
+ghost use Rattle.tv_building.specs.Building.{Adds, AreSameGroups, BeginsNode, EndsNode, IsMisplaced, KeepsViews, StandsWindow, begun_of, bodies_built, but_innermost, windows_of};
 ghost use Rattle.tv_building.specs.Groups.{is_group};
 ghost use Rattle.tv_building.specs.declared.fault.BuildFault.TheVariants.{WrongPlan};
 ghost use Rattle.tv_faces.specs.Corners.{IsCorner};
@@ -71,10 +71,11 @@ impl<'a, V: View> Building<'a, V> {
     ///
     /// # Errors
     ///
-    /// `WrongPlan` where nothing is begun, `NoMemory`. The view is dropped then.
+    /// `WrongPlan` where nothing is begun, `NoMemory`. The view is dropped then, and all that was begun stays as it was.
     pub fn add(&mut self, view: V) -> Result<(), BuildFault>
         ensures same { KeepsViews self.old self.new }
         ensures added { OnOk result (Adds (members.Leaf view) (begun_of self.old) (begun_of self.new)) }
+        ensures kept { IfErr result (λ _. AreSameGroups (begun_of self.old) (begun_of self.new)) }
         ensures refused { IfErr result (λ fault. fault ≡ WrongPlan → begun_of self.old ≡ []) }
     {
         add_to(&mut self.begun, MemberOf::Leaf(view))
@@ -86,10 +87,11 @@ impl<'a, V: View> Building<'a, V> {
     ///
     /// `WrongPlan` where nothing is begun, where a window or dialog ends inside another group or a pane outside of any,
     /// where the node is of another kind, and where nine groups would stand one in another; `NoMemory`. The innermost
-    /// open group is dropped then.
+    /// open group is dropped then, and the others stay as they were.
     pub fn end(&mut self) -> Result<(), BuildFault>
         ensures ended { OnOk result (EndsNode V.meaning self.old self.new) }
         ensures same { IfErr result (λ _. KeepsViews self.old self.new) }
+        ensures kept { IfErr result (λ _. AreSameGroups (but_innermost (begun_of self.old)) (begun_of self.new)) }
         ensures refused { IfErr result (λ fault. fault ≡ WrongPlan → IsMisplaced (begun_of self.old)) }
     {
         let Some(last) = self.begun.pop() else {
@@ -134,6 +136,7 @@ impl<'a, V: View> Building<'a, V> {
 // Adds a member to the innermost open group.
 fn add_to<V: View>(begun: &mut Vec<Begun<V>>, member: MemberOf<V>) -> Result<(), BuildFault>
     ensures added { OnOk result (Adds member begun.old.items begun.new.items) }
+    ensures kept { IfErr result (λ _. AreSameGroups begun.old.items begun.new.items) }
     ensures refused { IfErr result (λ fault. fault ≡ WrongPlan → begun.old.items ≡ []) }
 {
     match begun.last_mut() {
