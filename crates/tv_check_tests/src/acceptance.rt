@@ -1,5 +1,6 @@
 //! What `accept` answers, and what it hands back.
 
+use std::alloc::Global;
 use std::test::Fail;
 use tv_test_support::certificates::{
     CANCEL_CERTIFICATE, COLOUR_CERTIFICATE, NO_BLOCKS, ORDER_CERTIFICATE,
@@ -68,6 +69,31 @@ fn accepted_after_a_refusal(rt: HostRuntime) -> Result<(), Fail> {
         first: NO_BLOCKS,
     };
     expect_answer(&later, rt.alloc(), ORDER_CERTIFICATE, "tab 1\naccepted\n")
+}
+
+// Fails unless the order form is refused so with its certificate, edited, and then accepted with its own.
+fn expect_later(alloc: Global, old: &str, new: &str, refusal: &str) -> Result<(), Fail> {
+    let first = ORDER_CERTIFICATE.replace(alloc, old, new)?;
+    let later = AcceptingLater {
+        desc: ORDER,
+        first: &first,
+    };
+    let wanted = format!(in alloc; "{refusal}\naccepted\n")?;
+    expect_answer(&later, alloc, ORDER_CERTIFICATE, &wanted)
+}
+
+#[test]
+fn accepted_after_edited_certificates(rt: HostRuntime) -> Result<(), Fail> {
+    for (old, new, refusal) in [
+        ("end\n", "end\ndialog z\ntab a\nend\n", "tab 7"),
+        ("key N opts 2", "key N opts 1", "key N"),
+        ("key A amount", "key A amount 1", "key A"),
+        ("key O ok\n", "", "key O"),
+        ("tvcert 1", "tvcert 2", "version"),
+    ] {
+        expect_later(rt.alloc(), old, new, refusal)?;
+    }
+    Ok(())
 }
 
 // Two dialogs with like controls.

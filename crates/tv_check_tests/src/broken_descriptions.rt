@@ -279,6 +279,13 @@ fn other_version_without_a_line_end(rt: HostRuntime) -> Result<(), Fail> {
 }
 
 #[test]
+fn other_version(rt: HostRuntime) -> Result<(), Fail> {
+    let (_, rest) = ORDER.split_once("\n").ok_or("no first line")?;
+    let text = format!(in rt.alloc(); "tvd 7\n{rest}")?;
+    expect_finding(rt.alloc(), &text, "unknown version")
+}
+
+#[test]
 fn spoiled_lines(rt: HostRuntime) -> Result<(), Fail> {
     for byte in [0xff, b'\t'] {
         let found = found_after(rt.alloc(), byte)?;

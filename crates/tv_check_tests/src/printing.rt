@@ -14,8 +14,11 @@ fn canonical_texts(rt: HostRuntime) -> Result<(), Fail> {
 
 #[test]
 fn last_line_end(rt: HostRuntime) -> Result<(), Fail> {
-    let text = CANCEL.strip_suffix("\n").ok_or("no last line end")?;
-    expect_answer(&Printing, rt.alloc(), text, CANCEL)
+    for whole in [CANCEL, ORDER] {
+        let text = whole.strip_suffix("\n").ok_or("no last line end")?;
+        expect_answer(&Printing, rt.alloc(), text, whole)?;
+    }
+    Ok(())
 }
 
 // Comments, spaces and empty lines say nothing.
