@@ -26,8 +26,6 @@ mod limits;
 #[cfg(test)]
 mod makers;
 #[cfg(test)]
-mod memory;
-#[cfg(test)]
 mod messages;
 #[cfg(test)]
 mod passing_on;

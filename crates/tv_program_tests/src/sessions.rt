@@ -9,8 +9,8 @@ use tv_check::Checked;
 use tv_controls::Button;
 use tv_session::{Refused, SessionFault, SessionOf};
 
-/// Two windows without views, and two dialogs.
-pub const FOUR_VIEWS: &str = r#"tvd 1
+// Two windows without views, and two dialogs.
+const FOUR_VIEWS: &str = r#"tvd 1
 screen 30 12
 start b
 window one 1 1 16 4 1 "One"
