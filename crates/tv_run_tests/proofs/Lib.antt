@@ -1,1 +1,2 @@
 pub mod FreshLemmas
+pub mod StoppedLemmas

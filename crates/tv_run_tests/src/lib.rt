@@ -37,6 +37,8 @@ mod fields;
 #[cfg(test)]
 mod fitting;
 #[cfg(test)]
+mod going_on;
+#[cfg(test)]
 mod kept_screen;
 #[cfg(test)]
 mod large;

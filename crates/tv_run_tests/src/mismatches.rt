@@ -10,7 +10,7 @@ use std::test::Fail;
 use tv_building::Views;
 use tv_check::Checked;
 use tv_model::{Record, Value};
-use tv_session::{Session, SessionFault};
+use tv_session::{Refused, Session, SessionFault};
 use tv_test_support::descriptions::{CANCEL, ORDER, WINDOWS};
 use tv_valid::Text;
 use tv_view::View;
@@ -50,13 +50,51 @@ impl Edit {
         }
         Ok(())
     }
+
+    // Takes the edit back.
+    fn mend(
+        self,
+        views: &mut Views<Box<dyn View>>,
+        other: Views<Box<dyn View>>,
+    ) -> Result<(), Fail> {
+        match self {
+            Edit::OneTooMany => {
+                views.bodies.truncate(1);
+                Ok(())
+            }
+            Edit::Missing => Edit::OneTooMany.make(views, other),
+            edit => edit.make(views, other),
+        }
+    }
 }
 
-// Why no session is made over the views, if so.
-fn refusal(alloc: Global, checked: Checked, views: Views<Box<dyn View>>) -> Option<SessionFault> {
-    match Session::new(alloc, checked, views.windows, views.bodies) {
-        Ok(_) => None,
-        Err(refused) => Some(refused.fault),
+// Why no session is made over the views, if so, with what came back.
+fn refusal(
+    alloc: Global,
+    checked: Checked,
+    views: Views<Box<dyn View>>,
+) -> Option<Refused<Box<dyn View>>> {
+    Session::new(alloc, checked, views.windows, views.bodies).err()
+}
+
+// Why no session was made. Fails unless one is made of what came back, after that was put right by views that are as declared.
+fn expect_mended(
+    alloc: Global,
+    refused: Refused<Box<dyn View>>,
+    other: Views<Box<dyn View>>,
+    edit: Edit,
+) -> Result<SessionFault, Fail> {
+    let Refused {
+        fault,
+        checked,
+        windows,
+        bodies,
+    } = refused;
+    let mut again = Views { windows, bodies };
+    edit.mend(&mut again, other)?;
+    match refusal(alloc, checked, again) {
+        None => Ok(fault),
+        Some(refused) => Err(Fail::new(format_args!("{} after {fault}", refused.fault))),
     }
 }
 
@@ -64,7 +102,13 @@ fn refusal_after(alloc: Global, desc: &str, edit: Edit) -> Result<Option<Session
     let checked = checked(alloc, desc)?;
     let mut made = views(alloc, &checked, None)?;
     edit.make(&mut made, views(alloc, &checked, None)?)?;
-    Ok(refusal(alloc, checked, made))
+    match refusal(alloc, checked, made) {
+        None => Ok(None),
+        Some(refused) => {
+            let other = views(alloc, &refused.checked, None)?;
+            Ok(Some(expect_mended(alloc, refused, other, edit)?))
+        }
+    }
 }
 
 const EDITS: [(&str, Edit, Option<SessionFault>); 6] = [
@@ -112,8 +156,11 @@ fn changed_views(alloc: Global, checked: &Checked) -> Result<Views<Box<dyn View>
 fn a_changed_value(rt: HostRuntime) -> Result<(), Fail> {
     let alloc = rt.alloc();
     let checked = checked(alloc, ORDER)?;
-    let views = changed_views(alloc, &checked)?;
-    let fault = refusal(alloc, checked, views);
-    assert_eq!(rt; fault, Some(SessionFault::ViewMismatch(1)));
+    let changed = changed_views(alloc, &checked)?;
+    let mut refused = refusal(alloc, checked, changed).ok_or("the value isn't seen")?;
+    assert_eq!(rt; refused.fault, SessionFault::ViewMismatch(1));
+    refused.bodies.clear();
+    let other = views(alloc, &refused.checked, None)?;
+    expect_mended(alloc, refused, other, Edit::Missing)?;
     Ok(())
 }

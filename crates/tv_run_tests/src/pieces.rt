@@ -1,4 +1,4 @@
-//! Readers that give a script in pieces, and a writer that shows what it was asked to pass on.
+//! Readers that give a script in pieces, and writers: one that shows what it was asked to pass on, and one that fails once.
 
 use std::cell::Cell;
 use tv_io::{Reader, Writer};
@@ -172,5 +172,46 @@ impl Writer for Held<'_> {
 
     fn pass_on(&mut self) {
         self.passed_on.set(self.taken);
+    }
+}
+
+/// A writer that takes so many bytes, then fails once, and would take everything from then on.
+#[derive(Drop)]
+pub struct Relenting {
+    /// The bytes that it takes before it fails.
+    pub room: usize,
+    failures: u64,
+    /// The bytes that it was offered after it had failed.
+    pub offered: usize,
+}
+
+impl Relenting {
+    /// Begins with room for so many bytes.
+    pub fn new(room: usize) -> Relenting {
+        Relenting {
+            room,
+            failures: 0,
+            offered: 0,
+        }
+    }
+}
+
+impl Writer for Relenting {
+    ghost use Rattle.std.specs.Prelude.{None};
+
+    ghost seen = { λ w. record { taken = None; failures = w.failures } };
+
+    fn write(&mut self, bytes: &[u8]) -> Option<usize> {
+        if self.failures > 0 {
+            self.offered = self.offered.saturating_add(bytes.len());
+            return Some(bytes.len());
+        }
+        let count = bytes.len().min(self.room);
+        if count == 0 {
+            self.failures = self.failures.saturating_add(1);
+            return None;
+        }
+        self.room -= count;
+        Some(count)
     }
 }

@@ -31,7 +31,7 @@ pub fn expect_end<R: Reader>(
 
 #[test]
 fn pieces_of_each_size(rt: HostRuntime) -> Result<(), Fail> {
-    for piece in [1, 7, 88] {
+    for piece in [1, 7, 88, 4096] {
         let mut script = Pieces::new(GIFTS, piece);
         expect_end(rt.alloc(), ORDER, &mut script, "Ok(())", GIFTS_LOG)?;
     }
@@ -51,6 +51,29 @@ fn a_faulty_line(rt: HostRuntime) -> Result<(), Fail> {
             "Err(Script(Syntax(2)))",
             "open a\nfocus c\n",
         )?;
+    }
+    Ok(())
+}
+
+// What the order form writes before its script is read.
+const START: &str = "open b\nfocus amount\n";
+
+#[test]
+fn an_empty_script(rt: HostRuntime) -> Result<(), Fail> {
+    let mut script = Pieces::new("", 7);
+    expect_end(rt.alloc(), ORDER, &mut script, "Ok(())", START)
+}
+
+#[test]
+fn faulty_first_lines(rt: HostRuntime) -> Result<(), Fail> {
+    for (text, wanted) in [
+        ("type \"a\n", "Err(Script(Syntax(1)))"),
+        ("down 1\n", "Err(Script(Syntax(1)))"),
+        ("key Foo\ndown 40 0\n", "Err(Script(Syntax(1)))"),
+        ("down 40 0\nkey Foo\n", "Err(Script(OffScreen(1)))"),
+    ] {
+        let mut script = Pieces::new(text, 7);
+        expect_end(rt.alloc(), ORDER, &mut script, wanted, START)?;
     }
     Ok(())
 }

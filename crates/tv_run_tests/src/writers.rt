@@ -1,5 +1,6 @@
 //! Runs into writers that fail, take nothing, or take little at once.
 
+use crate::pieces::Relenting;
 use crate::running::run_into;
 use std::alloc::Global;
 use std::test::Fail;
@@ -80,6 +81,26 @@ fn a_writer_that_takes_nothing(rt: HostRuntime) -> Result<(), Fail> {
         (Err(PlayFault::Write), 1) => Ok(()),
         (stop, calls) => Err(Fail::new(format_args!("{stop:?} after {calls} calls"))),
     }
+}
+
+// Fails unless a run into a writer that fails once ends there: it is offered nothing more.
+fn expect_end(alloc: Global, room: usize) -> Result<(), Fail> {
+    let mut out = Relenting::new(room);
+    let stop = run_into(alloc, ORDER, GIFTS, None, &mut out);
+    match (stop, out.room, out.offered) {
+        (Err(PlayFault::Write), 0, 0) => Ok(()),
+        (stop, left, offered) => Err(Fail::new(format_args!(
+            "{stop:?} of {room} bytes, with {left} left and {offered} offered later"
+        ))),
+    }
+}
+
+#[test]
+fn writers_that_fail_once(rt: HostRuntime) -> Result<(), Fail> {
+    for room in 0..GIFTS_LOG.len() {
+        expect_end(rt.alloc(), room)?;
+    }
+    Ok(())
 }
 
 #[test]
