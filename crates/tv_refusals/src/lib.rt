@@ -20,6 +20,8 @@ mod fixtures;
 #[cfg(test)]
 mod frames;
 #[cfg(test)]
+mod outputs;
+#[cfg(test)]
 mod program;
 #[cfg(test)]
 mod scripts;
