@@ -1,0 +1,10 @@
+-- what comes from a terminal, in pieces
+pub mod Pieces
+-- what ends a run in a terminal
+pub mod Ends
+-- what a terminal shows of a run
+pub mod Shown
+-- a run in a terminal, step by step
+pub mod Steps
+-- what a run in a terminal comes to
+pub mod Playing

@@ -1,0 +1,16 @@
+//! A dialog in a terminal: what the user does, piece by piece, what the terminal shows of it, and what is logged.
+#![tactic(auto)]
+
+mod ends;
+mod journal;
+mod live;
+mod parting;
+mod pieces;
+mod player;
+mod playing;
+mod show;
+
+pub use live::Live;
+pub use parting::{Parting, PlayFault};
+pub use pieces::{Piece, Pieces};
+pub use playing::play;
