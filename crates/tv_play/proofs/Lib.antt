@@ -1,0 +1,6 @@
+pub mod SessionLemmas
+pub mod ShownLemmas
+pub mod HeardLemmas
+pub mod JournalLemmas
+pub mod StepLemmas
+pub mod PlayLemmas

@@ -1,0 +1,246 @@
+-- What a run comes to, with its begin and its end.
+use Rattle.std.proofs.Common.{◌≡◌, ℕ, ◌<◌, Bool, true, false, inl, inr, List, [], ◌∷◌, ◌++◌, length, take, Option, Some, None, Result, Ok, Err, refl, sym, ap, subst, ◌∙◌, arith, append_assoc, length-append}
+use Rattle.std.specs.List.{concat}
+use Rattle.std.specs.Io.KnownBytes.{Appends, Keeps}
+use Rattle.std.proofs.lemmas.List.{append-nil, length-map, length-take-le}
+use Rattle.std.proofs.lemmas.List.Elements.{All-nil}
+use Rattle.tv_ansi.specs.Sequences.{end_bytes}
+use Rattle.tv_ansi.specs.declared.painter.Painter.{Painter}
+use Rattle.tv_event.specs.declared.event.Event.{Event as Happening}
+use Rattle.std.specs.Prelude.{IfNone, MatchResult}
+use Rattle.tv_io.specs.Pen.{PutsBy}
+use Rattle.tv_io.specs.declared.writer.WriteFailed.{WriteFailed}
+use Rattle.tv_io.specs.Writer.{Cuts, IsSame, Seen, Takes}
+use Rattle.tv_machine.specs.Output.{output}
+use Rattle.tv_machine.specs.Run.{Session, quiet}
+use Rattle.tv_model.specs.Log.LogText.{log_text}
+use Rattle.tv_play.specs.Ends.{is_finished, is_leaving, script_of}
+use Rattle.tv_play.specs.Pieces.{Comes, ComesNot, HasCome, Heard, IsWithin, Loses, symbols_in}
+use Rattle.tv_play.specs.Playing.{ComesOf, IsWritten, Plays, PlaysTo, Ports, told_with}
+use Rattle.tv_play.specs.Steps.{CameTo, HasPlayed, HasRun, IsAtEnd, IsEndedBy, IsHeard, IsPlaying, IsShown, Outside, TurnsTo, or_end, outcome_of, outside}
+use Rattle.tv_play.specs.declared.parting.Parting.{Parting}
+use Rattle.tv_play.specs.declared.parting.Parting.TheVariants as partings
+use Rattle.tv_play.specs.declared.parting.PlayFault.{PlayFault}
+use Rattle.tv_play.specs.declared.parting.PlayFault.TheVariants as faults
+use Rattle.tv_play.proofs.ShownLemmas.{put-still, restores}
+use Rattle.tv_play.specs.declared.pieces.Piece.{Piece}
+use Rattle.tv_play.specs.declared.pieces.Piece.TheVariants as pieces
+use Rattle.tv_terminal.specs.Decoding.{Symbol, Byte, Pause}
+use Rattle.tv_terminal.specs.declared.action.Action.{Action}
+use Rattle.tv_terminal.specs.declared.action.Action.TheVariants.{Event}
+
+-- ---- what comes
+
+loses-then : (a b c : Option (List Symbol)) (x y : List Symbol) → Loses a b x → Loses b c y → Loses a c (x ++ y)
+loses-then None b c x y p q = tt
+loses-then (Some a) None c x y p q = absurd p
+loses-then (Some a) (Some b) None x y p q = absurd q
+loses-then (Some a) (Some b) (Some c) x y p q = p ∙ ap (λ (t : List Symbol). x ++ t) q ∙ sym (append_assoc x y c)
+
+loses-none : (a : Option (List Symbol)) → Loses a a []
+loses-none None = tt
+loses-none (Some a) = refl
+
+pub come-none : (h : Heard) → HasCome h h []
+come-none h = record { took = loses-none h.left; count = refl }
+
+pub come-then : {a b c : Heard} (x y : List Symbol) → HasCome a b x → HasCome b c y → HasCome a c (x ++ y)
+come-then {a} {b} {c} x y p q = record { took = loses-then a.left b.left c.left x y p.took q.took; count = q.count ∙ p.count }
+
+-- ---- the beginning
+
+pub heard-none : (s : Session) → IsHeard s [] [] []
+heard-none s = record { parts = refl; stays = All-nil (λ event. is_leaving s.desc (Event event) ≡ false); goes = λ k lt. absurd (omega (arith, lt)) }
+
+pub log-first : {a b : Seen} (s : Session) → Takes a b (log_text s.desc s.state.log) → Takes a b (output s (script_of []))
+log-first {a} {b} s p = subst (Takes a b) (sym (append-nil (log_text s.desc s.state.log))) p
+
+pub log-first-cut : {a b : Seen} (s : Session) → Cuts a b (log_text s.desc s.state.log) → Cuts a b (output s (script_of []))
+log-first-cut {a} {b} s p = subst (Cuts a b) (sym (append-nil (log_text s.desc s.state.log))) p
+
+-- a run that was begun: it ended before anything was read, or it goes on
+pub first-turns : (s : Session) (from now : Outside) (Left : Session → Type 0) (answer : Bool) → answer ≡ is_finished s → (written : Result (Unit {0}) WriteFailed) (stop : Bool) → now.stopped ≡ stop
+    → MatchResult written (λ _. Takes from.log now.log (log_text s.desc s.state.log)) (λ _. Cuts from.log now.log (log_text s.desc s.state.log))
+    → IsShown s [] from.screen now.screen now.stopped now.painter → Left (quiet s) → TurnsTo s [] from now Left (outcome_of answer written stop)
+first-turns s from now Left answer is (Err failed) stop same cut shown left = record { events = []; rest = []; heard = heard-none s; shown = shown; left = left; ended = log-first-cut s cut }
+first-turns s from now Left answer is (Ok written) true same takes shown left = record { events = []; rest = []; heard = heard-none s; shown = shown; left = left; ended = (log-first s takes, same) }
+first-turns s from now Left true is (Ok written) false same takes shown left = record { events = []; rest = []; heard = heard-none s; shown = shown; left = left; ended = (sym is, log-first s takes, same) }
+first-turns s from now Left false is (Ok written) false same takes shown left = record {
+  events = [];
+  heard = heard-none s;
+  goes = sym is;
+  shown = shown;
+  performs = record { written = log-first s takes; left = left };
+  going = same;
+}
+
+-- ---- the loop
+
+-- what was written is passed on
+appends-kept : (a b c : Option (List ℕ)) (x : List ℕ) → Appends a b x → Keeps b c → Appends a c x
+appends-kept None b c x p q = tt
+appends-kept (Some a) None c x p q = absurd p
+appends-kept (Some a) (Some b) None x p q = absurd q
+appends-kept (Some a) (Some b) (Some c) x p q = q ∙ p
+
+pub passed-on : {a b c : Seen} {text : List ℕ} → Takes a b text → IsSame b c → Takes a c text
+passed-on {a} {b} {c} {text} p same = record { bytes = appends-kept a.taken b.taken c.taken text p.bytes same.bytes; count = same.count ∙ p.count }
+
+pub playing-passed : (s : Session) (symbols : List Symbol) (from : Outside) (log log' screen screen' : Seen) (stop stop' : Bool) (painter : Painter) (Left : Session → Type 0) → IsSame log log' → PutsBy screen stop screen' stop' [] → stop' ≡ false
+    → IsPlaying s symbols from (outside log screen stop painter) Left → IsPlaying s symbols from (outside log' screen' stop' painter) Left
+playing-passed s symbols from log log' screen screen' stop stop' painter Left same put going p = record {
+  events = p.events;
+  heard = p.heard;
+  goes = p.goes;
+  shown = record { frames = p.shown.frames; shows = p.shown.shows; put = put-still from.screen screen screen' stop stop' (concat p.shown.frames) p.shown.put put; taken = p.shown.taken };
+  performs = record { written = passed-on p.performs.written same; left = p.performs.left };
+  going = going;
+}
+
+-- a pen that passes on what was written goes on
+pub goes-passed : (a b : Seen) (t u : Bool) → t ≡ false → PutsBy a t b u [] → u ≡ false
+goes-passed a b true u e put = absurd cc
+goes-passed a b false false e put = refl
+goes-passed a b false true e put = absurd (omega (arith, put.proper, ap (λ (x : List ℕ). length x) put.parts, length-append put.front put.rest))
+
+-- each piece has a symbol
+pub some-symbols : (piece : Piece) (room : List ℕ) → IsWithin piece room → 0 < length (symbols_in piece room)
+some-symbols (pieces.Bytes count) room within = omega (arith, within.0, length-map (take count room) Byte, length-take-le count room within.1)
+some-symbols pieces.Pause room within = omega arith
+some-symbols pieces.End room within = omega arith
+
+-- a piece ended it
+came-by : (s : Session) (symbols : List Symbol) (events : List Happening) (rest : List Action) (input left : Heard) (from now : Outside) (outcome : Result Parting PlayFault) → HasCome input left symbols → IsEndedBy s events rest from now outcome → CameTo s symbols events rest input left from now outcome
+came-by s symbols events rest input left from now (Ok partings.Over) come ended = (come, ended)
+came-by s symbols events rest input left from now (Ok partings.Left) come ended = (come, ended)
+came-by s symbols events rest input left from now (Ok partings.Ended) come ended = absurd ended
+came-by s symbols events rest input left from now (Err faults.NoMemory) come ended = (come, ended)
+came-by s symbols events rest input left from now (Err faults.Read) come ended = absurd ended
+came-by s symbols events rest input left from now (Err faults.Log) come ended = (come, ended)
+came-by s symbols events rest input left from now (Err faults.Screen) come ended = (come, ended)
+
+pub run-by : (s : Session) (symbols : List Symbol) (input left : Heard) (from now : Outside) (Left : Session → Type 0) (outcome : Result Parting PlayFault) → HasCome input left symbols → HasPlayed s symbols from now Left outcome → HasRun s input left from now Left outcome
+run-by s symbols input left from now Left outcome come p = record {
+  symbols = symbols;
+  events = p.events;
+  rest = p.rest;
+  heard = p.heard;
+  shown = p.shown;
+  left = p.left;
+  came = came-by s symbols p.events p.rest input left from now outcome come p.ended;
+}
+
+-- its input ended
+pub run-ended : (s : Session) (symbols : List Symbol) (input left : Heard) (from now : Outside) (Left : Session → Type 0) → HasCome input left symbols → IsAtEnd left symbols → IsPlaying s symbols from now Left → HasRun s input left from now Left (Ok partings.Ended)
+run-ended s symbols input left from now Left come at_end p = record {
+  symbols = symbols;
+  events = p.events;
+  rest = [];
+  heard = p.heard;
+  shown = p.shown;
+  left = p.performs.left;
+  came = (come, p.goes, refl, at_end, p.performs.written, p.going);
+}
+
+-- it goes on after a piece, or ended with it
+abbrev pub GoesTo : (s : Session) (symbols : List Symbol) (input later : Heard) (from now : Outside) (Left : Session → Type 0) → Option (Result Parting PlayFault) → Type 0
+GoesTo s symbols input later from now Left None = IsPlaying s symbols from now Left
+GoesTo s symbols input later from now Left (Some outcome) = HasRun s input later from now Left outcome
+
+goes-by : (s : Session) (symbols : List Symbol) (piece : Piece) (room : List ℕ) (input mid later : Heard) (from now : Outside) (Left : Session → Type 0) (outcome : Option (Result Parting PlayFault)) → HasCome input later (symbols ++ symbols_in piece room) → Comes mid later piece room
+    → TurnsTo s (symbols ++ symbols_in piece room) from now Left outcome → GoesTo s (symbols ++ symbols_in piece room) input later from now Left (or_end outcome piece)
+goes-by s symbols piece room input mid later from now Left (Some outcome) come comes turned = run-by s (symbols ++ symbols_in piece room) input later from now Left outcome come turned
+goes-by s symbols (pieces.Bytes count) room input mid later from now Left None come comes turned = turned
+goes-by s symbols pieces.Pause room input mid later from now Left None come comes turned = turned
+goes-by s symbols pieces.End room input mid later from now Left None come comes turned = run-ended s (symbols ++ Pause ∷ []) input later from now Left come (inl (comes.ended refl).0) turned
+
+pub goes-to : (s : Session) (symbols : List Symbol) (piece : Piece) (room : List ℕ) (input mid later : Heard) (from now : Outside) (Left : Session → Type 0) (outcome told : Option (Result Parting PlayFault)) → told ≡ or_end outcome piece → HasCome input mid symbols → Comes mid later piece room
+    → TurnsTo s (symbols ++ symbols_in piece room) from now Left outcome → GoesTo s (symbols ++ symbols_in piece room) input later from now Left told
+goes-to s symbols piece room input mid later from now Left outcome told is come comes turned =
+    subst (GoesTo s (symbols ++ symbols_in piece room) input later from now Left) (sym is)
+    (goes-by s symbols piece room input mid later from now Left outcome (come-then symbols (symbols_in piece room) come comes.has) comes turned)
+
+-- it goes on only where it went on with the piece
+pub goes-on : {P : Type 0} (outcome : Option (Result Parting PlayFault)) (piece : Piece) → None ≡ or_end outcome piece → IfNone outcome P → P
+goes-on (Some outcome) piece is p = absurd cc
+goes-on None piece is p = p
+
+pub plays-on : (s : Session) (symbols : List Symbol) (from now : Outside) (Left : Session → Type 0) (outcome : Option (Result Parting PlayFault)) (piece : Piece) → None ≡ or_end outcome piece → TurnsTo s symbols from now Left outcome → IsPlaying s symbols from now Left
+plays-on s symbols from now Left (Some outcome) piece is turned = absurd cc
+plays-on s symbols from now Left None piece is turned = turned
+
+-- its input failed
+pub run-unheard : (s : Session) (symbols : List Symbol) (input mid left : Heard) (from now : Outside) (Left : Session → Type 0) → HasCome input mid symbols → ComesNot mid left → IsPlaying s symbols from now Left → HasRun s input left from now Left (Err faults.Read)
+run-unheard s symbols input mid left from now Left come failed p = record {
+  symbols = symbols;
+  events = p.events;
+  rest = [];
+  heard = p.heard;
+  shown = p.shown;
+  left = p.performs.left;
+  came = ((mid, come, failed), refl, p.performs.written, p.going);
+}
+
+-- ---- the end
+
+written-by : (from last : Seen) (bytes : List ℕ) (stop : Bool) → PutsBy from false last stop bytes → IsWritten from last bytes
+written-by from last bytes true put = inr put
+written-by from last bytes false put = inl put
+
+module _ (s : Session) (symbols : List Symbol) (events : List Happening) (rest : List Action) (input left : Heard) (from now : Outside) (last : Seen) (bytes : List ℕ) where
+  abbrev old : Ports
+  old = record { input = input; log = from.log; screen = from.screen }
+
+  abbrev new : Ports
+  new = record { input = left; log = now.log; screen = last }
+
+  comes : (outcome : Result Parting PlayFault) (stop : Bool) → CameTo s symbols events rest input left from now outcome → PutsBy from.screen false last stop bytes → (now.stopped ≡ true → stop ≡ true) → ComesOf s symbols events rest bytes old new (told_with outcome stop)
+  comes (Ok partings.Over) true came put stays = (came.0, came.1.1, put)
+  comes (Ok partings.Over) false came put stays = record { came = came.0; log = came.1.1; screen = put; parts = came.1.0 }
+  comes (Ok partings.Left) true came put stays = (came.0, came.1.2, put)
+  comes (Ok partings.Left) false came put stays = record { came = came.0; log = came.1.2; screen = put; parts = (came.1.0, came.1.1) }
+  comes (Ok partings.Ended) true came put stays = (came.0, came.4, put)
+  comes (Ok partings.Ended) false came put stays = record { came = came.0; log = came.4; screen = put; parts = (came.1, came.2, came.3) }
+  comes (Err faults.NoMemory) stop came put stays = came.1
+  comes (Err faults.Read) stop came put stays = (came.0, came.1, came.2, written-by from.screen last bytes stop put)
+  comes (Err faults.Log) stop came put stays = (came.0, came.1, written-by from.screen last bytes stop put)
+  comes (Err faults.Screen) true came put stays = (came.0, came.1.0, put)
+  comes (Err faults.Screen) false came put stays = let clash : false ≡ true = stays came.1.1 in absurd cc
+
+module _ (s : Session) (input left : Heard) (from now : Outside) (last : Seen) (stop : Bool) (Left : Session → Type 0)
+    (put : (frames : List (List ℕ)) → PutsBy from.screen false now.screen now.stopped (concat frames) → PutsBy from.screen false last stop (concat frames ++ end_bytes)) (stays : now.stopped ≡ true → stop ≡ true) where
+  abbrev pub begun : Ports
+  begun = record { input = input; log = from.log; screen = from.screen }
+
+  abbrev pub ended : Ports
+  ended = record { input = left; log = now.log; screen = last }
+
+  plays : (outcome : Result Parting PlayFault) → HasRun s input left from now Left outcome → Plays s begun ended Left (told_with outcome stop)
+  plays outcome run = record {
+    symbols = run.symbols;
+    events = run.events;
+    rest = run.rest;
+    heard = run.heard;
+    left = run.left;
+    frames = run.shown.frames;
+    shows = run.shown.shows;
+    restores = restores s run.events run.shown.frames run.shown.shows;
+    comes = comes s run.symbols run.events run.rest input left from now last (concat run.shown.frames ++ end_bytes) outcome stop run.came (put run.shown.frames run.shown.put) stays;
+  }
+
+  pub plays-through : (outcome result : Result Parting PlayFault) → result ≡ told_with outcome stop → HasRun s input left from now Left outcome → Plays s begun ended Left result
+  plays-through outcome result is run = subst (Plays s begun ended Left) (sym is) (plays outcome run)
+
+-- what was played, as it stands once what was lent is back
+plays-told : (s : Session) (first last : Ports) (Left : Session → Type 0) (result : Result Parting PlayFault) → Plays s first last Left result → PlaysTo s first last Left result
+plays-told s first last Left (Ok parting) p = p
+plays-told s first last Left (Err faults.NoMemory) p = absurd p.comes
+plays-told s first last Left (Err faults.Read) p = p
+plays-told s first last Left (Err faults.Log) p = p
+plays-told s first last Left (Err faults.Screen) p = p
+
+pub plays-lent : (s : Session) (old : Ports) (input : Heard) (log log' screen screen' : Seen) (Left : Session → Type 0) (result : Result Parting PlayFault) → log ≡ log' → screen ≡ screen' → Plays s old (record { input = input; log = log; screen = screen }) Left result → PlaysTo s old (record { input = input; log = log'; screen = screen' }) Left result
+plays-lent s old input log log' screen screen' Left result same alike p =
+    plays-told s old (record { input = input; log = log'; screen = screen' }) Left result
+    (subst (λ (x : Seen). Plays s old (record { input = input; log = log'; screen = x }) Left result) alike
+    (subst (λ (x : Seen). Plays s old (record { input = input; log = x; screen = screen }) Left result) same p))
