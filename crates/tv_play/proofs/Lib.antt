@@ -4,3 +4,4 @@ pub mod HeardLemmas
 pub mod JournalLemmas
 pub mod StepLemmas
 pub mod PlayLemmas
+pub mod LiveLemmas

@@ -8,6 +8,7 @@ mod parting;
 mod pieces;
 mod player;
 mod playing;
+mod session;
 mod show;
 
 pub use live::Live;
