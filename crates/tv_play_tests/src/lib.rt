@@ -1,0 +1,11 @@
+//! Runs in a terminal that is in memory.
+#![tactic(auto)]
+
+#[cfg(test)]
+mod failures;
+#[cfg(test)]
+mod runs;
+#[cfg(test)]
+mod sent;
+#[cfg(test)]
+mod sessions;
