@@ -1,11 +1,11 @@
 -- What a terminal shows, one event more.
-use Rattle.std.proofs.Common.{◌≡◌, ℕ, ◌+◌, ◌<◌, ◌≤◌, Bool, true, false, ◌⊎◌, inl, inr, List, [], ◌∷◌, ◌++◌, length, take, None, refl, sym, ap, subst, ◌∙◌, arith, length-append}
+use Rattle.std.proofs.Common.{◌≡◌, ℕ, ◌+◌, ◌<◌, ◌≤◌, Bool, true, false, ◌⊎◌, inl, inr, List, [], ◌∷◌, ◌++◌, length, take, Option, None, refl, sym, ap, subst, ◌∙◌, arith, length-append}
 use Rattle.std.specs.List.{concat}
 use Rattle.std.proofs.lemmas.Bool.{cases_lt, both_ways, cases_Bool}
 use Rattle.std.proofs.lemmas.List.{append-nil, take-append-le, take_all}
 use Rattle.std.proofs.lemmas.List.Folds.{concat-append}
 use Rattle.tv_ansi.specs.Displays.{Becomes, HasSpace, tile_of}
-use Rattle.tv_ansi.specs.Sequences.{end_bytes}
+use Rattle.tv_ansi.specs.Sequences.{cursor_on, end_bytes}
 use Rattle.tv_ansi.specs.Terminal.{Display}
 use Rattle.tv_ansi.specs.Writing.{Begun, IsRight, Painted, Paints, Starts, restored}
 use Rattle.tv_ansi.specs.declared.painter.Painter.{Painter}
@@ -13,6 +13,7 @@ use Rattle.tv_ansi.proofs.DrawLemmas.{tells-as, tells-then}
 use Rattle.tv_ansi.proofs.PaintLemmas.{told-end}
 use Rattle.tv_cells.specs.Picture.{IsAlike, IsOn, Picture, cell_at}
 use Rattle.tv_cells.specs.Repainting.{has_cell}
+use Rattle.tv_cells.specs.declared.rect.Point.{Point}
 use Rattle.tv_cells.specs.declared.rect.Rect.{Rect}
 use Rattle.tv_event.specs.declared.event.Event.{Event}
 use Rattle.tv_io.specs.Pen.{PutsBy}
@@ -23,9 +24,11 @@ use Rattle.tv_machine.specs.Output.{screen_cell}
 use Rattle.tv_machine.specs.Run.{Session}
 use Rattle.tv_model.specs.Description.Numbers.{natural}
 use Rattle.tv_model.specs.declared.desc.Desc.{Desc}
+use Rattle.tv_play.specs.Cursor.{FindsCursor}
 use Rattle.tv_play.specs.Ends.{session_at}
 use Rattle.tv_play.specs.Shown.{HasSize, IsOnScreen, IsReady, IsRestored, KeepsScreen, ShowsEach, ShowsSession, normal_of, restored_from}
 use Rattle.tv_play.specs.Steps.{HasTaken, IsShown}
+use Rattle.tv_play.proofs.CursorLemmas.{cursor-shown}
 use Rattle.tv_play.proofs.SessionLemmas.{desc-at}
 use Rattle.tv_script.specs.Performed.{IsScreenOf}
 
@@ -64,7 +67,7 @@ module _ (s : Session) (events : List Event) (e : Event) where
   abbrev pub now : Session
   now = session_at s (events ++ e ∷ [])
 
-  module _ {screen : Picture} {rects : List Rect} (is : IsScreenOf now screen) (keeps : KeepsScreen rects before now) where
+  module _ {screen : Picture} {rects : List Rect} (cursor : Option Point) (is : IsScreenOf now screen) (finds : FindsCursor screen cursor) (keeps : KeepsScreen rects before now) where
     -- a column and a row of one are those of the other
     on-picture : {column row : ℕ} → IsOnScreen now column row → IsOn screen column row
     on-picture on = record { across = omega (arith, on.across, is.width); down = omega (arith, on.down, is.height) }
@@ -72,7 +75,7 @@ module _ (s : Session) (events : List Event) (e : Event) where
     cell-now : {column row : ℕ} → IsOnScreen now column row → cell_at screen column row ≡ screen_cell now column row
     cell-now {column} {row} on = is.cells.each column row (on-picture on)
 
-    module _ {new : Painter} {d f g : Display} (law : ShowsSession before d f) (painted : Painted (λ column row. has_cell rects column row ≡ true) screen None new f g) where
+    module _ {new : Painter} {d f g : Display} (law : ShowsSession before d f) (painted : Painted (λ column row. has_cell rects column row ≡ true) screen (cursor_on screen.width screen.height cursor) new f g) where
       shown-cell : (column row : ℕ) → IsOnScreen now column row → (has_cell rects column row ≡ true) ⊎ (has_cell rects column row ≡ false) → g.cells column row ≡ tile_of (screen_cell now column row)
       shown-cell column row on (inl here) = painted.drawn.shows.inside column row (on-picture on) here ∙ ap tile_of (cell-now on)
       shown-cell column row on (inr apart) =
@@ -83,7 +86,7 @@ module _ (s : Session) (events : List Event) (e : Event) where
       shows-now : ShowsSession now d g
       shows-now = record {
         each = λ column row on. shown-cell column row on (cases_Bool (has_cell rects column row));
-        cursor = painted.points;
+        cursor = cursor-shown now screen is cursor finds g painted.points;
         columns = painted.drawn.stays.columns ∙ law.columns;
         rows = painted.drawn.stays.rows ∙ law.rows;
         mouse = painted.drawn.stays.mouse ∙ law.mouse;
@@ -108,7 +111,7 @@ module _ (s : Session) (events : List Event) (e : Event) where
             ∙ ap tile_of (sym (taken.each column row on));
       }
 
-    module _ {W : Type 0} {seen : W → Seen} {old new : Painter} {x z : Pen W} (taken : HasTaken before old) (p : Paints seen (λ column row. has_cell rects column row ≡ true) screen None old new x z) where
+    module _ {W : Type 0} {seen : W → Seen} {old new : Painter} {x z : Pen W} (taken : HasTaken before old) (p : Paints seen (λ column row. has_cell rects column row ≡ true) screen (cursor_on screen.width screen.height cursor) old new x z) where
       taken-cell : (column row : ℕ) → IsOn new.shown column row → (has_cell rects column row ≡ true) ⊎ (has_cell rects column row ≡ false) → cell_at new.shown column row ≡ screen_cell now column row
       taken-cell column row on which =
           let on-old : IsOn old.shown column row = record { across = omega (arith, on.across, p.changes.size.width); down = omega (arith, on.down, p.changes.size.height) } in
@@ -159,7 +162,7 @@ module _ (s : Session) (events : List Event) (e : Event) where
         }
 
     pub shown-more : {W : Type 0} {seen : W → Seen} {old new : Painter} {x z : Pen W} (from : Seen) → IsShown s events from (seen x.out.now) x.stopped old
-        → Paints seen (λ column row. has_cell rects column row ≡ true) screen None old new x z → IsShown s (events ++ e ∷ []) from (seen z.out.now) z.stopped new
+        → Paints seen (λ column row. has_cell rects column row ≡ true) screen (cursor_on screen.width screen.height cursor) old new x z → IsShown s (events ++ e ∷ []) from (seen z.out.now) z.stopped new
     shown-more {seen = seen} {x = x} {z = z} from shown p = record {
       frames = shown.frames ++ p.bytes ∷ [];
       shows = shows-more shown.taken p shown.shows;
@@ -169,14 +172,14 @@ module _ (s : Session) (events : List Event) (e : Event) where
 
 -- ---- the beginning
 
-module _ {W : Type 0} {seen : W → Seen} (s : Session) {screen : Picture} {old new : Painter} {x z : Pen W} (is : IsScreenOf s screen) (size : HasSize s old) (p : Starts seen screen None old new x z) where
+module _ {W : Type 0} {seen : W → Seen} (s : Session) {screen : Picture} (cursor : Option Point) {old new : Painter} {x z : Pen W} (is : IsScreenOf s screen) (finds : FindsCursor screen cursor) (size : HasSize s old) (p : Starts seen screen (cursor_on screen.width screen.height cursor) old new x z) where
   on-first : {column row : ℕ} → IsOnScreen s column row → IsOn screen column row
   on-first on = record { across = omega (arith, on.across, is.width); down = omega (arith, on.down, is.height) }
 
-  first-shows : {d e : Display} → Begun screen None new d e → ShowsSession s d e
-  first-shows b = record {
+  first-shows : {d e : Display} → Begun screen (cursor_on screen.width screen.height cursor) new d e → ShowsSession s d e
+  first-shows {d} {e} b = record {
     each = λ column row on. b.shows.each column row (on-first on) ∙ ap tile_of (is.cells.each column row (on-first on));
-    cursor = b.points;
+    cursor = cursor-shown s screen is cursor finds e b.points;
     columns = b.columns;
     rows = b.rows;
     mouse = b.mouse;

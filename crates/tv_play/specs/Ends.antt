@@ -36,7 +36,7 @@ interrupt = keys.Ctrl 67
 abbrev pub has_interrupt : Desc → Bool
 has_interrupt d = list_any (λ item. is_same_key item.key interrupt) d.status
 
--- he does by Ctrl-\ always, and by Ctrl-C where no status item has that key
+-- by Ctrl-\ always, and by Ctrl-C where no status item has that key
 abbrev pub is_leaving : Desc → Action → Bool
 is_leaving d Quit = true
 is_leaving d (Event (events.Key k)) = is_same_key k interrupt && not (has_interrupt d)

@@ -2,6 +2,8 @@
 pub mod Pieces
 -- what ends a run in a terminal
 pub mod Ends
+-- the cursor of the focused input
+pub mod Cursor
 -- what a terminal shows of a run
 pub mod Shown
 -- a run in a terminal, step by step

@@ -10,6 +10,7 @@ use Rattle.tv_event.specs.declared.event.Event.{Event}
 use Rattle.tv_machine.specs.Output.{screen_cell}
 use Rattle.tv_machine.specs.Run.{Session}
 use Rattle.tv_model.specs.Description.Numbers.{natural}
+use Rattle.tv_play.specs.Cursor.{is_cursor}
 use Rattle.tv_play.specs.Ends.{session_at}
 
 -- ---- sessions
@@ -41,11 +42,18 @@ pub record IsReady (s : Session) (d : Display) : Type 0 where
 abbrev pub normal_of : Display → Covered
 normal_of d = record { cells = d.cells; column = d.column; row = d.row }
 
--- it shows each cell of the session's screen, by its character and its colours, has no cursor, tells of the mouse, keeps its
--- normal screen, and was told nothing that its definition lacks
+-- its cursor stands at a cell of the session's screen that has the colours of an input's cursor, and is hidden where none has
+pub record ShowsCursor (s : Session) (e : Display) : Type 0 where
+  pub shown : e.has_cursor ≡ true
+      → IsOnScreen s e.column e.row × (is_cursor (screen_cell s e.column e.row) ≡ true)
+  pub hidden : e.has_cursor ≡ false → (column row : ℕ) → IsOnScreen s column row
+      → is_cursor (screen_cell s column row) ≡ false
+
+-- it shows each cell of the session's screen, by its character and its colours, and the cursor of the focused input, tells of
+-- the mouse, keeps its normal screen, and was told nothing that its definition lacks
 pub record ShowsSession (s : Session) (d e : Display) : Type 0 where
   pub each : (column row : ℕ) → IsOnScreen s column row → e.cells column row ≡ tile_of (screen_cell s column row)
-  pub cursor : e.has_cursor ≡ false
+  pub cursor : ShowsCursor s e
   pub columns : e.columns ≡ d.columns
   pub rows : e.rows ≡ d.rows
   pub mouse : e.has_mouse ≡ true

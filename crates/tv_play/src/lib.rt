@@ -1,6 +1,7 @@
 //! A dialog in a terminal: what the user does, piece by piece, what the terminal shows of it, and what is logged.
 #![tactic(auto)]
 
+mod cursor;
 mod ends;
 mod journal;
 mod live;

@@ -103,7 +103,7 @@ fn take_action<L: Live, T: Writer, W: Writer>(
     outcome_of(is_finished, written, show.pen.stopped)
 }
 
-// The same, where it is known that he did something.
+// The same, for what the user may have done.
 fn take_meant<L: Live, T: Writer, W: Writer>(
     stage: &mut L,
     show: &mut Show<'_, '_, T>,

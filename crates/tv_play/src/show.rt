@@ -11,6 +11,7 @@ ghost use Rattle.tv_play.specs.Ends.{session_at};
 ghost use Rattle.tv_play.specs.Shown.{HasSize, KeepsScreen};
 ghost use Rattle.tv_play.specs.Steps.{IsShown};
 
+use crate::cursor::find_cursor;
 use crate::live::Live;
 use tv_ansi::Painter;
 use tv_io::{Pen, Writer};
@@ -32,7 +33,9 @@ impl<T: Writer> Show<'_, '_, T> {
         ensures shown { (s : Session) → L.stands stage.now s
             → IsShown s [] (T.seen self.old.pen.out.now) (T.seen self.new.pen.out.now) self.new.pen.stopped self.new.painter.now }
     {
-        self.painter.begin(stage.screen(), None, &mut self.pen);
+        let screen = stage.screen();
+        let cursor = find_cursor(screen, &[]);
+        self.painter.begin(screen, cursor, &mut self.pen);
     }
 
     /// Shows what an event changed.
@@ -46,8 +49,9 @@ impl<T: Writer> Show<'_, '_, T> {
             → IsShown s events from (T.seen self.old.pen.out.now) self.old.pen.stopped self.old.painter.now
             → IsShown s (events ++ event ∷ []) from (T.seen self.new.pen.out.now) self.new.pen.stopped self.new.painter.now }
     {
-        self.painter
-            .paint(stage.screen(), stage.repainted(), None, &mut self.pen);
+        let (screen, rects) = (stage.screen(), stage.repainted());
+        let cursor = find_cursor(screen, rects);
+        self.painter.paint(screen, rects, cursor, &mut self.pen);
     }
 
     /// Shows what the terminal showed before.

@@ -2,13 +2,13 @@ use Rattle.tv_play.proofs.ShownLemmas.{alike-size, shown-first, size-alike, size
 use Rattle.tv_play.proofs.show.Show.begin.Goals as goal
 
 pub begin-requires : goal.begin-requires
-begin-requires g c = alike-size (c.screen.ensures c.requires.there.0 c.requires.there.1) c.requires.there.2
+begin-requires g c = alike-size (c.screen-screen.ensures c.requires.there.0 c.requires.there.1) c.requires.there.2
 
 pub returns-clause-size : goal.returns-clause-size
 returns-clause-size g c = λ t size. size-alike c.begin.ensures.size size
 
 pub returns-clause-shown : goal.returns-clause-shown
 returns-clause-shown g c = λ s stands.
-    shown-first s (c.screen.ensures s stands)
-    (size-same (c.screen.ensures c.requires.there.0 c.requires.there.1) (c.screen.ensures s stands) c.requires.there.2)
+    shown-first s c.find_cursor-cursor.result (c.screen-screen.ensures s stands) c.find_cursor-cursor.ensures
+    (size-same (c.screen-screen.ensures c.requires.there.0 c.requires.there.1) (c.screen-screen.ensures s stands) c.requires.there.2)
     c.begin.ensures c.requires.going
