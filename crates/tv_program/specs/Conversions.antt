@@ -10,6 +10,8 @@ use Rattle.tv_certificate.specs.declared.reading.CertificateFault.{CertificateFa
 use Rattle.tv_certificate.specs.declared.reading.CertificateFault.TheVariants as certificates
 use Rattle.tv_lang.specs.declared.description.LangFault.{LangFault}
 use Rattle.tv_lang.specs.declared.description.LangFault.TheVariants as lang
+use Rattle.tv_play.specs.declared.parting.PlayFault.{PlayFault as TerminalFault}
+use Rattle.tv_play.specs.declared.parting.PlayFault.TheVariants as terminals
 use Rattle.tv_program.specs.declared.accept_fault.AcceptFault.{AcceptFault}
 use Rattle.tv_program.specs.declared.accept_fault.AcceptFault.TheVariants as accepts
 use Rattle.tv_program.specs.declared.check_fault.CheckFault.{CheckFault}
@@ -83,6 +85,13 @@ stream_run (streams.OffScreen line) = runs.Script (scripts.OffScreen line)
 stream_run streams.TooLong = runs.Script scripts.TooLong
 stream_run streams.Read = runs.Read
 stream_run (streams.Write begun) = runs.Write
+
+-- the run in a terminal was broken off
+abbrev pub terminal_run : TerminalFault → PlayFault
+terminal_run terminals.NoMemory = runs.NoMemory
+terminal_run terminals.Read = runs.Read
+terminal_run terminals.Log = runs.Write
+terminal_run terminals.Screen = runs.Write
 
 -- ---- telling
 

@@ -8,5 +8,7 @@ pub mod Playing
 pub mod Reading
 -- What is printed of a call that failed
 pub mod Report
+-- What playing a description in a terminal comes to
+pub mod Terminal
 -- What the laws say of every run of a description
 pub mod Laws

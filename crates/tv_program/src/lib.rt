@@ -8,6 +8,7 @@ mod fault;
 mod message;
 mod play_fault;
 mod playing;
+mod terminal;
 
 pub use accept_fault::AcceptFault;
 pub use check_fault::CheckFault;
@@ -16,3 +17,4 @@ pub use fault::RunFault;
 pub use message::report;
 pub use play_fault::PlayFault;
 pub use playing::{read_checked, run, run_from};
+pub use terminal::{play, play_from};

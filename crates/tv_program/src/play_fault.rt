@@ -2,18 +2,19 @@
 
 ghost use Rattle.std.specs.Prelude.{◌≡◌};
 ghost use Rattle.tv_program.specs.declared.play_fault.PlayFault.TheVariants.{NoMemory};
-ghost use Rattle.tv_program.specs.Conversions.{build_run, desc_run, lang_run, session_run, stream_run};
+ghost use Rattle.tv_program.specs.Conversions.{build_run, desc_run, lang_run, session_run, stream_run, terminal_run};
 
 use std::alloc::AllocError;
 use tv_building::BuildFault;
 use tv_check::DescFault;
 use tv_lang::LangFault;
 use tv_model::{Fault, Sequence};
+use tv_play::PlayFault as TerminalFault;
 use tv_script::{ScriptFault, StreamFault};
 use tv_session::SessionFault;
 
 /// Why a script wasn't run to its end: a fault of the description or of the views, before anything of the script is read, or
-/// one that came while the script was performed.
+/// one that came while the script was performed. Also why a description wasn't played in a terminal, which has no `Script`.
 #[derive(Debug, Drop)]
 pub enum PlayFault {
     NoMemory,
@@ -25,9 +26,9 @@ pub enum PlayFault {
     View,
     /// The script is not spelled right; the lines before the fault were performed.
     Script(ScriptFault),
-    /// The reader of the script failed.
+    /// The reader of the script failed, or what comes from the terminal can't be read.
     Read,
-    /// The writer failed, or took nothing.
+    /// A writer failed, or took nothing.
     Write,
 }
 
@@ -94,6 +95,18 @@ impl From<StreamFault> for PlayFault {
             StreamFault::TooLong => PlayFault::Script(ScriptFault::TooLong),
             StreamFault::Read => PlayFault::Read,
             StreamFault::Write(_) => PlayFault::Write,
+        }
+    }
+}
+
+impl From<TerminalFault> for PlayFault {
+    ghost from_gives = { λ broken fault. fault ≡ terminal_run broken };
+
+    fn from(broken: TerminalFault) -> PlayFault {
+        match broken {
+            TerminalFault::NoMemory => PlayFault::NoMemory,
+            TerminalFault::Read => PlayFault::Read,
+            TerminalFault::Log | TerminalFault::Screen => PlayFault::Write,
         }
     }
 }

@@ -88,8 +88,8 @@ pub fn read_checked(alloc: Global, text: &[u8]) -> Result<Checked, PlayFault>
     Ok(examine(alloc, desc)?)
 }
 
-// Begins a run through the views that are made for the description.
-fn begin<V: View, F: Fn(Global, &Checked) -> Result<Views<V>, BuildFault>>(
+/// Begins a run through the views that are made for the description.
+pub(crate) fn begin<V: View, F: Fn(Global, &Checked) -> Result<Views<V>, BuildFault>>(
     alloc: Global,
     checked: Checked,
     make: &F,

@@ -1,0 +1,58 @@
+-- Why nothing is played in a terminal, and what comes of it where it is.
+use Rattle.std.proofs.Common.{◌≡◌, ℕ, List, Result, Ok, Err, IsErrAnd, ap, refl}
+use Rattle.tv_machine.specs.Run.{Session, started}
+use Rattle.tv_model.specs.declared.desc.Desc.{Desc}
+use Rattle.tv_play.specs.Playing.{Plays, PlaysTo, Ports}
+use Rattle.tv_play.specs.declared.parting.Parting.{Parting}
+use Rattle.tv_play.specs.declared.parting.PlayFault.{PlayFault as TerminalFault}
+use Rattle.tv_play.specs.declared.parting.PlayFault.TheVariants as terminals
+use Rattle.tv_program.specs.declared.play_fault.PlayFault.{PlayFault}
+use Rattle.tv_program.specs.Conversions.{terminal_run}
+use Rattle.tv_program.specs.Playing.{IsNoStart, RefusesDesc}
+use Rattle.tv_program.specs.Reading.{IsSoundText}
+use Rattle.tv_program.specs.Terminal.{PlaysText}
+use Rattle.tv_program.specs.Terminal.PlaysText.{refused, unbegun, played}
+
+-- what a run left is of no matter
+module _ (s : Session) (old new : Ports) (Left : Session → Type 0) where
+  Plays-gone : (outcome : Result Parting TerminalFault) → Plays s old new Left outcome → Plays s old new (λ s. Unit {0}) outcome
+  Plays-gone outcome p = record {
+    symbols = p.symbols;
+    events = p.events;
+    rest = p.rest;
+    heard = p.heard;
+    left = tt;
+    frames = p.frames;
+    shows = p.shows;
+    restores = p.restores;
+    comes = p.comes;
+  }
+
+  pub PlaysTo-gone : (outcome : Result Parting TerminalFault) → PlaysTo s old new Left outcome → PlaysTo s old new (λ s. Unit {0}) outcome
+  PlaysTo-gone (Ok parting) p = Plays-gone (Ok parting) p
+  PlaysTo-gone (Err terminals.NoMemory) p = record { ports = p.ports; left = tt }
+  PlaysTo-gone (Err terminals.Read) p = Plays-gone (Err terminals.Read) p
+  PlaysTo-gone (Err terminals.Log) p = Plays-gone (Err terminals.Log) p
+  PlaysTo-gone (Err terminals.Screen) p = Plays-gone (Err terminals.Screen) p
+
+err-is : {T : Type 0} (fault : PlayFault) (r : Result T PlayFault) → IsErrAnd r (λ told. told ≡ fault) → r ≡ Err fault
+err-is fault (Ok x) told = absurd told
+err-is fault (Err other) told = ap Err told
+
+module _ (Mismade : Desc → Type 0) (text : List ℕ) (ports : Ports) where
+  -- the description is refused
+  pub refused-PlaysText : (fault : PlayFault) → RefusesDesc text fault → (r : Result Parting PlayFault) → IsErrAnd r (λ told. told ≡ fault) → PlaysText Mismade text ports ports r
+  refused-PlaysText fault is r told = refused fault is refl (err-is fault r told)
+
+  module _ (d : Desc) (read : IsSoundText text d) where
+    -- no views were made, or they were refused
+    pub unbegun-PlaysText : (fault : PlayFault) → IsNoStart Mismade d fault → (r : Result Parting PlayFault) → IsErrAnd r (λ told. told ≡ fault) → PlaysText Mismade text ports ports r
+    unbegun-PlaysText fault unmade r told = unbegun d fault read unmade refl (err-is fault r told)
+
+    -- it ended, or was left
+    pub parted-PlaysText : (new : Ports) (Left : Session → Type 0) (parting : Parting) → PlaysTo (started d) ports new Left (Ok parting) → PlaysText Mismade text ports new (Ok parting)
+    parted-PlaysText new Left parting plays = played d (Ok parting) read (PlaysTo-gone (started d) ports new Left (Ok parting) plays) refl
+
+    -- it was broken off
+    pub broken-PlaysText : (new : Ports) (Left : Session → Type 0) (fault : TerminalFault) → PlaysTo (started d) ports new Left (Err fault) → (r : Result Parting PlayFault) → IsErrAnd r (λ told. told ≡ terminal_run fault) → PlaysText Mismade text ports new r
+    broken-PlaysText new Left fault plays r told = played d (Err fault) read (PlaysTo-gone (started d) ports new Left (Err fault) plays) (err-is (terminal_run fault) r told)
