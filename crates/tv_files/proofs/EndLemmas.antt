@@ -4,19 +4,25 @@ use Rattle.tv_io.specs.Reader.{Given}
 use Rattle.tv_io.specs.Writer.{Seen}
 use Rattle.tv_machine.specs.Run.{Session}
 use Rattle.tv_model.specs.declared.desc.Desc.{Desc}
+use Rattle.tv_play.specs.Playing.{Ports}
+use Rattle.tv_play.specs.declared.parting.Parting.{Parting}
 use Rattle.tv_program.specs.declared.play_fault.PlayFault.{PlayFault}
 use Rattle.tv_program.specs.declared.play_fault.PlayFault.TheVariants as runs
 use Rattle.tv_program.specs.Playing.{IsNoStart, RunsTo}
 use Rattle.tv_program.specs.Playing.RunsTo.{refused, unbegun, stopped, done as done_run}
 use Rattle.tv_program.specs.Reading.{IsSoundText}
+use Rattle.tv_program.specs.Terminal.{PlaysText}
+use Rattle.tv_program.specs.Terminal.PlaysText.{refused as refused_play, unbegun as unbegun_play, played as played_text}
+use Rattle.tv_files.specs.declared.done.Done.{Done}
 use Rattle.tv_files.specs.declared.no_task.NoTask.{NoTask}
 use Rattle.tv_files.specs.declared.task.Task.{Task}
-use Rattle.tv_files.specs.declared.task.Task.TheVariants.{Check, Accept, Run}
+use Rattle.tv_files.specs.declared.task.Task.TheVariants.{Check, Accept, Run, Play}
 use Rattle.tv_files.specs.Ends.{End}
-use Rattle.tv_files.specs.EndsWith.{EndsWith, World}
+use Rattle.tv_files.specs.EndsWith.{EndsWith, World, ports_of}
 use Rattle.tv_files.specs.Files.{Known}
-use Rattle.tv_files.specs.Tasks.{PerformsTask, RunsFiles}
+use Rattle.tv_files.specs.Tasks.{PerformsTask, PlaysFile, RunsFiles}
 use Rattle.tv_files.specs.Tasks.OnStream.{unopened, beside, unread, done}
+use Rattle.tv_files.specs.Tasks.PlaysFile.{unread as unread_file, played as played_file}
 
 module _ (P Q : Desc → Type 0) (weaker : (text : List ℕ) (d : Desc) → IsSoundText text d → P d → Q d) where
   -- why no run was begun
@@ -45,16 +51,31 @@ module _ (P Q : Desc → Type 0) (weaker : (text : List ℕ) (d : Desc) → IsSo
   RunsFiles-weaker files after file script old new end (done text reader left gives is came) =
       done text reader left gives is (came.0, RunsTo-weaker _ text reader left old new came.0 came.1, came.2)
 
+  -- what playing a description comes to
+  PlaysText-weaker : (text : List ℕ) (old new : Ports) (r : Result Parting PlayFault) → PlaysText P text old new r → PlaysText Q text old new r
+  PlaysText-weaker text old new r (refused_play fault is untouched told) = refused_play fault is untouched told
+  PlaysText-weaker text old new r (unbegun_play d fault read why untouched told) =
+      unbegun_play d fault read (IsNoStart-weaker text d fault read why) untouched told
+  PlaysText-weaker text old new r (played_text d outcome read plays told) = played_text d outcome read plays told
+
+  -- what playing a file comes to
+  PlaysFile-weaker : (files after : Known) (file : List ℕ) (old new : Ports) (how : Done) (end : End) → PlaysFile P files after file old new how end → PlaysFile Q files after file old new how end
+  PlaysFile-weaker files after file old new how end (unread_file is same whole) = unread_file is same whole
+  PlaysFile-weaker files after file old new how end (played_file text gives came) =
+      played_file text gives (came.0, PlaysText-weaker text old new came.0 came.1, came.2, came.3)
+
   -- what a task comes to
-  Performs-weaker : (task : Task) (files after : Known) (old new : Seen) (end : End) → PerformsTask P task files after old new end → PerformsTask Q task files after old new end
-  Performs-weaker (Check file) files after old new end came = came
-  Performs-weaker (Accept file certificate) files after old new end came = came
-  Performs-weaker (Run file script) files after old new end came = RunsFiles-weaker files after file.now script.now old new end came
+  Performs-weaker : (task : Task) (files after : Known) (old new : Ports) (how : Done) (end : End) → PerformsTask P task files after old new how end → PerformsTask Q task files after old new how end
+  Performs-weaker (Check file) files after old new how end came = came
+  Performs-weaker (Accept file certificate) files after old new how end came = came
+  Performs-weaker (Run file script) files after old new how end came =
+      (came.0, RunsFiles-weaker files after file.now script.now old.log new.log end came.1)
+  Performs-weaker (Play file) files after old new how end came = PlaysFile-weaker files after file.now old new how end came
 
   -- how the program ends
   pub EndsWith-weaker : (asked : Result Task NoTask) (old new : World) (status : ℕ) → EndsWith P asked old new status → EndsWith Q asked old new status
   EndsWith-weaker (Ok task) old new status ends =
-      (ends.0, ends.1, Performs-weaker task old.files new.files old.out ends.1 ends.0 ends.2, ends.3)
+      (ends.0, ends.1, ends.2, Performs-weaker task old.files new.files (ports_of old) ends.2 ends.0 ends.1 ends.3, ends.4, ends.5)
   EndsWith-weaker (Err no_task) old new status ends = ends
 
 -- the same, where nothing is said of them

@@ -4,17 +4,20 @@ use Rattle.tv_io.specs.Reader.{Given}
 use Rattle.tv_io.specs.Writer.{Seen}
 use Rattle.tv_machine.specs.Run.{Session, started}
 use Rattle.tv_model.specs.declared.desc.Desc.{Desc}
+use Rattle.tv_play.specs.Playing.{Ports}
 use Rattle.tv_program.specs.declared.fault.RunFault.{RunFault}
 use Rattle.tv_program.specs.declared.play_fault.PlayFault.{PlayFault}
 use Rattle.tv_program.specs.Playing.{RunsTo}
 use Rattle.tv_program.specs.Playing.RunsTo.{refused, unbegun, stopped, done as done_run}
 use Rattle.tv_script.specs.Streams.{ComesFrom}
+use Rattle.tv_files.specs.declared.done.Done.{Done}
 use Rattle.tv_files.specs.declared.failure.Failure.{Failure}
-use Rattle.tv_files.specs.Ends.{End, end_of, path_of}
+use Rattle.tv_files.specs.Ends.{End, done_in, end_of, path_of}
 use Rattle.tv_files.specs.Files.{IsFileOf, IsRead, Known, Opens}
-use Rattle.tv_files.specs.Tasks.{EndsFirst, GivesText, IsUnread, OnFiles, OnStream}
+use Rattle.tv_files.specs.Tasks.{EndsFirst, GivesText, IsUnread, OnFiles, OnStream, PlaysFile}
 use Rattle.tv_files.specs.Tasks.OnFiles.{first, unread, done}
 use Rattle.tv_files.specs.Tasks.OnStream.{done as done_both}
+use Rattle.tv_files.specs.Tasks.PlaysFile.{unread as unread_file}
 use Rattle.tv_files.proofs.FileLemmas.{Gives-then, IsFileOf-then, IsRead-Gives, IsUnread-then, Opens-both}
 
 -- a fault, told of its file
@@ -70,3 +73,10 @@ RunsTo-gone Mismade Stands text reader left old new r (unbegun d fault read why 
 RunsTo-gone Mismade Stands text reader left old new r (stopped d fault read comes told) = stopped d fault read comes (ap gone told)
 RunsTo-gone Mismade Stands text reader left old new r (done_run d run read comes told) =
     done_run d tt read (ComesFrom-gone (started d) reader left old new (Stands run) comes) (ap gone told)
+
+-- ---- in a terminal
+
+-- the description wasn't read
+pub unread-PlaysFile : (Mismade : Desc → Type 0) (files after : Known) (file : List ℕ) (ports : Ports) (failure : Failure) → IsUnread files after (file ∷ []) file (Some (failure.fault, failure.path.now)) → (r : Result Done Failure) → IsErrAnd r (λ told. told ≡ failure) → PlaysFile Mismade files after file ports ports (done_in r) (end_of r)
+unread-PlaysFile Mismade files after file ports failure is (Ok how) told = absurd told
+unread-PlaysFile Mismade files after file ports failure is (Err other) told = rw told (unread_file is refl refl)

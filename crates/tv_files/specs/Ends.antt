@@ -1,10 +1,14 @@
 -- How a task ends.
 use Rattle.std.specs.Prelude.{ℕ, List, Option, Some, None, Result, Ok, Err}
+use Rattle.tv_play.specs.declared.parting.Parting.{Parting}
+use Rattle.tv_play.specs.declared.parting.Parting.TheVariants as partings
 use Rattle.tv_program.specs.declared.fault.RunFault.{RunFault}
 use Rattle.tv_program.specs.declared.fault.RunFault.TheVariants.{NoMemory, Read, Cert}
 use Rattle.tv_program.specs.declared.play_fault.PlayFault.{PlayFault}
 use Rattle.tv_program.specs.declared.play_fault.PlayFault.TheVariants as runs
 use Rattle.tv_program.specs.Conversions.{play_told}
+use Rattle.tv_files.specs.declared.done.Done.{Done}
+use Rattle.tv_files.specs.declared.done.Done.TheVariants.{Whole, BrokenOff}
 use Rattle.tv_files.specs.declared.failure.Failure.{Failure}
 use Rattle.tv_files.specs.declared.read_fault.ReadFault.{ReadFault}
 use Rattle.tv_files.specs.declared.read_fault.ReadFault.TheVariants as unread
@@ -17,6 +21,22 @@ End = Option (RunFault × List ℕ)
 abbrev pub end_of : {T : Type 0} → Result T Failure → End
 end_of (Ok _) = None
 end_of (Err failure) = Some (failure.fault, failure.path.now)
+
+-- how the task was done. One that failed counts as whole
+abbrev pub done_in : Result Done Failure → Done
+done_in (Ok done) = done
+done_in (Err failure) = Whole
+
+-- how a description was played
+abbrev pub done_by : Parting → Done
+done_by partings.Over = Whole
+done_by partings.Left = BrokenOff
+done_by partings.Ended = BrokenOff
+
+-- the same by the answer of the call
+abbrev pub done_of_play : {F : Type 0} → Result Parting F → Done
+done_of_play (Ok parting) = done_by parting
+done_of_play (Err fault) = Whole
 
 -- the file that a fault is in: the description, or the certificate beside it
 abbrev pub path_of : RunFault → (file beside : List ℕ) → List ℕ

@@ -2,6 +2,9 @@
 use Rattle.std.specs.Prelude.{◌≡◌, ℕ, List, Result, Ok, Err}
 use Rattle.tv_model.specs.declared.desc.Desc.{Desc}
 use Rattle.tv_io.specs.Writer.{Seen}
+use Rattle.tv_play.specs.Pieces.{Heard}
+use Rattle.tv_play.specs.Playing.{Ports}
+use Rattle.tv_files.specs.declared.done.Done.{Done}
 use Rattle.tv_files.specs.declared.no_task.NoTask.{NoTask}
 use Rattle.tv_files.specs.declared.task.Task.{Task}
 use Rattle.tv_files.specs.Ends.{End}
@@ -12,18 +15,24 @@ use Rattle.tv_files.specs.Telling.{Tells, TellsNoTask}
 -- what is known of the program's files and streams at a moment
 pub record World : Type 0 where
   pub files : Known
+  pub heard : Heard
   pub out : Seen
   pub out_kept : List ℕ
   pub err : Seen
   pub err_kept : List ℕ
 
--- The task is performed on the files, and standard output takes what it writes; then its end is told, and
--- both streams
--- are flushed. Where there is no task, only that is told.
+-- what a task hears and writes
+abbrev pub ports_of : World → Ports
+ports_of world = record { input = world.heard; log = world.out; screen = world.err }
+
+-- The task is performed on the files. Standard output takes what it writes, and standard error the screen of what is played;
+-- then its end is told, and both streams are flushed. Where there is no task, only that is told.
 abbrev pub EndsWith : (Mismade : Desc → Type 0) → Result Task NoTask → (old new : World) → (status : ℕ)
     → Type 0
 EndsWith Mismade (Ok task) old new status =
-    (end : End) × (mid : Seen) × PerformsTask Mismade task old.files new.files old.out mid end
-    × Tells end mid new.out new.out_kept old.err new.err new.err_kept status
+    (done : Done) × (end : End) × (mid : Ports)
+    × PerformsTask Mismade task old.files new.files (ports_of old) mid done end × (new.heard ≡ mid.input)
+    × Tells done end mid.log new.out new.out_kept mid.screen new.err new.err_kept status
 EndsWith Mismade (Err no_task) old new status =
-    (new.files ≡ old.files) × (new.out ≡ old.out) × TellsNoTask no_task old.err new.err new.err_kept status
+    (new.files ≡ old.files) × (new.heard ≡ old.heard) × (new.out ≡ old.out)
+    × TellsNoTask no_task old.err new.err new.err_kept status

@@ -12,3 +12,5 @@ pub mod Streams
 pub mod Tasks
 -- What is told of a task, and the status
 pub mod Telling
+-- What a read of a terminal that gave no byte is
+pub mod Waits

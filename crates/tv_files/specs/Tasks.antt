@@ -1,10 +1,12 @@
 -- What a task on files comes to.
-use Rattle.std.specs.Prelude.{◌≡◌, ℕ, List, [], ◌∷◌, Some, IsNone, Result}
+use Rattle.std.specs.Prelude.{◌≡◌, ℕ, List, [], ◌∷◌, Some, IsNone, Result, codes}
 use Rattle.tv_lang.specs.declared.description.LangFault.{LangFault}
 use Rattle.tv_lang.specs.Faults.{RefusesToParse, Spells}
 use Rattle.tv_model.specs.declared.desc.Desc.{Desc}
 use Rattle.tv_io.specs.Reader.{Given}
 use Rattle.tv_io.specs.Writer.{Seen}
+use Rattle.tv_play.specs.Playing.{Ports}
+use Rattle.tv_play.specs.declared.parting.Parting.{Parting}
 use Rattle.tv_program.specs.declared.accept_fault.AcceptFault.{AcceptFault}
 use Rattle.tv_program.specs.declared.check_fault.CheckFault.{CheckFault}
 use Rattle.tv_program.specs.declared.fault.RunFault.{RunFault}
@@ -13,9 +15,12 @@ use Rattle.tv_program.specs.declared.play_fault.PlayFault.{PlayFault}
 use Rattle.tv_program.specs.CheckRun.{AcceptsTo, ChecksTo}
 use Rattle.tv_program.specs.Conversions.{accept_told, check_told, lang_told}
 use Rattle.tv_program.specs.Playing.{RunsTo}
+use Rattle.tv_program.specs.Terminal.{PlaysText}
+use Rattle.tv_files.specs.declared.done.Done.{Done}
+use Rattle.tv_files.specs.declared.done.Done.TheVariants.{Whole}
 use Rattle.tv_files.specs.declared.task.Task.{Task}
-use Rattle.tv_files.specs.declared.task.Task.TheVariants.{Check, Accept, Run}
-use Rattle.tv_files.specs.Ends.{End, end_as, end_of_run}
+use Rattle.tv_files.specs.declared.task.Task.TheVariants.{Check, Accept, Run, Play}
+use Rattle.tv_files.specs.Ends.{End, done_of_play, end_as, end_of_run}
 use Rattle.tv_files.specs.Files.{BreaksOff, IsFileOf, IsFileText, Known, Opens}
 
 -- the task ended at a file that can't be opened, the last one that was asked for, or because memory ran out
@@ -149,13 +154,43 @@ abbrev pub RunsFiles : (Mismade : Desc → Type 0) → (files after : Known) →
 RunsFiles Mismade files after file script old new end =
     OnStream (RunsAs Mismade file script old new end) files after file script old new end
 
+-- ---- in a terminal
+
+-- what is told where the terminal can't be read
+abbrev pub terminal : List ℕ
+terminal = codes "standard input"
+
+-- what `play` answers about the text, told as an end
+abbrev pub PlaysAs : (Mismade : Desc → Type 0) → (file : List ℕ) → (old new : Ports) → Done → End
+    → (text : List ℕ) → Type 0
+PlaysAs Mismade file old new how end text =
+    (r : Result Parting PlayFault) × PlaysText Mismade text old new r
+    × (how ≡ done_of_play r) × (end ≡ end_of_run file terminal r)
+
+-- The description is read before the terminal is touched
+pub data PlaysFile (Mismade : Desc → Type 0) (files after : Known) (file : List ℕ) (old new : Ports) (how : Done)
+    (end : End) : Type 0 where
+  unread : IsUnread files after (file ∷ []) file end → new ≡ old → how ≡ Whole
+      → PlaysFile Mismade files after file old new how end
+  played : (text : List ℕ) → GivesText files after (file ∷ []) file text → PlaysAs Mismade file old new how end text
+      → PlaysFile Mismade files after file old new how end
+
 -- ---- all tasks
 
+-- a task to its end, or to a failure, which hears nothing and shows no screen
+pub record IsQuiet (old new : Ports) (how : Done) : Type 0 where
+  pub input : new.input ≡ old.input
+  pub screen : new.screen ≡ old.screen
+  pub whole : how ≡ Whole
+
 -- a task, by what is asked for
-abbrev pub PerformsTask : (Mismade : Desc → Type 0) → Task → (files after : Known) → (old new : Seen) → End
+abbrev pub PerformsTask : (Mismade : Desc → Type 0) → Task → (files after : Known) → (old new : Ports) → Done → End
     → Type 0
-PerformsTask Mismade (Check file) files after old new end = ChecksFile files after file.now old new end
-PerformsTask Mismade (Accept file certificate) files after old new end =
-    AcceptsFiles files after file.now certificate.now old new end
-PerformsTask Mismade (Run file script) files after old new end =
-    RunsFiles Mismade files after file.now script.now old new end
+PerformsTask Mismade (Check file) files after old new how end =
+    IsQuiet old new how × ChecksFile files after file.now old.log new.log end
+PerformsTask Mismade (Accept file certificate) files after old new how end =
+    IsQuiet old new how × AcceptsFiles files after file.now certificate.now old.log new.log end
+PerformsTask Mismade (Run file script) files after old new how end =
+    IsQuiet old new how × RunsFiles Mismade files after file.now script.now old.log new.log end
+PerformsTask Mismade (Play file) files after old new how end =
+    PlaysFile Mismade files after file.now old new how end

@@ -3,6 +3,8 @@ use Rattle.std.specs.Prelude.{◌≡◌, ℕ, List, [], ◌∷◌, Some, None, s
 use Rattle.tv_io.specs.Writer.{Fails, Seen, Takes}
 use Rattle.tv_program.specs.declared.fault.RunFault.TheVariants.{NoMemory, Write}
 use Rattle.tv_program.specs.Report.{IsOffered, err_text, out_text, status_of}
+use Rattle.tv_files.specs.declared.done.Done.{Done}
+use Rattle.tv_files.specs.declared.done.Done.TheVariants.{Whole, BrokenOff}
 use Rattle.tv_files.specs.declared.no_task.NoTask.{NoTask}
 use Rattle.tv_files.specs.declared.no_task.NoTask.TheVariants as no_tasks
 use Rattle.tv_files.specs.Ends.{End}
@@ -24,20 +26,21 @@ abbrev pub cannot_write : List ℕ
 cannot_write = err_text [] Write
 
 -- the status, where standard output didn't fail
-abbrev pub status_told : End → ℕ
-status_told None = 0
-status_told (Some (fault, path)) = status_of fault
+abbrev pub status_told : Done → End → ℕ
+status_told Whole None = 0
+status_told BrokenOff None = 4
+status_told done (Some (fault, path)) = status_of fault
 
 -- standard output took all that was to be told, and the status is that of the end; or it failed, which is
 -- told too
-pub data Tells (end : End) (out out_after : Seen) (out_kept : List ℕ) (err err_after : Seen)
+pub data Tells (done : Done) (end : End) (out out_after : Seen) (out_kept : List ℕ) (err err_after : Seen)
     (err_kept : List ℕ) (status : ℕ) : Type 0 where
   written : (mid : Seen) → Takes out mid (out_told end) → IsWritten mid out_after out_kept
-      → Offers err err_after err_kept (err_told end ∷ []) → status ≡ status_told end
-      → Tells end out out_after out_kept err err_after err_kept status
+      → Offers err err_after err_kept (err_told end ∷ []) → status ≡ status_told done end
+      → Tells done end out out_after out_kept err err_after err_kept status
   failed : (mid : Seen) → IsOffered out mid (out_told end) → Fails mid out_after
       → Offers err err_after err_kept (err_told end ∷ cannot_write ∷ []) → status ≡ 3
-      → Tells end out out_after out_kept err err_after err_kept status
+      → Tells done end out out_after out_kept err err_after err_kept status
 
 -- the text of a usage fault, or help, was told; or it couldn't be
 pub data TellsUsage (text : List ℕ) (err err_after : Seen) (err_kept : List ℕ) (status : ℕ) : Type 0 where

@@ -1,6 +1,7 @@
 //! What the program does with files and streams, from what it is asked for to its status.
 #![tactic(auto)]
 
+mod done;
 mod failure;
 mod file_store;
 mod no_task;
@@ -12,7 +13,9 @@ mod stream;
 mod task;
 mod tasks;
 mod telling;
+mod terminal_input;
 
+pub use done::Done;
 pub use failure::Failure;
 pub use file_store::FileStore;
 pub use no_task::NoTask;
@@ -22,5 +25,6 @@ pub use reading::read_text;
 pub use runtime_files::RuntimeFiles;
 pub use stream::{BufferedStream, DirectStream, Stream};
 pub use task::Task;
-pub use tasks::{accept_file, check_file, perform, run_file};
+pub use tasks::{accept_file, check_file, perform, play_file, run_file};
 pub use telling::{finish, tell_no_memory, tell_no_task};
+pub use terminal_input::TerminalInput;

@@ -11,14 +11,17 @@ use crate::{NoTask, Task};
 use std::alloc::Global;
 use tv_building::{BuildFault, Views};
 use tv_check::Checked;
+use tv_play::Pieces;
 use tv_view::View;
 
 /// Does what is asked for with these files, or tells why nothing is: results, faults and refusals go to `out`, messages
-/// to `err`. `views` makes the views of a description that is run. Returns the program's status.
+/// to `err`. `views` makes the views of a description that is run or played. What is played hears `pieces`, and shows its screen
+/// on `err`. Returns the program's status.
 pub fn run_program<
     V: View,
     F: FileStore,
     M: Fn(Global, &Checked) -> Result<Views<V>, BuildFault>,
+    P: Pieces,
     O: Stream,
     E: Stream,
 >(
@@ -26,18 +29,19 @@ pub fn run_program<
     alloc: Global,
     asked: Result<Task<'_>, NoTask>,
     views: &M,
+    pieces: &mut P,
     out: &mut O,
     err: &mut E,
 ) -> u8
     requires { M.IsAlwaysCallable views.now }
     ensures { EndsWith (IsMismade (Makes M.Fn views.now) V.meaning) asked.entry
-        (record { files = F.known files.old; out = O.seen out.old; out_kept = O.kept_back out.old; err = E.seen err.old; err_kept = E.kept_back err.old })
-        (record { files = F.known files.new; out = O.seen out.new; out_kept = O.kept_back out.new; err = E.seen err.new; err_kept = E.kept_back err.new })
+        (record { files = F.known files.old; heard = P.heard pieces.old; out = O.seen out.old; out_kept = O.kept_back out.old; err = E.seen err.old; err_kept = E.kept_back err.old })
+        (record { files = F.known files.new; heard = P.heard pieces.new; out = O.seen out.new; out_kept = O.kept_back out.new; err = E.seen err.new; err_kept = E.kept_back err.new })
         result }
 {
     match asked {
         Ok(task) => {
-            let answer = perform(files, alloc, task, views, out);
+            let answer = perform(files, alloc, task, views, pieces, err, out);
             finish(&answer, out, err)
         }
         Err(no_task) => tell_no_task(no_task, err),

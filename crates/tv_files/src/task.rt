@@ -9,4 +9,6 @@ pub enum Task<'a> {
     Accept { file: &'a str, certificate: &'a str },
     /// A script, performed on a description.
     Run { file: &'a str, script: &'a str },
+    /// A description, played in a terminal.
+    Play { file: &'a str },
 }

@@ -1,41 +1,63 @@
 //! What each subcommand does with its files.
 
-ghost use Rattle.std.specs.Prelude.{[], ◌∷◌, MatchResult, Some};
+ghost use Rattle.std.specs.Prelude.{◌≡◌, [], ◌∷◌, MatchResult, Some};
 ghost use Rattle.tv_program.specs.Playing.{IsMismade, Makes};
-ghost use Rattle.tv_files.specs.Ends.{end_of};
+ghost use Rattle.tv_files.specs.declared.done.Done.TheVariants.{Whole};
+ghost use Rattle.tv_files.specs.Ends.{done_in, end_of};
 ghost use Rattle.tv_files.specs.Files.{IsFileOf, IsRead, Opens};
-ghost use Rattle.tv_files.specs.Tasks.{AcceptsFiles, ChecksFile, EndsFirst, GivesText, HasRead, IsSpelledAs, IsUngiven, IsUnopened, IsUnread, IsUnspelled, PerformsTask, RunsFiles};
+ghost use Rattle.tv_files.specs.Tasks.{AcceptsFiles, ChecksFile, EndsFirst, GivesText, HasRead, IsSpelledAs, IsUngiven, IsUnopened, IsUnread, IsUnspelled, PerformsTask, PlaysFile, RunsFiles};
 
-use crate::Task;
 use crate::failure::Failure;
 use crate::file_store::FileStore;
 use crate::reading::read_text;
+use crate::{Done, Task};
 use std::alloc::Global;
 use tv_building::{BuildFault, Views};
 use tv_check::Checked;
 use tv_io::{Reader, Writer};
 use tv_lang::parse;
 use tv_model::Desc;
-use tv_program::{RunFault, accept_text, check, run};
+use tv_play::Pieces;
+use tv_program::{RunFault, accept_text, check, play, run};
 use tv_view::View;
+
+/// What is told where the terminal can't be read.
+const TERMINAL: &str = "standard input";
 
 /// Does what is asked for, and writes its result.
 ///
-/// `views` makes the views of a description that is run; no other task calls it.
+/// `views` makes the views of a description that is run or played; no other task calls it. `pieces` and `screen` are those of a
+/// description that is played.
 pub fn perform<
     'a,
     V: View,
     F: FileStore,
     M: Fn(Global, &Checked) -> Result<Views<V>, BuildFault>,
+    P: Pieces,
+    T: Writer,
     W: Writer,
->(files: &mut F, alloc: Global, task: Task<'a>, views: &M, out: &mut W) -> Result<(), Failure<'a>>
+>(
+    files: &mut F,
+    alloc: Global,
+    task: Task<'a>,
+    views: &M,
+    pieces: &mut P,
+    screen: &mut T,
+    out: &mut W,
+) -> Result<Done, Failure<'a>>
     requires { M.IsAlwaysCallable views.now }
-    ensures { PerformsTask (IsMismade (Makes M.Fn views.now) V.meaning) task.entry (F.known files.old) (F.known files.new) (W.seen out.old) (W.seen out.new) (end_of result) }
+    ensures { PerformsTask (IsMismade (Makes M.Fn views.now) V.meaning) task.entry (F.known files.old) (F.known files.new)
+        (record { input = P.heard pieces.old; log = W.seen out.old; screen = T.seen screen.old })
+        (record { input = P.heard pieces.new; log = W.seen out.new; screen = T.seen screen.new })
+        (done_in result) (end_of result) }
 {
     match task {
-        Task::Check { file } => check_file(files, alloc, file, out),
-        Task::Accept { file, certificate } => accept_file(files, alloc, file, certificate, out),
-        Task::Run { file, script } => run_file(files, alloc, file, script, views, out),
+        Task::Check { file } => whole(check_file(files, alloc, file, out)),
+        Task::Accept { file, certificate } => {
+            whole(accept_file(files, alloc, file, certificate, out))
+        }
+        Task::Run { file, script } => whole(run_file(files, alloc, file, script, views, out)),
+        Task::Play { file } => play_file(files, alloc, file, views, pieces, screen, out),
     }
 }
 
@@ -106,6 +128,49 @@ pub fn run_file<
         Ok(_) => Ok(()),
         Err(fault) => Err(Failure::of_run(file, script, fault)),
     }
+}
+
+/// Plays a file's description in a terminal, through the views that `views` makes of it: hears `pieces`, shows what they leave on
+/// `screen`, and writes the log on `out`.
+///
+/// The terminal isn't touched before the description has passed and its views are made.
+pub fn play_file<
+    'a,
+    V: View,
+    F: FileStore,
+    M: Fn(Global, &Checked) -> Result<Views<V>, BuildFault>,
+    P: Pieces,
+    T: Writer,
+    W: Writer,
+>(
+    files: &mut F,
+    alloc: Global,
+    file: &'a str,
+    views: &M,
+    pieces: &mut P,
+    screen: &mut T,
+    out: &mut W,
+) -> Result<Done, Failure<'a>>
+    requires { M.IsAlwaysCallable views.now }
+    ensures { PlaysFile (IsMismade (Makes M.Fn views.now) V.meaning) (F.known files.old) (F.known files.new) file.now
+        (record { input = P.heard pieces.old; log = W.seen out.old; screen = T.seen screen.old })
+        (record { input = P.heard pieces.new; log = W.seen out.new; screen = T.seen screen.new })
+        (done_in result) (end_of result) }
+{
+    let text = read_file(files, alloc, file)?;
+    match play(alloc, text.as_slice(), pieces, views, screen, out) {
+        Ok(parting) => Ok(Done::from(parting)),
+        Err(fault) => Err(Failure::of_run(file, TERMINAL, fault)),
+    }
+}
+
+// The answer of a task that nobody breaks off.
+fn whole<'a>(answer: Result<(), Failure<'a>>) -> Result<Done, Failure<'a>>
+    ensures done { done_in result ≡ Whole }
+    ensures end { end_of result ≡ end_of answer.entry }
+{
+    answer?;
+    Ok(Done::Whole)
 }
 
 // Reads the description of a file.

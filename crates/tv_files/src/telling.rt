@@ -2,13 +2,13 @@
 
 ghost use Rattle.std.specs.Prelude.{◌≡◌, [], ◌∷◌};
 ghost use Rattle.tv_program.specs.Report.{IsOffered};
-ghost use Rattle.tv_files.specs.Ends.{end_of};
+ghost use Rattle.tv_files.specs.Ends.{done_in, end_of};
 ghost use Rattle.tv_files.specs.Streams.{Offers};
 ghost use Rattle.tv_files.specs.Telling.{Tells, TellsNoTask, TellsUsage, err_told, no_memory, out_told, status_told};
 
-use crate::NoTask;
 use crate::failure::Failure;
 use crate::stream::Stream;
+use crate::{Done, NoTask};
 use tv_io::{Writer, write_all};
 use tv_program::{RunFault, report};
 
@@ -21,15 +21,18 @@ const USAGE: u8 = 2;
 /// The status where a file or a stream failed, or memory was refused.
 const OUTSIDE: u8 = 3;
 
+/// The status where a run in a terminal was broken off.
+const BROKEN_OFF: u8 = 4;
+
 /// Tells how a task ended, on the stream that took its result and on that of messages. Returns the status.
 ///
 /// Where `out` failed, that is told too. Where a message can't be written, the status stays.
 pub fn finish<O: Stream, E: Stream>(
-    answer: &Result<(), Failure<'_>>,
+    answer: &Result<Done, Failure<'_>>,
     out: &mut O,
     err: &mut E,
 ) -> u8
-    ensures { Tells (end_of answer.now) (O.seen out.old) (O.seen out.new) (O.kept_back out.new) (E.seen err.old) (E.seen err.new) (E.kept_back err.new) result }
+    ensures { Tells (done_in answer.now) (end_of answer.now) (O.seen out.old) (O.seen out.new) (O.kept_back out.new) (E.seen err.old) (E.seen err.new) (E.kept_back err.new) result }
 {
     let status = tell(answer, out, err);
     match out.flush() {
@@ -75,13 +78,14 @@ fn tell_usage<E: Stream>(text: &str, err: &mut E) -> u8
 }
 
 // That `out` failed is not told here: it fails again where it is flushed.
-fn tell<O: Writer, E: Writer>(answer: &Result<(), Failure<'_>>, out: &mut O, err: &mut E) -> u8
-    ensures status { result ≡ status_told (end_of answer.now) }
+fn tell<O: Writer, E: Writer>(answer: &Result<Done, Failure<'_>>, out: &mut O, err: &mut E) -> u8
+    ensures status { result ≡ status_told (done_in answer.now) (end_of answer.now) }
     ensures out { IsOffered (O.seen out.old) (O.seen out.new) (out_told (end_of answer.now)) }
     ensures err { IsOffered (E.seen err.old) (E.seen err.new) (err_told (end_of answer.now)) }
 {
     match answer {
-        Ok(()) => DONE,
+        Ok(Done::Whole) => DONE,
+        Ok(Done::BrokenOff) => BROKEN_OFF,
         Err(
             Failure {
                 fault: RunFault::Write,

@@ -1,0 +1,26 @@
+use Rattle.std.proofs.Common.{Ok, Err, refl}
+use Rattle.tv_program.specs.Conversions.{play_told}
+use Rattle.tv_program.specs.Playing.{IsMismade, Makes}
+use Rattle.tv_files.specs.Ends.{path_of_run}
+use Rattle.tv_files.specs.Tasks.{terminal}
+use Rattle.tv_files.specs.Tasks.PlaysFile.{played}
+use Rattle.tv_files.proofs.TaskLemmas.{end_of_run-Some, unread-PlaysFile}
+use Rattle.tv_files.proofs.tasks.play_file.Goals as goal
+
+pub returns-in_err-text : goal.returns-in_err-text
+returns-in_err-text g c =
+    unread-PlaysFile (IsMismade (Makes g.M.Fn c.args.views.now) g.V.View.meaning) (g.F.FileStore.known c.args.files.now) (g.F.FileStore.known c.read_file.new.files) c.args.file.now
+    (record { input = g.P.Pieces.heard c.args.pieces.now; log = g.W.Writer.seen c.args.out.now; screen = g.T.Writer.seen c.args.screen.now })
+    c.in_err-text.field-0.0 c.in_err-text.ensures c.from_residual.result c.from_residual.ensures.1
+
+pub returns-in-Ok : goal.returns-in-Ok
+returns-in-Ok g c = played c.in_ok-text.text.items c.in_ok-text.ensures (Ok c.in-Ok.parting, rw c.as_slice.ensures.value at c.in-Ok.ensures.output, c.from.ensures, refl)
+
+pub returns : goal.returns
+returns g c =
+    played c.in_ok-text.text.items c.in_ok-text.ensures (
+      Err c.in-Err.fault,
+      rw c.as_slice.ensures.value at c.in-Err.ensures.output,
+      refl,
+      end_of_run-Some c.of_run.result.fault (play_told c.in-Err.fault) c.of_run.result.path.now (path_of_run c.in-Err.fault c.args.file.now terminal) c.of_run.ensures.fault c.of_run.ensures.path,
+    )
