@@ -7,7 +7,7 @@ use tv_files::{NoTask, Task};
 
 /// The text below the help of the program and of each subcommand.
 const STATUSES: &str = "Statuses: 0 done; 1 faults, a refusal or a bad text; 2 usage; \
-    3 a file, a stream or memory failed. Messages go to standard error, all else to standard output.";
+    3 a file, a stream or memory failed; 4 the user left, or his input ended. Messages go to standard error, all else to standard output.";
 
 /// What `run` does, and the lines of its scripts.
 const SCRIPTS: &str = "\
@@ -27,6 +27,18 @@ A script has one of these on each line, or nothing, or # and a comment:
 Each line is performed when its end has come, and what it prints is passed on
 before more is read. So SCRIPT may be a pipe or a terminal, as /dev/stdin. At a
 faulty line the script is left; the lines before it were performed.";
+
+/// What `play` does, and what it needs.
+const TERMINALS: &str = "\
+Plays a description in a terminal: keys and mouse come from standard input, the
+screen goes to standard error, and the log, as `run` prints it, to standard
+output. So a shell script has it by answer=$(tvplay FILE).
+
+The terminal is one of UTF-8 that is large enough for the description's screen.
+It has to be set before, by stty raw -echo min 0 time 1; tools/tvplay does that
+and sets it back. It ends after the command quit, where nothing is open and
+nothing can be opened, at Ctrl-\\ always, at Ctrl-C where no status item has that
+key, and at the end of standard input.";
 
 fn path<'a>(alloc: Global, name: &'a str, help: &'a str) -> Arg<'a> {
     Arg::new(alloc, name)
@@ -77,14 +89,26 @@ fn run<'a>(alloc: Global) -> Result<Command<'a>, AllocError> {
     ))
 }
 
+fn play<'a>(alloc: Global) -> Result<Command<'a>, AllocError> {
+    Ok(subcommand(
+        alloc,
+        "play",
+        "Plays a description in a terminal, and prints what happens",
+    )?
+    .long_about(TERMINALS))
+}
+
 fn command<'a>(alloc: Global) -> Result<Command<'a>, AllocError> {
     Command::new(alloc, "tvdlg")
-        .about("Checks descriptions of text-mode dialogs, and runs them on scripts")
+        .about(
+            "Checks descriptions of text-mode dialogs, and runs them on scripts or in a terminal",
+        )
         .after_help(STATUSES)
         .subcommand_required(true)
         .subcommand(check(alloc)?)?
         .subcommand(accept(alloc)?)?
-        .subcommand(run(alloc)?)
+        .subcommand(run(alloc)?)?
+        .subcommand(play(alloc)?)
 }
 
 /// Reads the task from the words of a command line, of which the first names the program, or returns what to report
@@ -125,6 +149,7 @@ fn named_task<'a>(name: &str, found: &ArgMatches<'a>) -> Option<Task<'a>> {
             file,
             script: found.get_str("SCRIPT")?,
         }),
+        "play" => Some(Task::Play { file }),
         _ => None,
     }
 }

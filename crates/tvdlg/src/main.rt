@@ -1,4 +1,4 @@
-//! Checks descriptions of text-mode dialogs, and runs them on scripts of keys and mouse events.
+//! Checks descriptions of text-mode dialogs, and runs them on scripts of keys and mouse events or in a terminal.
 #![tactic(auto)]
 
 ghost use Rattle.std.specs.IoError.{error_kind};
@@ -13,7 +13,7 @@ use std::process::ExitCode;
 use std::rt::Env;
 use std::{env, io};
 use tv_command_line::NoTask;
-use tv_files::{BufferedStream, DirectStream, RuntimeFiles, tell_no_memory};
+use tv_files::{BufferedStream, DirectStream, RuntimeFiles, TerminalInput, tell_no_memory};
 
 fn main(rt: HostRuntime) -> ExitCode {
     let alloc = rt.alloc();
@@ -24,7 +24,15 @@ fn main(rt: HostRuntime) -> ExitCode {
         return ExitCode::from(tell_no_memory(&mut DirectStream::new(rt.stderr())));
     };
     let mut files = RuntimeFiles::new(&rt);
-    ExitCode::from(run_main(&mut files, alloc, words(&rt), &mut out, &mut err))
+    let mut pieces = TerminalInput::new(rt.reader(), &rt);
+    ExitCode::from(run_main(
+        &mut files,
+        alloc,
+        words(&rt),
+        &mut pieces,
+        &mut out,
+        &mut err,
+    ))
 }
 
 // The words of the command line, of which the first names the program.
