@@ -39,6 +39,7 @@ fn task_told(alloc: Global, task: Task<'_>) -> Result<String, AllocError> {
             "accepts {file} with {certificate}\n"
         ),
         Task::Run { file, script } => format!(in alloc; "runs {script} on {file}\n"),
+        Task::Play { file } => format!(in alloc; "plays {file}\n"),
     }
 }
 
@@ -48,6 +49,8 @@ tvdlg accept a.tvd a.cert
 => accepts a.tvd with a.cert
 tvdlg run a.tvd a.tvs
 => runs a.tvs on a.tvd
+tvdlg play a.tvd
+=> plays a.tvd
 tvdlg check -- -a.tvd
 => checks -a.tvd
 tvdlg run -- -a -b

@@ -1,9 +1,10 @@
 //! How often the program asks for the views of a description.
 
-use crate::endings::{ACCEPT, CHECK, RUN};
+use crate::endings::{ACCEPT, CHECK, PLAY, RUN};
 use crate::makers::no_views;
 use crate::shelf::Shelf;
 use crate::sink::Sink;
+use crate::user::User;
 use std::alloc::Global;
 use std::cell::Cell;
 use std::test::Fail;
@@ -32,13 +33,21 @@ fn status_and_calls<M: Fn(Global, &Checked) -> Result<Views<Button>, BuildFault>
     let mut files = Shelf::new(texts.0, texts.1);
     let mut out = DirectStream::new(Sink::new(alloc, 1000, true));
     let mut err = DirectStream::new(Sink::new(alloc, 1000, true));
-    let status = run_program(&mut files, alloc, Ok(task), &counted, &mut out, &mut err);
+    let status = run_program(
+        &mut files,
+        alloc,
+        Ok(task),
+        &counted,
+        &mut User::silent(),
+        &mut out,
+        &mut err,
+    );
     (status, calls.get())
 }
 
 // What is asked for, the description, the text beside it, then the status and how often the views were made: once where a
-// sound description is run, whatever its script is.
-const TASKS: [(Task<'static>, &str, &str, (u8, u32)); 8] = [
+// sound description is run, whatever its script is, or played.
+const TASKS: [(Task<'static>, &str, &str, (u8, u32)); 11] = [
     (CHECK, CANCEL, "", (0, 0)),
     (ACCEPT, CANCEL, CANCEL_CERTIFICATE, (0, 0)),
     (RUN, CANCEL, "", (0, 1)),
@@ -47,6 +56,9 @@ const TASKS: [(Task<'static>, &str, &str, (u8, u32)); 8] = [
     (RUN, ORDER, "key Esc\n", (1, 1)),
     (RUN, WITHOUT_CANCEL, "key Esc\n", (1, 0)),
     (RUN, "tvd 1\n", "key Esc\n", (1, 0)),
+    (PLAY, CANCEL, "", (4, 1)),
+    (PLAY, ORDER, "", (1, 1)),
+    (PLAY, WITHOUT_CANCEL, "", (1, 0)),
 ];
 
 #[test]

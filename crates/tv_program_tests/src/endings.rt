@@ -2,7 +2,8 @@
 
 use crate::shelf::Shelf;
 use crate::sink::Sink;
-use std::alloc::Global;
+use crate::user::User;
+use std::alloc::{AllocError, Global};
 use std::test::Fail;
 use tv_button_views::buttons;
 use tv_files::{BufferedStream, DirectStream, NoTask, Task, run_program, tell_no_memory};
@@ -31,10 +32,14 @@ pub const RUN: Task<'static> = Task::Run {
     script: BESIDE,
 };
 
-// A stream: how many bytes it has room for, and whether it can be flushed.
-type Room = (usize, bool);
+/// A description that is played.
+pub const PLAY: Task<'static> = Task::Play { file: FILE };
 
-const AMPLE: Room = (100_000, true);
+/// A stream: how many bytes it has room for, and whether it can be flushed.
+pub type Room = (usize, bool);
+
+/// More room than these streams need.
+pub const AMPLE: Room = (100_000, true);
 
 /// What a task with ample room comes to, about these texts: what stands on standard output, then what stands on standard
 /// error, then the status, then what was opened.
@@ -51,36 +56,65 @@ fn ending(
     err_room: Room,
 ) -> Result<String, Fail> {
     let mut files = Shelf::new(texts.0, texts.1);
-    ending_of(alloc, asked, &mut files, out_room, err_room)
+    ending_of(
+        alloc,
+        asked,
+        &mut files,
+        &mut User::silent(),
+        (out_room, err_room),
+    )
 }
 
-// The same, with these files.
-fn ending_of(
+/// The same, with these files, and a user.
+pub fn ending_of(
     alloc: Global,
     asked: Result<Task<'_>, NoTask>,
     files: &mut Shelf<'_>,
-    out_room: Room,
-    err_room: Room,
+    user: &mut User<'_>,
+    rooms: (Room, Room),
 ) -> Result<String, Fail> {
+    let (out_room, err_room) = rooms;
     let mut out = Sink::new(alloc, out_room.0, out_room.1);
     let mut err = Sink::new(alloc, err_room.0, err_room.1);
-    let status = status(alloc, asked, files, &mut out, &mut err)?;
+    let status = status(alloc, asked, files, user, &mut out, &mut err)?;
     let text = str::from_utf8(out.taken())?;
-    let message = str::from_utf8(err.taken())?;
+    let message = plain(alloc, str::from_utf8(err.taken())?)?;
     let opened = files.opened();
     Ok(format!(in alloc; "{text}{message}status {status}\nopened {opened}\n")?)
+}
+
+// A text without the sequences of a terminal. A line begins where the cursor goes; `{` stands for the alternate screen, and `}` for
+// the normal one.
+fn plain(alloc: Global, text: &str) -> Result<String, AllocError> {
+    let mut plain = String::new(alloc);
+    let mut parts = text.split('\x1b');
+    plain.push_str(parts.next().unwrap_or(""))?;
+    for part in parts {
+        let mut rest = part
+            .trim_start_matches(|c: char| !c.is_ascii_alphabetic())
+            .chars();
+        match rest.next() {
+            Some('H') => plain.push('\n')?,
+            Some('h') if part.starts_with("[?1049") => plain.push('{')?,
+            Some('l') if part.starts_with("[?1049") => plain.push('}')?,
+            _ => {}
+        }
+        plain.push_str(rest.as_str())?;
+    }
+    Ok(plain)
 }
 
 fn status(
     alloc: Global,
     asked: Result<Task<'_>, NoTask>,
     files: &mut Shelf<'_>,
+    user: &mut User<'_>,
     out: &mut Sink,
     err: &mut Sink,
 ) -> Result<u8, Fail> {
     let mut out = BufferedStream::new(alloc, out)?;
     let mut err = BufferedStream::new(alloc, err)?;
-    Ok(run_program(files, alloc, asked, &buttons, &mut out, &mut err))
+    Ok(run_program(files, alloc, asked, &buttons, user, &mut out, &mut err))
 }
 
 // The order form's certificate with two lines exchanged.
@@ -102,7 +136,7 @@ end
 ";
 
 // What is asked for, the description, the text beside it, and what is told.
-const TASKS: [(Task<'static>, &str, &str, &str); 15] = [
+const TASKS: [(Task<'static>, &str, &str, &str); 18] = [
     (
         CHECK,
         CANCEL,
@@ -188,6 +222,14 @@ const TASKS: [(Task<'static>, &str, &str, &str); 15] = [
         "key Foo\n",
         "tvdlg: FILE: syntax at line 2\nstatus 1\nopened 12\n",
     ),
+    (PLAY, SHARED_LETTER, "", "F4 line 8\nstatus 1\nopened 1\n"),
+    (PLAY, ORDER, "", "tvdlg: view refused\nstatus 1\nopened 1\n"),
+    (
+        PLAY,
+        "tvd 1\n",
+        "",
+        "tvdlg: FILE: syntax at line 2\nstatus 1\nopened 1\n",
+    ),
 ];
 
 #[test]
@@ -213,6 +255,11 @@ fn missing_files(rt: HostRuntime) -> Result<(), Fail> {
     for (task, description, wanted) in [
         (
             no_description,
+            CANCEL,
+            "tvdlg: cannot read NONE\nstatus 3\nopened 3\n",
+        ),
+        (
+            Task::Play { file: "NONE" },
             CANCEL,
             "tvdlg: cannot read NONE\nstatus 3\nopened 3\n",
         ),
@@ -250,7 +297,7 @@ fn missing_files(rt: HostRuntime) -> Result<(), Fail> {
 
 // The description, the file beside it, which of them breaks off at its end, and what is told. What the lines before wrote of a
 // script that breaks off was written, and the line that has no end isn't performed.
-const TORN: [(Task<'static>, &str, &str, &str, &str); 6] = [
+const TORN: [(Task<'static>, &str, &str, &str, &str); 7] = [
     (
         CHECK,
         CANCEL,
@@ -271,6 +318,13 @@ const TORN: [(Task<'static>, &str, &str, &str, &str); 6] = [
         "key Esc\n",
         FILE,
         "tvdlg: cannot read FILE\nstatus 3\nopened 12\n",
+    ),
+    (
+        PLAY,
+        CANCEL,
+        "",
+        FILE,
+        "tvdlg: cannot read FILE\nstatus 3\nopened 1\n",
     ),
     (
         RUN,
@@ -299,7 +353,13 @@ const TORN: [(Task<'static>, &str, &str, &str, &str); 6] = [
 fn files_that_break_off(rt: HostRuntime) -> Result<(), Fail> {
     for (task, description, beside, path, wanted) in TORN {
         let mut files = Shelf::torn(description, beside, path);
-        let told = ending_of(rt.alloc(), Ok(task), &mut files, AMPLE, AMPLE)?;
+        let told = ending_of(
+            rt.alloc(),
+            Ok(task),
+            &mut files,
+            &mut User::silent(),
+            (AMPLE, AMPLE),
+        )?;
         assert_eq!(rt; told.as_str(), wanted, "{task:?}");
     }
     Ok(())
@@ -445,7 +505,17 @@ fn streams_that_fail_in_a_run(rt: HostRuntime) -> Result<(), Fail> {
     let mut files = Shelf::new(CANCEL, script.as_str());
     let mut out = Sink::new(alloc, 9000, true);
     let mut err = Sink::new(alloc, 1000, true);
-    assert_eq!(rt; status(alloc, Ok(RUN), &mut files, &mut out, &mut err)?, 3);
+    assert_eq!(rt;
+        status(
+            alloc,
+            Ok(RUN),
+            &mut files,
+            &mut User::silent(),
+            &mut out,
+            &mut err
+        )?,
+        3
+    );
     assert_eq!(rt; out.taken().len(), 9000);
     assert_eq!(rt; str::from_utf8(err.taken())?, "tvdlg: cannot write\n");
     Ok(())

@@ -17,7 +17,7 @@ impl Question for Shown {
 }
 
 const PROGRAM: &str = "\
-Checks descriptions of text-mode dialogs, and runs them on scripts
+Checks descriptions of text-mode dialogs, and runs them on scripts or in a terminal
 
 Usage: tvdlg <COMMAND>
 
@@ -25,13 +25,14 @@ Commands:
   check   Prints the faults of a description, a line for each, or its certificate where it has none
   accept  Prints `accepted` where the certificate is that of the description, else the first reason to refuse them
   run     Performs a script of keys and pictures on a description, and prints what happens
+  play    Plays a description in a terminal, and prints what happens
   help    Print this message or the help of the given subcommand(s)
 
 Options:
   -h, --help  Print help
 
-Statuses: 0 done; 1 faults, a refusal or a bad text; 2 usage; 3 a file, a stream or memory failed. \
-Messages go to standard error, all else to standard output.
+Statuses: 0 done; 1 faults, a refusal or a bad text; 2 usage; 3 a file, a stream or memory failed; \
+4 the user left, or his input ended. Messages go to standard error, all else to standard output.
 ";
 
 const CHECK: &str = "\
@@ -45,8 +46,8 @@ Arguments:
 Options:
   -h, --help  Print help
 
-Statuses: 0 done; 1 faults, a refusal or a bad text; 2 usage; 3 a file, a stream or memory failed. \
-Messages go to standard error, all else to standard output.
+Statuses: 0 done; 1 faults, a refusal or a bad text; 2 usage; 3 a file, a stream or memory failed; \
+4 the user left, or his input ended. Messages go to standard error, all else to standard output.
 ";
 
 const ACCEPT: &str = "\
@@ -61,8 +62,8 @@ Arguments:
 Options:
   -h, --help  Print help
 
-Statuses: 0 done; 1 faults, a refusal or a bad text; 2 usage; 3 a file, a stream or memory failed. \
-Messages go to standard error, all else to standard output.
+Statuses: 0 done; 1 faults, a refusal or a bad text; 2 usage; 3 a file, a stream or memory failed; \
+4 the user left, or his input ended. Messages go to standard error, all else to standard output.
 ";
 
 const RUN: &str = "\
@@ -96,8 +97,33 @@ Options:
   -h, --help
           Print help (see a summary with '-h')
 
-Statuses: 0 done; 1 faults, a refusal or a bad text; 2 usage; 3 a file, a stream or memory failed. \
-Messages go to standard error, all else to standard output.
+Statuses: 0 done; 1 faults, a refusal or a bad text; 2 usage; 3 a file, a stream or memory failed; \
+4 the user left, or his input ended. Messages go to standard error, all else to standard output.
+";
+
+const PLAY: &str = "\
+Plays a description in a terminal: keys and mouse come from standard input, the
+screen goes to standard error, and the log, as `run` prints it, to standard
+output. So a shell script has it by answer=$(tvplay FILE).
+
+The terminal is one of UTF-8 that is large enough for the description's screen.
+It has to be set before, by stty raw -echo min 0 time 1; tools/tvplay does that
+and sets it back. It ends after the command quit, where nothing is open and
+nothing can be opened, at Ctrl-\\ always, at Ctrl-C where no status item has that
+key, and at the end of standard input.
+
+Usage: tvdlg play <FILE>
+
+Arguments:
+  <FILE>
+          A description of windows and dialogs
+
+Options:
+  -h, --help
+          Print help (see a summary with '-h')
+
+Statuses: 0 done; 1 faults, a refusal or a bad text; 2 usage; 3 a file, a stream or memory failed; \
+4 the user left, or his input ended. Messages go to standard error, all else to standard output.
 ";
 
 #[test]
@@ -110,6 +136,7 @@ fn whole_help(rt: HostRuntime) -> Result<(), Fail> {
             ("tvdlg check --help", CHECK),
             ("tvdlg accept --help", ACCEPT),
             ("tvdlg run --help", RUN),
+            ("tvdlg play --help", PLAY),
         ],
     )
 }

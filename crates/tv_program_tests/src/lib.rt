@@ -32,6 +32,8 @@ mod passing_on;
 #[cfg(test)]
 mod performing;
 #[cfg(test)]
+mod plays;
+#[cfg(test)]
 mod reports;
 #[cfg(test)]
 mod runs;
@@ -47,3 +49,5 @@ mod shelf;
 mod sink;
 #[cfg(test)]
 mod texts;
+#[cfg(test)]
+mod user;

@@ -2,6 +2,7 @@
 
 use crate::endings::{ACCEPT, CHECK, RUN, ample_ending};
 use crate::sink::Sink;
+use crate::user::User;
 use std::alloc::{AllocError, Global};
 use std::test::Fail;
 use tv_button_views::buttons;
@@ -54,7 +55,15 @@ fn status(
 ) -> u8 {
     let mut out = DirectStream::new(out);
     let mut err = DirectStream::new(err);
-    run_program(files, alloc, Ok(task), &buttons, &mut out, &mut err)
+    run_program(
+        files,
+        alloc,
+        Ok(task),
+        &buttons,
+        &mut User::silent(),
+        &mut out,
+        &mut err,
+    )
 }
 
 // A path of 4,000 bytes.

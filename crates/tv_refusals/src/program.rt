@@ -1,12 +1,15 @@
 //! The program's calls.
 
-use crate::ending::{Ending, expect, expect_named, expect_whole};
+ghost use Rattle.std.specs.Prelude.{None};
+
+use crate::ending::{Ending, expect, expect_named, expect_whole, refused};
 use std::alloc::Global;
 use std::test::Fail;
 use tv_button_views::buttons;
 use tv_files::{ReadFault, read_text};
 use tv_io::FileReader;
-use tv_program::{RunFault, accept_files, check, run};
+use tv_play::{Parting, Piece, Pieces};
+use tv_program::{PlayFault, RunFault, accept_files, check, play, run};
 use tv_test_support::Memory;
 use tv_test_support::certificates::CANCEL_CERTIFICATE;
 use tv_test_support::descriptions::CANCEL;
@@ -89,6 +92,69 @@ fn running(rt: HostRuntime) -> Result<(), Fail> {
 #[test]
 fn whole_running(rt: HostRuntime) -> Result<(), Fail> {
     expect_whole(ran(rt.alloc()))
+}
+
+// Types a letter, and then nothing.
+#[derive(Drop)]
+struct Letter {
+    reads: u32,
+    is_ended: bool,
+}
+
+impl Pieces for Letter {
+    ghost heard = { λ letter. record { left = None; failures = 0; is_ended = letter.is_ended } };
+
+    fn next(&mut self, room: &mut [u8]) -> Option<Piece> {
+        self.reads = self.reads.saturating_add(1);
+        self.is_ended = self.reads > 1;
+        if self.is_ended {
+            return Some(Piece::End);
+        }
+        room[0] = b'c';
+        Some(Piece::Bytes(1))
+    }
+}
+
+fn play_into(
+    alloc: Global,
+    letter: &mut Letter,
+    screen: &mut Memory,
+    log: &mut Memory,
+) -> Result<Parting, PlayFault> {
+    play(alloc, CANCEL.as_bytes(), letter, &buttons, screen, log)
+}
+
+// Where memory was refused nothing was read or written, and a second call plays the dialog to its end.
+fn played(alloc: Global) -> Result<(), Ending> {
+    let mut letter = Letter {
+        reads: 0,
+        is_ended: false,
+    };
+    let mut screen = Memory::ample(alloc)?;
+    let mut log = Memory::ample(alloc)?;
+    let mut end = play_into(alloc, &mut letter, &mut screen, &mut log);
+    let again = matches!(end, Err(PlayFault::NoMemory));
+    if again {
+        let is_untouched = letter.reads == 0 && screen.taken().is_empty() && log.taken().is_empty();
+        expect(is_untouched, "it was begun")?;
+        end = play_into(alloc, &mut letter, &mut screen, &mut log);
+    }
+    let is_over = matches!(end, Ok(Parting::Over)) && log.taken() == ENDED.as_bytes();
+    if again {
+        refused(is_over)
+    } else {
+        expect(is_over, "it ends otherwise")
+    }
+}
+
+#[test]
+fn playing(rt: HostRuntime) -> Result<(), Fail> {
+    expect_named(played(rt.alloc()))
+}
+
+#[test]
+fn whole_playing(rt: HostRuntime) -> Result<(), Fail> {
+    expect_whole(played(rt.alloc()))
 }
 
 // A text of more than one piece.

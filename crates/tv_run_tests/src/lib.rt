@@ -81,6 +81,8 @@ mod streams;
 #[cfg(test)]
 mod telling;
 #[cfg(test)]
+mod terminals;
+#[cfg(test)]
 mod walks;
 #[cfg(test)]
 mod wide;

@@ -1,0 +1,88 @@
+//! How a description that is played ends: what both streams took, and the status.
+
+use crate::endings::{AMPLE, PLAY, Room, ending_of};
+use crate::shelf::Shelf;
+use crate::user::User;
+use std::alloc::Global;
+use std::test::Fail;
+use tv_test_support::descriptions::CANCEL;
+
+// What a dialog of one button comes to, by what the user sends.
+fn played(alloc: Global, user: &mut User<'_>, rooms: (Room, Room)) -> Result<String, Fail> {
+    let mut files = Shelf::new(CANCEL, "");
+    ending_of(alloc, Ok(PLAY), &mut files, user, rooms)
+}
+
+// The screen of the dialog, on the alternate screen.
+const SHOWN: &str = "{
+                   \x20
+....................
+..+=[x] Q =====+....
+..| < Cancel > |....
+..|            |....
+..+============+....
+....................
+....................
+....................
+                   \x20";
+
+// What the user sends, whether what comes after it can't be read, the room of standard output, what that takes, and what
+// follows of the screen, the message and the status.
+const PLAYS: [(&[u8], bool, Room, &str, &str); 6] = [
+    (
+        b"\x1b",
+        false,
+        AMPLE,
+        "open a\nfocus c\nend a cancel\n",
+        "\n..............\n................\n................\n................\n..............}status 0\n",
+    ),
+    (b"\x1c", false, AMPLE, "open a\nfocus c\n", "}status 4\n"),
+    (b"", false, AMPLE, "open a\nfocus c\n", "}status 4\n"),
+    (
+        b"\t",
+        true,
+        AMPLE,
+        "open a\nfocus c\n",
+        "}tvdlg: cannot read standard input\nstatus 3\n",
+    ),
+    (
+        b"\x1c",
+        false,
+        (5, true),
+        "open ",
+        "}tvdlg: cannot write\nstatus 3\n",
+    ),
+    (
+        b"\x1b",
+        false,
+        (5, true),
+        "open ",
+        "\n..............\n................\n................\n................\n..............}tvdlg: cannot write\nstatus 3\n",
+    ),
+];
+
+#[test]
+fn ends_of_a_play(rt: HostRuntime) -> Result<(), Fail> {
+    let alloc = rt.alloc();
+    for (sent, is_torn, out_room, log, rest) in PLAYS {
+        let told = played(alloc, &mut User::new(sent, is_torn), (out_room, AMPLE))?;
+        let wanted = format!(in alloc; "{log}{SHOWN}{rest}opened 1\n")?;
+        assert_eq!(rt; told, wanted, "{sent:?}");
+    }
+    Ok(())
+}
+
+// The screen fails once the terminal is on its alternate screen; what was logged stands.
+#[test]
+fn screen_that_fails(rt: HostRuntime) -> Result<(), Fail> {
+    for (sent, log) in [
+        (b"\x1b", "open a\nfocus c\nend a cancel\n"),
+        (b"\x1c", "open a\nfocus c\n"),
+    ] {
+        let mut user = User::new(sent, false);
+        let told = played(rt.alloc(), &mut user, (AMPLE, (8, true)))?;
+        let wanted = format!(in rt.alloc(); "{log}{{status 3\nopened 1\n")?;
+        assert_eq!(rt; told, wanted);
+    }
+    Ok(())
+}
