@@ -35,10 +35,10 @@ class Refusing:
         (room / "before.c").write_text(BEFORE_MALLOC)
         subprocess.run(["cc", "-O1", "-shared", "-fPIC", "-o", "before.so", "before.c"], cwd=room, check=True)
 
-    def run(self, words, refused=0, folder="."):
+    def run(self, words, refused=0, folder=".", given=b""):
         """How the program ends, with so many an allocation refused, and how many it asked for; None where it couldn't tell."""
         counted = self.room / "counted"
         counted.unlink(missing_ok=True)
         beside = dict(os.environ, LD_PRELOAD=str(self.room / "before.so"), REFUSED=str(refused), COUNTED=str(counted))
-        ended = subprocess.run([self.program, *words], cwd=folder, env=beside, capture_output=True, timeout=60)
+        ended = subprocess.run([self.program, *words], cwd=folder, env=beside, input=given, capture_output=True, timeout=60)
         return ended, int(counted.read_text()) if counted.exists() else None
