@@ -51,3 +51,6 @@ mod sink;
 mod texts;
 #[cfg(test)]
 mod user;
+
+// The tests are all that there is.
+fn main() {}

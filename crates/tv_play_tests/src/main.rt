@@ -9,3 +9,6 @@ mod runs;
 mod sent;
 #[cfg(test)]
 mod sessions;
+
+// The tests are all that there is.
+fn main() {}

@@ -88,3 +88,6 @@ mod walks;
 mod wide;
 #[cfg(test)]
 mod writers;
+
+// The tests are all that there is.
+fn main() {}

@@ -27,3 +27,6 @@ mod program;
 mod scripts;
 #[cfg(test)]
 mod sessions;
+
+// The tests are all that there is.
+fn main() {}
