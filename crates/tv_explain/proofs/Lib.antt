@@ -1,0 +1,4 @@
+pub mod LineLemmas
+pub mod FocusLemmas
+pub mod DomainLemmas
+pub mod PlaceLemmas

@@ -1,0 +1,320 @@
+//! Faults explained.
+
+ghost use Rattle.std.specs.Prelude.{◌≡◌, ◌≤◌, ℕ, List, length, map, IfOk, option_copied};
+ghost use Rattle.tv_model.specs.Faults.{faults_of};
+ghost use Rattle.tv_model.specs.Description.Sharing.{sharing_rules};
+ghost use Rattle.tv_explain.specs.Places.{places_of};
+ghost use Rattle.tv_explain.specs.Explaining.{dialog_at, dialog_has_why, explained, head_at, in_dialog, in_window, item_at, item_has_why, menu_at, menu_has_why, outside_at, part_at, rule_at, rule_has_why, status_at, status_has_why, view_at, why_of, window_at, window_has_why};
+
+use crate::heads::{dialog_named, opening_why, start_why, window_named};
+use crate::keys::{key_why, number_why};
+use crate::letters::{item_why, title_why};
+use crate::limits::{dialog_limit, item_limit, menu_limit, rule_limit, status_limit, window_limit};
+use crate::lines::{around_line, at_line};
+use crate::places::Places;
+use crate::rules::{focus_why, shown_why, unknown_why};
+use crate::views::{Body, view_why};
+use crate::why::{Reason, Why};
+use std::alloc::{AllocError, Global};
+use tv_faults::faults;
+use tv_model::{
+    Desc, Dialog, Fault, FaultKind, Menu, MenuItem, Node, Rule, Sequence, StatusItem, Version,
+    Window,
+};
+
+/// A fault, explained.
+#[derive(Clone, Copy, Debug, PartialEq, Eq)]
+pub struct Explained {
+    pub fault: Fault,
+    /// The line of the text that was read, comments and empty lines counted.
+    pub line: usize,
+    pub why: Why,
+    /// The other line that has to do with it, counted so too.
+    pub other: Option<usize>,
+}
+
+fn menu_has_why(kind: FaultKind, before: &[Menu], menu: &Menu) -> Why
+    ensures { result ≡ menu_has_why kind before.now menu.now }
+{
+    match kind {
+        FaultKind::OutsideLimits => Why::because(menu_limit(before), None),
+        FaultKind::MenuLetter => title_why(before, menu),
+        _ => Why::ITSELF,
+    }
+}
+
+fn item_has_why(kind: FaultKind, before: &[MenuItem], item: &MenuItem) -> Why
+    ensures { result ≡ item_has_why kind before.now item.now }
+{
+    match kind {
+        FaultKind::OutsideLimits => Why::because(item_limit(before, item), None),
+        FaultKind::MenuLetter => item_why(before, item),
+        _ => Why::ITSELF,
+    }
+}
+
+fn status_has_why(kind: FaultKind, desc: &Desc, before: &[StatusItem], item: &StatusItem) -> Why
+    ensures { result ≡ status_has_why kind desc.now before.now item.now }
+{
+    match kind {
+        FaultKind::StatusKey => key_why(desc, before, item),
+        FaultKind::OutsideLimits => Why::because(status_limit(before, item), None),
+        _ => Why::ITSELF,
+    }
+}
+
+fn window_has_why(kind: FaultKind, before: &[Window], window: &Window) -> Why
+    ensures { result ≡ window_has_why kind before.now window.now }
+{
+    match kind {
+        FaultKind::NameTwice => Why::from_line(window_named(before, &window.node)),
+        FaultKind::OutsideLimits => Why::because(window_limit(before, window), None),
+        FaultKind::MenuLetter => number_why(before, window),
+        _ => Why::ITSELF,
+    }
+}
+
+fn dialog_has_why(
+    alloc: Global,
+    kind: FaultKind,
+    desc: &Desc,
+    before: &[Dialog],
+    dialog: &Dialog,
+) -> Result<Why, AllocError>
+    ensures { IfOk result (λ why. why ≡ dialog_has_why kind desc.now before.now dialog.now) }
+{
+    match kind {
+        FaultKind::NameTwice => Ok(Why::from_line(dialog_named(desc, before, dialog))),
+        FaultKind::OutsideOwner => Ok(Why::from_line(Some(2))),
+        FaultKind::NothingToFocus => focus_why(alloc, dialog),
+        FaultKind::MissingEnd => Ok(Why::because(Reason::NoCancel, None)),
+        FaultKind::OutsideLimits => Ok(Why::because(dialog_limit(before, dialog), None)),
+        FaultKind::BadOpening => Ok(opening_why(before, dialog)),
+        _ => Ok(Why::ITSELF),
+    }
+}
+
+fn rule_has_why(kind: FaultKind, views: &[Node], before: &[Rule], rule: &Rule) -> Why
+    ensures { result ≡ rule_has_why kind views.now before.now rule.now }
+{
+    match kind {
+        FaultKind::UnknownInRule => unknown_why(views, rule),
+        FaultKind::ShowsItself => shown_why(views, rule),
+        FaultKind::OutsideLimits => Why::because(rule_limit(before), None),
+        FaultKind::MenuLetter => Why::because(Reason::RulesCancel, None),
+        _ => Why::ITSELF,
+    }
+}
+
+// The screen, which is the second line, and the `start`, which is the third.
+fn head_at(kind: FaultKind, desc: &Desc, line: u32) -> Option<Why>
+    ensures { result ≡ head_at kind desc.now line }
+{
+    match (kind, line) {
+        (FaultKind::OutsideLimits, 2) => Some(Why::because(Reason::Screen, None)),
+        (FaultKind::BadOpening, 3) => {
+            let name = desc.start.as_ref()?;
+            Some(start_why(name, desc.windows.as_slice()))
+        }
+        _ => None,
+    }
+}
+
+fn menu_at(kind: FaultKind, desc: &Desc, line: u32) -> Option<Why>
+    ensures { result ≡ menu_at kind desc.now line }
+{
+    let (before, menu) = at_line(desc.menus.as_slice(), line)?;
+    Some(menu_has_why(kind, before, menu))
+}
+
+fn item_at(kind: FaultKind, desc: &Desc, line: u32) -> Option<Why>
+    ensures { result ≡ item_at kind desc.now line }
+{
+    let menu = around_line(desc.menus.as_slice(), line)?;
+    let (before, item) = at_line(menu.items.as_slice(), line)?;
+    Some(item_has_why(kind, before, item))
+}
+
+fn status_at(kind: FaultKind, desc: &Desc, line: u32) -> Option<Why>
+    ensures { result ≡ status_at kind desc.now line }
+{
+    let (before, item) = at_line(desc.status.as_slice(), line)?;
+    Some(status_has_why(kind, desc, before, item))
+}
+
+fn window_at(kind: FaultKind, desc: &Desc, line: u32) -> Option<Why>
+    ensures { result ≡ window_at kind desc.now line }
+{
+    let (before, window) = at_line(desc.windows.as_slice(), line)?;
+    Some(window_has_why(kind, before, window))
+}
+
+fn dialog_at(
+    alloc: Global,
+    kind: FaultKind,
+    desc: &Desc,
+    line: u32,
+) -> Result<Option<Why>, AllocError>
+    ensures { IfOk result (λ why. why ≡ dialog_at kind desc.now line) }
+{
+    match at_line(desc.dialogs.as_slice(), line) {
+        Some((before, dialog)) => Ok(Some(dialog_has_why(alloc, kind, desc, before, dialog)?)),
+        None => Ok(None),
+    }
+}
+
+// A view of this window or dialog.
+fn view_at(
+    alloc: Global,
+    kind: FaultKind,
+    body: &Body,
+    line: u32,
+) -> Result<Option<Why>, AllocError>
+    ensures { IfOk result (λ why. why ≡ view_at kind body.now.frame.now (option_copied body.now.sharing) body.now.views.now line) }
+{
+    match at_line(body.views, line) {
+        Some((before, node)) => Ok(Some(view_why(alloc, kind, body, before, node)?)),
+        None => Ok(None),
+    }
+}
+
+fn rule_at(kind: FaultKind, dialog: &Dialog, line: u32) -> Option<Why>
+    ensures { result ≡ rule_at kind dialog.now line }
+{
+    let (before, rule) = at_line(dialog.rules.as_slice(), line)?;
+    Some(rule_has_why(kind, dialog.views.as_slice(), before, rule))
+}
+
+fn in_window(
+    alloc: Global,
+    kind: FaultKind,
+    desc: &Desc,
+    line: u32,
+) -> Result<Option<Why>, AllocError>
+    ensures { IfOk result (λ why. why ≡ in_window kind desc.now line) }
+{
+    let Some(window) = around_line(desc.windows.as_slice(), line) else {
+        return Ok(None);
+    };
+    let body = Body {
+        frame: &window.node,
+        sharing: None,
+        views: window.views.as_slice(),
+    };
+    view_at(alloc, kind, &body, line)
+}
+
+// The rules by which letters of the dialog may be shared: in version 1 there are none.
+fn sharing_rules(version: Version, dialog: &Dialog) -> Option<&[Rule]>
+    ensures { option_copied result ≡ sharing_rules version dialog.now.rules }
+{
+    match version {
+        Version::One => None,
+        Version::Two => Some(dialog.rules.as_slice()),
+    }
+}
+
+// A view or a rule of this dialog.
+fn part_at(
+    alloc: Global,
+    kind: FaultKind,
+    desc: &Desc,
+    dialog: &Dialog,
+    line: u32,
+) -> Result<Option<Why>, AllocError>
+    ensures { IfOk result (λ why. why ≡ part_at kind desc.now dialog.now line) }
+{
+    let body = Body {
+        frame: &dialog.node,
+        sharing: sharing_rules(desc.version, dialog),
+        views: dialog.views.as_slice(),
+    };
+    match view_at(alloc, kind, &body, line)? {
+        Some(why) => Ok(Some(why)),
+        None => Ok(rule_at(kind, dialog, line)),
+    }
+}
+
+fn in_dialog(
+    alloc: Global,
+    kind: FaultKind,
+    desc: &Desc,
+    line: u32,
+) -> Result<Option<Why>, AllocError>
+    ensures { IfOk result (λ why. why ≡ in_dialog kind desc.now line) }
+{
+    match around_line(desc.dialogs.as_slice(), line) {
+        Some(dialog) => part_at(alloc, kind, desc, dialog, line),
+        None => Ok(None),
+    }
+}
+
+// What stands in no window and in no dialog, and the lines of windows and dialogs themselves.
+fn outside_at(
+    alloc: Global,
+    kind: FaultKind,
+    desc: &Desc,
+    line: u32,
+) -> Result<Option<Why>, AllocError>
+    ensures { IfOk result (λ why. why ≡ outside_at kind desc.now line) }
+{
+    if let Some(why) = head_at(kind, desc, line) {
+        return Ok(Some(why));
+    }
+    if let Some(why) = menu_at(kind, desc, line) {
+        return Ok(Some(why));
+    }
+    if let Some(why) = item_at(kind, desc, line) {
+        return Ok(Some(why));
+    }
+    if let Some(why) = status_at(kind, desc, line) {
+        return Ok(Some(why));
+    }
+    if let Some(why) = window_at(kind, desc, line) {
+        return Ok(Some(why));
+    }
+    dialog_at(alloc, kind, desc, line)
+}
+
+// Why the line has the fault.
+#[tactic(auto, unfolding(crate::specs::Explaining::why_of))]
+fn why_of(alloc: Global, desc: &Desc, fault: Fault) -> Result<Why, AllocError>
+    ensures { IfOk result (λ why. why ≡ why_of desc.now fault) }
+{
+    let Fault { kind, line } = fault;
+    if let Some(why) = outside_at(alloc, kind, desc, line)? {
+        return Ok(why);
+    }
+    if let Some(why) = in_window(alloc, kind, desc, line)? {
+        return Ok(why);
+    }
+    let why = in_dialog(alloc, kind, desc, line)?;
+    Ok(why.unwrap_or(Why::ITSELF))
+}
+
+// The fault, its places and why.
+#[tactic(auto, unfolding(crate::specs::Places::place))]
+fn told(alloc: Global, places: &Places, desc: &Desc, fault: Fault) -> Result<Explained, AllocError>
+    ensures { (text : List ℕ) → places.now ≡ places_of text → IfOk result (λ told. told ≡ explained text desc.now fault) }
+{
+    let why = why_of(alloc, desc, fault)?;
+    Ok(Explained {
+        fault,
+        line: places.place(fault.line),
+        why,
+        other: why.other.map(|line| places.place(line)),
+    })
+}
+
+/// Explains the faults of the description that a text spells, in the order of `faults`.
+pub fn explain(alloc: Global, text: &[u8], desc: &Desc) -> Result<Sequence<Explained>, AllocError>
+    requires { length text.now ≤ 262144 }
+    ensures { IfOk result (λ list. list ≡ map (explained text.now desc.now) (faults_of desc.now)) }
+{
+    let places = Places::new(alloc, text)?;
+    let mut list = Sequence::new(alloc);
+    for fault in faults(alloc, desc)?.as_slice() {
+        list.push(told(alloc, &places, desc, *fault)?)?;
+    }
+    Ok(list)
+}

@@ -1,0 +1,21 @@
+//! Faults explained: where each stands in the user's own text, which of its reasons it has, and which other line has to do
+//! with it.
+#![tactic(auto)]
+
+mod boxes;
+mod explaining;
+mod heads;
+mod inputs;
+mod keys;
+mod letters;
+mod limits;
+mod lines;
+mod places;
+mod rules;
+mod views;
+mod why;
+
+pub use explaining::{Explained, explain};
+pub use lines::{Line, around_line, at_line};
+pub use places::Places;
+pub use why::{Reason, Why};

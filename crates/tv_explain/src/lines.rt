@@ -1,0 +1,105 @@
+//! Declarations by the lines on which they stand.
+
+ghost use Rattle.std.specs.Prelude.{◌≡◌, ◌==◌, option_copied, position};
+ghost use Rattle.std.specs.Option.{option_map};
+ghost use Rattle.tv_explain.specs.Lines.{around_line, at_line, line_of};
+
+use tv_model::{Dialog, Menu, MenuItem, Node, Rule, StatusItem, Window};
+
+/// A declaration with a line of its own.
+pub trait Line {
+    ghost use Rattle.std.specs.Prelude.{ℕ};
+
+    ghost number: { Self → ℕ };
+
+    /// Returns the number of its line in the canonical text.
+    fn number(&self) -> u32
+        ensures { result ≡ number self.now };
+}
+
+impl Line for Menu {
+    ghost number = { λ menu. menu.id.0 };
+
+    fn number(&self) -> u32 {
+        self.id.0
+    }
+}
+
+impl Line for MenuItem {
+    ghost number = { λ item. item.id.0 };
+
+    fn number(&self) -> u32 {
+        self.id.0
+    }
+}
+
+impl Line for StatusItem {
+    ghost number = { λ item. item.id.0 };
+
+    fn number(&self) -> u32 {
+        self.id.0
+    }
+}
+
+impl Line for Window {
+    ghost number = { λ window. window.node.id.0 };
+
+    fn number(&self) -> u32 {
+        self.node.id.0
+    }
+}
+
+impl Line for Dialog {
+    ghost number = { λ dialog. dialog.node.id.0 };
+
+    fn number(&self) -> u32 {
+        self.node.id.0
+    }
+}
+
+impl Line for Node {
+    ghost number = { λ node. node.id.0 };
+
+    fn number(&self) -> u32 {
+        self.id.0
+    }
+}
+
+impl Line for Rule {
+    ghost number = { λ rule. rule.id.0 };
+
+    fn number(&self) -> u32 {
+        self.id.0
+    }
+}
+
+// The place of the declaration on this line.
+fn place_at<L: Line>(items: &[L], line: u32) -> Option<usize>
+    ensures { result ≡ position (λ item. L.number item == line) items.now }
+{
+    items.iter().position(|item| item.number() == line)
+}
+
+/// Finds the declaration on this line, with those before it.
+pub fn at_line<L: Line>(items: &[L], line: u32) -> Option<(&[L], &L)>
+    ensures { option_map (λ pair. (pair.0.now, pair.1.now)) result ≡ at_line L.number line items.now }
+{
+    match place_at(items, line) {
+        Some(at) => Some((&items[..at], &items[at])),
+        None => None,
+    }
+}
+
+/// Finds the last declaration that begins on this line or before it.
+pub fn around_line<L: Line>(items: &[L], line: u32) -> Option<&L>
+    ensures { option_copied result ≡ around_line L.number line items.now }
+{
+    items.iter().rev().find(|item| item.number() <= line)
+}
+
+/// Returns the line of a node that was found.
+pub fn line_of(found: Option<&Node>) -> Option<u32>
+    ensures { result ≡ line_of (option_copied found.entry) }
+{
+    found.map(|node| node.id.0)
+}

@@ -1,0 +1,88 @@
+//! Why a view of a window or dialog has a fault.
+
+ghost use Rattle.std.specs.Prelude.{◌≡◌, find, IfOk, option_copied};
+ghost use Rattle.tv_model.specs.Description.Names.{shares_name};
+ghost use Rattle.tv_model.specs.Description.Nodes.{is_default};
+ghost use Rattle.tv_explain.specs.Views.{linked_line, view_why};
+
+use crate::boxes::{overlapped, owner_line};
+use crate::heads::shares_name;
+use crate::inputs::{domain_reason, start_reason};
+use crate::letters::letter_line;
+use crate::limits::view_limit;
+use crate::lines::line_of;
+use crate::rules::meant;
+use crate::why::{Reason, Why};
+use std::alloc::{AllocError, Global};
+use tv_model::{FaultKind, Kind, Node, Rule};
+
+/// The views of a window or dialog, its frame, with the rules by which letters may be shared, if any.
+#[derive(Clone, Copy)]
+pub struct Body<'a> {
+    pub frame: &'a Node,
+    pub sharing: Option<&'a [Rule]>,
+    pub views: &'a [Node],
+}
+
+// The first view before that has the view's name.
+fn named<'a>(before: &'a [Node], node: &Node) -> Option<&'a Node>
+    ensures { option_copied result ≡ find (shares_name node.now) before.now }
+{
+    before.iter().find(|other| shares_name(node, other))
+}
+
+// What has the name that a label gives.
+fn linked_line(views: &[Node], kind: &Kind) -> Option<u32>
+    ensures { result ≡ linked_line views.now kind.now }
+{
+    match kind {
+        Kind::Label(label) => line_of(meant(views, &label.link)),
+        _ => None,
+    }
+}
+
+fn is_default(node: &Node) -> bool
+    ensures { result ≡ is_default node.now }
+{
+    match &node.kind {
+        Kind::Button(button) => button.is_default,
+        _ => false,
+    }
+}
+
+// The default button before.
+fn default_of(before: &[Node]) -> Option<&Node>
+    ensures { option_copied result ≡ find is_default before.now }
+{
+    before.iter().find(|other| is_default(other))
+}
+
+/// Tells why a view has the fault.
+pub fn view_why(
+    alloc: Global,
+    kind: FaultKind,
+    body: &Body,
+    before: &[Node],
+    node: &Node,
+) -> Result<Why, AllocError>
+    ensures { IfOk result (λ why. why ≡ view_why kind body.now.frame.now (option_copied body.now.sharing) body.now.views.now before.now node.now) }
+{
+    let Body {
+        frame,
+        sharing,
+        views,
+    } = *body;
+    Ok(match kind {
+        FaultKind::NameTwice => Why::from_line(line_of(named(before, node))),
+        FaultKind::OutsideOwner => Why::from_line(Some(owner_line(frame, before, node))),
+        FaultKind::Overlap => Why::from_line(line_of(overlapped(before, node))),
+        FaultKind::LetterTwice => Why::from_line(letter_line(alloc, views, sharing, before, node)?),
+        FaultKind::LabelLink => Why::from_line(linked_line(views, &node.kind)),
+        FaultKind::MissingEnd => Why::because(Reason::UndeclaredEnd, Some(frame.id.0)),
+        FaultKind::SecondDefault => Why::from_line(line_of(default_of(before))),
+        FaultKind::EmptyDomain => Why::because(domain_reason(alloc, &node.kind)?, None),
+        FaultKind::BadStart => Why::because(start_reason(&node.kind), None),
+        FaultKind::OutsideLimits => Why::because(view_limit(before, node), None),
+        _ => Why::ITSELF,
+    })
+}
