@@ -1,0 +1,6 @@
+-- what a control of any kind means
+pub mod Control
+-- when views are those that a description declares
+pub mod Views
+-- what views may be made of
+pub mod Buildable

@@ -1,0 +1,167 @@
+//! The views of a checked description.
+
+ghost use Rattle.std.specs.List.{AllZip};
+ghost use Rattle.std.specs.Prelude.{◌≡◌, ◌≤◌, ◌+◌, ◌++◌, ℕ, false, length, map, All, IfOk, IsTrue, None, OnOk};
+ghost use Rattle.tv_check.specs.Plan.{is_owner};
+ghost use Rattle.tv_group.specs.Opened.{group_bounds, joined, level_of, members_level, opened, opened_member};
+ghost use Rattle.tv_group.specs.Outline.{IsFreshBody, body_bounds, declared, has_body, joined_outline, members_outline};
+ghost use Rattle.tv_model.specs.Description.LawfulNodes.{IsLawfulNode};
+ghost use Rattle.tv_model.specs.Description.Rectangles.{IsSmallRect};
+ghost use Rattle.tv_session.specs.Freshness.{IsFreshBodyFor, IsFreshFor};
+ghost use Rattle.tv_toolkit.specs.Buildable.{AreBuildable, AreLeft, IsBuildableDialog, IsBuildableWindow};
+ghost use Rattle.tv_toolkit.specs.Control.{leaf_of};
+ghost use Rattle.tv_toolkit.specs.Views.{AreDeclared, NoneMismatches};
+ghost use Rattle.tv_view.specs.Meaning.{fresh, inside};
+
+use crate::control::Control;
+use std::alloc::{AllocError, Global};
+use tv_building::Views;
+use tv_cells::Rect;
+use tv_check::Checked;
+use tv_faces::rect_at;
+use tv_group::{GroupOf, MemberOf};
+use tv_leaf::ControlFault;
+use tv_model::{Desc, Dialog, Kind, Node, Window};
+use tv_window::WindowOf;
+
+/// Makes the windows of a checked description and the bodies of its dialogs, as they stand before any event.
+///
+/// They are the views that the description declares (`declared`). So `SessionOf::new` refuses them for want of memory alone
+/// (`accepted`).
+///
+/// # Errors
+///
+/// `AllocError` where memory ran out.
+pub fn views(alloc: Global, checked: &Checked) -> Result<Views<Control>, AllocError>
+    ensures declared { IfOk result (λ views. AreDeclared leaf_of checked.now views.windows.items views.bodies.items) }
+    ensures accepted { IfOk result (λ views. NoneMismatches leaf_of checked.now views.windows.items views.bodies.items) }
+{
+    let desc = checked.desc();
+    let windows = windows_of(alloc, desc.windows.as_slice())?;
+    let bodies = bodies_of(alloc, desc.dialogs.as_slice())?;
+    Ok(Views { windows, bodies })
+}
+
+fn windows_of(alloc: Global, declared: &[Window]) -> Result<Vec<WindowOf<Control>>, AllocError>
+    requires { All IsBuildableWindow declared.now }
+    ensures { IfOk result (λ windows. AllZip (IsFreshFor leaf_of) declared.now windows.items) }
+{
+    let mut windows = Vec::new(alloc);
+    for window in declared {
+        windows.push(window_of(alloc, window)?)?;
+    }
+    Ok(windows)
+}
+
+fn bodies_of(alloc: Global, declared: &[Dialog]) -> Result<Vec<GroupOf<Control>>, AllocError>
+    requires { All IsBuildableDialog declared.now }
+    ensures { IfOk result (λ bodies. AllZip (IsFreshBodyFor leaf_of) declared.now bodies.items) }
+{
+    let mut bodies = Vec::new(alloc);
+    for dialog in declared {
+        bodies.push(body_of(alloc, &dialog.node, dialog.views.as_slice())?)?;
+    }
+    Ok(bodies)
+}
+
+fn window_of(alloc: Global, window: &Window) -> Result<WindowOf<Control>, AllocError>
+    requires { IsBuildableWindow window.now }
+    ensures { IfOk result (λ made. IsFreshFor leaf_of window.now made) }
+{
+    let body = body_of(alloc, &window.node, window.views.as_slice())?;
+    match WindowOf::new(&window.node, body) {
+        Ok(made) => Ok(made),
+        Err(_) => unreachable!(),
+    }
+}
+
+// The body of a window or dialog with these views.
+fn body_of(alloc: Global, owner: &Node, views: &[Node]) -> Result<GroupOf<Control>, AllocError>
+    requires lawful { IsLawfulNode owner.now }
+    requires owner { IsTrue (has_body owner.now.kind) }
+    requires views { AreBuildable 0 views.now }
+    ensures { IfOk result (λ body. IsFreshBody leaf_of owner.now views.now body) }
+{
+    let mut members = Vec::new(alloc);
+    add_members(alloc, &mut members, views, 0)?;
+    Ok(group_of(body_rect(owner), members))
+}
+
+// Where the body of a window or dialog stands, seen from its corner.
+#[tactic(auto, using(tv_building::proofs::OwnerLemmas::window_small, tv_building::proofs::OwnerLemmas::dialog_small))]
+fn body_rect(owner: &Node) -> Rect
+    requires lawful { IsLawfulNode owner.now }
+    requires owner { IsTrue (has_body owner.now.kind) }
+    ensures is { result ≡ body_bounds owner.now }
+    ensures small { IsSmallRect result }
+{
+    match &owner.kind {
+        Kind::Window(head) => rect_at(&0, &0, &owner.w, &head.h),
+        Kind::Dialog(head) => rect_at(&0, &0, &owner.w, &head.h),
+        _ => unreachable!(),
+    }
+}
+
+// The group of these members.
+fn group_of(bounds: Rect, members: Vec<MemberOf<Control>>) -> GroupOf<Control>
+    requires bounds { IsSmallRect bounds }
+    requires level { members_level members.items ≤ 4 }
+    ensures leaves { opened leaf_of result ≡ map (inside bounds) (joined None 0 (map (opened_member leaf_of) members.items)) }
+    ensures outline { (depth : ℕ) → members_outline leaf_of result depth ≡ joined_outline leaf_of members.items depth }
+    ensures level { level_of result ≡ members_level members.items + 1 }
+    ensures bounds { group_bounds result ≡ bounds }
+{
+    match GroupOf::new(bounds, members) {
+        Ok(group) => group,
+        Err(_) => unreachable!(),
+    }
+}
+
+// Adds the members that views in so many panes declare, up to the first in fewer. Returns the views that are left.
+#[tactic(auto, using(tv_building::proofs::OwnerLemmas::pane_small, crate::proofs::BuildableLemmas::no_owner))]
+fn add_members<'a>(
+    alloc: Global,
+    members: &mut Vec<MemberOf<Control>>,
+    views: &'a [Node],
+    panes: u8,
+) -> Result<&'a [Node], AllocError>
+    requires views { AreBuildable panes views.now }
+    requires level { members_level members.old.items + panes ≤ 4 }
+    ensures added { IfOk result (λ left. joined_outline leaf_of members.new.items (panes + 1) ++ map declared left.now ≡ joined_outline leaf_of members.old.items (panes + 1) ++ map declared views.now) }
+    ensures level { OnOk result (members_level members.new.items + panes ≤ 4) }
+    ensures left { IfOk result (λ left. AreLeft panes left.now) }
+    ensures fewer { IfOk result (λ left. length left.now ≤ length views.now) }
+{
+    let Some((view, behind)) = views.split_first() else {
+        return Ok(views);
+    };
+    if view.depth < panes {
+        return Ok(views);
+    }
+    match &view.kind {
+        Kind::Pane(pane) => {
+            let mut inner = Vec::new(alloc);
+            let after = add_members(alloc, &mut inner, behind, panes + 1)?;
+            let bounds = rect_at(&view.x, &view.y, &view.w, &pane.h);
+            members.push(MemberOf::Pane(group_of(bounds, inner)))?;
+            add_members(alloc, members, after, panes)
+        }
+        _ => {
+            members.push(MemberOf::Leaf(control_of(alloc, view)?))?;
+            add_members(alloc, members, behind, panes)
+        }
+    }
+}
+
+// The control of a node that is no window, dialog or pane.
+fn control_of(alloc: Global, node: &Node) -> Result<Control, AllocError>
+    requires lawful { IsLawfulNode node.now }
+    requires kind { is_owner node.now.kind ≡ false }
+    ensures { IfOk result (λ control. leaf_of control ≡ fresh node.now) }
+{
+    match Control::new(alloc, node) {
+        Ok(control) => Ok(control),
+        Err(ControlFault::NoMemory) => Err(AllocError),
+        Err(ControlFault::WrongKind) => unreachable!(),
+    }
+}
