@@ -3,11 +3,22 @@
 ghost use Rattle.std.specs.Prelude.{◌≡◌};
 ghost use Rattle.tv_model.specs.Faults.{fault_number};
 
+use std::fmt;
+
 /// A fault of a well-formed description, with the line of the canonical text that it names.
 #[derive(Clone, Copy, Debug, PartialEq, Eq)]
 pub struct Fault {
     pub kind: FaultKind,
     pub line: u32,
+}
+
+/// Writes the fault as `check` reports it: `F4 line 8`.
+impl fmt::Display for Fault {
+    fn fmt<W: fmt::Write>(&self, f: &mut fmt::Formatter<W>) -> fmt::Result {
+        let number = self.kind.number();
+        let line = self.line;
+        write!(f, "F{number} line {line}")
+    }
 }
 
 /// The seventeen faults, in the order of their numbers: the first is F1.

@@ -6,7 +6,7 @@ use tv_cells::Point;
 use tv_event::Command;
 
 /// What a run logs of an event.
-#[derive(Debug, Drop, Default)]
+#[derive(Debug, Drop, Default, PartialEq)]
 pub enum LogLine {
     /// A dialog opened.
     Open(Id),

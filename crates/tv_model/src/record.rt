@@ -9,7 +9,7 @@ use std::marker::Model;
 use tv_valid::Text;
 
 /// What a field holds.
-#[derive(Debug, Drop)]
+#[derive(Debug, Drop, PartialEq)]
 pub enum Value {
     /// The text of an input.
     Text(Text),

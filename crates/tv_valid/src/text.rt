@@ -21,6 +21,21 @@ impl Model for Text {
     ghost invariant = { λ t. length t.chars.items ≤ 120 };
 }
 
+/// Two texts are equal where they have the same characters.
+impl PartialEq for Text {
+    ghost use Rattle.std.specs.Prelude.{nat_eq};
+    ghost use Rattle.std.specs.Cmp.{on_per, partial_equiv_from_equiv};
+    ghost use Rattle.std.specs.Cmp.Lexicographic.{nat_list_eq_equiv, pointwise};
+
+    ghost eq = { λ a b. pointwise nat_eq a b };
+
+    ghost laws = { on_per (λ t. t) (partial_equiv_from_equiv nat_list_eq_equiv) };
+
+    fn eq(&self, other: &Text) -> bool {
+        self.chars == other.chars
+    }
+}
+
 impl Text {
     /// The most characters of a text.
     pub const CAPACITY: usize = 120;
