@@ -13,7 +13,7 @@ use Rattle.tv_io.proofs.PenLemmas.{Puts-then, Puts-along}
 use Rattle.tv_ansi.specs.Displays.{HasCursor, HasSpace, Knows, tile_of}
 use Rattle.tv_ansi.specs.Sequences.{begin_bytes, cursor_bytes, end_bytes, place_bytes}
 use Rattle.tv_ansi.specs.Terminal.{Covered, Display, Terminal, ground, plain_back, plain_front, told}
-use Rattle.tv_ansi.specs.Writing.{Starts, Drawn, Draws, Paints, restored}
+use Rattle.tv_ansi.specs.Writing.{BeginsScreen, Drawn, Draws, Paints, restored}
 use Rattle.tv_ansi.specs.declared.hand.Hand.{Hand}
 use Rattle.tv_ansi.specs.declared.painter.Painter.{Painter}
 use Rattle.tv_ansi.proofs.ToldLemmas.{told-++, told-going-anew}
@@ -128,7 +128,7 @@ whole-rect r screen e column row on = subst (λ (q : Rect). has_cell (q ∷ []) 
 module _ {W : Type 0} {seen : W → Seen} {screen : Picture} {cursor : Option (ℕ × ℕ)} {old blind new last : Painter} {x y z : Pen W} where
   pub begins : IsAlike old.shown screen → blind.shown ≡ old.shown → blind.is_known ≡ false → last.shown ≡ new.shown → last.is_known ≡ true → Puts seen x y begin_bytes
       → (rects : List Rect) → ((column row : ℕ) → IsOn screen column row → has_cell rects column row ≡ true)
-      → Paints seen (λ column row. has_cell rects column row ≡ true) screen cursor blind new y z → Starts seen screen cursor old last x z
+      → Paints seen (λ column row. has_cell rects column row ≡ true) screen cursor blind new y z → BeginsScreen seen screen cursor old last x z
   begins alike same unknown end known opened rects all p = record {
     known = known;
     size = record { width = ap (λ (q : Picture). q.width) end ∙ p.changes.size.width ∙ ap (λ (q : Picture). q.width) same; height = ap (λ (q : Picture). q.height) end ∙ p.changes.size.height ∙ ap (λ (q : Picture). q.height) same };

@@ -7,14 +7,14 @@ use lib.Utf8.{encode}
 use Rattle.unicode_width.specs.Width.{char_width}
 use Rattle.tv_cells.specs.Glyph.{Glyph, IsNarrow, is_narrow}
 use Rattle.tv_ansi.specs.Sequences.{number_bytes, place_bytes, colour_bytes, front_number, back_number, going, colouring, cell_bytes}
-use Rattle.tv_ansi.specs.Terminal.{Display, Terminal, Numbers, Character, in_mode, ground, told, byte_told, cursor_placed, put, with_tile, is_digit, colour_set, first_told, place_of}
+use Rattle.tv_ansi.specs.Terminal.{Display, Terminal, Numbers, Character, in_mode, ground, told, byte_told, cursor_placed, put, with_tile, is_decimal_digit, colour_set, first_told, cell_number}
 use Rattle.tv_ansi.specs.Displays.{Knows, drawn}
 
 pub told-++ : (t : Terminal) (a b : List ℕ) → told t (a ++ b) ≡ told (told t a) b
 told-++ t [] b = refl
 told-++ t (c ∷ a) b = told-++ (byte_told t.mode c t.display) a b
 
-digit : (k : ℕ) → k < 10 → is_digit (48 + k) ≡ true
+digit : (k : ℕ) → k < 10 → is_decimal_digit (48 + k) ≡ true
 digit k lt = grind (arith, nat_tests)
 
 told-digit : (k last : ℕ) (is_private : Bool) (before cs : List ℕ) (d : Display) → k < 10 → told (in_mode (Numbers is_private last before) d) ((48 + k) ∷ cs) ≡ told (in_mode (Numbers is_private (last * 10 + k) before) d) cs
@@ -285,7 +285,7 @@ narrow-test : (c : ℕ) → IsNarrow c → is_narrow c ≡ true
 narrow-test c narrow = ap (λ (w : Option ℕ). unwrap_or w 0 == 1) narrow
 
 -- a place below a count is found by its number
-place-found : (count n : ℕ) → n < count → place_of count (n + 1) ≡ n
+place-found : (count n : ℕ) → n < count → cell_number count (n + 1) ≡ n
 place-found count n lt =
     let a : nat_le (n + 1) count ≡ true = grind (arith, nat_tests) in
     let b : n + 1 - 1 ≡ n = omega arith in

@@ -1,5 +1,6 @@
 -- The sequences that are written.
-use Rattle.std.specs.Prelude.{ℕ, ◌+◌, ◌/◌, ◌%◌, ◌==◌, ◌&&◌, nat_lt, if◌then◌else◌, List, [], ◌∷◌, ◌++◌, Option, Some, None, encode_utf8, slice_index, codes, pos}
+use Rattle.std.specs.Prelude.{ℕ, ◌+◌, ◌/◌, ◌%◌, ◌==◌, ◌&&◌, nat_lt, if◌then◌else◌, List, [], ◌∷◌, ◌++◌}
+use Rattle.std.specs.Prelude.{Option, Some, None, encode_utf8, slice_index, codes, pos}
 use Rattle.std.specs.Int.{int_gap}
 use Rattle.tv_cells.specs.Glyph.{Glyph}
 use Rattle.tv_cells.specs.Layers.{is_in}
@@ -15,7 +16,8 @@ number_bytes n =
     else if nat_lt n 100 then (48 + n / 10) ∷ (48 + n % 10) ∷ []
     else (48 + n / 100) ∷ (48 + n / 10 % 10) ∷ (48 + n % 10) ∷ []
 
--- black, blue, green, cyan, red, magenta, brown and grey, in the order of terminals: there red is 1 and blue is 4
+-- black, blue, green, cyan, red, magenta, brown and grey, in the order of terminals: there red is 1 and blue
+-- is 4
 abbrev pub colour_order : List ℕ
 colour_order = 0 ∷ 4 ∷ 2 ∷ 6 ∷ 1 ∷ 5 ∷ 3 ∷ 7 ∷ []
 
@@ -34,7 +36,8 @@ place_bytes column row = 27 ∷ 91 ∷ number_bytes (row + 1) ++ 59 ∷ number_b
 
 -- the colours become those of an attribute
 abbrev pub colour_bytes : ℕ → List ℕ
-colour_bytes attr = 27 ∷ 91 ∷ number_bytes (front_number attr) ++ 59 ∷ number_bytes (back_number attr) ++ 109 ∷ []
+colour_bytes attr =
+    27 ∷ 91 ∷ number_bytes (front_number attr) ++ 59 ∷ number_bytes (back_number attr) ++ 109 ∷ []
 
 -- ---- cells
 
@@ -67,8 +70,12 @@ cursor_bytes (Some p) = place_bytes p.0 p.1 ++ 27 ∷ codes "[?25h"
 
 -- the alternate screen, the mouse with reports of the long form, and all cells plain
 abbrev pub begin_bytes : List ℕ
-begin_bytes = 27 ∷ codes "[?1049h" ++ 27 ∷ codes "[?1002h" ++ 27 ∷ codes "[?1006h" ++ 27 ∷ codes "[0m" ++ 27 ∷ codes "[2J"
+begin_bytes =
+    27 ∷ codes "[?1049h" ++ 27 ∷ codes "[?1002h" ++ 27 ∷ codes "[?1006h" ++ 27 ∷ codes "[0m"
+    ++ 27 ∷ codes "[2J"
 
 -- all of it taken back, and the cursor shows
 abbrev pub end_bytes : List ℕ
-end_bytes = 27 ∷ codes "[0m" ++ 27 ∷ codes "[2J" ++ 27 ∷ codes "[?25h" ++ 27 ∷ codes "[?1006l" ++ 27 ∷ codes "[?1002l" ++ 27 ∷ codes "[?1049l"
+end_bytes =
+    27 ∷ codes "[0m" ++ 27 ∷ codes "[2J" ++ 27 ∷ codes "[?25h" ++ 27 ∷ codes "[?1006l" ++ 27 ∷ codes "[?1002l"
+    ++ 27 ∷ codes "[?1049l"

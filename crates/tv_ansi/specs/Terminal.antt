@@ -1,6 +1,7 @@
--- A terminal, as what it makes of bytes: the sequences of ECMA-48 and of xterm that are used here. Columns and rows count
--- from 0, and a sequence counts them from 1.
-use Rattle.std.specs.Prelude.{ℕ, ◌+◌, ◌-◌, ◌*◌, List, [], ◌∷◌, Option, Some, None, Bool, true, false, ◌&&◌, ◌||◌, ◌==◌, nat_le, nat_lt, if◌then◌else◌}
+-- A terminal, as what it makes of bytes: the sequences of ECMA-48 and of xterm that are used here. Columns
+-- and rows count from 0, and a sequence counts them from 1.
+use Rattle.std.specs.Prelude.{ℕ, ◌+◌, ◌-◌, ◌*◌, List, [], ◌∷◌, Option, Some, None, Bool, true, false, ◌&&◌}
+use Rattle.std.specs.Prelude.{◌||◌, ◌==◌, nat_le, nat_lt, if◌then◌else◌}
 use Rattle.tv_cells.specs.Glyph.{is_narrow}
 
 -- ---- what it shows
@@ -17,8 +18,8 @@ pub record Covered : Type 0 where
   pub column : ℕ
   pub row : ℕ
 
--- a cell in each column and row; the cursor, whose column is the count of columns where it stands behind the last; the
--- colours to come; the mouse, and whether its reports are of the long form
+-- a cell in each column and row; the cursor, whose column is the count of columns where it stands behind the
+-- last; the colours to come; the mouse, and whether its reports are of the long form
 pub record Display : Type 0 where
   pub columns : ℕ
   pub rows : ℕ
@@ -54,11 +55,11 @@ put ch d =
     else lost d
 
 -- the place of a number from 1 on, of which there are so many; 0 means 1
-abbrev pub place_of : (count number : ℕ) → ℕ
-place_of count number = if nat_le number count then number - 1 else count - 1
+abbrev pub cell_number : (count number : ℕ) → ℕ
+cell_number count number = if nat_le number count then number - 1 else count - 1
 
 abbrev pub cursor_placed : (row column : ℕ) → Display → Display
-cursor_placed row column d = record d { column = place_of d.columns column; row = place_of d.rows row }
+cursor_placed row column d = record d { column = cell_number d.columns column; row = cell_number d.rows row }
 
 -- all cells are spaces
 abbrev pub cleared : Display → Display
@@ -71,7 +72,8 @@ plain_front = 39
 abbrev pub plain_back : ℕ
 plain_back = 49
 
--- a number of `m`: 0 for the plain colours, eight for the front and eight for the ground behind, and the same bright
+-- a number of `m`: 0 for the plain colours, eight for the front and eight for the ground behind, and the same
+-- bright
 abbrev pub colour_set : ℕ → Display → Display
 colour_set n d =
     if n == 0 then record d { front = plain_front; back = plain_back }
@@ -106,8 +108,8 @@ switched mode is_on d =
 
 -- ---- sequences
 
--- between sequences; behind ESC; behind ESC [ with the numbers so far, and whether a `?` stood before them; or in a
--- character, of which so many more bytes are to come after the next
+-- between sequences; behind ESC; behind ESC [ with the numbers so far, and whether a `?` stood before them;
+-- or in a character, of which so many more bytes are to come after the next
 pub data Mode : Type 0 where
   Ground : Mode
   Escape : Mode
@@ -124,22 +126,22 @@ in_mode m d = record { mode = m; display = d }
 abbrev pub ground : Display → Terminal
 ground d = in_mode Ground d
 
--- the last byte of a sequence: H (72) places the cursor, m (109) sets colours, J (74) clears, and with a `?` before the
--- number h (104) and l (108) switch a mode
-abbrev pub ended : ℕ → Bool → ℕ → List ℕ → Display → Display
-ended c true last before d =
+-- the last byte of a sequence: H (72) places the cursor, m (109) sets colours, J (74) clears, and with a `?`
+-- before the number h (104) and l (108) switch a mode
+abbrev pub after_sequence : ℕ → Bool → ℕ → List ℕ → Display → Display
+after_sequence c true last before d =
     if c == 104 then switched last true d else if c == 108 then switched last false d else lost d
-ended c false last [] d =
+after_sequence c false last [] d =
     if c == 109 then colour_set last d
     else if (c == 74) && (last == 2) then cleared d
     else lost d
-ended c false last (first ∷ before) d =
+after_sequence c false last (first ∷ before) d =
     if c == 109 then colours_set (last ∷ first ∷ before) d
     else if c == 72 then cursor_placed first last d
     else lost d
 
-abbrev pub is_digit : ℕ → Bool
-is_digit c = nat_le 48 c && nat_le c 57
+abbrev pub is_decimal_digit : ℕ → Bool
+is_decimal_digit c = nat_le 48 c && nat_le c 57
 
 -- a byte between sequences: a character or its first byte in UTF-8, or ESC (27)
 abbrev pub first_told : ℕ → Display → Terminal
@@ -156,10 +158,10 @@ abbrev pub byte_told : Mode → ℕ → Display → Terminal
 byte_told Ground c d = first_told c d
 byte_told Escape c d = if c == 91 then in_mode (Numbers false 0 []) d else ground (lost d)
 byte_told (Numbers is_private last before) c d =
-    if is_digit c then in_mode (Numbers is_private (last * 10 + (c - 48)) before) d
+    if is_decimal_digit c then in_mode (Numbers is_private (last * 10 + (c - 48)) before) d
     else if c == 59 then in_mode (Numbers is_private 0 (last ∷ before)) d
     else if c == 63 then in_mode (Numbers true last before) d
-    else ground (ended c is_private last before d)
+    else ground (after_sequence c is_private last before d)
 byte_told (Character more part) c d =
     if nat_le 128 c && nat_lt c 192
     then (if more == 0

@@ -22,7 +22,8 @@ pub record Drawn (Region : ℕ → ℕ → Type 0) (screen : Picture) (new : Pai
   pub stays : Stays d e
 
 -- a painter took them over, and wrote what brings a terminal there
-pub record Draws {W : Type 0} (seen : W → Seen) (Region : ℕ → ℕ → Type 0) (screen : Picture) (old new : Painter) (hand after : Hand) (before later : Pen W) : Type 0 where
+pub record Draws {W : Type 0} (seen : W → Seen) (Region : ℕ → ℕ → Type 0) (screen : Picture)
+    (old new : Painter) (hand after : Hand) (before later : Pen W) : Type 0 where
   pub known : new.is_known ≡ old.is_known
   pub changes : Changes Region (λ column row _. cell_at screen column row) old.shown new.shown
   pub text : List ℕ
@@ -33,12 +34,14 @@ pub record Draws {W : Type 0} (seen : W → Seen) (Region : ℕ → ℕ → Type
 -- ---- a screen
 
 -- what a terminal shows after a region of a screen was painted
-pub record Painted (Region : ℕ → ℕ → Type 0) (screen : Picture) (cursor : Option (ℕ × ℕ)) (new : Painter) (d e : Display) : Type 0 where
+pub record Painted (Region : ℕ → ℕ → Type 0) (screen : Picture) (cursor : Option (ℕ × ℕ)) (new : Painter)
+    (d e : Display) : Type 0 where
   pub drawn : Drawn Region screen new d e
   pub points : HasCursor cursor e
 
 -- a painter took its cells over, and wrote what brings a terminal there
-pub record Paints {W : Type 0} (seen : W → Seen) (Region : ℕ → ℕ → Type 0) (screen : Picture) (cursor : Option (ℕ × ℕ)) (old new : Painter) (before after : Pen W) : Type 0 where
+pub record Paints {W : Type 0} (seen : W → Seen) (Region : ℕ → ℕ → Type 0) (screen : Picture)
+    (cursor : Option (ℕ × ℕ)) (old new : Painter) (before after : Pen W) : Type 0 where
   pub known : new.is_known ≡ old.is_known
   pub changes : Changes Region (λ column row _. cell_at screen column row) old.shown new.shown
   pub bytes : List ℕ
@@ -60,13 +63,16 @@ pub record Begun (screen : Picture) (cursor : Option (ℕ × ℕ)) (new : Painte
   pub covered : e.covered ≡ Some (record { cells = d.cells; column = d.column; row = d.row })
   pub lost : e.is_lost ≡ d.is_lost
 
-pub record Starts {W : Type 0} (seen : W → Seen) (screen : Picture) (cursor : Option (ℕ × ℕ)) (old new : Painter) (before after : Pen W) : Type 0 where
+pub record BeginsScreen {W : Type 0} (seen : W → Seen) (screen : Picture) (cursor : Option (ℕ × ℕ))
+    (old new : Painter) (before after : Pen W) : Type 0 where
   pub known : new.is_known ≡ true
   pub size : IsAlike old.shown new.shown
-  pub taken : (column row : ℕ) → IsOn screen column row → cell_at new.shown column row ≡ cell_at screen column row
+  pub taken : (column row : ℕ) → IsOn screen column row
+      → cell_at new.shown column row ≡ cell_at screen column row
   pub bytes : List ℕ
   pub puts : Puts seen before after bytes
-  pub tells : (d : Display) → HasSpace screen d → d.covered ≡ None → Becomes bytes d (Begun screen cursor new d)
+  pub tells : (d : Display) → HasSpace screen d → d.covered ≡ None
+      → Becomes bytes d (Begun screen cursor new d)
 
 -- the normal screen as it was kept, with the cursor where it stood, plain colours and no mouse
 abbrev pub restored : Covered → Display → Display

@@ -8,7 +8,7 @@ ghost use Rattle.tv_cells.specs.Row.{IsInRow};
 ghost use Rattle.tv_io.specs.Pen.{Puts};
 ghost use Rattle.tv_ansi.specs.Sequences.{cursor_on, end_bytes};
 ghost use Rattle.tv_ansi.specs.Terminal.{Covered, Display, ground, told};
-ghost use Rattle.tv_ansi.specs.Writing.{Starts, Draws, Paints, restored};
+ghost use Rattle.tv_ansi.specs.Writing.{BeginsScreen, Draws, Paints, restored};
 
 use crate::hand::Hand;
 use crate::span::{on_screen, visible};
@@ -49,7 +49,7 @@ impl Painter {
     /// Where the writer fails, a prefix of the bytes was written, and the pen is stopped.
     pub fn begin<W: Writer>(&mut self, screen: &Screen, cursor: Option<Point>, pen: &mut Pen<W>)
         requires { IsAlike self.old.shown screen.now }
-        ensures { Starts W.seen screen.now (cursor_on screen.now.width screen.now.height cursor) self.old self.new pen.old pen.new }
+        ensures { BeginsScreen W.seen screen.now (cursor_on screen.now.width screen.now.height cursor) self.old self.new pen.old pen.new }
     {
         self.is_known = false;
         pen.put(b"\x1b[?1049h\x1b[?1002h\x1b[?1006h\x1b[0m\x1b[2J");

@@ -56,7 +56,8 @@ pub record Holds (r : Rect) (rects : List Rect) : Type 0 where
 pub record HasAll (r : Rect) (rects : List Rect) : Type 0 where
   pub each : (x y : ℤ) → IsIn r x y → has rects x y ≡ true
 
--- no point is lost, and none is outside the smallest rectangle that holds the old ones and those of a rectangle
+-- no point is lost, and none is outside the smallest rectangle that holds the old ones and those of a
+-- rectangle
 pub record Grows (rect : Rect) (old new : List Rect) : Type 0 where
   pub kept : (x y : ℤ) → has old x y ≡ true → has new x y ≡ true
   pub within : (r : Rect) → Holds r old → IsPart rect r → Holds r new

@@ -122,7 +122,8 @@ with_key block line = record block { keys = block.keys ++ line ∷ [] }
 abbrev pub key_line_taken : Certificate → Block → Option KeyLine → Option Progress
 key_line_taken read block None = None
 key_line_taken read block (Some line) =
-    if is_above read.version block.keys line then Some (Begun read (stages.Keys (with_key block line))) else None
+    if is_above read.version block.keys line then Some (Begun read (stages.Keys (with_key block line)))
+    else None
 
 -- in a block with its tab lines comes a key line or the end
 abbrev pub key_taken : Certificate → Block → List Word → Option Progress

@@ -1,5 +1,6 @@
 -- The texts that spell certificates, and why a text is refused.
-use Rattle.std.specs.Prelude.{◌≡◌, ◌≢◌, ℕ, ◌<◌, ◌==◌, nat_le, nat_lt, ℤ, Bool, List, [], ◌∷◌, ◌++◌, map, flat_map}
+use Rattle.std.specs.Prelude.{◌≡◌, ◌≢◌, ℕ, ◌<◌, ◌==◌, nat_le, nat_lt, ℤ, Bool, List, [], ◌∷◌, ◌++◌, map}
+use Rattle.std.specs.Prelude.{flat_map}
 use Rattle.std.specs.Prelude.{length, Option, Some, None, IfSome, IsTrue, Result, Ok, Err, codes}
 use Rattle.std.specs.List.{AllByRecursion, list_all, list_any}
 use Rattle.tv_words.specs.declared.word.Word.{Word}

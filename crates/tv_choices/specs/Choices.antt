@@ -13,9 +13,9 @@ use Rattle.tv_model.specs.declared.kind.Kind.TheVariants as kinds
 use Rattle.tv_model.specs.declared.record.Value.TheVariants as values
 
 -- whether a node of the kind is a cluster of radio buttons
-abbrev pub is_radios : Kind → Bool
-is_radios (kinds.RadioButtons radios) = true
-is_radios _ = false
+abbrev pub is_radio_kind : Kind → Bool
+is_radio_kind (kinds.RadioButtons radios) = true
+is_radio_kind _ = false
 
 -- radio buttons of which this item is marked
 abbrev pub radios_leaf : Core → ℕ → Leaf

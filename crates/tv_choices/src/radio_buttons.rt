@@ -2,7 +2,7 @@
 
 ghost use Rattle.std.specs.Prelude.{◌≡◌, ◌↔◌, ◌≤◌, IfOk, IsErrOf, IsTrue, Some, false, length, if◌then◌else◌};
 ghost use Rattle.tv_cells.specs.declared.rect.Point.{Point};
-ghost use Rattle.tv_choices.specs.Choices.{is_radios, radios_leaf};
+ghost use Rattle.tv_choices.specs.Choices.{is_radio_kind, radios_leaf};
 ghost use Rattle.tv_event.specs.declared.event.Phase.TheVariants as phases;
 ghost use Rattle.tv_view.specs.Meaning.{fresh};
 ghost use Rattle.tv_model.specs.Controls.Contents.{IsItem};
@@ -30,7 +30,7 @@ use tv_view::{Env, Reaction, Rules, View};
 pub struct RadioButtons {
     core: LeafCore,
     marked: u8,
-    ghost own_kind: { IsTrue (is_radios core.node.kind) },
+    ghost own_kind: { IsTrue (is_radio_kind core.node.kind) },
 }
 
 fn first_marked(declared: &Declared) -> u8
@@ -50,7 +50,7 @@ impl RadioButtons {
     pub fn new(alloc: Global, node: &Node) -> Result<RadioButtons, ControlFault>
         requires { IsLawfulNode node.now }
         ensures made { IfOk result (λ view. radios_leaf view.core view.marked ≡ fresh node.now) }
-        ensures wrong { IsErrOf result ControlFault.WrongKind ↔ (is_radios node.now.kind ≡ false) }
+        ensures wrong { IsErrOf result ControlFault.WrongKind ↔ (is_radio_kind node.now.kind ≡ false) }
     {
         match &node.kind {
             Kind::RadioButtons(declared) => {

@@ -1,5 +1,6 @@
 -- What a dialog keeps of its description beside its own line: ids and numbers, and no texts.
-use Rattle.std.specs.Prelude.{ℕ, Bool, false, List, length, map, filter, filter_map, find, not, ◌&&◌, ◌==◌, Option}
+use Rattle.std.specs.Prelude.{ℕ, Bool, false, List, length, map, filter, filter_map, find, not, ◌&&◌, ◌==◌}
+use Rattle.std.specs.Prelude.{Option}
 use Rattle.std.specs.Prelude.{Some, None, option_map}
 use Rattle.std.specs.List.{list_all}
 use Rattle.tv_model.specs.declared.node.Id.{Id}

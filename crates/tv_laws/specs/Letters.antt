@@ -1,5 +1,6 @@
 -- What letters act on in an open dialog, and all that they may change.
-use Rattle.std.specs.Prelude.{[], ◌≡◌, ◌≢◌, ◌⊎◌, ℕ, Bool, true, false, ◌&&◌, List, ◌∷◌, ◌++◌, filter, Option, Some}
+use Rattle.std.specs.Prelude.{[], ◌≡◌, ◌≢◌, ◌⊎◌, ℕ, Bool, true, false, ◌&&◌, List, ◌∷◌, ◌++◌, filter, Option}
+use Rattle.std.specs.Prelude.{Some}
 use Rattle.std.specs.Prelude.{None, option_map, option_to_list, pos, slice_get, IsTrue, All, Any, ◌==◌}
 use Rattle.std.specs.List.{AllPairs}
 use Rattle.tv_event.specs.declared.event.Event.{Event}
@@ -151,7 +152,8 @@ HasOwnNames d =
 
 -- the one line that a sound certificate has for the letter and that holds names the control, with the item
 -- that the letter presses
-pub record IsOwner (version : Version) (d : Dialog) (leaves : List LeafState) (letter : ℕ) (marker : Node) (control : Node)
+pub record IsOwner (version : Version) (d : Dialog) (leaves : List LeafState) (letter : ℕ) (marker : Node)
+    (control : Node)
     : Type 0 where
   pub line : KeyOwner
   pub named : lines_now version d leaves letter ≡ line ∷ []

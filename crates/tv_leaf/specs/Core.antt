@@ -42,8 +42,8 @@ abbrev pub plain_leaf : Core → Leaf
 plain_leaf core = leaf_with core no_content
 
 -- what rules make of it
-abbrev pub ruled : Rules → Core → Core
-ruled rules core = record core {
+abbrev pub with_rules : Rules → Core → Core
+with_rules rules core = record core {
   is_shown = is_among rules.shown.now core.node.id;
   is_enabled = is_kind_enabled_among rules.commands.now core.node.kind;
 }

@@ -15,7 +15,7 @@ ghost use Rattle.tv_view.specs.Meaning.{has_item};
 ghost use Rattle.tv_model.specs.Description.LawfulNodes.{HasLawfulCount, IsLawfulCommand, IsLawfulNode};
 ghost use Rattle.tv_model.specs.Description.Commands.{command_of};
 ghost use Rattle.tv_model.specs.Description.Nodes.{height_of, is_cluster};
-ghost use Rattle.tv_leaf.specs.Core.{fresh_core, leaf_with, plain_leaf, ruled};
+ghost use Rattle.tv_leaf.specs.Core.{fresh_core, leaf_with, plain_leaf, with_rules};
 ghost use Rattle.tv_view.specs.Calls.{is_kind_enabled_among, state_bits};
 ghost use Rattle.tv_view.specs.Colours.{has_focus, is_lent_default, is_link_focus, linked_by};
 ghost use Rattle.tv_model.specs.Kinds.{behaviour};
@@ -248,7 +248,7 @@ impl LeafCore {
 
     // Shows or hides it, and enables or disables it. Returns whether that changes neither.
     fn is_ruled_same(&mut self, rules: &Rules) -> bool
-        ensures core { self.new ≡ ruled rules.now self.old }
+        ensures core { self.new ≡ with_rules rules.now self.old }
         ensures same { IsTrue result → (self.new.is_shown ≡ self.old.is_shown) × (self.new.is_enabled ≡ self.old.is_enabled) }
     {
         let was_shown = self.is_shown;
@@ -261,7 +261,7 @@ impl LeafCore {
     /// Shows or hides it, and enables or disables it, as the rules say. Adds its rectangle to the damage if that changes
     /// something.
     pub fn apply(&mut self, rules: &Rules, damage: &mut Damage)
-        ensures core { self.new ≡ ruled rules.now self.old }
+        ensures core { self.new ≡ with_rules rules.now self.old }
         ensures damage { (content : Content) → Damages (leaf_with self.old content) (leaf_with self.new content) damage.old damage.new }
     {
         if !self.is_ruled_same(rules) {

@@ -33,7 +33,7 @@ use Rattle.tv_menu.specs.Bar.{IsBarOf}
 use Rattle.tv_menu.specs.Cells.{is_item_in}
 use Rattle.tv_menu.specs.Damage.{bar_row, box_rects, line_row}
 use Rattle.tv_menu.specs.Lawful.{IsLawfulStatusItem}
-use Rattle.tv_menu.specs.Line.{AreEnabled, IsLineOf}
+use Rattle.tv_menu.specs.Line.{AreEnabled, IsStatusLineOf}
 use Rattle.tv_menu.specs.declared.bars.MenuBar.{MenuBar}
 use Rattle.tv_menu.specs.declared.bars.StatusLine.{StatusLine}
 use Rattle.tv_menu.proofs.DrawingLemmas.{face_same}
@@ -153,7 +153,7 @@ boxes-added d p before now old mid new first second = record {
 
 -- ---- the status line
 
-module _ (d : Desc) (line : StatusLine) (of : IsLineOf d line) (s t : State) (p : Picture) (damage : List Rect) where
+module _ (d : Desc) (line : StatusLine) (of : IsStatusLineOf d line) (s t : State) (p : Picture) (damage : List Rect) where
   line-off : (s : State) (column row : ℕ) (under : Glyph) → HasAll (line_row line) damage → has_cell damage column row ≡ false → over (status_layer d s) column row under ≡ under
   line-off s column row under all off =
       painted-off (canvas_at (whole_screen d) (pos 0) (d.height -ℤ pos 1)) (natural d.width) 1 (status_face d (is_item_enabled d s)) column row under

@@ -12,8 +12,8 @@ use Rattle.tv_menu.specs.declared.bars.StatusLine.{StatusLine}
 use Rattle.tv_menu.specs.declared.effect.Place.{Place}
 
 -- the menu at a place
-abbrev pub opened : Option Place → Option OpenMenu
-opened place = option_map seen_place place
+abbrev pub menu_seen : Option Place → Option OpenMenu
+menu_seen place = option_map seen_place place
 
 -- the box of an open menu, with its shadow
 abbrev pub box_rects : Desc → Option OpenMenu → List Rect

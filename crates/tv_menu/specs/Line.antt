@@ -18,7 +18,7 @@ use Rattle.tv_menu.specs.declared.offered.Offered.{Offered}
 use Rattle.tv_menu.specs.declared.offered.Offered.TheVariants as offers
 
 -- it has the description's items, and stands on a screen of its size
-pub record IsLineOf (d : Desc) (line : StatusLine) : Type 0 where
+pub record IsStatusLineOf (d : Desc) (line : StatusLine) : Type 0 where
   pub items : line.items ≡ d.status
   pub width : line.width ≡ d.width
   pub height : line.height ≡ d.height

@@ -10,9 +10,9 @@ ghost use Rattle.tv_machine.specs.Screen.Layers.{bar_layer, box_layers, status_l
 ghost use Rattle.tv_model.specs.declared.desc.Desc.{Desc as Declared};
 ghost use Rattle.tv_menu.specs.Bar.{IsBarOf, open_of};
 ghost use Rattle.tv_menu.specs.Cells.{is_item_in};
-ghost use Rattle.tv_menu.specs.Damage.{bar_row, box_rects, line_row, opened};
+ghost use Rattle.tv_menu.specs.Damage.{bar_row, box_rects, line_row, menu_seen};
 ghost use Rattle.tv_menu.specs.Lawful.{IsLawfulStatusItem};
-ghost use Rattle.tv_menu.specs.Line.{AreEnabled, IsLineOf};
+ghost use Rattle.tv_menu.specs.Line.{AreEnabled, IsStatusLineOf};
 
 use crate::bars::{MenuBar, StatusLine};
 use crate::effect::{Place, menu_of};
@@ -39,7 +39,7 @@ fn are_same(items: &[StatusItem], old: &CommandSet, new: &CommandSet) -> bool
 impl MenuBar {
     /// Returns which menu is open, and its current item, or `None` while no menu is open.
     pub fn opened(&self) -> Option<Place>
-        ensures { opened result ≡ open_of self.now }
+        ensures { menu_seen result ≡ open_of self.now }
     {
         self.open
     }
@@ -49,13 +49,13 @@ impl MenuBar {
     /// is the current one.
     pub fn damage_since(&self, before: Option<Place>, damage: &mut Damage)
         ensures bar { (d : Declared) (p : Picture) → IsBarOf d self.now
-            → AreAlike p damage.new (bar_layer d (opened before) ∷ []) (bar_layer d (open_of self.now) ∷ []) }
+            → AreAlike p damage.new (bar_layer d (menu_seen before) ∷ []) (bar_layer d (open_of self.now) ∷ []) }
         ensures menu { (d : Declared) (p : Picture) → IsBarOf d self.now
-            → AreAlike p damage.new (box_layers d (opened before)) (box_layers d (open_of self.now)) }
+            → AreAlike p damage.new (box_layers d (menu_seen before)) (box_layers d (open_of self.now)) }
         ensures kept { (x y : ℤ) → has damage.old x y ≡ true → has damage.new x y ≡ true }
         ensures within { (d : Declared) (r : Region) → IsBarOf d self.now → Holds r damage.old
-            → Holds r (bar_row self.now ∷ box_rects d (opened before) ++ box_rects d (open_of self.now)) → Holds r damage.new }
-        ensures same { opened before ≡ open_of self.now → damage.new ≡ damage.old }
+            → Holds r (bar_row self.now ∷ box_rects d (menu_seen before) ++ box_rects d (open_of self.now)) → Holds r damage.new }
+        ensures same { menu_seen before ≡ open_of self.now → damage.new ≡ damage.old }
     {
         if before == self.open {
             return;
@@ -68,7 +68,7 @@ impl MenuBar {
     // Adds the bar's row, if another menu was open before.
     fn add_row(&self, before: Option<Place>, damage: &mut Damage)
         ensures bar { (d : Declared) (p : Picture) → IsBarOf d self.now
-            → AreAlike p damage.new (bar_layer d (opened before) ∷ []) (bar_layer d (open_of self.now) ∷ []) }
+            → AreAlike p damage.new (bar_layer d (menu_seen before) ∷ []) (bar_layer d (open_of self.now) ∷ []) }
         ensures grown { Grows (bar_row self.now) damage.old damage.new }
     {
         if menu_of(before) != self.open_place() {
@@ -85,7 +85,7 @@ impl MenuBar {
     // Adds the box of an open menu with its shadow.
     fn add_box(&self, place: Option<Place>, damage: &mut Damage)
         ensures kept { (x y : ℤ) → has damage.old x y ≡ true → has damage.new x y ≡ true }
-        ensures added { (d : Declared) → IsBarOf d self.now → AddsAll (box_rects d (opened place)) damage.old damage.new }
+        ensures added { (d : Declared) → IsBarOf d self.now → AddsAll (box_rects d (menu_seen place)) damage.old damage.new }
     {
         if let Some(current) = place {
             damage.add_with_shadow(self.box_of(current.menu));
@@ -96,7 +96,7 @@ impl MenuBar {
 impl StatusLine {
     /// Adds the row of the line, if an item is enabled in one set of commands and not in the other.
     pub fn damage_between(&self, old: &CommandSet, new: &CommandSet, damage: &mut Damage)
-        ensures line { (d : Declared) (s t : State) (p : Picture) → IsLineOf d self.now → AreEnabled d s old.now → AreEnabled d t new.now
+        ensures line { (d : Declared) (s t : State) (p : Picture) → IsStatusLineOf d self.now → AreEnabled d s old.now → AreEnabled d t new.now
             → AreAlike p damage.new (status_layer d s ∷ []) (status_layer d t ∷ []) }
         ensures grown { Grows (line_row self.now) damage.old damage.new }
         ensures same { All (λ item. is_item_in old.now item ≡ is_item_in new.now item) self.now.items → damage.new ≡ damage.old }

@@ -14,7 +14,7 @@ ghost use Rattle.tv_model.specs.Description.Rectangles.{desktop};
 ghost use Rattle.tv_machine.specs.Screen.Bodies.{canvas_at, whole_screen};
 ghost use Rattle.tv_menu.specs.Bar.{IsBarOf, open_of};
 ghost use Rattle.tv_menu.specs.Lawful.{IsLawfulMenu};
-ghost use Rattle.tv_menu.specs.Line.{AreEnabled, IsLineOf};
+ghost use Rattle.tv_menu.specs.Line.{AreEnabled, IsStatusLineOf};
 
 use crate::bar_face::BarFace;
 use crate::bars::{MenuBar, StatusLine};
@@ -124,7 +124,7 @@ impl StatusLine {
     pub fn draw(&self, screen: &mut Screen, canvas: Canvas, enabled: &CommandSet)
         requires { IsPointNear canvas.origin }
         ensures size { IsAlike screen.old screen.new }
-        ensures layers { (d : Declared) (s : State) (r : Region) → IsLineOf d self.now → AreEnabled d s enabled.now
+        ensures layers { (d : Declared) (s : State) (r : Region) → IsStatusLineOf d self.now → AreEnabled d s enabled.now
             → canvas ≡ within r (canvas_at (whole_screen d) (pos 0) (pos 0))
             → Lays (clipped r (status_layer d s) ∷ []) screen.old screen.new }
     {
@@ -143,7 +143,7 @@ impl StatusLine {
 
     // The first cell of the last row.
     fn corner(&self) -> Point
-        ensures is { (d : Declared) → IsLineOf d self.now → result ≡ record { x = pos 0; y = d.height -ℤ pos 1 } }
+        ensures is { (d : Declared) → IsStatusLineOf d self.now → result ≡ record { x = pos 0; y = d.height -ℤ pos 1 } }
         ensures near { IsPointNear result }
     {
         Point {

@@ -2,7 +2,7 @@
 
 ghost use Rattle.std.specs.Prelude.{◌≡◌};
 ghost use Rattle.tv_machine.specs.Screen.Layers.{open_place};
-ghost use Rattle.tv_menu.specs.Damage.{opened};
+ghost use Rattle.tv_menu.specs.Damage.{menu_seen};
 
 use tv_event::Command;
 
@@ -15,7 +15,7 @@ pub struct Place {
 
 /// Returns the place of the menu, if one is open.
 pub(crate) fn menu_of(place: Option<Place>) -> Option<usize>
-    ensures { result ≡ open_place (opened place) }
+    ensures { result ≡ open_place (menu_seen place) }
 {
     match place {
         Some(current) => Some(current.menu),

@@ -11,7 +11,7 @@ ghost use Rattle.tv_model.specs.Description.Numbers.{IsBetween};
 ghost use Rattle.tv_model.specs.Description.Rectangles.{rect};
 ghost use Rattle.tv_menu.specs.Cells.{is_item_in};
 ghost use Rattle.tv_menu.specs.Lawful.{AreLawfulStatusItems, IsLawfulScreen, IsLawfulStatusItem};
-ghost use Rattle.tv_menu.specs.Line.{AreEnabled, IsLineOf, cell_answer, line_down, line_key, line_answer, turned_by};
+ghost use Rattle.tv_menu.specs.Line.{AreEnabled, IsStatusLineOf, cell_answer, line_down, line_key, line_answer, turned_by};
 
 use crate::bars::StatusLine;
 use crate::offered::Offered;
@@ -93,7 +93,7 @@ impl StatusLine {
     pub fn new(alloc: Global, desc: &Desc) -> Result<StatusLine, AllocError>
         requires screen { IsLawfulScreen desc.now.width desc.now.height }
         requires items { AreLawfulStatusItems desc.now.status }
-        ensures { IfOk result (λ line. IsLineOf desc.now line) }
+        ensures { IfOk result (λ line. IsStatusLineOf desc.now line) }
     {
         Ok(StatusLine {
             width: desc.width,
@@ -105,7 +105,7 @@ impl StatusLine {
     /// Offers the line an event, with these commands enabled. An enabled item's key, and a mouse down on its cells,
     /// become its command. Any other mouse down on the last row or off the screen is taken and does nothing.
     pub fn offer(&self, event: &Event, enabled: &CommandSet) -> Offered
-        ensures { (d : Declared) (s : State) → IsLineOf d self.now → AreEnabled d s enabled.now → result ≡ line_answer d s event.now }
+        ensures { (d : Declared) (s : State) → IsStatusLineOf d self.now → AreEnabled d s enabled.now → result ≡ line_answer d s event.now }
     {
         match event {
             Event::Key(key) => self.key_answer(*key, enabled),
@@ -115,7 +115,7 @@ impl StatusLine {
     }
 
     fn key_answer(&self, key: Key, enabled: &CommandSet) -> Offered
-        ensures { (d : Declared) (s : State) → IsLineOf d self.now → AreEnabled d s enabled.now
+        ensures { (d : Declared) (s : State) → IsStatusLineOf d self.now → AreEnabled d s enabled.now
             → result ≡ line_key (status_item_of d s key) }
     {
         match item_of_key(self.items.as_slice(), key, enabled) {
@@ -125,7 +125,7 @@ impl StatusLine {
     }
 
     fn down_answer(&self, point: Point, enabled: &CommandSet) -> Offered
-        ensures { (d : Declared) (s : State) → IsLineOf d self.now → AreEnabled d s enabled.now → result ≡ line_down d s point }
+        ensures { (d : Declared) (s : State) → IsStatusLineOf d self.now → AreEnabled d s enabled.now → result ≡ line_down d s point }
     {
         if !self.is_on_screen(point) {
             Offered::Taken
@@ -137,19 +137,19 @@ impl StatusLine {
     }
 
     fn is_on_screen(&self, point: Point) -> bool
-        ensures { (d : Declared) → IsLineOf d self.now → result ≡ is_in (rect (pos 0) (pos 0) d.width d.height) point.x point.y }
+        ensures { (d : Declared) → IsStatusLineOf d self.now → result ≡ is_in (rect (pos 0) (pos 0) d.width d.height) point.x point.y }
     {
         contains(self.screen(), point)
     }
 
     fn is_status_row(&self, point: Point) -> bool
-        ensures { (d : Declared) → IsLineOf d self.now → result ≡ is_status_row d point }
+        ensures { (d : Declared) → IsStatusLineOf d self.now → result ≡ is_status_row d point }
     {
         point.y == self.last_row()
     }
 
     pub(crate) fn last_row(&self) -> i32
-        ensures is { (d : Declared) → IsLineOf d self.now → result ≡ (d.height -ℤ pos 1) }
+        ensures is { (d : Declared) → IsStatusLineOf d self.now → result ≡ (d.height -ℤ pos 1) }
         ensures few { IsBetween (pos 9) (pos 59) result }
     {
         self.height - 1
@@ -157,7 +157,7 @@ impl StatusLine {
 
     // What a mouse down in a column of the last row does.
     fn cell_answer(&self, column: &i32, enabled: &CommandSet) -> Offered
-        ensures { (d : Declared) (s : State) → IsLineOf d self.now → AreEnabled d s enabled.now
+        ensures { (d : Declared) (s : State) → IsStatusLineOf d self.now → AreEnabled d s enabled.now
             → result ≡ cell_answer d s (status_under d column.now) }
     {
         match self.item_under(column) {
@@ -168,7 +168,7 @@ impl StatusLine {
 
     // The item whose cells have the column.
     fn item_under(&self, column: &i32) -> Option<&StatusItem>
-        ensures is { (d : Declared) → IsLineOf d self.now → option_copied result ≡ status_under d column.now }
+        ensures is { (d : Declared) → IsStatusLineOf d self.now → option_copied result ≡ status_under d column.now }
         ensures lawful { IfSome result (λ item. IsLawfulStatusItem item.now) }
     {
         if !has_column(column, &self.width) {
@@ -180,7 +180,7 @@ impl StatusLine {
 
     // The whole screen.
     fn screen(&self) -> Rect
-        ensures { (d : Declared) → IsLineOf d self.now → result ≡ rect (pos 0) (pos 0) d.width d.height }
+        ensures { (d : Declared) → IsStatusLineOf d self.now → result ≡ rect (pos 0) (pos 0) d.width d.height }
     {
         rect_at(&0, &0, &self.width, &self.height)
     }

@@ -22,14 +22,14 @@ use Rattle.tv_model.specs.Description.Sharing.{Marker, are_apart, is_option_item
 use Rattle.tv_names.specs.declared.sharing.ShowRule.{ShowRule}
 use Rattle.tv_names.specs.Focus.{standing}
 use Rattle.tv_names.specs.Marked.{is_marked_by}
-use Rattle.tv_names.specs.Sharing.{AreMarkersAt, RadioRules, are_apart_from, first_item, first_separating, goes_by, groups_of, is_new, is_over, item_in, items_at, marker_at, or_option_item, rules_by, show_rule_by, show_rule_from, show_rules_of}
+use Rattle.tv_names.specs.Sharing.{AreMarkersAt, RadioRules, are_apart_from, first_item, first_separating, goes_by, groups_of, is_new, is_over, item_showing, items_at, marker_at, or_option_item, rules_by, show_rule_by, show_rule_from, show_rules_of}
 use Rattle.tv_model.proofs.TestLemmas.{and_false, and_true, any_none, any_or, any_same}
 
 -- ---- the item that shows a marker
 
 module _ (views : List Node) (radios : Node) (marker : Marker) where
   abbrev Item : List ShowRule → Option ℤ
-  Item rules = item_in rules radios.id marker.before marker.node
+  Item rules = item_showing rules radios.id marker.before marker.node
 
   abbrev found_item : Option Rule → Option ℤ
   found_item found = option_map (λ rule. rule.item) found

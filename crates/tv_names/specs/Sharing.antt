@@ -1,5 +1,6 @@
 -- Letters that views share, found by the places of the views and by the ids that rules name.
-use Rattle.std.specs.Prelude.{[], ◌≡◌, ℕ, ◌<◌, Bool, true, false, not, ◌&&◌, ◌||◌, List, ◌∷◌, All, length, map}
+use Rattle.std.specs.Prelude.{[], ◌≡◌, ℕ, ◌<◌, Bool, true, false, not, ◌&&◌, ◌||◌, List, ◌∷◌, All, length}
+use Rattle.std.specs.Prelude.{map}
 use Rattle.std.specs.Prelude.{filter, filter_map, find, take, slice_index_or, nat_eq, ◌==◌, ℤ}
 use Rattle.std.specs.Prelude.{Option, Some, None, option_map}
 use Rattle.std.specs.HashSet.{HashSet, contains}
@@ -48,8 +49,8 @@ abbrev pub goes_by : Id → ShowRule → Bool
 goes_by cluster rule = rule.cluster.0 == cluster.0
 
 -- the item of the first of the rules that goes by this cluster and shows the view or a pane around it
-abbrev pub item_in : List ShowRule → Id → List Node → Node → Option ℤ
-item_in rules cluster before node =
+abbrev pub item_showing : List ShowRule → Id → List Node → Node → Option ℤ
+item_showing rules cluster before node =
     option_map (λ rule. rule.item)
     (find (λ rule. goes_by cluster rule && stands_over rule.target before node) rules)
 

@@ -9,7 +9,7 @@ ghost use Rattle.tv_model.specs.Description.Marks.{marks};
 ghost use Rattle.tv_model.specs.Description.Sharing.{are_apart, is_radios, is_shared, is_shared_by, item_shown_by, marked_times, sharer_of};
 ghost use Rattle.tv_names.specs.Focus.{standing};
 ghost use Rattle.tv_names.specs.Marked.{is_marked_in};
-ghost use Rattle.tv_names.specs.Sharing.{AreMarkersAt, AreSharedOf, AreWithin, first_item, first_separating, goes_by, groups_of, is_new, is_over, item_in, items_at, lent_group, marker_at, or_option_item, show_rule_of, show_rules_of};
+ghost use Rattle.tv_names.specs.Sharing.{AreMarkersAt, AreSharedOf, AreWithin, first_item, first_separating, goes_by, groups_of, is_new, is_over, item_showing, items_at, lent_group, marker_at, or_option_item, show_rule_of, show_rules_of};
 ghost use Rattle.tv_overlaps.specs.Standing.{AreOwners};
 
 use crate::letters::{letter_of, marked_of, marks};
@@ -197,7 +197,7 @@ fn item_in(
 ) -> Option<i32>
     requires owners { AreOwners owners.now views.now }
     requires within { place < length views.now }
-    ensures { (view : SeenNode) → result ≡ item_in rules.now cluster (take place views.now) (slice_index_or views.now place view) }
+    ensures { (view : SeenNode) → result ≡ item_showing rules.now cluster (take place views.now) (slice_index_or views.now place view) }
 {
     for rule in rules {
         if rule.cluster == cluster && stands_over(owners, views, rule.target, place) {

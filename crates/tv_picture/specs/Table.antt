@@ -79,6 +79,7 @@ pub record Gathers (places : Places) (table : Table) (start stop : ℕ) (first r
       NamesNext (λ c. MayFollow a (drop from text) c ⊎ FollowsFrom places b text start stop c) result.next
 
 -- the row has what the pattern's rows at these places have
-pub record IsGathered (b : Pattern) (text : List ℕ) (places : Places) (table : Table) (row : Row) : Type 0 where
+pub record IsGathered (b : Pattern) (text : List ℕ) (places : Places) (table : Table) (row : Row)
+    : Type 0 where
   pub ends : (k : ℕ) → HasPlace row.ends k ↔ AnyRow places table 0 (length text + 1) k
   pub next : NamesNext (FollowsFrom places b text 0 (length text + 1)) row.next

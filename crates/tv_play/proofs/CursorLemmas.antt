@@ -14,7 +14,7 @@ use Rattle.tv_cells.proofs.DamageLemmas.{is_in-true}
 use Rattle.tv_machine.specs.Output.{screen_cell}
 use Rattle.tv_machine.specs.Run.{Session}
 use Rattle.tv_play.specs.Cursor.{FindsCursor, IsCursorAt, is_cursor}
-use Rattle.tv_play.specs.Shown.{IsOnScreen, ShowsCursor}
+use Rattle.tv_play.specs.Shown.{IsScreenPlace, ShowsCursor}
 use Rattle.tv_script.specs.Performed.{IsScreenOf}
 
 gap-from-start : (n : ℕ) → int_gap (pos 0) (pos n) ≡ n
@@ -28,10 +28,10 @@ cursor-place : (p : Picture) (point : Point) (at : IsCursorAt p point) → curso
 cursor-place p point at = rw (at.x, at.y, is-in p at.column at.row at.on, gap-from-start at.column, gap-from-start at.row) refl
 
 module _ (s : Session) (screen : Picture) (is : IsScreenOf s screen) where
-  on-picture : {column row : ℕ} → IsOnScreen s column row → IsOn screen column row
+  on-picture : {column row : ℕ} → IsScreenPlace s column row → IsOn screen column row
   on-picture on = record { across = omega (arith, on.across, is.width); down = omega (arith, on.down, is.height) }
 
-  on-session : {column row : ℕ} → IsOn screen column row → IsOnScreen s column row
+  on-session : {column row : ℕ} → IsOn screen column row → IsScreenPlace s column row
   on-session on = record { across = omega (arith, on.across, is.width); down = omega (arith, on.down, is.height) }
 
   same-cursor : (column row : ℕ) → IsOn screen column row → is_cursor (screen_cell s column row) ≡ is_cursor (cell_at screen column row)

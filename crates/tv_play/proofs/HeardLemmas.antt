@@ -6,7 +6,7 @@ use Rattle.std.proofs.lemmas.List.Elements.{All-append, All-from_recursion}
 use Rattle.tv_event.specs.declared.event.Event.{Event as Happening}
 use Rattle.tv_machine.specs.Run.{Session}
 use Rattle.tv_play.specs.Ends.{is_finished, is_leaving, session_at}
-use Rattle.tv_play.specs.Steps.{HasPlayed, IsEndedBy, IsHeard, IsPlaying, LeavesWith, Outside, TurnsTo}
+use Rattle.tv_play.specs.Steps.{HasPlayedOut, IsEndedBy, IsHeard, IsPlaying, LeavesWith, Outside, TurnsTo}
 use Rattle.tv_play.specs.declared.parting.Parting.{Parting}
 use Rattle.tv_play.specs.declared.parting.Parting.TheVariants as partings
 use Rattle.tv_play.specs.declared.parting.PlayFault.{PlayFault}
@@ -70,7 +70,7 @@ ended-wider s events rest more from now (Err faults.Read) is = is
 ended-wider s events rest more from now (Err faults.Log) is = is
 ended-wider s events rest more from now (Err faults.Screen) is = is
 
-pub played-wider : (s : Session) (symbols more : List Symbol) (from now : Outside) (Left : Session → Type 0) (outcome : Result Parting PlayFault) → HasPlayed s symbols from now Left outcome → HasPlayed s (symbols ++ more) from now Left outcome
+pub played-wider : (s : Session) (symbols more : List Symbol) (from now : Outside) (Left : Session → Type 0) (outcome : Result Parting PlayFault) → HasPlayedOut s symbols from now Left outcome → HasPlayedOut s (symbols ++ more) from now Left outcome
 played-wider s symbols more from now Left outcome p = record {
   events = p.events;
   rest = p.rest ++ decode_after (left_after [] symbols) more;

@@ -14,10 +14,10 @@ use Rattle.tv_io.specs.Writer.{Cuts, IsSame, Seen, Takes}
 use Rattle.tv_machine.specs.Output.{output}
 use Rattle.tv_machine.specs.Run.{Session, quiet}
 use Rattle.tv_model.specs.Log.LogText.{log_text}
-use Rattle.tv_play.specs.Ends.{is_finished, is_leaving, script_of}
-use Rattle.tv_play.specs.Pieces.{Comes, ComesNot, HasCome, Heard, IsWithin, Loses, symbols_in}
-use Rattle.tv_play.specs.Playing.{ComesOf, IsWritten, Plays, PlaysTo, Ports, told_with}
-use Rattle.tv_play.specs.Steps.{CameTo, HasPlayed, HasRun, IsAtEnd, IsEndedBy, IsHeard, IsPlaying, IsShown, Outside, TurnsTo, or_end, outcome_of, outside}
+use Rattle.tv_play.specs.Ends.{is_finished, is_leaving, script_with}
+use Rattle.tv_play.specs.Pieces.{Comes, ComesNot, HasCome, Heard, FitsRoom, Loses, symbols_in}
+use Rattle.tv_play.specs.Playing.{ComesOf, IsWrittenOrCut, Plays, PlaysTo, Ports, told_with}
+use Rattle.tv_play.specs.Steps.{CameTo, HasPlayedOut, HasRun, IsAtEnd, IsEndedBy, IsHeard, IsPlaying, HasBeenShown, Outside, TurnsTo, or_end, outcome_of, outside}
 use Rattle.tv_play.specs.declared.parting.Parting.{Parting}
 use Rattle.tv_play.specs.declared.parting.Parting.TheVariants as partings
 use Rattle.tv_play.specs.declared.parting.PlayFault.{PlayFault}
@@ -52,16 +52,16 @@ come-then {a} {b} {c} x y p q = record { took = loses-then a.left b.left c.left 
 pub heard-none : (s : Session) → IsHeard s [] [] []
 heard-none s = record { parts = refl; stays = All-nil (λ event. is_leaving s.desc (Event event) ≡ false); goes = λ k lt. absurd (omega (arith, lt)) }
 
-pub log-first : {a b : Seen} (s : Session) → Takes a b (log_text s.desc s.state.log) → Takes a b (output s (script_of []))
+pub log-first : {a b : Seen} (s : Session) → Takes a b (log_text s.desc s.state.log) → Takes a b (output s (script_with []))
 log-first {a} {b} s p = subst (Takes a b) (sym (append-nil (log_text s.desc s.state.log))) p
 
-pub log-first-cut : {a b : Seen} (s : Session) → Cuts a b (log_text s.desc s.state.log) → Cuts a b (output s (script_of []))
+pub log-first-cut : {a b : Seen} (s : Session) → Cuts a b (log_text s.desc s.state.log) → Cuts a b (output s (script_with []))
 log-first-cut {a} {b} s p = subst (Cuts a b) (sym (append-nil (log_text s.desc s.state.log))) p
 
 -- a run that was begun: it ended before anything was read, or it goes on
 pub first-turns : (s : Session) (from now : Outside) (Left : Session → Type 0) (answer : Bool) → answer ≡ is_finished s → (written : Result (Unit {0}) WriteFailed) (stop : Bool) → now.stopped ≡ stop
     → MatchResult written (λ _. Takes from.log now.log (log_text s.desc s.state.log)) (λ _. Cuts from.log now.log (log_text s.desc s.state.log))
-    → IsShown s [] from.screen now.screen now.stopped now.painter → Left (quiet s) → TurnsTo s [] from now Left (outcome_of answer written stop)
+    → HasBeenShown s [] from.screen now.screen now.stopped now.painter → Left (quiet s) → TurnsTo s [] from now Left (outcome_of answer written stop)
 first-turns s from now Left answer is (Err failed) stop same cut shown left = record { events = []; rest = []; heard = heard-none s; shown = shown; left = left; ended = log-first-cut s cut }
 first-turns s from now Left answer is (Ok written) true same takes shown left = record { events = []; rest = []; heard = heard-none s; shown = shown; left = left; ended = (log-first s takes, same) }
 first-turns s from now Left true is (Ok written) false same takes shown left = record { events = []; rest = []; heard = heard-none s; shown = shown; left = left; ended = (sym is, log-first s takes, same) }
@@ -104,7 +104,7 @@ goes-passed a b false false e put = refl
 goes-passed a b false true e put = absurd (omega (arith, put.proper, ap (λ (x : List ℕ). length x) put.parts, length-append put.front put.rest))
 
 -- each piece has a symbol
-pub some-symbols : (piece : Piece) (room : List ℕ) → IsWithin piece room → 0 < length (symbols_in piece room)
+pub some-symbols : (piece : Piece) (room : List ℕ) → FitsRoom piece room → 0 < length (symbols_in piece room)
 some-symbols (pieces.Bytes count) room within = omega (arith, within.0, length-map (take count room) Byte, length-take-le count room within.1)
 some-symbols pieces.Pause room within = omega arith
 some-symbols pieces.End room within = omega arith
@@ -119,7 +119,7 @@ came-by s symbols events rest input left from now (Err faults.Read) come ended =
 came-by s symbols events rest input left from now (Err faults.Log) come ended = (come, ended)
 came-by s symbols events rest input left from now (Err faults.Screen) come ended = (come, ended)
 
-pub run-by : (s : Session) (symbols : List Symbol) (input left : Heard) (from now : Outside) (Left : Session → Type 0) (outcome : Result Parting PlayFault) → HasCome input left symbols → HasPlayed s symbols from now Left outcome → HasRun s input left from now Left outcome
+pub run-by : (s : Session) (symbols : List Symbol) (input left : Heard) (from now : Outside) (Left : Session → Type 0) (outcome : Result Parting PlayFault) → HasCome input left symbols → HasPlayedOut s symbols from now Left outcome → HasRun s input left from now Left outcome
 run-by s symbols input left from now Left outcome come p = record {
   symbols = symbols;
   events = p.events;
@@ -183,7 +183,7 @@ run-unheard s symbols input mid left from now Left come failed p = record {
 
 -- ---- the end
 
-written-by : (from last : Seen) (bytes : List ℕ) (stop : Bool) → PutsBy from false last stop bytes → IsWritten from last bytes
+written-by : (from last : Seen) (bytes : List ℕ) (stop : Bool) → PutsBy from false last stop bytes → IsWrittenOrCut from last bytes
 written-by from last bytes true put = inr put
 written-by from last bytes false put = inl put
 

@@ -11,7 +11,7 @@ use Rattle.tv_machine.specs.Run.{Session, quiet, stepped}
 use Rattle.tv_model.specs.Log.LogText.{log_text}
 use Rattle.tv_model.specs.declared.script.Item.{Item}
 use Rattle.tv_model.specs.declared.script.Item.TheVariants as items
-use Rattle.tv_play.specs.Ends.{script_of, session_at}
+use Rattle.tv_play.specs.Ends.{script_with, session_at}
 use Rattle.tv_script.proofs.RunLemmas.{states-push, texts-push}
 
 pub session-push : (s : Session) (events : List Event) (e : Event) → session_at s (events ++ e ∷ []) ≡ stepped (session_at s events) e
@@ -22,11 +22,11 @@ desc-at s [] = refl
 desc-at s (e ∷ events) = desc-at (stepped s e) events
 
 -- the session that a script of events leaves
-pub after-at : (s : Session) (events : List Event) → after s (script_of events) ≡ quiet (session_at s events)
+pub after-at : (s : Session) (events : List Event) → after s (script_with events) ≡ quiet (session_at s events)
 after-at s [] = refl
 after-at s (e ∷ events) = after-at (stepped s e) events
 
-script-push : (events : List Event) (e : Event) → script_of (events ++ e ∷ []) ≡ script_of events ++ items.Event e ∷ []
+script-push : (events : List Event) (e : Event) → script_with (events ++ e ∷ []) ≡ script_with events ++ items.Event e ∷ []
 script-push events e = map-append items.Event events (e ∷ [])
 
 output-push : (s : Session) (script : List Item) (item : Item) → output s (script ++ item ∷ []) ≡ output s script ++ item_text (after s script) item
@@ -34,24 +34,24 @@ output-push s script item =
     ap (λ (x : List ℕ). log_text s.desc s.state.log ++ x) (texts-push session_after item_text (quiet s) script item)
     ∙ sym (append_assoc (log_text s.desc s.state.log) _ _)
 
-pub output-event : (s : Session) (events : List Event) (e : Event) → output s (script_of (events ++ e ∷ [])) ≡ output s (script_of events) ++ event_text (after s (script_of events)) e
-output-event s events e = ap (output s) (script-push events e) ∙ output-push s (script_of events) (items.Event e)
+pub output-event : (s : Session) (events : List Event) (e : Event) → output s (script_with (events ++ e ∷ [])) ≡ output s (script_with events) ++ event_text (after s (script_with events)) e
+output-event s events e = ap (output s) (script-push events e) ∙ output-push s (script_with events) (items.Event e)
 
 -- an event's log was written after that of those before it, or a part of it
 module _ {a b c : Seen} (s : Session) (events : List Event) (e : Event) where
-  pub takes-event : Takes a b (output s (script_of events)) → Takes b c (event_text (after s (script_of events)) e) → Takes a c (output s (script_of (events ++ e ∷ [])))
+  pub takes-event : Takes a b (output s (script_with events)) → Takes b c (event_text (after s (script_with events)) e) → Takes a c (output s (script_with (events ++ e ∷ [])))
   takes-event p q = subst (Takes a c) (sym (output-event s events e)) (Takes-then _ _ p q)
 
-  pub cuts-event : Takes a b (output s (script_of events)) → Cuts b c (event_text (after s (script_of events)) e) → Cuts a c (output s (script_of (events ++ e ∷ [])))
+  pub cuts-event : Takes a b (output s (script_with events)) → Cuts b c (event_text (after s (script_with events)) e) → Cuts a c (output s (script_with (events ++ e ∷ [])))
   cuts-event p q = Cuts-along (sym (output-event s events e)) (Cuts-after _ _ p q)
 
 -- the same by whether it was written
-pub logged-event : (from old new : Seen) (s : Session) (events : List Event) (e : Event) (written : Result (Unit {0}) WriteFailed) → Takes from old (output s (script_of events))
-    → MatchResult written (λ _. Takes old new (event_text (after s (script_of events)) e)) (λ _. Cuts old new (event_text (after s (script_of events)) e))
-    → MatchResult written (λ _. Takes from new (output s (script_of (events ++ e ∷ [])))) (λ _. Cuts from new (output s (script_of (events ++ e ∷ []))))
+pub logged-event : (from old new : Seen) (s : Session) (events : List Event) (e : Event) (written : Result (Unit {0}) WriteFailed) → Takes from old (output s (script_with events))
+    → MatchResult written (λ _. Takes old new (event_text (after s (script_with events)) e)) (λ _. Cuts old new (event_text (after s (script_with events)) e))
+    → MatchResult written (λ _. Takes from new (output s (script_with (events ++ e ∷ [])))) (λ _. Cuts from new (output s (script_with (events ++ e ∷ []))))
 logged-event from old new s events e (Ok x) p q = takes-event s events e p q
 logged-event from old new s events e (Err x) p q = cuts-event s events e p q
 
 -- the session that is left after one event more
-pub left-event : (Left : Session → Type 0) (s : Session) (events : List Event) (e : Event) → Left (quiet (stepped (session_at s events) e)) → Left (after s (script_of (events ++ e ∷ [])))
+pub left-event : (Left : Session → Type 0) (s : Session) (events : List Event) (e : Event) → Left (quiet (stepped (session_at s events) e)) → Left (after s (script_with (events ++ e ∷ [])))
 left-event Left s events e left = subst Left (ap quiet (sym (session-push s events e)) ∙ sym (after-at s (events ++ e ∷ []))) left

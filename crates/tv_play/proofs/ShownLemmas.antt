@@ -7,7 +7,7 @@ use Rattle.std.proofs.lemmas.List.Folds.{concat-append}
 use Rattle.tv_ansi.specs.Displays.{Becomes, HasSpace, tile_of}
 use Rattle.tv_ansi.specs.Sequences.{cursor_on, end_bytes}
 use Rattle.tv_ansi.specs.Terminal.{Display}
-use Rattle.tv_ansi.specs.Writing.{Begun, IsRight, Painted, Paints, Starts, restored}
+use Rattle.tv_ansi.specs.Writing.{Begun, IsRight, Painted, Paints, BeginsScreen, restored}
 use Rattle.tv_ansi.specs.declared.painter.Painter.{Painter}
 use Rattle.tv_ansi.proofs.DrawLemmas.{tells-as, tells-then}
 use Rattle.tv_ansi.proofs.PaintLemmas.{told-end}
@@ -26,8 +26,8 @@ use Rattle.tv_model.specs.Description.Numbers.{natural}
 use Rattle.tv_model.specs.declared.desc.Desc.{Desc}
 use Rattle.tv_play.specs.Cursor.{FindsCursor}
 use Rattle.tv_play.specs.Ends.{session_at}
-use Rattle.tv_play.specs.Shown.{HasSize, IsOnScreen, IsReady, IsRestored, KeepsScreen, ShowsEach, ShowsSession, normal_of, restored_from}
-use Rattle.tv_play.specs.Steps.{HasTaken, IsShown}
+use Rattle.tv_play.specs.Shown.{HasSize, IsScreenPlace, IsReadyTerminal, IsRestored, KeepsScreen, ShowsEach, ShowsSession, normal_of, restored_from}
+use Rattle.tv_play.specs.Steps.{HasTaken, HasBeenShown}
 use Rattle.tv_play.proofs.CursorLemmas.{cursor-shown}
 use Rattle.tv_play.proofs.SessionLemmas.{desc-at}
 use Rattle.tv_script.specs.Performed.{IsScreenOf}
@@ -52,7 +52,7 @@ same-width s events = ap (λ (d : Desc). natural d.width) (desc-at s events)
 same-height : (s : Session) (events : List Event) → natural (session_at s events).desc.height ≡ natural s.desc.height
 same-height s events = ap (λ (d : Desc). natural d.height) (desc-at s events)
 
-on-other : (s : Session) (events more : List Event) {column row : ℕ} → IsOnScreen (session_at s events) column row → IsOnScreen (session_at s more) column row
+on-other : (s : Session) (events more : List Event) {column row : ℕ} → IsScreenPlace (session_at s events) column row → IsScreenPlace (session_at s more) column row
 on-other s events more on = record {
   across = omega (arith, on.across, same-width s events, same-width s more);
   down = omega (arith, on.down, same-height s events, same-height s more);
@@ -69,17 +69,17 @@ module _ (s : Session) (events : List Event) (e : Event) where
 
   module _ {screen : Picture} {rects : List Rect} (cursor : Option Point) (is : IsScreenOf now screen) (finds : FindsCursor screen cursor) (keeps : KeepsScreen rects before now) where
     -- a column and a row of one are those of the other
-    on-picture : {column row : ℕ} → IsOnScreen now column row → IsOn screen column row
+    on-picture : {column row : ℕ} → IsScreenPlace now column row → IsOn screen column row
     on-picture on = record { across = omega (arith, on.across, is.width); down = omega (arith, on.down, is.height) }
 
-    cell-now : {column row : ℕ} → IsOnScreen now column row → cell_at screen column row ≡ screen_cell now column row
+    cell-now : {column row : ℕ} → IsScreenPlace now column row → cell_at screen column row ≡ screen_cell now column row
     cell-now {column} {row} on = is.cells.each column row (on-picture on)
 
     module _ {new : Painter} {d f g : Display} (law : ShowsSession before d f) (painted : Painted (λ column row. has_cell rects column row ≡ true) screen (cursor_on screen.width screen.height cursor) new f g) where
-      shown-cell : (column row : ℕ) → IsOnScreen now column row → (has_cell rects column row ≡ true) ⊎ (has_cell rects column row ≡ false) → g.cells column row ≡ tile_of (screen_cell now column row)
+      shown-cell : (column row : ℕ) → IsScreenPlace now column row → (has_cell rects column row ≡ true) ⊎ (has_cell rects column row ≡ false) → g.cells column row ≡ tile_of (screen_cell now column row)
       shown-cell column row on (inl here) = painted.drawn.shows.inside column row (on-picture on) here ∙ ap tile_of (cell-now on)
       shown-cell column row on (inr apart) =
-          let on-before : IsOnScreen before column row = on-other s (events ++ e ∷ []) events on in
+          let on-before : IsScreenPlace before column row = on-other s (events ++ e ∷ []) events on in
           painted.drawn.shows.outside column row (both_ways (has_cell rects column row) apart)
           ∙ law.each column row on-before ∙ ap tile_of (sym (keeps.each column row on-before apart))
 
@@ -96,7 +96,7 @@ module _ (s : Session) (events : List Event) (e : Event) where
       }
 
     -- a terminal that shows the session shows what the painter took over
-    module _ {old : Painter} {d f : Display} (ready : IsReady s d) (taken : HasTaken before old) (law : ShowsSession before d f) where
+    module _ {old : Painter} {d f : Display} (ready : IsReadyTerminal s d) (taken : HasTaken before old) (law : ShowsSession before d f) where
       has-space : HasSpace old.shown f
       has-space = record {
         across = omega (arith, ready.across, law.columns, taken.size.width, same-width s events);
@@ -115,7 +115,7 @@ module _ (s : Session) (events : List Event) (e : Event) where
       taken-cell : (column row : ℕ) → IsOn new.shown column row → (has_cell rects column row ≡ true) ⊎ (has_cell rects column row ≡ false) → cell_at new.shown column row ≡ screen_cell now column row
       taken-cell column row on which =
           let on-old : IsOn old.shown column row = record { across = omega (arith, on.across, p.changes.size.width); down = omega (arith, on.down, p.changes.size.height) } in
-          let on-before : IsOnScreen before column row = record { across = omega (arith, on-old.across, taken.size.width); down = omega (arith, on-old.down, taken.size.height) } in
+          let on-before : IsScreenPlace before column row = record { across = omega (arith, on-old.across, taken.size.width); down = omega (arith, on-old.down, taken.size.height) } in
           elim which [
             | inl within_it ↦ p.changes.inside column row on-old within_it ∙ cell-now (on-other s events (events ++ e ∷ []) on-before)
             | inr off_it ↦ p.changes.outside column row on-old (both_ways (has_cell rects column row) off_it) ∙ taken.each column row on-old ∙ sym (keeps.each column row on-before off_it)
@@ -133,19 +133,19 @@ module _ (s : Session) (events : List Event) (e : Event) where
 
       module _ {frames : List (List ℕ)} (shows : ShowsEach s events frames) where
         -- the bytes so far bring a terminal to the last session
-        shows-last : (d : Display) → IsReady s d → Becomes (concat frames) d (ShowsSession before d)
+        shows-last : (d : Display) → IsReadyTerminal s d → Becomes (concat frames) d (ShowsSession before d)
         shows-last d ready =
             let all : take (length events + 1) frames ≡ frames = take_all (length events + 1) frames (omega (arith, shows.count)) in
             let whole : take (length events) events ≡ events = take_all (length events) events (omega arith) in
             rw (all, whole) at (shows.each d ready (length events) (omega arith))
 
-        shows-new : (d : Display) → IsReady s d → Becomes (concat (frames ++ p.bytes ∷ [])) d (ShowsSession now d)
+        shows-new : (d : Display) → IsReadyTerminal s d → Becomes (concat (frames ++ p.bytes ∷ [])) d (ShowsSession now d)
         shows-new d ready =
             rw (concat-push frames p.bytes)
             (tells-then (concat frames) (shows-last d ready)
             (λ f law. tells-as (λ g painted. shows-now law painted) (p.tells f (has-space ready taken law) (is-right ready taken law))))
 
-        shows-at : (d : Display) → IsReady s d → (k : ℕ) → k ≤ length (events ++ e ∷ []) → (k < length events + 1) ⊎ (length events + 1 ≤ k) → Becomes (concat (take (k + 1) (frames ++ p.bytes ∷ []))) d (ShowsSession (session_at s (take k (events ++ e ∷ []))) d)
+        shows-at : (d : Display) → IsReadyTerminal s d → (k : ℕ) → k ≤ length (events ++ e ∷ []) → (k < length events + 1) ⊎ (length events + 1 ≤ k) → Becomes (concat (take (k + 1) (frames ++ p.bytes ∷ []))) d (ShowsSession (session_at s (take k (events ++ e ∷ []))) d)
         shows-at d ready k le (inl few) =
             let front : take (k + 1) (frames ++ p.bytes ∷ []) ≡ take (k + 1) frames = take-append-le (k + 1) frames (p.bytes ∷ []) (omega (arith, shows.count)) in
             let heard : take k (events ++ e ∷ []) ≡ take k events = take-append-le k events (e ∷ []) (omega arith) in
@@ -161,8 +161,8 @@ module _ (s : Session) (events : List Event) (e : Event) where
           each = λ d ready k le. shows-at d ready k le (cases_lt k (length events + 1));
         }
 
-    pub shown-more : {W : Type 0} {seen : W → Seen} {old new : Painter} {x z : Pen W} (from : Seen) → IsShown s events from (seen x.out.now) x.stopped old
-        → Paints seen (λ column row. has_cell rects column row ≡ true) screen (cursor_on screen.width screen.height cursor) old new x z → IsShown s (events ++ e ∷ []) from (seen z.out.now) z.stopped new
+    pub shown-more : {W : Type 0} {seen : W → Seen} {old new : Painter} {x z : Pen W} (from : Seen) → HasBeenShown s events from (seen x.out.now) x.stopped old
+        → Paints seen (λ column row. has_cell rects column row ≡ true) screen (cursor_on screen.width screen.height cursor) old new x z → HasBeenShown s (events ++ e ∷ []) from (seen z.out.now) z.stopped new
     shown-more {seen = seen} {x = x} {z = z} from shown p = record {
       frames = shown.frames ++ p.bytes ∷ [];
       shows = shows-more shown.taken p shown.shows;
@@ -172,8 +172,8 @@ module _ (s : Session) (events : List Event) (e : Event) where
 
 -- ---- the beginning
 
-module _ {W : Type 0} {seen : W → Seen} (s : Session) {screen : Picture} (cursor : Option Point) {old new : Painter} {x z : Pen W} (is : IsScreenOf s screen) (finds : FindsCursor screen cursor) (size : HasSize s old) (p : Starts seen screen (cursor_on screen.width screen.height cursor) old new x z) where
-  on-first : {column row : ℕ} → IsOnScreen s column row → IsOn screen column row
+module _ {W : Type 0} {seen : W → Seen} (s : Session) {screen : Picture} (cursor : Option Point) {old new : Painter} {x z : Pen W} (is : IsScreenOf s screen) (finds : FindsCursor screen cursor) (size : HasSize s old) (p : BeginsScreen seen screen (cursor_on screen.width screen.height cursor) old new x z) where
+  on-first : {column row : ℕ} → IsScreenPlace s column row → IsOn screen column row
   on-first on = record { across = omega (arith, on.across, is.width); down = omega (arith, on.down, is.height) }
 
   first-shows : {d e : Display} → Begun screen (cursor_on screen.width screen.height cursor) new d e → ShowsSession s d e
@@ -188,7 +188,7 @@ module _ {W : Type 0} {seen : W → Seen} (s : Session) {screen : Picture} (curs
     lost = b.lost;
   }
 
-  first-each : (d : Display) → IsReady s d → (k : ℕ) → k ≤ 0 → Becomes (concat (take (k + 1) (p.bytes ∷ []))) d (ShowsSession (session_at s (take k [])) d)
+  first-each : (d : Display) → IsReadyTerminal s d → (k : ℕ) → k ≤ 0 → Becomes (concat (take (k + 1) (p.bytes ∷ []))) d (ShowsSession (session_at s (take k [])) d)
   first-each d ready k none =
       let zero-is : k ≡ 0 = omega (arith, none) in
       rw (zero-is, append-nil p.bytes)
@@ -199,11 +199,11 @@ module _ {W : Type 0} {seen : W → Seen} (s : Session) {screen : Picture} (curs
     known = p.known;
     size = record { width = p.size.width ∙ size.width; height = p.size.height ∙ size.height };
     each = λ column row on.
-        let here : IsOnScreen s column row = record { across = omega (arith, on.across, p.size.width, size.width); down = omega (arith, on.down, p.size.height, size.height) } in
+        let here : IsScreenPlace s column row = record { across = omega (arith, on.across, p.size.width, size.width); down = omega (arith, on.down, p.size.height, size.height) } in
         p.taken column row (on-first here) ∙ is.cells.each column row (on-first here);
   }
 
-  pub shown-first : x.stopped ≡ false → IsShown s [] (seen x.out.now) (seen z.out.now) z.stopped new
+  pub shown-first : x.stopped ≡ false → HasBeenShown s [] (seen x.out.now) (seen z.out.now) z.stopped new
   shown-first going = record {
     frames = p.bytes ∷ [];
     shows = record { count = refl; each = first-each };

@@ -9,9 +9,9 @@ use Rattle.tv_io.specs.declared.writer.WriteFailed.{WriteFailed}
 use Rattle.tv_machine.specs.Output.{after, output}
 use Rattle.tv_machine.specs.Run.{Session, quiet, stepped}
 use Rattle.tv_model.specs.declared.desc.Desc.{Desc}
-use Rattle.tv_play.specs.Ends.{is_finished, is_leaving, script_of, session_at}
+use Rattle.tv_play.specs.Ends.{is_finished, is_leaving, script_with, session_at}
 use Rattle.tv_play.specs.Shown.{HasSize, KeepsScreen}
-use Rattle.tv_play.specs.Steps.{HasPlayed, IsHeard, IsPlaying, IsShown, Outside, TurnsTo, outcome_of}
+use Rattle.tv_play.specs.Steps.{HasPlayedOut, IsHeard, IsPlaying, HasBeenShown, Outside, TurnsTo, outcome_of}
 use Rattle.tv_play.specs.declared.parting.Parting.TheVariants as partings
 use Rattle.tv_play.specs.declared.parting.Parting.{Parting}
 use Rattle.tv_play.specs.declared.parting.PlayFault.{PlayFault}
@@ -42,7 +42,7 @@ module _ (s : Session) (symbols next : List Symbol) (from old : Outside) (Old : 
   desc-before d is = is (quiet (session_at s p.events)) stands-before ∙ desc-at s p.events
 
   -- the user leaves
-  pub leaves : (action : Action) → is_leaving s.desc action ≡ true → decode next ≡ decode symbols ++ action ∷ [] → HasPlayed s next from old Old (Ok partings.Left)
+  pub leaves : (action : Action) → is_leaving s.desc action ≡ true → decode next ≡ decode symbols ++ action ∷ [] → HasPlayedOut s next from old Old (Ok partings.Left)
   leaves action is means = record {
     events = p.events;
     rest = action ∷ [];
@@ -54,14 +54,14 @@ module _ (s : Session) (symbols next : List Symbol) (from old : Outside) (Old : 
 
   -- an event was performed
   module _ (now : Outside) (New : Session → Type 0) (e : Happening) (stays : is_leaving s.desc (Event e) ≡ false) (means : decode next ≡ decode symbols ++ Event e ∷ []) (stands : (t : Session) → Old t → New (quiet (stepped t e)))
-      (shown : (events : List Happening) (from : Seen) → Old (quiet (session_at s events)) → IsShown s events from old.screen old.stopped old.painter → IsShown s (events ++ e ∷ []) from now.screen now.stopped now.painter) where
+      (shown : (events : List Happening) (from : Seen) → Old (quiet (session_at s events)) → HasBeenShown s events from old.screen old.stopped old.painter → HasBeenShown s (events ++ e ∷ []) from now.screen now.stopped now.painter) where
     heard : IsHeard s next (p.events ++ e ∷ []) []
     heard = heard-more s symbols next p.events p.heard p.goes e stays means
 
-    left : New (after s (script_of (p.events ++ e ∷ [])))
+    left : New (after s (script_with (p.events ++ e ∷ [])))
     left = left-event New s p.events e (stands (quiet (session_at s p.events)) stands-before)
 
-    shows : IsShown s (p.events ++ e ∷ []) from.screen now.screen now.stopped now.painter
+    shows : HasBeenShown s (p.events ++ e ∷ []) from.screen now.screen now.stopped now.painter
     shows = shown p.events from.screen stands-before p.shown
 
     finished-by : (answer b : Bool) → ((t : Session) → Old t → answer ≡ is_finished (stepped t e)) → answer ≡ b → is_finished (session_at s (p.events ++ e ∷ [])) ≡ b
@@ -69,7 +69,7 @@ module _ (s : Session) (symbols next : List Symbol) (from old : Outside) (Old : 
 
     -- what came of the run with it
     pub turns : (answer : Bool) → ((t : Session) → Old t → answer ≡ is_finished (stepped t e)) → (written : Result (Unit {0}) WriteFailed) → (stop : Bool) → now.stopped ≡ stop
-        → MatchResult written (λ _. Takes from.log now.log (output s (script_of (p.events ++ e ∷ [])))) (λ _. Cuts from.log now.log (output s (script_of (p.events ++ e ∷ []))))
+        → MatchResult written (λ _. Takes from.log now.log (output s (script_with (p.events ++ e ∷ [])))) (λ _. Cuts from.log now.log (output s (script_with (p.events ++ e ∷ []))))
         → TurnsTo s next from now New (outcome_of answer written stop)
     turns answer is (Err failed) stop same cut = record { events = p.events ++ e ∷ []; rest = []; heard = heard; shown = shows; left = left; ended = cut }
     turns answer is (Ok written) true same takes = record { events = p.events ++ e ∷ []; rest = []; heard = heard; shown = shows; left = left; ended = (takes, same) }

@@ -19,8 +19,8 @@ use Rattle.tv_terminal.specs.declared.action.Action.TheVariants.{Event, Quit}
 -- ---- events
 
 -- the script that has these events and nothing else
-abbrev pub script_of : List Happening → List Item
-script_of events = map items.Event events
+abbrev pub script_with : List Happening → List Item
+script_with events = map items.Event events
 
 -- the session to which events lead, with the log of the last one
 abbrev pub session_at : Session → List Happening → Session

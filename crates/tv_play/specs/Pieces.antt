@@ -1,12 +1,13 @@
 -- What comes from a terminal, in pieces.
-use Rattle.std.specs.Prelude.{◌≡◌, ◌<◌, ◌≤◌, ℕ, Bool, true, List, [], ◌∷◌, ◌++◌, map, take, length, Option, Some, None, IfSome}
+use Rattle.std.specs.Prelude.{◌≡◌, ◌<◌, ◌≤◌, ℕ, Bool, true, List, [], ◌∷◌, ◌++◌, map, take, length, Option}
+use Rattle.std.specs.Prelude.{Some, None, IfSome}
 use Rattle.tv_io.specs.Writer.{HasRisen}
 use Rattle.tv_play.specs.declared.pieces.Piece.{Piece}
 use Rattle.tv_play.specs.declared.pieces.Piece.TheVariants as pieces
 use Rattle.tv_terminal.specs.Decoding.{Symbol, Byte, Pause}
 
--- the bytes and pauses that are still to come, where they are known; the count of calls that failed; and whether the last
--- call was the end
+-- the bytes and pauses that are still to come, where they are known; the count of calls that failed; and
+-- whether the last call was the end
 pub record Heard : Type 0 where
   pub left : Option (List Symbol)
   pub failures : ℕ
@@ -19,10 +20,10 @@ symbols_in pieces.Pause room = Pause ∷ []
 symbols_in pieces.End room = Pause ∷ []
 
 -- there are some bytes, and they lie in the room
-abbrev pub IsWithin : Piece → List ℕ → Type 0
-IsWithin (pieces.Bytes count) room = (0 < count) × (count ≤ length room)
-IsWithin pieces.Pause room = Unit {0}
-IsWithin pieces.End room = Unit {0}
+abbrev pub FitsRoom : Piece → List ℕ → Type 0
+FitsRoom (pieces.Bytes count) room = (0 < count) × (count ≤ length room)
+FitsRoom pieces.Pause room = Unit {0}
+FitsRoom pieces.End room = Unit {0}
 
 -- these symbols were the next ones, where it is known what was left
 abbrev pub Loses : (old new : Option (List Symbol)) → List Symbol → Type 0

@@ -8,7 +8,7 @@ use Rattle.tv_machine.specs.Output.{after, output}
 use Rattle.tv_machine.specs.Run.{Session}
 use Rattle.tv_terminal.specs.Decoding.{Symbol}
 use Rattle.tv_terminal.specs.declared.action.Action.{Action}
-use Rattle.tv_play.specs.Ends.{is_finished, script_of, session_at}
+use Rattle.tv_play.specs.Ends.{is_finished, script_with, session_at}
 use Rattle.tv_play.specs.Pieces.{ComesNot, HasCome, Heard}
 use Rattle.tv_play.specs.Shown.{IsRestored, ShowsEach}
 use Rattle.tv_play.specs.Steps.{IsAtEnd, IsHeard, LeavesWith}
@@ -18,8 +18,8 @@ use Rattle.tv_play.specs.declared.parting.PlayFault.{PlayFault}
 use Rattle.tv_play.specs.declared.parting.PlayFault.TheVariants as faults
 
 -- the whole text was written, or the writer failed and a proper prefix was
-abbrev pub IsWritten : (old new : Seen) → List ℕ → Type 0
-IsWritten old new text = Takes old new text ⊎ Cuts old new text
+abbrev pub IsWrittenOrCut : (old new : Seen) → List ℕ → Type 0
+IsWrittenOrCut old new text = Takes old new text ⊎ Cuts old new text
 
 -- a run's input and its two outputs
 pub record Ports : Type 0 where
@@ -30,46 +30,53 @@ pub record Ports : Type 0 where
 -- why it ended by itself, by the user, or by its input
 abbrev pub PartsBy : (s : Session) → List Event → Heard → List Symbol → List Action → Parting → Type 0
 PartsBy s events input symbols rest partings.Over = is_finished (session_at s events) ≡ true
-PartsBy s events input symbols rest partings.Left = (is_finished (session_at s events) ≡ false) × LeavesWith s rest
+PartsBy s events input symbols rest partings.Left =
+    (is_finished (session_at s events) ≡ false) × LeavesWith s rest
 PartsBy s events input symbols rest partings.Ended =
     (is_finished (session_at s events) ≡ false) × (rest ≡ []) × IsAtEnd input symbols
 
 -- what came of it
-pub record IsPlayed (s : Session) (symbols : List Symbol) (events : List Event) (rest : List Action) (bytes : List ℕ)
+pub record IsPlayed (s : Session) (symbols : List Symbol) (events : List Event) (rest : List Action)
+    (bytes : List ℕ)
     (old new : Ports) (parting : Parting) : Type 0 where
   pub came : HasCome old.input new.input symbols
-  pub log : Takes old.log new.log (output s (script_of events))
+  pub log : Takes old.log new.log (output s (script_with events))
   pub screen : Takes old.screen new.screen bytes
   pub parts : PartsBy s events new.input symbols rest parting
 
 -- what came of one that was broken off
-abbrev pub IsBroken : (s : Session) (symbols : List Symbol) (events : List Event) (rest : List Action) (bytes : List ℕ)
+abbrev pub IsBroken : (s : Session) (symbols : List Symbol) (events : List Event) (rest : List Action)
+    (bytes : List ℕ)
     (old new : Ports) → PlayFault → Type 0
 IsBroken s symbols events rest bytes old new faults.Read =
     ((mid : Heard) × HasCome old.input mid symbols × ComesNot mid new.input) × (rest ≡ [])
-    × Takes old.log new.log (output s (script_of events)) × IsWritten old.screen new.screen bytes
+    × Takes old.log new.log (output s (script_with events)) × IsWrittenOrCut old.screen new.screen bytes
 IsBroken s symbols events rest bytes old new faults.Log =
     HasCome old.input new.input symbols
-    × Cuts old.log new.log (output s (script_of events)) × IsWritten old.screen new.screen bytes
+    × Cuts old.log new.log (output s (script_with events)) × IsWrittenOrCut old.screen new.screen bytes
 IsBroken s symbols events rest bytes old new faults.Screen =
     HasCome old.input new.input symbols
-    × Takes old.log new.log (output s (script_of events)) × Cuts old.screen new.screen bytes
+    × Takes old.log new.log (output s (script_with events)) × Cuts old.screen new.screen bytes
 IsBroken s symbols events rest bytes old new faults.NoMemory = ⊥
 
-abbrev pub ComesOf : (s : Session) (symbols : List Symbol) (events : List Event) (rest : List Action) (bytes : List ℕ)
+abbrev pub ComesOf : (s : Session) (symbols : List Symbol) (events : List Event) (rest : List Action)
+    (bytes : List ℕ)
     (old new : Ports) → Result Parting PlayFault → Type 0
-ComesOf s symbols events rest bytes old new (Ok parting) = IsPlayed s symbols events rest bytes old new parting
+ComesOf s symbols events rest bytes old new (Ok parting) =
+    IsPlayed s symbols events rest bytes old new parting
 ComesOf s symbols events rest bytes old new (Err fault) = IsBroken s symbols events rest bytes old new fault
 
--- A run from a session. The events are among what the symbols that came mean; the session that is left is the one to which
--- they lead; the log is what their script writes. A terminal that is told what was written for the screen shows the
--- session's screen at the beginning and after each event, and at the end what it showed before
-pub record Plays (s : Session) (old new : Ports) (Left : Session → Type 0) (result : Result Parting PlayFault) : Type 0 where
+-- A run from a session. The events are among what the symbols that came mean; the session that is left is the
+-- one to which they lead; the log is what their script writes. A terminal that is told what was written for
+-- the screen shows the session's screen at the beginning and after each event, and at the end what it showed
+-- before
+pub record Plays (s : Session) (old new : Ports) (Left : Session → Type 0) (result : Result Parting PlayFault)
+    : Type 0 where
   pub symbols : List Symbol
   pub events : List Event
   pub rest : List Action
   pub heard : IsHeard s symbols events rest
-  pub left : Left (after s (script_of events))
+  pub left : Left (after s (script_with events))
   pub frames : List (List ℕ)
   pub shows : ShowsEach s events frames
   pub restores : IsRestored s (concat frames ++ end_bytes)
@@ -81,7 +88,8 @@ pub record IsUnbegun (s : Session) (old new : Ports) (Left : Session → Type 0)
   pub left : Left s
 
 -- it was played, or there was no memory to begin
-abbrev pub PlaysTo : (s : Session) (old new : Ports) (Left : Session → Type 0) → Result Parting PlayFault → Type 0
+abbrev pub PlaysTo : (s : Session) (old new : Ports) (Left : Session → Type 0) → Result Parting PlayFault
+    → Type 0
 PlaysTo s old new Left (Err faults.NoMemory) = IsUnbegun s old new Left
 PlaysTo s old new Left result = Plays s old new Left result
 

@@ -16,13 +16,13 @@ use Rattle.tv_play.specs.Ends.{session_at}
 -- ---- sessions
 
 -- a column and a row of the screen
-pub record IsOnScreen (s : Session) (column row : ℕ) : Type 0 where
+pub record IsScreenPlace (s : Session) (column row : ℕ) : Type 0 where
   pub across : column < natural s.desc.width
   pub down : row < natural s.desc.height
 
 -- no cell of the screen has changed but those of some rectangles
 pub record KeepsScreen (rects : List Rect) (old new : Session) : Type 0 where
-  pub each : (column row : ℕ) → IsOnScreen old column row → has_cell rects column row ≡ false
+  pub each : (column row : ℕ) → IsScreenPlace old column row → has_cell rects column row ≡ false
       → screen_cell new column row ≡ screen_cell old column row
 
 -- the painter is one for screens of this size
@@ -33,7 +33,7 @@ pub record HasSize (s : Session) (painter : Painter) : Type 0 where
 -- ---- terminals
 
 -- a terminal that shows its normal screen, with room for that of the session
-pub record IsReady (s : Session) (d : Display) : Type 0 where
+pub record IsReadyTerminal (s : Session) (d : Display) : Type 0 where
   pub across : natural s.desc.width ≤ d.columns
   pub down : natural s.desc.height ≤ d.rows
   pub normal : d.covered ≡ None
@@ -42,17 +42,19 @@ pub record IsReady (s : Session) (d : Display) : Type 0 where
 abbrev pub normal_of : Display → Covered
 normal_of d = record { cells = d.cells; column = d.column; row = d.row }
 
--- its cursor stands at a cell of the session's screen that has the colours of an input's cursor, and is hidden where none has
+-- its cursor stands at a cell of the session's screen that has the colours of an input's cursor, and is
+-- hidden where none has
 pub record ShowsCursor (s : Session) (e : Display) : Type 0 where
   pub shown : e.has_cursor ≡ true
-      → IsOnScreen s e.column e.row × (is_cursor (screen_cell s e.column e.row) ≡ true)
-  pub hidden : e.has_cursor ≡ false → (column row : ℕ) → IsOnScreen s column row
+      → IsScreenPlace s e.column e.row × (is_cursor (screen_cell s e.column e.row) ≡ true)
+  pub hidden : e.has_cursor ≡ false → (column row : ℕ) → IsScreenPlace s column row
       → is_cursor (screen_cell s column row) ≡ false
 
--- it shows each cell of the session's screen, by its character and its colours, and the cursor of the focused input, tells of
--- the mouse, keeps its normal screen, and was told nothing that its definition lacks
+-- it shows each cell of the session's screen, by its character and its colours, and the cursor of the focused
+-- input, tells of the mouse, keeps its normal screen, and was told nothing that its definition lacks
 pub record ShowsSession (s : Session) (d e : Display) : Type 0 where
-  pub each : (column row : ℕ) → IsOnScreen s column row → e.cells column row ≡ tile_of (screen_cell s column row)
+  pub each : (column row : ℕ) → IsScreenPlace s column row
+      → e.cells column row ≡ tile_of (screen_cell s column row)
   pub cursor : ShowsCursor s e
   pub columns : e.columns ≡ d.columns
   pub rows : e.rows ≡ d.rows
@@ -73,13 +75,13 @@ restored_from d = record d {
 
 -- ---- a run
 
--- The bytes of the beginning, and those of each event: told them up to an event, a terminal shows the screen that the event
--- left, with no sequence left open
+-- The bytes of the beginning, and those of each event: told them up to an event, a terminal shows the screen
+-- that the event left, with no sequence left open
 pub record ShowsEach (s : Session) (events : List Event) (frames : List (List ℕ)) : Type 0 where
   pub count : length frames ≡ length events + 1
-  pub each : (d : Display) → IsReady s d → (k : ℕ) → k ≤ length events
+  pub each : (d : Display) → IsReadyTerminal s d → (k : ℕ) → k ≤ length events
       → Becomes (concat (take (k + 1) frames)) d (ShowsSession (session_at s (take k events)) d)
 
 -- told all of them and the bytes of the end, it is as it was
 pub record IsRestored (s : Session) (bytes : List ℕ) : Type 0 where
-  pub end : (d : Display) → IsReady s d → Becomes bytes d (λ e. e ≡ restored_from d)
+  pub end : (d : Display) → IsReadyTerminal s d → Becomes bytes d (λ e. e ≡ restored_from d)

@@ -1,5 +1,6 @@
 -- A run in a terminal, step by step.
-use Rattle.std.specs.Prelude.{◌≡◌, ◌<◌, ◌≤◌, ◌+◌, ◌^◌, ◌⊎◌, ℕ, Bool, true, false, List, [], ◌∷◌, ◌++◌, All, map, take, length, Option, Some, None, Result, Ok, Err}
+use Rattle.std.specs.Prelude.{◌≡◌, ◌<◌, ◌≤◌, ◌+◌, ◌^◌, ◌⊎◌, ℕ, Bool, true, false, List, [], ◌∷◌, ◌++◌, All}
+use Rattle.std.specs.Prelude.{map, take, length, Option, Some, None, Result, Ok, Err}
 use Rattle.std.specs.List.{concat}
 use Rattle.tv_ansi.specs.declared.painter.Painter.{Painter}
 use Rattle.tv_cells.specs.Picture.{IsOn, cell_at}
@@ -13,7 +14,7 @@ use Rattle.tv_script.specs.Streams.{Performs}
 use Rattle.tv_terminal.specs.Decoding.{Symbol, decode}
 use Rattle.tv_terminal.specs.declared.action.Action.{Action}
 use Rattle.tv_terminal.specs.declared.action.Action.TheVariants.{Event}
-use Rattle.tv_play.specs.Ends.{is_finished, is_leaving, script_of, session_at}
+use Rattle.tv_play.specs.Ends.{is_finished, is_leaving, script_with, session_at}
 use Rattle.tv_play.specs.Pieces.{ComesNot, HasCome, Heard}
 use Rattle.tv_play.specs.Shown.{HasSize, ShowsEach}
 use Rattle.tv_play.specs.declared.pieces.Piece.{Piece}
@@ -33,7 +34,8 @@ pub record HasTaken (s : Session) (painter : Painter) : Type 0 where
       → cell_at painter.shown column row ≡ screen_cell s column row
 
 -- what a terminal has to be told of the run so far was written to it
-pub record IsShown (s : Session) (events : List Happening) (from now : Seen) (stopped : Bool) (painter : Painter) : Type 0 where
+pub record HasBeenShown (s : Session) (events : List Happening) (from now : Seen) (stopped : Bool)
+    (painter : Painter) : Type 0 where
   pub frames : List (List ℕ)
   pub shows : ShowsEach s events frames
   pub put : PutsBy from false now stopped (concat frames)
@@ -41,9 +43,10 @@ pub record IsShown (s : Session) (events : List Happening) (from now : Seen) (st
 
 -- ---- symbols and events
 
--- The events of a run, among what the symbols mean: the user leaves with none of them, and before each of them something
--- can still happen. What comes after them isn't heard
-pub record IsHeard (s : Session) (symbols : List Symbol) (events : List Happening) (rest : List Action) : Type 0 where
+-- The events of a run, among what the symbols mean: the user leaves with none of them, and before each of
+-- them something can still happen. What comes after them isn't heard
+pub record IsHeard (s : Session) (symbols : List Symbol) (events : List Happening) (rest : List Action)
+    : Type 0 where
   pub parts : decode symbols ≡ map Event events ++ rest
   pub stays : All (λ event. is_leaving s.desc (Event event) ≡ false) events
   pub goes : (k : ℕ) → k < length events → is_finished (session_at s (take k events)) ≡ false
@@ -58,12 +61,13 @@ pub record Outside : Type 0 where
   pub painter : Painter
 
 -- it goes on: all that was meant was performed
-pub record IsPlaying (s : Session) (symbols : List Symbol) (from now : Outside) (Left : Session → Type 0) : Type 0 where
+pub record IsPlaying (s : Session) (symbols : List Symbol) (from now : Outside) (Left : Session → Type 0)
+    : Type 0 where
   pub events : List Happening
   pub heard : IsHeard s symbols events []
   pub goes : is_finished (session_at s events) ≡ false
-  pub shown : IsShown s events from.screen now.screen now.stopped now.painter
-  pub performs : Performs s (script_of events) from.log now.log Left
+  pub shown : HasBeenShown s events from.screen now.screen now.stopped now.painter
+  pub performs : Performs s (script_with events) from.log now.log Left
   pub going : now.stopped ≡ false
 
 -- the user leaves with the first of these
@@ -72,30 +76,34 @@ LeavesWith s [] = ⊥
 LeavesWith s (action ∷ rest) = is_leaving s.desc action ≡ true
 
 -- why it ended among what was meant
-abbrev pub IsEndedBy : (s : Session) (events : List Happening) (rest : List Action) (from now : Outside) → Result Parting PlayFault → Type 0
+abbrev pub IsEndedBy : (s : Session) (events : List Happening) (rest : List Action) (from now : Outside)
+    → Result Parting PlayFault → Type 0
 IsEndedBy s events rest from now (Ok partings.Over) =
-    (is_finished (session_at s events) ≡ true) × Takes from.log now.log (output s (script_of events)) × (now.stopped ≡ false)
+    (is_finished (session_at s events) ≡ true) × Takes from.log now.log (output s (script_with events))
+    × (now.stopped ≡ false)
 IsEndedBy s events rest from now (Ok partings.Left) =
     (is_finished (session_at s events) ≡ false) × LeavesWith s rest
-    × Takes from.log now.log (output s (script_of events)) × (now.stopped ≡ false)
-IsEndedBy s events rest from now (Err faults.Log) = Cuts from.log now.log (output s (script_of events))
+    × Takes from.log now.log (output s (script_with events)) × (now.stopped ≡ false)
+IsEndedBy s events rest from now (Err faults.Log) = Cuts from.log now.log (output s (script_with events))
 IsEndedBy s events rest from now (Err faults.Screen) =
-    Takes from.log now.log (output s (script_of events)) × (now.stopped ≡ true)
+    Takes from.log now.log (output s (script_with events)) × (now.stopped ≡ true)
 IsEndedBy s events rest from now _ = ⊥
 
 -- it ended
-pub record HasPlayed (s : Session) (symbols : List Symbol) (from now : Outside) (Left : Session → Type 0) (outcome : Result Parting PlayFault) : Type 0 where
+pub record HasPlayedOut (s : Session) (symbols : List Symbol) (from now : Outside) (Left : Session → Type 0)
+    (outcome : Result Parting PlayFault) : Type 0 where
   pub events : List Happening
   pub rest : List Action
   pub heard : IsHeard s symbols events rest
-  pub shown : IsShown s events from.screen now.screen now.stopped now.painter
-  pub left : Left (after s (script_of events))
+  pub shown : HasBeenShown s events from.screen now.screen now.stopped now.painter
+  pub left : Left (after s (script_with events))
   pub ended : IsEndedBy s events rest from now outcome
 
 -- it goes on, or ended so
-abbrev pub TurnsTo : (s : Session) (symbols : List Symbol) (from now : Outside) (Left : Session → Type 0) → Option (Result Parting PlayFault) → Type 0
+abbrev pub TurnsTo : (s : Session) (symbols : List Symbol) (from now : Outside) (Left : Session → Type 0)
+    → Option (Result Parting PlayFault) → Type 0
 TurnsTo s symbols from now Left None = IsPlaying s symbols from now Left
-TurnsTo s symbols from now Left (Some outcome) = HasPlayed s symbols from now Left outcome
+TurnsTo s symbols from now Left (Some outcome) = HasPlayedOut s symbols from now Left outcome
 
 -- ---- with its input
 
@@ -104,30 +112,33 @@ abbrev pub IsAtEnd : Heard → List Symbol → Type 0
 IsAtEnd input symbols = (input.is_ended ≡ true) ⊎ (2 ^ 64 ≤ length symbols + 1)
 
 -- why it ended, with what came
-abbrev pub CameTo : (s : Session) (symbols : List Symbol) (events : List Happening) (rest : List Action) (input later : Heard) (from now : Outside) → Result Parting PlayFault → Type 0
+abbrev pub CameTo : (s : Session) (symbols : List Symbol) (events : List Happening) (rest : List Action)
+    (input later : Heard) (from now : Outside) → Result Parting PlayFault → Type 0
 CameTo s symbols events rest input later from now (Ok partings.Ended) =
-    HasCome input later symbols × (is_finished (session_at s events) ≡ false) × (rest ≡ []) × IsAtEnd later symbols
-    × Takes from.log now.log (output s (script_of events)) × (now.stopped ≡ false)
+    HasCome input later symbols × (is_finished (session_at s events) ≡ false) × (rest ≡ [])
+    × IsAtEnd later symbols
+    × Takes from.log now.log (output s (script_with events)) × (now.stopped ≡ false)
 CameTo s symbols events rest input later from now (Err faults.Read) =
     ((mid : Heard) × HasCome input mid symbols × ComesNot mid later) × (rest ≡ [])
-    × Takes from.log now.log (output s (script_of events)) × (now.stopped ≡ false)
+    × Takes from.log now.log (output s (script_with events)) × (now.stopped ≡ false)
 CameTo s symbols events rest input later from now outcome =
     HasCome input later symbols × IsEndedBy s events rest from now outcome
 
 -- it ended, but for what is shown at the end
-pub record HasRun (s : Session) (input later : Heard) (from now : Outside) (Left : Session → Type 0) (outcome : Result Parting PlayFault) : Type 0 where
+pub record HasRun (s : Session) (input later : Heard) (from now : Outside) (Left : Session → Type 0)
+    (outcome : Result Parting PlayFault) : Type 0 where
   pub symbols : List Symbol
   pub events : List Happening
   pub rest : List Action
   pub heard : IsHeard s symbols events rest
-  pub shown : IsShown s events from.screen now.screen now.stopped now.painter
-  pub left : Left (after s (script_of events))
+  pub shown : HasBeenShown s events from.screen now.screen now.stopped now.painter
+  pub left : Left (after s (script_with events))
   pub came : CameTo s symbols events rest input later from now outcome
 
 -- ---- an event
 
--- how a run ends with an event: by whether nothing can happen any more, whether its log was written, and whether the writer
--- of the screen failed
+-- how a run ends with an event: by whether nothing can happen any more, whether its log was written, and
+-- whether the writer of the screen failed
 abbrev pub outcome_of : Bool → Result (Unit {0}) WriteFailed → Bool → Option (Result Parting PlayFault)
 outcome_of finished (Err failed) stopped = Some (Err faults.Log)
 outcome_of finished (Ok written) true = Some (Err faults.Screen)
@@ -142,4 +153,5 @@ or_end None (pieces.Bytes count) = None
 or_end None pieces.Pause = None
 
 abbrev pub outside : (log screen : Seen) (stopped : Bool) → Painter → Outside
-outside log screen stopped painter = record { log = log; screen = screen; stopped = stopped; painter = painter }
+outside log screen stopped painter =
+    record { log = log; screen = screen; stopped = stopped; painter = painter }

@@ -1,7 +1,7 @@
 //! Pieces of what a terminal sends.
 
 ghost use Rattle.std.specs.Prelude.{◌≡◌, ◌<◌, length, IfSome, None};
-ghost use Rattle.tv_play.specs.Pieces.{Comes, ComesNot, Heard, IsWithin};
+ghost use Rattle.tv_play.specs.Pieces.{Comes, ComesNot, Heard, FitsRoom};
 
 /// What came at a read.
 #[derive(Clone, Copy, Debug, PartialEq, Eq)]
@@ -22,7 +22,7 @@ pub trait Pieces {
     /// Waits for what comes next, and puts its bytes into the room. `None` is a failure.
     fn next(&mut self, room: &mut [u8]) -> Option<Piece>
         requires { 0 < length room.old }
-        ensures within { IfSome result (λ piece. IsWithin piece room.new) }
+        ensures within { IfSome result (λ piece. FitsRoom piece room.new) }
         ensures came { IfSome result (λ piece. Comes (heard self.old) (heard self.new) piece room.new) }
         ensures failed { result ≡ None → ComesNot (heard self.old) (heard self.new) };
 }

@@ -5,10 +5,10 @@ ghost use Rattle.tv_event.specs.declared.event.Event.{Event as Happening};
 ghost use Rattle.tv_io.specs.Writer.{Cuts, Seen, Takes};
 ghost use Rattle.tv_machine.specs.Output.{output};
 ghost use Rattle.tv_machine.specs.Run.{Session, quiet, stepped};
-ghost use Rattle.tv_play.specs.Ends.{is_finished, script_of, session_at};
-ghost use Rattle.tv_play.specs.Pieces.{IsWithin, symbols_in};
+ghost use Rattle.tv_play.specs.Ends.{is_finished, script_with, session_at};
+ghost use Rattle.tv_play.specs.Pieces.{FitsRoom, symbols_in};
 ghost use Rattle.tv_play.specs.Shown.{HasSize};
-ghost use Rattle.tv_play.specs.Steps.{IsPlaying, IsShown, Outside, TurnsTo, outcome_of, outside};
+ghost use Rattle.tv_play.specs.Steps.{IsPlaying, HasBeenShown, Outside, TurnsTo, outcome_of, outside};
 ghost use Rattle.tv_script.specs.Streams.{Performs};
 ghost use Rattle.tv_terminal.specs.Decoding.{Symbol, Byte, Pause, before, decode, left_after};
 ghost use Rattle.tv_terminal.specs.Points.{IsPlaced, IsPlacedAction};
@@ -42,13 +42,13 @@ fn act<L: Live, T: Writer, W: Writer>(
     ensures finished { (t : Session) → L.stands stage.old t → result.0 ≡ is_finished (stepped t event.now) }
     ensures stands { (t : Session) → L.stands stage.old t → L.stands stage.new (quiet (stepped t event.now)) }
     ensures shown { (s : Session) (events : List Happening) (from : Seen) → L.stands stage.old (quiet (session_at s events))
-        → IsShown s events from (T.seen show.old.pen.out.now) show.old.pen.stopped show.old.painter.now
-        → IsShown s (events ++ event.now ∷ []) from (T.seen show.new.pen.out.now) show.new.pen.stopped show.new.painter.now }
+        → HasBeenShown s events from (T.seen show.old.pen.out.now) show.old.pen.stopped show.old.painter.now
+        → HasBeenShown s (events ++ event.now ∷ []) from (T.seen show.new.pen.out.now) show.new.pen.stopped show.new.painter.now }
     ensures logged { (s : Session) (events : List Happening) (from : Seen)
-        → Performs s (script_of events) from (W.seen journal.old.out.now) (L.stands stage.old)
+        → Performs s (script_with events) from (W.seen journal.old.out.now) (L.stands stage.old)
         → MatchResult result.1
-        (λ _. Takes from (W.seen journal.new.out.now) (output s (script_of (events ++ event.now ∷ []))))
-        (λ _. Cuts from (W.seen journal.new.out.now) (output s (script_of (events ++ event.now ∷ [])))) }
+        (λ _. Takes from (W.seen journal.new.out.now) (output s (script_with (events ++ event.now ∷ []))))
+        (λ _. Cuts from (W.seen journal.new.out.now) (output s (script_with (events ++ event.now ∷ [])))) }
 {
     stage.react(event);
     show.repaint(stage);
@@ -188,7 +188,7 @@ pub(crate) fn take_piece<L: Live, T: Writer, W: Writer>(
     piece: Piece,
     room: &[u8],
 ) -> Option<Outcome>
-    requires within { IsWithin piece room.now }
+    requires within { FitsRoom piece room.now }
     requires going { show.old.pen.stopped ≡ false }
     requires there { (t : Session) × L.stands stage.old t × HasSize t show.old.painter.now }
     ensures log { journal.new.out.ghost_name ≡ journal.old.out.ghost_name }
@@ -209,7 +209,7 @@ pub(crate) fn take_piece<L: Live, T: Writer, W: Writer>(
 
 // The bytes of a piece; any other is a pause.
 fn bytes_in(piece: Piece, room: &[u8]) -> Option<&[u8]>
-    requires { IsWithin piece room.now }
+    requires { FitsRoom piece room.now }
     ensures bytes { IfSome result (λ bytes. symbols_in piece room.now ≡ map Byte bytes.now) }
     ensures pause { IfNone result (symbols_in piece room.now ≡ Pause ∷ []) }
 {

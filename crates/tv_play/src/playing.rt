@@ -5,7 +5,7 @@ ghost use Rattle.tv_io.specs.Writer.{Seen};
 ghost use Rattle.tv_machine.specs.Run.{Session};
 ghost use Rattle.tv_play.specs.Playing.{Plays, PlaysTo, told_with};
 ghost use Rattle.tv_play.specs.Shown.{HasSize};
-ghost use Rattle.tv_play.specs.Steps.{HasRun, IsPlaying, IsShown, Outside, or_end, outside};
+ghost use Rattle.tv_play.specs.Steps.{HasRun, IsPlaying, HasBeenShown, Outside, or_end, outside};
 
 use crate::ends::is_finished;
 use crate::journal::{Journal, nothing};
@@ -132,7 +132,7 @@ fn play_begun<L: Live, P: Pieces, T: Writer, W: Writer>(
     ensures log { journal.new.out.ghost_name ≡ journal.old.out.ghost_name }
     ensures screen { show.new.pen.out.ghost_name ≡ show.old.pen.out.ghost_name }
     ensures runs { (s : Session) (from : Seen) → L.stands stage.old s
-        → IsShown s [] from (T.seen show.old.pen.out.now) show.old.pen.stopped show.old.painter.now
+        → HasBeenShown s [] from (T.seen show.old.pen.out.now) show.old.pen.stopped show.old.painter.now
         → HasRun s (P.heard pieces.old) (P.heard pieces.new) (outside (W.seen journal.old.out.now) from show.old.pen.stopped show.old.painter.now)
         (outside (W.seen journal.new.out.now) (T.seen show.new.pen.out.now) show.new.pen.stopped show.new.painter.now) (L.stands stage.new) result }
 {

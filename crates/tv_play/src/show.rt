@@ -9,7 +9,7 @@ ghost use Rattle.tv_io.specs.Writer.{Seen};
 ghost use Rattle.tv_machine.specs.Run.{Session};
 ghost use Rattle.tv_play.specs.Ends.{session_at};
 ghost use Rattle.tv_play.specs.Shown.{HasSize, KeepsScreen};
-ghost use Rattle.tv_play.specs.Steps.{IsShown};
+ghost use Rattle.tv_play.specs.Steps.{HasBeenShown};
 
 use crate::cursor::find_cursor;
 use crate::live::Live;
@@ -31,7 +31,7 @@ impl<T: Writer> Show<'_, '_, T> {
         ensures size { (t : Session) → HasSize t self.old.painter.now → HasSize t self.new.painter.now }
         ensures same { self.new.pen.out.ghost_name ≡ self.old.pen.out.ghost_name }
         ensures shown { (s : Session) → L.stands stage.now s
-            → IsShown s [] (T.seen self.old.pen.out.now) (T.seen self.new.pen.out.now) self.new.pen.stopped self.new.painter.now }
+            → HasBeenShown s [] (T.seen self.old.pen.out.now) (T.seen self.new.pen.out.now) self.new.pen.stopped self.new.painter.now }
     {
         let screen = stage.screen();
         let cursor = find_cursor(screen, &[]);
@@ -46,8 +46,8 @@ impl<T: Writer> Show<'_, '_, T> {
         ensures shown { (s : Session) (events : List Happening) (event : Happening) (from : Seen)
             → L.stands stage.now (session_at s (events ++ event ∷ []))
             → KeepsScreen (L.repaints stage.now) (session_at s events) (session_at s (events ++ event ∷ []))
-            → IsShown s events from (T.seen self.old.pen.out.now) self.old.pen.stopped self.old.painter.now
-            → IsShown s (events ++ event ∷ []) from (T.seen self.new.pen.out.now) self.new.pen.stopped self.new.painter.now }
+            → HasBeenShown s events from (T.seen self.old.pen.out.now) self.old.pen.stopped self.old.painter.now
+            → HasBeenShown s (events ++ event ∷ []) from (T.seen self.new.pen.out.now) self.new.pen.stopped self.new.painter.now }
     {
         let (screen, rects) = (stage.screen(), stage.repainted());
         let cursor = find_cursor(screen, rects);

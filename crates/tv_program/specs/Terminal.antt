@@ -15,9 +15,10 @@ abbrev pub told_of : Result Parting TerminalFault → Result Parting PlayFault
 told_of (Ok parting) = Ok parting
 told_of (Err fault) = Err (terminal_run fault)
 
--- A description, played in a terminal. Only a sound one is played, from its start. Where it is refused, or no run is begun,
--- nothing was read or written. The session isn't handed back.
-pub data PlaysText (Mismade : Desc → Type 0) (text : List ℕ) (old new : Ports) (result : Result Parting PlayFault) : Type 0 where
+-- A description, played in a terminal. Only a sound one is played, from its start. Where it is refused, or no
+-- run is begun, nothing was read or written. The session isn't handed back.
+pub data PlaysText (Mismade : Desc → Type 0) (text : List ℕ) (old new : Ports)
+    (result : Result Parting PlayFault) : Type 0 where
   refused : (fault : PlayFault) → RefusesDesc text fault → new ≡ old → result ≡ Err fault
       → PlaysText Mismade text old new result
   unbegun : (d : Desc) (fault : PlayFault) → IsSoundText text d → IsNoStart Mismade d fault → new ≡ old

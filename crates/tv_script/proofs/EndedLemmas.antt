@@ -4,18 +4,18 @@ use Rattle.std.specs.List.{AllByRecursion, list_any}
 use Rattle.std.proofs.lemmas.List.{append-nil, length-take, take-append-le, take_all}
 use Rattle.std.proofs.lemmas.Bool.Decides.{nat_tests}
 use Rattle.std.proofs.Math.Seq.{take-append-add}
-use Rattle.tv_script.specs.Lines.{is_line_end}
+use Rattle.tv_script.specs.Lines.{ends_line}
 use Rattle.tv_script.specs.Reading.Streams.{IsUnended, with_line_ends}
 use Rattle.tv_script.specs.Streams.{before_end, judged, up_to_last_end}
 use Rattle.tv_words.specs.Lines.{lines_of}
 
 -- ---- lines without line ends
 
-open_parts : (b : Bool) (line : List ℕ) → (b || list_any is_line_end line) ≡ false → (b ≡ false) × IsUnended line
+open_parts : (b : Bool) (line : List ℕ) → (b || list_any ends_line line) ≡ false → (b ≡ false) × IsUnended line
 open_parts true line e = absurd cc
 open_parts false line e = (refl, e)
 
-onto : (b : Bool) (c : ℕ) (l rest : List ℕ) → c == 10 ≡ b → (b || list_any is_line_end l) ≡ false → (IsUnended l → lines_of (l ++ 10 ∷ rest) ≡ l ∷ lines_of rest) → lines_of (c ∷ l ++ 10 ∷ rest) ≡ (c ∷ l) ∷ lines_of rest
+onto : (b : Bool) (c : ℕ) (l rest : List ℕ) → c == 10 ≡ b → (b || list_any ends_line l) ≡ false → (IsUnended l → lines_of (l ++ 10 ∷ rest) ≡ l ∷ lines_of rest) → lines_of (c ∷ l ++ 10 ∷ rest) ≡ (c ∷ l) ∷ lines_of rest
 onto true c l rest e none later = absurd cc
 onto false c l rest e none later = rw (e, later none) refl
 
@@ -29,7 +29,7 @@ lines_of_ended (l ∷ lines) rest are =
     ap lines_of (append_assoc (l ++ 10 ∷ []) (with_line_ends lines) rest ∙ append_assoc l (10 ∷ []) (with_line_ends lines ++ rest))
     ∙ first_line l (with_line_ends lines ++ rest) are.0 ∙ ap (λ x. l ∷ x) (lines_of_ended lines rest are.1)
 
-last_if : (b : Bool) (c d : ℕ) (ds : List ℕ) → c == 10 ≡ b → (b || list_any is_line_end (d ∷ ds)) ≡ false → (IsUnended (d ∷ ds) → lines_of (d ∷ ds) ≡ (d ∷ ds) ∷ []) → lines_of (c ∷ d ∷ ds) ≡ (c ∷ d ∷ ds) ∷ []
+last_if : (b : Bool) (c d : ℕ) (ds : List ℕ) → c == 10 ≡ b → (b || list_any ends_line (d ∷ ds)) ≡ false → (IsUnended (d ∷ ds) → lines_of (d ∷ ds) ≡ (d ∷ ds) ∷ []) → lines_of (c ∷ d ∷ ds) ≡ (c ∷ d ∷ ds) ∷ []
 last_if true c d ds e none later = absurd cc
 last_if false c d ds e none later = rw (e, later none) refl
 
@@ -42,11 +42,11 @@ pub last_line : (c : ℕ) (cs : List ℕ) → IsUnended (c ∷ cs) → lines_of 
 last_line c [] none = alone_if (c == 10) c refl none
 last_line c (d ∷ ds) none = last_if (c == 10) c d ds refl none (last_line d ds)
 
-push_if : (b : Bool) (c : ℕ) (l : List ℕ) (byte : ℕ) → (b || list_any is_line_end l) ≡ false → (IsUnended l → IsUnended (l ++ byte ∷ [])) → (b || list_any is_line_end (l ++ byte ∷ [])) ≡ false
+push_if : (b : Bool) (c : ℕ) (l : List ℕ) (byte : ℕ) → (b || list_any ends_line l) ≡ false → (IsUnended l → IsUnended (l ++ byte ∷ [])) → (b || list_any ends_line (l ++ byte ∷ [])) ≡ false
 push_if true c l byte none later = absurd cc
 push_if false c l byte none later = later none
 
-pub open_push : (l : List ℕ) (byte : ℕ) → IsUnended l → is_line_end byte ≡ false → IsUnended (l ++ byte ∷ [])
+pub open_push : (l : List ℕ) (byte : ℕ) → IsUnended l → ends_line byte ≡ false → IsUnended (l ++ byte ∷ [])
 open_push [] byte none is = rw is refl
 open_push (c ∷ l) byte none is = push_if (c == 10) c l byte none (λ open_rest. open_push l byte open_rest is)
 
@@ -62,7 +62,7 @@ all_push (x ∷ lines) l are is = (are.0, all_push lines l are.1 is)
 
 -- ---- up to the last line end
 
-up_if : (b : Bool) (c : ℕ) (cs : List ℕ) → c == 10 ≡ b → (b || list_any is_line_end cs) ≡ false → (IsUnended cs → up_to_last_end cs ≡ []) → before_end c (up_to_last_end cs) ≡ []
+up_if : (b : Bool) (c : ℕ) (cs : List ℕ) → c == 10 ≡ b → (b || list_any ends_line cs) ≡ false → (IsUnended cs → up_to_last_end cs ≡ []) → before_end c (up_to_last_end cs) ≡ []
 up_if true c cs e none later = absurd cc
 up_if false c cs e none later = rw (later none, e) refl
 

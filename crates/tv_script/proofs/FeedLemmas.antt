@@ -18,7 +18,7 @@ use Rattle.tv_script.specs.declared.script_text.ScriptFault.{ScriptFault}
 use Rattle.tv_script.specs.declared.script_text.ScriptFault.TheVariants as scripts
 use Rattle.tv_script.specs.declared.stream_fault.StreamFault.{StreamFault}
 use Rattle.tv_script.specs.declared.stream_fault.StreamFault.TheVariants as streams
-use Rattle.tv_script.specs.Lines.{is_line_end}
+use Rattle.tv_script.specs.Lines.{ends_line}
 use Rattle.tv_script.specs.Performed.{Stops}
 use Rattle.tv_script.specs.Reading.Scripts.{script_from, with_bytes}
 use Rattle.tv_script.specs.Reading.Streams.{BeginsLine, HasPlayed, HasScreenOf, IsFed, IsUnended, IsUnplayed, with_line_ends, stream_fault}
@@ -62,7 +62,7 @@ module _ (s : Session) (lines : List (List ℕ)) (line : List ℕ) (from now : S
 
 module _ (s : Session) (from now : Seen) (Left : Session → Type 0) where
   -- one of the line at hand
-  pub fed_push : (old new : Feed) (given : List ℕ) (byte : ℕ) → IsFed s old given from now Left → is_line_end byte ≡ false → new.line.items ≡ old.line.items ++ byte ∷ [] → new.lines ≡ old.lines → new.items ≡ old.items → new.bytes ≡ old.bytes + 1 → new.width ≡ old.width → new.height ≡ old.height → IsFed s new (given ++ byte ∷ []) from now Left
+  pub fed_push : (old new : Feed) (given : List ℕ) (byte : ℕ) → IsFed s old given from now Left → ends_line byte ≡ false → new.line.items ≡ old.line.items ++ byte ∷ [] → new.lines ≡ old.lines → new.items ≡ old.items → new.bytes ≡ old.bytes + 1 → new.width ≡ old.width → new.height ≡ old.height → IsFed s new (given ++ byte ∷ []) from now Left
   fed_push old new given byte fed is line lines items bytes width height = record {
     screen = record { width = width ∙ fed.screen.width; height = height ∙ fed.screen.height };
     lines = fed.lines;

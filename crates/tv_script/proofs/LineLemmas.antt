@@ -11,7 +11,7 @@ use Rattle.tv_declarations.specs.Spelling.Keys.{key_word}
 use Rattle.tv_event.specs.declared.event.Key.{Key}
 use Rattle.tv_script.specs.declared.line.Line.{Line}
 use Rattle.tv_script.specs.declared.line.Line.TheVariants as lines
-use Rattle.tv_script.specs.Lines.{IsLine, IsPoint, is_line_end, point_words, words_of_line}
+use Rattle.tv_script.specs.Lines.{IsLine, IsPoint, ends_line, point_words, words_of_line}
 use Rattle.tv_script.specs.Reading.Lines.{script_line_in, point_in, typed_line}
 use Rattle.tv_words.proofs.FieldLemmas.{number_word_read, read_number_word, text_read, word_is}
 use Rattle.tv_words.specs.declared.word.Word.{Word}
@@ -37,7 +37,7 @@ keyed k w l (Some key) ek eo e =
     let words : words_of_line (lines.Key key) ≡ k ∷ w ∷ [] = ap (λ x. x ∷ key_word key ∷ []) (sym ek) ∙ ap (λ x. k ∷ x ∷ []) (sym r.0) in
     subst (λ x. LineOf x (k ∷ w ∷ [])) same (words, r.1)
 
-typed_if : (k w : Word) (l : Line) (text : List ℕ) (b : Bool) → k ≡ Bare (codes "type") → w ≡ Quoted text → list_any is_line_end text ≡ b → cond b None (Some (lines.Type text)) ≡ Some l → LineOf l (k ∷ w ∷ [])
+typed_if : (k w : Word) (l : Line) (text : List ℕ) (b : Bool) → k ≡ Bare (codes "type") → w ≡ Quoted text → list_any ends_line text ≡ b → cond b None (Some (lines.Type text)) ≡ Some l → LineOf l (k ∷ w ∷ [])
 typed_if k w l text false ek ew eb e =
     let same : lines.Type text ≡ l = cc in
     let words : words_of_line (lines.Type text) ≡ k ∷ w ∷ [] = ap (λ x. x ∷ Quoted text ∷ []) (sym ek) ∙ ap (λ x. k ∷ x ∷ []) (sym ew) in
@@ -46,7 +46,7 @@ typed_if k w l text true ek ew eb e = absurd cc
 
 typed_read : (k w : Word) (l : Line) (o : Option (List ℕ)) → k ≡ Bare (codes "type") → text_in w ≡ o → typed_line o ≡ Some l → LineOf l (k ∷ w ∷ [])
 typed_read k w l None ek eo e = absurd cc
-typed_read k w l (Some text) ek eo e = typed_if k w l text (list_any is_line_end text) ek (text_read w text eo) refl e
+typed_read k w l (Some text) ek eo e = typed_if k w l text (list_any ends_line text) ek (text_read w text eo) refl e
 
 two_if : (k w : Word) (l : Line) (a b : Bool) → is_bare_word k (codes "key") ≡ a → is_bare_word k (codes "type") ≡ b → cond a (option_map lines.Key (key_in w)) (cond b (typed_line (text_in w)) None) ≡ Some l → LineOf l (k ∷ w ∷ [])
 two_if k w l true b ea eb e = keyed k w l (key_in w) (word_is k (codes "key") ea) refl e

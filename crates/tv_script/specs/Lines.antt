@@ -36,13 +36,13 @@ abbrev pub IsPoint : Point → Type 0
 IsPoint p = IsNumber p.x × IsNumber p.y
 
 -- a line end
-abbrev pub is_line_end : ℕ → Bool
-is_line_end c = c == 10
+abbrev pub ends_line : ℕ → Bool
+ends_line c = c == 10
 
 -- a line that can be spelled: a key with a name, a text without a line end, or a point of two numbers
 abbrev pub IsLine : Line → Type 0
 IsLine (lines.Key key) = IsKey key
-IsLine (lines.Type text) = list_any is_line_end text ≡ false
+IsLine (lines.Type text) = list_any ends_line text ≡ false
 IsLine (lines.Down p) = IsPoint p
 IsLine (lines.Move p) = IsPoint p
 IsLine (lines.Up p) = IsPoint p

@@ -4,7 +4,7 @@ ghost use Rattle.std.specs.Prelude.{◌≡◌, [], ◌∷◌, length, Some};
 ghost use Rattle.std.specs.Option.{option_map};
 ghost use Rattle.std.specs.List.{list_any};
 ghost use Rattle.tv_model.specs.declared.script.Item.TheVariants as items;
-ghost use Rattle.tv_script.specs.Lines.{is_line_end, is_on_screen, items_of_line, item_typed};
+ghost use Rattle.tv_script.specs.Lines.{ends_line, is_on_screen, items_of_line, item_typed};
 ghost use Rattle.tv_script.specs.Reading.Lines.{key_line_in, line_read, mouse_line_in, point_in, screen_line_in, typed_in, words_read};
 ghost use Rattle.tv_script.specs.ScriptLines.{items_left, line_meant};
 ghost use Rattle.tv_words.specs.Tokens.{text_quoted, token_word, words_in};
@@ -154,7 +154,7 @@ fn typed<'a>(token: &Token<'a>) -> Option<ScriptLine<'a>>
 }
 
 fn has_line_end(text: &QuotedText<'_>) -> bool
-    ensures { result ≡ list_any is_line_end (text_quoted text.now) }
+    ensures { result ≡ list_any ends_line (text_quoted text.now) }
 {
     text.chars().any(|ch| ch == '\n')
 }

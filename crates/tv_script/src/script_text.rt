@@ -3,7 +3,7 @@
 ghost use Rattle.std.specs.Prelude.{◌≡◌, ◌++◌, [], map, List, IfOk, IfErr, OnOk};
 ghost use Rattle.std.specs.List.{list_any};
 ghost use Rattle.tv_model.specs.declared.script.Item.{Item as SeenItem};
-ghost use Rattle.tv_script.specs.Lines.{is_line_end, items_of_line, item_typed};
+ghost use Rattle.tv_script.specs.Lines.{ends_line, items_of_line, item_typed};
 ghost use Rattle.tv_script.specs.Reading.Lines.{key_line_in, script_line_in, mouse_line_in, point_in, screen_line_in, typed_in};
 ghost use Rattle.tv_script.specs.Reading.Scripts.{IsAnswered, script_from, script_of, with_bytes, with_script_line};
 ghost use Rattle.tv_script.specs.Scripts.{GivesScript, RefusesScript, SpellsAScript};
@@ -216,7 +216,7 @@ fn typed(alloc: Global, word: &Word) -> Result<Option<Line>, AllocError>
 }
 
 fn has_line_end(text: &[char]) -> bool
-    ensures { result ≡ list_any is_line_end text.now }
+    ensures { result ≡ list_any ends_line text.now }
 {
     text.iter().any(|ch| *ch == '\n')
 }

@@ -18,7 +18,7 @@ use Rattle.tv_terminal.specs.declared.reading.Reading.TheVariants.{Unfinished, W
 use Rattle.tv_terminal.specs.declared.reading.Kind.{Kind}
 use Rattle.tv_terminal.specs.declared.reading.Kind.TheVariants.{Keys, Mouse}
 use Rattle.tv_terminal.specs.Points.{IsMousePlace, HasPlaces, IsPlacedAction}
-use Rattle.tv_terminal.specs.Table.{key_action, typed_char, typed_code, ascii, alt, ctrl_coded, plain_code, coded, key_of_number, ctrl_key_of_number, console, by_tilde, by_code, by_letter, of_keys, place, point, is_left, held, mouse, of_mouse, old_mouse}
+use Rattle.tv_terminal.specs.Table.{key_action, typed_char, typed_code, ascii, alt, ctrl_coded, plain_code, coded, key_of_number, ctrl_key_of_number, console, by_tilde, by_code, by_letter, of_keys, near_place, point, is_left, held, mouse, of_mouse, old_mouse}
 use Rattle.tv_terminal.specs.Sequences.{only, meaning, with_byte, numbers_from, old_report, console_from, bracketed, string_from, last_from, two_from, three_from, character, meaningless, is_heard, after_escape, reading_of}
 use Rattle.tv_terminal.specs.Decoding.{most, at_pause, given_as, given, anew_given}
 
@@ -93,7 +93,7 @@ of_keys_placed numbers last =
     if_placed (last == 126) (tilde_placed numbers)
     (if_placed (last == 117) (by_code_placed numbers) (maybe_key_placed (by_letter numbers last)))
 
-is_place : (n : ℕ) → IsMousePlace (pos (place n))
+is_place : (n : ℕ) → IsMousePlace (pos (near_place n))
 is_place n = record { low = omega (arith, ints); high = omega (arith, ints) }
 
 point_placed : (x y : ℕ) → HasPlaces (point x y)

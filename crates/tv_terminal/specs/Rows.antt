@@ -1,5 +1,5 @@
--- The table by rows: what terminals send, and the key that it is. Ctrl-H, Ctrl-I, Ctrl-J and Ctrl-M have rows only where a
--- terminal sends a character's number, and Esc has one more, ESC and a pause.
+-- The table by rows: what terminals send, and the key that it is. Ctrl-H, Ctrl-I, Ctrl-J and Ctrl-M have rows
+-- only where a terminal sends a character's number, and Esc has one more, ESC and a pause.
 use Prim.Native.String.{String}
 use Rattle.std.specs.Prelude.{ℕ, ◌+◌, ◌-◌, List, [], ◌∷◌, ◌++◌, map, codes}
 use Rattle.tv_event.specs.declared.event.Key.{Key}
@@ -38,10 +38,14 @@ cursor_rows =
 
 abbrev pub function_rows : List KeyRow
 function_rows =
-    (ss3 "P", keys.Function 1) ∷ (csi "P", keys.Function 1) ∷ (csi "11~", keys.Function 1) ∷ (csi "[A", keys.Function 1)
-    ∷ (ss3 "Q", keys.Function 2) ∷ (csi "Q", keys.Function 2) ∷ (csi "12~", keys.Function 2) ∷ (csi "[B", keys.Function 2)
-    ∷ (ss3 "R", keys.Function 3) ∷ (csi "R", keys.Function 3) ∷ (csi "13~", keys.Function 3) ∷ (csi "[C", keys.Function 3)
-    ∷ (ss3 "S", keys.Function 4) ∷ (csi "S", keys.Function 4) ∷ (csi "14~", keys.Function 4) ∷ (csi "[D", keys.Function 4)
+    (ss3 "P", keys.Function 1) ∷ (csi "P", keys.Function 1) ∷ (csi "11~", keys.Function 1)
+    ∷ (csi "[A", keys.Function 1)
+    ∷ (ss3 "Q", keys.Function 2) ∷ (csi "Q", keys.Function 2) ∷ (csi "12~", keys.Function 2)
+    ∷ (csi "[B", keys.Function 2)
+    ∷ (ss3 "R", keys.Function 3) ∷ (csi "R", keys.Function 3) ∷ (csi "13~", keys.Function 3)
+    ∷ (csi "[C", keys.Function 3)
+    ∷ (ss3 "S", keys.Function 4) ∷ (csi "S", keys.Function 4) ∷ (csi "14~", keys.Function 4)
+    ∷ (csi "[D", keys.Function 4)
     ∷ (csi "15~", keys.Function 5) ∷ (csi "[E", keys.Function 5)
     ∷ (csi "17~", keys.Function 6) ∷ (csi "18~", keys.Function 7) ∷ (csi "19~", keys.Function 8)
     ∷ (csi "20~", keys.Function 9) ∷ (csi "21~", keys.Function 10)
@@ -54,7 +58,8 @@ control_row letter = ((letter - 64) ∷ [], keys.Ctrl letter)
 abbrev pub control_rows : List KeyRow
 control_rows =
     map control_row (codes "ABCDEFGKLNOPQRSTUVWXYZ")
-    ++ (csi "104;5u", keys.Ctrl 72) ∷ (csi "105;5u", keys.Ctrl 73) ∷ (csi "106;5u", keys.Ctrl 74) ∷ (csi "109;5u", keys.Ctrl 77)
+    ++ (csi "104;5u", keys.Ctrl 72) ∷ (csi "105;5u", keys.Ctrl 73) ∷ (csi "106;5u", keys.Ctrl 74)
+    ∷ (csi "109;5u", keys.Ctrl 77)
     ∷ (csi "27;5;104~", keys.Ctrl 72) ∷ (csi "99;5u", keys.Ctrl 67) ∷ []
 
 -- ESC and a letter, of either case, or a digit. ESC O and a pause is Alt-O too
@@ -66,7 +71,8 @@ small_alt_row letter = (27 ∷ (letter + 32) ∷ [], keys.Alt letter)
 
 abbrev pub alt_rows : List KeyRow
 alt_rows =
-    map small_alt_row (codes "ABCDEFGHIJKLMNOPQRSTUVWXYZ") ++ map alt_row (codes "ABCDEFGHIJKLMNPQRSTUVWXYZ0123456789")
+    map small_alt_row (codes "ABCDEFGHIJKLMNOPQRSTUVWXYZ")
+    ++ map alt_row (codes "ABCDEFGHIJKLMNPQRSTUVWXYZ0123456789")
     ++ (csi "120;3u", keys.Alt 88) ∷ (csi "27;3;120~", keys.Alt 88) ∷ []
 
 abbrev pub key_rows : List KeyRow

@@ -89,7 +89,8 @@ three_from low high c [] = Unfinished
 three_from low high c (b ∷ bs) =
     if is_in_range low high b then two_from 128 191 (64 * c + (b - 128)) bs else Broken
 
--- behind the first byte of a character in UTF-8. Its second byte is bounded where a shorter form or no character would follow
+-- behind the first byte of a character in UTF-8. Its second byte is bounded where a shorter form or no
+-- character would follow
 abbrev pub character : ℕ → List ℕ → Reading
 character b bs =
     if nat_lt b 128 then only (ascii b) bs

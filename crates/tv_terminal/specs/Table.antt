@@ -26,7 +26,8 @@ typed_char c = if is_narrow c then Some (key_action (keys.Char c)) else None
 abbrev pub typed_code : ℕ → Option Action
 typed_code c = if scalar c then typed_char c else None
 
--- a byte below 128 that stands for itself. Ctrl-H, Ctrl-I, Ctrl-J and Ctrl-M are Backspace, Tab, Enter and Enter
+-- a byte below 128 that stands for itself. Ctrl-H, Ctrl-I, Ctrl-J and Ctrl-M are Backspace, Tab, Enter and
+-- Enter
 abbrev pub ascii : ℕ → Option Action
 ascii b =
     if b == 9 then Some (key_action keys.Tab)
@@ -79,7 +80,8 @@ key_of_number n =
 
 -- the same with Ctrl
 abbrev pub ctrl_key_of_number : ℕ → Option Key
-ctrl_key_of_number n = if n == 5 then Some keys.CtrlPageUp else if n == 6 then Some keys.CtrlPageDown else None
+ctrl_key_of_number n =
+    if n == 5 then Some keys.CtrlPageUp else if n == 6 then Some keys.CtrlPageDown else None
 
 -- ESC [ letter, or ESC O letter; a number before the letter is 1
 abbrev pub lettered : ℕ → Option Key
@@ -131,14 +133,14 @@ of_keys numbers last =
     else option_map key_action (by_letter numbers last)
 
 -- a column or a row, which a terminal counts from 1. What lies beyond is kept near
-abbrev pub place : ℕ → ℕ
-place n = min 9999 (n - 1)
+abbrev pub near_place : ℕ → ℕ
+near_place n = min 9999 (n - 1)
 
 abbrev pub point : ℕ → ℕ → Point
-point x y = record { x = pos (place x); y = pos (place y) }
+point x y = record { x = pos (near_place x); y = pos (near_place y) }
 
--- The number of a mouse's report has the button in bits 0 and 1, 0 for the left one, Shift, Alt and Ctrl in bits 2 to 4, and
--- in bit 5 whether the mouse moved. From 64 on it is the wheel.
+-- The number of a mouse's report has the button in bits 0 and 1, 0 for the left one, Shift, Alt and Ctrl in
+-- bits 2 to 4, and in bit 5 whether the mouse moved. From 64 on it is the wheel.
 abbrev pub is_left : ℕ → Bool
 is_left n = nat_lt n 64 && n % 4 == 0
 
@@ -158,7 +160,8 @@ abbrev pub of_mouse : Numbers → ℕ → Option Action
 of_mouse (Three n x y) last = mouse n (point x y) last
 of_mouse _ last = None
 
--- ESC [ M and three bytes, which are 32 above the number, the column and the row. Button 3 is that any button goes up
+-- ESC [ M and three bytes, which are 32 above the number, the column and the row. Button 3 is that any button
+-- goes up
 abbrev pub old_mouse : (n x y : ℕ) → Option Action
 old_mouse n x y =
     if nat_lt n 32 && n % 4 == 3 then Some (Event (events.Up (point x y)))

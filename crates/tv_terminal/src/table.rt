@@ -1,7 +1,7 @@
 //! The table: what whole sequences mean.
 
 ghost use Rattle.std.specs.Prelude.{◌≡◌, ◌<◌, option_map, pos};
-ghost use Rattle.tv_terminal.specs.Table.{key_action, typed_char, typed_code, ascii, alt, ctrl_coded, plain_code, coded, key_of_number, ctrl_key_of_number, lettered, bare, console, by_tilde, by_code, by_letter, of_keys, place, point, is_left, held, mouse, of_mouse, old_mouse};
+ghost use Rattle.tv_terminal.specs.Table.{key_action, typed_char, typed_code, ascii, alt, ctrl_coded, plain_code, coded, key_of_number, ctrl_key_of_number, lettered, bare, console, by_tilde, by_code, by_letter, of_keys, near_place, point, is_left, held, mouse, of_mouse, old_mouse};
 
 use crate::action::Action;
 use crate::numbers::Numbers;
@@ -224,7 +224,7 @@ pub(crate) fn of_keys(numbers: Numbers, last: u8) -> Option<Action>
 
 // A column or a row, which a terminal counts from 1.
 fn place(number: u32) -> i32
-    ensures { result ≡ pos (place number) }
+    ensures { result ≡ pos (near_place number) }
 {
     number.saturating_sub(1).min(9999) as i32
 }

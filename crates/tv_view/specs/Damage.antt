@@ -21,8 +21,8 @@ pub record IsDrawnAlike (damage : List Rect) (old new : Canvas → List Layer) :
 
 -- ---- a leaf
 
--- it is drawn as before but in the damage, under any one environment; no point has left the damage, and what came in
--- lies in the smallest rectangle that holds the old ones and the leaf's
+-- it is drawn as before but in the damage, under any one environment; no point has left the damage, and what
+-- came in lies in the smallest rectangle that holds the old ones and the leaf's
 pub record Damages (old new : Leaf) (before after : List Rect) : Type 0 where
   pub drawn : (env : Env) → IsDrawnAlike after (λ c. leaf_layers env c old) (λ c. leaf_layers env c new)
   pub grown : Grows (bounds_of old) before after
@@ -33,15 +33,16 @@ pub record TellsSame (old new : Env) (leaf : Leaf) : Type 0 where
   pub chain : new.chain.now ≡ old.chain.now
   pub look : lent_look new leaf ≡ lent_look old leaf
 
--- a leaf that stays is drawn under one environment as under the other but in the damage; no point has left the
--- damage, and what came in lies in the smallest rectangle that holds the old ones and the leaf's
+-- a leaf that stays is drawn under one environment as under the other but in the damage; no point has left
+-- the damage, and what came in lies in the smallest rectangle that holds the old ones and the leaf's
 pub record EnvDamages (old new : Env) (leaf : Leaf) (before after : List Rect) : Type 0 where
   pub drawn : IsDrawnAlike after (λ c. leaf_layers old c leaf) (λ c. leaf_layers new c leaf)
   pub grown : Grows (bounds_of leaf) before after
 
 -- ---- a group
 
--- leaves in their places are drawn as before but in the damage, under any one environment, and no point has left it
+-- leaves in their places are drawn as before but in the damage, under any one environment, and no point has
+-- left it
 pub record AllDrawn (old new : List Placed) (before after : List Rect) : Type 0 where
   pub drawn : (env : Env) → IsDrawnAlike after (λ c. leaves_layers env c old) (λ c. leaves_layers env c new)
   pub kept : (x y : ℤ) → has before x y ≡ true → has after x y ≡ true
@@ -51,12 +52,14 @@ pub record AllDamages (bounds : Rect) (old new : List Placed) (before after : Li
   pub drawn : (env : Env) → IsDrawnAlike after (λ c. leaves_layers env c old) (λ c. leaves_layers env c new)
   pub grown : Grows bounds before after
 
--- leaves that stay are drawn under one environment as under the other but in the damage, and no point has left it
+-- leaves that stay are drawn under one environment as under the other but in the damage, and no point has
+-- left it
 pub record AllEnvDrawn (old new : Env) (leaves : List Placed) (before after : List Rect) : Type 0 where
   pub drawn : IsDrawnAlike after (λ c. leaves_layers old c leaves) (λ c. leaves_layers new c leaves)
   pub kept : (x y : ℤ) → has before x y ≡ true → has after x y ≡ true
 
 -- the same, and what came in lies in the smallest rectangle that holds the old ones and the group's
-pub record AllEnvDamages (bounds : Rect) (old new : Env) (leaves : List Placed) (before after : List Rect) : Type 0 where
+pub record AllEnvDamages (bounds : Rect) (old new : Env) (leaves : List Placed) (before after : List Rect)
+    : Type 0 where
   pub drawn : IsDrawnAlike after (λ c. leaves_layers old c leaves) (λ c. leaves_layers new c leaves)
   pub grown : Grows bounds before after

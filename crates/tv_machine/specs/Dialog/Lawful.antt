@@ -1,5 +1,6 @@
 -- What a dialog has where its description can be spelled and is sound: no more is asked of it here.
-use Rattle.std.specs.Prelude.{◌≡◌, ◌≢◌, ◌≤◌, ℕ, List, [], ◌∷◌, length, All, Any, Some, IsSome, IsTrue, is_some}
+use Rattle.std.specs.Prelude.{◌≡◌, ◌≢◌, ◌≤◌, ℕ, List, [], ◌∷◌, length, All, Any, Some, IsSome, IsTrue}
+use Rattle.std.specs.Prelude.{is_some}
 use Rattle.std.specs.List.{AllPairs}
 use Rattle.tv_model.specs.declared.node.Node.{Node}
 use Rattle.tv_model.specs.declared.desc.Dialog.{Dialog}

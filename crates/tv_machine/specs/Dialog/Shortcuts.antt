@@ -1,5 +1,6 @@
 -- What letters act on in a dialog.
-use Rattle.std.specs.Prelude.{[], ℕ, Bool, List, ◌∷◌, Option, Some, None, filter, find, is_some, ◌&&◌, if◌then◌else◌, IsTrue}
+use Rattle.std.specs.Prelude.{[], ℕ, Bool, List, ◌∷◌, Option, Some, None, filter, find, is_some, ◌&&◌}
+use Rattle.std.specs.Prelude.{if◌then◌else◌, IsTrue}
 use Rattle.std.specs.List.{AllPairs}
 use Rattle.tv_model.specs.declared.node.Id.{Id}
 use Rattle.tv_model.specs.declared.node.Node.{Node}

@@ -11,7 +11,7 @@ use Rattle.tv_script.specs.declared.script_text.ScriptFault.{ScriptFault}
 use Rattle.tv_script.specs.declared.script_text.ScriptFault.TheVariants as scripts
 use Rattle.tv_script.specs.declared.stream_fault.StreamFault.{StreamFault}
 use Rattle.tv_script.specs.declared.stream_fault.StreamFault.TheVariants as streams
-use Rattle.tv_script.specs.Lines.{is_line_end, items_of_line}
+use Rattle.tv_script.specs.Lines.{ends_line, items_of_line}
 use Rattle.tv_script.specs.Performed.{Stops}
 use Rattle.tv_script.specs.Reading.Scripts.{script_from, with_bytes}
 use Rattle.tv_script.specs.ScriptLines.{line_meant}
@@ -26,7 +26,7 @@ stream_fault scripts.TooLong = streams.TooLong
 
 -- bytes without a line end
 abbrev pub IsUnended : List ℕ → Type 0
-IsUnended line = list_any is_line_end line ≡ false
+IsUnended line = list_any ends_line line ≡ false
 
 -- lines, each with its line end (10)
 abbrev pub with_line_ends : List (List ℕ) → List ℕ

@@ -1,7 +1,7 @@
 use Rattle.std.proofs.Common.{subst, sym}
 use Rattle.tv_machine.specs.Output.{after}
 use Rattle.tv_machine.specs.Run.{quiet, stepped}
-use Rattle.tv_play.specs.Ends.{script_of, session_at}
+use Rattle.tv_play.specs.Ends.{script_with, session_at}
 use Rattle.tv_play.proofs.SessionLemmas.{logged-event, session-push}
 use Rattle.tv_play.proofs.StepLemmas.{keeps-loud, size-quiet, size-stepped}
 use Rattle.tv_play.proofs.player.act.Goals as goal
@@ -45,6 +45,6 @@ returns-clause-shown g c = λ s events from stands shown.
 pub returns-clause-logged : goal.returns-clause-logged
 returns-clause-logged g c = λ s events from performs.
     let e = c.args.event.now in
-    let here = after s (script_of events) in
+    let here = after s (script_with events) in
     logged-event from _ _ s events e c.write-written.result performs.written
     (c.write-written.ensures.text (stepped here e) (c.react.ensures.stands here performs.left))

@@ -1,6 +1,6 @@
 use Rattle.std.proofs.Common.{◌≡◌, ◌+◌, ◌∷◌, [], ◌++◌, drop, get_or, map, refl, subst, sym, ap, ◌∙◌, take}
 use Rattle.std.proofs.lemmas.List.{append-nil, take_all}
-use Rattle.tv_play.specs.Steps.{HasPlayed, outside}
+use Rattle.tv_play.specs.Steps.{HasPlayedOut, outside}
 use Rattle.tv_play.proofs.HeardLemmas.{bytes-all, bytes-more, kept-byte, meant-byte, played-wider, playing-along}
 use Rattle.tv_play.proofs.player.take_bytes.Goals as goal
 use Rattle.tv_terminal.specs.Decoding.{Byte, left_after}
@@ -41,7 +41,7 @@ returns-in-Some-clause-acts g c = λ s symbols from is playing.
     let New = g.L.Stage.stands c.take_meant.new.stage in
     let ended = c.in-Some.ensures.acts s here (here ++ Byte byte ∷ []) from (c.loop-byte.invariant.plays s symbols from is playing)
     (meant-byte here byte c.loop-byte.decoder c.take-action.result (c.loop-byte.invariant.kept symbols is) c.take-action.ensures.given) in
-    subst (λ x. HasPlayed s x from now New c.in-Some.outcome)
+    subst (λ x. HasPlayedOut s x from now New c.in-Some.outcome)
     (ap (λ x. x ++ map Byte (drop (i + 1) bytes)) (bytes-more symbols bytes i c.loop-byte-test.true) ∙ bytes-all symbols bytes (i + 1))
     (played-wider s (here ++ Byte byte ∷ []) (map Byte (drop (i + 1) bytes)) from now New c.in-Some.outcome ended)
 
