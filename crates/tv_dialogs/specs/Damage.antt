@@ -56,4 +56,5 @@ pub record HidesWithin (r : Rect) (layers : List Layer) : Type 0 where
 -- the open dialog of one state shows the same as that of another in each cell that the damage lacks
 abbrev pub OpenAlike : Desc → List Rect → State → State → Type 0
 OpenAlike d damage s t =
-    (p : Picture) → AreAlike p damage (open_layers d s.overwriting s.dialog) (open_layers d t.overwriting t.dialog)
+    (p : Picture)
+    → AreAlike p damage (open_layers d s.overwriting s.dialog) (open_layers d t.overwriting t.dialog)

@@ -21,7 +21,8 @@ use Rattle.tv_dialogs.specs.declared.dialogs.DialogsOf.{DialogsOf}
 abbrev pub at_work : State → OpenDialog → List LogLine → Modal
 at_work s o log = record (modal_of s o) { log = log }
 
--- the dialog at the open one's place stands as the machine's does, and where it does, which is near the screen
+-- the dialog at the open one's place stands as the machine's does, and where it does, which is near the
+-- screen
 pub record IsOpenAmong {V : Type 0} (look : V → Leaf) (d : Desc) (s : State) (o : OpenDialog)
     (all : List (Kept V)) : Type 0 where
   pub dialog : Dialog

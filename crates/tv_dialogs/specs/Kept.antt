@@ -1,5 +1,6 @@
 -- What is kept of a dialog, whether it is open or not.
-use Rattle.std.specs.Prelude.{◌≡◌, ◌==◌, ◌&&◌, Bool, true, false, not, List, [], Option, Some, None, unwrap_or}
+use Rattle.std.specs.Prelude.{◌≡◌, ◌==◌, ◌&&◌, Bool, true, false, not, List, [], Option, Some, None}
+use Rattle.std.specs.Prelude.{unwrap_or}
 use Rattle.std.specs.Prelude.{if◌then◌else◌}
 use Rattle.tv_event.specs.declared.event.Command.{Command}
 use Rattle.tv_event.specs.declared.event.Event.{Event}

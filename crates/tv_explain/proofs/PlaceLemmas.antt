@@ -9,7 +9,7 @@ use Rattle.tv_words.specs.declared.word.Word.{Word}
 use Rattle.tv_words.proofs.LineWordLemmas.{found_words, spelled_line}
 use Rattle.tv_declarations.specs.Spelling.{word_lines}
 use Rattle.tv_lang.specs.Faults.{Spells}
-use Rattle.tv_explain.specs.Places.{IsPlace, are_words, place, said, said_from, says_something}
+use Rattle.tv_explain.specs.Places.{SpellsAt, are_words, place, said, said_from, says_something}
 
 -- what is found in a line says whether it says something
 pub says_found : (line : List ℕ) (found : Option (List Word)) → IfSome found (λ ws. SpellsWords line ws) → ((ws : List Word) → SpellsWords line ws → found ≡ Some ws) → are_words found ≡ says_something line
@@ -73,7 +73,7 @@ said_at n (suc k) (line ∷ lines) ((w ∷ ws) ∷ wss) each less =
     }
 
 -- each line of the canonical text is spelled where its place says
-pub is_placed : (text : List ℕ) (d : Desc) → Spells text d → (line : ℕ) → 0 < line → line ≤ length (word_lines d) → IsPlace text d line (place text line)
+pub is_placed : (text : List ℕ) (d : Desc) → Spells text d → (line : ℕ) → 0 < line → line ≤ length (word_lines d) → SpellsAt text d line (place text line)
 unfolding place
 is_placed text d spelled zero low high = absurd (omega arith)
 is_placed text d spelled (suc k) low high =

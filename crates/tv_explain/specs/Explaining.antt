@@ -24,7 +24,8 @@ use Rattle.tv_explain.specs.Letters.{item_why, title_why}
 use Rattle.tv_explain.specs.Keys.{key_why, number_why}
 use Rattle.tv_explain.specs.Rules.{focus_why, shown_why, unknown_why}
 use Rattle.tv_explain.specs.Heads.{dialog_named, opening_why, start_why, window_named}
-use Rattle.tv_explain.specs.Limits.{dialog_limit, item_limit, menu_limit, rule_limit, status_limit, window_limit}
+use Rattle.tv_explain.specs.Limits.{dialog_limit, item_limit, menu_limit, rule_limit, status_limit}
+use Rattle.tv_explain.specs.Limits.{window_limit}
 use Rattle.tv_explain.specs.Views.{view_why}
 
 -- ---- why a declaration has a fault, those before it being these
@@ -92,11 +93,13 @@ status_at kind d line =
 
 abbrev pub window_at : FaultKind → Desc → ℕ → Option Why
 window_at kind d line =
-    option_map (λ pair. window_has_why kind pair.0 pair.1) (at_line (λ window. window.node.id.0) line d.windows)
+    option_map
+    (λ pair. window_has_why kind pair.0 pair.1) (at_line (λ window. window.node.id.0) line d.windows)
 
 abbrev pub view_at : FaultKind → Node → Option (List Rule) → List Node → ℕ → Option Why
 view_at kind frame sharing views line =
-    option_map (λ pair. view_why kind frame sharing views pair.0 pair.1) (at_line (λ node. node.id.0) line views)
+    option_map
+    (λ pair. view_why kind frame sharing views pair.0 pair.1) (at_line (λ node. node.id.0) line views)
 
 abbrev pub in_window : FaultKind → Desc → ℕ → Option Why
 in_window kind d line =
@@ -143,8 +146,8 @@ why_of d fault =
     (option_or (in_window fault.kind d fault.line) (in_dialog fault.kind d fault.line)))
     itself
 
--- a fault of the description that this text spells: where it stands in the text, why, and where the other line
--- stands
+-- a fault of the description that this text spells: where it stands in the text, why, and where the other
+-- line stands
 abbrev pub explained : List ℕ → Desc → Fault → Explained
 explained text d fault =
     record {

@@ -25,12 +25,14 @@ dialog_before dialogs node =
 
 -- F1: the first window, or else the first dialog before, that has the dialog's name
 abbrev pub dialog_named : Desc → List Dialog → Dialog → Option ℕ
-dialog_named d before dialog = option_or (window_named d.windows dialog.node) (dialog_before before dialog.node)
+dialog_named d before dialog =
+    option_or (window_named d.windows dialog.node) (dialog_before before dialog.node)
 
 -- F16: the first dialog before that this command opens
 abbrev pub opened_by : ℤ → List Dialog → Option ℕ
 opened_by n before =
-    option_map (λ other. other.node.id.0) (find (λ other. is_option_number n (dialog_head other).opens) before)
+    option_map
+    (λ other. other.node.id.0) (find (λ other. is_option_number n (dialog_head other).opens) before)
 
 -- F16: the dialog's command is none that a description may number, or opens a dialog before
 abbrev pub opening_why : List Dialog → Dialog → Why
@@ -44,12 +46,12 @@ opening_why before dialog = opening (dialog_head dialog).opens
         else because reasons.OpeningOutside None
 
 -- F16: the first window of this name
-abbrev pub called : List ℕ → List Window → Option ℕ
-called name windows =
+abbrev pub window_called : List ℕ → List Window → Option ℕ
+window_called name windows =
     option_map (λ window. window.node.id.0) (find (λ window. gives_name name window.node) windows)
 
 -- F16: the start names a window, or nothing
 abbrev pub start_why : List ℕ → List Window → Why
 start_why name windows =
-    option_map_or (λ line. because reasons.StartWindow (Some line)) (called name windows)
+    option_map_or (λ line. because reasons.StartWindow (Some line)) (window_called name windows)
     (because reasons.StartUnknown None)

@@ -9,7 +9,8 @@ use Rattle.tv_explain.specs.declared.why.Reason.TheVariants as reasons
 
 -- F12: an input asks for a domain, in which then no text lies, or its picture is spelled wrong
 abbrev pub domain_reason : Kind → Reason
-domain_reason (kinds.Input input) = if is_some (domain_of input.spec) then reasons.NoText else reasons.BadPicture
+domain_reason (kinds.Input input) =
+    if is_some (domain_of input.spec) then reasons.NoText else reasons.BadPicture
 domain_reason _ = reasons.Itself
 
 -- F13: a first item that isn't there, or else a first text that can't be typed

@@ -19,11 +19,11 @@ use Rattle.tv_explain.specs.declared.why.Why.{Why}
 use Rattle.tv_explain.specs.declared.why.Reason.{Reason}
 use Rattle.tv_explain.specs.declared.why.Reason.TheVariants as reasons
 use Rattle.tv_explain.specs.Whys.{because}
-use Rattle.tv_explain.specs.Lines.{line_of}
+use Rattle.tv_explain.specs.Lines.{node_line}
 
 -- the first of the views that marks the letter
 abbrev pub marker_line : ℕ → List Node → Option ℕ
-marker_line letter views = line_of (find (λ node. list_any (marks letter) (marked_of node.kind)) views)
+marker_line letter views = node_line (find (λ node. list_any (marks letter) (marked_of node.kind)) views)
 
 -- the first view of the dialogs that marks the letter
 abbrev pub shortcut_line : ℕ → List Dialog → Option ℕ
@@ -32,16 +32,16 @@ shortcut_line letter (dialog ∷ dialogs) =
     option_or (marker_line letter dialog.views) (shortcut_line letter dialogs)
 
 -- the first menu whose title marks the letter
-abbrev pub title_line : ℕ → List Menu → Option ℕ
-title_line letter menus = option_map (λ menu. menu.id.0) (find (λ menu. marks letter menu.title) menus)
+abbrev pub menu_marking : ℕ → List Menu → Option ℕ
+menu_marking letter menus = option_map (λ menu. menu.id.0) (find (λ menu. marks letter menu.title) menus)
 
 -- the first window of the digit
 abbrev pub digit_line : ℕ → List Window → Option ℕ
 digit_line digit windows = option_map (λ window. window.node.id.0) (find (is_window_digit digit) windows)
 
 -- the first of the status items that has the key
-abbrev pub key_line : List StatusItem → Key → Option ℕ
-key_line before key = option_map (λ other. other.id.0) (find (λ other. is_same_key other.key key) before)
+abbrev pub key_holder : List StatusItem → Key → Option ℕ
+key_holder before key = option_map (λ other. other.id.0) (find (λ other. is_same_key other.key key) before)
 
 -- the reason with the line, where there is one
 abbrev pub or_else : Reason → Option ℕ → Why → Why
@@ -52,7 +52,7 @@ or_else reason (Some line) rest = because reason (Some line)
 abbrev pub taken_why : Desc → Key → Why → Why
 taken_why d (keys.Alt ch) rest =
     or_else reasons.DialogLetter (shortcut_line ch d.dialogs)
-    (or_else reasons.TitleLetter (title_line ch d.menus)
+    (or_else reasons.TitleLetter (menu_marking ch d.menus)
     (or_else reasons.WindowDigit (digit_line ch d.windows) rest))
 taken_why d _ rest = rest
 
@@ -60,7 +60,7 @@ taken_why d _ rest = rest
 abbrev pub key_why : Desc → List StatusItem → StatusItem → Why
 key_why d before item =
     if is_status_key item.key
-    then taken_why d item.key (because reasons.KeyTwice (key_line before item.key))
+    then taken_why d item.key (because reasons.KeyTwice (key_holder before item.key))
     else because reasons.NoStatusKey None
 
 -- F17: the window that has the number

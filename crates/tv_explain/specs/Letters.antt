@@ -1,5 +1,6 @@
 -- Marks of a letter that was marked before: F4, and F17 of menus.
-use Rattle.std.specs.Prelude.{[], ◌∷◌, ◌++◌, ℕ, Bool, not, ◌&&◌, ◌||◌, List, find, Option, Some, None, option_map, if◌then◌else◌}
+use Rattle.std.specs.Prelude.{[], ◌∷◌, ◌++◌, ℕ, Bool, not, ◌&&◌, ◌||◌, List, find, Option, Some, None}
+use Rattle.std.specs.Prelude.{option_map, if◌then◌else◌}
 use Rattle.std.specs.List.{list_any}
 use Rattle.std.specs.Option.{option_map_or}
 use Rattle.tv_model.specs.declared.node.Node.{Node}
@@ -13,8 +14,8 @@ use Rattle.tv_explain.specs.declared.why.Reason.TheVariants as reasons
 use Rattle.tv_explain.specs.Whys.{because}
 
 -- the first view that marks the text's letter
-abbrev pub marker_of : List Node → MarkedText → Option Node
-marker_of views text = find (λ other. list_any (shares_letter text) (marked_of other.kind)) views
+abbrev pub first_marker : List Node → MarkedText → Option Node
+first_marker views text = find (λ other. list_any (shares_letter text) (marked_of other.kind)) views
 
 -- a view before, or a text before in its own line, marks the text's letter
 abbrev pub is_given : List Node → List MarkedText → MarkedText → Bool
@@ -27,15 +28,15 @@ abbrev pub is_again : (ℕ → Bool) → List Node → List MarkedText → Marke
 is_again shared before earlier text = is_given before earlier text && not (marks_any shared text)
 
 -- the line that marked the text's letter first: one before, or this one
-abbrev pub marked_first : List Node → ℕ → MarkedText → ℕ
-marked_first before own text = option_map_or (λ other. other.id.0) (marker_of before text) own
+abbrev pub first_marking : List Node → ℕ → MarkedText → ℕ
+first_marking before own text = option_map_or (λ other. other.id.0) (first_marker before text) own
 
 -- that of the first text that marks a letter again, the texts of the line before being these
 abbrev pub letter_from : (ℕ → Bool) → List Node → ℕ → List MarkedText → List MarkedText → Option ℕ
 letter_from shared before own earlier [] = None
 letter_from shared before own earlier (text ∷ texts) =
     if is_again shared before earlier text
-    then Some (marked_first before own text)
+    then Some (first_marking before own text)
     else letter_from shared before own (earlier ++ text ∷ []) texts
 
 -- F4: the line that marked the letter first, which may be the view's own

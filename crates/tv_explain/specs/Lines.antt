@@ -16,5 +16,5 @@ abbrev pub around_line : {A : Type 0} → (A → ℕ) → ℕ → List A → Opt
 around_line number line items = find (λ item. nat_le (number item) line) (reverse items)
 
 -- the line of a node that was found
-abbrev pub line_of : Option Node → Option ℕ
-line_of found = option_map (λ node. node.id.0) found
+abbrev pub node_line : Option Node → Option ℕ
+node_line found = option_map (λ node. node.id.0) found

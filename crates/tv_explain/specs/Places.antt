@@ -35,9 +35,9 @@ places_of text = 0 ∷ said_from 1 (lines_of text)
 unfoldable pub place : List ℕ → ℕ → ℕ
 place text line = slice_index (places_of text) line
 
--- the line of the text with this number, counted from 1, spells the line of the description's canonical text with
--- that one
-pub record IsPlace (text : List ℕ) (d : Desc) (line number : ℕ) : Type 0 where
+-- the line of the text with this number, counted from 1, spells the line of the description's canonical text
+-- with that one
+pub record SpellsAt (text : List ℕ) (d : Desc) (line number : ℕ) : Type 0 where
   pub own : List ℕ
   pub words : List Word
   pub stands : slice_get ([] ∷ lines_of text) number ≡ Some own

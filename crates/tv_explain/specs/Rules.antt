@@ -10,7 +10,7 @@ use Rattle.tv_model.specs.Description.Rules.{has_target, reaches}
 use Rattle.tv_explain.specs.declared.why.Why.{Why}
 use Rattle.tv_explain.specs.declared.why.Reason.TheVariants as reasons
 use Rattle.tv_explain.specs.Whys.{because, from_line}
-use Rattle.tv_explain.specs.Lines.{first_after, line_of}
+use Rattle.tv_explain.specs.Lines.{first_after, node_line}
 
 -- what a rule goes by isn't there, is no cluster, or hasn't the item
 abbrev pub cluster_why : Option Node → Why
@@ -29,7 +29,7 @@ unknown_why views rule =
 
 -- F8: the rule's cluster
 abbrev pub shown_why : List Node → Rule → Why
-shown_why views rule = from_line (line_of (meant views rule.cluster))
+shown_why views rule = from_line (node_line (meant views rule.cluster))
 
 -- the first control of the views, with those before it
 abbrev pub first_control : List Node → Option (List Node × Node)

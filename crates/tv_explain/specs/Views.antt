@@ -12,7 +12,7 @@ use Rattle.tv_model.specs.Description.Sharing.{is_shared_by}
 use Rattle.tv_explain.specs.declared.why.Why.{Why}
 use Rattle.tv_explain.specs.declared.why.Reason.TheVariants as reasons
 use Rattle.tv_explain.specs.Whys.{because, from_line, itself}
-use Rattle.tv_explain.specs.Lines.{line_of}
+use Rattle.tv_explain.specs.Lines.{node_line}
 use Rattle.tv_explain.specs.Boxes.{overlapped, owner_line}
 use Rattle.tv_explain.specs.Letters.{letter_line}
 use Rattle.tv_explain.specs.Inputs.{domain_reason, start_reason}
@@ -20,19 +20,21 @@ use Rattle.tv_explain.specs.Limits.{view_limit}
 
 -- F6: what has the name that a label gives, which is no control
 abbrev pub linked_line : List Node → Kind → Option ℕ
-linked_line views (kinds.Label label) = line_of (meant views label.link)
+linked_line views (kinds.Label label) = node_line (meant views label.link)
 linked_line views _ = None
 
--- a view of a window or dialog, its frame, with rules by which letters may be shared, if any, among all its views
+-- a view of a window or dialog, its frame, with rules by which letters may be shared, if any, among all its
+-- views
 abbrev pub view_why : FaultKind → Node → Option (List Rule) → List Node → List Node → Node → Why
-view_why faults.NameTwice frame sharing views before node = from_line (line_of (find (shares_name node) before))
+view_why faults.NameTwice frame sharing views before node =
+    from_line (node_line (find (shares_name node) before))
 view_why faults.OutsideOwner frame sharing views before node = from_line (Some (owner_line frame before node))
-view_why faults.Overlap frame sharing views before node = from_line (line_of (overlapped before node))
+view_why faults.Overlap frame sharing views before node = from_line (node_line (overlapped before node))
 view_why faults.LetterTwice frame sharing views before node =
     from_line (letter_line (is_shared_by sharing views) before node)
 view_why faults.LabelLink frame sharing views before node = from_line (linked_line views node.kind)
 view_why faults.MissingEnd frame sharing views before node = because reasons.UndeclaredEnd (Some frame.id.0)
-view_why faults.SecondDefault frame sharing views before node = from_line (line_of (find is_default before))
+view_why faults.SecondDefault frame sharing views before node = from_line (node_line (find is_default before))
 view_why faults.EmptyDomain frame sharing views before node = because (domain_reason node.kind) None
 view_why faults.BadStart frame sharing views before node = because (start_reason node.kind) None
 view_why faults.OutsideLimits frame sharing views before node = because (view_limit before node) None

@@ -4,7 +4,7 @@ ghost use Rattle.std.specs.Prelude.{◌≡◌};
 ghost use Rattle.tv_model.specs.Description.Names.{shares_name};
 ghost use Rattle.tv_model.specs.Faults.Starts.{is_option_number};
 ghost use Rattle.tv_model.specs.Description.Heads.{dialog_head};
-ghost use Rattle.tv_explain.specs.Heads.{called, dialog_before, dialog_named, opened_by, opening_why, start_why, window_named};
+ghost use Rattle.tv_explain.specs.Heads.{window_called, dialog_before, dialog_named, opened_by, opening_why, start_why, window_named};
 
 use crate::why::{Reason, Why};
 use tv_model::{Desc, Dialog, Node, Window};
@@ -81,7 +81,7 @@ pub fn opening_why(before: &[Dialog], dialog: &Dialog) -> Why
 
 // The first window of this name.
 fn called(name: &Chars, windows: &[Window]) -> Option<u32>
-    ensures { result ≡ called name.now windows.now }
+    ensures { result ≡ window_called name.now windows.now }
 {
     let window = windows.iter().find(|window| gives_name(name, &window.node));
     window.map(|window| window.node.id.0)

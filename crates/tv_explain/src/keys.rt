@@ -7,7 +7,7 @@ ghost use Rattle.tv_model.specs.Description.Heads.{window_head};
 ghost use Rattle.tv_model.specs.Description.Letters.{marked_of};
 ghost use Rattle.tv_model.specs.Description.Marks.{marks};
 ghost use Rattle.tv_model.specs.Faults.Letters.{is_same_key, is_status_key, is_window_digit};
-ghost use Rattle.tv_explain.specs.Keys.{digit_line, key_line, key_why, marker_line, number_line, number_why, shortcut_line, taken_why, title_line};
+ghost use Rattle.tv_explain.specs.Keys.{digit_line, key_holder, key_why, marker_line, number_line, number_why, shortcut_line, taken_why, menu_marking};
 
 use crate::letters::marked_of;
 use crate::lines::line_of;
@@ -53,7 +53,7 @@ fn shortcut_line(letter: char, dialogs: &[Dialog]) -> Option<u32>
 
 // The first menu whose title marks the letter.
 fn title_line(letter: char, menus: &[Menu]) -> Option<u32>
-    ensures { result ≡ title_line letter menus.now }
+    ensures { result ≡ menu_marking letter menus.now }
 {
     let menu = menus.iter().find(|menu| menu.title.marks(letter));
     menu.map(|menu| menu.id.0)
@@ -91,7 +91,7 @@ fn is_same_key(key: Key, other: Key) -> bool
 
 // The first of the status items that has the key.
 fn key_line(before: &[StatusItem], key: Key) -> Option<u32>
-    ensures { result ≡ key_line before.now key }
+    ensures { result ≡ key_holder before.now key }
 {
     let item = before.iter().find(|item| is_same_key(item.key, key));
     item.map(|item| item.id.0)

@@ -6,7 +6,7 @@ ghost use Rattle.std.specs.List.{list_any};
 ghost use Rattle.tv_model.specs.Description.Letters.{marked_of};
 ghost use Rattle.tv_model.specs.Description.Marks.{marks_any, shares_letter};
 ghost use Rattle.tv_model.specs.Description.Sharing.{is_shared_by};
-ghost use Rattle.tv_explain.specs.Letters.{item_line, item_why, is_given, letter_line, marked_first, marker_of, title_line, title_why};
+ghost use Rattle.tv_explain.specs.Letters.{item_line, item_why, is_given, letter_line, first_marking, first_marker, title_line, title_why};
 
 use crate::why::{Reason, Why};
 use std::alloc::{AllocError, Global};
@@ -46,7 +46,7 @@ fn is_marked_in(text: &MarkedText, texts: &[MarkedText]) -> bool
 
 // The first view that marks the text's letter.
 fn marker_of<'a>(views: &'a [Node], text: &MarkedText) -> Option<&'a Node>
-    ensures { option_copied result ≡ marker_of views.now text.now }
+    ensures { option_copied result ≡ first_marker views.now text.now }
 {
     views
         .iter()
@@ -55,7 +55,7 @@ fn marker_of<'a>(views: &'a [Node], text: &MarkedText) -> Option<&'a Node>
 
 // The line that marked the text's letter first: one before, or this one.
 fn marked_first(before: &[Node], own: u32, text: &MarkedText) -> u32
-    ensures { result ≡ marked_first before.now own text.now }
+    ensures { result ≡ first_marking before.now own text.now }
 {
     match marker_of(before, text) {
         Some(other) => other.id.0,

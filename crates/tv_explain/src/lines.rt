@@ -2,7 +2,7 @@
 
 ghost use Rattle.std.specs.Prelude.{◌≡◌, ◌==◌, option_copied, position};
 ghost use Rattle.std.specs.Option.{option_map};
-ghost use Rattle.tv_explain.specs.Lines.{around_line, at_line, line_of};
+ghost use Rattle.tv_explain.specs.Lines.{around_line, at_line, node_line};
 
 use tv_model::{Dialog, Menu, MenuItem, Node, Rule, StatusItem, Window};
 
@@ -99,7 +99,7 @@ pub fn around_line<L: Line>(items: &[L], line: u32) -> Option<&L>
 
 /// Returns the line of a node that was found.
 pub fn line_of(found: Option<&Node>) -> Option<u32>
-    ensures { result ≡ line_of (option_copied found.entry) }
+    ensures { result ≡ node_line (option_copied found.entry) }
 {
     found.map(|node| node.id.0)
 }

@@ -17,7 +17,7 @@ use Rattle.tv_machine.specs.State.{State}
 use Rattle.tv_machine.specs.Screen.Bodies.{whole_screen}
 use Rattle.tv_machine.specs.Screen.Layers.{bar_layer, box_layers, stack_layers, status_layer}
 use Rattle.tv_menu.specs.Lawful.{IsLawfulScreen}
-use Rattle.tv_session.specs.Running.{IsMarked, IsRun}
+use Rattle.tv_session.specs.Running.{ShowAlikeOff, IsRun}
 use Rattle.tv_session.specs.Showing.{AreShownAlike}
 use Rattle.tv_session.specs.declared.run.RunOf.{RunOf}
 use Rattle.tv_session.proofs.MarkedLemmas.{alike-is, alike-more, alike-refl, layers-alike, marked-more}
@@ -56,7 +56,7 @@ module _ (d : Desc) (p : Picture) (damage : List Rect) where
 
 module _ {V : Type 0} (look : V → Leaf) (d : Desc) (s t : State) where
   -- the bars, then the status line, then the front window have told what they show otherwise
-  pub changed : (run : RunOf V) (barred lined last : List Rect) → IsRun look d t run → IsMarked d s t run.damage
+  pub changed : (run : RunOf V) (barred lined last : List Rect) → IsRun look d t run → ShowAlikeOff d s t run.damage
       → Keeps run.damage barred → Keeps barred lined → Keeps lined last
       → ((p : Picture) → AreAlike p barred (bar_layer d s.menu ∷ []) (bar_layer d t.menu ∷ []))
       → ((p : Picture) → AreAlike p barred (box_layers d s.menu) (box_layers d t.menu))

@@ -15,7 +15,7 @@ use Rattle.tv_machine.specs.Screen.Layers.{layers_of}
 use Rattle.tv_machine.specs.Session.Step.{step}
 use Rattle.tv_machine.specs.State.{State}
 use Rattle.tv_menu.specs.Lawful.{IsLawfulScreen}
-use Rattle.tv_menu.specs.Line.{IsLineOf}
+use Rattle.tv_menu.specs.Line.{IsStatusLineOf}
 use Rattle.tv_model.specs.declared.desc.Desc.{Desc}
 use Rattle.tv_model.specs.Description.Numbers.{natural}
 use Rattle.tv_session.specs.Running.{CanPaint, IsRun}
@@ -37,17 +37,17 @@ module _ {V : Type 0} (look : V → Leaf) (session : SessionOf V) (s : Session) 
   same = lent ∙ r.desc
 
   -- the run and what it damages, by what its step ensures of each state
-  pub stepped-run : ((t : State) → IsRun look d t session.run → IsFitState d t → IsLineOf d session.line → IsRun look d (step d t e) run × AreShownAlike d t (step d t e) run.damage)
+  pub stepped-run : ((t : State) → IsRun look d t session.run → IsFitState d t → IsStatusLineOf d session.line → IsRun look d (step d t e) run × AreShownAlike d t (step d t e) run.damage)
       → IsRun look d (step d s.state e) run × AreShownAlike d s.state (step d s.state e) run.damage
   stepped-run ensures =
-      ensures s.state (subst (λ x. IsRun look x s.state session.run) (sym same) r.run) (subst (λ x. IsFitState x s.state) (sym same) r.fit) (subst (λ x. IsLineOf x session.line) (sym same) r.line)
+      ensures s.state (subst (λ x. IsRun look x s.state session.run) (sym same) r.run) (subst (λ x. IsFitState x s.state) (sym same) r.fit) (subst (λ x. IsStatusLineOf x session.line) (sym same) r.line)
 
   pub can-repaint : HasSoundDialogs d → IsLawfulScreen d.width d.height → IsRun look d (step d s.state e) run → CanPaint look d (step d s.state e) run session.line session.screen
   can-repaint sound size ran = record {
     stands = ran;
     sound = sound;
     size = size;
-    is_line = subst (λ x. IsLineOf x session.line) (sym same) r.line;
+    is_line = subst (λ x. IsStatusLineOf x session.line) (sym same) r.line;
     width = r.screen.width ∙ ap (λ x. natural x.width) (sym same);
     height = r.screen.height ∙ ap (λ x. natural x.height) (sym same);
   }

@@ -18,7 +18,7 @@ use Rattle.tv_machine.specs.Session.Start.{closed, start, started_at, started_by
 use Rattle.tv_machine.specs.Session.Commands.{open_dialog}
 use Rattle.tv_menu.specs.Bar.{IsBarOf, open_of}
 use Rattle.tv_menu.specs.Lawful.{IsLawfulScreen}
-use Rattle.tv_menu.specs.Line.{IsLineOf}
+use Rattle.tv_menu.specs.Line.{IsStatusLineOf}
 use Rattle.tv_model.specs.Description.Numbers.{natural}
 use Rattle.tv_session.specs.Freshness.{IsFirstMismatch, IsFirstStale, IsFreshBodyFor, IsFreshFor}
 use Rattle.tv_session.specs.Running.{CanPaint, IsAwake, IsRun, seen_frame}
@@ -86,7 +86,7 @@ can-start look d lent parts windows dialogs run same r ran = record {
   stands = ran;
   sound = subst HasSoundDialogs (sym same) r.sound;
   size = subst (λ x. IsLawfulScreen x.width x.height) (sym same) r.size;
-  is_line = subst (λ x. IsLineOf x parts.line) (sym same) r.line;
+  is_line = subst (λ x. IsStatusLineOf x parts.line) (sym same) r.line;
   width = r.width ∙ ap (λ x. natural x.width) (sym same);
   height = r.height ∙ ap (λ x. natural x.height) (sym same);
 }

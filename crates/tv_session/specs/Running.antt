@@ -14,7 +14,7 @@ use Rattle.tv_machine.specs.Dialog.Sound.{HasSoundDialogs}
 use Rattle.tv_laws.specs.Runs.{IsFitState}
 use Rattle.tv_menu.specs.Bar.{IsBarOf, open_of}
 use Rattle.tv_menu.specs.Lawful.{IsLawfulScreen}
-use Rattle.tv_menu.specs.Line.{IsLineOf}
+use Rattle.tv_menu.specs.Line.{IsStatusLineOf}
 use Rattle.tv_menu.specs.declared.bars.StatusLine.{StatusLine}
 use Rattle.tv_model.specs.Description.Numbers.{natural}
 use Rattle.tv_window.specs.Desk.{IsDesk}
@@ -26,8 +26,8 @@ use Rattle.tv_session.specs.declared.run.RunOf.{RunOf}
 abbrev pub seen_frame : Held → HeldFrame
 seen_frame frame = record { off = frame.off; from = frame.from }
 
--- its windows, dialogs and menus are the state's, and so are the frame that the mouse holds and the lines of its
--- last event
+-- its windows, dialogs and menus are the state's, and so are the frame that the mouse holds and the lines of
+-- its last event
 pub record IsRun {V : Type 0} (look : V → Leaf) (d : Desc) (s : State) (run : RunOf V) : Type 0 where
   pub desk : IsDesk look d s.windows run.desk
   pub dialogs : AreDialogs look d s run.dialogs
@@ -63,7 +63,7 @@ pub record CanPaint {V : Type 0} (look : V → Leaf) (d : Desc) (s : State) (run
   pub stands : IsRun look d s run
   pub sound : HasSoundDialogs d
   pub size : IsLawfulScreen d.width d.height
-  pub is_line : IsLineOf d line
+  pub is_line : IsStatusLineOf d line
   pub width : p.width ≡ natural d.width
   pub height : p.height ≡ natural d.height
 
@@ -75,7 +75,7 @@ with_moved_line (Some i) corner s = logged_moved i corner s
 -- ---- damage
 
 -- the open dialog and the windows of two states show the same but in the damage
-pub record IsMarked (d : Desc) (since s : State) (damage : List Rect) : Type 0 where
+pub record ShowAlikeOff (d : Desc) (since s : State) (damage : List Rect) : Type 0 where
   pub dialog : (p : Picture)
       → AreAlike p damage (open_layers d since.overwriting since.dialog) (open_layers d s.overwriting s.dialog)
   pub windows : (p : Picture) (is_active : Bool)
@@ -83,7 +83,7 @@ pub record IsMarked (d : Desc) (since s : State) (damage : List Rect) : Type 0 w
 
 -- the same of a run that stands as the second state, by the damage that it keeps
 abbrev pub IsRunSince : {V : Type 0} → (V → Leaf) → Desc → State → State → RunOf V → Type 0
-IsRunSince look d since s run = IsRun look d s run × IsMarked d since s run.damage
+IsRunSince look d since s run = IsRun look d s run × ShowAlikeOff d since s run.damage
 
 abbrev pub IsAwakeSince : {V : Type 0} → (V → Leaf) → Desc → State → State → RunOf V → Type 0
-IsAwakeSince look d since s run = IsAwake look d s run × IsMarked d since s run.damage
+IsAwakeSince look d since s run = IsAwake look d s run × ShowAlikeOff d since s run.damage

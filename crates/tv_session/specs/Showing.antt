@@ -7,14 +7,14 @@ use Rattle.tv_cells.specs.declared.rect.Rect.{Rect}
 use Rattle.tv_machine.specs.Screen.Bodies.{background_layer}
 use Rattle.tv_machine.specs.Screen.Layers.{layers_of, open_layers, stack_layers}
 use Rattle.tv_machine.specs.State.{State}
-use Rattle.tv_menu.specs.Damage.{opened}
+use Rattle.tv_menu.specs.Damage.{menu_seen}
 use Rattle.tv_menu.specs.Line.{AreEnabled}
 use Rattle.tv_model.specs.declared.desc.Desc.{Desc}
 use Rattle.tv_session.specs.declared.before.Before.{Before}
 
 -- the state that was noted before an event
-pub record IsBefore (d : Desc) (s : State) (before : Before) : Type 0 where
-  pub menu : opened before.menu ≡ s.menu
+pub record IsNoteOf (d : Desc) (s : State) (before : Before) : Type 0 where
+  pub menu : menu_seen before.menu ≡ s.menu
   pub is_open : before.is_open ≡ is_some s.dialog
   pub commands : AreEnabled d s before.commands
 

@@ -7,7 +7,7 @@ use Rattle.tv_machine.specs.Dialog.Sound.{HasSoundDialogs}
 use Rattle.tv_machine.specs.Session.Start.{closed}
 use Rattle.tv_menu.specs.Bar.{IsBarOf, open_of}
 use Rattle.tv_menu.specs.Lawful.{IsLawfulScreen}
-use Rattle.tv_menu.specs.Line.{IsLineOf}
+use Rattle.tv_menu.specs.Line.{IsStatusLineOf}
 use Rattle.tv_model.specs.Description.Numbers.{natural}
 use Rattle.tv_session.specs.declared.making.Parts.{Parts}
 use Rattle.tv_view.specs.Meaning.{Leaf}
@@ -44,7 +44,7 @@ pub record CanStart {V : Type 0} (look : V → Leaf) (d : Desc) (parts : Parts) 
   pub dialogs_of : AreDialogs look d (closed d) dialogs
   pub bar : IsBarOf d parts.bar
   pub none_open : open_of parts.bar ≡ None
-  pub line : IsLineOf d parts.line
+  pub line : IsStatusLineOf d parts.line
   pub width : parts.screen.width ≡ natural d.width
   pub height : parts.screen.height ≡ natural d.height
   pub log : parts.log.items ≡ []

@@ -1,10 +1,10 @@
 //! What bars showed, and whether a dialog was open, before an event.
 
-ghost use Rattle.tv_menu.specs.Line.{IsLineOf};
+ghost use Rattle.tv_menu.specs.Line.{IsStatusLineOf};
 ghost use Rattle.tv_machine.specs.State.{State};
 ghost use Rattle.tv_model.specs.declared.desc.Desc.{Desc};
 ghost use Rattle.tv_session.specs.Running.{IsRun, IsRunSince};
-ghost use Rattle.tv_session.specs.Showing.{AreShownAlike, IsBefore};
+ghost use Rattle.tv_session.specs.Showing.{AreShownAlike, IsNoteOf};
 
 use crate::run::RunOf;
 use tv_event::CommandSet;
@@ -22,7 +22,7 @@ pub(crate) struct Before {
 impl<V: View> RunOf<V> {
     /// Returns what is compared after an event.
     pub(crate) fn before(&self) -> Before
-        ensures { (d : Desc) (s : State) → IsRun V.meaning d s self.now → IsBefore d s result }
+        ensures { (d : Desc) (s : State) → IsRun V.meaning d s self.now → IsNoteOf d s result }
     {
         Before {
             menu: self.bar.opened(),
@@ -33,7 +33,7 @@ impl<V: View> RunOf<V> {
 
     /// Adds what bars show otherwise than before an event, and the front window if it has become active or passive.
     pub(crate) fn mark_changes(&mut self, line: &StatusLine, before: &Before)
-        ensures { (d : Desc) (s t : State) → IsBefore d s before.now → IsLineOf d line.now → IsRunSince V.meaning d s t self.old
+        ensures { (d : Desc) (s t : State) → IsNoteOf d s before.now → IsStatusLineOf d line.now → IsRunSince V.meaning d s t self.old
             → IsRun V.meaning d t self.new × AreShownAlike d s t self.new.damage }
     {
         self.bar.damage_since(before.menu, &mut self.damage);

@@ -9,7 +9,7 @@ ghost use Rattle.tv_machine.specs.State.{HeldFrame as Held, State};
 ghost use Rattle.tv_menu.specs.Lawful.{IsLawfulScreen};
 ghost use Rattle.tv_model.specs.Description.Numbers.{IsBetween};
 ghost use Rattle.tv_model.specs.declared.desc.Desc.{Desc as Declared};
-ghost use Rattle.tv_session.specs.Running.{IsAwakeWith, IsDragged, IsMarked, IsRun, IsRunSince, seen_frame, with_moved_line};
+ghost use Rattle.tv_session.specs.Running.{IsAwakeWith, IsDragged, ShowAlikeOff, IsRun, IsRunSince, seen_frame, with_moved_line};
 
 use crate::log::note;
 use crate::run::RunOf;
@@ -69,7 +69,7 @@ impl<V: View> RunOf<V> {
     // Puts the frame there that is dragged.
     fn place(&mut self, corner: Point)
         requires { IsCorner corner }
-        ensures { (d : Declared) (held : Option Held) (since s : State) → IsAwakeWith V.meaning d held s self.old → IsMarked d since s self.old.damage
+        ensures { (d : Declared) (held : Option Held) (since s : State) → IsAwakeWith V.meaning d held s self.old → ShowAlikeOff d since s self.old.damage
             → IsRunSince V.meaning d since (placed s.dialog corner s) self.new }
     {
         if self.dialogs.is_open() {
@@ -104,7 +104,7 @@ impl<V: View> RunOf<V> {
     // Puts the frame there and lets it go. Logs that where it doesn't stand where it stood at the mouse down.
     fn release(&mut self, desc: &Desc, frame: HeldFrame, corner: Point)
         requires { IsCorner corner }
-        ensures { (since s : State) → IsDragged V.meaning desc.now frame s self.old → IsMarked desc.now since s self.old.damage
+        ensures { (since s : State) → IsDragged V.meaning desc.now frame s self.old → ShowAlikeOff desc.now since s self.old.damage
             → IsRunSince V.meaning desc.now since (dropped desc.now (seen_frame frame) corner (placed s.dialog corner (let_go s))) self.new }
     {
         self.frame = None;
@@ -118,7 +118,7 @@ impl<V: View> RunOf<V> {
     /// anything.
     pub(crate) fn drag(&mut self, desc: &Desc, frame: HeldFrame, event: &Event)
         requires { (s : State) × IsDragged V.meaning desc.now frame s self.old }
-        ensures { (since s : State) → IsDragged V.meaning desc.now frame s self.old → IsMarked desc.now since s self.old.damage
+        ensures { (since s : State) → IsDragged V.meaning desc.now frame s self.old → ShowAlikeOff desc.now since s self.old.damage
             → IsRunSince V.meaning desc.now since (step_dragged desc.now (seen_frame frame) event.now s) self.new }
     {
         match event {

@@ -7,7 +7,7 @@ ghost use Rattle.tv_machine.specs.Session.Desktop.{desktop_down, desktop_key, do
 ghost use Rattle.tv_machine.specs.Session.Step.{down_at_menu, down_at_status, down_below, down_on_dialog, emptied, held_of, key_at_menu, key_at_status, key_below, status_item_of, step, step_below, step_held};
 ghost use Rattle.tv_menu.specs.Bar.{bar_offer};
 ghost use Rattle.tv_menu.specs.Lawful.{IsLawfulScreen};
-ghost use Rattle.tv_menu.specs.Line.{IsLineOf};
+ghost use Rattle.tv_menu.specs.Line.{IsStatusLineOf};
 ghost use Rattle.tv_cells.specs.Layers.{is_in};
 ghost use Rattle.tv_dialogs.specs.Handed.{HasPointGiven, IsPointGiven};
 ghost use Rattle.tv_laws.specs.Runs.{HasSoundDialogs, IsFitState};
@@ -81,7 +81,7 @@ impl<V: View> RunOf<V> {
     // Handles a key while no menu is open.
     fn key_at_status(&mut self, desc: &Desc, line: &StatusLine, key: Key)
         requires awake { (s : State) × IsAwake V.meaning desc.now s self.old × (held_of s.dialog ≡ None) }
-        ensures { (since s : State) → IsAwakeSince V.meaning desc.now since s self.old → s.menu ≡ None → held_of s.dialog ≡ None → IsLineOf desc.now line.now
+        ensures { (since s : State) → IsAwakeSince V.meaning desc.now since s self.old → s.menu ≡ None → held_of s.dialog ≡ None → IsStatusLineOf desc.now line.now
             → IsRunSince V.meaning desc.now since (key_at_status desc.now (status_item_of desc.now s key) key s) self.new }
     {
         match line.offer(&Event::Key(key), self.dialogs.commands()) {
@@ -93,7 +93,7 @@ impl<V: View> RunOf<V> {
     // Handles a key while nothing holds the mouse.
     fn key(&mut self, desc: &Desc, line: &StatusLine, key: Key)
         requires awake { (s : State) × IsAwake V.meaning desc.now s self.old × (held_of s.dialog ≡ None) }
-        ensures { (since s : State) → IsAwakeSince V.meaning desc.now since s self.old → held_of s.dialog ≡ None → IsLineOf desc.now line.now
+        ensures { (since s : State) → IsAwakeSince V.meaning desc.now since s self.old → held_of s.dialog ≡ None → IsStatusLineOf desc.now line.now
             → IsRunSince V.meaning desc.now since (key_at_menu desc.now s.menu key s) self.new }
     {
         if self.bar.is_open() {
@@ -165,7 +165,7 @@ impl<V: View> RunOf<V> {
     fn down_at_status(&mut self, desc: &Desc, line: &StatusLine, point: Point)
         requires near { IsPointGiven point }
         requires awake { (s : State) × IsAwake V.meaning desc.now s self.old × (held_of s.dialog ≡ None) }
-        ensures { (since s : State) → IsAwakeSince V.meaning desc.now since s self.old → s.menu ≡ None → held_of s.dialog ≡ None → IsLineOf desc.now line.now
+        ensures { (since s : State) → IsAwakeSince V.meaning desc.now since s self.old → s.menu ≡ None → held_of s.dialog ≡ None → IsStatusLineOf desc.now line.now
             → IsRunSince V.meaning desc.now since (down_at_status desc.now point s) self.new }
     {
         match line.offer(&Event::Down(point), self.dialogs.commands()) {
@@ -179,7 +179,7 @@ impl<V: View> RunOf<V> {
     fn down(&mut self, desc: &Desc, line: &StatusLine, point: Point)
         requires near { IsPointGiven point }
         requires awake { (s : State) × IsAwake V.meaning desc.now s self.old × (held_of s.dialog ≡ None) }
-        ensures { (since s : State) → IsAwakeSince V.meaning desc.now since s self.old → held_of s.dialog ≡ None → IsLineOf desc.now line.now
+        ensures { (since s : State) → IsAwakeSince V.meaning desc.now since s self.old → held_of s.dialog ≡ None → IsStatusLineOf desc.now line.now
             → IsRunSince V.meaning desc.now since (down_at_menu desc.now s.menu point s) self.new }
     {
         if self.bar.is_open() {
@@ -194,7 +194,7 @@ impl<V: View> RunOf<V> {
     fn free_event(&mut self, desc: &Desc, line: &StatusLine, event: &Event)
         requires near { HasPointGiven event.now }
         requires awake { (s : State) × IsAwake V.meaning desc.now s self.old × (held_of s.dialog ≡ None) }
-        ensures { (since s : State) → IsAwakeSince V.meaning desc.now since s self.old → held_of s.dialog ≡ None → IsLineOf desc.now line.now
+        ensures { (since s : State) → IsAwakeSince V.meaning desc.now since s self.old → held_of s.dialog ≡ None → IsStatusLineOf desc.now line.now
             → IsRunSince V.meaning desc.now since (step_below desc.now event.now s) self.new }
     {
         match event {
@@ -223,7 +223,7 @@ impl<V: View> RunOf<V> {
         requires sound { HasSoundDialogs desc.now }
         requires size { IsLawfulScreen desc.now.width desc.now.height }
         requires fit { (s : State) × IsRun V.meaning desc.now s self.old × IsFitState desc.now s }
-        ensures { (s : State) → IsRun V.meaning desc.now s self.old → IsFitState desc.now s → IsLineOf desc.now line.now
+        ensures { (s : State) → IsRun V.meaning desc.now s self.old → IsFitState desc.now s → IsStatusLineOf desc.now line.now
             → IsRunSince V.meaning desc.now s (step desc.now s event.now) self.new }
     {
         self.log.clear();
@@ -246,7 +246,7 @@ impl<V: View> RunOf<V> {
         requires sound { HasSoundDialogs desc.now }
         requires size { IsLawfulScreen desc.now.width desc.now.height }
         requires fit { (s : State) × IsRun V.meaning desc.now s self.old × IsFitState desc.now s }
-        ensures { (s : State) → IsRun V.meaning desc.now s self.old → IsFitState desc.now s → IsLineOf desc.now line.now
+        ensures { (s : State) → IsRun V.meaning desc.now s self.old → IsFitState desc.now s → IsStatusLineOf desc.now line.now
             → IsRun V.meaning desc.now (step desc.now s event.now) self.new × AreShownAlike desc.now s (step desc.now s event.now) self.new.damage }
     {
         let before = self.before();

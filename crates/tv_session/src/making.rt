@@ -5,7 +5,7 @@ ghost use Rattle.tv_machine.specs.Run.{started};
 ghost use Rattle.tv_machine.specs.Session.Start.{closed, start};
 ghost use Rattle.tv_menu.specs.Bar.{IsBarOf, open_of};
 ghost use Rattle.tv_menu.specs.Lawful.{AreLawfulMenus, AreLawfulStatusItems, IsLawfulScreen};
-ghost use Rattle.tv_menu.specs.Line.{IsLineOf};
+ghost use Rattle.tv_menu.specs.Line.{IsStatusLineOf};
 ghost use Rattle.tv_model.specs.Description.Heads.{is_named};
 ghost use Rattle.tv_model.specs.Description.Numbers.{natural};
 ghost use Rattle.tv_session.specs.Freshness.{IsFirstMismatch};
@@ -61,7 +61,7 @@ impl Parts {
         requires status { AreLawfulStatusItems desc.now.status }
         ensures bar { IfOk result (λ parts. IsBarOf desc.now parts.bar) }
         ensures closed { IfOk result (λ parts. open_of parts.bar ≡ None) }
-        ensures line { IfOk result (λ parts. IsLineOf desc.now parts.line) }
+        ensures line { IfOk result (λ parts. IsStatusLineOf desc.now parts.line) }
         ensures log { IfOk result (λ parts. parts.log.items ≡ []) }
         ensures screen { IfOk result (λ parts. (parts.screen.width ≡ natural desc.now.width) × (parts.screen.height ≡ natural desc.now.height)) }
     {

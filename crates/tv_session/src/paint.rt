@@ -10,7 +10,7 @@ ghost use Rattle.tv_machine.specs.Dialog.Sound.{HasSoundDialogs};
 ghost use Rattle.tv_machine.specs.Screen.Layers.{layers_of, open_layers, stack_layers};
 ghost use Rattle.tv_machine.specs.State.{State};
 ghost use Rattle.tv_menu.specs.Lawful.{IsLawfulScreen};
-ghost use Rattle.tv_menu.specs.Line.{IsLineOf};
+ghost use Rattle.tv_menu.specs.Line.{IsStatusLineOf};
 ghost use Rattle.tv_model.specs.Description.Rectangles.{desktop};
 ghost use Rattle.tv_model.specs.declared.desc.Desc.{Desc as Declared};
 ghost use Rattle.tv_machine.specs.Screen.Bodies.{background_layer, canvas_at, whole_screen};
@@ -171,7 +171,7 @@ impl<V: View> RunOf<V> {
     fn draw_within(&self, screen: &mut Screen, desc: &Desc, line: &StatusLine, rect: Rect)
         requires screen { IsLawfulScreen desc.now.width desc.now.height }
         requires known { (s : State) × IsRun V.meaning desc.now s self.now }
-        ensures { (s : State) → HasSoundDialogs desc.now → IsRun V.meaning desc.now s self.now → IsLineOf desc.now line.now
+        ensures { (s : State) → HasSoundDialogs desc.now → IsRun V.meaning desc.now s self.now → IsStatusLineOf desc.now line.now
             → Lays (map (clipped rect) (layers_of desc.now s)) screen.old screen.new }
     {
         let desktop = within(rect, desktop_canvas(desc));

@@ -5,7 +5,7 @@ use Rattle.std.proofs.lemmas.List.{take_more}
 use Rattle.tv_group.specs.declared.group.GroupOf.{GroupOf}
 use Rattle.tv_model.specs.declared.desc.Desc.{Desc}
 use Rattle.tv_session.specs.Freshness.{IsFirstStale, IsFreshBodyFor, IsFreshFor}
-use Rattle.tv_toolkit.specs.Views.{AreDeclared, NoneMismatches}
+use Rattle.tv_toolkit.specs.Views.{AreAsDeclared, NoneMismatches}
 use Rattle.tv_view.specs.Meaning.{Leaf}
 use Rattle.tv_window.specs.declared.window.WindowOf.{WindowOf}
 
@@ -33,6 +33,6 @@ none_stale Fresh place found (d ∷ ds) [] all is = all
 none_stale Fresh place found (d ∷ ds) (x ∷ xs) all (inl both) = none_stale Fresh (place + 1) found ds xs all.1 both.1
 none_stale Fresh place found (d ∷ ds) (x ∷ xs) all (inr stale) = stale.0 all.0
 
-pub none_mismatches : {V : Type 0} (look : V → Leaf) (d : Desc) (windows : List (WindowOf V)) (bodies : List (GroupOf V)) → AreDeclared look d windows bodies → NoneMismatches look d windows bodies
+pub none_mismatches : {V : Type 0} (look : V → Leaf) (d : Desc) (windows : List (WindowOf V)) (bodies : List (GroupOf V)) → AreAsDeclared look d windows bodies → NoneMismatches look d windows bodies
 none_mismatches look d windows bodies are place (inl found) = none_stale (IsFreshFor look) 1 found.0 d.windows windows are.windows_of found.1
 none_mismatches look d windows bodies are place (inr both) = none_stale (IsFreshBodyFor look) (length d.windows + 1) place d.dialogs bodies are.bodies_of both.1

@@ -8,11 +8,11 @@ use Rattle.tv_toolkit.specs.declared.control.Control.TheVariants as controls
 use Rattle.tv_view.specs.Meaning.{Leaf}
 
 -- the leaf that it is
-abbrev pub leaf_of : Control → Leaf
-leaf_of (controls.Text view) = text_leaf view
-leaf_of (controls.Label label) = plain_leaf label.core
-leaf_of (controls.Button button) = plain_leaf button.core
-leaf_of (controls.Input line) = input_leaf line.core line.edit
-leaf_of (controls.CheckBoxes boxes) = boxes_leaf boxes.core boxes.marks boxes.selected
-leaf_of (controls.RadioButtons radios) = radios_leaf radios.core radios.marked
-leaf_of (controls.List list) = list_leaf list.core list.chosen
+abbrev pub control_leaf : Control → Leaf
+control_leaf (controls.Text view) = text_leaf view
+control_leaf (controls.Label label) = plain_leaf label.core
+control_leaf (controls.Button button) = plain_leaf button.core
+control_leaf (controls.Input line) = input_leaf line.core line.edit
+control_leaf (controls.CheckBoxes boxes) = boxes_leaf boxes.core boxes.marks boxes.selected
+control_leaf (controls.RadioButtons radios) = radios_leaf radios.core radios.marked
+control_leaf (controls.List list) = list_leaf list.core list.chosen

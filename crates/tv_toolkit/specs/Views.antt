@@ -11,11 +11,12 @@ use Rattle.tv_window.specs.declared.window.WindowOf.{WindowOf}
 
 -- one window for each that is declared, and one body for each dialog, in that order, and each stands as it is
 -- declared, before any event
-pub record AreDeclared {V : Type 0} (look : V → Leaf) (d : Desc) (windows : List (WindowOf V))
+pub record AreAsDeclared {V : Type 0} (look : V → Leaf) (d : Desc) (windows : List (WindowOf V))
     (bodies : List (GroupOf V)) : Type 0 where
   pub windows_of : AllZip (IsFreshFor look) d.windows windows
   pub bodies_of : AllZip (IsFreshBodyFor look) d.dialogs bodies
 
 -- whatever view a session might name as the first that isn't as declared, it is not
 abbrev pub NoneMismatches : {V : Type 0} → (V → Leaf) → Desc → List (WindowOf V) → List (GroupOf V) → Type 0
-NoneMismatches look d windows bodies = (place : ℕ) → RefusesViews look d windows bodies (ViewMismatch place) → ⊥
+NoneMismatches look d windows bodies =
+    (place : ℕ) → RefusesViews look d windows bodies (ViewMismatch place) → ⊥

@@ -3,7 +3,7 @@
 ghost use Rattle.std.specs.Prelude.{◌≡◌, ◌↔◌, IfOk, IsErrOf, IsTrue};
 ghost use Rattle.tv_check.specs.Plan.{is_owner};
 ghost use Rattle.tv_model.specs.Description.LawfulNodes.{IsLawfulNode};
-ghost use Rattle.tv_toolkit.specs.Control.{leaf_of};
+ghost use Rattle.tv_toolkit.specs.Control.{control_leaf};
 ghost use Rattle.tv_view.specs.Meaning.{fresh};
 
 use std::alloc::Global;
@@ -36,7 +36,7 @@ impl Control {
     #[tactic(auto, using(tv_leaf::proofs::CoreLemmas::limited_small))]
     pub fn new(alloc: Global, node: &Node) -> Result<Control, ControlFault>
         requires { IsLawfulNode node.now }
-        ensures declared { IfOk result (λ control. leaf_of control ≡ fresh node.now) }
+        ensures declared { IfOk result (λ control. control_leaf control ≡ fresh node.now) }
         ensures wrong { IsErrOf result ControlFault.WrongKind ↔ IsTrue (is_owner node.now.kind) }
     {
         match node.kind {
@@ -53,9 +53,9 @@ impl Control {
 }
 
 impl View for Control {
-    ghost use Rattle.tv_toolkit.specs.Control.{leaf_of};
+    ghost use Rattle.tv_toolkit.specs.Control.{control_leaf};
 
-    ghost meaning = { leaf_of };
+    ghost meaning = { control_leaf };
 
     fn id(&self) -> Id {
         match self {

@@ -9,8 +9,8 @@ ghost use Rattle.tv_model.specs.Description.LawfulNodes.{IsLawfulNode};
 ghost use Rattle.tv_model.specs.Description.Rectangles.{IsSmallRect};
 ghost use Rattle.tv_session.specs.Freshness.{IsFreshBodyFor, IsFreshFor};
 ghost use Rattle.tv_toolkit.specs.Buildable.{AreBuildable, AreLeft, IsBuildableDialog, IsBuildableWindow};
-ghost use Rattle.tv_toolkit.specs.Control.{leaf_of};
-ghost use Rattle.tv_toolkit.specs.Views.{AreDeclared, NoneMismatches};
+ghost use Rattle.tv_toolkit.specs.Control.{control_leaf};
+ghost use Rattle.tv_toolkit.specs.Views.{AreAsDeclared, NoneMismatches};
 ghost use Rattle.tv_view.specs.Meaning.{fresh, inside};
 
 use crate::control::Control;
@@ -33,8 +33,8 @@ use tv_window::WindowOf;
 ///
 /// `AllocError` where memory ran out.
 pub fn views(alloc: Global, checked: &Checked) -> Result<Views<Control>, AllocError>
-    ensures declared { IfOk result (λ views. AreDeclared leaf_of checked.now views.windows.items views.bodies.items) }
-    ensures accepted { IfOk result (λ views. NoneMismatches leaf_of checked.now views.windows.items views.bodies.items) }
+    ensures declared { IfOk result (λ views. AreAsDeclared control_leaf checked.now views.windows.items views.bodies.items) }
+    ensures accepted { IfOk result (λ views. NoneMismatches control_leaf checked.now views.windows.items views.bodies.items) }
 {
     let desc = checked.desc();
     let windows = windows_of(alloc, desc.windows.as_slice())?;
@@ -44,7 +44,7 @@ pub fn views(alloc: Global, checked: &Checked) -> Result<Views<Control>, AllocEr
 
 fn windows_of(alloc: Global, declared: &[Window]) -> Result<Vec<WindowOf<Control>>, AllocError>
     requires { All IsBuildableWindow declared.now }
-    ensures { IfOk result (λ windows. AllZip (IsFreshFor leaf_of) declared.now windows.items) }
+    ensures { IfOk result (λ windows. AllZip (IsFreshFor control_leaf) declared.now windows.items) }
 {
     let mut windows = Vec::new(alloc);
     for window in declared {
@@ -55,7 +55,7 @@ fn windows_of(alloc: Global, declared: &[Window]) -> Result<Vec<WindowOf<Control
 
 fn bodies_of(alloc: Global, declared: &[Dialog]) -> Result<Vec<GroupOf<Control>>, AllocError>
     requires { All IsBuildableDialog declared.now }
-    ensures { IfOk result (λ bodies. AllZip (IsFreshBodyFor leaf_of) declared.now bodies.items) }
+    ensures { IfOk result (λ bodies. AllZip (IsFreshBodyFor control_leaf) declared.now bodies.items) }
 {
     let mut bodies = Vec::new(alloc);
     for dialog in declared {
@@ -66,7 +66,7 @@ fn bodies_of(alloc: Global, declared: &[Dialog]) -> Result<Vec<GroupOf<Control>>
 
 fn window_of(alloc: Global, window: &Window) -> Result<WindowOf<Control>, AllocError>
     requires { IsBuildableWindow window.now }
-    ensures { IfOk result (λ made. IsFreshFor leaf_of window.now made) }
+    ensures { IfOk result (λ made. IsFreshFor control_leaf window.now made) }
 {
     let body = body_of(alloc, &window.node, window.views.as_slice())?;
     match WindowOf::new(&window.node, body) {
@@ -80,7 +80,7 @@ fn body_of(alloc: Global, owner: &Node, views: &[Node]) -> Result<GroupOf<Contro
     requires lawful { IsLawfulNode owner.now }
     requires owner { IsTrue (has_body owner.now.kind) }
     requires views { AreBuildable 0 views.now }
-    ensures { IfOk result (λ body. IsFreshBody leaf_of owner.now views.now body) }
+    ensures { IfOk result (λ body. IsFreshBody control_leaf owner.now views.now body) }
 {
     let mut members = Vec::new(alloc);
     add_members(alloc, &mut members, views, 0)?;
@@ -106,8 +106,8 @@ fn body_rect(owner: &Node) -> Rect
 fn group_of(bounds: Rect, members: Vec<MemberOf<Control>>) -> GroupOf<Control>
     requires bounds { IsSmallRect bounds }
     requires level { members_level members.items ≤ 4 }
-    ensures leaves { opened leaf_of result ≡ map (inside bounds) (joined None 0 (map (opened_member leaf_of) members.items)) }
-    ensures outline { (depth : ℕ) → members_outline leaf_of result depth ≡ joined_outline leaf_of members.items depth }
+    ensures leaves { opened control_leaf result ≡ map (inside bounds) (joined None 0 (map (opened_member control_leaf) members.items)) }
+    ensures outline { (depth : ℕ) → members_outline control_leaf result depth ≡ joined_outline control_leaf members.items depth }
     ensures level { level_of result ≡ members_level members.items + 1 }
     ensures bounds { group_bounds result ≡ bounds }
 {
@@ -127,7 +127,7 @@ fn add_members<'a>(
 ) -> Result<&'a [Node], AllocError>
     requires views { AreBuildable panes views.now }
     requires level { members_level members.old.items + panes ≤ 4 }
-    ensures added { IfOk result (λ left. joined_outline leaf_of members.new.items (panes + 1) ++ map declared left.now ≡ joined_outline leaf_of members.old.items (panes + 1) ++ map declared views.now) }
+    ensures added { IfOk result (λ left. joined_outline control_leaf members.new.items (panes + 1) ++ map declared left.now ≡ joined_outline control_leaf members.old.items (panes + 1) ++ map declared views.now) }
     ensures level { OnOk result (members_level members.new.items + panes ≤ 4) }
     ensures left { IfOk result (λ left. AreLeft panes left.now) }
     ensures fewer { IfOk result (λ left. length left.now ≤ length views.now) }
@@ -157,7 +157,7 @@ fn add_members<'a>(
 fn control_of(alloc: Global, node: &Node) -> Result<Control, AllocError>
     requires lawful { IsLawfulNode node.now }
     requires kind { is_owner node.now.kind ≡ false }
-    ensures { IfOk result (λ control. leaf_of control ≡ fresh node.now) }
+    ensures { IfOk result (λ control. control_leaf control ≡ fresh node.now) }
 {
     match Control::new(alloc, node) {
         Ok(control) => Ok(control),

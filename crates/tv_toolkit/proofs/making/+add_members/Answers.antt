@@ -4,7 +4,7 @@ use Rattle.tv_group.specs.Outline.{declared, joined_outline}
 use Rattle.tv_group.specs.declared.group.MemberOf.TheVariants as members
 use Rattle.tv_model.specs.Description.Nodes.{height_of, is_pane}
 use Rattle.tv_model.specs.Description.Rectangles.{rect}
-use Rattle.tv_toolkit.specs.Control.{leaf_of}
+use Rattle.tv_toolkit.specs.Control.{control_leaf}
 use Rattle.tv_toolkit.proofs.BuildableLemmas.{after_pane, behind_leaf, depth_is, not_pane, one_behind}
 use Rattle.tv_toolkit.proofs.MemberLemmas.{leaf_added, leaf_low, pane_added, pane_low}
 use Rattle.tv_toolkit.proofs.making.+add_members.Goals as goal
@@ -48,14 +48,14 @@ returns-in_ok-push-in-Pane-clause-added t c =
     let first = c.in-Some.ensures.cases.0 in
     let depth = depth_is panes c.args.views.now view behind first c.requires.views c.if-view-panes.false in
     let place = c.group_of.ensures.bounds ∙ c.rect_at-bounds.ensures ∙ ap (λ kind. rect view.x view.y view.w (height_of kind)) (sym c.in-Pane.is) in
-    let made = c.in_ok-after-in-Pane.ensures.added ∙ ap (λ ms. joined_outline leaf_of ms (panes + 1 + 1) ++ map declared behind) c.new-inner.ensures.items in
+    let made = c.in_ok-after-in-Pane.ensures.added ∙ ap (λ ms. joined_outline control_leaf ms (panes + 1 + 1) ++ map declared behind) c.new-inner.ensures.items in
     let added =
-    pane_added leaf_of old new inner (members.Pane c.group_of.result) c.group_of.result view behind after panes
+    pane_added control_leaf old new inner (members.Pane c.group_of.result) c.group_of.result view behind after panes
     refl (search rules) place (ap is_pane c.in-Pane.is) depth c.group_of.ensures.outline made
-    ∙ ap (λ vs. joined_outline leaf_of old (panes + 1) ++ map declared vs) (sym first) in
+    ∙ ap (λ vs. joined_outline control_leaf old (panes + 1) ++ map declared vs) (sym first) in
     IfOk-weaker c.add_members-in-Pane.result
-    (λ left. joined_outline leaf_of c.add_members-in-Pane.new.members.items (panes + 1) ++ map declared left.now ≡ joined_outline leaf_of new (panes + 1) ++ map declared after)
-    (λ left. joined_outline leaf_of c.add_members-in-Pane.new.members.items (panes + 1) ++ map declared left.now ≡ joined_outline leaf_of old (panes + 1) ++ map declared c.args.views.now)
+    (λ left. joined_outline control_leaf c.add_members-in-Pane.new.members.items (panes + 1) ++ map declared left.now ≡ joined_outline control_leaf new (panes + 1) ++ map declared after)
+    (λ left. joined_outline control_leaf c.add_members-in-Pane.new.members.items (panes + 1) ++ map declared left.now ≡ joined_outline control_leaf old (panes + 1) ++ map declared c.args.views.now)
     (λ left is. is ∙ added) c.add_members-in-Pane.ensures.added
 
 pub returns-in_ok-push-in_default-kind : goal.returns-in_ok-push-in_default-kind
@@ -71,13 +71,13 @@ returns-in_ok-push-in_default-kind t c =
     let leaf : is_pane c.in-Some.view.now.kind ≡ false = search (rules, not_pane) in
     let depth = depth_is panes c.args.views.now view behind first c.requires.views c.if-view-panes.false in
     let added =
-    leaf_added leaf_of old new (members.Leaf control) control view behind panes
+    leaf_added control_leaf old new (members.Leaf control) control view behind panes
     refl (search rules) c.in_ok-control_of-in_default-kind.ensures leaf depth
-    ∙ ap (λ vs. joined_outline leaf_of old (panes + 1) ++ map declared vs) (sym first) in
+    ∙ ap (λ vs. joined_outline control_leaf old (panes + 1) ++ map declared vs) (sym first) in
     record {
       added = IfOk-weaker c.add_members-in_default-kind.result
-          (λ left. joined_outline leaf_of c.add_members-in_default-kind.new.members.items (panes + 1) ++ map declared left.now ≡ joined_outline leaf_of new (panes + 1) ++ map declared behind)
-          (λ left. joined_outline leaf_of c.add_members-in_default-kind.new.members.items (panes + 1) ++ map declared left.now ≡ joined_outline leaf_of old (panes + 1) ++ map declared c.args.views.now)
+          (λ left. joined_outline control_leaf c.add_members-in_default-kind.new.members.items (panes + 1) ++ map declared left.now ≡ joined_outline control_leaf new (panes + 1) ++ map declared behind)
+          (λ left. joined_outline control_leaf c.add_members-in_default-kind.new.members.items (panes + 1) ++ map declared left.now ≡ joined_outline control_leaf old (panes + 1) ++ map declared c.args.views.now)
           (λ left is. is ∙ added) c.add_members-in_default-kind.ensures.added;
       level = c.add_members-in_default-kind.ensures.level;
       left = c.add_members-in_default-kind.ensures.left;

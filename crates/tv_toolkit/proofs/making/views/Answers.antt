@@ -4,7 +4,7 @@ use Rattle.tv_faults.proofs.SoundLemmas.{sound_says}
 use Rattle.tv_model.specs.declared.desc.Desc.{Desc}
 use Rattle.tv_session.specs.Freshness.{IsFreshBodyFor, IsFreshFor}
 use Rattle.tv_toolkit.specs.Buildable.{IsBuildableDialog, IsBuildableWindow}
-use Rattle.tv_toolkit.specs.Control.{leaf_of}
+use Rattle.tv_toolkit.specs.Control.{control_leaf}
 use Rattle.tv_toolkit.proofs.BuildableLemmas.{dialogs_buildable, windows_buildable}
 use Rattle.tv_toolkit.proofs.DeclaredLemmas.{none_mismatches}
 use Rattle.tv_toolkit.proofs.making.views.Goals as goal
@@ -21,10 +21,10 @@ bodies_of-requires c =
 
 pub returns-clause-accepted : goal.returns-clause-accepted
 returns-clause-accepted c =
-    none_mismatches leaf_of c.args.checked.now c.in_ok-windows.windows.items c.in_ok-bodies.bodies.items
+    none_mismatches control_leaf c.args.checked.now c.in_ok-windows.windows.items c.in_ok-bodies.bodies.items
     (record {
       windows_of =
-          subst (λ ds. AllZip (IsFreshFor leaf_of) ds c.in_ok-windows.windows.items) (c.as_slice.ensures ∙ ap (λ (d : Desc). d.windows) c.desc-desc.ensures.value) c.in_ok-windows.ensures;
+          subst (λ ds. AllZip (IsFreshFor control_leaf) ds c.in_ok-windows.windows.items) (c.as_slice.ensures ∙ ap (λ (d : Desc). d.windows) c.desc-desc.ensures.value) c.in_ok-windows.ensures;
       bodies_of =
-          subst (λ ds. AllZip (IsFreshBodyFor leaf_of) ds c.in_ok-bodies.bodies.items) (c.as_slice-2.ensures ∙ ap (λ (d : Desc). d.dialogs) c.desc-desc.ensures.value) c.in_ok-bodies.ensures;
+          subst (λ ds. AllZip (IsFreshBodyFor control_leaf) ds c.in_ok-bodies.bodies.items) (c.as_slice-2.ensures ∙ ap (λ (d : Desc). d.dialogs) c.desc-desc.ensures.value) c.in_ok-bodies.ensures;
     })

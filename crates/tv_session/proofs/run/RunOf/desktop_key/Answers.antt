@@ -7,7 +7,7 @@ use Rattle.tv_session.specs.Running.{IsRunSince}
 use Rattle.tv_session.proofs.EventLemmas.{alt_left, bar_key, closed_after, left_none, taken_some}
 use Rattle.tv_session.proofs.RunningLemmas.{run_raised}
 use Rattle.tv_session.proofs.MarkedLemmas.{marked-raised}
-use Rattle.tv_session.specs.Running.{IsMarked}
+use Rattle.tv_session.specs.Running.{ShowAlikeOff}
 use Rattle.tv_session.proofs.run.RunOf.desktop_key.Goals as goal
 
 pub returns-in-Alt : goal.returns-in-Alt
@@ -24,7 +24,7 @@ returns-in-Alt g c = λ since s w none menu.
     subst (λ t. IsRunSince look d since t (record c.offer_bar.new.self { desk = c.raise_number.new.self; damage = c.raise_number.new.damage }))
     (sym (ap (λ key. desktop_key d key s) c.in-Alt.is ∙ alt_left d letter s (subst (λ key. closed_key d key s ≡ None) c.in-Alt.is closed))) (
       run_raised look d s (window_of_digit d s letter) c.args.self.now c.offer_bar.new.self c.raise_number.new.self c.raise_number.new.damage a.stands same (c.raise_number.ensures.desk d s desk),
-      marked-raised d since s (window_of_digit d s letter) c.offer_bar.new.self.damage c.raise_number.new.damage (subst (λ run. IsMarked d since s run.damage) (sym same) w.1) c.raise_number.ensures.grown.kept (c.raise_number.ensures.damage d s desk),
+      marked-raised d since s (window_of_digit d s letter) c.offer_bar.new.self.damage c.raise_number.new.damage (subst (λ run. ShowAlikeOff d since s run.damage) (sym same) w.1) c.raise_number.ensures.grown.kept (c.raise_number.ensures.damage d s desk),
     )
 
 pub returns-then-offer_bar : goal.returns-then-offer_bar

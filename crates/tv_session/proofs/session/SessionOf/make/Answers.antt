@@ -6,7 +6,7 @@ use Rattle.tv_machine.specs.Dialog.Sound.{HasSoundDialogs}
 use Rattle.tv_machine.specs.Session.Start.{closed}
 use Rattle.tv_menu.specs.Bar.{IsBarOf}
 use Rattle.tv_menu.specs.Lawful.{IsLawfulScreen}
-use Rattle.tv_menu.specs.Line.{IsLineOf}
+use Rattle.tv_menu.specs.Line.{IsStatusLineOf}
 use Rattle.tv_model.specs.Description.Numbers.{natural}
 use Rattle.tv_session.proofs.StartLemmas.{fresh_bodies, fresh_windows}
 use Rattle.tv_session.proofs.session.SessionOf.make.Goals as goal
@@ -28,7 +28,7 @@ start-requires g c =
       dialogs_of = subst (λ d. AreDialogs look d (closed d) c.in-Ok-new.dialogs) lent c.in-Ok-new.ensures.dialogs;
       bar = subst (λ d. IsBarOf d c.in-Ok.parts.bar) lent c.in-Ok.ensures.bar;
       none_open = c.in-Ok.ensures.closed;
-      line = subst (λ d. IsLineOf d c.in-Ok.parts.line) lent c.in-Ok.ensures.line;
+      line = subst (λ d. IsStatusLineOf d c.in-Ok.parts.line) lent c.in-Ok.ensures.line;
       width = c.in-Ok.ensures.screen.0 ∙ ap (λ d. natural d.width) lent;
       height = c.in-Ok.ensures.screen.1 ∙ ap (λ d. natural d.height) lent;
       log = c.in-Ok.ensures.log;
