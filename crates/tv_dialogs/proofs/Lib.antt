@@ -11,6 +11,7 @@ pub mod MovedLemmas
 pub mod OpenLemmas
 pub mod PlaceLemmas
 pub mod PlacedLemmas
+pub mod RecordLemmas
 pub mod RunLemmas
 pub mod SessionLemmas
 pub mod ShownLemmas

@@ -3,3 +3,4 @@ pub mod Damage
 pub mod Dialogs
 pub mod Handed
 pub mod Kept
+pub mod Records

@@ -9,6 +9,7 @@ mod drawing;
 mod handed;
 mod kept;
 mod opening;
+mod records;
 mod stepping;
 
 pub use dialogs::{Dialogs, DialogsOf};

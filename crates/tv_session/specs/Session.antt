@@ -1,8 +1,12 @@
 -- A session, and the run of the flat machine that it stands for.
-use Rattle.std.specs.Prelude.{◌≡◌}
+use Rattle.std.specs.Prelude.{◌≡◌, ℕ, Option, option_map, slice_get}
+use Rattle.std.specs.Option.{option_and_then}
+use Rattle.tv_dialogs.specs.Records.{with_saved}
 use Rattle.tv_laws.specs.Runs.{IsFitState}
 use Rattle.tv_machine.specs.Run.{Session}
 use Rattle.tv_menu.specs.Line.{IsStatusLineOf}
+use Rattle.tv_model.specs.Log.Record.{Entries}
+use Rattle.tv_model.specs.declared.node.Id.{Id}
 use Rattle.tv_view.specs.Meaning.{Leaf}
 use Rattle.tv_script.specs.Performed.{IsScreenOf}
 use Rattle.tv_session.specs.Running.{IsRun}
@@ -17,3 +21,12 @@ pub record StandsFor {V : Type 0} (look : V → Leaf) (session : SessionOf V) (s
   pub line : IsStatusLineOf s.desc session.line
   pub fit : IsFitState s.desc s.state
   pub screen : IsScreenOf s session.screen
+
+-- the id of the dialog that is open
+abbrev pub open_id_of : Session → Option Id
+open_id_of s =
+    option_and_then (λ o. option_map (λ dialog. dialog.node.id) (slice_get s.desc.dialogs o.place)) s.state.dialog
+
+-- the run in which the last end of the dialog at a place saved this record
+abbrev pub handed_in : ℕ → Entries → Session → Session
+handed_in place entries s = record s { state = with_saved place entries s.state }

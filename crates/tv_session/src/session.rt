@@ -1,15 +1,17 @@
 //! A run of a checked description through its views.
 
-ghost use Rattle.std.specs.Prelude.{◌≡◌, option_map};
+ghost use Rattle.std.specs.Prelude.{◌≡◌, option_copied, option_map};
 ghost use Rattle.std.specs.Borrow.{sem};
 ghost use Rattle.std.specs.Io.BufRead.{Rests};
 ghost use Rattle.tv_cells.specs.Damage.{Holds};
 ghost use Rattle.tv_cells.specs.Repainting.{KeepsRest};
 ghost use Rattle.tv_machine.specs.Screen.Bodies.{whole_screen};
 ghost use Rattle.tv_machine.specs.Run.{Session as Standing, quiet, stepped};
+ghost use Rattle.tv_machine.specs.Safe.{IsSafeSaved};
 ghost use Rattle.tv_script.specs.Performed.{IsScreenOf};
 ghost use Rattle.tv_dialogs.specs.Handed.{HasPointGiven};
-ghost use Rattle.tv_session.specs.Session.{StandsFor};
+ghost use Rattle.tv_dialogs.specs.Records.{next_record};
+ghost use Rattle.tv_session.specs.Session.{StandsFor, handed_in, open_id_of};
 
 use crate::log::Log;
 use crate::paint::{replace_damage, whole_screen};
@@ -20,7 +22,7 @@ use tv_cells::{Damage, Rect, Screen};
 use tv_check::Checked;
 use tv_event::Event;
 use tv_menu::StatusLine;
-use tv_model::{Desc, Id, LogLine};
+use tv_model::{Desc, Id, LogLine, Record};
 use tv_script::Stage;
 use tv_view::View;
 
@@ -95,6 +97,38 @@ impl<V: View> SessionOf<V> {
         ensures { (s : Standing) → StandsFor V.meaning self.now s → result ≡ option_map (λ o. o.focus) s.state.dialog }
     {
         self.run.dialogs.focus()
+    }
+
+    /// Returns the id of the dialog that is open.
+    pub fn open_id(&self) -> Option<Id>
+        ensures { (s : Standing) → StandsFor V.meaning self.now s → result ≡ open_id_of s }
+    {
+        self.run.dialogs.open_id(self.checked.desc())
+    }
+
+    /// Whether the run is over, after `quit`.
+    pub fn is_over(&self) -> bool
+        ensures { (s : Standing) → StandsFor V.meaning self.now s → result ≡ s.state.is_over }
+    {
+        self.run.is_over
+    }
+
+    /// Returns the record with which the dialog at a place, counted from 0 in description order, opens next: that of its
+    /// last end other than `cancel`, and before any such end the declared values of its fields.
+    pub fn record(&self, place: usize) -> Option<&Record>
+        ensures { (s : Standing) → StandsFor V.meaning self.now s → option_copied result ≡ next_record s.desc s.state place }
+    {
+        self.run.dialogs.record(place)
+    }
+
+    /// Gives the dialog at a place the record with which it opens next, as if its last end had saved that: it has exactly
+    /// the dialog's fields, in order, each text lies in its domain, and each item is there. A dialog that is open keeps
+    /// what it shows.
+    pub fn keep_record(&mut self, place: usize, values: Record)
+        requires { (s : Standing) → StandsFor V.meaning self.old s → IsSafeSaved s.desc place values }
+        ensures { (s : Standing) → StandsFor V.meaning self.old s → StandsFor V.meaning self.new (handed_in place values s) }
+    {
+        self.run.dialogs.keep_record(place, values);
     }
 
     /// Returns the description.

@@ -1,0 +1,34 @@
+//! The record with which each dialog opens next.
+
+ghost use Rattle.std.specs.Prelude.{◌≡◌, option_copied};
+ghost use Rattle.tv_machine.specs.State.{State};
+ghost use Rattle.tv_model.specs.declared.desc.Desc.{Desc};
+ghost use Rattle.tv_dialogs.specs.Dialogs.{AreDialogs};
+ghost use Rattle.tv_dialogs.specs.Records.{next_record, with_saved};
+
+use crate::dialogs::DialogsOf;
+use tv_model::Record;
+use tv_view::View;
+
+impl<V: View> DialogsOf<V> {
+    /// Returns the record with which the dialog at a place, counted from 0 in description order, opens next: that of its
+    /// last end other than `cancel`, and before any such end the declared values of its fields.
+    pub fn record(&self, place: usize) -> Option<&Record>
+        ensures { (d : Desc) (s : State) → AreDialogs V.meaning d s self.now → option_copied result ≡ next_record d s place }
+    {
+        match self.at(Some(place)) {
+            Some(kept) => Some(kept.values.get()),
+            None => None,
+        }
+    }
+
+    /// Gives the dialog at a place the record with which it opens next, as if its last end had saved that. Does nothing
+    /// where no dialog is at the place. A dialog that is open keeps what it shows.
+    pub fn keep_record(&mut self, place: usize, values: Record)
+        ensures { (d : Desc) (s : State) → AreDialogs V.meaning d s self.old → AreDialogs V.meaning d (with_saved place values s) self.new }
+    {
+        if let Some(kept) = self.kept.get_mut(place) {
+            kept.values.set(values);
+        }
+    }
+}
