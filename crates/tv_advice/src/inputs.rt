@@ -1,0 +1,219 @@
+//! What is told of inputs, starts and characters: F12 to F14.
+
+use crate::naming::one_of_items;
+use crate::saying::{Part, Remark, Saying};
+use std::alloc::{AllocError, Global};
+use tv_explain::Reason;
+use tv_model::{Input, Kind, Node, is_item};
+use tv_unread::Span;
+use tv_valid::{Domain, DomainFault, DomainSpec, InputSpec};
+use unicode_width::UnicodeWidthChar;
+
+/// Returns how many words say the domain.
+pub fn domain_words(spec: &InputSpec) -> usize {
+    match &spec.domain {
+        DomainSpec::Any => 1,
+        DomainSpec::Filter(_) | DomainSpec::Picture(_) => 2,
+        DomainSpec::Range { .. } => 3,
+    }
+}
+
+// After how many characters the input's picture is wrong.
+fn wrong_after(alloc: Global, spec: &InputSpec) -> Result<usize, AllocError> {
+    match Domain::new(alloc, spec) {
+        Err(DomainFault::BadPicture(place)) => Ok(place),
+        Err(DomainFault::NoMemory) => Err(AllocError),
+        _ => Ok(0),
+    }
+}
+
+fn bad_picture(alloc: Global, input: &Input) -> Result<Saying, AllocError> {
+    let place = wrong_after(alloc, &input.spec)?;
+    let characters = if place == 1 {
+        "character"
+    } else {
+        "characters"
+    };
+    Ok(Saying {
+        message: String::from_str(alloc, "the picture of this input is spelled wrong")?,
+        own: Remark {
+            part: Part::word(7),
+            label: format!(in alloc; "wrong after {place} {characters}")?,
+        },
+        other: None,
+        mend: String::from_str(alloc, "write `;` before a character that stands for itself")?,
+    })
+}
+
+fn no_text(alloc: Global, input: &Input) -> Result<Saying, AllocError> {
+    let max = input.spec.max;
+    let count = domain_words(&input.spec).saturating_add(1);
+    Ok(Saying {
+        message: String::from_str(alloc, "nothing that can be typed into this input is right")?,
+        own: Remark {
+            part: Part::Words { first: 5, count },
+            label: format!(in alloc; "no right text has {max} characters or fewer")?,
+        },
+        other: None,
+        mend: String::from_str(alloc, "allow more characters, or ask for less")?,
+    })
+}
+
+// A range without numbers.
+fn no_number(alloc: Global, least: i32, greatest: i32) -> Result<Saying, AllocError> {
+    Ok(Saying {
+        message: String::from_str(alloc, "nothing that can be typed into this input is right")?,
+        own: Remark {
+            part: Part::Words { first: 6, count: 3 },
+            label: format!(in alloc; "there is no number from {least} to {greatest}")?,
+        },
+        other: None,
+        mend: String::from_str(alloc, "write the lesser number first")?,
+    })
+}
+
+/// Tells why nothing can fill an input.
+pub fn empty_domain(alloc: Global, input: &Input, reason: Reason) -> Result<Saying, AllocError> {
+    match (reason, &input.spec.domain) {
+        (Reason::BadPicture, _) => bad_picture(alloc, input),
+        (_, DomainSpec::Range { least, greatest }) if greatest < least => {
+            no_number(alloc, *least, *greatest)
+        }
+        _ => no_text(alloc, input),
+    }
+}
+
+// What is said of an item that is marked or chosen at first, in this word, of a node with so many items.
+fn start_item(
+    alloc: Global,
+    done: &str,
+    at: usize,
+    item: i32,
+    count: usize,
+) -> Result<Saying, AllocError> {
+    let are = if count == 1 { "is" } else { "are" };
+    Ok(Saying {
+        message: format!(in alloc; "item {item} can't be {done} at first: there {are} {count}")?,
+        own: Remark::on_word(alloc, at, "items count from 1")?,
+        other: None,
+        mend: one_of_items(alloc, count)?,
+    })
+}
+
+// The place of the first of the items that isn't there, and that item.
+fn first_missing(start: &[i32], count: usize) -> (usize, i32) {
+    for (i, item) in start.iter().enumerate() {
+        if !is_item(item, count) {
+            return (i, *item);
+        }
+    }
+    (0, 0)
+}
+
+fn start_text(alloc: Global, input: &Input) -> Result<Saying, AllocError> {
+    let at = domain_words(&input.spec).saturating_add(6);
+    let (count, max) = (input.start.as_slice().len(), input.spec.max);
+    let label = if usize::try_from(max).is_ok_and(|max| max < count) {
+        format!(in alloc; "{count} characters, but at most {max} can be typed")?
+    } else {
+        String::from_str(alloc, "no right text begins so")?
+    };
+    Ok(Saying {
+        message: String::from_str(alloc, "the first text of this input can't be typed there")?,
+        own: Remark {
+            part: Part::word(at),
+            label,
+        },
+        other: None,
+        mend: String::from_str(alloc, "begin with a right text, or with \"\"")?,
+    })
+}
+
+/// Tells what can't be at the start of a node.
+pub fn bad_start(alloc: Global, node: &Node) -> Result<Option<Saying>, AllocError> {
+    Ok(Some(match &node.kind {
+        Kind::Input(input) => start_text(alloc, input)?,
+        Kind::CheckBoxes(boxes) => {
+            let count = boxes.items.as_slice().len();
+            let (place, item) = first_missing(boxes.start.as_slice(), count);
+            let at = count.saturating_add(6).saturating_add(place);
+            start_item(alloc, "marked", at, item, count)?
+        }
+        Kind::RadioButtons(radios) => {
+            let count = radios.items.as_slice().len();
+            start_item(
+                alloc,
+                "marked",
+                count.saturating_add(6),
+                radios.start,
+                count,
+            )?
+        }
+        Kind::List(list) => {
+            let count = list.items.as_slice().len();
+            start_item(alloc, "chosen", count.saturating_add(7), list.start, count)?
+        }
+        _ => return Ok(None),
+    }))
+}
+
+// Whether the character takes one column.
+fn is_narrow(ch: char) -> bool {
+    ch.width() == Some(1)
+}
+
+// How many columns the character takes.
+fn columns_of(ch: char) -> &'static str {
+    match ch.width() {
+        Some(2) => "two columns",
+        _ => "no column",
+    }
+}
+
+// The first character of the line that doesn't take one column, and where it stands.
+fn wide_in(line: &str) -> Option<(usize, char)> {
+    line.chars().enumerate().find(|(_, ch)| !is_narrow(*ch))
+}
+
+// Where the first line end stands, written `\n`.
+fn line_end_in(line: &str) -> usize {
+    let mut escaped = false;
+    for (column, ch) in line.chars().enumerate() {
+        if escaped && ch == 'n' {
+            return column.saturating_sub(1);
+        }
+        escaped = ch == '\\' && !escaped;
+    }
+    0
+}
+
+fn line_end(alloc: Global, what: &str, line: &str) -> Result<Saying, AllocError> {
+    let span = Span {
+        column: line_end_in(line),
+        len: 2,
+    };
+    Ok(Saying {
+        message: format!(in alloc; "a line end can't stand in this {what}")?,
+        own: Remark::new(alloc, Part::At(span), "this is shown in one row")?,
+        other: None,
+        mend: String::from_str(alloc, "write a space, or two texts")?,
+    })
+}
+
+/// Tells which character of a line, the declaration of what is called so, doesn't take one column.
+pub fn wide_character(alloc: Global, what: &str, line: &str) -> Result<Saying, AllocError> {
+    let Some((column, ch)) = wide_in(line) else {
+        return line_end(alloc, what, line);
+    };
+    let code = u32::from(ch);
+    let columns = columns_of(ch);
+    Ok(Saying {
+        message: format!(in alloc; "a character of this {what} doesn't take one column")?,
+        own: Remark {
+            part: Part::At(Span::at(column)),
+            label: format!(in alloc; "U+{code:04X} takes {columns}")?,
+        },
+        other: None,
+        mend: String::from_str(alloc, "write it with characters of one column")?,
+    })
+}

@@ -1,0 +1,262 @@
+//! What is told of letters, keys and numbers: F4, F5 and F17.
+
+use crate::naming::key_text;
+use crate::saying::{Part, Remark, Saying};
+use std::alloc::{AllocError, Global};
+use tv_event::Key;
+use tv_explain::Reason;
+use tv_model::{Desc, Dialog, Kind, MarkedText, Menu, MenuItem, Node, StatusItem, Version, Window};
+use tv_names::Sharing;
+
+// The texts of a declaration that may mark letters.
+fn marked_texts(kind: &Kind) -> &[MarkedText] {
+    match kind {
+        Kind::Label(label) => std::slice::from_ref(&label.text),
+        Kind::Button(button) => std::slice::from_ref(&button.text),
+        Kind::CheckBoxes(boxes) => boxes.items.as_slice(),
+        Kind::RadioButtons(radios) => radios.items.as_slice(),
+        _ => &[],
+    }
+}
+
+fn is_marked_in(views: &[Node], letter: char) -> bool {
+    views.iter().any(|view| {
+        marked_texts(&view.kind)
+            .iter()
+            .any(|text| text.marks(letter))
+    })
+}
+
+// Whether the dialog's views share the letter lawfully: in version 1 there are none.
+fn is_shared(
+    alloc: Global,
+    desc: &Desc,
+    dialog: &Dialog,
+    letter: char,
+) -> Result<bool, AllocError> {
+    if desc.version == Version::One {
+        return Ok(false);
+    }
+    let sharing = Sharing::new(alloc, dialog.views.as_slice(), dialog.rules.as_slice())?;
+    Ok(sharing.sharer(alloc, letter)?.is_some())
+}
+
+// The letter of the node that the other one marks too, and may not. Where it is one line, it is a letter that it marks twice.
+fn letter_marked_again(
+    alloc: Global,
+    desc: &Desc,
+    dialog: &Dialog,
+    node: &Node,
+    other: &Node,
+) -> Result<Option<char>, AllocError> {
+    let texts = marked_texts(&node.kind);
+    for (i, text) in texts.iter().enumerate() {
+        if let Some(letter) = text.letter() {
+            let others = if node.id == other.id {
+                &texts[..i]
+            } else {
+                marked_texts(&other.kind)
+            };
+            let is_marked = others.iter().any(|text| text.marks(letter));
+            if is_marked && !is_shared(alloc, desc, dialog, letter)? {
+                return Ok(Some(letter));
+            }
+        }
+    }
+    Ok(None)
+}
+
+// Whether a status item has Alt with the letter.
+fn is_status_letter(desc: &Desc, letter: char) -> bool {
+    desc.status
+        .as_slice()
+        .iter()
+        .any(|item| item.key == Key::Alt(letter))
+}
+
+// The text of the node that marks the letter, the last such.
+fn marking(node: &Node, letter: char) -> Option<&MarkedText> {
+    let texts = marked_texts(&node.kind);
+    texts.iter().rev().find(|text| text.marks(letter))
+}
+
+// The letters and digits of the text that neither a view marks nor a status item has, in upper case, with commas between.
+fn free_letters(
+    alloc: Global,
+    desc: &Desc,
+    text: &[char],
+    views: &[Node],
+) -> Result<String, AllocError> {
+    let mut free = Vec::new(alloc);
+    for ch in text {
+        let letter = ch.to_ascii_uppercase();
+        let is_taken = is_marked_in(views, letter) || is_status_letter(desc, letter);
+        if ch.is_ascii_alphanumeric() && !is_taken && !free.contains(&letter) {
+            free.push(letter)?;
+        }
+    }
+    let mut told = String::new(alloc);
+    for letter in &free {
+        if !told.is_empty() {
+            told.push_str(", ")?;
+        }
+        told.push(*letter)?;
+    }
+    Ok(told)
+}
+
+// How to mend a letter that is marked twice.
+fn letter_mend(
+    alloc: Global,
+    desc: &Desc,
+    text: &MarkedText,
+    views: &[Node],
+) -> Result<String, AllocError> {
+    let free = free_letters(alloc, desc, text.text.as_slice(), views)?;
+    if free.is_empty() {
+        String::from_str(alloc, "mark none")
+    } else {
+        format!(in alloc; "mark another letter or none; free here: {free}")
+    }
+}
+
+/// Tells which letter a view marks again that the other one marks.
+pub fn letter_again(
+    alloc: Global,
+    desc: &Desc,
+    dialog: &Dialog,
+    node: &Node,
+    other: &Node,
+) -> Result<Saying, AllocError> {
+    let letter = letter_marked_again(alloc, desc, dialog, node, other)?.unwrap_or('?');
+    let mend = match marking(node, letter) {
+        Some(text) => letter_mend(alloc, desc, text, dialog.views.as_slice())?,
+        None => String::from_str(alloc, "mark another letter or none")?,
+    };
+    let told = format!(in alloc; "Alt-{letter} is this one's")?;
+    Ok(Saying {
+        message: format!(in alloc; "the letter {letter} is marked twice in this dialog")?,
+        own: Remark::new(alloc, Part::LastMark(letter), "marked again here")?,
+        other: Some(Remark {
+            part: Part::FirstMark(letter),
+            label: told,
+        }),
+        mend,
+    })
+}
+
+// The letter or digit of a key with Alt.
+fn alt_letter(key: Key) -> char {
+    match key {
+        Key::Alt(ch) => ch,
+        _ => '?',
+    }
+}
+
+// A key that means something else, or is given before.
+fn taken_key(
+    alloc: Global,
+    message: String,
+    label: &str,
+    other: Remark,
+) -> Result<Saying, AllocError> {
+    Ok(Saying {
+        message,
+        own: Remark::on_word(alloc, 2, label)?,
+        other: Some(other),
+        mend: String::from_str(alloc, "take a key that means nothing else")?,
+    })
+}
+
+// A key that no status item can have.
+fn unfit_key(alloc: Global, key: &str) -> Result<Saying, AllocError> {
+    let mend = "take F1 to F12, Ctrl with a letter but Y, or Alt with a letter or digit";
+    Ok(Saying {
+        message: format!(in alloc; "a status item can't have {key}")?,
+        own: Remark::on_word(alloc, 2, "this key belongs to dialogs")?,
+        other: None,
+        mend: String::from_str(alloc, mend)?,
+    })
+}
+
+/// Tells why a status item can't have its key.
+pub fn status_key(alloc: Global, item: &StatusItem, reason: Reason) -> Result<Saying, AllocError> {
+    let key = key_text(alloc, item.key)?;
+    let first_mark = Part::FirstMark(alt_letter(item.key));
+    let first = "status keys come before all others";
+    match reason {
+        Reason::DialogLetter => {
+            let message = format!(in alloc; "{key} is a shortcut of a dialog")?;
+            let other = Remark::new(alloc, first_mark, "this one shows the letter")?;
+            taken_key(alloc, message, first, other)
+        }
+        Reason::TitleLetter => {
+            let message = format!(in alloc; "{key} opens a menu")?;
+            let other = Remark::new(alloc, first_mark, "this menu shows the letter")?;
+            taken_key(alloc, message, first, other)
+        }
+        Reason::WindowDigit => {
+            let message = format!(in alloc; "{key} brings a window to the front")?;
+            let other = Remark::on_word(alloc, 6, "the window's number")?;
+            taken_key(alloc, message, first, other)
+        }
+        Reason::KeyTwice => {
+            let message = format!(in alloc; "the key {key} is given twice")?;
+            let other = Remark::on_word(alloc, 2, "this one has the key")?;
+            taken_key(alloc, message, "given again here", other)
+        }
+        _ => unfit_key(alloc, &key),
+    }
+}
+
+/// Tells which letter the menu's title marks again.
+pub fn title_again(alloc: Global, menu: &Menu) -> Result<Saying, AllocError> {
+    let letter = menu.title.letter().unwrap_or('?');
+    Ok(Saying {
+        message: format!(in alloc; "the letter {letter} is marked by two menus")?,
+        own: Remark::new(alloc, Part::LastMark(letter), "marked again here")?,
+        other: Some(Remark {
+            part: Part::FirstMark(letter),
+            label: format!(in alloc; "Alt-{letter} opens this one")?,
+        }),
+        mend: String::from_str(alloc, "mark another letter of the title or none")?,
+    })
+}
+
+/// Tells which letter the item marks again.
+pub fn item_again(alloc: Global, item: &MenuItem) -> Result<Saying, AllocError> {
+    let letter = item.text.letter().unwrap_or('?');
+    Ok(Saying {
+        message: format!(in alloc; "the letter {letter} is marked twice in this menu")?,
+        own: Remark::new(alloc, Part::LastMark(letter), "marked again here")?,
+        other: Some(Remark {
+            part: Part::FirstMark(letter),
+            label: format!(in alloc; "{letter} chooses this one")?,
+        }),
+        mend: String::from_str(alloc, "mark another letter of the item or none")?,
+    })
+}
+
+/// Tells which number the window has again.
+pub fn number_again(alloc: Global, window: &Window) -> Result<Saying, AllocError> {
+    let number = window.head().number;
+    Ok(Saying {
+        message: format!(in alloc; "two windows have the number {number}")?,
+        own: Remark::on_word(alloc, 6, "given again here")?,
+        other: Some(Remark {
+            part: Part::word(6),
+            label: format!(in alloc; "Alt-{number} brings this one to the front")?,
+        }),
+        mend: String::from_str(alloc, "give it another number, or 0 for none")?,
+    })
+}
+
+/// Tells that a rule can't speak of its command.
+pub fn rules_cancel(alloc: Global) -> Result<Saying, AllocError> {
+    Ok(Saying {
+        message: String::from_str(alloc, "no rule may disable the way out of a dialog")?,
+        own: Remark::on_word(alloc, 1, "a dialog can always be left by this")?,
+        other: None,
+        mend: String::from_str(alloc, "drop the rule, or let it speak of another command")?,
+    })
+}

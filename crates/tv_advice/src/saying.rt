@@ -1,0 +1,60 @@
+//! What is told of a fault, before it is known where its words stand.
+
+use std::alloc::{AllocError, Global};
+use tv_unread::Span;
+
+/// Which words of a line something is about. The keyword is word 0.
+#[derive(Clone, Copy, Debug, PartialEq, Eq)]
+pub enum Part {
+    /// So many words from this one on.
+    Words { first: usize, count: usize },
+    /// The first mark of the letter.
+    FirstMark(char),
+    /// The last mark of the letter.
+    LastMark(char),
+    /// What stands there, wherever words do.
+    At(Span),
+}
+
+impl Part {
+    /// Returns one word.
+    pub fn word(at: usize) -> Part {
+        Part::Words {
+            first: at,
+            count: 1,
+        }
+    }
+}
+
+/// A part of a line, and what is said of it.
+#[derive(Debug, Drop)]
+pub struct Remark {
+    pub part: Part,
+    pub label: String,
+}
+
+impl Remark {
+    /// Says this of a part.
+    pub fn new(alloc: Global, part: Part, label: &str) -> Result<Remark, AllocError> {
+        Ok(Remark {
+            part,
+            label: String::from_str(alloc, label)?,
+        })
+    }
+
+    /// Says this of one word.
+    pub fn on_word(alloc: Global, at: usize, label: &str) -> Result<Remark, AllocError> {
+        Remark::new(alloc, Part::word(at), label)
+    }
+}
+
+/// What is told of a fault.
+#[derive(Debug, Drop)]
+pub struct Saying {
+    pub message: String,
+    pub own: Remark,
+    /// What is said of the other line, where there is one.
+    pub other: Option<Remark>,
+    /// How to mend it.
+    pub mend: String,
+}
