@@ -2,16 +2,26 @@
 #![tactic(auto)]
 
 #[cfg(test)]
+mod documented;
+#[cfg(test)]
 mod ends;
 #[cfg(test)]
 mod inputs;
 #[cfg(test)]
+mod languages;
+#[cfg(test)]
 mod letters;
 #[cfg(test)]
 mod limits;
+#[cfg(test)]
+mod lines;
+#[cfg(test)]
+mod manners;
 #[cfg(test)]
 mod names;
 #[cfg(test)]
 mod places;
 #[cfg(test)]
 mod reports;
+#[cfg(test)]
+mod unread;
