@@ -1,0 +1,3 @@
+pub mod StripLemmas
+pub mod TextLemmas
+pub mod PutLemmas

@@ -1,0 +1,4 @@
+-- The strips of a row
+pub mod Strips
+-- What is drawn of a picture
+pub mod Svg
