@@ -1,0 +1,3 @@
+pub mod GainLemmas
+pub mod DrawingLemmas
+pub mod PictureLemmas

@@ -1,0 +1,26 @@
+-- What is drawn of a run.
+use Rattle.std.specs.Prelude.{ℕ, List, [], ◌∷◌, ◌++◌}
+use Rattle.tv_model.specs.declared.script.Item.{Item}
+use Rattle.tv_model.specs.declared.script.Item.TheVariants as items
+use Rattle.tv_model.specs.Description.Numbers.{natural}
+use Rattle.tv_machine.specs.Output.{screen_cell, session_after}
+use Rattle.tv_machine.specs.Run.{Session, quiet}
+use Rattle.tv_svg.specs.Svg.{svg_text}
+
+-- the screen of a session
+abbrev pub session_svg : Session → List ℕ
+session_svg s = svg_text (natural s.desc.width) (natural s.desc.height) (screen_cell s)
+
+-- the screen that an item asks for
+abbrev pub item_svgs : Session → Item → List (List ℕ)
+item_svgs s items.Shot = session_svg s ∷ []
+item_svgs s _ = []
+
+-- the screens that items ask for, one after the other
+abbrev pub svgs_from : Session → List Item → List (List ℕ)
+svgs_from s [] = []
+svgs_from s (item ∷ rest) = item_svgs s item ++ svgs_from (session_after s item) rest
+
+-- the screen at each `shot` of a script
+abbrev pub shot_svgs : Session → List Item → List (List ℕ)
+shot_svgs s script = svgs_from (quiet s) script
