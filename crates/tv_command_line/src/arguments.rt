@@ -3,11 +3,15 @@
 use clap::error::ErrorKind;
 use clap::{Arg, ArgAction, ArgMatches, Command, Error};
 use std::alloc::{AllocError, Global};
-use tv_files::{NoTask, Task};
+use tv_files::{Manner, NoTask, Task};
+
+/// What the program is at.
+const VERSION: &str = "1.0.0";
 
 /// The text below the help of the program and of each subcommand.
 const STATUSES: &str = "Statuses: 0 done; 1 faults, a refusal or a bad text; 2 usage; \
-    3 a file, a stream or memory failed; 4 the user left, or his input ended. Messages go to standard error, all else to standard output.";
+    3 a file, a stream or memory failed; 4 the user left, or his input ended. Messages go to standard error, all else to standard output.\n\
+    Help goes to standard error too, with status 2.";
 
 /// What `run` does, and the lines of its scripts.
 const SCRIPTS: &str = "\
@@ -28,6 +32,30 @@ Each line is performed when its end has come, and what it prints is passed on
 before more is read. So SCRIPT may be a pipe or a terminal, as /dev/stdin. At a
 faulty line the script is left; the lines before it were performed.";
 
+/// What `picture` prints.
+const PICTURES: &str = "\
+Performs a script on a description, and prints the screen that it leaves as SVG
+
+The script has the lines that `run` takes, but nothing of the log is printed, and
+nothing at a `shot` or `colors`. The screen is drawn in sixteen colours, with the
+cursor where an input has it. Redirect it into a file: tvdlg picture FILE SCRIPT
+>PICTURE.svg.";
+
+/// What `explain` prints.
+const EXPLANATIONS: &str = "\
+Tells of each fault of a description where it is, why it is one and how to mend it
+
+Each is told as FILE:LINE:COLUMN: FAULT: MESSAGE, with the lines of the file that
+have to do with it. Lines are those of the file, comments and empty lines counted,
+where those that `check` prints count declarations alone. Of a description that
+can't be read the first line that is none is told. One without faults prints
+nothing.
+
+With BESIDE, a script or a certificate, a description without faults is passed
+over and that file is told of: its first line that can't be read, or whose point
+is off the screen. It is a certificate where its first word is tvcert. One that
+isn't the description's is refused as `accept` does.";
+
 /// What `play` does, and what it needs.
 const TERMINALS: &str = "\
 Plays a description in a terminal: keys and mouse come from standard input, the
@@ -45,6 +73,13 @@ fn path<'a>(alloc: Global, name: &'a str, help: &'a str) -> Arg<'a> {
         .required(true)
         .action(ArgAction::Set)
         .help(help)
+}
+
+// The file beside a description that is explained.
+fn beside<'a>(alloc: Global) -> Arg<'a> {
+    Arg::new(alloc, "BESIDE")
+        .action(ArgAction::Set)
+        .help("A script or a certificate, as `run` and `accept` take it")
 }
 
 fn description<'a>(alloc: Global) -> Arg<'a> {
@@ -98,17 +133,59 @@ fn play<'a>(alloc: Global) -> Result<Command<'a>, AllocError> {
     .long_about(TERMINALS))
 }
 
+fn picture<'a>(alloc: Global) -> Result<Command<'a>, AllocError> {
+    subcommand(
+        alloc,
+        "picture",
+        "Performs a script on a description, and prints the screen that it leaves as SVG",
+    )?
+    .long_about(PICTURES)
+    .arg(path(
+        alloc,
+        "SCRIPT",
+        "A script, with an event or a picture on each line",
+    ))
+}
+
+fn explain<'a>(alloc: Global) -> Result<Command<'a>, AllocError> {
+    subcommand(
+        alloc,
+        "explain",
+        "Tells of each fault of a description where it is, why it is one and how to mend it",
+    )?
+    .long_about(EXPLANATIONS)
+    .arg(beside(alloc))?
+    .arg(
+        Arg::new(alloc, "json")
+            .long("json")
+            .action(ArgAction::SetTrue)
+            .help("Prints an object of JSON for each fault, one a line"),
+    )?
+    .arg(
+        Arg::new(alloc, "color")
+            .long("color")
+            .value_name("WHEN")
+            .value_parser(["always", "never"].as_slice())
+            .default_value("never")
+            .action(ArgAction::Set)
+            .help("Prints in colours"),
+    )
+}
+
 fn command<'a>(alloc: Global) -> Result<Command<'a>, AllocError> {
     Command::new(alloc, "tvdlg")
         .about(
             "Checks descriptions of text-mode dialogs, and runs them on scripts or in a terminal",
         )
+        .version(VERSION)
         .after_help(STATUSES)
         .subcommand_required(true)
         .subcommand(check(alloc)?)?
         .subcommand(accept(alloc)?)?
         .subcommand(run(alloc)?)?
-        .subcommand(play(alloc)?)
+        .subcommand(play(alloc)?)?
+        .subcommand(picture(alloc)?)?
+        .subcommand(explain(alloc)?)
 }
 
 /// Reads the task from the words of a command line, of which the first names the program, or returns what to report
@@ -116,8 +193,11 @@ fn command<'a>(alloc: Global) -> Result<Command<'a>, AllocError> {
 pub fn read_task<'a>(alloc: Global, words: &'a [String]) -> Result<Task<'a>, NoTask> {
     match parse(alloc, words) {
         Ok(task) => Ok(task),
-        Err(error) if error.kind() == ErrorKind::OutOfMemory => Err(NoTask::NoMemory),
-        Err(error) => Err(NoTask::Usage(format!(in alloc; "{error}")?)),
+        Err(error) => match error.kind() {
+            ErrorKind::DisplayVersion => Ok(Task::Version),
+            ErrorKind::OutOfMemory => Err(NoTask::NoMemory),
+            _ => Err(NoTask::Usage(format!(in alloc; "{error}")?)),
+        },
     }
 }
 
@@ -150,6 +230,34 @@ fn named_task<'a>(name: &str, found: &ArgMatches<'a>) -> Option<Task<'a>> {
             script: found.get_str("SCRIPT")?,
         }),
         "play" => Some(Task::Play { file }),
+        "picture" => Some(Task::Picture {
+            file,
+            script: found.get_str("SCRIPT")?,
+        }),
+        "explain" => Some(explanation(file, found)),
         _ => None,
+    }
+}
+
+fn explanation<'a>(file: &'a str, found: &ArgMatches<'a>) -> Task<'a> {
+    let manner = manner(found);
+    match found.get_str("BESIDE") {
+        Some(beside) => Task::ExplainBoth {
+            file,
+            beside,
+            manner,
+        },
+        None => Task::Explain { file, manner },
+    }
+}
+
+// JSON is never coloured.
+fn manner(found: &ArgMatches<'_>) -> Manner {
+    if found.get_flag("json") {
+        return Manner::Json;
+    }
+    match found.get_str("color") {
+        Some("always") => Manner::Coloured,
+        _ => Manner::Plain,
     }
 }

@@ -6,6 +6,8 @@ use Rattle.tv_machine.specs.Run.{Session}
 use Rattle.tv_model.specs.declared.desc.Desc.{Desc}
 use Rattle.tv_play.specs.Playing.{Ports}
 use Rattle.tv_play.specs.declared.parting.Parting.{Parting}
+use Rattle.tv_pictures.specs.Drawing.{PicturesTo}
+use Rattle.tv_pictures.specs.Drawing.PicturesTo.{unrun, drawn, cut}
 use Rattle.tv_program.specs.declared.play_fault.PlayFault.{PlayFault}
 use Rattle.tv_program.specs.declared.play_fault.PlayFault.TheVariants as runs
 use Rattle.tv_program.specs.Playing.{IsNoStart, RunsTo}
@@ -16,11 +18,13 @@ use Rattle.tv_program.specs.Terminal.PlaysText.{refused as refused_play, unbegun
 use Rattle.tv_files.specs.declared.done.Done.{Done}
 use Rattle.tv_files.specs.declared.no_task.NoTask.{NoTask}
 use Rattle.tv_files.specs.declared.task.Task.{Task}
-use Rattle.tv_files.specs.declared.task.Task.TheVariants.{Check, Accept, Run, Play}
+use Rattle.tv_files.specs.declared.task.Task.TheVariants.{Check, Accept, Run, Play, Picture, Explain, ExplainBoth, Version}
 use Rattle.tv_files.specs.Ends.{End}
 use Rattle.tv_files.specs.EndsWith.{EndsWith, World, ports_of}
 use Rattle.tv_files.specs.Files.{Known}
-use Rattle.tv_files.specs.Tasks.{PerformsTask, PlaysFile, RunsFiles}
+use Rattle.tv_files.specs.Performing.{PerformsTask}
+use Rattle.tv_files.specs.Picturing.{PicturesFiles}
+use Rattle.tv_files.specs.Tasks.{PlaysFile, RunsFiles}
 use Rattle.tv_files.specs.Tasks.OnStream.{unopened, beside, unread, done}
 use Rattle.tv_files.specs.Tasks.PlaysFile.{unread as unread_file, played as played_file}
 
@@ -51,6 +55,21 @@ module _ (P Q : Desc → Type 0) (weaker : (text : List ℕ) (d : Desc) → IsSo
   RunsFiles-weaker files after file script old new end (done text reader left gives is came) =
       done text reader left gives is (came.0, RunsTo-weaker _ text reader left old new came.0 came.1, came.2)
 
+  -- what drawing a run comes to
+  PicturesTo-weaker : (text : List ℕ) (reader left : Given) (old new : Seen) (r : Result (Unit {0}) PlayFault) → PicturesTo P text reader left old new r → PicturesTo Q text reader left old new r
+  PicturesTo-weaker text reader left old new r (unrun fault log later ran same told) =
+      unrun fault log later (RunsTo-weaker _ text reader left log later (Err fault) ran) same told
+  PicturesTo-weaker text reader left old new r (drawn d script read gives took told) = drawn d script read gives took told
+  PicturesTo-weaker text reader left old new r (cut d script read gives took told) = cut d script read gives took told
+
+  -- what drawing two files comes to
+  PicturesFiles-weaker : (files after : Known) (file script : List ℕ) (old new : Seen) (end : End) → PicturesFiles P files after file script old new end → PicturesFiles Q files after file script old new end
+  PicturesFiles-weaker files after file script old new end (unopened is same) = unopened is same
+  PicturesFiles-weaker files after file script old new end (beside is same) = beside is same
+  PicturesFiles-weaker files after file script old new end (unread is same) = unread is same
+  PicturesFiles-weaker files after file script old new end (done text reader left gives is came) =
+      done text reader left gives is (came.0, PicturesTo-weaker text reader left old new came.0 came.1, came.2)
+
   -- what playing a description comes to
   PlaysText-weaker : (text : List ℕ) (old new : Ports) (r : Result Parting PlayFault) → PlaysText P text old new r → PlaysText Q text old new r
   PlaysText-weaker text old new r (refused_play fault is untouched told) = refused_play fault is untouched told
@@ -69,8 +88,13 @@ module _ (P Q : Desc → Type 0) (weaker : (text : List ℕ) (d : Desc) → IsSo
   Performs-weaker (Check file) files after old new how end came = came
   Performs-weaker (Accept file certificate) files after old new how end came = came
   Performs-weaker (Run file script) files after old new how end came =
-      (came.0, RunsFiles-weaker files after file.now script.now old.log new.log end came.1)
+      (came.0, came.1, RunsFiles-weaker files after file.now script.now old.log new.log end came.2)
   Performs-weaker (Play file) files after old new how end came = PlaysFile-weaker files after file.now old new how end came
+  Performs-weaker (Picture file script) files after old new how end came =
+      (came.0, came.1, PicturesFiles-weaker files after file.now script.now old.log new.log end came.2)
+  Performs-weaker (Explain file manner) files after old new how end came = came
+  Performs-weaker (ExplainBoth file other manner) files after old new how end came = came
+  Performs-weaker Version files after old new how end came = came
 
   -- how the program ends
   pub EndsWith-weaker : (asked : Result Task NoTask) (old new : World) (status : ℕ) → EndsWith P asked old new status → EndsWith Q asked old new status

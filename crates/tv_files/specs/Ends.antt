@@ -23,9 +23,9 @@ end_of (Ok _) = None
 end_of (Err failure) = Some (failure.fault, failure.path.now)
 
 -- how the task was done. One that failed counts as whole
-abbrev pub done_in : Result Done Failure → Done
+abbrev pub done_in : {F : Type 0} → Result Done F → Done
 done_in (Ok done) = done
-done_in (Err failure) = Whole
+done_in (Err fault) = Whole
 
 -- how a description was played
 abbrev pub done_by : Parting → Done

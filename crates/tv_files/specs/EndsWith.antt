@@ -9,7 +9,7 @@ use Rattle.tv_files.specs.declared.no_task.NoTask.{NoTask}
 use Rattle.tv_files.specs.declared.task.Task.{Task}
 use Rattle.tv_files.specs.Ends.{End}
 use Rattle.tv_files.specs.Files.{Known}
-use Rattle.tv_files.specs.Tasks.{PerformsTask}
+use Rattle.tv_files.specs.Performing.{PerformsTask}
 use Rattle.tv_files.specs.Telling.{Tells, TellsNoTask}
 
 -- what is known of the program's files and streams at a moment
@@ -25,8 +25,9 @@ pub record World : Type 0 where
 abbrev pub ports_of : World → Ports
 ports_of world = record { input = world.heard; log = world.out; screen = world.err }
 
--- The task is performed on the files. Standard output takes what it writes, and standard error the screen of what is played;
--- then its end is told, and both streams are flushed. Where there is no task, only that is told.
+-- The task is performed on the files. Standard output takes what it writes, and standard error the screen of
+-- what is played; then its end is told, and both streams are flushed. Where there is no task, only that is
+-- told.
 abbrev pub EndsWith : (Mismade : Desc → Type 0) → Result Task NoTask → (old new : World) → (status : ℕ)
     → Type 0
 EndsWith Mismade (Ok task) old new status =

@@ -2,10 +2,16 @@
 pub mod EndsWith
 -- How a task ends
 pub mod Ends
+-- What explaining the faults of a file comes to
+pub mod Explaining
 -- What is known of files, and what opening and reading one comes to
 pub mod Files
 -- Why the bytes of a file aren't there, by the kind of the system's error
 pub mod Kinds
+-- What every task comes to
+pub mod Performing
+-- What drawing the screen that a script leaves comes to
+pub mod Picturing
 -- What a flush leaves
 pub mod Streams
 -- What a task on files comes to

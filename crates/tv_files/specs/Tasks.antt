@@ -1,16 +1,16 @@
 -- What a task on files comes to.
-use Rattle.std.specs.Prelude.{◌≡◌, ℕ, List, [], ◌∷◌, Some, IsNone, Result, codes}
+use Rattle.std.specs.Prelude.{◌≡◌, ℕ, List, [], ◌∷◌, ◌++◌, Some, None, IsNone, Result, codes}
 use Rattle.tv_lang.specs.declared.description.LangFault.{LangFault}
 use Rattle.tv_lang.specs.Faults.{RefusesToParse, Spells}
 use Rattle.tv_model.specs.declared.desc.Desc.{Desc}
 use Rattle.tv_io.specs.Reader.{Given}
-use Rattle.tv_io.specs.Writer.{Seen}
+use Rattle.tv_io.specs.Writer.{Cuts, Seen, Takes}
 use Rattle.tv_play.specs.Playing.{Ports}
 use Rattle.tv_play.specs.declared.parting.Parting.{Parting}
 use Rattle.tv_program.specs.declared.accept_fault.AcceptFault.{AcceptFault}
 use Rattle.tv_program.specs.declared.check_fault.CheckFault.{CheckFault}
 use Rattle.tv_program.specs.declared.fault.RunFault.{RunFault}
-use Rattle.tv_program.specs.declared.fault.RunFault.TheVariants.{NoMemory, Read}
+use Rattle.tv_program.specs.declared.fault.RunFault.TheVariants.{NoMemory, Read, Write}
 use Rattle.tv_program.specs.declared.play_fault.PlayFault.{PlayFault}
 use Rattle.tv_program.specs.CheckRun.{AcceptsTo, ChecksTo}
 use Rattle.tv_program.specs.Conversions.{accept_told, check_told, lang_told}
@@ -18,8 +18,6 @@ use Rattle.tv_program.specs.Playing.{RunsTo}
 use Rattle.tv_program.specs.Terminal.{PlaysText}
 use Rattle.tv_files.specs.declared.done.Done.{Done}
 use Rattle.tv_files.specs.declared.done.Done.TheVariants.{Whole}
-use Rattle.tv_files.specs.declared.task.Task.{Task}
-use Rattle.tv_files.specs.declared.task.Task.TheVariants.{Check, Accept, Run, Play}
 use Rattle.tv_files.specs.Ends.{End, done_of_play, end_as, end_of_run}
 use Rattle.tv_files.specs.Files.{BreaksOff, IsFileOf, IsFileText, Known, Opens}
 
@@ -168,29 +166,21 @@ PlaysAs Mismade file old new how end text =
     × (how ≡ done_of_play r) × (end ≡ end_of_run file terminal r)
 
 -- The description is read before the terminal is touched
-pub data PlaysFile (Mismade : Desc → Type 0) (files after : Known) (file : List ℕ) (old new : Ports) (how : Done)
+pub data PlaysFile (Mismade : Desc → Type 0) (files after : Known) (file : List ℕ) (old new : Ports)
+    (how : Done)
     (end : End) : Type 0 where
   unread : IsUnread files after (file ∷ []) file end → new ≡ old → how ≡ Whole
       → PlaysFile Mismade files after file old new how end
-  played : (text : List ℕ) → GivesText files after (file ∷ []) file text → PlaysAs Mismade file old new how end text
+  played : (text : List ℕ) → GivesText files after (file ∷ []) file text
+      → PlaysAs Mismade file old new how end text
       → PlaysFile Mismade files after file old new how end
 
--- ---- all tasks
+-- ---- the version
 
--- a task to its end, or to a failure, which hears nothing and shows no screen
-pub record IsQuiet (old new : Ports) (how : Done) : Type 0 where
-  pub input : new.input ≡ old.input
-  pub screen : new.screen ≡ old.screen
-  pub whole : how ≡ Whole
+-- the program's name and version were written
+abbrev pub version : List ℕ
+version = codes "tvdlg 1.0.0" ++ 10 ∷ []
 
--- a task, by what is asked for
-abbrev pub PerformsTask : (Mismade : Desc → Type 0) → Task → (files after : Known) → (old new : Ports) → Done → End
-    → Type 0
-PerformsTask Mismade (Check file) files after old new how end =
-    IsQuiet old new how × ChecksFile files after file.now old.log new.log end
-PerformsTask Mismade (Accept file certificate) files after old new how end =
-    IsQuiet old new how × AcceptsFiles files after file.now certificate.now old.log new.log end
-PerformsTask Mismade (Run file script) files after old new how end =
-    IsQuiet old new how × RunsFiles Mismade files after file.now script.now old.log new.log end
-PerformsTask Mismade (Play file) files after old new how end =
-    PlaysFile Mismade files after file.now old new how end
+pub data TellsVersion (old new : Seen) (end : End) : Type 0 where
+  told : Takes old new version → end ≡ None → TellsVersion old new end
+  cut : Cuts old new version → end ≡ Some (Write, []) → TellsVersion old new end

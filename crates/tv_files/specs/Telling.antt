@@ -4,7 +4,7 @@ use Rattle.tv_io.specs.Writer.{Fails, Seen, Takes}
 use Rattle.tv_program.specs.declared.fault.RunFault.TheVariants.{NoMemory, Write}
 use Rattle.tv_program.specs.Report.{IsOffered, err_text, out_text, status_of}
 use Rattle.tv_files.specs.declared.done.Done.{Done}
-use Rattle.tv_files.specs.declared.done.Done.TheVariants.{Whole, BrokenOff}
+use Rattle.tv_files.specs.declared.done.Done.TheVariants.{Whole, Faulty, BrokenOff}
 use Rattle.tv_files.specs.declared.no_task.NoTask.{NoTask}
 use Rattle.tv_files.specs.declared.no_task.NoTask.TheVariants as no_tasks
 use Rattle.tv_files.specs.Ends.{End}
@@ -28,6 +28,7 @@ cannot_write = err_text [] Write
 -- the status, where standard output didn't fail
 abbrev pub status_told : Done → End → ℕ
 status_told Whole None = 0
+status_told Faulty None = 1
 status_told BrokenOff None = 4
 status_told done (Some (fault, path)) = status_of fault
 

@@ -11,7 +11,8 @@ shortest_wait = 50
 abbrev pub reads_at_end : ℕ
 reads_at_end = 4
 
--- how many reads in a row gave no byte and didn't wait, with one that took so many milliseconds. They are counted up to the end
+-- how many reads in a row gave no byte and didn't wait, with one that took so many milliseconds. They are
+-- counted up to the end
 abbrev pub short_after : (waited before : ℕ) → ℕ
 short_after waited before = if nat_lt waited shortest_wait then min (before + 1) reads_at_end else 0
 

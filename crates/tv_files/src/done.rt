@@ -10,6 +10,8 @@ use tv_play::Parting;
 pub enum Done {
     /// To its end.
     Whole,
+    /// To its end, and what was found are faults, which were told.
+    Faulty,
     /// It was broken off: by the user, or because nothing more came from him.
     BrokenOff,
 }

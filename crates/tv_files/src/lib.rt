@@ -2,9 +2,11 @@
 #![tactic(auto)]
 
 mod done;
+mod explaining;
 mod failure;
 mod file_store;
 mod no_task;
+mod picturing;
 mod program;
 mod read_fault;
 mod reading;
@@ -16,15 +18,18 @@ mod telling;
 mod terminal_input;
 
 pub use done::Done;
+pub use explaining::{explain_file, explain_files};
 pub use failure::Failure;
 pub use file_store::FileStore;
 pub use no_task::NoTask;
+pub use picturing::picture_file;
 pub use program::run_program;
 pub use read_fault::ReadFault;
 pub use reading::read_text;
 pub use runtime_files::RuntimeFiles;
 pub use stream::{BufferedStream, DirectStream, Stream};
 pub use task::Task;
-pub use tasks::{accept_file, check_file, perform, play_file, run_file};
+pub use tasks::{accept_file, check_file, perform, play_file, run_file, tell_version};
 pub use telling::{finish, tell_no_memory, tell_no_task};
 pub use terminal_input::TerminalInput;
+pub use tv_report::Manner;

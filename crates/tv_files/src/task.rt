@@ -1,14 +1,44 @@
 //! What the program can be asked for.
 
+use tv_report::Manner;
+
 /// What the command line asks for. Paths are taken as they stand.
 #[derive(Clone, Copy, Debug, PartialEq, Eq)]
 pub enum Task<'a> {
     /// The faults of a description, or its certificate.
-    Check { file: &'a str },
+    Check {
+        file: &'a str,
+    },
     /// Whether a certificate is that of a description.
-    Accept { file: &'a str, certificate: &'a str },
+    Accept {
+        file: &'a str,
+        certificate: &'a str,
+    },
     /// A script, performed on a description.
-    Run { file: &'a str, script: &'a str },
+    Run {
+        file: &'a str,
+        script: &'a str,
+    },
     /// A description, played in a terminal.
-    Play { file: &'a str },
+    Play {
+        file: &'a str,
+    },
+    /// The screen that a script leaves of a description, as SVG.
+    Picture {
+        file: &'a str,
+        script: &'a str,
+    },
+    /// What there is to tell of the faults of a description, or of the line that can't be read.
+    Explain {
+        file: &'a str,
+        manner: Manner,
+    },
+    /// The same, and where there is nothing, what there is to tell of a script or a certificate beside it.
+    ExplainBoth {
+        file: &'a str,
+        beside: &'a str,
+        manner: Manner,
+    },
+    /// Which version of the program this is.
+    Version,
 }

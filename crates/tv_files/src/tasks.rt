@@ -5,16 +5,19 @@ ghost use Rattle.tv_program.specs.Playing.{IsMismade, Makes};
 ghost use Rattle.tv_files.specs.declared.done.Done.TheVariants.{Whole};
 ghost use Rattle.tv_files.specs.Ends.{done_in, end_of};
 ghost use Rattle.tv_files.specs.Files.{IsFileOf, IsRead, Opens};
-ghost use Rattle.tv_files.specs.Tasks.{AcceptsFiles, ChecksFile, EndsFirst, GivesText, HasRead, IsSpelledAs, IsUngiven, IsUnopened, IsUnread, IsUnspelled, PerformsTask, PlaysFile, RunsFiles};
+ghost use Rattle.tv_files.specs.Performing.{PerformsTask};
+ghost use Rattle.tv_files.specs.Tasks.{AcceptsFiles, ChecksFile, EndsFirst, GivesText, HasRead, IsSpelledAs, IsUngiven, IsUnopened, IsUnread, IsUnspelled, PlaysFile, RunsFiles, TellsVersion};
 
+use crate::explaining::{explain_file, explain_files};
 use crate::failure::Failure;
 use crate::file_store::FileStore;
+use crate::picturing::picture_file;
 use crate::reading::read_text;
 use crate::{Done, Task};
 use std::alloc::Global;
 use tv_building::{BuildFault, Views};
 use tv_check::Checked;
-use tv_io::{Reader, Writer};
+use tv_io::{Reader, Writer, write_all};
 use tv_lang::parse;
 use tv_model::Desc;
 use tv_play::Pieces;
@@ -24,9 +27,12 @@ use tv_view::View;
 /// What is told where the terminal can't be read.
 const TERMINAL: &str = "standard input";
 
+/// The program's name and version.
+const VERSION: &str = "tvdlg 1.0.0\n";
+
 /// Does what is asked for, and writes its result.
 ///
-/// `views` makes the views of a description that is run or played; no other task calls it. `pieces` and `screen` are those of a
+/// `views` makes the views of a description that is run, drawn or played; no other task calls it. `pieces` and `screen` are those of a
 /// description that is played.
 pub fn perform<
     'a,
@@ -58,6 +64,29 @@ pub fn perform<
         }
         Task::Run { file, script } => whole(run_file(files, alloc, file, script, views, out)),
         Task::Play { file } => play_file(files, alloc, file, views, pieces, screen, out),
+        Task::Picture { file, script } => {
+            whole(picture_file(files, alloc, file, script, views, out))
+        }
+        Task::Explain { file, manner } => explain_file(files, alloc, file, manner, out),
+        Task::ExplainBoth {
+            file,
+            beside,
+            manner,
+        } => explain_files(files, alloc, file, beside, manner, out),
+        Task::Version => whole(tell_version(out)),
+    }
+}
+
+/// Writes the program's name and version.
+pub fn tell_version<'a, W: Writer>(out: &mut W) -> Result<(), Failure<'a>>
+    ensures { TellsVersion (W.seen out.old) (W.seen out.new) (end_of result) }
+{
+    match write_all(out, VERSION.as_bytes()) {
+        Ok(()) => Ok(()),
+        Err(_) => Err(Failure {
+            fault: RunFault::Write,
+            path: "",
+        }),
     }
 }
 
@@ -194,7 +223,7 @@ fn described<'a, F: FileStore>(
 }
 
 // Opens a file and reads its text.
-fn read_file<'a, F: FileStore>(
+pub(crate) fn read_file<'a, F: FileStore>(
     files: &mut F,
     alloc: Global,
     path: &'a str,
@@ -208,7 +237,7 @@ fn read_file<'a, F: FileStore>(
 }
 
 // Opens a file.
-fn open<'a, F: FileStore>(files: &mut F, path: &'a str) -> Result<F::File, Failure<'a>>
+pub(crate) fn open<'a, F: FileStore>(files: &mut F, path: &'a str) -> Result<F::File, Failure<'a>>
     ensures { MatchResult result
         (λ file. Opens (F.known files.old) (F.known files.new) (path.now ∷ []) × IsFileOf (F.known files.old) path.now (F.File.seen file))
         (λ failure. IsUnopened (F.known files.old) (F.known files.new) (path.now ∷ []) path.now (Some (failure.fault, failure.path.now))) }
@@ -220,7 +249,11 @@ fn open<'a, F: FileStore>(files: &mut F, path: &'a str) -> Result<F::File, Failu
 }
 
 // Reads the text of a file that was opened.
-fn read<'a, R: Reader>(alloc: Global, file: &mut R, path: &'a str) -> Result<Vec<u8>, Failure<'a>>
+pub(crate) fn read<'a, R: Reader>(
+    alloc: Global,
+    file: &mut R,
+    path: &'a str,
+) -> Result<Vec<u8>, Failure<'a>>
     ensures { MatchResult result
         (λ text. IsRead (R.seen file.old) (R.seen file.new) text.items)
         (λ failure. IsUngiven (R.seen file.old) (R.seen file.new) path.now (Some (failure.fault, failure.path.now))) }

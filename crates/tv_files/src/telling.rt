@@ -15,6 +15,9 @@ use tv_program::{RunFault, report};
 /// The status after all was done.
 const DONE: u8 = 0;
 
+/// The status after faults were told.
+const FAULTY: u8 = 1;
+
 /// The status after a faulty command line, and after help.
 const USAGE: u8 = 2;
 
@@ -85,6 +88,7 @@ fn tell<O: Writer, E: Writer>(answer: &Result<Done, Failure<'_>>, out: &mut O, e
 {
     match answer {
         Ok(Done::Whole) => DONE,
+        Ok(Done::Faulty) => FAULTY,
         Ok(Done::BrokenOff) => BROKEN_OFF,
         Err(
             Failure {

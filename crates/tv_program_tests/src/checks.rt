@@ -10,7 +10,7 @@ use tv_test_support::{expect_answer, expect_answers, expect_row, expect_rows};
 
 #[test]
 fn checked_descriptions(rt: HostRuntime) -> Result<(), Fail> {
-    for (text, certificate) in [
+    for &(text, certificate) in &[
         (CANCEL, CANCEL_CERTIFICATE),
         (ORDER, ORDER_CERTIFICATE),
         (WINDOWS, NO_BLOCKS),

@@ -28,7 +28,10 @@ impl Question for Meaning {
 fn task_or_fault(alloc: Global, words: &[String]) -> Result<String, AllocError> {
     match parse(alloc, words) {
         Ok(task) => task_told(alloc, task),
-        Err(error) => format!(in alloc; "{:?}\n", error.kind()),
+        Err(error) => match read_task(alloc, words) {
+            Ok(task) => task_told(alloc, task),
+            Err(_) => format!(in alloc; "{:?}\n", error.kind()),
+        },
     }
 }
 
@@ -40,6 +43,14 @@ fn task_told(alloc: Global, task: Task<'_>) -> Result<String, AllocError> {
         ),
         Task::Run { file, script } => format!(in alloc; "runs {script} on {file}\n"),
         Task::Play { file } => format!(in alloc; "plays {file}\n"),
+        Task::Picture { file, script } => format!(in alloc; "draws {file} after {script}\n"),
+        Task::Explain { file, manner } => format!(in alloc; "explains {file}: {manner:?}\n"),
+        Task::ExplainBoth {
+            file,
+            beside,
+            manner,
+        } => format!(in alloc; "explains {file} and {beside}: {manner:?}\n"),
+        Task::Version => format!(in alloc; "tells its version\n"),
     }
 }
 
@@ -51,6 +62,24 @@ tvdlg run a.tvd a.tvs
 => runs a.tvs on a.tvd
 tvdlg play a.tvd
 => plays a.tvd
+tvdlg picture a.tvd a.tvs
+=> draws a.tvd after a.tvs
+tvdlg explain a.tvd
+=> explains a.tvd: Plain
+tvdlg explain a.tvd --color=always
+=> explains a.tvd: Coloured
+tvdlg explain --color never a.tvd
+=> explains a.tvd: Plain
+tvdlg explain --json a.tvd --color=always
+=> explains a.tvd: Json
+tvdlg explain a.tvd a.tvs
+=> explains a.tvd and a.tvs: Plain
+tvdlg explain --color=always a.tvd a.cert
+=> explains a.tvd and a.cert: Coloured
+tvdlg explain a.tvd --json a.tvs
+=> explains a.tvd and a.tvs: Json
+tvdlg --version
+=> tells its version
 tvdlg check -- -a.tvd
 => checks -a.tvd
 tvdlg run -- -a -b
@@ -72,11 +101,21 @@ tvdlg accept a.tvd
 => MissingRequiredArgument
 tvdlg run a.tvd
 => MissingRequiredArgument
+tvdlg picture a.tvd
+=> MissingRequiredArgument
 tvdlg check a.tvd b.tvd
 => UnknownArgument
 tvdlg check -a.tvd
 => UnknownArgument
 tvdlg check --fast a.tvd
+=> UnknownArgument
+tvdlg check --json a.tvd
+=> UnknownArgument
+tvdlg explain --color=red a.tvd
+=> InvalidValue
+tvdlg explain --json
+=> MissingRequiredArgument
+tvdlg explain a.tvd a.tvs a.cert
 => UnknownArgument
 ";
 

@@ -118,7 +118,7 @@ fn expect_end(alloc: Global, text: &str, more: usize, end: &str) -> Result<(), F
 
 #[test]
 fn lengths_of_marked_texts(rt: HostRuntime) -> Result<(), Fail> {
-    for (text, more, end) in [
+    for &(text, more, end) in &[
         ("~A~", 119, "x,A"),
         ("~A~x", 119, "too long"),
         ("", 121, "too long"),
@@ -146,7 +146,7 @@ fn sets_of_commands(rt: HostRuntime) {
 
 #[test]
 fn bits_of_flags(rt: HostRuntime) {
-    for (bits, wanted) in [
+    for &(bits, wanted) in &[
         (Mask::of_view().bits(), 0x0111),
         (Mask::of_group().bits(), 0x0317),
         (Options::SELECTABLE.bits(), 1),
@@ -180,7 +180,7 @@ fn masked(event: &Event) -> (u16, bool, bool) {
 #[test]
 fn masks_of_events(rt: HostRuntime) {
     let point = Point { x: 0, y: 0 };
-    for (event, wanted) in [
+    for &(event, wanted) in &[
         (Event::Down(point), (0x0001, true, true)),
         (Event::Up(point), (0x0002, false, true)),
         (Event::Move(point), (0x0004, false, true)),

@@ -63,7 +63,7 @@ const TASKS: [(Task<'static>, &str, &str, (u8, u32)); 11] = [
 
 #[test]
 fn views_are_made_once(rt: HostRuntime) {
-    for (task, description, beside, wanted) in TASKS {
+    for &(task, description, beside, wanted) in &TASKS {
         let found = status_and_calls(rt.alloc(), task, (description, beside), &buttons);
         assert_eq!(rt; found, wanted, "{task:?}: {beside}");
     }

@@ -117,8 +117,8 @@ fn status(
     Ok(run_program(files, alloc, asked, &buttons, user, &mut out, &mut err))
 }
 
-// The order form's certificate with two lines exchanged.
-const EXCHANGED: &str = "tvcert 1
+/// The order form's certificate with two lines exchanged.
+pub const EXCHANGED: &str = "tvcert 1
 dialog b
 tab opts
 tab amount
@@ -136,7 +136,7 @@ end
 ";
 
 // What is asked for, the description, the text beside it, and what is told.
-const TASKS: [(Task<'static>, &str, &str, &str); 18] = [
+const TASKS: [(Task<'static>, &str, &str, &str); 19] = [
     (
         CHECK,
         CANCEL,
@@ -230,11 +230,12 @@ const TASKS: [(Task<'static>, &str, &str, &str); 18] = [
         "",
         "tvdlg: FILE: syntax at line 2\nstatus 1\nopened 1\n",
     ),
+    (Task::Version, "", "", "tvdlg 1.0.0\nstatus 0\nopened 0\n"),
 ];
 
 #[test]
 fn tasks_and_their_faults(rt: HostRuntime) -> Result<(), Fail> {
-    for (task, description, beside, wanted) in TASKS {
+    for &(task, description, beside, wanted) in &TASKS {
         let told = ending(rt.alloc(), Ok(task), (description, beside), AMPLE, AMPLE)?;
         assert_eq!(rt; told.as_str(), wanted, "{task:?}");
     }
@@ -252,7 +253,7 @@ fn missing_files(rt: HostRuntime) -> Result<(), Fail> {
         file: FILE,
         script: "NONE",
     };
-    for (task, description, wanted) in [
+    for &(task, description, wanted) in &[
         (
             no_description,
             CANCEL,
@@ -351,7 +352,7 @@ const TORN: [(Task<'static>, &str, &str, &str, &str); 7] = [
 
 #[test]
 fn files_that_break_off(rt: HostRuntime) -> Result<(), Fail> {
-    for (task, description, beside, path, wanted) in TORN {
+    for &(task, description, beside, path, wanted) in &TORN {
         let mut files = Shelf::torn(description, beside, path);
         let told = ending_of(
             rt.alloc(),
@@ -372,7 +373,7 @@ fn long_texts(rt: HostRuntime) -> Result<(), Fail> {
     for (past, is_too_long) in [(0, false), (1, true), (50_000, true)] {
         let long = "#".repeat(alloc, 262_144 + past)?;
         let script = "#".repeat(alloc, 1_048_576 + past)?;
-        for (task, texts, message) in [
+        for &(task, texts, message) in &[
             (
                 CHECK,
                 (long.as_str(), ""),
@@ -407,7 +408,7 @@ fn large_texts(rt: HostRuntime) -> Result<(), Fail> {
     let log = large_buttons_log(alloc, 2000)?;
     let run = format!(in alloc; "{log}status 0\nopened 12\n")?;
     let checked = format!(in alloc; "{certificate}status 0\nopened 1\n")?;
-    for (task, texts, wanted) in [
+    for &(task, texts, wanted) in &[
         (CHECK, (description.as_str(), ""), checked.as_str()),
         (
             ACCEPT,
@@ -490,7 +491,7 @@ const FAILING: [(&str, Room, Room, &str); 11] = [
 
 #[test]
 fn streams_that_fail(rt: HostRuntime) -> Result<(), Fail> {
-    for (description, out_room, err_room, wanted) in FAILING {
+    for &(description, out_room, err_room, wanted) in &FAILING {
         let told = ending(rt.alloc(), Ok(CHECK), (description, ""), out_room, err_room)?;
         assert_eq!(rt; told.as_str(), wanted, "{out_room:?} {err_room:?}");
     }
@@ -524,7 +525,7 @@ fn streams_that_fail_in_a_run(rt: HostRuntime) -> Result<(), Fail> {
 #[test]
 fn nothing_to_do(rt: HostRuntime) -> Result<(), Fail> {
     let alloc = rt.alloc();
-    for (room, told, untold) in [
+    for &(room, told, untold) in &[
         (
             AMPLE,
             "a\nstatus 2\nopened 0\n",

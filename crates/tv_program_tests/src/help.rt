@@ -22,17 +22,21 @@ Checks descriptions of text-mode dialogs, and runs them on scripts or in a termi
 Usage: tvdlg <COMMAND>
 
 Commands:
-  check   Prints the faults of a description, a line for each, or its certificate where it has none
-  accept  Prints `accepted` where the certificate is that of the description, else the first reason to refuse them
-  run     Performs a script of keys and pictures on a description, and prints what happens
-  play    Plays a description in a terminal, and prints what happens
-  help    Print this message or the help of the given subcommand(s)
+  check    Prints the faults of a description, a line for each, or its certificate where it has none
+  accept   Prints `accepted` where the certificate is that of the description, else the first reason to refuse them
+  run      Performs a script of keys and pictures on a description, and prints what happens
+  play     Plays a description in a terminal, and prints what happens
+  picture  Performs a script on a description, and prints the screen that it leaves as SVG
+  explain  Tells of each fault of a description where it is, why it is one and how to mend it
+  help     Print this message or the help of the given subcommand(s)
 
 Options:
-  -h, --help  Print help
+  -h, --help     Print help
+  -V, --version  Print version
 
 Statuses: 0 done; 1 faults, a refusal or a bad text; 2 usage; 3 a file, a stream or memory failed; \
 4 the user left, or his input ended. Messages go to standard error, all else to standard output.
+Help goes to standard error too, with status 2.
 ";
 
 const CHECK: &str = "\
@@ -48,6 +52,7 @@ Options:
 
 Statuses: 0 done; 1 faults, a refusal or a bad text; 2 usage; 3 a file, a stream or memory failed; \
 4 the user left, or his input ended. Messages go to standard error, all else to standard output.
+Help goes to standard error too, with status 2.
 ";
 
 const ACCEPT: &str = "\
@@ -64,6 +69,7 @@ Options:
 
 Statuses: 0 done; 1 faults, a refusal or a bad text; 2 usage; 3 a file, a stream or memory failed; \
 4 the user left, or his input ended. Messages go to standard error, all else to standard output.
+Help goes to standard error too, with status 2.
 ";
 
 const RUN: &str = "\
@@ -99,6 +105,7 @@ Options:
 
 Statuses: 0 done; 1 faults, a refusal or a bad text; 2 usage; 3 a file, a stream or memory failed; \
 4 the user left, or his input ended. Messages go to standard error, all else to standard output.
+Help goes to standard error too, with status 2.
 ";
 
 const PLAY: &str = "\
@@ -124,6 +131,74 @@ Options:
 
 Statuses: 0 done; 1 faults, a refusal or a bad text; 2 usage; 3 a file, a stream or memory failed; \
 4 the user left, or his input ended. Messages go to standard error, all else to standard output.
+Help goes to standard error too, with status 2.
+";
+
+const PICTURE: &str = "\
+Performs a script on a description, and prints the screen that it leaves as SVG
+
+The script has the lines that `run` takes, but nothing of the log is printed, and
+nothing at a `shot` or `colors`. The screen is drawn in sixteen colours, with the
+cursor where an input has it. Redirect it into a file: tvdlg picture FILE SCRIPT
+>PICTURE.svg.
+
+Usage: tvdlg picture <FILE> <SCRIPT>
+
+Arguments:
+  <FILE>
+          A description of windows and dialogs
+
+  <SCRIPT>
+          A script, with an event or a picture on each line
+
+Options:
+  -h, --help
+          Print help (see a summary with '-h')
+
+Statuses: 0 done; 1 faults, a refusal or a bad text; 2 usage; 3 a file, a stream or memory failed; \
+4 the user left, or his input ended. Messages go to standard error, all else to standard output.
+Help goes to standard error too, with status 2.
+";
+
+const EXPLAIN: &str = "\
+Tells of each fault of a description where it is, why it is one and how to mend it
+
+Each is told as FILE:LINE:COLUMN: FAULT: MESSAGE, with the lines of the file that
+have to do with it. Lines are those of the file, comments and empty lines counted,
+where those that `check` prints count declarations alone. Of a description that
+can't be read the first line that is none is told. One without faults prints
+nothing.
+
+With BESIDE, a script or a certificate, a description without faults is passed
+over and that file is told of: its first line that can't be read, or whose point
+is off the screen. It is a certificate where its first word is tvcert. One that
+isn't the description's is refused as `accept` does.
+
+Usage: tvdlg explain [OPTIONS] <FILE> [BESIDE]
+
+Arguments:
+  <FILE>
+          A description of windows and dialogs
+
+  [BESIDE]
+          A script or a certificate, as `run` and `accept` take it
+
+Options:
+      --json
+          Prints an object of JSON for each fault, one a line
+
+      --color <WHEN>
+          Prints in colours
+          
+          [default: never]
+          [possible values: always, never]
+
+  -h, --help
+          Print help (see a summary with '-h')
+
+Statuses: 0 done; 1 faults, a refusal or a bad text; 2 usage; 3 a file, a stream or memory failed; \
+4 the user left, or his input ended. Messages go to standard error, all else to standard output.
+Help goes to standard error too, with status 2.
 ";
 
 #[test]
@@ -137,6 +212,8 @@ fn whole_help(rt: HostRuntime) -> Result<(), Fail> {
             ("tvdlg accept --help", ACCEPT),
             ("tvdlg run --help", RUN),
             ("tvdlg play --help", PLAY),
+            ("tvdlg picture --help", PICTURE),
+            ("tvdlg explain --help", EXPLAIN),
         ],
     )
 }

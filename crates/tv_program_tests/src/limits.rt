@@ -134,7 +134,7 @@ fn full_descriptions(rt: HostRuntime) -> Result<(), Fail> {
     let alloc = rt.alloc();
     let description = full_description(alloc)?;
     let checked = format!(in alloc; "{CANCEL_CERTIFICATE}status 0\nopened 1\n")?;
-    for (task, beside, wanted) in [
+    for &(task, beside, wanted) in &[
         (CHECK, "", checked.as_str()),
         (
             ACCEPT,

@@ -20,6 +20,8 @@ mod each_fault;
 #[cfg(test)]
 mod endings;
 #[cfg(test)]
+mod explaining;
+#[cfg(test)]
 mod help;
 #[cfg(test)]
 mod limits;
@@ -31,6 +33,8 @@ mod messages;
 mod passing_on;
 #[cfg(test)]
 mod performing;
+#[cfg(test)]
+mod pictures;
 #[cfg(test)]
 mod plays;
 #[cfg(test)]

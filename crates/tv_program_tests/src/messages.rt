@@ -8,7 +8,7 @@ use tv_lang::LangFault;
 
 #[test]
 fn faults_of_descriptions(rt: HostRuntime) -> Result<(), Fail> {
-    for (fault, wanted) in [
+    for &(fault, wanted) in &[
         (LangFault::NoMemory, "out of memory"),
         (
             LangFault::Syntax(7),
@@ -25,7 +25,7 @@ fn faults_of_descriptions(rt: HostRuntime) -> Result<(), Fail> {
 
 #[test]
 fn faults_of_files(rt: HostRuntime) -> Result<(), Fail> {
-    for (kind, wanted, text) in [
+    for &(kind, wanted, text) in &[
         (ErrorKind::NotFound, ReadFault::Read, "cannot read"),
         (ErrorKind::PermissionDenied, ReadFault::Read, "cannot read"),
         (ErrorKind::IsADirectory, ReadFault::Read, "cannot read"),

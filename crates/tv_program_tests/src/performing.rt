@@ -41,7 +41,7 @@ fn begun(
 // writer failed, and it is no matter how much the writer takes at once.
 #[test]
 fn begun_items(rt: HostRuntime) -> Result<(), Fail> {
-    for (text, room, wanted, line) in [
+    for &(text, room, wanted, line) in &[
         ("key Tab\ntype \"  \"\n", 0, Some(0), 5),
         ("key Tab\ntype \"  \"\n", 14, Some(0), 5),
         ("key Tab\ntype \"  \"\n", 15, Some(1), 6),

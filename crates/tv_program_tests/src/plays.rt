@@ -64,7 +64,7 @@ const PLAYS: [(&[u8], bool, Room, &str, &str); 6] = [
 #[test]
 fn ends_of_a_play(rt: HostRuntime) -> Result<(), Fail> {
     let alloc = rt.alloc();
-    for (sent, is_torn, out_room, log, rest) in PLAYS {
+    for &(sent, is_torn, out_room, log, rest) in &PLAYS {
         let told = played(alloc, &mut User::new(sent, is_torn), (out_room, AMPLE))?;
         let wanted = format!(in alloc; "{log}{SHOWN}{rest}opened 1\n")?;
         assert_eq!(rt; told, wanted, "{sent:?}");
@@ -75,7 +75,7 @@ fn ends_of_a_play(rt: HostRuntime) -> Result<(), Fail> {
 // The screen fails once the terminal is on its alternate screen; what was logged stands.
 #[test]
 fn screen_that_fails(rt: HostRuntime) -> Result<(), Fail> {
-    for (sent, log) in [
+    for &(sent, log) in &[
         (b"\x1b", "open a\nfocus c\nend a cancel\n"),
         (b"\x1c", "open a\nfocus c\n"),
     ] {

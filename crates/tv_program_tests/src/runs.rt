@@ -171,7 +171,7 @@ fn expect_written(
 
 #[test]
 fn runs(rt: HostRuntime) -> Result<(), Fail> {
-    for (desc, script, written, end) in RUNS {
+    for &(desc, script, written, end) in &RUNS {
         expect_written(rt.alloc(), desc, script, written, end)?;
     }
     Ok(())

@@ -167,7 +167,7 @@ fn expect_typed<Q: Question>(
 // is off the screen.
 #[test]
 fn items_of_scripts(rt: HostRuntime) -> Result<(), Fail> {
-    for (count, line, wanted) in [
+    for &(count, line, wanted) in &[
         (100_000, "type \"\"", "performed\n"),
         (100_001, "", "too long\n"),
         (99_999, "key Tab", "performed\n"),

@@ -79,7 +79,7 @@ fn mismatch_of(refused: &Refused<Button>) -> Result<Option<usize>, Fail> {
 // Windows count before bodies.
 #[test]
 fn refused_views(rt: HostRuntime) -> Result<(), Fail> {
-    for (change, wanted) in [
+    for &(change, wanted) in &[
         (Change::Nothing, None),
         (Change::NoViews, Some(1)),
         (Change::NoBodies, Some(3)),

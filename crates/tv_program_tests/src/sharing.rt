@@ -9,7 +9,7 @@ use tv_test_support::{expect_answer, expect_answers};
 
 #[test]
 fn acceptances(rt: HostRuntime) -> Result<(), Fail> {
-    for it in ACCEPTANCES {
+    for it in &ACCEPTANCES {
         let accepting = Call::AcceptFiles { desc: it.desc };
         expect_answer(&accepting, rt.alloc(), it.certificate, it.wanted)?;
     }

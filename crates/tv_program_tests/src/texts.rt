@@ -16,7 +16,7 @@ fn refused_bytes(rt: HostRuntime) -> Result<(), Fail> {
         (b"tvd 0\n\xff", "unknown version\n"),
         (b"#\xff\ntvd 3\n", "syntax at line 1\n"),
     ];
-    for (text, wanted) in TABLE {
+    for &(text, wanted) in &TABLE {
         let found = Reading.answer(rt.alloc(), text)?;
         assert_eq!(rt; found.as_str(), wanted, "{text:?}");
     }

@@ -4,11 +4,11 @@ use Rattle.tv_controls.specs.InputLine.{input_leaf}
 use Rattle.tv_controls.specs.StaticText.{text_leaf}
 use Rattle.tv_leaf.specs.Core.{plain_leaf}
 use Rattle.tv_view.specs.Meaning.{Leaf}
-use Rattle.tvdlg.specs.declared.control.Control.{Control}
-use Rattle.tvdlg.specs.declared.control.Control.TheVariants as controls
+use Rattle.tvdlg.specs.declared.control.Unboxed.{Unboxed}
+use Rattle.tvdlg.specs.declared.control.Unboxed.TheVariants as controls
 
 -- the leaf that it is
-abbrev pub leaf_of : Control → Leaf
+abbrev pub leaf_of : Unboxed → Leaf
 leaf_of (controls.Text view) = text_leaf view
 leaf_of (controls.Label label) = plain_leaf label.core
 leaf_of (controls.Button button) = plain_leaf button.core

@@ -8,7 +8,7 @@ ghost use Rattle.tv_files.specs.declared.task.Task.{Task as Wanted};
 ghost use Rattle.tvdlg.specs.Asking.{IsAskedBy};
 ghost use Rattle.tvdlg.specs.Controls.{leaf_of};
 
-use crate::control::{Control, control_of};
+use crate::control::{Unboxed, control_of};
 use std::alloc::Global;
 use tv_building::{BuildFault, Building, Views};
 use tv_check::{BuildStep, Checked};
@@ -56,18 +56,18 @@ fn run_with_boxes<F: FileStore, P: Pieces, O: Stream, E: Stream>(
         (record { files = F.known files.new; heard = P.heard pieces.new; out = O.seen out.new; out_kept = O.kept_back out.new; err = E.seen err.new; err_kept = E.kept_back err.new })
         result }
 {
-    let boxed = |alloc: Global, control: Control| -> Result<Box<dyn View>, BuildFault>
+    let boxed = |alloc: Global, control: Unboxed| -> Result<Box<dyn View>, BuildFault>
         ensures same { IfOk result (λ view. (View-box view).meaning view.value ≡ leaf_of control) }
         ensures refused { IfErr result (λ fault. fault ≡ NoMemory) }
     {
         match control {
-            Control::Text(text) => Ok(Box::new(alloc, text)?),
-            Control::Label(label) => Ok(Box::new(alloc, label)?),
-            Control::Button(button) => Ok(Box::new(alloc, button)?),
-            Control::Input(line) => Ok(Box::new(alloc, line)?),
-            Control::CheckBoxes(boxes) => Ok(Box::new(alloc, boxes)?),
-            Control::RadioButtons(radios) => Ok(Box::new(alloc, radios)?),
-            Control::List(list) => Ok(Box::new(alloc, list)?),
+            Unboxed::Text(text) => Ok(Box::new(alloc, text)?),
+            Unboxed::Label(label) => Ok(Box::new(alloc, label)?),
+            Unboxed::Button(button) => Ok(Box::new(alloc, button)?),
+            Unboxed::Input(line) => Ok(Box::new(alloc, line)?),
+            Unboxed::CheckBoxes(boxes) => Ok(Box::new(alloc, boxes)?),
+            Unboxed::RadioButtons(radios) => Ok(Box::new(alloc, radios)?),
+            Unboxed::List(list) => Ok(Box::new(alloc, list)?),
         }
     };
     let views = |alloc: Global, checked: &Checked| -> Result<Views<Box<dyn View>>, BuildFault> {
@@ -89,7 +89,7 @@ fn run_with_boxes<F: FileStore, P: Pieces, O: Stream, E: Stream>(
 }
 
 // Returns the control, or why no views are put together without it.
-fn unless_unbuilt(made: Result<Control, ControlFault>) -> Result<Control, BuildFault>
+fn unless_unbuilt(made: Result<Unboxed, ControlFault>) -> Result<Unboxed, BuildFault>
     ensures same { IfOk result (λ control. made ≡ Ok control) }
     ensures refused { IfErr result (λ fault. fault ≡ WrongPlan → made ≡ Err ControlFault.WrongKind) }
 {

@@ -14,7 +14,7 @@ use tv_model::{Kind, Node};
 
 /// A control of one of the toolkit's seven kinds.
 #[derive(Drop)]
-pub enum Control {
+pub enum Unboxed {
     Text(StaticText),
     Label(Label),
     Button(Button),
@@ -29,19 +29,19 @@ pub enum Control {
 /// # Errors
 ///
 /// `WrongKind` for the node of a window, dialog or pane, and `NoMemory`.
-pub fn control_of(alloc: Global, node: &Node) -> Result<Control, ControlFault>
+pub fn control_of(alloc: Global, node: &Node) -> Result<Unboxed, ControlFault>
     requires { IsLawfulNode node.now }
     ensures declared { IfOk result (λ control. leaf_of control ≡ fresh node.now) }
     ensures wrong { IsErrOf result ControlFault.WrongKind → IsTrue (is_owner node.now.kind) }
 {
     match node.kind {
-        Kind::Text(_) => Ok(Control::Text(StaticText::new(alloc, node)?)),
-        Kind::Label(_) => Ok(Control::Label(Label::new(alloc, node)?)),
-        Kind::Button(_) => Ok(Control::Button(Button::new(alloc, node)?)),
-        Kind::Input(_) => Ok(Control::Input(InputLine::new(alloc, node)?)),
-        Kind::CheckBoxes(_) => Ok(Control::CheckBoxes(CheckBoxes::new(alloc, node)?)),
-        Kind::RadioButtons(_) => Ok(Control::RadioButtons(RadioButtons::new(alloc, node)?)),
-        Kind::List(_) => Ok(Control::List(ListBox::new(alloc, node)?)),
+        Kind::Text(_) => Ok(Unboxed::Text(StaticText::new(alloc, node)?)),
+        Kind::Label(_) => Ok(Unboxed::Label(Label::new(alloc, node)?)),
+        Kind::Button(_) => Ok(Unboxed::Button(Button::new(alloc, node)?)),
+        Kind::Input(_) => Ok(Unboxed::Input(InputLine::new(alloc, node)?)),
+        Kind::CheckBoxes(_) => Ok(Unboxed::CheckBoxes(CheckBoxes::new(alloc, node)?)),
+        Kind::RadioButtons(_) => Ok(Unboxed::RadioButtons(RadioButtons::new(alloc, node)?)),
+        Kind::List(_) => Ok(Unboxed::List(ListBox::new(alloc, node)?)),
         Kind::Window(_) | Kind::Dialog(_) | Kind::Pane(_) => Err(ControlFault::WrongKind),
     }
 }

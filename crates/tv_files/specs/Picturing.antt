@@ -1,0 +1,23 @@
+-- What drawing the screen that a script leaves comes to.
+use Rattle.std.specs.Prelude.{◌≡◌, ℕ, List, Result}
+use Rattle.tv_model.specs.declared.desc.Desc.{Desc}
+use Rattle.tv_io.specs.Reader.{Given}
+use Rattle.tv_io.specs.Writer.{Seen}
+use Rattle.tv_pictures.specs.Drawing.{PicturesTo}
+use Rattle.tv_program.specs.declared.play_fault.PlayFault.{PlayFault}
+use Rattle.tv_files.specs.Ends.{End, end_of_run}
+use Rattle.tv_files.specs.Files.{Known}
+use Rattle.tv_files.specs.Tasks.{OnStream}
+
+-- what `picture` answers, told as an end
+abbrev pub PicturesAs : (Mismade : Desc → Type 0) → (file script : List ℕ) → (old new : Seen) → End
+    → (text : List ℕ) (reader left : Given) → Type 0
+PicturesAs Mismade file script old new end text reader left =
+    (r : Result (Unit {0}) PlayFault) × PicturesTo Mismade text reader left old new r
+    × (end ≡ end_of_run file script r)
+
+-- the description is read once the script is opened, and the script once the description's views are made
+abbrev pub PicturesFiles : (Mismade : Desc → Type 0) → (files after : Known) → (file script : List ℕ)
+    → (old new : Seen) → End → Type 0
+PicturesFiles Mismade files after file script old new end =
+    OnStream (PicturesAs Mismade file script old new end) files after file script old new end

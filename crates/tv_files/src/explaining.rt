@@ -1,0 +1,141 @@
+//! What a user is told of the faults of a description, and of a script or a certificate beside it.
+
+ghost use Rattle.std.specs.Prelude.{◌≡◌};
+ghost use Rattle.tv_files.specs.Ends.{done_in, end_of};
+ghost use Rattle.tv_files.specs.Explaining.{ExplainsBesideTo, ExplainsFile, ExplainsFiles, ExplainsSecond, ExplainsTo, how_found};
+ghost use Rattle.tv_lang.specs.CanonicalDescription.{CanBeSpelled};
+
+use crate::Done;
+use crate::failure::Failure;
+use crate::file_store::FileStore;
+use crate::tasks::read_file;
+use std::alloc::Global;
+use tv_check::CertificateFault;
+use tv_io::{Writer, write_all};
+use tv_lang::LangFault;
+use tv_model::Desc;
+use tv_program::RunFault;
+use tv_report::{Beside, Manner, Told, tell, tell_beside};
+use tv_script::ScriptFault;
+
+// The most bytes of a text beside a description: of a longer file no more is read.
+const LONGEST: usize = 262_144;
+
+/// Writes what there is to tell of the faults of the description in a file, or of the line that can't be read.
+///
+/// A text of another version, and one that is too long, is a failure, as it is for `check_file`.
+pub fn explain_file<'a, F: FileStore, W: Writer>(
+    files: &mut F,
+    alloc: Global,
+    file: &'a str,
+    manner: Manner,
+    out: &mut W,
+) -> Result<Done, Failure<'a>>
+    ensures { ExplainsFile manner (F.known files.old) (F.known files.new) file.now (W.seen out.old) (W.seen out.new) (done_in result) (end_of result) }
+{
+    let text = read_file(files, alloc, file)?;
+    match explain(alloc, manner, file, text.as_slice(), out) {
+        Ok(found) => Ok(how_found(&found)),
+        Err(fault) => Err(Failure::new(file, file, fault)),
+    }
+}
+
+/// Writes what there is to tell of the faults of a description, and where it has none, of those of the script or the certificate in the
+/// file beside it.
+///
+/// The file beside it is looked for only once the description is found sound.
+pub fn explain_files<'a, F: FileStore, W: Writer>(
+    files: &mut F,
+    alloc: Global,
+    file: &'a str,
+    beside: &'a str,
+    manner: Manner,
+    out: &mut W,
+) -> Result<Done, Failure<'a>>
+    ensures { ExplainsFiles manner (F.known files.old) (F.known files.new) file.now beside.now (W.seen out.old) (W.seen out.new) (done_in result) (end_of result) }
+{
+    let text = read_file(files, alloc, file)?;
+    match explain(alloc, manner, file, text.as_slice(), out) {
+        Ok(Some(desc)) => explain_second(files, alloc, desc, beside, manner, out),
+        Ok(None) => Ok(Done::Faulty),
+        Err(fault) => Err(Failure::new(file, file, fault)),
+    }
+}
+
+// How the task was done where this was found: the description, if it is sound.
+fn how_found(found: &Option<Desc>) -> Done
+    ensures { result ≡ how_found found.now }
+{
+    match found {
+        Some(_) => Done::Whole,
+        None => Done::Faulty,
+    }
+}
+
+// Writes what there is to tell of a text, which stands in the file of this name. Returns the description that it spells where there is
+// nothing.
+fn explain<W: Writer>(
+    alloc: Global,
+    manner: Manner,
+    name: &str,
+    text: &[u8],
+    out: &mut W,
+) -> Result<Option<Desc>, RunFault>
+    ensures { ExplainsTo manner name.now text.now (W.seen out.old) (W.seen out.new) result }
+{
+    match tell(alloc, manner, name, text)? {
+        Told::Sound(desc) => Ok(Some(desc)),
+        Told::Faulty(report) => match write_all(out, report.as_bytes()) {
+            Ok(()) => Ok(None),
+            Err(_) => Err(RunFault::Write),
+        },
+        Told::OtherVersion => Err(RunFault::Lang(LangFault::Version)),
+        Told::TooLong => Err(RunFault::Lang(LangFault::TooLong)),
+    }
+}
+
+// Writes what there is to tell of the file beside a sound description.
+fn explain_second<'a, F: FileStore, W: Writer>(
+    files: &mut F,
+    alloc: Global,
+    desc: Desc,
+    beside: &'a str,
+    manner: Manner,
+    out: &mut W,
+) -> Result<Done, Failure<'a>>
+    requires { CanBeSpelled desc }
+    ensures { ExplainsSecond manner desc (F.known files.old) (F.known files.new) beside.now (W.seen out.old) (W.seen out.new) (done_in result) (end_of result) }
+{
+    let text = read_file(files, alloc, beside)?;
+    match explain_beside(alloc, manner, beside, desc, text.as_slice(), out) {
+        Ok(done) => Ok(done),
+        Err(fault) => Err(Failure::new(beside, beside, fault)),
+    }
+}
+
+// Writes what there is to tell of the text beside a description, which stands in the file of this name.
+fn explain_beside<W: Writer>(
+    alloc: Global,
+    manner: Manner,
+    name: &str,
+    desc: Desc,
+    text: &[u8],
+    out: &mut W,
+) -> Result<Done, RunFault>
+    requires { CanBeSpelled desc }
+    ensures { ExplainsBesideTo manner name.now desc text.now (W.seen out.old) (W.seen out.new) result }
+{
+    if text.len() > LONGEST {
+        return Err(RunFault::Script(ScriptFault::TooLong));
+    }
+    match tell_beside(alloc, manner, name, desc, text)? {
+        Beside::Fine => Ok(Done::Whole),
+        Beside::Faulty(report) => match write_all(out, report.as_bytes()) {
+            Ok(()) => Ok(Done::Faulty),
+            Err(_) => Err(RunFault::Write),
+        },
+        Beside::LongScript => Err(RunFault::Script(ScriptFault::TooLong)),
+        Beside::LongCertificate => Err(RunFault::Cert(CertificateFault::TooLong)),
+        Beside::Refused(refusal) => Err(RunFault::Refused(refusal)),
+    }
+}

@@ -1,0 +1,45 @@
+//! The picture of a screen.
+
+ghost use Rattle.tv_files.specs.Ends.{end_of};
+ghost use Rattle.tv_files.specs.Picturing.{PicturesFiles};
+ghost use Rattle.tv_program.specs.Playing.{IsMismade, Makes};
+
+use crate::failure::Failure;
+use crate::file_store::FileStore;
+use crate::tasks::{open, read};
+use std::alloc::Global;
+use tv_building::{BuildFault, Views};
+use tv_check::Checked;
+use tv_io::Writer;
+use tv_pictures::picture;
+use tv_view::View;
+
+/// Runs a file's script on a file's description, through the views that `views` makes of it, and writes the screen that it
+/// leaves as SVG.
+///
+/// Both files are opened before anything is read.
+pub fn picture_file<
+    'a,
+    V: View,
+    F: FileStore,
+    M: Fn(Global, &Checked) -> Result<Views<V>, BuildFault>,
+    W: Writer,
+>(
+    files: &mut F,
+    alloc: Global,
+    file: &'a str,
+    script: &'a str,
+    views: &M,
+    out: &mut W,
+) -> Result<(), Failure<'a>>
+    requires { M.IsAlwaysCallable views.now }
+    ensures { PicturesFiles (IsMismade (Makes M.Fn views.now) V.meaning) (F.known files.old) (F.known files.new) file.now script.now (W.seen out.old) (W.seen out.new) (end_of result) }
+{
+    let mut description = open(files, file)?;
+    let mut events = open(files, script)?;
+    let text = read(alloc, &mut description, file)?;
+    match picture(alloc, text.as_slice(), &mut events, views, out) {
+        Ok(()) => Ok(()),
+        Err(fault) => Err(Failure::of_run(file, script, fault)),
+    }
+}
