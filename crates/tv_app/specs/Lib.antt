@@ -1,0 +1,6 @@
+-- the run of the flat machine that an application stands for
+pub mod Running
+-- how a text is opened, and why it isn't
+pub mod Opening
+-- what dialogs and fields have, by name
+pub mod Names

@@ -1,0 +1,79 @@
+//! The records of an application's dialogs, by name.
+
+ghost use Rattle.std.specs.Prelude.{◌≡◌, option_copied};
+ghost use Rattle.tv_app.specs.Names.{IsSafeNamed, found_item, found_marks, found_text, record_named, value_named, with_named};
+ghost use Rattle.tv_app.specs.Running.{Runs};
+ghost use Rattle.tv_machine.specs.Run.{Session};
+
+use crate::app::App;
+use crate::names::{dialog_place, field_id};
+use tv_model::{Record, Value};
+use tv_valid::Text;
+
+impl App {
+    /// Returns the record with which the first dialog of the name opens next: that of its last end other than `cancel`, and
+    /// before any such end the declared values of its fields. There is none where no dialog has the name.
+    pub fn record(&self, dialog: &str) -> Option<&Record>
+        ensures { (s : Session) → Runs self.now s → option_copied result ≡ record_named s dialog.now }
+    {
+        match dialog_place(self.desc(), dialog) {
+            Some(place) => self.session.record(place),
+            None => None,
+        }
+    }
+
+    /// Returns the value that the field has in the record of the dialog, both by name. There is none where no dialog has
+    /// the one name, no view of it the other, or the view is no field.
+    pub fn value(&self, dialog: &str, field: &str) -> Option<&Value>
+        ensures { (s : Session) → Runs self.now s → option_copied result ≡ value_named s dialog.now field.now }
+    {
+        match (self.record(dialog), field_id(self.desc(), dialog, field)) {
+            (Some(record), Some(id)) => record.value(id),
+            _ => None,
+        }
+    }
+
+    /// Returns the text of an input in the record of its dialog. There is none where `value` has none, or no text.
+    pub fn text(&self, dialog: &str, field: &str) -> Option<&Text>
+        ensures { (s : Session) → Runs self.now s → option_copied result ≡ found_text (value_named s dialog.now field.now) }
+    {
+        match self.value(dialog, field) {
+            Some(Value::Text(text)) => Some(text),
+            _ => None,
+        }
+    }
+
+    /// Returns the marked items of check boxes in the record of their dialog: bit 0 is the first. There are none where
+    /// `value` has none, or no marks.
+    pub fn marks(&self, dialog: &str, field: &str) -> Option<u16>
+        ensures { (s : Session) → Runs self.now s → result ≡ found_marks (value_named s dialog.now field.now) }
+    {
+        match self.value(dialog, field) {
+            Some(Value::Marks(marks)) => Some(*marks),
+            _ => None,
+        }
+    }
+
+    /// Returns the marked item of radio buttons, or the chosen one of a list, counted from 1, in the record of their dialog.
+    /// There is none where `value` has none, or no item.
+    pub fn item(&self, dialog: &str, field: &str) -> Option<u8>
+        ensures { (s : Session) → Runs self.now s → result ≡ found_item (value_named s dialog.now field.now) }
+    {
+        match self.value(dialog, field) {
+            Some(Value::Item(item)) => Some(*item),
+            _ => None,
+        }
+    }
+
+    /// Gives the first dialog of the name the record with which it opens next, as if its last end had saved that. The record
+    /// has exactly the dialog's fields, in order, each text lies in its domain, and each item is there. A dialog that is open
+    /// keeps what it shows.
+    pub fn set(&mut self, dialog: &str, values: Record)
+        requires { (s : Session) → Runs self.old s → IsSafeNamed s dialog.now values }
+        ensures { (s : Session) → Runs self.old s → Runs self.new (with_named s dialog.now values) }
+    {
+        if let Some(place) = dialog_place(self.desc(), dialog) {
+            self.session.keep_record(place, values);
+        }
+    }
+}
