@@ -4,7 +4,7 @@ use crate::forms::{LEAVES, members};
 use crate::probes::{Call, Journal};
 use crate::samples::sized;
 use std::alloc::Global;
-use std::process::Abort;
+use std::rc::Rc;
 use std::test::Fail;
 use tv_group::{Group, Member, TooDeep};
 
@@ -19,23 +19,48 @@ fn nested(alloc: Global, level: u8) -> Result<Group, Fail> {
     Ok(Group::new(sized(16, 6), members).ok().ok_or("deep")?)
 }
 
+// The members of the form, and after them a pane of a level.
+fn with_pane(alloc: Global, journal: &Rc<Journal>, level: u8) -> Result<Vec<Member>, Fail> {
+    let mut members = members(alloc, journal)?;
+    members.push(Member::Pane(nested(alloc, level)?))?;
+    Ok(members)
+}
+
+fn expect_level(group: &Group, level: u8) -> Result<(), Fail> {
+    if group.level() == level {
+        return Ok(());
+    }
+    Err("another level".into())
+}
+
+// All members come back where the pane is of level 8, and none of them is dropped.
+fn expect_back(
+    back: &[Member],
+    count: usize,
+    level: u8,
+    journal: &Rc<Journal>,
+) -> Result<(), Fail> {
+    if level == 8 && back.len() == count {
+        return journal.expect(&[]);
+    }
+    Err("other members come back".into())
+}
+
+fn expect_grouped(members: Vec<Member>, level: u8, journal: &Rc<Journal>) -> Result<(), Fail> {
+    let count = members.len();
+    match Group::new(sized(40, 12), members) {
+        Ok(group) => expect_level(&group, level.saturating_add(1)),
+        Err((TooDeep, back)) => expect_back(back.as_slice(), count, level, journal),
+    }
+}
+
 // A group may have a pane of level 7, and none of level 8. It then gives its members back, in order.
 #[test]
 fn the_highest_pane_decides(rt: HostRuntime) -> Result<(), Fail> {
-    let alloc = rt.alloc();
-    let journal = Journal::new(alloc)?;
+    let journal = Journal::new(rt.alloc())?;
     for level in 1..=8u8 {
-        let mut members = members(alloc, &journal)?;
-        members.push(Member::Pane(nested(alloc, level)?))?;
-        let count = members.len();
-        match Group::new(sized(40, 12), members) {
-            Ok(group) => assert_eq!(rt; group.level(), level + 1),
-            Err((TooDeep, back)) => {
-                assert_eq!(rt; level, 8);
-                assert_eq!(rt; back.len(), count);
-                journal.expect(&[])?;
-            }
-        }
+        let members = with_pane(rt.alloc(), &journal, level)?;
+        expect_grouped(members, level, &journal)?;
         journal.expect(&LEAVES.map(|id| (id, Call::Dropped)))?;
     }
     Ok(())

@@ -8,7 +8,7 @@ ghost use Rattle.tv_model.specs.Description.Rectangles.{corner_of};
 
 use crate::forms::env;
 use crate::nodes::button_node;
-use crate::probes::{Journal, Probe};
+use crate::probes::{Journal, Note, Probe};
 use crate::samples::sized;
 use std::alloc::Global;
 use std::rc::Rc;
@@ -114,9 +114,17 @@ fn views(alloc: Global) -> Result<Vec<Node>, Fail> {
     Ok(views)
 }
 
+// By a function of its own, as in `forms`: the node is alive over no call that may fail.
+fn leaf_of(alloc: Global, node: &Node, journal: &Rc<Journal>) -> Result<MemberOf<Probed>, Fail>
+    requires { IsLawfulNode node.now }
+{
+    let probe = Probe::new(Button::new(alloc, node)?, journal)?;
+    Ok(MemberOf::Leaf(probe))
+}
+
 fn leaf(alloc: Global, id: u32, journal: &Rc<Journal>) -> Result<MemberOf<Probed>, Fail> {
-    let button = Button::new(alloc, &button(alloc, id)?)?;
-    Ok(MemberOf::Leaf(Probe::new(button, journal)?))
+    let node = button(alloc, id)?;
+    leaf_of(alloc, &node, journal)
 }
 
 // A pane of two buttons.
@@ -188,23 +196,44 @@ impl Scene {
         })
     }
 
-    /// What the buttons were told.
-    pub fn journal(&self) -> &Journal {
-        &self.journal
-    }
-
-    /// The dialog as it stands.
-    pub fn dialog(&self) -> &DialogOf<Probed> {
-        &self.dialog
-    }
-
-    /// Hands an event to the dialog, which is to be open. The lines that it logs.
-    pub fn step(&mut self, event: &Event) -> Result<String, Fail> {
+    // Hands an event to the dialog, which is to be open. The lines that it logs.
+    fn step(&mut self, event: &Event) -> Result<String, Fail> {
         if !self.dialog.is_open() {
             Err("it has ended")?;
         }
         let env = env(&self.chain, &self.commands, &self.views);
         self.dialog.step(event, &env, &mut Damage::new());
         Ok(format!(in self.alloc; "{:?}", self.dialog.log())?)
+    }
+
+    /// Fails unless the dialog logs these lines at an event.
+    pub fn expect_log(&mut self, event: &Event, log: &str) -> Result<(), Fail> {
+        let logged = self.step(event)?;
+        if logged.as_str() == log {
+            return Ok(());
+        }
+        Err(Fail::new(logged))
+    }
+
+    /// The same, unless the buttons are told just this of it.
+    pub fn expect(&mut self, event: &Event, log: &str, notes: &[Note]) -> Result<(), Fail> {
+        self.expect_log(event, log)?;
+        self.journal.expect(notes)
+    }
+
+    /// Fails unless a button holds the mouse, or none does.
+    pub fn expect_held(&self, is_held: bool) -> Result<(), Fail> {
+        if self.dialog.held() == is_held {
+            return Ok(());
+        }
+        Err("the mouse is held otherwise".into())
+    }
+
+    /// Fails unless the dialog was ended by a command.
+    pub fn expect_ended(&self, command: Command) -> Result<(), Fail> {
+        if !self.dialog.is_open() && self.dialog.ended() == Some(command) {
+            return Ok(());
+        }
+        Err("it hasn't ended so".into())
     }
 }

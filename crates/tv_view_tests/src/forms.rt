@@ -10,13 +10,13 @@ use crate::samples::{sized, text_node};
 use std::alloc::Global;
 use std::rc::Rc;
 use std::test::Fail;
-use tv_cells::{Point, Rect};
+use tv_cells::{Damage, Point, Rect};
 use tv_controls::{Button, InputLine, Label, StaticText};
-use tv_event::CommandSet;
+use tv_event::{CommandSet, Event, Phase};
 use tv_group::{Group, Member};
 use tv_model::{CommandSpec, Id, Node};
 use tv_palette::{Chain, Owner};
-use tv_view::Env;
+use tv_view::{Env, Reaction, Rules};
 
 /// The leaves of the form, in order. Those of the label and the buttons mark letters, and the text is no control.
 pub const LEAVES: [u32; 6] = [LABEL, FIRST, INNER, TEXT, INPUT, LAST];
@@ -44,6 +44,38 @@ pub fn env<'a>(chain: &'a Chain, commands: &'a CommandSet, views: &'a [Node]) ->
         default_now: None,
         is_active: true,
     }
+}
+
+/// Hands an event to a group in which none is the default, and into whose dialog no view is lent.
+pub fn handle(group: &mut Group, event: &Event, phase: Phase, commands: &CommandSet) -> Reaction {
+    group.handle(
+        event,
+        phase,
+        &env(&Chain::of_dialog(), commands, &[]),
+        &mut Damage::new(),
+    )
+}
+
+/// Applies rules to a group: which views are shown, and which commands enabled.
+pub fn apply(group: &mut Group, shown: &[Id], commands: &CommandSet) {
+    group.apply(&Rules { shown, commands }, &mut Damage::new());
+}
+
+/// Fails unless the leaves of the numbers are handed the event in the phase, one after the other, and pass it on.
+pub fn expect_passed(
+    group: &mut Group,
+    journal: &Rc<Journal>,
+    event: Event,
+    phase: Phase,
+    ids: &[u32],
+    commands: &CommandSet,
+) -> Result<(), Fail> {
+    let reaction = handle(group, &event, phase, commands);
+    journal.expect_handed(event, phase, ids)?;
+    if reaction == Reaction::Pass {
+        return Ok(());
+    }
+    Err(Fail::new(format_args!("{reaction:?}")))
 }
 
 // The members of a node, by functions of their own: no node is then alive over a call that may fail, where each such call

@@ -7,6 +7,7 @@ ghost use Rattle.tv_model.specs.Description.LawfulNodes.{IsLawfulCommand, IsLawf
 ghost use Rattle.tv_model.specs.Description.Numbers.{IsBetween};
 ghost use Rattle.tv_valid.specs.declared.input.DomainSpec.TheVariants as asked;
 
+use crate::samples::chars;
 use std::alloc::Global;
 use std::test::Fail;
 use tv_cells::{Point, is_narrow};
@@ -17,11 +18,11 @@ use tv_valid::{Chars, DomainSpec, InputSpec};
 pub fn narrow_chars(alloc: Global, text: &str) -> Result<Chars, Fail>
     ensures { IfOk result (λ chars. (length chars ≤ 120) × All IsNarrow chars) }
 {
-    let chars: Vec<char> = text.chars().collect(alloc)?;
-    if chars.len() > 120 || chars.iter().any(|ch| !is_narrow(*ch)) {
-        Err("a text that is long or wide")?;
+    let chars = chars(alloc, text)?;
+    if chars.as_slice().iter().any(|ch| !is_narrow(*ch)) {
+        Err("a wide text")?;
     }
-    Ok(Chars::from_vec(chars))
+    Ok(chars)
 }
 
 // A text that marks its first letter.

@@ -1,16 +1,13 @@
 //! Which leaves a group hands a key to, in each phase.
 
-use crate::forms::{FIRST, INNER, INPUT, LABEL, LAST, env, form};
+use crate::forms::{FIRST, INNER, INPUT, LABEL, LAST, expect_passed, form, handle};
 use crate::probes::{Call, Journal};
-use std::alloc::Global;
-use std::process::Abort;
 use std::rc::Rc;
 use std::test::Fail;
 use tv_cells::Damage;
 use tv_event::{Command, CommandSet, Event, Key, Phase};
 use tv_group::Group;
 use tv_model::Id;
-use tv_palette::Chain;
 use tv_view::Reaction;
 
 // What no leaf takes: a key that none knows, and a command.
@@ -19,29 +16,17 @@ const PASSED: [Event; 2] = [Event::Key(Key::Function(5)), Event::Command(Command
 // Those that mark letters.
 const MARKING: [u32; 4] = [LABEL, FIRST, INNER, LAST];
 
-fn handle(group: &mut Group, event: &Event, phase: Phase) -> Reaction {
-    group.handle(
-        event,
-        phase,
-        &env(&Chain::of_dialog(), &CommandSet::all(), &[]),
-        &mut Damage::new(),
-    )
-}
-
-// Fails unless the leaves of the numbers are handed the event in the phase, one after the other, and pass it on.
-fn expect_passed(
+// Fails unless those that mark letters are handed an event before the current leaf and after it.
+fn expect_phases(
     group: &mut Group,
     journal: &Rc<Journal>,
     event: Event,
-    phase: Phase,
-    ids: &[u32],
+    current: &[u32],
 ) -> Result<(), Fail> {
-    let reaction = handle(group, &event, phase);
-    journal.expect_handed(event, phase, ids)?;
-    if reaction == Reaction::Pass {
-        return Ok(());
-    }
-    Err(Fail::new(format_args!("{reaction:?}")))
+    let commands = CommandSet::all();
+    expect_passed(group, journal, event, Phase::Pre, &MARKING, &commands)?;
+    expect_passed(group, journal, event, Phase::Focused, current, &commands)?;
+    expect_passed(group, journal, event, Phase::Post, &MARKING, &commands)
 }
 
 fn focus(group: &mut Group, journal: &Rc<Journal>, id: u32) -> Result<(), Fail> {
@@ -51,44 +36,63 @@ fn focus(group: &mut Group, journal: &Rc<Journal>, id: u32) -> Result<(), Fail> 
 
 // The leaves that ask for it are handed the event before the current one and after it, those of the pane too, and in the
 // same phase.
-#[test]
-fn each_phase_has_its_leaves(rt: HostRuntime) -> Result<(), Fail> {
-    let journal = Journal::new(rt.alloc())?;
-    let mut form = form(rt.alloc(), &journal)?;
-    for event in PASSED {
-        for current in [FIRST, INNER, INPUT] {
-            focus(&mut form, &journal, current)?;
-            expect_passed(&mut form, &journal, event, Phase::Pre, &MARKING)?;
-            expect_passed(&mut form, &journal, event, Phase::Focused, &[current])?;
-            expect_passed(&mut form, &journal, event, Phase::Post, &MARKING)?;
+fn expect_each_current(group: &mut Group, journal: &Rc<Journal>) -> Result<(), Fail> {
+    for event in &PASSED {
+        for current in &[FIRST, INNER, INPUT] {
+            focus(group, journal, *current)?;
+            expect_phases(group, journal, *event, &[*current])?;
         }
     }
     Ok(())
 }
 
-// Without a current leaf, the phase of the focus has none.
 #[test]
-fn no_leaf_is_current_at_first(rt: HostRuntime) -> Result<(), Fail> {
+fn each_phase_has_its_leaves(rt: HostRuntime) -> Result<(), Fail> {
     let journal = Journal::new(rt.alloc())?;
     let mut form = form(rt.alloc(), &journal)?;
-    for event in PASSED {
-        expect_passed(&mut form, &journal, event, Phase::Pre, &MARKING)?;
-        expect_passed(&mut form, &journal, event, Phase::Focused, &[])?;
-        expect_passed(&mut form, &journal, event, Phase::Post, &MARKING)?;
+    expect_each_current(&mut form, &journal)
+}
+
+// Without a current leaf, the phase of the focus has none.
+fn expect_no_current(group: &mut Group, journal: &Rc<Journal>) -> Result<(), Fail> {
+    for event in &PASSED {
+        expect_phases(group, journal, *event, &[])?;
     }
     Ok(())
 }
 
+#[test]
+fn no_leaf_is_current_at_first(rt: HostRuntime) -> Result<(), Fail> {
+    let journal = Journal::new(rt.alloc())?;
+    let mut form = form(rt.alloc(), &journal)?;
+    expect_no_current(&mut form, &journal)
+}
+
+// Fails unless the button in the pane takes a key, which only those before it that mark letters are handed.
+fn expect_taken(
+    group: &mut Group,
+    journal: &Rc<Journal>,
+    key: Key,
+    phase: Phase,
+) -> Result<(), Fail> {
+    let event = Event::Key(key);
+    let reaction = handle(group, &event, phase, &CommandSet::all());
+    journal.expect_handed(event, phase, &[LABEL, FIRST, INNER])?;
+    if reaction == Reaction::Post(Id(INNER), Command(120)) {
+        return Ok(());
+    }
+    Err(Fail::new(format_args!("{reaction:?}")))
+}
+
 // Two buttons mark the letter, and the one in the pane comes first.
+fn expect_both_taken(group: &mut Group, journal: &Rc<Journal>) -> Result<(), Fail> {
+    expect_taken(group, journal, Key::Alt('S'), Phase::Pre)?;
+    expect_taken(group, journal, Key::Char('s'), Phase::Post)
+}
+
 #[test]
 fn who_takes_a_key_is_the_last(rt: HostRuntime) -> Result<(), Fail> {
     let journal = Journal::new(rt.alloc())?;
     let mut form = form(rt.alloc(), &journal)?;
-    for (key, phase) in [(Key::Alt('S'), Phase::Pre), (Key::Char('s'), Phase::Post)] {
-        let event = Event::Key(key);
-        let reaction = handle(&mut form, &event, phase);
-        assert_eq!(rt; reaction, Reaction::Post(Id(INNER), Command(120)));
-        journal.expect_handed(event, phase, &[LABEL, FIRST, INNER])?;
-    }
-    Ok(())
+    expect_both_taken(&mut form, &journal)
 }

@@ -182,35 +182,59 @@ fn expect_as(screen: &Screen, alloc: Global, windows: &[Window], place: usize) -
     Err("it is drawn otherwise".into())
 }
 
-// The second window is dropped with its leaf, once, when it is given up.
-fn drop_second(stack: &mut Stack<Window>, journal: &Journal) -> Result<(), Fail> {
-    let taken = stack.remove(1);
-    journal.expect(&[])?;
-    drop_window(taken)?;
-    journal.expect(&[(SECOND, Call::Dropped)])
-}
-
-fn drop_window(taken: Option<Window>) -> Result<(), Fail> {
+// Fails unless it is the second window, whose leaf was told nothing yet. It is dropped then.
+fn drop_taken(taken: Option<Window>, journal: &Journal) -> Result<(), Fail> {
     match taken {
-        Some(window) if window.number() == 2 => Ok(()),
+        Some(window) if window.number() == 2 => journal.expect(&[]),
         _ => Err("not the second".into()),
     }
 }
 
-// The others stay as they were.
-fn take_second(alloc: Global, journal: &Rc<Journal>) -> Result<(), Fail> {
-    let mut stack = Stack::new(windows(alloc, journal)?);
+// The second window is dropped with its leaf, once, when it is given up.
+fn drop_second(stack: &mut Stack<Window>, journal: &Journal) -> Result<(), Fail> {
+    let taken = stack.remove(1);
+    drop_taken(taken, journal)?;
+    journal.expect(&[(SECOND, Call::Dropped)])
+}
+
+// The others stay as they were: each is drawn as before.
+fn expect_others(
+    alloc: Global,
+    journal: &Journal,
+    windows: &[Window],
+    front: &Screen,
+    rear: &Screen,
+) -> Result<(), Fail> {
+    expect_rows(alloc, windows, &TWO)?;
+    journal.expect(&[(THIRD, Call::Drawn), (FIRST, Call::Drawn)])?;
+    expect_as(front, alloc, windows, 0)?;
+    expect_as(rear, alloc, windows, 1)?;
+    journal.taken()?;
+    Ok(())
+}
+
+fn take_from(
+    alloc: Global,
+    journal: &Journal,
+    stack: &mut Stack<Window>,
+    front: &Screen,
+    rear: &Screen,
+) -> Result<(), Fail> {
+    journal.taken()?;
+    drop_second(stack, journal)?;
+    expect_others(alloc, journal, &stack.items, front, rear)
+}
+
+fn take_drawn(alloc: Global, journal: &Journal, stack: &mut Stack<Window>) -> Result<(), Fail> {
     expect_rows(alloc, &stack.items, &THREE)?;
     let front = drawn_alone(alloc, &stack.items, 0)?;
     let rear = drawn_alone(alloc, &stack.items, 2)?;
-    journal.taken()?;
-    drop_second(&mut stack, journal)?;
-    expect_rows(alloc, &stack.items, &TWO)?;
-    journal.expect(&[(THIRD, Call::Drawn), (FIRST, Call::Drawn)])?;
-    expect_as(&front, alloc, &stack.items, 0)?;
-    expect_as(&rear, alloc, &stack.items, 1)?;
-    journal.taken()?;
-    Ok(())
+    take_from(alloc, journal, stack, &front, &rear)
+}
+
+fn take_second(alloc: Global, journal: &Rc<Journal>) -> Result<(), Fail> {
+    let mut stack = Stack::new(windows(alloc, journal)?);
+    take_drawn(alloc, journal, &mut stack)
 }
 
 #[test]

@@ -1,6 +1,6 @@
 //! Two windows over groups of boxed texts, one over the other.
 
-ghost use Rattle.std.specs.Prelude.{◌≤ℤ◌, pos, IfOk, IfSome};
+ghost use Rattle.std.specs.Prelude.{◌≤◌, ◌≤ℤ◌, pos, length, IfSome};
 ghost use Rattle.tv_faces.specs.Corners.{IsCorner};
 ghost use Rattle.tv_model.specs.Description.Rectangles.{corner_of, place_of_node, IsSmallRect};
 ghost use Rattle.tv_window.specs.Head.{IsLimitedWindowHead, declared_window_head};
@@ -56,12 +56,12 @@ fn member(alloc: Global, node: &Node) -> Result<Member, Fail>
     Ok(Member::Leaf(Box::new(alloc, view)?))
 }
 
-fn first_node(alloc: Global) -> Result<Node, Fail>
-    ensures head { IfOk result (λ node. IfSome (declared_window_head node) IsLimitedWindowHead) }
-    ensures corner { IfOk result (λ node. IsCorner (corner_of node)) }
+fn first_node(alloc: Global, title: Chars) -> Node
+    requires { length title ≤ 120 }
+    ensures head { IfSome (declared_window_head result) IsLimitedWindowHead }
+    ensures corner { IsCorner (corner_of result) }
 {
-    let title = chars(alloc, "One")?;
-    Ok(Node {
+    Node {
         id: Id(1),
         depth: 0,
         x: 1,
@@ -73,15 +73,15 @@ fn first_node(alloc: Global) -> Result<Node, Fail>
             number: 1,
             title,
         }),
-    })
+    }
 }
 
-fn second_node(alloc: Global) -> Result<Node, Fail>
-    ensures head { IfOk result (λ node. IfSome (declared_window_head node) IsLimitedWindowHead) }
-    ensures corner { IfOk result (λ node. IsCorner (corner_of node)) }
+fn second_node(alloc: Global, title: Chars) -> Node
+    requires { length title ≤ 120 }
+    ensures head { IfSome (declared_window_head result) IsLimitedWindowHead }
+    ensures corner { IsCorner (corner_of result) }
 {
-    let title = chars(alloc, "Two")?;
-    Ok(Node {
+    Node {
         id: Id(3),
         depth: 0,
         x: 8,
@@ -93,25 +93,51 @@ fn second_node(alloc: Global) -> Result<Node, Fail>
             number: 2,
             title,
         }),
-    })
+    }
 }
 
-fn window(alloc: Global, node: &Node, width: i32, text: &Node) -> Result<Window, Fail>
-    requires node { IfSome (declared_window_head node.now) IsLimitedWindowHead }
-    requires corner { IsCorner (corner_of node.now) }
+// What a window stands round: one text. No node is alive over a call that may fail, as in `forms`.
+fn body_of(alloc: Global, width: i32, text: &Node) -> Result<Group, Fail>
     requires text { IsSmallRect (place_of_node text.now) }
     requires across { (pos 0 ≤ℤ width) × (width ≤ℤ pos 50) }
 {
-    let body = body(alloc, sized(width, 4), member(alloc, text)?)?;
+    body(alloc, sized(width, 4), member(alloc, text)?)
+}
+
+fn first_body(alloc: Global) -> Result<Group, Fail> {
+    let text = text_node(alloc, 9, "abcdefghij")?;
+    body_of(alloc, 16, &text)
+}
+
+fn second_body(alloc: Global) -> Result<Group, Fail> {
+    let text = text_node(alloc, 18, "second")?;
+    body_of(alloc, 20, &text)
+}
+
+fn window(node: &Node, body: Group) -> Result<Window, Fail>
+    requires node { IfSome (declared_window_head node.now) IsLimitedWindowHead }
+    requires corner { IsCorner (corner_of node.now) }
+{
     Ok(Window::new(node, body).ok().ok_or("a window's node")?)
 }
 
+fn first(alloc: Global) -> Result<Window, Fail> {
+    let title = chars(alloc, "One")?;
+    let body = first_body(alloc)?;
+    window(&first_node(alloc, title), body)
+}
+
+fn second(alloc: Global) -> Result<Window, Fail> {
+    let title = chars(alloc, "Two")?;
+    let body = second_body(alloc)?;
+    window(&second_node(alloc, title), body)
+}
+
+// The front window first.
 fn windows(alloc: Global) -> Result<Vec<Window>, Fail> {
-    let first = first_node(alloc)?;
-    let second = second_node(alloc)?;
     let mut windows = Vec::new(alloc);
-    windows.push(window(alloc, &second, 20, &text_node(alloc, 18, "second")?)?)?;
-    windows.push(window(alloc, &first, 16, &text_node(alloc, 9, "abcdefghij")?)?)?;
+    windows.push(second(alloc)?)?;
+    windows.push(first(alloc)?)?;
     Ok(windows)
 }
 
@@ -126,13 +152,10 @@ fn rows(from: i32, to: i32) -> Canvas {
     }
 }
 
-#[test]
-fn two_windows(rt: HostRuntime) -> Result<(), Fail> {
-    let alloc = rt.alloc();
-    let mut screen = Screen::new(alloc, 24, 10)?;
-    lay(&mut screen, rows(0, 1), 24, 1, &BAR);
-    lay(&mut screen, rows(1, 9), 24, 8, &Background);
-    lay(&mut screen, rows(9, 10), 24, 1, &BAR);
+fn paint(screen: &mut Screen, windows: &[Window]) {
+    lay(screen, rows(0, 1), 24, 1, &BAR);
+    lay(screen, rows(1, 9), 24, 8, &Background);
+    lay(screen, rows(9, 10), 24, 1, &BAR);
     let desktop = Canvas {
         clip: rows(1, 9).clip,
         origin: Point { x: 0, y: 0 },
@@ -146,8 +169,20 @@ fn two_windows(rt: HostRuntime) -> Result<(), Fail> {
         default_now: None,
         is_active: true,
     };
+    draw_stack(windows, screen, desktop, &env);
+}
+
+// The screen with the windows on it.
+fn painted(alloc: Global) -> Result<Screen, Fail> {
     let windows = windows(alloc)?;
-    draw_stack(&windows, &mut screen, desktop, &env);
+    let mut screen = Screen::new(alloc, 24, 10)?;
+    paint(&mut screen, windows.as_slice());
+    Ok(screen)
+}
+
+#[test]
+fn two_windows(rt: HostRuntime) -> Result<(), Fail> {
+    let screen = painted(rt.alloc())?;
     for y in 0u8..10 {
         let row = SHOT[usize::from(y)].as_bytes();
         assert!(rt; row_reads(&screen, i32::from(y), row), "{y}");

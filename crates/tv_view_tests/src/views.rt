@@ -121,13 +121,13 @@ fn a_view_counts_its_events(rt: HostRuntime) -> Result<(), Fail> {
     let mut tally = new_tally(rt.alloc())?;
     let chain = Chain::of_window();
     let commands = CommandSet::all();
-    for event in [
+    for event in &[
         Event::Key(Key::Char('a')),
         Event::Broadcast(Command::DEFAULT),
         Event::Down(Point { x: 1, y: 1 }),
     ] {
         let env = env(&chain, &commands);
-        let reaction = tally.handle(&event, Phase::Post, &env, &mut Damage::new());
+        let reaction = tally.handle(event, Phase::Post, &env, &mut Damage::new());
         assert_eq!(rt; reaction, Reaction::Pass);
     }
     assert_eq!(rt; tally.events, 3);
