@@ -83,6 +83,8 @@ mod telling;
 #[cfg(test)]
 mod terminals;
 #[cfg(test)]
+mod toolkit;
+#[cfg(test)]
 mod walks;
 #[cfg(test)]
 mod wide;
