@@ -1,5 +1,6 @@
 -- What the dialogs and fields of a run have, by the names that its description gives them.
-use Rattle.std.specs.Prelude.{◌≡◌, ◌==◌, ℕ, Bool, false, List, Option, Some, None, bytes_eq, find, option_map, position}
+use Rattle.std.specs.Prelude.{◌≡◌, ◌==◌, ℕ, Bool, false, List, Option, Some, None, bytes_eq, find}
+use Rattle.std.specs.Prelude.{option_map, position}
 use Rattle.std.specs.Option.{option_and_then}
 use Rattle.tv_dialogs.specs.Records.{next_record}
 use Rattle.tv_machine.specs.Run.{Session}

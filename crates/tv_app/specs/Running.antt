@@ -4,6 +4,6 @@ use Rattle.tv_app.specs.declared.app.App.{App}
 use Rattle.tv_session.specs.Session.{StandsFor}
 use Rattle.tv_toolkit.specs.Control.{control_leaf}
 
--- its windows, dialogs, menus, log and screen are those of a run, which is one that sound descriptions come to
+-- its windows, dialogs, menus, log and screen are those of a run that sound descriptions come to
 abbrev pub Runs : App → Session → Type 0
 Runs app s = StandsFor control_leaf app.session s
