@@ -4,3 +4,5 @@ pub mod Running
 pub mod Opening
 -- what dialogs and fields have, by name
 pub mod Names
+-- when a record fits a dialog, and how it is handed in
+pub mod Setting

@@ -1,10 +1,9 @@
 -- What the dialogs and fields of a run have, by the names that its description gives them.
-use Rattle.std.specs.Prelude.{◌≡◌, ◌==◌, ℕ, Bool, false, List, Option, Some, None, bytes_eq, find}
+use Rattle.std.specs.Prelude.{◌==◌, ℕ, Bool, false, List, Option, Some, None, bytes_eq, find}
 use Rattle.std.specs.Prelude.{option_map, position}
 use Rattle.std.specs.Option.{option_and_then}
 use Rattle.tv_dialogs.specs.Records.{next_record}
 use Rattle.tv_machine.specs.Run.{Session}
-use Rattle.tv_machine.specs.Safe.{IsSafeSaved}
 use Rattle.tv_model.specs.Description.Heads.{is_named}
 use Rattle.tv_model.specs.Description.Nodes.{name_of}
 use Rattle.tv_model.specs.Log.Record.{Entries, value_of}
@@ -14,7 +13,7 @@ use Rattle.tv_model.specs.declared.node.Id.{Id}
 use Rattle.tv_model.specs.declared.node.Node.{Node}
 use Rattle.tv_model.specs.declared.record.Value.{Value}
 use Rattle.tv_model.specs.declared.record.Value.TheVariants as values
-use Rattle.tv_session.specs.Session.{handed_in, open_id_of}
+use Rattle.tv_session.specs.Session.{open_id_of}
 
 -- ---- dialogs
 
@@ -76,18 +75,3 @@ found_marks _ = None
 abbrev pub found_item : Option Value → Option ℕ
 found_item (Some (values.Item item)) = Some item
 found_item _ = None
-
--- ---- records that are handed in
-
--- the dialog of the name may be saved with the record, if there is one
-abbrev pub IsSafeNamed : Session → List ℕ → Entries → Type 0
-IsSafeNamed s name entries =
-    (place : ℕ) → position (is_named name) s.desc.dialogs ≡ Some place → IsSafeSaved s.desc place entries
-
--- the run in which the last end of the dialog at a place saved the record, if one is given
-abbrev pub handed_at : Option ℕ → Entries → Session → Session
-handed_at None entries s = s
-handed_at (Some place) entries s = handed_in place entries s
-
-abbrev pub with_named : Session → List ℕ → Entries → Session
-with_named s name entries = handed_at (position (is_named name) s.desc.dialogs) entries s

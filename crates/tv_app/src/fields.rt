@@ -1,12 +1,15 @@
 //! The records of an application's dialogs, by name.
 
-ghost use Rattle.std.specs.Prelude.{◌≡◌, option_copied};
-ghost use Rattle.tv_app.specs.Names.{IsSafeNamed, found_item, found_marks, found_text, record_named, value_named, with_named};
+ghost use Rattle.std.specs.Prelude.{◌≡◌, IfErr, IfOk, option_copied};
+ghost use Rattle.tv_app.specs.Names.{found_item, found_marks, found_text, record_named, value_named};
 ghost use Rattle.tv_app.specs.Running.{Runs};
+ghost use Rattle.tv_app.specs.Setting.{IsSetFrom, RefusesRecord};
 ghost use Rattle.tv_machine.specs.Run.{Session};
 
 use crate::app::App;
 use crate::names::{dialog_place, field_id};
+use crate::setting::{SetFault, take_named};
+use std::alloc::Global;
 use tv_model::{Record, Value};
 use tv_valid::Text;
 
@@ -65,15 +68,27 @@ impl App {
         }
     }
 
-    /// Gives the first dialog of the name the record with which it opens next, as if its last end had saved that. The record
-    /// has exactly the dialog's fields, in order, each text lies in its domain, and each item is there. A dialog that is open
-    /// keeps what it shows.
-    pub fn set(&mut self, dialog: &str, values: Record)
-        requires { (s : Session) → Runs self.old s → IsSafeNamed s dialog.now values }
-        ensures { (s : Session) → Runs self.old s → Runs self.new (with_named s dialog.now values) }
+    /// Gives the first dialog of the name the record with which it opens next, as if its last end had saved that. Each
+    /// field has a value, in whatever order: a text of its domain, or items that are there. A dialog that is open keeps
+    /// what it shows.
+    ///
+    /// # Errors
+    ///
+    /// `NoDialog` where no dialog has the name, `Unfit` where the record doesn't fit it; `NoMemory`. Nothing has changed
+    /// then, and the record is handed back.
+    pub fn set(&mut self, alloc: Global, dialog: &str, values: Record) -> Result<(), SetFault>
+        requires there { (s : Session) × Runs self.old s }
+        ensures kept { IfOk result (λ _. (s : Session) → Runs self.old s → IsSetFrom s dialog.now values self.new) }
+        ensures refused { IfErr result (λ fault. (s : Session) → Runs self.old s → RefusesRecord s.desc dialog.now values fault.reason) }
+        ensures back { IfErr result (λ fault. fault.values ≡ values) }
+        ensures stays { IfErr result (λ _. self.new ≡ self.old) }
     {
-        if let Some(place) = dialog_place(self.desc(), dialog) {
-            self.session.keep_record(place, values);
+        match take_named(alloc, self.desc(), dialog, &values) {
+            Ok(taken) => {
+                self.session.keep_record(taken.place, taken.values);
+                Ok(())
+            }
+            Err(reason) => Err(SetFault { reason, values }),
         }
     }
 }

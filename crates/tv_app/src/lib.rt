@@ -6,10 +6,12 @@ mod fault;
 mod fields;
 mod names;
 mod opening;
+mod setting;
 
 pub use app::App;
 pub use fault::OpenFault;
 pub use opening::open;
+pub use setting::{SetFault, Unset};
 pub use tv_cells::{Point, Rect, Screen};
 pub use tv_event::{Command, Event, Key};
 pub use tv_lang::LangFault;

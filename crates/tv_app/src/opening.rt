@@ -43,6 +43,8 @@ fn begin(alloc: Global, checked: Checked) -> Result<App, OpenFault>
     ensures memory { IfErr result (λ fault. fault ≡ NoMemory) }
 {
     let views = views(alloc, &checked)?;
+    // What its contract says of the dialogs is part of what `Runs` says.
+    let _desc = checked.desc();
     match SessionOf::new(alloc, checked, views.windows, views.bodies) {
         Ok(session) => Ok(App { session }),
         Err(refused) => match refused.fault {
