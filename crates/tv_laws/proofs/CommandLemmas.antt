@@ -19,11 +19,11 @@ use Rattle.tv_machine.specs.Dialog.Mouse.{is_close_mark}
 use Rattle.tv_machine.specs.Safe.{dragged_width, front_width}
 use Rattle.tv_machine.specs.Screen.Bars.{item_under}
 use Rattle.tv_machine.specs.Screen.Bodies.{window_of}
-use Rattle.tv_machine.specs.Session.Commands.{close_front, command_by_dialog, do_command, idle_command, last_first, logged, open_first, opener_of, own_command, raised}
+use Rattle.tv_machine.specs.Session.Commands.{close_front, command_by_dialog, do_command, idle_command, last_first, open_first, opener_of, own_command, raised, with_line_logged}
 use Rattle.tv_machine.specs.Session.Desktop.{alt_pressed, desktop_down, desktop_key, down_beside_title, down_in_front, down_on_desktop, down_on_window, grab_window, raise, raise_found, seen_from, window_of_digit, window_under}
 use Rattle.tv_machine.specs.Session.Dragging.{grabbed, is_grip}
 use Rattle.tv_machine.specs.Session.Menu.{choose, choose_at, close_menu, down_on_item, down_on_title, item_of_letter, menu_down, menu_key, open_items, open_menu, title_at, title_of_letter}
-use Rattle.tv_machine.specs.Session.Step.{held_of}
+use Rattle.tv_machine.specs.Session.Step.{dialog_with_hold}
 use Rattle.tv_laws.specs.Runs.{HasSoundDialogs, IsFitState, IsKept}
 use Rattle.tv_laws.proofs.EndLemmas.{command-done}
 use Rattle.tv_machine.proofs.ListLemmas.{bool_cases, option_cases, same-id}
@@ -55,7 +55,7 @@ module _ (d : Desc) (sound : HasSoundDialogs d) where
   close_fit [] s i = idle-state s i
   close_fit (w ∷ behind) s i =
       let t : State = record s { windows = behind } in
-      idle-fit (logged (lines.Close w.id) t) (kept-logged d sound (lines.Close w.id) t tt (kept-beside d sound s s.is_over behind s.menu s.dialog i.kept)) i.none i.free
+      idle-fit (with_line_logged (lines.Close w.id) t) (kept-logged d sound (lines.Close w.id) t tt (kept-beside d sound s s.is_over behind s.menu s.dialog i.kept)) i.none i.free
 
   first_fit : (menus : List Menu) (s : State) → IsIdle s → IsFitState d (open_first menus s)
   first_fit [] s i = idle-state s i
@@ -63,8 +63,8 @@ module _ (d : Desc) (sound : HasSoundDialogs d) where
 
   own_fit : (number : ℕ) (opener : Option ℕ) (s : State) → IsIdle s → s.menu ≡ None → IsFitState d (own_command d number opener s)
   own_fit number None s i menu =
-      bool_cases (nat_le 100 number) (λ b. IsFitState d (if b then logged (lines.Command number) s else s))
-      (λ own. idle-fit (logged (lines.Command number) s) (kept-logged d sound (lines.Command number) s tt i.kept) i.none i.free) (λ low. idle-state s i)
+      bool_cases (nat_le 100 number) (λ b. IsFitState d (if b then with_line_logged (lines.Command number) s else s))
+      (λ own. idle-fit (with_line_logged (lines.Command number) s) (kept-logged d sound (lines.Command number) s tt i.kept) i.none i.free) (λ low. idle-state s i)
   own_fit number (Some place) s i menu = dialog-opens d sound place s (idle-state s i) menu i.over i.free
 
   idle_command_fit : (number : ℕ) (s : State) → IsIdle s → s.menu ≡ None → IsFitState d (idle_command d number s)
@@ -73,8 +73,8 @@ module _ (d : Desc) (sound : HasSoundDialogs d) where
       let next : State = record s { windows = last_first (reverse s.windows) } in
       let quit : State = record s { is_over = true } in
       bool_cases (number == 1)
-      (λ b. IsFitState d (if b then logged lines.Quit quit else if number == 3 then open_first d.menus s else if number == 4 then close_front s.windows s else if number == 7 then next else last))
-      (λ is. idle-fit (logged lines.Quit quit) (kept-logged d sound lines.Quit quit tt (kept-beside d sound s true s.windows s.menu s.dialog i.kept)) i.none i.free)
+      (λ b. IsFitState d (if b then with_line_logged lines.Quit quit else if number == 3 then open_first d.menus s else if number == 4 then close_front s.windows s else if number == 7 then next else last))
+      (λ is. idle-fit (with_line_logged lines.Quit quit) (kept-logged d sound lines.Quit quit tt (kept-beside d sound s true s.windows s.menu s.dialog i.kept)) i.none i.free)
       (λ no_quit. bool_cases (number == 3) (λ b. IsFitState d (if b then open_first d.menus s else if number == 4 then close_front s.windows s else if number == 7 then next else last))
       (λ is. first_fit d.menus s i)
       (λ no_menu. bool_cases (number == 4) (λ b. IsFitState d (if b then close_front s.windows s else if number == 7 then next else last)) (λ is. close_fit s.windows s i)
@@ -164,7 +164,7 @@ module _ (d : Desc) (sound : HasSoundDialogs d) where
         ap (λ o. dragged_width d o s.windows) i.none ∙ ap (front_width d) stack
         ∙ ap (λ x. option_map (λ x. x.node.w) (window_of d x)) (same-id front.id w.id is) ∙ ap (option_map (λ x. x.node.w)) found in
         bool_cases (is_grip window.node.w (seen_from w.origin p)) (λ b. IsFitState d (if b then grabbed w.origin p s else s))
-        (λ grip. grabbed-fit d sound w.origin p s window.node.w (idle-state s i) there grip (ap held_of i.none) menu i.over) (λ beside. idle-state s i)
+        (λ grip. grabbed-fit d sound w.origin p s window.node.w (idle-state s i) there grip (ap dialog_with_hold i.none) menu i.over) (λ beside. idle-state s i)
 
     in_front_fit : (front : OpenWindow) (behind : List OpenWindow) → s.windows ≡ front ∷ behind → (front.id.0 == w.id.0) ≡ true
         → IsFitState d (down_in_front d w p s)

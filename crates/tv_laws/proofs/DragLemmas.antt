@@ -16,10 +16,10 @@ use Rattle.tv_model.specs.declared.log.LogLine.TheVariants as lines
 use Rattle.tv_machine.specs.State.{HeldFrame, OpenDialog, OpenWindow, State}
 use Rattle.tv_machine.specs.Dialog.Mouse.{is_close_mark}
 use Rattle.tv_machine.specs.Safe.{HasDeclaredEnd, HasTopCell, IsSafeFrame, dragged_width}
-use Rattle.tv_machine.specs.Session.Commands.{logged}
+use Rattle.tv_machine.specs.Session.Commands.{with_line_logged}
 use Rattle.tv_machine.specs.Session.Desktop.{seen_from}
 use Rattle.tv_machine.specs.Session.Dragging.{clamped, corner_at, dropped, front_at, grabbed, is_grip, is_same_point, let_go, moved_dialog, moved_frame, moved_front, placed, step_dragged}
-use Rattle.tv_machine.specs.Session.Step.{held_of}
+use Rattle.tv_machine.specs.Session.Step.{dialog_with_hold}
 use Rattle.tv_machine.proofs.ListLemmas.{bool_cases}
 use Rattle.tv_laws.specs.Runs.{HasSoundDialogs, IsFitOpen, IsFitState}
 use Rattle.tv_laws.proofs.WorkLemmas.{no-frame, nothing, relogged-fit}
@@ -90,14 +90,14 @@ same_width d None (front ∷ behind) corner = refl
 same_width d (Some o) windows corner = refl
 
 -- no leaf of it holds the mouse
-still_loose : (o : OpenDialog) (corner : Point) → held_of (Some o) ≡ None → held_of (Some (moved_to corner o)) ≡ None
+still_loose : (o : OpenDialog) (corner : Point) → dialog_with_hold (Some o) ≡ None → dialog_with_hold (Some (moved_to corner o)) ≡ None
 still_loose o corner =
     bool_cases (is_some o.held) (λ b. (if b then Some o else None) ≡ None → (if b then Some (moved_to corner o) else None) ≡ None)
     (λ holds e. absurd (nothing o (sym e))) (λ loose e. refl)
 
 -- where a frame was let go, that it moved is logged, or nothing is
 pub dropped-cases : (d : Desc) (P : State → Type 0) (frame : HeldFrame) (corner : Point) (s : State) → P s
-    → ((i : Id) → P (logged (lines.Moved i corner) s)) → P (dropped d frame corner s)
+    → ((i : Id) → P (with_line_logged (lines.Moved i corner) s)) → P (dropped d frame corner s)
 dropped-cases d P frame corner s stays moved =
     bool_cases (is_same_point frame.from corner) (λ b. P (if b then s else moved_frame d s.dialog corner s)) (λ same. stays)
     (λ other. in_frame s.dialog)
@@ -118,7 +118,7 @@ module _ (d : Desc) (sound : HasSoundDialogs d) where
   -- ---- a frame is held, or none any longer
 
   pub grabbed-fit : (corner p : Point) (s : State) (width : ℤ) → IsFitState d s → dragged_width d s.dialog s.windows ≡ Some width
-      → is_grip width (seen_from corner p) ≡ true → held_of s.dialog ≡ None → s.menu ≡ None → s.is_over ≡ false
+      → is_grip width (seen_from corner p) ≡ true → dialog_with_hold s.dialog ≡ None → s.menu ≡ None → s.is_over ≡ false
       → IsFitState d (grabbed corner p s)
   grabbed-fit corner p s width f there grip leaf menu over =
       let frame : HeldFrame = record { off = p.x -ℤ corner.x; from = corner } in
@@ -184,7 +184,7 @@ module _ (d : Desc) (sound : HasSoundDialogs d) where
               width = y.width;
               there = sym (ap (λ z. dragged_width d z s.windows) some) ∙ y.there;
               column = y.column;
-              leaf = still_loose o corner (sym (ap held_of some) ∙ y.leaf);
+              leaf = still_loose o corner (sym (ap dialog_with_hold some) ∙ y.leaf);
               menu = y.menu;
               over = y.over;
             };
@@ -195,7 +195,7 @@ module _ (d : Desc) (sound : HasSoundDialogs d) where
   dropped_fit : (frame : HeldFrame) (corner : Point) (s : State) → IsFitState d s → IsFitState d (dropped d frame corner s)
   dropped_fit frame corner s f =
       dropped-cases d (IsFitState d) frame corner s f
-      (λ i. relogged-fit d sound s (logged (lines.Moved i corner) s).log (All-push (HasDeclaredEnd d) s.log (lines.Moved i corner) f.kept.ends tt) f)
+      (λ i. relogged-fit d sound s (with_line_logged (lines.Moved i corner) s).log (All-push (HasDeclaredEnd d) s.log (lines.Moved i corner) f.kept.ends tt) f)
 
   pub dragged-fit : (frame : HeldFrame) (e : Event) (s : State) → s.frame ≡ Some frame → IsFitState d s → IsFitState d (step_dragged d frame e s)
   dragged-fit frame (events.Move p) s held f = placed_fit s.dialog (corner_at d frame p) s refl (keeps_top frame p s (f.frame frame held)) f

@@ -22,12 +22,13 @@ use Rattle.tv_machine.specs.Session.Commands.{do_command, modal_of}
 use Rattle.tv_machine.specs.Session.Desktop.{seen_from}
 use Rattle.tv_machine.specs.Session.Dragging.{grabbed, is_grip_of}
 use Rattle.tv_machine.specs.Session.Start.{closed, start, started_at, started_by}
-use Rattle.tv_machine.specs.Session.Step.{down_at_menu, down_at_status, down_below, down_on_dialog, emptied, event_from, held_of, is_item_enabled, is_status_row, key_at_menu, key_at_status, key_below, status_command, status_item_of, step, step_at, step_below, step_held, step_under, to_dialog}
+use Rattle.tv_machine.specs.Session.Step.{after_event, dialog_with_hold, down_on_dialog, event_from, is_item_enabled, is_status_row, status_command, status_item_of, step, step_held, to_dialog, with_empty_log}
 use Rattle.tv_laws.specs.Letters.{AlwaysMarksOnce}
 use Rattle.tv_laws.specs.Runs.{HasSoundDialogs, IsFitState, IsKept, RunsFit}
 use Rattle.tv_laws.specs.Steps.{RespectsHold}
 use Rattle.tv_laws.proofs.CommandLemmas.{IsReady, command-fit, desktop_down-fit, desktop_key-fit, idle-fit, menu_down-fit, menu_key-fit, ready-idle}
 use Rattle.tv_machine.proofs.ListLemmas.{bool_cases, option_cases}
+use Rattle.tv_machine.proofs.StepLemmas.{down_by_dialog, down_by_menu, down_by_row, key_by_dialog, key_by_item, key_by_menu, step_by_frame, step_by_hold}
 use Rattle.tv_laws.proofs.DragLemmas.{dragged-fit, grabbed-fit}
 use Rattle.tv_machine.specs.Dialog.Shortcuts.{HaveOneMarker}
 use Rattle.tv_laws.proofs.MarkerLemmas.{one_marker}
@@ -72,19 +73,19 @@ module _ (d : Desc) (sound : HasSoundDialogs d) where
 
   -- ---- keys
 
-  key_below_fit : (k : Key) (s : State) → IsReady d sound s → IsFitState d (key_below d s.dialog k s)
+  key_below_fit : (k : Key) (s : State) → IsReady d sound s → IsFitState d (key_by_dialog d s.dialog k s)
   key_below_fit k s r =
-      option_cases s.dialog (λ o. IsFitState d (key_below d o k s)) (λ none. desktop_key-fit d sound k s (ready-idle d sound s r none))
+      option_cases s.dialog (λ o. IsFitState d (key_by_dialog d o k s)) (λ none. desktop_key-fit d sound k s (ready-idle d sound s r none))
       (λ o some. to_dialog_fit s o (events.Key k) some r.fit r.free (given_key o.held k))
 
   key_status_fit : (item : Option StatusItem) (k : Key) (s : State) → IsReady d sound s → s.menu ≡ None
-      → IsFitState d (key_at_status d item k s)
+      → IsFitState d (key_by_item d item k s)
   key_status_fit None k s r menu = key_below_fit k s r
   key_status_fit (Some item) k s r menu = command-fit d sound (command_number item.command) s r menu
 
-  key_fit : (k : Key) (s : State) → IsReady d sound s → IsFitState d (key_at_menu d s.menu k s)
+  key_fit : (k : Key) (s : State) → IsReady d sound s → IsFitState d (key_by_menu d s.menu k s)
   key_fit k s r =
-      option_cases s.menu (λ o. IsFitState d (key_at_menu d o k s)) (λ none. key_status_fit (status_item_of d s k) k s r none)
+      option_cases s.menu (λ o. IsFitState d (key_by_menu d o k s)) (λ none. key_status_fit (status_item_of d s k) k s r none)
       (λ o some. menu_key-fit d sound o k s (ready-idle d sound s r (menu_idle s o some r.fit)))
 
   -- ---- mouse downs
@@ -100,34 +101,34 @@ module _ (d : Desc) (sound : HasSoundDialogs d) where
       let x = r.fit.«open» o some in
       let there : dragged_width d s.dialog s.windows ≡ Some x.dialog.node.w =
       ap (λ y. dragged_width d y s.windows) some ∙ ap (option_map (λ y. y.node.w)) x.there in
-      let loose : held_of s.dialog ≡ None = ap held_of some ∙ ap (λ h. if is_some h then Some o else None) (r.idle o some) in
+      let loose : dialog_with_hold s.dialog ≡ None = ap dialog_with_hold some ∙ ap (λ h. if is_some h then Some o else None) (r.idle o some) in
       bool_cases (is_grip_of (slice_get d.dialogs o.place) (seen_from o.origin p))
       (λ b. IsFitState d (if b then grabbed o.origin p s else to_dialog d o (events.Down p) s))
       (λ grip. grabbed-fit d sound o.origin p s x.dialog.node.w r.fit there (sym (ap (λ y. is_grip_of y (seen_from o.origin p)) x.there) ∙ grip) loose menu r.over)
       (λ beside. to_dialog_fit s o (events.Down p) some r.fit r.free (given_down o.held _))
 
-  down_below_fit : (p : Point) (s : State) → IsReady d sound s → s.menu ≡ None → IsFitState d (down_below d s.dialog p s)
+  down_below_fit : (p : Point) (s : State) → IsReady d sound s → s.menu ≡ None → IsFitState d (down_by_dialog d s.dialog p s)
   down_below_fit p s r menu =
-      option_cases s.dialog (λ o. IsFitState d (down_below d o p s)) (λ none. desktop_down-fit d sound p s (ready-idle d sound s r none) menu)
+      option_cases s.dialog (λ o. IsFitState d (down_by_dialog d o p s)) (λ none. desktop_down-fit d sound p s (ready-idle d sound s r none) menu)
       (λ o some. bool_cases (is_in (desktop d) p.x p.y) (λ b. IsFitState d (if b then down_on_dialog d o p s else s))
       (λ inside. on_dialog_fit o p s some r menu) (λ outside. r.fit))
 
-  down_status_fit : (p : Point) (s : State) → IsReady d sound s → s.menu ≡ None → IsFitState d (down_at_status d p s)
+  down_status_fit : (p : Point) (s : State) → IsReady d sound s → s.menu ≡ None → IsFitState d (down_by_row d p s)
   down_status_fit p s r menu =
       bool_cases (is_in (rect (pos 0) (pos 0) d.width d.height) p.x p.y)
-      (λ b. IsFitState d (if not b then s else if is_status_row d p then status_command d (status_under d p.x) s else down_below d s.dialog p s))
-      (λ inside. bool_cases (is_status_row d p) (λ b. IsFitState d (if b then status_command d (status_under d p.x) s else down_below d s.dialog p s))
+      (λ b. IsFitState d (if not b then s else if is_status_row d p then status_command d (status_under d p.x) s else down_by_dialog d s.dialog p s))
+      (λ inside. bool_cases (is_status_row d p) (λ b. IsFitState d (if b then status_command d (status_under d p.x) s else down_by_dialog d s.dialog p s))
       (λ row. status_fit (status_under d p.x) s r menu) (λ above. down_below_fit p s r menu))
       (λ outside. r.fit)
 
-  down_fit : (p : Point) (s : State) → IsReady d sound s → IsFitState d (down_at_menu d s.menu p s)
+  down_fit : (p : Point) (s : State) → IsReady d sound s → IsFitState d (down_by_menu d s.menu p s)
   down_fit p s r =
-      option_cases s.menu (λ o. IsFitState d (down_at_menu d o p s)) (λ none. down_status_fit p s r none)
+      option_cases s.menu (λ o. IsFitState d (down_by_menu d o p s)) (λ none. down_status_fit p s r none)
       (λ o some. menu_down-fit d sound o p s (ready-idle d sound s r (menu_idle s o some r.fit)))
 
   -- ---- events
 
-  below_fit : (e : Event) (s : State) → IsReady d sound s → IsFitState d (step_below d e s)
+  below_fit : (e : Event) (s : State) → IsReady d sound s → IsFitState d (after_event d e s)
   below_fit (events.Key k) s r = key_fit k s r
   below_fit (events.Down p) s r = down_fit p s r
   below_fit (events.Move p) s r = r.fit
@@ -145,15 +146,15 @@ module _ (d : Desc) (sound : HasSoundDialogs d) where
   held_fit o (events.Broadcast c) s some f free = f
 
   -- the log is taken
-  emptied_fit : (s : State) → IsFitState d s → IsFitState d (emptied s)
+  emptied_fit : (s : State) → IsFitState d s → IsFitState d (with_empty_log s)
   emptied_fit s f = relogged-fit d sound s [] (All-nil (HasDeclaredEnd d)) f
 
   step_at_fit : (e : Event) (s : State) → IsFitState d s → s.is_over ≡ false → s.frame ≡ None
-      → IsFitState d (step_at d (held_of s.dialog) e s)
+      → IsFitState d (step_by_hold d (dialog_with_hold s.dialog) e s)
   step_at_fit e s f over free =
-      option_cases s.dialog (λ o. IsFitState d (step_at d (held_of o) e s))
+      option_cases s.dialog (λ o. IsFitState d (step_by_hold d (dialog_with_hold o) e s))
       (λ none. below_fit e s (record { fit = f; over = over; free = free; idle = λ o is. absurd (nothing o (sym none ∙ is)) }))
-      (λ o some. bool_cases (is_some o.held) (λ b. IsFitState d (step_at d (if b then Some o else None) e s)) (λ holds. held_fit o e s some f free)
+      (λ o some. bool_cases (is_some o.held) (λ b. IsFitState d (step_by_hold d (if b then Some o else None) e s)) (λ holds. held_fit o e s some f free)
       (λ loose. below_fit e s (record {
         fit = f;
         over = over;
@@ -163,9 +164,9 @@ module _ (d : Desc) (sound : HasSoundDialogs d) where
 
   pub runs-fit : RunsFit d
   runs-fit s e f =
-      bool_cases s.is_over (λ b. IsFitState d (if b then emptied s else step_under d s.frame e (emptied s))) (λ over. emptied_fit s f)
-      (λ goes. option_cases s.frame (λ frame. IsFitState d (step_under d frame e (emptied s))) (λ free. step_at_fit e (emptied s) (emptied_fit s f) goes free)
-      (λ frame held. dragged-fit d sound frame e (emptied s) held (emptied_fit s f)))
+      bool_cases s.is_over (λ b. IsFitState d (if b then with_empty_log s else step_by_frame d s.frame e (with_empty_log s))) (λ over. emptied_fit s f)
+      (λ goes. option_cases s.frame (λ frame. IsFitState d (step_by_frame d frame e (with_empty_log s))) (λ free. step_at_fit e (with_empty_log s) (emptied_fit s f) goes free)
+      (λ frame held. dragged-fit d sound frame e (with_empty_log s) held (emptied_fit s f)))
 
   -- ---- the start
 

@@ -16,7 +16,7 @@ use Rattle.tv_machine.specs.Dialog.Modal.{Modal}
 use Rattle.tv_machine.specs.Dialog.Opening.{opened_dialog}
 use Rattle.tv_machine.specs.Dialog.Rules.{is_among}
 use Rattle.tv_machine.specs.Safe.{HasDeclaredEnd, HasTopCell, IsFitOverwriting, IsSafeFrame, IsSafeRecord, IsSafeSaved}
-use Rattle.tv_machine.specs.Session.Commands.{after_work, in_dialog, logged, modal_of, open_dialog, open_found, overwriting_at, saved_at, saved_by, worked, works}
+use Rattle.tv_machine.specs.Session.Commands.{after_work, in_dialog, modal_of, open_dialog, open_found, overwriting_at, saved_at, saved_by, with_line_logged, worked, works}
 use Rattle.tv_laws.specs.Ends.{IsDone, NamesEndOf, IsOpen}
 use Rattle.tv_laws.specs.Fit.{IsFitModal}
 use Rattle.tv_laws.specs.Runs.{HasSoundDialogs, IsFitOpen, IsFitState, IsKept}
@@ -76,7 +76,7 @@ module _ (d : Desc) (sound : HasSoundDialogs d) where
       → IsKept d (record s { is_over = over; windows = windows; menu = menu; dialog = dialog })
   kept-beside s over windows menu dialog k = record { saved = k.saved; places = k.places; ordered = k.ordered; ends = k.ends }
 
-  pub kept-logged : (line : LogLine) (s : State) → HasDeclaredEnd d line → IsKept d s → IsKept d (logged line s)
+  pub kept-logged : (line : LogLine) (s : State) → HasDeclaredEnd d line → IsKept d s → IsKept d (with_line_logged line s)
   kept-logged line s is k = record { saved = k.saved; places = k.places; ordered = k.ordered; ends = All-push (HasDeclaredEnd d) s.log line k.ends is }
 
   -- no frame is held
@@ -204,5 +204,5 @@ module _ (d : Desc) (sound : HasSoundDialogs d) where
       (λ dialog there.
       let m = opened_dialog dialog (saved_at s place) (overwriting_at s place) in
       let is = opens-fit dialog (sound-at place dialog there) (saved_at s place) (overwriting_at s place) (saved_safe s f.kept place dialog there) (ordered_at s f.kept place dialog there) in
-      stands (logged (lines.Open dialog.node.id) s) (kept-logged (lines.Open dialog.node.id) s tt f.kept) place dialog there m (open-done dialog m is.0) (corner_of dialog.node) menu over free
+      stands (with_line_logged (lines.Open dialog.node.id) s) (kept-logged (lines.Open dialog.node.id) s tt f.kept) place dialog there m (open-done dialog m is.0) (corner_of dialog.node) menu over free
       (λ top. top))

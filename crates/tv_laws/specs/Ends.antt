@@ -1,5 +1,6 @@
 -- How a dialog ends.
 use Rattle.std.specs.Prelude.{◌≡◌, ℕ, false, List, ◌∷◌, ◌++◌, map, Some, None, IsTrue, All, ◌==◌}
+use Rattle.tv_event.specs.Commands.{cm_cancel}
 use Rattle.tv_model.specs.declared.desc.Dialog.{Dialog}
 use Rattle.tv_model.specs.declared.log.LogLine.{LogLine}
 use Rattle.tv_model.specs.declared.log.LogLine.TheVariants as lines
@@ -23,7 +24,7 @@ pub record IsEnding (d : Dialog) (number : ℕ) (m : Modal) : Type 0 where
   pub before : List LogLine
   pub written : m.log
       ≡ before ++ lines.End d.node.id (record { 0 = number }) ∷ map field_line (fields_of m.leaves)
-  pub saved : (number == 11) ≡ false → IsSafeRecord d (fields_of m.leaves)
+  pub saved : (number == cm_cancel) ≡ false → IsSafeRecord d (fields_of m.leaves)
 
 -- a dialog that goes on
 pub record IsOpen (d : Dialog) (m : Modal) : Type 0 where

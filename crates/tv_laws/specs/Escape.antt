@@ -1,6 +1,7 @@
 -- How every run can leave the dialog that is open.
 use Rattle.std.specs.Prelude.{◌≡◌, [], List, ◌∷◌, slice_get, Some, None}
 use Rattle.tv_cells.specs.declared.rect.Point.{Point}
+use Rattle.tv_event.specs.Commands.{cm_cancel}
 use Rattle.tv_event.specs.declared.event.Event.{Event}
 use Rattle.tv_event.specs.declared.event.Event.TheVariants as events
 use Rattle.tv_event.specs.declared.event.Key.TheVariants as keys
@@ -22,7 +23,7 @@ pub record IsCancelled (d : Desc) (s : State) (o : OpenDialog) (after : State) :
   pub dialog : Dialog
   pub there : slice_get d.dialogs o.place ≡ Some dialog
   pub closed : after.dialog ≡ None
-  pub written : after.log ≡ end_lines dialog 11 (fields_of o.leaves)
+  pub written : after.log ≡ end_lines dialog cm_cancel (fields_of o.leaves)
   pub saved : after.saved ≡ s.saved
 
 -- wherever a run has come to an open dialog, while the mouse holds neither a leaf of it nor a frame, Esc

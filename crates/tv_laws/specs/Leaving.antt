@@ -1,6 +1,7 @@
 -- How a dialog can always be left, and that the mouse can always be let go.
 use Rattle.std.specs.Prelude.{◌≡◌, false, None}
 use Rattle.tv_cells.specs.declared.rect.Point.{Point}
+use Rattle.tv_event.specs.Commands.{cm_cancel}
 use Rattle.tv_event.specs.declared.event.Event.TheVariants as events
 use Rattle.tv_event.specs.declared.event.Key.TheVariants as keys
 use Rattle.tv_model.specs.declared.desc.Dialog.{Dialog}
@@ -12,7 +13,7 @@ use Rattle.tv_laws.specs.Fit.{IsFitModal}
 
 -- Esc ends the dialog by `cancel`, whatever its inputs hold, while no leaf holds the mouse
 abbrev pub EscCancels : Dialog → Type 0
-EscCancels d = (m : Modal) → m.held ≡ None → dialog_step d (events.Key keys.Esc) m ≡ ended d 11 m
+EscCancels d = (m : Modal) → m.held ≡ None → dialog_step d (events.Key keys.Esc) m ≡ ended d cm_cancel m
 
 -- after a mouse up no leaf holds the mouse
 abbrev pub UpLetsGo : Dialog → Type 0

@@ -1,6 +1,7 @@
 -- What a run logs and saves of a dialog that ends, and what the dialog shows when it opens again.
 use Rattle.std.specs.Prelude.{◌≡◌, ◌⊎◌, ℕ, true, false, List, ◌∷◌, ◌++◌, map, filter, filter_map, slice_get}
 use Rattle.std.specs.Prelude.{slice_set, Option, Some, None, option_map, All, ◌==◌}
+use Rattle.tv_event.specs.Commands.{cm_cancel}
 use Rattle.tv_event.specs.declared.event.Event.{Event}
 use Rattle.tv_model.specs.declared.node.Id.{Id}
 use Rattle.tv_model.specs.declared.desc.Desc.{Desc}
@@ -21,7 +22,7 @@ use Rattle.tv_machine.specs.Output.{states}
 use Rattle.tv_machine.specs.Safe.{HasDeclaredEnd, IsSafeRecord, field_ids}
 use Rattle.tv_machine.specs.Session.Commands.{saved_at}
 use Rattle.tv_machine.specs.Session.Start.{start}
-use Rattle.tv_machine.specs.Session.Step.{emptied, step}
+use Rattle.tv_machine.specs.Session.Step.{step, with_empty_log}
 use Rattle.tv_laws.specs.Steps.{IsSafeSave}
 
 -- the state to which a run has come after these events
@@ -36,7 +37,7 @@ EndsAsDeclared d = (events : List Event) → All (HasDeclaredEnd d) (state_after
 
 -- each dialog declares `cancel`
 abbrev pub DeclareCancel : Desc → Type 0
-DeclareCancel d = All (λ dialog. is_end (dialog_head dialog).ends 11 ≡ true) d.dialogs
+DeclareCancel d = All (λ dialog. is_end (dialog_head dialog).ends cm_cancel ≡ true) d.dialogs
 
 -- ---- records
 
@@ -82,8 +83,8 @@ pub record IsEnd (d : Desc) (s after : State) : Type 0 where
   pub declared : is_end (dialog_head dialog).ends number ≡ true
   pub fields : map (λ entry. entry.id) (fields_of «open».leaves) ≡ field_ids dialog
   pub logged : LogEndsWith after.log (end_lines dialog number (fields_of «open».leaves))
-  pub cancelled : (number == 11) ≡ true → after.saved ≡ s.saved
-  pub saved : (number == 11) ≡ false → IsSavedAt «open».place dialog (fields_of «open».leaves) s after
+  pub cancelled : (number == cm_cancel) ≡ true → after.saved ≡ s.saved
+  pub saved : (number == cm_cancel) ≡ false → IsSavedAt «open».place dialog (fields_of «open».leaves) s after
 
 -- each event of a run logs no end, saves nothing and closes no dialog, or it ends the open dialog and saves
 -- what it logs
@@ -135,4 +136,4 @@ StartsAsDeclared d =
 
 -- once a run is over no event does anything: its log is taken, and the rest stays as it is
 abbrev pub StaysOver : Desc → Type 0
-StaysOver d = (s : State) (e : Event) → s.is_over ≡ true → step d s e ≡ emptied s
+StaysOver d = (s : State) (e : Event) → s.is_over ≡ true → step d s e ≡ with_empty_log s

@@ -7,3 +7,4 @@ pub mod RefocusLemmas
 pub mod RuleExamples
 pub mod SharedExamples
 pub mod SharedLemmas
+pub mod StepLemmas

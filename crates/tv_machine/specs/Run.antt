@@ -2,7 +2,7 @@
 use Rattle.tv_event.specs.declared.event.Event.{Event}
 use Rattle.tv_model.specs.declared.desc.Desc.{Desc}
 use Rattle.tv_machine.specs.State.{State}
-use Rattle.tv_machine.specs.Session.Step.{step, emptied}
+use Rattle.tv_machine.specs.Session.Step.{step, with_empty_log}
 use Rattle.tv_machine.specs.Session.Start.{start}
 
 -- a description and the state of its run
@@ -20,4 +20,4 @@ stepped s e = record { desc = s.desc; state = step s.desc s.state e }
 
 -- its log was taken
 abbrev pub quiet : Session → Session
-quiet s = record { desc = s.desc; state = emptied s.state }
+quiet s = record { desc = s.desc; state = with_empty_log s.state }

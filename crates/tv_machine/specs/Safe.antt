@@ -32,7 +32,7 @@ use Rattle.tv_machine.specs.Dialog.Modal.{leaf_at}
 use Rattle.tv_machine.specs.Dialog.Focus.{is_free_at}
 use Rattle.tv_machine.specs.Session.Commands.{overwriting_at}
 use Rattle.tv_machine.specs.Screen.Bodies.{window_of}
-use Rattle.tv_machine.specs.Session.Step.{held_of, step}
+use Rattle.tv_machine.specs.Session.Step.{dialog_with_hold, step}
 use Rattle.tv_machine.specs.Session.Start.{start}
 use Rattle.tv_machine.specs.Output.{states}
 
@@ -126,7 +126,7 @@ pub record IsSafeFrame (d : Desc) (s : State) (frame : HeldFrame) : Type 0 where
   pub width : ℤ
   pub there : dragged_width d s.dialog s.windows ≡ Some width
   pub column : (pos 0 ≤ℤ frame.off) × (frame.off <ℤ width)
-  pub leaf : held_of s.dialog ≡ None
+  pub leaf : dialog_with_hold s.dialog ≡ None
   pub menu : s.menu ≡ None
   pub over : s.is_over ≡ false
 

@@ -18,19 +18,20 @@ use Rattle.tv_machine.specs.Output.{states}
 use Rattle.tv_machine.specs.Session.Commands.{after_work, modal_of, dialog_after, works}
 use Rattle.tv_machine.specs.Session.Dragging.{corner_at, let_go, placed, step_dragged}
 use Rattle.tv_machine.specs.Session.Start.{start}
-use Rattle.tv_machine.specs.Session.Step.{emptied, event_from, held_of, is_item_enabled, key_at_menu, key_at_status, key_below, status_item_of, step, step_at, step_under, to_dialog}
+use Rattle.tv_machine.specs.Session.Step.{dialog_with_hold, event_from, is_item_enabled, status_item_of, step, to_dialog, with_empty_log}
 use Rattle.tv_laws.specs.Escape.{EscCancelsOpen, IsCancelled, UpEscCancels, UpEscLeaves, UpFreesFrame, UpFreesMouse, escape}
 use Rattle.tv_laws.specs.Records.{StaysOver, state_after}
 use Rattle.tv_laws.specs.Runs.{HasSoundDialogs, IsFitState}
 use Rattle.tv_laws.proofs.DragLemmas.{dropped-cases, moved_to, placed-frame}
 use Rattle.tv_laws.proofs.LeavingLemmas.{esc-cancels, up-lets-go}
 use Rattle.tv_machine.proofs.ListLemmas.{bool_cases, find-none, option_cases}
+use Rattle.tv_machine.proofs.StepLemmas.{key_by_dialog, key_by_item, key_by_menu, step_by_frame, step_by_hold}
 use Rattle.tv_laws.proofs.RunLemmas.{not_some, runs-fit, start-fit}
 use Rattle.tv_laws.proofs.WorkLemmas.{nothing, sound-at}
 
 -- nothing happens once the run is over
 pub stays-over : (d : Desc) → StaysOver d
-stays-over d s e over = ap (λ b. if b then emptied s else step_under d s.frame e (emptied s)) over
+stays-over d s e over = ap (λ b. if b then with_empty_log s else step_by_frame d s.frame e (with_empty_log s)) over
 
 -- ---- no status item has Esc
 
@@ -58,15 +59,15 @@ module _ (d : Desc) (sound : HasSoundDialogs d) where
   -- ---- Esc while a dialog is open
 
   esc_step : (s : State) (o : OpenDialog) → s.dialog ≡ Some o → o.held ≡ None → s.frame ≡ None → s.menu ≡ None → s.is_over ≡ false
-      → step d s escape ≡ to_dialog d o escape (emptied s)
+      → step d s escape ≡ to_dialog d o escape (with_empty_log s)
   esc_step s o some idle free menu over =
-      ap (λ b. if b then emptied s else step_under d s.frame escape (emptied s)) over
-      ∙ ap (λ frame. step_under d frame escape (emptied s)) free
-      ∙ ap (λ x. step_at d (held_of x) escape (emptied s)) some
-      ∙ ap (λ h. step_at d (if is_some h then Some o else None) escape (emptied s)) idle
-      ∙ ap (λ m. key_at_menu d m keys.Esc (emptied s)) menu
-      ∙ ap (λ item. key_at_status d item keys.Esc (emptied s)) (no_item d (emptied s))
-      ∙ ap (λ x. key_below d x keys.Esc (emptied s)) some
+      ap (λ b. if b then with_empty_log s else step_by_frame d s.frame escape (with_empty_log s)) over
+      ∙ ap (λ frame. step_by_frame d frame escape (with_empty_log s)) free
+      ∙ ap (λ x. step_by_hold d (dialog_with_hold x) escape (with_empty_log s)) some
+      ∙ ap (λ h. step_by_hold d (if is_some h then Some o else None) escape (with_empty_log s)) idle
+      ∙ ap (λ m. key_by_menu d m keys.Esc (with_empty_log s)) menu
+      ∙ ap (λ item. key_by_item d item keys.Esc (with_empty_log s)) (no_item d (with_empty_log s))
+      ∙ ap (λ x. key_by_dialog d x keys.Esc (with_empty_log s)) some
 
   esc_ends : (s : State) (o : OpenDialog) (dialog : Dialog) → slice_get d.dialogs o.place ≡ Some dialog → o.held ≡ None
       → to_dialog d o escape s ≡ after_work s o (ended dialog 11 (modal_of s o)) (Some 11)
@@ -77,7 +78,7 @@ module _ (d : Desc) (sound : HasSoundDialogs d) where
   cancelled : (s : State) (o : OpenDialog) → IsFitState d s → s.dialog ≡ Some o → o.held ≡ None → s.frame ≡ None → IsCancelled d s o (step d s escape)
   cancelled s o f some idle free =
       let x = f.«open» o some in
-      subst (IsCancelled d s o) (sym (esc_step s o some idle free x.menu x.over ∙ esc_ends (emptied s) o x.dialog x.there idle))
+      subst (IsCancelled d s o) (sym (esc_step s o some idle free x.menu x.over ∙ esc_ends (with_empty_log s) o x.dialog x.there idle))
       (record { dialog = x.dialog; there = x.there; closed = refl; written = refl; saved = refl })
 
   pub esc-cancels-open : EscCancelsOpen d
@@ -93,50 +94,50 @@ module _ (d : Desc) (sound : HasSoundDialogs d) where
   loose_work s o m None idle x e = let same : dialog_after o m ≡ x = cc in subst (λ y. y.held ≡ None) same idle
   loose_work s o m (Some number) idle x e = absurd (nothing x e)
 
-  loose_up : (s : State) (o : OpenDialog) (p : Point) → IsFitState d s → s.dialog ≡ Some o → IsLoose (to_dialog d o (events.Up p) (emptied s))
+  loose_up : (s : State) (o : OpenDialog) (p : Point) → IsFitState d s → s.dialog ≡ Some o → IsLoose (to_dialog d o (events.Up p) (with_empty_log s))
   loose_up s o p f some =
       let x = f.«open» o some in
       let e = event_from o.origin (events.Up p) in
-      let m = dialog_step x.dialog e (modal_of (emptied s) o) in
-      subst (λ found. IsLoose (works (emptied s) o (λ y n. dialog_step y e n) found)) (sym x.there)
-      (loose_work (emptied s) o m m.ended (up-lets-go x.dialog (sound-at d sound o.place x.dialog x.there) (modal_of (emptied s) o) _))
+      let m = dialog_step x.dialog e (modal_of (with_empty_log s) o) in
+      subst (λ found. IsLoose (works (with_empty_log s) o (λ y n. dialog_step y e n) found)) (sym x.there)
+      (loose_work (with_empty_log s) o m m.ended (up-lets-go x.dialog (sound-at d sound o.place x.dialog x.there) (modal_of (with_empty_log s) o) _))
 
-  not_holding : (s : State) (o : OpenDialog) → s.dialog ≡ Some o → is_some o.held ≡ false → IsLoose (emptied s)
+  not_holding : (s : State) (o : OpenDialog) → s.dialog ≡ Some o → is_some o.held ≡ false → IsLoose (with_empty_log s)
   not_holding s o some idle x e =
       let both : Some o ≡ Some x = sym some ∙ e in
       let same : o ≡ x = cc in
       subst (λ y. y.held ≡ None) same (option_cases o.held (λ h. is_some h ≡ false → h ≡ None) (λ none g. refl) (λ h is g. absurd (false≢true (sym g))) idle)
 
-  loose_at : (s : State) (p : Point) → IsFitState d s → IsLoose (step_at d (held_of s.dialog) (events.Up p) (emptied s))
+  loose_at : (s : State) (p : Point) → IsFitState d s → IsLoose (step_by_hold d (dialog_with_hold s.dialog) (events.Up p) (with_empty_log s))
   loose_at s p f =
-      option_cases s.dialog (λ x. IsLoose (step_at d (held_of x) (events.Up p) (emptied s)))
+      option_cases s.dialog (λ x. IsLoose (step_by_hold d (dialog_with_hold x) (events.Up p) (with_empty_log s)))
       (λ none x e. absurd (nothing x (sym none ∙ e)))
-      (λ o some. bool_cases (is_some o.held) (λ b. IsLoose (step_at d (if b then Some o else None) (events.Up p) (emptied s)))
+      (λ o some. bool_cases (is_some o.held) (λ b. IsLoose (step_by_hold d (if b then Some o else None) (events.Up p) (with_empty_log s)))
       (λ holds. loose_up s o p f some) (λ idle. not_holding s o some idle))
 
   -- while a frame is held no leaf is
-  loose_held : (o : OpenDialog) → held_of (Some o) ≡ None → o.held ≡ None
+  loose_held : (o : OpenDialog) → dialog_with_hold (Some o) ≡ None → o.held ≡ None
   loose_held o =
       bool_cases (is_some o.held) (λ b. is_some o.held ≡ b → (if b then Some o else None) ≡ None → o.held ≡ None)
       (λ is holds e. absurd (nothing o (sym e))) (λ is loose e. not_some o.held loose) refl
 
   loose_drop : (s : State) (p : Point) (frame : HeldFrame) → s.frame ≡ Some frame → IsFitState d s
-      → IsLoose (step_dragged d frame (events.Up p) (emptied s))
+      → IsLoose (step_dragged d frame (events.Up p) (with_empty_log s))
   loose_drop s p frame held f =
       let corner = corner_at d frame p in
-      let t = let_go (emptied s) in
+      let t = let_go (with_empty_log s) in
       let moved : IsLoose (placed s.dialog corner t) =
       option_cases s.dialog (λ x. s.dialog ≡ x → IsLoose (placed x corner t)) (λ is none x e. absurd (nothing x (sym none ∙ e)))
       (λ o is some x e.
       let same : moved_to corner o ≡ x = cc in
-      subst (λ y. y.held ≡ None) same (loose_held o (sym (ap held_of some) ∙ (f.frame frame held).leaf))) refl in
+      subst (λ y. y.held ≡ None) same (loose_held o (sym (ap dialog_with_hold some) ∙ (f.frame frame held).leaf))) refl in
       dropped-cases d IsLoose frame corner (placed s.dialog corner t) moved (λ i. moved)
 
   up_loose : (s : State) (p : Point) → IsFitState d s → IsLoose (step d s (events.Up p))
   up_loose s p f =
-      bool_cases s.is_over (λ b. s.is_over ≡ b → IsLoose (if b then emptied s else step_under d s.frame (events.Up p) (emptied s)))
+      bool_cases s.is_over (λ b. s.is_over ≡ b → IsLoose (if b then with_empty_log s else step_by_frame d s.frame (events.Up p) (with_empty_log s)))
       (λ is over x e. absurd (false≢true (sym (f.«open» x e).over ∙ over)))
-      (λ is goes. option_cases s.frame (λ frame. IsLoose (step_under d frame (events.Up p) (emptied s))) (λ free. loose_at s p f)
+      (λ is goes. option_cases s.frame (λ frame. IsLoose (step_by_frame d frame (events.Up p) (with_empty_log s))) (λ free. loose_at s p f)
       (λ frame held. loose_drop s p frame held f)) refl
 
   pub up-frees-mouse : UpFreesMouse d
@@ -154,10 +155,10 @@ module _ (d : Desc) (sound : HasSoundDialogs d) where
       option_cases (slice_get d.dialogs o.place) (λ found. (works s o work found).frame ≡ None) (λ none. free)
       (λ dialog there. same_frame s o (work dialog (modal_of s o)) (work dialog (modal_of s o)).ended ∙ free)
 
-  free_at : (s : State) (p : Point) → s.frame ≡ None → (step_at d (held_of s.dialog) (events.Up p) (emptied s)).frame ≡ None
+  free_at : (s : State) (p : Point) → s.frame ≡ None → (step_by_hold d (dialog_with_hold s.dialog) (events.Up p) (with_empty_log s)).frame ≡ None
   free_at s p free =
-      option_cases (held_of s.dialog) (λ o. (step_at d o (events.Up p) (emptied s)).frame ≡ None) (λ none. free)
-      (λ o holds. free_work (emptied s) o p free)
+      option_cases (dialog_with_hold s.dialog) (λ o. (step_by_hold d o (events.Up p) (with_empty_log s)).frame ≡ None) (λ none. free)
+      (λ o holds. free_work (with_empty_log s) o p free)
 
   free_drop : (s : State) (p : Point) (frame : HeldFrame) → (step_dragged d frame (events.Up p) s).frame ≡ None
   free_drop s p frame =
@@ -167,10 +168,10 @@ module _ (d : Desc) (sound : HasSoundDialogs d) where
 
   up_frees : (s : State) (p : Point) → IsFitState d s → (step d s (events.Up p)).frame ≡ None
   up_frees s p f =
-      option_cases s.frame (λ x. s.frame ≡ x → (if s.is_over then emptied s else step_under d x (events.Up p) (emptied s)).frame ≡ None)
-      (λ is free. bool_cases s.is_over (λ b. (if b then emptied s else step_at d (held_of s.dialog) (events.Up p) (emptied s)).frame ≡ None) (λ over. free) (λ goes. free_at s p free))
+      option_cases s.frame (λ x. s.frame ≡ x → (if s.is_over then with_empty_log s else step_by_frame d x (events.Up p) (with_empty_log s)).frame ≡ None)
+      (λ is free. bool_cases s.is_over (λ b. (if b then with_empty_log s else step_by_hold d (dialog_with_hold s.dialog) (events.Up p) (with_empty_log s)).frame ≡ None) (λ over. free) (λ goes. free_at s p free))
       (λ frame is held.
-      ap (λ b. (if b then emptied s else step_dragged d frame (events.Up p) (emptied s)).frame) (f.frame frame held).over ∙ free_drop (emptied s) p frame) refl
+      ap (λ b. (if b then with_empty_log s else step_dragged d frame (events.Up p) (with_empty_log s)).frame) (f.frame frame held).over ∙ free_drop (with_empty_log s) p frame) refl
 
   pub up-frees-frame : UpFreesFrame d
   up-frees-frame before p = up_frees (state_after d before) p (reached-fit before)
@@ -180,10 +181,10 @@ module _ (d : Desc) (sound : HasSoundDialogs d) where
   -- no dialog is open, and Esc opens none
   esc_idle : (s : State) → s.dialog ≡ None → s.frame ≡ None → (step d s escape).dialog ≡ None
   esc_idle s none free =
-      bool_cases s.is_over (λ b. (if b then emptied s else step_under d s.frame escape (emptied s)).dialog ≡ None) (λ over. none)
-      (λ goes. ap (λ frame. (step_under d frame escape (emptied s)).dialog) free ∙ ap (λ x. (step_at d (held_of x) escape (emptied s)).dialog) none
-      ∙ option_cases s.menu (λ menu. (key_at_menu d menu keys.Esc (emptied s)).dialog ≡ None)
-      (λ shut. ap (λ item. (key_at_status d item keys.Esc (emptied s)).dialog) (no_item d (emptied s)) ∙ ap (λ x. (key_below d x keys.Esc (emptied s)).dialog) none ∙ none)
+      bool_cases s.is_over (λ b. (if b then with_empty_log s else step_by_frame d s.frame escape (with_empty_log s)).dialog ≡ None) (λ over. none)
+      (λ goes. ap (λ frame. (step_by_frame d frame escape (with_empty_log s)).dialog) free ∙ ap (λ x. (step_by_hold d (dialog_with_hold x) escape (with_empty_log s)).dialog) none
+      ∙ option_cases s.menu (λ menu. (key_by_menu d menu keys.Esc (with_empty_log s)).dialog ≡ None)
+      (λ shut. ap (λ item. (key_by_item d item keys.Esc (with_empty_log s)).dialog) (no_item d (with_empty_log s)) ∙ ap (λ x. (key_by_dialog d x keys.Esc (with_empty_log s)).dialog) none ∙ none)
       (λ menu is. none))
 
   esc_loose : (s : State) → IsFitState d s → IsLoose s → s.frame ≡ None → (step d s escape).dialog ≡ None

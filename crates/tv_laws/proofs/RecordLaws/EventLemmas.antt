@@ -20,10 +20,10 @@ use Rattle.tv_machine.specs.Dialog.Modal.{Modal}
 use Rattle.tv_machine.specs.Dialog.Step.{dialog_step}
 use Rattle.tv_machine.specs.Safe.{IsSafeRecord}
 use Rattle.tv_machine.specs.Screen.Bars.{status_under}
-use Rattle.tv_machine.specs.Session.Commands.{after_work, command_by_dialog, do_command, in_dialog, logged, modal_of, saved_by, works}
+use Rattle.tv_machine.specs.Session.Commands.{after_work, command_by_dialog, do_command, in_dialog, modal_of, saved_by, with_line_logged, works}
 use Rattle.tv_machine.specs.Session.Desktop.{seen_from}
 use Rattle.tv_machine.specs.Session.Dragging.{corner_at, grabbed, is_grip_of, let_go, placed, step_dragged}
-use Rattle.tv_machine.specs.Session.Step.{down_at_menu, down_at_status, down_below, down_on_dialog, emptied, event_from, held_of, is_item_enabled, is_status_row, key_at_menu, key_at_status, key_below, status_command, status_item_of, step, step_at, step_below, step_held, step_under, to_dialog}
+use Rattle.tv_machine.specs.Session.Step.{after_event, dialog_with_hold, down_on_dialog, event_from, is_item_enabled, is_status_row, status_command, status_item_of, step, step_held, to_dialog, with_empty_log}
 use Rattle.tv_laws.specs.Ends.{IsDone, NamesEndOf, IsOpen}
 use Rattle.tv_laws.specs.Records.{IsEnd, IsEndless, IsNoEnd, ShowsSaved, end_lines}
 use Rattle.tv_laws.specs.Runs.{HasSoundDialogs, IsFitState}
@@ -33,6 +33,7 @@ use Rattle.tv_laws.proofs.DragLemmas.{dropped-cases}
 use Rattle.tv_laws.proofs.EndLemmas.{command-done}
 use Rattle.tv_laws.proofs.RecordLaws.IdleLemmas.{IsBeside, IsStill, command-beside, desktop_down-beside, desktop_key-beside, menu_down-beside, menu_key-beside}
 use Rattle.tv_machine.proofs.ListLemmas.{bool_cases, option_cases}
+use Rattle.tv_machine.proofs.StepLemmas.{down_by_dialog, down_by_menu, down_by_row, key_by_dialog, key_by_item, key_by_menu, step_by_frame, step_by_hold}
 use Rattle.tv_laws.proofs.RecordLaws.OnceLemmas.{EndsLast, HasEnded, last-command, last-step}
 use Rattle.tv_laws.proofs.RunLemmas.{given_down, given_key, given_move, given_up, menu_idle, not_some}
 use Rattle.tv_laws.proofs.RecordLaws.ShowLemmas.{standing-ids}
@@ -51,7 +52,7 @@ module _ (d : Desc) (sound : HasSoundDialogs d) (s : State) (f : IsFitState d s)
 
   -- the state with its log taken
   abbrev quiet : State
-  quiet = emptied s
+  quiet = with_empty_log s
 
   abbrev place_of : OpenDialog → ℕ
   place_of o = o.place
@@ -165,7 +166,7 @@ module _ (d : Desc) (sound : HasSoundDialogs d) (s : State) (f : IsFitState d s)
     shows = λ x was e. absurd (nothing o (sym was ∙ some));
   }
 
-  logged_calm : (i : Id) (corner : Point) (t : State) → IsCalm d s t → IsCalm d s (logged (lines.Moved i corner) t)
+  logged_calm : (i : Id) (corner : Point) (t : State) → IsCalm d s t → IsCalm d s (with_line_logged (lines.Moved i corner) t)
   logged_calm i corner t c = record {
     endless = record { log = All-push IsNoEnd t.log (lines.Moved i corner) c.endless.log tt; saved = c.endless.saved; stays = c.endless.stays };
     shows = c.shows;
@@ -203,42 +204,42 @@ module _ (d : Desc) (sound : HasSoundDialogs d) (s : State) (f : IsFitState d s)
 
     -- ---- keys
 
-    key_below_told : (k : Key) → IsTold (key_below d s.dialog k quiet)
+    key_below_told : (k : Key) → IsTold (key_by_dialog d s.dialog k quiet)
     key_below_told k =
-        option_cases s.dialog (λ x. IsTold (key_below d x k quiet)) (λ none. idle_told _ none (desktop_key-beside d sound s f.kept k quiet (still none)))
+        option_cases s.dialog (λ x. IsTold (key_by_dialog d x k quiet)) (λ none. idle_told _ none (desktop_key-beside d sound s f.kept k quiet (still none)))
         (λ o some. to_dialog_told o some (events.Key k) (given_key o.held k))
 
-    key_status_told : (item : Option StatusItem) (k : Key) → IsTold (key_at_status d item k quiet)
+    key_status_told : (item : Option StatusItem) (k : Key) → IsTold (key_by_item d item k quiet)
     key_status_told None k = key_below_told k
     key_status_told (Some item) k = command_told (command_number item.command)
 
-    key_told : (k : Key) → IsTold (key_at_menu d s.menu k quiet)
+    key_told : (k : Key) → IsTold (key_by_menu d s.menu k quiet)
     key_told k =
-        option_cases s.menu (λ o. IsTold (key_at_menu d o k quiet)) (λ none. key_status_told (status_item_of d quiet k) k)
+        option_cases s.menu (λ o. IsTold (key_by_menu d o k quiet)) (λ none. key_status_told (status_item_of d quiet k) k)
         (λ o some. let none = menu_idle d sound s o some f in idle_told _ none (menu_key-beside d sound s f.kept o k quiet (still none)))
 
     -- ---- mouse downs
 
-    down_below_told : (p : Point) → IsTold (down_below d s.dialog p quiet)
+    down_below_told : (p : Point) → IsTold (down_by_dialog d s.dialog p quiet)
     down_below_told p =
-        option_cases s.dialog (λ x. IsTold (down_below d x p quiet)) (λ none. idle_told _ none (desktop_down-beside d sound s f.kept p quiet (still none)))
+        option_cases s.dialog (λ x. IsTold (down_by_dialog d x p quiet)) (λ none. idle_told _ none (desktop_down-beside d sound s f.kept p quiet (still none)))
         (λ o some. bool_cases (is_in (desktop d) p.x p.y) (λ b. IsTold (if b then down_on_dialog d o p quiet else quiet))
         (λ inside. down_told_at o some p) (λ outside. unchanged))
 
-    down_status_told : (p : Point) → IsTold (down_at_status d p quiet)
+    down_status_told : (p : Point) → IsTold (down_by_row d p quiet)
     down_status_told p =
         bool_cases (is_in (rect (pos 0) (pos 0) d.width d.height) p.x p.y)
-        (λ b. IsTold (if not b then quiet else if is_status_row d p then status_command d (status_under d p.x) quiet else down_below d s.dialog p quiet))
-        (λ inside. bool_cases (is_status_row d p) (λ b. IsTold (if b then status_command d (status_under d p.x) quiet else down_below d s.dialog p quiet))
+        (λ b. IsTold (if not b then quiet else if is_status_row d p then status_command d (status_under d p.x) quiet else down_by_dialog d s.dialog p quiet))
+        (λ inside. bool_cases (is_status_row d p) (λ b. IsTold (if b then status_command d (status_under d p.x) quiet else down_by_dialog d s.dialog p quiet))
         (λ row. item_told (status_under d p.x)) (λ above. down_below_told p))
         (λ outside. unchanged)
 
-    down_told : (p : Point) → IsTold (down_at_menu d s.menu p quiet)
+    down_told : (p : Point) → IsTold (down_by_menu d s.menu p quiet)
     down_told p =
-        option_cases s.menu (λ o. IsTold (down_at_menu d o p quiet)) (λ none. down_status_told p)
+        option_cases s.menu (λ o. IsTold (down_by_menu d o p quiet)) (λ none. down_status_told p)
         (λ o some. let none = menu_idle d sound s o some f in idle_told _ none (menu_down-beside d sound s f.kept o p quiet (still none)))
 
-    below_told : (e : Event) → IsTold (step_below d e quiet)
+    below_told : (e : Event) → IsTold (after_event d e quiet)
     below_told (events.Key k) = key_told k
     below_told (events.Down p) = down_told p
     below_told (events.Move p) = unchanged
@@ -248,14 +249,14 @@ module _ (d : Desc) (sound : HasSoundDialogs d) (s : State) (f : IsFitState d s)
 
   -- ---- events
 
-  at_told : (e : Event) → IsTold (step_at d (held_of s.dialog) e quiet)
+  at_told : (e : Event) → IsTold (step_by_hold d (dialog_with_hold s.dialog) e quiet)
   at_told e =
-      option_cases s.dialog (λ x. IsTold (step_at d (held_of x) e quiet)) (λ none. below_told (λ o is. absurd (nothing o (sym none ∙ is))) e)
-      (λ o some. bool_cases (is_some o.held) (λ b. IsTold (step_at d (if b then Some o else None) e quiet)) (λ holds. held_told o some e)
+      option_cases s.dialog (λ x. IsTold (step_by_hold d (dialog_with_hold x) e quiet)) (λ none. below_told (λ o is. absurd (nothing o (sym none ∙ is))) e)
+      (λ o some. bool_cases (is_some o.held) (λ b. IsTold (step_by_hold d (if b then Some o else None) e quiet)) (λ holds. held_told o some e)
       (λ loose. below_told
       (λ x is. let both : Some o ≡ Some x = sym some ∙ is in let same : o ≡ x = cc in subst (λ y. y.held ≡ None) same (not_some o.held loose)) e))
 
   pub event-told : (e : Event) → IsTold (step d s e)
   event-told e =
-      bool_cases s.is_over (λ b. IsTold (if b then quiet else step_under d s.frame e quiet)) (λ over. unchanged)
-      (λ goes. option_cases s.frame (λ frame. IsTold (step_under d frame e quiet)) (λ free. at_told e) (λ frame held. dragged_told frame e))
+      bool_cases s.is_over (λ b. IsTold (if b then quiet else step_by_frame d s.frame e quiet)) (λ over. unchanged)
+      (λ goes. option_cases s.frame (λ frame. IsTold (step_by_frame d frame e quiet)) (λ free. at_told e) (λ frame held. dragged_told frame e))

@@ -23,7 +23,7 @@ use Rattle.tv_machine.specs.Dialog.Mouse.{is_close_mark}
 use Rattle.tv_machine.specs.Dialog.Opening.{first_focus, opened_dialog, opened_leaves, unfocused}
 use Rattle.tv_machine.specs.Screen.Bars.{item_under}
 use Rattle.tv_machine.specs.Screen.Bodies.{window_of}
-use Rattle.tv_machine.specs.Session.Commands.{close_front, command_by_dialog, do_command, idle_command, last_first, logged, open_dialog, open_first, open_found, opener_of, overwriting_at, own_command, saved_at}
+use Rattle.tv_machine.specs.Session.Commands.{close_front, command_by_dialog, do_command, idle_command, last_first, open_dialog, open_first, open_found, opener_of, overwriting_at, own_command, saved_at, with_line_logged}
 use Rattle.tv_machine.specs.Session.Desktop.{alt_pressed, desktop_down, desktop_key, down_beside_title, down_in_front, down_on_desktop, down_on_window, grab_window, raise, raise_found, seen_from, window_of_digit, window_under}
 use Rattle.tv_machine.specs.Session.Dragging.{grabbed, is_grip}
 use Rattle.tv_machine.specs.Session.Menu.{choose, choose_at, close_menu, down_on_item, down_on_title, item_of_letter, menu_down, menu_key, open_items, open_menu, title_at, title_of_letter}
@@ -48,8 +48,8 @@ module _ (d : Desc) (sound : HasSoundDialogs d) (s : State) (kept : IsKept d s) 
   pub still-beside : (t : State) → IsStill t → IsBeside d s t
   still-beside t i = record { log = i.0; saved = i.1; shows = λ o was e. absurd (nothing o (sym i.3 ∙ e)) }
 
-  still_logged : (line : LogLine) (t : State) → IsNoEnd line → IsStill t → IsBeside d s (logged line t)
-  still_logged line t is i = still-beside (logged line t) (All-push IsNoEnd t.log line i.0 is, i.1, i.2, i.3)
+  still_logged : (line : LogLine) (t : State) → IsNoEnd line → IsStill t → IsBeside d s (with_line_logged line t)
+  still_logged line t is i = still-beside (with_line_logged line t) (All-push IsNoEnd t.log line i.0 is, i.1, i.2, i.3)
 
   -- ---- a dialog opens
 
@@ -87,7 +87,7 @@ module _ (d : Desc) (sound : HasSoundDialogs d) (s : State) (kept : IsKept d s) 
 
   own_beside : (number : ℕ) (opener : Option ℕ) (t : State) → IsStill t → IsBeside d s (own_command d number opener t)
   own_beside number None t i =
-      bool_cases (nat_le 100 number) (λ b. IsBeside d s (if b then logged (lines.Command number) t else t))
+      bool_cases (nat_le 100 number) (λ b. IsBeside d s (if b then with_line_logged (lines.Command number) t else t))
       (λ own. still_logged (lines.Command number) t tt i) (λ low. still-beside t i)
   own_beside number (Some place) t i = opens-beside place t i
 
@@ -97,7 +97,7 @@ module _ (d : Desc) (sound : HasSoundDialogs d) (s : State) (kept : IsKept d s) 
       let next : State = record t { windows = last_first (reverse t.windows) } in
       let quit : State = record t { is_over = true } in
       bool_cases (number == 1)
-      (λ b. IsBeside d s (if b then logged lines.Quit quit else if number == 3 then open_first d.menus t else if number == 4 then close_front t.windows t else if number == 7 then next else last))
+      (λ b. IsBeside d s (if b then with_line_logged lines.Quit quit else if number == 3 then open_first d.menus t else if number == 4 then close_front t.windows t else if number == 7 then next else last))
       (λ is. still_logged lines.Quit quit tt i)
       (λ no_quit. bool_cases (number == 3) (λ b. IsBeside d s (if b then open_first d.menus t else if number == 4 then close_front t.windows t else if number == 7 then next else last))
       (λ is. first_beside d.menus t i)

@@ -1,6 +1,7 @@
 -- Commands while a dialog is open, and how it ends.
 use Rattle.std.specs.Prelude.{ℕ, Bool, ◌||◌, List, ◌∷◌, ◌++◌, map, filter_map, find, Option, Some, None}
-use Rattle.std.specs.Prelude.{option_map, ◌==◌, nat_le, if◌then◌else◌}
+use Rattle.std.specs.Prelude.{option_map, ◌==◌, if◌then◌else◌}
+use Rattle.tv_event.specs.Commands.{cm_cancel, cm_close, is_own_command}
 use Rattle.tv_model.specs.declared.node.Id.{Id}
 use Rattle.tv_model.specs.declared.kind.Kind.{Kind}
 use Rattle.tv_model.specs.declared.command.CommandSpec.{CommandSpec}
@@ -64,9 +65,9 @@ end_by d number (Some i) m = shown_invalid d i (with_line (lines.Invalid i) m)
 -- its domain; the description's own are logged; the rest do nothing
 abbrev pub command : Dialog → ℕ → Modal → Modal
 command d number m =
-    if (number == 4) || (number == 11) then ended d 11 m
+    if (number == cm_close) || (number == cm_cancel) then ended d cm_cancel m
     else if is_declared (dialog_head d).ends number then end_by d number (first_invalid d m) m
-    else if nat_le 100 number then with_line (lines.Command number) m
+    else if is_own_command number then with_line (lines.Command number) m
     else m
 
 -- a press is logged, and then its command is handled; without one nothing happens

@@ -1,6 +1,7 @@
 -- Keys while a dialog is open.
 use Rattle.std.specs.Prelude.{ℕ, Option, Some, None, find, if◌then◌else◌}
 use Rattle.std.specs.Option.{option_or}
+use Rattle.tv_event.specs.Commands.{cm_cancel}
 use Rattle.tv_event.specs.declared.event.Key.{Key}
 use Rattle.tv_event.specs.declared.event.Key.TheVariants as keys
 use Rattle.tv_model.specs.declared.desc.Dialog.{Dialog}
@@ -68,7 +69,7 @@ alt_keyed d letter (Some marker) m = act_on d letter (Some marker) m
 abbrev pub key : Dialog → Key → Modal → Modal
 key d keys.Tab m = request d (next_free (stops_of d m.leaves) m.focus) m
 key d keys.ShiftTab m = request d (previous_free (stops_of d m.leaves) m.focus) m
-key d keys.Esc m = command d 11 m
+key d keys.Esc m = command d cm_cancel m
 key d keys.Enter m = press_enabled d (enter_target d m) m
 key d (keys.Alt letter) m = alt_keyed d letter (marking_leaf d m.leaves letter) m
 key d k m = focus_keyed d k m

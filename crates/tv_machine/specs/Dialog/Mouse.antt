@@ -4,6 +4,7 @@ use Rattle.std.specs.Int.{int_gap}
 use Rattle.std.specs.Ordering.{int_eq}
 use Rattle.tv_cells.specs.Layers.{is_in}
 use Rattle.tv_cells.specs.declared.rect.Point.{Point}
+use Rattle.tv_event.specs.Commands.{cm_close}
 use Rattle.tv_model.specs.declared.kind.Kind.{Kind}
 use Rattle.tv_model.specs.Kinds.{behaviour}
 use Rattle.tv_model.specs.Controls.Behaviour.{Down, Ignores, FocusesLink, Grips, Holds, Answer, Passed}
@@ -89,7 +90,7 @@ down_at d (Some leaf) p m = down_on d leaf leaf.node.kind p m
 
 -- a mouse down on the dialog while nothing holds the mouse: the close mark gives the command `close`
 abbrev pub down : Dialog → Point → Modal → Modal
-down d p m = if is_close_mark p then command d 4 m else down_at d (topmost_leaf d m p) p m
+down d p m = if is_close_mark p then command d cm_close m else down_at d (topmost_leaf d m p) p m
 
 -- ---- move and up
 

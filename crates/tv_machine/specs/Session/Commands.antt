@@ -1,6 +1,7 @@
 -- Commands, by whether a dialog is open.
 use Rattle.std.specs.Prelude.{[], ℕ, true, not, pos, List, ◌∷◌, ◌++◌, filter, position, reverse, Option}
-use Rattle.std.specs.Prelude.{Some, None, slice_get, slice_set, unwrap_or, ◌==◌, nat_le, if◌then◌else◌}
+use Rattle.std.specs.Prelude.{Some, None, slice_get, slice_set, unwrap_or, ◌==◌, if◌then◌else◌}
+use Rattle.tv_event.specs.Commands.{cm_cancel, cm_close, cm_menu, cm_next, cm_quit, is_own_command}
 use Rattle.tv_model.specs.declared.node.Id.{Id}
 use Rattle.tv_model.specs.declared.desc.Desc.{Desc}
 use Rattle.tv_model.specs.declared.desc.Dialog.{Dialog}
@@ -17,8 +18,8 @@ use Rattle.tv_machine.specs.Dialog.Ending.{command, fields_of}
 use Rattle.tv_machine.specs.Dialog.Opening.{opened_dialog}
 
 -- one line more in the log
-abbrev pub logged : LogLine → State → State
-logged line s = record s { log = s.log ++ line ∷ [] }
+abbrev pub with_line_logged : LogLine → State → State
+with_line_logged line s = record s { log = s.log ++ line ∷ [] }
 
 -- ---- the open dialog
 
@@ -55,7 +56,7 @@ worked s place m = record s {
 -- the record of an ended dialog is saved, unless it ended by `cancel`
 abbrev pub saved_by : ℕ → ℕ → Modal → List (Option Entries) → List (Option Entries)
 saved_by place number m saved =
-    if number == 11 then saved else slice_set saved place (Some (fields_of m.leaves))
+    if number == cm_cancel then saved else slice_set saved place (Some (fields_of m.leaves))
 
 -- the state after the dialog's work: it stands, or it ended by a command
 abbrev pub after_work : State → OpenDialog → Modal → Option ℕ → State
@@ -76,7 +77,7 @@ in_dialog d s o work = works s o work (slice_get d.dialogs o.place)
 
 -- a dialog opens where it is declared
 abbrev pub opened_at : State → ℕ → Dialog → Modal → State
-opened_at s place dialog m = record (worked (logged (lines.Open dialog.node.id) s) place m) {
+opened_at s place dialog m = record (worked (with_line_logged (lines.Open dialog.node.id) s) place m) {
   dialog =
       Some
       (record {
@@ -112,7 +113,7 @@ last_first (w ∷ behind) = w ∷ reverse behind
 -- the front window closes
 abbrev pub close_front : List OpenWindow → State → State
 close_front [] s = s
-close_front (w ∷ behind) s = logged (lines.Close w.id) (record s { windows = behind })
+close_front (w ∷ behind) s = with_line_logged (lines.Close w.id) (record s { windows = behind })
 
 -- ---- commands
 
@@ -122,7 +123,7 @@ opener_of d number = position (λ dialog. is_option_number (pos number) (dialog_
 
 -- a command of the description's own: its dialog opens, or it is logged
 abbrev pub own_command : Desc → ℕ → Option ℕ → State → State
-own_command d number None s = if nat_le 100 number then logged (lines.Command number) s else s
+own_command d number None s = if is_own_command number then with_line_logged (lines.Command number) s else s
 own_command d number (Some place) s = open_dialog d place s
 
 -- the first menu opens with its first item, if there is one
@@ -133,10 +134,10 @@ open_first (menu ∷ menus) s = record s { menu = Some (record { menu = 0; item 
 -- a command while no dialog is open: `quit`, `menu`, `close`, `next`, and the description's own
 abbrev pub idle_command : Desc → ℕ → State → State
 idle_command d number s =
-    if number == 1 then logged lines.Quit (record s { is_over = true })
-    else if number == 3 then open_first d.menus s
-    else if number == 4 then close_front s.windows s
-    else if number == 7 then record s { windows = last_first (reverse s.windows) }
+    if number == cm_quit then with_line_logged lines.Quit (record s { is_over = true })
+    else if number == cm_menu then open_first d.menus s
+    else if number == cm_close then close_front s.windows s
+    else if number == cm_next then record s { windows = last_first (reverse s.windows) }
     else own_command d number (opener_of d number) s
 
 -- a command, by whether a dialog is open

@@ -5,6 +5,7 @@ use Rattle.std.specs.Prelude.{◌-◌, nat_le, if◌then◌else◌}
 use Rattle.std.specs.Ordering.{int_eq}
 use Rattle.tv_cells.specs.Layers.{is_in}
 use Rattle.tv_cells.specs.declared.rect.Point.{Point}
+use Rattle.tv_event.specs.Commands.{cm_close}
 use Rattle.tv_event.specs.declared.event.Key.{Key}
 use Rattle.tv_event.specs.declared.event.Key.TheVariants as keys
 use Rattle.tv_model.specs.declared.node.Id.{Id}
@@ -82,7 +83,8 @@ grab_window (Some window) w p s =
 -- row beside that
 abbrev pub down_in_front : Desc → OpenWindow → Point → State → State
 down_in_front d w p s =
-    if is_close_mark (seen_from w.origin p) then do_command d 4 s else grab_window (window_of d w.id) w p s
+    if is_close_mark (seen_from w.origin p) then do_command d cm_close s
+    else grab_window (window_of d w.id) w p s
 
 -- a window that isn't the front one comes to the front, and nothing else is done
 abbrev pub down_on_window : Desc → List OpenWindow → OpenWindow → Point → State → State

@@ -11,7 +11,7 @@ use Rattle.tv_model.specs.declared.node.Id.{Id}
 use Rattle.tv_model.specs.declared.log.LogLine.TheVariants as lines
 use Rattle.tv_machine.specs.State.{HeldFrame, OpenDialog, OpenWindow, State}
 use Rattle.tv_machine.specs.Dialog.Mouse.{is_close_mark}
-use Rattle.tv_machine.specs.Session.Commands.{logged}
+use Rattle.tv_machine.specs.Session.Commands.{with_line_logged}
 
 -- ---- what is held
 
@@ -61,7 +61,7 @@ is_same_point p q = int_eq p.x q.x && int_eq p.y q.y
 
 -- that a frame came here is logged
 abbrev pub logged_moved : Id → Point → State → State
-logged_moved i corner s = logged (lines.Moved i corner) s
+logged_moved i corner s = with_line_logged (lines.Moved i corner) s
 
 abbrev pub moved_dialog : Option Dialog → Point → State → State
 moved_dialog None corner s = s

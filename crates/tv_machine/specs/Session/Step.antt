@@ -13,7 +13,7 @@ use Rattle.tv_model.specs.declared.desc.StatusItem.{StatusItem}
 use Rattle.tv_model.specs.Description.Commands.{command_number}
 use Rattle.tv_model.specs.Description.Rectangles.{rect, desktop}
 use Rattle.tv_model.specs.Faults.Letters.{is_same_key}
-use Rattle.tv_machine.specs.State.{State, HeldFrame, OpenDialog, OpenMenu}
+use Rattle.tv_machine.specs.State.{State, OpenDialog}
 use Rattle.tv_machine.specs.Screen.Bars.{status_under}
 use Rattle.tv_machine.specs.Dialog.Step.{dialog_step}
 use Rattle.tv_machine.specs.Session.Enabled.{is_enabled_now}
@@ -37,6 +37,11 @@ event_from corner (events.Broadcast c) = events.Broadcast c
 abbrev pub to_dialog : Desc → OpenDialog → Event → State → State
 to_dialog d o e s = in_dialog d s o (λ dialog m. dialog_step dialog (event_from o.origin e) m)
 
+-- the open dialog, where a leaf of it holds the mouse
+abbrev pub dialog_with_hold : Option OpenDialog → Option OpenDialog
+dialog_with_hold None = None
+dialog_with_hold (Some o) = if is_some o.held then Some o else None
+
 -- ---- the status line
 
 -- the last row of the screen
@@ -57,91 +62,69 @@ status_command d None s = s
 status_command d (Some item) s =
     if is_item_enabled d s item then do_command d (command_number item.command) s else s
 
--- ---- keys
+-- ---- while nothing holds the mouse
 
--- a key that is no status item's, with a dialog or without one
-abbrev pub key_below : Desc → Option OpenDialog → Key → State → State
-key_below d None k s = desktop_key d k s
-key_below d (Some o) k s = to_dialog d o (events.Key k) s
+-- after a key. The first of these that there is takes it: the open menu, an enabled status item that has the
+-- key, the open dialog, the desktop
+abbrev pub after_key : Desc → Key → State → State
+after_key d k s =
+    elim s.menu [
+      | Some menu ↦ menu_key d menu k s
+      | None ↦ elim (status_item_of d s k) [
+        | Some item ↦ do_command d (command_number item.command) s
+        | None ↦ elim s.dialog [ Some o ↦ to_dialog d o (events.Key k) s | None ↦ desktop_key d k s ]
+      ]
+    ]
 
--- a key while no menu is open: an enabled status item's gives its command
-abbrev pub key_at_status : Desc → Option StatusItem → Key → State → State
-key_at_status d None k s = key_below d s.dialog k s
-key_at_status d (Some item) k s = do_command d (command_number item.command) s
-
--- a key, by whether a menu is open
-abbrev pub key_at_menu : Desc → Option OpenMenu → Key → State → State
-key_at_menu d None k s = key_at_status d (status_item_of d s k) k s
-key_at_menu d (Some o) k s = menu_key d o k s
-
--- ---- mouse downs
-
--- a down on the desktop while a dialog is open: its top row is held, and anything else is the dialog's
+-- after a down on the desktop while a dialog is open: its top row is held, and anything else is the dialog's
 abbrev pub down_on_dialog : Desc → OpenDialog → Point → State → State
 down_on_dialog d o p s =
     if is_grip_of (slice_get d.dialogs o.place) (seen_from o.origin p) then grabbed o.origin p s
     else to_dialog d o (events.Down p) s
 
--- a down with a dialog or without one: with one only the desktop counts
-abbrev pub down_below : Desc → Option OpenDialog → Point → State → State
-down_below d None p s = desktop_down d p s
-down_below d (Some o) p s = if is_in (desktop d) p.x p.y then down_on_dialog d o p s else s
+-- after a down. An open menu takes it. With none it does nothing off the screen, and is the status line's on
+-- the last row; elsewhere an open dialog gets what is on the desktop, and without one titles and windows do
+abbrev pub after_down : Desc → Point → State → State
+after_down d p s =
+    elim s.menu [
+      | Some menu ↦ menu_down d menu p s
+      | None ↦
+          if not (is_in (rect (pos 0) (pos 0) d.width d.height) p.x p.y) then s
+          else if is_status_row d p then status_command d (status_under d p.x) s
+          else elim s.dialog [
+            | Some o ↦ if is_in (desktop d) p.x p.y then down_on_dialog d o p s else s
+            | None ↦ desktop_down d p s
+          ]
+    ]
 
--- a down while no menu is open; off the screen it does nothing
-abbrev pub down_at_status : Desc → Point → State → State
-down_at_status d p s =
-    if not (is_in (rect (pos 0) (pos 0) d.width d.height) p.x p.y) then s
-    else if is_status_row d p then status_command d (status_under d p.x) s
-    else down_below d s.dialog p s
+-- after an event: moves and ups do nothing, nor do commands and broadcasts that are handed in
+abbrev pub after_event : Desc → Event → State → State
+after_event d (events.Key k) s = after_key d k s
+after_event d (events.Down p) s = after_down d p s
+after_event d _ s = s
 
--- a down, by whether a menu is open
-abbrev pub down_at_menu : Desc → Option OpenMenu → Point → State → State
-down_at_menu d None p s = down_at_status d p s
-down_at_menu d (Some o) p s = menu_down d o p s
+-- ---- while a leaf of the open dialog holds the mouse
 
--- ---- the held mouse
-
--- the leaf that holds the mouse
-abbrev pub held_of : Option OpenDialog → Option OpenDialog
-held_of None = None
-held_of (Some o) = if is_some o.held then Some o else None
-
--- an event while nothing holds the mouse: moves and ups do nothing, nor do commands and broadcasts that are
--- handed in
-abbrev pub step_below : Desc → Event → State → State
-step_below d (events.Key k) s = key_at_menu d s.menu k s
-step_below d (events.Down p) s = down_at_menu d s.menu p s
-step_below d (events.Move p) s = s
-step_below d (events.Up p) s = s
-step_below d (events.Command c) s = s
-step_below d (events.Broadcast c) s = s
-
--- an event while a leaf of the open dialog holds the mouse: moves and ups go to it, and nothing else does
--- anything
+-- moves and ups go to the dialog, and nothing else does anything
 abbrev pub step_held : Desc → OpenDialog → Event → State → State
 step_held d o (events.Move p) s = to_dialog d o (events.Move p) s
 step_held d o (events.Up p) s = to_dialog d o (events.Up p) s
-step_held d o (events.Key k) s = s
-step_held d o (events.Down p) s = s
-step_held d o (events.Command c) s = s
-step_held d o (events.Broadcast c) s = s
-
--- an event, by whether a leaf holds the mouse
-abbrev pub step_at : Desc → Option OpenDialog → Event → State → State
-step_at d None e s = step_below d e s
-step_at d (Some o) e s = step_held d o e s
+step_held d o _ s = s
 
 -- ---- the step
 
--- an event, by whether a frame is held
-abbrev pub step_under : Desc → Option HeldFrame → Event → State → State
-step_under d None e s = step_at d (held_of s.dialog) e s
-step_under d (Some f) e s = step_dragged d f e s
-
--- the state with no log
-abbrev pub emptied : State → State
-emptied s = record s { log = [] }
+-- the state with an empty log
+abbrev pub with_empty_log : State → State
+with_empty_log s = record s { log = [] }
 
 -- one event: the log is emptied, and nothing more happens once the run is over
 abbrev pub step : Desc → State → Event → State
-step d s e = if s.is_over then emptied s else step_under d s.frame e (emptied s)
+step d s e =
+    if s.is_over then with_empty_log s
+    else elim s.frame [
+      | Some frame ↦ step_dragged d frame e (with_empty_log s)
+      | None ↦ elim (dialog_with_hold s.dialog) [
+        | Some o ↦ step_held d o e (with_empty_log s)
+        | None ↦ after_event d e (with_empty_log s)
+      ]
+    ]

@@ -1,6 +1,7 @@
 -- Commands by their numbers, and the commands of dialogs and buttons.
 use Rattle.std.specs.Prelude.{ℕ, Bool, false, ◌&&◌, ◌||◌, Option, ◌==◌, true}
 use Rattle.std.specs.Ordering.{int_eq}
+use Rattle.tv_event.specs.Commands.{cm_cancel, cm_close, cm_menu, cm_next, cm_no, cm_ok, cm_quit, cm_yes}
 use Rattle.tv_model.specs.declared.kind.Kind.{Kind}
 use Rattle.tv_model.specs.declared.kind.Kind.TheVariants as kinds
 use Rattle.tv_model.specs.Kinds.{behaviour}
@@ -11,14 +12,14 @@ use Rattle.tv_model.specs.Description.Numbers.{natural}
 
 -- the number of a command
 abbrev pub command_number : CommandSpec → ℕ
-command_number commands.Quit = 1
-command_number commands.Menu = 3
-command_number commands.Close = 4
-command_number commands.Next = 7
-command_number commands.Ok = 10
-command_number commands.Cancel = 11
-command_number commands.Yes = 12
-command_number commands.No = 13
+command_number commands.Quit = cm_quit
+command_number commands.Menu = cm_menu
+command_number commands.Close = cm_close
+command_number commands.Next = cm_next
+command_number commands.Ok = cm_ok
+command_number commands.Cancel = cm_cancel
+command_number commands.Yes = cm_yes
+command_number commands.No = cm_no
 command_number (commands.Number n) = natural n
 
 -- a window has no ends
@@ -28,11 +29,11 @@ no_ends = record { ok = false; cancel = false; yes = false; no = false }
 -- whether the command is one of `ok`, `yes` and `no` that the dialog declares
 abbrev pub is_declared : Ends → ℕ → Bool
 is_declared ends number =
-    ((number == 10) && ends.ok) || (((number == 12) && ends.yes) || ((number == 13) && ends.no))
+    ((number == cm_ok) && ends.ok) || (((number == cm_yes) && ends.yes) || ((number == cm_no) && ends.no))
 
 -- the command is among the dialog's ends
 abbrev pub is_end : Ends → ℕ → Bool
-is_end ends number = ((number == 11) && ends.cancel) || is_declared ends number
+is_end ends number = ((number == cm_cancel) && ends.cancel) || is_declared ends number
 
 -- the command that a button gives
 abbrev pub command_of : Kind → Option CommandSpec

@@ -1,13 +1,9 @@
 -- Static texts.
-use Rattle.std.specs.Prelude.{[], ℕ, Bool, not, ◌∷◌, filter, map, ◌==◌}
+use Rattle.std.specs.Prelude.{[], not, ◌∷◌, filter, map}
 use Rattle.tv_palette.specs.declared.role.Role.TheVariants as roles
 use Rattle.tv_model.specs.declared.kind.StaticText.{StaticText}
 use Rattle.tv_model.specs.Controls.Behaviour.{Behaviour, plain}
-use Rattle.tv_model.specs.Screen.Faces.{text_face}
-
--- the character that ends a line
-abbrev pub is_line_end : ℕ → Bool
-is_line_end ch = ch == 10
+use Rattle.tv_model.specs.Screen.Faces.{is_line_end, text_face}
 
 abbrev pub static_text : StaticText → Behaviour
 static_text shown = record plain {

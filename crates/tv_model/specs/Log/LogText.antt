@@ -4,6 +4,7 @@ use Rattle.std.specs.Prelude.{unwrap_or, encode_utf8, codes, decimal, ◌-◌, �
 use Rattle.std.specs.Prelude.{if◌then◌else◌}
 use Rattle.std.specs.List.{range_with_len}
 use Rattle.std.specs.Fmt.{signed_decimal}
+use Rattle.tv_event.specs.Commands.{cm_cancel, cm_ok, cm_yes}
 use Rattle.tv_model.specs.declared.node.Id.{Id}
 use Rattle.tv_model.specs.declared.node.Node.{Node}
 use Rattle.tv_model.specs.declared.desc.Desc.{Desc}
@@ -30,9 +31,9 @@ name_text d i = bytes_of (name_of_node (node_of (all_nodes d) i))
 -- the word of an end command
 abbrev pub end_word : ℕ → List ℕ
 end_word number =
-    if number == 10 then codes "ok"
-    else if number == 11 then codes "cancel"
-    else if number == 12 then codes "yes"
+    if number == cm_ok then codes "ok"
+    else if number == cm_cancel then codes "cancel"
+    else if number == cm_yes then codes "yes"
     else codes "no"
 
 -- a quoted text: `"` and `\` are escaped

@@ -102,6 +102,10 @@ frame_face w h title look x y =
 
 -- ---- static texts
 
+-- the character that ends a line
+abbrev pub is_line_end : ℕ → Bool
+is_line_end ch = ch == 10
+
 -- the pieces of a text between its line ends
 abbrev pub onto_first_piece : ℕ → List (List ℕ) → List (List ℕ)
 onto_first_piece ch [] = (ch ∷ []) ∷ []
@@ -110,7 +114,8 @@ onto_first_piece ch (piece ∷ pieces) = (ch ∷ piece) ∷ pieces
 -- the pieces, at least one
 abbrev pub pieces_of : List ℕ → List (List ℕ)
 pieces_of [] = [] ∷ []
-pieces_of (ch ∷ chars) = if ch == 10 then [] ∷ pieces_of chars else onto_first_piece ch (pieces_of chars)
+pieces_of (ch ∷ chars) =
+    if is_line_end ch then [] ∷ pieces_of chars else onto_first_piece ch (pieces_of chars)
 
 -- a piece a row
 abbrev pub text_face : List ℕ → ℕ → FaceOf
