@@ -4,7 +4,7 @@ ghost use Rattle.std.specs.Prelude.{◌≡◌, filter, map, not};
 ghost use Rattle.std.specs.List.{list_any};
 ghost use Rattle.tv_cells.specs.Glyph.{is_narrow};
 ghost use Rattle.tv_model.specs.Kinds.InputLine.{domain_texts};
-ghost use Rattle.tv_model.specs.Kinds.StaticText.{is_line_end};
+ghost use Rattle.tv_model.specs.Screen.Faces.{is_line_end};
 ghost use Rattle.tv_model.specs.Faults.Texts.{has_wide, is_wide_text};
 
 use tv_cells::is_narrow;

@@ -1,4 +1,5 @@
 -- The words of a line, and the texts that spell a value by lists of words; how they are read is in Reading.
+pub mod Characters
 pub mod Lines
 pub mod LinesLeft
 pub mod Words

@@ -2,6 +2,7 @@
 use Rattle.std.specs.Prelude.{ℕ, List, [], ◌∷◌, ◌++◌, Bool, true, false, Option, Some, None, option_and_then}
 use Rattle.std.specs.Prelude.{option_to_list, ◌==◌, if◌then◌else◌}
 use Rattle.std.specs.Option.{option_map}
+use Rattle.tv_words.specs.Characters.{backslash, letter_n, quote, space}
 use Rattle.tv_words.specs.declared.tokens.Place.{Place}
 use Rattle.tv_words.specs.declared.tokens.Place.TheVariants.{Between, InBare, InQuoted, InEscape, Closed}
 use Rattle.tv_words.specs.declared.word.Word.{Word}
@@ -11,13 +12,14 @@ use Rattle.tv_words.specs.Tokens.{at_most_three}
 
 -- the place after a character
 abbrev pub next_place : Place → ℕ → Option Place
-next_place Between c = if c == 32 then Some Between else if c == 34 then Some InQuoted else Some InBare
-next_place InBare c = if c == 32 then Some Between else if c == 34 then None else Some InBare
-next_place InQuoted c = if c == 34 then Some Closed else if c == 92 then Some InEscape else Some InQuoted
+next_place Between c = if c == space then Some Between else if c == quote then Some InQuoted else Some InBare
+next_place InBare c = if c == space then Some Between else if c == quote then None else Some InBare
+next_place InQuoted c =
+    if c == quote then Some Closed else if c == backslash then Some InEscape else Some InQuoted
 next_place InEscape c =
-    if c == 34 then Some InQuoted
-    else if c == 92 then Some InQuoted else if c == 110 then Some InQuoted else None
-next_place Closed c = if c == 32 then Some Between else None
+    if c == quote then Some InQuoted
+    else if c == backslash then Some InQuoted else if c == letter_n then Some InQuoted else None
+next_place Closed c = if c == space then Some Between else None
 
 -- a place where a line may end
 abbrev pub may_end_line : Place → Bool
@@ -30,8 +32,8 @@ may_end_line Closed = true
 -- the word that begins with this character, if one does
 abbrev pub word_begun : Place → ℕ → List ℕ → Option Word
 word_begun Between c cs =
-    if c == 32 then None
-    else if c == 34 then Some (Quoted (text_from false cs)) else Some (Bare (bare_text (c ∷ cs)))
+    if c == space then None
+    else if c == quote then Some (Quoted (text_from false cs)) else Some (Bare (bare_text (c ∷ cs)))
 word_begun InBare c cs = None
 word_begun InQuoted c cs = None
 word_begun InEscape c cs = None

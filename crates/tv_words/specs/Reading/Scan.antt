@@ -1,6 +1,7 @@
 -- Reading the words of a line, character by character.
 use Rattle.std.specs.Prelude.{ℕ, List, [], ◌∷◌, ◌++◌, Option, Some, None, option_and_then, ◌==◌}
 use Rattle.std.specs.Prelude.{if◌then◌else◌}
+use Rattle.tv_words.specs.Characters.{backslash, letter_n, line_feed, quote, space}
 use Rattle.tv_words.specs.declared.word.Word.{Word}
 use Rattle.tv_words.specs.declared.word.Word.TheVariants.{Bare, Quoted}
 use Rattle.tv_words.specs.declared.scan.Mode.{Mode}
@@ -15,19 +16,19 @@ at words mode = record { words = words; mode = mode }
 -- one character more, by the mode
 abbrev pub character_taken : List Word → Mode → ℕ → Option Scanner
 character_taken ws Between c =
-    if c == 32 then Some (at ws Between)
-    else if c == 34 then Some (at ws (InQuoted [])) else Some (at ws (InBare (c ∷ [])))
+    if c == space then Some (at ws Between)
+    else if c == quote then Some (at ws (InQuoted [])) else Some (at ws (InBare (c ∷ [])))
 character_taken ws (InBare text) c =
-    if c == 32 then Some (at (ws ++ Bare text ∷ []) Between)
-    else if c == 34 then None else Some (at ws (InBare (text ++ c ∷ [])))
+    if c == space then Some (at (ws ++ Bare text ∷ []) Between)
+    else if c == quote then None else Some (at ws (InBare (text ++ c ∷ [])))
 character_taken ws (InQuoted text) c =
-    if c == 34 then Some (at (ws ++ Quoted text ∷ []) Closed)
-    else if c == 92 then Some (at ws (InEscape text)) else Some (at ws (InQuoted (text ++ c ∷ [])))
+    if c == quote then Some (at (ws ++ Quoted text ∷ []) Closed)
+    else if c == backslash then Some (at ws (InEscape text)) else Some (at ws (InQuoted (text ++ c ∷ [])))
 character_taken ws (InEscape text) c =
-    if c == 34 then Some (at ws (InQuoted (text ++ 34 ∷ [])))
-    else if c == 92 then Some (at ws (InQuoted (text ++ 92 ∷ [])))
-    else if c == 110 then Some (at ws (InQuoted (text ++ 10 ∷ []))) else None
-character_taken ws Closed c = if c == 32 then Some (at ws Between) else None
+    if c == quote then Some (at ws (InQuoted (text ++ quote ∷ [])))
+    else if c == backslash then Some (at ws (InQuoted (text ++ backslash ∷ [])))
+    else if c == letter_n then Some (at ws (InQuoted (text ++ line_feed ∷ []))) else None
+character_taken ws Closed c = if c == space then Some (at ws Between) else None
 
 -- one character more
 abbrev pub take_char : Scanner → ℕ → Option Scanner
