@@ -2,6 +2,7 @@
 use Rattle.std.specs.Prelude.{◌≡◌, ◌≤◌, ◌⊎◌, ℕ, Bool, true, false, List, [], ◌∷◌, length, IsTrue, None}
 use Rattle.std.specs.Prelude.{is_some}
 use Rattle.tv_cells.specs.declared.rect.Point.{Point}
+use Rattle.tv_event.specs.Commands.{cm_default}
 use Rattle.tv_event.specs.declared.event.Command.{Command}
 use Rattle.tv_event.specs.declared.event.Event.{Event}
 use Rattle.tv_event.specs.declared.event.Event.TheVariants as events
@@ -140,7 +141,7 @@ IsReadyForAll d m (events.Down p) = ⊥
 IsReadyForAll d m (events.Up p) = IsReadyForHeld d m p
 IsReadyForAll d m (events.Move p) = IsReadyForHeld d m p
 IsReadyForAll d m (events.Command c) = ⊥
-IsReadyForAll d m (events.Broadcast c) = IsFresh m × (c.0 ≡ 14)
+IsReadyForAll d m (events.Broadcast c) = IsFresh m × (c.0 ≡ cm_default)
 
 abbrev pub IsReadyFor : Dialog → Modal → Event → Type 0
 IsReadyFor d m (events.Key k) = IsReadyForKey d m k
@@ -148,4 +149,4 @@ IsReadyFor d m (events.Down p) = IsReadyForDown m p
 IsReadyFor d m (events.Up p) = IsReadyForHeld d m p
 IsReadyFor d m (events.Move p) = IsReadyForHeld d m p
 IsReadyFor d m (events.Command c) = length m.log ≤ 1
-IsReadyFor d m (events.Broadcast c) = IsFresh m × (c.0 ≡ 14)
+IsReadyFor d m (events.Broadcast c) = IsFresh m × (c.0 ≡ cm_default)

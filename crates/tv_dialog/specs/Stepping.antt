@@ -1,5 +1,6 @@
 -- What a dialog makes of an event that it is handed.
 use Rattle.std.specs.Prelude.{◌≡◌, ℕ, Bool, [], Option, Some, None, if◌then◌else◌}
+use Rattle.tv_event.specs.Commands.{cm_cancel, cm_close, cm_default}
 use Rattle.tv_event.specs.declared.event.Event.{Event}
 use Rattle.tv_event.specs.declared.event.Event.TheVariants as events
 use Rattle.tv_event.specs.declared.event.Key.{Key}
@@ -17,15 +18,15 @@ use Rattle.tv_dialog.specs.Standing.{stop_in}
 abbrev pub posted_key : Key → Option Event
 posted_key keys.Tab = None
 posted_key keys.ShiftTab = None
-posted_key keys.Esc = Some (events.Command (record { 0 = 11 }))
-posted_key keys.Enter = Some (events.Broadcast (record { 0 = 14 }))
+posted_key keys.Esc = Some (events.Command (record { 0 = cm_cancel }))
+posted_key keys.Enter = Some (events.Broadcast (record { 0 = cm_default }))
 posted_key k = Some (events.Key k)
 
 -- the same for an event
 abbrev pub posted_free : Event → Option Event
 posted_free (events.Key k) = posted_key k
 posted_free (events.Down p) =
-    if is_close_mark p then Some (events.Command (record { 0 = 4 })) else Some (events.Down p)
+    if is_close_mark p then Some (events.Command (record { 0 = cm_close })) else Some (events.Down p)
 posted_free (events.Command c) = Some (events.Command c)
 posted_free (events.Up p) = None
 posted_free (events.Move p) = None

@@ -5,7 +5,7 @@ use Rattle.tv_model.specs.declared.desc.Desc.{Desc}
 use Rattle.tv_view.specs.Meaning.{Leaf}
 use Rattle.tv_machine.specs.State.{OpenDialog, State}
 use Rattle.tv_machine.specs.Session.Enabled.{enabled_by, enabled_in, is_enabled_now}
-use Rattle.tv_machine.specs.Session.Step.{held_of}
+use Rattle.tv_machine.specs.Session.Step.{dialog_with_hold}
 use Rattle.tv_machine.proofs.ListLemmas.{option_cases}
 use Rattle.tv_group.specs.Calls.{any_holds}
 use Rattle.tv_group.specs.Opened.{opened}
@@ -65,13 +65,13 @@ module _ {V : Type 0} (look : V → Leaf) (d : Desc) (s : State) (dialogs : Dial
   enabled-none e number less = are.commands number less ∙ sym (ap (λ o. enabled_in d o number) (current-none e))
 
 module _ {V : Type 0} (look : V → Leaf) (d : Desc) (s : State) (dialogs : DialogsOf V) (run : AreOfRun look d s dialogs) where
-  pub held-some : (k : Kept V) → Some k ≡ kept_at dialogs dialogs.open → any_holds (opened look k.dialog.body) ≡ is_some (held_of s.dialog)
+  pub held-some : (k : Kept V) → Some k ≡ kept_at dialogs dialogs.open → any_holds (opened look k.dialog.body) ≡ is_some (dialog_with_hold s.dialog)
   held-some k e =
       let x = current-some look d s dialogs run.are k e in
       let m = at_work s x.o x.among.kept.dialog.log.items in
       ap (λ y. any_holds (opened look y.dialog.body)) (sym x.same) ∙ ap any_holds x.among.stands.tree
       ∙ any-holds x.among.dialog x.o.leaves m (holds-leaf d s x.o x.is run.fit x.among.dialog x.among.there)
-      ∙ sym (ap (λ o. is_some (held_of o)) x.is ∙ some-kept (is_some x.o.held) x.o)
+      ∙ sym (ap (λ o. is_some (dialog_with_hold o)) x.is ∙ some-kept (is_some x.o.held) x.o)
 
-  pub held-none : None ≡ kept_at dialogs dialogs.open → false ≡ is_some (held_of s.dialog)
-  held-none e = sym (ap (λ o. is_some (held_of o)) (current-none look d s dialogs run.are e))
+  pub held-none : None ≡ kept_at dialogs dialogs.open → false ≡ is_some (dialog_with_hold s.dialog)
+  held-none e = sym (ap (λ o. is_some (dialog_with_hold o)) (current-none look d s dialogs run.are e))

@@ -7,7 +7,7 @@ use Rattle.tv_model.specs.declared.desc.Desc.{Desc}
 use Rattle.tv_machine.specs.State.{OpenDialog, State}
 use Rattle.tv_machine.specs.Session.Commands.{modal_of}
 use Rattle.tv_machine.specs.Session.Dragging.{placed}
-use Rattle.tv_machine.specs.Session.Step.{held_of}
+use Rattle.tv_machine.specs.Session.Step.{dialog_with_hold}
 use Rattle.tv_view.specs.Meaning.{Leaf}
 use Rattle.tv_dialog.proofs.StandsLemmas.{some-kept}
 use Rattle.tv_dialogs.specs.Dialogs.{AreDialogs, IsOpenAmong, at_work}
@@ -51,7 +51,7 @@ module _ {V : Type 0} (look : V → Leaf) (d : Desc) (s : State) (old new : Dial
               })
               (λ j apart. (refl, refl));
           place = opens ∙ are.place ∙ ap (λ x. option_map (λ y. y.place) x) is;
-          held = held ∙ are.held ∙ ap (λ x. is_some (held_of x)) is ∙ some-kept (is_some o.held) o ∙ sym (some-kept (is_some o.held) moved);
+          held = held ∙ are.held ∙ ap (λ x. is_some (dialog_with_hold x)) is ∙ some-kept (is_some o.held) o ∙ sym (some-kept (is_some o.held) moved);
           at = λ q e. subst (λ x. IsOpenAmong look d t x new.kept.items) (same-some moved q e)
               (record {
                 dialog = among.dialog;

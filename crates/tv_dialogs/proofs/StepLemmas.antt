@@ -16,7 +16,7 @@ use Rattle.tv_machine.specs.Dialog.Ending.{fields_of}
 use Rattle.tv_machine.specs.Dialog.Modal.{Modal}
 use Rattle.tv_machine.specs.Dialog.Step.{dialog_step}
 use Rattle.tv_machine.specs.Session.Commands.{after_work, modal_of, overwriting_at, works}
-use Rattle.tv_machine.specs.Session.Step.{event_from, held_of, to_dialog}
+use Rattle.tv_machine.specs.Session.Step.{dialog_with_hold, event_from, to_dialog}
 use Rattle.tv_machine.specs.Screen.Layers.{open_layers}
 use Rattle.tv_machine.proofs.ListLemmas.{option_cases}
 use Rattle.tv_group.specs.Calls.{all_gathered, any_holds}
@@ -122,7 +122,7 @@ module _ {V : Type 0} (look : V → Leaf) (d : Desc) (s : State) (old : DialogsO
   -- ---- the mouse
 
   was-held : old.is_held ≡ is_some o.held
-  was-held = run.are.held ∙ ap (λ x. is_some (held_of x)) is ∙ some-kept (is_some o.held) o
+  was-held = run.are.held ∙ ap (λ x. is_some (dialog_with_hold x)) is ∙ some-kept (is_some o.held) o
 
   pub held-stepped : (after : Kept V) → Stands look among.dialog stepped.leaves stepped after.dialog → RespectsHold o.held e
       → holds_after look old.is_held e after.dialog ≡ (after.dialog.is_open && is_some stepped.held)

@@ -10,7 +10,7 @@ use Rattle.tv_faces.specs.Corners.{IsCorner}
 use Rattle.tv_machine.specs.State.{OpenDialog, State}
 use Rattle.tv_machine.specs.Dialog.Modal.{Modal}
 use Rattle.tv_machine.specs.Session.Commands.{modal_of, overwriting_at, saved_at}
-use Rattle.tv_machine.specs.Session.Step.{held_of}
+use Rattle.tv_machine.specs.Session.Step.{dialog_with_hold}
 use Rattle.tv_laws.specs.Runs.{HasSoundDialogs, IsFitState}
 use Rattle.tv_dialog.specs.Standing.{Stands}
 use Rattle.tv_dialogs.specs.Kept.{IsKeptAs}
@@ -45,7 +45,7 @@ pub record AreDialogs {V : Type 0} (look : V → Leaf) (d : Desc) (s : State)
       → slice_get dialogs.kept.items place ≡ Some k
       → IsKeptAs look dialog (saved_at s place) (overwriting_at s place) k
   pub place : dialogs.open ≡ option_map (λ o. o.place) s.dialog
-  pub held : dialogs.is_held ≡ is_some (held_of s.dialog)
+  pub held : dialogs.is_held ≡ is_some (dialog_with_hold s.dialog)
   pub at : (o : OpenDialog) → s.dialog ≡ Some o → IsOpenAmong look d s o dialogs.kept.items
   pub commands : (number : ℕ) → number < 256 → slice_index_or dialogs.commands number false ≡ true
 

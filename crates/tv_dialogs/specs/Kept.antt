@@ -2,6 +2,7 @@
 use Rattle.std.specs.Prelude.{◌≡◌, ◌==◌, ◌&&◌, Bool, true, false, not, List, [], Option, Some, None}
 use Rattle.std.specs.Prelude.{unwrap_or}
 use Rattle.std.specs.Prelude.{if◌then◌else◌}
+use Rattle.tv_event.specs.Commands.{cm_cancel}
 use Rattle.tv_event.specs.declared.event.Command.{Command}
 use Rattle.tv_event.specs.declared.event.Event.{Event}
 use Rattle.tv_event.specs.declared.event.Event.TheVariants as events
@@ -49,7 +50,7 @@ pub record IsReady {V : Type 0} (look : V → Leaf) (d : Dialog) (m : Modal)
 -- whether a dialog that ended so keeps its values: not one that is open, or ended by `cancel`
 abbrev pub saves : Option Command → Bool
 saves None = false
-saves (Some command) = not (command.0 == 11)
+saves (Some command) = not (command.0 == cm_cancel)
 
 -- what it opens with next: its values once it has ended, unless by `cancel`
 abbrev pub values_after : {V : Type 0} → (V → Leaf) → Entries → DialogOf V → Entries

@@ -2,7 +2,7 @@
 
 ghost use Rattle.std.specs.Prelude.{◌≤◌, length, ◌≡◌, ◌<◌, ℕ, false, is_some, option_copied, option_map, slice_index_or};
 ghost use Rattle.tv_machine.specs.Session.Enabled.{is_enabled_now};
-ghost use Rattle.tv_machine.specs.Session.Step.{held_of};
+ghost use Rattle.tv_machine.specs.Session.Step.{dialog_with_hold};
 ghost use Rattle.tv_machine.specs.State.{State};
 ghost use Rattle.tv_model.specs.declared.desc.Desc.{Desc};
 ghost use Rattle.tv_dialogs.specs.Dialogs.{AreDialogs, AreOfRun, kept_at, log_of_last};
@@ -79,7 +79,7 @@ impl<V: View> DialogsOf<V> {
 
     /// Whether a view of the open dialog holds the mouse.
     pub fn held(&self) -> bool
-        ensures { (d : Desc) (s : State) → AreOfRun V.meaning d s self.now → result ≡ is_some (held_of s.dialog) }
+        ensures { (d : Desc) (s : State) → AreOfRun V.meaning d s self.now → result ≡ is_some (dialog_with_hold s.dialog) }
     {
         self.is_held
     }

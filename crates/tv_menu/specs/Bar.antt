@@ -1,6 +1,7 @@
 -- What the menu bar is of, and what it makes of an event.
 use Rattle.std.specs.Prelude.{[], ◌∷◌, ℕ, ◌≡◌, List, Option, Some, None, option_map, ◌==◌, if◌then◌else◌}
 use Rattle.tv_cells.specs.declared.rect.Point.{Point}
+use Rattle.tv_event.specs.Commands.{cm_menu}
 use Rattle.tv_event.specs.declared.event.Command.{Command}
 use Rattle.tv_event.specs.declared.event.Event.{Event}
 use Rattle.tv_event.specs.declared.event.Event.TheVariants as events
@@ -64,7 +65,7 @@ first_opened (menu ∷ menus) s = Some (open_first (menu ∷ menus) s)
 
 -- a command: `menu` alone is the bar's
 abbrev pub command_offered : Desc → Command → State → Option State
-command_offered d c s = if c.0 == 3 then first_opened d.menus s else None
+command_offered d c s = if c.0 == cm_menu then first_opened d.menus s else None
 
 -- the state after the event, or nothing where the event is for another
 abbrev pub bar_offer : Desc → Event → State → Option State

@@ -27,9 +27,10 @@ use Rattle.tv_machine.specs.Run.{Session, quiet}
 use Rattle.tv_machine.specs.Safe.{StandOnDesktop}
 use Rattle.tv_machine.specs.Session.Commands.{works}
 use Rattle.tv_machine.specs.Session.Start.{start}
-use Rattle.tv_machine.specs.Session.Step.{emptied, event_from, held_of, is_item_enabled, key_at_menu, key_at_status, key_below, status_item_of, step, step_at, step_under, to_dialog}
+use Rattle.tv_machine.specs.Session.Step.{dialog_with_hold, event_from, is_item_enabled, status_item_of, step, to_dialog, with_empty_log}
 use Rattle.tv_machine.specs.Dialog.Lawful.{Marks}
 use Rattle.tv_machine.proofs.ListLemmas.{bool_cases, find-none}
+use Rattle.tv_machine.proofs.StepLemmas.{key_by_dialog, key_by_item, key_by_menu, step_by_frame, step_by_hold}
 use Rattle.tv_declarations.specs.Spelling.{IsDescription, IsDialog}
 use Rattle.tv_faults.specs.Sound.Bodies.{dialog_body}
 use Rattle.tv_faults.specs.Sound.Letters.{HasOwnLetters, IsShortcut, MarksLetter}
@@ -134,22 +135,22 @@ no-item d s k free =
 
 -- a key that no status item has comes to the open dialog
 key-step : (d : Desc) (s : State) (o : OpenDialog) (k : Key) → s.dialog ≡ Some o → o.held ≡ None → s.frame ≡ None → s.menu ≡ None → s.is_over ≡ false
-    → IsNoStatusKey d k → step d s (events.Key k) ≡ to_dialog d o (events.Key k) (emptied s)
+    → IsNoStatusKey d k → step d s (events.Key k) ≡ to_dialog d o (events.Key k) (with_empty_log s)
 key-step d s o k some idle loose menu over free =
-    ap (λ b. if b then emptied s else step_under d s.frame (events.Key k) (emptied s)) over
-    ∙ ap (λ frame. step_under d frame (events.Key k) (emptied s)) loose
-    ∙ ap (λ x. step_at d (held_of x) (events.Key k) (emptied s)) some
-    ∙ ap (λ h. step_at d (if is_some h then Some o else None) (events.Key k) (emptied s)) idle
-    ∙ ap (λ m. key_at_menu d m k (emptied s)) menu
-    ∙ ap (λ item. key_at_status d item k (emptied s)) (no-item d (emptied s) k free)
-    ∙ ap (λ x. key_below d x k (emptied s)) some
+    ap (λ b. if b then with_empty_log s else step_by_frame d s.frame (events.Key k) (with_empty_log s)) over
+    ∙ ap (λ frame. step_by_frame d frame (events.Key k) (with_empty_log s)) loose
+    ∙ ap (λ x. step_by_hold d (dialog_with_hold x) (events.Key k) (with_empty_log s)) some
+    ∙ ap (λ h. step_by_hold d (if is_some h then Some o else None) (events.Key k) (with_empty_log s)) idle
+    ∙ ap (λ m. key_by_menu d m k (with_empty_log s)) menu
+    ∙ ap (λ item. key_by_item d item k (with_empty_log s)) (no-item d (with_empty_log s) k free)
+    ∙ ap (λ x. key_by_dialog d x k (with_empty_log s)) some
 
 keys-reach : (d : Desc) → HasSoundDialogs d → KeysReachDialog d
 keys-reach d dialogs before o dialog k some there idle loose free =
     let s = state_after d before in
     let x = (reached-fit d dialogs before).«open» o some in
     key-step d s o k some idle loose x.menu x.over free
-    ∙ ap (works (emptied s) o (λ y m. dialog_step y (event_from o.origin (events.Key k)) m)) there
+    ∙ ap (works (with_empty_log s) o (λ y m. dialog_step y (event_from o.origin (events.Key k)) m)) there
 
 -- ---- dialogs
 

@@ -21,7 +21,7 @@ use Rattle.tv_machine.specs.Output.{after}
 use Rattle.tv_machine.specs.Run.{quiet, started}
 use Rattle.tv_machine.specs.Safe.{IsAlwaysSafe}
 use Rattle.tv_machine.specs.Session.Commands.{after_work, modal_of}
-use Rattle.tv_machine.specs.Session.Step.{emptied, step}
+use Rattle.tv_machine.specs.Session.Step.{step, with_empty_log}
 use Rattle.tv_faults.specs.Sound.Letters.{MarkOtherLetters, marked_texts}
 use Rattle.tv_check.specs.Certificates.{IsSoundCertificate, certificate_of}
 use Rattle.tv_laws.specs.Leaving.{EscCancels, TabAsksNext, TabGoesOn, UpLetsGo}
@@ -65,11 +65,11 @@ IsNoStatusKey d k = All (λ item. is_same_key item.key k ≡ false) d.status
 -- the state after the work of the open dialog, its log taken before: it stands as its work left it, or it
 -- ended
 abbrev pub worked_on : State → OpenDialog → Modal → State
-worked_on s o m = after_work (emptied s) o m m.ended
+worked_on s o m = after_work (with_empty_log s) o m m.ended
 
 -- so it is after a key
-abbrev pub after_key : State → OpenDialog → Dialog → Key → State
-after_key s o dialog k = worked_on s o (dialog_step dialog (events.Key k) (modal_of s o))
+abbrev pub worked_by_key : State → OpenDialog → Dialog → Key → State
+worked_by_key s o dialog k = worked_on s o (dialog_step dialog (events.Key k) (modal_of s o))
 
 -- wherever a run has come to an open dialog, while the mouse holds neither a leaf of it nor a frame, a key
 -- that no status item has is the dialog's
@@ -79,7 +79,7 @@ KeysReachDialog d =
     → (state_after d before).dialog ≡ Some o
     → slice_get d.dialogs o.place ≡ Some dialog → o.held ≡ None
     → (state_after d before).frame ≡ None → IsNoStatusKey d k
-    → step d (state_after d before) (events.Key k) ≡ after_key (state_after d before) o dialog k
+    → step d (state_after d before) (events.Key k) ≡ worked_by_key (state_after d before) o dialog k
 
 -- a function key, or Ctrl or Alt with a character
 abbrev pub may_be_status_key : Key → Bool

@@ -1,5 +1,5 @@
 -- What performing a script that is read in pieces comes to.
-use Rattle.std.specs.Prelude.{◌≡◌, ◌<◌, ◌≤◌, ◌⊎◌, ℕ, ℤ, ◌+◌, Bool, true, List, [], ◌∷◌, ◌++◌, ◌==◌, length}
+use Rattle.std.specs.Prelude.{◌≡◌, ◌<◌, ◌≤◌, ◌⊎◌, ℕ, ℤ, ◌+◌, Bool, true, List, [], ◌∷◌, ◌++◌, length}
 use Rattle.std.specs.Prelude.{nat_le, take, Result, Ok, Err, if◌then◌else◌}
 use Rattle.tv_io.specs.Reader.{Given, GivesNot, HasGiven}
 use Rattle.tv_io.specs.Writer.{Seen, Takes}
@@ -13,16 +13,16 @@ use Rattle.tv_script.specs.declared.stream_fault.StreamFault.{StreamFault}
 use Rattle.tv_script.specs.declared.stream_fault.StreamFault.TheVariants.{NoMemory, Syntax, OffScreen}
 use Rattle.tv_script.specs.declared.stream_fault.StreamFault.TheVariants.{TooLong, Read, Write}
 use Rattle.tv_script.specs.Performed.{Stops}
-use Rattle.tv_script.specs.Lines.{items_of}
+use Rattle.tv_script.specs.Lines.{ends_line, items_of}
 use Rattle.tv_script.specs.Scripts.{IsFirstFaulty, IsFitting, RefusesScript, SpellsAScript, script_words}
 use Rattle.tv_words.specs.Lines.{lines_of}
 use Rattle.tv_words.specs.Texts.{SpellsBy}
 
 -- ---- the text that is judged
 
--- a byte before others: a line end (10) stays, and what stands before one
+-- a byte before others: a line end stays, and what stands before one
 abbrev pub before_end : ℕ → List ℕ → List ℕ
-before_end c [] = if c == 10 then c ∷ [] else []
+before_end c [] = if ends_line c then c ∷ [] else []
 before_end c (d ∷ ds) = c ∷ d ∷ ds
 
 -- the bytes up to the last line end

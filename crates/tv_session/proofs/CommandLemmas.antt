@@ -13,8 +13,8 @@ use Rattle.tv_machine.specs.State.{Held, OpenDialog, State}
 use Rattle.tv_machine.specs.Dialog.Ending.{command}
 use Rattle.tv_machine.specs.Dialog.Modal.{Modal}
 use Rattle.tv_machine.specs.Dialog.Step.{dialog_step, step_by}
-use Rattle.tv_machine.specs.Session.Commands.{after_work, command_by_dialog, do_command, idle_command, in_dialog, logged, modal_of, open_first, own_command, works}
-use Rattle.tv_machine.specs.Session.Step.{held_of, to_dialog}
+use Rattle.tv_machine.specs.Session.Commands.{after_work, command_by_dialog, do_command, idle_command, in_dialog, modal_of, open_first, own_command, with_line_logged, works}
+use Rattle.tv_machine.specs.Session.Step.{dialog_with_hold, to_dialog}
 use Rattle.tv_laws.specs.Steps.{RespectsHold}
 use Rattle.tv_machine.proofs.ListLemmas.{bool_cases, option_cases}
 
@@ -35,7 +35,7 @@ pub same_some : {A : Type 0} (x y : A) → Some x ≡ Some y → x ≡ y
 same_some x y e = cc
 
 -- nothing holds the mouse in the open dialog
-pub unheld : (o : OpenDialog) → held_of (Some o) ≡ None → o.held ≡ None
+pub unheld : (o : OpenDialog) → dialog_with_hold (Some o) ≡ None → o.held ≡ None
 unheld o e =
     none_is o.held (bool_cases (is_some o.held) (λ b. (if b then Some o else None) ≡ None → b ≡ false)
     (λ is none. absurd (none_some o (sym none))) (λ is none. refl) e)
@@ -58,10 +58,10 @@ first_aside (menu ∷ menus) s = record { windows = refl; dialog = refl; saved =
 -- ---- commands
 
 -- a command that opens nothing is logged
-pub own_logged : (d : Desc) (number : ℕ) (o : Option ℕ) (s : State) → o ≡ None → 100 ≤ number → own_command d number o s ≡ logged (lines.Command number) s
+pub own_logged : (d : Desc) (number : ℕ) (o : Option ℕ) (s : State) → o ≡ None → 100 ≤ number → own_command d number o s ≡ with_line_logged (lines.Command number) s
 own_logged d number o s none high =
     let is_own : nat_le 100 number ≡ true = grind (arith, nat_tests) in
-    ap (λ x. own_command d number x s) none ∙ ap (λ (b : Bool). if b then logged (lines.Command number) s else s) is_own
+    ap (λ x. own_command d number x s) none ∙ ap (λ (b : Bool). if b then with_line_logged (lines.Command number) s else s) is_own
 
 step_command : (dialog : Dialog) (held : Option Held) (c : Command) (m : Modal) → held ≡ None → step_by dialog held (events.Command c) m ≡ command dialog c.0 m
 step_command dialog held c m none = ap (λ h. step_by dialog h (events.Command c) m) none
@@ -86,7 +86,7 @@ pub in_idle : (d : Desc) (number : ℕ) (s : State) → s.dialog ≡ None → do
 in_idle d number s is = ap (λ x. command_by_dialog d number x s) is
 
 -- what holds the mouse is in the open dialog
-pub held_in : (o : Option OpenDialog) → is_some (held_of o) ≡ true → (x : OpenDialog) × (o ≡ Some x) × (held_of o ≡ Some x)
+pub held_in : (o : Option OpenDialog) → is_some (dialog_with_hold o) ≡ true → (x : OpenDialog) × (o ≡ Some x) × (dialog_with_hold o ≡ Some x)
 held_in None e = absurd (true≢false (sym e))
 held_in (Some o) e = (
   o,

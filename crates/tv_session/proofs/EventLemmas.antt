@@ -17,13 +17,14 @@ use Rattle.tv_machine.specs.Screen.Bars.{status_under}
 use Rattle.tv_machine.specs.Session.Commands.{do_command}
 use Rattle.tv_machine.specs.Session.Desktop.{alt_pressed, desktop_down, desktop_key, down_beside_title, down_on_desktop, raise_found, window_of_digit, window_under}
 use Rattle.tv_machine.specs.Session.Menu.{menu_down, menu_key, open_menu, title_at, title_of_letter}
-use Rattle.tv_machine.specs.Session.Step.{down_at_status, down_below, is_item_enabled, is_status_row, status_command}
+use Rattle.tv_machine.specs.Session.Step.{after_down, is_item_enabled, is_status_row, status_command}
 use Rattle.tv_menu.specs.Bar.{bar_offer, closed_key, down_offered, key_offered, opening}
 use Rattle.tv_menu.specs.Line.{cell_answer, line_down, line_key, turned_by}
 use Rattle.tv_menu.specs.declared.offered.Offered.{Offered}
 use Rattle.tv_menu.specs.declared.offered.Offered.TheVariants as offers
 use Rattle.tv_session.proofs.CommandLemmas.{none_some, same_some}
 use Rattle.tv_machine.proofs.ListLemmas.{bool_cases, option_cases}
+use Rattle.tv_machine.proofs.StepLemmas.{down-no-menu, down_by_dialog, down_by_row, key_by_item}
 
 -- ---- whether it was taken
 
@@ -91,6 +92,15 @@ module _ (d : Desc) where
   no_item None result is never = refl
   no_item (Some item) result is never = absurd (turned_not_taken item result is never)
 
+  abbrev number_in : Offered → ℕ
+  number_in (offers.Turned c) = c.0
+  number_in offers.Taken = 0
+  number_in offers.Left = 0
+
+  pub key_turned : (o : Option StatusItem) (k : Key) (c : Command) (s : State) → offers.Turned c ≡ line_key o → key_by_item d o k s ≡ do_command d c.0 s
+  key_turned None k c s e = absurd cc
+  key_turned (Some item) k c s e = sym (ap (λ (x : Offered). do_command d (number_in x) s) e)
+
   -- ---- mouse downs
 
   pub bar_down : (p : Point) (s : State) → s.menu ≡ None → bar_offer d (events.Down p) s ≡ opening (title_at d p) s
@@ -119,11 +129,6 @@ module _ (d : Desc) where
       (λ b. (if b then turned_by item else offers.Taken) ≡ offers.Turned c
       → (if b then do_command d (command_number item.command) s else s) ≡ do_command d c.0 s)
       (λ is turned. ap (λ (x : Offered). do_command d (number_in x) s) turned) (λ is taken. absurd cc) e
-    where
-      number_in : Offered → ℕ
-      number_in (offers.Turned c) = c.0
-      number_in offers.Taken = 0
-      number_in offers.Left = 0
 
   cell_taken : (o : Option StatusItem) (s : State) → cell_answer d s o ≡ offers.Taken → status_command d o s ≡ s
   cell_taken None s e = refl
@@ -137,35 +142,44 @@ module _ (d : Desc) where
   cell_left (Some item) s e =
       bool_cases (is_item_enabled d s item) (λ b. (if b then turned_by item else offers.Taken) ≡ offers.Left → ⊥) (λ is left. absurd cc) (λ is left. absurd cc) e
 
-  pub status_turned : (p : Point) (c : Command) (s : State) → line_down d s p ≡ offers.Turned c → down_at_status d p s ≡ do_command d c.0 s
-  status_turned p c s e =
+  row_turned : (p : Point) (c : Command) (s : State) → line_down d s p ≡ offers.Turned c → down_by_row d p s ≡ do_command d c.0 s
+  row_turned p c s e =
       bool_cases (is_in (rect (pos 0) (pos 0) d.width d.height) p.x p.y)
       (λ b. (if not b then offers.Taken else if is_status_row d p then cell_answer d s (status_under d p.x) else offers.Left) ≡ offers.Turned c
-      → (if not b then s else if is_status_row d p then status_command d (status_under d p.x) s else down_below d s.dialog p s) ≡ do_command d c.0 s)
+      → (if not b then s else if is_status_row d p then status_command d (status_under d p.x) s else down_by_dialog d s.dialog p s) ≡ do_command d c.0 s)
       (λ inside. bool_cases (is_status_row d p)
       (λ b. (if b then cell_answer d s (status_under d p.x) else offers.Left) ≡ offers.Turned c
-      → (if b then status_command d (status_under d p.x) s else down_below d s.dialog p s) ≡ do_command d c.0 s)
+      → (if b then status_command d (status_under d p.x) s else down_by_dialog d s.dialog p s) ≡ do_command d c.0 s)
       (λ row is. cell_turned (status_under d p.x) c s is) (λ above is. absurd cc))
       (λ outside is. absurd cc) e
 
-  pub status_taken : (p : Point) (s : State) → line_down d s p ≡ offers.Taken → down_at_status d p s ≡ s
-  status_taken p s e =
+  row_taken : (p : Point) (s : State) → line_down d s p ≡ offers.Taken → down_by_row d p s ≡ s
+  row_taken p s e =
       bool_cases (is_in (rect (pos 0) (pos 0) d.width d.height) p.x p.y)
       (λ b. (if not b then offers.Taken else if is_status_row d p then cell_answer d s (status_under d p.x) else offers.Left) ≡ offers.Taken
-      → (if not b then s else if is_status_row d p then status_command d (status_under d p.x) s else down_below d s.dialog p s) ≡ s)
+      → (if not b then s else if is_status_row d p then status_command d (status_under d p.x) s else down_by_dialog d s.dialog p s) ≡ s)
       (λ inside. bool_cases (is_status_row d p)
       (λ b. (if b then cell_answer d s (status_under d p.x) else offers.Left) ≡ offers.Taken
-      → (if b then status_command d (status_under d p.x) s else down_below d s.dialog p s) ≡ s)
+      → (if b then status_command d (status_under d p.x) s else down_by_dialog d s.dialog p s) ≡ s)
       (λ row is. cell_taken (status_under d p.x) s is) (λ above is. absurd cc))
       (λ outside is. refl) e
 
-  pub status_left : (p : Point) (s : State) → line_down d s p ≡ offers.Left → down_at_status d p s ≡ down_below d s.dialog p s
-  status_left p s e =
+  row_left : (p : Point) (s : State) → line_down d s p ≡ offers.Left → down_by_row d p s ≡ down_by_dialog d s.dialog p s
+  row_left p s e =
       bool_cases (is_in (rect (pos 0) (pos 0) d.width d.height) p.x p.y)
       (λ b. (if not b then offers.Taken else if is_status_row d p then cell_answer d s (status_under d p.x) else offers.Left) ≡ offers.Left
-      → (if not b then s else if is_status_row d p then status_command d (status_under d p.x) s else down_below d s.dialog p s) ≡ down_below d s.dialog p s)
+      → (if not b then s else if is_status_row d p then status_command d (status_under d p.x) s else down_by_dialog d s.dialog p s) ≡ down_by_dialog d s.dialog p s)
       (λ inside. bool_cases (is_status_row d p)
       (λ b. (if b then cell_answer d s (status_under d p.x) else offers.Left) ≡ offers.Left
-      → (if b then status_command d (status_under d p.x) s else down_below d s.dialog p s) ≡ down_below d s.dialog p s)
+      → (if b then status_command d (status_under d p.x) s else down_by_dialog d s.dialog p s) ≡ down_by_dialog d s.dialog p s)
       (λ row is. absurd (cell_left (status_under d p.x) s is)) (λ above is. refl))
       (λ outside is. absurd cc) e
+
+  pub status_turned : (p : Point) (c : Command) (s : State) → s.menu ≡ None → line_down d s p ≡ offers.Turned c → after_down d p s ≡ do_command d c.0 s
+  status_turned p c s shut e = down-no-menu d p s shut ∙ row_turned p c s e
+
+  pub status_taken : (p : Point) (s : State) → s.menu ≡ None → line_down d s p ≡ offers.Taken → after_down d p s ≡ s
+  status_taken p s shut e = down-no-menu d p s shut ∙ row_taken p s e
+
+  pub status_left : (p : Point) (s : State) → s.menu ≡ None → line_down d s p ≡ offers.Left → after_down d p s ≡ down_by_dialog d s.dialog p s
+  status_left p s shut e = down-no-menu d p s shut ∙ row_left p s e

@@ -11,12 +11,12 @@ use Rattle.tv_machine.specs.Safe.{HasDeclaredEnd, IsSafeSaved}
 use Rattle.tv_machine.proofs.ListLemmas.{bool_cases}
 use Rattle.tv_dialogs.specs.Records.{with_saved}
 use Rattle.tv_dialogs.proofs.PlaceLemmas.{get-set-other, get-set-same, same-some}
-use Rattle.tv_machine.specs.Session.Step.{emptied}
+use Rattle.tv_machine.specs.Session.Step.{with_empty_log}
 use Rattle.tv_laws.specs.Runs.{IsFitState}
 use Rattle.tv_session.proofs.CommandLemmas.{none_some}
 
 -- the log is taken
-pub emptied_fit : (d : Desc) (s : State) → IsFitState d s → IsFitState d (emptied s)
+pub emptied_fit : (d : Desc) (s : State) → IsFitState d s → IsFitState d (with_empty_log s)
 emptied_fit d s f = record {
   kept = record { saved = f.kept.saved; places = f.kept.places; ordered = f.kept.ordered; ends = All-nil (HasDeclaredEnd d) };
   «open» = λ o e. let x = f.«open» o e in record { dialog = x.dialog; there = x.there; fit = x.fit; menu = x.menu; over = x.over; top = x.top };

@@ -9,7 +9,7 @@ use Rattle.tv_window.specs.declared.desk.DeskOf.{DeskOf}
 use Rattle.tv_menu.specs.Bar.{IsBarOf, open_of}
 use Rattle.tv_machine.specs.State.{HeldFrame, OpenWindow, State}
 use Rattle.tv_machine.specs.Session.Desktop.{raise_found}
-use Rattle.tv_machine.specs.Session.Step.{emptied}
+use Rattle.tv_machine.specs.Session.Step.{with_empty_log}
 use Rattle.tv_machine.specs.Dialog.Sound.{HasSoundDialogs}
 use Rattle.tv_laws.specs.Runs.{IsFitState}
 use Rattle.tv_menu.specs.Lawful.{IsLawfulScreen}
@@ -93,15 +93,15 @@ module _ {V : Type 0} (look : V → Leaf) (d : Desc) where
 
   -- the log is taken
   pub cleared : (s : State) (old new : RunOf V) → IsRun look d s old → new.desk ≡ old.desk → new.dialogs ≡ old.dialogs → new.bar ≡ old.bar
-      → new.is_over ≡ old.is_over → new.frame ≡ old.frame → new.log.items ≡ [] → IsRun look d (emptied s) new
+      → new.is_over ≡ old.is_over → new.frame ≡ old.frame → new.log.items ≡ [] → IsRun look d (with_empty_log s) new
   cleared s old new r desk dialogs bar over frame log =
-      run_windows s (emptied s) old new r (subst (IsDesk look d s.windows) (sym desk) r.desk) dialogs bar refl refl refl refl (over ∙ r.over)
+      run_windows s (with_empty_log s) old new r (subst (IsDesk look d s.windows) (sym desk) r.desk) dialogs bar refl refl refl refl (over ∙ r.over)
       (r.frame ∙ sym (ap (option_map seen_frame) frame)) log
 
   -- and the run isn't over
   pub woken : (s : State) (old new : RunOf V) → IsRun look d s old → new.desk ≡ old.desk → new.dialogs ≡ old.dialogs → new.bar ≡ old.bar
       → new.is_over ≡ old.is_over → new.frame ≡ old.frame → new.log.items ≡ [] → IsFitState d s → HasSoundDialogs d → IsLawfulScreen d.width d.height → s.is_over ≡ false
-      → (held : Option HeldFrame) → s.frame ≡ held → IsAwakeWith look d held (emptied s) new
+      → (held : Option HeldFrame) → s.frame ≡ held → IsAwakeWith look d held (with_empty_log s) new
   woken s old new r desk dialogs bar over frame log fit sound size going held is = record {
     stands = cleared s old new r desk dialogs bar over frame log;
     held = is;

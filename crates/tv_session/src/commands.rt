@@ -2,8 +2,8 @@
 
 ghost use Rattle.std.specs.Prelude.{◌≡◌, ◌<◌, None, Some, true, option_copied, pos, reverse, length, slice_get};
 ghost use Rattle.tv_machine.specs.State.{State, OpenDialog};
-ghost use Rattle.tv_machine.specs.Session.Commands.{close_front, do_command, idle_command, last_first, logged, open_dialog, open_first, opener_of, own_command};
-ghost use Rattle.tv_machine.specs.Session.Step.{held_of, to_dialog};
+ghost use Rattle.tv_machine.specs.Session.Commands.{close_front, do_command, idle_command, last_first, open_dialog, open_first, opener_of, own_command, with_line_logged};
+ghost use Rattle.tv_machine.specs.Session.Step.{dialog_with_hold, to_dialog};
 ghost use Rattle.tv_model.specs.declared.desc.Desc.{Desc as Declared};
 ghost use Rattle.tv_model.specs.declared.log.LogLine.TheVariants.{Quit as QuitLine};
 ghost use Rattle.tv_dialogs.specs.Handed.{HasPointGiven};
@@ -43,7 +43,7 @@ fn dialog_at(desc: &Desc, place: usize) -> Option<&Dialog>
 impl<V: View> RunOf<V> {
     fn quit(&mut self)
         ensures { (d : Declared) (since s : State) → IsAwakeSince V.meaning d since s self.old
-            → IsRunSince V.meaning d since (logged QuitLine (record s { is_over = true })) self.new }
+            → IsRunSince V.meaning d since (with_line_logged QuitLine (record s { is_over = true })) self.new }
     {
         self.is_over = true;
         note(&mut self.log, LogLine::Quit);
@@ -133,8 +133,8 @@ impl<V: View> RunOf<V> {
 
     /// Handles a command while no menu is open and nothing holds the mouse.
     pub(crate) fn command(&mut self, desc: &Desc, command: Command)
-        requires awake { (s : State) × IsAwake V.meaning desc.now s self.old × (held_of s.dialog ≡ None) }
-        ensures { (since s : State) → IsAwakeSince V.meaning desc.now since s self.old → s.menu ≡ None → held_of s.dialog ≡ None
+        requires awake { (s : State) × IsAwake V.meaning desc.now s self.old × (dialog_with_hold s.dialog ≡ None) }
+        ensures { (since s : State) → IsAwakeSince V.meaning desc.now since s self.old → s.menu ≡ None → dialog_with_hold s.dialog ≡ None
             → IsRunSince V.meaning desc.now since (do_command desc.now command.0 s) self.new }
     {
         if self.dialogs.is_open() {

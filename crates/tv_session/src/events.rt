@@ -4,10 +4,11 @@ ghost use Rattle.std.specs.Prelude.{◌≡◌, None, Some, true, false, is_some}
 ghost use Rattle.tv_event.specs.declared.event.Event.TheVariants.{Down as DownEvent};
 ghost use Rattle.tv_machine.specs.State.{State, OpenDialog};
 ghost use Rattle.tv_machine.specs.Session.Desktop.{desktop_down, desktop_key, down_on_desktop, window_under};
-ghost use Rattle.tv_machine.specs.Session.Step.{down_at_menu, down_at_status, down_below, down_on_dialog, emptied, held_of, key_at_menu, key_at_status, key_below, status_item_of, step, step_below, step_held};
+ghost use Rattle.tv_machine.specs.Session.Step.{after_down, after_event, after_key, dialog_with_hold, down_on_dialog, status_item_of, step, step_held};
 ghost use Rattle.tv_menu.specs.Bar.{bar_offer};
 ghost use Rattle.tv_menu.specs.Lawful.{IsLawfulScreen};
-ghost use Rattle.tv_menu.specs.Line.{IsStatusLineOf};
+ghost use Rattle.tv_menu.specs.Line.{IsStatusLineOf, line_down};
+ghost use Rattle.tv_menu.specs.declared.offered.Offered.TheVariants.{Left as LeftOffer};
 ghost use Rattle.tv_cells.specs.Layers.{is_in};
 ghost use Rattle.tv_dialogs.specs.Handed.{HasPointGiven, IsPointGiven};
 ghost use Rattle.tv_laws.specs.Runs.{HasSoundDialogs, IsFitState};
@@ -68,8 +69,8 @@ impl<V: View> RunOf<V> {
     // Handles a key that neither a menu nor the status line takes.
     fn key_below(&mut self, desc: &Desc, key: Key)
         requires awake { (s : State) × IsAwake V.meaning desc.now s self.old }
-        ensures { (since s : State) → IsAwakeSince V.meaning desc.now since s self.old → s.menu ≡ None
-            → IsRunSince V.meaning desc.now since (key_below desc.now s.dialog key s) self.new }
+        ensures { (since s : State) → IsAwakeSince V.meaning desc.now since s self.old → s.menu ≡ None → status_item_of desc.now s key ≡ None
+            → IsRunSince V.meaning desc.now since (after_key desc.now key s) self.new }
     {
         if self.dialogs.is_open() {
             self.hand_to_dialog(desc, &Event::Key(key));
@@ -80,9 +81,9 @@ impl<V: View> RunOf<V> {
 
     // Handles a key while no menu is open.
     fn key_at_status(&mut self, desc: &Desc, line: &StatusLine, key: Key)
-        requires awake { (s : State) × IsAwake V.meaning desc.now s self.old × (held_of s.dialog ≡ None) }
-        ensures { (since s : State) → IsAwakeSince V.meaning desc.now since s self.old → s.menu ≡ None → held_of s.dialog ≡ None → IsStatusLineOf desc.now line.now
-            → IsRunSince V.meaning desc.now since (key_at_status desc.now (status_item_of desc.now s key) key s) self.new }
+        requires awake { (s : State) × IsAwake V.meaning desc.now s self.old × (dialog_with_hold s.dialog ≡ None) }
+        ensures { (since s : State) → IsAwakeSince V.meaning desc.now since s self.old → s.menu ≡ None → dialog_with_hold s.dialog ≡ None → IsStatusLineOf desc.now line.now
+            → IsRunSince V.meaning desc.now since (after_key desc.now key s) self.new }
     {
         match line.offer(&Event::Key(key), self.dialogs.commands()) {
             Offered::Turned(command) => self.command(desc, command),
@@ -92,9 +93,9 @@ impl<V: View> RunOf<V> {
 
     // Handles a key while nothing holds the mouse.
     fn key(&mut self, desc: &Desc, line: &StatusLine, key: Key)
-        requires awake { (s : State) × IsAwake V.meaning desc.now s self.old × (held_of s.dialog ≡ None) }
-        ensures { (since s : State) → IsAwakeSince V.meaning desc.now since s self.old → held_of s.dialog ≡ None → IsStatusLineOf desc.now line.now
-            → IsRunSince V.meaning desc.now since (key_at_menu desc.now s.menu key s) self.new }
+        requires awake { (s : State) × IsAwake V.meaning desc.now s self.old × (dialog_with_hold s.dialog ≡ None) }
+        ensures { (since s : State) → IsAwakeSince V.meaning desc.now since s self.old → dialog_with_hold s.dialog ≡ None → IsStatusLineOf desc.now line.now
+            → IsRunSince V.meaning desc.now since (after_key desc.now key s) self.new }
     {
         if self.bar.is_open() {
             self.offer_bar(desc, &Event::Key(key));
@@ -135,7 +136,7 @@ impl<V: View> RunOf<V> {
     // Handles a mouse down on the desktop while a dialog is open: holds it by its top row, or hands it the down.
     fn dialog_down(&mut self, desc: &Desc, point: Point)
         requires near { IsPointGiven point }
-        requires awake { (s : State) × IsAwake V.meaning desc.now s self.old × (held_of s.dialog ≡ None) }
+        requires awake { (s : State) × IsAwake V.meaning desc.now s self.old × (dialog_with_hold s.dialog ≡ None) }
         ensures { (since s : State) (o : OpenDialog) → IsAwakeSince V.meaning desc.now since s self.old → s.dialog ≡ Some o
             → IsRunSince V.meaning desc.now since (down_on_dialog desc.now o point s) self.new }
     {
@@ -148,9 +149,9 @@ impl<V: View> RunOf<V> {
     // Handles a mouse down above the status line.
     fn down_below(&mut self, desc: &Desc, point: Point)
         requires near { IsPointGiven point }
-        requires awake { (s : State) × IsAwake V.meaning desc.now s self.old × (held_of s.dialog ≡ None) }
-        ensures { (since s : State) → IsAwakeSince V.meaning desc.now since s self.old → s.menu ≡ None
-            → IsRunSince V.meaning desc.now since (down_below desc.now s.dialog point s) self.new }
+        requires awake { (s : State) × IsAwake V.meaning desc.now s self.old × (dialog_with_hold s.dialog ≡ None) }
+        ensures { (since s : State) → IsAwakeSince V.meaning desc.now since s self.old → s.menu ≡ None → line_down desc.now s point ≡ LeftOffer
+            → IsRunSince V.meaning desc.now since (after_down desc.now point s) self.new }
     {
         if self.dialogs.is_open() {
             if is_on_desktop(desc, point) {
@@ -164,9 +165,9 @@ impl<V: View> RunOf<V> {
     // Handles a mouse down while no menu is open.
     fn down_at_status(&mut self, desc: &Desc, line: &StatusLine, point: Point)
         requires near { IsPointGiven point }
-        requires awake { (s : State) × IsAwake V.meaning desc.now s self.old × (held_of s.dialog ≡ None) }
-        ensures { (since s : State) → IsAwakeSince V.meaning desc.now since s self.old → s.menu ≡ None → held_of s.dialog ≡ None → IsStatusLineOf desc.now line.now
-            → IsRunSince V.meaning desc.now since (down_at_status desc.now point s) self.new }
+        requires awake { (s : State) × IsAwake V.meaning desc.now s self.old × (dialog_with_hold s.dialog ≡ None) }
+        ensures { (since s : State) → IsAwakeSince V.meaning desc.now since s self.old → s.menu ≡ None → dialog_with_hold s.dialog ≡ None → IsStatusLineOf desc.now line.now
+            → IsRunSince V.meaning desc.now since (after_down desc.now point s) self.new }
     {
         match line.offer(&Event::Down(point), self.dialogs.commands()) {
             Offered::Turned(command) => self.command(desc, command),
@@ -178,9 +179,9 @@ impl<V: View> RunOf<V> {
     // Handles a mouse down while nothing holds the mouse.
     fn down(&mut self, desc: &Desc, line: &StatusLine, point: Point)
         requires near { IsPointGiven point }
-        requires awake { (s : State) × IsAwake V.meaning desc.now s self.old × (held_of s.dialog ≡ None) }
-        ensures { (since s : State) → IsAwakeSince V.meaning desc.now since s self.old → held_of s.dialog ≡ None → IsStatusLineOf desc.now line.now
-            → IsRunSince V.meaning desc.now since (down_at_menu desc.now s.menu point s) self.new }
+        requires awake { (s : State) × IsAwake V.meaning desc.now s self.old × (dialog_with_hold s.dialog ≡ None) }
+        ensures { (since s : State) → IsAwakeSince V.meaning desc.now since s self.old → dialog_with_hold s.dialog ≡ None → IsStatusLineOf desc.now line.now
+            → IsRunSince V.meaning desc.now since (after_down desc.now point s) self.new }
     {
         if self.bar.is_open() {
             self.offer_bar(desc, &Event::Down(point));
@@ -193,9 +194,9 @@ impl<V: View> RunOf<V> {
     // outside.
     fn free_event(&mut self, desc: &Desc, line: &StatusLine, event: &Event)
         requires near { HasPointGiven event.now }
-        requires awake { (s : State) × IsAwake V.meaning desc.now s self.old × (held_of s.dialog ≡ None) }
-        ensures { (since s : State) → IsAwakeSince V.meaning desc.now since s self.old → held_of s.dialog ≡ None → IsStatusLineOf desc.now line.now
-            → IsRunSince V.meaning desc.now since (step_below desc.now event.now s) self.new }
+        requires awake { (s : State) × IsAwake V.meaning desc.now s self.old × (dialog_with_hold s.dialog ≡ None) }
+        ensures { (since s : State) → IsAwakeSince V.meaning desc.now since s self.old → dialog_with_hold s.dialog ≡ None → IsStatusLineOf desc.now line.now
+            → IsRunSince V.meaning desc.now since (after_event desc.now event.now s) self.new }
     {
         match event {
             Event::Key(key) => self.key(desc, line, *key),
@@ -208,7 +209,7 @@ impl<V: View> RunOf<V> {
     fn held_event(&mut self, desc: &Desc, event: &Event)
         requires near { HasPointGiven event.now }
         requires awake { (s : State) × IsAwake V.meaning desc.now s self.old }
-        ensures { (since s : State) (o : OpenDialog) → IsAwakeSince V.meaning desc.now since s self.old → held_of s.dialog ≡ Some o
+        ensures { (since s : State) (o : OpenDialog) → IsAwakeSince V.meaning desc.now since s self.old → dialog_with_hold s.dialog ≡ Some o
             → IsRunSince V.meaning desc.now since (step_held desc.now o event.now s) self.new }
     {
         match event {

@@ -2,6 +2,7 @@
 use Rattle.std.specs.Prelude.{ℕ, Bool, false, not, ◌&&◌, ◌||◌, List, length, Option, Some, None, ◌==◌}
 use Rattle.std.specs.Prelude.{if◌then◌else◌}
 use Rattle.tv_cells.specs.declared.rect.Point.{Point}
+use Rattle.tv_event.specs.Commands.{cm_default}
 use Rattle.tv_event.specs.declared.event.Command.{Command}
 use Rattle.tv_event.specs.declared.event.Event.{Event}
 use Rattle.tv_event.specs.declared.event.Event.TheVariants as events
@@ -168,10 +169,11 @@ lifted_answer leaf p (Some item) =
 
 -- ---- commands
 
--- the default button is pressed by the broadcast that Enter becomes (command 14), while it is enabled
+-- the default button is pressed by the broadcast that Enter becomes, while it is enabled
 abbrev pub broadcast_answer : Env → Leaf → Command → Reaction
 broadcast_answer env leaf c =
-    if is_button leaf.node.kind && ((c.0 == 14) && (is_lent_default env leaf.node.id && leaf.is_enabled))
+    if is_button leaf.node.kind
+    && ((c.0 == cm_default) && (is_lent_default env leaf.node.id && leaf.is_enabled))
     then press_of leaf leaf.node.kind
     else Pass
 

@@ -8,7 +8,7 @@ use Rattle.tv_model.specs.declared.desc.Window.{Window}
 use Rattle.tv_model.specs.declared.log.LogLine.TheVariants as lines
 use Rattle.tv_model.specs.declared.node.Id.{Id}
 use Rattle.tv_machine.specs.Dialog.Mouse.{is_close_mark}
-use Rattle.tv_machine.specs.Session.Commands.{logged}
+use Rattle.tv_machine.specs.Session.Commands.{with_line_logged}
 use Rattle.tv_machine.specs.Session.Desktop.{down_on_desktop, seen_from, window_under}
 use Rattle.tv_machine.specs.Session.Dragging.{is_grip}
 use Rattle.tv_machine.specs.State.{OpenWindow, State}
@@ -79,4 +79,4 @@ down_on_desk d p s = down_on_desktop d (window_under d s p) p s
 -- with the line that the window of an id has closed, if one has
 abbrev pub with_close_line : Option Id → State → State
 with_close_line None s = s
-with_close_line (Some i) s = logged (lines.Close i) s
+with_close_line (Some i) s = with_line_logged (lines.Close i) s

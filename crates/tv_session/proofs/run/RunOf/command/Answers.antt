@@ -1,5 +1,5 @@
 use Rattle.std.proofs.Common.{ap, subst, sym, ◌∙◌}
-use Rattle.tv_machine.specs.Session.Step.{held_of}
+use Rattle.tv_machine.specs.Session.Step.{dialog_with_hold}
 use Rattle.tv_session.specs.Running.{IsRunSince}
 use Rattle.tv_session.proofs.CommandLemmas.{command_handed, given_command, in_idle, in_open, none_is, some_is, unheld}
 use Rattle.tv_session.proofs.run.RunOf.command.Goals as goal
@@ -14,7 +14,7 @@ returns-then-is_open g c = λ since s w menu held.
     let a = w.0 in
     let d = c.args.desc.now in
     let found = some_is s.dialog (sym (c.is_open.ensures d s a.stands.dialogs) ∙ c.if-is_open.true) in
-    let loose = unheld found.0 (ap held_of (sym found.1) ∙ held) in
+    let loose = unheld found.0 (ap dialog_with_hold (sym found.1) ∙ held) in
     subst (λ t. IsRunSince g.V.View.meaning d since t c.hand_to_dialog.new.self)
     (command_handed d s found.0 c.args.command loose ∙ sym (in_open d c.args.command.0 s found.0 found.1))
     (c.hand_to_dialog.ensures since s found.0 w found.1 (given_command found.0.held c.args.command loose))

@@ -1,6 +1,6 @@
 use Rattle.std.proofs.Common.{is_some, ap, subst, sym, ◌∙◌}
 use Rattle.tv_machine.specs.Session.Menu.{menu_down}
-use Rattle.tv_machine.specs.Session.Step.{down_at_menu}
+use Rattle.tv_machine.proofs.StepLemmas.{down_by_menu}
 use Rattle.tv_laws.proofs.RunLemmas.{menu_idle}
 use Rattle.tv_session.specs.Running.{IsRunSince}
 use Rattle.tv_session.proofs.CommandLemmas.{some_is}
@@ -19,5 +19,5 @@ returns-then-is_open g c = λ since s w held line.
     let a = w.0 in
     let d = c.args.desc.now in
     let found = some_is s.menu (ap (λ o. is_some o) a.stands.menu ∙ sym c.is_open.ensures ∙ c.if-is_open.true) in
-    subst (λ t. IsRunSince g.V.View.meaning d since t c.offer_bar.new.self) (sym (ap (λ o. down_at_menu d o c.args.point s) found.1))
+    subst (λ t. IsRunSince g.V.View.meaning d since t c.offer_bar.new.self) (sym (ap (λ o. down_by_menu d o c.args.point s) found.1))
     (c.offer_bar.ensures.takes since s (menu_down d found.0 c.args.point s) w (menu_idle d a.sound s found.0 found.1 a.fit) (menu_downed d c.args.point found.0 s found.1)).1

@@ -1,6 +1,7 @@
 use Rattle.std.proofs.Common.{◌≡◌, None, Some, Bool, if◌then◌else◌, refl, ap, subst, sym, ◌∙◌}
 use Rattle.std.specs.Option.{option_map}
-use Rattle.tv_machine.specs.Session.Step.{emptied, held_of, step_at, step_under}
+use Rattle.tv_machine.proofs.StepLemmas.{step_by_frame, step_by_hold}
+use Rattle.tv_machine.specs.Session.Step.{dialog_with_hold, with_empty_log}
 use Rattle.tv_session.specs.Running.{IsRunSince, seen_frame}
 use Rattle.tv_session.proofs.CommandLemmas.{held_in, none_is}
 use Rattle.tv_session.proofs.MarkedLemmas.{marked-aside, marked-same}
@@ -13,8 +14,8 @@ returns-then-self g c = λ s r fit line.
     let look = g.V.View.meaning in
     let run = record c.args.self.now { log = c.clear.new.self; damage = c.clear-2.new.self } in
     subst (λ t. IsRunSince look d s t run)
-    (sym (ap (λ (b : Bool). if b then emptied s else step_under d s.frame c.args.event.now (emptied s)) (sym r.over ∙ c.if-self.true)))
-    (cleared look d s c.args.self.now run r refl refl refl refl refl c.clear.ensures, marked-aside d s s (emptied s) run.damage (marked-same d s run.damage) refl refl refl)
+    (sym (ap (λ (b : Bool). if b then with_empty_log s else step_by_frame d s.frame c.args.event.now (with_empty_log s)) (sym r.over ∙ c.if-self.true)))
+    (cleared look d s c.args.self.now run r refl refl refl refl refl c.clear.ensures, marked-aside d s s (with_empty_log s) run.damage (marked-same d s run.damage) refl refl refl)
 
 pub drag-requires : goal.drag-requires
 drag-requires g c =
@@ -24,7 +25,7 @@ drag-requires g c =
     let r = c.requires.fit.1 in
     let run = record c.args.self.now { log = c.clear.new.self; damage = c.clear-2.new.self } in
     let held = r.frame ∙ ap (option_map seen_frame) c.in-Some.is in (
-      emptied s,
+      with_empty_log s,
       woken look d s c.args.self.now run r refl refl refl refl refl c.clear.ensures c.requires.fit.2 c.requires.sound c.requires.size (sym r.over ∙ c.if-self.false) (Some (seen_frame c.in-Some.frame)) held,
     )
 
@@ -37,7 +38,7 @@ held_event-requires-clause-awake g c =
     let run = record c.args.self.now { log = c.clear.new.self; damage = c.clear-2.new.self } in
     let loose : s.frame ≡ None = r.frame ∙ ap (option_map seen_frame) c.in_default.is in
     let awake = woken look d s c.args.self.now run r refl refl refl refl refl c.clear.ensures c.requires.fit.2 c.requires.sound c.requires.size (sym r.over ∙ c.if-self.false) None loose in
-    (emptied s, awake)
+    (with_empty_log s, awake)
 
 pub free_event-requires-clause-awake : goal.free_event-requires-clause-awake
 free_event-requires-clause-awake g c =
@@ -48,7 +49,7 @@ free_event-requires-clause-awake g c =
     let run = record c.args.self.now { log = c.clear.new.self; damage = c.clear-2.new.self } in
     let loose : s.frame ≡ None = r.frame ∙ ap (option_map seen_frame) c.in_default.is in
     let awake = woken look d s c.args.self.now run r refl refl refl refl refl c.clear.ensures c.requires.fit.2 c.requires.sound c.requires.size (sym r.over ∙ c.if-self.false) None loose in
-    (emptied s, awake, none_is (held_of s.dialog) (sym (c.held.ensures d (emptied s) (of_run look d (emptied s) run awake)) ∙ c.if-held.false))
+    (with_empty_log s, awake, none_is (dialog_with_hold s.dialog) (sym (c.held.ensures d (with_empty_log s) (of_run look d (with_empty_log s) run awake)) ∙ c.if-held.false))
 
 pub returns-in-Some : goal.returns-in-Some
 returns-in-Some g c = λ s r fit line.
@@ -60,8 +61,8 @@ returns-in-Some g c = λ s r fit line.
     let held = r.frame ∙ ap (option_map seen_frame) c.in-Some.is in
     let dragged = woken look d s c.args.self.now run r refl refl refl refl refl c.clear.ensures fit c.requires.sound c.requires.size over (Some (seen_frame c.in-Some.frame)) held in
     subst (λ t. IsRunSince look d s t c.drag.new.self)
-    (sym (ap (λ (b : Bool). if b then emptied s else step_under d s.frame e (emptied s)) over ∙ ap (λ f. step_under d f e (emptied s)) held))
-    (c.drag.ensures s (emptied s) dragged (marked-aside d s s (emptied s) run.damage (marked-same d s run.damage) refl refl refl))
+    (sym (ap (λ (b : Bool). if b then with_empty_log s else step_by_frame d s.frame e (with_empty_log s)) over ∙ ap (λ f. step_by_frame d f e (with_empty_log s)) held))
+    (c.drag.ensures s (with_empty_log s) dragged (marked-aside d s s (with_empty_log s) run.damage (marked-same d s run.damage) refl refl refl))
 
 pub returns-then-held : goal.returns-then-held
 returns-then-held g c = λ s r fit line.
@@ -72,11 +73,11 @@ returns-then-held g c = λ s r fit line.
     let over = sym r.over ∙ c.if-self.false in
     let loose : s.frame ≡ None = r.frame ∙ ap (option_map seen_frame) c.in_default.is in
     let awake = woken look d s c.args.self.now run r refl refl refl refl refl c.clear.ensures fit c.requires.sound c.requires.size over None loose in
-    let held = held_in s.dialog (sym (c.held.ensures d (emptied s) (of_run look d (emptied s) run awake)) ∙ c.if-held.true) in
+    let held = held_in s.dialog (sym (c.held.ensures d (with_empty_log s) (of_run look d (with_empty_log s) run awake)) ∙ c.if-held.true) in
     subst (λ t. IsRunSince look d s t c.held_event.new.self)
-    (sym (ap (λ (b : Bool). if b then emptied s else step_under d s.frame e (emptied s)) over
-    ∙ ap (λ f. step_under d f e (emptied s)) loose ∙ ap (λ o. step_at d o e (emptied s)) held.2))
-    (c.held_event.ensures s (emptied s) held.0 (awake, marked-aside d s s (emptied s) run.damage (marked-same d s run.damage) refl refl refl) held.2)
+    (sym (ap (λ (b : Bool). if b then with_empty_log s else step_by_frame d s.frame e (with_empty_log s)) over
+    ∙ ap (λ f. step_by_frame d f e (with_empty_log s)) loose ∙ ap (λ o. step_by_hold d o e (with_empty_log s)) held.2))
+    (c.held_event.ensures s (with_empty_log s) held.0 (awake, marked-aside d s s (with_empty_log s) run.damage (marked-same d s run.damage) refl refl refl) held.2)
 
 pub returns-else-held : goal.returns-else-held
 returns-else-held g c = λ s r fit line.
@@ -87,8 +88,8 @@ returns-else-held g c = λ s r fit line.
     let over = sym r.over ∙ c.if-self.false in
     let loose : s.frame ≡ None = r.frame ∙ ap (option_map seen_frame) c.in_default.is in
     let awake = woken look d s c.args.self.now run r refl refl refl refl refl c.clear.ensures fit c.requires.sound c.requires.size over None loose in
-    let free = none_is (held_of s.dialog) (sym (c.held.ensures d (emptied s) (of_run look d (emptied s) run awake)) ∙ c.if-held.false) in
+    let free = none_is (dialog_with_hold s.dialog) (sym (c.held.ensures d (with_empty_log s) (of_run look d (with_empty_log s) run awake)) ∙ c.if-held.false) in
     subst (λ t. IsRunSince look d s t c.free_event.new.self)
-    (sym (ap (λ (b : Bool). if b then emptied s else step_under d s.frame e (emptied s)) over
-    ∙ ap (λ f. step_under d f e (emptied s)) loose ∙ ap (λ o. step_at d o e (emptied s)) free))
-    (c.free_event.ensures s (emptied s) (awake, marked-aside d s s (emptied s) run.damage (marked-same d s run.damage) refl refl refl) free line)
+    (sym (ap (λ (b : Bool). if b then with_empty_log s else step_by_frame d s.frame e (with_empty_log s)) over
+    ∙ ap (λ f. step_by_frame d f e (with_empty_log s)) loose ∙ ap (λ o. step_by_hold d o e (with_empty_log s)) free))
+    (c.free_event.ensures s (with_empty_log s) (awake, marked-aside d s s (with_empty_log s) run.damage (marked-same d s run.damage) refl refl refl) free line)

@@ -1,6 +1,6 @@
 use Rattle.std.proofs.Common.{refl, ap, subst, ◌∙◌}
 use Rattle.tv_machine.specs.Session.Commands.{do_command}
-use Rattle.tv_machine.specs.Session.Step.{held_of}
+use Rattle.tv_machine.specs.Session.Step.{dialog_with_hold}
 use Rattle.tv_menu.specs.Bar.{open_of}
 use Rattle.tv_session.specs.Running.{IsRunSince}
 use Rattle.tv_session.proofs.CommandLemmas.{same_some}
@@ -16,7 +16,7 @@ command-requires g c =
       awake = (
         record r.0 { menu = open_of c.offer.new.self },
         offered_awake g.V.View.meaning d r.0 c.args.self.now c.offer.new.self r.1 r.2 (c.offer.ensures.stays d r.1.stands.bar),
-        ap held_of r.2,
+        ap dialog_with_hold r.2,
       );
     }
 
@@ -37,5 +37,5 @@ returns-in-Turned-clause-takes g c = λ since s after w none is.
       refl,
       subst (λ t. IsRunSince g.V.View.meaning d since t c.command.new.self) (same_some (do_command d c.in-Turned.command.0 (record s { menu = open_of c.offer.new.self })) after (c.in-Turned.ensures.answer d s a.stands.bar a.stands.menu ∙ is))
           (c.command.ensures since (record s { menu = open_of c.offer.new.self }) (offered_awake g.V.View.meaning d s c.args.self.now c.offer.new.self a none stays, marked-aside d since s (record s { menu = open_of c.offer.new.self }) c.args.self.now.damage w.1 refl refl refl)
-          (c.in-Turned.ensures.closed c.in-Turned.command refl) (ap held_of none)),
+          (c.in-Turned.ensures.closed c.in-Turned.command refl) (ap dialog_with_hold none)),
     )

@@ -1,6 +1,6 @@
 use Rattle.std.proofs.Common.{refl, ap, subst, sym, ◌∙◌}
 use Rattle.tv_machine.specs.Session.Desktop.{down_on_desktop, window_under}
-use Rattle.tv_machine.specs.Session.Step.{held_of}
+use Rattle.tv_machine.specs.Session.Step.{dialog_with_hold}
 use Rattle.tv_session.specs.Running.{IsRunSince}
 use Rattle.tv_session.proofs.RunningLemmas.{run_windows, still}
 use Rattle.tv_session.proofs.MarkedLemmas.{marked-same, marked-windows}
@@ -13,7 +13,7 @@ command-requires g c =
     let s = c.requires.awake.0 in
     let hit = c.in-CloseMark.ensures in
     let same = still g.V.View.meaning d s s run c.down.new.self c.down.new.damage (hit.kept (λ e. cc)) (hit.unmarked (λ e. cc)) (c.requires.awake.1, marked-same d s run.damage) in
-    record { awake = (s, same.0, ap held_of c.requires.awake.2) }
+    record { awake = (s, same.0, ap dialog_with_hold c.requires.awake.2) }
 
 pub returns-in-CloseMark : goal.returns-in-CloseMark
 returns-in-CloseMark g c = λ since s w none menu.
@@ -21,7 +21,7 @@ returns-in-CloseMark g c = λ since s w none menu.
     let look = g.V.View.meaning in
     let hit = c.in-CloseMark.ensures in
     let same = still look d since s c.args.self.now c.down.new.self c.down.new.damage (hit.kept (λ e. cc)) (hit.unmarked (λ e. cc)) w in
-    subst (λ t. IsRunSince look d since t c.command.new.self) (sym (hit.mark d s w.0.stands.desk refl)) (c.command.ensures since s same menu (ap held_of none))
+    subst (λ t. IsRunSince look d since t c.command.new.self) (sym (hit.mark d s w.0.stands.desk refl)) (c.command.ensures since s same menu (ap dialog_with_hold none))
 
 pub returns-in-Grip : goal.returns-in-Grip
 returns-in-Grip g c = λ since s w none menu.

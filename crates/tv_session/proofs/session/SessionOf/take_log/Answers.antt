@@ -1,5 +1,5 @@
 use Rattle.std.proofs.Common.{refl, ap, ◌∙◌}
-use Rattle.tv_machine.specs.Session.Step.{emptied}
+use Rattle.tv_machine.specs.Session.Step.{with_empty_log}
 use Rattle.tv_session.proofs.FitLemmas.{emptied_fit}
 use Rattle.tv_session.proofs.RunningLemmas.{run_windows}
 use Rattle.tv_session.proofs.session.SessionOf.take_log.Goals as goal
@@ -11,7 +11,7 @@ returns g c = (
     λ _. tt,
     λ s r. record {
       desc = r.desc;
-      run = run_windows g.V.View.meaning s.desc s.state (emptied s.state) c.args.self.now.run _ r.run r.run.desk refl refl refl refl refl refl r.run.over r.run.frame c.clear.ensures;
+      run = run_windows g.V.View.meaning s.desc s.state (with_empty_log s.state) c.args.self.now.run _ r.run r.run.desk refl refl refl refl refl refl r.run.over r.run.frame c.clear.ensures;
       line = r.line;
       fit = emptied_fit s.desc s.state r.fit;
       screen = record { width = r.screen.width; height = r.screen.height; cells = r.screen.cells };
