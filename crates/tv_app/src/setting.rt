@@ -127,16 +127,6 @@ fn are_safe(alloc: Global, views: &[Node], values: &Record) -> Result<bool, Allo
     Ok(true)
 }
 
-fn copy(value: &Value) -> Value
-    ensures { result ≡ value.now }
-{
-    match value {
-        Value::Text(text) => Value::Text(text.copy()),
-        Value::Marks(marks) => Value::Marks(*marks),
-        Value::Item(item) => Value::Item(*item),
-    }
-}
-
 // Adds the value of a view, if it is a field that has one.
 fn add_field(ordered: &mut Record, view: &Node, values: &Record)
     requires { length ordered.old < 64 }
@@ -144,7 +134,7 @@ fn add_field(ordered: &mut Record, view: &Node, values: &Record)
 {
     if is_field(&view.kind) {
         if let Some(value) = values.value(view.id) {
-            ordered.put(view.id, copy(value));
+            ordered.put(view.id, value.copy());
         }
     }
 }

@@ -14,18 +14,8 @@ use crate::dialog::DialogOf;
 use crate::log::{Log, note};
 use crate::plan::LeafPlan;
 use tv_event::Command;
-use tv_model::{Id, LogLine, Record, Value};
+use tv_model::{Id, LogLine, Record};
 use tv_view::View;
-
-fn copy(value: &Value) -> Value
-    ensures { result ≡ value.now }
-{
-    match value {
-        Value::Text(text) => Value::Text(text.copy()),
-        Value::Marks(marks) => Value::Marks(*marks),
-        Value::Item(item) => Value::Item(*item),
-    }
-}
 
 // Logs the leaves that the record has a value for.
 fn note_fields(log: &mut Log, leaves: &[LeafPlan], fields: &Record)
@@ -33,7 +23,7 @@ fn note_fields(log: &mut Log, leaves: &[LeafPlan], fields: &Record)
 {
     for leaf in leaves {
         if let Some(value) = fields.value(leaf.id) {
-            note(log, LogLine::Field(leaf.id, copy(value)));
+            note(log, LogLine::Field(leaf.id, value.copy()));
         }
     }
 }

@@ -19,6 +19,19 @@ pub enum Value {
     Item(u8),
 }
 
+impl Value {
+    /// Copies the value. Takes no memory.
+    pub fn copy(&self) -> Value
+        ensures { result ≡ self.now }
+    {
+        match self {
+            Value::Text(text) => Value::Text(text.copy()),
+            Value::Marks(marks) => Value::Marks(*marks),
+            Value::Item(item) => Value::Item(*item),
+        }
+    }
+}
+
 impl Default for Value {
     ghost use Rattle.tv_model.specs.declared.record.Value.TheVariants.{Marks};
 

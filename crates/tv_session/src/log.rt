@@ -3,21 +3,11 @@
 ghost use Rattle.std.specs.Prelude.{◌≡◌, ◌≤◌, ◌+◌, ◌++◌, ◌∷◌, [], length};
 
 use tv_dialog::LogLines;
-use tv_model::{LogLine, Value};
+use tv_model::LogLine;
 
 /// The lines of the last event that aren't yet taken. One event gives at most those of a dialog, and the one of its
 /// opening.
 pub(crate) type Log = LogLines<67>;
-
-fn copy_value(value: &Value) -> Value
-    ensures { result ≡ value.now }
-{
-    match value {
-        Value::Text(text) => Value::Text(text.copy()),
-        Value::Marks(marks) => Value::Marks(*marks),
-        Value::Item(item) => Value::Item(*item),
-    }
-}
 
 /// Adds a line.
 pub(crate) fn note(log: &mut Log, line: LogLine)
@@ -41,7 +31,7 @@ fn note_copy(log: &mut Log, line: &LogLine)
         LogLine::Quit => note(log, LogLine::Quit),
         LogLine::Command(number) => note(log, LogLine::Command(*number)),
         LogLine::End(id, command) => note(log, LogLine::End(*id, *command)),
-        LogLine::Field(id, value) => note(log, LogLine::Field(*id, copy_value(value))),
+        LogLine::Field(id, value) => note(log, LogLine::Field(*id, value.copy())),
         LogLine::Moved(id, corner) => note(log, LogLine::Moved(*id, *corner)),
     }
 }
