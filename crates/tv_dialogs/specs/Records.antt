@@ -8,7 +8,8 @@ use Rattle.tv_dialogs.specs.Kept.{first_values}
 
 -- what the dialog at a place opens with next, if there is one
 abbrev pub next_record : Desc → State → ℕ → Option Entries
-next_record d s place = option_map (λ dialog. first_values dialog (saved_at s place)) (slice_get d.dialogs place)
+next_record d s place =
+    option_map (λ dialog. first_values dialog (saved_at s place)) (slice_get d.dialogs place)
 
 -- the state in which the last end of the dialog at a place saved this record
 abbrev pub with_saved : ℕ → Entries → State → State

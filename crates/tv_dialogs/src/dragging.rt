@@ -1,6 +1,6 @@
 //! How the open dialog is dragged by its top row.
 
-ghost use Rattle.std.specs.Prelude.{◌≡◌, IfSome, None, Some, if◌then◌else◌, option_map, slice_get};
+ghost use Rattle.std.specs.Prelude.{◌≡◌, IfSome, None, Some, if◌then◌else◌, option_map, slice_get, vec_capacity};
 ghost use Rattle.tv_faces.specs.Corners.{IsCorner};
 ghost use Rattle.tv_machine.specs.Session.Desktop.{seen_from};
 ghost use Rattle.tv_machine.specs.Session.Dragging.{is_grip, is_grip_of, placed};
@@ -63,6 +63,7 @@ impl<V: View> DialogsOf<V> {
         ensures unopened { (d : Declared) (s : State) → AreDialogs V.meaning d s self.old → s.dialog ≡ None
             → AreDialogs V.meaning d s self.new × (damage.new ≡ damage.old) }
         ensures kept { Keeps damage.old damage.new }
+        ensures room { vec_capacity self.new.kept ≡ vec_capacity self.old.kept }
     {
         let Some(place) = self.open else {
             return;

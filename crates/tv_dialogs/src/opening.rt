@@ -1,6 +1,6 @@
 //! Dialogs before a run, and how one opens.
 
-ghost use Rattle.std.specs.Prelude.{◌≡◌, ◌∷◌, ◌++◌, [], IfErr, IfOk, None, Some, slice_get};
+ghost use Rattle.std.specs.Prelude.{◌≡◌, ◌∷◌, ◌++◌, [], IfErr, IfOk, None, Some, slice_get, vec_capacity};
 ghost use Rattle.tv_laws.specs.Runs.{HasSoundDialogs};
 ghost use Rattle.tv_machine.specs.Session.Commands.{open_dialog};
 ghost use Rattle.tv_machine.specs.Session.Start.{closed};
@@ -70,6 +70,7 @@ impl<V: View> DialogsOf<V> {
             → (open_dialog desc.now place s).log ≡ s.log ++ lines.Open dialog.node.id ∷ log_of_last self.new }
         ensures damage { (s : State) → s.dialog ≡ None → AreOfRun V.meaning desc.now s self.old → OpenAlike desc.now damage.new s (open_dialog desc.now place s) }
         ensures kept { Keeps damage.old damage.new }
+        ensures room { vec_capacity self.new.kept ≡ vec_capacity self.old.kept }
     {
         let declared = &desc.dialogs.as_slice()[place];
         let kept = &mut self.kept[place];

@@ -1,6 +1,6 @@
 //! What the open dialog makes of an event.
 
-ghost use Rattle.std.specs.Prelude.{◌≡◌, ◌++◌, Some};
+ghost use Rattle.std.specs.Prelude.{◌≡◌, ◌++◌, Some, vec_capacity};
 ghost use Rattle.tv_laws.specs.Steps.{RespectsHold};
 ghost use Rattle.tv_machine.specs.Session.Step.{to_dialog};
 ghost use Rattle.tv_machine.specs.State.{OpenDialog, State};
@@ -28,6 +28,7 @@ impl<V: View> DialogsOf<V> {
         ensures damage { (s : State) (o : OpenDialog) → s.dialog ≡ Some o → RespectsHold o.held event.now → AreOfRun V.meaning desc.now s self.old
             → OpenAlike desc.now damage.new s (to_dialog desc.now o event.now s) }
         ensures kept { Keeps damage.old damage.new }
+        ensures room { vec_capacity self.new.kept ≡ vec_capacity self.old.kept }
     {
         self.last = None;
         if is_dropped(event) {

@@ -1,6 +1,6 @@
 //! Items one over the other, as windows are.
 
-ghost use Rattle.std.specs.Prelude.{◌≡◌, ◌<◌, length, slice_get, remove};
+ghost use Rattle.std.specs.Prelude.{◌≡◌, ◌<◌, length, slice_get, remove, vec_capacity};
 ghost use Rattle.tv_group.specs.Stack.{lowered, raised_at};
 
 fn bring_to_front<T>(items: &mut [T], place: usize)
@@ -17,7 +17,7 @@ fn send_to_back<T>(items: &mut [T], place: usize)
     items[place..].rotate_left(1);
 }
 
-/// Items from front to back. It never grows.
+/// Items from front to back. It takes no memory: its calls keep the room that its items had.
 #[derive(Drop)]
 pub struct Stack<T> {
     /// The front one first.
@@ -36,6 +36,7 @@ impl<T> Stack<T> {
     pub fn remove(&mut self, place: usize) -> Option<T>
         ensures item { result ≡ slice_get self.old.items.items place }
         ensures others { self.new.items.items ≡ remove self.old.items.items place }
+        ensures room { vec_capacity self.new.items ≡ vec_capacity self.old.items }
     {
         if place < self.items.len() {
             Some(self.items.remove(place))
@@ -47,7 +48,8 @@ impl<T> Stack<T> {
     /// Brings the item at a place to the front.
     pub fn raise(&mut self, place: usize)
         requires { place < length self.old.items.items }
-        ensures { self.new.items.items ≡ raised_at self.old.items.items place }
+        ensures raised { self.new.items.items ≡ raised_at self.old.items.items place }
+        ensures room { vec_capacity self.new.items ≡ vec_capacity self.old.items }
     {
         bring_to_front(&mut self.items, place);
     }
@@ -55,7 +57,8 @@ impl<T> Stack<T> {
     /// Sends the item at a place to the back.
     pub fn lower(&mut self, place: usize)
         requires { place < length self.old.items.items }
-        ensures { self.new.items.items ≡ lowered self.old.items.items place }
+        ensures lowered { self.new.items.items ≡ lowered self.old.items.items place }
+        ensures room { vec_capacity self.new.items ≡ vec_capacity self.old.items }
     {
         send_to_back(&mut self.items, place);
     }

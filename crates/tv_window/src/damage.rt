@@ -1,6 +1,6 @@
 //! What windows show otherwise than before.
 
-ghost use Rattle.std.specs.Prelude.{◌≡◌, ◌<◌, false, true, List, length};
+ghost use Rattle.std.specs.Prelude.{◌≡◌, ◌<◌, false, true, List, length, vec_capacity};
 ghost use Rattle.tv_cells.specs.Picture.{Picture};
 ghost use Rattle.tv_cells.specs.Repainting.{AreAlike};
 ghost use Rattle.tv_group.specs.Stack.{raised_at};
@@ -52,6 +52,7 @@ impl<V: View> DeskOf<V> {
         ensures damage { (d : Desc) (stack : List OpenWindow) → IsDesk V.meaning d stack self.old
             → AreStacksAlike d damage.new stack (raised_at stack place) }
         ensures grown { GrowsIn (raised_rects (windows_of self.old) place) damage.old damage.new }
+        ensures room { vec_capacity self.new.windows.items ≡ vec_capacity self.old.windows.items }
     {
         if place > 0 {
             damage.add_with_shadow(self.windows.items[place].bounds());

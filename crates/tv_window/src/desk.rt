@@ -1,6 +1,6 @@
 //! The open windows.
 
-ghost use Rattle.std.specs.Prelude.{◌≡◌, ◌≢◌, ◌==◌, ◌-◌, List, length, map, reverse};
+ghost use Rattle.std.specs.Prelude.{◌≡◌, ◌≢◌, ◌==◌, ◌-◌, List, length, map, reverse, vec_capacity};
 ghost use Rattle.tv_machine.specs.Screen.Layers.{stack_layers};
 ghost use Rattle.tv_machine.specs.Session.Commands.{close_front, do_command, last_first};
 ghost use Rattle.tv_machine.specs.Session.Desktop.{raise_found, window_of_digit};
@@ -28,7 +28,8 @@ use tv_view::{Env, View};
 
 /// The open windows of a run, the front one first.
 ///
-/// It is generic in their views, as a window is; the toolkit's own has boxed ones. It never grows, and takes no memory.
+/// It is generic in their views, as a window is; the toolkit's own has boxed ones. Its calls keep the room that it was made
+/// with.
 #[derive(Drop)]
 pub struct DeskOf<V> {
     pub(crate) windows: Stack<WindowOf<V>>,
@@ -77,6 +78,7 @@ impl<V: View> DeskOf<V> {
         ensures damage { (d : Desc) (s : State) → IsDesk V.meaning d s.windows self.old
             → AreStacksAlike d damage.new s.windows (raise_found (window_of_digit d s letter) s).windows }
         ensures grown { GrowsIn (moved_rects (windows_of self.old) (digit_place (windows_of self.old) letter)) damage.old damage.new }
+        ensures room { vec_capacity self.new.windows.items ≡ vec_capacity self.old.windows.items }
     {
         if let Some(place) = place_of_digit(&self.windows.items, letter) {
             self.raise(place, damage);
@@ -99,6 +101,7 @@ impl<V: View> DeskOf<V> {
             → AreStacksAlike d damage.new s.windows (down_on_desk d point s).windows }
         ensures grown { GrowsIn (moved_rects (windows_of self.old) (point_place (windows_of self.old) point)) damage.old damage.new }
         ensures unmarked { result ≢ Hit.Done → damage.new ≡ damage.old }
+        ensures room { vec_capacity self.new.windows.items ≡ vec_capacity self.old.windows.items }
     {
         let Some(place) = place_under(&self.windows.items, point) else {
             return Hit::Done;
@@ -120,6 +123,7 @@ impl<V: View> DeskOf<V> {
             → AreStacksAlike d damage.new stack (front_at corner stack) }
         ensures grown { GrowsIn (dragged_front_rects (windows_of self.old) corner) damage.old damage.new }
         ensures unmoved { FrontStandsAt corner (windows_of self.old) → damage.new ≡ damage.old }
+        ensures room { vec_capacity self.new.windows.items ≡ vec_capacity self.old.windows.items }
     {
         if let Some(front) = self.windows.items.first_mut() {
             front.move_to(corner, damage);
@@ -141,6 +145,7 @@ impl<V: View> DeskOf<V> {
         ensures damage { (d : Desc) (stack : List OpenWindow) → IsDesk V.meaning d stack self.old
             → AreStacksAlike d damage.new stack (last_first (reverse stack)) }
         ensures grown { GrowsIn (raised_rects (windows_of self.old) (length (windows_of self.old) - 1)) damage.old damage.new }
+        ensures room { vec_capacity self.new.windows.items ≡ vec_capacity self.old.windows.items }
     {
         if let Some(last) = self.windows.items.len().checked_sub(1) {
             self.raise(last, damage);
@@ -157,6 +162,7 @@ impl<V: View> DeskOf<V> {
         ensures damage { (d : Desc) (s : State) → IsDesk V.meaning d s.windows self.old
             → AreStacksAlike d damage.new s.windows (close_front s.windows s).windows }
         ensures grown { GrowsIn (closed_rects (windows_of self.old)) damage.old damage.new }
+        ensures room { vec_capacity self.new.windows.items ≡ vec_capacity self.old.windows.items }
     {
         let window = self.windows.remove(0)?;
         damage.add_with_shadow(window.bounds());
