@@ -8,6 +8,8 @@ mod TwoWindows
 -- windows and dialogs that are dragged
 mod Dragging
 mod MenuKeys
+-- commands that the program gives
+mod GivenCommands
 mod ControlKeys
 -- panes
 mod Views

@@ -10,7 +10,7 @@ use Rattle.tv_examples.specs.Widths.{widths}
 use Rattle.tv_cells.specs.Glyph.{Glyph}
 use Rattle.tv_model.specs.declared.fault.Fault.{Fault}
 use Rattle.tv_model.specs.Faults.{faults_of}
-use Rattle.tv_model.specs.Log.LogText.{line_of, bytes_of}
+use Rattle.tv_model.specs.Log.LogText.{line_of, bytes_of, log_text}
 use Rattle.tv_words.specs.Canonical.{ended_line}
 use Rattle.tv_lang.specs.Reading.Descriptions as readings
 use Rattle.tv_lang.specs.Reading.Descriptions.{DescriptionOutcome, description_outcome}
@@ -18,7 +18,7 @@ use Rattle.tv_script.specs.declared.script_text.ScriptFault.{ScriptFault}
 use Rattle.tv_script.specs.Reading.Scripts.{script_of}
 use Rattle.tv_model.specs.declared.script.Item.{Item}
 use Rattle.tv_model.specs.declared.desc.Desc.{Desc}
-use Rattle.tv_machine.specs.Run.{Session, started}
+use Rattle.tv_machine.specs.Run.{Session, commanded, started}
 use Rattle.tv_machine.specs.Output.{output, after, screen_cell, hex_byte}
 
 -- one name to unfold where a text is computed
@@ -84,6 +84,18 @@ ShowsColours description script row first count shown =
     option_map (cells_of (λ cell. hex_byte cell.attr) row first count)
     (after_read (description_outcome (text description)) (text script))
     ≡ Some (codes shown)
+
+-- ---- commands that the program gives
+
+-- what a command that the program gives after the script logs, if the description was read
+abbrev pub command_text : List String → List String → ℕ → Option (List ℕ)
+command_text description script number =
+    option_map (λ s. log_text s.desc (commanded s (record { 0 = number })).state.log)
+    (after_read (description_outcome (text description)) (text script))
+
+-- a command that the program gives after the script logs these lines
+abbrev pub Logs : List String → List String → ℕ → List String → Type 0
+Logs description script number lines = command_text description script number ≡ Some (text lines)
 
 -- ---- faults
 

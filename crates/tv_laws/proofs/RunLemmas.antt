@@ -1,5 +1,5 @@
 -- Every event keeps a run fit, and a fit run is safe; so every run is.
-use Rattle.std.proofs.Common.{◌≡◌, false, not, ◌<◌, ℕ, zero, suc, if◌then◌else◌, List, [], ◌∷◌, map, length, position, replicate, Option, Some, None, is_some, option_map, refl, sym, ap, subst, ◌∙◌, arith}
+use Rattle.std.proofs.Common.{◌≡◌, Bool, true, false, not, ◌&&◌, ◌<◌, ℕ, zero, suc, if◌then◌else◌, List, [], ◌∷◌, map, length, position, replicate, Option, Some, None, is_none, is_some, option_map, refl, sym, ap, subst, ◌∙◌, arith}
 use Rattle.std.specs.Prelude.{pos, slice_get}
 use Rattle.std.proofs.lemmas.Bool.{true≢false}
 use Rattle.std.proofs.lemmas.List.Elements.{All-nil}
@@ -22,7 +22,9 @@ use Rattle.tv_machine.specs.Session.Commands.{do_command, modal_of}
 use Rattle.tv_machine.specs.Session.Desktop.{seen_from}
 use Rattle.tv_machine.specs.Session.Dragging.{grabbed, is_grip_of}
 use Rattle.tv_machine.specs.Session.Start.{closed, start, started_at, started_by}
-use Rattle.tv_machine.specs.Session.Step.{after_event, dialog_with_hold, down_on_dialog, event_from, is_item_enabled, is_status_row, status_command, status_item_of, step, step_held, to_dialog, with_empty_log}
+use Rattle.tv_machine.specs.Session.Enabled.{is_enabled_now}
+use Rattle.tv_machine.specs.Session.Menu.{close_menu}
+use Rattle.tv_machine.specs.Session.Step.{after_event, dialog_with_hold, down_on_dialog, event_from, give_command, is_item_enabled, is_status_row, status_command, status_item_of, step, step_held, takes_command, to_dialog, with_empty_log}
 use Rattle.tv_laws.specs.Letters.{AlwaysMarksOnce}
 use Rattle.tv_laws.specs.Runs.{HasSoundDialogs, IsFitState, IsKept, RunsFit}
 use Rattle.tv_laws.specs.Steps.{RespectsHold}
@@ -52,6 +54,18 @@ given_move (Some held) p = tt
 pub given_up : (held : Option Held) (p : Point) → RespectsHold held (events.Up p)
 given_up None p = tt
 given_up (Some held) p = tt
+
+not_true : (b : Bool) → not b ≡ true → b ≡ false
+not_true true e = absurd (true≢false (sym e))
+not_true false e = refl
+
+none_is : {A : Type 0} (o : Option A) → is_none o ≡ true → o ≡ None
+none_is None e = refl
+none_is (Some x) e = absurd (true≢false (sym e))
+
+and_true : (a b : Bool) → (a && b) ≡ true → (a ≡ true) × (b ≡ true)
+and_true true b e = (refl, e)
+and_true false b e = absurd (true≢false (sym e))
 
 pub not_some : {A : Type 0} (o : Option A) → is_some o ≡ false → o ≡ None
 not_some None e = refl
@@ -167,6 +181,34 @@ module _ (d : Desc) (sound : HasSoundDialogs d) where
       bool_cases s.is_over (λ b. IsFitState d (if b then with_empty_log s else step_by_frame d s.frame e (with_empty_log s))) (λ over. emptied_fit s f)
       (λ goes. option_cases s.frame (λ frame. IsFitState d (step_by_frame d frame e (with_empty_log s))) (λ free. step_at_fit e (with_empty_log s) (emptied_fit s f) goes free)
       (λ frame held. dragged-fit d sound frame e (with_empty_log s) held (emptied_fit s f)))
+
+  -- ---- commands that the program gives
+
+  pub shut-fit : (s : State) → IsFitState d s → IsFitState d (close_menu s)
+  shut-fit s f = record {
+    kept = record { saved = f.kept.saved; places = f.kept.places; ordered = f.kept.ordered; ends = f.kept.ends };
+    «open» = λ o e. let x = f.«open» o e in record { dialog = x.dialog; there = x.there; fit = x.fit; menu = refl; over = x.over; top = x.top };
+    frame = λ held e. let x = f.frame held e in record { width = x.width; there = x.there; column = x.column; leaf = x.leaf; menu = refl; over = x.over };
+  }
+
+  loose : (s : State) → is_none (dialog_with_hold s.dialog) ≡ true → (o : OpenDialog) → s.dialog ≡ Some o → o.held ≡ None
+  loose s none o some =
+      not_some o.held
+      (bool_cases (is_some o.held) (λ b. is_none (if b then Some o else None) ≡ true → b ≡ false) (λ holds e. absurd (true≢false (sym e))) (λ free e. refl)
+      (sym (ap (λ x. is_none (dialog_with_hold x)) some) ∙ none))
+
+  pub takes-ready : (number : ℕ) (s : State) → IsFitState d s → takes_command d s number ≡ true → IsReady d sound (close_menu (with_empty_log s))
+  takes-ready number s f takes =
+      let first = and_true (not s.is_over && is_none s.frame && is_none (dialog_with_hold s.dialog)) (is_enabled_now d s number) takes in
+      let second = and_true (not s.is_over && is_none s.frame) (is_none (dialog_with_hold s.dialog)) first.0 in
+      let third = and_true (not s.is_over) (is_none s.frame) second.0 in
+      record { fit = shut-fit (with_empty_log s) (emptied_fit s f); over = not_true s.is_over third.0; free = none_is s.frame third.1; idle = loose s second.1 }
+
+  -- they keep it as every event does
+  pub commands-fit : (s : State) (number : ℕ) → IsFitState d s → IsFitState d (give_command d s number)
+  commands-fit s number f =
+      bool_cases (takes_command d s number) (λ b. IsFitState d (if b then do_command d number (close_menu (with_empty_log s)) else with_empty_log s))
+      (λ takes. command-fit d sound number (close_menu (with_empty_log s)) (takes-ready number s f takes) refl) (λ refused. emptied_fit s f)
 
   -- ---- the start
 

@@ -1,8 +1,9 @@
 -- A run of a description, event for event.
+use Rattle.tv_event.specs.declared.event.Command.{Command}
 use Rattle.tv_event.specs.declared.event.Event.{Event}
 use Rattle.tv_model.specs.declared.desc.Desc.{Desc}
 use Rattle.tv_machine.specs.State.{State}
-use Rattle.tv_machine.specs.Session.Step.{step, with_empty_log}
+use Rattle.tv_machine.specs.Session.Step.{give_command, step, with_empty_log}
 use Rattle.tv_machine.specs.Session.Start.{start}
 
 -- a description and the state of its run
@@ -17,6 +18,10 @@ started d = record { desc = d; state = start d }
 -- after one event
 abbrev pub stepped : Session → Event → Session
 stepped s e = record { desc = s.desc; state = step s.desc s.state e }
+
+-- after a command that the program gives
+abbrev pub commanded : Session → Command → Session
+commanded s c = record { desc = s.desc; state = give_command s.desc s.state c.0 }
 
 -- its log was taken
 abbrev pub quiet : Session → Session

@@ -1,6 +1,7 @@
 -- One event of a run. The first case that holds decides: the run is over; the mouse holds a frame, or a leaf;
 -- a menu is open; a status item's key or cells; then the open dialog, or the desktop without one.
-use Rattle.std.specs.Prelude.{[], Bool, not, ◌&&◌, find, Option, Some, None, is_some, pos, ◌-ℤ◌, slice_get}
+use Rattle.std.specs.Prelude.{[], ℕ, Bool, not, ◌&&◌, find, Option, Some, None, is_none, is_some, pos, ◌-ℤ◌}
+use Rattle.std.specs.Prelude.{slice_get}
 use Rattle.std.specs.Prelude.{if◌then◌else◌}
 use Rattle.std.specs.Ordering.{int_eq}
 use Rattle.tv_cells.specs.Layers.{is_in}
@@ -18,7 +19,7 @@ use Rattle.tv_machine.specs.Screen.Bars.{status_under}
 use Rattle.tv_machine.specs.Dialog.Step.{dialog_step}
 use Rattle.tv_machine.specs.Session.Enabled.{is_enabled_now}
 use Rattle.tv_machine.specs.Session.Commands.{in_dialog, do_command}
-use Rattle.tv_machine.specs.Session.Menu.{menu_key, menu_down}
+use Rattle.tv_machine.specs.Session.Menu.{close_menu, menu_key, menu_down}
 use Rattle.tv_machine.specs.Session.Desktop.{seen_from, desktop_key, desktop_down}
 use Rattle.tv_machine.specs.Session.Dragging.{grabbed, is_grip_of, step_dragged}
 
@@ -128,3 +129,15 @@ step d s e =
         | None ↦ after_event d e (with_empty_log s)
       ]
     ]
+
+-- ---- a command that the program gives
+
+-- it is done while the run goes on and nothing holds the mouse, if it is enabled
+abbrev pub takes_command : Desc → State → ℕ → Bool
+takes_command d s number =
+    not s.is_over && is_none s.frame && is_none (dialog_with_hold s.dialog) && is_enabled_now d s number
+
+-- a command that the program gives, as if a user had chosen it: the log is emptied, and an open menu closes
+abbrev pub give_command : Desc → State → ℕ → State
+give_command d s number =
+    if takes_command d s number then do_command d number (close_menu (with_empty_log s)) else with_empty_log s
