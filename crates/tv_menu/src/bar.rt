@@ -79,6 +79,14 @@ impl MenuBar {
         }
     }
 
+    /// Closes the open menu, if there is one.
+    pub fn close(&mut self)
+        ensures shut { open_of self.new ≡ None }
+        ensures stays { (d : Declared) → IsBarOf d self.old → IsBarOf d self.new }
+    {
+        self.open = None;
+    }
+
     fn effect(&self, event: &Event) -> Effect
         ensures { (d : Declared) (s : State) → IsBarOf d self.now → s.menu ≡ open_of self.now → made d result s ≡ bar_offer d event.now s }
     {

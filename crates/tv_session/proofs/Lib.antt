@@ -2,6 +2,7 @@ pub mod CommandLemmas
 pub mod DraggingLemmas
 pub mod EventLemmas
 pub mod FitLemmas
+pub mod GivingLemmas
 pub mod OfferLemmas
 pub mod RunningLemmas
 pub mod ScreenLemmas

@@ -1,18 +1,15 @@
--- A session that is painted again after an event.
-use Rattle.std.proofs.Common.{◌≡◌, List, refl, ap, subst, sym, ◌∙◌}
+-- A session that is painted again after an event, or after a command that the program gives.
+use Rattle.std.proofs.Common.{◌≡◌, ℤ, List, refl, ap, subst, sym, ◌∙◌}
 use Rattle.tv_cells.specs.Damage.{HasWithin}
 use Rattle.tv_cells.specs.Layers.{Shows}
 use Rattle.tv_cells.specs.Picture.{IsAlike, Picture}
 use Rattle.tv_cells.specs.Repainting.{AreAlike}
 use Rattle.tv_cells.specs.declared.rect.Rect.{Rect}
-use Rattle.tv_event.specs.declared.event.Event.{Event}
 use Rattle.tv_laws.specs.Runs.{IsFitState}
-use Rattle.tv_laws.proofs.RunLemmas.{runs-fit}
 use Rattle.tv_machine.specs.Dialog.Sound.{HasSoundDialogs}
-use Rattle.tv_machine.specs.Run.{Session, stepped}
+use Rattle.tv_machine.specs.Run.{Session}
 use Rattle.tv_machine.specs.Screen.Bodies.{whole_screen}
 use Rattle.tv_machine.specs.Screen.Layers.{layers_of}
-use Rattle.tv_machine.specs.Session.Step.{step}
 use Rattle.tv_machine.specs.State.{State}
 use Rattle.tv_menu.specs.Lawful.{IsLawfulScreen}
 use Rattle.tv_menu.specs.Line.{IsStatusLineOf}
@@ -32,17 +29,31 @@ pub shown-alike : (d : Desc) (s t : State) (inner damage : List Rect) (p : Pictu
     → HasWithin (whole_screen d) inner damage → AreShownAlike d s t inner → AreAlike p damage (layers_of d s) (layers_of d t)
 shown-alike d s t inner damage p size width height added alike = alike-within d s t inner damage p size width height added (layers_of d s) (layers_of d t) (alike p)
 
-module _ {V : Type 0} (look : V → Leaf) (session : SessionOf V) (s : Session) (d : Desc) (e : Event) (run : RunOf V) (lent : d ≡ session.checked) (r : StandsFor look session s) where
+-- its description's screen is as large as that of its status line
+pub screen-size : {V : Type 0} (look : V → Leaf) (session : SessionOf V) (s : Session) (d : Desc) → d ≡ session.checked → StandsFor look session s → IsLawfulScreen d.width d.height
+screen-size look session s d lent r =
+    let same = lent ∙ r.desc in
+    subst (λ (n : ℤ). IsLawfulScreen n d.height) (r.line.width ∙ ap (λ x. x.width) (sym same))
+    (subst (λ (n : ℤ). IsLawfulScreen session.line.width n) (r.line.height ∙ ap (λ x. x.height) (sym same)) session.line.screen)
+
+-- what an event, or a command that the program gives, makes of each state
+module _ {V : Type 0} (look : V → Leaf) (session : SessionOf V) (s : Session) (d : Desc) (after : Desc → State → State) (run : RunOf V) (lent : d ≡ session.checked) (r : StandsFor look session s) where
   same : d ≡ s.desc
   same = lent ∙ r.desc
 
-  -- the run and what it damages, by what its step ensures of each state
-  pub stepped-run : ((t : State) → IsRun look d t session.run → IsFitState d t → IsStatusLineOf d session.line → IsRun look d (step d t e) run × AreShownAlike d t (step d t e) run.damage)
-      → IsRun look d (step d s.state e) run × AreShownAlike d s.state (step d s.state e) run.damage
-  stepped-run ensures =
-      ensures s.state (subst (λ x. IsRun look x s.state session.run) (sym same) r.run) (subst (λ x. IsFitState x s.state) (sym same) r.fit) (subst (λ x. IsStatusLineOf x session.line) (sym same) r.line)
+  -- the state is one that the run's calls ask for
+  pub run-before : IsRun look d s.state session.run
+  run-before = subst (λ x. IsRun look x s.state session.run) (sym same) r.run
 
-  pub can-repaint : HasSoundDialogs d → IsLawfulScreen d.width d.height → IsRun look d (step d s.state e) run → CanPaint look d (step d s.state e) run session.line session.screen
+  pub fit-before : IsFitState d s.state
+  fit-before = subst (λ x. IsFitState x s.state) (sym same) r.fit
+
+  -- the run and what it damages, by what its call ensures of each state
+  pub ran-after : ((t : State) → IsRun look d t session.run → IsFitState d t → IsStatusLineOf d session.line → IsRun look d (after d t) run × AreShownAlike d t (after d t) run.damage)
+      → IsRun look d (after d s.state) run × AreShownAlike d s.state (after d s.state) run.damage
+  ran-after ensures = ensures s.state run-before fit-before (subst (λ x. IsStatusLineOf x session.line) (sym same) r.line)
+
+  pub can-repaint : HasSoundDialogs d → IsLawfulScreen d.width d.height → IsRun look d (after d s.state) run → CanPaint look d (after d s.state) run session.line session.screen
   can-repaint sound size ran = record {
     stands = ran;
     sound = sound;
@@ -56,14 +67,14 @@ module _ {V : Type 0} (look : V → Leaf) (session : SessionOf V) (s : Session) 
   pub shown-before : Shows (layers_of d s.state) session.screen
   shown-before = subst (λ x. Shows (layers_of x s.state) session.screen) (sym same) r.screen.cells
 
-  -- painted again it stands for the next state
-  pub stands-again : (screen : Picture) (repainted : List Rect) → HasSoundDialogs d → IsRun look d (step d s.state e) run → IsAlike session.screen screen → Shows (layers_of d (step d s.state e)) screen
-      → StandsFor look (record session { run = run; screen = screen; repainted = repainted }) (stepped s e)
-  stands-again screen repainted sound ran size shows = record {
+  -- painted again it stands for the state afterwards, which is fit too
+  pub stands-again : (screen : Picture) (repainted : List Rect) → IsFitState d (after d s.state) → IsRun look d (after d s.state) run → IsAlike session.screen screen → Shows (layers_of d (after d s.state)) screen
+      → StandsFor look (record session { run = run; screen = screen; repainted = repainted }) (record { desc = s.desc; state = after s.desc s.state })
+  stands-again screen repainted fit ran size shows = record {
     desc = r.desc;
-    run = subst (λ x. IsRun look x (step x s.state e) run) same ran;
+    run = subst (λ x. IsRun look x (after x s.state) run) same ran;
     line = r.line;
-    fit = runs-fit s.desc (subst HasSoundDialogs same sound) s.state e r.fit;
-    screen = shown_again s.desc s.desc s.state (step s.desc s.state e) session.screen screen refl r.screen
-        (size, subst (λ x. Shows (layers_of x (step x s.state e)) screen) same shows);
+    fit = subst (λ x. IsFitState x (after x s.state)) same fit;
+    screen = shown_again s.desc s.desc s.state (after s.desc s.state) session.screen screen refl r.screen
+        (size, subst (λ x. Shows (layers_of x (after x s.state)) screen) same shows);
   }

@@ -77,7 +77,8 @@ with_moved_line (Some i) corner s = logged_moved i corner s
 -- the open dialog and the windows of two states show the same but in the damage
 pub record ShowAlikeOff (d : Desc) (since s : State) (damage : List Rect) : Type 0 where
   pub dialog : (p : Picture)
-      → AreAlike p damage (open_layers d since.overwriting since.dialog) (open_layers d s.overwriting s.dialog)
+      → AreAlike p damage (open_layers d since.overwriting since.dialog)
+      (open_layers d s.overwriting s.dialog)
   pub windows : (p : Picture) (is_active : Bool)
       → AreAlike p damage (stack_layers d is_active since.windows) (stack_layers d is_active s.windows)
 

@@ -13,8 +13,7 @@ use Rattle.tv_session.specs.Running.{IsRun}
 use Rattle.tv_session.specs.declared.session.SessionOf.{SessionOf}
 
 -- the session stands for a run of its description: its windows, dialogs, menus and log are the state's, its
--- screen shows the
--- state, and the state is one that runs of sound dialogs come to
+-- screen shows the state, and the state is one that runs of sound dialogs come to
 pub record StandsFor {V : Type 0} (look : V → Leaf) (session : SessionOf V) (s : Session) : Type 0 where
   pub desc : session.checked ≡ s.desc
   pub run : IsRun look s.desc s.state session.run
@@ -25,7 +24,9 @@ pub record StandsFor {V : Type 0} (look : V → Leaf) (session : SessionOf V) (s
 -- the id of the dialog that is open
 abbrev pub open_id_of : Session → Option Id
 open_id_of s =
-    option_and_then (λ o. option_map (λ dialog. dialog.node.id) (slice_get s.desc.dialogs o.place)) s.state.dialog
+    option_and_then
+    (λ o. option_map (λ dialog. dialog.node.id) (slice_get s.desc.dialogs o.place))
+    s.state.dialog
 
 -- the run in which the last end of the dialog at a place saved this record
 abbrev pub handed_in : ℕ → Entries → Session → Session

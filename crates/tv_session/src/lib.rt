@@ -8,6 +8,7 @@ mod dragging;
 mod events;
 mod fault;
 mod freshness;
+mod giving;
 mod log;
 mod making;
 mod paint;

@@ -6,8 +6,9 @@ ghost use Rattle.std.specs.Io.BufRead.{Rests};
 ghost use Rattle.tv_cells.specs.Damage.{Holds};
 ghost use Rattle.tv_cells.specs.Repainting.{KeepsRest};
 ghost use Rattle.tv_machine.specs.Screen.Bodies.{whole_screen};
-ghost use Rattle.tv_machine.specs.Run.{Session as Standing, quiet, stepped};
+ghost use Rattle.tv_machine.specs.Run.{Session as Standing, commanded, quiet, stepped};
 ghost use Rattle.tv_machine.specs.Safe.{IsSafeSaved};
+ghost use Rattle.tv_machine.specs.Session.Step.{takes_command};
 ghost use Rattle.tv_script.specs.Performed.{IsScreenOf};
 ghost use Rattle.tv_dialogs.specs.Handed.{HasPointGiven};
 ghost use Rattle.tv_dialogs.specs.Records.{next_record};
@@ -17,10 +18,9 @@ use crate::log::Log;
 use crate::paint::{replace_damage, whole_screen};
 use crate::run::RunOf;
 use std::mem::swap;
-use tv_building::parts_are_lawful;
 use tv_cells::{Damage, Rect, Screen};
 use tv_check::Checked;
-use tv_event::Event;
+use tv_event::{Command, Event};
 use tv_menu::StatusLine;
 use tv_model::{Desc, Id, LogLine, Record};
 use tv_script::Stage;
@@ -59,15 +59,32 @@ impl<V: View> SessionOf<V> {
         ensures within { (s : Standing) → StandsFor V.meaning self.old s → Holds (whole_screen s.desc) self.new.repainted }
     {
         let desc = self.checked.desc();
-        parts_are_lawful(desc);
         self.run.step(desc, &self.line, event);
         replace_damage(&mut self.repainted, &self.run.damage, whole_screen(desc));
         self.run
             .repaint(&mut self.screen, desc, &self.line, &self.repainted);
     }
 
-    /// Returns the rectangles that the last event had painted again, in screen coordinates. They lie on the screen and may
-    /// overlap. A cell outside them is as before the event. Before the first event there are none, and a second call
+    /// Takes a command as if a user had chosen it, and returns whether it was taken: after `quit` it isn't, nor while the
+    /// mouse holds something, nor while the open dialog has it disabled. An open menu closes first. Afterwards the log holds
+    /// the command's lines only, and the screen is painted again as after an event.
+    pub fn command(&mut self, command: Command) -> bool
+        requires { (s : Standing) × StandsFor V.meaning self.old s }
+        ensures taken { (s : Standing) → StandsFor V.meaning self.old s → result ≡ takes_command s.desc s.state command.0 }
+        ensures stands { (s : Standing) → StandsFor V.meaning self.old s → StandsFor V.meaning self.new (commanded s command) }
+        ensures rest { KeepsRest self.new.repainted self.old.screen self.new.screen }
+        ensures within { (s : Standing) → StandsFor V.meaning self.old s → Holds (whole_screen s.desc) self.new.repainted }
+    {
+        let desc = self.checked.desc();
+        let taken = self.run.give_command(desc, &self.line, command);
+        replace_damage(&mut self.repainted, &self.run.damage, whole_screen(desc));
+        self.run
+            .repaint(&mut self.screen, desc, &self.line, &self.repainted);
+        taken
+    }
+
+    /// Returns the rectangles that the last event or command had painted again, in screen coordinates. They lie on the
+    /// screen and may overlap. A cell outside them is as before it. Before the first there are none, and a second call
     /// returns the same.
     pub fn repainted(&self) -> &[Rect]
         ensures { result.now ≡ self.now.repainted }
