@@ -1,6 +1,7 @@
 -- The run of the flat machine that an application stands for, with the words that callers say of one.
 use Rattle.tv_machine.specs.Dialog.Sound.{HasSoundDialogs}
-pub use Rattle.tv_machine.specs.Run.{Session, quiet, started, stepped}
+pub use Rattle.tv_machine.specs.Run.{Session, commanded, quiet, started, stepped}
+pub use Rattle.tv_machine.specs.Session.Step.{takes_command}
 use Rattle.tv_app.specs.declared.app.App.{App}
 use Rattle.tv_session.specs.Session.{StandsFor}
 use Rattle.tv_toolkit.specs.Control.{control_leaf}

@@ -6,13 +6,14 @@ ghost use Rattle.tv_app.specs.Running.{Runs};
 ghost use Rattle.tv_cells.specs.Damage.{Holds};
 ghost use Rattle.tv_cells.specs.Repainting.{KeepsRest};
 ghost use Rattle.tv_dialogs.specs.Handed.{HasPointGiven};
-ghost use Rattle.tv_machine.specs.Run.{Session, quiet, stepped};
+ghost use Rattle.tv_machine.specs.Run.{Session, commanded, quiet, stepped};
 ghost use Rattle.tv_machine.specs.Screen.Bodies.{whole_screen};
+ghost use Rattle.tv_machine.specs.Session.Step.{takes_command};
 ghost use Rattle.tv_script.specs.Performed.{IsScreenOf};
 
 use crate::names::dialog_named;
 use tv_cells::{Rect, Screen};
-use tv_event::Event;
+use tv_event::{Command, Event};
 use tv_model::{Desc, Id, LogLine};
 use tv_script::Stage;
 use tv_session::SessionOf;
@@ -41,6 +42,19 @@ impl App {
         self.session.step(event);
     }
 
+    /// Takes a command as if a user had chosen it, and returns whether it was taken: after `quit` it isn't, nor while the
+    /// mouse holds something, nor while the open dialog has it disabled. An open menu closes first. Afterwards the log holds
+    /// the command's lines only, and the screen is painted again as after an event.
+    pub fn command(&mut self, command: Command) -> bool
+        requires { (s : Session) × Runs self.old s }
+        ensures taken { (s : Session) → Runs self.old s → result ≡ takes_command s.desc s.state command.0 }
+        ensures goes_on { (s : Session) → Runs self.old s → Runs self.new (commanded s command) }
+        ensures rest { KeepsRest self.new.session.repainted self.old.session.screen self.new.session.screen }
+        ensures within { (s : Session) → Runs self.old s → Holds (whole_screen s.desc) self.new.session.repainted }
+    {
+        self.session.command(command)
+    }
+
     /// Returns the screen after the last event.
     pub fn screen(&self) -> &Screen
         ensures { (s : Session) → Runs self.now s → IsScreenOf s result.now }
@@ -48,8 +62,8 @@ impl App {
         self.session.screen()
     }
 
-    /// Returns the rectangles that the last event had painted again, in screen coordinates. They lie on the screen and may
-    /// overlap. A cell outside them is as before the event. Before the first event there are none.
+    /// Returns the rectangles that the last event or command had painted again, in screen coordinates. They lie on the
+    /// screen and may overlap. A cell outside them is as before it. Before the first there are none.
     pub fn repainted(&self) -> &[Rect]
         ensures { result.now ≡ self.now.session.repainted }
     {

@@ -1,7 +1,7 @@
 //! The records of an application's dialogs, by name.
 
 ghost use Rattle.std.specs.Prelude.{◌≡◌, IfErr, IfOk, option_copied};
-ghost use Rattle.tv_app.specs.Names.{found_item, found_marks, found_text, record_named, value_named};
+ghost use Rattle.tv_app.specs.Names.{field_id, found_item, found_marks, found_text, record_named, value_named};
 ghost use Rattle.tv_app.specs.Running.{Runs};
 ghost use Rattle.tv_app.specs.Setting.{IsSetFrom, RefusesRecord};
 ghost use Rattle.tv_machine.specs.Run.{Session};
@@ -10,7 +10,7 @@ use crate::app::App;
 use crate::names::{dialog_place, field_id};
 use crate::setting::{SetFault, take_named};
 use std::alloc::Global;
-use tv_model::{Record, Value};
+use tv_model::{Id, Record, Value};
 use tv_valid::Text;
 
 impl App {
@@ -25,12 +25,20 @@ impl App {
         }
     }
 
+    /// Returns the id of the first view of the name in the first dialog of the other, under which a record has the value of
+    /// that field. There is none where no dialog has the one name, or no view of it the other.
+    pub fn field(&self, dialog: &str, field: &str) -> Option<Id>
+        ensures { (s : Session) → Runs self.now s → result ≡ field_id s.desc dialog.now field.now }
+    {
+        field_id(self.desc(), dialog, field)
+    }
+
     /// Returns the value that the field has in the record of the dialog, both by name. There is none where no dialog has
     /// the one name, no view of it the other, or the view is no field.
     pub fn value(&self, dialog: &str, field: &str) -> Option<&Value>
         ensures { (s : Session) → Runs self.now s → option_copied result ≡ value_named s dialog.now field.now }
     {
-        match (self.record(dialog), field_id(self.desc(), dialog, field)) {
+        match (self.record(dialog), self.field(dialog, field)) {
             (Some(record), Some(id)) => record.value(id),
             _ => None,
         }

@@ -1,13 +1,14 @@
 //! Asks for an order by a dialog, and tells what was ordered.
 #![tactic(auto)]
 
-use std::alloc::{AllocError, Global};
-use tv_app::{App, Command, Event, Key, LogLine, open};
+ghost use Rattle.tv_app.specs.Running.{Runs, Session};
 
-const ORDER: &str = r#"tvd 1
+use std::alloc::{AllocError, Global};
+use tv_app::{App, Command, Event, Key, LogLine, Record, Text, Unset, Value, open};
+
+const DESCRIPTION: &str = r#"tvd 1
 screen 40 12
-start order
-dialog order 2 2 34 8 "Order" ends ok cancel
+dialog order 2 2 34 8 "Order" opens 100 ends ok cancel
 label 2 1 8 "~N~ame" name
 input name 12 1 18 20 any ""
 radios size 2 3 14 "~S~mall" "~L~arge" start 1
@@ -16,18 +17,16 @@ button no 14 6 12 "~C~ancel" cancel
 end
 "#;
 
-// What is typed: a name, then the letter of the second size, then the default button.
-const KEYS: [Key; 5] = [
-    Key::Char('A'),
-    Key::Char('d'),
-    Key::Char('a'),
-    Key::Alt('L'),
-    Key::Enter,
-];
+// The command that opens the dialog.
+const ORDER: Command = Command(100);
+
+// What is typed: a name, then the default button.
+const KEYS: [Key; 4] = [Key::Char('A'), Key::Char('d'), Key::Char('a'), Key::Enter];
 
 fn main(rt: HostRuntime) -> anyhow::Result<()> {
     let alloc = rt.alloc();
-    let mut app = open(alloc, ORDER.as_bytes())?;
+    let mut app = open(alloc, DESCRIPTION.as_bytes())?;
+    begin_order(alloc, &mut app)?;
     // Invariant: the application stands for a run of the flat machine. `open` gives one, and `step` goes on from one to the
     // next; what only reads the application leaves it.
     for key in KEYS {
@@ -38,6 +37,31 @@ fn main(rt: HostRuntime) -> anyhow::Result<()> {
         }
     }
     Ok(())
+}
+
+// Gives the dialog the record with which it opens, and opens it.
+fn begin_order(alloc: Global, app: &mut App) -> Result<(), Unset>
+    requires { (s : Session) × Runs app.old s }
+    ensures { (s : Session) × Runs app.new s }
+{
+    let usual = usual_order(app);
+    if let Err(fault) = app.set(alloc, "order", usual) {
+        return Err(fault.reason);
+    }
+    app.command(ORDER);
+    Ok(())
+}
+
+// What the dialog opens with: no name, and the second size.
+fn usual_order(app: &App) -> Record {
+    let mut order = Record::new();
+    if let Some(name) = app.field("order", "name") {
+        order.put(name, Value::Text(Text::new()));
+    }
+    if let Some(size) = app.field("order", "size") {
+        order.put(size, Value::Item(2));
+    }
+    order
 }
 
 // Whether a dialog has ended by `ok`. Then its record is kept.
