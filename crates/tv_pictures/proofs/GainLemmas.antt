@@ -1,22 +1,47 @@
 -- One picture after another.
-use Rattle.std.proofs.Common.{◌≡◌, ℕ, ◌+◌, ◌<◌, List, [], ◌∷◌, ◌++◌, Option, Some, None, Result, Ok, Err, IsErrAnd, length, get_or, take, drop, refl, sym, ap, ◌∙◌, append_assoc}
-use Rattle.std.proofs.lemmas.List.{append-nil, take-append-drop, take_more}
+use Rattle.std.proofs.Common.{◌≡◌, ℕ, ◌+◌, ◌<◌, List, [], ◌∷◌, ◌++◌, Option, Some, None, Result, Ok, Err, IsErrAnd, length, get_or, take, drop, refl, sym, ap, subst, ◌∙◌, append_assoc, arith}
+use Rattle.std.proofs.lemmas.List.{append-nil, length-append, take-append-drop, take_more}
 use Rattle.tv_model.specs.declared.script.Item.{Item}
 use Rattle.tv_machine.specs.Output.{after, session_after, states}
 use Rattle.tv_machine.specs.Run.{Session, quiet}
-use Rattle.tv_pictures.specs.Albums.{Gains, GainsAll, GainsFront}
-use Rattle.tv_pictures.specs.declared.album.AlbumFault.{AlbumFault}
-use Rattle.tv_pictures.specs.Pictures.{item_svgs, shot_svgs, svgs_from}
+use Rattle.tv_pictures.specs.Albums.{NamedPicture, Gains, GainsAll, GainsBefore, drawn_as}
+use Rattle.tv_pictures.specs.declared.fault.ShotFault.{ShotFault}
+use Rattle.tv_pictures.specs.Naming.{named_from, shot_name}
+use Rattle.tv_pictures.specs.Pictures.{item_svgs, named_shots, session_svg, shot_svgs, svgs_from}
 
-pub gains-none : (a : Option (List (List ℕ))) → Gains a a []
+-- ---- what an album gains
+
+pub gains-none : (a : Option (List NamedPicture)) → Gains a a []
 gains-none None = tt
 gains-none (Some xs) = sym (append-nil xs)
 
-pub gains-then : (a b c : Option (List (List ℕ))) (x y : List (List ℕ)) → Gains a b x → Gains b c y → Gains a c (x ++ y)
+pub gains-then : (a b c : Option (List NamedPicture)) (x y : List NamedPicture) → Gains a b x → Gains b c y → Gains a c (x ++ y)
 gains-then None b c x y p q = tt
 gains-then (Some a) None c x y p q = absurd p
 gains-then (Some a) (Some b) None x y p q = absurd q
-gains-then (Some a) (Some b) (Some c) x y p q = q ∙ ap (λ (t : List (List ℕ)). t ++ y) p ∙ append_assoc a x y
+gains-then (Some a) (Some b) (Some c) x y p q = q ∙ ap (λ (t : List NamedPicture). t ++ y) p ∙ append_assoc a x y
+
+gains-still : (a b c : Option (List NamedPicture)) (x : List NamedPicture) → Gains a b x → Gains b c [] → Gains a c x
+gains-still a b c x p q = subst (λ (t : List NamedPicture). Gains a c t) (append-nil x) (gains-then a b c x [] p q)
+
+-- ---- names
+
+named-append : (name : List ℕ) (n : ℕ) (xs ys : List (List ℕ)) → named_from name n (xs ++ ys) ≡ named_from name n xs ++ named_from name (n + length xs) ys
+named-append name n [] ys =
+    let same : n ≡ n + length {A = List ℕ} [] = omega arith in
+    ap (λ (k : ℕ). named_from name k ys) same
+named-append name n (x ∷ xs) ys =
+    let same : n + 1 + length xs ≡ n + length (x ∷ xs) = omega arith in
+    ap (λ (t : List NamedPicture). drawn_as (shot_name name n) x ∷ t)
+    (named-append name (n + 1) xs ys ∙ ap (λ (k : ℕ). named_from name (n + 1) xs ++ named_from name k ys) same)
+
+length-named : (name : List ℕ) (n : ℕ) (xs : List (List ℕ)) → length (named_from name n xs) ≡ length xs
+length-named name n [] = refl
+length-named name n (x ∷ xs) =
+    let rest = length-named name (n + 1) xs in
+    omega (arith, rest)
+
+-- ---- the pictures of items
 
 svgs-append : (s : Session) (items more : List Item) → svgs_from s (items ++ more) ≡ svgs_from s items ++ svgs_from (states session_after s items) more
 svgs-append s [] more = refl
@@ -24,31 +49,55 @@ svgs-append s (i ∷ items) more =
     ap (λ (t : List (List ℕ)). item_svgs s i ++ t) (svgs-append (session_after s i) items more)
     ∙ sym (append_assoc (item_svgs s i) (svgs_from (session_after s i) items) (svgs_from (states session_after (session_after s i) items) more))
 
--- the pictures of items, one item more
-pub shots-more : (s : Session) (items : List Item) (i : ℕ) (d : Item) → i < length items
-    → shot_svgs s (take i items) ++ item_svgs (after s (take i items)) (get_or items i d) ≡ shot_svgs s (take (i + 1) items)
-shots-more s items i d lt =
-    let here = after s (take i items) in
-    let item = get_or items i d in
-    sym (
-    ap (svgs_from (quiet s)) (take_more items i d lt)
-    ∙ svgs-append (quiet s) (take i items) (item ∷ [])
-    ∙ ap (λ (t : List (List ℕ)). shot_svgs s (take i items) ++ t) (append-nil (item_svgs here item))
-    )
+-- some of them, and then the next one
+module _ (name : List ℕ) (s : Session) (items : List Item) (i number : ℕ) (d : Item) (lt : i < length items) (counted : number ≡ 1 + length (shot_svgs s (take i items))) where
+  abbrev front : List (List ℕ)
+  front = shot_svgs s (take i items)
 
--- those of some items begin those of all
-pub shots-front : (s : Session) (items : List Item) (i : ℕ) (a b c : Option (List (List ℕ))) → Gains a b (shot_svgs s (take i items)) → Gains b c [] → GainsFront a c (shot_svgs s items)
-shots-front s items i a b c p q = record {
-  front = shot_svgs s (take i items) ++ [];
-  rest = svgs_from (after s (take i items)) (drop i items);
-  parts =
-      sym (ap (svgs_from (quiet s)) (take-append-drop i items))
-      ∙ svgs-append (quiet s) (take i items) (drop i items)
-      ∙ ap (λ (t : List (List ℕ)). t ++ svgs_from (after s (take i items)) (drop i items)) (sym (append-nil (shot_svgs s (take i items))));
-  gains = gains-then a b c (shot_svgs s (take i items)) [] p q;
-}
+  abbrev next : List (List ℕ)
+  next = item_svgs (after s (take i items)) (get_or items i d)
 
--- a picture failed
-pub gains-failed : {old new : Option (List (List ℕ))} {all : List (List ℕ)} (fault : AlbumFault) (r : Result (Unit {0}) AlbumFault) → IsErrAnd r (λ told. told ≡ fault) → GainsFront old new all → GainsAll old new all r
-gains-failed fault (Ok x) told front = absurd told
-gains-failed fault (Err other) told front = front
+  shots-more : front ++ next ≡ shot_svgs s (take (i + 1) items)
+  shots-more =
+      sym (
+      ap (svgs_from (quiet s)) (take_more items i d lt)
+      ∙ svgs-append (quiet s) (take i items) (get_or items i d ∷ [])
+      ∙ ap (λ (t : List (List ℕ)). front ++ t) (append-nil next)
+      )
+
+  named-next : named_from name 1 (front ++ next) ≡ named_shots name s (take i items) ++ named_from name number next
+  named-next = subst (λ (k : ℕ). named_from name 1 (front ++ next) ≡ named_from name 1 front ++ named_from name k next) (sym counted) (named-append name 1 front next)
+
+  pub named-more : named_shots name s (take i items) ++ named_from name number next ≡ named_shots name s (take (i + 1) items)
+  named-more = sym named-next ∙ ap (named_from name 1) shots-more
+
+  pub counted-more : number + length next ≡ 1 + length (shot_svgs s (take (i + 1) items))
+  counted-more =
+      let all : length (shot_svgs s (take (i + 1) items)) ≡ length front + length next = ap length (sym shots-more) ∙ length-append front next in
+      omega (arith, counted, all)
+
+  -- it failed, and it is a `shot`
+  pub shot-failed : (a b c : Option (List NamedPicture)) → next ≡ session_svg (after s (take i items)) ∷ [] → Gains a b (named_shots name s (take i items)) → Gains b c [] → GainsBefore a c (named_shots name s items) number
+  shot-failed a b c shot before none =
+      let svg = session_svg (after s (take i items)) in
+      let later = svgs_from (after s (take (i + 1) items)) (drop (i + 1) items) in
+      let parts : shot_svgs s items ≡ front ++ svg ∷ later =
+      sym (ap (svgs_from (quiet s)) (take-append-drop (i + 1) items))
+      ∙ svgs-append (quiet s) (take (i + 1) items) (drop (i + 1) items)
+      ∙ ap (λ (t : List (List ℕ)). t ++ later) (sym shots-more ∙ ap (λ (t : List (List ℕ)). front ++ t) shot)
+      ∙ append_assoc front (svg ∷ []) later in
+      record {
+        front = named_from name 1 front;
+        failed = drawn_as (shot_name name (1 + length front)) svg;
+        rest = named_from name (1 + length front + 1) later;
+        parts = ap (named_from name 1) parts ∙ named-append name 1 front (svg ∷ later);
+        place =
+            let same = length-named name 1 front in
+            omega (arith, counted, same);
+        gains = gains-still a b c (named_from name 1 front) before none;
+      }
+
+-- what is told of one that failed
+pub gains-failed : {old new : Option (List NamedPicture)} {all : List NamedPicture} (failed : ShotFault) (r : Result (Unit {0}) ShotFault) → IsErrAnd r (λ told. told ≡ failed) → GainsBefore old new all failed.number → GainsAll old new all r
+gains-failed failed (Ok x) told before = absurd told
+gains-failed failed (Err other) told before = rw told before

@@ -1,3 +1,5 @@
 pub mod GainLemmas
 pub mod DrawingLemmas
 pub mod PictureLemmas
+pub mod ReadingLemmas
+pub mod ShotLemmas

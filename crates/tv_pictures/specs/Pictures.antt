@@ -5,6 +5,8 @@ use Rattle.tv_model.specs.declared.script.Item.TheVariants as items
 use Rattle.tv_model.specs.Description.Numbers.{natural}
 use Rattle.tv_machine.specs.Output.{screen_cell, session_after}
 use Rattle.tv_machine.specs.Run.{Session, quiet}
+use Rattle.tv_pictures.specs.Albums.{NamedPicture}
+use Rattle.tv_pictures.specs.Naming.{named_from}
 use Rattle.tv_svg.specs.Svg.{svg_text}
 
 -- the screen of a session
@@ -24,3 +26,7 @@ svgs_from s (item ∷ rest) = item_svgs s item ++ svgs_from (session_after s ite
 -- the screen at each `shot` of a script
 abbrev pub shot_svgs : Session → List Item → List (List ℕ)
 shot_svgs s script = svgs_from (quiet s) script
+
+-- the same, each with its name, counted from 1
+abbrev pub named_shots : (name : List ℕ) → Session → List Item → List NamedPicture
+named_shots name s script = named_from name 1 (shot_svgs s script)

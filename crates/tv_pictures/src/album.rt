@@ -1,7 +1,7 @@
 //! Where pictures are put, one after the other.
 
-ghost use Rattle.std.specs.Prelude.{◌∷◌, [], List, MatchResult, Option, ℕ};
-ghost use Rattle.tv_pictures.specs.Albums.{Gains};
+ghost use Rattle.std.specs.Prelude.{◌∷◌, [], List, MatchResult, Option};
+ghost use Rattle.tv_pictures.specs.Albums.{NamedPicture, Gains, drawn_as};
 ghost use Rattle.tv_svg.specs.Svg.{svg_of};
 
 use tv_cells::Screen;
@@ -14,13 +14,13 @@ pub enum AlbumFault {
     Write,
 }
 
-/// Where pictures are put, each in a place of its own. Contracts see the texts of those that it has, where they are known.
+/// Where pictures are put, each under a name. Contracts see the names and texts of those that it has, in order, where they are known.
 pub trait Album {
-    ghost pictures: { Self → Option (List (List ℕ)) };
+    ghost pictures: { Self → Option (List NamedPicture) };
 
-    /// Draws a screen in the next place. A picture that fails isn't counted.
-    fn add(&mut self, screen: &Screen) -> Result<(), AlbumFault>
+    /// Draws a screen and puts it under a name. A picture that fails isn't counted.
+    fn add(&mut self, name: &str, screen: &Screen) -> Result<(), AlbumFault>
         ensures { MatchResult result
-            (λ _. Gains (pictures self.old) (pictures self.new) (svg_of screen.now ∷ []))
+            (λ _. Gains (pictures self.old) (pictures self.new) (drawn_as name.now (svg_of screen.now) ∷ []))
             (λ _. Gains (pictures self.old) (pictures self.new) []) };
 }

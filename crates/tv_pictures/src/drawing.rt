@@ -1,14 +1,20 @@
 //! A script, performed for its pictures.
 
-ghost use Rattle.std.specs.Prelude.{[], All, MatchResult, OnOk};
+ghost use Rattle.std.specs.Prelude.{◌≡◌, ◌≤◌, ◌<◌, ◌+◌, ◌^◌, ◌∷◌, [], length, All, IfOk, MatchResult, OnOk};
 ghost use Rattle.tv_io.specs.Writer.{Cuts, Takes};
 ghost use Rattle.tv_machine.specs.Output.{after, event_after, session_after};
 ghost use Rattle.tv_machine.specs.Run.{Session};
 ghost use Rattle.tv_pictures.specs.Albums.{Gains, GainsAll};
-ghost use Rattle.tv_pictures.specs.Pictures.{item_svgs, session_svg, shot_svgs};
+ghost use Rattle.tv_pictures.specs.Naming.{named_from};
+ghost use Rattle.tv_pictures.specs.Pictures.{item_svgs, named_shots, session_svg};
 ghost use Rattle.tv_script.specs.Lines.{IsEventOnScreen, IsItemOnScreen};
+ghost use Rattle.tv_svg.specs.Svg.{svg_of};
 
 use crate::album::{Album, AlbumFault};
+use crate::fault::ShotFault;
+use crate::naming::shot_name;
+use std::alloc::Global;
+use tv_cells::Screen;
 use tv_event::Event;
 use tv_io::{WriteFailed, Writer};
 use tv_model::Item;
@@ -35,47 +41,81 @@ pub fn draw<S: Stage, W: Writer>(
     write_svg(stage.screen(), out)
 }
 
-/// Performs a script, and draws the screen at each `shot` of it, each in a place of its own. The log is dropped.
+/// Performs a script, and draws the screen at each `shot` of it: `NAME-1.svg`, `NAME-2.svg` and so on. The log is dropped.
 ///
 /// # Errors
 ///
-/// The album's, at the first picture that fails. Those before it are there.
+/// The first picture that fails. Those before it are there.
 pub fn draw_shots<S: Stage, A: Album>(
+    alloc: Global,
     stage: &mut S,
     script: &Script,
+    name: &str,
     album: &mut A,
-) -> Result<(), AlbumFault>
+) -> Result<(), ShotFault>
     requires there { (s : Session) × S.stands stage.old s }
-    ensures drawn { (s : Session) → S.stands stage.old s → GainsAll (A.pictures album.old) (A.pictures album.new) (shot_svgs s script.now) result }
+    ensures drawn { (s : Session) → S.stands stage.old s → GainsAll (A.pictures album.old) (A.pictures album.new) (named_shots name.now s script.now) result }
     ensures state { OnOk result ((s : Session) → S.stands stage.old s → S.stands stage.new (after s script.now)) }
 {
     stage.forget_log();
+    let mut number = 1;
     for item in script.items() {
-        draw_item(stage, item, album)?;
+        number = draw_item(alloc, stage, item, name, number, album)?;
     }
     Ok(())
 }
 
-// Performs an item, and draws the screen if it asks for its characters.
+// Performs an item, and draws the screen if it asks for its characters, as the picture with this number. Returns the number of the
+// next picture.
 fn draw_item<S: Stage, A: Album>(
+    alloc: Global,
     stage: &mut S,
     item: &Item,
+    name: &str,
+    number: usize,
     album: &mut A,
-) -> Result<(), AlbumFault>
+) -> Result<usize, ShotFault>
+    requires few { number + 1 < 2 ^ 64 }
     requires shown { IsItemOnScreen item.now }
     requires there { (s : Session) × S.stands stage.old s }
+    ensures few { IfOk result (λ next. next ≤ number + 1) }
     ensures drawn { (s : Session) → S.stands stage.old s → MatchResult result
-        (λ _. Gains (A.pictures album.old) (A.pictures album.new) (item_svgs s item.now))
-        (λ _. Gains (A.pictures album.old) (A.pictures album.new) []) }
+        (λ next. Gains (A.pictures album.old) (A.pictures album.new) (named_from name.now number (item_svgs s item.now)) × (next ≡ number + length (item_svgs s item.now)))
+        (λ failed. Gains (A.pictures album.old) (A.pictures album.new) [] × (failed.number ≡ number) × (item_svgs s item.now ≡ session_svg s ∷ [])) }
     ensures state { (s : Session) → S.stands stage.old s → S.stands stage.new (session_after s item.now) }
 {
     match item {
         Item::Event(event) => {
             advance_by(stage, event);
-            Ok(())
+            Ok(number)
         }
-        Item::Shot => album.add(stage.screen()),
-        Item::Colors => Ok(()),
+        Item::Shot => {
+            draw_shot(alloc, stage.screen(), name, number, album)?;
+            Ok(number + 1)
+        }
+        Item::Colors => Ok(number),
+    }
+}
+
+// Draws a screen as the picture with this number.
+fn draw_shot<A: Album>(
+    alloc: Global,
+    screen: &Screen,
+    name: &str,
+    number: usize,
+    album: &mut A,
+) -> Result<(), ShotFault>
+    ensures { MatchResult result
+        (λ _. Gains (A.pictures album.old) (A.pictures album.new) (named_from name.now number (svg_of screen.now ∷ [])))
+        (λ failed. Gains (A.pictures album.old) (A.pictures album.new) [] × (failed.number ≡ number)) }
+{
+    let Ok(name) = shot_name(alloc, name, number) else {
+        let fault = AlbumFault::NoMemory;
+        return Err(ShotFault { number, fault });
+    };
+    match album.add(name.as_str(), screen) {
+        Ok(()) => Ok(()),
+        Err(fault) => Err(ShotFault { number, fault }),
     }
 }
 

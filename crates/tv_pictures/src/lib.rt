@@ -3,9 +3,15 @@
 
 mod album;
 mod drawing;
+mod fault;
+mod naming;
 mod nowhere;
+mod reading;
 mod running;
+mod shots;
 
 pub use album::{Album, AlbumFault};
 pub use drawing::{draw, draw_shots};
+pub use fault::{DrawingFault, ShotFault};
 pub use running::picture;
+pub use shots::picture_shots;

@@ -1,0 +1,10 @@
+use Rattle.std.proofs.Common.{[], ◌∷◌, ℕ, List, subst, ◌∙◌}
+use Rattle.tv_pictures.specs.Albums.{Gains, drawn_as}
+use Rattle.tv_svg.specs.Svg.{svg_of}
+use Rattle.tv_pictures.proofs.drawing.draw_shot.Goals as goal
+
+pub returns-in-Ok-add : goal.returns-in-Ok-add
+returns-in-Ok-add g c =
+    subst (λ (name : List ℕ). Gains (g.A.Album.pictures c.args.album.now) (g.A.Album.pictures c.add.new.self) (drawn_as name (svg_of c.args.screen.now) ∷ []))
+    (c.as_str.ensures.value ∙ c.in-Ok.ensures)
+    c.in-Ok-add.ensures
