@@ -10,7 +10,7 @@ const VERSION: &str = "1.0.0";
 
 /// The text below the help of the program and of each subcommand.
 const STATUSES: &str = "Statuses: 0 done; 1 faults, a refusal or a bad text; 2 usage; \
-    3 a file, a stream or memory failed; 4 the user left, or his input ended. Messages go to standard error, all else to standard output.\n\
+    3 a file, a stream or memory failed; 4 the user left, or his input ended. Messages go to standard error, all else that is printed to standard output.\n\
     Help goes to standard error too, with status 2.";
 
 /// What `run` does, and the lines of its scripts.
@@ -32,14 +32,19 @@ Each line is performed when its end has come, and what it prints is passed on
 before more is read. So SCRIPT may be a pipe or a terminal, as /dev/stdin. At a
 faulty line the script is left; the lines before it were performed.";
 
-/// What `picture` prints.
+/// What `picture` prints, and where its pictures go.
 const PICTURES: &str = "\
 Performs a script on a description, and prints the screen that it leaves as SVG
 
 The script has the lines that `run` takes, but nothing of the log is printed, and
 nothing at a `shot` or `colors`. The screen is drawn in sixteen colours, with the
 cursor where an input has it. Redirect it into a file: tvdlg picture FILE SCRIPT
->PICTURE.svg.";
+>PICTURE.svg.
+
+With --all nothing is printed, and the screen at each `shot` is drawn into a file
+beside the script: SCRIPT-1.svg, SCRIPT-2.svg and so on. What such a file held is
+lost. The script is read to its end before the first picture is drawn, and of one
+with a faulty line none is.";
 
 /// What `explain` prints.
 const EXPLANATIONS: &str = "\
@@ -144,7 +149,13 @@ fn picture<'a>(alloc: Global) -> Result<Command<'a>, AllocError> {
         alloc,
         "SCRIPT",
         "A script, with an event or a picture on each line",
-    ))
+    ))?
+    .arg(
+        Arg::new(alloc, "all")
+            .long("all")
+            .action(ArgAction::SetTrue)
+            .help("Draws the screen at each `shot` into SCRIPT-1.svg, SCRIPT-2.svg and so on"),
+    )
 }
 
 fn explain<'a>(alloc: Global) -> Result<Command<'a>, AllocError> {
@@ -230,12 +241,17 @@ fn named_task<'a>(name: &str, found: &ArgMatches<'a>) -> Option<Task<'a>> {
             script: found.get_str("SCRIPT")?,
         }),
         "play" => Some(Task::Play { file }),
-        "picture" => Some(Task::Picture {
-            file,
-            script: found.get_str("SCRIPT")?,
-        }),
+        "picture" => Some(drawing(file, found.get_str("SCRIPT")?, found)),
         "explain" => Some(explanation(file, found)),
         _ => None,
+    }
+}
+
+fn drawing<'a>(file: &'a str, script: &'a str, found: &ArgMatches<'a>) -> Task<'a> {
+    if found.get_flag("all") {
+        Task::PictureAll { file, script }
+    } else {
+        Task::Picture { file, script }
     }
 }
 

@@ -1,13 +1,17 @@
 -- What the program's end says where less is said of views that are refused.
-use Rattle.std.proofs.Common.{ℕ, List, Result, Ok, Err}
+use Rattle.std.proofs.Common.{ℕ, List, Option, Result, Ok, Err}
 use Rattle.tv_io.specs.Reader.{Given}
 use Rattle.tv_io.specs.Writer.{Seen}
 use Rattle.tv_machine.specs.Run.{Session}
 use Rattle.tv_model.specs.declared.desc.Desc.{Desc}
 use Rattle.tv_play.specs.Playing.{Ports}
 use Rattle.tv_play.specs.declared.parting.Parting.{Parting}
+use Rattle.tv_pictures.specs.Albums.{NamedPicture}
 use Rattle.tv_pictures.specs.Drawing.{PicturesTo}
 use Rattle.tv_pictures.specs.Drawing.PicturesTo.{unrun, drawn, cut}
+use Rattle.tv_pictures.specs.Shots.{ShotsTo}
+use Rattle.tv_pictures.specs.Shots.ShotsTo.{refused as refused_shots, unbegun as unbegun_shots, drawn as drawn_shots}
+use Rattle.tv_pictures.specs.declared.fault.DrawingFault.{DrawingFault}
 use Rattle.tv_program.specs.declared.play_fault.PlayFault.{PlayFault}
 use Rattle.tv_program.specs.declared.play_fault.PlayFault.TheVariants as runs
 use Rattle.tv_program.specs.Playing.{IsNoStart, RunsTo}
@@ -18,15 +22,22 @@ use Rattle.tv_program.specs.Terminal.PlaysText.{refused as refused_play, unbegun
 use Rattle.tv_files.specs.declared.done.Done.{Done}
 use Rattle.tv_files.specs.declared.no_task.NoTask.{NoTask}
 use Rattle.tv_files.specs.declared.task.Task.{Task}
-use Rattle.tv_files.specs.declared.task.Task.TheVariants.{Check, Accept, Run, Play, Picture, Explain, ExplainBoth, Version}
+use Rattle.tv_files.specs.declared.task.Task.TheVariants.{Check, Accept, Run, Play, Picture, PictureAll, Explain, ExplainBoth, Version}
 use Rattle.tv_files.specs.Ends.{End}
 use Rattle.tv_files.specs.EndsWith.{EndsWith, World, ports_of}
 use Rattle.tv_files.specs.Files.{Known}
 use Rattle.tv_files.specs.Performing.{PerformsTask}
-use Rattle.tv_files.specs.Picturing.{PicturesFiles}
-use Rattle.tv_files.specs.Tasks.{PlaysFile, RunsFiles}
+use Rattle.tv_files.specs.Picturing.{PicturesAll, PicturesAs, PicturesFiles, ShotsAs}
+use Rattle.tv_files.specs.Tasks.{OnStream, PlaysFile, RunsAs, RunsFiles}
 use Rattle.tv_files.specs.Tasks.OnStream.{unopened, beside, unread, done}
 use Rattle.tv_files.specs.Tasks.PlaysFile.{unread as unread_file, played as played_file}
+
+-- what two files come to, where less is said of what follows
+OnStream-weaker : {S : Type 0} (Comes Weaker : (text : List ℕ) (reader left : Given) → Type 0) → ((text : List ℕ) (reader left : Given) → Comes text reader left → Weaker text reader left) → (files after : Known) (file script : List ℕ) (old new : S) (end : End) → OnStream Comes files after file script old new end → OnStream Weaker files after file script old new end
+OnStream-weaker Comes Weaker weaker files after file script old new end (unopened is same) = unopened is same
+OnStream-weaker Comes Weaker weaker files after file script old new end (beside is same) = beside is same
+OnStream-weaker Comes Weaker weaker files after file script old new end (unread is same) = unread is same
+OnStream-weaker Comes Weaker weaker files after file script old new end (done text reader left gives is came) = done text reader left gives is (weaker text reader left came)
 
 module _ (P Q : Desc → Type 0) (weaker : (text : List ℕ) (d : Desc) → IsSoundText text d → P d → Q d) where
   -- why no run was begun
@@ -49,11 +60,9 @@ module _ (P Q : Desc → Type 0) (weaker : (text : List ℕ) (d : Desc) → IsSo
 
   -- what running two files comes to
   RunsFiles-weaker : (files after : Known) (file script : List ℕ) (old new : Seen) (end : End) → RunsFiles P files after file script old new end → RunsFiles Q files after file script old new end
-  RunsFiles-weaker files after file script old new end (unopened is same) = unopened is same
-  RunsFiles-weaker files after file script old new end (beside is same) = beside is same
-  RunsFiles-weaker files after file script old new end (unread is same) = unread is same
-  RunsFiles-weaker files after file script old new end (done text reader left gives is came) =
-      done text reader left gives is (came.0, RunsTo-weaker _ text reader left old new came.0 came.1, came.2)
+  RunsFiles-weaker files after file script old new end came =
+      OnStream-weaker (RunsAs P file script old new end) (RunsAs Q file script old new end)
+      (λ text reader left was. (was.0, RunsTo-weaker _ text reader left old new was.0 was.1, was.2)) files after file script old new end came
 
   -- what drawing a run comes to
   PicturesTo-weaker : (text : List ℕ) (reader left : Given) (old new : Seen) (r : Result (Unit {0}) PlayFault) → PicturesTo P text reader left old new r → PicturesTo Q text reader left old new r
@@ -64,11 +73,21 @@ module _ (P Q : Desc → Type 0) (weaker : (text : List ℕ) (d : Desc) → IsSo
 
   -- what drawing two files comes to
   PicturesFiles-weaker : (files after : Known) (file script : List ℕ) (old new : Seen) (end : End) → PicturesFiles P files after file script old new end → PicturesFiles Q files after file script old new end
-  PicturesFiles-weaker files after file script old new end (unopened is same) = unopened is same
-  PicturesFiles-weaker files after file script old new end (beside is same) = beside is same
-  PicturesFiles-weaker files after file script old new end (unread is same) = unread is same
-  PicturesFiles-weaker files after file script old new end (done text reader left gives is came) =
-      done text reader left gives is (came.0, PicturesTo-weaker text reader left old new came.0 came.1, came.2)
+  PicturesFiles-weaker files after file script old new end came =
+      OnStream-weaker (PicturesAs P file script old new end) (PicturesAs Q file script old new end)
+      (λ text reader left was. (was.0, PicturesTo-weaker text reader left old new was.0 was.1, was.2)) files after file script old new end came
+
+  -- what drawing each shot comes to
+  ShotsTo-weaker : (text name : List ℕ) (reader left : Given) (old new : Option (List NamedPicture)) (r : Result (Unit {0}) DrawingFault) → ShotsTo P text name reader left old new r → ShotsTo Q text name reader left old new r
+  ShotsTo-weaker text name reader left old new r (refused_shots fault is untouched told) = refused_shots fault is untouched told
+  ShotsTo-weaker text name reader left old new r (unbegun_shots d fault read why untouched told) =
+      unbegun_shots d fault read (IsNoStart-weaker text d fault read why) untouched told
+  ShotsTo-weaker text name reader left old new r (drawn_shots d read draws) = drawn_shots d read draws
+
+  PicturesAll-weaker : (files after : Known) (file script : List ℕ) (old new : Option (List NamedPicture)) (end : End) → PicturesAll P files after file script old new end → PicturesAll Q files after file script old new end
+  PicturesAll-weaker files after file script old new end came =
+      OnStream-weaker (ShotsAs P file script old new end) (ShotsAs Q file script old new end)
+      (λ text reader left was. (was.0, ShotsTo-weaker text script reader left old new was.0 was.1, was.2)) files after file script old new end came
 
   -- what playing a description comes to
   PlaysText-weaker : (text : List ℕ) (old new : Ports) (r : Result Parting PlayFault) → PlaysText P text old new r → PlaysText Q text old new r
@@ -84,22 +103,25 @@ module _ (P Q : Desc → Type 0) (weaker : (text : List ℕ) (d : Desc) → IsSo
       played_file text gives (came.0, PlaysText-weaker text old new came.0 came.1, came.2, came.3)
 
   -- what a task comes to
-  Performs-weaker : (task : Task) (files after : Known) (old new : Ports) (how : Done) (end : End) → PerformsTask P task files after old new how end → PerformsTask Q task files after old new how end
-  Performs-weaker (Check file) files after old new how end came = came
-  Performs-weaker (Accept file certificate) files after old new how end came = came
-  Performs-weaker (Run file script) files after old new how end came =
+  Performs-weaker : (task : Task) (files after : Known) (pictures later : Option (List NamedPicture)) (old new : Ports) (how : Done) (end : End) → PerformsTask P task files after pictures later old new how end → PerformsTask Q task files after pictures later old new how end
+  Performs-weaker (Check file) files after pictures later old new how end came = came
+  Performs-weaker (Accept file certificate) files after pictures later old new how end came = came
+  Performs-weaker (Run file script) files after pictures later old new how end came =
       (came.0, came.1, RunsFiles-weaker files after file.now script.now old.log new.log end came.2)
-  Performs-weaker (Play file) files after old new how end came = PlaysFile-weaker files after file.now old new how end came
-  Performs-weaker (Picture file script) files after old new how end came =
+  Performs-weaker (Play file) files after pictures later old new how end came =
+      (came.0, PlaysFile-weaker files after file.now old new how end came.1)
+  Performs-weaker (Picture file script) files after pictures later old new how end came =
       (came.0, came.1, PicturesFiles-weaker files after file.now script.now old.log new.log end came.2)
-  Performs-weaker (Explain file manner) files after old new how end came = came
-  Performs-weaker (ExplainBoth file other manner) files after old new how end came = came
-  Performs-weaker Version files after old new how end came = came
+  Performs-weaker (PictureAll file script) files after pictures later old new how end came =
+      (came.0, came.1, PicturesAll-weaker files after file.now script.now pictures later end came.2)
+  Performs-weaker (Explain file manner) files after pictures later old new how end came = came
+  Performs-weaker (ExplainBoth file other manner) files after pictures later old new how end came = came
+  Performs-weaker Version files after pictures later old new how end came = came
 
   -- how the program ends
   pub EndsWith-weaker : (asked : Result Task NoTask) (old new : World) (status : ℕ) → EndsWith P asked old new status → EndsWith Q asked old new status
   EndsWith-weaker (Ok task) old new status ends =
-      (ends.0, ends.1, ends.2, Performs-weaker task old.files new.files (ports_of old) ends.2 ends.0 ends.1 ends.3, ends.4, ends.5)
+      (ends.0, ends.1, ends.2, Performs-weaker task old.files new.files old.pictures new.pictures (ports_of old) ends.2 ends.0 ends.1 ends.3, ends.4, ends.5)
   EndsWith-weaker (Err no_task) old new status ends = ends
 
 -- the same, where nothing is said of them

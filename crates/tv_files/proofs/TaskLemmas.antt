@@ -1,5 +1,5 @@
 -- What tasks come to, by what each step of them came to.
-use Rattle.std.proofs.Common.{◌≡◌, ℕ, List, [], ◌∷◌, Some, Result, Ok, Err, IsErrAnd, ap, refl}
+use Rattle.std.proofs.Common.{◌≡◌, ℕ, List, [], ◌∷◌, Result, Ok, Err, IsErrAnd, ap, refl}
 use Rattle.tv_io.specs.Reader.{Given}
 use Rattle.tv_io.specs.Writer.{Seen}
 use Rattle.tv_machine.specs.Run.{Session, started}
@@ -12,7 +12,7 @@ use Rattle.tv_program.specs.Playing.RunsTo.{refused, unbegun, stopped, done as d
 use Rattle.tv_script.specs.Streams.{ComesFrom}
 use Rattle.tv_files.specs.declared.done.Done.{Done}
 use Rattle.tv_files.specs.declared.failure.Failure.{Failure}
-use Rattle.tv_files.specs.Ends.{End, done_in, end_of, path_of}
+use Rattle.tv_files.specs.Ends.{End, done_in, end_of, end_of_failure}
 use Rattle.tv_files.specs.Files.{IsFileOf, IsRead, Known, Opens}
 use Rattle.tv_files.specs.Tasks.{EndsFirst, GivesText, IsUnread, OnFiles, OnStream, PlaysFile}
 use Rattle.tv_files.specs.Tasks.OnFiles.{first, unread, done}
@@ -20,22 +20,14 @@ use Rattle.tv_files.specs.Tasks.OnStream.{done as done_both}
 use Rattle.tv_files.specs.Tasks.PlaysFile.{unread as unread_file}
 use Rattle.tv_files.proofs.FileLemmas.{Gives-then, IsFileOf-then, IsRead-Gives, IsUnread-then, Opens-both}
 
--- a fault, told of its file
-pub end_as-Some : (fault told : RunFault) (path : List ℕ) (answered : RunFault) (file beside : List ℕ) → fault ≡ told → path ≡ path_of told file beside → told ≡ answered → ◌≡◌ {A = End} (Some (fault, path)) (Some (answered, path_of answered file beside))
-end_as-Some fault told path answered file beside same at is = rw (same, at, is) refl
-
--- a fault of a run, told of its file
-pub end_of_run-Some : (fault told : RunFault) (path of : List ℕ) → fault ≡ told → path ≡ of → ◌≡◌ {A = End} (Some (fault, path)) (Some (told, of))
-end_of_run-Some fault told path of same at = rw (same, at) refl
-
 module _ (refuses : (text : List ℕ) → RunFault → Type 0) (passes : (text : List ℕ) → Type 0) (files after : Known) (file beside : List ℕ) (seen : Seen) (failure : Failure) where
   -- the description wasn't read, or was refused
-  pub first-OnFiles : {T : Type 0} (comes : End → (text written : List ℕ) → Type 0) → EndsFirst refuses files after file (Some (failure.fault, failure.path.now)) → (r : Result T Failure) → IsErrAnd r (λ told. told ≡ failure) → OnFiles refuses passes (comes (end_of r)) files after file beside seen seen (end_of r)
+  pub first-OnFiles : {T : Type 0} (comes : End → (text written : List ℕ) → Type 0) → EndsFirst refuses files after file (end_of_failure failure) → (r : Result T Failure) → IsErrAnd r (λ told. told ≡ failure) → OnFiles refuses passes (comes (end_of r)) files after file beside seen seen (end_of r)
   first-OnFiles comes ends (Ok x) told = absurd told
   first-OnFiles comes ends (Err other) told = rw told (first ends refl)
 
   -- the file beside it wasn't read
-  pub unread-OnFiles : {T : Type 0} (comes : End → (text written : List ℕ) → Type 0) (mid : Known) (text : List ℕ) → GivesText files mid (file ∷ []) file text → passes text → IsUnread mid after (beside ∷ []) beside (Some (failure.fault, failure.path.now)) → (r : Result T Failure) → IsErrAnd r (λ told. told ≡ failure) → OnFiles refuses passes (comes (end_of r)) files after file beside seen seen (end_of r)
+  pub unread-OnFiles : {T : Type 0} (comes : End → (text written : List ℕ) → Type 0) (mid : Known) (text : List ℕ) → GivesText files mid (file ∷ []) file text → passes text → IsUnread mid after (beside ∷ []) beside (end_of_failure failure) → (r : Result T Failure) → IsErrAnd r (λ told. told ≡ failure) → OnFiles refuses passes (comes (end_of r)) files after file beside seen seen (end_of r)
   unread-OnFiles comes mid text gives passed ends (Ok x) told = absurd told
   unread-OnFiles comes mid text gives passed ends (Err other) told = rw told (unread text gives.text_of passed (IsUnread-then file beside gives.opens ends) refl)
 
@@ -47,7 +39,7 @@ done-OnFiles refuses passes comes files mid after file beside old new end text w
 -- ---- runs
 
 -- the description was read, and the script was performed as it came
-pub done-OnStream : (comes : (text : List ℕ) (reader left : Given) → Type 0) (files mid after : Known) (file script : List ℕ) (old new : Seen) (end : End) (description description_left reader left : Given) (text : List ℕ) → Opens files mid (file ∷ []) → IsFileOf files file description → Opens mid after (script ∷ []) → IsFileOf mid script reader → IsRead description description_left text → comes text reader left → OnStream comes files after file script old new end
+pub done-OnStream : {S : Type 0} (comes : (text : List ℕ) (reader left : Given) → Type 0) (files mid after : Known) (file script : List ℕ) (old new : S) (end : End) (description description_left reader left : Given) (text : List ℕ) → Opens files mid (file ∷ []) → IsFileOf files file description → Opens mid after (script ∷ []) → IsFileOf mid script reader → IsRead description description_left text → comes text reader left → OnStream comes files after file script old new end
 done-OnStream comes files mid after file script old new end description description_left reader left text opens is opened script_is read came =
     done_both text reader left (IsRead-Gives file description description_left (Opens-both file script opens opened) is text read) (IsFileOf-then file script opens script_is) came
 
@@ -77,6 +69,6 @@ RunsTo-gone Mismade Stands text reader left old new r (done_run d run read comes
 -- ---- in a terminal
 
 -- the description wasn't read
-pub unread-PlaysFile : (Mismade : Desc → Type 0) (files after : Known) (file : List ℕ) (ports : Ports) (failure : Failure) → IsUnread files after (file ∷ []) file (Some (failure.fault, failure.path.now)) → (r : Result Done Failure) → IsErrAnd r (λ told. told ≡ failure) → PlaysFile Mismade files after file ports ports (done_in r) (end_of r)
+pub unread-PlaysFile : (Mismade : Desc → Type 0) (files after : Known) (file : List ℕ) (ports : Ports) (failure : Failure) → IsUnread files after (file ∷ []) file (end_of_failure failure) → (r : Result Done Failure) → IsErrAnd r (λ told. told ≡ failure) → PlaysFile Mismade files after file ports ports (done_in r) (end_of r)
 unread-PlaysFile Mismade files after file ports failure is (Ok how) told = absurd told
 unread-PlaysFile Mismade files after file ports failure is (Err other) told = rw told (unread_file is refl refl)

@@ -1,5 +1,11 @@
 -- How a task ends.
-use Rattle.std.specs.Prelude.{ℕ, List, Option, Some, None, Result, Ok, Err}
+use Rattle.std.specs.Prelude.{ℕ, List, Result, Ok, Err}
+use Rattle.tv_pictures.specs.declared.album.AlbumFault.TheVariants as albums
+use Rattle.tv_pictures.specs.declared.album.AlbumFault.{AlbumFault}
+use Rattle.tv_pictures.specs.declared.fault.DrawingFault.{DrawingFault}
+use Rattle.tv_pictures.specs.declared.fault.DrawingFault.TheVariants as pictures
+use Rattle.tv_pictures.specs.declared.fault.ShotFault.{ShotFault}
+use Rattle.tv_pictures.specs.Naming.{shot_name}
 use Rattle.tv_play.specs.declared.parting.Parting.{Parting}
 use Rattle.tv_play.specs.declared.parting.Parting.TheVariants as partings
 use Rattle.tv_program.specs.declared.fault.RunFault.{RunFault}
@@ -10,17 +16,26 @@ use Rattle.tv_program.specs.Conversions.{play_told}
 use Rattle.tv_files.specs.declared.done.Done.{Done}
 use Rattle.tv_files.specs.declared.done.Done.TheVariants.{Whole, BrokenOff}
 use Rattle.tv_files.specs.declared.failure.Failure.{Failure}
+use Rattle.tv_files.specs.declared.failure.Failure.TheVariants as failures
 use Rattle.tv_files.specs.declared.read_fault.ReadFault.{ReadFault}
 use Rattle.tv_files.specs.declared.read_fault.ReadFault.TheVariants as unread
 
--- the fault, with the path of the file that it is told of; none where all was done
-abbrev pub End : Type 0
-End = Option (RunFault × List ℕ)
+-- all was done; or there was a fault, with the path of the file that it is told of; or a picture can't be
+-- written into the file of its path
+pub data End : Type 0 where
+  ended : End
+  faulted : RunFault → (path : List ℕ) → End
+  unwritten : (path : List ℕ) → End
+
+-- the end that a failure tells
+abbrev pub end_of_failure : Failure → End
+end_of_failure (failures.Fault fault path) = faulted fault path.now
+end_of_failure (failures.Picture script number) = unwritten (shot_name script.now number)
 
 -- the end that an answer tells
 abbrev pub end_of : {T : Type 0} → Result T Failure → End
-end_of (Ok _) = None
-end_of (Err failure) = Some (failure.fault, failure.path.now)
+end_of (Ok _) = ended
+end_of (Err failure) = end_of_failure failure
 
 -- how the task was done. One that failed counts as whole
 abbrev pub done_in : {F : Type 0} → Result Done F → Done
@@ -57,10 +72,24 @@ file_told unread.Read = Read
 
 -- the end where a call of the program answered this
 abbrev pub end_as : {T F : Type 0} → (F → RunFault) → (file beside : List ℕ) → Result T F → End
-end_as told file beside (Ok _) = None
-end_as told file beside (Err fault) = Some (told fault, path_of (told fault) file beside)
+end_as told file beside (Ok _) = ended
+end_as told file beside (Err fault) = faulted (told fault) (path_of (told fault) file beside)
 
 -- the end where a run answered this
 abbrev pub end_of_run : {T : Type 0} → (file script : List ℕ) → Result T PlayFault → End
-end_of_run file script (Ok _) = None
-end_of_run file script (Err fault) = Some (play_told fault, path_of_run fault file script)
+end_of_run file script (Ok _) = ended
+end_of_run file script (Err fault) = faulted (play_told fault) (path_of_run fault file script)
+
+-- the end where a picture of a script isn't there
+abbrev pub end_of_album : (script : List ℕ) → (number : ℕ) → AlbumFault → End
+end_of_album script number albums.NoMemory = faulted NoMemory script
+end_of_album script number albums.Write = unwritten (shot_name script number)
+
+abbrev pub end_of_shot : (script : List ℕ) → ShotFault → End
+end_of_shot script shot = end_of_album script shot.number shot.fault
+
+-- the end where drawing the shots of a script answered this
+abbrev pub end_of_shots : {T : Type 0} → (file script : List ℕ) → Result T DrawingFault → End
+end_of_shots file script (Ok _) = ended
+end_of_shots file script (Err (pictures.Run fault)) = faulted (play_told fault) (path_of_run fault file script)
+end_of_shots file script (Err (pictures.Shot shot)) = end_of_shot script shot

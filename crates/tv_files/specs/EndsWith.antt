@@ -1,7 +1,8 @@
 -- How the program ends.
-use Rattle.std.specs.Prelude.{◌≡◌, ℕ, List, Result, Ok, Err}
+use Rattle.std.specs.Prelude.{◌≡◌, ℕ, List, Option, Result, Ok, Err}
 use Rattle.tv_model.specs.declared.desc.Desc.{Desc}
 use Rattle.tv_io.specs.Writer.{Seen}
+use Rattle.tv_pictures.specs.Albums.{NamedPicture}
 use Rattle.tv_play.specs.Pieces.{Heard}
 use Rattle.tv_play.specs.Playing.{Ports}
 use Rattle.tv_files.specs.declared.done.Done.{Done}
@@ -12,9 +13,10 @@ use Rattle.tv_files.specs.Files.{Known}
 use Rattle.tv_files.specs.Performing.{PerformsTask}
 use Rattle.tv_files.specs.Telling.{Tells, TellsNoTask}
 
--- what is known of the program's files and streams at a moment
+-- what is known of the program's files, pictures and streams at a moment
 pub record World : Type 0 where
   pub files : Known
+  pub pictures : Option (List NamedPicture)
   pub heard : Heard
   pub out : Seen
   pub out_kept : List ℕ
@@ -25,15 +27,16 @@ pub record World : Type 0 where
 abbrev pub ports_of : World → Ports
 ports_of world = record { input = world.heard; log = world.out; screen = world.err }
 
--- The task is performed on the files. Standard output takes what it writes, and standard error the screen of
--- what is played; then its end is told, and both streams are flushed. Where there is no task, only that is
--- told.
+-- The task is performed on the files. Standard output takes what it writes, standard error the screen of what
+-- is played, and the album the pictures of a script's shots; then its end is told, and both streams are
+-- flushed. Where there is no task, only that is told.
 abbrev pub EndsWith : (Mismade : Desc → Type 0) → Result Task NoTask → (old new : World) → (status : ℕ)
     → Type 0
 EndsWith Mismade (Ok task) old new status =
     (done : Done) × (end : End) × (mid : Ports)
-    × PerformsTask Mismade task old.files new.files (ports_of old) mid done end × (new.heard ≡ mid.input)
+    × PerformsTask Mismade task old.files new.files old.pictures new.pictures (ports_of old) mid done end
+    × (new.heard ≡ mid.input)
     × Tells done end mid.log new.out new.out_kept mid.screen new.err new.err_kept status
 EndsWith Mismade (Err no_task) old new status =
-    (new.files ≡ old.files) × (new.heard ≡ old.heard) × (new.out ≡ old.out)
+    (new.files ≡ old.files) × (new.pictures ≡ old.pictures) × (new.heard ≡ old.heard) × (new.out ≡ old.out)
     × TellsNoTask no_task old.err new.err new.err_kept status

@@ -10,7 +10,7 @@ pub mod Files
 pub mod Kinds
 -- What every task comes to
 pub mod Performing
--- What drawing the screen that a script leaves comes to
+-- What drawing the screens of a script comes to
 pub mod Picturing
 -- What a flush leaves
 pub mod Streams

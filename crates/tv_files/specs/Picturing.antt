@@ -1,13 +1,18 @@
--- What drawing the screen that a script leaves comes to.
-use Rattle.std.specs.Prelude.{◌≡◌, ℕ, List, Result}
+-- What drawing the screens of a script comes to.
+use Rattle.std.specs.Prelude.{◌≡◌, ℕ, List, Option, Result}
 use Rattle.tv_model.specs.declared.desc.Desc.{Desc}
 use Rattle.tv_io.specs.Reader.{Given}
 use Rattle.tv_io.specs.Writer.{Seen}
+use Rattle.tv_pictures.specs.Albums.{NamedPicture}
 use Rattle.tv_pictures.specs.Drawing.{PicturesTo}
+use Rattle.tv_pictures.specs.Shots.{ShotsTo}
+use Rattle.tv_pictures.specs.declared.fault.DrawingFault.{DrawingFault}
 use Rattle.tv_program.specs.declared.play_fault.PlayFault.{PlayFault}
-use Rattle.tv_files.specs.Ends.{End, end_of_run}
+use Rattle.tv_files.specs.Ends.{End, end_of_run, end_of_shots}
 use Rattle.tv_files.specs.Files.{Known}
 use Rattle.tv_files.specs.Tasks.{OnStream}
+
+-- ---- the screen that it leaves
 
 -- what `picture` answers, told as an end
 abbrev pub PicturesAs : (Mismade : Desc → Type 0) → (file script : List ℕ) → (old new : Seen) → End
@@ -21,3 +26,19 @@ abbrev pub PicturesFiles : (Mismade : Desc → Type 0) → (files after : Known)
     → (old new : Seen) → End → Type 0
 PicturesFiles Mismade files after file script old new end =
     OnStream (PicturesAs Mismade file script old new end) files after file script old new end
+
+-- ---- the screen at each `shot`
+
+-- what `picture_shots` answers, told as an end; the pictures have the script's path and a number as their
+-- names
+abbrev pub ShotsAs : (Mismade : Desc → Type 0) → (file script : List ℕ)
+    → (old new : Option (List NamedPicture)) → End → (text : List ℕ) (reader left : Given) → Type 0
+ShotsAs Mismade file script old new end text reader left =
+    (r : Result (Unit {0}) DrawingFault) × ShotsTo Mismade text script reader left old new r
+    × (end ≡ end_of_shots file script r)
+
+-- the files are opened and read as they are for one picture
+abbrev pub PicturesAll : (Mismade : Desc → Type 0) → (files after : Known) → (file script : List ℕ)
+    → (old new : Option (List NamedPicture)) → End → Type 0
+PicturesAll Mismade files after file script old new end =
+    OnStream (ShotsAs Mismade file script old new end) files after file script old new end

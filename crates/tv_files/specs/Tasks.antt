@@ -1,5 +1,5 @@
 -- What a task on files comes to.
-use Rattle.std.specs.Prelude.{◌≡◌, ℕ, List, [], ◌∷◌, ◌++◌, Some, None, IsNone, Result, codes}
+use Rattle.std.specs.Prelude.{◌≡◌, ℕ, List, [], ◌∷◌, ◌++◌, IsNone, Result, codes}
 use Rattle.tv_lang.specs.declared.description.LangFault.{LangFault}
 use Rattle.tv_lang.specs.Faults.{RefusesToParse, Spells}
 use Rattle.tv_model.specs.declared.desc.Desc.{Desc}
@@ -19,18 +19,19 @@ use Rattle.tv_program.specs.Terminal.{PlaysText}
 use Rattle.tv_files.specs.declared.done.Done.{Done}
 use Rattle.tv_files.specs.declared.done.Done.TheVariants.{Whole}
 use Rattle.tv_files.specs.Ends.{End, done_of_play, end_as, end_of_run}
+use Rattle.tv_files.specs.Ends.End.{ended, faulted}
 use Rattle.tv_files.specs.Files.{BreaksOff, IsFileOf, IsFileText, Known, Opens}
 
 -- the task ended at a file that can't be opened, the last one that was asked for, or because memory ran out
 pub data IsUnopened (files after : Known) (opened : List (List ℕ)) (path : List ℕ) (end : End) : Type 0 where
-  memory : end ≡ Some (NoMemory, path) → IsUnopened files after opened path end
-  missing : Opens files after opened → IsNone (files.contents path) → end ≡ Some (Read, path)
+  memory : end ≡ faulted NoMemory path → IsUnopened files after opened path end
+  missing : Opens files after opened → IsNone (files.contents path) → end ≡ faulted Read path
       → IsUnopened files after opened path end
 
 -- the text of an open file isn't there: a call of its reader failed, or memory ran out
 pub data IsUngiven (old new : Given) (path : List ℕ) (end : End) : Type 0 where
-  memory : end ≡ Some (NoMemory, path) → IsUngiven old new path end
-  broken : BreaksOff old new → end ≡ Some (Read, path) → IsUngiven old new path end
+  memory : end ≡ faulted NoMemory path → IsUngiven old new path end
+  broken : BreaksOff old new → end ≡ faulted Read path → IsUngiven old new path end
 
 -- a call of the file's reader failed before its text was read
 pub record BreaksOffIn (files : Known) (path : List ℕ) : Type 0 where
@@ -42,7 +43,7 @@ pub record BreaksOffIn (files : Known) (path : List ℕ) : Type 0 where
 -- the task ended at a file that can't be opened, or can't be read to its end
 pub data IsUnread (files after : Known) (opened : List (List ℕ)) (path : List ℕ) (end : End) : Type 0 where
   unopened : IsUnopened files after opened path end → IsUnread files after opened path end
-  broken : Opens files after opened → BreaksOffIn files path → end ≡ Some (Read, path)
+  broken : Opens files after opened → BreaksOffIn files path → end ≡ faulted Read path
       → IsUnread files after opened path end
 
 -- the file was opened and gave the text
@@ -64,7 +65,7 @@ pub data EndsFirst (refuses : (text : List ℕ) → RunFault → Type 0) (files 
     (end : End) : Type 0 where
   unread : IsUnread files after (file ∷ []) file end → EndsFirst refuses files after file end
   refused : (text : List ℕ) (fault : RunFault) → GivesText files after (file ∷ []) file text
-      → refuses text fault → end ≡ Some (fault, file) → EndsFirst refuses files after file end
+      → refuses text fault → end ≡ faulted fault file → EndsFirst refuses files after file end
 
 -- a task on a description and the file beside it, which is opened only once the description has passed
 pub data OnFiles (refuses : (text : List ℕ) → RunFault → Type 0) (passes : (text : List ℕ) → Type 0)
@@ -127,8 +128,8 @@ AcceptsFiles files after file certificate old new end =
 -- The description and its script, the files of these paths. Both are opened before anything is read, the
 -- description first;
 -- then the description is read, and what follows of its text and of the script, as it comes, is by `comes`.
-pub data OnStream (comes : (text : List ℕ) (reader left : Given) → Type 0) (files after : Known)
-    (file script : List ℕ) (old new : Seen) (end : End) : Type 0 where
+pub data OnStream {S : Type 0} (comes : (text : List ℕ) (reader left : Given) → Type 0)
+    (files after : Known) (file script : List ℕ) (old new : S) (end : End) : Type 0 where
   unopened : IsUnopened files after (file ∷ []) file end → new ≡ old
       → OnStream comes files after file script old new end
   beside : IsUnopened files after (file ∷ script ∷ []) script end → new ≡ old
@@ -182,5 +183,5 @@ abbrev pub version : List ℕ
 version = codes "tvdlg 1.0.0" ++ 10 ∷ []
 
 pub data TellsVersion (old new : Seen) (end : End) : Type 0 where
-  told : Takes old new version → end ≡ None → TellsVersion old new end
-  cut : Cuts old new version → end ≡ Some (Write, []) → TellsVersion old new end
+  told : Takes old new version → end ≡ ended → TellsVersion old new end
+  cut : Cuts old new version → end ≡ faulted Write [] → TellsVersion old new end

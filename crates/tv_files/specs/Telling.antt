@@ -1,5 +1,6 @@
 -- What is told of how a task ended, and the status.
-use Rattle.std.specs.Prelude.{◌≡◌, ℕ, List, [], ◌∷◌, Some, None, string_bytes}
+use Rattle.std.specs.Prelude.{◌≡◌, ℕ, List, [], ◌∷◌, ◌++◌, codes, string_bytes}
+use Rattle.tv_model.specs.Log.LogText.{line_of}
 use Rattle.tv_io.specs.Writer.{Fails, Seen, Takes}
 use Rattle.tv_program.specs.declared.fault.RunFault.TheVariants.{NoMemory, Write}
 use Rattle.tv_program.specs.Report.{IsOffered, err_text, out_text, status_of}
@@ -8,18 +9,25 @@ use Rattle.tv_files.specs.declared.done.Done.TheVariants.{Whole, Faulty, BrokenO
 use Rattle.tv_files.specs.declared.no_task.NoTask.{NoTask}
 use Rattle.tv_files.specs.declared.no_task.NoTask.TheVariants as no_tasks
 use Rattle.tv_files.specs.Ends.{End}
+use Rattle.tv_files.specs.Ends.End.{ended, faulted, unwritten}
 use Rattle.tv_files.specs.Streams.{IsWritten, Offers}
 
 -- what standard output is offered
 abbrev pub out_told : End → List ℕ
-out_told None = []
-out_told (Some (fault, path)) = out_text fault
+out_told ended = []
+out_told (faulted fault path) = out_text fault
+out_told (unwritten path) = []
+
+-- the message of a picture that can't be written into the file of its path
+abbrev pub unwritten_message : (path : List ℕ) → List ℕ
+unwritten_message path = line_of (codes "tvdlg: ") (codes "cannot write " ++ path)
 
 -- the message on standard error; that standard output failed is told below, where it is flushed
 abbrev pub err_told : End → List ℕ
-err_told None = []
-err_told (Some (Write, path)) = []
-err_told (Some (fault, path)) = err_text path fault
+err_told ended = []
+err_told (faulted Write path) = []
+err_told (faulted fault path) = err_text path fault
+err_told (unwritten path) = unwritten_message path
 
 -- the message where standard output failed
 abbrev pub cannot_write : List ℕ
@@ -27,10 +35,11 @@ cannot_write = err_text [] Write
 
 -- the status, where standard output didn't fail
 abbrev pub status_told : Done → End → ℕ
-status_told Whole None = 0
-status_told Faulty None = 1
-status_told BrokenOff None = 4
-status_told done (Some (fault, path)) = status_of fault
+status_told Whole ended = 0
+status_told Faulty ended = 1
+status_told BrokenOff ended = 4
+status_told done (faulted fault path) = status_of fault
+status_told done (unwritten path) = 3
 
 -- standard output took all that was to be told, and the status is that of the end; or it failed, which is
 -- told too

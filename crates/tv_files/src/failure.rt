@@ -2,42 +2,44 @@
 
 ghost use Rattle.std.specs.Prelude.{◌≡◌};
 ghost use Rattle.tv_program.specs.Conversions.{play_told};
-ghost use Rattle.tv_files.specs.Ends.{file_told, path_of, path_of_run};
+ghost use Rattle.tv_files.specs.Ends.{end_of_failure, end_of_shot, file_told, path_of, path_of_run};
+ghost use Rattle.tv_files.specs.Ends.End.{faulted};
 
 use crate::read_fault::ReadFault;
+use tv_pictures::{AlbumFault, ShotFault};
 use tv_program::{PlayFault, RunFault};
 
-/// A fault, and the path of the file that it is told of.
+/// Why a task didn't come to its end.
 #[derive(Debug, Drop)]
-pub struct Failure<'a> {
-    pub(crate) fault: RunFault,
-    pub(crate) path: &'a str,
+pub enum Failure<'a> {
+    /// A fault, and the path of the file that it is told of.
+    Fault { fault: RunFault, path: &'a str },
+    /// The picture with this number of a script can't be written.
+    Picture { script: &'a str, number: usize },
 }
 
 impl<'a> Failure<'a> {
     // Tells a fault of the text that it is in: the description, or the certificate beside it.
     pub(crate) fn new(file: &'a str, beside: &'a str, fault: RunFault) -> Failure<'a>
-        ensures fault { result.fault ≡ fault }
-        ensures path { result.path.now ≡ path_of fault file.now beside.now }
+        ensures { end_of_failure result ≡ faulted fault (path_of fault file.now beside.now) }
     {
         let path = match fault {
             RunFault::Cert(_) => beside,
             _ => file,
         };
-        Failure { fault, path }
+        Failure::Fault { fault, path }
     }
 
     // Tells a fault of a run of the text that it is in: the description, or the script where that is at fault or can't be
     // read.
     pub(crate) fn of_run(file: &'a str, script: &'a str, fault: PlayFault) -> Failure<'a>
-        ensures fault { result.fault ≡ play_told fault }
-        ensures path { result.path.now ≡ path_of_run fault file.now script.now }
+        ensures { end_of_failure result ≡ faulted (play_told fault) (path_of_run fault file.now script.now) }
     {
         let path = match fault {
             PlayFault::Script(_) | PlayFault::Read => script,
             _ => file,
         };
-        Failure {
+        Failure::Fault {
             fault: RunFault::from(fault),
             path,
         }
@@ -45,13 +47,28 @@ impl<'a> Failure<'a> {
 
     // Tells of a file that it can't be opened or read.
     pub(crate) fn of_file(path: &'a str, unread: ReadFault) -> Failure<'a>
-        ensures fault { result.fault ≡ file_told unread }
-        ensures path { result.path.now ≡ path.now }
+        ensures { end_of_failure result ≡ faulted (file_told unread) path.now }
     {
         let fault = match unread {
             ReadFault::NoMemory => RunFault::NoMemory,
             ReadFault::Read => RunFault::Read,
         };
-        Failure { fault, path }
+        Failure::Fault { fault, path }
+    }
+
+    // Tells of a script's picture that it isn't there.
+    pub(crate) fn of_shot(script: &'a str, shot: ShotFault) -> Failure<'a>
+        ensures { end_of_failure result ≡ end_of_shot script.now shot }
+    {
+        match shot.fault {
+            AlbumFault::NoMemory => Failure::Fault {
+                fault: RunFault::NoMemory,
+                path: script,
+            },
+            AlbumFault::Write => Failure::Picture {
+                script,
+                number: shot.number,
+            },
+        }
     }
 }

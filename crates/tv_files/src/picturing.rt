@@ -1,7 +1,7 @@
-//! The picture of a screen.
+//! Pictures of screens.
 
 ghost use Rattle.tv_files.specs.Ends.{end_of};
-ghost use Rattle.tv_files.specs.Picturing.{PicturesFiles};
+ghost use Rattle.tv_files.specs.Picturing.{PicturesAll, PicturesFiles};
 ghost use Rattle.tv_program.specs.Playing.{IsMismade, Makes};
 
 use crate::failure::Failure;
@@ -11,7 +11,7 @@ use std::alloc::Global;
 use tv_building::{BuildFault, Views};
 use tv_check::Checked;
 use tv_io::Writer;
-use tv_pictures::picture;
+use tv_pictures::{Album, DrawingFault, picture, picture_shots};
 use tv_view::View;
 
 /// Runs a file's script on a file's description, through the views that `views` makes of it, and writes the screen that it
@@ -41,5 +41,36 @@ pub fn picture_file<
     match picture(alloc, text.as_slice(), &mut events, views, out) {
         Ok(()) => Ok(()),
         Err(fault) => Err(Failure::of_run(file, script, fault)),
+    }
+}
+
+/// Runs a file's script on a file's description, through the views that `views` makes of it, and draws the screen at each `shot`
+/// into an album, under the script's path with a number.
+///
+/// Both files are opened before anything is read, and the script is read to its end before the first picture is drawn.
+pub fn picture_all<
+    'a,
+    V: View,
+    F: FileStore,
+    M: Fn(Global, &Checked) -> Result<Views<V>, BuildFault>,
+    A: Album,
+>(
+    files: &mut F,
+    alloc: Global,
+    file: &'a str,
+    script: &'a str,
+    views: &M,
+    album: &mut A,
+) -> Result<(), Failure<'a>>
+    requires { M.IsAlwaysCallable views.now }
+    ensures { PicturesAll (IsMismade (Makes M.Fn views.now) V.meaning) (F.known files.old) (F.known files.new) file.now script.now (A.pictures album.old) (A.pictures album.new) (end_of result) }
+{
+    let mut description = open(files, file)?;
+    let mut events = open(files, script)?;
+    let text = read(alloc, &mut description, file)?;
+    match picture_shots(alloc, text.as_slice(), &mut events, views, script, album) {
+        Ok(()) => Ok(()),
+        Err(DrawingFault::Run(fault)) => Err(Failure::of_run(file, script, fault)),
+        Err(DrawingFault::Shot(shot)) => Err(Failure::of_shot(script, shot)),
     }
 }

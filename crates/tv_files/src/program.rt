@@ -11,21 +11,24 @@ use crate::{NoTask, Task};
 use std::alloc::Global;
 use tv_building::{BuildFault, Views};
 use tv_check::Checked;
+use tv_pictures::Album;
 use tv_play::Pieces;
 use tv_view::View;
 
 /// Does what is asked for with these files, or tells why nothing is: results, faults and refusals go to `out`, messages
-/// to `err`. `views` makes the views of a description that is run or played. What is played hears `pieces`, and shows its screen
-/// on `err`. Returns the program's status.
+/// to `err`. `views` makes the views of a description that is run, drawn or played. What is played hears `pieces`, and shows its
+/// screen on `err`. The pictures of a script's shots go to `album`. Returns the program's status.
 pub fn run_program<
     V: View,
     F: FileStore,
+    A: Album,
     M: Fn(Global, &Checked) -> Result<Views<V>, BuildFault>,
     P: Pieces,
     O: Stream,
     E: Stream,
 >(
     files: &mut F,
+    album: &mut A,
     alloc: Global,
     asked: Result<Task<'_>, NoTask>,
     views: &M,
@@ -35,13 +38,13 @@ pub fn run_program<
 ) -> u8
     requires { M.IsAlwaysCallable views.now }
     ensures { EndsWith (IsMismade (Makes M.Fn views.now) V.meaning) asked.entry
-        (record { files = F.known files.old; heard = P.heard pieces.old; out = O.seen out.old; out_kept = O.kept_back out.old; err = E.seen err.old; err_kept = E.kept_back err.old })
-        (record { files = F.known files.new; heard = P.heard pieces.new; out = O.seen out.new; out_kept = O.kept_back out.new; err = E.seen err.new; err_kept = E.kept_back err.new })
+        (record { files = F.known files.old; pictures = A.pictures album.old; heard = P.heard pieces.old; out = O.seen out.old; out_kept = O.kept_back out.old; err = E.seen err.old; err_kept = E.kept_back err.old })
+        (record { files = F.known files.new; pictures = A.pictures album.new; heard = P.heard pieces.new; out = O.seen out.new; out_kept = O.kept_back out.new; err = E.seen err.new; err_kept = E.kept_back err.new })
         result }
 {
     match asked {
         Ok(task) => {
-            let answer = perform(files, alloc, task, views, pieces, err, out);
+            let answer = perform(files, album, alloc, task, views, pieces, err, out);
             finish(&answer, out, err)
         }
         Err(no_task) => tell_no_task(no_task, err),

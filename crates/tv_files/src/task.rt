@@ -28,6 +28,11 @@ pub enum Task<'a> {
         file: &'a str,
         script: &'a str,
     },
+    /// The screen at each `shot` of a script, as SVG: for each a file beside the script.
+    PictureAll {
+        file: &'a str,
+        script: &'a str,
+    },
     /// What there is to tell of the faults of a description, or of the line that can't be read.
     Explain {
         file: &'a str,

@@ -1,9 +1,9 @@
 //! What each subcommand does with its files.
 
-ghost use Rattle.std.specs.Prelude.{◌≡◌, [], ◌∷◌, MatchResult, Some};
+ghost use Rattle.std.specs.Prelude.{◌≡◌, [], ◌∷◌, MatchResult};
 ghost use Rattle.tv_program.specs.Playing.{IsMismade, Makes};
 ghost use Rattle.tv_files.specs.declared.done.Done.TheVariants.{Whole};
-ghost use Rattle.tv_files.specs.Ends.{done_in, end_of};
+ghost use Rattle.tv_files.specs.Ends.{done_in, end_of, end_of_failure};
 ghost use Rattle.tv_files.specs.Files.{IsFileOf, IsRead, Opens};
 ghost use Rattle.tv_files.specs.Performing.{PerformsTask};
 ghost use Rattle.tv_files.specs.Tasks.{AcceptsFiles, ChecksFile, EndsFirst, GivesText, HasRead, IsSpelledAs, IsUngiven, IsUnopened, IsUnread, IsUnspelled, PlaysFile, RunsFiles, TellsVersion};
@@ -11,7 +11,7 @@ ghost use Rattle.tv_files.specs.Tasks.{AcceptsFiles, ChecksFile, EndsFirst, Give
 use crate::explaining::{explain_file, explain_files};
 use crate::failure::Failure;
 use crate::file_store::FileStore;
-use crate::picturing::picture_file;
+use crate::picturing::{picture_all, picture_file};
 use crate::reading::read_text;
 use crate::{Done, Task};
 use std::alloc::Global;
@@ -20,6 +20,7 @@ use tv_check::Checked;
 use tv_io::{Reader, Writer, write_all};
 use tv_lang::parse;
 use tv_model::Desc;
+use tv_pictures::Album;
 use tv_play::Pieces;
 use tv_program::{RunFault, accept_text, check, play, run};
 use tv_view::View;
@@ -32,18 +33,20 @@ const VERSION: &str = "tvdlg 1.0.0\n";
 
 /// Does what is asked for, and writes its result.
 ///
-/// `views` makes the views of a description that is run, drawn or played; no other task calls it. `pieces` and `screen` are those of a
-/// description that is played.
+/// `views` makes the views of a description that is run, drawn or played; no other task calls it. `album` takes the pictures of a task
+/// that draws more than one. `pieces` and `screen` are those of a description that is played.
 pub fn perform<
     'a,
     V: View,
     F: FileStore,
+    A: Album,
     M: Fn(Global, &Checked) -> Result<Views<V>, BuildFault>,
     P: Pieces,
     T: Writer,
     W: Writer,
 >(
     files: &mut F,
+    album: &mut A,
     alloc: Global,
     task: Task<'a>,
     views: &M,
@@ -53,6 +56,7 @@ pub fn perform<
 ) -> Result<Done, Failure<'a>>
     requires { M.IsAlwaysCallable views.now }
     ensures { PerformsTask (IsMismade (Makes M.Fn views.now) V.meaning) task.entry (F.known files.old) (F.known files.new)
+        (A.pictures album.old) (A.pictures album.new)
         (record { input = P.heard pieces.old; log = W.seen out.old; screen = T.seen screen.old })
         (record { input = P.heard pieces.new; log = W.seen out.new; screen = T.seen screen.new })
         (done_in result) (end_of result) }
@@ -66,6 +70,9 @@ pub fn perform<
         Task::Play { file } => play_file(files, alloc, file, views, pieces, screen, out),
         Task::Picture { file, script } => {
             whole(picture_file(files, alloc, file, script, views, out))
+        }
+        Task::PictureAll { file, script } => {
+            whole(picture_all(files, alloc, file, script, views, album))
         }
         Task::Explain { file, manner } => explain_file(files, alloc, file, manner, out),
         Task::ExplainBoth {
@@ -83,7 +90,7 @@ pub fn tell_version<'a, W: Writer>(out: &mut W) -> Result<(), Failure<'a>>
 {
     match write_all(out, VERSION.as_bytes()) {
         Ok(()) => Ok(()),
-        Err(_) => Err(Failure {
+        Err(_) => Err(Failure::Fault {
             fault: RunFault::Write,
             path: "",
         }),
@@ -210,12 +217,12 @@ fn described<'a, F: FileStore>(
 ) -> Result<Desc, Failure<'a>>
     ensures { MatchResult result
         (λ desc. HasRead (IsSpelledAs desc) (F.known files.old) (F.known files.new) file.now)
-        (λ failure. EndsFirst IsUnspelled (F.known files.old) (F.known files.new) file.now (Some (failure.fault, failure.path.now))) }
+        (λ failure. EndsFirst IsUnspelled (F.known files.old) (F.known files.new) file.now (end_of_failure failure)) }
 {
     let text = read_file(files, alloc, file)?;
     match parse(alloc, text.as_slice()) {
         Ok(desc) => Ok(desc),
-        Err(fault) => Err(Failure {
+        Err(fault) => Err(Failure::Fault {
             fault: RunFault::from(fault),
             path: file,
         }),
@@ -230,7 +237,7 @@ pub(crate) fn read_file<'a, F: FileStore>(
 ) -> Result<Vec<u8>, Failure<'a>>
     ensures { MatchResult result
         (λ text. GivesText (F.known files.old) (F.known files.new) (path.now ∷ []) path.now text.items)
-        (λ failure. IsUnread (F.known files.old) (F.known files.new) (path.now ∷ []) path.now (Some (failure.fault, failure.path.now))) }
+        (λ failure. IsUnread (F.known files.old) (F.known files.new) (path.now ∷ []) path.now (end_of_failure failure)) }
 {
     let mut file = open(files, path)?;
     read(alloc, &mut file, path)
@@ -240,7 +247,7 @@ pub(crate) fn read_file<'a, F: FileStore>(
 pub(crate) fn open<'a, F: FileStore>(files: &mut F, path: &'a str) -> Result<F::File, Failure<'a>>
     ensures { MatchResult result
         (λ file. Opens (F.known files.old) (F.known files.new) (path.now ∷ []) × IsFileOf (F.known files.old) path.now (F.File.seen file))
-        (λ failure. IsUnopened (F.known files.old) (F.known files.new) (path.now ∷ []) path.now (Some (failure.fault, failure.path.now))) }
+        (λ failure. IsUnopened (F.known files.old) (F.known files.new) (path.now ∷ []) path.now (end_of_failure failure)) }
 {
     match files.open(path) {
         Ok(file) => Ok(file),
@@ -256,7 +263,7 @@ pub(crate) fn read<'a, R: Reader>(
 ) -> Result<Vec<u8>, Failure<'a>>
     ensures { MatchResult result
         (λ text. IsRead (R.seen file.old) (R.seen file.new) text.items)
-        (λ failure. IsUngiven (R.seen file.old) (R.seen file.new) path.now (Some (failure.fault, failure.path.now))) }
+        (λ failure. IsUngiven (R.seen file.old) (R.seen file.new) path.now (end_of_failure failure)) }
 {
     match read_text(alloc, file) {
         Ok(text) => Ok(text),

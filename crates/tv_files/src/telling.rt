@@ -1,15 +1,18 @@
 //! What is told of a task that ended, and the status.
 
 ghost use Rattle.std.specs.Prelude.{◌≡◌, [], ◌∷◌};
+ghost use Rattle.tv_io.specs.Pen.{Puts};
+ghost use Rattle.tv_pictures.specs.Naming.{shot_name};
 ghost use Rattle.tv_program.specs.Report.{IsOffered};
-ghost use Rattle.tv_files.specs.Ends.{done_in, end_of};
+ghost use Rattle.tv_files.specs.Ends.{done_in, end_of, end_of_failure};
+ghost use Rattle.tv_files.specs.declared.done.Done.TheVariants.{Whole};
 ghost use Rattle.tv_files.specs.Streams.{Offers};
-ghost use Rattle.tv_files.specs.Telling.{Tells, TellsNoTask, TellsUsage, err_told, no_memory, out_told, status_told};
+ghost use Rattle.tv_files.specs.Telling.{Tells, TellsNoTask, TellsUsage, err_told, no_memory, out_told, status_told, unwritten_message};
 
 use crate::failure::Failure;
 use crate::stream::Stream;
 use crate::{Done, NoTask};
-use tv_io::{Writer, write_all};
+use tv_io::{Pen, Writer, write_all};
 use tv_program::{RunFault, report};
 
 /// The status after all was done.
@@ -80,7 +83,7 @@ fn tell_usage<E: Stream>(text: &str, err: &mut E) -> u8
     }
 }
 
-// That `out` failed is not told here: it fails again where it is flushed.
+// Tells how a task ended, before the streams are flushed.
 fn tell<O: Writer, E: Writer>(answer: &Result<Done, Failure<'_>>, out: &mut O, err: &mut E) -> u8
     ensures status { result ≡ status_told (done_in answer.now) (end_of answer.now) }
     ensures out { IsOffered (O.seen out.old) (O.seen out.new) (out_told (end_of answer.now)) }
@@ -90,14 +93,48 @@ fn tell<O: Writer, E: Writer>(answer: &Result<Done, Failure<'_>>, out: &mut O, e
         Ok(Done::Whole) => DONE,
         Ok(Done::Faulty) => FAULTY,
         Ok(Done::BrokenOff) => BROKEN_OFF,
-        Err(
-            Failure {
-                fault: RunFault::Write,
-                path: _,
-            },
-        ) => OUTSIDE,
-        Err(failure) => report(&failure.fault, failure.path, out, err),
+        Err(failure) => tell_failure(failure, out, err),
     }
+}
+
+// That `out` failed is not told here: it fails again where it is flushed.
+fn tell_failure<O: Writer, E: Writer>(failure: &Failure<'_>, out: &mut O, err: &mut E) -> u8
+    ensures status { result ≡ status_told Whole (end_of_failure failure.now) }
+    ensures out { IsOffered (O.seen out.old) (O.seen out.new) (out_told (end_of_failure failure.now)) }
+    ensures err { IsOffered (E.seen err.old) (E.seen err.new) (err_told (end_of_failure failure.now)) }
+{
+    match failure {
+        Failure::Fault {
+            fault: RunFault::Write,
+            path: _,
+        } => OUTSIDE,
+        Failure::Fault { fault, path } => report(fault, path, out, err),
+        Failure::Picture { script, number } => {
+            tell_unwritten(script, *number, err);
+            OUTSIDE
+        }
+    }
+}
+
+// Tells of a script's picture that it can't be written.
+fn tell_unwritten<W: Writer>(script: &str, number: usize, err: &mut W)
+    ensures { IsOffered (W.seen err.old) (W.seen err.new) (unwritten_message (shot_name script.now number)) }
+{
+    let mut pen = Pen {
+        out: err,
+        stopped: false,
+    };
+    put_unwritten(&mut pen, script.as_bytes(), number);
+}
+
+fn put_unwritten<W: Writer>(pen: &mut Pen<W>, script: &[u8], number: usize)
+    ensures { Puts W.seen pen.old pen.new (unwritten_message (shot_name script.now number)) }
+{
+    pen.put(b"tvdlg: cannot write ");
+    pen.put(script);
+    pen.put(b"-");
+    pen.put_place(number);
+    pen.put(b".svg\n");
 }
 
 fn tell_last<E: Stream>(text: &[u8], err: &mut E)

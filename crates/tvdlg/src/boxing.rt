@@ -13,14 +13,15 @@ use std::alloc::Global;
 use tv_building::{BuildFault, Building, Views};
 use tv_check::{BuildStep, Checked};
 use tv_command_line::{NoTask, Task, read_task};
-use tv_files::{FileStore, Stream, run_program};
+use tv_files::{Album, FileStore, Stream, run_program};
 use tv_leaf::ControlFault;
 use tv_play::Pieces;
 use tv_view::View;
 
 /// Carries out what the words of a command line ask for, or tells why there are none. Returns the program's status.
-pub fn run_main<F: FileStore, P: Pieces, O: Stream, E: Stream>(
+pub fn run_main<F: FileStore, A: Album, P: Pieces, O: Stream, E: Stream>(
     files: &mut F,
+    album: &mut A,
     alloc: Global,
     words: Result<Vec<String>, NoTask>,
     pieces: &mut P,
@@ -28,23 +29,24 @@ pub fn run_main<F: FileStore, P: Pieces, O: Stream, E: Stream>(
     err: &mut E,
 ) -> u8
     ensures { (asked : Result Wanted WhyNone) × IsAskedBy words asked × EndsWith (λ _. Unit {0}) asked
-        (record { files = F.known files.old; heard = P.heard pieces.old; out = O.seen out.old; out_kept = O.kept_back out.old; err = E.seen err.old; err_kept = E.kept_back err.old })
-        (record { files = F.known files.new; heard = P.heard pieces.new; out = O.seen out.new; out_kept = O.kept_back out.new; err = E.seen err.new; err_kept = E.kept_back err.new })
+        (record { files = F.known files.old; pictures = A.pictures album.old; heard = P.heard pieces.old; out = O.seen out.old; out_kept = O.kept_back out.old; err = E.seen err.old; err_kept = E.kept_back err.old })
+        (record { files = F.known files.new; pictures = A.pictures album.new; heard = P.heard pieces.new; out = O.seen out.new; out_kept = O.kept_back out.new; err = E.seen err.new; err_kept = E.kept_back err.new })
         result }
 {
     match words {
         Ok(words) => {
             let asked = read_task(alloc, words.as_slice());
-            run_with_boxes(files, alloc, asked, pieces, out, err)
+            run_with_boxes(files, album, alloc, asked, pieces, out, err)
         }
-        Err(no_task) => run_with_boxes(files, alloc, Err(no_task), pieces, out, err),
+        Err(no_task) => run_with_boxes(files, album, alloc, Err(no_task), pieces, out, err),
     }
 }
 
 // Carries out what is asked for, as `run_program` says, with the toolkit's own controls, each in a box, where a description is
-// run or played.
-fn run_with_boxes<F: FileStore, P: Pieces, O: Stream, E: Stream>(
+// run, drawn or played.
+fn run_with_boxes<F: FileStore, A: Album, P: Pieces, O: Stream, E: Stream>(
     files: &mut F,
+    album: &mut A,
     alloc: Global,
     asked: Result<Task<'_>, NoTask>,
     pieces: &mut P,
@@ -52,8 +54,8 @@ fn run_with_boxes<F: FileStore, P: Pieces, O: Stream, E: Stream>(
     err: &mut E,
 ) -> u8
     ensures { EndsWith (λ _. Unit {0}) asked.entry
-        (record { files = F.known files.old; heard = P.heard pieces.old; out = O.seen out.old; out_kept = O.kept_back out.old; err = E.seen err.old; err_kept = E.kept_back err.old })
-        (record { files = F.known files.new; heard = P.heard pieces.new; out = O.seen out.new; out_kept = O.kept_back out.new; err = E.seen err.new; err_kept = E.kept_back err.new })
+        (record { files = F.known files.old; pictures = A.pictures album.old; heard = P.heard pieces.old; out = O.seen out.old; out_kept = O.kept_back out.old; err = E.seen err.old; err_kept = E.kept_back err.old })
+        (record { files = F.known files.new; pictures = A.pictures album.new; heard = P.heard pieces.new; out = O.seen out.new; out_kept = O.kept_back out.new; err = E.seen err.new; err_kept = E.kept_back err.new })
         result }
 {
     let boxed = |alloc: Global, control: Unboxed| -> Result<Box<dyn View>, BuildFault>
@@ -85,7 +87,7 @@ fn run_with_boxes<F: FileStore, P: Pieces, O: Stream, E: Stream>(
         }
         building.finish()
     };
-    run_program(files, alloc, asked, &views, pieces, out, err)
+    run_program(files, album, alloc, asked, &views, pieces, out, err)
 }
 
 // Returns the control, or why no views are put together without it.

@@ -13,7 +13,9 @@ use std::process::ExitCode;
 use std::rt::Env;
 use std::{env, io};
 use tv_command_line::NoTask;
-use tv_files::{BufferedStream, DirectStream, RuntimeFiles, TerminalInput, tell_no_memory};
+use tv_files::{
+    BufferedStream, DirectStream, RuntimeAlbum, RuntimeFiles, TerminalInput, tell_no_memory,
+};
 
 fn main(rt: HostRuntime) -> ExitCode {
     let alloc = rt.alloc();
@@ -24,9 +26,11 @@ fn main(rt: HostRuntime) -> ExitCode {
         return ExitCode::from(tell_no_memory(&mut DirectStream::new(rt.stderr())));
     };
     let mut files = RuntimeFiles::new(&rt);
+    let mut album = RuntimeAlbum::new(&rt, alloc);
     let mut pieces = TerminalInput::new(rt.reader(), &rt);
     ExitCode::from(run_main(
         &mut files,
+        &mut album,
         alloc,
         words(&rt),
         &mut pieces,

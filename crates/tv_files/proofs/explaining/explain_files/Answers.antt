@@ -3,7 +3,6 @@ use Rattle.tv_report.specs.Told.{SpellsSound}
 use Rattle.tv_files.specs.Ends.{done_in, end_of}
 use Rattle.tv_files.specs.Explaining.{ExplainsSecond, ExplainsTo}
 use Rattle.tv_files.specs.Explaining.ExplainsFiles.{first, second}
-use Rattle.tv_files.proofs.TaskLemmas.{end_as-Some}
 use Rattle.tv_files.proofs.explaining.explain_files.Goals as goal
 
 pub returns-in-Ok-Some : goal.returns-in-Ok-Some
@@ -25,4 +24,4 @@ returns g c =
     first c.in_ok-text.text.items (Err c.in-Err.fault) c.in_ok-text.ensures
     (subst (λ text. ExplainsTo c.args.manner c.args.file.now text (g.W.Writer.seen c.args.out.now) (g.W.Writer.seen c.explain.new.out) (Err c.in-Err.fault)) c.as_slice.ensures.value c.in-Err.ensures)
     tt refl
-    (end_as-Some c.new.result.fault c.in-Err.fault c.new.result.path.now c.in-Err.fault c.args.file.now c.args.file.now c.new.ensures.fault c.new.ensures.path refl)
+    c.new.ensures

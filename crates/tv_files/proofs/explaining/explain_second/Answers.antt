@@ -1,7 +1,6 @@
 use Rattle.std.proofs.Common.{Ok, Err, refl, subst}
 use Rattle.tv_files.specs.Explaining.{ExplainsBesideTo}
 use Rattle.tv_files.specs.Tasks.OnFile.{done}
-use Rattle.tv_files.proofs.TaskLemmas.{end_as-Some}
 use Rattle.tv_files.proofs.explaining.explain_second.Goals as goal
 
 pub returns-in-Ok : goal.returns-in-Ok
@@ -19,5 +18,5 @@ returns g c =
       Err c.in-Err.fault,
       subst (λ text. ExplainsBesideTo c.args.manner c.args.beside.now c.args.desc text (g.W.Writer.seen c.args.out.now) (g.W.Writer.seen c.explain_beside.new.out) (Err c.in-Err.fault)) c.as_slice.ensures.value c.in-Err.ensures,
       refl,
-      end_as-Some c.new.result.fault c.in-Err.fault c.new.result.path.now c.in-Err.fault c.args.beside.now c.args.beside.now c.new.ensures.fault c.new.ensures.path refl,
+      c.new.ensures,
     )

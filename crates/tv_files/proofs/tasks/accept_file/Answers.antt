@@ -1,9 +1,8 @@
 use Rattle.std.proofs.Common.{Ok, Err, refl, subst}
 use Rattle.tv_program.specs.CheckRun.{AcceptsTo}
-use Rattle.tv_program.specs.Conversions.{accept_told}
 use Rattle.tv_files.specs.Ends.{end_of}
 use Rattle.tv_files.specs.Tasks.{AcceptsAs, IsSpelled, IsUnspelled}
-use Rattle.tv_files.proofs.TaskLemmas.{done-OnFiles, end_as-Some, first-OnFiles, unread-OnFiles}
+use Rattle.tv_files.proofs.TaskLemmas.{done-OnFiles, first-OnFiles, unread-OnFiles}
 use Rattle.tv_files.proofs.tasks.accept_file.Goals as goal
 
 pub returns-in_err-desc : goal.returns-in_err-desc
@@ -42,7 +41,7 @@ returns g c =
     first.text c.in_ok-text.text.items first.gives (c.in_ok-desc.desc, first.follows_text) c.in_ok-text.ensures (
       Err c.in-Err.fault,
       subst (λ written. AcceptsTo {T = Unit {0}} first.text written old new (Err c.in-Err.fault)) c.as_slice.ensures.value (c.in-Err.ensures first.text first.follows_text),
-      end_as-Some c.new.result.fault c.from.result c.new.result.path.now (accept_told c.in-Err.fault) c.args.file.now c.args.certificate.now c.new.ensures.fault c.new.ensures.path c.from.ensures,
+      rw c.from.ensures at c.new.ensures,
     )
 
 pub accept_text-requires : goal.accept_text-requires

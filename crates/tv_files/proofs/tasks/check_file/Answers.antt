@@ -1,8 +1,6 @@
 use Rattle.std.proofs.Common.{Ok, Err, refl, subst}
 use Rattle.tv_program.specs.CheckRun.{ChecksTo}
-use Rattle.tv_program.specs.Conversions.{check_told}
 use Rattle.tv_files.specs.Tasks.OnFile.{done}
-use Rattle.tv_files.proofs.TaskLemmas.{end_as-Some}
 use Rattle.tv_files.proofs.tasks.check_file.Goals as goal
 
 pub returns-in-Ok : goal.returns-in-Ok
@@ -13,5 +11,5 @@ returns g c =
     done c.in_ok-text.text.items c.in_ok-text.ensures (
       Err c.in-Err.fault,
       subst (λ text. ChecksTo {T = Unit {0}} text (g.W.Writer.seen c.args.out.now) (g.W.Writer.seen c.check.new.out) (Err c.in-Err.fault)) c.as_slice.ensures.value c.in-Err.ensures,
-      end_as-Some c.new.result.fault c.from.result c.new.result.path.now (check_told c.in-Err.fault) c.args.file.now c.args.file.now c.new.ensures.fault c.new.ensures.path c.from.ensures,
+      rw c.from.ensures at c.new.ensures,
     )

@@ -1,10 +1,7 @@
 use Rattle.std.proofs.Common.{Ok, Err, refl}
-use Rattle.tv_program.specs.Conversions.{play_told}
 use Rattle.tv_program.specs.Playing.{IsMismade, Makes}
-use Rattle.tv_files.specs.Ends.{path_of_run}
-use Rattle.tv_files.specs.Tasks.{terminal}
 use Rattle.tv_files.specs.Tasks.PlaysFile.{played}
-use Rattle.tv_files.proofs.TaskLemmas.{end_of_run-Some, unread-PlaysFile}
+use Rattle.tv_files.proofs.TaskLemmas.{unread-PlaysFile}
 use Rattle.tv_files.proofs.tasks.play_file.Goals as goal
 
 pub returns-in_err-text : goal.returns-in_err-text
@@ -22,5 +19,5 @@ returns g c =
       Err c.in-Err.fault,
       rw c.as_slice.ensures.value at c.in-Err.ensures.output,
       refl,
-      end_of_run-Some c.of_run.result.fault (play_told c.in-Err.fault) c.of_run.result.path.now (path_of_run c.in-Err.fault c.args.file.now terminal) c.of_run.ensures.fault c.of_run.ensures.path,
+      c.of_run.ensures,
     )

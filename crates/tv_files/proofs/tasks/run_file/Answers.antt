@@ -1,9 +1,8 @@
 use Rattle.std.proofs.Common.{Ok, Err, refl}
-use Rattle.tv_program.specs.Conversions.{play_told}
 use Rattle.tv_program.specs.Playing.{IsMismade, Makes}
-use Rattle.tv_files.specs.Ends.{end_of, path_of_run}
+use Rattle.tv_files.specs.Ends.{end_of}
 use Rattle.tv_files.specs.Tasks.{RunsAs}
-use Rattle.tv_files.proofs.TaskLemmas.{RunsTo-gone, done-OnStream, end_of_run-Some}
+use Rattle.tv_files.proofs.TaskLemmas.{RunsTo-gone, done-OnStream}
 use Rattle.tv_files.proofs.tasks.run_file.Goals as goal
 
 pub returns-in-Ok : goal.returns-in-Ok
@@ -32,5 +31,5 @@ returns g c =
     c.in_ok-text.text.items first.0 first.1 second.0 second.1 c.in_ok-text.ensures (
       Err c.in-Err.fault,
       RunsTo-gone _ _ _ _ _ _ _ _ (rw c.as_slice.ensures.value at c.in-Err.ensures.output),
-      end_of_run-Some c.of_run.result.fault (play_told c.in-Err.fault) c.of_run.result.path.now (path_of_run c.in-Err.fault c.args.file.now c.args.script.now) c.of_run.ensures.fault c.of_run.ensures.path,
+      c.of_run.ensures,
     )

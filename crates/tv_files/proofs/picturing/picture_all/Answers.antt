@@ -1,0 +1,45 @@
+use Rattle.std.proofs.Common.{Ok, Err, refl}
+use Rattle.tv_program.specs.Playing.{IsMismade, Makes}
+use Rattle.tv_files.specs.Ends.{end_of}
+use Rattle.tv_files.specs.Picturing.{ShotsAs}
+use Rattle.tv_files.proofs.TaskLemmas.{done-OnStream}
+use Rattle.tv_files.proofs.picturing.picture_all.Goals as goal
+
+pub returns-in-Ok : goal.returns-in-Ok
+returns-in-Ok g c =
+    let old = g.A.Album.pictures c.args.album.now in
+    let new = g.A.Album.pictures c.picture_shots.new.album in
+    let end = end_of {T = Unit {0}} (Ok tt) in
+    let first = c.in_ok-description.ensures in
+    let second = c.in_ok-events.ensures in
+    done-OnStream (ShotsAs (IsMismade (Makes g.M.Fn c.args.views.now) g.V.View.meaning) c.args.file.now c.args.script.now old new end)
+    (g.F.FileStore.known c.args.files.now) (g.F.FileStore.known c.open.new.files) (g.F.FileStore.known c.open-2.new.files) c.args.file.now c.args.script.now old new end
+    (g.F.File.Reader.seen c.in_ok-description.description) (g.F.File.Reader.seen c.read.new.file) (g.F.File.Reader.seen c.in_ok-events.events) (g.F.File.Reader.seen c.picture_shots.new.script)
+    c.in_ok-text.text.items first.0 first.1 second.0 second.1 c.in_ok-text.ensures
+    (Ok tt, rw c.as_slice.ensures.value at c.in-Ok.ensures, refl)
+
+pub returns-in-Err-Run : goal.returns-in-Err-Run
+returns-in-Err-Run g c =
+    let old = g.A.Album.pictures c.args.album.now in
+    let new = g.A.Album.pictures c.picture_shots.new.album in
+    let end = end_of {T = Unit {0}} (Err c.of_run.result) in
+    let first = c.in_ok-description.ensures in
+    let second = c.in_ok-events.ensures in
+    done-OnStream (ShotsAs (IsMismade (Makes g.M.Fn c.args.views.now) g.V.View.meaning) c.args.file.now c.args.script.now old new end)
+    (g.F.FileStore.known c.args.files.now) (g.F.FileStore.known c.open.new.files) (g.F.FileStore.known c.open-2.new.files) c.args.file.now c.args.script.now old new end
+    (g.F.File.Reader.seen c.in_ok-description.description) (g.F.File.Reader.seen c.read.new.file) (g.F.File.Reader.seen c.in_ok-events.events) (g.F.File.Reader.seen c.picture_shots.new.script)
+    c.in_ok-text.text.items first.0 first.1 second.0 second.1 c.in_ok-text.ensures
+    (Err c.in-Err-Run.field-0, rw c.as_slice.ensures.value at c.in-Err-Run.ensures, rw c.in-Err-Run.field-0-is c.of_run.ensures)
+
+pub returns : goal.returns
+returns g c =
+    let old = g.A.Album.pictures c.args.album.now in
+    let new = g.A.Album.pictures c.picture_shots.new.album in
+    let end = end_of {T = Unit {0}} (Err c.of_shot.result) in
+    let first = c.in_ok-description.ensures in
+    let second = c.in_ok-events.ensures in
+    done-OnStream (ShotsAs (IsMismade (Makes g.M.Fn c.args.views.now) g.V.View.meaning) c.args.file.now c.args.script.now old new end)
+    (g.F.FileStore.known c.args.files.now) (g.F.FileStore.known c.open.new.files) (g.F.FileStore.known c.open-2.new.files) c.args.file.now c.args.script.now old new end
+    (g.F.File.Reader.seen c.in_ok-description.description) (g.F.File.Reader.seen c.read.new.file) (g.F.File.Reader.seen c.in_ok-events.events) (g.F.File.Reader.seen c.picture_shots.new.script)
+    c.in_ok-text.text.items first.0 first.1 second.0 second.1 c.in_ok-text.ensures
+    (Err c.in-Err-Shot.field-0, rw c.as_slice.ensures.value at c.in-Err-Shot.ensures, rw c.in-Err-Shot.field-0-is c.of_shot.ensures)

@@ -1,0 +1,4 @@
+use Rattle.tv_files.proofs.telling.tell_failure.Goals as goal
+
+pub returns-in-Picture-clause-err : goal.returns-in-Picture-clause-err
+returns-in-Picture-clause-err g c = rw c.in-Picture.is c.tell_unwritten.ensures
