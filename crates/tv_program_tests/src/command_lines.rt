@@ -44,6 +44,7 @@ fn task_told(alloc: Global, task: Task<'_>) -> Result<String, AllocError> {
         Task::Run { file, script } => format!(in alloc; "runs {script} on {file}\n"),
         Task::Play { file } => format!(in alloc; "plays {file}\n"),
         Task::Picture { file, script } => format!(in alloc; "draws {file} after {script}\n"),
+        Task::PictureAll { file, script } => format!(in alloc; "draws {file} all along {script}\n"),
         Task::Explain { file, manner } => format!(in alloc; "explains {file}: {manner:?}\n"),
         Task::ExplainBoth {
             file,
@@ -64,6 +65,10 @@ tvdlg play a.tvd
 => plays a.tvd
 tvdlg picture a.tvd a.tvs
 => draws a.tvd after a.tvs
+tvdlg picture a.tvd a.tvs --all
+=> draws a.tvd all along a.tvs
+tvdlg picture --all a.tvd a.tvs
+=> draws a.tvd all along a.tvs
 tvdlg explain a.tvd
 => explains a.tvd: Plain
 tvdlg explain a.tvd --color=always
@@ -103,6 +108,10 @@ tvdlg run a.tvd
 => MissingRequiredArgument
 tvdlg picture a.tvd
 => MissingRequiredArgument
+tvdlg picture --all a.tvd
+=> MissingRequiredArgument
+tvdlg run --all a.tvd a.tvs
+=> UnknownArgument
 tvdlg check a.tvd b.tvd
 => UnknownArgument
 tvdlg check -a.tvd

@@ -1,6 +1,7 @@
 //! How often the program asks for the views of a description.
 
-use crate::endings::{ACCEPT, CHECK, PLAY, RUN};
+use crate::endings::{ACCEPT, CHECK, PICTURE_ALL, PLAY, RUN};
+use crate::gallery::Gallery;
 use crate::makers::no_views;
 use crate::shelf::Shelf;
 use crate::sink::Sink;
@@ -35,6 +36,7 @@ fn status_and_calls<M: Fn(Global, &Checked) -> Result<Views<Button>, BuildFault>
     let mut err = DirectStream::new(Sink::new(alloc, 1000, true));
     let status = run_program(
         &mut files,
+        &mut Gallery::new(alloc, 9),
         alloc,
         Ok(task),
         &counted,
@@ -47,7 +49,7 @@ fn status_and_calls<M: Fn(Global, &Checked) -> Result<Views<Button>, BuildFault>
 
 // What is asked for, the description, the text beside it, then the status and how often the views were made: once where a
 // sound description is run, whatever its script is, or played.
-const TASKS: [(Task<'static>, &str, &str, (u8, u32)); 11] = [
+const TASKS: [(Task<'static>, &str, &str, (u8, u32)); 13] = [
     (CHECK, CANCEL, "", (0, 0)),
     (ACCEPT, CANCEL, CANCEL_CERTIFICATE, (0, 0)),
     (RUN, CANCEL, "", (0, 1)),
@@ -56,6 +58,8 @@ const TASKS: [(Task<'static>, &str, &str, (u8, u32)); 11] = [
     (RUN, ORDER, "key Esc\n", (1, 1)),
     (RUN, WITHOUT_CANCEL, "key Esc\n", (1, 0)),
     (RUN, "tvd 1\n", "key Esc\n", (1, 0)),
+    (PICTURE_ALL, CANCEL, "shot\nshot\n", (0, 1)),
+    (PICTURE_ALL, WITHOUT_CANCEL, "shot\n", (1, 0)),
     (PLAY, CANCEL, "", (4, 1)),
     (PLAY, ORDER, "", (1, 1)),
     (PLAY, WITHOUT_CANCEL, "", (1, 0)),

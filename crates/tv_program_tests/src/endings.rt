@@ -1,5 +1,6 @@
 //! How the program ends: what its two streams took, its status, and which files were opened.
 
+use crate::gallery::Gallery;
 use crate::shelf::Shelf;
 use crate::sink::Sink;
 use crate::user::User;
@@ -28,6 +29,12 @@ pub const ACCEPT: Task<'static> = Task::Accept {
 
 /// A run of the file beside it on the description.
 pub const RUN: Task<'static> = Task::Run {
+    file: FILE,
+    script: BESIDE,
+};
+
+/// The screen at each `shot` of the file beside the description.
+pub const PICTURE_ALL: Task<'static> = Task::PictureAll {
     file: FILE,
     script: BESIDE,
 };
@@ -114,7 +121,10 @@ fn status(
 ) -> Result<u8, Fail> {
     let mut out = BufferedStream::new(alloc, out)?;
     let mut err = BufferedStream::new(alloc, err)?;
-    Ok(run_program(files, alloc, asked, &buttons, user, &mut out, &mut err))
+    let mut album = Gallery::new(alloc, 0);
+    Ok(run_program(
+        files, &mut album, alloc, asked, &buttons, user, &mut out, &mut err,
+    ))
 }
 
 /// The order form's certificate with two lines exchanged.

@@ -35,7 +35,7 @@ Options:
   -V, --version  Print version
 
 Statuses: 0 done; 1 faults, a refusal or a bad text; 2 usage; 3 a file, a stream or memory failed; \
-4 the user left, or his input ended. Messages go to standard error, all else to standard output.
+4 the user left, or his input ended. Messages go to standard error, all else that is printed to standard output.
 Help goes to standard error too, with status 2.
 ";
 
@@ -51,7 +51,7 @@ Options:
   -h, --help  Print help
 
 Statuses: 0 done; 1 faults, a refusal or a bad text; 2 usage; 3 a file, a stream or memory failed; \
-4 the user left, or his input ended. Messages go to standard error, all else to standard output.
+4 the user left, or his input ended. Messages go to standard error, all else that is printed to standard output.
 Help goes to standard error too, with status 2.
 ";
 
@@ -68,7 +68,7 @@ Options:
   -h, --help  Print help
 
 Statuses: 0 done; 1 faults, a refusal or a bad text; 2 usage; 3 a file, a stream or memory failed; \
-4 the user left, or his input ended. Messages go to standard error, all else to standard output.
+4 the user left, or his input ended. Messages go to standard error, all else that is printed to standard output.
 Help goes to standard error too, with status 2.
 ";
 
@@ -104,7 +104,7 @@ Options:
           Print help (see a summary with '-h')
 
 Statuses: 0 done; 1 faults, a refusal or a bad text; 2 usage; 3 a file, a stream or memory failed; \
-4 the user left, or his input ended. Messages go to standard error, all else to standard output.
+4 the user left, or his input ended. Messages go to standard error, all else that is printed to standard output.
 Help goes to standard error too, with status 2.
 ";
 
@@ -130,7 +130,7 @@ Options:
           Print help (see a summary with '-h')
 
 Statuses: 0 done; 1 faults, a refusal or a bad text; 2 usage; 3 a file, a stream or memory failed; \
-4 the user left, or his input ended. Messages go to standard error, all else to standard output.
+4 the user left, or his input ended. Messages go to standard error, all else that is printed to standard output.
 Help goes to standard error too, with status 2.
 ";
 
@@ -142,7 +142,12 @@ nothing at a `shot` or `colors`. The screen is drawn in sixteen colours, with th
 cursor where an input has it. Redirect it into a file: tvdlg picture FILE SCRIPT
 >PICTURE.svg.
 
-Usage: tvdlg picture <FILE> <SCRIPT>
+With --all nothing is printed, and the screen at each `shot` is drawn into a file
+beside the script: SCRIPT-1.svg, SCRIPT-2.svg and so on. What such a file held is
+lost. The script is read to its end before the first picture is drawn, and of one
+with a faulty line none is.
+
+Usage: tvdlg picture [OPTIONS] <FILE> <SCRIPT>
 
 Arguments:
   <FILE>
@@ -152,11 +157,14 @@ Arguments:
           A script, with an event or a picture on each line
 
 Options:
+      --all
+          Draws the screen at each `shot` into SCRIPT-1.svg, SCRIPT-2.svg and so on
+
   -h, --help
           Print help (see a summary with '-h')
 
 Statuses: 0 done; 1 faults, a refusal or a bad text; 2 usage; 3 a file, a stream or memory failed; \
-4 the user left, or his input ended. Messages go to standard error, all else to standard output.
+4 the user left, or his input ended. Messages go to standard error, all else that is printed to standard output.
 Help goes to standard error too, with status 2.
 ";
 
@@ -197,7 +205,7 @@ Options:
           Print help (see a summary with '-h')
 
 Statuses: 0 done; 1 faults, a refusal or a bad text; 2 usage; 3 a file, a stream or memory failed; \
-4 the user left, or his input ended. Messages go to standard error, all else to standard output.
+4 the user left, or his input ended. Messages go to standard error, all else that is printed to standard output.
 Help goes to standard error too, with status 2.
 ";
 

@@ -1,6 +1,7 @@
 //! Long paths, and texts as long as they may be.
 
 use crate::endings::{ACCEPT, CHECK, RUN, ample_ending};
+use crate::gallery::Gallery;
 use crate::sink::Sink;
 use crate::user::User;
 use std::alloc::{AllocError, Global};
@@ -57,6 +58,7 @@ fn status(
     let mut err = DirectStream::new(err);
     run_program(
         files,
+        &mut Gallery::new(alloc, 0),
         alloc,
         Ok(task),
         &buttons,

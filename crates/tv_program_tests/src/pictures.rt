@@ -1,9 +1,14 @@
-//! Pictures: the screen that a script leaves, drawn by the program over files in memory.
+//! Pictures: the screen that a script leaves, and those at its shots, drawn by the program over files in memory.
 
-use crate::endings::ample_ending;
+use crate::endings::{PICTURE_ALL, ample_ending};
+use crate::gallery::Gallery;
 use crate::shelf::Shelf;
+use crate::sink::Sink;
+use crate::user::User;
+use std::alloc::Global;
 use std::test::Fail;
-use tv_files::Task;
+use tv_button_views::buttons;
+use tv_files::{DirectStream, Task, run_program};
 use tv_test_support::descriptions::{CANCEL, ORDER, SHARED_LETTER};
 
 /// The screen of the description, after the script beside it.
@@ -98,5 +103,147 @@ fn pictures(rt: HostRuntime) -> Result<(), Fail> {
         let found = ample_ending(rt.alloc(), PICTURE, (*description, *script))?;
         assert_eq!(rt; found.as_str(), *wanted, "of:\n{description}in:\n{script}");
     }
+    Ok(())
+}
+
+// The desktop alone, once the dialog is ended.
+const EMPTY: &str =
+    r##"<svg xmlns="http://www.w3.org/2000/svg" viewBox="-10 -10 220 220" width="220" height="220"
+  font-family="'DejaVu Sans Mono', Menlo, Consolas, 'Liberation Mono', monospace" font-size="16"
+  xml:space="preserve" shape-rendering="crispEdges">
+<rect x="-10" y="-10" width="220" height="220" rx="6" fill="#111111"/>
+<rect x="0" y="0" width="200" height="20" fill="#aaaaaa"/>
+<rect x="0" y="20" width="200" height="20" fill="#aaaaaa"/>
+<text x="0" y="35" textLength="200" fill="#0000aa" lengthAdjust="spacingAndGlyphs">....................</text>
+<rect x="0" y="40" width="200" height="20" fill="#aaaaaa"/>
+<text x="0" y="55" textLength="200" fill="#0000aa" lengthAdjust="spacingAndGlyphs">....................</text>
+<rect x="0" y="60" width="200" height="20" fill="#aaaaaa"/>
+<text x="0" y="75" textLength="200" fill="#0000aa" lengthAdjust="spacingAndGlyphs">....................</text>
+<rect x="0" y="80" width="200" height="20" fill="#aaaaaa"/>
+<text x="0" y="95" textLength="200" fill="#0000aa" lengthAdjust="spacingAndGlyphs">....................</text>
+<rect x="0" y="100" width="200" height="20" fill="#aaaaaa"/>
+<text x="0" y="115" textLength="200" fill="#0000aa" lengthAdjust="spacingAndGlyphs">....................</text>
+<rect x="0" y="120" width="200" height="20" fill="#aaaaaa"/>
+<text x="0" y="135" textLength="200" fill="#0000aa" lengthAdjust="spacingAndGlyphs">....................</text>
+<rect x="0" y="140" width="200" height="20" fill="#aaaaaa"/>
+<text x="0" y="155" textLength="200" fill="#0000aa" lengthAdjust="spacingAndGlyphs">....................</text>
+<rect x="0" y="160" width="200" height="20" fill="#aaaaaa"/>
+<text x="0" y="175" textLength="200" fill="#0000aa" lengthAdjust="spacingAndGlyphs">....................</text>
+<rect x="0" y="180" width="200" height="20" fill="#aaaaaa"/>
+</svg>
+"##;
+
+// What drawing each shot comes to, with files and pictures in memory: what hangs there, then what stands on standard output and on
+// standard error, then the status.
+fn all_drawn(
+    alloc: Global,
+    task: Task<'_>,
+    files: &mut Shelf<'_>,
+    gallery: &mut Gallery,
+) -> Result<String, Fail> {
+    let mut out = Sink::new(alloc, 10_000, true);
+    let mut err = Sink::new(alloc, 10_000, true);
+    let status = run_program(
+        files,
+        gallery,
+        alloc,
+        Ok(task),
+        &buttons,
+        &mut User::silent(),
+        &mut DirectStream::new(&mut out),
+        &mut DirectStream::new(&mut err),
+    );
+    let shown = gallery.shown()?;
+    let text = str::from_utf8(out.taken())?;
+    let message = str::from_utf8(err.taken())?;
+    let opened = files.opened();
+    Ok(format!(in alloc; "{shown}{text}{message}status {status}\nopened {opened}\n")?)
+}
+
+// The same of a script beside a description, with room for so many pictures.
+fn drawn(alloc: Global, texts: (&str, &str), room: usize) -> Result<String, Fail> {
+    let mut files = Shelf::new(texts.0, texts.1);
+    let mut gallery = Gallery::new(alloc, room);
+    all_drawn(alloc, PICTURE_ALL, &mut files, &mut gallery)
+}
+
+#[test]
+fn each_shot_is_drawn(rt: HostRuntime) -> Result<(), Fail> {
+    let alloc = rt.alloc();
+    let focused = FOCUSED
+        .strip_suffix("status 0\nopened 12\n")
+        .ok_or("no picture")?;
+    let found = drawn(alloc, (CANCEL, "shot\ncolors\nkey Esc\nshot\n"), 9)?;
+    let wanted = format!(in alloc;
+        "BESIDE-1.svg\n{focused}BESIDE-2.svg\n{EMPTY}status 0\nopened 12\n"
+    )?;
+    assert_eq!(rt; found.as_str(), wanted.as_str());
+    let found = drawn(alloc, (CANCEL, "shot\nshot\nshot\n"), 1)?;
+    let wanted = format!(in alloc;
+        "BESIDE-1.svg\n{focused}tvdlg: cannot write BESIDE-2.svg\nstatus 3\nopened 12\n"
+    )?;
+    assert_eq!(rt; found.as_str(), wanted.as_str());
+    Ok(())
+}
+
+// A description, its script, for how many pictures there is room, and what is told where none is drawn.
+const UNDRAWN: [(&str, &str, usize, &str); 6] = [
+    (CANCEL, "key Tab\ncolors\n", 9, "status 0\nopened 12\n"),
+    (CANCEL, "", 0, "status 0\nopened 12\n"),
+    (
+        CANCEL,
+        "shot\n",
+        0,
+        "tvdlg: cannot write BESIDE-1.svg\nstatus 3\nopened 12\n",
+    ),
+    (
+        CANCEL,
+        "shot\nkey Foo\n",
+        9,
+        "tvdlg: BESIDE: syntax at line 2\nstatus 1\nopened 12\n",
+    ),
+    (
+        ORDER,
+        "shot\n",
+        9,
+        "tvdlg: view refused\nstatus 1\nopened 12\n",
+    ),
+    (
+        SHARED_LETTER,
+        "shot\n",
+        9,
+        "F4 line 8\nstatus 1\nopened 12\n",
+    ),
+];
+
+#[test]
+fn nothing_is_drawn(rt: HostRuntime) -> Result<(), Fail> {
+    for &(description, script, room, wanted) in &UNDRAWN {
+        let found = drawn(rt.alloc(), (description, script), room)?;
+        assert_eq!(rt; found.as_str(), wanted, "of:\n{description}in:\n{script}");
+    }
+    Ok(())
+}
+
+// A script that can't be opened, and one that can't be read to its end.
+#[test]
+fn unread_scripts(rt: HostRuntime) -> Result<(), Fail> {
+    let alloc = rt.alloc();
+    let missing = Task::PictureAll {
+        file: Shelf::DESCRIPTION,
+        script: "NONE",
+    };
+    let mut gallery = Gallery::new(alloc, 9);
+    let found = all_drawn(alloc, missing, &mut Shelf::new(CANCEL, ""), &mut gallery)?;
+    assert_eq!(rt;
+        found.as_str(),
+        "tvdlg: cannot read NONE\nstatus 3\nopened 13\n"
+    );
+    let mut files = Shelf::torn(CANCEL, "shot\n", Shelf::BESIDE);
+    let found = all_drawn(alloc, PICTURE_ALL, &mut files, &mut gallery)?;
+    assert_eq!(rt;
+        found.as_str(),
+        "tvdlg: cannot read BESIDE\nstatus 3\nopened 12\n"
+    );
     Ok(())
 }
