@@ -9,7 +9,6 @@ pub mod NewLemmas
 pub mod PaneLemmas
 pub mod PendingLemmas
 pub mod PlanLemmas
-pub mod PlanTreeLemmas
 pub mod PressCodeLemmas
 pub mod ReopenLemmas
 pub mod SettleLemmas

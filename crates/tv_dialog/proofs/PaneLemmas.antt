@@ -1,18 +1,18 @@
 -- The panes that are open at a view, as the code keeps them.
 use Rattle.std.proofs.Common.{◌≡◌, ◌∙◌, ℕ, suc, ◌+◌, ◌<◌, Bool, true, false, List, [], ◌∷◌, ◌++◌, length, get_or, drop, map, refl, sym, ap, add-one, drop-cons, append_assoc, Bor, nat_lt, ◌||◌}
 use Rattle.std.specs.List.{filter, list_any}
+use Rattle.tv_model.specs.declared.node.Id.{Id}
 use Rattle.tv_model.specs.declared.node.Node.{Node}
-use Rattle.tv_model.specs.Description.Names.{gives_name}
-use Rattle.tv_model.specs.Description.Nodes.{is_pane}
+use Rattle.tv_model.specs.Description.Nodes.{has_id, is_pane}
 use Rattle.tv_machine.specs.Leaves.{PlacedNode, leaves_in, open_at}
 use Rattle.tv_dialog.specs.declared.plan.LeafPlan.{LeafPlan}
 
 -- ---- what references refer to
 
--- a pane gives the name, where references to the panes are asked
-pub any_now : (name : List ℕ) (panes : List (Bor Node)) → list_any (λ pane. gives_name name pane.now) panes ≡ list_any (gives_name name) (map (λ pane. pane.now) panes)
-any_now name [] = refl
-any_now name (pane ∷ panes) = ap (λ b. gives_name name pane.now || b) (any_now name panes)
+-- a pane has the id, where references to the panes are asked
+pub any_now : (id : Id) (panes : List (Bor Node)) → list_any (λ pane. has_id id pane.now) panes ≡ list_any (has_id id) (map (λ pane. pane.now) panes)
+any_now id [] = refl
+any_now id (pane ∷ panes) = ap (λ b. has_id id pane.now || b) (any_now id panes)
 
 kept_now : (b : Bool) (depth : ℕ) (pane : Bor Node) (panes : List (Bor Node)) → nat_lt pane.now.depth depth ≡ b
     → map (λ pane. pane.now) (filter (λ pane. nat_lt pane.now.depth depth) panes) ≡ open_at depth (map (λ pane. pane.now) panes)

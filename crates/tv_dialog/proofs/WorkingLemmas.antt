@@ -1,5 +1,5 @@
 -- What the plan's rules come to is what the machine's do.
-use Rattle.std.proofs.Common.{◌≡◌, Bool, true, false, not, ◌&&◌, ◌||◌, ◌==◌, ℕ, if◌then◌else◌, List, [], ◌∷◌, map, filter, filter_map, get_or, option_map, refl, sym, ap, ◌∙◌, All}
+use Rattle.std.proofs.Common.{◌≡◌, Bool, true, false, not, ◌&&◌, ◌||◌, ◌==◌, ℕ, nat_lt, if◌then◌else◌, List, [], ◌∷◌, map, filter, filter_map, get_or, option_map, refl, sym, ap, ◌∙◌, All}
 use Rattle.std.specs.List.{cons_option, list_all, list_any}
 use Rattle.tv_model.specs.declared.node.Id.{Id}
 use Rattle.tv_model.specs.declared.desc.Dialog.{Dialog}
@@ -9,6 +9,7 @@ use Rattle.tv_model.specs.declared.desc.Effect.TheVariants as effects
 use Rattle.tv_model.specs.Description.Commands.{command_number}
 use Rattle.tv_model.specs.Description.Names.{meant}
 use Rattle.tv_model.specs.Description.Numbers.{natural}
+use Rattle.tv_model.specs.Description.Rules.{is_one_of}
 use Rattle.tv_machine.specs.Leaves.{PlacedNode, leaf_list}
 use Rattle.tv_machine.specs.Dialog.Ending.{fields_of}
 use Rattle.tv_machine.specs.Dialog.Rules.{enables, holds, is_among, is_command_enabled, is_marked_at, is_visible, shows}
@@ -18,7 +19,8 @@ use Rattle.tv_machine.specs.Dialog.Lawful.{IsLawfulDialog}
 use Rattle.tv_dialog.specs.declared.condition.Condition.{Condition}
 use Rattle.tv_dialog.specs.declared.plan.Gate.{Gate}
 use Rattle.tv_dialog.specs.declared.plan.LeafPlan.{LeafPlan}
-use Rattle.tv_dialog.specs.Plan.{condition_of, gate_by, gate_of, is_enabled_in_plan, is_met, is_shown_by, leaf_plan, passes_all, plan_of, shown_by, value_at}
+use Rattle.tv_dialog.specs.declared.plan.Showing.{Showing}
+use Rattle.tv_dialog.specs.Plan.{condition_of, conditions_among, gate_by, gate_of, is_enabled_in_plan, is_met, is_around, is_shown_by, leaf_plan, passes_all, plan_of, showing_by, showing_of, shown_by, value_at}
 use Rattle.tv_dialog.proofs.FieldLemmas.{states-apart, value-fields}
 use Rattle.tv_machine.proofs.ListLemmas.{and-true, any-found, bool_cases, find-member, has, on_found, option_cases}
 use Rattle.tv_machine.proofs.LeafLemmas.{HasLeaves, ids-apart, leaf_id}
@@ -28,14 +30,6 @@ and_false true = refl
 and_false false = refl
 
 -- ---- lists
-
-all-filtered : (test held : Rule → Bool) (met : Condition → Bool) (f : Rule → Condition) → ((r : Rule) → met (f r) ≡ held r) → (rules : List Rule)
-    → list_all met (map f (filter test rules)) ≡ list_all (λ r. not (test r) || held r) rules
-all-filtered test held met f same [] = refl
-all-filtered test held met f same (r ∷ rules) =
-    let rest = all-filtered test held met f same rules in
-    bool_cases (test r) (λ b. list_all met (map f (if b then r ∷ filter test rules else filter test rules)) ≡ ((not b || held r) && list_all (λ s. not (test s) || held s) rules))
-    (λ is. ap (λ b. b && list_all met (map f (filter test rules))) (same r) ∙ ap (λ b. held r && b) rest) (λ is. rest)
 
 abbrev ids_of : List LeafPlan → List Id
 ids_of leaves = map (λ leaf. leaf.id) leaves
@@ -61,12 +55,38 @@ module _ (d : Dialog) (lawful : IsLawfulDialog d) (m : Modal) (leaves : HasLeave
   -- a condition is met where its rule holds
   met-holds : (rule : Rule) → is_met (fields_of m.leaves) (condition_of d.views rule) ≡ holds d m.leaves rule
   met-holds rule =
-      option_cases (meant d.views rule.cluster)
+      ap (λ b. nat_lt 0 (natural rule.item) && b)
+      (option_cases (meant d.views rule.cluster)
       (λ o. is_marked (value_at (fields_of m.leaves) (option_map (λ node. node.id) o)) (natural rule.item) ≡ is_marked_at m.leaves (natural rule.item) o)
-      (λ none. refl) (λ node found. ap (λ v. is_marked v (natural rule.item)) (value-fields m.leaves (states-apart d lawful m leaves) node.id))
+      (λ none. refl) (λ node found. ap (λ v. is_marked v (natural rule.item)) (value-fields m.leaves (states-apart d lawful m leaves) node.id)))
+
+  abbrev AreAllMet : PlacedNode → List Showing → Bool
+  AreAllMet leaf showings = list_all (is_met (fields_of m.leaves)) (conditions_among leaf showings)
+
+  showing_front : (leaf : PlacedNode) (effect : Effect) (condition : Condition) (held rest : Bool) (showings : List Showing) → is_met (fields_of m.leaves) condition ≡ held
+      → AreAllMet leaf showings ≡ rest
+      → AreAllMet leaf (cons_option (showing_by d.views condition effect) showings) ≡ ((not (shows d.views leaf effect) || held) && rest)
+  showing_front leaf (effects.Enable command) condition held rest showings met all = all
+  showing_front leaf (effects.Show name) condition held rest showings met all =
+      option_cases (meant d.views name)
+      (λ o. AreAllMet leaf (cons_option (option_map (λ target. record { target = target; condition = condition }) (option_map (λ node. node.id) o)) showings)
+      ≡ ((not (is_one_of (leaf.node ∷ leaf.panes) o) || held) && rest))
+      (λ none. all)
+      (λ node found.
+      let others : List Showing = filter (λ showing. is_around leaf showing.target) showings in
+      bool_cases (is_around leaf node.id)
+      (λ b. list_all (is_met (fields_of m.leaves)) (map (λ showing. showing.condition) (if b then record { target = node.id; condition = condition } ∷ others else others))
+      ≡ ((not b || held) && rest))
+      (λ is. ap (λ b. b && AreAllMet leaf showings) met ∙ ap (λ b. held && b) all) (λ is. all))
+
+  showings-rules : (leaf : PlacedNode) (rules : List Rule)
+      → AreAllMet leaf (filter_map (showing_of d.views) rules) ≡ list_all (λ rule. not (shows d.views leaf rule.effect) || holds d m.leaves rule) rules
+  showings-rules leaf [] = refl
+  showings-rules leaf (rule ∷ rules) =
+      showing_front leaf rule.effect (condition_of d.views rule) (holds d m.leaves rule) _ (filter_map (showing_of d.views) rules) (met-holds rule) (showings-rules leaf rules)
 
   shown-visible : (leaf : PlacedNode) → is_shown_by (fields_of m.leaves) (leaf_plan d.views d.rules leaf) ≡ is_visible d m.leaves leaf
-  shown-visible leaf = all-filtered (λ rule. shows leaf rule.effect) (holds d m.leaves) (is_met (fields_of m.leaves)) (condition_of d.views) met-holds d.rules
+  shown-visible leaf = showings-rules leaf d.rules
 
   -- the leaves that the plan's rules show are the visible ones
   pub shown-plan : All (λ leaf. is_among (shown_by (plan_of d.views d.rules) (fields_of m.leaves)) leaf.node.id ≡ is_visible d m.leaves leaf) (leaf_list d.views)

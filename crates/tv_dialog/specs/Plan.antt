@@ -1,8 +1,7 @@
 -- What a dialog keeps of its description beside its own line: ids and numbers, and no texts.
-use Rattle.std.specs.Prelude.{ℕ, Bool, false, List, length, map, filter, filter_map, find, not, ◌&&◌, ◌==◌}
-use Rattle.std.specs.Prelude.{Option}
-use Rattle.std.specs.Prelude.{Some, None, option_map}
-use Rattle.std.specs.List.{list_all}
+use Rattle.std.specs.Prelude.{ℕ, Bool, false, List, ◌∷◌, length, map, filter, filter_map, find, nat_lt}
+use Rattle.std.specs.Prelude.{not, ◌&&◌, ◌==◌, Option, Some, None, option_map}
+use Rattle.std.specs.List.{list_all, list_any}
 use Rattle.tv_model.specs.declared.node.Id.{Id}
 use Rattle.tv_model.specs.declared.node.Node.{Node}
 use Rattle.tv_model.specs.declared.desc.Rule.{Rule}
@@ -10,30 +9,52 @@ use Rattle.tv_model.specs.declared.desc.Effect.{Effect}
 use Rattle.tv_model.specs.declared.desc.Effect.TheVariants as effects
 use Rattle.tv_model.specs.declared.record.Value.{Value}
 use Rattle.tv_model.specs.Description.Names.{meant}
-use Rattle.tv_model.specs.Description.Nodes.{is_button, is_default}
+use Rattle.tv_model.specs.Description.Nodes.{has_id, is_button, is_default}
 use Rattle.tv_model.specs.Description.Numbers.{natural}
 use Rattle.tv_model.specs.Description.Commands.{command_number}
 use Rattle.tv_model.specs.Log.Record.{Entries, value_of}
 use Rattle.tv_machine.specs.Leaves.{PlacedNode, leaf_list}
 use Rattle.tv_model.specs.Kinds.Cluster.{is_marked}
-use Rattle.tv_machine.specs.Dialog.Rules.{shows}
 use Rattle.tv_dialog.specs.declared.condition.Condition.{Condition}
 use Rattle.tv_dialog.specs.declared.plan.Gate.{Gate}
 use Rattle.tv_dialog.specs.declared.plan.LeafPlan.{LeafPlan}
 use Rattle.tv_dialog.specs.declared.plan.Plan.{Plan}
+use Rattle.tv_dialog.specs.declared.plan.Showing.{Showing}
 
 -- ---- what a description is kept as
+
+-- the id of what a name means
+abbrev pub meant_id : List Node → List ℕ → Option Id
+meant_id views name = option_map (λ node. node.id) (meant views name)
 
 -- the cluster of a rule, if the description has it, and its item
 abbrev pub condition_of : List Node → Rule → Condition
 condition_of views rule = record {
-  cluster = option_map (λ node. node.id) (meant views rule.cluster);
+  cluster = meant_id views rule.cluster;
   item = natural rule.item;
 }
 
--- those of the rules that show or hide the leaf
+-- what a rule shows on this condition, if it shows something that there is
+abbrev pub showing_by : List Node → Condition → Effect → Option Showing
+showing_by views condition (effects.Show name) =
+    option_map (λ target. record { target = target; condition = condition }) (meant_id views name)
+showing_by views condition (effects.Enable command) = None
+
+abbrev pub showing_of : List Node → Rule → Option Showing
+showing_of views rule = showing_by views (condition_of views rule) rule.effect
+
+-- it is the leaf or stands around it
+abbrev pub is_around : PlacedNode → Id → Bool
+is_around leaf target = list_any (has_id target) (leaf.node ∷ leaf.panes)
+
+-- the conditions on which these show the leaf
+abbrev pub conditions_among : PlacedNode → List Showing → List Condition
+conditions_among leaf showings =
+    map (λ showing. showing.condition) (filter (λ showing. is_around leaf showing.target) showings)
+
+-- the conditions on which rules show the leaf
 abbrev pub conditions_of : List Node → List Rule → PlacedNode → List Condition
-conditions_of views rules leaf = map (condition_of views) (filter (λ rule. shows leaf rule.effect) rules)
+conditions_of views rules leaf = conditions_among leaf (filter_map (showing_of views) rules)
 
 abbrev pub leaf_plan : List Node → List Rule → PlacedNode → LeafPlan
 leaf_plan views rules leaf = record {
@@ -83,9 +104,10 @@ abbrev pub value_at : Entries → Option Id → Option Value
 value_at marks None = None
 value_at marks (Some cluster) = value_of marks cluster.0
 
--- the item is marked
+-- there is the item, and it is marked
 abbrev pub is_met : Entries → Condition → Bool
-is_met marks condition = is_marked (value_at marks condition.cluster) condition.item
+is_met marks condition =
+    nat_lt 0 condition.item && is_marked (value_at marks condition.cluster) condition.item
 
 -- all that it depends on is marked
 abbrev pub is_shown_by : Entries → LeafPlan → Bool

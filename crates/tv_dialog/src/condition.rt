@@ -2,7 +2,7 @@
 
 ghost use Rattle.std.specs.Prelude.{◌≡◌, ◌-◌, ◌/◌, ◌%◌, ◌^◌, ◌==◌, Some};
 ghost use Rattle.tv_model.specs.Kinds.Cluster.{is_marked};
-ghost use Rattle.tv_dialog.specs.Plan.{is_met};
+ghost use Rattle.tv_dialog.specs.Plan.{is_met, value_at};
 
 use tv_model::{Id, Record, Value};
 
@@ -11,7 +11,7 @@ use tv_model::{Id, Record, Value};
 pub(crate) struct Condition {
     /// Where the description has no such cluster, the condition is never met.
     pub(crate) cluster: Option<Id>,
-    /// Counted from 1.
+    /// Counted from 1. One that isn't there is never marked, 0 among them.
     pub(crate) item: u32,
 }
 
@@ -35,9 +35,9 @@ fn is_marked(value: &Value, item: u32) -> bool
 }
 
 impl Condition {
-    /// Whether the record has the item marked.
-    pub(crate) fn is_met(self, marks: &Record) -> bool
-        ensures { result ≡ is_met marks.now self }
+    // Whether the record has the item marked, where 0 is read as 1.
+    fn is_marked(self, marks: &Record) -> bool
+        ensures { result ≡ is_marked (value_at marks.now self.cluster) self.item }
     {
         match self.cluster {
             Some(cluster) => match marks.value(cluster) {
@@ -46,5 +46,12 @@ impl Condition {
             },
             None => false,
         }
+    }
+
+    /// Whether the record has the item marked. No record has an item 0.
+    pub(crate) fn is_met(self, marks: &Record) -> bool
+        ensures { result ≡ is_met marks.now self }
+    {
+        self.item > 0 && self.is_marked(marks)
     }
 }

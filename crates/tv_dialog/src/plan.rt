@@ -3,13 +3,12 @@
 ghost use Rattle.std.specs.Prelude.{◌≡◌, ◌==◌, IfOk, Option, option_copied, find, filter_map, map, option_map};
 ghost use Rattle.std.specs.List.{list_any};
 ghost use Rattle.tv_model.specs.declared.node.Node.{Node};
-ghost use Rattle.tv_model.specs.Description.Names.{gives_name, meant};
+ghost use Rattle.tv_model.specs.Description.Names.{gives_name};
 ghost use Rattle.tv_model.specs.Description.Commands.{command_number};
-ghost use Rattle.tv_model.specs.Description.Nodes.{is_default};
-ghost use Rattle.tv_machine.specs.Dialog.Rules.{shows};
+ghost use Rattle.tv_model.specs.Description.Nodes.{has_id, is_default};
 ghost use Rattle.tv_machine.specs.Leaves.{leaf_list};
 ghost use Rattle.tv_dialog.specs.Placing.{placed_node};
-ghost use Rattle.tv_dialog.specs.Plan.{condition_of, conditions_of, gate_of, has_button_at, has_rules, is_shown_by, leaf_plan, plan_of};
+ghost use Rattle.tv_dialog.specs.Plan.{condition_of, conditions_among, gate_of, has_button_at, has_rules, is_around, is_shown_by, leaf_plan, meant_id, plan_of, showing_of};
 ghost use Rattle.tv_dialog.specs.Drawn.{default_now, lent};
 
 use crate::condition::Condition;
@@ -59,6 +58,13 @@ impl LeafPlan {
     }
 }
 
+// A condition on which a view is shown.
+#[derive(Clone, Copy)]
+struct Showing {
+    target: Id,
+    condition: Condition,
+}
+
 // A leaf, and the panes around it from the innermost out.
 #[derive(Clone, Copy)]
 struct Placed<'a> {
@@ -77,7 +83,7 @@ fn gives_name(name: &Chars, node: &Node) -> bool
 
 // The first view that gives the name.
 fn meant(views: &[Node], name: &Chars) -> Option<Id>
-    ensures { result ≡ option_map (λ node. node.id) (meant views.now name.now) }
+    ensures { result ≡ meant_id views.now name.now }
 {
     views
         .iter()
@@ -94,33 +100,60 @@ fn kept_condition(views: &[Node], rule: &Rule) -> Condition
     }
 }
 
-fn any_gives(panes: &[&Node], name: &Chars) -> bool
-    ensures { result ≡ list_any (λ pane. gives_name name.now pane.now) panes.now }
+// Returns what a rule shows, and on which condition. A rule that shows no view that there is has none.
+fn kept_showing(views: &[Node], rule: &Rule) -> Option<Showing>
+    ensures { result ≡ showing_of views.now rule.now }
 {
-    panes.iter().any(|pane| gives_name(name, pane))
-}
-
-fn shows(leaf: Placed, effect: &Effect) -> bool
-    ensures { result ≡ shows (placed_node leaf.entry) effect.now }
-{
-    match effect {
-        Effect::Show(name) => gives_name(name, leaf.node) || any_gives(leaf.panes, name),
-        Effect::Enable(_) => false,
+    match &rule.effect {
+        Effect::Show(name) => Some(Showing {
+            target: meant(views, name)?,
+            condition: kept_condition(views, rule),
+        }),
+        Effect::Enable(_) => None,
     }
 }
 
+fn kept_showings(
+    alloc: Global,
+    views: &[Node],
+    rules: &[Rule],
+) -> Result<Sequence<Showing>, AllocError>
+    ensures { IfOk result (λ showings. showings ≡ filter_map (showing_of views.now) rules.now) }
+{
+    let mut showings = Sequence::new(alloc);
+    for rule in rules {
+        if let Some(showing) = kept_showing(views, rule) {
+            showings.push(showing)?;
+        }
+    }
+    Ok(showings)
+}
+
+fn any_has(panes: &[&Node], id: Id) -> bool
+    ensures { result ≡ list_any (λ pane. has_id id pane.now) panes.now }
+{
+    panes.iter().any(|pane| pane.id == id)
+}
+
+// Whether the view of the id is the leaf or a pane around it.
+fn is_around(leaf: Placed, target: Id) -> bool
+    ensures { result ≡ is_around (placed_node leaf.entry) target }
+{
+    leaf.node.id == target || any_has(leaf.panes, target)
+}
+
+// The conditions on which the leaf is shown.
 fn kept_conditions(
     alloc: Global,
     leaf: Placed,
-    views: &[Node],
-    rules: &[Rule],
+    showings: &[Showing],
 ) -> Result<Sequence<Condition>, AllocError>
-    ensures { IfOk result (λ conditions. conditions ≡ conditions_of views.now rules.now (placed_node leaf.entry)) }
+    ensures { IfOk result (λ conditions. conditions ≡ conditions_among (placed_node leaf.entry) showings.now) }
 {
     let mut conditions = Sequence::new(alloc);
-    for rule in rules {
-        if shows(leaf, &rule.effect) {
-            conditions.push(kept_condition(views, rule))?;
+    for showing in showings {
+        if is_around(leaf, showing.target) {
+            conditions.push(showing.condition)?;
         }
     }
     Ok(conditions)
@@ -133,6 +166,7 @@ fn leaf_plans(
 ) -> Result<Sequence<LeafPlan>, AllocError>
     ensures { IfOk result (λ leaves. leaves ≡ map (leaf_plan views.now rules.now) (leaf_list views.now)) }
 {
+    let showings = kept_showings(alloc, views, rules)?;
     let mut leaves = Sequence::new(alloc);
     let mut panes: Vec<&Node> = Vec::new(alloc);
     for view in views {
@@ -147,7 +181,7 @@ fn leaf_plans(
             leaves.push(LeafPlan {
                 id: view.id,
                 is_button: view.kind.is_button(),
-                shown_when: kept_conditions(alloc, leaf, views, rules)?,
+                shown_when: kept_conditions(alloc, leaf, showings.as_slice())?,
             })?;
         }
     }

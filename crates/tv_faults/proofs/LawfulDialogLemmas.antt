@@ -13,7 +13,6 @@ use Rattle.tv_faults.specs.Sound.Bodies.{dialog_body}
 use Rattle.tv_faults.specs.Sound.Ends.{AreNotBothDefault}
 use Rattle.tv_faults.specs.Sound.Letters.{HasOwnLetters}
 use Rattle.tv_faults.specs.Sound.Limits.{EnablesLawfulCommand}
-use Rattle.tv_faults.specs.Sound.Names.{HaveOtherNames}
 use Rattle.tv_faults.specs.Usable.{IsUsableDialog}
 use Rattle.tv_faults.proofs.LackLemmas.{bodies}
 use Rattle.tv_faults.proofs.LawfulFocusLemmas.{some_free}
@@ -30,8 +29,6 @@ lawful_dialogs d is s k dialog less =
     let use_of : IsUsableDialog d own = (usable d s).dialogs k dialog less in
     let stands : IsDialog own = All-from_recursion IsDialog d.dialogs is.dialogs k dialog less in
     let limited : All IsLimited own.views = All-tail IsLimited own.node own.views use_of.nodes in
-    let apart : AllPairs HaveOtherNames own.views =
-    ((bodies d (λ body. AllPairs HaveOtherNames body.views)).0 s.names.views).1 k dialog less in
     let letters : HasOwnLetters (dialog_body d.version own) = ((bodies d HasOwnLetters).0 s.letters).1 k dialog less in
     let fits : All (λ rule. EnablesLawfulCommand rule.effect) own.rules = s.limits.texts.rules k dialog less in
     record {
@@ -43,7 +40,7 @@ lawful_dialogs d is s k dialog less =
       places = leaves_lie own.node own.views stands.views use_of.inside;
       letters = letters_apart own d.version (views_rise d is k dialog less) stands.views (s.rules k dialog less) letters;
       defaults = ((bodies d (λ body. AllPairs AreNotBothDefault body.views)).0 s.defaults).1 k dialog less;
-      «free» = λ leaves. some_free own leaves stands.views apart limited fits (s.focus k dialog less);
+      «free» = λ leaves. some_free own leaves stands.views limited fits (s.focus k dialog less);
     }
 
 pub sound_lawful : (d : Desc) → IsDescription d → IsSound d → All IsLawfulDialog d.dialogs

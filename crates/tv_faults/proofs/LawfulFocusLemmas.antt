@@ -1,13 +1,12 @@
 -- A control that no rule reaches is free to focus, whatever is marked.
-use Rattle.std.proofs.Common.{◌≡◌, ℕ, nat_lt, ◌==◌, IsTrue, Bool, true, false, not, ◌&&◌, ◌||◌, List, [], ◌∷◌, ◌++◌, filter, find, map, reverse, Some, option_map, is_some, if◌then◌else◌, ℤ, pos, negsuc, ◌≤ℤ◌, refl, sym, ap, subst, ◌∙◌, arith}
+use Rattle.std.proofs.Common.{◌≡◌, ℕ, nat_lt, ◌==◌, IsTrue, Bool, true, false, not, ◌&&◌, ◌||◌, List, [], ◌∷◌, filter, find, map, Some, option_map, is_some, if◌then◌else◌, ℤ, pos, negsuc, ◌≤ℤ◌, refl, sym, ap, subst, ◌∙◌, arith}
 use Rattle.std.specs.List.{All, AllPairs, list_any, list_all}
 use Rattle.std.specs.Option.{IsSome}
 use Rattle.std.proofs.lemmas.Bool.{false≢true, false_from_ne_true, and_from, eqb-true}
 use Rattle.std.proofs.lemmas.Bool.Decides.{nat_tests}
 use Rattle.std.proofs.lemmas.Int.{ints}
-use Rattle.std.proofs.lemmas.List.{reverse-append}
-use Rattle.std.proofs.lemmas.List.Elements.{All-nil, All-cons, All-head, All-tail, All-append}
-use Rattle.std.proofs.lemmas.List.Folds.{Any-from_list_any, list_any-from_Any}
+use Rattle.std.proofs.lemmas.List.Elements.{All-nil, All-cons, All-head, All-tail}
+use Rattle.std.proofs.lemmas.List.Folds.{list_any-from_Any}
 use Rattle.tv_model.specs.declared.node.Node.{Node}
 use Rattle.tv_model.specs.declared.kind.Kind.{Kind}
 use Rattle.tv_model.specs.declared.kind.Kind.TheVariants as kinds
@@ -22,7 +21,7 @@ use Rattle.tv_model.specs.Description.LawfulNodes.{IsLawfulCommand, IsLimited}
 use Rattle.tv_model.specs.Description.Names.{gives_name, meant}
 use Rattle.tv_model.specs.Description.Nodes.{is_control, is_pane}
 use Rattle.tv_model.specs.Description.Numbers.{natural}
-use Rattle.tv_model.specs.Description.Panes.{around, panes_around}
+use Rattle.tv_model.specs.Description.Rules.{option_stands_over}
 use Rattle.tv_model.specs.Faults.Lines.{after_seen}
 use Rattle.tv_machine.specs.Dialog.Focus.{Stop, first_free, stop_of, stops_of}
 use Rattle.tv_machine.specs.Dialog.Rules.{enables, holds, is_enabled, is_free, is_kind_enabled, is_visible, shows}
@@ -34,6 +33,7 @@ use Rattle.tv_faults.specs.Sound.Names.{HasName, HaveOtherNames}
 use Rattle.tv_faults.specs.Sound.Rules.{HasFreeControl, IsButtonOf, Reaches}
 use Rattle.tv_faults.proofs.NameLemmas.{gives_decides}
 use Rattle.tv_faults.proofs.PairLemmas.{after_own, pairs_head, pairs_tail}
+use Rattle.tv_faults.proofs.RuleLemmas.{option_over}
 use Rattle.tv_faults.proofs.SeenLemmas.{bool_cases, is_leaf, leaf_list-after, of_any, placed_after}
 
 -- ---- lists
@@ -57,34 +57,6 @@ some_found p f (x ∷ xs) some =
     (λ fails some. some_found p f xs some)
     some
 
--- ---- the views around a view are among those before it
-
-all_reverse : {A : Type 0} (Q : A → Type 0) (xs : List A) → All Q xs → All Q (reverse xs)
-all_reverse Q [] all = all
-all_reverse Q (x ∷ xs) all =
-    subst (All Q) (sym (reverse-append (x ∷ []) xs))
-    (All-append Q (reverse xs) (x ∷ []) (all_reverse Q xs (All-tail Q x xs all)) (All-cons Q x [] (All-head Q x xs all) (All-nil Q)))
-
-module _ (Q : Node → Type 0) where
-  all_around : (depth : ℕ) (back : List Node) → All Q back → All Q (around depth back)
-  all_around depth [] all = all
-  all_around depth (view ∷ back) all =
-      bool_cases (nat_lt view.depth depth) (λ b. All Q (if b then view ∷ around view.depth back else around depth back))
-      (λ is. All-cons Q view (around view.depth back) (All-head Q view back all) (all_around view.depth back (All-tail Q view back all)))
-      (λ is. all_around depth back (All-tail Q view back all))
-
-  abbrev pub AllOver : List Node × Node → Type 0
-  AllOver pair = All Q (pair.1 ∷ panes_around pair.0 pair.1)
-
-  pub all_over : (seen views : List Node) → All Q seen → All Q views → All AllOver (after_seen seen views)
-  all_over seen [] before all = All-nil AllOver
-  all_over seen (view ∷ views) before all =
-      let own : Q view = All-head Q view views all in
-      All-cons AllOver (seen, view) (after_seen (seen ++ view ∷ []) views)
-      (All-cons Q view (panes_around seen view) own (all_around view.depth (reverse seen) (all_reverse Q seen before)))
-      (all_over (seen ++ view ∷ []) views (All-append Q seen (view ∷ []) before (All-cons Q view [] own (All-nil Q)))
-      (All-tail Q view views all))
-
 -- ---- names
 
 -- its name means the view itself
@@ -102,16 +74,11 @@ all_mean (view ∷ views) apart =
     (λ t. pairs_head HaveOtherNames view views apart k other less name ((gives_decides name view).0 t) has))
     ∙ all_mean views (pairs_tail HaveOtherNames view views apart) k other less name has)
 
-pub not_shown : (views before : List Node) (node : Node) (effect : Effect) → All (MeansItself views) (node ∷ panes_around before node)
-    → (Reaches views before node effect → ⊥) → shows (placed_after (before, node)) effect ≡ false
-not_shown views before node (effects.Enable command) mean none = refl
-not_shown views before node (effects.Show name) mean none =
-    false_from_ne_true (list_any (gives_name name) (node ∷ panes_around before node)) (λ t.
-    let h = Any-from_list_any (gives_name name) (node ∷ panes_around before node) t in
-    let target : meant views name ≡ Some h.1 =
-    of_any (MeansItself views) (λ view. gives_name name view ≡ true) (node ∷ panes_around before node) mean h name
-    ((gives_decides name h.1).0 h.4) in
-    none (h.1, target, (h.0, h.1, h.2, h.3, refl)))
+pub not_shown : (views before : List Node) (node : Node) (effect : Effect)
+    → (Reaches views before node effect → ⊥) → shows views (placed_after (before, node)) effect ≡ false
+not_shown views before node (effects.Enable command) none = refl
+not_shown views before node (effects.Show name) none =
+    false_from_ne_true (option_stands_over (meant views name) before node) (λ t. none ((option_over (meant views name) before node).0 t))
 
 -- ---- commands
 
@@ -187,27 +154,23 @@ module _ (d : Dialog) (leaves : List LeafState) where
   IsUnreached pair = IsTrue (is_control pair.1.kind) × All (λ rule. Reaches d.views pair.0 pair.1 rule.effect → ⊥) d.rules
 
   free_unreached : (before : List Node) (node : Node) → IsUnreached (before, node)
-      → All (MeansItself d.views) (node ∷ panes_around before node)
       → IsLawfulCommand (command_of node.kind) → All (λ rule. EnablesLawfulCommand rule.effect) d.rules
       → is_free d leaves (placed_after (before, node)) ≡ true
-  free_unreached before node none mean lawful fits =
+  free_unreached before node none lawful fits =
       let leaf = placed_after (before, node) in
       and_from (is_control node.kind) (is_visible d leaves leaf && is_enabled d leaves node) none.0
       (and_from (is_visible d leaves leaf) (is_enabled d leaves node)
-      (all_let (shows leaf) d.rules (λ k rule less. not_shown d.views before node _ mean (none.1 k rule less)))
+      (all_let (shows d.views leaf) d.rules (λ k rule less. not_shown d.views before node _ (none.1 k rule less)))
       (kind_enabled node.kind lawful fits (λ k rule less command is button.
       none.1 k rule less (subst (Reaches d.views before node) (sym is) button))))
 
-  pub some_free : AreViews 0 d.views → AllPairs HaveOtherNames d.views → All IsLimited d.views
+  pub some_free : AreViews 0 d.views → All IsLimited d.views
       → All (λ rule. EnablesLawfulCommand rule.effect) d.rules
       → HasFreeControl d → IsSome (first_free (stops_of d leaves))
-  some_free are apart limited fits h =
+  some_free are limited fits h =
       let pairs = after_seen [] d.views in
-      let mean : All (MeansItself d.views) (h.1.1 ∷ panes_around h.1.0 h.1.1) =
-      of_any (AllOver (MeansItself d.views)) IsUnreached pairs
-      (all_over (MeansItself d.views) [] d.views (All-nil (MeansItself d.views)) (all_mean d.views apart)) h in
       let fine : IsLimited h.1.1 = of_any (λ pair. IsLimited pair.1) IsUnreached pairs ((after_own IsLimited [] d.views).1 limited) h in
-      let here : is_free d leaves (placed_after h.1) ≡ true = free_unreached h.1.0 h.1.1 h.4 mean fine.command fits in
+      let here : is_free d leaves (placed_after h.1) ≡ true = free_unreached h.1.0 h.1.1 h.4 fine.command fits in
       some_found (λ (stop : Stop). stop.is_free) (λ stop. stop.id) (stops_of d leaves)
       (any_mapped (λ (stop : Stop). stop.is_free) (stop_of d leaves) (leaf_list d.views)
       ∙ ap (list_any (is_free d leaves)) (leaf_list-after d.views are)

@@ -84,7 +84,7 @@ rules_name d =
 over_decides : (target : Node) (before : List Node) (node : Node) → Decides (stands_over target.id before node) (StandsOver target before node)
 over_decides target before node = any_decides (has_id target.id) (λ other. other.id.0 ≡ target.id.0) (λ other. Decides-eqb other.id.0 target.id.0) (node ∷ panes_around before node)
 
-option_over : (o : Option Node) (before : List Node) (node : Node) → Decides (option_stands_over o before node) ((target : Node) × (o ≡ Some target) × StandsOver target before node)
+pub option_over : (o : Option Node) (before : List Node) (node : Node) → Decides (option_stands_over o before node) ((target : Node) × (o ≡ Some target) × StandsOver target before node)
 option_over o before node =
     option_decides (λ o. option_stands_over o before node) (λ target. stands_over target.id before node) (λ target. StandsOver target before node) refl (λ target. refl) (λ target. over_decides target before node) o
 

@@ -6,7 +6,6 @@ use Rattle.std.proofs.lemmas.Bool.{and_parts, eqb-true, false≢true, false_from
 use Rattle.std.proofs.lemmas.Bool.Decides.{Decides-eqb, Decides-int_eq, nat_tests}
 use Rattle.std.proofs.lemmas.Int.{ints}
 use Rattle.std.proofs.lemmas.List.Elements.{All-nil, All-cons, All-head, All-tail}
-use Rattle.std.proofs.lemmas.List.Folds.{Any-from_list_any, list_any-from_Any}
 use Rattle.std.proofs.lemmas.List.Kept.{AllPairs-cons, AllPairs-filter}
 use Rattle.tv_model.specs.declared.node.Id.{Id}
 use Rattle.tv_model.specs.declared.node.Node.{Node}
@@ -21,10 +20,8 @@ use Rattle.tv_model.specs.declared.desc.Version.TheVariants as versions
 use Rattle.tv_model.specs.Description.Letters.{marked_of}
 use Rattle.tv_model.specs.Description.Marks.{marks}
 use Rattle.tv_model.specs.Description.Names.{gives_name, meant}
-use Rattle.tv_model.specs.Description.Nodes.{AreRising, has_id, node_of}
+use Rattle.tv_model.specs.Description.Nodes.{AreRising, node_of}
 use Rattle.tv_model.specs.Description.Numbers.{natural}
-use Rattle.tv_model.specs.Description.Panes.{panes_around}
-use Rattle.tv_model.specs.Description.Rules.{option_stands_over}
 use Rattle.tv_model.specs.Description.Sharing.{Marker, are_apart, is_option_item, is_option_view, is_radios, is_shown_by, item_shown_by, marked_times, markers_of, may_share, separates, sharer_by, sharer_of, sharing_rules, shows_marker}
 use Rattle.tv_model.specs.Faults.Lines.{after_seen}
 use Rattle.tv_machine.specs.Dialog.Lawful.{AreShownApart, Marks, ShowsBy}
@@ -34,10 +31,9 @@ use Rattle.tv_declarations.specs.Spelling.{AreViews}
 use Rattle.tv_faults.specs.Sound.Bodies.{dialog_body}
 use Rattle.tv_faults.specs.Sound.Letters.{HasOwnLetters}
 use Rattle.tv_faults.specs.Sound.Rules.{HasItem, NamesThings}
-use Rattle.tv_faults.proofs.LawfulFocusLemmas.{all_over}
 use Rattle.tv_faults.proofs.LawfulPartLemmas.{marks_some, own_letters}
 use Rattle.tv_faults.proofs.PairLemmas.{pairs_head, pairs_map, pairs_nil, pairs_tail}
-use Rattle.tv_faults.proofs.SeenLemmas.{bool_cases, is_leaf, leaf_list-after, of_any, placed_after}
+use Rattle.tv_faults.proofs.SeenLemmas.{bool_cases, is_leaf, leaf_list-after, placed_after}
 
 -- ---- lists
 
@@ -169,21 +165,6 @@ module _ (views : List Node) (all : All (IsOnly views) views) where
           let own = found_holds (IsOnly views) (gives_name name) views other all found in
           found ∙ ap Some (same_view views other radios own.0 only (eqb-true other.id.0 radios.id.0 is))
 
-  -- what the name means stands over the view, so the view or a pane around it gives the name
-  named_over : (before : List Node) (node : Node) → All (IsOnly views) (node ∷ panes_around before node) → (name : List ℕ)
-      → option_stands_over (meant views name) before node ≡ true → list_any (gives_name name) (node ∷ panes_around before node) ≡ true
-  named_over before node over name stands = at (meant views name) refl stands
-    where
-      at : (o : Option Node) → meant views name ≡ o → option_stands_over o before node ≡ true → list_any (gives_name name) (node ∷ panes_around before node) ≡ true
-      at None found stands = absurd (false≢true stands)
-      at (Some target) found stands =
-          let own = found_holds (IsOnly views) (gives_name name) views target all found in
-          let h = Any-from_list_any (has_id target.id) (node ∷ panes_around before node) stands in
-          let only : IsOnly views h.1 = of_any (IsOnly views) (λ view. has_id target.id view ≡ true) (node ∷ panes_around before node) over h in
-          let same : h.1 ≡ target = same_view views h.1 target only own.0 (eqb-true h.1.id.0 target.id.0 h.4) in
-          list_any-from_Any (gives_name name) (node ∷ panes_around before node)
-          (h.0, h.1, h.2, h.3, subst (λ view. gives_name name view ≡ true) (sym same) own.1)
-
 -- ---- leaves that rules show apart
 
 abbrev pub marker_after : List Node × Node → Marker
@@ -195,26 +176,23 @@ pub record IsShownAt (d : Dialog) (radios : Node) (item : ℤ) (pair : List Node
   pub counted : pos 1 ≤ℤ item
 
 module _ (d : Dialog) (all : All (IsOnly d.views) d.views) (names : All (NamesThings d.views) d.rules) where
-  abbrev pub AreOnlyOver : List Node × Node → Type 0
-  AreOnlyOver pair = All (IsOnly d.views) (pair.1 ∷ panes_around pair.0 pair.1)
-
-  -- the rule shows the leaf by names as it does by ids
-  shows_leaf : (pair : List Node × Node) → AreOnlyOver pair → (effect : Effect) → is_shown_by d.views (marker_after pair) effect ≡ true → IsTrue (shows (placed_after pair) effect)
-  shows_leaf pair over (effects.Show name) shown = named_over d.views all pair.0 pair.1 over name shown
-  shows_leaf pair over (effects.Enable command) shown = absurd (false≢true shown)
+  -- the rule shows the leaf where it shows the marker
+  shows_leaf : (pair : List Node × Node) (effect : Effect) → is_shown_by d.views (marker_after pair) effect ≡ true → IsTrue (shows d.views (placed_after pair) effect)
+  shows_leaf pair (effects.Show name) shown = shown
+  shows_leaf pair (effects.Enable command) shown = shown
 
   module _ (radios : Node) (only : IsOnly d.views radios) where
-    shows_by : (pair : List Node × Node) → AreOnlyOver pair → (rule : Rule) → shows_marker d.views radios (marker_after pair) rule ≡ true → ShowsBy d radios (natural rule.item) (placed_after pair) rule
-    shows_by pair over rule passes =
+    shows_by : (pair : List Node × Node) (rule : Rule) → shows_marker d.views radios (marker_after pair) rule ≡ true → ShowsBy d radios (natural rule.item) (placed_after pair) rule
+    shows_by pair rule passes =
         let h = and_parts (is_option_view radios (meant d.views rule.cluster)) (is_shown_by d.views (marker_after pair) rule.effect) passes in
         record {
-          showing = shows_leaf pair over rule.effect h.1;
+          showing = shows_leaf pair rule.effect h.1;
           cluster = means_radios d.views all radios only rule.cluster h.0;
           marked = refl;
         }
 
-    pub shown_at : (pair : List Node × Node) → AreOnlyOver pair → (item : ℤ) → item_shown_by d.views d.rules radios (marker_after pair) ≡ Some item → IsShownAt d radios item pair
-    shown_at pair over item is = at (find (shows_marker d.views radios (marker_after pair)) d.rules) refl is
+    pub shown_at : (pair : List Node × Node) (item : ℤ) → item_shown_by d.views d.rules radios (marker_after pair) ≡ Some item → IsShownAt d radios item pair
+    shown_at pair item is = at (find (shows_marker d.views radios (marker_after pair)) d.rules) refl is
       where
         at : (o : Option Rule) → find (shows_marker d.views radios (marker_after pair)) d.rules ≡ o → option_map (λ (rule : Rule). rule.item) o ≡ Some item → IsShownAt d radios item pair
         at None found is = absurd cc
@@ -222,18 +200,18 @@ module _ (d : Dialog) (all : All (IsOnly d.views) d.views) (names : All (NamesTh
             let h = found_holds (NamesThings d.views) (shows_marker d.views radios (marker_after pair)) d.rules rule names found in
             let same : rule.item ≡ item = cc in
             let own : ShowsBy d radios (natural item) (placed_after pair) rule =
-            subst (λ n. ShowsBy d radios (natural n) (placed_after pair) rule) same (shows_by pair over rule h.1) in
+            subst (λ n. ShowsBy d radios (natural n) (placed_after pair) rule) same (shows_by pair rule h.1) in
             record {
               shown = found_among (ShowsBy d radios (natural item) (placed_after pair)) (shows_marker d.views radios (marker_after pair)) d.rules rule found own;
               counted = subst (λ n. pos 1 ≤ℤ n) same (from_one rule.item h.0.item.0.kind h.0.item.2);
             }
 
-    shown_apart : is_radios radios.kind ≡ true → (pair other : List Node × Node) → AreOnlyOver pair → AreOnlyOver other
+    shown_apart : is_radios radios.kind ≡ true → (pair other : List Node × Node)
         → DifferentItems (item_shown_by d.views d.rules radios (marker_after pair)) (item_shown_by d.views d.rules radios (marker_after other))
         → AreShownApart d (placed_after pair) (placed_after other)
-    shown_apart kind pair other over over_other differ =
-        let one = shown_at pair over differ.item differ.first in
-        let too = shown_at other over_other differ.other_item differ.second in
+    shown_apart kind pair other differ =
+        let one = shown_at pair differ.item differ.first in
+        let too = shown_at other differ.other_item differ.second in
         record {
           radios = radios;
           kind = kind;
@@ -258,9 +236,6 @@ module _ (d : Dialog) (all : All (IsOnly d.views) d.views) (names : All (NamesTh
   abbrev pairs : List (List Node × Node)
   pairs = after_seen [] d.views
 
-  over : All AreOnlyOver pairs
-  over = all_over (IsOnly d.views) [] d.views (All-nil (IsOnly d.views)) all
-
   module _ (letter : ℕ) (radios : Node) where
     abbrev markers : List Marker
     markers = markers_of d.views letter
@@ -279,7 +254,6 @@ module _ (d : Dialog) (all : All (IsOnly d.views) d.views) (names : All (NamesTh
         let kept : AllPairs Differ (filter (marking letter) pairs) =
         (pairs_map (λ one other. DifferentItems (item_at one) (item_at other)) marker_after (filter (marking letter) pairs)).0 items in
         shown_apart radios only own.0 (get_or pairs i pair) (get_or pairs j pair)
-        (over i pair (omega (arith, less, within))) (over j pair within)
         (pairs_passing (marking letter) Differ pairs kept i j pair less within
         (is_marking letter (get_or pairs i pair).1 one) (is_marking letter (get_or pairs j pair).1 other))
 

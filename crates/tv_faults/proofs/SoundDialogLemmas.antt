@@ -2,7 +2,7 @@
 use Rattle.std.proofs.Common.{◌≡◌, ◌∙◌, ℕ, false, IsTrue, if◌then◌else◌, List, [], ◌∷◌, ◌++◌, map, filter, find, get_or, Some, refl, sym, ap, subst}
 use Rattle.std.specs.List.{All, AllPairs}
 use Rattle.std.proofs.lemmas.Bool.{false_from_ne_true}
-use Rattle.std.proofs.lemmas.List.Elements.{All-nil, All-cons, All-filter, All-from_recursion, All-head, All-map, All-tail}
+use Rattle.std.proofs.lemmas.List.Elements.{All-nil, All-cons, All-filter, All-from_recursion, All-map, All-tail}
 use Rattle.tv_model.specs.declared.node.Node.{Node}
 use Rattle.tv_model.specs.declared.desc.Desc.{Desc}
 use Rattle.tv_model.specs.declared.desc.Dialog.{Dialog}
@@ -11,7 +11,6 @@ use Rattle.tv_model.specs.declared.desc.Effect.{Effect}
 use Rattle.tv_model.specs.declared.desc.Effect.TheVariants as effects
 use Rattle.tv_model.specs.Description.LawfulNodes.{HasLawfulStart, IsNarrowNode}
 use Rattle.tv_model.specs.Description.Names.{gives_name, meant}
-use Rattle.tv_model.specs.Description.Panes.{panes_around}
 use Rattle.tv_model.specs.Faults.{IsSound}
 use Rattle.tv_model.specs.Faults.Lines.{after_seen}
 use Rattle.tv_machine.specs.Dialog.Rules.{shows}
@@ -24,7 +23,7 @@ use Rattle.tv_faults.specs.Sound.Rules.{NamesThings, ShowsOther, meant_after}
 use Rattle.tv_faults.specs.Usable.{IsUsableDialog}
 use Rattle.tv_faults.proofs.LackLemmas.{bodies}
 use Rattle.tv_faults.proofs.LawfulDialogLemmas.{lawful_dialogs}
-use Rattle.tv_faults.proofs.LawfulFocusLemmas.{AllOver, MeansItself, all_mean, all_over, not_shown}
+use Rattle.tv_faults.proofs.LawfulFocusLemmas.{MeansItself, all_mean, not_shown}
 use Rattle.tv_faults.proofs.LawfulPartLemmas.{names_cluster}
 use Rattle.tv_faults.proofs.LimitLemmas.{OfBody, nodes_iff}
 use Rattle.tv_faults.proofs.NameLemmas.{gives_decides}
@@ -55,36 +54,32 @@ all_found seen (view ∷ views) apart =
     ∙ all_found (seen ++ view ∷ []) views (pairs_tail HaveOtherNames view views apart) k other less name has)
 
 -- a view of the rule's own name is one that the rule doesn't show
-abbrev IsSpared : Rule → PlacedNode → Type 0
-IsSpared rule leaf = IsTrue (gives_name rule.cluster leaf.node) → shows leaf rule.effect ≡ false
+abbrev IsSpared : List Node → Rule → PlacedNode → Type 0
+IsSpared views rule leaf = IsTrue (gives_name rule.cluster leaf.node) → shows views leaf rule.effect ≡ false
 
 module _ (views : List Node) (rule : Rule) (names : NamesThings views rule) (others : ShowsOther views rule) where
-  spares : (before : List Node) (node : Node) → All (MeansItself views) (node ∷ panes_around before node)
-      → meant views rule.cluster ≡ Some node → meant_after views rule.cluster ≡ Some (before, node)
-      → (effect : Effect) → rule.effect ≡ effect → shows (placed_after (before, node)) effect ≡ false
-  spares before node mean there found (effects.Enable command) is = refl
-  spares before node mean there found (effects.Show name) is =
-      not_shown views before node (effects.Show name) mean (λ reached.
+  spares : (before : List Node) (node : Node) → meant views rule.cluster ≡ Some node → meant_after views rule.cluster ≡ Some (before, node)
+      → (effect : Effect) → rule.effect ≡ effect → shows views (placed_after (before, node)) effect ≡ false
+  spares before node there found (effects.Enable command) is = refl
+  spares before node there found (effects.Show name) is =
+      not_shown views before node (effects.Show name) (λ reached.
       others name reached.0 before node is reached.1 found (names_cluster views rule names node there) reached.2)
 
   leaves_spared : AreViews 0 views → AllPairs HaveOtherNames views
-      → All (IsSpared rule) (map placed_after (filter is_leaf (after_seen [] views)))
+      → All (IsSpared views rule) (map placed_after (filter is_leaf (after_seen [] views)))
   leaves_spared are apart =
       let pairs = after_seen [] views in
-      let mean : All (AllOver (MeansItself views)) pairs =
-      all_over (MeansItself views) [] views (All-nil (MeansItself views)) (all_mean views apart) in
-      All-map (IsSpared rule) placed_after (filter is_leaf pairs)
-      (All-filter is_leaf (λ pair. IsSpared rule (placed_after pair)) pairs (λ k pair less named.
+      let mean : All (λ pair. MeansItself views pair.1) pairs = (after_own (MeansItself views) [] views).1 (all_mean views apart) in
+      All-map (IsSpared views rule) placed_after (filter is_leaf pairs)
+      (All-filter is_leaf (λ pair. IsSpared views rule (placed_after pair)) pairs (λ k pair less named.
       let at : List Node × Node = get_or pairs k pair in
-      let over : All (MeansItself views) (at.1 ∷ panes_around at.0 at.1) = mean k pair less in
       let has : HasName at.1 rule.cluster = (gives_decides rule.cluster at.1).0 named in
-      spares at.0 at.1 over (All-head (MeansItself views) at.1 (panes_around at.0 at.1) over rule.cluster has)
-      (all_found [] views apart k pair less rule.cluster has) rule.effect refl))
+      spares at.0 at.1 (mean k pair less rule.cluster has) (all_found [] views apart k pair less rule.cluster has) rule.effect refl))
 
 shows_others : (d : Dialog) (rule : Rule) → AreViews 0 d.views → AllPairs HaveOtherNames d.views
     → NamesThings d.views rule → ShowsOther d.views rule → ShowsOthers d rule
 shows_others d rule are apart names others =
-    subst (All (IsSpared rule)) (sym (leaf_list-after d.views are)) (leaves_spared d.views rule names others are apart)
+    subst (All (IsSpared d.views rule)) (sym (leaf_list-after d.views are)) (leaves_spared d.views rule names others are apart)
 
 -- ---- the whole
 

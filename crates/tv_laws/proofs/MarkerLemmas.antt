@@ -1,10 +1,8 @@
 -- Markers of a letter: no more than one is visible, and the lines of a certificate that hold are that one's.
-use Rattle.std.proofs.Common.{◌≡◌, ℕ, Bool, true, false, cond, not, ◌&&◌, ◌||◌, ◌==◌, if◌then◌else◌, List, [], ◌∷◌, filter, find, get_or, Option, Some, None, is_some, refl, sym, ap, subst, ◌∙◌, All, AllPairs, IsTrue, arith}
-use Rattle.std.specs.Prelude.{Any}
+use Rattle.std.proofs.Common.{◌≡◌, ℕ, Bool, true, false, cond, ◌&&◌, ◌==◌, if◌then◌else◌, List, [], ◌∷◌, filter, find, get_or, Option, Some, None, is_some, refl, sym, ap, subst, ◌∙◌, All, AllPairs, IsTrue, arith}
 use Rattle.std.proofs.lemmas.Bool.{and_parts, eqb-true, false_from_ne_true, false≢true, true≢false}
 use Rattle.std.proofs.lemmas.List.Elements.{All-cons, All-filter, All-head, All-nil, All-tail, filter_passes}
 use Rattle.std.proofs.lemmas.List.Kept.{AllPairs-filter}
-use Rattle.std.proofs.lemmas.List.Sums.{AllPass-from_list_all}
 use Rattle.tv_model.specs.declared.node.Node.{Node}
 use Rattle.tv_model.specs.declared.kind.Kind.{Kind}
 use Rattle.tv_model.specs.declared.kind.Kind.TheVariants as kinds
@@ -25,12 +23,12 @@ use Rattle.tv_machine.specs.Leaves.{PlacedNode, leaf_list, leaves_in, open_after
 use Rattle.tv_machine.specs.Safe.{HasValueOf}
 use Rattle.tv_machine.specs.Dialog.Lawful.{AreShownApart, IsLawfulDialog, ShowsBy}
 use Rattle.tv_machine.specs.Dialog.Modal.{Modal, content_at}
-use Rattle.tv_machine.specs.Dialog.Rules.{content_held, holds, is_among, is_marked_at, is_visible, shows, state_of}
+use Rattle.tv_machine.specs.Dialog.Rules.{content_held, is_among, is_marked_at, is_visible, state_of}
 use Rattle.tv_machine.specs.Dialog.Shortcuts.{HaveOneMarker, act_on, is_visible_marker, marker_among, marking_leaf, marking_leaves}
 use Rattle.tv_machine.proofs.LeafLemmas.{IsIn, leaf_at-member}
 use Rattle.tv_machine.proofs.ListLemmas.{bool_cases, find-none, found-all, pairs-head, pairs-tail}
 use Rattle.tv_machine.proofs.MarkLemmas.{value_by}
-use Rattle.tv_machine.proofs.SharedLemmas.{acts_visible, one_visible}
+use Rattle.tv_machine.proofs.SharedLemmas.{acts_visible, one_visible, visible_marked}
 use Rattle.tv_laws.specs.Fit.{IsFitContent, IsStanding}
 use Rattle.tv_laws.specs.Letters.{AreLinesOf, AreOtherItems, HasLines, HasLinesOf, HiddenActsOnNone, IsLineOf, IsShownWhen, MarksOnce, UnnamedActsOnNone, VisibleIsMarker, holds_now, lines_now}
 use Rattle.tv_laws.specs.Sound.{IsSoundDialog}
@@ -166,26 +164,11 @@ module _ (d : Dialog) (leaves : List LeafState) where
 -- ---- the lines that hold
 
 module _ (d : Dialog) (leaves : List LeafState) where
-  -- while the leaf is visible, the item by which it is shown is marked
-  visible_marked : (radios : Node) (leaf : PlacedNode) (item : ℕ) → Any (ShowsBy d radios item leaf) d.rules → is_visible d leaves leaf ≡ true
-      → is_marked (content_held leaves [] radios.id).value item ≡ true
-  visible_marked radios leaf item shown visible =
-      let rule : Rule = shown.1 in
-      let s : ShowsBy d radios item leaf rule = shown.4 in
-      let passes : (not (shows leaf rule.effect) || holds d leaves rule) ≡ true =
-      subst (λ r. (not (shows leaf r.effect) || holds d leaves r) ≡ true) shown.3
-      (AllPass-from_list_all (λ r. not (shows leaf r.effect) || holds d leaves r) d.rules visible shown.0 rule shown.2) in
-      let marked : is_marked_at leaves (natural rule.item) (meant d.views rule.cluster) ≡ true =
-      subst (λ b. (not b || holds d leaves rule) ≡ true) s.showing passes in
-      let by : is_marked_at leaves (natural rule.item) (Some radios) ≡ true =
-      subst (λ o. is_marked_at leaves (natural rule.item) o ≡ true) s.cluster marked in
-      subst (λ n. is_marked (content_held leaves [] radios.id).value n ≡ true) s.marked by
-
-  -- so the line of a visible marker holds
+  -- the line of a visible marker holds
   visible_holds : (leaf : PlacedNode) (o : Option When) → IsShownWhen d leaf o → is_visible d leaves leaf ≡ true → holds_now d leaves o ≡ true
   visible_holds leaf None by visible = refl
   visible_holds leaf (Some shown) by visible =
-      ap (is_marked_at leaves (natural shown.item)) by.named ∙ visible_marked by.radios leaf (natural shown.item) by.rule visible
+      ap (is_marked_at leaves (natural shown.item)) by.named ∙ visible_marked d leaves by.radios leaf (natural shown.item) by.rule visible
 
   abbrev Now : KeyOwner → Bool
   Now line = holds_now d leaves line.when

@@ -1,5 +1,5 @@
 -- An open dialog stays as it must be where one of its leaves holds something else, and where the focus moves.
-use Rattle.std.proofs.Common.{◌≡◌, Bool, true, false, cond, not, ◌&&◌, ◌||◌, ◌==◌, ℕ, if◌then◌else◌, List, [], ◌∷◌, map, filter, find, get_or, Option, Some, None, option_map, refl, sym, ap, subst, ◌∙◌, All, IsTrue}
+use Rattle.std.proofs.Common.{◌≡◌, Bool, true, false, cond, not, ◌&&◌, ◌||◌, ◌==◌, ℕ, nat_lt, if◌then◌else◌, List, [], ◌∷◌, map, filter, find, get_or, Option, Some, None, option_map, refl, sym, ap, subst, ◌∙◌, All, IsTrue}
 use Rattle.std.proofs.lemmas.Bool.{false≢true, true≢false, or_right, false_from_ne_true}
 use Rattle.std.proofs.lemmas.List.Elements.{All-nil, All-cons, All-head, All-tail}
 use Rattle.tv_model.specs.declared.node.Id.{Id}
@@ -101,21 +101,22 @@ module _ (d : Dialog) (sound : IsSoundDialog d) where
         ap (gives_name name) (sym same) ∙ found-passes (gives_name name) d.views node named
 
     -- a rule that shows the leaf goes by another cluster
-    rule_same : (rule : Rule) → (IsTrue (gives_name rule.cluster leaf.node) → shows leaf rule.effect ≡ false)
-        → (not (shows leaf rule.effect) || holds d m.leaves rule) ≡ (not (shows leaf rule.effect) || holds d changed rule)
+    rule_same : (rule : Rule) → (IsTrue (gives_name rule.cluster leaf.node) → shows d.views leaf rule.effect ≡ false)
+        → (not (shows d.views leaf rule.effect) || holds d m.leaves rule) ≡ (not (shows d.views leaf rule.effect) || holds d changed rule)
     rule_same rule others =
-        bool_cases (shows leaf rule.effect) (λ b. (not b || holds d m.leaves rule) ≡ (not b || holds d changed rule))
+        bool_cases (shows d.views leaf rule.effect) (λ b. (not b || holds d m.leaves rule) ≡ (not b || holds d changed rule))
         (λ shown.
-        option_cases (meant d.views rule.cluster) (λ o. is_marked_at m.leaves (natural rule.item) o ≡ is_marked_at changed (natural rule.item) o)
+        ap (λ b. nat_lt 0 (natural rule.item) && b)
+        (option_cases (meant d.views rule.cluster) (λ o. is_marked_at m.leaves (natural rule.item) o ≡ is_marked_at changed (natural rule.item) o)
         (λ none. refl)
         (λ node named. marked_other (natural rule.item) node
-        (false_from_ne_true (node.id.0 == i.0) (λ here. true≢false (sym shown ∙ others (named_itself rule.cluster node named here))))))
+        (false_from_ne_true (node.id.0 == i.0) (λ here. true≢false (sym shown ∙ others (named_itself rule.cluster node named here)))))))
         (λ hidden. refl)
 
     own-visible : is_visible d m.leaves leaf ≡ is_visible d changed leaf
     own-visible =
-        all-same (λ rule. not (shows leaf rule.effect) || holds d m.leaves rule) (λ rule. not (shows leaf rule.effect) || holds d changed rule) d.rules
-        (λ k e h. rule_same (get_or d.rules k e) (leaf_at-all (λ x. IsTrue (gives_name (get_or d.rules k e).cluster x.node) → shows x (get_or d.rules k e).effect ≡ false) d i leaf (sound.shown k e h) there))
+        all-same (λ rule. not (shows d.views leaf rule.effect) || holds d m.leaves rule) (λ rule. not (shows d.views leaf rule.effect) || holds d changed rule) d.rules
+        (λ k e h. rule_same (get_or d.rules k e) (leaf_at-all (λ x. IsTrue (gives_name (get_or d.rules k e).cluster x.node) → shows d.views x (get_or d.rules k e).effect ≡ false) d i leaf (sound.shown k e h) there))
 
     cluster_enabled : (k : Kind) (a b : List LeafState) → is_cluster k ≡ true → is_kind_enabled d a k ≡ is_kind_enabled d b k
     cluster_enabled (kinds.CheckBoxes boxes) a b is = refl

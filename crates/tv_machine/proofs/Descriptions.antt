@@ -121,6 +121,17 @@ hidden_button = one_dialog (dialog 5
     ∷ [])
     (rule 9 (effects.Show (codes "b")) "k" 1 ∷ []))
 
+-- check boxes `k` show the first of two buttons `b`; a rule on item 0, which there isn't, shows the button `z`
+abbrev pub namesakes : Desc
+namesakes = one_dialog (dialog 5
+    (view 6 0 1 1 12 (check "Show")
+    ∷ view 7 0 1 3 10 (button "b" "Press" (commands.Number (pos 120)))
+    ∷ view 8 0 12 3 10 (button "b" "Again" (commands.Number (pos 121)))
+    ∷ view 9 0 1 4 10 (button "z" "Zero" (commands.Number (pos 122)))
+    ∷ view 10 0 12 6 10 (button "c" "Cancel" commands.Cancel)
+    ∷ [])
+    (rule 11 (effects.Show (codes "b")) "k" 1 ∷ rule 12 (effects.Show (codes "z")) "k" 0 ∷ []))
+
 -- radio buttons `r` show the input `i` before them by their second item, the first being marked
 abbrev pub hidden_first : Desc
 hidden_first = one_dialog (dialog 5

@@ -1,5 +1,5 @@
 -- What rules make of leaves doesn't change where no cluster has other items marked.
-use Rattle.std.proofs.Common.{◌≡◌, Bool, false, not, ◌&&◌, ◌||◌, ◌==◌, ℕ, if◌then◌else◌, List, find, get_or, Option, Some, None, option_map, refl, sym, ap, ◌∙◌, IsTrue}
+use Rattle.std.proofs.Common.{◌≡◌, Bool, false, not, nat_lt, ◌&&◌, ◌||◌, ◌==◌, ℕ, if◌then◌else◌, List, find, get_or, Option, Some, None, option_map, refl, sym, ap, ◌∙◌, IsTrue}
 use Rattle.std.proofs.lemmas.Bool.{false≢true, false_from_ne_true}
 use Rattle.tv_model.specs.declared.node.Id.{Id}
 use Rattle.tv_model.specs.declared.node.Node.{Node}
@@ -32,9 +32,9 @@ hold-then d leaves mid other p q = λ k e h. p k e h ∙ q k e h
 module _ (d : Dialog) (leaves other : List LeafState) (same : HoldSame d leaves other) where
   pub visible-same : (leaf : PlacedNode) → is_visible d leaves leaf ≡ is_visible d other leaf
   visible-same leaf =
-      all-same (λ rule. not (shows leaf rule.effect) || holds d leaves rule)
-      (λ rule. not (shows leaf rule.effect) || holds d other rule) d.rules
-      (λ k e h. ap (λ b. not (shows leaf (get_or d.rules k e).effect) || b) (same k e h))
+      all-same (λ rule. not (shows d.views leaf rule.effect) || holds d leaves rule)
+      (λ rule. not (shows d.views leaf rule.effect) || holds d other rule) d.rules
+      (λ k e h. ap (λ b. not (shows d.views leaf (get_or d.rules k e).effect) || b) (same k e h))
 
   pub command-same : (number : ℕ) → is_command_enabled d leaves number ≡ is_command_enabled d other number
   command-same number =
@@ -66,7 +66,9 @@ module _ (d : Dialog) (lawful : IsLawfulDialog d) (m : Modal) (leaves : HasLeave
 
   -- with the same items marked
   pub hold-changed : ((item : ℕ) → is_marked (content_at m i).value item ≡ is_marked c.value item) → HoldSame d m.leaves changed
-  hold-changed marks = λ k e h. at (natural (get_or d.rules k e).item) (meant d.views (get_or d.rules k e).cluster)
+  hold-changed marks = λ k e h.
+      let item = natural (get_or d.rules k e).item in
+      ap (λ b. nat_lt 0 item && b) (at item (meant d.views (get_or d.rules k e).cluster))
     where
       held : (item : ℕ) (j : Id) (s : LeafState) → state_of m.leaves j ≡ Some s → s.id ≡ j
           → is_marked s.value item ≡ is_marked (holding i c s).value item
@@ -94,11 +96,12 @@ module _ (d : Dialog) (lawful : IsLawfulDialog d) (m : Modal) (leaves : HasLeave
   -- where it is no cluster
   pub hold-unclustered : (leaf : PlacedNode) → leaf_at d i ≡ Some leaf → is_cluster leaf.node.kind ≡ false → HoldSame d m.leaves changed
   hold-unclustered leaf found no_cluster = λ k e h.
-      option_cases (meant d.views (get_or d.rules k e).cluster)
+      ap (λ b. nat_lt 0 (natural (get_or d.rules k e).item) && b)
+      (option_cases (meant d.views (get_or d.rules k e).cluster)
       (λ o. is_marked_at m.leaves (natural (get_or d.rules k e).item) o ≡ is_marked_at changed (natural (get_or d.rules k e).item) o)
       (λ none. refl)
       (λ node named. at (natural (get_or d.rules k e).item) node
-      (other (get_or d.rules k e) node named (lawful.rules k e h node named)))
+      (other (get_or d.rules k e) node named (lawful.rules k e h node named))))
     where
       -- the node that a rule names isn't the leaf's
       other : (rule : Rule) (node : Node) → meant d.views rule.cluster ≡ Some node → IsTrue (is_cluster node.kind)

@@ -13,7 +13,7 @@ use Rattle.tv_model.specs.declared.script.Item.TheVariants as items
 use Rattle.tv_model.specs.Log.LogText.{line_of}
 use Rattle.tv_machine.specs.Run.{started}
 use Rattle.tv_machine.specs.Output.{output, screen_cell}
-use Rattle.tv_machine.proofs.Descriptions.{shown_pane, hidden_input, hidden_button, hidden_first, closed_dialog, quitting, two_windows}
+use Rattle.tv_machine.proofs.Descriptions.{shown_pane, hidden_input, hidden_button, namesakes, hidden_first, closed_dialog, quitting, two_windows}
 
 -- one name to unfold where a text is computed
 unfoldable written : Unit {0}
@@ -73,6 +73,18 @@ letter_leaves_hidden_button : output (started hidden_button) (alt 80 ∷ space �
     ("open d" ∷ "focus k" ∷ "press b" ∷ "command 120" ∷ [])
 unfolding written
 letter_leaves_hidden_button = refl
+
+-- a rule shows the first view of its name, and hides none of the others
+namesake_stays_shown : output (started namesakes) (key keys.Tab ∷ key keys.Tab ∷ key keys.Tab ∷ []) ≡ text
+    ("open d" ∷ "focus k" ∷ "focus b" ∷ "focus c" ∷ "focus k" ∷ [])
+unfolding written
+namesake_stays_shown = refl
+
+-- a rule on an item that isn't there never holds
+no_item_is_the_first : output (started namesakes) (space ∷ key keys.Tab ∷ key keys.Tab ∷ key keys.Tab ∷ key keys.Tab ∷ []) ≡ text
+    ("open d" ∷ "focus k" ∷ "focus b" ∷ "focus b" ∷ "focus c" ∷ "focus k" ∷ [])
+unfolding written
+no_item_is_the_first = refl
 
 -- `ok` asks hidden inputs too, and then the focus stays where it is
 ok_asks_hidden_inputs : output (started hidden_input) (alt 79 ∷ key keys.Esc ∷ []) ≡ text

@@ -1,6 +1,6 @@
 -- A letter that two markers share, shown by a run that another rule would change.
 use Prim.Native.String.{String}
-use Rattle.std.specs.Prelude.{[], ◌≡◌, ℕ, Bool, true, false, List, ◌∷◌, ◌++◌, flat_map, codes, pos, Some}
+use Rattle.std.specs.Prelude.{[], ◌≡◌, ℕ, true, false, List, ◌∷◌, ◌++◌, flat_map, codes, pos}
 use Rattle.std.proofs.Common.{refl}
 use Rattle.std.specs.Char.{encode_utf8}
 use Rattle.std.specs.Fmt.{digits}
@@ -8,15 +8,11 @@ use Rattle.unicode_width.specs.Width.{char_width}
 use Rattle.tv_event.specs.declared.event.Event.TheVariants as events
 use Rattle.tv_event.specs.declared.event.Key.{Key}
 use Rattle.tv_event.specs.declared.event.Key.TheVariants as keys
-use Rattle.tv_model.specs.declared.command.CommandSpec.{CommandSpec}
 use Rattle.tv_model.specs.declared.command.CommandSpec.TheVariants as commands
-use Rattle.tv_model.specs.declared.desc.Desc.{Desc}
-use Rattle.tv_model.specs.declared.desc.Dialog.{Dialog}
 use Rattle.tv_model.specs.declared.desc.Effect.TheVariants as effects
 use Rattle.tv_model.specs.declared.desc.Rule.{Rule}
 use Rattle.tv_model.specs.declared.kind.Kind.{Kind}
 use Rattle.tv_model.specs.declared.kind.Kind.TheVariants as kinds
-use Rattle.tv_model.specs.declared.kind.MarkedText.{MarkedText}
 use Rattle.tv_model.specs.declared.node.Node.{Node}
 use Rattle.tv_model.specs.declared.script.Item.{Item}
 use Rattle.tv_model.specs.declared.script.Item.TheVariants as items

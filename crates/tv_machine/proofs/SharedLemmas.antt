@@ -1,7 +1,7 @@
 -- Of two leaves that rules of the same radio buttons show by different items, no more than one is visible.
-use Rattle.std.proofs.Common.{if◌then◌else◌, ◌≡◌, ◌≢◌, ℕ, Bool, true, false, not, ◌||◌, ◌&&◌, List, [], ◌∷◌, Option, Some, None, refl, sym, ap, ◌∙◌, subst}
-use Rattle.std.specs.Prelude.{Any, filter, find, is_some}
-use Rattle.std.proofs.lemmas.Bool.{eqb-true}
+use Rattle.std.proofs.Common.{if◌then◌else◌, ◌≡◌, ℕ, Bool, true, not, ◌||◌, ◌&&◌, List, [], ◌∷◌, Some, None, refl, sym, ap, ◌∙◌, subst}
+use Rattle.std.specs.Prelude.{Any, filter, find, is_some, nat_lt}
+use Rattle.std.proofs.lemmas.Bool.{and_parts, eqb-true}
 use Rattle.std.proofs.lemmas.List.Sums.{AllPass-from_list_all}
 use Rattle.tv_model.specs.declared.node.Node.{Node}
 use Rattle.tv_model.specs.declared.record.Value.TheVariants as values
@@ -21,16 +21,18 @@ use Rattle.tv_machine.proofs.ListLemmas.{bool_cases}
 
 module _ (d : Dialog) (leaves : List LeafState) (radios : Node) where
   -- while the leaf is visible, the item by which it is shown is marked
-  visible_marked : (leaf : PlacedNode) (item : ℕ) → Any (ShowsBy d radios item leaf) d.rules → is_visible d leaves leaf ≡ true
+  pub visible_marked : (leaf : PlacedNode) (item : ℕ) → Any (ShowsBy d radios item leaf) d.rules → is_visible d leaves leaf ≡ true
       → is_marked (content_held leaves [] radios.id).value item ≡ true
   visible_marked leaf item shown visible =
       let rule : Rule = shown.1 in
       let s : ShowsBy d radios item leaf rule = shown.4 in
-      let passes : (not (shows leaf rule.effect) || holds d leaves rule) ≡ true =
-      subst (λ r. (not (shows leaf r.effect) || holds d leaves r) ≡ true) shown.3
-      (AllPass-from_list_all (λ r. not (shows leaf r.effect) || holds d leaves r) d.rules visible shown.0 rule shown.2) in
-      let marked : is_marked_at leaves (natural rule.item) (meant d.views rule.cluster) ≡ true =
+      let passes : (not (shows d.views leaf rule.effect) || holds d leaves rule) ≡ true =
+      subst (λ r. (not (shows d.views leaf r.effect) || holds d leaves r) ≡ true) shown.3
+      (AllPass-from_list_all (λ r. not (shows d.views leaf r.effect) || holds d leaves r) d.rules visible shown.0 rule shown.2) in
+      let held : holds d leaves rule ≡ true =
       subst (λ b. (not b || holds d leaves rule) ≡ true) s.showing passes in
+      let marked : is_marked_at leaves (natural rule.item) (meant d.views rule.cluster) ≡ true =
+      (and_parts (nat_lt 0 (natural rule.item)) (is_marked_at leaves (natural rule.item) (meant d.views rule.cluster)) held).1 in
       let by : is_marked_at leaves (natural rule.item) (Some radios) ≡ true =
       subst (λ o. is_marked_at leaves (natural rule.item) o ≡ true) s.cluster marked in
       subst (λ n. is_marked (content_held leaves [] radios.id).value n ≡ true) s.marked by

@@ -6,7 +6,7 @@ use Rattle.std.specs.List.{cons_option, list_any, position_or_len}
 use Rattle.std.proofs.lemmas.Bool.{and_parts, false≢true, false_from_ne_true}
 use Rattle.std.proofs.lemmas.Bool.Decides.{nat_tests}
 use Rattle.std.proofs.lemmas.List.{length-map}
-use Rattle.std.proofs.lemmas.List.Elements.{All-cons, All-filter, All-head, All-nil, All-tail, filter_passes}
+use Rattle.std.proofs.lemmas.List.Elements.{All-cons, All-head, All-nil, All-tail, filter_passes}
 use Rattle.std.proofs.lemmas.List.Kept.{AllPairs-cons}
 use Rattle.std.proofs.lemmas.Slice.Eq.{bytes_eq-Decides}
 use Rattle.tv_model.specs.declared.node.Node.{Node}
@@ -33,11 +33,10 @@ use Rattle.tv_declarations.specs.Spelling.{AreViews}
 use Rattle.tv_faults.specs.Sound.Bodies.{dialog_body}
 use Rattle.tv_faults.specs.Sound.Letters.{HasOwnLetters}
 use Rattle.tv_faults.specs.Sound.Rules.{NamesThings}
-use Rattle.tv_faults.proofs.LawfulFocusLemmas.{all_over}
 use Rattle.tv_faults.proofs.LawfulPartLemmas.{own_letters}
 use Rattle.tv_faults.proofs.PairLemmas.{all_map, pairs_head, pairs_map, pairs_nil, pairs_tail}
 use Rattle.tv_faults.proofs.SeenLemmas.{is_leaf, leaf_list-after, placed_after}
-use Rattle.tv_faults.proofs.SharedLetterLemmas.{AreOnlyOver, DifferentItems, IsOnly, IsShownAt, all_only, differ_apart, found_holds, is_marking, marker_after, marking, natural_apart, shown_at}
+use Rattle.tv_faults.proofs.SharedLetterLemmas.{DifferentItems, IsOnly, IsShownAt, all_only, differ_apart, found_holds, is_marking, marker_after, marking, natural_apart, shown_at}
 use Rattle.tv_laws.specs.Letters.{AreLinesOf, AreOtherItems, HasLines, HasLinesOf, IsShownWhen}
 use Rattle.tv_laws.proofs.KeyLaws.LetterLemmas.{lines-alone}
 
@@ -91,9 +90,6 @@ Seen = List Node × Node
 
 module _ (d : Dialog) (all : All (IsOnly d.views) d.views) (names : All (NamesThings d.views) d.rules) (letter : ℕ)
     (radios : Node) (only : IsOnly d.views radios) (kind : IsTrue (is_radios radios.kind)) where
-  abbrev IsOver : Seen → Type 0
-  IsOver pair = AreOnlyOver d all names pair
-
   abbrev is_marked_by : Seen → Bool
   is_marked_by pair = marking d all names letter pair
 
@@ -122,9 +118,9 @@ module _ (d : Dialog) (all : All (IsOnly d.views) d.views) (names : All (NamesTh
   named-so (Some given) name is = ap (λ n. Some n) ((bytes_eq-Decides given name).0 is)
 
   -- the marker is shown by the item of its line
-  shown-when : (pair : Seen) → IsOver pair → HasItemOf pair → IsShownWhen d (placed_after pair) (when_from (name_of radios.kind) (item_of pair))
-  shown-when pair over has =
-      let at : IsShownAt d radios has.0 pair = shown_at d all names radios only pair over has.0 has.1 in
+  shown-when : (pair : Seen) → HasItemOf pair → IsShownWhen d (placed_after pair) (when_from (name_of radios.kind) (item_of pair))
+  shown-when pair has =
+      let at : IsShownAt d radios has.0 pair = shown_at d all names radios only pair has.0 has.1 in
       let rule : Rule = at.shown.1 in
       let by : ShowsBy d radios (natural has.0) (placed_after pair) rule = at.shown.4 in
       let named : name_of radios.kind ≡ Some rule.cluster = named-so (name_of radios.kind) rule.cluster (found-passes (gives_name rule.cluster) d.views radios by.cluster) in
@@ -132,14 +128,14 @@ module _ (d : Dialog) (all : All (IsOnly d.views) d.views) (names : All (NamesTh
       (subst (λ o. IsShownWhen d (placed_after pair) (when_from (Some rule.cluster) o)) (sym has.1)
       (record { radios = radios; named = by.cluster; kind = kind; rule = at.shown }))
 
-  lines_are : (pairs : List Seen) → All IsOver pairs → All HasItemOf (filter is_marked_by pairs)
+  lines_are : (pairs : List Seen) → All HasItemOf (filter is_marked_by pairs)
       → AreLinesOf d letter (lines_in (filter is_marked_by pairs)) (filter marks_it (map placed_after (filter is_leaf pairs)))
-  lines_are [] over has = tt
-  lines_are (pair ∷ pairs) over has =
+  lines_are [] has = tt
+  lines_are (pair ∷ pairs) has =
       let kept : List Seen = filter is_marked_by pairs in
       let leaves : List Seen = filter is_leaf pairs in
       let later : All HasItemOf kept → AreLinesOf d letter (lines_in kept) (filter marks_it (map placed_after leaves)) =
-      lines_are pairs (All-tail IsOver pair pairs over) in
+      lines_are pairs in
       option_cases (owner_by letter pair.1.kind)
       (λ o. owner_by letter pair.1.kind ≡ o → AreLinesOf d letter (lines_in (filter is_marked_by (pair ∷ pairs))) (filter marks_it (map placed_after (filter is_leaf (pair ∷ pairs)))))
       (λ none e.
@@ -155,7 +151,7 @@ module _ (d : Dialog) (all : All (IsOnly d.views) d.views) (names : All (NamesTh
       subst (λ b. AreLinesOf d letter (lines_in (cond b (pair ∷ kept) kept)) (filter marks_it (map placed_after (filter is_leaf (pair ∷ pairs))))) (sym marked)
       (subst (λ b. AreLinesOf d letter (lines_in (pair ∷ kept)) (filter marks_it (map placed_after (cond b (pair ∷ leaves) leaves)))) (sym leaf)
       (subst (λ o. AreLinesOf d letter (cons_option (option_map (line_of pair) o) (lines_in kept)) (cond (is_some o) (placed_after pair ∷ filter marks_it (map placed_after leaves)) (filter marks_it (map placed_after leaves)))) (sym e)
-      (record { owner = e; when = shown-when pair (All-head IsOver pair pairs over) (All-head HasItemOf pair kept items) }, later (All-tail HasItemOf pair kept items)))))
+      (record { owner = e; when = shown-when pair (All-head HasItemOf pair kept items) }, later (All-tail HasItemOf pair kept items)))))
       refl
 
   -- a line for each of some markers
@@ -170,11 +166,11 @@ module _ (d : Dialog) (all : All (IsOnly d.views) d.views) (names : All (NamesTh
   Differ pair other = DifferentItems (item_of pair) (item_of other)
 
   -- different items of the same radio buttons
-  other-items : (pair other : Seen) → IsOver pair → IsOver other → Differ pair other
+  other-items : (pair other : Seen) → Differ pair other
       → AreOtherItems (when_from (name_of radios.kind) (item_of pair)) (when_from (name_of radios.kind) (item_of other))
-  other-items pair other over over_other differ =
-      let one : IsShownAt d radios differ.item pair = shown_at d all names radios only pair over differ.item differ.first in
-      let two : IsShownAt d radios differ.other_item other = shown_at d all names radios only other over_other differ.other_item differ.second in
+  other-items pair other differ =
+      let one : IsShownAt d radios differ.item pair = shown_at d all names radios only pair differ.item differ.first in
+      let two : IsShownAt d radios differ.other_item other = shown_at d all names radios only other differ.other_item differ.second in
       let rule : Rule = one.shown.1 in
       let by : ShowsBy d radios (natural differ.item) (placed_after pair) rule = one.shown.4 in
       let named : name_of radios.kind ≡ Some rule.cluster = named-so (name_of radios.kind) rule.cluster (found-passes (gives_name rule.cluster) d.views radios by.cluster) in
@@ -183,27 +179,25 @@ module _ (d : Dialog) (all : All (IsOnly d.views) d.views) (names : All (NamesTh
       (subst (λ o. AreOtherItems (when_from (Some rule.cluster) (Some differ.item)) (when_from (Some rule.cluster) o)) (sym differ.second)
       (refl, natural_apart differ.item differ.other_item one.counted two.counted differ.apart)))
 
-  others_apart : (pair : Seen) (owner : LetterOwner) (pairs : List Seen) → IsOver pair → All IsOver pairs → All (Differ pair) pairs
+  others_apart : (pair : Seen) (owner : LetterOwner) (pairs : List Seen) → All (Differ pair) pairs
       → All (λ line. AreOtherItems (line_of pair owner).when line.when) (lines_in pairs)
-  others_apart pair owner [] over overs differ = All-nil (λ line. AreOtherItems (line_of pair owner).when line.when)
-  others_apart pair owner (other ∷ pairs) over overs differ =
+  others_apart pair owner [] differ = All-nil (λ line. AreOtherItems (line_of pair owner).when line.when)
+  others_apart pair owner (other ∷ pairs) differ =
       let P : KeyOwner → Type 0 = λ line. AreOtherItems (line_of pair owner).when line.when in
-      let later : All P (lines_in pairs) = others_apart pair owner pairs over (All-tail IsOver other pairs overs) (All-tail (Differ pair) other pairs differ) in
+      let later : All P (lines_in pairs) = others_apart pair owner pairs (All-tail (Differ pair) other pairs differ) in
       option_cases (owner_by letter other.1.kind) (λ o. All P (cons_option (option_map (line_of other) o) (lines_in pairs)))
       (λ none. later)
       (λ given some. All-cons P (line_of other given) (lines_in pairs)
-      (other-items pair other over (All-head IsOver other pairs overs) (All-head (Differ pair) other pairs differ)) later)
+      (other-items pair other (All-head (Differ pair) other pairs differ)) later)
 
-  lines_apart : (pairs : List Seen) → All IsOver pairs → AllPairs Differ pairs → AllPairs (λ line other. AreOtherItems line.when other.when) (lines_in pairs)
-  lines_apart [] overs differ = pairs_nil (λ line other. AreOtherItems line.when other.when)
-  lines_apart (pair ∷ pairs) overs differ =
+  lines_apart : (pairs : List Seen) → AllPairs Differ pairs → AllPairs (λ line other. AreOtherItems line.when other.when) (lines_in pairs)
+  lines_apart [] differ = pairs_nil (λ line other. AreOtherItems line.when other.when)
+  lines_apart (pair ∷ pairs) differ =
       let R : KeyOwner → KeyOwner → Type 0 = λ line other. AreOtherItems line.when other.when in
       let rest : List KeyOwner = lines_in pairs in
-      let over : IsOver pair = All-head IsOver pair pairs overs in
-      let more : All IsOver pairs = All-tail IsOver pair pairs overs in
-      let later : AllPairs R rest = lines_apart pairs more (pairs_tail Differ pair pairs differ) in
+      let later : AllPairs R rest = lines_apart pairs (pairs_tail Differ pair pairs differ) in
       option_cases (owner_by letter pair.1.kind) (λ o. AllPairs R (cons_option (option_map (line_of pair) o) rest)) (λ none. later)
-      (λ owner some. AllPairs-cons R (line_of pair owner) rest (others_apart pair owner pairs over more (pairs_head Differ pair pairs differ)) later)
+      (λ owner some. AllPairs-cons R (line_of pair owner) rest (others_apart pair owner pairs (pairs_head Differ pair pairs differ)) later)
 
 -- ---- the lines of a dialog
 
@@ -213,9 +207,6 @@ module _ (d : Dialog) (rising : AreRising d.views) (are : AreViews 0 d.views) (n
 
   abbrev only : All (IsOnly d.views) d.views
   only = all_only d.views rising
-
-  overs : All (AreOnlyOver d only names) seen
-  overs = all_over (IsOnly d.views) [] d.views (All-nil (IsOnly d.views)) only
 
   abbrev kept : ℕ → List Seen
   kept letter = filter (marking d only names letter) seen
@@ -243,10 +234,10 @@ module _ (d : Dialog) (rising : AreRising d.views) (are : AreViews 0 d.views) (n
       record {
         markers = subst (λ given. AreLinesOf d letter given (marking_leaves d letter)) (sym owned)
             (subst (λ leaves. AreLinesOf d letter lines (filter (λ leaf. is_some (owner_by letter leaf.node.kind)) leaves)) (sym (leaf_list-after d.views are))
-            (lines_are d only names letter radios h.0 own.0 seen overs items));
+            (lines_are d only names letter radios h.0 own.0 seen items));
         alone = λ line e. absurd (too_many lines line count (sym owned ∙ e) (and_parts (nat_lt 1 (length (markers letter))) _ may).0);
         apart = subst (AllPairs (λ line other. AreOtherItems line.when other.when)) (sym owned)
-            (lines_apart d only names letter radios h.0 own.0 (kept letter) (All-filter (marking d only names letter) (AreOnlyOver d only names) seen overs) differ);
+            (lines_apart d only names letter radios h.0 own.0 (kept letter) differ);
       })
       (λ no may found. absurd cc)
       refl shared

@@ -40,7 +40,7 @@ NamesCluster views rule = (node : Node) → meant views rule.cluster ≡ Some no
 
 -- the rule shows the leaf, or a pane around it, while this item of the radio buttons is marked
 pub record ShowsBy (d : Dialog) (radios : Node) (item : ℕ) (leaf : PlacedNode) (rule : Rule) : Type 0 where
-  pub showing : IsTrue (shows leaf rule.effect)
+  pub showing : IsTrue (shows d.views leaf rule.effect)
   pub cluster : meant d.views rule.cluster ≡ Some radios
   pub marked : natural rule.item ≡ item
 

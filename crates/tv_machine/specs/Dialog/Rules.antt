@@ -1,6 +1,6 @@
 -- What the marks of a dialog's clusters show, enable and leave free to focus.
 use Rattle.std.specs.Prelude.{[], ℕ, Bool, true, false, not, ◌&&◌, ◌||◌, List, ◌∷◌, find, Option, Some, None}
-use Rattle.std.specs.Prelude.{◌==◌}
+use Rattle.std.specs.Prelude.{◌==◌, nat_lt}
 use Rattle.std.specs.List.{list_any, list_all}
 use Rattle.tv_model.specs.declared.node.Id.{Id}
 use Rattle.tv_model.specs.declared.node.Node.{Node}
@@ -11,8 +11,9 @@ use Rattle.tv_model.specs.declared.desc.Dialog.{Dialog}
 use Rattle.tv_model.specs.declared.desc.Rule.{Rule}
 use Rattle.tv_model.specs.declared.desc.Effect.{Effect}
 use Rattle.tv_model.specs.declared.desc.Effect.TheVariants as effects
-use Rattle.tv_model.specs.Description.Names.{meant, gives_name}
+use Rattle.tv_model.specs.Description.Names.{meant}
 use Rattle.tv_model.specs.Description.Nodes.{is_control}
+use Rattle.tv_model.specs.Description.Rules.{is_one_of}
 use Rattle.tv_model.specs.Description.Numbers.{natural}
 use Rattle.tv_model.specs.Description.Commands.{command_number, command_of}
 use Rattle.tv_machine.specs.State.{LeafState}
@@ -50,18 +51,20 @@ abbrev pub is_marked_at : List LeafState → ℕ → Option Node → Bool
 is_marked_at leaves item None = false
 is_marked_at leaves item (Some cluster) = is_marked (content_held leaves [] cluster.id).value item
 
--- a rule holds where its cluster has its item marked
+-- a rule holds where its cluster has its item marked. Items count from 1
 abbrev pub holds : Dialog → List LeafState → Rule → Bool
-holds d leaves rule = is_marked_at leaves (natural rule.item) (meant d.views rule.cluster)
+holds d leaves rule =
+    nat_lt 0 (natural rule.item) && is_marked_at leaves (natural rule.item) (meant d.views rule.cluster)
 
 -- a show rule over the leaf or a pane around it
-abbrev pub shows : PlacedNode → Effect → Bool
-shows leaf (effects.Show name) = list_any (gives_name name) (leaf.node ∷ leaf.panes)
-shows leaf (effects.Enable command) = false
+abbrev pub shows : List Node → PlacedNode → Effect → Bool
+shows views leaf (effects.Show name) = is_one_of (leaf.node ∷ leaf.panes) (meant views name)
+shows views leaf (effects.Enable command) = false
 
 -- visible: every show rule over it and over the panes around it holds
 abbrev pub is_visible : Dialog → List LeafState → PlacedNode → Bool
-is_visible d leaves leaf = list_all (λ rule. not (shows leaf rule.effect) || holds d leaves rule) d.rules
+is_visible d leaves leaf =
+    list_all (λ rule. not (shows d.views leaf rule.effect) || holds d leaves rule) d.rules
 
 -- an enable rule on the command
 abbrev pub enables : ℕ → Effect → Bool

@@ -13,7 +13,7 @@ use Rattle.tv_machine.specs.Dialog.Rules.{shows}
 -- the rule shows neither its own cluster nor a pane around it
 abbrev pub ShowsOthers : Dialog → Rule → Type 0
 ShowsOthers d rule =
-    All (λ leaf. IsTrue (gives_name rule.cluster leaf.node) → shows leaf rule.effect ≡ false)
+    All (λ leaf. IsTrue (gives_name rule.cluster leaf.node) → shows d.views leaf rule.effect ≡ false)
     (leaf_list d.views)
 
 pub record IsSoundDialog (d : Dialog) : Type 0 where

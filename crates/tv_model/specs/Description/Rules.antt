@@ -37,14 +37,18 @@ abbrev pub has_target : List Node → Effect → Bool
 has_target views (effects.Show name) = is_target (meant views name)
 has_target views (effects.Enable command) = true
 
+-- whether it is one of these views
+abbrev pub is_one_of : List Node → Option Node → Bool
+is_one_of views None = false
+is_one_of views (Some target) = list_any (has_id target.id) views
+
 -- the view of this id is the view itself or a pane around it
 abbrev pub stands_over : Id → List Node → Node → Bool
 stands_over i before node = list_any (has_id i) (node ∷ panes_around before node)
 
 -- whether it is the view or a pane around it
 abbrev pub option_stands_over : Option Node → List Node → Node → Bool
-option_stands_over None before node = false
-option_stands_over (Some target) before node = stands_over target.id before node
+option_stands_over target before node = is_one_of (node ∷ panes_around before node) target
 
 -- a show rule reaches what its target stands over, an enable rule the buttons of its command
 abbrev pub reaches : List Node → List Node → Node → Effect → Bool
