@@ -7,9 +7,8 @@ use crate::kind::{
     StaticText, WindowHead,
 };
 use crate::node::Node;
-use crate::sequence::Sequence;
 use std::alloc::{AllocError, Global};
-use tv_valid::Chars;
+use tv_valid::{Chars, Sequence};
 
 impl MarkedText {
     /// Copies the text with its mark.

@@ -6,9 +6,8 @@ ghost use Rattle.tv_model.specs.Description.Nodes.{is_window, is_dialog, node_of
 use crate::command::CommandSpec;
 use crate::kind::{DialogHead, Kind, MarkedText, WindowHead};
 use crate::node::{Id, Node};
-use crate::sequence::Sequence;
 use tv_event::Key;
-use tv_valid::Chars;
+use tv_valid::{Chars, Sequence};
 
 /// A version of the language of descriptions.
 #[derive(Clone, Copy, Debug, PartialEq, Eq)]

@@ -4,8 +4,7 @@ ghost use Rattle.std.specs.Prelude.{◌≡◌, option_copied};
 ghost use Rattle.tv_model.specs.Description.Nodes.{name_of, is_control, is_button, is_pane, is_window, is_dialog};
 
 use crate::command::{CommandSpec, Ends};
-use crate::sequence::Sequence;
-use tv_valid::{Chars, InputSpec};
+use tv_valid::{Chars, InputSpec, Sequence};
 
 /// A text of which one letter may be marked as its shortcut.
 #[derive(Debug, Drop)]

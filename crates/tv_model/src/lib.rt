@@ -13,7 +13,6 @@ mod node;
 mod on_heap;
 mod record;
 mod script;
-mod sequence;
 
 pub use command::{CommandSpec, Ends};
 pub use desc::{
@@ -30,4 +29,4 @@ pub use node::{Id, Node};
 pub use on_heap::{OnHeap, empty_record};
 pub use record::{Entry, Record, Value};
 pub use script::Item;
-pub use sequence::Sequence;
+pub use tv_valid::Sequence;

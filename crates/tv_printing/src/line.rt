@@ -9,13 +9,13 @@ use crate::line_text::with_line;
 use std::alloc::{AllocError, Global};
 use std::marker::Model;
 use tv_valid::Chars;
-use tv_words::Word;
+use tv_words::{Word, Words};
 
 /// A line that is put together word by word. Contracts see the list of its words.
 #[derive(Drop)]
 pub struct Line {
     pub(crate) alloc: Global,
-    words: Vec<Word>,
+    words: Words,
 }
 
 impl Model for Line {
@@ -24,7 +24,7 @@ impl Model for Line {
 
     ghost Value = { List Word };
 
-    ghost view = { λ l. l.words.items };
+    ghost view = { λ l. l.words };
 }
 
 impl Line {
@@ -34,7 +34,7 @@ impl Line {
     {
         Line {
             alloc,
-            words: Vec::new(alloc),
+            words: Words::new(alloc),
         }
     }
 
@@ -99,7 +99,7 @@ impl Line {
     pub fn write(&self, text: String) -> Result<String, AllocError>
         ensures { IfOk result (λ longer. string_bytes longer ≡ string_bytes text ++ ended_line self.now) }
     {
-        with_line(text, &self.words)
+        with_line(text, self.words.as_slice())
     }
 }
 

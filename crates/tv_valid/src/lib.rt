@@ -5,9 +5,11 @@ mod chars;
 mod domain;
 mod input;
 mod range;
+mod sequence;
 mod text;
 
 pub use chars::Chars;
 pub use domain::{Domain, DomainFault};
 pub use input::{DomainSpec, InputSpec};
+pub use sequence::Sequence;
 pub use text::Text;

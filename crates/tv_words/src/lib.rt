@@ -7,12 +7,10 @@ mod scan;
 mod token;
 mod tokens;
 mod word;
-mod words;
 
 pub use decimal::number;
 pub use lines::Lines;
 pub use scan::words_of;
 pub use token::{BareText, QuotedChars, QuotedText, Token};
 pub use tokens::{Tokens, tokens_of};
-pub use word::{Word, is_same};
-pub use words::Words;
+pub use word::{Word, Words, is_same};

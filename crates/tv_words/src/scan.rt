@@ -7,8 +7,7 @@ ghost use Rattle.tv_words.specs.declared.word.Word.{Word as SeenWord};
 ghost use Rattle.tv_words.specs.Reading.Scan.{at, finished, read_on, take_char};
 ghost use Rattle.tv_words.specs.Words.{is_comment, SpellsWords};
 
-use crate::word::Word;
-use crate::words::Words;
+use crate::word::{Word, Words};
 use std::alloc::{AllocError, Global};
 use std::mem;
 use tv_valid::Chars;

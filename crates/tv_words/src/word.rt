@@ -9,7 +9,7 @@ ghost use Rattle.tv_words.specs.Fields.{IsNumber, is_bare_word, name_in, number_
 ghost use Rattle.tv_words.specs.Reading.Numbers.{number_in};
 
 use crate::decimal::number;
-use tv_valid::Chars;
+use tv_valid::{Chars, Sequence};
 
 /// A word of a line.
 #[derive(Debug, Drop)]
@@ -19,6 +19,9 @@ pub enum Word {
     /// A text that stands between quotes, its escapes undone.
     Quoted(Chars),
 }
+
+/// Words in order.
+pub type Words = Sequence<Word>;
 
 impl Word {
     /// Whether this is the bare word of these ASCII characters.
