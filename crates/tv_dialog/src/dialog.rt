@@ -1,6 +1,6 @@
 //! Dialogs.
 
-ghost use Rattle.std.specs.Prelude.{◌≡◌, ◌⊎◌, ◌≤◌, ◌<◌, ◌∷◌, [], ℕ, length, slice_index_or, IfOk, IfErr, IfSome, List, None, Some, false, map, true};
+ghost use Rattle.std.specs.Prelude.{◌≡◌, ◌⊎◌, ◌≤◌, ◌<◌, ◌+◌, ◌++◌, ◌∷◌, [], ℕ, length, slice_index_or, IfOk, IfErr, IfSome, List, None, Some, false, map, true};
 ghost use Rattle.tv_cells.specs.Rectangle.{IsRectNear};
 ghost use Rattle.tv_faces.specs.Corners.{IsCorner};
 ghost use Rattle.tv_model.specs.Description.Rectangles.{IsSmall, IsSmallRect, corner_of};
@@ -33,6 +33,7 @@ ghost use Rattle.tv_dialog.specs.declared.fault.DialogFault.TheVariants.{WrongKi
 use crate::fault::DialogFault;
 use crate::head::{Head, looks_same};
 use crate::log::Log;
+use crate::log_lines::LogLines;
 use crate::plan::Plan;
 use crate::ruled::Ruled;
 use std::alloc::Global;
@@ -227,6 +228,16 @@ impl<V> DialogOf<V> {
         ensures few { length result.now ≤ 66 }
     {
         self.log.as_slice()
+    }
+
+    /// Moves the lines of its last event or opening behind those of another log, which must have room for as many as a
+    /// dialog logs.
+    pub fn move_log<const ROOM: usize>(&mut self, log: &mut LogLines<ROOM>)
+        requires { length log.old.items + 66 ≤ ROOM }
+        ensures lines { log.new.items ≡ log.old.items ++ self.old.log.items }
+        ensures rest { self.new ≡ record self.old { log = record { items = [] } } }
+    {
+        log.append(&mut self.log);
     }
 
     /// Returns the enabled commands, which are all of them while the dialog is closed.

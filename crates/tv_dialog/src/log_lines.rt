@@ -1,6 +1,6 @@
 //! Log lines on the heap.
 
-ghost use Rattle.std.specs.Prelude.{◌≡◌, ◌<◌, ◌≤◌, ◌==◌, ◌++◌, ◌∷◌, [], IfOk, length};
+ghost use Rattle.std.specs.Prelude.{◌≡◌, ◌<◌, ◌≤◌, ◌==◌, ◌+◌, ◌++◌, ◌∷◌, [], IfOk, length};
 
 use std::alloc::{AllocError, Global};
 use std::marker::Model;
@@ -53,6 +53,17 @@ impl<const ROOM: usize> LogLines<ROOM> {
         ensures { self.new.items ≡ self.old.items ++ line ∷ [] }
     {
         self.lines.push_reserved(line);
+    }
+
+    /// Moves the lines of another log behind these. There must be room for as many as that may have. Takes no memory.
+    pub fn append<const OTHER: usize>(&mut self, other: &mut LogLines<OTHER>)
+        requires { length self.old.items + OTHER ≤ ROOM }
+        ensures lines { self.new.items ≡ self.old.items ++ other.old.items }
+        ensures none_left { other.new.items ≡ [] }
+    {
+        let Ok(()) = self.lines.append(&mut other.lines) else {
+            unreachable!();
+        };
     }
 
     /// Drops all lines.

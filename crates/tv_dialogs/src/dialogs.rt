@@ -1,16 +1,17 @@
 //! The dialogs of a run.
 
-ghost use Rattle.std.specs.Prelude.{◌≤◌, length, ◌≡◌, ◌<◌, ℕ, false, is_some, option_copied, option_map, slice_index_or};
+ghost use Rattle.std.specs.Prelude.{◌≤◌, length, ◌≡◌, ◌<◌, ◌+◌, ◌++◌, ℕ, Some, false, is_some, option_copied, option_map, slice_index_or, vec_capacity};
 ghost use Rattle.tv_machine.specs.Session.Enabled.{is_enabled_now};
 ghost use Rattle.tv_machine.specs.Session.Step.{dialog_with_hold};
 ghost use Rattle.tv_machine.specs.State.{State};
 ghost use Rattle.tv_model.specs.declared.desc.Desc.{Desc};
-ghost use Rattle.tv_dialogs.specs.Dialogs.{AreDialogs, AreOfRun, kept_at, log_of_last};
+ghost use Rattle.tv_dialogs.specs.Dialogs.{AreDialogs, AreOfRun, kept_at, lines_by, log_of_last};
 
 use crate::colours::Colours;
 use crate::kept::Kept;
+use tv_dialog::LogLines;
 use tv_event::CommandSet;
-use tv_model::{Id, LogLine};
+use tv_model::Id;
 use tv_view::View;
 
 /// The dialogs of a description, of which one may be open.
@@ -46,20 +47,34 @@ impl<V> DialogsOf<V> {
             None => None,
         }
     }
-
-    /// Returns the lines of the dialog that worked last: those of its last event, or of its opening.
-    pub fn log(&self) -> &[LogLine]
-        ensures lines { result.now ≡ log_of_last self.now }
-        ensures few { length result.now ≤ 66 }
-    {
-        match self.at(self.last) {
-            Some(kept) => kept.dialog.log(),
-            None => &[],
-        }
-    }
 }
 
 impl<V: View> DialogsOf<V> {
+    /// Moves the lines of the dialog that worked last, those of its last event or of its opening, behind those of a log
+    /// with room for as many as a dialog logs.
+    pub fn move_log<const ROOM: usize>(&mut self, log: &mut LogLines<ROOM>)
+        requires { length log.old.items + 66 ≤ ROOM }
+        ensures lines { log.new.items ≡ log.old.items ++ log_of_last self.old }
+        ensures dialogs { (d : Desc) (s : State) → AreDialogs V.meaning d s self.old → AreDialogs V.meaning d s self.new }
+        ensures room { vec_capacity self.new.kept ≡ vec_capacity self.old.kept }
+    {
+        if let Some(place) = self.last {
+            self.move_log_at(place, log);
+        }
+    }
+
+    // Moves the lines of the dialog at a place, if one is there.
+    fn move_log_at<const ROOM: usize>(&mut self, place: usize, log: &mut LogLines<ROOM>)
+        requires { length log.old.items + 66 ≤ ROOM }
+        ensures lines { log.new.items ≡ log.old.items ++ lines_by (kept_at self.old (Some place)) }
+        ensures dialogs { (d : Desc) (s : State) → AreDialogs V.meaning d s self.old → AreDialogs V.meaning d s self.new }
+        ensures room { vec_capacity self.new.kept ≡ vec_capacity self.old.kept }
+    {
+        if let Some(kept) = self.kept.get_mut(place) {
+            kept.dialog.move_log(log);
+        }
+    }
+
     /// Whether a dialog is open.
     pub fn is_open(&self) -> bool
         ensures { (d : Desc) (s : State) → AreDialogs V.meaning d s self.now → result ≡ is_some s.dialog }

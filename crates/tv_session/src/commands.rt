@@ -12,7 +12,7 @@ ghost use Rattle.tv_model.specs.Description.Heads.{dialog_head};
 ghost use Rattle.tv_model.specs.Faults.Starts.{is_option_number};
 ghost use Rattle.tv_session.specs.Running.{IsAwake, IsAwakeSince, IsRunSince};
 
-use crate::log::{note, note_all};
+use crate::log::note;
 use crate::run::RunOf;
 use tv_event::{Command, Event};
 use tv_model::{Desc, Dialog, LogLine};
@@ -86,7 +86,7 @@ impl<V: View> RunOf<V> {
         };
         note(&mut self.log, LogLine::Open(dialog.node.id));
         self.dialogs.open(desc, place, &mut self.damage);
-        note_all(&mut self.log, self.dialogs.log());
+        self.dialogs.move_log(&mut self.log);
     }
 
     // Handles a command of the description's own: opens its dialog, or logs the command.
@@ -128,7 +128,7 @@ impl<V: View> RunOf<V> {
             → IsRunSince V.meaning desc.now since (to_dialog desc.now o event.now s) self.new }
     {
         self.dialogs.step(desc, event, &mut self.damage);
-        note_all(&mut self.log, self.dialogs.log());
+        self.dialogs.move_log(&mut self.log);
     }
 
     /// Handles a command while no menu is open and nothing holds the mouse.
