@@ -1,6 +1,6 @@
 -- The marks that check boxes start with.
 use Rattle.std.proofs.Common.{◌≡◌, ◌∙◌, ◌-◌, ◌<◌, ◌≤◌, ◌^◌, ℕ, List, ℤ, ap, arith, bit_or, drop, get_or, length, suc, sym}
-use Rattle.std.proofs.Math.Seq.{drop-cons, drop-length}
+use Rattle.std.proofs.Math.Seq.{drop-cons}
 use Rattle.std.proofs.lemmas.Int.{ints}
 use Rattle.std.proofs.lemmas.List.Elements.{All-weaker}
 use Rattle.std.proofs.lemmas.Nat.{or_comm}
@@ -8,10 +8,6 @@ use Rattle.std.specs.List.{All}
 use Rattle.tv_model.specs.Controls.Contents.{IsItem}
 use Rattle.tv_model.specs.Description.Numbers.{natural}
 use Rattle.tv_model.specs.Kinds.Cluster.{marks_of}
-
--- of no items
-pub marks-none : (items : List ℤ) → marks_of (drop (length items) items) ≡ 0
-marks-none items = ap marks_of (drop-length items)
 
 -- of one item more
 pub marks-more : (items : List ℤ) (i : ℕ) (d : ℤ) (marks : ℕ) → i < length items → marks ≡ marks_of (drop (suc i) items)

@@ -17,7 +17,7 @@ use Rattle.tv_declarations.specs.Spelling.Terms.{marked_word, IsMarked}
 use Rattle.tv_declarations.specs.Spelling.Nodes.{kind_words, node_words, IsSpelledKind}
 use Rattle.tv_declarations.specs.Spelling.Declarations.{IsNode}
 use Rattle.tv_declarations.proofs.OptionLemmas.{then_some, with3_some}
-use Rattle.tv_words.proofs.FieldLemmas.{number_word_read, read_number_word, text_read}
+use Rattle.tv_words.proofs.FieldLemmas.{number_word_read, text_read}
 use Rattle.tv_declarations.proofs.MarkLemmas.{marked_read, read_marked}
 
 pub record PlaceIs (x y w : Word) (p : Place) : Type 0 where
@@ -62,6 +62,3 @@ node_made at x y w p kind ws n ep is words same =
 -- the position of a line
 abbrev pub on_line : ℕ → ℕ → Position
 on_line line depth = record { id = record { 0 = line }; depth = depth }
-
-pub place_again : (x y w : ℤ) → IsNumber x → IsNumber y → IsNumber w → place_from (number_word x) (number_word y) (number_word w) ≡ Some (record { x = x; y = y; w = w })
-place_again x y w a b c = rw (read_number_word x a, read_number_word y b, read_number_word w c) refl

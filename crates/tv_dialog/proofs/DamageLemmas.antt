@@ -18,7 +18,6 @@ use Rattle.tv_view.specs.Meaning.{Leaf, Placed}
 use Rattle.tv_view.specs.declared.env.Env.{Env}
 use Rattle.tv_view.proofs.DamageLemmas.{alike-more, alike-then}
 use Rattle.tv_group.specs.Opened.{group_bounds, opened}
-use Rattle.tv_group.proofs.DamageLemmas.{all-drawn-refl}
 use Rattle.tv_dialog.specs.Bounds.{dialog_bounds}
 use Rattle.tv_dialog.specs.Damage.{BodyDrawn, DialogDamages, DialogEnvDamages}
 use Rattle.tv_dialog.specs.Drawn.{drawn_dialog, lent}
@@ -35,16 +34,6 @@ told-none bounds old new leaves damage same = record {
 
 module _ {V : Type 0} (look : V → Leaf) where
   -- ---- bodies
-
-  -- a body that stays
-  pub body-same : (old new : DialogOf V) → new.head ≡ old.head → new.corner ≡ old.corner → new.plan ≡ old.plan → new.body ≡ old.body → new.damage ≡ old.damage
-      → BodyDrawn look old new
-  body-same old new head corner plan body damage = record {
-    head = head;
-    corner = corner;
-    plan = plan;
-    body = rw (body, damage) (all-drawn-refl (opened look old.body) old.damage);
-  }
 
   -- one that a call changes
   pub body-called : (old new : DialogOf V) → new.head ≡ old.head → new.corner ≡ old.corner → new.plan ≡ old.plan

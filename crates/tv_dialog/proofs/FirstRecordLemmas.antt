@@ -131,7 +131,3 @@ module _ (d : Dialog) (lawful : IsLawfulDialog d) where
       -- they are those declared
       pub fresh-record : all_gathered (opened look g) [] ≡ declared_record
       fresh-record = ap (λ xs. all_gathered xs []) (opened-fresh look d.node d.views g fresh) ∙ tree-record
-
-      -- and it fits the body
-      pub fresh-fits : FitsAll declared_record (opened look g)
-      fresh-fits = subst (FitsAll declared_record) (sym (opened-fresh look d.node d.views g fresh)) tree-fits

@@ -1,5 +1,5 @@
 -- A dialog that opens for the first time: its leaves stand as their nodes declare them, and no rules were applied yet.
-use Rattle.std.proofs.Common.{◌≡◌, Bool, true, false, ◌==◌, if◌then◌else◌, List, [], map, filter, get_or, ◌&&◌, Option, Some, None, refl, sym, ap, subst, ◌∙◌, All}
+use Rattle.std.proofs.Common.{◌≡◌, Bool, true, false, ◌==◌, if◌then◌else◌, List, [], map, get_or, Option, Some, None, refl, sym, ap, subst, ◌∙◌, All}
 use Rattle.std.proofs.lemmas.List.Elements.{All-map}
 use Rattle.tv_model.specs.declared.node.Id.{Id}
 use Rattle.tv_model.specs.declared.node.Node.{Node}
@@ -13,21 +13,18 @@ use Rattle.tv_machine.specs.Controls.Declared.{declared_leaf, declared_value, op
 use Rattle.tv_machine.specs.State.{LeafState}
 use Rattle.tv_model.specs.Controls.Private.{Private}
 use Rattle.tv_machine.specs.Leaves.{PlacedNode, leaf_list}
-use Rattle.tv_machine.specs.Dialog.Modal.{Modal}
-use Rattle.tv_machine.specs.Dialog.Opening.{first_focus, opened_dialog, opened_leaves, unfocused}
+use Rattle.tv_machine.specs.Dialog.Opening.{unfocused}
 use Rattle.tv_machine.specs.Dialog.Rules.{is_among}
-use Rattle.tv_machine.specs.Safe.{field_ids}
 use Rattle.tv_view.specs.declared.env.Rules.{Rules}
 use Rattle.tv_view.specs.Calls as calls
-use Rattle.tv_group.specs.Calls.{FitsAll, all_applied, all_focused, all_set, in_place, in_place_unmarked}
+use Rattle.tv_group.specs.Calls.{FitsAll, all_applied, all_set, in_place, in_place_unmarked}
 use Rattle.tv_machine.specs.Dialog.Lawful.{IsLawfulDialog}
 use Rattle.tv_dialog.specs.Resting.{AreAlike, unflagged}
-use Rattle.tv_tree.specs.Tree.{IsSteady, IsSteadyContent, IsSteadyLeaf, around_of, placed_as, tree_as, tree_of}
-use Rattle.tv_machine.proofs.ListLemmas.{All-unmap, among-filter, and-true, map-map, map-same}
-use Rattle.tv_tree.proofs.OpeningLemmas.{OverwritesAlike, content_at-unfocused, leaves-unfocused, open_content, opened-tree}
-use Rattle.tv_tree.proofs.RuledLemmas.{AreRulesOf}
+use Rattle.tv_tree.specs.Tree.{IsSteady, IsSteadyContent, IsSteadyLeaf, around_of, placed_as, tree_as}
+use Rattle.tv_machine.proofs.ListLemmas.{All-unmap, map-map, map-same}
+use Rattle.tv_tree.proofs.OpeningLemmas.{content_at-unfocused, leaves-unfocused, open_content}
 use Rattle.tv_tree.proofs.StandingLemmas.{standing}
-use Rattle.tv_machine.proofs.LeafLemmas.{IsIn, among-views, leaf_at-all, leaves-are, leaves-same, own-fails}
+use Rattle.tv_machine.proofs.LeafLemmas.{IsIn, leaf_at-all, leaves-are, leaves-same, own-fails}
 
 -- ---- leaves that are alike but for their flags
 
@@ -161,22 +158,3 @@ module _ (d : Dialog) (lawful : IsLawfulDialog d) where
       ∙ leaves-same d lawful (λ leaf. unflagged (fresh_leaf d leaf)) (λ leaf. unflagged (placed_as d ruled (unfocused d None []) leaf))
       (fresh_stands ruled)
       ∙ sym (map-map (placed_as d ruled (unfocused d None [])) unflagged (leaf_list d.views))
-
-  -- the inputs of a dialog in which typing overwrites, in description order
-  pub overwrites-ordered : (m : Modal) → OverwritesAlike d (filter (is_among m.overwriting) (map (λ view. view.id) d.views)) m
-  overwrites-ordered m leaf e =
-      among-filter (is_among m.overwriting) (map (λ view. view.id) d.views) leaf.node.id
-      ∙ ap (λ b. is_among m.overwriting leaf.node.id && b) (among-views d lawful leaf e) ∙ and-true (is_among m.overwriting leaf.node.id)
-
-  -- whatever the flags were, the dialog opens: values, rules, focus
-  pub opened-alike : (entries : Entries) → map (λ entry. entry.id) entries ≡ field_ids d
-      → (overwriting : List Id) (rules : Rules) (xs : List Placed) (ruled : List LeafState) (m : Modal)
-      → AreAlike xs (tree_as d ruled m) → IsSteady d m → OverwritesAlike d overwriting m → FitsAll entries xs
-      → AreRulesOf d (opened_leaves d (Some entries)) rules
-      → all_focused (first_focus d (opened_leaves d (Some entries))) (all_applied rules (all_set entries xs))
-      ≡ tree_of d (opened_dialog d (Some entries) overwriting)
-  opened-alike entries fields overwriting rules xs ruled m alike steady overwrites fits are =
-      ap (all_focused (first_focus d (opened_leaves d (Some entries))))
-      (applied-alike rules (all_set entries xs) (all_set entries (tree_as d ruled m)) (set-alike entries xs (tree_as d ruled m) alike))
-      ∙ opened-tree d lawful entries fields overwriting rules ruled m steady overwrites
-      (fits-alike entries xs (tree_as d ruled m) alike fits) are

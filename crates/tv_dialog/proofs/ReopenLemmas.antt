@@ -14,9 +14,9 @@ use Rattle.tv_machine.specs.State.{LeafState}
 use Rattle.tv_machine.specs.Leaves.{leaf_list}
 use Rattle.tv_machine.specs.Safe.{field_ids}
 use Rattle.tv_machine.specs.Dialog.Ending.{fields_of}
-use Rattle.tv_machine.specs.Dialog.Focus.{first_free, focus_moved, is_free_at, is_free_leaf, stops_of}
+use Rattle.tv_machine.specs.Dialog.Focus.{first_free, focus_moved, is_free_at, stops_of}
 use Rattle.tv_machine.specs.Dialog.Lawful.{IsLawfulDialog}
-use Rattle.tv_machine.specs.Dialog.Modal.{Modal, leaf_at}
+use Rattle.tv_machine.specs.Dialog.Modal.{Modal}
 use Rattle.tv_machine.specs.Dialog.Opening.{first_focus, opened_dialog as opens, opened_leaf, opened_leaves, opened_with, unfocused}
 use Rattle.tv_machine.specs.Dialog.Rules.{is_among, is_command_enabled, is_visible}
 use Rattle.tv_view.specs.declared.env.Rules.{Rules}
@@ -35,12 +35,10 @@ use Rattle.tv_tree.proofs.EndingLemmas.{fewer_leaves}
 use Rattle.tv_dialog.proofs.FieldOrderLemmas.{ordered-fields, ordered-fits, set-ordered}
 use Rattle.tv_dialog.proofs.FreshLemmas.{applied-alike, fits-alike, fresh-alike, fresh_tree, set-alike, steady-declared}
 use Rattle.tv_tree.proofs.GatheredLemmas.{fields-are, fields-ids, gathered-again, value-fields}
-use Rattle.tv_machine.proofs.ListLemmas.{map-map, option_cases}
-use Rattle.tv_machine.proofs.MarkLemmas.{free-same}
+use Rattle.tv_machine.proofs.ListLemmas.{map-map}
 use Rattle.tv_tree.proofs.NextLemmas.{first-tree}
-use Rattle.tv_tree.proofs.OpeningLemmas.{content_at-unfocused, first-free, first_focus-free, free-other, leaves-unfocused, set-tree, steady-unfocused}
+use Rattle.tv_tree.proofs.OpeningLemmas.{content_at-unfocused, first-free, free-other, leaves-unfocused, set-tree, steady-unfocused}
 use Rattle.tv_tree.proofs.RuledLemmas.{AreRulesOf, applied-tree}
-use Rattle.tv_machine.proofs.RefocusLemmas.{held-moved, hold-moved}
 use Rattle.tv_machine.proofs.LeafLemmas.{leaves-same}
 use Rattle.tv_dialog.proofs.WorkingLemmas.{enabled-plan, shown-plan}
 
@@ -179,22 +177,7 @@ module _ (d : Dialog) (lawful : IsLawfulDialog d) (saved : Option Entries) (over
   -- there is one
   pub none-absurd : None ≡ first_in Forward (tree_of d shut) → ⊥
   none-absurd e = false≢true (ap is_some (first-found None e) ∙ lawful.«free» shut.leaves)
-
   -- ---- a dialog that opened
-
-  -- its focus is free
-  pub opened-free : is_free_at d (opens d saved overwriting).leaves (opens d saved overwriting).focus ≡ true
-  opened-free =
-      let i = first_focus d shut.leaves in
-      let same = hold-moved d lawful shut i (leaves-unfocused d saved overwriting) in
-      let after : Modal = opens d saved overwriting in
-      option_cases (leaf_at d i) (λ o. is_free_leaf d after.leaves o ≡ is_free_leaf d shut.leaves o) (λ none. refl)
-      (λ leaf found. sym (free-same d shut.leaves after.leaves same leaf))
-      ∙ first_focus-free d lawful shut.leaves
-
-  -- no leaf of it holds the mouse
-  pub opened-held : (opens d saved overwriting).held ≡ None
-  opened-held = held-moved d lawful shut (first_focus d shut.leaves)
 
 -- ---- the declared values
 

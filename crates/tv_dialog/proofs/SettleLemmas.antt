@@ -9,7 +9,7 @@ use Rattle.tv_machine.specs.Dialog.Ending.{command}
 use Rattle.tv_machine.specs.Dialog.Modal.{Modal}
 use Rattle.tv_view.specs.declared.reaction.Reaction.{Reaction}
 use Rattle.tv_view.specs.declared.reaction.Reaction.TheVariants as reactions
-use Rattle.tv_dialog.specs.Settling.{SettlesTo, IsPosted, PostedAfter, posted_by}
+use Rattle.tv_dialog.specs.Settling.{SettlesTo, IsPosted, posted_by}
 use Rattle.tv_dialog.specs.Standing.{Stands}
 use Rattle.tv_dialog.specs.declared.dialog.DialogOf.{DialogOf}
 
@@ -36,14 +36,6 @@ posted-by (reactions.FocusPress i item) waiting is = inl is
 posted-by (reactions.Changed i) waiting is = inl is
 posted-by (reactions.Capture i) waiting is = inl is
 posted-by reactions.Release waiting is = inl is
-
-pub posted-after : (e : Event) (waiting : List Event) → PostedAfter e waiting → IsPosted waiting
-posted-after (events.Command c) waiting none = inl none
-posted-after (events.Key k) waiting few = few
-posted-after (events.Down p) waiting few = few
-posted-after (events.Up p) waiting few = few
-posted-after (events.Move p) waiting few = few
-posted-after (events.Broadcast c) waiting few = few
 
 -- ---- turns one after the other
 

@@ -72,6 +72,3 @@ module _ {V : Type 0} (look : V → Leaf) (d : Desc) (s : State) (dialogs : Dial
       ap (λ y. any_holds (opened look y.dialog.body)) (sym x.same) ∙ ap any_holds x.among.stands.tree
       ∙ any-holds x.among.dialog x.o.leaves m (holds-leaf d s x.o x.is run.fit x.among.dialog x.among.there)
       ∙ sym (ap (λ o. is_some (dialog_with_hold o)) x.is ∙ some-kept (is_some x.o.held) x.o)
-
-  pub held-none : None ≡ kept_at dialogs dialogs.open → false ≡ is_some (dialog_with_hold s.dialog)
-  held-none e = sym (ap (λ o. is_some (dialog_with_hold o)) (current-none look d s dialogs run.are e))

@@ -5,7 +5,7 @@ use Rattle.std.specs.Prelude.{slice_get, slice_index_or, slice_set}
 use Rattle.std.proofs.lemmas.Int.{ints}
 use Rattle.std.proofs.lemmas.Option.{slice_get_within, unwrap_or-slice_get}
 use Rattle.tv_cells.specs.Canvas.{aside}
-use Rattle.tv_cells.specs.Damage.{AddsAll, HasAll, has, with_shadow}
+use Rattle.tv_cells.specs.Damage.{AddsAll, has, with_shadow}
 use Rattle.tv_cells.specs.Glyph.{Glyph}
 use Rattle.tv_cells.specs.Layers.{Layer, Shadow, ShowsSame, cell_over, is_in, over}
 use Rattle.tv_cells.specs.Rectangle.{shifted}
@@ -67,9 +67,6 @@ shadowed-added r old new p = record {
 }
 
 -- ---- damage
-
-pub has-kept : (r : Rect) (before after : List Rect) → Keeps before after → HasAll r before → HasAll r after
-has-kept r before after keeps all = record { each = λ x y i. keeps x y (all.each x y i) }
 
 -- a dialog that was handed an event, where the damage may have grown since
 pub kept-damages : {V : Type 0} (look : V → Leaf) (d : Dialog) (env : Env) (old new : DialogOf V) (before mid after : List Rect) → DialogDamages look env old new before mid

@@ -1,19 +1,15 @@
 -- What a session needs to know of the machine's dialogs: what they leave as it was, what they don't look at, and commands.
-use Rattle.std.proofs.Common.{◌≡◌, ℕ, Option, Some, None, refl, ap, subst}
+use Rattle.std.proofs.Common.{◌≡◌, ℕ, Option, Some, None, refl, subst}
 use Rattle.std.specs.Prelude.{slice_get}
-use Rattle.tv_event.specs.declared.event.Command.{Command}
 use Rattle.tv_event.specs.declared.event.Event.{Event}
-use Rattle.tv_event.specs.declared.event.Event.TheVariants as events
 use Rattle.tv_model.specs.declared.desc.Desc.{Desc}
 use Rattle.tv_model.specs.declared.desc.Dialog.{Dialog}
 use Rattle.tv_view.specs.Meaning.{Leaf}
 use Rattle.tv_machine.specs.State.{OpenDialog, State}
-use Rattle.tv_machine.specs.Dialog.Ending.{command}
 use Rattle.tv_machine.specs.Dialog.Modal.{Modal}
-use Rattle.tv_machine.specs.Dialog.Step.{dialog_step, step_by}
-use Rattle.tv_machine.specs.Session.Commands.{after_work, in_dialog, modal_of, open_dialog, open_found, works}
+use Rattle.tv_machine.specs.Dialog.Step.{dialog_step}
+use Rattle.tv_machine.specs.Session.Commands.{after_work, open_dialog, open_found, works}
 use Rattle.tv_machine.specs.Session.Step.{event_from, to_dialog}
-use Rattle.tv_machine.proofs.ListLemmas.{option_cases}
 use Rattle.tv_dialogs.specs.Dialogs.{AreDialogs, IsAside}
 use Rattle.tv_dialogs.specs.declared.dialogs.DialogsOf.{DialogsOf}
 
@@ -57,13 +53,3 @@ same-dialogs look d s t dialogs dialog saved overwriting are =
       at = λ o is. let x = all.at o is in record { dialog = x.dialog; there = x.there; kept = x.kept; found = x.found; stands = x.stands; corner = x.corner; near = x.near };
       commands = all.commands;
     }
-
--- a command for the open dialog is an event, whether a leaf holds the mouse or not
-pub command-stepped : (d : Desc) (s : State) (o : OpenDialog) (c : Command)
-    → to_dialog d o (events.Command c) s ≡ in_dialog d s o (λ dialog m. command dialog c.0 m)
-command-stepped d s o c =
-    option_cases (slice_get d.dialogs o.place)
-    (λ found. works s o (λ dialog m. dialog_step dialog (events.Command c) m) found ≡ works s o (λ dialog m. command dialog c.0 m) found)
-    (λ none. refl)
-    (λ dialog some. ap (λ m. after_work s o m m.ended)
-    (option_cases o.held (λ held. step_by dialog held (events.Command c) (modal_of s o) ≡ command dialog c.0 (modal_of s o)) (λ free. refl) (λ held is. refl)))

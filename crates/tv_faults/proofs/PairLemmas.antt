@@ -17,12 +17,6 @@ both f g = (λ h. (f.0 h.0, g.0 h.1), λ h. (f.1 h.0, g.1 h.1))
 pub each : {A : Type 0} (P Q : A → Type 0) → ((x : A) → P x ↔ Q x) → (xs : List A) → All P xs ↔ All Q xs
 each P Q f xs = (λ h k d less. (f (get_or xs k d)).0 (h k d less), λ h k d less. (f (get_or xs k d)).1 (h k d less))
 
-pub each_pair : {A : Type 0} (R S : A → A → Type 0) → ((x y : A) → R x y ↔ S x y) → (xs : List A) → AllPairs R xs ↔ AllPairs S xs
-each_pair R S f xs = (
-  λ h i j d less within. (f (get_or xs i d) (get_or xs j d)).0 (h i j d less within),
-  λ h i j d less within. (f (get_or xs i d) (get_or xs j d)).1 (h i j d less within),
-)
-
 -- ---- what holds of all items
 
 pub all_and : {A : Type 0} (P Q : A → Type 0) (xs : List A) → All (λ x. P x × Q x) xs ↔ (All P xs × All Q xs)

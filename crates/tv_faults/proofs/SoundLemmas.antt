@@ -104,9 +104,6 @@ sound_holds d s = (kinds_iff d).1 (All-from_recursion (λ kind. Lacks kind d) al
   ),
 ))
 
-pub sound_iff : (d : Desc) → IsSound d ↔ Sound d
-sound_iff d = (sound_says d, sound_holds d)
-
 -- each window, dialog and view of a sound description is lawful by itself
 pub lawful_nodes : (d : Desc) → Sound d → All IsLawfulNode (all_nodes d)
 lawful_nodes d s k node less = record { limited = s.limits.nodes k node less; narrow = s.widths.nodes k node less; domain = s.domains k node less; start = s.starts k node less }

@@ -99,9 +99,6 @@ module _ {A : Type 0} (p : A → Bool) where
     pub last_changed-unfound : (xs : List A) → find p (reverse xs) ≡ None → last_changed p change xs ≡ xs
     last_changed-unfound xs e = ap reverse (first_changed-unfound p change (reverse xs) e) ∙ reverse-reverse xs
 
-    pub last_changed-same : (xs : List A) (x : A) → find p (reverse xs) ≡ Some x → change x ≡ x → last_changed p change xs ≡ xs
-    last_changed-same xs x e stays = ap reverse (first_changed-same p change (reverse xs) x e stays) ∙ reverse-reverse xs
-
     pub last_changed-append-unfound : (xs ys : List A) → find p (reverse ys) ≡ None
         → last_changed p change (xs ++ ys) ≡ last_changed p change xs ++ ys
     last_changed-append-unfound xs ys e =

@@ -1,6 +1,6 @@
 -- What the scan of leaves for one that takes an event does with leaves that are moved or unmarked, and with a list in parts.
 use Rattle.std.proofs.Common.{◌≡◌, Bool, true, false, not, ◌&&◌, ◌||◌, List, [], ◌∷◌, ◌++◌, map, Option, Some, None, if◌then◌else◌, refl, sym, ap, ◌∙◌}
-use Rattle.std.specs.Prelude.{find, reverse, option_map, unwrap_or}
+use Rattle.std.specs.Prelude.{find, option_map, unwrap_or}
 use Rattle.tv_cells.specs.declared.rect.Point.{Point}
 use Rattle.tv_cells.specs.declared.rect.Rect.{Rect}
 use Rattle.tv_event.specs.declared.event.Command.{Command}
@@ -15,10 +15,9 @@ use Rattle.tv_view.specs.declared.reaction.Reaction.TheVariants as reactions
 use Rattle.tv_view.specs.declared.reaction.Reaction.TheVariants.{Pass}
 use Rattle.tv_view.specs.Points.{moved_into}
 use Rattle.tv_view.specs.Reactions.{answer}
-use Rattle.tv_view.proofs.PassLemmas.{passed_stays}
-use Rattle.tv_group.specs.Handling.{found_answer, group_after, group_answer, hit_after, hit_answer, is_awake, is_hit, is_offered, is_pass, last_changed, placed_after, placed_answer, scan_after, scan_answer, seen_through, takes, topmost}
+use Rattle.tv_group.specs.Handling.{found_answer, group_after, group_answer, hit_answer, is_awake, is_offered, is_pass, placed_after, placed_answer, scan_after, scan_answer, takes, topmost}
 use Rattle.tv_group.specs.Turns.{down_after, down_here, goes_to_all}
-use Rattle.tv_group.proofs.FirstLemmas.{find-append-found, find-append-unfound, find-holds, find-map, first_changed-append-found, first_changed-append-unfound, first_changed-map, first_changed-unfound, last_changed-same, last_changed-unfound}
+use Rattle.tv_group.proofs.FirstLemmas.{find-append-found, find-append-unfound, find-holds, find-map, first_changed-append-found, first_changed-append-unfound, first_changed-map, first_changed-unfound}
 
 -- ---- answers
 
@@ -187,44 +186,6 @@ module _ (e : Event) (p : Phase) (env : Env) where
 
   pub scan_after-pass : (xs : List Placed) → scan_answer e p env xs ≡ Pass → scan_after e p env xs ≡ xs
   scan_after-pass xs h = first_changed-unfound (takes e p env) (placed_after e p env) xs (taker-none xs (ap is_pass h))
-
-  -- a leaf that is hit and passes, or is disabled, stays as it is
-  hit_stays : (x : Placed) (b : Bool) → (if b then placed_answer e p env x else Pass) ≡ Pass
-      → (if b then placed_after e p env x else x) ≡ x
-  hit_stays x true h = ap (λ leaf. record x { leaf = leaf }) (passed_stays (seen_through x.around e) p env x.leaf h)
-  hit_stays x false h = refl
-
-  last_stays : (hits : Placed → Bool) (xs : List Placed) → hit_answer e p env (find hits (reverse xs)) ≡ Pass
-      → last_changed hits (hit_after e p env) xs ≡ xs
-  last_stays hits xs h = of (find hits (reverse xs)) refl h
-    where
-      of : (o : Option Placed) → find hits (reverse xs) ≡ o → hit_answer e p env o ≡ Pass → last_changed hits (hit_after e p env) xs ≡ xs
-      of None is h = last_changed-unfound hits (hit_after e p env) xs is
-      of (Some x) is h = last_changed-same hits (hit_after e p env) xs x is (hit_stays x x.leaf.is_enabled h)
-
--- a group that passes an event on stays as it is
-pub group_after-pass : (e : Event) (p : Phase) (env : Env) (xs : List Placed) → group_answer e p env xs ≡ Pass
-    → group_after e p env xs ≡ xs
-unfolding group_answer group_after
-group_after-pass (events.Down point) p env xs h = last_stays (events.Down point) p env (is_hit point) xs h
-group_after-pass (events.Key k) p env xs h = scan_after-pass (events.Key k) p env xs h
-group_after-pass (events.Command c) p env xs h = scan_after-pass (events.Command c) p env xs h
-group_after-pass (events.Move point) p env xs h = scan_after-pass (events.Move point) p env xs h
-group_after-pass (events.Up point) p env xs h = scan_after-pass (events.Up point) p env xs h
-group_after-pass (events.Broadcast c) p env xs h = scan_after-pass (events.Broadcast c) p env xs h
-
--- no leaf consumes a command
-pub command-passes : (c : Command) (p : Phase) (env : Env) (xs : List Placed) → group_answer (events.Command c) p env xs ≡ Pass
-unfolding group_answer answer
-command-passes c p env xs = found (find (takes (events.Command c) p env) xs)
-  where
-    passes : (around : List Rect) (x : Placed) → answer (seen_through around (events.Command c)) p env x.leaf ≡ Pass
-    passes [] x = refl
-    passes (r ∷ around) x = passes around x
-
-    found : (o : Option Placed) → found_answer (events.Command c) p env o ≡ Pass
-    found None = refl
-    found (Some x) = passes x.around x
 
 -- ---- the parts of a group's answer
 

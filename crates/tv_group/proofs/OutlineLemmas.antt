@@ -52,14 +52,6 @@ used-up xs views rest b p e =
 pub not-followed : (xs : List Outlined) (views : List Node) → ((rest : List Node) → Follows xs views rest → ⊥) → xs ≡ map declared views → ⊥
 not-followed xs views none same = none [] (all-follows xs views same)
 
--- one part
-pub follows-one : (x : Outlined) (nodes : List Node) (first : Node) (rest : List Node) → nodes ≡ first ∷ rest → x ≡ declared first → Follows (x ∷ []) nodes rest
-follows-one x nodes first rest e f = rw e (f, refl)
-
-pub one-follows : (x : Outlined) (nodes rest : List Node) → Follows (x ∷ []) nodes rest → (first : Node) × (nodes ≡ first ∷ rest) × (x ≡ declared first)
-one-follows x [] rest p = absurd p
-one-follows x (n ∷ ns) rest p = (n, ap (λ t. n ∷ t) p.1, p.0)
-
 -- ---- the equations of outlines
 
 module _ {V : Type 0} (look : V → Leaf) where

@@ -1,18 +1,13 @@
 -- One text after another, at a writer.
-use Rattle.std.proofs.Common.{◌≡◌, ℕ, ◌<◌, ◌≤◌, ◌+◌, ◌-◌, List, [], ◌++◌, length, take, drop, length-drop, Option, Some, None, refl, sym, ap, ◌∙◌, append_assoc, arith, length-append}
+use Rattle.std.proofs.Common.{◌≡◌, ℕ, ◌≤◌, ◌+◌, ◌-◌, List, [], ◌++◌, length, take, drop, length-drop, Option, Some, None, refl, sym, ap, ◌∙◌, append_assoc, arith, length-append}
 use Rattle.std.proofs.lemmas.List.{append-nil, take_all}
 use Rattle.std.proofs.Math.Seq.{take-add}
-use Rattle.std.specs.Io.KnownBytes.{Appends, Keeps}
-use Rattle.tv_io.specs.Writer.{Seen, Takes, Fails, Cuts, HasRisen}
+use Rattle.std.specs.Io.KnownBytes.{Appends}
+use Rattle.tv_io.specs.Writer.{Seen, Takes, Cuts, HasRisen}
 
 pub Appends-none : (a : Option (List ℕ)) → Appends a a []
 Appends-none None = tt
 Appends-none (Some xs) = sym (append-nil xs)
-
-pub Appends-keeps : (a b : Option (List ℕ)) → Keeps a b → Appends a b []
-Appends-keeps None b kept = tt
-Appends-keeps (Some xs) None kept = absurd kept
-Appends-keeps (Some xs) (Some ys) kept = kept ∙ sym (append-nil xs)
 
 pub Appends-then : (a b c : Option (List ℕ)) (x y : List ℕ) → Appends a b x → Appends b c y → Appends a c (x ++ y)
 Appends-then None b c x y p q = tt
@@ -49,17 +44,6 @@ Cuts-after {a} {b} {c} x y p q = record {
   proper = q.proper;
   bytes = Appends-then a.taken b.taken c.taken x q.front p.bytes q.bytes;
   count = risen p.count q.count;
-}
-
--- a call that failed with some of the text left
-pub Cuts-all : {a b : Seen} (x : List ℕ) → 0 < length x → Fails a b → Cuts a b x
-Cuts-all {a} {b} x some p = record {
-  front = [];
-  rest = x;
-  parts = refl;
-  proper = some;
-  bytes = Appends-keeps a.taken b.taken p.bytes;
-  count = p.count;
 }
 
 -- the same text by another name

@@ -30,9 +30,6 @@ pub record IsWritten (f : ℕ → Glyph → Glyph) (from : ℕ) (old now : List 
 
 -- ---- rows of spots
 
-pub changes_still : (f : ℕ → Glyph → Glyph) (from : ℕ) (old : List Glyph) → ((i : ℕ) → i < length old → f (from + i) (slice_index_or old i blank) ≡ slice_index_or old i blank) → ChangesRow f from old old
-changes_still f from old same = record { count = refl; each = λ i on. sym (same i on) }
-
 module _ {Entry : Type 0} (text : Entry → List ℕ) (cell : Spot Entry → Glyph) where
   -- what is written of entries, the first of which has a place and begins in a column
   abbrev pub spots_over : ℕ → ℕ → List Entry → ℕ → Glyph → Glyph
@@ -41,14 +38,6 @@ module _ {Entry : Type 0} (text : Entry → List ℕ) (cell : Spot Entry → Gly
   none_before : (place first : ℕ) (entries : List Entry) (column : ℕ) → nat_lt column first ≡ true → spot_in text place first entries column ≡ None
   none_before place first [] column h = refl
   none_before place first (entry ∷ entries) column h = rw h refl
-
-  pub spots_none : (place first from : ℕ) (entries : List Entry) (old : List Glyph) → entries ≡ [] → ChangesRow (spots_over place first entries) from old old
-  spots_none place first from entries old is = rw is (changes_still (spots_over place first []) from old (λ i on. refl))
-
-  pub spots_beyond : (place first from : ℕ) (entries : List Entry) (old : List Glyph) → from + length old ≤ first → ChangesRow (spots_over place first entries) from old old
-  spots_beyond place first from entries old beyond =
-      changes_still (spots_over place first entries) from old
-      (λ i on. ap (λ spot. over_spot cell spot (slice_index_or old i blank)) (none_before place first entries (from + i) (lt_true (from + i) first (omega arith))))
 
   module _ (place first : ℕ) (entry : Entry) (others : List Entry) (shows : ℕ → Glyph) (same : (column : ℕ) → shows column ≡ cell (record { entry = entry; place = place; column = column })) where
     abbrev count : ℕ

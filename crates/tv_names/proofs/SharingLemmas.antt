@@ -172,10 +172,6 @@ pub apart_next : (had has : ℤ → Bool) (item : Option ℤ) (items : List (Opt
     → are_apart_from had (item ∷ items) ≡ are_apart_from has items
 apart_next had has item items new put = ap (λ b. b && are_apart_from (or_option_item had item) items) new ∙ same_given (or_option_item had item) has (λ other. sym (put other)) items
 
--- it isn't
-pub apart_ends : (had : ℤ → Bool) (item : Option ℤ) (items : List (Option ℤ)) → is_new had item ≡ false → are_apart_from had (item ∷ items) ≡ false
-apart_ends had item items old = ap (λ b. b && are_apart_from (or_option_item had item) items) old
-
 -- ---- one item after the other
 
 -- what is left of a list from one of its items on
@@ -188,12 +184,6 @@ module _ {A : Type 0} (p : A → Bool) (xs : List A) (i : ℕ) (x : A) (less : i
 
   pub all_ends : p x ≡ false → list_all p (drop i xs) ≡ false
   all_ends fails = ap (list_all p) (rest_at xs i x less is) ∙ ap (λ b. b && list_all p (drop (i + 1) xs)) fails
-
-  pub find_next : p x ≡ false → find p (drop (i + 1) xs) ≡ find p (drop i xs)
-  find_next fails = sym (ap (find p) (rest_at xs i x less is) ∙ ap (λ b. cond b (Some x) (find p (drop (i + 1) xs))) fails)
-
-  pub find_here : p x ≡ true → find p (drop i xs) ≡ Some x
-  find_here passes = ap (find p) (rest_at xs i x less is) ∙ ap (λ b. cond b (Some x) (find p (drop (i + 1) xs))) passes
 
 -- ---- markers by places
 

@@ -11,10 +11,6 @@ use Rattle.tv_pictures.specs.Pictures.{item_svgs, named_shots, session_svg, shot
 
 -- ---- what an album gains
 
-pub gains-none : (a : Option (List NamedPicture)) → Gains a a []
-gains-none None = tt
-gains-none (Some xs) = sym (append-nil xs)
-
 pub gains-then : (a b c : Option (List NamedPicture)) (x y : List NamedPicture) → Gains a b x → Gains b c y → Gains a c (x ++ y)
 gains-then None b c x y p q = tt
 gains-then (Some a) None c x y p q = absurd p

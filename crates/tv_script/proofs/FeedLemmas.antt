@@ -1,5 +1,5 @@
 -- What a line, a byte and a piece add to what was performed of a script.
-use Rattle.std.proofs.Common.{◌≡◌, ◌≢◌, ℕ, ◌+◌, ◌<◌, Bool, true, false, List, [], ◌∷◌, ◌++◌, length, Result, Ok, Err, IsErrAnd, OnOk, refl, sym, ap, ◌∙◌, append_assoc, subst, arith, length-append}
+use Rattle.std.proofs.Common.{◌≡◌, ◌≢◌, ℕ, ◌+◌, ◌<◌, Bool, true, false, List, [], ◌∷◌, ◌++◌, length, Result, Ok, Err, IsErrAnd, OnOk, refl, sym, ap, ◌∙◌, subst, arith, length-append}
 use Rattle.std.specs.List.{AllByRecursion}
 use Rattle.std.specs.Prelude.{MatchResult}
 use Rattle.std.proofs.lemmas.List.{append-nil}
@@ -11,14 +11,13 @@ use Rattle.tv_io.proofs.WriterLemmas.{Takes-then}
 use Rattle.tv_machine.specs.Output.{output}
 use Rattle.tv_machine.specs.Run.{Session}
 use Rattle.tv_model.specs.declared.script.Item.{Item}
-use Rattle.tv_script.proofs.EndedLemmas.{all_push, ended_push, open_push}
+use Rattle.tv_script.proofs.EndedLemmas.{all_push, ended_push}
 use Rattle.tv_script.proofs.StreamLemmas.{breaks_mid, reading_push}
 use Rattle.tv_script.specs.declared.feed.Feed.{Feed}
 use Rattle.tv_script.specs.declared.script_text.ScriptFault.{ScriptFault}
 use Rattle.tv_script.specs.declared.script_text.ScriptFault.TheVariants as scripts
 use Rattle.tv_script.specs.declared.stream_fault.StreamFault.{StreamFault}
 use Rattle.tv_script.specs.declared.stream_fault.StreamFault.TheVariants as streams
-use Rattle.tv_script.specs.Lines.{ends_line}
 use Rattle.tv_script.specs.Performed.{Stops}
 use Rattle.tv_script.specs.Reading.Scripts.{script_from, with_bytes}
 use Rattle.tv_script.specs.Reading.Streams.{BeginsLine, HasPlayed, HasScreenOf, IsFed, IsUnended, IsUnplayed, with_line_ends, stream_fault}
@@ -59,20 +58,6 @@ module _ (s : Session) (lines : List (List ℕ)) (line : List ℕ) (from now : S
   played_line begun items longer read is count performs = record { items = longer; read = reading_push s.desc.width s.desc.height lines items line read ∙ is; count = count; performs = performs }
 
 -- ---- a byte
-
-module _ (s : Session) (from now : Seen) (Left : Session → Type 0) where
-  -- one of the line at hand
-  pub fed_push : (old new : Feed) (given : List ℕ) (byte : ℕ) → IsFed s old given from now Left → ends_line byte ≡ false → new.line.items ≡ old.line.items ++ byte ∷ [] → new.lines ≡ old.lines → new.items ≡ old.items → new.bytes ≡ old.bytes + 1 → new.width ≡ old.width → new.height ≡ old.height → IsFed s new (given ++ byte ∷ []) from now Left
-  fed_push old new given byte fed is line lines items bytes width height = record {
-    screen = record { width = width ∙ fed.screen.width; height = height ∙ fed.screen.height };
-    lines = fed.lines;
-    parts = ap (λ x. x ++ byte ∷ []) fed.parts ∙ append_assoc (with_line_ends fed.lines) old.line.items (byte ∷ []) ∙ ap (λ x. with_line_ends fed.lines ++ x) (sym line);
-    whole = fed.whole;
-    open_line = subst IsUnended (sym line) (open_push old.line.items byte fed.open_line is);
-    number = lines ∙ fed.number;
-    bytes = omega (arith, bytes, fed.bytes, length-append given (byte ∷ []));
-    played = record { items = fed.played.items; read = fed.played.read; count = items ∙ fed.played.count; performs = fed.played.performs };
-  }
 
 -- a line end, after which the next line begins
 pub fed_end : (s : Session) (from then : Seen) (After : Session → Type 0) (old new : Feed) (given : List ℕ) (byte : ℕ) (lines : List (List ℕ)) → HasScreenOf s old → byte ≡ 10 → given ≡ with_line_ends lines ++ old.line.items → AllByRecursion IsUnended lines → IsUnended old.line.items → old.lines ≡ length lines → old.bytes ≡ length given + 1 → BeginsLine old new → HasPlayed s (lines ++ old.line.items ∷ []) new.items from then After → IsFed s new (given ++ byte ∷ []) from then After

@@ -1,6 +1,5 @@
 -- One item more, and a writer that fails at one.
 use Rattle.std.proofs.Common.{◌≡◌, ℕ, ◌+◌, ◌<◌, List, [], ◌∷◌, ◌++◌, Result, IfErr, length, get_or, take, refl, sym, ap, subst, ◌∙◌, append_assoc, arith, length-append}
-use Rattle.std.proofs.lemmas.List.{append-nil}
 use Rattle.std.proofs.Math.Seq.{take-append-add, take-append_seam}
 use Rattle.tv_model.specs.declared.script.Item.{Item}
 use Rattle.tv_machine.specs.Run.{Session, quiet}
@@ -62,9 +61,6 @@ module _ (s : Session) (items : List Item) (item : Item) where
 
 pub first_stops : (s : Session) (items : List Item) {a b : Seen} (Left : Session → Type 0) → Left (quiet s) → Cuts a b (log_text s.desc s.state.log) → Stops s items 0 a b Left
 first_stops s items Left stands p = record { few = omega arith; cut = Cuts-longer (log_text s.desc s.state.log) [] p; whole = λ k e. absurd (omega arith); state = stands }
-
-pub first_takes : (s : Session) (items : List Item) {a b : Seen} → Takes a b (log_text s.desc s.state.log) → Takes a b (output s (take 0 items))
-first_takes s items p = rw append-nil p
 
 -- how a list of items stops, said of the script whose items they are, and of the writer that was lent
 pub stops_of : (items script : List Item) → items ≡ script → (result : Result (Unit {0}) ℕ) (old new left : Seen) (Given Left : Session → Type 0) → new ≡ left

@@ -282,10 +282,6 @@ module _ (width height : ℤ) where
   spelled_answer (Err TooLong) text script e spelled =
       absurd (elim (read_refused text TooLong e) [ inl long ↦ absurd (omega (arith, long, spelled.short)) | inr faulty ↦ unspelled text script spelled faulty.0 faulty.1 ])
 
-  -- a script that is spelled is read
-  pub spelled_read : (text : List ℕ) (script : List Item) → SpellsAScript width height text script → script_of width height text ≡ Ok script
-  spelled_read text script spelled = spelled_answer (script_of width height text) text script refl spelled
-
   -- ---- the answers of `parse_items`
 
   answered : (text : List ℕ) (fault : ScriptFault) → IsAnswered fault (script_of width height text) → RefusesScript width height text fault

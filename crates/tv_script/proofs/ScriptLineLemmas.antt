@@ -1,10 +1,6 @@
 -- What a line that is judged in place comes to.
-use Rattle.std.proofs.Common.{◌≡◌, ℕ, ℤ, Bool, true, false, cond, List, [], ◌∷◌, length, nat_le, Option, Some, None, option_and_then, refl, ap, ◌∙◌}
-use Rattle.std.specs.Option.{option_map}
-use Rattle.tv_model.specs.declared.script.Item.{Item}
-use Rattle.tv_script.specs.declared.line.Line.{Line}
-use Rattle.tv_script.specs.Reading.Lines.{script_line_in, line_read, words_read}
-use Rattle.tv_script.specs.Reading.Scripts.{with_bytes, with_found, with_read, with_words}
+use Rattle.std.proofs.Common.{◌≡◌, ℕ, Bool, true, false, cond, List, [], ◌∷◌, length, nat_le, Option, Some, None, option_and_then, refl, ap, ◌∙◌}
+use Rattle.tv_script.specs.Reading.Lines.{line_read, words_read}
 use Rattle.tv_words.specs.declared.word.Word.{Word}
 use Rattle.tv_words.specs.Reading.LineWords.{line_words}
 use Rattle.tv_words.specs.Tokens.{at_most_three}
@@ -25,17 +21,3 @@ few_read (Some (a ∷ b ∷ c ∷ d ∷ ws)) = few_if a b c d ws (nat_le (length
 -- a line is read by its words where there are no more than three
 pub tokens_read : (line : List ℕ) (o : Option (List Word)) → o ≡ option_and_then at_most_three (line_words line) → words_read o ≡ line_read line
 tokens_read line o e = ap words_read e ∙ few_read (line_words line)
-
-module _ (width height : ℤ) (n : ℕ) (items : List Item) where
-  found_read : (o : Option Line) → with_found width height n items o ≡ with_read width height n items (option_map Some o)
-  found_read None = refl
-  found_read (Some l) = refl
-
-  words_with : (o : Option (List Word)) → with_words width height n items o ≡ with_read width height n items (words_read o)
-  words_with None = refl
-  words_with (Some []) = refl
-  words_with (Some (w ∷ ws)) = found_read (script_line_in (w ∷ ws))
-
-  -- a line of bytes is taken by what it is read as
-  pub bytes_read : (line : List ℕ) → with_bytes width height n items line ≡ with_read width height n items (line_read line)
-  bytes_read line = words_with (line_words line)

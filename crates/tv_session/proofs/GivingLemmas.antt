@@ -1,6 +1,5 @@
 -- A run to which the program gives a command.
-use Rattle.std.proofs.Common.{◌≡◌, ℕ, Bool, true, false, not, ◌&&◌, if◌then◌else◌, Option, Some, None, is_none, is_some, refl, sym, ap}
-use Rattle.std.specs.Option.{option_map}
+use Rattle.std.proofs.Common.{◌≡◌, ℕ, Bool, true, false, not, ◌&&◌, if◌then◌else◌, Option, Some, None, is_none, refl, sym, ap}
 use Rattle.std.proofs.lemmas.Bool.{true≢false}
 use Rattle.tv_laws.proofs.RunLemmas.{shut-fit}
 use Rattle.tv_machine.specs.Session.Commands.{do_command}
@@ -45,14 +44,6 @@ given-taken d s number takes = ap (λ (b : Bool). if b then do_command d number 
 
 pub given-refused : (d : Desc) (s : State) (number : ℕ) → takes_command d s number ≡ false → give_command d s number ≡ with_empty_log s
 given-refused d s number refused = ap (λ (b : Bool). if b then do_command d number (close_menu (with_empty_log s)) else with_empty_log s) refused
-
-pub none_mapped : {A B : Type 0} (f : A → B) (o : Option A) → is_none (option_map f o) ≡ is_none o
-none_mapped f None = refl
-none_mapped f (Some x) = refl
-
-pub not_some : {A : Type 0} (o : Option A) → not (is_some o) ≡ is_none o
-not_some None = refl
-not_some (Some x) = refl
 
 -- ---- how it is done
 

@@ -8,9 +8,6 @@ use Rattle.tv_machine.specs.Screen.Layers.{layers_of}
 use Rattle.tv_machine.specs.State.{State}
 use Rattle.tv_script.specs.Performed.{IsScreenOf}
 
-pub alike_then : {a b c : Picture} → IsAlike a b → IsAlike b c → IsAlike a c
-alike_then p q = record { width = q.width ∙ p.width; height = q.height ∙ p.height }
-
 -- a screen that is painted anew
 pub shown_again : (d lent : Desc) (s t : State) (old new : Picture) → lent ≡ d → IsScreenOf (record { desc = d; state = s }) old
     → IsAlike old new × Shows (layers_of lent t) new → IsScreenOf (record { desc = d; state = t }) new

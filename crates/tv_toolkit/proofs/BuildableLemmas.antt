@@ -1,5 +1,5 @@
 -- The windows and dialogs of a checked description can be made.
-use Rattle.std.proofs.Common.{◌≡◌, ◌≢◌, ℕ, zero, suc, true, false, ◌+◌, ◌<◌, ◌≤◌, if◌then◌else◌, List, [], ◌∷◌, All, IsTrue, add-one, length, refl, sym, ap, subst, ◌∙◌, arith}
+use Rattle.std.proofs.Common.{◌≡◌, ◌≢◌, ℕ, false, ◌+◌, ◌≤◌, if◌then◌else◌, List, [], ◌∷◌, All, IsTrue, add-one, length, refl, sym, ap, subst, ◌∙◌, arith}
 use Rattle.std.specs.List.{AllByRecursion}
 use Rattle.std.proofs.lemmas.Bool.{false≢true}
 use Rattle.std.proofs.lemmas.List.Elements.{All-from_recursion, All-head, All-tail}
@@ -18,6 +18,7 @@ use Rattle.tv_model.specs.declared.node.Node.{Node}
 use Rattle.tv_model.specs.Description.LawfulNodes.{IsLawfulNode}
 use Rattle.tv_model.specs.Description.Limits.{most_nested}
 use Rattle.tv_model.specs.Description.Nodes.{is_pane}
+use Rattle.tv_toolkit.specs.Making.{IsLeafNode}
 use Rattle.tv_toolkit.specs.Buildable.{AreBuildable, AreLeft, IsBuildable, IsBuildableDialog, IsBuildableWindow}
 
 -- the view isn't nested too deep
@@ -70,22 +71,17 @@ module _ (d : Desc) (is : IsDescription d) (s : Sound d) where
 -- ---- kinds
 
 -- a view that is no pane is no owner either
-pub no_owner : (kind : Kind) → IsTrue (is_view kind) → is_pane kind ≡ false → is_owner kind ≡ false
+no_owner : (kind : Kind) → IsTrue (is_view kind) → is_pane kind ≡ false → is_owner kind ≡ false
 no_owner (kinds.Window head) is pane = absurd (false≢true is)
 no_owner (kinds.Dialog head) is pane = absurd (false≢true is)
 no_owner (kinds.Pane own) is pane = absurd cc
 no_owner _ is pane = refl
 
+-- so it is the node of a leaf
+pub leaf_node : (view : Node) → IsBuildable view → is_pane view.kind ≡ false → IsLeafNode view
+leaf_node view own leaf = record { lawful = own.lawful; no_owner = no_owner view.kind own.view leaf }
+
 -- ---- views that are left
-
-pub left_none : (panes : ℕ) (views : List Node) → views ≡ [] → AreLeft panes views
-left_none zero views is = is
-left_none (suc panes) views is = rw is tt
-
--- a view in fewer panes, and all behind it
-pub left_before : (panes : ℕ) (views : List Node) (view : Node) (behind : List Node) → views ≡ view ∷ behind → view.depth < panes → AreBuildable panes views → AreLeft panes views
-left_before zero views view behind is less are = absurd (omega (arith, less))
-left_before (suc panes) views view behind is less are = let own = rw is at are in rw is (own.0, omega (arith, less), own.2)
 
 module _ (panes : ℕ) (views : List Node) (view : Node) (behind : List Node) (is : views ≡ view ∷ behind) (are : AreBuildable panes views) where
   pub first_lawful : IsBuildable view
@@ -97,14 +93,6 @@ module _ (panes : ℕ) (views : List Node) (view : Node) (behind : List Node) (i
   -- behind a leaf, and in a pane
   pub behind_leaf : is_pane view.kind ≡ false → view.depth ≡ panes → AreBuildable panes behind
   behind_leaf leaf depth = let own = rw is at are in subst (λ n. AreBuildable n behind) (ap (λ b. if b then view.depth + 1 else view.depth) leaf ∙ depth) own.2
-
-  pub inside_pane : is_pane view.kind ≡ true → view.depth ≡ panes → AreBuildable (panes + 1) behind
-  inside_pane pane depth =
-      let own = rw is at are in
-      subst (λ n. AreBuildable n behind) (ap (λ b. if b then view.depth + 1 else view.depth) pane ∙ ap (λ n. n + 1) depth) own.2
-
-  pub pane_above : is_pane view.kind ≡ true → view.depth ≡ panes → panes ≢ 4
-  pane_above pane depth e = let own = rw is at are in own.0.nested pane (depth ∙ e)
 
 pub after_pane : (panes : ℕ) (after : List Node) → AreLeft (panes + 1) after → AreBuildable panes after
 after_pane panes after left = subst (λ n. AreLeft n after) (add-one panes) left

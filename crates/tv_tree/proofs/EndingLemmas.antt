@@ -1,35 +1,28 @@
 -- What a dialog's tree answers where the dialog ends, and what commands leave of the dialog.
-use Rattle.std.proofs.Common.{◌≡◌, Bool, true, false, cond, ◌||◌, ◌==◌, ◌+◌, ◌≤◌, ℕ, suc, nat_lt, nat_le, if◌then◌else◌, List, [], ◌∷◌, ◌++◌, map, find, filter_map, length, get_or, Option, Some, None, option_map, is_some, refl, sym, ap, subst, ◌∙◌, All, arith, append_assoc, append-nil, length-append, lt-ltb}
+use Rattle.std.proofs.Common.{◌≡◌, Bool, true, false, cond, ◌||◌, ◌==◌, ◌+◌, ◌≤◌, ℕ, suc, nat_lt, if◌then◌else◌, List, [], ◌∷◌, ◌++◌, map, find, filter_map, length, get_or, Option, Some, None, option_map, is_some, refl, sym, ap, subst, ◌∙◌, All, arith, append_assoc, append-nil, length-append, lt-ltb}
 use Rattle.std.specs.List.{cons_option}
 use Rattle.std.specs.Option.{option_or}
 use Rattle.std.proofs.lemmas.Bool.{or_right}
 use Rattle.std.proofs.lemmas.List.Elements.{All-head, All-tail}
 use Rattle.tv_model.specs.declared.node.Id.{Id}
 use Rattle.tv_model.specs.declared.node.Node.{Node}
-use Rattle.tv_model.specs.declared.command.CommandSpec.{CommandSpec}
 use Rattle.tv_model.specs.declared.record.Entry.{Entry}
 use Rattle.tv_model.specs.declared.record.Value.{Value}
 use Rattle.tv_model.specs.declared.desc.Dialog.{Dialog}
-use Rattle.tv_model.specs.declared.log.LogLine.TheVariants as lines
-use Rattle.tv_model.specs.Description.Commands.{command_number, command_of, is_declared}
-use Rattle.tv_model.specs.Description.Heads.{dialog_head}
 use Rattle.tv_model.specs.Description.Nodes.{is_pane}
 use Rattle.tv_model.specs.Log.Record.{Entries, value_of, with_value}
 use Rattle.tv_machine.specs.State.{LeafState}
 use Rattle.tv_machine.specs.Leaves.{PlacedNode, leaf_list, leaves_in, open_after, open_at}
-use Rattle.tv_machine.specs.Dialog.Ending.{command, end_by, ended, entry_of, fields_of, first_invalid, is_invalid_leaf, press, pressed_by, shown_invalid}
-use Rattle.tv_machine.specs.Dialog.Focus.{focus_moved, is_free_at}
+use Rattle.tv_machine.specs.Dialog.Ending.{ended, entry_of, fields_of, first_invalid, is_invalid_leaf}
 use Rattle.tv_machine.specs.Dialog.Rules.{content_by, is_among, state_of}
-use Rattle.tv_machine.specs.Dialog.Modal.{Modal, content_at, with_line}
+use Rattle.tv_machine.specs.Dialog.Modal.{Modal, content_at}
 use Rattle.tv_view.specs.Calls.{gathered, invalid_id, with_field}
 use Rattle.tv_group.specs.Calls.{first_invalid_in, first_some, gathered_within}
 use Rattle.tv_machine.specs.Dialog.Lawful.{IsLawfulDialog}
 use Rattle.tv_tree.specs.Tree.{IsSteady, leaf_as, placed_as, tree_as}
 use Rattle.tv_machine.proofs.ListLemmas.{AreApart, bool_cases, find-member, id-swap, others-fail}
 use Rattle.tv_tree.proofs.FoundLemmas.{first_some-map}
-use Rattle.tv_tree.proofs.FocusTreeLemmas.{steady-line}
 use Rattle.tv_machine.proofs.MarkLemmas.{value_by}
-use Rattle.tv_tree.proofs.StandingLemmas.{steady-moved}
 use Rattle.tv_machine.proofs.LeafLemmas.{HasLeaves, ids-apart, leaf_id, state_id}
 
 -- ---- a text outside its domain
@@ -160,36 +153,3 @@ module _ (d : Dialog) (lawful : IsLawfulDialog d) where
 
   pub steady-ended : (number : ℕ) (m : Modal) → IsSteady d m → IsSteady d (ended d number m)
   steady-ended number m steady = record { leaves = steady.leaves; contents = steady.contents }
-
-  steady_if : (b : Bool) (m n : Modal) → IsSteady d m → IsSteady d n → IsSteady d (if b then m else n)
-  steady_if true m n p q = p
-  steady_if false m n p q = q
-
-  pub steady-shown_invalid : (i : Id) (m : Modal) → IsSteady d m → IsSteady d (shown_invalid d i m)
-  steady-shown_invalid i m steady =
-      steady_if (i.0 == m.focus.0) m (if is_free_at d m.leaves i then focus_moved d i m else m) steady
-      (steady_if (is_free_at d m.leaves i) (focus_moved d i m) m (steady-moved d lawful m i steady) steady)
-
-  pub steady-end_by : (number : ℕ) (invalid : Option Id) (m : Modal) → IsSteady d m → IsSteady d (end_by d number invalid m)
-  steady-end_by number None m steady = steady-ended number m steady
-  steady-end_by number (Some i) m steady =
-      steady-shown_invalid i (with_line (lines.Invalid i) m) (steady-line d lawful (lines.Invalid i) m steady)
-
-  pub steady-command : (number : ℕ) (m : Modal) → IsSteady d m → IsSteady d (command d number m)
-  steady-command number m steady =
-      steady_if ((number == 4) || (number == 11)) (ended d 11 m)
-      (if is_declared (dialog_head d).ends number then end_by d number (first_invalid d m) m
-      else if nat_le 100 number then with_line (lines.Command number) m else m)
-      (steady-ended 11 m steady)
-      (steady_if (is_declared (dialog_head d).ends number) (end_by d number (first_invalid d m) m)
-      (if nat_le 100 number then with_line (lines.Command number) m else m)
-      (steady-end_by number (first_invalid d m) m steady)
-      (steady_if (nat_le 100 number) (with_line (lines.Command number) m) m (steady-line d lawful (lines.Command number) m steady) steady))
-
-  steady_pressed_by : (i : Id) (o : Option CommandSpec) (m : Modal) → IsSteady d m → IsSteady d (pressed_by d i o m)
-  steady_pressed_by i None m steady = steady
-  steady_pressed_by i (Some c) m steady =
-      steady-command (command_number c) (with_line (lines.Press i) m) (steady-line d lawful (lines.Press i) m steady)
-
-  pub steady-press : (leaf : PlacedNode) (m : Modal) → IsSteady d m → IsSteady d (press d leaf m)
-  steady-press leaf m steady = steady_pressed_by leaf.node.id (command_of leaf.node.kind) m steady

@@ -8,11 +8,10 @@ use Rattle.tv_model.specs.declared.node.Id.{Id}
 use Rattle.tv_model.specs.declared.record.Entry.{Entry}
 use Rattle.tv_model.specs.declared.record.Value.{Value}
 use Rattle.tv_model.specs.declared.desc.Dialog.{Dialog}
-use Rattle.tv_model.specs.declared.log.LogLine.TheVariants as lines
 use Rattle.tv_model.specs.Log.Record.{Entries, value_of, with_value}
 use Rattle.tv_machine.specs.State.{LeafState}
 use Rattle.tv_machine.specs.Leaves.{PlacedNode, leaf_list}
-use Rattle.tv_machine.specs.Dialog.Ending.{entry_of, field_line, fields_of}
+use Rattle.tv_machine.specs.Dialog.Ending.{entry_of, fields_of}
 use Rattle.tv_machine.specs.Dialog.Rules.{content_by, is_among, state_of}
 use Rattle.tv_machine.specs.Dialog.Modal.{Modal, content_at}
 use Rattle.tv_machine.specs.Safe.{field_ids, is_field}
@@ -167,28 +166,6 @@ module _ (d : Dialog) (lawful : IsLawfulDialog d) (m : Modal) (leaves : HasLeave
 
   own_entries : filter_map (entry_at m) (leaf_list d.views) ≡ fields_of m.leaves
   own_entries = entries_are m (leaf_list d.views) m.leaves leaves (find-member state_id m.leaves (states-apart d lawful m leaves))
-
-  -- the lines of the fields, one leaf after the other
-  pub field-lines : filter_map (λ leaf. option_map (lines.Field leaf.node.id) (value_of (fields_of m.leaves) leaf.node.id.0))
-      (leaf_list d.views) ≡ map field_line (fields_of m.leaves)
-  field-lines = of (leaf_list d.views) ∙ ap (map field_line) own_entries
-    where
-      line : (i : Id) (value : Option Value) (entries : Entries)
-          → cons_option (option_map (lines.Field i) value) (map field_line entries)
-          ≡ map field_line (cons_option (option_map (entry_with i) value) entries)
-      line i None entries = refl
-      line i (Some value) entries = refl
-
-      of : (xs : List PlacedNode)
-          → filter_map (λ leaf. option_map (lines.Field leaf.node.id) (value_of (fields_of m.leaves) leaf.node.id.0)) xs
-          ≡ map field_line (filter_map (entry_at m) xs)
-      of [] = refl
-      of (x ∷ xs) =
-          ap (λ value. cons_option (option_map (lines.Field x.node.id) value)
-          (filter_map (λ leaf. option_map (lines.Field leaf.node.id) (value_of (fields_of m.leaves) leaf.node.id.0)) xs))
-          (value-fields x.node.id)
-          ∙ ap (cons_option (option_map (lines.Field x.node.id) (content_at m x.node.id).value)) (of xs)
-          ∙ line x.node.id (content_at m x.node.id).value (filter_map (entry_at m) xs)
 
 module _ (d : Dialog) (lawful : IsLawfulDialog d) (m : Modal) (steady : IsSteady d m) where
   all_held : AreHeld m (leaf_list d.views)

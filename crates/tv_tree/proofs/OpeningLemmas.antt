@@ -1,6 +1,5 @@
 -- A dialog's tree as the dialog opens with a record: the values are set, rules are applied, and the first free control has the focus.
 use Rattle.std.proofs.Common.{◌≡◌, Bool, true, false, cond, ◌&&◌, ◌||◌, ◌==◌, ℕ, if◌then◌else◌, List, [], ◌∷◌, map, filter, find, Option, Some, None, option_map, is_some, refl, sym, ap, subst, ◌∙◌}
-use Rattle.std.specs.Prelude.{unwrap_or}
 use Rattle.std.specs.List.{list_any}
 use Rattle.std.specs.Option.{option_or}
 use Rattle.std.proofs.lemmas.Bool.{true≢false, false≢true}
@@ -19,19 +18,16 @@ use Rattle.tv_model.specs.Controls.Private.{Private, Plain}
 use Rattle.tv_machine.specs.Leaves.{PlacedNode, leaf_list}
 use Rattle.tv_model.specs.Controls.Contents.{Content}
 use Rattle.tv_machine.specs.Dialog.Focus.{first_free, is_free_at, is_free_leaf, stop_of, stops_of}
-use Rattle.tv_machine.specs.Dialog.Opening.{first_focus, opened_dialog, opened_leaf, opened_leaves, recorded, unfocused}
+use Rattle.tv_machine.specs.Dialog.Opening.{opened_leaf, recorded, unfocused}
 use Rattle.tv_machine.specs.Dialog.Rules.{content_by, is_among, is_free, state_of}
 use Rattle.tv_machine.specs.Dialog.Modal.{Modal, content_at, leaf_at}
 use Rattle.tv_machine.specs.Safe.{field_ids, is_field}
-use Rattle.tv_view.specs.declared.env.Rules.{Rules}
 use Rattle.tv_view.specs.Calls as calls
-use Rattle.tv_group.specs.Calls.{FitsAll, all_applied, all_focused, all_set, in_place_unmarked}
+use Rattle.tv_group.specs.Calls.{FitsAll, all_set, in_place_unmarked}
 use Rattle.tv_machine.specs.Dialog.Lawful.{IsLawfulDialog}
-use Rattle.tv_tree.specs.Tree.{HoldsNothing, IsSteady, IsSteadyAs, IsSteadyContent, IsSteadyLeaf, around_of, held_at, placed_as, tree_as, tree_of}
+use Rattle.tv_tree.specs.Tree.{HoldsNothing, IsSteady, IsSteadyAs, IsSteadyContent, IsSteadyLeaf, around_of, held_at, placed_as, tree_as}
 use Rattle.tv_machine.proofs.ListLemmas.{All-unmap, any-found, bool_cases, find-map, found-passes, has, map-map, on_found, option_cases}
-use Rattle.tv_tree.proofs.FocusTreeLemmas.{focused-tree}
-use Rattle.tv_tree.proofs.RuledLemmas.{AreRulesOf, applied-tree}
-use Rattle.tv_tree.proofs.StandingLemmas.{standing, standing_leaf, steady-moved}
+use Rattle.tv_tree.proofs.StandingLemmas.{standing, standing_leaf}
 use Rattle.tv_machine.proofs.LeafLemmas.{HasLeaves, IsIn, found-in, ids-apart, leaf_at-all, leaf_at-is, leaf_id, leaves-are, leaves-same, own-fails, state_id}
 use Rattle.tv_tree.proofs.TreeLemmas.{steady-leaf}
 
@@ -240,10 +236,6 @@ module _ (d : Dialog) (lawful : IsLawfulDialog d) (entries : Entries) (fields : 
   pub steady-unfocused : (ruled : List LeafState) (m : Modal) → FitsAll entries (tree_as d ruled m) → IsSteady d shut
   steady-unfocused ruled m fits = steady_suited (fits_leaf ruled m fits)
 
-  pub steady-opened : (ruled : List LeafState) (m : Modal) → FitsAll entries (tree_as d ruled m)
-      → IsSteady d (opened_dialog d (Some entries) overwriting)
-  steady-opened ruled m fits = steady-moved d lawful shut (first_focus d (opened_leaves d (Some entries))) (steady-unfocused ruled m fits)
-
 -- ---- the first focus
 
 module _ (d : Dialog) (lawful : IsLawfulDialog d) (leaves : List LeafState) where
@@ -267,26 +259,3 @@ module _ (d : Dialog) (lawful : IsLawfulDialog d) (leaves : List LeafState) wher
       (λ leaf found f.
       ap (λ id. id.0 == d.node.id.0) (sym (leaf_at-is d i leaf found))
       ∙ leaf_at-all (λ other. (other.node.id.0 == d.node.id.0) ≡ false) d i leaf (own-fails d lawful) found) e
-
-  -- a lawful dialog has one
-  pub first_focus-free : is_free_at d leaves (first_focus d leaves) ≡ true
-  first_focus-free =
-      option_cases (first_free (stops_of d leaves)) (λ o. is_some o ≡ true → is_free_at d leaves (unwrap_or o d.node.id) ≡ true)
-      (λ none f. absurd (false≢true f)) (λ i is f. first-free i is) (lawful.«free» leaves)
-
-module _ (d : Dialog) (lawful : IsLawfulDialog d) (entries : Entries) (fields : map (λ entry. entry.id) entries ≡ field_ids d)
-    (overwriting : List Id) where
-  -- the whole: values, rules, focus
-  pub opened-tree : (rules : Rules) (ruled : List LeafState) (m : Modal) → IsSteady d m → OverwritesAlike d overwriting m
-      → FitsAll entries (tree_as d ruled m)
-      → AreRulesOf d (opened_leaves d (Some entries)) rules
-      → all_focused (first_focus d (opened_leaves d (Some entries))) (all_applied rules (all_set entries (tree_as d ruled m)))
-      ≡ tree_of d (opened_dialog d (Some entries) overwriting)
-  opened-tree rules ruled m steady alike fits are =
-      let shut_now = unfocused d (Some entries) overwriting in
-      let to = first_focus d (opened_leaves d (Some entries)) in
-      let is_free_now = first_focus-free d lawful (opened_leaves d (Some entries)) in
-      ap (λ xs. all_focused to (all_applied rules xs)) (set-tree d lawful entries fields overwriting ruled m steady alike)
-      ∙ ap (all_focused to) (applied-tree d lawful rules ruled shut_now are)
-      ∙ focused-tree d lawful shut_now to (steady-unfocused d lawful entries fields overwriting ruled m fits)
-      (free-other d lawful (opened_leaves d (Some entries)) to is_free_now) is_free_now

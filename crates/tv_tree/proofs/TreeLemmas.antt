@@ -1,6 +1,5 @@
 -- The leaves of a dialog's tree: how they are found, and what becomes of them where one holds something else.
-use Rattle.std.proofs.Common.{◌≡◌, Bool, true, false, ◌==◌, if◌then◌else◌, List, map, find, Some, None, option_map, refl, sym, ap, subst, ◌∙◌, All}
-use Rattle.std.proofs.lemmas.List.Elements.{All-map}
+use Rattle.std.proofs.Common.{◌≡◌, Bool, true, false, ◌==◌, if◌then◌else◌, List, map, find, Some, option_map, refl, sym, ap, subst, ◌∙◌}
 use Rattle.tv_model.specs.declared.node.Id.{Id}
 use Rattle.tv_model.specs.declared.desc.Dialog.{Dialog}
 use Rattle.tv_view.specs.Meaning.{Placed}
@@ -15,19 +14,9 @@ use Rattle.tv_machine.proofs.LeafLemmas.{HasLeaves, IsIn, content_at-changed, id
 use Rattle.tv_view.specs.Fields as fields
 use Rattle.tv_group.specs.Handling.{first_changed}
 use Rattle.tv_tree.specs.Tree.{IsSteady, IsSteadyContent, IsSteadyLeaf, around_of, held_at, placed_as, tree_as}
-use Rattle.tv_tree.proofs.FoundLemmas.{first_changed-found, first_changed-none}
+use Rattle.tv_tree.proofs.FoundLemmas.{first_changed-found}
 
 module _ (d : Dialog) (lawful : IsLawfulDialog d) where
-  -- trees are the same where each of their leaves stands the same
-  pub tree-same : (ruled other : List LeafState) (m n : Modal)
-      → ((leaf : PlacedNode) → IsIn d leaf → placed_as d ruled m leaf ≡ placed_as d other n leaf) → tree_as d ruled m ≡ tree_as d other n
-  tree-same ruled other m n same = leaves-same d lawful (placed_as d ruled m) (placed_as d other n) same
-
-  -- what is asked of each leaf of a tree
-  pub tree-all : (P : Placed → Type 0) (ruled : List LeafState) (m : Modal)
-      → ((leaf : PlacedNode) → IsIn d leaf → P (placed_as d ruled m leaf)) → All P (tree_as d ruled m)
-  tree-all P ruled m of = All-map P (placed_as d ruled m) (leaf_list d.views) (leaves-are d lawful (λ leaf. P (placed_as d ruled m leaf)) of)
-
   -- ---- trees
 
   -- the leaf in its place, where it holds this
@@ -83,13 +72,6 @@ module _ (d : Dialog) (lawful : IsLawfulDialog d) where
       → first_changed is_so change (tree_as d ruled m) ≡ map (where_id leaf.node.id change) (tree_as d ruled m)
   first_changed-tree is_so change ruled m leaf e =
       first_changed-found (λ x. x.leaf.node.id) is_so change (tree_as d ruled m) (placed_as d ruled m leaf) (tree-apart ruled m)
-      (find-tree is_so ruled m ∙ ap (option_map (placed_as d ruled m)) e)
-
-  pub first_changed-absent : (is_so : Placed → Bool) (change : Placed → Placed) (ruled : List LeafState) (m : Modal)
-      → find (λ other. is_so (placed_as d ruled m other)) (leaf_list d.views) ≡ None
-      → first_changed is_so change (tree_as d ruled m) ≡ tree_as d ruled m
-  first_changed-absent is_so change ruled m e =
-      first_changed-none (λ x. x.leaf.node.id) is_so change (tree_as d ruled m)
       (find-tree is_so ruled m ∙ ap (option_map (placed_as d ruled m)) e)
 
   -- ---- steady dialogs

@@ -118,17 +118,6 @@ pub record LooksSame (old new : Leaf) : Type 0 where
   pub shown : new.is_shown ≡ old.is_shown
   pub enabled : new.is_enabled ≡ old.is_enabled
 
-pub layers-same : (env : Env) (c : Canvas) (old new : Leaf) → LooksSame old new → leaf_layers env c old ≡ leaf_layers env c new
-unfolding leaf_layers
-layers-same env c old new same = rw (same.node, same.content, same.shown, same.enabled) refl
-
--- so a leaf that adds nothing is drawn alike
-pub damages-none : (old new : Leaf) (damage : List Rect) → LooksSame old new → Damages old new damage damage
-damages-none old new damage same = record {
-  drawn = λ env. record { each = λ c column row e under. ap (λ layers. cell_over layers column row under) (layers-same env c old new same) };
-  grown = record { kept = λ x y e. e; within = λ r h p. h };
-}
-
 -- the rectangle of a leaf lacks what the damage lacks, if the damage has all of it
 own-lacks : (r : Rect) (damage : List Rect) (c : Canvas) (column row : ℕ) (b : Bool) → HasAll r damage → has_seen damage c column row ≡ false
     → is_in (shifted r c.origin) (pos column) (pos row) ≡ b → is_in (shifted r c.origin) (pos column) (pos row) ≡ false

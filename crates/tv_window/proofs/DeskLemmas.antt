@@ -28,11 +28,6 @@ use Rattle.tv_window.proofs.DeclaredLemmas.{declared-moved, declared-raised, id-
 use Rattle.tv_window.proofs.OrderLemmas.{apart-at, front-only, last-raised, raised-at}
 use Rattle.tv_window.proofs.PlaceLemmas.{IsFoundAt, found-at, not-found}
 
--- a window that comes to the front by its number changes nothing of a run but its open windows
-pub raise_found-windows : (o : Option OpenWindow) (s : State) → raise_found o s ≡ record s { windows = (raise_found o s).windows }
-raise_found-windows None s = refl
-raise_found-windows (Some w) s = refl
-
 -- what a mouse down on the front window does, by what it hits
 abbrev pub done_by : Desc → Point → State → Hit → State
 done_by d p s hits.CloseMark = do_command d 4 s

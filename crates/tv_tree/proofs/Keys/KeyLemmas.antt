@@ -44,14 +44,6 @@ use Rattle.tv_tree.proofs.Keys.QuietLemmas.{after-key, after-none, before-key, b
 use Rattle.tv_machine.proofs.LeafLemmas.{IsIn, leaf_at-in}
 use Rattle.tv_tree.proofs.TreeLemmas.{steady-changed}
 
--- every other key is handed to them
-pub not-own : (k : Key) → (k ≡ keys.Tab → ⊥) → (k ≡ keys.ShiftTab → ⊥) → (k ≡ keys.Enter → ⊥) → (k ≡ keys.Esc → ⊥) → is_own k ≡ false
-not-own keys.Tab tab back enter esc = absurd (tab refl)
-not-own keys.ShiftTab tab back enter esc = absurd (back refl)
-not-own keys.Enter tab back enter esc = absurd (enter refl)
-not-own keys.Esc tab back enter esc = absurd (esc refl)
-not-own _ tab back enter esc = refl
-
 -- what comes of a key in the three phases
 pub record KeyTurn (d : Dialog) (m : Modal) (env : Env) (k : Key) : Type 0 where
   -- the machine's dialog with what the key made of the leaf that has the focus, before what is asked for

@@ -1,5 +1,5 @@
 -- A dialog stays steady, and what holds the mouse stays so, whatever a view asks for.
-use Rattle.std.proofs.Common.{◌≡◌, ℕ, ◌||◌, ◌==◌, nat_le, Option, Some, None, if◌then◌else◌, refl, subst, ap, sym, ◌∙◌}
+use Rattle.std.proofs.Common.{◌≡◌, ℕ, ◌||◌, ◌==◌, nat_le, Option, Some, None, if◌then◌else◌, refl, ◌∙◌}
 use Rattle.tv_event.specs.declared.event.Event.TheVariants as events
 use Rattle.tv_event.specs.declared.event.Key.{Key}
 use Rattle.tv_model.specs.declared.node.Id.{Id}
@@ -11,17 +11,15 @@ use Rattle.tv_model.specs.Description.Heads.{dialog_head}
 use Rattle.tv_machine.specs.Leaves.{PlacedNode}
 use Rattle.tv_machine.specs.Dialog.Ending.{command, end_by, ended, first_invalid, press, pressed_by, shown_invalid}
 use Rattle.tv_machine.specs.Dialog.Focus.{focus_moved, is_free_at, is_granted, request, request_then, requested}
-use Rattle.tv_machine.specs.Dialog.Keys.{key, press_enabled}
+use Rattle.tv_machine.specs.Dialog.Keys.{press_enabled}
 use Rattle.tv_machine.specs.Dialog.Modal.{Modal, with_line}
 use Rattle.tv_machine.specs.Dialog.Rules.{is_enabled}
 use Rattle.tv_view.specs.declared.env.Env.{Env}
 use Rattle.tv_view.specs.declared.reaction.Reaction.{Reaction}
-use Rattle.tv_view.specs.declared.reaction.Reaction.TheVariants as reactions
 use Rattle.tv_machine.specs.Dialog.Lawful.{IsLawfulDialog}
 use Rattle.tv_tree.specs.Tree.{IsSteady, tree_of}
-use Rattle.tv_tree.specs.Turns.{phases_answer, pressed_at, reacted}
-use Rattle.tv_tree.proofs.EndingLemmas.{steady-command, steady-press}
-use Rattle.tv_tree.proofs.FocusTreeLemmas.{steady-line, steady-request}
+use Rattle.tv_tree.specs.Turns.{phases_answer, pressed_at}
+use Rattle.tv_tree.proofs.FocusTreeLemmas.{steady-request}
 use Rattle.tv_tree.proofs.Keys.KeyLemmas.{KeyTurn}
 use Rattle.tv_machine.proofs.ListLemmas.{bool_cases}
 use Rattle.tv_tree.proofs.RequestLemmas.{held-request}
@@ -77,27 +75,6 @@ module _ (d : Dialog) (lawful : IsLawfulDialog d) where
         bool_cases (is_granted (requested d m i)) (λ b. (if b then pressed_at d i item (request d i m) else request d i m).held ≡ m.held)
         (λ is. held-pressed d lawful item (request d i m) i ∙ held-request d lawful m i) (λ isnt. held-request d lawful m i)
 
-  pub steady-reacted : (r : Reaction) (m : Modal) → IsSteady d m → IsSteady d (reacted d r m)
-  steady-reacted reactions.Pass m steady = steady
-  steady-reacted reactions.Done m steady = steady
-  steady-reacted (reactions.Focus i) m steady = steady-request d lawful i m steady
-  steady-reacted (reactions.FocusPress i item) m steady = steady-then i item m steady
-  steady-reacted (reactions.Post i c) m steady =
-      steady-command d lawful c.0 (with_line (lines.Press i) m) (steady-line d lawful (lines.Press i) m steady)
-  steady-reacted (reactions.Changed i) m steady = steady
-  steady-reacted (reactions.Capture i) m steady = steady
-  steady-reacted reactions.Release m steady = steady
-
-  pub held-reacted : (r : Reaction) (m : Modal) → (reacted d r m).held ≡ m.held
-  held-reacted reactions.Pass m = refl
-  held-reacted reactions.Done m = refl
-  held-reacted (reactions.Focus i) m = held-request d lawful m i
-  held-reacted (reactions.FocusPress i item) m = held-then i item m
-  held-reacted (reactions.Post i c) m = held-command c.0 (with_line (lines.Press i) m)
-  held-reacted (reactions.Changed i) m = refl
-  held-reacted (reactions.Capture i) m = refl
-  held-reacted reactions.Release m = refl
-
   -- ---- so do keys
 
   module _ (m : Modal) (env : Env) (k : Key) (turn : KeyTurn d m env k) where
@@ -105,19 +82,7 @@ module _ (d : Dialog) (lawful : IsLawfulDialog d) where
     abbrev answered : Reaction
     answered = phases_answer (events.Key k) env (tree_of d m)
 
-    pub steady-key : IsSteady d (key d k m)
-    steady-key = subst (IsSteady d) turn.comes (steady-reacted answered turn.after turn.steady)
-
-    pub held-key : (key d k m).held ≡ m.held
-    held-key = ap (λ n. n.held) (sym turn.comes) ∙ held-reacted answered turn.after ∙ turn.held
-
   module _ (m : Modal) where
-    pub steady-enter : (o : Option PlacedNode) → IsSteady d m → IsSteady d (press_enabled d o m)
-    steady-enter None steady = steady
-    steady-enter (Some leaf) steady =
-        bool_cases (is_enabled d m.leaves leaf.node) (λ b. IsSteady d (if b then press d leaf m else m))
-        (λ is. steady-press d lawful leaf m steady) (λ isnt. steady)
-
     held_pressed : (i : Id) (o : Option CommandSpec) → (pressed_by d i o m).held ≡ m.held
     held_pressed i None = refl
     held_pressed i (Some c) = held-command (command_number c) (with_line (lines.Press i) m)

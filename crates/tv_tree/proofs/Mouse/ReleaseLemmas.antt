@@ -244,8 +244,5 @@ up-turn d lawful p at m steady ph env held holding is_leaf =
 -- where no leaf has changed the rules need not be applied
 module _ (d : Dialog) (m : Modal) (ph : Phase) (env : Env) (p : Point) (up after : Modal) (turn : IsReleased d m ph env p up after)
     (kept : (i : Id) → group_answer (events.Up p) ph env (tree_of d m) ≡ Changed i → ⊥) where
-  pub up-tree : tree_as d m.leaves after ≡ tree_of d after
-  up-tree = ap (λ (n : Modal). tree_as d n.leaves after) (sym (turn.unchanged kept))
-
   pub up-holds : HoldSame d m.leaves after.leaves
   up-holds = subst (λ (n : Modal). HoldSame d m.leaves n.leaves) (sym (turn.unchanged kept)) (hold-itself d m.leaves)

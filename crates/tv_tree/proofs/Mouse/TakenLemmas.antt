@@ -22,12 +22,12 @@ use Rattle.tv_view.specs.Fields.{content_of}
 use Rattle.tv_view.specs.Points as points
 use Rattle.tv_view.specs.Reactions.{answer, lifted_answer, press_by, release_answer}
 use Rattle.tv_group.specs.Calls.{any_holds}
-use Rattle.tv_group.specs.Handling.{found_answer, group_after, group_answer, is_pass, placed_after, placed_answer, scan_after, scan_answer, takes}
+use Rattle.tv_group.specs.Handling.{found_answer, is_pass, placed_after, placed_answer, scan_after, scan_answer, takes}
 use Rattle.tv_machine.specs.Dialog.Lawful.{IsLawfulDialog}
 use Rattle.tv_tree.specs.Ready.{HoldsLeaf}
 use Rattle.tv_tree.specs.Tree.{around_of, held_at, leaf_as, placed_as, tree_as, tree_of}
-use Rattle.tv_machine.proofs.ListLemmas.{any-map, any-same, find-none, find-same, found-among, id-itself, id-swap}
-use Rattle.tv_tree.proofs.TreeLemmas.{find-tree, first_changed-absent, first_changed-tree, where_id}
+use Rattle.tv_machine.proofs.ListLemmas.{any-map, any-same, find-same, found-among, id-itself, id-swap}
+use Rattle.tv_tree.proofs.TreeLemmas.{find-tree, first_changed-tree, where_id}
 use Rattle.tv_machine.proofs.LeafLemmas.{leaf_at-is, leaf_id}
 use Rattle.tv_tree.proofs.Mouse.PlaceLemmas.{move-seen, seen_point, up-seen}
 
@@ -109,20 +109,6 @@ abbrev pub GoesToHeld : Dialog → Modal → Event → Phase → Env → Type 0
 GoesToHeld d m e ph env = (leaf : PlacedNode) → takes e ph env (placed_as d m.leaves m leaf) ≡ has_item (held_at m.held leaf.node.id)
 
 module _ (d : Dialog) (lawful : IsLawfulDialog d) (m : Modal) (e : Event) (ph : Phase) (env : Env) (goes : GoesToHeld d m e ph env) where
-  -- nothing holds it
-  module _ (free : m.held ≡ None) where
-    none_takes : find (λ leaf. takes e ph env (placed_as d m.leaves m leaf)) (leaf_list d.views) ≡ None
-    none_takes =
-        find-none (λ leaf. takes e ph env (placed_as d m.leaves m leaf)) (leaf_list d.views)
-        (λ k x h. goes (get_or (leaf_list d.views) k x) ∙ ap (λ o. has_item (held_at o (get_or (leaf_list d.views) k x).node.id)) free)
-
-    pub scan-free : scan_answer e ph env (tree_of d m) ≡ Pass
-    scan-free = ap (found_answer e ph env)
-        (find-tree d lawful (takes e ph env) m.leaves m ∙ ap (option_map (placed_as d m.leaves m)) none_takes)
-
-    pub scan_after-free : scan_after e ph env (tree_of d m) ≡ tree_of d m
-    scan_after-free = first_changed-absent d lawful (takes e ph env) (placed_after e ph env) m.leaves m none_takes
-
   -- a leaf holds it
   module _ (held : Held) (holding : m.held ≡ Some held) (leaf : PlacedNode) (found : leaf_at d held.id ≡ Some leaf) where
     one_takes : find (λ other. takes e ph env (placed_as d m.leaves m other)) (leaf_list d.views) ≡ Some leaf
@@ -157,17 +143,3 @@ held-nothing d m held holding leaf other found apart =
     (id-swap held.id other.node.id ∙ ap (λ (i : Id). other.node.id.0 == i.0) (sym (leaf_at-is d held.id leaf found)) ∙ apart)
 
 -- ---- while nothing holds the mouse
-
-pub free-move : (d : Dialog) → IsLawfulDialog d → (m : Modal) → m.held ≡ None → (p : Point) (ph : Phase) (env : Env)
-    → (group_answer (events.Move p) ph env (tree_of d m) ≡ Pass) × (group_after (events.Move p) ph env (tree_of d m) ≡ tree_of d m)
-unfolding group_answer group_after
-free-move d lawful m free p ph env =
-    let goes : GoesToHeld d m (events.Move p) ph env = λ leaf. takes-move d m.leaves m p ph env leaf in
-    (scan-free d lawful m (events.Move p) ph env goes free, scan_after-free d lawful m (events.Move p) ph env goes free)
-
-pub free-up : (d : Dialog) → IsLawfulDialog d → (m : Modal) → m.held ≡ None → (p : Point) (ph : Phase) (env : Env)
-    → (group_answer (events.Up p) ph env (tree_of d m) ≡ Pass) × (group_after (events.Up p) ph env (tree_of d m) ≡ tree_of d m)
-unfolding group_answer group_after
-free-up d lawful m free p ph env =
-    let goes : GoesToHeld d m (events.Up p) ph env = λ leaf. takes-up d m.leaves m p ph env leaf in
-    (scan-free d lawful m (events.Up p) ph env goes free, scan_after-free d lawful m (events.Up p) ph env goes free)

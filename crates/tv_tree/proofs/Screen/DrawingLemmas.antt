@@ -6,8 +6,7 @@ use Rattle.std.proofs.lemmas.Int.{ints}
 use Rattle.std.proofs.lemmas.List.{append-nil}
 use Rattle.std.proofs.lemmas.List.Elements.{All-nil, All-cons, All-filter, All-head, All-tail}
 use Rattle.tv_cells.specs.Canvas.{Covers, sub}
-use Rattle.tv_cells.specs.Layers.{Layer, Painted, Lays, ShowsSame}
-use Rattle.tv_cells.specs.Picture.{Picture}
+use Rattle.tv_cells.specs.Layers.{Layer, Painted, ShowsSame}
 use Rattle.tv_cells.specs.Rectangle.{IsIn, shifted, sized}
 use Rattle.tv_cells.specs.declared.canvas.Canvas.{Canvas}
 use Rattle.tv_cells.proofs.RectangleLemmas.{in_cut, point_is}
@@ -33,7 +32,7 @@ use Rattle.tv_machine.specs.Screen.Layers as screen
 use Rattle.tv_view.specs.declared.env.Env.{Env}
 use Rattle.tv_view.specs.Colours.{colour, lent_look}
 use Rattle.tv_view.specs.Drawing.{faces_of, layers_in, leaf_layers, leaves_layers}
-use Rattle.tv_view.proofs.SameLayerLemmas.{covers_sub, faces_same, lays_same, resized, same_append, same_refl, sub_covers, unsized}
+use Rattle.tv_view.proofs.SameLayerLemmas.{covers_sub, faces_same, resized, same_append, same_refl, sub_covers, unsized}
 use Rattle.tv_group.specs.Outline.{body_bounds}
 use Rattle.tv_group.proofs.ListLemmas.{reverse-step}
 use Rattle.tv_machine.specs.Dialog.Lawful.{IsLawfulDialog, LiesInside}
@@ -277,9 +276,3 @@ module _ (desc : Desc) (d : Dialog) (lawful : IsLawfulDialog d) (one : HasOneDef
       (flat_map (dialog_leaf desc d o overwriting) (reverse (filter (is_visible d o.leaves) (leaf_list d.views))))
   views-same = leaves-shown desc d (views_rising d lawful) o overwriting m work env lent of at (leaf_list d.views)
       (sound_leaves d lawful one)
-
-  pub views-laid : (old new : Picture) → Lays (leaves_layers env (dialog_canvas desc o d) (tree_of d m)) old new
-      → Lays (flat_map (dialog_leaf desc d o overwriting) (reverse (filter (is_visible d o.leaves) (leaf_list d.views)))) old new
-  views-laid old new laid =
-      lays_same (leaves_layers env (dialog_canvas desc o d) (tree_of d m))
-      (flat_map (dialog_leaf desc d o overwriting) (reverse (filter (is_visible d o.leaves) (leaf_list d.views)))) old new views-same laid
