@@ -4,3 +4,5 @@ pub mod Control
 pub mod Views
 -- what views may be made of
 pub mod Buildable
+-- what makes the views
+pub mod Making

@@ -4,9 +4,10 @@ ghost use Rattle.std.specs.Prelude.{◌≡◌, ◌↔◌, IfOk, IsErrOf, IsTrue}
 ghost use Rattle.tv_check.specs.Plan.{is_owner};
 ghost use Rattle.tv_model.specs.Description.LawfulNodes.{IsLawfulNode};
 ghost use Rattle.tv_toolkit.specs.Control.{control_leaf};
+ghost use Rattle.tv_toolkit.specs.Making.{IsLeafNode};
 ghost use Rattle.tv_view.specs.Meaning.{fresh};
 
-use std::alloc::Global;
+use std::alloc::{AllocError, Global};
 use tv_cells::{Canvas, Damage, Rect, Screen};
 use tv_choices::{CheckBoxes, ListBox, RadioButtons};
 use tv_controls::{Button, InputLine, Label, StaticText};
@@ -48,6 +49,24 @@ impl Control {
             Kind::RadioButtons(_) => Ok(Control::RadioButtons(RadioButtons::new(alloc, node)?)),
             Kind::List(_) => Ok(Control::List(ListBox::new(alloc, node)?)),
             Kind::Window(_) | Kind::Dialog(_) | Kind::Pane(_) => Err(ControlFault::WrongKind),
+        }
+    }
+}
+
+impl Control {
+    /// Makes the control of a leaf's node, as it stands before any event.
+    ///
+    /// # Errors
+    ///
+    /// `AllocError` where memory ran out.
+    pub fn of_leaf(alloc: Global, node: &Node) -> Result<Control, AllocError>
+        requires { IsLeafNode node.now }
+        ensures { IfOk result (λ control. control_leaf control ≡ fresh node.now) }
+    {
+        match Control::new(alloc, node) {
+            Ok(control) => Ok(control),
+            Err(ControlFault::NoMemory) => Err(AllocError),
+            Err(ControlFault::WrongKind) => unreachable!(),
         }
     }
 }

@@ -5,6 +5,6 @@ mod control;
 mod making;
 
 pub use control::Control;
-pub use making::views;
+pub use making::{views, views_by};
 pub use tv_building::Views;
 pub use tv_leaf::ControlFault;

@@ -1,8 +1,7 @@
 //! The views of a checked description.
 
 ghost use Rattle.std.specs.List.{AllZip};
-ghost use Rattle.std.specs.Prelude.{◌≡◌, ◌≤◌, ◌+◌, ◌++◌, ℕ, false, length, map, All, IfOk, IsTrue, None, OnOk};
-ghost use Rattle.tv_check.specs.Plan.{is_owner};
+ghost use Rattle.std.specs.Prelude.{◌≡◌, ◌≤◌, ◌+◌, ◌++◌, ℕ, length, map, All, IfOk, IsTrue, None, Ok, OnOk};
 ghost use Rattle.tv_group.specs.Opened.{group_bounds, joined, level_of, members_level, opened, opened_member};
 ghost use Rattle.tv_group.specs.Outline.{IsFreshBody, body_bounds, declared, has_body, joined_outline, members_outline};
 ghost use Rattle.tv_model.specs.Description.LawfulNodes.{IsLawfulNode};
@@ -10,8 +9,9 @@ ghost use Rattle.tv_model.specs.Description.Rectangles.{IsSmallRect};
 ghost use Rattle.tv_session.specs.Freshness.{IsFreshBodyFor, IsFreshFor};
 ghost use Rattle.tv_toolkit.specs.Buildable.{AreBuildable, AreLeft, IsBuildableDialog, IsBuildableWindow};
 ghost use Rattle.tv_toolkit.specs.Control.{control_leaf};
+ghost use Rattle.tv_toolkit.specs.Making.{KeepsLeaves};
 ghost use Rattle.tv_toolkit.specs.Views.{AreAsDeclared, NoneMismatches};
-ghost use Rattle.tv_view.specs.Meaning.{fresh, inside};
+ghost use Rattle.tv_view.specs.Meaning.{inside};
 
 use crate::control::Control;
 use std::alloc::{AllocError, Global};
@@ -20,11 +20,12 @@ use tv_cells::Rect;
 use tv_check::Checked;
 use tv_faces::rect_at;
 use tv_group::{GroupOf, MemberOf};
-use tv_leaf::ControlFault;
-use tv_model::{Desc, Dialog, Kind, Node, Window};
+use tv_model::{Dialog, Kind, Node, Window};
+use tv_view::View;
 use tv_window::WindowOf;
 
-/// Makes the windows of a checked description and the bodies of its dialogs, as they stand before any event.
+/// Makes the windows of a checked description and the bodies of its dialogs, as they stand before any event, of the toolkit's
+/// own controls.
 ///
 /// They are the views that the description declares (`declared`). So `SessionOf::new` refuses them for want of memory alone
 /// (`accepted`).
@@ -36,39 +37,82 @@ pub fn views(alloc: Global, checked: &Checked) -> Result<Views<Control>, AllocEr
     ensures declared { IfOk result (λ views. AreAsDeclared control_leaf checked.now views.windows.items views.bodies.items) }
     ensures accepted { IfOk result (λ views. NoneMismatches control_leaf checked.now views.windows.items views.bodies.items) }
 {
+    let keep = |_: Global, control: Control| -> Result<Control, AllocError>
+        ensures { result ≡ Ok control }
+    { Ok(control) };
+    views_by(alloc, checked, &keep)
+}
+
+/// Makes the windows of a checked description and the bodies of its dialogs, as they stand before any event, of the toolkit's
+/// own controls in whatever form `keep` gives them: each is the leaf then that the control was, in a box perhaps.
+///
+/// They are the views that the description declares (`declared`). So `SessionOf::new` refuses them for want of memory alone
+/// (`accepted`).
+///
+/// # Errors
+///
+/// `AllocError` where memory ran out.
+pub fn views_by<V: View, F: Fn(Global, Control) -> Result<V, AllocError>>(
+    alloc: Global,
+    checked: &Checked,
+    keep: &F,
+) -> Result<Views<V>, AllocError>
+    requires callable { F.IsAlwaysCallable keep.now }
+    requires keep { KeepsLeaves (F.post keep.now alloc) V.meaning }
+    ensures declared { IfOk result (λ views. AreAsDeclared V.meaning checked.now views.windows.items views.bodies.items) }
+    ensures accepted { IfOk result (λ views. NoneMismatches V.meaning checked.now views.windows.items views.bodies.items) }
+{
     let desc = checked.desc();
-    let windows = windows_of(alloc, desc.windows.as_slice())?;
-    let bodies = bodies_of(alloc, desc.dialogs.as_slice())?;
+    let windows = windows_of(alloc, desc.windows.as_slice(), keep)?;
+    let bodies = bodies_of(alloc, desc.dialogs.as_slice(), keep)?;
     Ok(Views { windows, bodies })
 }
 
-fn windows_of(alloc: Global, declared: &[Window]) -> Result<Vec<WindowOf<Control>>, AllocError>
-    requires { All IsBuildableWindow declared.now }
-    ensures { IfOk result (λ windows. AllZip (IsFreshFor control_leaf) declared.now windows.items) }
+fn windows_of<V: View, F: Fn(Global, Control) -> Result<V, AllocError>>(
+    alloc: Global,
+    declared: &[Window],
+    keep: &F,
+) -> Result<Vec<WindowOf<V>>, AllocError>
+    requires callable { F.IsAlwaysCallable keep.now }
+    requires keep { KeepsLeaves (F.post keep.now alloc) V.meaning }
+    requires windows { All IsBuildableWindow declared.now }
+    ensures { IfOk result (λ windows. AllZip (IsFreshFor V.meaning) declared.now windows.items) }
 {
     let mut windows = Vec::new(alloc);
     for window in declared {
-        windows.push(window_of(alloc, window)?)?;
+        windows.push(window_of(alloc, window, keep)?)?;
     }
     Ok(windows)
 }
 
-fn bodies_of(alloc: Global, declared: &[Dialog]) -> Result<Vec<GroupOf<Control>>, AllocError>
-    requires { All IsBuildableDialog declared.now }
-    ensures { IfOk result (λ bodies. AllZip (IsFreshBodyFor control_leaf) declared.now bodies.items) }
+fn bodies_of<V: View, F: Fn(Global, Control) -> Result<V, AllocError>>(
+    alloc: Global,
+    declared: &[Dialog],
+    keep: &F,
+) -> Result<Vec<GroupOf<V>>, AllocError>
+    requires callable { F.IsAlwaysCallable keep.now }
+    requires keep { KeepsLeaves (F.post keep.now alloc) V.meaning }
+    requires dialogs { All IsBuildableDialog declared.now }
+    ensures { IfOk result (λ bodies. AllZip (IsFreshBodyFor V.meaning) declared.now bodies.items) }
 {
     let mut bodies = Vec::new(alloc);
     for dialog in declared {
-        bodies.push(body_of(alloc, &dialog.node, dialog.views.as_slice())?)?;
+        bodies.push(body_of(alloc, &dialog.node, dialog.views.as_slice(), keep)?)?;
     }
     Ok(bodies)
 }
 
-fn window_of(alloc: Global, window: &Window) -> Result<WindowOf<Control>, AllocError>
-    requires { IsBuildableWindow window.now }
-    ensures { IfOk result (λ made. IsFreshFor control_leaf window.now made) }
+fn window_of<V: View, F: Fn(Global, Control) -> Result<V, AllocError>>(
+    alloc: Global,
+    window: &Window,
+    keep: &F,
+) -> Result<WindowOf<V>, AllocError>
+    requires callable { F.IsAlwaysCallable keep.now }
+    requires keep { KeepsLeaves (F.post keep.now alloc) V.meaning }
+    requires window { IsBuildableWindow window.now }
+    ensures { IfOk result (λ made. IsFreshFor V.meaning window.now made) }
 {
-    let body = body_of(alloc, &window.node, window.views.as_slice())?;
+    let body = body_of(alloc, &window.node, window.views.as_slice(), keep)?;
     match WindowOf::new(&window.node, body) {
         Ok(made) => Ok(made),
         Err(_) => unreachable!(),
@@ -76,14 +120,21 @@ fn window_of(alloc: Global, window: &Window) -> Result<WindowOf<Control>, AllocE
 }
 
 // The body of a window or dialog with these views.
-fn body_of(alloc: Global, owner: &Node, views: &[Node]) -> Result<GroupOf<Control>, AllocError>
+fn body_of<V: View, F: Fn(Global, Control) -> Result<V, AllocError>>(
+    alloc: Global,
+    owner: &Node,
+    views: &[Node],
+    keep: &F,
+) -> Result<GroupOf<V>, AllocError>
+    requires callable { F.IsAlwaysCallable keep.now }
+    requires keep { KeepsLeaves (F.post keep.now alloc) V.meaning }
     requires lawful { IsLawfulNode owner.now }
     requires owner { IsTrue (has_body owner.now.kind) }
     requires views { AreBuildable 0 views.now }
-    ensures { IfOk result (λ body. IsFreshBody control_leaf owner.now views.now body) }
+    ensures { IfOk result (λ body. IsFreshBody V.meaning owner.now views.now body) }
 {
     let mut members = Vec::new(alloc);
-    add_members(alloc, &mut members, views, 0)?;
+    add_members(alloc, &mut members, views, 0, keep)?;
     Ok(group_of(body_rect(owner), members))
 }
 
@@ -103,11 +154,11 @@ fn body_rect(owner: &Node) -> Rect
 }
 
 // The group of these members.
-fn group_of(bounds: Rect, members: Vec<MemberOf<Control>>) -> GroupOf<Control>
+fn group_of<V: View>(bounds: Rect, members: Vec<MemberOf<V>>) -> GroupOf<V>
     requires bounds { IsSmallRect bounds }
     requires level { members_level members.items ≤ 4 }
-    ensures leaves { opened control_leaf result ≡ map (inside bounds) (joined None 0 (map (opened_member control_leaf) members.items)) }
-    ensures outline { (depth : ℕ) → members_outline control_leaf result depth ≡ joined_outline control_leaf members.items depth }
+    ensures leaves { opened V.meaning result ≡ map (inside bounds) (joined None 0 (map (opened_member V.meaning) members.items)) }
+    ensures outline { (depth : ℕ) → members_outline V.meaning result depth ≡ joined_outline V.meaning members.items depth }
     ensures level { level_of result ≡ members_level members.items + 1 }
     ensures bounds { group_bounds result ≡ bounds }
 {
@@ -118,16 +169,19 @@ fn group_of(bounds: Rect, members: Vec<MemberOf<Control>>) -> GroupOf<Control>
 }
 
 // Adds the members that views in so many panes declare, up to the first in fewer. Returns the views that are left.
-#[tactic(auto, using(tv_building::proofs::OwnerLemmas::pane_small, crate::proofs::BuildableLemmas::no_owner))]
-fn add_members<'a>(
+#[tactic(auto, using(tv_building::proofs::OwnerLemmas::pane_small))]
+fn add_members<'a, V: View, F: Fn(Global, Control) -> Result<V, AllocError>>(
     alloc: Global,
-    members: &mut Vec<MemberOf<Control>>,
+    members: &mut Vec<MemberOf<V>>,
     views: &'a [Node],
     panes: u8,
+    keep: &F,
 ) -> Result<&'a [Node], AllocError>
+    requires callable { F.IsAlwaysCallable keep.now }
+    requires keep { KeepsLeaves (F.post keep.now alloc) V.meaning }
     requires views { AreBuildable panes views.now }
     requires level { members_level members.old.items + panes ≤ 4 }
-    ensures added { IfOk result (λ left. joined_outline control_leaf members.new.items (panes + 1) ++ map declared left.now ≡ joined_outline control_leaf members.old.items (panes + 1) ++ map declared views.now) }
+    ensures added { IfOk result (λ left. joined_outline V.meaning members.new.items (panes + 1) ++ map declared left.now ≡ joined_outline V.meaning members.old.items (panes + 1) ++ map declared views.now) }
     ensures level { OnOk result (members_level members.new.items + panes ≤ 4) }
     ensures left { IfOk result (λ left. AreLeft panes left.now) }
     ensures fewer { IfOk result (λ left. length left.now ≤ length views.now) }
@@ -141,27 +195,15 @@ fn add_members<'a>(
     match &view.kind {
         Kind::Pane(pane) => {
             let mut inner = Vec::new(alloc);
-            let after = add_members(alloc, &mut inner, behind, panes + 1)?;
+            let after = add_members(alloc, &mut inner, behind, panes + 1, keep)?;
             let bounds = rect_at(&view.x, &view.y, &view.w, &pane.h);
             members.push(MemberOf::Pane(group_of(bounds, inner)))?;
-            add_members(alloc, members, after, panes)
+            add_members(alloc, members, after, panes, keep)
         }
         _ => {
-            members.push(MemberOf::Leaf(control_of(alloc, view)?))?;
-            add_members(alloc, members, behind, panes)
+            let control = Control::of_leaf(alloc, view)?;
+            members.push(MemberOf::Leaf(keep(alloc, control)?))?;
+            add_members(alloc, members, behind, panes, keep)
         }
-    }
-}
-
-// The control of a node that is no window, dialog or pane.
-fn control_of(alloc: Global, node: &Node) -> Result<Control, AllocError>
-    requires lawful { IsLawfulNode node.now }
-    requires kind { is_owner node.now.kind ≡ false }
-    ensures { IfOk result (λ control. control_leaf control ≡ fresh node.now) }
-{
-    match Control::new(alloc, node) {
-        Ok(control) => Ok(control),
-        Err(ControlFault::NoMemory) => Err(AllocError),
-        Err(ControlFault::WrongKind) => unreachable!(),
     }
 }
