@@ -22,10 +22,14 @@ sized width height = record {
   b = record { x = pos width; y = pos height };
 }
 
+-- a coordinate lies at most so far from 0
+pub record LiesWithin (most : ℕ) (z : ℤ) : Type 0 where
+  pub low : neg_ℤ (pos most) ≤ℤ z
+  pub high : z ≤ℤ pos most
+
 -- a coordinate that sums of coordinates may be made of
-pub record IsNear (z : ℤ) : Type 0 where
-  pub low : neg_ℤ (pos 100000) ≤ℤ z
-  pub high : z ≤ℤ pos 100000
+abbrev pub IsNear : ℤ → Type 0
+IsNear z = LiesWithin 100000 z
 
 -- a point, and a rectangle, of such coordinates
 pub record IsPointNear (p : Point) : Type 0 where

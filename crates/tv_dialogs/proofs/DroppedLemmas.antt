@@ -27,7 +27,7 @@ use Rattle.tv_machine.specs.Dialog.Shortcuts.{marker_among, marking_leaf}
 use Rattle.tv_machine.specs.Dialog.Step.{dialog_step, step_by}
 use Rattle.tv_machine.specs.Session.Step.{event_from}
 use Rattle.tv_machine.proofs.ListLemmas.{bool_cases, option_cases}
-use Rattle.tv_tree.specs.Ready.{LiesWithin}
+use Rattle.tv_cells.specs.Rectangle.{LiesWithin}
 use Rattle.tv_dialog.specs.Stepping.{IsHandedIn}
 use Rattle.tv_dialogs.specs.Handed.{HasPointGiven, is_dropped, is_small_alt, is_small_letter}
 

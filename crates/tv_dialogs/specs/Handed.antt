@@ -5,7 +5,7 @@ use Rattle.tv_event.specs.declared.event.Event.{Event}
 use Rattle.tv_event.specs.declared.event.Event.TheVariants as events
 use Rattle.tv_event.specs.declared.event.Key.{Key}
 use Rattle.tv_event.specs.declared.event.Key.TheVariants as keys
-use Rattle.tv_tree.specs.Ready.{LiesWithin}
+use Rattle.tv_cells.specs.Rectangle.{LiesWithin}
 
 -- a point within 10,000 columns and rows of the first cell of the screen
 pub record IsPointGiven (p : Point) : Type 0 where

@@ -1,5 +1,6 @@
 -- What is said of a dialog and an event while the event is handled.
-use Rattle.std.specs.Prelude.{◌≡◌, ℕ, ℤ, pos, neg_ℤ, ◌≤ℤ◌, Bool, true, false, IsTrue, Some, is_some}
+use Rattle.std.specs.Prelude.{◌≡◌, Bool, true, false, IsTrue, Some, is_some}
+use Rattle.tv_cells.specs.Rectangle.{LiesWithin}
 use Rattle.tv_cells.specs.declared.rect.Point.{Point}
 use Rattle.tv_event.specs.declared.event.Key.{Key}
 use Rattle.tv_event.specs.declared.event.Key.TheVariants as keys
@@ -25,10 +26,6 @@ is_own keys.ShiftTab = true
 is_own keys.Enter = true
 is_own keys.Esc = true
 is_own _ = false
-
-pub record LiesWithin (n : ℕ) (z : ℤ) : Type 0 where
-  pub low : neg_ℤ (pos n) ≤ℤ z
-  pub high : z ≤ℤ pos n
 
 -- the point lies so near that every coordinate on the way to a leaf is the plain difference
 pub record IsPointOf (p : Point) : Type 0 where

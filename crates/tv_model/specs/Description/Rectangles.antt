@@ -1,5 +1,6 @@
 -- Rectangles of the desktop and of views, and what two rectangles have in common.
-use Rattle.std.specs.Prelude.{Bool, not, ◌&&◌, ◌||◌, ℤ, pos, neg_ℤ, ◌+ℤ◌, ◌-ℤ◌, ◌≤ℤ◌, int_le, int_lt}
+use Rattle.std.specs.Prelude.{Bool, not, ◌&&◌, ◌||◌, ℤ, pos, ◌+ℤ◌, ◌-ℤ◌, int_le, int_lt}
+use Rattle.tv_cells.specs.Rectangle.{LiesWithin}
 use Rattle.tv_cells.specs.declared.rect.Point.{Point}
 use Rattle.tv_cells.specs.declared.rect.Rect.{Rect}
 use Rattle.tv_model.specs.declared.node.Node.{Node}
@@ -49,9 +50,8 @@ overlap r s =
 -- ---- where views may stand
 
 -- a coordinate that the bounds of a view may have
-pub record IsSmall (z : ℤ) : Type 0 where
-  pub low : neg_ℤ (pos 300) ≤ℤ z
-  pub high : z ≤ℤ pos 300
+abbrev pub IsSmall : ℤ → Type 0
+IsSmall z = LiesWithin 300 z
 
 -- a rectangle that the bounds of a view may be
 pub record IsSmallRect (r : Rect) : Type 0 where

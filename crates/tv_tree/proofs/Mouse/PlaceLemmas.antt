@@ -18,7 +18,8 @@ use Rattle.tv_view.specs.Points as points
 use Rattle.tv_view.specs.Points.{point_into}
 use Rattle.tv_group.specs.Handling.{point_reaches, seen_through}
 use Rattle.tv_group.specs.Outline.{body_bounds}
-use Rattle.tv_tree.specs.Ready.{LiesWithin, IsPointOf}
+use Rattle.tv_cells.specs.Rectangle.{LiesWithin}
+use Rattle.tv_tree.specs.Ready.{IsPointOf}
 
 -- ---- coordinates
 

@@ -58,7 +58,7 @@ inside_in r s x y f i = record {
 points_hold : (r : Rect) (x y : ℤ) → IsIn r x y → has_points r ≡ true
 points_hold r x y i = and_from (int_lt r.a.x r.b.x) (int_lt r.a.y r.b.y) (grind (arith, ints)) (grind (arith, ints))
 
-within_in : (r s : Rect) (x y : ℤ) → is_within r s ≡ true → IsIn r x y → IsIn s x y
+pub within_in : (r s : Rect) (x y : ℤ) → is_within r s ≡ true → IsIn r x y → IsIn s x y
 within_in r s x y e i =
     inside_in r s x y (inside_says r s
     (ap (λ b. not b || ((int_le s.a.x r.a.x && int_le r.b.x s.b.x) && (int_le s.a.y r.a.y && int_le r.b.y s.b.y)))
