@@ -1,8 +1,9 @@
 -- What a terminal sends, as keys, characters and the mouse.
-use Rattle.std.specs.Prelude.{ℕ, ◌&&◌, nat_lt, ◌==◌, List, [], ◌∷◌, ◌++◌, take, length}
+use Rattle.std.specs.Prelude.{ℕ, ◌≡◌, ◌&&◌, nat_lt, ◌==◌, List, [], ◌∷◌, ◌++◌, take, length}
 use Rattle.std.specs.Prelude.{Option, Some, None, if◌then◌else◌}
 use Rattle.tv_event.specs.declared.event.Key.TheVariants as keys
 use Rattle.tv_terminal.specs.declared.action.Action.{Action}
+use Rattle.tv_terminal.specs.declared.action.Action.TheVariants.{Quit}
 use Rattle.tv_terminal.specs.declared.reading.Reading.{Reading}
 use Rattle.tv_terminal.specs.declared.reading.Reading.TheVariants.{Unfinished, Whole, Broken}
 use Rattle.tv_terminal.specs.Table.{key_action}
@@ -40,6 +41,11 @@ given_as Broken bytes b = if b == 27 then at_pause bytes else anew_given (readin
 
 abbrev pub given : List ℕ → ℕ → Option Action
 given bytes b = given_as (reading_of (bytes ++ b ∷ [])) bytes b
+
+-- Ctrl-\ and Ctrl-C are what they are, whatever is unfinished before them
+pub record HearsLeaving (byte : ℕ) (action : Option Action) : Type 0 where
+  pub quit : byte ≡ 28 → action ≡ Some Quit
+  pub interrupt : byte ≡ 3 → action ≡ Some (key_action (keys.Ctrl 67))
 
 -- what they leave unfinished; of a sequence that is too long no more is needed
 abbrev pub left_open_as : Reading → List ℕ → ℕ → List ℕ

@@ -1,7 +1,7 @@
 //! The decoder, which is fed byte by byte.
 
 ghost use Rattle.std.specs.Prelude.{◌≡◌, [], ◌∷◌, IfSome};
-ghost use Rattle.tv_terminal.specs.Decoding.{at_pause, anew_given, anew_kept, given, left_open};
+ghost use Rattle.tv_terminal.specs.Decoding.{HearsLeaving, at_pause, anew_given, anew_kept, given, left_open};
 ghost use Rattle.tv_terminal.specs.Points.{IsPlacedAction};
 ghost use Rattle.tv_terminal.specs.Sequences.{reading_of};
 
@@ -44,12 +44,13 @@ impl Decoder {
         }
     }
 
-    /// Takes the next byte, and returns what the user did, if that is known with it.
+    /// Takes the next byte, and returns what the user did, if that is known with it. Ctrl-\ and Ctrl-C always are (`heard`).
     #[tactic(auto, using(crate::proofs::PointLemmas::given_is_placed))]
     pub fn take(&mut self, byte: u8) -> Option<Action>
         ensures given { result ≡ given self.old byte }
         ensures kept { self.new ≡ left_open self.old byte }
         ensures placed { IfSome result IsPlacedAction }
+        ensures heard { HearsLeaving byte result }
     {
         self.follow(byte)
     }

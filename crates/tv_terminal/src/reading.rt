@@ -147,7 +147,7 @@ fn after_escape(bytes: &[u8]) -> Reading
     }
 }
 
-/// What the bytes are.
+/// Tells what the bytes are.
 pub(crate) fn reading_of(bytes: &[u8]) -> Reading
     ensures { result ≡ reading_of bytes.now }
 {
