@@ -30,7 +30,7 @@ use Rattle.tv_machine.proofs.ListLemmas.{bool_cases, find-none, found-all, pairs
 use Rattle.tv_machine.proofs.MarkLemmas.{value_by}
 use Rattle.tv_machine.proofs.SharedLemmas.{acts_visible, one_visible, visible_marked}
 use Rattle.tv_laws.specs.Fit.{IsFitContent, IsStanding}
-use Rattle.tv_laws.specs.Letters.{AreLinesOf, AreOtherItems, HasLines, HasLinesOf, HiddenActsOnNone, IsLineOf, IsShownWhen, MarksOnce, UnnamedActsOnNone, VisibleIsMarker, holds_now, lines_now}
+use Rattle.tv_laws.specs.Letters.{AreLinesOf, AreOtherItems, HasLines, HasLinesOf, HiddenMarkersDoNothing, IsLineOf, IsShownWhen, LettersHaveOneMarker, UnnamedLettersDoNothing, VisibleIsMarker, holds_now, lines_now}
 use Rattle.tv_laws.specs.Sound.{IsSoundDialog}
 
 -- ---- lists
@@ -282,13 +282,13 @@ visible-is-marker d sound m fit letter =
     filter_back mark (is_visible d m.leaves) (λ leaf. marking_leaf d m.leaves letter ≡ Some leaf) (leaf_list d.views)
     (visible_among d m.leaves (marking_leaves d letter) (pairs_kept mark (is_visible d m.leaves) (leaf_list d.views) (one_marker d m sound fit.standing letter)))
 
-pub marks-once : (d : Dialog) → IsSoundDialog d → MarksOnce d
+pub marks-once : (d : Dialog) → IsSoundDialog d → LettersHaveOneMarker d
 marks-once d sound m fit = one_marker d m sound fit.standing
 
-pub unnamed-acts-on-none : (version : Version) (d : Dialog) → HasLines version d → UnnamedActsOnNone version d
+pub unnamed-acts-on-none : (version : Version) (d : Dialog) → HasLines version d → UnnamedLettersDoNothing version d
 unnamed-acts-on-none version d has m letter none =
     none_acts d letter m (owners_of version d letter) (marking_leaves d letter) (has letter).markers (has letter).alone none
 
-pub hidden-acts-on-none : (d : Dialog) → HiddenActsOnNone d
+pub hidden-acts-on-none : (d : Dialog) → HiddenMarkersDoNothing d
 hidden-acts-on-none d m letter hidden =
     acts_visible d letter m ∙ ap (λ o. act_on d letter o m) (find-none (is_visible_marker d m.leaves letter) (leaf_list d.views) hidden)

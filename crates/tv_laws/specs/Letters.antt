@@ -44,12 +44,12 @@ use Rattle.tv_laws.specs.Records.{state_after}
 -- ---- markers
 
 -- no letter has two visible markers in an open dialog at work
-abbrev pub MarksOnce : Dialog → Type 0
-MarksOnce d = (m : Modal) → IsFitModal d m → HaveOneMarker d m.leaves
+abbrev pub LettersHaveOneMarker : Dialog → Type 0
+LettersHaveOneMarker d = (m : Modal) → IsFitModal d m → HaveOneMarker d m.leaves
 
 -- nor has one in the dialog that is open wherever events lead a run
-abbrev pub AlwaysMarksOnce : Desc → Type 0
-AlwaysMarksOnce d =
+abbrev pub LettersAlwaysHaveOneMarker : Desc → Type 0
+LettersAlwaysHaveOneMarker d =
     (events : List Event) (o : OpenDialog) (dialog : Dialog)
     → (state_after d events).dialog ≡ Some o → slice_get d.dialogs o.place ≡ Some dialog
     → HaveOneMarker dialog o.leaves
@@ -127,8 +127,8 @@ OneLineInFirstVersion d =
 
 -- the marker of a letter that isn't shared is the view whose owner the certificate names. In version 1 none
 -- is shared
-abbrev pub MarksAlike : Version → Dialog → Type 0
-MarksAlike version d =
+abbrev pub CertificateNamesMarker : Version → Dialog → Type 0
+CertificateNamesMarker version d =
     (leaves : List LeafState) (letter : ℕ)
     → sharer_by (sharing_rules version d.rules) d.views letter ≡ None
     → option_map (λ leaf. leaf.node) (marking_leaf d leaves letter) ≡ owners.marker_of d letter
@@ -192,8 +192,8 @@ pub record IsActOn (d : Dialog) (is_press : Bool) (i : Id) (m : Modal) (n : Moda
   pub ended : is_press ≡ false → n.ended ≡ m.ended
 
 -- the marker of a letter acts on the control that the certificate names for it, and on no other
-abbrev pub ActsOnOwner : Version → Dialog → Type 0
-ActsOnOwner version d =
+abbrev pub MarkersActOnOwners : Version → Dialog → Type 0
+MarkersActOnOwners version d =
     (m : Modal) (letter : ℕ) (marker : PlacedNode) (control : Node) → IsFitModal d m
     → marking_leaf d m.leaves letter ≡ Some marker
     → control_by d marker.node marker.node.kind ≡ Some control
@@ -240,8 +240,8 @@ HasActed letter _ i m n = Unit {0}
 
 -- a marker that can act does, unless the focus is an input that it may not leave. A button doesn't ask for
 -- the focus
-abbrev pub ActsWhereItCan : Dialog → Type 0
-ActsWhereItCan d =
+abbrev pub MarkersActWhereTheyCan : Dialog → Type 0
+MarkersActWhereTheyCan d =
     (m : Modal) (letter : ℕ) (marker : PlacedNode) (control : Node) → IsFitModal d m
     → marking_leaf d m.leaves letter ≡ Some marker
     → control_by d marker.node marker.node.kind ≡ Some control → can_act d m.leaves marker ≡ true
@@ -251,27 +251,27 @@ ActsWhereItCan d =
 -- ---- acts on none
 
 -- a letter acts on nothing while no line of the certificate for it holds, as where it has no line
-abbrev pub UnnamedActsOnNone : Version → Dialog → Type 0
-UnnamedActsOnNone version d =
+abbrev pub UnnamedLettersDoNothing : Version → Dialog → Type 0
+UnnamedLettersDoNothing version d =
     (m : Modal) (letter : ℕ) → lines_now version d m.leaves letter ≡ []
     → act_on d letter (marking_leaf d m.leaves letter) m ≡ m
 
 -- nor does it while no leaf that marks it is visible
-abbrev pub HiddenActsOnNone : Dialog → Type 0
-HiddenActsOnNone d =
+abbrev pub HiddenMarkersDoNothing : Dialog → Type 0
+HiddenMarkersDoNothing d =
     (m : Modal) (letter : ℕ)
     → All (λ leaf. is_visible_marker d m.leaves letter leaf ≡ false) (leaf_list d.views)
     → act_on d letter (marking_leaf d m.leaves letter) m ≡ m
 
 -- a marker that can't act leaves everything as it was
-abbrev pub ActsOnNone : Dialog → Type 0
-ActsOnNone d =
+abbrev pub UnableMarkersDoNothing : Dialog → Type 0
+UnableMarkersDoNothing d =
     (m : Modal) (letter : ℕ) (marker : PlacedNode) → can_act d m.leaves marker ≡ false
     → act d letter marker m ≡ m
 
 -- nor does anything change, but for a line of the log, where the focus may not leave an input for the control
-abbrev pub RefusedActsOnNone : Dialog → Type 0
-RefusedActsOnNone d =
+abbrev pub RefusedFocusChangesNothing : Dialog → Type 0
+RefusedFocusChangesNothing d =
     (m : Modal) (letter : ℕ) (marker : PlacedNode) (control : Node)
     → control_by d marker.node marker.node.kind ≡ Some control
     → is_button marker.node.kind ≡ false → requested d m control.id ≡ Refused
@@ -280,22 +280,22 @@ RefusedActsOnNone d =
 -- ---- shortcuts
 
 -- Alt with a letter is the act of its marker, whatever has the focus
-abbrev pub AltActs : Dialog → Type 0
-AltActs d =
+abbrev pub AltLettersAct : Dialog → Type 0
+AltLettersAct d =
     (m : Modal) (letter : ℕ) → m.held ≡ None
     → dialog_step d (events.Key (keys.Alt letter)) m ≡ act_on d letter (marking_leaf d m.leaves letter) m
 
 -- so is a character that the focused control doesn't take, in upper case
-abbrev pub TypedActs : Dialog → Type 0
-TypedActs d =
+abbrev pub TypedLettersAct : Dialog → Type 0
+TypedLettersAct d =
     (m : Modal) (ch : ℕ) (focus : PlacedNode) → m.held ≡ None → leaf_at d m.focus ≡ Some focus
     → key_answer focus.node.kind (keys.Char ch) (content_at m focus.node.id) ≡ Passed
     → dialog_step d (events.Key (keys.Char ch)) m
     ≡ act_on d (upper ch) (marking_leaf d m.leaves (upper ch)) m
 
 -- and so is a letter of a focused cluster's own items, whose marker is that cluster. Space isn't one
-abbrev pub OwnLetterActs : Dialog → Type 0
-OwnLetterActs d =
+abbrev pub OwnLettersAct : Dialog → Type 0
+OwnLettersAct d =
     (m : Modal) (ch item : ℕ) (focus : PlacedNode) → IsFitModal d m → m.held ≡ None
     → leaf_at d m.focus ≡ Some focus
     → (ch == 32) ≡ false → item_by ch focus.node.kind ≡ Some item

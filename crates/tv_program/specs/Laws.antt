@@ -27,10 +27,11 @@ use Rattle.tv_check.specs.Certificates.{IsSoundCertificate, certificate_of}
 use Rattle.tv_laws.specs.Leaving.{EscCancels, TabAsksNext, TabGoesOn, UpLetsGo}
 use Rattle.tv_laws.specs.Runs.{IsFitState}
 use Rattle.tv_laws.specs.Steps.{OpensFit, StaysFit}
-use Rattle.tv_laws.specs.Letters.{ActsOnNone, ActsOnOwner, ActsWhereItCan, AltActs, AlwaysMarksOnce}
-use Rattle.tv_laws.specs.Letters.{HasLines, HasOwnNames, HiddenActsOnNone, MarksAlike, MarksOnce}
-use Rattle.tv_laws.specs.Letters.{OneLineInFirstVersion, OwnLetterActs, RefusedActsOnNone, TypedActs}
-use Rattle.tv_laws.specs.Letters.{UnnamedActsOnNone, VisibleIsMarker}
+use Rattle.tv_laws.specs.Letters.{AltLettersAct, CertificateNamesMarker, HasLines, HasOwnNames}
+use Rattle.tv_laws.specs.Letters.{HiddenMarkersDoNothing, LettersAlwaysHaveOneMarker, LettersHaveOneMarker}
+use Rattle.tv_laws.specs.Letters.{MarkersActOnOwners, MarkersActWhereTheyCan, OneLineInFirstVersion}
+use Rattle.tv_laws.specs.Letters.{OwnLettersAct, RefusedFocusChangesNothing, TypedLettersAct}
+use Rattle.tv_laws.specs.Letters.{UnableMarkersDoNothing, UnnamedLettersDoNothing, VisibleIsMarker}
 use Rattle.tv_laws.specs.Order.{FreeAreControls, RefusalStays, ShiftTabAsksPrevious, StopsAreTabs}
 use Rattle.tv_laws.specs.Order.{TabGoesRound, TabKeepsValues}
 use Rattle.tv_laws.specs.Escape.{EscCancelsOpen, UpEscCancels, UpEscLeaves, UpFreesFrame, UpFreesMouse}
@@ -121,20 +122,20 @@ MarksApartInFirstVersion versions.Two dialog = Unit {0}
 -- is, each marker has its own, with a `when`, and no two hold at once
 pub record LettersByLaws (version : Version) (dialog : Dialog) : Type 0 where
   pub lines : HasLines version dialog
-  pub once : MarksOnce dialog
+  pub once : LettersHaveOneMarker dialog
   pub visible : VisibleIsMarker dialog
-  pub alt : AltActs dialog
-  pub typed : TypedActs dialog
-  pub own : OwnLetterActs dialog
-  pub alike : MarksAlike version dialog
+  pub alt : AltLettersAct dialog
+  pub typed : TypedLettersAct dialog
+  pub own : OwnLettersAct dialog
+  pub marker : CertificateNamesMarker version dialog
   pub first : OneLineInFirstVersion dialog
   pub apart : MarksApartInFirstVersion version dialog
-  pub owner : ActsOnOwner version dialog
-  pub does : ActsWhereItCan dialog
-  pub unnamed : UnnamedActsOnNone version dialog
-  pub hidden : HiddenActsOnNone dialog
-  pub none : ActsOnNone dialog
-  pub refused : RefusedActsOnNone dialog
+  pub owner : MarkersActOnOwners version dialog
+  pub does : MarkersActWhereTheyCan dialog
+  pub unnamed : UnnamedLettersDoNothing version dialog
+  pub hidden : HiddenMarkersDoNothing dialog
+  pub none : UnableMarkersDoNothing dialog
+  pub refused : RefusedFocusChangesNothing dialog
 
 -- it opens with its focus on a free control and with what was saved of it, and stays so that it can be used,
 -- until it ends by a
@@ -188,7 +189,7 @@ pub record RunsByLaws (d : Desc) : Type 0 where
   pub safe : IsAlwaysSafe d
   pub usable : StaysUsable d
   -- no letter has two visible markers then
-  pub once : AlwaysMarksOnce d
+  pub once : LettersAlwaysHaveOneMarker d
   pub keys : KeysByLaws d
   pub tabs : All TabsByLaws d.dialogs
   pub letters : All (LettersByLaws d.version) d.dialogs

@@ -30,7 +30,7 @@ use Rattle.tv_machine.specs.Dialog.Rules.{is_enabled, is_visible}
 use Rattle.tv_machine.specs.Dialog.Shortcuts.{act, call_item, called_by, press_item, request_link}
 use Rattle.tv_machine.specs.Safe.{HasValueOf}
 use Rattle.tv_laws.specs.Fit.{IsStanding}
-use Rattle.tv_laws.specs.Letters.{ActsOnOwner, HasLines, IsActOn, IsFocusAfter, IsPressOf, KeepsOthers}
+use Rattle.tv_laws.specs.Letters.{MarkersActOnOwners, HasLines, IsActOn, IsFocusAfter, IsPressOf, KeepsOthers}
 use Rattle.tv_laws.specs.Sound.{IsSoundDialog}
 use Rattle.tv_machine.proofs.RefocusLemmas.{content_at-moved, leaves-moved, moved_content, refocused-keeps, refocused_content}
 use Rattle.tv_machine.proofs.LeafLemmas.{HasLeaves, IsIn, content_at-other, leaves-are}
@@ -268,7 +268,7 @@ module _ (d : Dialog) (sound : IsSoundDialog d) where
   called_act m letter marker control (ItemMarks kind name items) s e =
       on_itself false marker.node control m (called_by d letter marker (ItemMarks kind name items) m) e (item_act kind marker.node.id (item_marking items letter) m s)
 
-  pub acts-on-owner : (version : Version) → HasLines version d → ActsOnOwner version d
+  pub acts-on-owner : (version : Version) → HasLines version d → MarkersActOnOwners version d
   acts-on-owner version has m letter marker control fit there e =
       let shortcut = (behaviour marker.node.kind).shortcut in (
         is-owner d version has sound.lawful m fit.standing letter marker control there e,

@@ -28,7 +28,7 @@ use Rattle.tv_machine.specs.Dialog.Modal.{Modal, content_at, leaf_at, with_line}
 use Rattle.tv_machine.specs.Dialog.Rules.{is_kind_enabled, is_visible}
 use Rattle.tv_machine.specs.Dialog.Shortcuts.{call_item, called, press_item, request_link}
 use Rattle.tv_laws.specs.Fit.{IsStanding}
-use Rattle.tv_laws.specs.Letters.{ActsWhereItCan, HasActed, HasPressed, control_by, has_link, is_free_link}
+use Rattle.tv_laws.specs.Letters.{MarkersActWhereTheyCan, HasActed, HasPressed, control_by, has_link, is_free_link}
 use Rattle.tv_laws.specs.Sound.{IsSoundDialog}
 use Rattle.tv_laws.proofs.KeyLaws.ActLemmas.{moved-value}
 use Rattle.tv_machine.proofs.RefocusLemmas.{content_at-moved, leaves-moved, moved_content, refocused-keeps, refocused_content}
@@ -218,7 +218,7 @@ module _ (d : Dialog) (sound : IsSoundDialog d) where
         (granted marker.node.id m s (cluster_free (kinds.RadioButtons radios) r.is refl r.visible) (r.goes refl)))
     called_acts control _ r e = tt
 
-  pub acts-where-it-can : ActsWhereItCan d
+  pub acts-where-it-can : MarkersActWhereTheyCan d
   acts-where-it-can m letter marker control fit there e can goes =
       let marked : is_some (owner_by letter marker.node.kind) ≡ true = marker-marks d m.leaves letter marker there in
       let in_it : IsIn d marker = marker-in d m.leaves sound.lawful letter marker there in

@@ -38,7 +38,7 @@ use Rattle.tv_machine.specs.Dialog.Rules.{is_enabled, is_visible}
 use Rattle.tv_machine.specs.Dialog.Shortcuts.{act_on, call_item, called, is_visible_marker, marker_among, marking_leaf, marking_leaves, press_item}
 use Rattle.tv_machine.specs.Dialog.Step.{step_by}
 use Rattle.tv_laws.specs.Fit.{IsFitModal, IsStanding}
-use Rattle.tv_laws.specs.Letters.{AltActs, AreLinesOf, AreOtherItems, HasLines, HasLinesOf, HasOwnNames, IsOwner, MarksAlike, OneLineInFirstVersion, OwnLetterActs, TypedActs, control_by, holds_now, item_by}
+use Rattle.tv_laws.specs.Letters.{AltLettersAct, AreLinesOf, AreOtherItems, HasLines, HasLinesOf, HasOwnNames, IsOwner, CertificateNamesMarker, OneLineInFirstVersion, OwnLettersAct, TypedLettersAct, control_by, holds_now, item_by}
 use Rattle.tv_laws.specs.Sound.{IsSoundDialog}
 use Rattle.tv_machine.proofs.LeafLemmas.{IsIn, leaf_at-all, leaf_at-is, leaf_at-node, leaves-all}
 use Rattle.tv_machine.proofs.ListLemmas.{bool_cases, found-passes, id-itself, none-fails, option_cases, pairs-head, pairs-tail}
@@ -136,7 +136,7 @@ one_line d leaves letter (Some line) [] are = refl
 one_line d leaves letter (Some line) (marker ∷ []) are = refl
 one_line d leaves letter (Some line) (marker ∷ other ∷ markers) are = absurd are.1
 
-pub marks-alike : (version : Version) (d : Dialog) → HasLines version d → MarksAlike version d
+pub marks-alike : (version : Version) (d : Dialog) → HasLines version d → CertificateNamesMarker version d
 marks-alike version d has leaves letter unshared =
     ap (option_map (λ leaf. leaf.node))
     (one_line d leaves letter (option_map always (owners.owner_of d letter)) (marking_leaves d letter)
@@ -316,7 +316,7 @@ module _ (d : Dialog) where
   alt_same letter None m = alt_nothing letter (leaf_at d m.focus) m
   alt_same letter (Some marker) m = refl
 
-  pub alt-acts : AltActs d
+  pub alt-acts : AltLettersAct d
   alt-acts m letter idle = ap (λ h. step_by d h (events.Key (keys.Alt letter)) m) idle ∙ alt_same letter (marking_leaf d m.leaves letter) m
 
   -- a character goes to the focus
@@ -324,7 +324,7 @@ module _ (d : Dialog) where
       → step_by d m.held (events.Key (keys.Char ch)) m ≡ answered d (keys.Char ch) focus (key_answer focus.node.kind (keys.Char ch) (content_at m focus.node.id)) m
   char_step m ch focus idle there = ap (λ h. step_by d h (events.Key (keys.Char ch)) m) idle ∙ ap (λ o. keyed d (keys.Char ch) o m) there
 
-  pub typed-acts : TypedActs d
+  pub typed-acts : TypedLettersAct d
   typed-acts m ch focus idle there passed = char_step m ch focus idle there ∙ ap (λ a. answered d (keys.Char ch) focus a m) passed
 
   -- ---- a focused cluster's own letters
@@ -383,7 +383,7 @@ module _ (d : Dialog) (sound : IsSoundDialog d) where
       (and_parts (is_visible d m.leaves focus) (is_enabled d m.leaves focus.node)
       (and_parts (is_control focus.node.kind) (is_visible d m.leaves focus && is_enabled d m.leaves focus.node) free).1).0
 
-  pub own-letter-acts : OwnLetterActs d
+  pub own-letter-acts : OwnLettersAct d
   own-letter-acts m ch item focus fit idle there other e = (
     leaf_at-all (λ leaf. is_visible_marker d m.leaves (upper ch) leaf ≡ true → marking_leaf d m.leaves (upper ch) ≡ Some leaf) d m.focus focus
         (visible-is-marker d sound m fit (upper ch)) there

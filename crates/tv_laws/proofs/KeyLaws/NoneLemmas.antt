@@ -17,7 +17,7 @@ use Rattle.tv_machine.specs.Dialog.Focus.{Moved, NotFree, Refused, Same, after_r
 use Rattle.tv_machine.specs.Dialog.Modal.{Modal, leaf_at, with_line}
 use Rattle.tv_machine.specs.Dialog.Rules.{is_command_enabled, is_kind_enabled, is_visible}
 use Rattle.tv_machine.specs.Dialog.Shortcuts.{call_item, called, called_by, press_item, request_link}
-use Rattle.tv_laws.specs.Letters.{ActsOnNone, RefusedActsOnNone, has_link, is_free_link}
+use Rattle.tv_laws.specs.Letters.{UnableMarkersDoNothing, RefusedFocusChangesNothing, has_link, is_free_link}
 use Rattle.tv_machine.proofs.ListLemmas.{and-true, bool_cases}
 use Rattle.tv_laws.proofs.KeyLaws.LetterLemmas.{control-in, control_in, is_press_mark, press-mark}
 
@@ -48,7 +48,7 @@ module _ (d : Dialog) where
   called_same m letter marker (kinds.RadioButtons radios) is none = absurd (true≢false none)
   called_same m letter marker _ is none = refl
 
-  pub acts-on-none : ActsOnNone d
+  pub acts-on-none : UnableMarkersDoNothing d
   acts-on-none m letter marker =
       bool_cases (is_visible d m.leaves marker)
       (λ b. (b && (is_kind_enabled d m.leaves marker.node.kind && has_link d m.leaves marker.node.kind)) ≡ false
@@ -80,7 +80,7 @@ module _ (d : Dialog) where
   called_refused m letter marker control (ItemMarks kind name items) e other refused =
       inr (item_refused kind marker.node.id (item_marking items letter) m (itself marker.node control m e refused))
 
-  pub refused-acts-on-none : RefusedActsOnNone d
+  pub refused-acts-on-none : RefusedFocusChangesNothing d
   refused-acts-on-none m letter marker control e other refused =
       bool_cases (is_visible d m.leaves marker) (λ b. IsRefusal m (if b then called d letter marker marker.node.kind m else m))
       (λ shown.
