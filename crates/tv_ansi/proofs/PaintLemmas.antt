@@ -1,7 +1,7 @@
 -- A screen that is painted, with its cursor, and the begin and the end.
 use Rattle.std.proofs.Common.{◌≡◌, ℕ, pos, ◌<◌, ◌≤◌, Bool, true, false, subst, List, [], ◌∷◌, ◌++◌, Option, Some, None, IfSome, refl, sym, ap, ◌∙◌, arith, append_assoc, codes}
 use Rattle.std.proofs.lemmas.Int.{ints}
-use Rattle.tv_cells.specs.Picture.{Picture, IsOn, IsAlike, Changes, cell_at}
+use Rattle.tv_cells.specs.Picture.{Picture, IsOn, IsAlike}
 use Rattle.tv_cells.specs.Rectangle.{sized}
 use Rattle.tv_cells.specs.Repainting.{has_cell}
 use Rattle.tv_cells.specs.declared.rect.Rect.{Rect}
@@ -86,18 +86,6 @@ module _ {W : Type 0} {seen : W → Seen} {Region : ℕ → ℕ → Type 0} {scr
           law = record { drawn = drawn-cursor cursor law.1; points = has-cursor cursor e };
         });
   }
-
-shown-where : (screen : Picture) {old new : Picture} (rects : List Rect) → Changes (λ column row. has_cell rects column row ≡ true) (λ column row _. cell_at screen column row) old new
-    → ((column row : ℕ) → IsOn old column row → has_cell rects column row ≡ false → cell_at old column row ≡ cell_at screen column row)
-    → (column row : ℕ) (b : Bool) → has_cell rects column row ≡ b → IsOn old column row → cell_at new column row ≡ cell_at screen column row
-shown-where screen rects p same column row true e on = p.inside column row on e
-shown-where screen rects p same column row false e on = p.outside column row on (λ f. true-not-false f e) ∙ same column row on e
-
--- a screen that was taken over but in some rectangles is taken over whole
-pub shown-whole : (screen : Picture) {old new : Picture} (rects : List Rect) → Changes (λ column row. has_cell rects column row ≡ true) (λ column row _. cell_at screen column row) old new
-    → ((column row : ℕ) → IsOn old column row → has_cell rects column row ≡ false → cell_at old column row ≡ cell_at screen column row)
-    → (column row : ℕ) → IsOn old column row → cell_at new column row ≡ cell_at screen column row
-shown-whole screen rects p same column row on = shown-where screen rects p same column row (has_cell rects column row) refl on
 
 -- the cursor by another word
 pub paints-for : {W : Type 0} {seen : W → Seen} {Region : ℕ → ℕ → Type 0} {screen : Picture} {cursor wanted : Option (ℕ × ℕ)} {old new : Painter} {x z : Pen W} → cursor ≡ wanted

@@ -28,12 +28,10 @@ use Rattle.tv_app.specs.Running.{Runs}
 use Rattle.tv_app.specs.declared.app.App.{App}
 use Rattle.tv_app.specs.Setting.{FitsDialog, HasSafeValue, IsSetFrom, IsSafeFor, IsTakenOf, with_field_found, with_view}
 use Rattle.tv_app.specs.declared.setting.Taken.{Taken}
+use Rattle.tv_machine.proofs.EntryLemmas.{entry_with, none_behind, one_more}
 
 abbrev entry_id : Entry → Id
 entry_id entry = entry.id
-
-abbrev entry_with : Id → Value → Entry
-entry_with i value = record { id = i; value = value }
 
 abbrev is_field_leaf : PlacedNode → Bool
 is_field_leaf leaf = is_field leaf.node.kind
@@ -42,24 +40,6 @@ abbrev Rising : Node → Node → Type 0
 Rising view later = view.id.0 < later.id.0
 
 -- ---- a field that has no value yet
-
-one_more : (entries : Entries) (i : Id) (value : Value) → value_of entries i.0 ≡ None
-    → with_value entries i value ≡ entries ++ entry_with i value ∷ []
-one_more [] i value e = refl
-one_more (x ∷ entries) i value e =
-    bool_cases (x.id.0 == i.0)
-    (λ b. (if b then Some x.value else value_of entries i.0) ≡ None
-    → (if b then entry_with x.id value ∷ entries else x ∷ with_value entries i value) ≡ x ∷ (entries ++ entry_with i value ∷ []))
-    (λ is f. absurd cc) (λ is f. ap (λ ys. x ∷ ys) (one_more entries i value f)) e
-
-none_behind : (entries : Entries) (x : Entry) (field : ℕ) → value_of entries field ≡ None → (x.id.0 == field) ≡ false
-    → value_of (entries ++ x ∷ []) field ≡ None
-none_behind [] x field e other = ap (λ b. if b then Some x.value else None) other
-none_behind (y ∷ entries) x field e other =
-    bool_cases (y.id.0 == field)
-    (λ b. (if b then Some y.value else value_of entries field) ≡ None
-    → (if b then Some y.value else value_of (entries ++ x ∷ []) field) ≡ None)
-    (λ is f. f) (λ is f. none_behind entries x field f other) e
 
 pane_no_field : (k : Kind) → is_pane k ≡ true → is_field k ≡ false
 pane_no_field (kinds.Pane pane) e = refl

@@ -34,16 +34,7 @@ is_in-at r x y false e i = absurd (is_in_false r x y e i)
 pub is_in-true : (r : Rect) (x y : ℤ) → IsIn r x y → is_in r x y ≡ true
 is_in-true r x y i = is_in-at r x y (is_in r x y) refl i
 
-test-at : (r : Rect) (x y : ℤ) (b d : Bool) → is_in r x y ≡ d → (b ≡ true → IsIn r x y) → (IsIn r x y → b ≡ true) → b ≡ d
-test-at r x y true true e to back = refl
-test-at r x y false false e to back = refl
-test-at r x y true false e to back = absurd (is_in_false r x y e (to refl))
-test-at r x y false true e to back = back (is_in_true r x y e)
-
 -- ---- rectangles
-
-pub empty-part : (r s : Rect) → (IsSolid r → ⊥) → IsPart r s
-empty-part r s empty = record { each = λ x y i. absurd (empty (record { across = omega (arith, ints, i.after_left, i.before_right); down = omega (arith, ints, i.after_top, i.before_bottom) })) }
 
 -- the corners of a part
 pub record IsWithin (r s : Rect) : Type 0 where
@@ -238,11 +229,6 @@ pub empty-all : (rect : Rect) (rects : List Rect) → (IsSolid rect → ⊥) →
 empty-all rect rects empty = record {
   each = λ x y i. absurd (empty (record { across = omega (arith, ints, i.after_left, i.before_right); down = omega (arith, ints, i.after_top, i.before_bottom) }));
 }
-
--- ---- the tests of a rectangle
-
-pub contains-test : (r : Rect) (x y : ℤ) (b : Bool) → (b ≡ true → IsIn r x y) → (IsIn r x y → b ≡ true) → b ≡ is_in r x y
-contains-test r x y b to back = test-at r x y b (is_in r x y) refl to back
 
 -- ---- frames
 

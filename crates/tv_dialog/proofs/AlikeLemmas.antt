@@ -1,54 +1,20 @@
 -- Leaves in a frame that are drawn alike.
-use Rattle.std.proofs.Common.{◌≡◌, ℕ, pos, ◌-ℤ◌, Bool, true, false, List, [], ◌∷◌, ◌++◌, refl, sym, ◌∙◌, arith}
-use Rattle.std.proofs.lemmas.Int.{ints}
+use Rattle.std.proofs.Common.{◌≡◌, ℕ, pos, false, List, [], ◌∷◌, ◌++◌, refl, ◌∙◌}
 use Rattle.tv_cells.specs.Canvas.{sub}
-use Rattle.tv_cells.specs.Damage.{HasAll, HasWithin}
+use Rattle.tv_cells.specs.Damage.{HasWithin}
 use Rattle.tv_cells.specs.Glyph.{Glyph}
 use Rattle.tv_cells.specs.Layers.{Layer, Painted, cell_over, is_in, over}
 use Rattle.tv_cells.specs.Rectangle.{shifted}
 use Rattle.tv_cells.specs.declared.canvas.Canvas.{Canvas}
 use Rattle.tv_cells.specs.declared.rect.Rect.{Rect}
-use Rattle.tv_cells.proofs.LayerLemmas.{is_in_false, is_in_true}
-use Rattle.tv_cells.proofs.RectangleLemmas.{in_cut}
 use Rattle.tv_cells.proofs.RepaintingLemmas.{over-append}
 use Rattle.tv_model.specs.Screen.Faces.{FaceOf}
-use Rattle.tv_view.specs.Damage.{AllDamages, AllDrawn, IsDrawnAlike, has_seen}
+use Rattle.tv_view.specs.Damage.{AllDamages, AllDrawn, IsDrawnAlike}
 use Rattle.tv_view.specs.Drawing.{leaves_layers}
 use Rattle.tv_view.specs.Meaning.{Placed}
 use Rattle.tv_view.specs.declared.env.Env.{Env}
 use Rattle.tv_view.proofs.DamageLemmas.{alike-append, alike-more, alike-refl, alike-then, leaves-clipped, pane-alike}
-
--- ---- a rectangle
-
-false-true : {b : Bool} → b ≡ false → b ≡ true → ⊥
-false-true e f = let g : false ≡ true = sym e ∙ f in absurd cc
-
--- it lacks what the damage lacks, if the damage has all of it
-module _ (r : Rect) (damage : List Rect) (c : Canvas) (column row : ℕ) (all : HasAll r damage) (off : has_seen damage c column row ≡ false) where
-  lacks : (b : Bool) → is_in (shifted r c.origin) (pos column) (pos row) ≡ b → is_in (shifted r c.origin) (pos column) (pos row) ≡ false
-  lacks false e = e
-  lacks true e =
-      let i = is_in_true (shifted r c.origin) (pos column) (pos row) e in
-      absurd (false-true off (all.each (pos column -ℤ c.origin.x) (pos row -ℤ c.origin.y) (record {
-        after_left = omega (arith, ints, i.after_left);
-        before_right = omega (arith, ints, i.before_right);
-        after_top = omega (arith, ints, i.after_top);
-        before_bottom = omega (arith, ints, i.before_bottom);
-      })))
-
-  pub damage-outside : is_in (shifted r c.origin) (pos column) (pos row) ≡ false
-  damage-outside = lacks (is_in (shifted r c.origin) (pos column) (pos row)) refl
-
--- what lies outside it, its own canvas lacks
-module _ (r : Rect) (c : Canvas) (column row : ℕ) (out : is_in (shifted r c.origin) (pos column) (pos row) ≡ false) where
-  unclipped : (b : Bool) → is_in (sub c r).clip (pos column) (pos row) ≡ b → is_in (sub c r).clip (pos column) (pos row) ≡ false
-  unclipped false e = e
-  unclipped true e =
-      absurd (is_in_false (shifted r c.origin) (pos column) (pos row) out
-      ((in_cut c.clip (shifted r c.origin) (pos column) (pos row)).0 (is_in_true (sub c r).clip (pos column) (pos row) e)).1)
-
-  pub clip-outside : is_in (sub c r).clip (pos column) (pos row) ≡ false
-  clip-outside = unclipped (is_in (sub c r).clip (pos column) (pos row)) refl
+use Rattle.tv_view.proofs.OffLemmas.{clip-off}
 
 -- ---- leaves
 
@@ -87,7 +53,7 @@ module _ (env : Env) (bounds : Rect) (xs : List Placed) (width height : ℕ) (fa
   pub framed-outside : is_in (shifted bounds c.origin) (pos column) (pos row) ≡ false
       → cell_over (leaves_layers env (sub c bounds) xs ++ Painted (sub c bounds) width height face ∷ []) column row under ≡ under
   framed-outside out =
-      let gone = clip-outside bounds c column row out in
+      let gone = clip-off bounds c column row out in
       over-append (leaves_layers env (sub c bounds) xs) (Painted (sub c bounds) width height face ∷ []) column row under
       ∙ leaves-clipped env column row (sub c bounds) xs (over (Painted (sub c bounds) width height face) column row under) gone
       ∙ frame-clipped gone

@@ -23,7 +23,8 @@ use Rattle.tv_dialog.specs.Damage.{BodyDrawn, DialogDamages, DialogEnvDamages}
 use Rattle.tv_dialog.specs.Drawn.{drawn_dialog, lent}
 use Rattle.tv_dialog.specs.Head.{KeptDialogHead}
 use Rattle.tv_dialog.specs.declared.dialog.DialogOf.{DialogOf}
-use Rattle.tv_dialog.proofs.AlikeLemmas.{all-drawn-of, all-drawn-then, damage-outside, framed-alike, framed-outside}
+use Rattle.tv_dialog.proofs.AlikeLemmas.{all-drawn-of, all-drawn-then, framed-alike, framed-outside}
+use Rattle.tv_view.proofs.OffLemmas.{damage-off}
 
 -- where both environments are the same, nothing is drawn otherwise
 pub told-none : (bounds : Rect) (old new : Env) (leaves : List Placed) (damage : List Rect) → old ≡ new → AllEnvDamages bounds old new leaves damage damage
@@ -134,7 +135,7 @@ module _ {V : Type 0} (look : V → Leaf) where
     whole-told all = record {
       drawn = record {
         each = λ c column row off under.
-            let out = damage-outside (dialog_bounds dialog) after c column row (subst (λ r. HasAll r after) is all) off in
+            let out = damage-off (dialog_bounds dialog) after c column row (subst (λ r. HasAll r after) is all) off in
             dialog-outside old c dialog column row under out ∙ sym (dialog-outside new c dialog column row under out);
       };
       grown = subst (λ r. Grows r before after) is grown;

@@ -3,7 +3,6 @@ use Rattle.std.proofs.Common.{◌≡◌, true, false, ◌||◌, ◌==◌, if◌t
 use Rattle.std.specs.List.{cons_option}
 use Rattle.std.proofs.lemmas.List.Elements.{All-head, All-tail}
 use Rattle.tv_model.specs.declared.node.Id.{Id}
-use Rattle.tv_model.specs.declared.record.Entry.{Entry}
 use Rattle.tv_model.specs.declared.record.Value.{Value}
 use Rattle.tv_model.specs.declared.desc.Dialog.{Dialog}
 use Rattle.tv_model.specs.declared.log.LogLine.{LogLine}
@@ -19,11 +18,9 @@ use Rattle.tv_dialog.specs.Fields.{field_lines, line_by}
 use Rattle.tv_dialog.specs.Plan.{leaf_plan, plan_of}
 use Rattle.tv_machine.proofs.ListLemmas.{AreApart, bool_cases, find-member, map-map, same-id}
 use Rattle.tv_machine.proofs.LeafLemmas.{HasLeaves, ids-apart, state_id}
+use Rattle.tv_machine.proofs.EntryLemmas.{entry_with}
 
 -- ---- what a record has for an id
-
-abbrev entry_with : Id → Value → Entry
-entry_with i value = record { id = i; value = value }
 
 abbrev in_front : Option Value → Id → Entries → Entries
 in_front o j fields = cons_option (option_map (entry_with j) o) fields

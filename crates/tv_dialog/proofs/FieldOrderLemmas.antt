@@ -22,10 +22,11 @@ use Rattle.tv_view.specs.Calls as calls
 use Rattle.tv_view.specs.Meaning.{Placed}
 use Rattle.tv_group.specs.Calls.{FitsAll, all_set, in_place_unmarked}
 use Rattle.tv_tree.specs.Tree.{IsSteady, placed_as, tree_as}
-use Rattle.tv_tree.proofs.EndingLemmas.{entry_with}
+use Rattle.tv_machine.proofs.EntryLemmas.{entry_with}
 use Rattle.tv_tree.proofs.OpeningLemmas.{among_filtered, steady_field}
 use Rattle.tv_tree.proofs.TreeLemmas.{steady-leaf}
 use Rattle.tv_dialog.specs.Fields.{entry_in, in_field_order}
+use Rattle.tv_dialog.proofs.FreshLemmas.{set_place}
 
 abbrev entry_id : Entry → Id
 entry_id entry = entry.id
@@ -134,13 +135,6 @@ ids_have entries (x ∷ xs) fits =
     (value_there (is_field_leaf x) x.node.kind (value_of entries x.node.id.0)
     (All-head (λ leaf. calls.IsFieldValue leaf.node.kind (value_of entries leaf.node.id.0)) x xs fits) e) later)
     (λ is e. later) refl
-
--- a leaf that is set, by whether it has a value and what is recorded
-abbrev set_place : Bool → Option Value → Placed → Placed
-set_place field found x = record x {
-  leaf = record (if field then calls.leaf_opened_with found x.leaf else x.leaf) { is_focused = false; held = None };
-  is_current = false;
-}
 
 set_alike : (field : Bool) (found other : Option Value) (x : Placed) → (field ≡ true → found ≡ other) → set_place field found x ≡ set_place field other x
 set_alike true found other x same = ap (λ o. set_place true o x) (same refl)

@@ -36,7 +36,7 @@ applied-alike rules xs ys alike =
     ∙ map-map unflagged (in_place (calls.applied rules)) ys
 
 -- a leaf whose value is set, by whether it has one and what is recorded
-abbrev set_place : Bool → Option Value → Placed → Placed
+abbrev pub set_place : Bool → Option Value → Placed → Placed
 set_place field found x = record x {
   leaf = record (if field then calls.leaf_opened_with found x.leaf else x.leaf) { is_focused = false; held = None };
   is_current = false;

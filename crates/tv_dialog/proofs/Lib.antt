@@ -7,7 +7,6 @@ pub mod FirstRecordLemmas
 pub mod FreshLemmas
 pub mod NewLemmas
 pub mod PaneLemmas
-pub mod PendingLemmas
 pub mod PlanLemmas
 pub mod PressCodeLemmas
 pub mod ReopenLemmas

@@ -36,7 +36,7 @@ use Rattle.tv_dialog.specs.Bounds.{dialog_bounds, moved_dialog_rects}
 use Rattle.tv_dialog.specs.Damage.{DialogDamages}
 use Rattle.tv_dialog.specs.Drawn.{drawn_dialog}
 use Rattle.tv_dialog.specs.declared.dialog.DialogOf.{DialogOf}
-use Rattle.tv_dialog.proofs.AlikeLemmas.{damage-outside}
+use Rattle.tv_view.proofs.OffLemmas.{damage-off}
 use Rattle.tv_dialog.proofs.DamageLemmas.{dialog-outside}
 use Rattle.tv_dialog.proofs.ShownLemmas.{dialog-shows}
 use Rattle.tv_dialogs.specs.Damage.{HasShadowed, IsLentOpen, KeptDamages, Keeps, OpenAlike}
@@ -119,8 +119,8 @@ module _ {V : Type 0} (look : V → Leaf) (desc : Desc) (env : Env) (damage : Li
       let c = desktop_canvas desc in
       let r = dialog_bounds dialog in
       over-append (own_layers dialog) (shade dialog ∷ []) column row under
-      ∙ dialog-outside look env c dialog column row (over (shade dialog) column row under) (damage-outside r damage c column row all.own unseen)
-      ∙ shadow-outside c r column row under (damage-outside (shifted r aside) damage c column row all.shadow unseen)
+      ∙ dialog-outside look env c dialog column row (over (shade dialog) column row under) (damage-off r damage c column row all.own unseen)
+      ∙ shadow-outside c r column row under (damage-off (shifted r aside) damage c column row all.shadow unseen)
 
 -- ---- the open one
 

@@ -34,7 +34,8 @@ use Rattle.tv_faults.specs.Sound.Rules.{HasFreeControl, IsButtonOf, Reaches}
 use Rattle.tv_faults.proofs.NameLemmas.{gives_decides}
 use Rattle.tv_faults.proofs.PairLemmas.{after_own, pairs_head, pairs_tail}
 use Rattle.tv_faults.proofs.RuleLemmas.{option_over}
-use Rattle.tv_faults.proofs.SeenLemmas.{bool_cases, is_leaf, leaf_list-after, of_any, placed_after}
+use Rattle.tv_faults.proofs.SeenLemmas.{is_leaf, leaf_list-after, of_any, placed_after}
+use Rattle.tv_machine.proofs.ListLemmas.{bool_cases}
 
 -- ---- lists
 

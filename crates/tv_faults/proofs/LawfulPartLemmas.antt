@@ -24,7 +24,8 @@ use Rattle.tv_faults.specs.Sound.Limits.{EnablesLawfulCommand}
 use Rattle.tv_faults.specs.Sound.Rules.{HasItem, NamesThings}
 use Rattle.tv_faults.proofs.LetterLemmas.{marks_decides}
 use Rattle.tv_faults.proofs.PairLemmas.{Across, pairs_flat}
-use Rattle.tv_faults.proofs.SeenLemmas.{bool_cases, of_any}
+use Rattle.tv_faults.proofs.SeenLemmas.{of_any}
+use Rattle.tv_machine.proofs.ListLemmas.{bool_cases}
 
 -- ---- rules
 

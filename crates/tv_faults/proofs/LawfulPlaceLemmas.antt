@@ -13,8 +13,9 @@ use Rattle.tv_machine.specs.Leaves.{leaf_list}
 use Rattle.tv_declarations.specs.Spelling.{AreViews}
 use Rattle.tv_faults.specs.Sound.Places.{AreInside}
 use Rattle.tv_faults.specs.Sound.Places as points
-use Rattle.tv_faults.proofs.SeenLemmas.{bool_cases, is_leaf, leaf_list-after, placed_after}
+use Rattle.tv_faults.proofs.SeenLemmas.{is_leaf, leaf_list-after, placed_after}
 use Rattle.tv_overlaps.proofs.AreaLemmas.{within_points}
+use Rattle.tv_machine.proofs.ListLemmas.{bool_cases}
 
 -- the points of the first lie in the second
 within : (r s : Rect) → points.IsPartOf r s → IsTrue (is_within r s)

@@ -20,17 +20,9 @@ use Rattle.tv_model.specs.Faults.Lines.{after_seen, line_if, lines_where}
 use Rattle.tv_model.specs.Faults.{all_kinds, dialog_has, dialog_lines, fault_at, fault_lines, fault_number, faults_at, faults_of, head_lines, item_has, menu_has, menu_lines, rule_has, rule_lines, status_has, view_has, view_lines, window_has, window_lines}
 use Rattle.tv_model.specs.Faults.Limits.{is_lawful_screen}
 use Rattle.tv_faults.specs.Order.{AreInOrder, AreLinesRising, IsBefore, declaration_lines, lines_of_dialog, lines_of_menu, lines_of_window, start_line}
+use Rattle.tv_faults.proofs.PairLemmas.{pairs_head, pairs_nil, pairs_tail}
 
 -- ---- pairs
-
-pub pairs_head : {A : Type 0} (R : A → A → Type 0) (x : A) (xs : List A) → AllPairs R (x ∷ xs) → All (R x) xs
-pairs_head R x xs all k d less = all 0 (suc k) d (omega arith) (omega arith)
-
-pub pairs_tail : {A : Type 0} (R : A → A → Type 0) (x : A) (xs : List A) → AllPairs R (x ∷ xs) → AllPairs R xs
-pairs_tail R x xs all i j d less within = all (suc i) (suc j) d (omega arith) (omega arith)
-
-pub pairs_nil : {A : Type 0} (R : A → A → Type 0) → AllPairs R []
-pairs_nil R i j d less within = absurd (omega arith)
 
 pairs_append : {A : Type 0} (R : A → A → Type 0) (xs ys : List A) → AllPairs R xs → AllPairs R ys → All (λ x. All (R x) ys) xs → AllPairs R (xs ++ ys)
 pairs_append R [] ys p q across = q

@@ -16,7 +16,7 @@ use Rattle.tv_declarations.specs.declared.declaration.Declaration.TheVariants as
 use Rattle.tv_declarations.specs.Spelling.{IsDescription, dialog_declarations, ends_of_panes, menu_declarations, open_panes_after, start_declarations, view_declarations, window_declarations}
 use Rattle.tv_declarations.specs.Spelling.Declarations.{AreDeclarations, IsDeclaration}
 use Rattle.tv_faults.specs.Order.{AreLinesRising, lines_of_dialog, lines_of_menu, lines_of_window, start_line}
-use Rattle.tv_faults.proofs.OrderLemmas.{pairs_head, pairs_nil, pairs_tail}
+use Rattle.tv_faults.proofs.PairLemmas.{pairs_head, pairs_nil, pairs_tail}
 
 -- the number that a declaration has of its line, where it has one
 abbrev numbers : Declaration → List ℕ

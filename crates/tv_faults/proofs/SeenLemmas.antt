@@ -11,12 +11,9 @@ use Rattle.tv_model.specs.Faults.Lines.{after_seen}
 use Rattle.tv_machine.specs.Leaves.{PlacedNode, leaf_list, leaves_in, open_at}
 use Rattle.tv_machine.specs.Leaves as machine
 use Rattle.tv_declarations.specs.Spelling.{AreViews, open_panes_after}
+use Rattle.tv_machine.proofs.ListLemmas.{bool_cases}
 
 -- ---- cases and numbers
-
-pub bool_cases : (b : Bool) (P : Bool → Type 0) → (b ≡ true → P true) → (b ≡ false → P false) → P b
-bool_cases true P at_true at_false = at_true refl
-bool_cases false P at_true at_false = at_false refl
 
 -- what holds of all holds of one that is found
 pub of_any : {A : Type 0} (P Q : A → Type 0) (xs : List A) → All P xs → (found : Any Q xs) → P found.1

@@ -33,7 +33,8 @@ use Rattle.tv_faults.specs.Sound.Letters.{HasOwnLetters}
 use Rattle.tv_faults.specs.Sound.Rules.{HasItem, NamesThings}
 use Rattle.tv_faults.proofs.LawfulPartLemmas.{marks_some, own_letters}
 use Rattle.tv_faults.proofs.PairLemmas.{pairs_head, pairs_map, pairs_nil, pairs_tail}
-use Rattle.tv_faults.proofs.SeenLemmas.{bool_cases, is_leaf, leaf_list-after, placed_after}
+use Rattle.tv_faults.proofs.SeenLemmas.{is_leaf, leaf_list-after, placed_after}
+use Rattle.tv_machine.proofs.ListLemmas.{bool_cases}
 
 -- ---- lists
 

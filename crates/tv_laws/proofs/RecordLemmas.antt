@@ -13,26 +13,23 @@ use Rattle.tv_model.specs.declared.kind.Input.{Input}
 use Rattle.tv_model.specs.declared.kind.Kind.{Kind}
 use Rattle.tv_model.specs.declared.kind.Kind.TheVariants as kinds
 use Rattle.tv_model.specs.declared.desc.Dialog.{Dialog}
-use Rattle.tv_model.specs.declared.record.Entry.{Entry}
 use Rattle.tv_model.specs.declared.record.Value.{Value}
 use Rattle.tv_model.specs.declared.record.Value.TheVariants as values
 use Rattle.tv_model.specs.Description.Nodes.{node_of}
 use Rattle.tv_model.specs.Log.Record.{Entries}
-use Rattle.tv_machine.specs.State.{LeafState}
 use Rattle.tv_model.specs.Controls.Private.{Private}
 use Rattle.tv_machine.specs.Leaves.{PlacedNode, leaf_list}
 use Rattle.tv_model.specs.Controls.Contents.{Content}
-use Rattle.tv_machine.specs.Dialog.Ending.{entry_of, fields_of, first_invalid, is_invalid_leaf}
+use Rattle.tv_machine.specs.Dialog.Ending.{fields_of, first_invalid, is_invalid_leaf}
 use Rattle.tv_machine.specs.Dialog.Focus.{is_invalid}
 use Rattle.tv_model.specs.Kinds.InputLine.{is_outside_domain}
 use Rattle.tv_machine.specs.Dialog.Modal.{Modal, content_at}
-use Rattle.tv_machine.specs.Dialog.Rules.{content_by, is_among, state_of}
 use Rattle.tv_machine.specs.Safe.{HasValueOf, IsSafeEntry, IsSafeRecord, IsTextOf, IsValueOf, is_field}
 use Rattle.tv_laws.specs.Fit.{IsStanding}
 use Rattle.tv_laws.specs.Sound.{IsSoundDialog}
 use Rattle.tv_machine.proofs.LeafLemmas.{HasLeaves, IsIn, ids-apart, leaf_at-node, leaf_id, leaves-are, state_id, views-apart}
 use Rattle.tv_machine.proofs.ListLemmas.{AreApart, find-member, has, none-fails, option_cases}
-use Rattle.tv_machine.proofs.MarkLemmas.{value_by}
+use Rattle.tv_machine.proofs.EntryLemmas.{entries_are, entry_at, entry_with}
 
 -- ---- a value
 
@@ -68,30 +65,6 @@ value-inside k (values.Marks marks) private overwrites h e = h
 value-inside k (values.Item item) private overwrites h e = h
 
 -- ---- the entries
-
-abbrev pub entry_with : Id → Value → Entry
-entry_with i value = record { id = i; value = value }
-
--- the entry of a leaf, if it is a field
-abbrev pub entry_at : Modal → PlacedNode → Option Entry
-entry_at m leaf = option_map (entry_with leaf.node.id) (content_at m leaf.node.id).value
-
--- the entries of leaves are those of what they hold
-entries_are : (m : Modal) (xs : List PlacedNode) (states : List LeafState) → map state_id states ≡ map leaf_id xs
-    → All (λ s. state_of m.leaves s.id ≡ Some s) states
-    → filter_map (entry_at m) xs ≡ filter_map entry_of states
-entries_are m [] [] same found = refl
-entries_are m [] (s ∷ states) same found = absurd cc
-entries_are m (x ∷ xs) [] same found = absurd cc
-entries_are m (x ∷ xs) (s ∷ states) same found =
-    let head : s.id ≡ x.node.id = cc in
-    let tail : map state_id states ≡ map leaf_id xs = cc in
-    let here : state_of m.leaves x.node.id ≡ Some s = ap (state_of m.leaves) (sym head) ∙ All-head (λ other. state_of m.leaves other.id ≡ Some other) s states found in
-    let value : (content_at m x.node.id).value ≡ s.value =
-    value_by (is_among m.overwriting x.node.id) (state_of m.leaves x.node.id) ∙ ap (λ o. (content_by false o).value) here in
-    ap (λ v. cons_option (option_map (entry_with x.node.id) v) (filter_map (entry_at m) xs)) value
-    ∙ ap (λ i. cons_option (option_map (entry_with i) s.value) (filter_map (entry_at m) xs)) (sym head)
-    ∙ ap (cons_option (entry_of s)) (entries_are m xs states tail (All-tail (λ other. state_of m.leaves other.id ≡ Some other) s states found))
 
 -- ---- the record
 

@@ -25,7 +25,7 @@ use Rattle.tv_machine.specs.Session.Start.{closed, start, started_at, started_by
 use Rattle.tv_machine.specs.Session.Enabled.{is_enabled_now}
 use Rattle.tv_machine.specs.Session.Menu.{close_menu}
 use Rattle.tv_machine.specs.Session.Step.{after_event, dialog_with_hold, down_on_dialog, event_from, give_command, is_item_enabled, is_status_row, status_command, status_item_of, step, step_held, takes_command, to_dialog, with_empty_log}
-use Rattle.tv_laws.specs.Letters.{AlwaysMarksOnce}
+use Rattle.tv_laws.specs.Letters.{LettersAlwaysHaveOneMarker}
 use Rattle.tv_laws.specs.Runs.{HasSoundDialogs, IsFitState, IsKept, RunsFit}
 use Rattle.tv_laws.specs.Steps.{RespectsHold}
 use Rattle.tv_laws.proofs.CommandLemmas.{IsReady, command-fit, desktop_down-fit, desktop_key-fit, idle-fit, menu_down-fit, menu_key-fit, ready-idle}
@@ -275,7 +275,7 @@ module _ (d : Desc) (sound : HasSoundDialogs d) where
   pub always-safe : StandOnDesktop d → IsAlwaysSafe d
   always-safe stand es = fit-safe stand (states (step d) (start d) es) (states-fit es (start d) start-fit)
 
-  pub always-marks-once : AlwaysMarksOnce d
+  pub always-marks-once : LettersAlwaysHaveOneMarker d
   always-marks-once es o dialog some there =
       let x = (states-fit es (start d) start-fit).«open» o some in
       let both : Some x.dialog ≡ Some dialog = sym x.there ∙ there in

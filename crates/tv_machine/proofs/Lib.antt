@@ -1,5 +1,6 @@
 pub mod Descriptions
 pub mod DragExamples
+pub mod EntryLemmas
 pub mod LeafLemmas
 pub mod ListLemmas
 pub mod MarkLemmas

@@ -6,10 +6,10 @@ use mathlib.Core.Bool.{beq}
 use Rattle.std.proofs.lemmas.Bool.Decides.{nat_tests}
 use Rattle.std.proofs.lemmas.Int.{ints}
 use Rattle.std.proofs.lemmas.List.Elements.{All-cons, All-tail}
-use Rattle.tv_cells.specs.Canvas.{Covers, aside}
+use Rattle.tv_cells.specs.Canvas.{aside}
 use Rattle.tv_cells.specs.Damage.{AddsAll, Grows, HasAll, Holds, has, with_shadow}
 use Rattle.tv_cells.specs.Glyph.{Glyph}
-use Rattle.tv_cells.specs.Layers.{Layer, Painted, Shadow, ShowsSame, cell_over, covers, over}
+use Rattle.tv_cells.specs.Layers.{Layer, Painted, Shadow, ShowsSame, cell_over, over}
 use Rattle.tv_cells.specs.Picture.{Picture}
 use Rattle.tv_cells.specs.Rectangle.{shifted, sized}
 use Rattle.tv_cells.specs.Repainting.{AreAlike, has_cell}
@@ -17,7 +17,6 @@ use Rattle.tv_cells.specs.declared.canvas.Canvas.{Canvas}
 use Rattle.tv_cells.specs.declared.rect.Rect.{Rect}
 use Rattle.tv_cells.proofs.AddedLemmas.{adds-then, false-true, lacks}
 use Rattle.tv_cells.proofs.DamageLemmas.{has-left, has-one, has-right}
-use Rattle.tv_cells.proofs.LayerLemmas.{covers_true}
 use Rattle.tv_model.specs.declared.desc.Desc.{Desc}
 use Rattle.tv_model.specs.declared.desc.Menu.{Menu}
 use Rattle.tv_model.specs.declared.desc.StatusItem.{StatusItem}
@@ -38,6 +37,7 @@ use Rattle.tv_menu.specs.declared.bars.MenuBar.{MenuBar}
 use Rattle.tv_menu.specs.declared.bars.StatusLine.{StatusLine}
 use Rattle.tv_menu.proofs.DrawingLemmas.{face_same}
 use Rattle.tv_menu.proofs.FaceLemmas.{enabled_same, items_same}
+use Rattle.tv_view.proofs.OffLemmas.{painted-off, shadow-off}
 
 -- ---- rectangles that come in
 
@@ -60,18 +60,6 @@ box-within row r xs ys old rowed mid new grown first second h holds =
     (record { each = λ x y e. holds.each x y (has-right (row ∷ []) (xs ++ ys) x y e) })
 
 -- ---- a layer off its rectangle
-
-covers-not : (c : Canvas) (r : Rect) (column row : ℕ) (b : Bool) → covers c r column row ≡ b → (Covers c r column row → ⊥) → covers c r column row ≡ false
-covers-not c r column row false e out = e
-covers-not c r column row true e out = absurd (out (covers_true c r column row e))
-
-painted-off : (c : Canvas) (width height : ℕ) (face : FaceOf) (column row : ℕ) (under : Glyph) → (Covers c (sized width height) column row → ⊥) → over (Painted c width height face) column row under ≡ under
-painted-off c width height face column row under out =
-    let off = covers-not c (sized width height) column row (covers c (sized width height) column row) refl out in rw off refl
-
-shadow-off : (c : Canvas) (r : Rect) (column row : ℕ) (under : Glyph) → (Covers c (shifted r aside) column row → ⊥) → over (Shadow c r) column row under ≡ under
-shadow-off c r column row under out =
-    let off = covers-not c (shifted r aside) column row (covers c (shifted r aside) column row) refl out in rw off refl
 
 -- a face over its shadow, off its rectangle and off where the shadow lies
 block-off : (clip r : Rect) (w h : ℕ) (face : FaceOf) (column row : ℕ) (under : Glyph) → r ≡ rect r.a.x r.a.y (pos w) (pos h) → has (with_shadow r) (pos column) (pos row) ≡ false

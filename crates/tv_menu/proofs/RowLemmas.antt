@@ -17,9 +17,6 @@ lt_false a b h = grind (arith, nat_tests)
 true_lt : (a b : ℕ) → nat_lt a b ≡ true → a < b
 true_lt a b h = grind (arith, nat_tests)
 
-false_le : (a b : ℕ) → nat_lt a b ≡ false → b ≤ a
-false_le a b h = grind (arith, nat_tests)
-
 -- ---- a row that is written cell by cell
 
 -- the cells below a place have become f of what they were, and the others are as they were

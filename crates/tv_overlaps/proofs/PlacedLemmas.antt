@@ -22,6 +22,7 @@ use Rattle.tv_overlaps.specs.Standing.{AreSiblingsNumbered}
 use Rattle.tv_overlaps.proofs.AreaLemmas.{lt_says}
 use Rattle.tv_overlaps.proofs.HitLemmas.{any_filter}
 use Rattle.tv_model.proofs.TestLemmas.{or_false}
+use Rattle.tv_model.proofs.ListLemmas.{any_map}
 
 -- ---- the list of them
 
@@ -137,10 +138,6 @@ any_and : {A : Type 0} (b : Bool) (p : A → Bool) (xs : List A) → (b && list_
 any_and true p xs = refl
 any_and false p [] = refl
 any_and false p (x ∷ xs) = any_and false p xs
-
-any_map : {A B : Type 0} (p : B → Bool) (f : A → B) (xs : List A) → list_any p (map f xs) ≡ list_any (λ x. p (f x)) xs
-any_map p f [] = refl
-any_map p f (x ∷ xs) = ap (λ b. p (f x) || b) (any_map p f xs)
 
 any_agree : {A : Type 0} (p q : A → Bool) → ((x : A) → p x ≡ q x) → (xs : List A) → list_any p xs ≡ list_any q xs
 any_agree p q same [] = refl

@@ -382,9 +382,6 @@ odd_half i j h left n e f = let g : i + j * (h + h + 1) ≡ n = subst (λ (x : �
 pub even_half : (i j h left n : ℕ) → left ≡ h + h → i + j * left ≡ n → i + (j + j) * h ≡ n
 even_half i j h left n e f = let g : i + j * (h + h) ≡ n = subst (λ (x : ℕ). i + j * x ≡ n) e f in omega arith
 
-pub last_one : (i j left n : ℕ) → left ≡ 1 → i + j * left ≡ n → (i + j) + j * 0 ≡ n
-last_one i j left n e f = let g : i + j * 1 ≡ n = subst (λ (x : ℕ). i + j * x ≡ n) e f in omega arith
-
 pub none_left : (i j left n : ℕ) → left ≡ 0 → i + j * left ≡ n → i ≡ n
 none_left i j left n e f = let g : i + j * 0 ≡ n = subst (λ (x : ℕ). i + j * x ≡ n) e f in omega arith
 

@@ -88,9 +88,6 @@ within_now most h (op ∷ ops) w = w.0
 pub within_next : (most h k : ℕ) (op : Op) (ops : List Op) → height_after h op ≡ Some k → IsWithin most h (op ∷ ops) → IsWithin most k ops
 within_next most h k op ops e w = subst (λ (o : Option ℕ). IfSome o (λ j. IsWithin most j ops)) e w.1
 
-pub within_before : (most h k : ℕ) (op : Op) (ops : List Op) → height_after h op ≡ Some k → h ≤ most → IsWithin most k ops → IsWithin most h (op ∷ ops)
-within_before most h k op ops e below w = (below, subst (λ (o : Option ℕ). IfSome o (λ j. IsWithin most j ops)) (sym e) w)
-
 pub within_room : (most h : ℕ) (op : Op) (ops : List Op) → IsWithin most h (op ∷ ops) → IfSome (height_after h op) (λ k. k ≤ most)
 within_room most h op ops w = room (height_after h op) w.1
   where

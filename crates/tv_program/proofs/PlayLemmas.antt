@@ -1,5 +1,5 @@
 -- Why nothing is played in a terminal, and what comes of it where it is.
-use Rattle.std.proofs.Common.{◌≡◌, ℕ, List, Result, Ok, Err, IsErrAnd, ap, refl}
+use Rattle.std.proofs.Common.{◌≡◌, ℕ, List, Result, Ok, Err, IsErrAnd, refl}
 use Rattle.tv_machine.specs.Run.{Session, started}
 use Rattle.tv_model.specs.declared.desc.Desc.{Desc}
 use Rattle.tv_play.specs.Playing.{Plays, PlaysTo, Ports}
@@ -12,6 +12,7 @@ use Rattle.tv_program.specs.Playing.{IsNoStart, RefusesDesc}
 use Rattle.tv_program.specs.Reading.{IsSoundText}
 use Rattle.tv_program.specs.Terminal.{PlaysText}
 use Rattle.tv_program.specs.Terminal.PlaysText.{refused, unbegun, played}
+use Rattle.tv_program.proofs.RunLemmas.{err-is}
 
 -- what a run left is of no matter
 module _ (s : Session) (old new : Ports) (Left : Session → Type 0) where
@@ -34,10 +35,6 @@ module _ (s : Session) (old new : Ports) (Left : Session → Type 0) where
   PlaysTo-gone (Err terminals.Read) p = Plays-gone (Err terminals.Read) p
   PlaysTo-gone (Err terminals.Log) p = Plays-gone (Err terminals.Log) p
   PlaysTo-gone (Err terminals.Screen) p = Plays-gone (Err terminals.Screen) p
-
-err-is : {T : Type 0} (fault : PlayFault) (r : Result T PlayFault) → IsErrAnd r (λ told. told ≡ fault) → r ≡ Err fault
-err-is fault (Ok x) told = absurd told
-err-is fault (Err other) told = ap Err told
 
 module _ (Mismade : Desc → Type 0) (text : List ℕ) (ports : Ports) where
   -- the description is refused

@@ -91,7 +91,7 @@ ComesFrom-gone s reader left old new Left fault p = record {
   comes = StreamsTo-gone s p.given left.is_ended old new Left fault p.comes;
 }
 
-err-is : {T : Type 0} (fault : PlayFault) (r : Result T PlayFault) → IsErrAnd r (λ told. told ≡ fault) → r ≡ Err fault
+pub err-is : {T : Type 0} (fault : PlayFault) (r : Result T PlayFault) → IsErrAnd r (λ told. told ≡ fault) → r ≡ Err fault
 err-is fault (Ok x) told = absurd told
 err-is fault (Err other) told = ap Err told
 

@@ -6,7 +6,6 @@ pub mod FitLemmas
 pub mod GrammarLemmas
 pub mod LineLemmas
 pub mod MarkLemmas
-pub mod OutputLemmas
 pub mod PerformLemmas
 pub mod RangeLemmas
 pub mod RunLemmas

@@ -10,7 +10,7 @@ use Rattle.tv_model.specs.Description.Numbers.{natural}
 use Rattle.tv_script.specs.Performed.{IsScreenOf}
 
 -- texts of numbers that are the same for each number of a row
-flat_map-along : (f g : ℕ → List ℕ) (a n : ℕ) → ((k : ℕ) → a ≤ k → k < a + n → f k ≡ g k) → flat_map f (range_with_len a n) ≡ flat_map g (range_with_len a n)
+pub flat_map-along : (f g : ℕ → List ℕ) (a n : ℕ) → ((k : ℕ) → a ≤ k → k < a + n → f k ≡ g k) → flat_map f (range_with_len a n) ≡ flat_map g (range_with_len a n)
 flat_map-along f g a zero same = refl
 flat_map-along f g a (suc n) same =
     let rest = flat_map-along f g (a + 1) n (λ k from to. same k (omega arith) (omega arith)) in

@@ -20,8 +20,9 @@ use Rattle.tv_menu.specs.Lawful.{IsLawfulScreen}
 use Rattle.tv_session.specs.Running.{ShowAlikeOff, IsRun}
 use Rattle.tv_session.specs.Showing.{AreShownAlike}
 use Rattle.tv_session.specs.declared.run.RunOf.{RunOf}
-use Rattle.tv_session.proofs.MarkedLemmas.{alike-is, alike-more, alike-refl, layers-alike, marked-more}
+use Rattle.tv_session.proofs.MarkedLemmas.{alike-is, alike-refl, layers-alike, marked-more}
 use Rattle.tv_session.proofs.PaintingLemmas.{on-whole}
+use Rattle.tv_menu.proofs.DamageLemmas.{alike-more}
 
 -- no point is lost
 abbrev pub Keeps : List Rect → List Rect → Type 0

@@ -1,9 +1,9 @@
 -- What damage says of parts of the screen, one over the other and one after the other.
-use Rattle.std.proofs.Common.{◌≡◌, ℤ, pos, Bool, true, false, List, [], ◌∷◌, ◌++◌, refl, sym, ap, ◌∙◌, subst, Option, Some, None}
+use Rattle.std.proofs.Common.{◌≡◌, ℤ, Bool, true, false, List, [], ◌∷◌, ◌++◌, refl, sym, ap, ◌∙◌, subst, Option, Some, None}
 use Rattle.tv_cells.specs.Damage.{has}
 use Rattle.tv_cells.specs.Layers.{Layer, cell_over}
 use Rattle.tv_cells.specs.Picture.{Picture}
-use Rattle.tv_cells.specs.Repainting.{AreAlike, has_cell}
+use Rattle.tv_cells.specs.Repainting.{AreAlike}
 use Rattle.tv_cells.specs.declared.rect.Rect.{Rect}
 use Rattle.tv_cells.proofs.RepaintingLemmas.{over-append}
 use Rattle.tv_model.specs.declared.desc.Desc.{Desc}
@@ -13,6 +13,7 @@ use Rattle.std.specs.Prelude.{is_none}
 use Rattle.tv_machine.specs.Screen.Bodies.{background_layer}
 use Rattle.tv_machine.specs.Screen.Layers.{bar_layer, box_layers, layers_of, open_layers, stack_layers, status_layer}
 use Rattle.tv_session.specs.Running.{ShowAlikeOff}
+use Rattle.tv_menu.proofs.DamageLemmas.{alike-more}
 
 -- ---- lists of layers
 
@@ -27,16 +28,6 @@ alike-then p damage xs ys zs a b = record { each = λ column row on e under. a.e
 
 false-true : {b : Bool} → b ≡ false → b ≡ true → ⊥
 false-true e f = let g : false ≡ true = sym e ∙ f in absurd cc
-
--- what more damage lacks, less damage lacks
-lacked : (before after : List Rect) (x y : ℤ) (b : Bool) → ((x y : ℤ) → has before x y ≡ true → has after x y ≡ true) → has after x y ≡ false → has before x y ≡ b → has before x y ≡ false
-lacked before after x y false kept e f = f
-lacked before after x y true kept e f = absurd (false-true e (kept x y f))
-
-pub alike-more : (p : Picture) (before after : List Rect) (xs ys : List Layer) → ((x y : ℤ) → has before x y ≡ true → has after x y ≡ true) → AreAlike p before xs ys → AreAlike p after xs ys
-alike-more p before after xs ys kept a = record {
-  each = λ column row on e under. a.each column row on (lacked before after (pos column) (pos row) (has_cell before column row) kept e refl) under;
-}
 
 pub alike-append : (p : Picture) (damage : List Rect) (xs xs' ys ys' : List Layer) → AreAlike p damage xs xs' → AreAlike p damage ys ys' → AreAlike p damage (xs ++ ys) (xs' ++ ys')
 alike-append p damage xs xs' ys ys' a b = record {

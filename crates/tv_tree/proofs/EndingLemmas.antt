@@ -1,20 +1,18 @@
 -- What a dialog's tree answers where the dialog ends, and what commands leave of the dialog.
-use Rattle.std.proofs.Common.{◌≡◌, Bool, true, false, cond, ◌||◌, ◌==◌, ◌+◌, ◌≤◌, ℕ, suc, nat_lt, if◌then◌else◌, List, [], ◌∷◌, ◌++◌, map, find, filter_map, length, get_or, Option, Some, None, option_map, is_some, refl, sym, ap, subst, ◌∙◌, All, arith, append_assoc, append-nil, length-append, lt-ltb}
+use Rattle.std.proofs.Common.{◌≡◌, Bool, true, false, cond, ◌||◌, ◌+◌, ◌≤◌, ℕ, suc, nat_lt, if◌then◌else◌, List, [], ◌∷◌, ◌++◌, map, find, filter_map, length, get_or, Option, Some, None, option_map, is_some, refl, sym, ap, subst, ◌∙◌, All, arith, append_assoc, append-nil, length-append, lt-ltb}
 use Rattle.std.specs.List.{cons_option}
 use Rattle.std.specs.Option.{option_or}
 use Rattle.std.proofs.lemmas.Bool.{or_right}
 use Rattle.std.proofs.lemmas.List.Elements.{All-head, All-tail}
-use Rattle.tv_model.specs.declared.node.Id.{Id}
 use Rattle.tv_model.specs.declared.node.Node.{Node}
-use Rattle.tv_model.specs.declared.record.Entry.{Entry}
 use Rattle.tv_model.specs.declared.record.Value.{Value}
 use Rattle.tv_model.specs.declared.desc.Dialog.{Dialog}
 use Rattle.tv_model.specs.Description.Nodes.{is_pane}
-use Rattle.tv_model.specs.Log.Record.{Entries, value_of, with_value}
+use Rattle.tv_model.specs.Log.Record.{Entries, value_of}
 use Rattle.tv_machine.specs.State.{LeafState}
 use Rattle.tv_machine.specs.Leaves.{PlacedNode, leaf_list, leaves_in, open_after, open_at}
-use Rattle.tv_machine.specs.Dialog.Ending.{ended, entry_of, fields_of, first_invalid, is_invalid_leaf}
-use Rattle.tv_machine.specs.Dialog.Rules.{content_by, is_among, state_of}
+use Rattle.tv_machine.specs.Dialog.Ending.{ended, fields_of, first_invalid, is_invalid_leaf}
+use Rattle.tv_machine.specs.Dialog.Rules.{is_among}
 use Rattle.tv_machine.specs.Dialog.Modal.{Modal, content_at}
 use Rattle.tv_view.specs.Calls.{gathered, invalid_id, with_field}
 use Rattle.tv_group.specs.Calls.{first_invalid_in, first_some, gathered_within}
@@ -22,8 +20,8 @@ use Rattle.tv_machine.specs.Dialog.Lawful.{IsLawfulDialog}
 use Rattle.tv_tree.specs.Tree.{IsSteady, leaf_as, placed_as, tree_as}
 use Rattle.tv_machine.proofs.ListLemmas.{AreApart, bool_cases, find-member, id-swap, others-fail}
 use Rattle.tv_tree.proofs.FoundLemmas.{first_some-map}
-use Rattle.tv_machine.proofs.MarkLemmas.{value_by}
 use Rattle.tv_machine.proofs.LeafLemmas.{HasLeaves, ids-apart, leaf_id, state_id}
+use Rattle.tv_machine.proofs.EntryLemmas.{entries_are, entry_at, entry_with, none_behind, one_more}
 
 -- ---- a text outside its domain
 
@@ -44,31 +42,6 @@ first_invalid-tree d ruled m =
     ∙ some-find (is_invalid_leaf m) leaf_id (leaf_list d.views)
 
 -- ---- the record
-
-abbrev pub entry_with : Id → Value → Entry
-entry_with i value = record { id = i; value = value }
-
--- the entry of a leaf, if it is a field
-abbrev pub entry_at : Modal → PlacedNode → Option Entry
-entry_at m leaf = option_map (entry_with leaf.node.id) (content_at m leaf.node.id).value
-
-one_more : (entries : Entries) (i : Id) (value : Value) → value_of entries i.0 ≡ None
-    → with_value entries i value ≡ entries ++ entry_with i value ∷ []
-one_more [] i value e = refl
-one_more (x ∷ entries) i value e =
-    bool_cases (x.id.0 == i.0)
-    (λ b. (if b then Some x.value else value_of entries i.0) ≡ None
-    → (if b then entry_with x.id value ∷ entries else x ∷ with_value entries i value) ≡ x ∷ (entries ++ entry_with i value ∷ []))
-    (λ is f. absurd cc) (λ is f. ap (λ ys. x ∷ ys) (one_more entries i value f)) e
-
-pub none_behind : (entries : Entries) (x : Entry) (field : ℕ) → value_of entries field ≡ None → (x.id.0 == field) ≡ false
-    → value_of (entries ++ x ∷ []) field ≡ None
-none_behind [] x field e other = ap (λ b. if b then Some x.value else None) other
-none_behind (y ∷ entries) x field e other =
-    bool_cases (y.id.0 == field)
-    (λ b. (if b then Some y.value else value_of entries field) ≡ None
-    → (if b then Some y.value else value_of (entries ++ x ∷ []) field) ≡ None)
-    (λ is f. f) (λ is f. none_behind entries x field f other) e
 
 module _ (d : Dialog) (ruled : List LeafState) (m : Modal) where
   abbrev IsOpen : Entries → PlacedNode → Type 0
@@ -109,25 +82,6 @@ module _ (d : Dialog) (ruled : List LeafState) (m : Modal) where
       (or_right (is_some (value_of entries x.node.id.0)) true refl)
       ∙ gathers_one x xs entries apart.0 here behind room (λ more fits less. gathers xs more apart.1 fits less)
       (content_at m x.node.id).value
-
--- the entries of leaves are those of what they hold
-pub entries_are : (m : Modal) (xs : List PlacedNode) (states : List LeafState) → map state_id states ≡ map leaf_id xs
-    → All (λ s. state_of m.leaves s.id ≡ Some s) states
-    → filter_map (entry_at m) xs ≡ filter_map entry_of states
-entries_are m [] [] same found = refl
-entries_are m [] (s ∷ states) same found = absurd cc
-entries_are m (x ∷ xs) [] same found = absurd cc
-entries_are m (x ∷ xs) (s ∷ states) same found =
-    let head : s.id ≡ x.node.id = cc in
-    let tail : map state_id states ≡ map leaf_id xs = cc in
-    let here : state_of m.leaves x.node.id ≡ Some s =
-    ap (state_of m.leaves) (sym head) ∙ All-head (λ other. state_of m.leaves other.id ≡ Some other) s states found in
-    let value : (content_at m x.node.id).value ≡ s.value =
-    value_by (is_among m.overwriting x.node.id) (state_of m.leaves x.node.id) ∙ ap (λ o. (content_by false o).value) here in
-    ap (λ v. cons_option (option_map (entry_with x.node.id) v) (filter_map (entry_at m) xs)) value
-    ∙ ap (λ i. cons_option (option_map (entry_with i) s.value) (filter_map (entry_at m) xs)) (sym head)
-    ∙ ap (cons_option (entry_of s))
-    (entries_are m xs states tail (All-tail (λ other. state_of m.leaves other.id ≡ Some other) s states found))
 
 pub fewer_leaves : (panes views : List Node) → length (leaves_in panes views) ≤ length views
 fewer_leaves panes [] = omega arith

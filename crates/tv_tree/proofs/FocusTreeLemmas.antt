@@ -16,10 +16,10 @@ use Rattle.tv_machine.specs.Dialog.Focus.{Request, Same, NotFree, Refused, Moved
 use Rattle.tv_machine.specs.Dialog.Rules.{is_among, is_enabled, is_free, is_visible}
 use Rattle.tv_machine.specs.Dialog.Modal.{Modal, content_at, leaf_at, with_line}
 use Rattle.tv_view.specs.Calls.{focused_to, given_focus, invalid_id, takes_focus, without_focus}
-use Rattle.tv_group.specs.Calls.{all_focused, first_some, focused_from, is_free_id, refused_in, refusing}
+use Rattle.tv_group.specs.Calls.{all_focused, focused_from, is_free_id, refused_in, refusing}
 use Rattle.tv_group.specs.Calls as group
 use Rattle.tv_machine.specs.Dialog.Lawful.{IsLawfulDialog}
-use Rattle.tv_tree.specs.Tree.{IsSteady, IsSteadyContent, around_of, held_at, leaf_as, placed_as, tree_as, tree_of}
+use Rattle.tv_tree.specs.Tree.{IsSteady, IsSteadyContent, held_at, leaf_as, placed_as, tree_as, tree_of}
 use Rattle.tv_machine.proofs.ListLemmas.{AreApart, any-found, any-map, any-same, bool_cases, has, id-itself, map-map, on_found, option_cases, or-false, others-fail, same-id}
 use Rattle.tv_tree.proofs.FoundLemmas.{asked_at, first-found, first_some-map}
 use Rattle.tv_tree.proofs.FlagLemmas.{flags-same}
@@ -27,6 +27,7 @@ use Rattle.tv_machine.proofs.RefocusLemmas.{content_at-moved, held-moved, hold-m
 use Rattle.tv_tree.proofs.StandingLemmas.{left-rests, refocused-standing, standing, standing_leaf, steady-moved}
 use Rattle.tv_machine.proofs.LeafLemmas.{IsIn, ids-apart, leaf_at-is, leaf_at-same, leaf_id, leaves-same}
 use Rattle.tv_tree.proofs.TreeLemmas.{steady-leaf, tree-apart}
+use Rattle.tv_tree.proofs.RuledLemmas.{put}
 
 and_false : (b : Bool) → (b && false) ≡ false
 and_false true = refl
@@ -125,9 +126,6 @@ one_takes i (x ∷ xs) apart =
     (others-fail placed_id xs i (ap (is_among (map placed_id xs)) (sym here) ∙ apart.0) k e h)
     ∙ and_false (is_control y.leaf.node.kind)))
     (λ other. one_takes i xs apart.1))
-
-abbrev put : Dialog → PlacedNode → Bool → Leaf → Placed
-put d leaf is_current l = record { leaf = l; around = around_of d leaf; is_current = is_current }
 
 abbrev focusing : Bool → Leaf → Leaf
 focusing is_focused l = record l { is_focused = is_focused }

@@ -19,7 +19,8 @@ use Rattle.tv_view.specs.Calls.{gathered, with_field}
 use Rattle.tv_group.specs.Calls.{gathered_within}
 use Rattle.tv_machine.specs.Dialog.Lawful.{IsLawfulDialog}
 use Rattle.tv_tree.specs.Tree.{IsSteady, placed_as, tree_as}
-use Rattle.tv_tree.proofs.EndingLemmas.{entries_are, entry_at, entry_with, gathered-tree, none_behind, states-apart}
+use Rattle.tv_machine.proofs.EntryLemmas.{entries_are, entry_at, entry_with, none_behind}
+use Rattle.tv_tree.proofs.EndingLemmas.{gathered-tree, states-apart}
 use Rattle.tv_machine.proofs.ListLemmas.{AreApart, bool_cases, either-same, find-member, find-none, has, id-itself, id-swap, others-fail, same-id}
 use Rattle.tv_machine.proofs.MarkLemmas.{value_by}
 use Rattle.tv_tree.proofs.OpeningLemmas.{steady_field}

@@ -112,7 +112,7 @@ module _ (d : Dialog) (ruled : List LeafState) (leaf : PlacedNode) (c : Content)
       of (ItemMarks kind name items) = cluster_standing kind (length items)
       of _ = refl
 
-abbrev put : Dialog → PlacedNode → Bool → Leaf → Placed
+abbrev pub put : Dialog → PlacedNode → Bool → Leaf → Placed
 put d leaf is_current l = record { leaf = l; around = around_of d leaf; is_current = is_current }
 
 pressed_place : (d : Dialog) (ruled : List LeafState) (item : ℕ) (leaf : PlacedNode) (c : Content) (is_focused : Bool) (held : Option ℕ)

@@ -1,6 +1,5 @@
 pub mod CanvasLemmas
 pub mod DrawingLemmas
 pub mod FaceLemmas
-pub mod FrameLemmas
 pub mod LookLemmas
 pub mod OpenDialogLemmas

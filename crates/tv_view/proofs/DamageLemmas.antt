@@ -20,6 +20,7 @@ use Rattle.tv_view.specs.Damage.{Damages, EnvDamages, IsDrawnAlike, TellsSame, h
 use Rattle.tv_view.specs.Drawing.{faces_of, is_near, layers_in, leaf_layers, leaves_layers}
 use Rattle.tv_view.specs.Fields.{content_of}
 use Rattle.tv_view.proofs.LayingLemmas.{layers-far, layers-inside}
+use Rattle.tv_cells.proofs.AddedLemmas.{lacks}
 
 false-true : {b : Bool} → b ≡ false → b ≡ true → ⊥
 false-true e f = let g : false ≡ true = sym e ∙ f in absurd cc
@@ -32,15 +33,11 @@ alike-refl damage f = record { each = λ c column row e under. refl }
 pub alike-then : (damage : List Rect) (f g h : Canvas → List Layer) → IsDrawnAlike damage f g → IsDrawnAlike damage g h → IsDrawnAlike damage f h
 alike-then damage f g h p q = record { each = λ c column row e under. p.each c column row e under ∙ q.each c column row e under }
 
-lacked : (before after : List Rect) (x y : ℤ) (b : Bool) → ((x y : ℤ) → has before x y ≡ true → has after x y ≡ true) → has after x y ≡ false → has before x y ≡ b → has before x y ≡ false
-lacked before after x y false kept e f = f
-lacked before after x y true kept e f = absurd (false-true e (kept x y f))
-
 -- more damage
 pub alike-more : (before after : List Rect) (f g : Canvas → List Layer) → ((x y : ℤ) → has before x y ≡ true → has after x y ≡ true) → IsDrawnAlike before f g → IsDrawnAlike after f g
 alike-more before after f g kept p = record {
   each = λ c column row e under.
-      p.each c column row (lacked before after (pos column -ℤ c.origin.x) (pos row -ℤ c.origin.y) (has_seen before c column row) kept e refl) under;
+      p.each c column row (lacks before after (pos column -ℤ c.origin.x) (pos row -ℤ c.origin.y) (kept (pos column -ℤ c.origin.x) (pos row -ℤ c.origin.y)) e) under;
 }
 
 -- one drawing over another

@@ -1,7 +1,9 @@
 pub mod ClippingLemmas
 pub mod CutLemmas
 pub mod DamageLemmas
+pub mod DrawnLemmas
 pub mod FrameLayerLemmas
 pub mod LayingLemmas
+pub mod OffLemmas
 pub mod PassLemmas
 pub mod SameLayerLemmas

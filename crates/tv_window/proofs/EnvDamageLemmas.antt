@@ -1,6 +1,5 @@
 -- What a window shows otherwise in another environment.
-use Rattle.std.proofs.Common.{◌≡◌, ℕ, pos, ◌-ℤ◌, Bool, true, false, List, [], ◌∷◌, refl, sym, ap, subst, ◌∙◌, arith}
-use Rattle.std.proofs.lemmas.Int.{ints}
+use Rattle.std.proofs.Common.{◌≡◌, ℕ, pos, false, List, [], ◌∷◌, refl, sym, ap, subst, ◌∙◌}
 use Rattle.tv_cells.specs.Canvas.{sub}
 use Rattle.tv_cells.specs.Damage.{Grows, HasAll, HasWithin}
 use Rattle.tv_cells.specs.Glyph.{Glyph}
@@ -8,11 +7,9 @@ use Rattle.tv_cells.specs.Layers.{cell_over, is_in, over}
 use Rattle.tv_cells.specs.Rectangle.{shifted}
 use Rattle.tv_cells.specs.declared.canvas.Canvas.{Canvas}
 use Rattle.tv_cells.specs.declared.rect.Rect.{Rect}
-use Rattle.tv_cells.proofs.LayerLemmas.{is_in_false, is_in_true}
-use Rattle.tv_cells.proofs.RectangleLemmas.{in_cut}
 use Rattle.tv_cells.proofs.RepaintingLemmas.{over-append}
 use Rattle.tv_group.specs.Opened.{group_bounds, opened}
-use Rattle.tv_view.specs.Damage.{AllEnvDamages, IsDrawnAlike, has_seen}
+use Rattle.tv_view.specs.Damage.{AllEnvDamages, IsDrawnAlike}
 use Rattle.tv_view.specs.Drawing.{leaves_layers}
 use Rattle.tv_view.specs.Meaning.{Leaf, Placed}
 use Rattle.tv_view.specs.declared.env.Env.{Env}
@@ -21,36 +18,7 @@ use Rattle.tv_window.specs.Damage.{WindowEnvDamages}
 use Rattle.tv_window.specs.Head.{KeptWindowHead}
 use Rattle.tv_window.specs.Window.{drawn_window, head_of, window_bounds, window_frame_layer}
 use Rattle.tv_window.specs.declared.window.WindowOf.{WindowOf}
-use Rattle.tv_cells.proofs.AddedLemmas.{false-true}
-
--- ---- a rectangle
-
--- it lacks what the damage lacks, if the damage has all of it
-module _ (r : Rect) (damage : List Rect) (c : Canvas) (column row : ℕ) (all : HasAll r damage) (off : has_seen damage c column row ≡ false) where
-  lacked : (b : Bool) → is_in (shifted r c.origin) (pos column) (pos row) ≡ b → is_in (shifted r c.origin) (pos column) (pos row) ≡ false
-  lacked false e = e
-  lacked true e =
-      let i = is_in_true (shifted r c.origin) (pos column) (pos row) e in
-      absurd (false-true off (all.each (pos column -ℤ c.origin.x) (pos row -ℤ c.origin.y) (record {
-        after_left = omega (arith, ints, i.after_left);
-        before_right = omega (arith, ints, i.before_right);
-        after_top = omega (arith, ints, i.after_top);
-        before_bottom = omega (arith, ints, i.before_bottom);
-      })))
-
-  damage-off : is_in (shifted r c.origin) (pos column) (pos row) ≡ false
-  damage-off = lacked (is_in (shifted r c.origin) (pos column) (pos row)) refl
-
--- what lies off it, its own canvas lacks
-module _ (r : Rect) (c : Canvas) (column row : ℕ) (out : is_in (shifted r c.origin) (pos column) (pos row) ≡ false) where
-  unclipped : (b : Bool) → is_in (sub c r).clip (pos column) (pos row) ≡ b → is_in (sub c r).clip (pos column) (pos row) ≡ false
-  unclipped false e = e
-  unclipped true e =
-      absurd (is_in_false (shifted r c.origin) (pos column) (pos row) out
-      ((in_cut c.clip (shifted r c.origin) (pos column) (pos row)).0 (is_in_true (sub c r).clip (pos column) (pos row) e)).1)
-
-  clip-off : is_in (sub c r).clip (pos column) (pos row) ≡ false
-  clip-off = unclipped (is_in (sub c r).clip (pos column) (pos row)) refl
+use Rattle.tv_view.proofs.OffLemmas.{clip-off, damage-off}
 
 -- ---- a window
 

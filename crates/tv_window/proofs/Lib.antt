@@ -12,4 +12,3 @@ pub mod PlaceLemmas
 pub mod PointLemmas
 pub mod RaisedLemmas
 pub mod StackLemmas
-pub mod WindowDrawingLemmas

@@ -1,18 +1,17 @@
 -- Off its bounds and its shadow a window shows nothing, wherever it stands.
-use Rattle.std.proofs.Common.{◌≡◌, ℕ, ℤ, pos, ◌+ℤ◌, ◌-ℤ◌, Bool, true, false, List, [], ◌∷◌, ◌++◌, All, flat_map, map, reverse, refl, sym, ap, subst, ◌∙◌, arith}
+use Rattle.std.proofs.Common.{◌≡◌, ℕ, ℤ, pos, ◌+ℤ◌, ◌-ℤ◌, Bool, false, List, [], ◌∷◌, ◌++◌, All, flat_map, map, reverse, refl, sym, ap, subst, ◌∙◌, arith}
 use Rattle.std.proofs.lemmas.Grind.{reverse_onto}
 use Rattle.std.proofs.lemmas.Int.{ints}
 use Rattle.std.proofs.lemmas.List.Elements.{All-head, All-map, All-push, All-tail, All-weaker}
-use Rattle.tv_cells.specs.Canvas.{Covers, aside}
+use Rattle.tv_cells.specs.Canvas.{aside}
 use Rattle.tv_cells.specs.Damage.{has, with_shadow}
 use Rattle.tv_cells.specs.Glyph.{Glyph}
-use Rattle.tv_cells.specs.Layers.{Layer, Painted, Shadow, cell_over, covers, over}
+use Rattle.tv_cells.specs.Layers.{Layer, Painted, Shadow, cell_over, over}
 use Rattle.tv_cells.specs.Rectangle.{IsIn, shifted, sized}
 use Rattle.tv_cells.specs.declared.canvas.Canvas.{Canvas}
 use Rattle.tv_cells.specs.declared.rect.Point.{Point}
 use Rattle.tv_cells.specs.declared.rect.Rect.{Rect}
 use Rattle.tv_cells.proofs.DamageLemmas.{has-left, has-one, has-right}
-use Rattle.tv_cells.proofs.LayerLemmas.{covers_true}
 use Rattle.tv_cells.proofs.RepaintingLemmas.{over-append}
 use Rattle.tv_model.specs.Screen.Faces.{FaceOf, frame_face, frame_look, static_text_face}
 use Rattle.tv_model.specs.Description.Heads.{window_head}
@@ -31,20 +30,7 @@ use Rattle.tv_view.proofs.SameLayerLemmas.{unsized}
 use Rattle.tv_window.specs.DeclaredWindows.{IsTextInside}
 use Rattle.tv_cells.proofs.AddedLemmas.{false-true}
 use Rattle.tv_window.proofs.DeclaredWindowLemmas.{bare, bare_list}
-
--- ---- a layer
-
-covers-not : (c : Canvas) (r : Rect) (column row : ℕ) (b : Bool) → covers c r column row ≡ b → (Covers c r column row → ⊥) → covers c r column row ≡ false
-covers-not c r column row false e out = e
-covers-not c r column row true e out = absurd (out (covers_true c r column row e))
-
-painted-off : (c : Canvas) (width height : ℕ) (face : FaceOf) (column row : ℕ) (under : Glyph) → (Covers c (sized width height) column row → ⊥) → over (Painted c width height face) column row under ≡ under
-painted-off c width height face column row under out =
-    let off = covers-not c (sized width height) column row (covers c (sized width height) column row) refl out in rw off refl
-
-shadow-off : (c : Canvas) (r : Rect) (column row : ℕ) (under : Glyph) → (Covers c (shifted r aside) column row → ⊥) → over (Shadow c r) column row under ≡ under
-shadow-off c r column row under out =
-    let off = covers-not c (shifted r aside) column row (covers c (shifted r aside) column row) refl out in rw off refl
+use Rattle.tv_view.proofs.OffLemmas.{painted-off, shadow-off}
 
 -- ---- the views
 

@@ -73,9 +73,6 @@ Differ w other = w.id.0 ≢ other.id.0
 pub numbers-differ : (a b : ℕ) → a ≢ b → (a == b) ≡ false
 numbers-differ a b h = grind (arith, nat_tests)
 
-numbers-same : (a b : ℕ) → (a == b) ≡ true → a ≡ b
-numbers-same a b h = grind (arith, nat_tests)
-
 other-lacks : (i : Id) (w : OpenWindow) → i.0 ≢ w.id.0 → has i w ≡ false
 other-lacks i w apart = numbers-differ w.id.0 i.0 (λ e. apart (sym e))
 

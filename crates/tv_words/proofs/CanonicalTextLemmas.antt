@@ -11,6 +11,7 @@ use Rattle.tv_words.specs.Words.{is_comment, SpellsWords}
 use Rattle.tv_words.specs.Texts.{EachSpells, declarations, SpellsBy}
 use Rattle.tv_words.specs.Canonical.{canonical_line, ended_line, canonical_text}
 use Rattle.tv_words.proofs.CanonicalLineLemmas.{Stands, canonical_spells, line_of_words, words_stand, plain_line, clean_from_plain}
+use Rattle.tv_words.proofs.WordLemmas.{or_false}
 
 abbrev is_end : ℕ → Bool
 is_end b = b == 10
@@ -26,10 +27,6 @@ first_line [] rest none = refl
 first_line (c ∷ l) rest none = onto (c == 10) c l rest refl none (first_line l rest)
 
 -- ---- the UTF-8 of characters that are no line ends has none
-
-or_false : (a b : Bool) → (a || b) ≡ false → (a ≡ false) × (b ≡ false)
-or_false true b e = absurd cc
-or_false false b e = (refl, e)
 
 no_end_if : (b : Bool) (c : ℕ) → c == 10 ≡ b → is_control c ≡ false → b ≡ false
 no_end_if false c e f = refl

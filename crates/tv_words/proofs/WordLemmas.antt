@@ -33,7 +33,7 @@ space cs (w ∷ ws) h = (suc h.0, h.1, ap (λ x. 32 ∷ x) h.2, h.3, h.4)
 abbrev Clean : List ℕ → Type 0
 Clean cs = list_any is_control cs ≡ false
 
-or_false : (a b : Bool) → (a || b) ≡ false → (a ≡ false) × (b ≡ false)
+pub or_false : (a b : Bool) → (a || b) ≡ false → (a ≡ false) × (b ≡ false)
 or_false true b e = absurd cc
 or_false false b e = (refl, e)
 

@@ -31,7 +31,8 @@ use Rattle.tv_machine.proofs.RefocusLemmas.{content_at-moved, leaves-moved, move
 use Rattle.tv_machine.proofs.LeafLemmas.{IsIn, ids-apart, leaf_id, leaves-are}
 use Rattle.tv_machine.proofs.ListLemmas.{AreApart, bool_cases, find-member, has, option_cases}
 use Rattle.tv_laws.proofs.OpenLemmas.{recorded_value, standing_before}
-use Rattle.tv_laws.proofs.RecordLemmas.{entry_at, entry_with, fields-are, value-field}
+use Rattle.tv_laws.proofs.RecordLemmas.{fields-are, value-field}
+use Rattle.tv_machine.proofs.EntryLemmas.{entry_at, entry_with}
 use Rattle.tv_laws.proofs.StandLemmas.{standing-leaf}
 
 -- ---- lists

@@ -1,7 +1,7 @@
 -- The canvas of a leaf through the groups around it, which cut nothing of it.
-use Rattle.std.proofs.Common.{◌≡◌, ℕ, ◌≤◌, ◌+◌, ◌*◌, ℤ, pos, neg_ℤ, ◌+ℤ◌, ◌-ℤ◌, ◌≤ℤ◌, not, ◌&&◌, ◌||◌, List, [], ◌∷◌, ◌++◌, length, All, map, reverse, true, refl, sym, ap, ◌∙◌, arith, subst, int_le, int_lt}
+use Rattle.std.proofs.Common.{◌≡◌, ℕ, ◌≤◌, ◌+◌, ◌*◌, ℤ, pos, neg_ℤ, ◌+ℤ◌, ◌-ℤ◌, ◌≤ℤ◌, ◌&&◌, List, [], ◌∷◌, ◌++◌, length, All, map, reverse, true, refl, sym, ap, ◌∙◌, arith, subst}
 use Rattle.std.specs.Prelude.{if◌then◌else◌}
-use Rattle.std.proofs.lemmas.Bool.{and_from, and_parts}
+use Rattle.std.proofs.lemmas.Bool.{and_from}
 use Rattle.std.proofs.lemmas.Int.{ints}
 use Rattle.std.proofs.lemmas.List.Elements.{All-head, All-tail}
 use Rattle.std.specs.Int.Signed.{le_z}
@@ -13,13 +13,14 @@ use Rattle.tv_cells.specs.declared.canvas.Canvas.{Canvas}
 use Rattle.tv_cells.proofs.RectangleLemmas.{in_cut}
 use Rattle.tv_model.specs.declared.node.Node.{Node}
 use Rattle.tv_view.specs.Meaning.{Leaf}
-use Rattle.tv_model.specs.Description.Rectangles.{has_points, interior, is_within, place_of_node, whole_area}
+use Rattle.tv_model.specs.Description.Rectangles.{interior, place_of_node, whole_area}
 use Rattle.tv_machine.specs.Leaves.{column_in, row_in}
 use Rattle.tv_view.specs.declared.env.Env.{Env}
 use Rattle.tv_view.specs.Drawing.{is_near, layers_in, leaf_layers}
 use Rattle.tv_group.specs.Outline.{body_bounds}
 use Rattle.tv_group.proofs.ListLemmas.{map-snoc, reverse-step}
 use Rattle.tv_machine.specs.Dialog.Lawful.{LiesIn}
+use Rattle.tv_tree.proofs.Mouse.ReachLemmas.{within_in}
 
 -- ---- canvases through groups
 
@@ -159,36 +160,6 @@ panes-reached c owner (pane ∷ panes) at corners few =
     }
 
 -- ---- what lies inside isn't cut
-
-record IsInside (r s : Rect) : Type 0 where
-  left : int_le s.a.x r.a.x ≡ true
-  right : int_le r.b.x s.b.x ≡ true
-  top : int_le s.a.y r.a.y ≡ true
-  bottom : int_le r.b.y s.b.y ≡ true
-
-inside_says : (r s : Rect) → ((int_le s.a.x r.a.x && int_le r.b.x s.b.x) && (int_le s.a.y r.a.y && int_le r.b.y s.b.y)) ≡ true
-    → IsInside r s
-inside_says r s e =
-    let f = and_parts (int_le s.a.x r.a.x && int_le r.b.x s.b.x) (int_le s.a.y r.a.y && int_le r.b.y s.b.y) e in
-    let g = and_parts (int_le s.a.x r.a.x) (int_le r.b.x s.b.x) f.0 in
-    let h = and_parts (int_le s.a.y r.a.y) (int_le r.b.y s.b.y) f.1 in
-    record { left = g.0; right = g.1; top = h.0; bottom = h.1 }
-
-inside_in : (r s : Rect) (x y : ℤ) → IsInside r s → IsIn r x y → IsIn s x y
-inside_in r s x y f i = record {
-  after_left = grind (arith, ints, f.left);
-  before_right = grind (arith, ints, f.right);
-  after_top = grind (arith, ints, f.top);
-  before_bottom = grind (arith, ints, f.bottom);
-}
-
-points_hold : (r : Rect) (x y : ℤ) → IsIn r x y → has_points r ≡ true
-points_hold r x y i = and_from (int_lt r.a.x r.b.x) (int_lt r.a.y r.b.y) (grind (arith, ints)) (grind (arith, ints))
-
-within_in : (r s : Rect) (x y : ℤ) → is_within r s ≡ true → IsIn r x y → IsIn s x y
-within_in r s x y e i =
-    let sides = (int_le s.a.x r.a.x && int_le r.b.x s.b.x) && (int_le s.a.y r.a.y && int_le r.b.y s.b.y) in
-    inside_in r s x y (inside_says r s (ap (λ b. not b || sides) (sym (points_hold r x y i)) ∙ e)) i
 
 unshifted : (r : Rect) (o : Point) (x y : ℤ) → IsIn (shifted r o) x y → IsIn r (x -ℤ o.x) (y -ℤ o.y)
 unshifted r o x y i = record {

@@ -7,7 +7,7 @@ use Rattle.tv_group.specs.Opened.{opened}
 use Rattle.tv_dialog.specs.Drawn.{lent}
 use Rattle.tv_view.specs.Drawing.{leaves_layers}
 use Rattle.tv_dialog.proofs.ShownLemmas.{dialog-shown}
-use Rattle.tv_tree.proofs.Screen.FrameLemmas.{frame_is, lays_onto, near_corner}
+use Rattle.tv_view.proofs.DrawnLemmas.{frame_is, lays_onto, near_corner}
 use Rattle.tv_dialog.proofs.dialog.DialogOf.draw.Goals as goal
 
 pub draw-requires : goal.draw-requires

@@ -4,7 +4,7 @@ use Rattle.tv_cells.specs.Layers.{Shows, Lays}
 use Rattle.tv_cells.specs.Rectangle.{IsPointNear}
 use Rattle.tv_group.specs.Opened.{opened}
 use Rattle.tv_view.specs.Drawing.{leaves_layers}
-use Rattle.tv_window.proofs.WindowDrawingLemmas.{frame_is, lays_onto, near_corner}
+use Rattle.tv_view.proofs.DrawnLemmas.{frame_is, lays_onto, near_corner}
 use Rattle.tv_window.proofs.window.WindowOf.draw.Goals as goal
 
 pub draw-requires : goal.draw-requires
