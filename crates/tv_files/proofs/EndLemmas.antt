@@ -123,7 +123,3 @@ module _ (P Q : Desc → Type 0) (weaker : (text : List ℕ) (d : Desc) → IsSo
   EndsWith-weaker (Ok task) old new status ends =
       (ends.0, ends.1, ends.2, Performs-weaker task old.files new.files old.pictures new.pictures (ports_of old) ends.2 ends.0 ends.1 ends.3, ends.4, ends.5)
   EndsWith-weaker (Err no_task) old new status ends = ends
-
--- the same, where nothing is said of them
-pub EndsWith-any : (P : Desc → Type 0) (asked : Result Task NoTask) (old new : World) (status : ℕ) → EndsWith P asked old new status → EndsWith (λ d. Unit {0}) asked old new status
-EndsWith-any P asked old new status ends = EndsWith-weaker P (λ d. Unit {0}) (λ text d sound mismade. tt) asked old new status ends

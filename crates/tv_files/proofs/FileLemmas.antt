@@ -1,8 +1,9 @@
 -- One file after another, and what was read of one.
 use Rattle.std.proofs.Common.{◌≡◌, ℕ, ◌+◌, List, [], ◌∷◌, ◌++◌, take, Option, Some, None, IfSome, ap, subst, ◌∙◌, append_assoc}
 use Rattle.tv_io.specs.Reader.{Given}
+use Rattle.tv_io.specs.Reading.{IsRead}
 use Rattle.tv_files.specs.Ends.{End}
-use Rattle.tv_files.specs.Files.{Extends, IsFileOf, IsRead, Known, Opens, longest}
+use Rattle.tv_files.specs.Files.{Extends, IsFileOf, Known, Opens, longest}
 use Rattle.tv_files.specs.Tasks.{BreaksOffIn, GivesText, IsUngiven, IsUnopened, IsUnread}
 use Rattle.tv_files.specs.Tasks.IsUngiven.{memory as ungiven_memory, broken as ungiven_broken}
 use Rattle.tv_files.specs.Tasks.IsUnopened.{memory, missing}
@@ -60,7 +61,7 @@ text-of (Some whole) left text is first = subst (λ given. IfSome given (λ all.
 
 module _ {files after : Known} {opened : List (List ℕ)} (path : List ℕ) (reader left : Given) (opens : Opens files after opened) (is : IsFileOf files path reader) where
   -- the file's text was read
-  pub IsRead-Gives : (text : List ℕ) → IsRead reader left text → GivesText files after opened path text
+  pub IsRead-Gives : (text : List ℕ) → IsRead longest reader left text → GivesText files after opened path text
   IsRead-Gives text read = record { opens = opens; text_of = text-of (files.contents path) reader.left text is.left read.first }
 
   -- it wasn't

@@ -1,6 +1,7 @@
 -- What tasks come to, by what each step of them came to.
 use Rattle.std.proofs.Common.{◌≡◌, ℕ, List, [], ◌∷◌, Result, Ok, Err, IsErrAnd, ap, refl}
 use Rattle.tv_io.specs.Reader.{Given}
+use Rattle.tv_io.specs.Reading.{IsRead}
 use Rattle.tv_io.specs.Writer.{Seen}
 use Rattle.tv_machine.specs.Run.{Session, started}
 use Rattle.tv_model.specs.declared.desc.Desc.{Desc}
@@ -13,7 +14,7 @@ use Rattle.tv_script.specs.Streams.{ComesFrom}
 use Rattle.tv_files.specs.declared.done.Done.{Done}
 use Rattle.tv_files.specs.declared.failure.Failure.{Failure}
 use Rattle.tv_files.specs.Ends.{End, done_in, end_of, end_of_failure}
-use Rattle.tv_files.specs.Files.{IsFileOf, IsRead, Known, Opens}
+use Rattle.tv_files.specs.Files.{IsFileOf, Known, Opens, longest}
 use Rattle.tv_files.specs.Tasks.{EndsFirst, GivesText, IsUnread, OnFiles, OnStream, PlaysFile}
 use Rattle.tv_files.specs.Tasks.OnFiles.{first, unread, done}
 use Rattle.tv_files.specs.Tasks.OnStream.{done as done_both}
@@ -39,7 +40,7 @@ done-OnFiles refuses passes comes files mid after file beside old new end text w
 -- ---- runs
 
 -- the description was read, and the script was performed as it came
-pub done-OnStream : {S : Type 0} (comes : (text : List ℕ) (reader left : Given) → Type 0) (files mid after : Known) (file script : List ℕ) (old new : S) (end : End) (description description_left reader left : Given) (text : List ℕ) → Opens files mid (file ∷ []) → IsFileOf files file description → Opens mid after (script ∷ []) → IsFileOf mid script reader → IsRead description description_left text → comes text reader left → OnStream comes files after file script old new end
+pub done-OnStream : {S : Type 0} (comes : (text : List ℕ) (reader left : Given) → Type 0) (files mid after : Known) (file script : List ℕ) (old new : S) (end : End) (description description_left reader left : Given) (text : List ℕ) → Opens files mid (file ∷ []) → IsFileOf files file description → Opens mid after (script ∷ []) → IsFileOf mid script reader → IsRead longest description description_left text → comes text reader left → OnStream comes files after file script old new end
 done-OnStream comes files mid after file script old new end description description_left reader left text opens is opened script_is read came =
     done_both text reader left (IsRead-Gives file description description_left (Opens-both file script opens opened) is text read) (IsFileOf-then file script opens script_is) came
 

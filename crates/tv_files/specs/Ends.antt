@@ -17,8 +17,8 @@ use Rattle.tv_files.specs.declared.done.Done.{Done}
 use Rattle.tv_files.specs.declared.done.Done.TheVariants.{Whole, BrokenOff}
 use Rattle.tv_files.specs.declared.failure.Failure.{Failure}
 use Rattle.tv_files.specs.declared.failure.Failure.TheVariants as failures
-use Rattle.tv_files.specs.declared.read_fault.ReadFault.{ReadFault}
-use Rattle.tv_files.specs.declared.read_fault.ReadFault.TheVariants as unread
+use Rattle.tv_io.specs.declared.read_fault.ReadFault.{ReadFault}
+use Rattle.tv_io.specs.declared.read_fault.ReadFault.TheVariants as unread
 
 -- all was done; or there was a fault, with the path of the file that it is told of; or a picture can't be
 -- written into the file of its path
@@ -91,5 +91,6 @@ end_of_shot script shot = end_of_album script shot.number shot.fault
 -- the end where drawing the shots of a script answered this
 abbrev pub end_of_shots : {T : Type 0} → (file script : List ℕ) → Result T DrawingFault → End
 end_of_shots file script (Ok _) = ended
-end_of_shots file script (Err (pictures.Run fault)) = faulted (play_told fault) (path_of_run fault file script)
+end_of_shots file script (Err (pictures.Run fault)) =
+    faulted (play_told fault) (path_of_run fault file script)
 end_of_shots file script (Err (pictures.Shot shot)) = end_of_shot script shot

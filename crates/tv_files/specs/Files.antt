@@ -1,9 +1,9 @@
--- What is known of files, and what opening and reading one comes to.
-use Rattle.std.specs.Prelude.{◌≡◌, ◌≤◌, ℕ, ◌+◌, true, false, List, [], ◌∷◌, ◌++◌, length, take, Option, Some}
-use Rattle.std.specs.Prelude.{None, IfSome, IsNone, Result, Ok, Err, Vec}
-use Rattle.tv_io.specs.Reader.{Given, GivesNot, HasGiven}
-use Rattle.tv_files.specs.declared.read_fault.ReadFault.{ReadFault}
-use Rattle.tv_files.specs.declared.read_fault.ReadFault.TheVariants.{NoMemory, Read}
+-- What is known of files, and what opening one comes to.
+use Rattle.std.specs.Prelude.{◌≡◌, ℕ, ◌+◌, false, List, [], ◌∷◌, ◌++◌, take, Option, Some, None}
+use Rattle.std.specs.Prelude.{IfSome, IsNone, Result, Ok, Err}
+use Rattle.tv_io.specs.Reader.{Given}
+use Rattle.tv_io.specs.declared.read_fault.ReadFault.{ReadFault}
+use Rattle.tv_io.specs.declared.read_fault.ReadFault.TheVariants.{NoMemory, Read}
 
 -- the most bytes of a description or a certificate
 abbrev pub longest : ℕ
@@ -41,24 +41,3 @@ abbrev pub OpensAs : {F : Type 0} → (F → Given) → (old new : Known) → (p
 OpensAs seen old new path (Ok file) = Opens old new (path ∷ []) × IsFileOf old path (seen file)
 OpensAs seen old new path (Err Read) = Opens old new (path ∷ []) × IsNone (old.contents path)
 OpensAs seen old new path (Err NoMemory) = Unit {0}
-
--- the reader gave the text: all that it had left, but no more than one byte past the limit
-pub record IsRead (old new : Given) (text : List ℕ) : Type 0 where
-  pub gave : HasGiven old new text
-  pub few : length text ≤ longest + 1
-  pub first : IfSome old.left (λ left. text ≡ take (longest + 1) left)
-  pub ended : length text ≤ longest → new.is_ended ≡ true
-
--- the reader gave some bytes, no more than the limit, and then a call of it failed
-pub record BreaksOff (old new : Given) : Type 0 where
-  pub given : List ℕ
-  pub few : length given ≤ longest
-  pub mid : Given
-  pub gave : HasGiven old mid given
-  pub failed : GivesNot mid new
-
--- what reading a text comes to
-abbrev pub ReadsTo : {A : Type 0} → (old new : Given) → Result (Vec ℕ A) ReadFault → Type 0
-ReadsTo old new (Ok text) = IsRead old new text.items
-ReadsTo old new (Err Read) = BreaksOff old new
-ReadsTo old new (Err NoMemory) = Unit {0}

@@ -4,10 +4,8 @@ pub mod EndsWith
 pub mod Ends
 -- What explaining the faults of a file comes to
 pub mod Explaining
--- What is known of files, and what opening and reading one comes to
+-- What is known of files, and what opening one comes to
 pub mod Files
--- Why the bytes of a file aren't there, by the kind of the system's error
-pub mod Kinds
 -- What every task comes to
 pub mod Performing
 -- What drawing the screens of a script comes to

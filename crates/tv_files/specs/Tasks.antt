@@ -4,6 +4,7 @@ use Rattle.tv_lang.specs.declared.description.LangFault.{LangFault}
 use Rattle.tv_lang.specs.Faults.{RefusesToParse, Spells}
 use Rattle.tv_model.specs.declared.desc.Desc.{Desc}
 use Rattle.tv_io.specs.Reader.{Given}
+use Rattle.tv_io.specs.Reading.{BreaksOff}
 use Rattle.tv_io.specs.Writer.{Cuts, Seen, Takes}
 use Rattle.tv_play.specs.Playing.{Ports}
 use Rattle.tv_play.specs.declared.parting.Parting.{Parting}
@@ -20,7 +21,7 @@ use Rattle.tv_files.specs.declared.done.Done.{Done}
 use Rattle.tv_files.specs.declared.done.Done.TheVariants.{Whole}
 use Rattle.tv_files.specs.Ends.{End, done_of_play, end_as, end_of_run}
 use Rattle.tv_files.specs.Ends.End.{ended, faulted}
-use Rattle.tv_files.specs.Files.{BreaksOff, IsFileOf, IsFileText, Known, Opens}
+use Rattle.tv_files.specs.Files.{IsFileOf, IsFileText, Known, Opens, longest}
 
 -- the task ended at a file that can't be opened, the last one that was asked for, or because memory ran out
 pub data IsUnopened (files after : Known) (opened : List (List ℕ)) (path : List ℕ) (end : End) : Type 0 where
@@ -31,14 +32,14 @@ pub data IsUnopened (files after : Known) (opened : List (List ℕ)) (path : Lis
 -- the text of an open file isn't there: a call of its reader failed, or memory ran out
 pub data IsUngiven (old new : Given) (path : List ℕ) (end : End) : Type 0 where
   memory : end ≡ faulted NoMemory path → IsUngiven old new path end
-  broken : BreaksOff old new → end ≡ faulted Read path → IsUngiven old new path end
+  broken : BreaksOff longest old new → end ≡ faulted Read path → IsUngiven old new path end
 
 -- a call of the file's reader failed before its text was read
 pub record BreaksOffIn (files : Known) (path : List ℕ) : Type 0 where
   pub reader : Given
   pub left : Given
   pub file : IsFileOf files path reader
-  pub breaks : BreaksOff reader left
+  pub breaks : BreaksOff longest reader left
 
 -- the task ended at a file that can't be opened, or can't be read to its end
 pub data IsUnread (files after : Known) (opened : List (List ℕ)) (path : List ℕ) (end : End) : Type 0 where

@@ -5,7 +5,7 @@ ghost use Rattle.tv_program.specs.Conversions.{play_told};
 ghost use Rattle.tv_files.specs.Ends.{end_of_failure, end_of_shot, file_told, path_of, path_of_run};
 ghost use Rattle.tv_files.specs.Ends.End.{faulted};
 
-use crate::read_fault::ReadFault;
+use tv_io::ReadFault;
 use tv_pictures::{AlbumFault, ShotFault};
 use tv_program::{PlayFault, RunFault};
 

@@ -2,8 +2,7 @@
 
 ghost use Rattle.tv_files.specs.Files.{Known, OpensAs};
 
-use crate::read_fault::ReadFault;
-use tv_io::Reader;
+use tv_io::{ReadFault, Reader};
 
 /// Where files come from. Contracts see what the file of each path holds and which paths were opened, in order, where
 /// these are known.

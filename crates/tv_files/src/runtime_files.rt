@@ -3,10 +3,9 @@
 ghost use Rattle.std.specs.Prelude.{None};
 
 use crate::file_store::FileStore;
-use crate::read_fault::ReadFault;
 use std::fs::File;
 use std::rt::Files;
-use tv_io::FileReader;
+use tv_io::{FileReader, ReadFault};
 
 /// The files of a runtime. Nothing is known of what they hold.
 #[derive(Drop)]

@@ -1,10 +1,11 @@
 //! What each subcommand does with its files.
 
 ghost use Rattle.std.specs.Prelude.{◌≡◌, [], ◌∷◌, MatchResult};
+ghost use Rattle.tv_io.specs.Reading.{IsRead};
 ghost use Rattle.tv_program.specs.Playing.{IsMismade, Makes};
 ghost use Rattle.tv_files.specs.declared.done.Done.TheVariants.{Whole};
 ghost use Rattle.tv_files.specs.Ends.{done_in, end_of, end_of_failure};
-ghost use Rattle.tv_files.specs.Files.{IsFileOf, IsRead, Opens};
+ghost use Rattle.tv_files.specs.Files.{IsFileOf, Opens, longest};
 ghost use Rattle.tv_files.specs.Performing.{PerformsTask};
 ghost use Rattle.tv_files.specs.Tasks.{AcceptsFiles, ChecksFile, EndsFirst, GivesText, HasRead, IsSpelledAs, IsUngiven, IsUnopened, IsUnread, IsUnspelled, PlaysFile, RunsFiles, TellsVersion};
 
@@ -12,18 +13,20 @@ use crate::explaining::{explain_file, explain_files};
 use crate::failure::Failure;
 use crate::file_store::FileStore;
 use crate::picturing::{picture_all, picture_file};
-use crate::reading::read_text;
 use crate::{Done, Task};
 use std::alloc::Global;
 use tv_building::{BuildFault, Views};
 use tv_check::Checked;
-use tv_io::{Reader, Writer, write_all};
+use tv_io::{Reader, Writer, read_text, write_all};
 use tv_lang::parse;
 use tv_model::Desc;
 use tv_pictures::Album;
 use tv_play::Pieces;
 use tv_program::{RunFault, accept_text, check, play, run};
 use tv_view::View;
+
+/// The most bytes of a description or a certificate.
+const LONGEST: usize = 262_144;
 
 /// What is told where the terminal can't be read.
 const TERMINAL: &str = "standard input";
@@ -262,10 +265,10 @@ pub(crate) fn read<'a, R: Reader>(
     path: &'a str,
 ) -> Result<Vec<u8>, Failure<'a>>
     ensures { MatchResult result
-        (λ text. IsRead (R.seen file.old) (R.seen file.new) text.items)
+        (λ text. IsRead longest (R.seen file.old) (R.seen file.new) text.items)
         (λ failure. IsUngiven (R.seen file.old) (R.seen file.new) path.now (end_of_failure failure)) }
 {
-    match read_text(alloc, file) {
+    match read_text(alloc, file, LONGEST) {
         Ok(text) => Ok(text),
         Err(unread) => Err(Failure::of_file(path, unread)),
     }

@@ -1,3 +1,4 @@
 pub mod PenLemmas
 pub mod ReaderLemmas
+pub mod ReadingLemmas
 pub mod WriterLemmas

@@ -8,3 +8,7 @@ pub mod Writer
 pub mod Reader
 -- What a reader over a file gives
 pub mod FileReader
+-- Why the bytes of a file aren't there, by the kind of the system's error
+pub mod Kinds
+-- What reading a text comes to
+pub mod Reading

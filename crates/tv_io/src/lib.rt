@@ -4,13 +4,17 @@
 mod device;
 mod file_reader;
 mod pen;
+mod read_fault;
 mod reader;
+mod reading;
 mod utf8;
 mod writer;
 
 pub use device::Device;
 pub use file_reader::FileReader;
 pub use pen::Pen;
+pub use read_fault::ReadFault;
 pub use reader::Reader;
+pub use reading::read_text;
 pub use utf8::push_char;
 pub use writer::{WriteFailed, Writer, write_all};

@@ -1,5 +1,5 @@
 -- The picture of a session's screen.
-use Rattle.std.proofs.Common.{◌≡◌, ℕ, zero, suc, ◌+◌, ◌<◌, ◌≤◌, List, ◌∷◌, ◌++◌, map, flat_map, refl, ap, ◌∙◌, arith}
+use Rattle.std.proofs.Common.{◌≡◌, ℕ, zero, suc, ◌+◌, ◌<◌, ◌≤◌, List, ◌∷◌, ◌++◌, map, refl, ap, ◌∙◌, arith}
 use Rattle.std.specs.List.{range_with_len}
 use Rattle.tv_cells.specs.Glyph.{Glyph}
 use Rattle.tv_cells.specs.Picture.{Picture, cell_at}
@@ -11,18 +11,13 @@ use Rattle.tv_svg.specs.Strips.{strips_of}
 use Rattle.tv_svg.specs.Svg.{head_text, margin_element, row_elements, strips_elements, svg_of, svg_text}
 use Rattle.tv_pictures.specs.Pictures.{session_svg}
 use Rattle.std.proofs.Common.{codes}
+use Rattle.tv_script.proofs.ScreenLemmas.{flat_map-along}
 
 map-along : (f g : ℕ → Glyph) (a n : ℕ) → ((k : ℕ) → a ≤ k → k < a + n → f k ≡ g k) → map f (range_with_len a n) ≡ map g (range_with_len a n)
 map-along f g a zero same = refl
 map-along f g a (suc n) same =
     let rest = map-along f g (a + 1) n (λ k from to. same k (omega arith) (omega arith)) in
     ap (λ (x : Glyph). x ∷ map f (range_with_len (a + 1) n)) (same a (omega arith) (omega arith)) ∙ ap (λ (t : List Glyph). g a ∷ t) rest
-
-flat_map-along : (f g : ℕ → List ℕ) (a n : ℕ) → ((k : ℕ) → a ≤ k → k < a + n → f k ≡ g k) → flat_map f (range_with_len a n) ≡ flat_map g (range_with_len a n)
-flat_map-along f g a zero same = refl
-flat_map-along f g a (suc n) same =
-    let rest = flat_map-along f g (a + 1) n (λ k from to. same k (omega arith) (omega arith)) in
-    ap (λ (t : List ℕ). t ++ flat_map f (range_with_len (a + 1) n)) (same a (omega arith) (omega arith)) ∙ ap (λ (t : List ℕ). g a ++ t) rest
 
 module _ (s : Session) (p : Picture) (is : IsScreenOf s p) where
   same-row : (row : ℕ) → row < p.height → row_elements p.width (cell_at p) row ≡ row_elements p.width (screen_cell s) row

@@ -1,12 +1,13 @@
 -- What a script that isn't performed comes to.
 use Rattle.std.proofs.Common.{◌≡◌, ℕ, List, Option, Result, Ok, Err, IsErrAnd, ap, refl}
 use Rattle.tv_io.specs.Reader.{Given}
+use Rattle.tv_io.specs.Reading.{IsRead}
 use Rattle.tv_machine.specs.Run.{Session}
 use Rattle.tv_model.specs.declared.desc.Desc.{Desc}
 use Rattle.tv_pictures.specs.Albums.{NamedPicture}
 use Rattle.tv_pictures.specs.declared.fault.DrawingFault.{DrawingFault}
 use Rattle.tv_pictures.specs.declared.fault.DrawingFault.TheVariants.{Run}
-use Rattle.tv_pictures.specs.Scripts.{IsScriptRead}
+use Rattle.tv_pictures.specs.Scripts.{most_of_script}
 use Rattle.tv_pictures.specs.Shots.{LeavesScript, ShotsFrom, ShotsTo, script_told}
 use Rattle.tv_pictures.specs.Shots.ShotsTo.{refused, unbegun}
 use Rattle.tv_program.specs.declared.play_fault.PlayFault.{PlayFault}
@@ -16,7 +17,7 @@ use Rattle.tv_script.specs.declared.script_text.ScriptFault.{ScriptFault}
 use Rattle.tv_script.specs.declared.script_text.ScriptFault.TheVariants as scripts
 use Rattle.tv_script.specs.Scripts.{RefusesScript}
 
-module _ (s : Session) (name : List ℕ) (reader left : Given) (text : List ℕ) (read : IsScriptRead reader left text) where
+module _ (s : Session) (name : List ℕ) (reader left : Given) (text : List ℕ) (read : IsRead most_of_script reader left text) where
   leaves : (fault : ScriptFault) → RefusesScript s.desc.width s.desc.height text fault → LeavesScript s.desc reader left (script_told fault)
   leaves scripts.NoMemory refuses = tt
   leaves (scripts.Syntax line) refuses = (text, read, refuses)

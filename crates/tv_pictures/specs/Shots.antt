@@ -1,6 +1,7 @@
 -- What drawing each `shot` of a description's run comes to.
 use Rattle.std.specs.Prelude.{◌≡◌, ℕ, List, Option, Result, Ok, Err}
 use Rattle.tv_io.specs.Reader.{Given}
+use Rattle.tv_io.specs.Reading.{BreaksOff, IsRead}
 use Rattle.tv_machine.specs.Run.{Session, started}
 use Rattle.tv_model.specs.declared.desc.Desc.{Desc}
 use Rattle.tv_model.specs.declared.script.Item.{Item}
@@ -13,7 +14,7 @@ use Rattle.tv_pictures.specs.declared.fault.DrawingFault.{DrawingFault}
 use Rattle.tv_pictures.specs.declared.fault.DrawingFault.TheVariants.{Run, Shot}
 use Rattle.tv_pictures.specs.Drawing.{GivesScriptOf}
 use Rattle.tv_pictures.specs.Pictures.{named_shots}
-use Rattle.tv_pictures.specs.Scripts.{ScriptBreaksOff, IsScriptRead}
+use Rattle.tv_pictures.specs.Scripts.{most_of_script}
 use Rattle.tv_script.specs.declared.script_text.ScriptFault.{ScriptFault}
 use Rattle.tv_script.specs.declared.script_text.ScriptFault.TheVariants as scripts
 use Rattle.tv_script.specs.Scripts.{RefusesScript}
@@ -26,9 +27,9 @@ script_told fault = Script fault
 -- why the script of a description wasn't performed: it can't be read, or what was read is refused
 abbrev pub LeavesScript : Desc → (reader left : Given) → PlayFault → Type 0
 LeavesScript d reader left NoMemory = Unit {0}
-LeavesScript d reader left Read = ScriptBreaksOff reader left
+LeavesScript d reader left Read = BreaksOff most_of_script reader left
 LeavesScript d reader left (Script fault) =
-    (text : List ℕ) × IsScriptRead reader left text × RefusesScript d.width d.height text fault
+    (text : List ℕ) × IsRead most_of_script reader left text × RefusesScript d.width d.height text fault
 LeavesScript d reader left _ = ⊥
 
 -- A script is read to its end, and performed from a session on: the screen at each `shot` is drawn, or those

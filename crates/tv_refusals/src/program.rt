@@ -6,8 +6,7 @@ use crate::ending::{Ending, expect, expect_named, expect_whole, refused};
 use std::alloc::Global;
 use std::test::Fail;
 use tv_button_views::buttons;
-use tv_files::{ReadFault, read_text};
-use tv_io::FileReader;
+use tv_io::{FileReader, ReadFault, read_text};
 use tv_play::{Parting, Piece, Pieces};
 use tv_program::{PlayFault, RunFault, accept_files, check, play, run};
 use tv_test_support::Memory;
@@ -161,7 +160,7 @@ fn whole_playing(rt: HostRuntime) -> Result<(), Fail> {
 fn gathered(alloc: Global) -> Result<(), Ending> {
     let bytes = [b'#'; 5000];
     let mut reader = FileReader::new(bytes.as_slice());
-    match read_text(alloc, &mut reader) {
+    match read_text(alloc, &mut reader, 262_144) {
         Ok(text) => expect(text.len() == 5000, "another text"),
         Err(ReadFault::NoMemory) => Err(Ending::NoMemory),
         Err(ReadFault::Read) => Err(Ending::Other("it can't be read")),

@@ -2,9 +2,9 @@
 use Rattle.std.proofs.Common.{◌≡◌, ◌≤◌, ℕ, ◌+◌, List, [], length, take, Option, Some, None, IfSome, refl, sym, subst, ◌∙◌, append-nil, arith}
 use Rattle.std.proofs.lemmas.List.{take_all, take-append-le}
 use Rattle.std.specs.Io.KnownBytes.{Consumes, IsAtEnd}
-use Rattle.tv_io.specs.Reader.{Given, Gives, GivesNot, HasGiven}
+use Rattle.tv_io.specs.Reader.{Given, Gives, HasGiven}
 use Rattle.tv_io.proofs.ReaderLemmas.{HasGiven-then}
-use Rattle.tv_files.specs.Files.{BreaksOff, IsRead, longest}
+use Rattle.tv_io.specs.Reading.{IsRead}
 
 all-taken : (l n : Option (List ℕ)) (text : List ℕ) (m : ℕ) → length text ≤ m → Consumes l n text → IsAtEnd n → IfSome l (λ left. text ≡ take m left)
 all-taken None n text m few took end = tt
@@ -17,27 +17,23 @@ front-taken (Some l) None text m full took = absurd took
 front-taken (Some l) (Some n) text m full took =
     rw took (sym (take-append-le m text n (omega (arith, full)) ∙ take_all m text (omega (arith, full))))
 
-module _ (old mid new : Given) (text : List ℕ) (gave : HasGiven old mid text) (few : length text ≤ longest) where
+module _ (most : ℕ) (old mid new : Given) (text : List ℕ) (gave : HasGiven old mid text) (few : length text ≤ most) where
   -- the reader came to its end
-  pub IsRead-end : Gives mid new [] → IsRead old new text
+  pub IsRead-end : Gives mid new [] → IsRead most old new text
   IsRead-end last =
       let all = subst (λ bytes. HasGiven old new bytes) (append-nil text) (HasGiven-then text [] gave last.has) in
       record {
         gave = all;
         few = omega (arith, few);
-        first = all-taken old.left new.left text (longest + 1) (omega (arith, few)) all.took (last.ended refl).1;
+        first = all-taken old.left new.left text (most + 1) (omega (arith, few)) all.took (last.ended refl).1;
         ended = λ _. (last.ended refl).0;
       }
 
-  -- a call failed
-  pub BreaksOff-of : GivesNot mid new → BreaksOff old new
-  BreaksOff-of failed = record { given = text; few = few; mid = mid; gave = gave; failed = failed }
-
 -- as many bytes were read as may be
-pub IsRead-full : (old new : Given) (text : List ℕ) → HasGiven old new text → length text ≡ longest + 1 → IsRead old new text
-IsRead-full old new text gave full = record {
+pub IsRead-full : (most : ℕ) (old new : Given) (text : List ℕ) → HasGiven old new text → length text ≡ most + 1 → IsRead most old new text
+IsRead-full most old new text gave full = record {
   gave = gave;
   few = omega (arith, full);
-  first = front-taken old.left new.left text (longest + 1) (sym full) gave.took;
+  first = front-taken old.left new.left text (most + 1) (sym full) gave.took;
   ended = λ short. absurd (omega (arith, full, short));
 }

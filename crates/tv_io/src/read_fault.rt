@@ -16,7 +16,7 @@ pub enum ReadFault {
 
 impl From<AllocError> for ReadFault {
     ghost use Rattle.std.specs.Prelude.{◌≡◌};
-    ghost use Rattle.tv_files.specs.declared.read_fault.ReadFault.TheVariants.{NoMemory};
+    ghost use Rattle.tv_io.specs.declared.read_fault.ReadFault.TheVariants.{NoMemory};
 
     ghost from_gives = { λ _ fault. fault ≡ NoMemory };
 
@@ -29,7 +29,7 @@ impl From<AllocError> for ReadFault {
 impl From<io::Error> for ReadFault {
     ghost use Rattle.std.specs.IoError.{error_kind};
     ghost use Rattle.std.specs.Prelude.{◌≡◌};
-    ghost use Rattle.tv_files.specs.Kinds.{fault_of_kind};
+    ghost use Rattle.tv_io.specs.Kinds.{fault_of_kind};
 
     ghost from_gives = { λ error fault. fault ≡ fault_of_kind (error_kind error) };
 
