@@ -43,8 +43,8 @@ impl Painter {
         }
     }
 
-    /// Begins: the terminal turns to its alternate screen, tells of the mouse, and shows the whole screen, with the cursor
-    /// at a point of it, or without one. The normal screen is kept by the terminal.
+    /// Begins a session: turns the terminal to its alternate screen, has it tell of the mouse, and shows the whole screen, with
+    /// the cursor at a point of it, or without one. The normal screen is kept by the terminal.
     ///
     /// Where the writer fails, a prefix of the bytes was written, and the pen is stopped.
     pub fn begin<W: Writer>(&mut self, screen: &Screen, cursor: Option<Point>, pen: &mut Pen<W>)
@@ -76,7 +76,7 @@ impl Painter {
         hand.finish(pen, on_screen(screen.width(), screen.height(), cursor));
     }
 
-    /// Ends: the terminal turns back to its normal screen, as that was, with its cursor, plain colours and no mouse.
+    /// Ends a session: turns the terminal back to its normal screen, as that was, with its cursor, plain colours and no mouse.
     pub fn end<W: Writer>(&mut self, pen: &mut Pen<W>)
         ensures puts { Puts W.seen pen.old pen.new end_bytes }
         ensures told { (d : Display) (c : Covered) → d.covered ≡ Some c → told (ground d) end_bytes ≡ ground (restored c d) }

@@ -30,7 +30,7 @@ const NAMED: [Key; 17] = [
     Key::Insert,
 ];
 
-/// The key that a word names.
+/// Returns the key that a word names.
 pub fn key(word: &Word) -> Option<Key>
     ensures { result ≡ key_in word.now }
 {
@@ -40,7 +40,7 @@ pub fn key(word: &Word) -> Option<Key>
     }
 }
 
-/// The key that a token names.
+/// Returns the key that a token names.
 pub fn token_key(token: &Token<'_>) -> Option<Key>
     ensures { result ≡ key_in (token_word token.now) }
 {
@@ -59,7 +59,7 @@ fn short_key(text: &BareText<'_>) -> Option<Key>
     }
 }
 
-/// The key that the bare word of these characters names.
+/// Returns the key that the bare word of these characters names.
 pub fn key_of(text: &[char]) -> Option<Key>
     ensures { result ≡ key_in (Bare text.now) }
 {
@@ -81,7 +81,7 @@ fn first_named<'a>(keys: &'a [Key], text: &[char]) -> Option<&'a Key>
     keys.iter().find(|key| is_same(text, key_name(**key)))
 }
 
-/// The name of a key that has one of its own. A key with a letter, a digit or a number has none, and gets the empty
+/// Returns the name of a key that has one of its own. A key with a letter, a digit or a number has none, and gets the empty
 /// text.
 pub fn key_name(key: Key) -> &'static [u8]
     ensures { result.now ≡ key_name key }

@@ -95,7 +95,7 @@ impl Why {
         other: None,
     };
 
-    /// The only reason that the fault can have, and another line.
+    /// Makes an answer of the only reason that the fault can have, and another line.
     pub fn from_line(other: Option<u32>) -> Why
         ensures { result ≡ from_line other }
     {

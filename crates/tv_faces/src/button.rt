@@ -14,7 +14,7 @@ use tv_cells::{Cell, Face};
 use tv_palette::{ButtonRole, Chain, Role};
 
 impl ButtonLook {
-    /// The attribute of the marked letter, or of the rest, to which the chain of the dialog leads.
+    /// Returns the attribute of the marked letter, or of the rest, to which the chain of the dialog leads.
     pub fn attr(self, chain: &Chain, is_letter: bool) -> u8
         ensures chain { result ≡ colour_in chain.now (Button (button_role (button_look_of self) is_letter)) }
         ensures table { coloured chain.now ≡ owners_of_part Dialog → result ≡ button_attr (button_look_of self) is_letter }

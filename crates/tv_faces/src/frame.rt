@@ -25,7 +25,7 @@ fn role(is_active: bool) -> FrameRole
 }
 
 impl FrameLook {
-    /// How a frame of this number stands, 0 for none, with the attributes to which the chain of what it surrounds leads.
+    /// Makes the look of a frame of this number, 0 for none, with the attributes to which the chain of what it surrounds leads.
     pub fn new(chain: &Chain, owner: Owner, number: u8, is_active: bool) -> FrameLook
         requires digit { number ≤ 9 }
         ensures chain { frame_look_of result ≡ frame_look (colour_in chain.now) owner number is_active }

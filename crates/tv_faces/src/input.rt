@@ -20,7 +20,7 @@ pub struct InputColours {
 impl InputColours {
     ghost use Rattle.tv_faces.specs.Inputs.{input_attr, colours_of};
 
-    /// The attributes to which the chain of the dialog leads.
+    /// Returns the attributes to which the chain of the dialog leads.
     pub fn of(chain: &Chain) -> InputColours
         ensures { result ≡ colours_of chain.now }
     {
@@ -58,7 +58,7 @@ pub struct InputFace<'a> {
     pub colours: InputColours,
 }
 
-/// The first place of the text that an input of a width shows.
+/// Returns the first place of the text that an input of a width shows.
 pub fn first_shown(width: u32, cursor: u32) -> u32
     ensures value { result ≡ first_shown width cursor }
     ensures within { result ≤ cursor }

@@ -30,7 +30,7 @@ impl Model for PiecedText {
 }
 
 impl PiecedText {
-    /// The text, with its pieces.
+    /// Finds the pieces of the text, and keeps both.
     pub fn new(alloc: Global, text: Chars) -> Result<PiecedText, AllocError>
         ensures { IfOk result (λ pieced. pieced ≡ text) }
     {
@@ -38,7 +38,7 @@ impl PiecedText {
         Ok(PiecedText { text, pieces })
     }
 
-    /// The text itself.
+    /// Returns the text itself.
     pub fn chars(&self) -> &Chars
         ensures { result.now ≡ self.now }
     {

@@ -6,7 +6,7 @@ ghost use Rattle.tv_model.specs.Description.Numbers.{natural};
 
 use tv_cells::{Point, Rect};
 
-/// A number of columns or rows, 0 below it.
+/// Returns a number of columns or rows, 0 for one below it.
 pub fn natural(number: &i32) -> u32
     ensures { result ≡ natural number.now }
 {
@@ -21,7 +21,7 @@ pub(crate) fn sum(a: &i32, b: &i32) -> i32
     *a + *b
 }
 
-/// The rectangle of a corner, a width and a height.
+/// Returns the rectangle of a corner, a width and a height.
 pub fn rect_at(x: &i32, y: &i32, w: &i32, h: &i32) -> Rect
     requires { IsSmallRect (rect x.now y.now w.now h.now) }
     ensures { result ≡ rect x.now y.now w.now h.now }

@@ -7,7 +7,7 @@ ghost use Rattle.tv_model.specs.Screen.Faces.{text_row};
 
 use tv_cells::{Cell, NarrowChar};
 
-/// The character of a text in a column, where the text begins in column 0.
+/// Returns the character of a text in a column, where the text begins in column 0.
 pub(crate) fn text_char(text: &[char], x: usize) -> char
     ensures { result ≡ text_row text.now x }
 {
@@ -17,7 +17,7 @@ pub(crate) fn text_char(text: &[char], x: usize) -> char
     }
 }
 
-/// A space, and then the characters of a text.
+/// Returns the character in a column of a space and then a text.
 pub(crate) fn char_after_space(text: &[char], x: usize) -> char
     ensures { result ≡ text_row (32 ∷ text.now) x }
 {

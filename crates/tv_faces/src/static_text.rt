@@ -55,7 +55,7 @@ fn line_end(text: &[char]) -> Option<usize>
     text.iter().position(|ch| *ch == '\n')
 }
 
-/// The first piece of a text, and the text after its line end, if it has one.
+/// Returns the first piece of a text, and the text after its line end, if it has one.
 pub(crate) fn split(text: &[char]) -> (&[char], Option<&[char]>)
     ensures { Splits text.now result.0.now (option_copied result.1) }
 {

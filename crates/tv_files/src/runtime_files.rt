@@ -14,7 +14,7 @@ pub struct RuntimeFiles<'a, R: Files> {
 }
 
 impl<'a, R: Files> RuntimeFiles<'a, R> {
-    /// The files of the runtime.
+    /// Makes a store of the files of the runtime.
     pub fn new(rt: &'a R) -> RuntimeFiles<'a, R> {
         RuntimeFiles { rt }
     }

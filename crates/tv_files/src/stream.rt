@@ -30,7 +30,7 @@ pub struct BufferedStream<W: Write + Drop> {
 }
 
 impl<W: Write + Drop> BufferedStream<W> {
-    /// Over the writer, with room for what is kept back. Where there is no memory for it, the writer is dropped.
+    /// Makes one over the writer, with room for what is kept back. Where there is no memory for it, the writer is dropped.
     pub fn new(alloc: Global, writer: W) -> Result<BufferedStream<W>, AllocError>
         ensures taken { IfOk result (λ stream. Keeps (W.contents writer) (device_seen W.contents stream.device).taken) }
         ensures count { IfOk result (λ stream. stream.failures ≡ 0) }
@@ -87,7 +87,7 @@ pub struct DirectStream<W: Write + Drop> {
 }
 
 impl<W: Write + Drop> DirectStream<W> {
-    /// Over the writer.
+    /// Makes one over the writer.
     pub fn new(writer: W) -> DirectStream<W>
         ensures writer { result.writer ≡ writer }
         ensures count { result.failures ≡ 0 }

@@ -33,7 +33,7 @@ pub struct TerminalInput<'a, R: Read + Drop, C: Clock> {
 impl<'a, R: Read + Drop, C: Clock> TerminalInput<'a, R, C> {
     ghost use Rattle.tv_play.specs.declared.pieces.Piece.TheVariants.{End};
 
-    /// Over the reader, with a clock that tells how long it waited.
+    /// Makes one over the reader, with a clock that tells how long it waited.
     pub fn new(reader: R, clock: &'a C) -> TerminalInput<'a, R, C>
         ensures reader { result.reader ≡ reader }
         ensures count { result.failures ≡ 0 }

@@ -18,7 +18,7 @@ pub struct Device<W: Write + Drop> {
 impl<W: Write + Drop> Device<W> {
     ghost use Rattle.tv_io.specs.Device.{device_seen, kept_back};
 
-    /// Over the writer, with room for what is kept back. Where there is no memory for it, the writer is dropped.
+    /// Makes one over the writer, with room for what is kept back. Where there is no memory for it, the writer is dropped.
     pub fn new(alloc: Global, writer: W) -> Result<Device<W>, AllocError>
         ensures taken { IfOk result (λ device. Keeps (W.contents writer) (device_seen W.contents device).taken) }
         ensures count { IfOk result (λ device. (device_seen W.contents device).failures ≡ 0) }

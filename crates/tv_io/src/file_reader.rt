@@ -15,7 +15,7 @@ pub struct FileReader<R: Read + Drop> {
 }
 
 impl<R: Read + Drop> FileReader<R> {
-    /// Over the reader.
+    /// Makes one over the reader.
     pub fn new(reader: R) -> FileReader<R>
         ensures left { (file_given R.remaining result).left ≡ R.remaining reader }
         ensures count { (file_given R.remaining result).failures ≡ 0 }

@@ -1,6 +1,6 @@
 //! What holds of every run and of every open dialog, as contracts.
 ghost use Rattle.tv_machine.specs.Safe.{IsAlwaysSafe, StandOnDesktop};
-ghost use Rattle.tv_laws.specs.Letters.{AlwaysMarksOnce};
+ghost use Rattle.tv_laws.specs.Letters.{LettersAlwaysHaveOneMarker};
 ghost use Rattle.tv_laws.specs.Leaving.{EscCancels, TabGoesOn, UpLetsGo};
 ghost use Rattle.tv_laws.specs.Runs.{HasSoundDialogs};
 ghost use Rattle.tv_laws.specs.Sound.{IsSoundDialog};
@@ -14,7 +14,7 @@ pub fn runs_are_safe(_desc: &Desc)
     requires sound { HasSoundDialogs _desc.now }
     requires stand { StandOnDesktop _desc.now }
     ensures safe { IsAlwaysSafe _desc.now }
-    ensures once { AlwaysMarksOnce _desc.now }
+    ensures once { LettersAlwaysHaveOneMarker _desc.now }
 {}
 
 /// A theorem, as a function without a body: a sound dialog opens, stays usable and can be left.

@@ -103,7 +103,7 @@ impl Dialog {
     }
 }
 
-/// The first of the nodes that has the id.
+/// Returns the first of the nodes that has the id.
 pub fn node_of(nodes: &[Node], id: Id) -> Option<&Node>
     ensures { option_copied result ≡ node_of nodes.now id }
 {

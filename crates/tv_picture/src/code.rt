@@ -43,7 +43,7 @@ impl Mark {
         }
     }
 
-    /// The characters that it stands for.
+    /// Returns the characters that it stands for.
     pub fn next(self) -> Next
         ensures { NamesNext (Allows self) result }
     {

@@ -50,7 +50,7 @@ pub struct Parser {
 }
 
 impl Parser {
-    /// Nothing read.
+    /// Makes a parser that has read nothing.
     pub fn new(alloc: Global) -> Result<Parser, AllocError>
         ensures { IfOk result (λ parser. reading parser ≡ nothing_parsed) }
     {
@@ -73,7 +73,7 @@ impl Parser {
         Ok(())
     }
 
-    /// The part on top of the stack goes to the end of the sequence.
+    /// Moves the part on top of the stack to the end of the sequence.
     fn finish(&mut self) -> Result<(), AllocError>
         ensures { OnOk result (reading self.new ≡ part_finished (reading self.old)) }
     {
@@ -96,7 +96,7 @@ impl Parser {
         Ok(true)
     }
 
-    /// The alternatives so far become one pattern.
+    /// Makes one pattern of the alternatives so far.
     fn merge(&mut self) -> Result<(), AllocError>
         ensures built { OnOk result (built_by self.new.code.items ≡ merged self.old.choice (built_by self.old.code.items)) }
         ensures rest { OnOk result (self.new ≡ record self.old { code = self.new.code }) }
@@ -216,7 +216,7 @@ impl Parser {
         }
     }
 
-    /// The whole picture's code, or `None` where something is still waited for.
+    /// Returns the whole picture's code, or `None` where something is still waited for.
     pub fn into_code(mut self) -> Result<Option<Vec<Op>>, AllocError>
         ensures { IfOk result (λ code. MatchOption code (is_closed (reading self) ≡ false) (λ v. (is_closed (reading self) ≡ true) × (built_by v.items ≡ merged self.choice (built_by self.code.items)))) }
     {

@@ -88,7 +88,7 @@ impl Picture {
         }
     }
 
-    /// Where the picture's members that begin the text end in it, and what may follow the text.
+    /// Finds where the picture's members that begin the text end in it, and what may follow the text.
     fn row(&self, text: &[char]) -> Row
         requires { length text.now ≤ 120 }
         ensures { IsTableRow self.now text.now 0 result }
@@ -96,7 +96,7 @@ impl Picture {
         read(&self.code, text)
     }
 
-    /// What the text is to the picture. A viable text can be completed by typing on, and a text that is no error is typed
+    /// Tells what the text is to the picture. A viable text can be completed by typing on, and a text that is no error is typed
     /// through viable and complete ones alone.
     ///
     /// Takes no memory, and a time that the square of the text's length and the length of the picture bound.
@@ -117,7 +117,7 @@ impl Picture {
         }
     }
 
-    /// The only character with which the text can go on, where it has to. It stands in the picture.
+    /// Returns the only character with which the text can go on, where it has to. It stands in the picture.
     pub fn next_literal(&self, text: &[char]) -> Option<char>
         requires { length text.now ≤ 120 }
         ensures some { IfSome result (λ c. IsNextLiteral self.now text.now c) }
@@ -135,8 +135,8 @@ impl Picture {
         }
     }
 
-    /// The length of the shortest right text whose characters all take one column, or 121 where none has 120
-    /// characters or fewer.
+    /// Returns the length of the shortest right text whose characters all take one column, or 121 where none has 120 characters
+    /// or fewer.
     pub fn shortest(&self) -> u32
         ensures shortest { IsShortest self.now result }
         ensures computed { result ≡ shortest_length self.now }

@@ -39,7 +39,7 @@ impl Places {
         }
     }
 
-    /// The places of the set that aren't in the other.
+    /// Returns the places of the set that aren't in the other.
     #[inline(always)]
     pub fn without(self, other: Places) -> Places
         ensures { (k : ℕ) → HasPlace result k ↔ (HasPlace self k × (HasPlace other k → ⊥)) }
@@ -57,7 +57,7 @@ impl Places {
         other.without(self).is_below(0)
     }
 
-    /// The places from this one on, counted from it.
+    /// Returns the places from this one on, counted from it.
     #[inline(always)]
     pub fn past(self, place: usize) -> Places
         requires { place < 128 }
@@ -68,7 +68,7 @@ impl Places {
         }
     }
 
-    /// The least place of the set from this one on, or one that is no place of any set.
+    /// Returns the least place of the set from this one on, or one that is no place of any set.
     pub fn first_from(self, place: usize) -> usize
         requires { place < 128 }
         ensures order { place ≤ result }
@@ -79,7 +79,7 @@ impl Places {
         place + (self.bits >> place).trailing_zeros() as usize
     }
 
-    /// The places after those at which the mark stands for the text's character.
+    /// Returns the places after those at which the mark stands for the text's character.
     pub fn after(self, mark: Mark, text: &[char]) -> Places
         requires { length text.now ≤ 120 }
         ensures { (k : ℕ) → HasPlace result k ↔ ((p : ℕ) × HasPlace self p × StandsAt mark text.now p × (k ≡ p + 1)) }
@@ -95,7 +95,7 @@ impl Places {
         after
     }
 
-    /// The places of the set whose next place isn't in it.
+    /// Returns the places of the set whose next place isn't in it.
     fn edges(self) -> Places
         ensures { (k : ℕ) → HasPlace result k ↔ (HasPlace self k × (HasPlace self (k + 1) → ⊥)) }
     {
@@ -104,8 +104,8 @@ impl Places {
         }
     }
 
-    /// The places to which any number of characters lead from those of the set, where the mark stands for each. Only at the edges
-    /// of the set a character can lead to a new place.
+    /// Returns the places to which any number of characters lead from those of the set, where the mark stands for each. Only at
+    /// the edges of the set a character can lead to a new place.
     pub fn spread(self, mark: Mark, text: &[char]) -> Places
         requires { length text.now ≤ 120 }
         ensures { (k : ℕ) → HasPlace result k ↔ ((p : ℕ) × HasPlace self p × (p ≤ k) × ((r : ℕ) → p ≤ r → r < k → StandsAt mark text.now r)) }

@@ -11,7 +11,7 @@ use crate::places::Places;
 use crate::row::{Next, Row};
 use crate::table::Table;
 
-/// The height of the stack after an operation.
+/// Returns the height of the stack after an operation.
 fn after(height: usize, op: Op) -> usize
     requires { IsSome (height_after height op) }
     ensures { height_after height op ≡ Some result }
@@ -23,7 +23,7 @@ fn after(height: usize, op: Op) -> usize
     }
 }
 
-/// The most patterns that stand on the stack at once.
+/// Returns the most patterns that stand on the stack at once.
 fn most(code: &[Op]) -> usize
     requires { height_from 0 code.now ≡ Some 1 }
     ensures { (n : ℕ) → result ≤ n → IsWithin n 0 code.now }
@@ -49,7 +49,7 @@ fn is_over(height: usize, op: Op) -> bool
     }
 }
 
-/// The first row of the lowest pattern after an operation that changes it, where a table stands for the pattern above it.
+/// Returns the first row of the lowest pattern after an operation that changes it, where a table stands for the pattern above it.
 fn lowest_after(first: Row, tables: &[Table], height: usize, op: Op, text: &[char]) -> Row
     requires few { length text.now ≤ 120 }
     requires fits { IsSome (height_after height op) }
@@ -116,7 +116,7 @@ fn step(first: Row, tables: &mut [Table], height: usize, op: Op, text: &[char]) 
     }
 }
 
-/// The operation at a place of the code, where the next one joins what it makes to the sequence below.
+/// Returns the operation at a place of the code, where the next one joins what it makes to the sequence below.
 fn joined(code: &[Op], place: usize) -> Option<Op>
     requires { place < length code.now }
     ensures { IfSome result (λ op. drop place code.now ≡ op ∷ Op.Sequence ∷ drop (place + 2) code.now) }
@@ -127,7 +127,7 @@ fn joined(code: &[Op], place: usize) -> Option<Op>
     }
 }
 
-/// The mark at a place of the code, where it is repeated any number of times and then joined.
+/// Returns the mark at a place of the code, where it is repeated any number of times and then joined.
 fn starred(code: &[Op], place: usize) -> Option<Mark>
     requires { place < length code.now }
     ensures { IfSome result (λ mark. drop place code.now ≡ Op.One mark ∷ Op.Many ∷ Op.Sequence ∷ drop (place + 3) code.now) }
@@ -138,7 +138,8 @@ fn starred(code: &[Op], place: usize) -> Option<Mark>
     }
 }
 
-/// The first row of the lowest pattern after an operation and after what that makes is joined to it, where one step does both.
+/// Returns the first row of the lowest pattern after an operation and after what that makes is joined to it, where one step
+/// does both.
 fn joined_after(first: Row, tables: &[Table], height: usize, op: Op, text: &[char]) -> Option<Row>
     requires few { length text.now ≤ 120 }
     requires within { height ≤ length tables.now }
@@ -153,8 +154,8 @@ fn joined_after(first: Row, tables: &[Table], height: usize, op: Op, text: &[cha
     }
 }
 
-/// The first row of the text's table for the pattern of the code. The lowest pattern on the stack begins where the text does and
-/// is never repeated: its first row is enough. The others have tables.
+/// Returns the first row of the text's table for the pattern of the code. The lowest pattern on the stack begins where the text
+/// does and is never repeated: its first row is enough. The others have tables.
 fn run(code: &[Op], text: &[char], tables: &mut [Table]) -> Row
     requires few { length text.now ≤ 120 }
     requires whole { height_from 0 code.now ≡ Some 1 }
@@ -186,7 +187,7 @@ fn run(code: &[Op], text: &[char], tables: &mut [Table]) -> Row
     first
 }
 
-/// The first row, with so many tables.
+/// Returns the first row, with so many tables.
 fn read_with<const N: usize>(code: &[Op], text: &[char]) -> Row
     requires few { length text.now ≤ 120 }
     requires whole { height_from 0 code.now ≡ Some 1 }
@@ -198,7 +199,7 @@ fn read_with<const N: usize>(code: &[Op], text: &[char]) -> Row
     run(code, text, &mut tables)
 }
 
-/// The first row of the text's table for the pattern of the code.
+/// Returns the first row of the text's table for the pattern of the code.
 ///
 /// To blank a table takes longer than most operations, so there are fewer than twice as many as the code needs.
 pub fn read(code: &[Op], text: &[char]) -> Row

@@ -16,7 +16,7 @@ pub enum Next {
 }
 
 impl Next {
-    /// The characters of either.
+    /// Returns the characters of either.
     #[inline(always)]
     pub fn join(self, other: Next) -> Next
         ensures { result ≡ either_next self other }
@@ -42,7 +42,7 @@ impl Row {
         next: Next::Nothing,
     };
 
-    /// What may follow alone, without the ends.
+    /// Returns only what may follow, without the ends.
     #[inline(always)]
     pub fn unended(self) -> Row
         ensures { result ≡ record { ends = record { bits = 0 }; next = self.next } }
@@ -53,7 +53,7 @@ impl Row {
         }
     }
 
-    /// The row from the text's first place on of a sequence: what has this row there, then one character.
+    /// Returns the row from the text's first place on of a sequence: what has this row there, then one character.
     pub fn append(self, mark: Mark, text: &[char]) -> Row
         requires { length text.now ≤ 120 }
         ensures { (a : Pattern) → IsTableRow a text.now 0 self → IsTableRow (sequence a (one mark)) text.now 0 result }
@@ -68,7 +68,8 @@ impl Row {
         }
     }
 
-    /// The row from the text's first place on of a sequence: what has this row there, then one character any number of times.
+    /// Returns the row from the text's first place on of a sequence: what has this row there, then one character any number of
+    /// times.
     pub fn append_many(self, mark: Mark, text: &[char]) -> Row
         requires { length text.now ≤ 120 }
         ensures { (a : Pattern) → IsTableRow a text.now 0 self → IsTableRow (sequence a (many (one mark))) text.now 0 result }
@@ -91,7 +92,7 @@ impl Row {
         self == other
     }
 
-    /// What either row has.
+    /// Returns what either row has.
     #[inline(always)]
     pub fn join(self, other: Row) -> Row
         ensures ends { (k : ℕ) → HasPlace result.ends k ↔ (HasPlace self.ends k ⊎ HasPlace other.ends k) }

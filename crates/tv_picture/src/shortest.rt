@@ -20,7 +20,7 @@ struct Lengths {
 }
 
 impl Lengths {
-    /// What the operation makes, and the place where it goes.
+    /// Returns what the operation makes, and the place where it goes.
     fn made(&self, op: Op) -> (usize, u32)
         requires fits { IsSome (height_after self.now.height op) }
         ensures place { height_after self.now.height op ≡ Some (result.0 + 1) }
@@ -77,7 +77,7 @@ fn product(count: u8, length: u32) -> u32
     u32::from(count).saturating_mul(length).min(LONG)
 }
 
-/// The length of the shortest narrow member of the pattern of the code.
+/// Returns the length of the shortest narrow member of the pattern of the code.
 pub fn shortest(code: &[Op]) -> u32
     requires { height_from 0 code.now ≡ Some 1 }
     ensures { IsShortest (pattern_of code.now) result }

@@ -91,7 +91,7 @@ impl Table {
         same
     }
 
-    /// The row, and those of the table at these places from `start` on below `stop`.
+    /// Joins to the row those of the table at these places from `start` on below `stop`.
     fn gather(&self, places: Places, start: usize, stop: usize, first: Row) -> Row
         requires order { start ≤ stop }
         requires bound { stop ≤ 121 }
@@ -111,7 +111,7 @@ impl Table {
         row
     }
 
-    /// The row, and those of the table at these places below `stop`.
+    /// Joins to the row those of the table at these places below `stop`.
     pub fn gather_all(&self, places: Places, stop: usize, first: Row) -> Row
         requires { stop ≤ 121 }
         ensures { Gathers places self.now 0 stop first result }
@@ -119,8 +119,8 @@ impl Table {
         self.gather(places, places.first_from(0).min(stop), stop, first)
     }
 
-    /// The rows of the table at these places, where those at the places before are gathered. If each of them is still among the
-    /// places, only the others are looked at.
+    /// Joins the rows of the table at these places, where those at the places before are gathered. If each of them is still
+    /// among the places, only the others are looked at.
     fn gather_more(&self, places: Places, before: Places, gathered: Row, len: usize) -> Row
         requires { len ≤ 120 }
         ensures { (b : Pattern) (text : List ℕ) → length text ≡ len → HasEachRow b text self.now → IsGathered b text before self.now gathered → IsGathered b text places self.now result }
@@ -133,8 +133,8 @@ impl Table {
         }
     }
 
-    /// The row from the text's first place on of a sequence: what has this row there, then what has this table, any number of
-    /// times. A member ends where it begins or later, so each place is looked at once.
+    /// Returns the row from the text's first place on of a sequence: what has this row there, then what has this table, any
+    /// number of times. A member ends where it begins or later, so each place is looked at once.
     pub fn many_after(&self, first: Row, len: usize) -> Row
         requires { len ≤ 120 }
         ensures { (a b : Pattern) (text : List ℕ) → length text ≡ len → IsTableRow a text 0 first → HasEachRow b text self.now → IsTableRow (sequence a (many b)) text 0 result }
@@ -148,7 +148,8 @@ impl Table {
         row
     }
 
-    /// The row from the text's first place on of a sequence: what has this row there, then what has this table, so many times.
+    /// Returns the row from the text's first place on of a sequence: what has this row there, then what has this table, so many
+    /// times.
     pub fn times_after(&self, first: Row, count: u8, len: usize) -> Row
         requires { len ≤ 120 }
         ensures { (a b : Pattern) (text : List ℕ) → length text ≡ len → IsTableRow a text 0 first → HasEachRow b text self.now → IsTableRow (sequence a (times count b)) text 0 result }

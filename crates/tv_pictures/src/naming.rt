@@ -5,7 +5,7 @@ ghost use Rattle.tv_pictures.specs.Naming.{shot_name};
 
 use std::alloc::{AllocError, Global};
 
-/// The name of the picture with a number, of those of a script with this name.
+/// Returns the name of the picture with a number, of those of a script with this name.
 pub(crate) fn shot_name(alloc: Global, script: &str, number: usize) -> Result<String, AllocError>
     ensures { IfOk result (λ name. string_bytes name ≡ shot_name script.now number) }
 {

@@ -75,7 +75,7 @@ fn is_leaving(desc: &Desc, action: Action) -> bool
     }
 }
 
-/// The event that is to be performed; none where the user leaves.
+/// Returns the event that is to be performed; none where the user leaves.
 pub(crate) fn event_of(desc: &Desc, action: Action) -> Option<Event>
     ensures goes { IfSome result (λ event. (action ≡ actions.Event event) × (is_leaving desc.now action ≡ false)) }
     ensures leaves { IfNone result (is_leaving desc.now action ≡ true) }

@@ -17,7 +17,7 @@ pub(crate) struct Journal<'n, 'a, W: Writer> {
     ghost empty: { nothing.now ≡ [] },
 }
 
-/// The script that has no lines.
+/// Returns the script that has no lines.
 pub(crate) fn nothing(alloc: Global) -> Result<Script, ScriptFault>
     ensures { IfOk result (λ script. script ≡ []) }
 {

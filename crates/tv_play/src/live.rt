@@ -14,14 +14,14 @@ use tv_script::Stage;
 pub trait Live: Stage {
     ghost repaints: { Self → List Declared };
 
-    /// One event. Its point may lie beside the screen.
+    /// Handles one event. Its point may lie beside the screen.
     fn react(&mut self, event: &Event)
         requires near { IsPlaced event.now }
         requires there { (s : Session) × Self.stands self.old s }
         ensures stands { (s : Session) → Self.stands self.old s → Self.stands self.new (stepped s event.now) }
         ensures rest { (s : Session) → Self.stands self.old s → KeepsScreen (repaints self.new) s (stepped s event.now) };
 
-    /// The rectangles of the screen that the last event had painted again. No cell outside them has changed.
+    /// Returns the rectangles of the screen that the last event had painted again. No cell outside them has changed.
     fn repainted(&self) -> &[Rect]
         ensures { result.now ≡ repaints self.now };
 

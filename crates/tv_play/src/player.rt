@@ -57,7 +57,7 @@ fn act<L: Live, T: Writer, W: Writer>(
     (is_finished, written)
 }
 
-/// How a run ends with an event.
+/// Tells how a run ends with an event.
 pub(crate) fn outcome_of(
     is_finished: bool,
     written: Result<(), WriteFailed>,

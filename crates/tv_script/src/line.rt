@@ -27,7 +27,7 @@ pub enum Line {
 }
 
 impl Line {
-    /// How many items the line has.
+    /// Returns how many items the line has.
     pub(crate) fn items(&self) -> usize
         ensures { result ≡ length (items_of_line self.now) }
     {

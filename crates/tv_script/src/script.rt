@@ -29,7 +29,7 @@ impl Model for Script {
 }
 
 impl Script {
-    /// The script that a text spells for a screen of so many columns and rows.
+    /// Reads the script that a text spells for a screen of so many columns and rows.
     pub fn parse(alloc: Global, text: &[u8], width: i32, height: i32) -> Result<Script, ScriptFault>
         requires columns { width ≤ℤ pos 132 }
         requires rows { height ≤ℤ pos 60 }

@@ -52,8 +52,8 @@ impl From<AllocError> for ScriptFault {
     }
 }
 
-/// The items of the script that a text spells for a screen of so many columns and rows, which may be of any size. A script
-/// that is to be performed comes from `Script::parse`.
+/// Reads the items of the script that a text spells for a screen of so many columns and rows, which may be of any size. A
+/// script that is to be performed comes from `Script::parse`.
 pub fn parse_items(
     alloc: Global,
     text: &[u8],

@@ -14,11 +14,11 @@ pub trait Stage {
     // The runs of the flat machine that it stands for.
     ghost stands: { Self → Session → Type 0 };
 
-    /// The description.
+    /// Returns the description.
     fn desc(&self) -> &Desc
         ensures { (s : Session) → stands self.now s → result.now ≡ s.desc };
 
-    /// The lines of the log that aren't yet taken.
+    /// Returns the lines of the log that aren't yet taken.
     fn log(&self) -> &[LogLine]
         ensures { (s : Session) → stands self.now s → result.now ≡ s.state.log };
 
@@ -26,13 +26,13 @@ pub trait Stage {
     fn forget_log(&mut self)
         ensures { (s : Session) → stands self.old s → stands self.new (quiet s) };
 
-    /// One event.
+    /// Handles one event.
     fn step(&mut self, event: &Event)
         requires shown { IsEventOnScreen event.now }
         requires there { (s : Session) × stands self.old s }
         ensures { (s : Session) → stands self.old s → stands self.new (stepped s event.now) };
 
-    /// The screen, which shows what the last event left.
+    /// Returns the screen, which shows what the last event left.
     fn screen(&self) -> &Screen
         ensures { (s : Session) → stands self.now s → IsScreenOf s result.now };
 }

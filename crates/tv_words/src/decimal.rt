@@ -43,7 +43,7 @@ fn positive(magnitude: u32) -> Option<i32>
     i32::try_from(magnitude).ok()
 }
 
-/// The number of which this is the decimal text, without a leading zero or a plus.
+/// Returns the number of which this is the decimal text, without a leading zero or a plus.
 pub fn number(text: &[char]) -> Option<i32>
     ensures { result ≡ number_of text.now }
 {

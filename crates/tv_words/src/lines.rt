@@ -12,7 +12,7 @@ pub struct Lines<'a> {
 impl<'a> Lines<'a> {
     ghost use Rattle.tv_words.specs.LinesLeft.{lines_left};
 
-    /// The lines of a text. A line end at the end of the text starts no further line.
+    /// Makes an iterator over the lines of a text. A line end at the end of the text starts no further line.
     pub fn new(text: &'a [u8]) -> Lines<'a>
         ensures { lines_left result ≡ lines_of text.now }
     {

@@ -144,7 +144,7 @@ fn scan(alloc: Global, text: &str) -> Result<Option<Words>, AllocError>
     scanner.finish()
 }
 
-/// The words of a line without its line end, or `None` where the line is faulty: not UTF-8, with a control character,
+/// Returns the words of a line without its line end, or `None` where the line is faulty: not UTF-8, with a control character,
 /// or with words that can't be told apart. A comment and an empty line have no words.
 pub fn words_of(alloc: Global, line: &[u8]) -> Result<Option<Words>, AllocError>
     ensures spelled { IfOk result (λ found. IfSome found (λ words. SpellsWords line.now words)) }

@@ -43,7 +43,7 @@ pub struct QuotedChars<'a> {
 }
 
 impl<'a> BareText<'a> {
-    /// The characters, where there are no more than 12. A longer word is no key, and no number of an `i32`.
+    /// Returns the characters, where there are no more than 12. A longer word is no key, and no number of an `i32`.
     pub fn short(&self) -> Option<ArrayVec<char, 12>>
         ensures { MatchOption result (12 < length (bare_of self.now)) (λ text. text.items ≡ bare_of self.now) }
     {
@@ -61,14 +61,14 @@ impl<'a> BareText<'a> {
 }
 
 impl<'a> QuotedText<'a> {
-    /// The characters, one by one.
+    /// Returns the characters, one by one.
     pub fn chars(&self) -> QuotedChars<'a>
         ensures { text_left result ≡ text_quoted self.now }
     {
         QuotedChars { rest: self.rest }
     }
 
-    /// How many characters there are.
+    /// Returns how many characters there are.
     pub fn len(&self) -> usize
         ensures { result ≡ length (text_quoted self.now) }
     {
@@ -115,7 +115,7 @@ impl<'a> Token<'a> {
         }
     }
 
-    /// The number that a bare word is the decimal text of, where it is one of an `i32`.
+    /// Returns the number that a bare word is the decimal text of, where it is one of an `i32`.
     pub fn number(&self) -> Option<i32>
         ensures { result ≡ number_in (token_word self.now) }
     {
@@ -125,7 +125,7 @@ impl<'a> Token<'a> {
         }
     }
 
-    /// The text between the quotes of a quoted word.
+    /// Returns the text between the quotes of a quoted word.
     pub fn text(&self) -> Option<QuotedText<'a>>
         ensures { text_in (token_word self.now) ≡ option_map text_quoted result }
     {
@@ -155,7 +155,7 @@ fn short_number(text: &BareText<'_>) -> Option<i32>
     }
 }
 
-/// The first character of a text, and what follows it.
+/// Returns the first character of a text, and what follows it.
 pub(crate) fn first_char(text: &str) -> Option<(char, &str)>
     ensures { MatchOption result (chars text.now ≡ []) (λ first. chars text.now ≡ first.0 ∷ chars first.1.now) }
 {

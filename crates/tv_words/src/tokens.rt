@@ -107,8 +107,8 @@ fn scan(text: &str) -> Option<Tokens<'_>>
     place.is_end().then_some(tokens)
 }
 
-/// The words of a line without its line end, which lend the line and take no memory. `None` where the line is faulty, as
-/// `words_of` has it, or has more than three words.
+/// Returns the words of a line without its line end, which lend the line and take no memory. `None` where the line is faulty,
+/// as `words_of` has it, or has more than three words.
 pub fn tokens_of(line: &[u8]) -> Option<Tokens<'_>>
     ensures read { option_map words_in result ≡ option_and_then at_most_three (line_words line.now) }
     ensures spelled { IfSome result (λ tokens. SpellsWords line.now (words_in tokens)) }

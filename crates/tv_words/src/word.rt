@@ -34,7 +34,7 @@ impl Word {
         }
     }
 
-    /// The number that a bare word is the decimal text of, where it is one of an `i32`.
+    /// Returns the number that a bare word is the decimal text of, where it is one of an `i32`.
     pub fn number(&self) -> Option<i32>
         ensures read { result ≡ number_in self.now }
         ensures word { IfSome result (λ n. (self.now ≡ number_word n) × IsNumber n) }
@@ -46,7 +46,7 @@ impl Word {
         }
     }
 
-    /// The characters of a bare word that can be a name.
+    /// Returns the characters of a bare word that can be a name.
     pub fn name(&self) -> Option<&Chars>
         ensures { name_in self.now ≡ option_copied result }
     {
@@ -56,7 +56,7 @@ impl Word {
         }
     }
 
-    /// The text between the quotes of a quoted word.
+    /// Returns the text between the quotes of a quoted word.
     pub fn text(&self) -> Option<&Chars>
         ensures { text_in self.now ≡ option_copied result }
     {
