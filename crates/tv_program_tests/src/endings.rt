@@ -7,7 +7,7 @@ use crate::user::User;
 use std::alloc::{AllocError, Global};
 use std::test::Fail;
 use tv_button_views::buttons;
-use tv_files::{BufferedStream, DirectStream, NoTask, Task, run_program, tell_no_memory};
+use tv_files::{BufferedStream, NoTask, Task, run_program};
 use tv_test_support::certificates::CANCEL_CERTIFICATE;
 use tv_test_support::descriptions::{CANCEL, ORDER, SHARED_LETTER, WITHOUT_CANCEL};
 use tv_test_support::large::{
@@ -54,8 +54,8 @@ pub fn ample_ending(alloc: Global, task: Task<'_>, texts: (&str, &str)) -> Resul
     ending(alloc, Ok(task), texts, AMPLE, AMPLE)
 }
 
-// The same, with this room, or where nothing can be done.
-fn ending(
+/// The same, with this room, or where nothing can be done.
+pub fn ending(
     alloc: Global,
     asked: Result<Task<'_>, NoTask>,
     texts: (&str, &str),
@@ -111,7 +111,8 @@ fn plain(alloc: Global, text: &str) -> Result<String, AllocError> {
     Ok(plain)
 }
 
-fn status(
+/// The status of what is asked for, with these files, a user and both streams.
+pub fn status(
     alloc: Global,
     asked: Result<Task<'_>, NoTask>,
     files: &mut Shelf<'_>,
@@ -252,54 +253,60 @@ fn tasks_and_their_faults(rt: HostRuntime) -> Result<(), Fail> {
     Ok(())
 }
 
+const NO_DESCRIPTION: Task<'static> = Task::Check { file: "NONE" };
+
+const NO_CERTIFICATE: Task<'static> = Task::Accept {
+    file: FILE,
+    certificate: "NONE",
+};
+
+const NO_SCRIPT: Task<'static> = Task::Run {
+    file: FILE,
+    script: "NONE",
+};
+
+// What is asked for, the description, and what is told.
+const MISSING: [(Task<'static>, &str, &str); 7] = [
+    (
+        NO_DESCRIPTION,
+        CANCEL,
+        "tvdlg: cannot read NONE\nstatus 3\nopened 3\n",
+    ),
+    (
+        Task::Play { file: "NONE" },
+        CANCEL,
+        "tvdlg: cannot read NONE\nstatus 3\nopened 3\n",
+    ),
+    (
+        NO_CERTIFICATE,
+        CANCEL,
+        "tvdlg: cannot read NONE\nstatus 3\nopened 13\n",
+    ),
+    (
+        NO_CERTIFICATE,
+        SHARED_LETTER,
+        "tvdlg: cannot read NONE\nstatus 3\nopened 13\n",
+    ),
+    (
+        NO_CERTIFICATE,
+        "tvd 1\n",
+        "tvdlg: FILE: syntax at line 2\nstatus 1\nopened 1\n",
+    ),
+    (
+        NO_SCRIPT,
+        CANCEL,
+        "tvdlg: cannot read NONE\nstatus 3\nopened 13\n",
+    ),
+    (
+        NO_SCRIPT,
+        WITHOUT_CANCEL,
+        "tvdlg: cannot read NONE\nstatus 3\nopened 13\n",
+    ),
+];
+
 #[test]
 fn missing_files(rt: HostRuntime) -> Result<(), Fail> {
-    let no_description = Task::Check { file: "NONE" };
-    let no_certificate = Task::Accept {
-        file: FILE,
-        certificate: "NONE",
-    };
-    let no_script = Task::Run {
-        file: FILE,
-        script: "NONE",
-    };
-    for &(task, description, wanted) in &[
-        (
-            no_description,
-            CANCEL,
-            "tvdlg: cannot read NONE\nstatus 3\nopened 3\n",
-        ),
-        (
-            Task::Play { file: "NONE" },
-            CANCEL,
-            "tvdlg: cannot read NONE\nstatus 3\nopened 3\n",
-        ),
-        (
-            no_certificate,
-            CANCEL,
-            "tvdlg: cannot read NONE\nstatus 3\nopened 13\n",
-        ),
-        (
-            no_certificate,
-            SHARED_LETTER,
-            "tvdlg: cannot read NONE\nstatus 3\nopened 13\n",
-        ),
-        (
-            no_certificate,
-            "tvd 1\n",
-            "tvdlg: FILE: syntax at line 2\nstatus 1\nopened 1\n",
-        ),
-        (
-            no_script,
-            CANCEL,
-            "tvdlg: cannot read NONE\nstatus 3\nopened 13\n",
-        ),
-        (
-            no_script,
-            WITHOUT_CANCEL,
-            "tvdlg: cannot read NONE\nstatus 3\nopened 13\n",
-        ),
-    ] {
+    for &(task, description, wanted) in &MISSING {
         let told = ending(rt.alloc(), Ok(task), (description, ""), AMPLE, AMPLE)?;
         assert_eq!(rt; told.as_str(), wanted, "{task:?}");
     }
@@ -429,141 +436,6 @@ fn large_texts(rt: HostRuntime) -> Result<(), Fail> {
     ] {
         let told = ending(alloc, Ok(task), texts, AMPLE, AMPLE)?;
         assert_eq!(rt; told.as_str(), wanted, "{task:?}");
-    }
-    Ok(())
-}
-
-// A certificate that was taken, but not flushed.
-const UNFLUSHED: &str = "tvcert 1
-dialog a
-tab c
-key C c
-end
-tvdlg: cannot write
-status 3
-opened 1
-";
-
-// The description that is checked, the room of both streams, and what is told.
-const FAILING: [(&str, Room, Room, &str); 11] = [
-    (
-        CANCEL,
-        (0, true),
-        AMPLE,
-        "tvdlg: cannot write\nstatus 3\nopened 1\n",
-    ),
-    (
-        CANCEL,
-        (8, true),
-        AMPLE,
-        "tvcert 1tvdlg: cannot write\nstatus 3\nopened 1\n",
-    ),
-    (CANCEL, (1000, false), AMPLE, UNFLUSHED),
-    (CANCEL, (0, true), (0, true), "status 3\nopened 1\n"),
-    (
-        SHARED_LETTER,
-        (0, true),
-        AMPLE,
-        "tvdlg: cannot write\nstatus 3\nopened 1\n",
-    ),
-    (
-        SHARED_LETTER,
-        (5, true),
-        AMPLE,
-        "F4 litvdlg: cannot write\nstatus 3\nopened 1\n",
-    ),
-    (
-        SHARED_LETTER,
-        (1000, false),
-        AMPLE,
-        "F4 line 8\ntvdlg: cannot write\nstatus 3\nopened 1\n",
-    ),
-    (
-        SHARED_LETTER,
-        AMPLE,
-        (0, false),
-        "F4 line 8\nstatus 1\nopened 1\n",
-    ),
-    ("tvd 3\n", AMPLE, (0, true), "status 1\nopened 1\n"),
-    (
-        "tvd 3\n",
-        AMPLE,
-        (11, true),
-        "tvdlg: FILEstatus 1\nopened 1\n",
-    ),
-    (
-        "tvd 3\n",
-        AMPLE,
-        (1000, false),
-        "tvdlg: FILE: unknown version\nstatus 1\nopened 1\n",
-    ),
-];
-
-#[test]
-fn streams_that_fail(rt: HostRuntime) -> Result<(), Fail> {
-    for &(description, out_room, err_room, wanted) in &FAILING {
-        let told = ending(rt.alloc(), Ok(CHECK), (description, ""), out_room, err_room)?;
-        assert_eq!(rt; told.as_str(), wanted, "{out_room:?} {err_room:?}");
-    }
-    Ok(())
-}
-
-// More than is kept back, so that the stream fails while the script is performed.
-#[test]
-fn streams_that_fail_in_a_run(rt: HostRuntime) -> Result<(), Fail> {
-    let alloc = rt.alloc();
-    let script = "shot\n".repeat(alloc, 100)?;
-    let mut files = Shelf::new(CANCEL, script.as_str());
-    let mut out = Sink::new(alloc, 9000, true);
-    let mut err = Sink::new(alloc, 1000, true);
-    assert_eq!(rt;
-        status(
-            alloc,
-            Ok(RUN),
-            &mut files,
-            &mut User::silent(),
-            &mut out,
-            &mut err
-        )?,
-        3
-    );
-    assert_eq!(rt; out.taken().len(), 9000);
-    assert_eq!(rt; str::from_utf8(err.taken())?, "tvdlg: cannot write\n");
-    Ok(())
-}
-
-#[test]
-fn nothing_to_do(rt: HostRuntime) -> Result<(), Fail> {
-    let alloc = rt.alloc();
-    for &(room, told, untold) in &[
-        (
-            AMPLE,
-            "a\nstatus 2\nopened 0\n",
-            "tvdlg: no memory\nstatus 3\nopened 0\n",
-        ),
-        ((0, true), "status 3\nopened 0\n", "status 3\nopened 0\n"),
-        ((1, true), "astatus 3\nopened 0\n", "tstatus 3\nopened 0\n"),
-        (
-            (1000, false),
-            "a\nstatus 3\nopened 0\n",
-            "tvdlg: no memory\nstatus 3\nopened 0\n",
-        ),
-    ] {
-        let text = String::from_str(alloc, "a\n")?;
-        let usage = ending(alloc, Err(NoTask::Usage(text)), ("", ""), AMPLE, room)?;
-        assert_eq!(rt; usage.as_str(), told, "{room:?}");
-        let no_memory = ending(alloc, Err(NoTask::NoMemory), ("", ""), AMPLE, room)?;
-        assert_eq!(rt; no_memory.as_str(), untold, "{room:?}");
-    }
-    Ok(())
-}
-
-#[test]
-fn no_room_for_streams(rt: HostRuntime) -> Result<(), Fail> {
-    for (room, wanted) in [(AMPLE, "tvdlg: no memory\n"), ((5, true), "tvdlg")] {
-        let mut err = Sink::new(rt.alloc(), room.0, room.1);
-        assert_eq!(rt; tell_no_memory(&mut DirectStream::new(&mut err)), 3);
-        assert_eq!(rt; str::from_utf8(err.taken())?, wanted, "{room:?}");
     }
     Ok(())
 }

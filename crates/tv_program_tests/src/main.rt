@@ -22,6 +22,8 @@ mod endings;
 #[cfg(test)]
 mod explaining;
 #[cfg(test)]
+mod failing_streams;
+#[cfg(test)]
 mod gallery;
 #[cfg(test)]
 mod help;
