@@ -1,21 +1,21 @@
 //! The views of a run: the toolkit's own controls, each in a box.
 
 ghost use Rattle.std.specs.Prelude.{◌≡◌, IfErr, IfOk, Result};
-ghost use Rattle.tv_building.specs.declared.fault.BuildFault.TheVariants.{NoMemory, WrongPlan};
+ghost use Rattle.tv_building.specs.declared.fault.BuildFault.TheVariants.{NoMemory};
 ghost use Rattle.tv_files.specs.EndsWith.{EndsWith};
 ghost use Rattle.tv_files.specs.declared.no_task.NoTask.{NoTask as WhyNone};
 ghost use Rattle.tv_files.specs.declared.task.Task.{Task as Wanted};
-ghost use Rattle.tvdlg.specs.Asking.{IsAskedBy};
-ghost use Rattle.tvdlg.specs.Controls.{leaf_of};
+ghost use Rattle.tv_main.specs.Asking.{IsAskedBy};
+ghost use Rattle.tv_toolkit.specs.Control.{control_leaf};
+ghost use Rattle.tv_toolkit.specs.Views.{NoneMismatches};
 
-use crate::control::{Unboxed, control_of};
-use std::alloc::Global;
-use tv_building::{BuildFault, Building, Views};
-use tv_check::{BuildStep, Checked};
+use std::alloc::{AllocError, Global};
+use tv_building::{BuildFault, Views};
+use tv_check::Checked;
 use tv_command_line::{NoTask, Task, read_task};
 use tv_files::{Album, FileStore, Stream, run_program};
-use tv_leaf::ControlFault;
 use tv_play::Pieces;
+use tv_toolkit::{Control, views_by};
 use tv_view::View;
 
 /// Carries out what the words of a command line ask for, or tells why there are none. Returns the program's status.
@@ -28,7 +28,7 @@ pub fn run_main<F: FileStore, A: Album, P: Pieces, O: Stream, E: Stream>(
     out: &mut O,
     err: &mut E,
 ) -> u8
-    ensures { (asked : Result Wanted WhyNone) × IsAskedBy words asked × EndsWith (λ _. Unit {0}) asked
+    ensures { (asked : Result Wanted WhyNone) × IsAskedBy words asked × EndsWith (λ _. ⊥) asked
         (record { files = F.known files.old; pictures = A.pictures album.old; heard = P.heard pieces.old; out = O.seen out.old; out_kept = O.kept_back out.old; err = E.seen err.old; err_kept = E.kept_back err.old })
         (record { files = F.known files.new; pictures = A.pictures album.new; heard = P.heard pieces.new; out = O.seen out.new; out_kept = O.kept_back out.new; err = E.seen err.new; err_kept = E.kept_back err.new })
         result }
@@ -43,7 +43,7 @@ pub fn run_main<F: FileStore, A: Album, P: Pieces, O: Stream, E: Stream>(
 }
 
 // Carries out what is asked for, as `run_program` says, with the toolkit's own controls, each in a box, where a description is
-// run, drawn or played.
+// run, drawn or played. No session refuses them: they stand as they are declared.
 fn run_with_boxes<F: FileStore, A: Album, P: Pieces, O: Stream, E: Stream>(
     files: &mut F,
     album: &mut A,
@@ -53,51 +53,29 @@ fn run_with_boxes<F: FileStore, A: Album, P: Pieces, O: Stream, E: Stream>(
     out: &mut O,
     err: &mut E,
 ) -> u8
-    ensures { EndsWith (λ _. Unit {0}) asked.entry
+    ensures { EndsWith (λ _. ⊥) asked.entry
         (record { files = F.known files.old; pictures = A.pictures album.old; heard = P.heard pieces.old; out = O.seen out.old; out_kept = O.kept_back out.old; err = E.seen err.old; err_kept = E.kept_back err.old })
         (record { files = F.known files.new; pictures = A.pictures album.new; heard = P.heard pieces.new; out = O.seen out.new; out_kept = O.kept_back out.new; err = E.seen err.new; err_kept = E.kept_back err.new })
         result }
 {
-    let boxed = |alloc: Global, control: Unboxed| -> Result<Box<dyn View>, BuildFault>
-        ensures same { IfOk result (λ view. (View-box view).meaning view.value ≡ leaf_of control) }
-        ensures refused { IfErr result (λ fault. fault ≡ NoMemory) }
+    // `refused` says nothing: the tactic proves `same` only where it stands beside another clause.
+    let boxed = |alloc: Global, control: Control| -> Result<Box<dyn View>, AllocError>
+        ensures same { IfOk result (λ view. (View-box view).meaning view.value ≡ control_leaf control) }
+        ensures refused { IfErr result (λ _. Unit {0}) }
     {
         match control {
-            Unboxed::Text(text) => Ok(Box::new(alloc, text)?),
-            Unboxed::Label(label) => Ok(Box::new(alloc, label)?),
-            Unboxed::Button(button) => Ok(Box::new(alloc, button)?),
-            Unboxed::Input(line) => Ok(Box::new(alloc, line)?),
-            Unboxed::CheckBoxes(boxes) => Ok(Box::new(alloc, boxes)?),
-            Unboxed::RadioButtons(radios) => Ok(Box::new(alloc, radios)?),
-            Unboxed::List(list) => Ok(Box::new(alloc, list)?),
+            Control::Text(text) => Ok(Box::new(alloc, text)?),
+            Control::Label(label) => Ok(Box::new(alloc, label)?),
+            Control::Button(button) => Ok(Box::new(alloc, button)?),
+            Control::Input(line) => Ok(Box::new(alloc, line)?),
+            Control::CheckBoxes(boxes) => Ok(Box::new(alloc, boxes)?),
+            Control::RadioButtons(radios) => Ok(Box::new(alloc, radios)?),
+            Control::List(list) => Ok(Box::new(alloc, list)?),
         }
     };
-    let views = |alloc: Global, checked: &Checked| -> Result<Views<Box<dyn View>>, BuildFault> {
-        let plan = checked.build_plan(alloc)?;
-        let mut building: Building<Box<dyn View>> = Building::new(alloc);
-        for step in plan.as_slice() {
-            match step {
-                BuildStep::Open(node) => building.begin(alloc, node)?,
-                BuildStep::Leaf(node) => {
-                    let control = unless_unbuilt(control_of(alloc, node))?;
-                    building.add(boxed(alloc, control)?)?;
-                }
-                BuildStep::Close => building.end()?,
-            }
-        }
-        building.finish()
-    };
+    let views = |alloc: Global, checked: &Checked| -> Result<Views<Box<dyn View>>, BuildFault>
+        ensures made { IfOk result (λ views. NoneMismatches (λ view. (View-box view).meaning view.value) checked.now views.windows.items views.bodies.items) }
+        ensures refused { IfErr result (λ fault. fault ≡ NoMemory) }
+    { Ok(views_by(alloc, checked, &boxed)?) };
     run_program(files, album, alloc, asked, &views, pieces, out, err)
-}
-
-// Returns the control, or why no views are put together without it.
-fn unless_unbuilt(made: Result<Unboxed, ControlFault>) -> Result<Unboxed, BuildFault>
-    ensures same { IfOk result (λ control. made ≡ Ok control) }
-    ensures refused { IfErr result (λ fault. fault ≡ WrongPlan → made ≡ Err ControlFault.WrongKind) }
-{
-    match made {
-        Ok(control) => Ok(control),
-        Err(ControlFault::NoMemory) => Err(BuildFault::NoMemory),
-        Err(ControlFault::WrongKind) => Err(BuildFault::WrongPlan),
-    }
 }

@@ -1,0 +1,2 @@
+-- what a command line asks for
+pub mod Asking
