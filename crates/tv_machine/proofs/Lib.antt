@@ -1,3 +1,4 @@
+pub mod CommandExamples
 pub mod Descriptions
 pub mod DragExamples
 pub mod EntryLemmas
