@@ -2,7 +2,7 @@
 use Rattle.std.specs.Prelude.{◌≡◌, ◌⊎◌, ℕ, ◌<◌, List, [], ◌∷◌, Option, Some, None, length, Result, Ok, Err}
 use Rattle.tv_certificate.specs.declared.reading.CertificateFault.TheVariants as certificates
 use Rattle.tv_files.specs.Ends.{End, done_in, end_as}
-use Rattle.tv_files.specs.Files.{Known}
+use Rattle.tv_files.specs.Files.{Known, longest}
 use Rattle.tv_files.specs.Tasks.{GivesText, IsUnread, OnFile}
 use Rattle.tv_files.specs.declared.done.Done.{Done}
 use Rattle.tv_files.specs.declared.done.Done.TheVariants.{Whole, Faulty, BrokenOff}
@@ -61,7 +61,7 @@ ExplainsFile manner files after file old new how end =
 -- ---- a text beside it
 
 -- what is told of the text beside the description, as the same: a report, a refusal, or that it is too long.
--- Of a file with more than 262144 bytes no more is read
+-- Of a file that is longer than `longest` no more is read
 abbrev pub ExplainsBesideTo : Manner → (name : List ℕ) → Desc → (text : List ℕ) → (old new : Seen)
     → Result Done RunFault → Type 0
 ExplainsBesideTo manner name desc text old new (Ok Whole) =
@@ -71,7 +71,7 @@ ExplainsBesideTo manner name desc text old new (Ok Faulty) =
 ExplainsBesideTo manner name desc text old new (Ok BrokenOff) = ⊥
 ExplainsBesideTo manner name desc text old new (Err faults.NoMemory) = new ≡ old
 ExplainsBesideTo manner name desc text old new (Err (faults.Script scripts.TooLong)) =
-    ((262144 < length text) ⊎ IsToldBeside manner name desc text besides.LongScript) × (new ≡ old)
+    ((longest < length text) ⊎ IsToldBeside manner name desc text besides.LongScript) × (new ≡ old)
 ExplainsBesideTo manner name desc text old new (Err (faults.Cert certificates.TooLong)) =
     IsToldBeside manner name desc text besides.LongCertificate × (new ≡ old)
 ExplainsBesideTo manner name desc text old new (Err (faults.Refused refusal)) =

@@ -8,7 +8,7 @@ ghost use Rattle.tv_lang.specs.CanonicalDescription.{CanBeSpelled};
 use crate::Done;
 use crate::failure::Failure;
 use crate::file_store::FileStore;
-use crate::tasks::read_file;
+use crate::tasks::{LONGEST, read_file};
 use std::alloc::Global;
 use tv_check::CertificateFault;
 use tv_io::{Writer, write_all};
@@ -17,9 +17,6 @@ use tv_model::Desc;
 use tv_program::RunFault;
 use tv_report::{Beside, Manner, Told, tell, tell_beside};
 use tv_script::ScriptFault;
-
-// The most bytes of a text beside a description: of a longer file no more is read.
-const LONGEST: usize = 262_144;
 
 /// Writes what there is to tell of the faults of the description in a file, or of the line that can't be read.
 ///

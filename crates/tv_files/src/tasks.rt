@@ -25,8 +25,8 @@ use tv_play::Pieces;
 use tv_program::{RunFault, accept_text, check, play, run};
 use tv_view::View;
 
-/// The most bytes of a description or a certificate.
-const LONGEST: usize = 262_144;
+/// The most bytes of a description, a certificate, or a text that is explained beside a description.
+pub(crate) const LONGEST: usize = 262_144;
 
 /// What is told where the terminal can't be read.
 const TERMINAL: &str = "standard input";
