@@ -42,6 +42,8 @@ mod pictures;
 #[cfg(test)]
 mod plays;
 #[cfg(test)]
+mod refusals;
+#[cfg(test)]
 mod reports;
 #[cfg(test)]
 mod runs;
@@ -55,6 +57,8 @@ mod sharing;
 mod shelf;
 #[cfg(test)]
 mod sink;
+#[cfg(test)]
+mod terminal;
 #[cfg(test)]
 mod texts;
 #[cfg(test)]

@@ -1,1 +1,4 @@
 pub mod AnyTextLemmas
+mod FitLemmas
+pub mod LawfulLemmas
+mod RoomLemmas

@@ -1,8 +1,10 @@
-//! Tests of views, groups and windows together, a view of its own among them.
+//! Tests of views: controls and bars by themselves, and groups and windows together, a view of their own among them.
 #![tactic(auto)]
 
 #[cfg(test)]
 mod broadcasts;
+#[cfg(test)]
+mod controls;
 #[cfg(test)]
 mod damages;
 #[cfg(test)]

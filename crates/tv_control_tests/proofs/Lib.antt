@@ -1,3 +1,0 @@
-mod FitLemmas
-mod RoomLemmas
-pub mod LawfulLemmas

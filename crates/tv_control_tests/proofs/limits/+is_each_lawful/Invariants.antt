@@ -1,5 +1,0 @@
-use Rattle.std.proofs.Common.{length}
-use Rattle.tv_control_tests.proofs.limits.+is_each_lawful.Given as goal
-
-abbrev pub decreases-is_each_lawful : goal.decreases-is_each_lawful
-decreases-is_each_lawful l = length l.menus.now

@@ -1,4 +1,0 @@
-use Rattle.tv_refusals.proofs.sessions.is_refused.Goals as goal
-
-pub returns-in-Ok : goal.returns-in-Ok
-returns-in-Ok g c = (_, (c.in-Ok.ensures _ c.requires.1).comes.1.performs.left)

@@ -1,0 +1,5 @@
+use Rattle.std.proofs.Common.{length}
+use Rattle.tv_view_tests.proofs.controls.limits.+is_each_lawful.Given as goal
+
+abbrev pub decreases-is_each_lawful : goal.decreases-is_each_lawful
+decreases-is_each_lawful l = length l.menus.now
