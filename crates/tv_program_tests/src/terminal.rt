@@ -1,5 +1,6 @@
-//! Runs in a terminal that is in memory.
+//! What terminals send, and runs in one that is in memory.
 
+mod decoding;
 mod failures;
 mod runs;
 mod sent;

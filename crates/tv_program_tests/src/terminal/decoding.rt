@@ -1,10 +1,12 @@
 //! What terminals send, through the decoder.
-#![tactic(auto)]
+
+mod keys;
+mod others;
 
 use tv_terminal::{Action, Decoder};
 
-/// Whether the bytes, and a pause after them, give these actions and no others.
-pub fn gives(bytes: &[u8], actions: &[Action]) -> bool {
+// Whether the bytes, and a pause after them, give these actions and no others.
+fn gives(bytes: &[u8], actions: &[Action]) -> bool {
     let mut decoder = Decoder::new();
     let mut left = actions;
     for byte in bytes {
@@ -20,8 +22,3 @@ pub fn gives(bytes: &[u8], actions: &[Action]) -> bool {
         None => left.is_empty(),
     }
 }
-
-#[cfg(test)]
-mod keys;
-#[cfg(test)]
-mod others;

@@ -1,6 +1,6 @@
 //! The keys, one by one.
 
-use crate::gives;
+use super::gives;
 use tv_event::{Event, Key};
 use tv_terminal::Action;
 

@@ -1,6 +1,6 @@
 //! The mouse, the wish to leave, and what means nothing.
 
-use crate::gives;
+use super::gives;
 use tv_cells::Point;
 use tv_event::{Event, Key};
 use tv_terminal::Action;
