@@ -82,15 +82,17 @@ fn expect_later(alloc: Global, old: &str, new: &str, refusal: &str) -> Result<()
     expect_answer(&later, alloc, ORDER_CERTIFICATE, &wanted)
 }
 
+const EDITED: [(&str, &str, &str); 5] = [
+    ("end\n", "end\ndialog z\ntab a\nend\n", "tab 7"),
+    ("key N opts 2", "key N opts 1", "key N"),
+    ("key A amount", "key A amount 1", "key A"),
+    ("key O ok\n", "", "key O"),
+    ("tvcert 1", "tvcert 2", "version"),
+];
+
 #[test]
 fn accepted_after_edited_certificates(rt: HostRuntime) -> Result<(), Fail> {
-    for (old, new, refusal) in [
-        ("end\n", "end\ndialog z\ntab a\nend\n", "tab 7"),
-        ("key N opts 2", "key N opts 1", "key N"),
-        ("key A amount", "key A amount 1", "key A"),
-        ("key O ok\n", "", "key O"),
-        ("tvcert 1", "tvcert 2", "version"),
-    ] {
+    for &(old, new, refusal) in &EDITED {
         expect_later(rt.alloc(), old, new, refusal)?;
     }
     Ok(())

@@ -249,13 +249,15 @@ fn expect_cut(alloc: Global, word: &str, wanted: &str) -> Result<(), Fail> {
     expect_finding(alloc, begun, wanted)
 }
 
+const CUT: [(&str, &str); 3] = [
+    ("start", "sound"),
+    ("dialog", "F16 line 3"),
+    ("enable", "syntax at line 17"),
+];
+
 #[test]
 fn cut_descriptions(rt: HostRuntime) -> Result<(), Fail> {
-    for (word, wanted) in [
-        ("start", "sound"),
-        ("dialog", "F16 line 3"),
-        ("enable", "syntax at line 17"),
-    ] {
+    for &(word, wanted) in &CUT {
         expect_cut(rt.alloc(), word, wanted)?;
     }
     Ok(())

@@ -82,7 +82,7 @@ fn expect_unshared(alloc: Global, old: &str, new: &str) -> Result<(), Fail> {
 fn letters_of_hidden_views(rt: HostRuntime) -> Result<(), Fail> {
     expect_finding(rt.alloc(), IN_TURN, "sound")?;
     expect_canonical(rt.alloc(), IN_TURN)?;
-    for (old, new) in NOT_IN_TURN {
+    for &(old, new) in &NOT_IN_TURN {
         expect_unshared(rt.alloc(), old, new)?;
     }
     Ok(())

@@ -62,18 +62,20 @@ fn holds(text: &Text, characters: &[char]) -> bool {
     text.as_slice() == characters
 }
 
+const RANGE_TEXTS: [(&str, bool, bool); 6] = [
+    ("-005", true, true),
+    ("-0", true, true),
+    ("+", false, true),
+    ("6", false, true),
+    ("", false, true),
+    ("x", false, false),
+];
+
 #[test]
 fn range_texts(rt: HostRuntime) {
     let alloc = rt.alloc();
     let small = range(alloc, (-5, 5), 120, false).expect(&rt, "a domain");
-    for (written, accepted, viable) in [
-        ("-005", true, true),
-        ("-0", true, true),
-        ("+", false, true),
-        ("6", false, true),
-        ("", false, true),
-        ("x", false, false),
-    ] {
+    for &(written, accepted, viable) in &RANGE_TEXTS {
         let text = characters(alloc, written).expect(&rt, "memory");
         assert!(rt;
             judged(&small, &text) == Some((accepted, viable)),
@@ -102,14 +104,16 @@ fn refused_domains(rt: HostRuntime) {
     }
 }
 
+const TYPED: [(&str, i32, bool, &str, &str); 3] = [
+    ("*3#[-*2&]", 8, false, "123-abc", "123-AB"),
+    ("##/##", 5, true, "1234", "12/34"),
+    ("##/##", 5, true, "12/34", "12/34"),
+];
+
 #[test]
 fn typed_texts(rt: HostRuntime) {
     let alloc = rt.alloc();
-    for (written, max, fill, keys, want) in [
-        ("*3#[-*2&]", 8, false, "123-abc", "123-AB"),
-        ("##/##", 5, true, "1234", "12/34"),
-        ("##/##", 5, true, "12/34", "12/34"),
-    ] {
+    for &(written, max, fill, keys, want) in &TYPED {
         let domain = picture(alloc, written, max, fill).expect(&rt, "a domain");
         let keys = characters(alloc, keys).expect(&rt, "memory");
         let want = characters(alloc, want).expect(&rt, "memory");

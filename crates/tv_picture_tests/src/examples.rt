@@ -29,61 +29,67 @@ fn fault_of(alloc: Global, picture: &str) -> Option<PictureFault> {
     Picture::parse(alloc, picture).err()
 }
 
+const STATUSES: [(&str, &str, Status); 15] = [
+    ("##/##", "12/34", Status::Complete),
+    ("{ab,ac}", "a", Status::Viable),
+    ("*2{ab}", "abab", Status::Complete),
+    ("*[a]", "", Status::Complete),
+    ("*[a]", "aaa", Status::Complete),
+    ("a,", "", Status::Complete),
+    ("a,", "a", Status::Complete),
+    // A letter where a digit has to stand.
+    ("*3#[-*2&]", "123", Status::Complete),
+    ("*3#[-*2&]", "123-A", Status::Viable),
+    ("*3#[-*2&]", "12A", Status::Error),
+    // What is optional is left out where the rest asks for it.
+    ("[ab]a", "a", Status::Complete),
+    ("[ab]a", "aba", Status::Complete),
+    ("[ab]a", "", Status::Viable),
+    ("[ab]a", "ab", Status::Viable),
+    ("[ab]a", "b", Status::Error),
+];
+
 #[test]
 fn statuses(rt: HostRuntime) {
     let alloc = rt.alloc();
-    for (picture, text, want) in [
-        ("##/##", "12/34", Status::Complete),
-        ("{ab,ac}", "a", Status::Viable),
-        ("*2{ab}", "abab", Status::Complete),
-        ("*[a]", "", Status::Complete),
-        ("*[a]", "aaa", Status::Complete),
-        ("a,", "", Status::Complete),
-        ("a,", "a", Status::Complete),
-        // A letter where a digit has to stand.
-        ("*3#[-*2&]", "123", Status::Complete),
-        ("*3#[-*2&]", "123-A", Status::Viable),
-        ("*3#[-*2&]", "12A", Status::Error),
-        // What is optional is left out where the rest asks for it.
-        ("[ab]a", "a", Status::Complete),
-        ("[ab]a", "aba", Status::Complete),
-        ("[ab]a", "", Status::Viable),
-        ("[ab]a", "ab", Status::Viable),
-        ("[ab]a", "b", Status::Error),
-    ] {
+    for &(picture, text, want) in &STATUSES {
         let typed = characters(alloc, text).expect(&rt, "memory");
         let status = status_of(alloc, picture, &typed);
         assert!(rt; status == Some(want), "{picture} {text}");
     }
 }
 
+const NEXT_LITERALS: [(&str, &str, Option<char>); 7] = [
+    ("##/##", "1", None),
+    ("##/##", "12", Some('/')),
+    ("##/##", "12/34", None),
+    ("{ab,ac}", "", Some('a')),
+    ("{ab,ac}", "a", None),
+    ("*2{ab}", "a", Some('b')),
+    ("*2{ab}", "ab", Some('a')),
+];
+
 #[test]
 fn next_literals(rt: HostRuntime) {
     let alloc = rt.alloc();
-    for (picture, text, want) in [
-        ("##/##", "1", None),
-        ("##/##", "12", Some('/')),
-        ("##/##", "12/34", None),
-        ("{ab,ac}", "", Some('a')),
-        ("{ab,ac}", "a", None),
-        ("*2{ab}", "a", Some('b')),
-        ("*2{ab}", "ab", Some('a')),
-    ] {
+    for &(picture, text, want) in &NEXT_LITERALS {
         let typed = characters(alloc, text).expect(&rt, "memory");
         let next = next_of(alloc, picture, &typed);
         assert!(rt; next == Some(want), "{picture} {text}");
     }
 }
 
+const SHORTEST: [(&str, u32); 5] = [
+    ("##/##", 5),
+    ("*2{ab}", 4),
+    ("*[a]", 0),
+    ("*2{*120#}", 121),
+    ("*3#[-*2&]", 3),
+];
+
 #[test]
 fn shortest_members(rt: HostRuntime) {
-    for (picture, want) in [
-        ("##/##", 5),
-        ("*2{ab}", 4),
-        ("*[a]", 0),
-        ("*2{*120#}", 121),
-        ("*3#[-*2&]", 3),
-    ] {
+    for &(picture, want) in &SHORTEST {
         let shortest = shortest_of(rt.alloc(), picture);
         assert!(rt; shortest == Some(want), "{picture}");
     }
@@ -97,18 +103,20 @@ fn many_digits(rt: HostRuntime) {
     assert!(rt; next_of(rt.alloc(), "*2{*120#}", &text) == Some(None));
 }
 
+const REFUSED: [(&str, usize); 8] = [
+    ("[a", 2),
+    ("*0#", 1),
+    ("]", 0),
+    ("*121#", 3),
+    ("[[[[[[[[[", 8),
+    ("[a}", 2),
+    ("a;", 2),
+    ("**", 1),
+];
+
 #[test]
 fn refused_pictures(rt: HostRuntime) {
-    for (picture, want) in [
-        ("[a", 2),
-        ("*0#", 1),
-        ("]", 0),
-        ("*121#", 3),
-        ("[[[[[[[[[", 8),
-        ("[a}", 2),
-        ("a;", 2),
-        ("**", 1),
-    ] {
+    for &(picture, want) in &REFUSED {
         let fault = fault_of(rt.alloc(), picture);
         assert!(rt; fault == Some(PictureFault::Syntax(want)), "{picture}");
     }

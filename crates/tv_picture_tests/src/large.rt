@@ -14,20 +14,22 @@ fn shortest_of(alloc: Global, picture: &str) -> Result<(u32, u32), PictureFault>
     Ok((of_text, of_chars))
 }
 
+const LARGE: [(&str, usize, u32); 9] = [
+    ("#", 120, 120),
+    ("*@", 60, 0),
+    ("[a]", 40, 0),
+    ("{a,aa}", 20, 20),
+    ("*99{*@}", 17, 0),
+    ("*120{*120{*120[#]}}", 6, 0),
+    ("*{#,a}", 10_000, 0),
+    ("ab,", 10_000, 0),
+    ("{#}", 10_000, 121),
+];
+
 #[test]
 fn large_pictures(rt: HostRuntime) -> Result<(), Fail> {
     let alloc = rt.alloc();
-    for (part, times, shortest) in [
-        ("#", 120, 120),
-        ("*@", 60, 0),
-        ("[a]", 40, 0),
-        ("{a,aa}", 20, 20),
-        ("*99{*@}", 17, 0),
-        ("*120{*120{*120[#]}}", 6, 0),
-        ("*{#,a}", 10_000, 0),
-        ("ab,", 10_000, 0),
-        ("{#}", 10_000, 121),
-    ] {
+    for &(part, times, shortest) in &LARGE {
         let picture = part.repeat(alloc, times)?;
         let found = shortest_of(alloc, &picture)?;
         assert_eq!(rt; found, (shortest, shortest), "{part}");

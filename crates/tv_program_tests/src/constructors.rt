@@ -37,9 +37,11 @@ fn expect_blank_row(rt: &impl Abort, screen: &Screen, y: i32) {
     }
 }
 
+const REFUSED_SCREENS: [(u32, u32); 5] = [(19, 10), (20, 9), (133, 10), (20, 61), (0, 0)];
+
 #[test]
 fn refused_screens(rt: HostRuntime) {
-    for (width, height) in [(19, 10), (20, 9), (133, 10), (20, 61), (0, 0)] {
+    for &(width, height) in &REFUSED_SCREENS {
         let fault = Screen::new(rt.alloc(), width, height).err();
         assert_eq!(rt; fault, Some(ScreenFault::BadSize), "{width} {height}");
     }

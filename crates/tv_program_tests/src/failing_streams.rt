@@ -107,23 +107,25 @@ fn streams_that_fail_in_a_run(rt: HostRuntime) -> Result<(), Fail> {
     Ok(())
 }
 
+const IDLE: [((usize, bool), &str, &str); 4] = [
+    (
+        AMPLE,
+        "a\nstatus 2\nopened 0\n",
+        "tvdlg: no memory\nstatus 3\nopened 0\n",
+    ),
+    ((0, true), "status 3\nopened 0\n", "status 3\nopened 0\n"),
+    ((1, true), "astatus 3\nopened 0\n", "tstatus 3\nopened 0\n"),
+    (
+        (1000, false),
+        "a\nstatus 3\nopened 0\n",
+        "tvdlg: no memory\nstatus 3\nopened 0\n",
+    ),
+];
+
 #[test]
 fn nothing_to_do(rt: HostRuntime) -> Result<(), Fail> {
     let alloc = rt.alloc();
-    for &(room, told, untold) in &[
-        (
-            AMPLE,
-            "a\nstatus 2\nopened 0\n",
-            "tvdlg: no memory\nstatus 3\nopened 0\n",
-        ),
-        ((0, true), "status 3\nopened 0\n", "status 3\nopened 0\n"),
-        ((1, true), "astatus 3\nopened 0\n", "tstatus 3\nopened 0\n"),
-        (
-            (1000, false),
-            "a\nstatus 3\nopened 0\n",
-            "tvdlg: no memory\nstatus 3\nopened 0\n",
-        ),
-    ] {
+    for &(room, told, untold) in &IDLE {
         let text = String::from_str(alloc, "a\n")?;
         let usage = ending(alloc, Err(NoTask::Usage(text)), ("", ""), AMPLE, room)?;
         assert_eq!(rt; usage.as_str(), told, "{room:?}");

@@ -22,61 +22,65 @@ fn expect_report(alloc: Global, fault: &RunFault, message: &str, status: u8) -> 
     Err(Fail::new(format_args!("{fault:?}: status {answer}")))
 }
 
+const ON_TEXTS: [(RunFault, &str); 9] = [
+    (
+        RunFault::Lang(LangFault::Syntax(2)),
+        "tvdlg: NAME: syntax at line 2\n",
+    ),
+    (
+        RunFault::Lang(LangFault::TooLong),
+        "tvdlg: NAME: too long\n",
+    ),
+    (
+        RunFault::Lang(LangFault::Version),
+        "tvdlg: NAME: unknown version\n",
+    ),
+    (
+        RunFault::Script(ScriptFault::Syntax(100)),
+        "tvdlg: NAME: syntax at line 100\n",
+    ),
+    (
+        RunFault::Script(ScriptFault::OffScreen(12)),
+        "tvdlg: NAME: off screen at line 12\n",
+    ),
+    (
+        RunFault::Script(ScriptFault::TooLong),
+        "tvdlg: NAME: too long\n",
+    ),
+    (
+        RunFault::Cert(CertificateFault::Syntax(7)),
+        "tvdlg: NAME: syntax at line 7\n",
+    ),
+    (
+        RunFault::Cert(CertificateFault::TooLong),
+        "tvdlg: NAME: too long\n",
+    ),
+    (RunFault::View, "tvdlg: view refused\n"),
+];
+
 #[test]
 fn reports_on_texts(rt: HostRuntime) -> Result<(), Fail> {
-    for (fault, message) in [
-        (
-            RunFault::Lang(LangFault::Syntax(2)),
-            "tvdlg: NAME: syntax at line 2\n",
-        ),
-        (
-            RunFault::Lang(LangFault::TooLong),
-            "tvdlg: NAME: too long\n",
-        ),
-        (
-            RunFault::Lang(LangFault::Version),
-            "tvdlg: NAME: unknown version\n",
-        ),
-        (
-            RunFault::Script(ScriptFault::Syntax(100)),
-            "tvdlg: NAME: syntax at line 100\n",
-        ),
-        (
-            RunFault::Script(ScriptFault::OffScreen(12)),
-            "tvdlg: NAME: off screen at line 12\n",
-        ),
-        (
-            RunFault::Script(ScriptFault::TooLong),
-            "tvdlg: NAME: too long\n",
-        ),
-        (
-            RunFault::Cert(CertificateFault::Syntax(7)),
-            "tvdlg: NAME: syntax at line 7\n",
-        ),
-        (
-            RunFault::Cert(CertificateFault::TooLong),
-            "tvdlg: NAME: too long\n",
-        ),
-        (RunFault::View, "tvdlg: view refused\n"),
-    ] {
-        expect_report(rt.alloc(), &fault, message, 1)?;
+    for (fault, message) in &ON_TEXTS {
+        expect_report(rt.alloc(), fault, message, 1)?;
     }
     Ok(())
 }
 
+const ON_MEMORY_AND_DEVICES: [(RunFault, &str); 5] = [
+    (RunFault::Lang(LangFault::NoMemory), "tvdlg: no memory\n"),
+    (
+        RunFault::Script(ScriptFault::NoMemory),
+        "tvdlg: no memory\n",
+    ),
+    (RunFault::NoMemory, "tvdlg: no memory\n"),
+    (RunFault::Read, "tvdlg: cannot read NAME\n"),
+    (RunFault::Write, "tvdlg: cannot write\n"),
+];
+
 #[test]
 fn reports_on_memory_and_devices(rt: HostRuntime) -> Result<(), Fail> {
-    for (fault, message) in [
-        (RunFault::Lang(LangFault::NoMemory), "tvdlg: no memory\n"),
-        (
-            RunFault::Script(ScriptFault::NoMemory),
-            "tvdlg: no memory\n",
-        ),
-        (RunFault::NoMemory, "tvdlg: no memory\n"),
-        (RunFault::Read, "tvdlg: cannot read NAME\n"),
-        (RunFault::Write, "tvdlg: cannot write\n"),
-    ] {
-        expect_report(rt.alloc(), &fault, message, 3)?;
+    for (fault, message) in &ON_MEMORY_AND_DEVICES {
+        expect_report(rt.alloc(), fault, message, 3)?;
     }
     Ok(())
 }
@@ -92,15 +96,17 @@ fn expect_begun(alloc: Global, fault: &RunFault, prefix: &str, status: u8) -> Re
     Err(Fail::new(format_args!("{fault:?}: status {answer}")))
 }
 
+const BEGUN: [(RunFault, &str, u8); 4] = [
+    (RunFault::Lang(LangFault::Syntax(2)), "tvdlg: NAME", 1),
+    (RunFault::Script(ScriptFault::Syntax(100)), "tvdlg: NAME", 1),
+    (RunFault::Write, "tvdlg: canno", 3),
+    (RunFault::NoMemory, "tvdlg: no me", 3),
+];
+
 #[test]
 fn statuses_where_writers_fail(rt: HostRuntime) -> Result<(), Fail> {
-    for (fault, prefix, status) in [
-        (RunFault::Lang(LangFault::Syntax(2)), "tvdlg: NAME", 1),
-        (RunFault::Script(ScriptFault::Syntax(100)), "tvdlg: NAME", 1),
-        (RunFault::Write, "tvdlg: canno", 3),
-        (RunFault::NoMemory, "tvdlg: no me", 3),
-    ] {
-        expect_begun(rt.alloc(), &fault, prefix, status)?;
+    for (fault, prefix, status) in &BEGUN {
+        expect_begun(rt.alloc(), fault, prefix, *status)?;
     }
     Ok(())
 }

@@ -76,7 +76,7 @@ fn flat_copy_inside(rt: HostRuntime) -> Result<(), Fail> {
     let calls = calls(rt.alloc(), &journal)?;
     let calls = calls.as_slice();
     assert_eq!(rt; calls.first(), Some(&Call::Drawn));
-    for (key, wanted) in KEYS {
+    for &(key, wanted) in &KEYS {
         assert_eq!(rt; handed(calls, Event::Key(key)), wanted, "{key:?}");
     }
     assert_eq!(rt; broadcasts(calls), 1);

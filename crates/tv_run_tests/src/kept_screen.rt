@@ -204,7 +204,7 @@ fn expect_all_kept(alloc: Global, runs: &[Run]) -> Result<(), Fail> {
 #[test]
 fn kept_screen(rt: HostRuntime) -> Result<(), Fail> {
     let alloc = rt.alloc();
-    for (desc, script) in SHORT_RUNS {
+    for &(desc, script) in &SHORT_RUNS {
         expect_kept(alloc, desc, &lines(alloc, script)?)?;
     }
     Ok(())

@@ -126,7 +126,7 @@ const EDITS: [(&str, Edit, Option<SessionFault>); 6] = [
 
 #[test]
 fn mismatches(rt: HostRuntime) -> Result<(), Fail> {
-    for (desc, edit, wanted) in EDITS {
+    for &(desc, edit, wanted) in &EDITS {
         assert_eq!(rt;
             refusal_after(rt.alloc(), desc, edit)?,
             wanted,

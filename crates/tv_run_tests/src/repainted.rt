@@ -283,7 +283,7 @@ fn expect_repainted(alloc: Global, desc: &str, row: &Row) -> Result<(), Fail> {
 /// anything. The first rows refuse it: nothing changes there, so nothing is to be painted.
 #[test]
 fn repainted(rt: HostRuntime) -> Result<(), Fail> {
-    for (desc, rows) in TABLE {
+    for &(desc, rows) in &TABLE {
         for row in rows {
             expect_repainted(rt.alloc(), desc, row)?;
         }

@@ -64,14 +64,16 @@ fn an_empty_script(rt: HostRuntime) -> Result<(), Fail> {
     expect_end(rt.alloc(), ORDER, &mut script, "Ok(())", START)
 }
 
+const FAULTY: [(&str, &str); 4] = [
+    ("type \"a\n", "Err(Script(Syntax(1)))"),
+    ("down 1\n", "Err(Script(Syntax(1)))"),
+    ("key Foo\ndown 40 0\n", "Err(Script(Syntax(1)))"),
+    ("down 40 0\nkey Foo\n", "Err(Script(OffScreen(1)))"),
+];
+
 #[test]
 fn faulty_first_lines(rt: HostRuntime) -> Result<(), Fail> {
-    for (text, wanted) in [
-        ("type \"a\n", "Err(Script(Syntax(1)))"),
-        ("down 1\n", "Err(Script(Syntax(1)))"),
-        ("key Foo\ndown 40 0\n", "Err(Script(Syntax(1)))"),
-        ("down 40 0\nkey Foo\n", "Err(Script(OffScreen(1)))"),
-    ] {
+    for &(text, wanted) in &FAULTY {
         let mut script = Pieces::new(text, 7);
         expect_end(rt.alloc(), ORDER, &mut script, wanted, START)?;
     }

@@ -38,7 +38,7 @@ const KEYS: [Key; 16] = [
 ];
 
 fn type_keys(input: &mut InputLine, env: &Env) {
-    for key in KEYS {
+    for &key in &KEYS {
         let mut damage = Damage::new();
         input.handle(&Event::Key(key), Phase::Focused, env, &mut damage);
     }

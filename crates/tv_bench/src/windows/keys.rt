@@ -168,7 +168,7 @@ fn dialog(
 // Hands the keys to the dialog while it is open. How many lines it logged.
 fn hand_in(dialog: &mut DialogOf<Button>, env: &Env) -> u64 {
     let mut lines = 0u64;
-    for key in KEYS {
+    for &key in &KEYS {
         if dialog.is_open() {
             dialog.step(&Event::Key(key), env, &mut Damage::new());
             lines = lines.saturating_add(dialog.log().len() as u64);

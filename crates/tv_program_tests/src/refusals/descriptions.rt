@@ -17,15 +17,17 @@ fn fault_of(alloc: Global, text: &str) -> Result<Option<LangFault>, Ending> {
 }
 
 // The whole text, without its last line, and of another version.
+const READ: [(&str, Option<LangFault>); 3] = [
+    (CANCEL, None),
+    (
+        "tvd 1\nscreen 20 10\nmenu \"~F~\"\n",
+        Some(LangFault::Syntax(4)),
+    ),
+    ("tvd 7\nscreen 20 10\n", Some(LangFault::Version)),
+];
+
 fn read_texts(alloc: Global) -> Result<(), Ending> {
-    for (text, wanted) in [
-        (CANCEL, None),
-        (
-            "tvd 1\nscreen 20 10\nmenu \"~F~\"\n",
-            Some(LangFault::Syntax(4)),
-        ),
-        ("tvd 7\nscreen 20 10\n", Some(LangFault::Version)),
-    ] {
+    for &(text, wanted) in &READ {
         expect(fault_of(alloc, text)? == wanted, "another fault")?;
     }
     Ok(())

@@ -27,7 +27,7 @@ fn keys_through_menus(rt: HostRuntime) -> Result<(), Fail> {
         bars.line.offer(&F10, &enabled),
         Offered::Turned(Command(3))
     );
-    for (key, offered) in RUN {
+    for &(key, offered) in &RUN {
         assert_eq!(rt;
             bars.offer(&Event::Key(key), &enabled),
             offered,

@@ -129,8 +129,8 @@ facts; shot; focus; key Down; shot
 #[test]
 fn widest_controls(rt: HostRuntime) -> Result<(), Fail> {
     let alloc = rt.alloc();
-    for widest in WIDEST {
-        expect_shown(alloc, &widest)?;
+    for widest in &WIDEST {
+        expect_shown(alloc, widest)?;
     }
     expect_played(alloc, "", NARROWEST)
 }

@@ -44,23 +44,25 @@ fn escapes(rt: HostRuntime) {
     assert!(rt; gives(b"\x1b[92;5u", &[Action::Quit]));
 }
 
+const UNHEARD: [&str; 13] = [
+    "\x1b[24;80R",
+    "\x1b[1;2A",
+    "\x1b[200~",
+    "\x1b[?1;2c",
+    "\x1b;",
+    "\x1bé",
+    "\x1b]11;rgb:ffff/ffff/ffff\x07",
+    "\x1b[00000000000000000000000000000000000000001A",
+    "\x1b[",
+    "\u{301}",
+    "中",
+    "😀",
+    "\u{85}",
+];
+
 #[test]
 fn nothing(rt: HostRuntime) {
-    for text in [
-        "\x1b[24;80R",
-        "\x1b[1;2A",
-        "\x1b[200~",
-        "\x1b[?1;2c",
-        "\x1b;",
-        "\x1bé",
-        "\x1b]11;rgb:ffff/ffff/ffff\x07",
-        "\x1b[00000000000000000000000000000000000000001A",
-        "\x1b[",
-        "\u{301}",
-        "中",
-        "😀",
-        "\u{85}",
-    ] {
+    for text in &UNHEARD {
         assert!(rt; gives(text.as_bytes(), &[]), "{text:?}");
     }
     assert!(rt;

@@ -63,6 +63,3 @@ mod terminal;
 mod texts;
 #[cfg(test)]
 mod user;
-
-// The tests are all that there is.
-fn main() {}

@@ -90,6 +90,3 @@ mod walks;
 mod wide;
 #[cfg(test)]
 mod writers;
-
-// The tests are all that there is.
-fn main() {}
