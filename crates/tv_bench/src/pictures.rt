@@ -128,15 +128,9 @@ fn written(alloc: Global, case: &Case) -> Result<String, AllocError> {
     Ok(picture)
 }
 
-// Prints how long an answer takes over the picture of this case.
-fn measure<R: Clock + Eprint + Alloc>(rt: &R, alloc: Global, case: &Case) -> Result<()> {
-    let name = written(alloc, case)?;
-    let Ok(picture) = Picture::parse(alloc, &name) else {
-        eprintln!(rt; "refused: {name}")?;
-        return Ok(());
-    };
-    let text = [case.ch; 120];
-    let start = Instant::now(rt)?;
+// How often no literal comes next, after texts of this character.
+fn count_answers(picture: &Picture, ch: char) -> u32 {
+    let text = [ch; 120];
     let mut answers = 0u32;
     for round in 0..ROUNDS {
         let text = &text[..119 + (round % 2) as usize];
@@ -144,10 +138,34 @@ fn measure<R: Clock + Eprint + Alloc>(rt: &R, alloc: Global, case: &Case) -> Res
             answers = answers.wrapping_add(1);
         }
     }
+    answers
+}
+
+// Prints how long an answer takes over the picture that has this text.
+fn measure_picture<R: Clock + Eprint>(
+    rt: &R,
+    picture: &Picture,
+    name: &str,
+    ch: char,
+) -> Result<()> {
+    let start = Instant::now(rt)?;
+    let answers = count_answers(picture, ch);
     let spent = start.elapsed(rt)?;
     let micros = spent.as_micros() / u128::from(ROUNDS);
     eprintln!(rt; "{micros} us, {answers}: {name}")?;
     Ok(())
+}
+
+// Prints how long an answer takes over the picture of this case.
+fn measure<R: Clock + Eprint + Alloc>(rt: &R, alloc: Global, case: &Case) -> Result<()> {
+    let name = written(alloc, case)?;
+    match Picture::parse(alloc, &name) {
+        Ok(picture) => measure_picture(rt, &picture, &name, case.ch),
+        Err(_) => {
+            eprintln!(rt; "refused: {name}")?;
+            Ok(())
+        }
+    }
 }
 
 /// Prints how long an answer takes over each picture.

@@ -1,66 +1,35 @@
 //! The views of the form, each in a box of its own.
 
-ghost use Rattle.tv_model.specs.Description.LawfulNodes.{IsLawfulNode};
+ghost use Rattle.std.specs.Prelude.{◌≡◌, IfErr, IfOk};
+ghost use Rattle.tv_toolkit.specs.Control.{control_leaf};
 
 use super::form::FORM;
 use super::measure::measure_form;
 use crate::description::checked;
 use anyhow::Result;
-use std::alloc::Global;
+use std::alloc::{AllocError, Global};
 use std::rt::Clock;
-use tv_building::{BuildFault, Building, Views};
-use tv_check::{BuildStep, Checked};
-use tv_choices::{CheckBoxes, ListBox, RadioButtons};
-use tv_controls::{Button, InputLine, Label, StaticText};
-use tv_leaf::ControlFault;
-use tv_model::{Kind, Node};
+use tv_toolkit::{Control, views_by};
 use tv_view::View;
 
 /// Makes a session of the form, and prints how long it takes.
 pub fn run<R: Clock + Eprint + Alloc>(rt: &R, alloc: Global) -> Result<()> {
-    let views = |alloc: Global, checked: &Checked| -> Result<Views<Box<dyn View>>, BuildFault> {
-        let plan = checked.build_plan(alloc)?;
-        let mut building: Building<Box<dyn View>> = Building::new(alloc);
-        for step in plan.as_slice() {
-            match step {
-                BuildStep::Open(node) => building.begin(alloc, node)?,
-                BuildStep::Leaf(node) => {
-                    let view: Box<dyn View> = match node.kind {
-                        Kind::Text(_) => boxed_text(alloc, node)?,
-                        Kind::Label(_) => boxed(alloc, Label::new(alloc, node))?,
-                        Kind::Button(_) => boxed(alloc, Button::new(alloc, node))?,
-                        Kind::Input(_) => boxed(alloc, InputLine::new(alloc, node))?,
-                        Kind::CheckBoxes(_) => boxed(alloc, CheckBoxes::new(alloc, node))?,
-                        Kind::RadioButtons(_) => boxed(alloc, RadioButtons::new(alloc, node))?,
-                        Kind::List(_) => boxed(alloc, ListBox::new(alloc, node))?,
-                        Kind::Window(_) | Kind::Dialog(_) | Kind::Pane(_) => {
-                            return Err(BuildFault::WrongPlan);
-                        }
-                    };
-                    building.add(view)?;
-                }
-                BuildStep::Close => building.end()?,
-            }
+    // `refused` says nothing: the tactic proves `same` only where it stands beside another clause.
+    let boxed = |alloc: Global, control: Control| -> Result<Box<dyn View>, AllocError>
+        ensures same { IfOk result (λ view. (View-box view).meaning view.value ≡ control_leaf control) }
+        ensures refused { IfErr result (λ _. Unit {0}) }
+    {
+        match control {
+            Control::Text(text) => Ok(Box::new(alloc, text)?),
+            Control::Label(label) => Ok(Box::new(alloc, label)?),
+            Control::Button(button) => Ok(Box::new(alloc, button)?),
+            Control::Input(line) => Ok(Box::new(alloc, line)?),
+            Control::CheckBoxes(boxes) => Ok(Box::new(alloc, boxes)?),
+            Control::RadioButtons(radios) => Ok(Box::new(alloc, radios)?),
+            Control::List(list) => Ok(Box::new(alloc, list)?),
         }
-        building.finish()
     };
     let checked = checked(alloc, FORM)?;
-    let made = views(alloc, &checked)?;
-    measure_form(rt, alloc, checked, made)
-}
-
-// A view in a box of its own, where one was made.
-fn boxed<V: View>(alloc: Global, made: Result<V, ControlFault>) -> Result<Box<V>, BuildFault> {
-    match made {
-        Ok(view) => Ok(Box::new(alloc, view)?),
-        Err(ControlFault::NoMemory) => Err(BuildFault::NoMemory),
-        Err(ControlFault::WrongKind) => Err(BuildFault::WrongPlan),
-    }
-}
-
-// A static text in a box of its own.
-fn boxed_text(alloc: Global, node: &Node) -> Result<Box<StaticText>, BuildFault>
-    requires { IsLawfulNode node.now }
-{
-    boxed(alloc, StaticText::new(alloc, node))
+    let views = views_by(alloc, &checked, &boxed)?;
+    measure_form(rt, alloc, checked, views)
 }

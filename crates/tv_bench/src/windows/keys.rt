@@ -114,6 +114,33 @@ fn dialog_node(alloc: Global) -> Node
     }
 }
 
+// Adds a button, and what it declares.
+fn add_button(
+    alloc: Global,
+    views: &mut Vec<Node>,
+    buttons: &mut Vec<MemberOf<Button>>,
+    id: u32,
+    row: u8,
+) -> Result<()>
+    requires { row ≤ 10 }
+{
+    let node = button_node(alloc, id, i32::from(row))?;
+    buttons.push(MemberOf::Leaf(Button::new(alloc, &node)?))?;
+    views.push(node)?;
+    Ok(())
+}
+
+// Adds what ten buttons of a pane declare, and returns them.
+fn ten_buttons(alloc: Global, views: &mut Vec<Node>, pane: u32) -> Result<Vec<MemberOf<Button>>>
+    requires { pane ≤ 100 }
+{
+    let mut buttons = Vec::new(alloc);
+    for row in 0u8..10 {
+        add_button(alloc, views, &mut buttons, pane + 1 + u32::from(row), row)?;
+    }
+    Ok(buttons)
+}
+
 // Adds a pane of ten buttons, and what it declares. Nothing where a constructor refuses what it is given.
 fn add_pane(
     alloc: Global,
@@ -126,12 +153,7 @@ fn add_pane(
     requires across { (pos 0 ≤ℤ x) × (x ≤ℤ pos 50) }
 {
     views.push(pane_node(alloc, id, x))?;
-    let mut buttons = Vec::new(alloc);
-    for row in 0u8..10 {
-        let node = button_node(alloc, id + 1 + u32::from(row), i32::from(row))?;
-        buttons.push(MemberOf::Leaf(Button::new(alloc, &node)?))?;
-        views.push(node)?;
-    }
+    let buttons = ten_buttons(alloc, views, id)?;
     let bounds = Rect {
         a: Point { x, y: 1 },
         b: Point { x: x + 10, y: 11 },
@@ -140,6 +162,14 @@ fn add_pane(
         members.push(MemberOf::Pane(pane))?;
     }
     Ok(())
+}
+
+// Both panes, after what they declare is added.
+fn two_panes(alloc: Global, views: &mut Vec<Node>) -> Result<Vec<MemberOf<Button>>> {
+    let mut members = Vec::new(alloc);
+    add_pane(alloc, views, &mut members, 2, 1)?;
+    add_pane(alloc, views, &mut members, 13, 15)?;
+    Ok(members)
 }
 
 // Opens a dialog of buttons, which have no values.
@@ -177,25 +207,18 @@ fn hand_in(dialog: &mut DialogOf<Button>, env: &Env) -> u64 {
     lines
 }
 
-/// Prints how many keys a second the dialog takes.
-pub fn run<R: Clock + Eprint + Alloc>(rt: &R, alloc: Global) -> Result<()> {
-    let mut views = Vec::new(alloc);
-    let mut members = Vec::new(alloc);
-    add_pane(alloc, &mut views, &mut members, 2, 1)?;
-    add_pane(alloc, &mut views, &mut members, 13, 15)?;
-    let Some(mut dialog) = dialog(alloc, &views, members) else {
-        return Ok(());
-    };
+// Prints how many keys a second a dialog of these views takes.
+fn measure<R: Clock + Eprint>(rt: &R, dialog: &mut DialogOf<Button>, views: &[Node]) -> Result<()> {
     let chain = Chain::of_dialog();
     let commands = CommandSet::all();
     let env = Env {
-        views: &views,
+        views,
         ..env(Owner::Dialog, &chain, &commands)
     };
     let mut lines = 0u64;
     let start = Instant::now(rt)?;
     for _ in 0..ROUNDS {
-        lines = lines.saturating_add(hand_in(&mut dialog, &env));
+        lines = lines.saturating_add(hand_in(dialog, &env));
     }
     let count = u128::from(ROUNDS) * KEYS.len() as u128;
     let nanos = start.elapsed(rt)?.as_nanos() / count;
@@ -204,4 +227,14 @@ pub fn run<R: Clock + Eprint + Alloc>(rt: &R, alloc: Global) -> Result<()> {
         "a dialog of 20 leaves in two panes: {nanos} ns a key, {a_second} keys a second, {lines} lines"
     )?;
     Ok(())
+}
+
+/// Prints how many keys a second the dialog takes.
+pub fn run<R: Clock + Eprint + Alloc>(rt: &R, alloc: Global) -> Result<()> {
+    let mut views = Vec::new(alloc);
+    let members = two_panes(alloc, &mut views)?;
+    match dialog(alloc, &views, members) {
+        Some(mut dialog) => measure(rt, &mut dialog, &views),
+        None => Ok(()),
+    }
 }

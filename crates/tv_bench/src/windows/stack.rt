@@ -59,20 +59,24 @@ fn window_node(alloc: Global, x: i32, y: i32, number: i32) -> Node
     }
 }
 
-// The window of a number, with a text in each row. None where a constructor refuses what it is given.
-fn window(alloc: Global, number: u8) -> Result<Option<WindowOf<StaticText>>>
-    requires { number ≤ 9 }
-{
-    let number = i32::from(number);
-    let node = window_node(alloc, 5 * number, 2 * number, number);
-    let members = texts(alloc)?;
+// A text in each row. None where the group refuses them.
+fn body(alloc: Global) -> Result<Option<GroupOf<StaticText>>> {
     let bounds = Rect {
         a: Point { x: 0, y: 0 },
         b: Point { x: 80, y: 40 },
     };
-    let Ok(body) = GroupOf::new(bounds, members) else {
+    Ok(GroupOf::new(bounds, texts(alloc)?).ok())
+}
+
+// The window of a number. None where a constructor refuses what it is given.
+fn window(alloc: Global, number: u8) -> Result<Option<WindowOf<StaticText>>>
+    requires { number ≤ 9 }
+{
+    let Some(body) = body(alloc)? else {
         return Ok(None);
     };
+    let number = i32::from(number);
+    let node = window_node(alloc, 5 * number, 2 * number, number);
     Ok(WindowOf::new(&node, body).ok())
 }
 
