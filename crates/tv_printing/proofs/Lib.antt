@@ -1,2 +1,1 @@
-pub mod PrintLemmas
 pub mod PrintTextLemmas

@@ -2,7 +2,6 @@
 #![tactic(auto)]
 
 mod line;
-mod line_text;
 mod node;
 mod printer;
 mod terms;

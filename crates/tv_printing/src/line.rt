@@ -5,11 +5,10 @@ ghost use Rattle.tv_words.specs.Canonical.{ended_line};
 ghost use Rattle.tv_words.specs.Fields.{number_word};
 ghost use Rattle.tv_declarations.specs.Spelling.Terms.{word_if};
 
-use crate::line_text::with_line;
 use std::alloc::{AllocError, Global};
 use std::marker::Model;
 use tv_valid::Chars;
-use tv_words::{Word, Words};
+use tv_words::{Word, Words, with_line};
 
 /// A line that is put together word by word. Contracts see the list of its words.
 #[derive(Drop)]

@@ -9,3 +9,4 @@ pub mod CanonicalTextLemmas
 pub mod NumberLemmas
 pub mod FieldLemmas
 pub mod TextLemmas
+pub mod PrintLemmas

@@ -1,7 +1,8 @@
-//! The lines of a text and their words: how each stands in a line, and what it can be.
+//! The lines of a text and their words: how each stands in a line, what it can be, and how a line of words is written.
 #![tactic(auto)]
 
 mod decimal;
+mod line_text;
 mod lines;
 mod scan;
 mod token;
@@ -9,6 +10,7 @@ mod tokens;
 mod word;
 
 pub use decimal::number;
+pub use line_text::with_line;
 pub use lines::Lines;
 pub use scan::words_of;
 pub use token::{BareText, QuotedChars, QuotedText, Token};

@@ -4,11 +4,11 @@ ghost use Rattle.std.specs.Prelude.{◌≡◌, ◌∷◌, ◌++◌, encode_utf8_
 ghost use Rattle.tv_words.specs.Words.{escaped, word_text};
 ghost use Rattle.tv_words.specs.Canonical.{canonical_line, ended_line};
 
+use crate::word::Word;
 use std::alloc::AllocError;
-use tv_words::Word;
 
 /// Adds a line to the text: the words with one space between them, and a line end after them.
-#[tactic(auto, unfolding(tv_words::specs::Canonical::ended_line))]
+#[tactic(auto, unfolding(crate::specs::Canonical::ended_line))]
 pub fn with_line(mut text: String, words: &[Word]) -> Result<String, AllocError>
     ensures { IfOk result (λ longer. string_bytes longer ≡ string_bytes text ++ ended_line words.now) }
 {
