@@ -1,5 +1,5 @@
 //! Tests of the checker: descriptions that are read and printed, each fault just outside of what it asks for and just
-//! inside, certificates, acceptance and plans.
+//! inside, certificates, acceptance and plans; and what is told of all these.
 #![tactic(auto)]
 
 #[cfg(test)]
@@ -20,6 +20,8 @@ mod documented_faults;
 mod edited_descriptions;
 #[cfg(test)]
 mod examples;
+#[cfg(test)]
+mod explained;
 #[cfg(test)]
 mod fault_edges;
 #[cfg(test)]

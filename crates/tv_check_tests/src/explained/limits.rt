@@ -1,6 +1,6 @@
 //! The limits of numbers and texts: F15.
 
-use crate::reports::expect_reports;
+use super::reports::expect_reports;
 use std::alloc::{AllocError, Global};
 use std::test::Fail;
 

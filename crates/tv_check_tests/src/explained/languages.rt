@@ -1,6 +1,6 @@
 //! What is told of certificates and scripts beside a description.
 
-use crate::reports::{is_wanted, rows};
+use super::reports::{is_wanted, rows};
 use std::alloc::Global;
 use std::test::Fail;
 use tv_lang::parse;

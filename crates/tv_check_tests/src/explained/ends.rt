@@ -1,6 +1,6 @@
 //! The focus, ends, default buttons and openings: F9, F10, F11 and F16.
 
-use crate::reports::expect_reports;
+use super::reports::expect_reports;
 use std::test::Fail;
 
 const DIALOGS: &str = r#"dialog note 4 2 32 5 "Note" ends cancel

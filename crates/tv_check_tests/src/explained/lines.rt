@@ -1,6 +1,6 @@
 //! Lines of the user's own text: comments and empty lines are counted, and faults stand in their order.
 
-use crate::reports::{expect_reports, expect_told};
+use super::reports::{expect_reports, expect_told};
 use std::test::Fail;
 
 const TEXTS: &str = r#"# An order.

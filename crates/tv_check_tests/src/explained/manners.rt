@@ -1,6 +1,6 @@
 //! What is told in other forms: as objects, one a line, and in colours.
 
-use crate::reports::expect_in;
+use super::reports::expect_in;
 use std::test::Fail;
 use tv_report::Manner;
 

@@ -1,6 +1,6 @@
 //! Inputs, starts and characters: F12, F13 and F14.
 
-use crate::reports::expect_reports;
+use super::reports::expect_reports;
 use std::test::Fail;
 
 const DIALOG: &str = r###"tvd 1

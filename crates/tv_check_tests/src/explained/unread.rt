@@ -1,6 +1,6 @@
 //! Texts that can't be read.
 
-use crate::reports::{expect_reports, expect_told};
+use super::reports::{expect_reports, expect_told};
 use std::test::Fail;
 
 const HEAD: &str = "tvd 1\nscreen 40 12\n";

@@ -1,6 +1,6 @@
 //! Letters, keys and numbers: F4, F5 and F17.
 
-use crate::reports::expect_reports;
+use super::reports::expect_reports;
 use std::test::Fail;
 
 const DIALOG: &str = r#"tvd 1

@@ -1,6 +1,6 @@
 //! Places: F2 and F3.
 
-use crate::reports::expect_reports;
+use super::reports::expect_reports;
 use std::test::Fail;
 
 // Inside are columns 1 to 28 and rows 1 to 7.

@@ -1,7 +1,7 @@
 //! How many of a thing there may be: F15.
 
-use crate::limits::{DIALOG, HEAD};
-use crate::reports::expect_told;
+use super::limits::{DIALOG, HEAD};
+use super::reports::expect_told;
 use std::alloc::{AllocError, Global};
 use std::test::Fail;
 

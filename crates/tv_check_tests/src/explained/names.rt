@@ -1,6 +1,6 @@
 //! Names: F1, F6, F7 and F8.
 
-use crate::reports::expect_reports;
+use super::reports::expect_reports;
 use std::test::Fail;
 
 const DIALOG: &str = r#"tvd 1

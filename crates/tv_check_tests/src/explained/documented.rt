@@ -1,6 +1,6 @@
 //! The descriptions of docs/FAULTS.md, with the reports that stand there.
 
-use crate::reports::expect_reports;
+use super::reports::expect_reports;
 use std::test::Fail;
 
 const HOW_TO_READ: &str = r#"# Ask before a file is deleted.
