@@ -5,7 +5,7 @@ use Rattle.tv_io.specs.Reader.{Given}
 use Rattle.tv_io.specs.declared.read_fault.ReadFault.{ReadFault}
 use Rattle.tv_io.specs.declared.read_fault.ReadFault.TheVariants.{NoMemory, Read}
 
--- the most bytes of a description or a certificate
+-- the most bytes of a text that is read whole: a description, a certificate, or a script that is explained
 abbrev pub longest : ℕ
 longest = 262144
 
