@@ -1,15 +1,17 @@
-//! What both screens are made of.
+//! What the subjects of this folder share.
 
-ghost use Rattle.std.specs.Prelude.{◌≡◌, ◌≤ℤ◌, pos};
+ghost use Rattle.std.specs.Prelude.{◌≡◌, pos, IfOk};
+ghost use Rattle.tv_machine.specs.Dialog.Lawful.{IsLawfulDialog};
 
-use anyhow::Result;
+use anyhow::{Result, bail};
 use std::alloc::Global;
 use tv_cells::{Canvas, Point, Rect};
-use tv_controls::StaticText;
+use tv_check::Checked;
+use tv_dialog::DialogOf;
 use tv_faces::LabelFace;
-use tv_group::MemberOf;
-use tv_model::{Id, Kind, Node, StaticText as DeclaredText};
-use tv_valid::Chars;
+use tv_group::GroupOf;
+use tv_model::Dialog;
+use tv_view::View;
 
 /// The bar and the status line, with nothing in them.
 pub const BAR: LabelFace<'static> = LabelFace {
@@ -19,33 +21,50 @@ pub const BAR: LabelFace<'static> = LabelFace {
     rest: 0x70,
 };
 
-/// A text in one row, seen from the corner of what it stands in.
-pub fn text(alloc: Global, x: i32, y: i32, w: i32, text: &str) -> Result<MemberOf<StaticText>>
-    requires across { (pos 0 ≤ℤ x) × (x ≤ℤ pos 100) }
-    requires down { (pos 0 ≤ℤ y) × (y ≤ℤ pos 100) }
-    requires width { (pos 0 ≤ℤ w) × (w ≤ℤ pos 100) }
-{
-    let text = Chars::from_vec(text.chars().collect(alloc)?);
-    let node = Node {
-        id: Id(2),
-        depth: 0,
-        x,
-        y,
-        w,
-        kind: Kind::Text(DeclaredText { h: 1, text }),
-    };
-    Ok(MemberOf::Leaf(StaticText::new(alloc, &node)?))
-}
-
 /// A canvas of rows of a screen of this width.
-pub fn rows(width: i32, origin: i32, from: i32, to: i32) -> Canvas
-    ensures { result.origin ≡ record { x = pos 0; y = origin } }
+pub fn rows(width: i32, from: i32, to: i32) -> Canvas
+    ensures { result.origin ≡ record { x = pos 0; y = pos 0 } }
 {
     Canvas {
         clip: Rect {
             a: Point { x: 0, y: from },
             b: Point { x: width, y: to },
         },
-        origin: Point { x: 0, y: origin },
+        origin: Point { x: 0, y: 0 },
+    }
+}
+
+/// The first dialog that a description declares.
+pub fn first_dialog(checked: &Checked) -> Result<&Dialog>
+    ensures { IfOk result (λ dialog. IsLawfulDialog dialog.now) }
+{
+    match checked.desc().dialogs.as_slice() {
+        [first, ..] => Ok(first),
+        [] => bail!("no dialog"),
+    }
+}
+
+/// The declared dialog with the last of these bodies, closed.
+pub fn dialog<V: View>(
+    alloc: Global,
+    declared: &Dialog,
+    mut bodies: Vec<GroupOf<V>>,
+) -> Result<DialogOf<V>>
+    requires { IsLawfulDialog declared.now }
+{
+    match bodies.pop() {
+        Some(body) => with_body(alloc, declared, body),
+        None => bail!("no body"),
+    }
+}
+
+fn with_body<V: View>(alloc: Global, declared: &Dialog, body: GroupOf<V>) -> Result<DialogOf<V>>
+    requires { IsLawfulDialog declared.now }
+{
+    let views = declared.views.as_slice();
+    let rules = declared.rules.as_slice();
+    match DialogOf::new(alloc, &declared.node, views, rules, body) {
+        Ok(dialog) => Ok(dialog),
+        Err((fault, _)) => bail!("{fault}"),
     }
 }
