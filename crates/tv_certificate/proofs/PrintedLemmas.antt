@@ -7,7 +7,8 @@ use Rattle.tv_words.specs.Canonical.{canonical_text, ended_line}
 use Rattle.tv_words.proofs.CanonicalTextLemmas.{respelled}
 use Rattle.tv_certificate.specs.declared.certificate.Certificate.{Certificate}
 use Rattle.tv_certificate.specs.declared.certificate.Block.{Block}
-use Rattle.tv_certificate.specs.CertificateTexts.{IsCertificate, SpellsACertificate, block_lines, certificate_lines, dialog_words, end_words, key_words, tab_words}
+use Rattle.tv_certificate.proofs.ReadLemmas.{one_value}
+use Rattle.tv_certificate.specs.CertificateTexts.{IsCertificate, IsSpelledCertificate, SpellsCertificateLines, SpellsCertificateOnly, block_lines, certificate_lines, dialog_words, end_words, key_words, tab_words}
 
 text_append : (a b : List (List Word)) → canonical_text (a ++ b) ≡ canonical_text a ++ canonical_text b
 text_append [] b = refl
@@ -35,5 +36,10 @@ block_printed block text named tabbed keyed printed en et ek ep =
     ∙ append_assoc text dialog (tabs ++ (keys ++ last))
     ∙ ap (λ rest. text ++ (dialog ++ rest)) (sym body)
 
-pub spelled_again : (text printed : List ℕ) (certificate : Certificate) → SpellsACertificate text certificate → printed ≡ canonical_text (certificate_lines certificate) → SpellsACertificate printed certificate
-spelled_again text printed certificate spelled e = subst (λ bytes. SpellsACertificate bytes certificate) (sym e) (respelled certificate_lines IsCertificate (lines_of text) certificate spelled)
+spelled_again : (lines : List (List ℕ)) (printed : List ℕ) (certificate : Certificate) → SpellsCertificateLines lines certificate → printed ≡ canonical_text (certificate_lines certificate) → SpellsCertificateLines (lines_of printed) certificate
+spelled_again lines printed certificate spelled e = subst (λ bytes. SpellsCertificateLines (lines_of bytes) certificate) (sym e) (respelled certificate_lines IsCertificate lines certificate spelled)
+
+pub spelled_only : (printed : List ℕ) (certificate : Certificate) → printed ≡ canonical_text (certificate_lines certificate) → IsSpelledCertificate certificate → SpellsCertificateOnly printed certificate
+spelled_only printed certificate e text =
+    let spelled = spelled_again (lines_of text.0) printed certificate text.1 e in
+    record { spelled = spelled; only = λ other too. one_value printed certificate other spelled too }

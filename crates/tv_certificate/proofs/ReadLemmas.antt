@@ -22,7 +22,7 @@ use Rattle.tv_certificate.specs.declared.progress.Stage.{Stage}
 use Rattle.tv_certificate.specs.declared.progress.Stage.TheVariants as stages
 use Rattle.tv_certificate.specs.declared.reading.CertificateFault.{CertificateFault}
 use Rattle.tv_certificate.specs.declared.reading.CertificateFault.TheVariants.{NoMemory, Syntax, TooLong}
-use Rattle.tv_certificate.specs.CertificateTexts.{GivesCertificate, IsCertificate, RefusesText, SpellsACertificate, certificate_lines}
+use Rattle.tv_certificate.specs.CertificateTexts.{GivesCertificate, IsCertificate, RefusesText, SpellsACertificate, SpellsCertificateLines, certificate_lines}
 use Rattle.tv_certificate.specs.CertificateReading.{Fault, CertificateOutcome, CertificateStopsAt, Value, certificate_at_end, finished_certificate, certificate_from, certificate_outcome, certificate_line_taken, with_block}
 use Rattle.tv_certificate.proofs.GrammarLemmas.{given_spelled, spelled_given}
 
@@ -106,10 +106,10 @@ gives_reading : (lines : List (List ℕ)) (n : ℕ) (p : Progress) (certificate 
 gives_reading [] n p certificate e = ap (certificate_at_end n) e
 gives_reading (l ∷ ls) n p certificate e = value_after n ls (taken_line p l) certificate (λ m q. gives_reading ls m q certificate) e
 
-pub read_spelled : (text : List ℕ) (certificate : Certificate) → certificate_outcome text ≡ Value certificate → SpellsACertificate text certificate
+pub read_spelled : (text : List ℕ) (certificate : Certificate) → certificate_outcome text ≡ Value certificate → SpellsCertificateLines (lines_of text) certificate
 read_spelled text certificate e = lines_spelled (lines_of text) certificate (reading_gives (lines_of text) 1 Fresh certificate e)
 
-spelled_read : (text : List ℕ) (certificate : Certificate) → SpellsACertificate text certificate → certificate_outcome text ≡ Value certificate
+spelled_read : (text : List ℕ) (certificate : Certificate) → SpellsCertificateLines (lines_of text) certificate → certificate_outcome text ≡ Value certificate
 spelled_read text certificate h = gives_reading (lines_of text) 1 Fresh certificate (spelled_lines (lines_of text) certificate h)
 
 -- ---- the first faulty line
@@ -168,16 +168,16 @@ first_fault lines line e =
 
 -- ---- the answers of `read`
 
-pub all_refused : (r : Result Certificate CertificateFault) (text : List ℕ) → IfErr r (λ fault. CertificateStopsAt fault (certificate_outcome text)) → IfErr r (λ fault. RefusesText text fault)
-all_refused (Ok certificate) text h = tt
-all_refused (Err NoMemory) text h = tt
-all_refused (Err (Syntax line)) text h = first_fault (lines_of text) line h
-all_refused (Err TooLong) text h = absurd h
+pub all_refused : (r : Result Certificate CertificateFault) (text : List ℕ) → length text ≤ 262144 → IfErr r (λ fault. CertificateStopsAt fault (certificate_outcome text)) → IfErr r (λ fault. RefusesText text fault)
+all_refused (Ok certificate) text short h = tt
+all_refused (Err NoMemory) text short h = tt
+all_refused (Err (Syntax line)) text short h = (short, first_fault (lines_of text) line h)
+all_refused (Err TooLong) text short h = absurd h
 
 pub gives : (r : Result Certificate CertificateFault) (text : List ℕ) (certificate : Certificate) → IfOk r (λ found. certificate_outcome text ≡ Value found) → IfErr r (λ fault. CertificateStopsAt fault (certificate_outcome text)) → SpellsACertificate text certificate → GivesCertificate r certificate
-gives (Ok found) text certificate ok err spelled = let same : Value found ≡ Value certificate = sym ok ∙ spelled_read text certificate spelled in cc
+gives (Ok found) text certificate ok err spelled = let same : Value found ≡ Value certificate = sym ok ∙ spelled_read text certificate spelled.lines in cc
 gives (Err NoMemory) text certificate ok err spelled = tt
-gives (Err (Syntax line)) text certificate ok err spelled = let clash : Fault line ≡ Value certificate = sym err ∙ spelled_read text certificate spelled in absurd cc
+gives (Err (Syntax line)) text certificate ok err spelled = let clash : Fault line ≡ Value certificate = sym err ∙ spelled_read text certificate spelled.lines in absurd cc
 gives (Err TooLong) text certificate ok err spelled = err
 
 -- ---- what a line does, by the answers of the functions that read it
@@ -205,5 +205,5 @@ module _ (p : Progress) (line : List ℕ) (found : Option (List Word)) (spelled 
 
 -- ---- one text spells one certificate
 
-pub one_value : (text : List ℕ) (certificate other : Certificate) → SpellsACertificate text certificate → SpellsACertificate text other → other ≡ certificate
+pub one_value : (text : List ℕ) (certificate other : Certificate) → SpellsCertificateLines (lines_of text) certificate → SpellsCertificateLines (lines_of text) other → other ≡ certificate
 one_value text certificate other h k = let same : Value other ≡ Value certificate = sym (spelled_read text other k) ∙ spelled_read text certificate h in cc

@@ -17,6 +17,7 @@ use Rattle.tv_words.specs.Canonical.{canonical_text}
 use Rattle.tv_words.specs.Words.{is_bare}
 use Rattle.tv_words.specs.Texts.{declarations}
 use Rattle.tv_words.proofs.CanonicalLineLemmas.{Stands, is_plain}
+use Rattle.tv_words.specs.Lines.{lines_of}
 use Rattle.tv_words.proofs.CanonicalTextLemmas.{StandInLine, stand_spelled}
 use Rattle.tv_model.specs.declared.desc.Version.{Version}
 use Rattle.tv_model.specs.declared.desc.Version.TheVariants as versions
@@ -24,7 +25,7 @@ use Rattle.tv_model.specs.declared.desc.When.{When}
 use Rattle.tv_certificate.specs.declared.certificate.Certificate.{Certificate}
 use Rattle.tv_certificate.specs.declared.certificate.Block.{Block}
 use Rattle.tv_certificate.specs.declared.certificate.KeyLine.{KeyLine}
-use Rattle.tv_certificate.specs.CertificateTexts.{AreBlocks, IsBlock, IsCertificate, IsKeyLine, IsWhen, SpellsACertificate, block_lines, certificate_lines, dialog_words, end_words, is_letter, item_words, key_words, tab_words, version_words, when_words}
+use Rattle.tv_certificate.specs.CertificateTexts.{AreBlocks, IsBlock, IsCertificate, IsKeyLine, IsWhen, SpellsCertificateLines, block_lines, certificate_lines, dialog_words, end_words, is_letter, item_words, key_words, tab_words, version_words, when_words}
 
 -- ---- words
 
@@ -146,7 +147,7 @@ all_declared ([] ∷ wss) stand = absurd stand.0
 all_declared ((w ∷ ws) ∷ wss) stand = ap (λ x. (w ∷ ws) ∷ x) (all_declared wss stand.1)
 
 -- the canonical text of a certificate spells it
-pub canonical_spelled : (certificate : Certificate) → IsCertificate certificate → SpellsACertificate (canonical_text (certificate_lines certificate)) certificate
+pub canonical_spelled : (certificate : Certificate) → IsCertificate certificate → SpellsCertificateLines (lines_of (canonical_text (certificate_lines certificate))) certificate
 canonical_spelled certificate are =
     let lines : List (List Word) = certificate_lines certificate in
     let stand : AllByRecursion StandInLine lines = (version_stands certificate.version, blocks_stand certificate.version certificate.blocks are) in

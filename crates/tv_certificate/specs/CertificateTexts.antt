@@ -1,5 +1,5 @@
 -- The texts that spell certificates, and why a text is refused.
-use Rattle.std.specs.Prelude.{◌≡◌, ◌≢◌, ℕ, ◌<◌, ◌==◌, nat_le, nat_lt, ℤ, Bool, List, [], ◌∷◌, ◌++◌, map}
+use Rattle.std.specs.Prelude.{◌≡◌, ◌≢◌, ℕ, ◌≤◌, ◌<◌, ◌==◌, nat_le, nat_lt, ℤ, Bool, List, [], ◌∷◌, ◌++◌, map}
 use Rattle.std.specs.Prelude.{flat_map}
 use Rattle.std.specs.Prelude.{length, Option, Some, None, IfSome, IsTrue, Result, Ok, Err, codes}
 use Rattle.std.specs.List.{AllByRecursion, list_all, list_any}
@@ -124,18 +124,29 @@ IsCertificate certificate = AreBlocks certificate.version certificate.blocks
 
 -- ---- texts
 
--- the text spells the certificate
-abbrev pub SpellsACertificate : List ℕ → Certificate → Type 0
-SpellsACertificate text certificate = SpellsBy certificate_lines IsCertificate (lines_of text) certificate
+-- the lines spell the certificate
+abbrev pub SpellsCertificateLines : List (List ℕ) → Certificate → Type 0
+SpellsCertificateLines lines certificate = SpellsBy certificate_lines IsCertificate lines certificate
 
--- some text spells the certificate
+-- the text, one of no more bytes than a certificate may have, spells the certificate
+pub record SpellsACertificate (text : List ℕ) (certificate : Certificate) : Type 0 where
+  pub short : length text ≤ 262144
+  pub lines : SpellsCertificateLines (lines_of text) certificate
+
+-- the lines of some text, of however many bytes, spell the certificate
 abbrev pub IsSpelledCertificate : Certificate → Type 0
-IsSpelledCertificate certificate = (text : List ℕ) × SpellsACertificate text certificate
+IsSpelledCertificate certificate = (text : List ℕ) × SpellsCertificateLines (lines_of text) certificate
 
--- what each refusal says of the text
+-- the text's lines spell the certificate, and no other
+pub record SpellsCertificateOnly (text : List ℕ) (certificate : Certificate) : Type 0 where
+  pub spelled : SpellsCertificateLines (lines_of text) certificate
+  pub only : (other : Certificate) → SpellsCertificateLines (lines_of text) other → other ≡ certificate
+
+-- what each refusal says of the text: it has too many bytes, or it hasn't, and its lines are refused
 abbrev pub RefusesText : List ℕ → CertificateFault → Type 0
 RefusesText text NoMemory = Unit {0}
-RefusesText text (Syntax line) = IsFirstFaultyLine certificate_lines IsCertificate (lines_of text) line
+RefusesText text (Syntax line) =
+    (length text ≤ 262144) × IsFirstFaultyLine certificate_lines IsCertificate (lines_of text) line
 RefusesText text TooLong = 262144 < length text
 
 -- the certificate was read, unless memory ran out

@@ -1,9 +1,8 @@
 //! The canonical text of a certificate.
 
-ghost use Rattle.std.specs.Prelude.{◌≡◌, [], ◌∷◌, ◌++◌, List, ℕ, flat_map, map, IfOk, string_bytes};
+ghost use Rattle.std.specs.Prelude.{◌≡◌, [], ◌∷◌, ◌++◌, flat_map, map, IfOk, string_bytes};
 ghost use Rattle.tv_words.specs.Canonical.{canonical_text, ended_line};
-ghost use Rattle.tv_certificate.specs.declared.certificate.Certificate.{Certificate as SeenCertificate};
-ghost use Rattle.tv_certificate.specs.CertificateTexts.{block_lines, certificate_lines, end_words, item_words, key_words, SpellsACertificate, tab_words, version_words, when_words};
+ghost use Rattle.tv_certificate.specs.CertificateTexts.{block_lines, certificate_lines, end_words, item_words, key_words, IsSpelledCertificate, SpellsCertificateOnly, tab_words, version_words, when_words};
 
 use crate::certificate::{Block, Certificate, KeyLine};
 use crate::version::version_number;
@@ -123,8 +122,7 @@ impl Certificate {
     /// Writes the canonical text: each line with one space between its words and a line end after it.
     pub fn print(&self, alloc: Global) -> Result<String, AllocError>
         ensures text { IfOk result (λ printed. string_bytes printed ≡ canonical_text (certificate_lines self.now)) }
-        ensures spelled { (text : List ℕ) → SpellsACertificate text self.now → IfOk result (λ printed. SpellsACertificate (string_bytes printed) self.now) }
-        ensures only { (text : List ℕ) → SpellsACertificate text self.now → (other : SeenCertificate) → IfOk result (λ printed. SpellsACertificate (string_bytes printed) other → other ≡ self.now) }
+        ensures spelled { IfOk result (λ printed. IsSpelledCertificate self.now → SpellsCertificateOnly (string_bytes printed) self.now) }
     {
         canonical(alloc, self.version, self.blocks.as_slice())
     }

@@ -42,7 +42,7 @@ impl Certificate {
     /// Reads the certificate that a text of at most 262,144 bytes spells.
     pub fn read(alloc: Global, text: &[u8]) -> Result<Certificate, CertificateFault>
         ensures spelled { IfOk result (λ certificate. SpellsACertificate text.now certificate) }
-        ensures only { (certificate : SeenCertificate) → SpellsACertificate text.now certificate → length text.now ≤ 262144 → GivesCertificate result certificate }
+        ensures only { (certificate : SeenCertificate) → SpellsACertificate text.now certificate → GivesCertificate result certificate }
         ensures fault { IfErr result (λ fault. RefusesText text.now fault) }
         ensures too_long { (result ≡ Err CertificateFault.TooLong) ↔ (262144 < length text.now) }
     {

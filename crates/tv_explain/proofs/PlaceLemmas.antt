@@ -78,13 +78,13 @@ unfolding place
 is_placed text d spelled zero low high = absurd (omega arith)
 is_placed text d spelled (suc k) low high =
     let lines = lines_of text in
-    let less : k < length (declarations spelled.words) = omega (arith, ap (λ (wss : List (List Word)). length wss) spelled.declared) in
-    let found = said_at 1 k lines spelled.words spelled.each less in
+    let less : k < length (declarations spelled.lines.words) = omega (arith, ap (λ (wss : List (List Word)). length wss) spelled.lines.declared) in
+    let found = said_at 1 k lines spelled.lines.words spelled.lines.each less in
     let index : 1 + found.index ≡ suc found.index = omega arith in
     record {
       own = found.own;
       words = found.words;
       stands = ap (slice_get ([] ∷ lines)) (found.number ∙ index) ∙ found.stands;
-      declared = ap (λ (wss : List (List Word)). slice_get wss k) (sym spelled.declared) ∙ found.declared;
+      declared = ap (λ (wss : List (List Word)). slice_get wss k) (sym spelled.lines.declared) ∙ found.declared;
       spelled = found.spelled;
     }

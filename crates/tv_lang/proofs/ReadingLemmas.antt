@@ -27,7 +27,7 @@ use Rattle.tv_lang.specs.Reading.Stages.{nothing_read, is_other, other_version, 
 use Rattle.tv_declarations.specs.Spelling.{word_lines, IsDescription}
 use Rattle.tv_words.specs.Fields.{number_word, IsNumber}
 use Rattle.tv_words.specs.Texts.{IsFirstFaultyLine}
-use Rattle.tv_lang.specs.Faults.{Spells, IsOtherVersion, RefusesToParse, GivesDescription}
+use Rattle.tv_lang.specs.Faults.{SpellsLines, Spells, IsOtherVersion, RefusesToParse, GivesDescription}
 use Rattle.tv_lang.specs.Reading.Descriptions.{LineStep, Next, Faulty, OfOtherVersion, step_from, step_if, words_step, line_step, DescriptionOutcome, Value, Fault, Other, description_at_end, description_from, description_outcome, DescriptionStopsAt}
 use Rattle.tv_words.proofs.FieldLemmas.{word_is, number_word_read, read_number_word}
 use Rattle.tv_declarations.proofs.OptionLemmas.{map_some, then_some}
@@ -113,10 +113,10 @@ gives_reading : (lines : List (List ℕ)) (n : ℕ) (p : Progress) (d : Desc) �
 gives_reading [] n p d e = ap (description_at_end n) e
 gives_reading (l ∷ ls) n p d e = value_after n p l ls d (line_step p l) (line_does p l) (λ m q. gives_reading ls m q d) e
 
-pub read_spelled : (text : List ℕ) (d : Desc) → description_outcome text ≡ Value d → Spells text d
+pub read_spelled : (text : List ℕ) (d : Desc) → description_outcome text ≡ Value d → SpellsLines (lines_of text) d
 read_spelled text d e = lines_spelled (lines_of text) d (reading_gives (lines_of text) 1 nothing_read d e)
 
-pub spelled_read : (text : List ℕ) (d : Desc) → Spells text d → description_outcome text ≡ Value d
+pub spelled_read : (text : List ℕ) (d : Desc) → SpellsLines (lines_of text) d → description_outcome text ≡ Value d
 spelled_read text d h = gives_reading (lines_of text) 1 nothing_read d (spelled_lines (lines_of text) d h)
 
 -- ---- the first faulty line
@@ -299,19 +299,19 @@ other_reads lines h = rw h.parts (other_read h.before 1 h.line h.after h.number 
 
 -- ---- the answers of `parse`
 
-pub refused : (text : List ℕ) (fault : LangFault) → DescriptionStopsAt fault (description_outcome text) → RefusesToParse text fault
-refused text NoMemory h = tt
-refused text (Syntax line) h = (first_fault (lines_of text) line h, λ other. (let clash : Fault line ≡ Other = sym h ∙ other_reads (lines_of text) other in absurd cc))
-refused text TooLong h = absurd h
-refused text Version h = reading_other (lines_of text) 1 1 h
+pub refused : (text : List ℕ) (fault : LangFault) → length text ≤ 262144 → DescriptionStopsAt fault (description_outcome text) → RefusesToParse text fault
+refused text NoMemory short h = tt
+refused text (Syntax line) short h = (short, first_fault (lines_of text) line h, λ other. (let clash : Fault line ≡ Other = sym h ∙ other_reads (lines_of text) other in absurd cc))
+refused text TooLong short h = absurd h
+refused text Version short h = (short, reading_other (lines_of text) 1 1 h)
 
-pub all_refused : (r : Result Desc LangFault) (text : List ℕ) → IfErr r (λ fault. DescriptionStopsAt fault (description_outcome text)) → IfErr r (λ fault. RefusesToParse text fault)
-all_refused (Ok d) text h = tt
-all_refused (Err fault) text h = refused text fault h
+pub all_refused : (r : Result Desc LangFault) (text : List ℕ) → length text ≤ 262144 → IfErr r (λ fault. DescriptionStopsAt fault (description_outcome text)) → IfErr r (λ fault. RefusesToParse text fault)
+all_refused (Ok d) text short h = tt
+all_refused (Err fault) text short h = refused text fault short h
 
 pub gives : (r : Result Desc LangFault) (text : List ℕ) (d : Desc) → IfOk r (λ found. description_outcome text ≡ Value found) → IfErr r (λ fault. DescriptionStopsAt fault (description_outcome text)) → Spells text d → GivesDescription r d
-gives (Ok found) text d ok err spelled = let same : Value found ≡ Value d = sym ok ∙ spelled_read text d spelled in cc
+gives (Ok found) text d ok err spelled = let same : Value found ≡ Value d = sym ok ∙ spelled_read text d spelled.lines in cc
 gives (Err NoMemory) text d ok err spelled = tt
-gives (Err (Syntax line)) text d ok err spelled = let clash : Fault line ≡ Value d = sym err ∙ spelled_read text d spelled in absurd cc
+gives (Err (Syntax line)) text d ok err spelled = let clash : Fault line ≡ Value d = sym err ∙ spelled_read text d spelled.lines in absurd cc
 gives (Err TooLong) text d ok err spelled = err
-gives (Err Version) text d ok err spelled = let clash : Other ≡ Value d = sym err ∙ spelled_read text d spelled in absurd cc
+gives (Err Version) text d ok err spelled = let clash : Other ≡ Value d = sym err ∙ spelled_read text d spelled.lines in absurd cc

@@ -1,13 +1,14 @@
 -- What the canonical text of a description spells.
 use Rattle.std.specs.Prelude.{◌≡◌, ℕ, List}
 use Rattle.tv_model.specs.declared.desc.Desc.{Desc}
-use Rattle.tv_lang.specs.Faults.{Spells}
+use Rattle.tv_lang.specs.Faults.{SpellsLines}
+use Rattle.tv_words.specs.Lines.{lines_of}
 
--- some text spells the description
+-- the lines of some text, of however many bytes, spell the description
 abbrev pub CanBeSpelled : Desc → Type 0
-CanBeSpelled d = (text : List ℕ) × Spells text d
+CanBeSpelled d = (text : List ℕ) × SpellsLines (lines_of text) d
 
--- the text spells the description, and no other
+-- the text's lines spell the description, and no other
 pub record SpellsOnly (text : List ℕ) (d : Desc) : Type 0 where
-  pub spelled : Spells text d
-  pub only : (other : Desc) → Spells text other → other ≡ d
+  pub spelled : SpellsLines (lines_of text) d
+  pub only : (other : Desc) → SpellsLines (lines_of text) other → other ≡ d

@@ -1,5 +1,5 @@
 -- The descriptions that texts spell, and why a text is refused.
-use Rattle.std.specs.Prelude.{◌≡◌, ◌≢◌, ℕ, ◌<◌, ℤ, pos, List, [], ◌∷◌, ◌++◌, length, Result, Ok, Err, codes}
+use Rattle.std.specs.Prelude.{◌≡◌, ◌≢◌, ℕ, ◌≤◌, ◌<◌, ℤ, pos, List, [], ◌∷◌, ◌++◌, length, Result, Ok, Err, codes}
 use Rattle.std.specs.List.{AllByRecursion}
 use Rattle.tv_model.specs.declared.desc.Desc.{Desc}
 use Rattle.tv_lang.specs.declared.description.LangFault.{LangFault}
@@ -15,9 +15,10 @@ use Rattle.tv_words.specs.Texts.{SpellsBy, BeginsBy, IsFirstFaultyLine}
 abbrev pub SpellsLines : List (List ℕ) → Desc → Type 0
 SpellsLines lines d = SpellsBy word_lines IsDescription lines d
 
--- the text spells the description
-abbrev pub Spells : List ℕ → Desc → Type 0
-Spells text d = SpellsLines (lines_of text) d
+-- the text, one of no more bytes than a description may have, spells the description
+pub record Spells (text : List ℕ) (d : Desc) : Type 0 where
+  pub short : length text ≤ 262144
+  pub lines : SpellsLines (lines_of text) d
 
 -- the lines begin a text that spells a description
 abbrev pub BeginsDescription : List (List ℕ) → Type 0
@@ -35,13 +36,14 @@ pub record IsOtherVersion (lines : List (List ℕ)) : Type 0 where
   pub fits : IsNumber number
   pub other : (number ≢ pos 1) × (number ≢ pos 2)
 
--- what each refusal says of the text
+-- what each refusal says of the text: it has too many bytes, or it hasn't, and its lines are refused
 abbrev pub RefusesToParse : List ℕ → LangFault → Type 0
 RefusesToParse text NoMemory = Unit {0}
 RefusesToParse text (Syntax line) =
-    IsFirstFaultyLine word_lines IsDescription (lines_of text) line × ¬ IsOtherVersion (lines_of text)
+    (length text ≤ 262144) × IsFirstFaultyLine word_lines IsDescription (lines_of text) line
+    × ¬ IsOtherVersion (lines_of text)
 RefusesToParse text TooLong = 262144 < length text
-RefusesToParse text Version = IsOtherVersion (lines_of text)
+RefusesToParse text Version = (length text ≤ 262144) × IsOtherVersion (lines_of text)
 
 -- the description was read, unless memory ran out
 abbrev pub GivesDescription : Result Desc LangFault → Desc → Type 0

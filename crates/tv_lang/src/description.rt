@@ -45,7 +45,7 @@ const LONGEST: usize = 262_144;
 pub fn parse(alloc: Global, text: &[u8]) -> Result<Desc, LangFault>
     ensures spelled { IfOk result (λ desc. Spells text.now desc) }
     ensures can_be_spelled { IfOk result (λ desc. CanBeSpelled desc) }
-    ensures only { (desc : SeenDesc) → Spells text.now desc → length text.now ≤ 262144 → GivesDescription result desc }
+    ensures only { (desc : SeenDesc) → Spells text.now desc → GivesDescription result desc }
     ensures fault { IfErr result (λ fault. RefusesToParse text.now fault) }
     ensures too_long { (result ≡ Err LangFault.TooLong) ↔ (262144 < length text.now) }
 {

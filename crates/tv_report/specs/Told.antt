@@ -3,10 +3,9 @@ use Rattle.std.specs.Prelude.{◌≢◌, ◌⊎◌, ℕ, ◌<◌, List, [], leng
 use Rattle.tv_explain.specs.Explaining.{explained}
 use Rattle.tv_model.specs.declared.desc.Desc.{Desc}
 use Rattle.tv_model.specs.Faults.{IsSound, faults_of}
-use Rattle.tv_words.specs.Lines.{lines_of}
-use Rattle.tv_lang.specs.declared.description.LangFault.TheVariants.{Syntax}
+use Rattle.tv_lang.specs.declared.description.LangFault.TheVariants.{Syntax, Version}
 use Rattle.tv_lang.specs.CanonicalDescription.{CanBeSpelled}
-use Rattle.tv_lang.specs.Faults.{IsOtherVersion, RefusesToParse, Spells}
+use Rattle.tv_lang.specs.Faults.{RefusesToParse, Spells}
 use Rattle.tv_report.specs.Blocks.{IsReportOn, IsUnreadBlock}
 use Rattle.tv_report.specs.declared.manner.Manner.{Manner}
 use Rattle.tv_report.specs.declared.whole.Told.{Told}
@@ -39,5 +38,5 @@ IsReportOf manner name text report = TellsFaults manner name text report ⊎ Tel
 abbrev pub IsToldOf : Manner → (name text : List ℕ) → Told → Type 0
 IsToldOf manner name text (tellings.Sound desc) = SpellsSound text desc
 IsToldOf manner name text (tellings.Faulty report) = IsReportOf manner name text (string_bytes report)
-IsToldOf manner name text tellings.OtherVersion = IsOtherVersion (lines_of text)
+IsToldOf manner name text tellings.OtherVersion = RefusesToParse text Version
 IsToldOf manner name text tellings.TooLong = 262144 < length text
