@@ -1,5 +1,5 @@
 -- The damage of members one after the other.
-use Rattle.std.proofs.Common.{◌≡◌, ℕ, Bool, List, [], ◌∷◌, ◌++◌, ◌+◌, ◌<◌, ◌≤◌, length, get_or, map, set, take, refl, sym, ap, ◌∙◌, append_assoc, Option}
+use Rattle.std.proofs.Common.{◌≡◌, ℕ, Bool, List, [], ◌∷◌, ◌++◌, ◌+◌, ◌<◌, ◌≤◌, length, get_or, map, set, take, refl, sym, ap, ◌∙◌, append_assoc, inl, Option}
 use Rattle.std.proofs.lemmas.List.{append-nil, take_all, with_items_is}
 use Rattle.std.specs.Vec.{with_items}
 use Rattle.tv_cells.specs.Damage.{Grows, HasWithin}
@@ -8,11 +8,11 @@ use Rattle.tv_cells.specs.Layers.{cell_over}
 use Rattle.tv_cells.specs.declared.canvas.Canvas.{Canvas}
 use Rattle.tv_cells.specs.declared.rect.Rect.{Rect}
 use Rattle.tv_cells.proofs.RepaintingLemmas.{over-append}
-use Rattle.tv_view.specs.Meaning.{Leaf, Placed, inside, kept}
+use Rattle.tv_view.specs.Meaning.{Leaf, Placed, bounds_of, inside, kept}
 use Rattle.tv_view.specs.declared.env.Env.{Env}
 use Rattle.tv_view.specs.Damage.{AllDamages, AllDrawn, Damages}
 use Rattle.tv_view.specs.Drawing.{leaves_layers}
-use Rattle.tv_view.proofs.DamageLemmas.{alike-more, group-alike}
+use Rattle.tv_view.proofs.DamageLemmas.{alike-more, group-alike, whole-kept}
 use Rattle.tv_view.proofs.LayingLemmas.{layers-append, layers-kept}
 use Rattle.tv_group.specs.Current.{is_at}
 use Rattle.tv_group.specs.Opened.{opened, opened_member, joined}
@@ -62,7 +62,7 @@ all-drawn-is xs ys zs before after e p = rw (← e) p
 module _ {V : Type 0} (look : V → Leaf) where
   pub drawn-member-leaf : (v w : V) (before after : List Rect) → Damages (look v) (look w) before after → AllDrawn (opened_member look (LeafM v)) (opened_member look (LeafM w)) before after
   drawn-member-leaf v w before after p =
-      rw (opened_member-leaf look v, opened_member-leaf look w) (record { drawn = λ env. p.drawn env; kept = p.grown.kept })
+      rw (opened_member-leaf look v, opened_member-leaf look w) (record { drawn = λ env. p.drawn env; kept = whole-kept (bounds_of (look v)) before after p.added })
 
   pub drawn-member-pane : (g h : GroupOf V) (bounds : Rect) (before after : List Rect) → AllDamages bounds (opened look g) (opened look h) before after
       → AllDrawn (opened_member look (PaneM g)) (opened_member look (PaneM h)) before after
@@ -167,4 +167,4 @@ module _ {V : Type 0} (look : V → Leaf) where
 
 -- a leaf that stays
 pub damages-refl : (leaf : Leaf) (damage : List Rect) → Damages leaf leaf damage damage
-damages-refl leaf damage = record { drawn = λ env. record { each = λ c column row e under. refl }; grown = record { kept = λ x y e. e; within = λ r h p. h } }
+damages-refl leaf damage = record { drawn = λ env. record { each = λ c column row e under. refl }; added = inl refl }

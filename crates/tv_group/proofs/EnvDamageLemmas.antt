@@ -3,11 +3,11 @@ use Rattle.std.proofs.Common.{◌≡◌, ℕ, List, [], ◌++◌, ◌+◌, ◌<�
 use Rattle.tv_cells.specs.Damage.{Grows, HasWithin}
 use Rattle.tv_cells.specs.Layers.{cell_over}
 use Rattle.tv_cells.specs.declared.rect.Rect.{Rect}
-use Rattle.tv_view.specs.Meaning.{Leaf, Placed, kept}
+use Rattle.tv_view.specs.Meaning.{Leaf, Placed, bounds_of, kept}
 use Rattle.tv_view.specs.declared.env.Env.{Env}
 use Rattle.tv_view.specs.Damage.{AllEnvDamages, AllEnvDrawn, EnvDamages}
 use Rattle.tv_view.specs.Drawing.{leaves_layers}
-use Rattle.tv_view.proofs.DamageLemmas.{alike-more, group-alike}
+use Rattle.tv_view.proofs.DamageLemmas.{alike-more, group-alike, whole-kept}
 use Rattle.tv_view.proofs.LayingLemmas.{layers-kept}
 use Rattle.tv_group.specs.Current.{is_at}
 use Rattle.tv_group.specs.Opened.{opened, opened_member}
@@ -51,7 +51,7 @@ module _ (old new : Env) where
 
   module _ {V : Type 0} (look : V → Leaf) where
     pub env-leaf : (m : MemberOf V) (v : V) (before after : List Rect) → m ≡ LeafM v → EnvDamages old new (look v) before after → AllEnvDrawn old new (opened_member look m) before after
-    env-leaf m v before after is p = rw (member-leaf look m v is) (record { drawn = p.drawn; kept = p.grown.kept })
+    env-leaf m v before after is p = rw (member-leaf look m v is) (record { drawn = p.drawn; kept = whole-kept (bounds_of (look v)) before after p.added })
 
     pub env-pane : (m : MemberOf V) (g : GroupOf V) (bounds : Rect) (before after : List Rect) → m ≡ PaneM g → AllEnvDamages bounds old new (opened look g) before after
         → AllEnvDrawn old new (opened_member look m) before after

@@ -27,7 +27,8 @@ pub struct Stack<T> {
 impl<T> Stack<T> {
     /// Makes a stack of the items in their order.
     pub fn new(items: Vec<T>) -> Stack<T>
-        ensures { result.items.items ≡ items.items }
+        ensures items { result.items.items ≡ items.items }
+        ensures room { vec_capacity result.items ≡ vec_capacity items }
     {
         Stack { items }
     }

@@ -1,5 +1,5 @@
 -- What a leaf has to do so that it is drawn alike, under two environments too, and what a group of leaves has to.
-use Rattle.std.proofs.Common.{◌≡◌, ℕ, ℤ, pos, ◌+ℤ◌, ◌-ℤ◌, Bool, true, false, List, [], ◌∷◌, ◌++◌, map, refl, sym, ap, ◌∙◌, arith}
+use Rattle.std.proofs.Common.{◌≡◌, ℕ, ℤ, pos, ◌+ℤ◌, ◌-ℤ◌, Bool, true, false, List, [], ◌∷◌, ◌++◌, map, refl, sym, ap, subst, ◌∙◌, inl, inr, arith}
 use Rattle.std.proofs.lemmas.Int.{ints}
 use Rattle.tv_cells.specs.Canvas.{sub}
 use Rattle.tv_cells.specs.Damage.{Grows, HasAll, HasWithin, has}
@@ -16,7 +16,7 @@ use Rattle.tv_model.specs.Description.Nodes.{height_of}
 use Rattle.tv_model.specs.Screen.Faces.{FaceOf}
 use Rattle.tv_view.specs.Meaning.{Leaf, Placed, bounds_of, inside}
 use Rattle.tv_view.specs.declared.env.Env.{Env}
-use Rattle.tv_view.specs.Damage.{Damages, EnvDamages, IsDrawnAlike, TellsSame, has_seen}
+use Rattle.tv_view.specs.Damage.{AddsWholeOrNothing, Damages, EnvDamages, IsDrawnAlike, TellsSame, has_seen}
 use Rattle.tv_view.specs.Drawing.{faces_of, is_near, layers_in, leaf_layers, leaves_layers}
 use Rattle.tv_view.specs.Fields.{content_of}
 use Rattle.tv_view.proofs.LayingLemmas.{layers-far, layers-inside}
@@ -49,6 +49,11 @@ alike-append damage f g h k p q = record {
       ∙ ap (cell_over (g c) column row) (q.each c column row e under)
       ∙ sym (over-append (g c) (k c) column row under);
 }
+
+-- no point has left
+pub whole-kept : (r : Rect) (before after : List Rect) → AddsWholeOrNothing r before after → (x y : ℤ) → has before x y ≡ true → has after x y ≡ true
+whole-kept r before after (inl none) x y e = subst (λ damage. has damage x y ≡ true) (sym none) e
+whole-kept r before after (inr whole) x y e = whole.1.kept x y e
 
 -- ---- what a clip lacks
 
@@ -138,12 +143,12 @@ own-alike env other old new damage node all = record {
 
 -- and one that adds its own rectangle is, whatever changed
 pub damages-own : (old new : Leaf) (before after : List Rect) → new.node ≡ old.node → HasAll (bounds_of old) after → Grows (bounds_of old) before after → Damages old new before after
-damages-own old new before after node all grown = record { drawn = λ env. own-alike env env old new after node all; grown = grown }
+damages-own old new before after node all grown = record { drawn = λ env. own-alike env env old new after node all; added = inr (all, grown) }
 
 pub env-none : (old new : Env) (leaf : Leaf) (damage : List Rect) → ((c : Canvas) → leaf_layers old c leaf ≡ leaf_layers new c leaf) → EnvDamages old new leaf damage damage
 env-none old new leaf damage same = record {
   drawn = record { each = λ c column row e under. ap (λ layers. cell_over layers column row under) (same c) };
-  grown = record { kept = λ x y e. e; within = λ r h p. h };
+  added = inl refl;
 }
 
 layers-told : (old new : Env) (c : Canvas) (leaf : Leaf) → TellsSame old new leaf → leaf_layers old c leaf ≡ leaf_layers new c leaf
@@ -163,7 +168,7 @@ env-hidden old new leaf damage hidden = env-none old new leaf damage (λ c. laye
 
 -- any other adds its rectangle
 pub env-own : (old new : Env) (leaf : Leaf) (before after : List Rect) → HasAll (bounds_of leaf) after → Grows (bounds_of leaf) before after → EnvDamages old new leaf before after
-env-own old new leaf before after all grown = record { drawn = own-alike old new leaf leaf after refl all; grown = grown }
+env-own old new leaf before after all grown = record { drawn = own-alike old new leaf leaf after refl all; added = inr (all, grown) }
 
 -- ---- groups
 

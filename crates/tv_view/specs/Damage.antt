@@ -1,6 +1,6 @@
 -- What is drawn alike but in the damage.
-use Rattle.std.specs.Prelude.{◌≡◌, ℕ, ℤ, Bool, true, false, pos, ◌-ℤ◌, List}
-use Rattle.tv_cells.specs.Damage.{Grows, has}
+use Rattle.std.specs.Prelude.{◌≡◌, ◌⊎◌, ℕ, ℤ, Bool, true, false, pos, ◌-ℤ◌, List}
+use Rattle.tv_cells.specs.Damage.{Grows, HasAll, has}
 use Rattle.tv_cells.specs.Glyph.{Glyph}
 use Rattle.tv_cells.specs.Layers.{Layer, cell_over}
 use Rattle.tv_cells.specs.declared.canvas.Canvas.{Canvas}
@@ -21,11 +21,16 @@ pub record IsDrawnAlike (damage : List Rect) (old new : Canvas → List Layer) :
 
 -- ---- a leaf
 
--- it is drawn as before but in the damage, under any one environment; no point has left the damage, and what
--- came in lies in the smallest rectangle that holds the old ones and the leaf's
+-- nothing is added, or the whole of a rectangle: then each of its points is in, none has left, and what came in
+-- lies in the smallest rectangle that holds it and the old ones
+abbrev pub AddsWholeOrNothing : Rect → List Rect → List Rect → Type 0
+AddsWholeOrNothing r before after = (after ≡ before) ⊎ (HasAll r after × Grows r before after)
+
+-- it is drawn as before but in the damage, under any one environment; its whole rectangle was added to that, or
+-- nothing
 pub record Damages (old new : Leaf) (before after : List Rect) : Type 0 where
   pub drawn : (env : Env) → IsDrawnAlike after (λ c. leaf_layers env c old) (λ c. leaf_layers env c new)
-  pub grown : Grows (bounds_of old) before after
+  pub added : AddsWholeOrNothing (bounds_of old) before after
 
 -- two environments say the same of all that a leaf shows
 pub record TellsSame (old new : Env) (leaf : Leaf) : Type 0 where
@@ -33,11 +38,11 @@ pub record TellsSame (old new : Env) (leaf : Leaf) : Type 0 where
   pub chain : new.chain.now ≡ old.chain.now
   pub look : lent_look new leaf ≡ lent_look old leaf
 
--- a leaf that stays is drawn under one environment as under the other but in the damage; no point has left
--- the damage, and what came in lies in the smallest rectangle that holds the old ones and the leaf's
+-- a leaf that stays is drawn under one environment as under the other but in the damage; its whole rectangle was
+-- added to that, or nothing
 pub record EnvDamages (old new : Env) (leaf : Leaf) (before after : List Rect) : Type 0 where
   pub drawn : IsDrawnAlike after (λ c. leaf_layers old c leaf) (λ c. leaf_layers new c leaf)
-  pub grown : Grows (bounds_of leaf) before after
+  pub added : AddsWholeOrNothing (bounds_of leaf) before after
 
 -- ---- a group
 

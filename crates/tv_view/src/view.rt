@@ -24,8 +24,9 @@ use tv_model::{Id, Node, Record};
 /// has to answer and show what a view of that kind does. Points and rectangles are seen from the corner of what the
 /// view stands in.
 ///
-/// A call that may change what it shows takes the damage, the points that are to be painted again. It adds the view's
-/// rectangle or nothing: a point that the damage lacks afterwards is drawn as before the call.
+/// A call that may change what it shows takes the damage, the points that are to be painted again. A point that the
+/// damage lacks afterwards is drawn as before the call, and what it adds is the whole of the view's rectangle, or nothing
+/// (`added` of `Damages` and of `EnvDamages`).
 pub trait View: Drop {
     ghost meaning: { Self → Leaf };
 

@@ -54,8 +54,10 @@ impl<V: View> DeskOf<V> {
     /// Makes the desk of the windows as they stand before any event. They come in description order, and later ones
     /// stand in front.
     pub fn new(mut windows: Vec<WindowOf<V>>) -> DeskOf<V>
-        ensures { (d : Desc) → AreLawfulWindows d.windows → AreFreshWindows V.meaning d.windows windows.items
+        ensures desk { (d : Desc) → AreLawfulWindows d.windows → AreFreshWindows V.meaning d.windows windows.items
             → IsDesk V.meaning d (closed d).windows result }
+        ensures windows { windows_of result ≡ reverse windows.items }
+        ensures room { vec_capacity result.windows.items ≡ vec_capacity windows }
     {
         windows.reverse();
         DeskOf {
