@@ -126,14 +126,14 @@ module _ (d : Desc) (sound : HasSoundDialogs d) where
       let column = grip_column width (seen_from corner p) grip in
       let holds : IsSafeFrame d t frame = record { width = width; there = there; column = column; leaf = leaf; menu = menu; over = over } in
       record {
-        kept = record { saved = f.kept.saved; places = f.kept.places; ordered = f.kept.ordered; ends = f.kept.ends };
+        kept = record { saved = f.kept.saved; records = f.kept.records; places = f.kept.places; ordered = f.kept.ordered; ends = f.kept.ends };
         «open» = λ o e. let x = f.«open» o e in record { dialog = x.dialog; there = x.there; fit = x.fit; menu = x.menu; over = x.over; top = x.top };
         frame = λ other e. let same : frame ≡ other = cc in subst (IsSafeFrame d t) same holds;
       }
 
   freed_fit : (s : State) → IsFitState d s → IsFitState d (let_go s)
   freed_fit s f = record {
-    kept = record { saved = f.kept.saved; places = f.kept.places; ordered = f.kept.ordered; ends = f.kept.ends };
+    kept = record { saved = f.kept.saved; records = f.kept.records; places = f.kept.places; ordered = f.kept.ordered; ends = f.kept.ends };
     «open» = λ o e. let x = f.«open» o e in record { dialog = x.dialog; there = x.there; fit = x.fit; menu = x.menu; over = x.over; top = x.top };
     frame = no-frame d sound (let_go s) refl;
   }
@@ -156,7 +156,7 @@ module _ (d : Desc) (sound : HasSoundDialogs d) where
   placed_fit : (o : Option OpenDialog) (corner : Point) (s : State) → s.dialog ≡ o → KeepsTop s corner → IsFitState d s
       → IsFitState d (placed o corner s)
   placed_fit None corner s none tops f = record {
-    kept = record { saved = f.kept.saved; places = f.kept.places; ordered = f.kept.ordered; ends = f.kept.ends };
+    kept = record { saved = f.kept.saved; records = f.kept.records; places = f.kept.places; ordered = f.kept.ordered; ends = f.kept.ends };
     «open» = λ o e. absurd (nothing o (sym none ∙ e));
     frame = λ frame e.
         let x = f.frame frame e in
@@ -176,7 +176,7 @@ module _ (d : Desc) (sound : HasSoundDialogs d) where
       let stands : IsFitOpen d t moved =
       record { dialog = x.dialog; there = x.there; fit = x.fit; menu = x.menu; over = x.over; top = λ top. tops o x.dialog some x.there (x.top top) } in
       record {
-        kept = record { saved = f.kept.saved; places = f.kept.places; ordered = f.kept.ordered; ends = f.kept.ends };
+        kept = record { saved = f.kept.saved; records = f.kept.records; places = f.kept.places; ordered = f.kept.ordered; ends = f.kept.ends };
         «open» = λ other e. let same : moved ≡ other = cc in subst (IsFitOpen d t) same stands;
         frame = λ frame e.
             let y = f.frame frame e in

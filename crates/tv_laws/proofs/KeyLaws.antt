@@ -1,9 +1,11 @@
 pub mod ActLemmas
 pub mod CycleLemmas
 pub mod GrantLemmas
+pub mod MarkerActs
 pub mod LetterLemmas
 pub mod NoneLemmas
 pub mod OrderLemmas
 pub mod RisingLemmas
 pub mod StopLemmas
 pub mod ValueLemmas
+pub mod NamedLemmas

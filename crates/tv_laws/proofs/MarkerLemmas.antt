@@ -1,5 +1,5 @@
 -- Markers of a letter: no more than one is visible, and the lines of a certificate that hold are that one's.
-use Rattle.std.proofs.Common.{◌≡◌, ℕ, Bool, true, false, cond, ◌&&◌, ◌==◌, if◌then◌else◌, List, [], ◌∷◌, filter, find, get_or, Option, Some, None, is_some, refl, sym, ap, subst, ◌∙◌, All, AllPairs, IsTrue, arith}
+use Rattle.std.proofs.Common.{◌≡◌, ℕ, Bool, true, false, cond, ◌&&◌, ◌==◌, if◌then◌else◌, List, [], ◌∷◌, filter, find, get_or, Option, Some, None, is_some, option_map, unwrap_or, refl, sym, ap, subst, ◌∙◌, All, AllPairs, IsTrue, arith}
 use Rattle.std.proofs.lemmas.Bool.{and_parts, eqb-true, false_from_ne_true, false≢true, true≢false}
 use Rattle.std.proofs.lemmas.List.Elements.{All-cons, All-filter, All-head, All-nil, All-tail, filter_passes}
 use Rattle.std.proofs.lemmas.List.Kept.{AllPairs-filter}
@@ -24,13 +24,13 @@ use Rattle.tv_machine.specs.Safe.{HasValueOf}
 use Rattle.tv_machine.specs.Dialog.Lawful.{AreShownApart, IsLawfulDialog, ShowsBy}
 use Rattle.tv_machine.specs.Dialog.Modal.{Modal, content_at}
 use Rattle.tv_machine.specs.Dialog.Rules.{content_held, is_among, is_marked_at, is_visible, state_of}
-use Rattle.tv_machine.specs.Dialog.Shortcuts.{HaveOneMarker, act_on, is_visible_marker, marker_among, marking_leaf, marking_leaves}
+use Rattle.tv_machine.specs.Dialog.Shortcuts.{HaveOneMarker, act_on, called, marker_among, marking_leaf, marking_leaves}
 use Rattle.tv_machine.proofs.LeafLemmas.{IsIn, leaf_at-member}
-use Rattle.tv_machine.proofs.ListLemmas.{bool_cases, find-none, found-all, pairs-head, pairs-tail}
+use Rattle.tv_machine.proofs.ListLemmas.{bool_cases, found-all, pairs-head, pairs-tail}
 use Rattle.tv_machine.proofs.MarkLemmas.{value_by}
-use Rattle.tv_machine.proofs.SharedLemmas.{acts_visible, one_visible, visible_marked}
+use Rattle.tv_machine.proofs.SharedLemmas.{one_visible, visible_marked}
 use Rattle.tv_laws.specs.Fit.{IsFitContent, IsStanding}
-use Rattle.tv_laws.specs.Letters.{AreLinesOf, AreOtherItems, HasLines, HasLinesOf, HiddenMarkersDoNothing, IsLineOf, IsShownWhen, LettersHaveOneMarker, UnnamedLettersDoNothing, VisibleIsMarker, holds_now, lines_now}
+use Rattle.tv_laws.specs.Letters.{AreLinesOf, AreOtherItems, HasLinesOf, IsLineOf, IsShownWhen, LettersHaveOneMarker, Named, VisibleIsMarker, act_named, holds_now, lines_now, named_among, named_by}
 use Rattle.tv_laws.specs.Sound.{IsSoundDialog}
 
 -- ---- lists
@@ -187,20 +187,6 @@ module _ (d : Dialog) (leaves : List LeafState) where
       (λ shown. absurd (true≢false (sym (visible_holds first line.when are.0.when shown) ∙ no))) (λ hidden. none_visible letter lines markers are.1 e))
       refl none
 
--- where no line holds, the letter acts on nothing
-none_acts : (d : Dialog) (letter : ℕ) (m : Modal) (lines : List KeyOwner) (markers : List PlacedNode) → AreLinesOf d letter lines markers
-    → ((line : KeyOwner) → lines ≡ line ∷ [] → line.when ≡ None) → filter (Now d m.leaves) lines ≡ []
-    → act_on d letter (marker_among d m.leaves markers) m ≡ m
-none_acts d letter m lines [] are alone none = refl
-none_acts d letter m [] (first ∷ markers) are alone none = absurd are
-none_acts d letter m (line ∷ []) (first ∷ []) are alone none =
-    let now : Now d m.leaves line ≡ true = ap (holds_now d m.leaves) (alone line refl) in
-    let kept : cond true (line ∷ []) [] ≡ [] = sym (ap (λ b. cond b (line ∷ []) []) now) ∙ none in
-    absurd cc
-none_acts d letter m (line ∷ other ∷ lines) (first ∷ []) are alone none = absurd are.1
-none_acts d letter m lines (first ∷ second ∷ markers) are alone none =
-    ap (λ o. act_on d letter o m) (none_visible d m.leaves letter lines (first ∷ second ∷ markers) are none)
-
 module _ (d : Dialog) (m : Modal) (stands : IsStanding d m) where
   -- of lines with different items no two hold at once
   one_holds : (leaf : PlacedNode) (o other : Option When) → IsShownWhen d leaf o → AreOtherItems o other → holds_now d m.leaves o ≡ true
@@ -273,6 +259,94 @@ module _ (d : Dialog) (m : Modal) (stands : IsStanding d m) where
       → (line : KeyOwner) × (lines_now version d m.leaves letter ≡ line ∷ []) × (owner_by letter marker.node.kind ≡ Some line.owner)
   marker-line version letter marker has e = line_among letter (owners_of version d letter) (marking_leaves d letter) marker has.markers has.alone has.apart e
 
+  -- ---- what the certificate names
+
+  -- of several markers the visible one acts, and its line is the one that holds
+  several_named : (letter : ℕ) (lines : List KeyOwner) (markers : List PlacedNode) → AreLinesOf d letter lines markers
+      → AllPairs (λ line other. AreOtherItems line.when other.when) lines
+      → act_on d letter (find (is_visible d m.leaves) markers) m ≡ act_named d letter (named_among d m.leaves lines markers) m
+  several_named letter [] [] are apart = refl
+  several_named letter [] (first ∷ markers) are apart = absurd are
+  several_named letter (line ∷ lines) [] are apart = absurd are
+  several_named letter (line ∷ lines) (first ∷ markers) are apart =
+      let others : All (λ other. AreOtherItems line.when other.when) lines = pairs-head (λ x y. AreOtherItems x.when y.when) line lines apart in
+      let later : Option PlacedNode = find (is_visible d m.leaves) markers in
+      bool_cases (Now d m.leaves line)
+      (λ b. act_on d letter (cond (is_visible d m.leaves first) (Some first) later) m ≡ act_named d letter (if b then Some (record { line = line; marker = first }) else named_among d m.leaves lines markers) m)
+      (λ now. bool_cases (is_visible d m.leaves first)
+      (λ b. act_on d letter (cond b (Some first) later) m ≡ (if b then called d letter first first.node.kind m else m)) (λ shown. ap (λ b. if b then called d letter first first.node.kind m else m) shown)
+      (λ hidden. ap (λ o. act_on d letter o m) (none_visible d m.leaves letter lines markers are.1 (no_others line first lines are.0.when others now))))
+      (λ other. bool_cases (is_visible d m.leaves first) (λ b. act_on d letter (cond b (Some first) later) m ≡ act_named d letter (named_among d m.leaves lines markers) m)
+      (λ shown. absurd (true≢false (sym (visible_holds d m.leaves first line.when are.0.when shown) ∙ other)))
+      (λ hidden. several_named letter lines markers are.1 (pairs-tail (λ x y. AreOtherItems x.when y.when) line lines apart)))
+
+  among_named : (letter : ℕ) (lines : List KeyOwner) (markers : List PlacedNode) → AreLinesOf d letter lines markers
+      → ((line : KeyOwner) → lines ≡ line ∷ [] → line.when ≡ None) → AllPairs (λ line other. AreOtherItems line.when other.when) lines
+      → act_on d letter (marker_among d m.leaves markers) m ≡ act_named d letter (named_among d m.leaves lines markers) m
+  among_named letter [] [] are alone apart = refl
+  among_named letter (line ∷ lines) [] are alone apart = absurd are
+  among_named letter [] (first ∷ []) are alone apart = absurd are
+  among_named letter (line ∷ []) (first ∷ []) are alone apart =
+      sym (ap (λ b. act_named d letter (if b then Some (record { line = line; marker = first }) else None) m) (ap (holds_now d m.leaves) (alone line refl)))
+  among_named letter (line ∷ other ∷ lines) (first ∷ []) are alone apart = absurd are.1
+  among_named letter lines (first ∷ second ∷ markers) are alone apart = several_named letter lines (first ∷ second ∷ markers) are apart
+
+  -- the marker's act is that of what is named
+  pub marker-named : (version : Version) (letter : ℕ) → HasLinesOf version d letter
+      → act_on d letter (marking_leaf d m.leaves letter) m ≡ act_named d letter (named_by version d m.leaves letter) m
+  marker-named version letter has = among_named letter (owners_of version d letter) (marking_leaves d letter) has.markers has.alone has.apart
+
+-- ---- what is named is the marker, where that is visible
+
+module _ (d : Dialog) (leaves : List LeafState) where
+  found_named : (letter : ℕ) (lines : List KeyOwner) (markers : List PlacedNode) (named : Named) → AreLinesOf d letter lines markers
+      → named_among d leaves lines markers ≡ Some named → is_visible d leaves named.marker ≡ true → find (is_visible d leaves) markers ≡ Some named.marker
+  found_named letter [] markers named are e shown = absurd cc
+  found_named letter (line ∷ lines) [] named are e shown = absurd are
+  found_named letter (line ∷ lines) (first ∷ markers) named are e shown =
+      bool_cases (Now d leaves line)
+      (λ b. (if b then Some (record { line = line; marker = first }) else named_among d leaves lines markers) ≡ Some named → find (is_visible d leaves) (first ∷ markers) ≡ Some named.marker)
+      (λ now f.
+      let same : first ≡ named.marker = ap (λ o. unwrap_or (option_map (λ x. x.marker) o) first) f in
+      ap (λ b. cond b (Some first) (find (is_visible d leaves) markers)) (ap (is_visible d leaves) same ∙ shown) ∙ ap (λ x. Some x) same)
+      (λ other f.
+      bool_cases (is_visible d leaves first) (λ b. cond b (Some first) (find (is_visible d leaves) markers) ≡ Some named.marker)
+      (λ seen. absurd (true≢false (sym (visible_holds d leaves first line.when are.0.when seen) ∙ other))) (λ hidden. found_named letter lines markers named are.1 f shown))
+      e
+
+  among_found : (letter : ℕ) (lines : List KeyOwner) (markers : List PlacedNode) (named : Named) → AreLinesOf d letter lines markers
+      → named_among d leaves lines markers ≡ Some named → is_visible d leaves named.marker ≡ true → marker_among d leaves markers ≡ Some named.marker
+  among_found letter [] [] named are e shown = absurd cc
+  among_found letter (line ∷ lines) [] named are e shown = absurd are
+  among_found letter [] (first ∷ []) named are e shown = absurd are
+  among_found letter (line ∷ []) (first ∷ []) named are e shown =
+      bool_cases (Now d leaves line) (λ b. (if b then Some (record { line = line; marker = first }) else None) ≡ Some named → Some first ≡ Some named.marker)
+      (λ now f. ap (option_map (λ x. x.marker)) f) (λ other f. absurd cc) e
+  among_found letter (line ∷ other ∷ lines) (first ∷ []) named are e shown = absurd are.1
+  among_found letter lines (first ∷ second ∷ markers) named are e shown = found_named letter lines (first ∷ second ∷ markers) named are e shown
+
+  pub named-marker : (version : Version) (letter : ℕ) (named : Named) → HasLinesOf version d letter → named_by version d leaves letter ≡ Some named
+      → is_visible d leaves named.marker ≡ true → marking_leaf d leaves letter ≡ Some named.marker
+  named-marker version letter named has e shown = among_found letter (owners_of version d letter) (marking_leaves d letter) named has.markers e shown
+
+  -- its line is the first that holds
+  first_kept : (lines : List KeyOwner) (markers : List PlacedNode) (named : Named) → named_among d leaves lines markers ≡ Some named
+      → (rest : List KeyOwner) × (filter (Now d leaves) lines ≡ named.line ∷ rest)
+  first_kept [] markers named e = absurd cc
+  first_kept (line ∷ lines) [] named e = absurd cc
+  first_kept (line ∷ lines) (first ∷ markers) named e =
+      bool_cases (Now d leaves line)
+      (λ b. (if b then Some (record { line = line; marker = first }) else named_among d leaves lines markers) ≡ Some named
+      → (rest : List KeyOwner) × (cond b (line ∷ filter (Now d leaves) lines) (filter (Now d leaves) lines) ≡ named.line ∷ rest))
+      (λ now f.
+      let same : line ≡ named.line = ap (λ o. unwrap_or (option_map (λ x. x.line) o) line) f in
+      (filter (Now d leaves) lines, ap (λ x. x ∷ filter (Now d leaves) lines) same))
+      (λ other f. first_kept lines markers named f) e
+
+  pub named-line : (version : Version) (letter : ℕ) (named : Named) → named_by version d leaves letter ≡ Some named
+      → (rest : List KeyOwner) × (lines_now version d leaves letter ≡ named.line ∷ rest)
+  named-line version letter named e = first_kept (owners_of version d letter) (marking_leaves d letter) named e
+
 -- ---- the laws
 
 -- a visible leaf that marks a letter is its marker
@@ -284,11 +358,3 @@ visible-is-marker d sound m fit letter =
 
 pub marks-once : (d : Dialog) → IsSoundDialog d → LettersHaveOneMarker d
 marks-once d sound m fit = one_marker d m sound fit.standing
-
-pub unnamed-acts-on-none : (version : Version) (d : Dialog) → HasLines version d → UnnamedLettersDoNothing version d
-unnamed-acts-on-none version d has m letter none =
-    none_acts d letter m (owners_of version d letter) (marking_leaves d letter) (has letter).markers (has letter).alone none
-
-pub hidden-acts-on-none : (d : Dialog) → HiddenMarkersDoNothing d
-hidden-acts-on-none d m letter hidden =
-    acts_visible d letter m ∙ ap (λ o. act_on d letter o m) (find-none (is_visible_marker d m.leaves letter) (leaf_list d.views) hidden)

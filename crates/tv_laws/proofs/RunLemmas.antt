@@ -1,5 +1,5 @@
--- Every event keeps a run fit, and a fit run is safe; so every run is.
-use Rattle.std.proofs.Common.{◌≡◌, Bool, true, false, not, ◌&&◌, ◌<◌, ℕ, zero, suc, if◌then◌else◌, List, [], ◌∷◌, map, length, position, replicate, Option, Some, None, is_none, is_some, option_map, refl, sym, ap, subst, ◌∙◌, arith}
+-- What comes next of a fit state is fit, and a fit state is safe; so each state of a run is.
+use Rattle.std.proofs.Common.{◌≡◌, ◌⊎◌, inl, inr, Bool, true, false, not, ◌&&◌, ◌<◌, ℕ, zero, suc, if◌then◌else◌, List, [], ◌∷◌, map, length, position, replicate, Option, Some, None, is_none, is_some, option_map, refl, sym, ap, subst, ◌∙◌, arith}
 use Rattle.std.specs.Prelude.{pos, slice_get}
 use Rattle.std.proofs.lemmas.Bool.{true≢false}
 use Rattle.std.proofs.lemmas.List.Elements.{All-nil}
@@ -13,10 +13,11 @@ use Rattle.tv_model.specs.declared.desc.StatusItem.{StatusItem}
 use Rattle.tv_model.specs.Description.Commands.{command_number}
 use Rattle.tv_model.specs.Description.Heads.{is_named}
 use Rattle.tv_model.specs.Description.Rectangles.{corner_of, desktop, rect}
+use Rattle.tv_model.specs.Log.Record.{Entries}
 use Rattle.tv_machine.specs.State.{Held, OpenDialog, OpenMenu, State}
 use Rattle.tv_machine.specs.Dialog.Step.{dialog_step}
 use Rattle.tv_machine.specs.Output.{states}
-use Rattle.tv_machine.specs.Safe.{HasDeclaredEnd, HasTopCell, IsAlwaysSafe, IsFitOverwriting, IsSafe, StandOnDesktop, dragged_width}
+use Rattle.tv_machine.specs.Safe.{HasDeclaredEnd, HasTopCell, IsAlwaysSafe, IsFitOverwriting, IsSafeSaved, StandOnDesktop, dragged_width}
 use Rattle.tv_machine.specs.Screen.Bars.{status_under}
 use Rattle.tv_machine.specs.Session.Commands.{do_command, modal_of}
 use Rattle.tv_machine.specs.Session.Desktop.{seen_from}
@@ -26,7 +27,8 @@ use Rattle.tv_machine.specs.Session.Enabled.{is_enabled_now}
 use Rattle.tv_machine.specs.Session.Menu.{close_menu}
 use Rattle.tv_machine.specs.Session.Step.{after_event, dialog_with_hold, down_on_dialog, event_from, give_command, is_item_enabled, is_status_row, status_command, status_item_of, step, step_held, takes_command, to_dialog, with_empty_log}
 use Rattle.tv_laws.specs.Letters.{LettersAlwaysHaveOneMarker}
-use Rattle.tv_laws.specs.Runs.{HasSoundDialogs, IsFitState, IsKept, RunsFit}
+use Rattle.tv_laws.specs.Runs.{FitIsSafe, HasSoundDialogs, IsFitState, IsKept, ReachesFit, RecordsFit, RunsFit, StartsFit, state_after}
+use Rattle.tv_laws.specs.Runs.IsNext.{by_command, by_event}
 use Rattle.tv_laws.specs.Steps.{RespectsHold}
 use Rattle.tv_laws.proofs.CommandLemmas.{IsReady, command-fit, desktop_down-fit, desktop_key-fit, idle-fit, menu_down-fit, menu_key-fit, ready-idle}
 use Rattle.tv_machine.proofs.ListLemmas.{bool_cases, option_cases}
@@ -35,7 +37,7 @@ use Rattle.tv_laws.proofs.DragLemmas.{dragged-fit, grabbed-fit}
 use Rattle.tv_machine.specs.Dialog.Shortcuts.{HaveOneMarker}
 use Rattle.tv_laws.proofs.MarkerLemmas.{one_marker}
 use Rattle.tv_laws.proofs.StepLemmas.{stays-fit}
-use Rattle.tv_laws.proofs.WorkLemmas.{dialog-opens, dialog-works, filter_none, get_all, nothing, relogged-fit, sound-at}
+use Rattle.tv_laws.proofs.WorkLemmas.{dialog-opens, dialog-works, filter_none, get_all, get_set, length_set, nothing, relogged-fit, sound-at}
 
 -- ---- events that may come at any time
 
@@ -70,6 +72,27 @@ and_true false b e = absurd (true≢false (sym e))
 pub not_some : {A : Type 0} (o : Option A) → is_some o ≡ false → o ≡ None
 not_some None e = refl
 not_some (Some x) e = absurd (true≢false e)
+
+-- ---- records that the program hands in
+
+pub records-fit : (d : Desc) → RecordsFit d
+records-fit d s place entries f safe = record {
+  kept = record {
+    saved = λ j xs e. at j xs (get_set s.saved place (Some entries) j (Some xs) e);
+    records = length_set s.saved place (Some entries) ∙ f.kept.records;
+    places = f.kept.places;
+    ordered = f.kept.ordered;
+    ends = f.kept.ends;
+  };
+  «open» = λ o e. let x = f.«open» o e in record { dialog = x.dialog; there = x.there; fit = x.fit; menu = x.menu; over = x.over; top = x.top };
+  frame = λ held e. let x = f.frame held e in record { width = x.width; there = x.there; column = x.column; leaf = x.leaf; menu = x.menu; over = x.over };
+}
+  where
+    at : (j : ℕ) (xs : Entries) → ((j ≡ place) × (Some xs ≡ Some entries)) ⊎ (slice_get s.saved j ≡ Some (Some xs)) → IsSafeSaved d j xs
+    at j xs (inl (is, both)) =
+        let same : entries ≡ xs = cc in
+        subst (λ (n : ℕ). IsSafeSaved d n xs) (sym is) (subst (IsSafeSaved d place) same safe)
+    at j xs (inr old) = f.kept.saved j xs old
 
 module _ (d : Desc) (sound : HasSoundDialogs d) where
   -- ---- the open dialog
@@ -176,8 +199,8 @@ module _ (d : Desc) (sound : HasSoundDialogs d) where
         idle = λ x is. let both : Some o ≡ Some x = sym some ∙ is in let same : o ≡ x = cc in subst (λ y. y.held ≡ None) same (not_some o.held loose);
       })))
 
-  pub runs-fit : RunsFit d
-  runs-fit s e f =
+  pub steps-fit : (s : State) (e : Event) → IsFitState d s → IsFitState d (step d s e)
+  steps-fit s e f =
       bool_cases s.is_over (λ b. IsFitState d (if b then with_empty_log s else step_by_frame d s.frame e (with_empty_log s))) (λ over. emptied_fit s f)
       (λ goes. option_cases s.frame (λ frame. IsFitState d (step_by_frame d frame e (with_empty_log s))) (λ free. step_at_fit e (with_empty_log s) (emptied_fit s f) goes free)
       (λ frame held. dragged-fit d sound frame e (with_empty_log s) held (emptied_fit s f)))
@@ -186,7 +209,7 @@ module _ (d : Desc) (sound : HasSoundDialogs d) where
 
   pub shut-fit : (s : State) → IsFitState d s → IsFitState d (close_menu s)
   shut-fit s f = record {
-    kept = record { saved = f.kept.saved; places = f.kept.places; ordered = f.kept.ordered; ends = f.kept.ends };
+    kept = record { saved = f.kept.saved; records = f.kept.records; places = f.kept.places; ordered = f.kept.ordered; ends = f.kept.ends };
     «open» = λ o e. let x = f.«open» o e in record { dialog = x.dialog; there = x.there; fit = x.fit; menu = refl; over = x.over; top = x.top };
     frame = λ held e. let x = f.frame held e in record { width = x.width; there = x.there; column = x.column; leaf = x.leaf; menu = refl; over = x.over };
   }
@@ -204,11 +227,15 @@ module _ (d : Desc) (sound : HasSoundDialogs d) where
       let third = and_true (not s.is_over) (is_none s.frame) second.0 in
       record { fit = shut-fit (with_empty_log s) (emptied_fit s f); over = not_true s.is_over third.0; free = none_is s.frame third.1; idle = loose s second.1 }
 
-  -- they keep it as every event does
+  -- they keep it as events do
   pub commands-fit : (s : State) (number : ℕ) → IsFitState d s → IsFitState d (give_command d s number)
   commands-fit s number f =
       bool_cases (takes_command d s number) (λ b. IsFitState d (if b then do_command d number (close_menu (with_empty_log s)) else with_empty_log s))
       (λ takes. command-fit d sound number (close_menu (with_empty_log s)) (takes-ready number s f takes) refl) (λ refused. emptied_fit s f)
+
+  pub runs-fit : RunsFit d
+  runs-fit s after f (by_event e is) = subst (IsFitState d) (sym is) (steps-fit s e f)
+  runs-fit s after f (by_command number is) = subst (IsFitState d) (sym is) (commands-fit s number f)
 
   -- ---- the start
 
@@ -229,6 +256,7 @@ module _ (d : Desc) (sound : HasSoundDialogs d) where
   pub closed_kept : IsKept d (closed d)
   closed_kept = record {
     saved = λ j entries e. let r = copies (length d.dialogs) None (Some entries) j e in absurd (nothing entries (sym r.0));
+    records = copies_length (length d.dialogs) None;
     places = copies_length (length d.dialogs) [];
     ordered = λ j ids e.
         let r = copies (length d.dialogs) [] ids j e in
@@ -245,12 +273,12 @@ module _ (d : Desc) (sound : HasSoundDialogs d) where
   by_fit None = at_fit None
   by_fit (Some name) = at_fit (position (is_named name) d.dialogs)
 
-  pub start-fit : IsFitState d (start d)
+  pub start-fit : StartsFit d
   start-fit = by_fit d.start
 
   -- ---- every run
 
-  pub fit-safe : StandOnDesktop d → (s : State) → IsFitState d s → IsSafe d s
+  pub fit-safe : StandOnDesktop d → FitIsSafe d
   fit-safe stand s f = record {
     dialog = λ o e. let x = f.«open» o e in record {
       dialog = x.dialog;
@@ -270,14 +298,17 @@ module _ (d : Desc) (sound : HasSoundDialogs d) where
 
   states-fit : (es : List Event) (s : State) → IsFitState d s → IsFitState d (states (step d) s es)
   states-fit [] s f = f
-  states-fit (e ∷ es) s f = states-fit es (step d s e) (runs-fit s e f)
+  states-fit (e ∷ es) s f = states-fit es (step d s e) (steps-fit s e f)
+
+  pub reached-fit : ReachesFit d
+  reached-fit es = states-fit es (start d) start-fit
 
   pub always-safe : StandOnDesktop d → IsAlwaysSafe d
-  always-safe stand es = fit-safe stand (states (step d) (start d) es) (states-fit es (start d) start-fit)
+  always-safe stand es = fit-safe stand (state_after d es) (reached-fit es)
 
   pub always-marks-once : LettersAlwaysHaveOneMarker d
-  always-marks-once es o dialog some there =
-      let x = (states-fit es (start d) start-fit).«open» o some in
+  always-marks-once s o dialog f some there =
+      let x = f.«open» o some in
       let both : Some x.dialog ≡ Some dialog = sym x.there ∙ there in
       let same : x.dialog ≡ dialog = cc in
-      subst (λ own. HaveOneMarker own o.leaves) same (one_marker x.dialog (modal_of (states (step d) (start d) es) o) (sound-at d sound o.place x.dialog x.there) x.fit.standing)
+      subst (λ own. HaveOneMarker own o.leaves) same (one_marker x.dialog (modal_of s o) (sound-at d sound o.place x.dialog x.there) x.fit.standing)

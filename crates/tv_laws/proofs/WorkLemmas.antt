@@ -29,7 +29,7 @@ use Rattle.tv_laws.proofs.StandLemmas.{fit-logged}
 
 -- ---- lists by places
 
-get_set : {A : Type 0} (xs : List A) (i : ℕ) (v : A) (j : ℕ) (x : A) → slice_get (slice_set xs i v) j ≡ Some x
+pub get_set : {A : Type 0} (xs : List A) (i : ℕ) (v : A) (j : ℕ) (x : A) → slice_get (slice_set xs i v) j ≡ Some x
     → ((j ≡ i) × (x ≡ v)) ⊎ (slice_get xs j ≡ Some x)
 get_set [] i v j x e = inr e
 get_set (y ∷ xs) zero v zero x e = inl (refl, cc)
@@ -74,10 +74,10 @@ module _ (d : Desc) (sound : HasSoundDialogs d) where
   -- nothing but its windows, its menu, its dialog and whether it is over changes
   pub kept-beside : (s : State) (over : Bool) (windows : List OpenWindow) (menu : Option OpenMenu) (dialog : Option OpenDialog) → IsKept d s
       → IsKept d (record s { is_over = over; windows = windows; menu = menu; dialog = dialog })
-  kept-beside s over windows menu dialog k = record { saved = k.saved; places = k.places; ordered = k.ordered; ends = k.ends }
+  kept-beside s over windows menu dialog k = record { saved = k.saved; records = k.records; places = k.places; ordered = k.ordered; ends = k.ends }
 
   pub kept-logged : (line : LogLine) (s : State) → HasDeclaredEnd d line → IsKept d s → IsKept d (with_line_logged line s)
-  kept-logged line s is k = record { saved = k.saved; places = k.places; ordered = k.ordered; ends = All-push (HasDeclaredEnd d) s.log line k.ends is }
+  kept-logged line s is k = record { saved = k.saved; records = k.records; places = k.places; ordered = k.ordered; ends = All-push (HasDeclaredEnd d) s.log line k.ends is }
 
   -- no frame is held
   pub no-frame : (s : State) → s.frame ≡ None → (frame : HeldFrame) → s.frame ≡ Some frame → IsSafeFrame d s frame
@@ -86,7 +86,7 @@ module _ (d : Desc) (sound : HasSoundDialogs d) where
   -- nothing but the log changes
   pub relogged-fit : (s : State) (log : List LogLine) → All (HasDeclaredEnd d) log → IsFitState d s → IsFitState d (record s { log = log })
   relogged-fit s log ends f = record {
-    kept = record { saved = f.kept.saved; places = f.kept.places; ordered = f.kept.ordered; ends = ends };
+    kept = record { saved = f.kept.saved; records = f.kept.records; places = f.kept.places; ordered = f.kept.ordered; ends = ends };
     «open» = λ o e. let x = f.«open» o e in record { dialog = x.dialog; there = x.there; fit = x.fit; menu = x.menu; over = x.over; top = x.top };
     frame = λ frame e.
         let x = f.frame frame e in
@@ -127,6 +127,7 @@ module _ (d : Desc) (sound : HasSoundDialogs d) where
       worked_kept : IsKept d (worked s place m)
       worked_kept = record {
         saved = k.saved;
+        records = k.records;
         places = length_set s.overwriting place m.overwriting ∙ k.places;
         ordered = λ j ids e. at j ids (get_set s.overwriting place m.overwriting j ids e);
         ends = All-append (HasDeclaredEnd d) s.log m.log k.ends (All-weaker (NamesEndOf dialog) (HasDeclaredEnd d) line_declared m.log done.log);
@@ -164,11 +165,16 @@ module _ (d : Desc) (sound : HasSoundDialogs d) where
           let w = worked_kept in
           let after : State = record (worked s place m) { dialog = None; saved = saved_by place number m s.saved } in
           record {
-            kept = record { saved = λ j entries f. at j entries f; places = w.places; ordered = w.ordered; ends = w.ends };
+            kept = record { saved = λ j entries f. at j entries f; records = as_many ∙ k.records; places = w.places; ordered = w.ordered; ends = w.ends };
             «open» = λ x f. absurd (nothing x f);
             frame = no-frame after free;
           }
         where
+          as_many : length (saved_by place number m s.saved) ≡ length s.saved
+          as_many =
+              bool_cases (number == 11) (λ b. length (if b then s.saved else slice_set s.saved place (Some (fields_of m.leaves))) ≡ length s.saved) (λ cancelled. refl)
+              (λ other. length_set s.saved place (Some (fields_of m.leaves)))
+
           new : (j : ℕ) (entries : Entries) → (number == 11) ≡ false
               → ((j ≡ place) × (Some entries ≡ Some (fields_of m.leaves))) ⊎ (slice_get s.saved j ≡ Some (Some entries))
               → IsSafeSaved d j entries

@@ -2,8 +2,8 @@
 use Rattle.std.specs.Prelude.{[], ◌≡◌, ◌≢◌, ◌⊎◌, ℕ, Bool, true, false, ◌&&◌, List, ◌∷◌, ◌++◌, filter, Option}
 use Rattle.std.specs.Prelude.{Some}
 use Rattle.std.specs.Prelude.{None, option_map, option_to_list, pos, slice_get, IsTrue, All, Any, ◌==◌}
+use Rattle.std.specs.Prelude.{if◌then◌else◌}
 use Rattle.std.specs.List.{AllPairs}
-use Rattle.tv_event.specs.declared.event.Event.{Event}
 use Rattle.tv_event.specs.declared.event.Event.TheVariants as events
 use Rattle.tv_event.specs.declared.event.Key.TheVariants as keys
 use Rattle.tv_model.specs.declared.node.Id.{Id}
@@ -25,7 +25,7 @@ use Rattle.tv_model.specs.Description.Numbers.{natural}
 use Rattle.tv_model.specs.Description.Owners as owners
 use Rattle.tv_model.specs.Description.Owners.{KeyOwner, owner_by, owners_of}
 use Rattle.tv_model.specs.Description.Sharing.{is_radios, sharer_by, sharing_rules}
-use Rattle.tv_machine.specs.State.{LeafState, OpenDialog}
+use Rattle.tv_machine.specs.State.{LeafState, OpenDialog, State}
 use Rattle.tv_machine.specs.Leaves.{PlacedNode, leaf_list}
 use Rattle.tv_model.specs.Controls.Behaviour.{Passed}
 use Rattle.tv_model.specs.Kinds.Cluster.{cluster_item_pressed}
@@ -35,11 +35,11 @@ use Rattle.tv_machine.specs.Dialog.Focus.{Refused, is_free_at, keeps_focus, requ
 use Rattle.tv_machine.specs.Dialog.Modal.{Modal, content_at, leaf_at, with_line}
 use Rattle.tv_machine.specs.Dialog.Lawful.{ShowsBy}
 use Rattle.tv_machine.specs.Dialog.Rules.{is_kind_enabled, is_marked_at, is_visible}
-use Rattle.tv_machine.specs.Dialog.Shortcuts.{HaveOneMarker, act, act_on, is_visible_marker, marking_leaf}
+use Rattle.tv_machine.specs.Dialog.Shortcuts.{HaveOneMarker, act, is_visible_marker, marking_leaf}
 use Rattle.tv_machine.specs.Dialog.Shortcuts.{marking_leaves}
 use Rattle.tv_machine.specs.Dialog.Step.{dialog_step}
 use Rattle.tv_laws.specs.Fit.{IsFitModal}
-use Rattle.tv_laws.specs.Records.{state_after}
+use Rattle.tv_laws.specs.Runs.{IsFitState}
 
 -- ---- markers
 
@@ -47,12 +47,11 @@ use Rattle.tv_laws.specs.Records.{state_after}
 abbrev pub LettersHaveOneMarker : Dialog → Type 0
 LettersHaveOneMarker d = (m : Modal) → IsFitModal d m → HaveOneMarker d m.leaves
 
--- nor has one in the dialog that is open wherever events lead a run
+-- nor has one in the dialog that is open in a fit state
 abbrev pub LettersAlwaysHaveOneMarker : Desc → Type 0
 LettersAlwaysHaveOneMarker d =
-    (events : List Event) (o : OpenDialog) (dialog : Dialog)
-    → (state_after d events).dialog ≡ Some o → slice_get d.dialogs o.place ≡ Some dialog
-    → HaveOneMarker dialog o.leaves
+    (s : State) (o : OpenDialog) (dialog : Dialog) → IsFitState d s → s.dialog ≡ Some o
+    → slice_get d.dialogs o.place ≡ Some dialog → HaveOneMarker dialog o.leaves
 
 -- a visible leaf that marks a letter is its marker
 abbrev pub VisibleIsMarker : Dialog → Type 0
@@ -150,18 +149,6 @@ HasOwnNames d =
     AllPairs (λ view other.
     (name : List ℕ) → name_of view.kind ≡ Some name → name_of other.kind ≡ Some name → ⊥) d.views
 
--- the one line that a sound certificate has for the letter and that holds names the control, with the item
--- that the letter presses
-pub record IsOwner (version : Version) (d : Dialog) (leaves : List LeafState) (letter : ℕ) (marker : Node)
-    (control : Node)
-    : Type 0 where
-  pub line : KeyOwner
-  pub named : lines_now version d leaves letter ≡ line ∷ []
-  pub name : IsTrue (gives_name line.owner.name control)
-  -- and no other view, where no name is given twice
-  pub only : HasOwnNames d → meant d.views line.owner.name ≡ Some control
-  pub item : line.owner.item ≡ option_map (λ item. pos item) (item_by letter marker.kind)
-
 -- ---- all that an act may change
 
 -- where the focus is after an act on a control: where it was, or at the control; and after a press of a
@@ -190,15 +177,6 @@ pub record IsActOn (d : Dialog) (is_press : Bool) (i : Id) (m : Modal) (n : Moda
   pub values : KeepsOthers d i m n
   pub presses : All (IsPressOf i) m.log → All (IsPressOf i) n.log
   pub ended : is_press ≡ false → n.ended ≡ m.ended
-
--- the marker of a letter acts on the control that the certificate names for it, and on no other
-abbrev pub MarkersActOnOwners : Version → Dialog → Type 0
-MarkersActOnOwners version d =
-    (m : Modal) (letter : ℕ) (marker : PlacedNode) (control : Node) → IsFitModal d m
-    → marking_leaf d m.leaves letter ≡ Some marker
-    → control_by d marker.node marker.node.kind ≡ Some control
-    → IsOwner version d m.leaves letter marker.node control
-    × IsActOn d (is_button marker.node.kind) control.id m (act d letter marker m)
 
 -- ---- whether a marker can act
 
@@ -238,36 +216,60 @@ HasActed letter (kinds.RadioButtons radios) i m n =
     (n.focus ≡ i) × HasPressed Radios i (item_marking radios.items letter) m n
 HasActed letter _ i m n = Unit {0}
 
--- a marker that can act does, unless the focus is an input that it may not leave. A button doesn't ask for
--- the focus
-abbrev pub MarkersActWhereTheyCan : Dialog → Type 0
-MarkersActWhereTheyCan d =
-    (m : Modal) (letter : ℕ) (marker : PlacedNode) (control : Node) → IsFitModal d m
-    → marking_leaf d m.leaves letter ≡ Some marker
-    → control_by d marker.node marker.node.kind ≡ Some control → can_act d m.leaves marker ≡ true
-    → (is_button marker.node.kind ≡ false → keeps_focus m (leaf_at d m.focus) ≡ false)
-    → HasActed letter marker.node.kind control.id m (act d letter marker m)
+-- ---- what a letter acts on
 
--- ---- acts on none
+-- the line of the certificate for a letter that holds now, and the leaf that marks the letter by it
+pub record Named : Type 0 where
+  pub line : KeyOwner
+  pub marker : PlacedNode
 
--- a letter acts on nothing while no line of the certificate for it holds, as where it has no line
-abbrev pub UnnamedLettersDoNothing : Version → Dialog → Type 0
-UnnamedLettersDoNothing version d =
-    (m : Modal) (letter : ℕ) → lines_now version d m.leaves letter ≡ []
-    → act_on d letter (marking_leaf d m.leaves letter) m ≡ m
+-- the lines and the markers stand in one order
+abbrev pub named_among : Dialog → List LeafState → List KeyOwner → List PlacedNode → Option Named
+named_among d leaves (line ∷ lines) (marker ∷ markers) =
+    if holds_now d leaves line.when then Some (record { line = line; marker = marker })
+    else named_among d leaves lines markers
+named_among d leaves _ _ = None
 
--- nor does it while no leaf that marks it is visible
-abbrev pub HiddenMarkersDoNothing : Dialog → Type 0
-HiddenMarkersDoNothing d =
-    (m : Modal) (letter : ℕ)
-    → All (λ leaf. is_visible_marker d m.leaves letter leaf ≡ false) (leaf_list d.views)
-    → act_on d letter (marking_leaf d m.leaves letter) m ≡ m
+-- what the certificate names for the letter now
+abbrev pub named_by : Version → Dialog → List LeafState → ℕ → Option Named
+named_by version d leaves letter =
+    named_among d leaves (owners_of version d letter) (marking_leaves d letter)
 
--- a marker that can't act leaves everything as it was
-abbrev pub UnableMarkersDoNothing : Dialog → Type 0
-UnableMarkersDoNothing d =
-    (m : Modal) (letter : ℕ) (marker : PlacedNode) → can_act d m.leaves marker ≡ false
-    → act d letter marker m ≡ m
+-- its act, if anything is named
+abbrev pub act_named : Dialog → ℕ → Option Named → Modal → Modal
+act_named d letter None m = m
+act_named d letter (Some named) m = act d letter named.marker m
+
+-- whether anything is named that can act
+abbrev pub can_act_named : Dialog → List LeafState → Option Named → Bool
+can_act_named d leaves None = false
+can_act_named d leaves (Some named) = can_act d leaves named.marker
+
+-- ---- shortcuts
+
+-- Alt with a letter is the act of what the certificate names for it, whatever has the focus; so is a character
+-- that the focused control doesn't take, in upper case; and so is a letter of a focused cluster's own items,
+-- which that cluster marks. Space isn't one
+pub record KeysActAsNamed (version : Version) (d : Dialog) : Type 0 where
+  pub alt : (m : Modal) (letter : ℕ) → IsFitModal d m → m.held ≡ None
+      → dialog_step d (events.Key (keys.Alt letter)) m
+      ≡ act_named d letter (named_by version d m.leaves letter) m
+  pub typed : (m : Modal) (ch : ℕ) (focus : PlacedNode) → IsFitModal d m → m.held ≡ None
+      → leaf_at d m.focus ≡ Some focus
+      → key_answer focus.node.kind (keys.Char ch) (content_at m focus.node.id) ≡ Passed
+      → dialog_step d (events.Key (keys.Char ch)) m
+      ≡ act_named d (upper ch) (named_by version d m.leaves (upper ch)) m
+  pub own : (m : Modal) (ch item : ℕ) (focus : PlacedNode) → IsFitModal d m → m.held ≡ None
+      → leaf_at d m.focus ≡ Some focus → (ch == 32) ≡ false → item_by ch focus.node.kind ≡ Some item
+      → (marking_leaf d m.leaves (upper ch) ≡ Some focus)
+      × (dialog_step d (events.Key (keys.Char ch)) m
+      ≡ act_named d (upper ch) (named_by version d m.leaves (upper ch)) m)
+
+-- where nothing is named, or what is named can't act, nothing changes
+abbrev pub UnableNamedDoNothing : Dialog → Type 0
+UnableNamedDoNothing d =
+    (m : Modal) (letter : ℕ) (named : Option Named) → can_act_named d m.leaves named ≡ false
+    → act_named d letter named m ≡ m
 
 -- nor does anything change, but for a line of the log, where the focus may not leave an input for the control
 abbrev pub RefusedFocusChangesNothing : Dialog → Type 0
@@ -277,27 +279,24 @@ RefusedFocusChangesNothing d =
     → is_button marker.node.kind ≡ false → requested d m control.id ≡ Refused
     → (act d letter marker m ≡ m) ⊎ (act d letter marker m ≡ with_line (lines.Invalid m.focus) m)
 
--- ---- shortcuts
+-- the one line that holds names the control, with the item that the letter presses; the act changes that, the
+-- focus and the log alone; and it does what its marker is for, unless the focus is an input that it may not
+-- leave. A button doesn't ask for the focus
+pub record IsActOfNamed (version : Version) (d : Dialog) (letter : ℕ) (named : Named) (control : Node)
+    (m : Modal) : Type 0 where
+  pub holds : lines_now version d m.leaves letter ≡ named.line ∷ []
+  pub name : IsTrue (gives_name named.line.owner.name control)
+  -- and no other view, where no name is given twice
+  pub only : HasOwnNames d → meant d.views named.line.owner.name ≡ Some control
+  pub item : named.line.owner.item ≡ option_map (λ item. pos item) (item_by letter named.marker.node.kind)
+  pub changes : IsActOn d (is_button named.marker.node.kind) control.id m (act d letter named.marker m)
+  pub does : (is_button named.marker.node.kind ≡ false → keeps_focus m (leaf_at d m.focus) ≡ false)
+      → HasActed letter named.marker.node.kind control.id m (act d letter named.marker m)
 
--- Alt with a letter is the act of its marker, whatever has the focus
-abbrev pub AltLettersAct : Dialog → Type 0
-AltLettersAct d =
-    (m : Modal) (letter : ℕ) → m.held ≡ None
-    → dialog_step d (events.Key (keys.Alt letter)) m ≡ act_on d letter (marking_leaf d m.leaves letter) m
-
--- so is a character that the focused control doesn't take, in upper case
-abbrev pub TypedLettersAct : Dialog → Type 0
-TypedLettersAct d =
-    (m : Modal) (ch : ℕ) (focus : PlacedNode) → m.held ≡ None → leaf_at d m.focus ≡ Some focus
-    → key_answer focus.node.kind (keys.Char ch) (content_at m focus.node.id) ≡ Passed
-    → dialog_step d (events.Key (keys.Char ch)) m
-    ≡ act_on d (upper ch) (marking_leaf d m.leaves (upper ch)) m
-
--- and so is a letter of a focused cluster's own items, whose marker is that cluster. Space isn't one
-abbrev pub OwnLettersAct : Dialog → Type 0
-OwnLettersAct d =
-    (m : Modal) (ch item : ℕ) (focus : PlacedNode) → IsFitModal d m → m.held ≡ None
-    → leaf_at d m.focus ≡ Some focus
-    → (ch == 32) ≡ false → item_by ch focus.node.kind ≡ Some item
-    → (marking_leaf d m.leaves (upper ch) ≡ Some focus)
-    × (dialog_step d (events.Key (keys.Char ch)) m ≡ act d (upper ch) focus m)
+-- so it is where what is named can act
+abbrev pub NamedActOnControls : Version → Dialog → Type 0
+NamedActOnControls version d =
+    (m : Modal) (letter : ℕ) (named : Named) (control : Node) → IsFitModal d m
+    → named_by version d m.leaves letter ≡ Some named → can_act d m.leaves named.marker ≡ true
+    → control_by d named.marker.node named.marker.node.kind ≡ Some control
+    → IsActOfNamed version d letter named control m

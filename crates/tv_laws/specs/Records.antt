@@ -1,8 +1,7 @@
--- What a run logs and saves of a dialog that ends, and what the dialog shows when it opens again.
+-- What is logged and saved of a dialog that ends, and what the dialog shows when it opens again.
 use Rattle.std.specs.Prelude.{◌≡◌, ◌⊎◌, ℕ, true, false, List, ◌∷◌, ◌++◌, map, filter, filter_map, slice_get}
 use Rattle.std.specs.Prelude.{slice_set, Option, Some, None, option_map, All, ◌==◌}
 use Rattle.tv_event.specs.Commands.{cm_cancel}
-use Rattle.tv_event.specs.declared.event.Event.{Event}
 use Rattle.tv_model.specs.declared.node.Id.{Id}
 use Rattle.tv_model.specs.declared.desc.Desc.{Desc}
 use Rattle.tv_model.specs.declared.desc.Dialog.{Dialog}
@@ -18,22 +17,18 @@ use Rattle.tv_machine.specs.Leaves.{PlacedNode, leaf_list}
 use Rattle.tv_machine.specs.Dialog.Ending.{field_line, fields_of}
 use Rattle.tv_machine.specs.Dialog.Opening.{opened_dialog}
 use Rattle.tv_machine.specs.Dialog.Rules.{is_among}
-use Rattle.tv_machine.specs.Output.{states}
 use Rattle.tv_machine.specs.Safe.{HasDeclaredEnd, IsSafeRecord, field_ids}
 use Rattle.tv_machine.specs.Session.Commands.{saved_at}
 use Rattle.tv_machine.specs.Session.Start.{start}
-use Rattle.tv_machine.specs.Session.Step.{step, with_empty_log}
+use Rattle.tv_machine.specs.Session.Step.{with_empty_log}
+use Rattle.tv_laws.specs.Runs.{IsFitState, IsNext}
 use Rattle.tv_laws.specs.Steps.{IsSafeSave}
-
--- the state to which a run has come after these events
-abbrev pub state_after : Desc → List Event → State
-state_after d events = states (step d) (start d) events
 
 -- ---- ends
 
--- each `end` line that a run logs names a dialog of the description and a command that it declares
+-- each `end` line in the log of a fit state names a dialog of the description and a command that it declares
 abbrev pub EndsAsDeclared : Desc → Type 0
-EndsAsDeclared d = (events : List Event) → All (HasDeclaredEnd d) (state_after d events).log
+EndsAsDeclared d = (s : State) → IsFitState d s → All (HasDeclaredEnd d) s.log
 
 -- each dialog declares `cancel`
 abbrev pub DeclareCancel : Desc → Type 0
@@ -86,13 +81,11 @@ pub record IsEnd (d : Desc) (s after : State) : Type 0 where
   pub cancelled : (number == cm_cancel) ≡ true → after.saved ≡ s.saved
   pub saved : (number == cm_cancel) ≡ false → IsSavedAt «open».place dialog (fields_of «open».leaves) s after
 
--- each event of a run logs no end, saves nothing and closes no dialog, or it ends the open dialog and saves
--- what it logs
+-- what comes next of a fit state logs no end, saves nothing and closes no dialog, or it ends the open dialog
+-- and saves what it logs
 abbrev pub SavesWhatItLogs : Desc → Type 0
 SavesWhatItLogs d =
-    (events : List Event) (e : Event)
-    → IsEndless (state_after d events) (step d (state_after d events) e)
-    ⊎ IsEnd d (state_after d events) (step d (state_after d events) e)
+    (s after : State) → IsFitState d s → IsNext d s after → IsEndless s after ⊎ IsEnd d s after
 
 -- ---- opening
 
@@ -119,12 +112,11 @@ OpensAsSaved dialog =
     → overwriting ≡ filter (is_among overwriting) (map (λ view. view.id) dialog.views)
     → fields_of (opened_dialog dialog saved overwriting).leaves ≡ opened_record dialog saved
 
--- a dialog that an event of a run opens shows what was saved of it
+-- a dialog that opens next of a fit state shows what was saved of it
 abbrev pub ReopensAsSaved : Desc → Type 0
 ReopensAsSaved d =
-    (events : List Event) (e : Event) (o : OpenDialog)
-    → (state_after d events).dialog ≡ None → (step d (state_after d events) e).dialog ≡ Some o
-    → ShowsSaved d (state_after d events) o
+    (s after : State) (o : OpenDialog) → IsFitState d s → IsNext d s after → s.dialog ≡ None
+    → after.dialog ≡ Some o → ShowsSaved d s o
 
 -- the dialog that is open at the start shows what is declared: nothing is saved yet
 abbrev pub StartsAsDeclared : Desc → Type 0
@@ -134,6 +126,6 @@ StartsAsDeclared d =
 
 -- ---- after the end
 
--- once a run is over no event does anything: its log is taken, and the rest stays as it is
+-- once a run is over nothing comes next: its log is taken, and the rest stays as it is
 abbrev pub StaysOver : Desc → Type 0
-StaysOver d = (s : State) (e : Event) → s.is_over ≡ true → step d s e ≡ with_empty_log s
+StaysOver d = (s after : State) → s.is_over ≡ true → IsNext d s after → after ≡ with_empty_log s

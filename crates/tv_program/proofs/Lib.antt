@@ -1,5 +1,3 @@
 pub mod CheckLemmas
 mod PlayLemmas
 pub mod RunLemmas
-mod LineLemmas
-pub mod LawLemmas

@@ -1,5 +1,5 @@
 -- Why nothing is run, and how a run that was begun is left.
-use Rattle.std.proofs.Common.{◌≡◌, ℕ, Bool, List, Result, Ok, Err, IfErr, IsErrAnd, inr, ap, pos, refl, subst}
+use Rattle.std.proofs.Common.{◌≡◌, ℕ, List, Result, Ok, Err, IfErr, IsErrAnd, inr, ap, pos, refl, subst}
 use Rattle.tv_building.specs.declared.building.Views.{Views}
 use Rattle.tv_building.specs.declared.fault.BuildFault.{BuildFault}
 use Rattle.tv_faults.proofs.SoundDialogLemmas.{sound_dialogs}
@@ -8,7 +8,6 @@ use Rattle.tv_io.specs.Writer.{Seen}
 use Rattle.tv_lang.specs.Faults.{Spells}
 use Rattle.tv_machine.specs.Run.{Session, started}
 use Rattle.tv_model.specs.declared.desc.Desc.{Desc}
-use Rattle.tv_model.specs.declared.script.Item.{Item}
 use Rattle.tv_model.specs.Description.Numbers.{IsBetween}
 use Rattle.tv_check.specs.declared.desc_fault.DescFault.{DescFault}
 use Rattle.tv_check.specs.declared.desc_fault.DescFault.TheVariants as descs
@@ -18,12 +17,11 @@ use Rattle.tv_program.specs.Playing.{IsLawfulText, IsMismade, IsNoStart, Refuses
 use Rattle.tv_program.specs.Playing.RunsTo.{refused, unbegun, stopped}
 use Rattle.tv_check.specs.Refusals.{IsFaulty}
 use Rattle.tv_program.specs.Reading.{IsSoundText}
-use Rattle.tv_program.proofs.LawLemmas.{RunsByLaws-of}
-use Rattle.tv_script.specs.declared.script_text.ScriptFault.{ScriptFault}
+use Rattle.tv_lawful.proofs.LawLemmas.{RunsByLaws-of}
+use Rattle.tv_script.proofs.FeedLemmas.{comes_weaker}
 use Rattle.tv_script.specs.declared.stream_fault.StreamFault.{StreamFault}
-use Rattle.tv_script.specs.declared.stream_fault.StreamFault.TheVariants as streams
-use Rattle.tv_script.specs.Performed.{FitsLargestScreen, Stops}
-use Rattle.tv_script.specs.Streams.{ComesFrom, Decides, IsCutOff, Performs, StreamsTo}
+use Rattle.tv_script.specs.Performed.{FitsLargestScreen}
+use Rattle.tv_script.specs.Streams.{ComesFrom}
 use Rattle.tv_session.specs.Starting.{RefusesViews}
 use Rattle.tv_session.specs.declared.fault.SessionFault.{SessionFault}
 use Rattle.tv_session.specs.declared.fault.SessionFault.TheVariants as sessions
@@ -42,7 +40,7 @@ faulty-RefusesDesc text d spelled fault is (Err other) told = rw told (desc_run-
 
 -- the laws of every run of what the text spells
 pub lawful : (text : List ℕ) → IsLawfulText text
-lawful text = λ d read. RunsByLaws-of d read.spelled.can (sound_dialogs d read.spelled.can read.sound) read.sound
+lawful text = λ d read. RunsByLaws-of d read.spelled.lines.can (sound_dialogs d read.spelled.lines.can read.sound) read.sound
 
 -- ---- views
 
@@ -57,39 +55,6 @@ module _ {V : Type 0} (Answers : Desc → Result (Views V) BuildFault → Type 0
 -- a description whose screen is lawful fits the largest screen
 pub fits : (d shown : Desc) → shown ≡ d → IsBetween (pos 20) (pos 132) shown.width → IsBetween (pos 10) (pos 60) shown.height → FitsLargestScreen d
 fits d shown same columns rows = subst FitsLargestScreen same (record { columns = columns.1; rows = rows.1 })
-
--- what a run left is of no matter
-module _ (s : Session) (given : List ℕ) (ended : Bool) (old new : Seen) (Left : Session → Type 0) where
-  abbrev Gone : Session → Type 0
-  Gone left = Unit {0}
-
-  Performs-gone : (items : List Item) → Performs s items old new Left → Performs s items old new Gone
-  Performs-gone items p = record { written = p.written; left = tt }
-
-  Decides-gone : (answer : Result (Unit {0}) ScriptFault) → Decides s given ended old new Left answer → Decides s given ended old new Gone answer
-  Decides-gone answer p = record { items = p.items; comes = p.comes; performs = Performs-gone p.items p.performs }
-
-  Stops-gone : (items : List Item) (begun : ℕ) → Stops s items begun old new Left → Stops s items begun old new Gone
-  Stops-gone items begun p = record { few = p.few; cut = p.cut; whole = p.whole; state = tt }
-
-  IsCutOff-gone : (begun : ℕ) → IsCutOff s given ended begun old new Left → IsCutOff s given ended begun old new Gone
-  IsCutOff-gone begun p = record { items = p.items; lines = p.lines; has = p.has; stops = Stops-gone p.items begun p.stops }
-
-  StreamsTo-gone : (fault : StreamFault) → StreamsTo s given ended old new Left (Err fault) → StreamsTo s given ended old new Gone (Err fault)
-  StreamsTo-gone streams.NoMemory p = (p.0, Performs-gone _ p.1)
-  StreamsTo-gone streams.Read p = (p.0, p.1, Performs-gone _ p.2)
-  StreamsTo-gone (streams.Syntax line) p = Decides-gone _ p
-  StreamsTo-gone (streams.OffScreen line) p = Decides-gone _ p
-  StreamsTo-gone streams.TooLong p = Decides-gone _ p
-  StreamsTo-gone (streams.Write begun) p = IsCutOff-gone begun p
-
-ComesFrom-gone : (s : Session) (reader left : Given) (old new : Seen) (Left : Session → Type 0) (fault : StreamFault) → ComesFrom s reader left old new Left (Err fault) → ComesFrom s reader left old new (λ s. Unit {0}) (Err fault)
-ComesFrom-gone s reader left old new Left fault p = record {
-  given = p.given;
-  few = p.few;
-  gave = p.gave;
-  comes = StreamsTo-gone s p.given left.is_ended old new Left fault p.comes;
-}
 
 pub err-is : {T : Type 0} (fault : PlayFault) (r : Result T PlayFault) → IsErrAnd r (λ told. told ≡ fault) → r ≡ Err fault
 err-is fault (Ok x) told = absurd told
@@ -107,4 +72,4 @@ module _ {T : Type 0} (Mismade : Desc → Type 0) (Stands : T → Session → Ty
 
     -- the script was left
     pub stopped-RunsTo : (left : Given) (new : Seen) (Left : Session → Type 0) (fault : StreamFault) → ComesFrom (started d) reader left seen new Left (Err fault) → (r : Result T PlayFault) → IsErrAnd r (λ told. told ≡ stream_run fault) → RunsTo Mismade Stands text reader left seen new r
-    stopped-RunsTo left new Left fault comes r told = stopped d fault read (ComesFrom-gone (started d) reader left seen new Left fault comes) (err-is (stream_run fault) r told)
+    stopped-RunsTo left new Left fault comes r told = stopped d fault read (comes_weaker (started d) reader left seen new Left (λ s. Unit {0}) (λ s stands. tt) (Err fault) comes) (err-is (stream_run fault) r told)

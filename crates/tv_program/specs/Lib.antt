@@ -10,5 +10,3 @@ pub mod Reading
 pub mod Report
 -- What playing a description in a terminal comes to
 pub mod Terminal
--- What the laws say of every run of a description
-pub mod Laws

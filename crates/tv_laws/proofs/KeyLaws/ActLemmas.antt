@@ -30,7 +30,8 @@ use Rattle.tv_machine.specs.Dialog.Rules.{is_enabled, is_visible}
 use Rattle.tv_machine.specs.Dialog.Shortcuts.{act, call_item, called_by, press_item, request_link}
 use Rattle.tv_machine.specs.Safe.{HasValueOf}
 use Rattle.tv_laws.specs.Fit.{IsStanding}
-use Rattle.tv_laws.specs.Letters.{MarkersActOnOwners, HasLines, IsActOn, IsFocusAfter, IsPressOf, KeepsOthers}
+use Rattle.tv_laws.specs.Letters.{HasLines, IsActOn, IsFocusAfter, IsPressOf, KeepsOthers}
+use Rattle.tv_laws.proofs.KeyLaws.MarkerActs.{MarkersActOnOwners}
 use Rattle.tv_laws.specs.Sound.{IsSoundDialog}
 use Rattle.tv_machine.proofs.RefocusLemmas.{content_at-moved, leaves-moved, moved_content, refocused-keeps, refocused_content}
 use Rattle.tv_machine.proofs.LeafLemmas.{HasLeaves, IsIn, content_at-other, leaves-are}

@@ -28,7 +28,8 @@ use Rattle.tv_machine.specs.Dialog.Modal.{Modal, content_at, leaf_at, with_line}
 use Rattle.tv_machine.specs.Dialog.Rules.{is_kind_enabled, is_visible}
 use Rattle.tv_machine.specs.Dialog.Shortcuts.{call_item, called, press_item, request_link}
 use Rattle.tv_laws.specs.Fit.{IsStanding}
-use Rattle.tv_laws.specs.Letters.{MarkersActWhereTheyCan, HasActed, HasPressed, control_by, has_link, is_free_link}
+use Rattle.tv_laws.specs.Letters.{HasActed, HasPressed, control_by, has_link, is_free_link}
+use Rattle.tv_laws.proofs.KeyLaws.MarkerActs.{MarkersActWhereTheyCan}
 use Rattle.tv_laws.specs.Sound.{IsSoundDialog}
 use Rattle.tv_laws.proofs.KeyLaws.ActLemmas.{moved-value}
 use Rattle.tv_machine.proofs.RefocusLemmas.{content_at-moved, leaves-moved, moved_content, refocused-keeps, refocused_content}

@@ -38,7 +38,8 @@ use Rattle.tv_machine.specs.Dialog.Rules.{is_enabled, is_visible}
 use Rattle.tv_machine.specs.Dialog.Shortcuts.{act_on, call_item, called, is_visible_marker, marker_among, marking_leaf, marking_leaves, press_item}
 use Rattle.tv_machine.specs.Dialog.Step.{step_by}
 use Rattle.tv_laws.specs.Fit.{IsFitModal, IsStanding}
-use Rattle.tv_laws.specs.Letters.{AltLettersAct, AreLinesOf, AreOtherItems, HasLines, HasLinesOf, HasOwnNames, IsOwner, CertificateNamesMarker, OneLineInFirstVersion, OwnLettersAct, TypedLettersAct, control_by, holds_now, item_by}
+use Rattle.tv_laws.specs.Letters.{AreLinesOf, AreOtherItems, HasLines, HasLinesOf, HasOwnNames, CertificateNamesMarker, OneLineInFirstVersion, control_by, holds_now, item_by}
+use Rattle.tv_laws.proofs.KeyLaws.MarkerActs.{AltLettersAct, IsOwner, OwnLettersAct, TypedLettersAct}
 use Rattle.tv_laws.specs.Sound.{IsSoundDialog}
 use Rattle.tv_machine.proofs.LeafLemmas.{IsIn, leaf_at-all, leaf_at-is, leaf_at-node, leaves-all}
 use Rattle.tv_machine.proofs.ListLemmas.{bool_cases, found-passes, id-itself, none-fails, option_cases, pairs-head, pairs-tail}

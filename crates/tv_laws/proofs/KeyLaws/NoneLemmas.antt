@@ -17,7 +17,8 @@ use Rattle.tv_machine.specs.Dialog.Focus.{Moved, NotFree, Refused, Same, after_r
 use Rattle.tv_machine.specs.Dialog.Modal.{Modal, leaf_at, with_line}
 use Rattle.tv_machine.specs.Dialog.Rules.{is_command_enabled, is_kind_enabled, is_visible}
 use Rattle.tv_machine.specs.Dialog.Shortcuts.{call_item, called, called_by, press_item, request_link}
-use Rattle.tv_laws.specs.Letters.{UnableMarkersDoNothing, RefusedFocusChangesNothing, has_link, is_free_link}
+use Rattle.tv_laws.specs.Letters.{RefusedFocusChangesNothing, has_link, is_free_link}
+use Rattle.tv_laws.proofs.KeyLaws.MarkerActs.{UnableMarkersDoNothing}
 use Rattle.tv_machine.proofs.ListLemmas.{and-true, bool_cases}
 use Rattle.tv_laws.proofs.KeyLaws.LetterLemmas.{control-in, control_in, is_press_mark, press-mark}
 

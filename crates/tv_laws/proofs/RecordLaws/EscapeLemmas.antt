@@ -1,9 +1,8 @@
--- A run can leave the open dialog: by Esc, and after a mouse up by Esc whatever held the mouse.
-use Rattle.std.proofs.Common.{◌≡◌, false, ◌&&◌, ℕ, if◌then◌else◌, List, [], ◌∷◌, get_or, is_some, Option, Some, None, refl, sym, ap, subst, ◌∙◌}
+-- The open dialog can be left: by Esc, and after a mouse up by Esc whatever held the mouse.
+use Rattle.std.proofs.Common.{◌≡◌, false, not, ◌&&◌, ℕ, if◌then◌else◌, get_or, is_none, is_some, Option, Some, None, refl, sym, ap, subst, ◌∙◌}
 use Rattle.std.specs.Prelude.{slice_get}
 use Rattle.std.proofs.lemmas.Bool.{false≢true}
 use Rattle.tv_cells.specs.declared.rect.Point.{Point}
-use Rattle.tv_event.specs.declared.event.Event.{Event}
 use Rattle.tv_event.specs.declared.event.Event.TheVariants as events
 use Rattle.tv_event.specs.declared.event.Key.{Key}
 use Rattle.tv_event.specs.declared.event.Key.TheVariants as keys
@@ -14,24 +13,28 @@ use Rattle.tv_machine.specs.State.{HeldFrame, OpenDialog, State}
 use Rattle.tv_machine.specs.Dialog.Ending.{ended}
 use Rattle.tv_machine.specs.Dialog.Modal.{Modal}
 use Rattle.tv_machine.specs.Dialog.Step.{dialog_step}
-use Rattle.tv_machine.specs.Output.{states}
-use Rattle.tv_machine.specs.Session.Commands.{after_work, modal_of, dialog_after, works}
+use Rattle.tv_machine.specs.Session.Commands.{after_work, do_command, modal_of, dialog_after, works}
 use Rattle.tv_machine.specs.Session.Dragging.{corner_at, let_go, placed, step_dragged}
-use Rattle.tv_machine.specs.Session.Start.{start}
+use Rattle.tv_machine.specs.Session.Enabled.{is_enabled_now}
+use Rattle.tv_machine.specs.Session.Menu.{close_menu}
 use Rattle.tv_machine.specs.Session.Step.{dialog_with_hold, event_from, is_item_enabled, status_item_of, step, to_dialog, with_empty_log}
 use Rattle.tv_laws.specs.Escape.{EscCancelsOpen, IsCancelled, UpEscCancels, UpEscLeaves, UpFreesFrame, UpFreesMouse, escape}
-use Rattle.tv_laws.specs.Records.{StaysOver, state_after}
+use Rattle.tv_laws.specs.Records.{StaysOver}
 use Rattle.tv_laws.specs.Runs.{HasSoundDialogs, IsFitState}
+use Rattle.tv_laws.specs.Runs.IsNext.{by_command, by_event}
 use Rattle.tv_laws.proofs.DragLemmas.{dropped-cases, moved_to, placed-frame}
 use Rattle.tv_laws.proofs.LeavingLemmas.{esc-cancels, up-lets-go}
 use Rattle.tv_machine.proofs.ListLemmas.{bool_cases, find-none, option_cases}
 use Rattle.tv_machine.proofs.StepLemmas.{key_by_dialog, key_by_item, key_by_menu, step_by_frame, step_by_hold}
-use Rattle.tv_laws.proofs.RunLemmas.{not_some, runs-fit, start-fit}
+use Rattle.tv_laws.proofs.RunLemmas.{not_some, steps-fit}
 use Rattle.tv_laws.proofs.WorkLemmas.{nothing, sound-at}
 
 -- nothing happens once the run is over
 pub stays-over : (d : Desc) → StaysOver d
-stays-over d s e over = ap (λ b. if b then with_empty_log s else step_by_frame d s.frame e (with_empty_log s)) over
+stays-over d s after over (by_event e is) = is ∙ ap (λ b. if b then with_empty_log s else step_by_frame d s.frame e (with_empty_log s)) over
+stays-over d s after over (by_command number is) =
+    is
+    ∙ ap (λ b. if not b && is_none s.frame && is_none (dialog_with_hold s.dialog) && is_enabled_now d s number then do_command d number (close_menu (with_empty_log s)) else with_empty_log s) over
 
 -- ---- no status item has Esc
 
@@ -47,15 +50,6 @@ no_item d s =
     (λ k e h. ap (λ b. b && is_item_enabled d s (get_or d.status k e)) (never_esc (get_or d.status k e).key))
 
 module _ (d : Desc) (sound : HasSoundDialogs d) where
-  -- ---- every state of a run is fit
-
-  states_fit : (es : List Event) (s : State) → IsFitState d s → IsFitState d (states (step d) s es)
-  states_fit [] s f = f
-  states_fit (e ∷ es) s f = states_fit es (step d s e) (runs-fit d sound s e f)
-
-  pub reached-fit : (es : List Event) → IsFitState d (state_after d es)
-  reached-fit es = states_fit es (start d) (start-fit d sound)
-
   -- ---- Esc while a dialog is open
 
   esc_step : (s : State) (o : OpenDialog) → s.dialog ≡ Some o → o.held ≡ None → s.frame ≡ None → s.menu ≡ None → s.is_over ≡ false
@@ -82,7 +76,7 @@ module _ (d : Desc) (sound : HasSoundDialogs d) where
       (record { dialog = x.dialog; there = x.there; closed = refl; written = refl; saved = refl })
 
   pub esc-cancels-open : EscCancelsOpen d
-  esc-cancels-open before o some idle free = cancelled (state_after d before) o (reached-fit before) some idle free
+  esc-cancels-open s o f some idle free = cancelled s o f some idle free
 
   -- ---- a mouse up
 
@@ -141,7 +135,7 @@ module _ (d : Desc) (sound : HasSoundDialogs d) where
       (λ frame held. loose_drop s p frame held f)) refl
 
   pub up-frees-mouse : UpFreesMouse d
-  up-frees-mouse before p = up_loose (state_after d before) p (reached-fit before)
+  up-frees-mouse s p o f some = up_loose s p f o some
 
   -- ---- and no frame is held after it
 
@@ -174,7 +168,7 @@ module _ (d : Desc) (sound : HasSoundDialogs d) where
       ap (λ b. (if b then with_empty_log s else step_dragged d frame (events.Up p) (with_empty_log s)).frame) (f.frame frame held).over ∙ free_drop (with_empty_log s) p frame) refl
 
   pub up-frees-frame : UpFreesFrame d
-  up-frees-frame before p = up_frees (state_after d before) p (reached-fit before)
+  up-frees-frame s p f = up_frees s p f
 
   -- ---- a mouse up and Esc
 
@@ -192,13 +186,8 @@ module _ (d : Desc) (sound : HasSoundDialogs d) where
       option_cases s.dialog (λ x. s.dialog ≡ x → (step d s escape).dialog ≡ None) (λ none e. esc_idle s e free) (λ o some e. (cancelled s o f e (idle o e) free).closed) refl
 
   pub up-esc-leaves : UpEscLeaves d
-  up-esc-leaves before p =
-      let s = state_after d before in
-      let f = reached-fit before in
-      esc_loose (step d s (events.Up p)) (runs-fit d sound s (events.Up p) f) (up_loose s p f) (up_frees s p f)
+  up-esc-leaves s p f = esc_loose (step d s (events.Up p)) (steps-fit d sound s (events.Up p) f) (up_loose s p f) (up_frees s p f)
 
   pub up-esc-cancels : UpEscCancels d
-  up-esc-cancels before p o some =
-      let s = state_after d before in
-      let f = reached-fit before in
-      cancelled (step d s (events.Up p)) o (runs-fit d sound s (events.Up p) f) some (up_loose s p f o some) (up_frees s p f)
+  up-esc-cancels s p o f some =
+      cancelled (step d s (events.Up p)) o (steps-fit d sound s (events.Up p) f) some (up_loose s p f o some) (up_frees s p f)

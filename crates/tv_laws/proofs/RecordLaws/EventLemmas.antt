@@ -1,4 +1,4 @@
--- Each event of a run logs no end and saves nothing, or ends the open dialog and saves what it logs.
+-- What comes next of a fit state logs no end and saves nothing, or ends the open dialog and saves what it logs.
 use Rattle.std.proofs.Common.{◌≡◌, ◌⊎◌, inl, inr, false, not, ◌==◌, ◌<◌, ℕ, if◌then◌else◌, ◌++◌, length, map, is_some, Option, Some, None, option_map, unwrap_or, refl, sym, ap, subst, ◌∙◌}
 use Rattle.std.specs.Prelude.{pos, slice_get, slice_set}
 use Rattle.std.proofs.lemmas.List.Elements.{All-nil, All-push}
@@ -14,7 +14,7 @@ use Rattle.tv_model.specs.declared.desc.StatusItem.{StatusItem}
 use Rattle.tv_model.specs.declared.log.LogLine.TheVariants as lines
 use Rattle.tv_model.specs.Description.Commands.{command_number}
 use Rattle.tv_model.specs.Description.Rectangles.{desktop, rect}
-use Rattle.tv_machine.specs.State.{HeldFrame, OpenDialog, State}
+use Rattle.tv_machine.specs.State.{HeldFrame, OpenDialog, OpenMenu, State}
 use Rattle.tv_machine.specs.Dialog.Ending.{command, ended, fields_of}
 use Rattle.tv_machine.specs.Dialog.Modal.{Modal}
 use Rattle.tv_machine.specs.Dialog.Step.{dialog_step}
@@ -23,10 +23,12 @@ use Rattle.tv_machine.specs.Screen.Bars.{status_under}
 use Rattle.tv_machine.specs.Session.Commands.{after_work, command_by_dialog, do_command, in_dialog, modal_of, saved_by, with_line_logged, works}
 use Rattle.tv_machine.specs.Session.Desktop.{seen_from}
 use Rattle.tv_machine.specs.Session.Dragging.{corner_at, grabbed, is_grip_of, let_go, placed, step_dragged}
-use Rattle.tv_machine.specs.Session.Step.{after_event, dialog_with_hold, down_on_dialog, event_from, is_item_enabled, is_status_row, status_command, status_item_of, step, step_held, to_dialog, with_empty_log}
+use Rattle.tv_machine.specs.Session.Menu.{close_menu}
+use Rattle.tv_machine.specs.Session.Step.{after_event, dialog_with_hold, down_on_dialog, event_from, give_command, is_item_enabled, is_status_row, status_command, status_item_of, step, step_held, takes_command, to_dialog, with_empty_log}
 use Rattle.tv_laws.specs.Ends.{IsDone, NamesEndOf, IsOpen}
 use Rattle.tv_laws.specs.Records.{IsEnd, IsEndless, IsNoEnd, ShowsSaved, end_lines}
-use Rattle.tv_laws.specs.Runs.{HasSoundDialogs, IsFitState}
+use Rattle.tv_laws.specs.Runs.{HasSoundDialogs, IsFitState, IsNext}
+use Rattle.tv_laws.specs.Runs.IsNext.{by_command, by_event}
 use Rattle.tv_laws.specs.Sound.{IsSoundDialog}
 use Rattle.tv_laws.specs.Steps.{RespectsHold}
 use Rattle.tv_laws.proofs.DragLemmas.{dropped-cases}
@@ -35,7 +37,7 @@ use Rattle.tv_laws.proofs.RecordLaws.IdleLemmas.{IsBeside, IsStill, command-besi
 use Rattle.tv_machine.proofs.ListLemmas.{bool_cases, option_cases}
 use Rattle.tv_machine.proofs.StepLemmas.{down_by_dialog, down_by_menu, down_by_row, key_by_dialog, key_by_item, key_by_menu, step_by_frame, step_by_hold}
 use Rattle.tv_laws.proofs.RecordLaws.OnceLemmas.{EndsLast, HasEnded, last-command, last-step}
-use Rattle.tv_laws.proofs.RunLemmas.{given_down, given_key, given_move, given_up, menu_idle, not_some}
+use Rattle.tv_laws.proofs.RunLemmas.{given_down, given_key, given_move, given_up, menu_idle, not_some, takes-ready}
 use Rattle.tv_laws.proofs.RecordLaws.ShowLemmas.{standing-ids}
 use Rattle.tv_laws.proofs.StepLemmas.{stays-fit}
 use Rattle.tv_laws.proofs.WorkLemmas.{get_less, get_set_same, nothing, sound-at}
@@ -45,8 +47,8 @@ pub record IsCalm (d : Desc) (s after : State) : Type 0 where
   pub endless : IsEndless s after
   pub shows : (o : OpenDialog) → s.dialog ≡ None → after.dialog ≡ Some o → ShowsSaved d s o
 
-module _ (d : Desc) (sound : HasSoundDialogs d) (s : State) (f : IsFitState d s) (places : length s.saved ≡ length d.dialogs) where
-  -- what came of an event
+module _ (d : Desc) (sound : HasSoundDialogs d) (s : State) (f : IsFitState d s) where
+  -- what came of it
   abbrev pub IsTold : State → Type 0
   IsTold after = IsCalm d s after ⊎ IsEnd d s after
 
@@ -86,7 +88,7 @@ module _ (d : Desc) (sound : HasSoundDialogs d) (s : State) (f : IsFitState d s)
         → IsEnd d s (after_work quiet o (ended dialog h.number h.before) (Some h.number))
     end_told dialog there m done h =
         let entries = fields_of o.leaves in
-        let less : o.place < length s.saved = subst (λ (n : ℕ). o.place < n) (sym places) (get_less d.dialogs o.place dialog there) in
+        let less : o.place < length s.saved = subst (λ (n : ℕ). o.place < n) (sym f.kept.records) (get_less d.dialogs o.place dialog there) in
         let of = done.ends h.number (ap (λ x. x.ended) h.is) in
         let as_stood : fields_of m.leaves ≡ entries = ap (λ x. fields_of x.leaves) h.is ∙ ap fields_of h.same in
         let saved_as : (h.number == 11) ≡ false → saved_by o.place h.number h.before s.saved ≡ slice_set s.saved o.place (Some entries) = λ e.
@@ -256,7 +258,24 @@ module _ (d : Desc) (sound : HasSoundDialogs d) (s : State) (f : IsFitState d s)
       (λ loose. below_told
       (λ x is. let both : Some o ≡ Some x = sym some ∙ is in let same : o ≡ x = cc in subst (λ y. y.held ≡ None) same (not_some o.held loose)) e))
 
-  pub event-told : (e : Event) → IsTold (step d s e)
-  event-told e =
+  event_told : (e : Event) → IsTold (step d s e)
+  event_told e =
       bool_cases s.is_over (λ b. IsTold (if b then quiet else step_by_frame d s.frame e quiet)) (λ over. unchanged)
       (λ goes. option_cases s.frame (λ frame. IsTold (step_by_frame d frame e quiet)) (λ free. at_told e) (λ frame held. dragged_told frame e))
+
+  -- ---- commands that the program gives
+
+  given_at : (number : ℕ) → ((o : OpenDialog) → s.dialog ≡ Some o → o.held ≡ None) → IsTold (do_command d number (close_menu quiet))
+  given_at number idle =
+      option_cases s.dialog (λ x. s.dialog ≡ x → IsTold (do_command d number (close_menu quiet)))
+      (λ is none. idle_told _ none (command-beside d sound s f.kept number (close_menu quiet) (All-nil IsNoEnd, refl, refl, none)))
+      (λ o is some. subst (λ t. IsTold (do_command d number t)) (ap (λ (menu : Option OpenMenu). record quiet { menu = menu }) (f.«open» o some).menu) (command_told idle number)) refl
+
+  given_told : (number : ℕ) → IsTold (give_command d s number)
+  given_told number =
+      bool_cases (takes_command d s number) (λ b. IsTold (if b then do_command d number (close_menu quiet) else quiet))
+      (λ takes. given_at number (takes-ready d sound number s f takes).idle) (λ refused. unchanged)
+
+  pub next-told : (after : State) → IsNext d s after → IsTold after
+  next-told after (by_event e is) = subst IsTold (sym is) (event_told e)
+  next-told after (by_command number is) = subst IsTold (sym is) (given_told number)

@@ -1,27 +1,21 @@
 -- Runs save what they log of a dialog that ends, and show it when it opens again.
-use Rattle.std.proofs.Common.{◌≡◌, ◌⊎◌, inl, inr, true, ◌||◌, ◌==◌, ℕ, zero, suc, List, [], ◌∷◌, length, position, replicate, Option, Some, None, unwrap_or, refl, sym, ap, ◌∙◌}
+use Rattle.std.proofs.Common.{◌≡◌, ◌⊎◌, inl, inr, true, ◌||◌, ℕ, zero, suc, List, length, position, replicate, Option, Some, None, unwrap_or, refl, sym, ap, ◌∙◌}
 use Rattle.std.specs.Prelude.{slice_get}
 use Rattle.std.proofs.lemmas.List.Elements.{All-nil, All-weaker}
-use Rattle.tv_event.specs.declared.event.Event.{Event}
 use Rattle.tv_model.specs.declared.desc.Desc.{Desc}
 use Rattle.tv_model.specs.Description.Commands.{is_declared, is_end}
 use Rattle.tv_model.specs.Description.Heads.{dialog_head, is_named}
 use Rattle.tv_model.specs.Log.Record.{Entries}
 use Rattle.tv_machine.specs.State.{OpenDialog, State}
-use Rattle.tv_machine.specs.Dialog.Ending.{fields_of}
-use Rattle.tv_machine.specs.Output.{states}
 use Rattle.tv_machine.specs.Session.Commands.{saved_at}
 use Rattle.tv_machine.specs.Session.Start.{closed, start, started_at, started_by}
-use Rattle.tv_machine.specs.Session.Step.{step}
-use Rattle.tv_laws.specs.Records.{DeclareCancel, EndsAsDeclared, IsEnd, IsEndless, IsNoEnd, ReopensAsSaved, SavesWhatItLogs, ShowsSaved, StartsAsDeclared, opened_record, state_after}
-use Rattle.tv_laws.specs.Runs.{HasSoundDialogs, IsFitState}
+use Rattle.tv_laws.specs.Records.{DeclareCancel, EndsAsDeclared, IsEnd, IsEndless, IsNoEnd, ReopensAsSaved, SavesWhatItLogs, ShowsSaved, StartsAsDeclared, opened_record}
+use Rattle.tv_laws.specs.Runs.{HasSoundDialogs}
 use Rattle.tv_laws.specs.Sound.{IsSoundDialog}
-use Rattle.tv_laws.proofs.RecordLaws.EscapeLemmas.{reached-fit}
-use Rattle.tv_laws.proofs.RecordLaws.EventLemmas.{IsCalm, event-told}
+use Rattle.tv_laws.proofs.RecordLaws.EventLemmas.{IsCalm, next-told}
 use Rattle.tv_laws.proofs.RecordLaws.IdleLemmas.{IsBeside, opens-beside, still-beside}
-use Rattle.tv_machine.proofs.ListLemmas.{bool_cases}
-use Rattle.tv_laws.proofs.RunLemmas.{closed_kept, copies_length, runs-fit, start-fit}
-use Rattle.tv_laws.proofs.WorkLemmas.{length_set, nothing}
+use Rattle.tv_laws.proofs.RunLemmas.{closed_kept}
+use Rattle.tv_laws.proofs.WorkLemmas.{nothing}
 
 -- no record is saved at first
 abbrev none_yet : Option Entries
@@ -36,7 +30,7 @@ module _ (d : Desc) (sound : HasSoundDialogs d) where
   -- ---- ends
 
   pub ends-as-declared : EndsAsDeclared d
-  ends-as-declared events = (reached-fit d sound events).kept.ends
+  ends-as-declared s f = f.kept.ends
 
   pub declare-cancel : DeclareCancel d
   declare-cancel =
@@ -66,46 +60,18 @@ module _ (d : Desc) (sound : HasSoundDialogs d) where
         same_saved o.place ∙ none_saved (length d.dialogs) o.place,
       )
 
-  -- ---- every state of a run
-
-  -- it is fit, and has a place for the record of each dialog
-  record IsRun (s : State) : Type 0 where
-    fit : IsFitState d s
-    places : length s.saved ≡ length d.dialogs
-
-  told_places : (s after : State) → length s.saved ≡ length d.dialogs → IsCalm d s after ⊎ IsEnd d s after
-      → length after.saved ≡ length d.dialogs
-  told_places s after places (inl b) = ap length b.endless.saved ∙ places
-  told_places s after places (inr e) =
-      bool_cases (e.number == 11) (λ b. (e.number == 11) ≡ b → length after.saved ≡ length d.dialogs) (λ is g. ap length (e.cancelled g) ∙ places)
-      (λ is g. ap length (e.saved g).set ∙ length_set s.saved e.«open».place (Some (fields_of e.«open».leaves)) ∙ places) refl
-
-  run_step : (s : State) (e : Event) → IsRun s → IsRun (step d s e)
-  run_step s e r = record { fit = runs-fit d sound s e r.fit; places = told_places s (step d s e) r.places (event-told d sound s r.fit r.places e) }
-
-  run_states : (es : List Event) (s : State) → IsRun s → IsRun (states (step d) s es)
-  run_states [] s r = r
-  run_states (e ∷ es) s r = run_states es (step d s e) (run_step s e r)
-
-  run_reached : (es : List Event) → IsRun (state_after d es)
-  run_reached es =
-      run_states es (start d) (record { fit = start-fit d sound; places = ap length start_beside.saved ∙ copies_length d sound (length d.dialogs) None })
-
-  -- ---- each event of it
-
-  told : (es : List Event) (e : Event) → IsCalm d (state_after d es) (step d (state_after d es) e) ⊎ IsEnd d (state_after d es) (step d (state_after d es) e)
-  told es e = let r = run_reached es in event-told d sound (state_after d es) r.fit r.places e
+  -- ---- what comes next
 
   saves : (s after : State) → IsCalm d s after ⊎ IsEnd d s after → IsEndless s after ⊎ IsEnd d s after
   saves s after (inl b) = inl b.endless
   saves s after (inr e) = inr e
 
   pub saves-what-it-logs : SavesWhatItLogs d
-  saves-what-it-logs es e = saves (state_after d es) (step d (state_after d es) e) (told es e)
+  saves-what-it-logs s after f comes = saves s after (next-told d sound s f after comes)
 
   reopens : (s after : State) (o : OpenDialog) → s.dialog ≡ None → after.dialog ≡ Some o → IsCalm d s after ⊎ IsEnd d s after → ShowsSaved d s o
   reopens s after o none some (inl b) = b.shows o none some
   reopens s after o none some (inr e) = absurd (nothing e.«open» (sym none ∙ e.was))
 
   pub reopens-as-saved : ReopensAsSaved d
-  reopens-as-saved es e o none some = reopens (state_after d es) (step d (state_after d es) e) o none some (told es e)
+  reopens-as-saved s after o f comes none some = reopens s after o none some (next-told d sound s f after comes)

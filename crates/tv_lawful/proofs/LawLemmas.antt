@@ -47,24 +47,22 @@ use Rattle.tv_check.proofs.MadeLemmas.{sound_made}
 use Rattle.tv_laws.proofs.DeclaredLemmas.{declared-top}
 use Rattle.tv_laws.proofs.LeavingLemmas.{esc-cancels, tab-next, up-lets-go}
 use Rattle.tv_laws.proofs.OpenLemmas.{opens-fit}
-use Rattle.tv_laws.proofs.MarkerLemmas.{hidden-acts-on-none, marks-once, unnamed-acts-on-none, visible-is-marker}
-use Rattle.tv_laws.proofs.RunLemmas.{always-marks-once, always-safe}
+use Rattle.tv_laws.proofs.MarkerLemmas.{marks-once, visible-is-marker}
+use Rattle.tv_laws.proofs.RunLemmas.{always-marks-once, always-safe, fit-safe, reached-fit, records-fit, runs-fit, start-fit}
 use Rattle.tv_laws.proofs.StepLemmas.{stays-fit}
 use Rattle.tv_laws.proofs.TabLemmas.{tab-goes-on}
-use Rattle.tv_laws.proofs.KeyLaws.ActLemmas.{acts-on-owner}
 use Rattle.tv_laws.proofs.KeyLaws.CycleLemmas.{tab-goes-round}
-use Rattle.tv_laws.proofs.KeyLaws.GrantLemmas.{acts-where-it-can}
-use Rattle.tv_laws.proofs.KeyLaws.LetterLemmas.{alt-acts, marks-alike, one-line-in-first-version, own-letter-acts, typed-acts}
-use Rattle.tv_laws.proofs.KeyLaws.NoneLemmas.{acts-on-none, refused-acts-on-none}
+use Rattle.tv_laws.proofs.KeyLaws.LetterLemmas.{marks-alike, one-line-in-first-version}
+use Rattle.tv_laws.proofs.KeyLaws.NamedLemmas.{keys-act, named-acts, unable-named}
+use Rattle.tv_laws.proofs.KeyLaws.NoneLemmas.{refused-acts-on-none}
 use Rattle.tv_laws.proofs.KeyLaws.OrderLemmas.{free-are-controls, refusal-stays, shift-tab-previous, stops-are-tabs}
 use Rattle.tv_laws.proofs.KeyLaws.ValueLemmas.{tab-keeps-values}
 use Rattle.tv_laws.specs.Letters.{HasLines, HasOwnNames}
-use Rattle.tv_laws.specs.Records.{state_after}
-use Rattle.tv_laws.proofs.RecordLaws.EscapeLemmas.{esc-cancels-open, reached-fit, stays-over, up-esc-cancels, up-esc-leaves, up-frees-frame, up-frees-mouse}
+use Rattle.tv_laws.proofs.RecordLaws.EscapeLemmas.{esc-cancels-open, stays-over, up-esc-cancels, up-esc-leaves, up-frees-frame, up-frees-mouse}
 use Rattle.tv_laws.proofs.RecordLaws.SavedLemmas.{declare-cancel, ends-as-declared, reopens-as-saved, saves-what-it-logs, starts-as-declared}
 use Rattle.tv_laws.proofs.RecordLaws.ShowLemmas.{fields-opened}
-use Rattle.tv_program.proofs.LineLemmas.{has-lines}
-use Rattle.tv_program.specs.Laws.{AltLettersAreFree, IsNoStatusKey, KeysReachDialog, LeavesByLaws, LettersByLaws, MarksApartInFirstVersion, PlainKeysAreFree, RecordsByLaws, RunsByLaws, ScriptsReach, TabsByLaws, WorksByLaws, event_in, may_be_status_key}
+use Rattle.tv_lawful.proofs.LineLemmas.{has-lines}
+use Rattle.tv_lawful.specs.Laws.{AltLettersAreFree, FitByLaws, IsNoStatusKey, KeysReachDialog, LeavesByLaws, LettersByLaws, MarksApartInFirstVersion, PlainKeysAreFree, RecordsByLaws, RunsByLaws, ScriptsReach, TabsByLaws, WorksByLaws, event_in, may_be_status_key}
 
 -- ---- scripts
 
@@ -146,9 +144,8 @@ key-step d s o k some idle loose menu over free =
     ∙ ap (λ x. key_by_dialog d x k (with_empty_log s)) some
 
 keys-reach : (d : Desc) → HasSoundDialogs d → KeysReachDialog d
-keys-reach d dialogs before o dialog k some there idle loose free =
-    let s = state_after d before in
-    let x = (reached-fit d dialogs before).«open» o some in
+keys-reach d dialogs s o dialog k f some there idle loose free =
+    let x = f.«open» o some in
     key-step d s o k some idle loose x.menu x.over free
     ∙ ap (works (with_empty_log s) o (λ y m. dialog_step y (event_from o.origin (events.Key k)) m)) there
 
@@ -190,21 +187,18 @@ apart-in-first versions.Two d own = tt
 
 letters-of : (version : Version) (d : Dialog) → IsSoundDialog d → HasOwnLetters (dialog_body version d) → HasLines version d → LettersByLaws version d
 letters-of version d sound own lines = record {
-  lines = lines;
-  once = marks-once d sound;
-  visible = visible-is-marker d sound;
-  alt = alt-acts d;
-  typed = typed-acts d;
-  own = own-letter-acts d sound;
-  marker = marks-alike version d lines;
-  first = one-line-in-first-version d;
-  apart = apart-in-first version d own;
-  owner = acts-on-owner d sound version lines;
-  does = acts-where-it-can d sound;
-  unnamed = unnamed-acts-on-none version d lines;
-  hidden = hidden-acts-on-none d;
-  none = acts-on-none d;
+  certificate = record {
+    lines = lines;
+    first = one-line-in-first-version d;
+    apart = apart-in-first version d own;
+    marker = marks-alike version d lines;
+    once = marks-once d sound;
+    visible = visible-is-marker d sound;
+  };
+  keys = keys-act d sound version lines;
+  unable = unable-named d;
   refused = refused-acts-on-none d;
+  acts = named-acts d sound version lines;
 }
 
 works-of : (d : Dialog) → IsSoundDialog d → WorksByLaws d
@@ -237,13 +231,22 @@ leaves-of d dialogs = record {
   over = stays-over d;
 }
 
+fit-of : (d : Desc) → HasSoundDialogs d → StandOnDesktop d → FitByLaws d
+fit-of d dialogs stand = record {
+  starts = start-fit d dialogs;
+  runs = runs-fit d dialogs;
+  records = records-fit d;
+  reaches = reached-fit d dialogs;
+  safe = fit-safe d dialogs stand;
+  always_safe = always-safe d dialogs stand;
+}
+
 pub RunsByLaws-of : (d : Desc) → IsDescription d → HasSoundDialogs d → IsSound d → RunsByLaws d
 RunsByLaws-of d is dialogs sound = record {
   certified = sound_made d sound;
   names = names-of d sound;
   scripts = scripts-reach d;
-  safe = always-safe d dialogs (stand-on-desktop d sound);
-  usable = reached-fit d dialogs;
+  fit = fit-of d dialogs (stand-on-desktop d sound);
   once = always-marks-once d dialogs;
   keys = record { reach = keys-reach d dialogs; plain = plain-keys d; alt = alt-letters d sound };
   tabs = All-weaker IsSoundDialog TabsByLaws tabs-of d.dialogs dialogs;

@@ -1,5 +1,5 @@
--- What the laws say of every run of a sound description: of each state that events lead to, and so of each
--- that a script makes.
+-- What the laws say of every run of a sound description: of each fit state, and so of each that events,
+-- commands that the program gives and records that it hands in lead to.
 use Rattle.std.specs.Prelude.{◌≡◌, ℕ, Bool, true, false, List, filter_map, slice_get, Option, Some, None, All}
 use Rattle.std.specs.Prelude.{AllPairs}
 use Rattle.tv_event.specs.declared.event.Event.{Event}
@@ -25,20 +25,30 @@ use Rattle.tv_machine.specs.Session.Step.{step, with_empty_log}
 use Rattle.tv_faults.specs.Sound.Letters.{MarkOtherLetters, marked_texts}
 use Rattle.tv_check.specs.Certificates.{IsSoundCertificate, certificate_of}
 use Rattle.tv_laws.specs.Leaving.{EscCancels, TabAsksNext, TabGoesOn, UpLetsGo}
-use Rattle.tv_laws.specs.Runs.{IsFitState}
+use Rattle.tv_laws.specs.Runs.{FitIsSafe, IsFitState, ReachesFit, RecordsFit, RunsFit, StartsFit, state_after}
 use Rattle.tv_laws.specs.Steps.{OpensFit, StaysFit}
-use Rattle.tv_laws.specs.Letters.{AltLettersAct, CertificateNamesMarker, HasLines, HasOwnNames}
-use Rattle.tv_laws.specs.Letters.{HiddenMarkersDoNothing, LettersAlwaysHaveOneMarker, LettersHaveOneMarker}
-use Rattle.tv_laws.specs.Letters.{MarkersActOnOwners, MarkersActWhereTheyCan, OneLineInFirstVersion}
-use Rattle.tv_laws.specs.Letters.{OwnLettersAct, RefusedFocusChangesNothing, TypedLettersAct}
-use Rattle.tv_laws.specs.Letters.{UnableMarkersDoNothing, UnnamedLettersDoNothing, VisibleIsMarker}
+use Rattle.tv_laws.specs.Letters.{CertificateNamesMarker, HasLines, HasOwnNames, KeysActAsNamed}
+use Rattle.tv_laws.specs.Letters.{LettersAlwaysHaveOneMarker, LettersHaveOneMarker, NamedActOnControls}
+use Rattle.tv_laws.specs.Letters.{OneLineInFirstVersion, RefusedFocusChangesNothing, UnableNamedDoNothing}
+use Rattle.tv_laws.specs.Letters.{VisibleIsMarker}
 use Rattle.tv_laws.specs.Order.{FreeAreControls, RefusalStays, ShiftTabAsksPrevious, StopsAreTabs}
 use Rattle.tv_laws.specs.Order.{TabGoesRound, TabKeepsValues}
 use Rattle.tv_laws.specs.Escape.{EscCancelsOpen, UpEscCancels, UpEscLeaves, UpFreesFrame, UpFreesMouse}
 use Rattle.tv_laws.specs.Records.{DeclareCancel, EndsAsDeclared, OpensAsSaved, ReopensAsSaved}
-use Rattle.tv_laws.specs.Records.{SavesWhatItLogs, StartsAsDeclared, StaysOver, state_after}
+use Rattle.tv_laws.specs.Records.{SavesWhatItLogs, StartsAsDeclared, StaysOver}
 
 -- ---- the states that are spoken of
+
+-- a run starts fit, and whatever comes next of it is fit; so each state that events lead to is. A fit state is
+-- safe: an open dialog's focus is free and its top row can be seen, a frame that is dragged is there, and
+-- values, saved records and ends are such as are declared
+pub record FitByLaws (d : Desc) : Type 0 where
+  pub starts : StartsFit d
+  pub runs : RunsFit d
+  pub records : RecordsFit d
+  pub reaches : ReachesFit d
+  pub safe : FitIsSafe d
+  pub always_safe : IsAlwaysSafe d
 
 -- the event of an item, if it is one
 abbrev pub event_in : Item → Option Event
@@ -52,10 +62,6 @@ ScriptsReach d =
     (script : List Item)
     → after (started d) script
     ≡ quiet (record { desc = d; state = state_after d (filter_map event_in script) })
-
--- each state is one in which an open dialog can be used, as the laws of dialogs ask
-abbrev pub StaysUsable : Desc → Type 0
-StaysUsable d = (events : List Event) → IsFitState d (state_after d events)
 
 -- ---- which keys an open dialog gets
 
@@ -72,15 +78,13 @@ worked_on s o m = after_work (with_empty_log s) o m m.ended
 abbrev pub worked_by_key : State → OpenDialog → Dialog → Key → State
 worked_by_key s o dialog k = worked_on s o (dialog_step dialog (events.Key k) (modal_of s o))
 
--- wherever a run has come to an open dialog, while the mouse holds neither a leaf of it nor a frame, a key
--- that no status item has is the dialog's
+-- while the mouse holds neither a leaf of the open dialog nor a frame, a key that no status item has is the
+-- dialog's
 abbrev pub KeysReachDialog : Desc → Type 0
 KeysReachDialog d =
-    (before : List Event) (o : OpenDialog) (dialog : Dialog) (k : Key)
-    → (state_after d before).dialog ≡ Some o
-    → slice_get d.dialogs o.place ≡ Some dialog → o.held ≡ None
-    → (state_after d before).frame ≡ None → IsNoStatusKey d k
-    → step d (state_after d before) (events.Key k) ≡ worked_by_key (state_after d before) o dialog k
+    (s : State) (o : OpenDialog) (dialog : Dialog) (k : Key) → IsFitState d s → s.dialog ≡ Some o
+    → slice_get d.dialogs o.place ≡ Some dialog → o.held ≡ None → s.frame ≡ None → IsNoStatusKey d k
+    → step d s (events.Key k) ≡ worked_by_key s o dialog k
 
 -- a function key, or Ctrl or Alt with a character
 abbrev pub may_be_status_key : Key → Bool
@@ -117,25 +121,25 @@ abbrev pub MarksApartInFirstVersion : Version → Dialog → Type 0
 MarksApartInFirstVersion versions.One dialog = AllPairs MarkOtherLetters (marked_texts dialog.views)
 MarksApartInFirstVersion versions.Two dialog = Unit {0}
 
--- a shortcut acts on the control that the certificate names for its letter by the `key` line that holds, or
--- on none. A letter that isn't shared has one line at most, without a `when`, which always holds; of one that
--- is, each marker has its own, with a `when`, and no two hold at once
-pub record LettersByLaws (version : Version) (dialog : Dialog) : Type 0 where
+-- what the certificate has of letters. One that isn't shared has one line at most, without a `when`, which
+-- always holds; of one that is, each marker has its own line, with a `when`, and no two hold at once. One marker
+-- at most is visible
+pub record LinesByLaws (version : Version) (dialog : Dialog) : Type 0 where
   pub lines : HasLines version dialog
-  pub once : LettersHaveOneMarker dialog
-  pub visible : VisibleIsMarker dialog
-  pub alt : AltLettersAct dialog
-  pub typed : TypedLettersAct dialog
-  pub own : OwnLettersAct dialog
-  pub marker : CertificateNamesMarker version dialog
   pub first : OneLineInFirstVersion dialog
   pub apart : MarksApartInFirstVersion version dialog
-  pub owner : MarkersActOnOwners version dialog
-  pub does : MarkersActWhereTheyCan dialog
-  pub unnamed : UnnamedLettersDoNothing version dialog
-  pub hidden : HiddenMarkersDoNothing dialog
-  pub none : UnableMarkersDoNothing dialog
+  pub marker : CertificateNamesMarker version dialog
+  pub once : LettersHaveOneMarker dialog
+  pub visible : VisibleIsMarker dialog
+
+-- a shortcut is the act of what the certificate names for its letter by the `key` line that holds
+-- (`named_by`), or nothing; and the act changes the control that the line names, the focus and the log alone
+pub record LettersByLaws (version : Version) (dialog : Dialog) : Type 0 where
+  pub certificate : LinesByLaws version dialog
+  pub keys : KeysActAsNamed version dialog
+  pub unable : UnableNamedDoNothing dialog
   pub refused : RefusedFocusChangesNothing dialog
+  pub acts : NamedActOnControls version dialog
 
 -- it opens with its focus on a free control and with what was saved of it, and stays so that it can be used,
 -- until it ends by a
@@ -174,9 +178,8 @@ pub record KeysByLaws (d : Desc) : Type 0 where
   pub plain : PlainKeysAreFree d
   pub alt : All (AltLettersAreFree d) d.dialogs
 
--- every run of the description, whatever events come: the focus, the order of Tab, shortcuts, ends and
--- records are what its
--- certificate says
+-- every run of the description, whatever events, commands of the program and records come: the focus, the
+-- order of Tab, shortcuts, ends and records are what its certificate says
 pub record RunsByLaws (d : Desc) : Type 0 where
   -- the certificate that is made of it names its order of Tab and the owners of its letters
   pub certified : IsSoundCertificate d (certificate_of d)
@@ -184,10 +187,8 @@ pub record RunsByLaws (d : Desc) : Type 0 where
   pub names : All HasOwnNames d.dialogs
   -- each state that a script makes is one that its events lead to
   pub scripts : ScriptsReach d
-  -- an open dialog's focus is free and its top row can be seen, a frame that is dragged is there, and values,
-  -- saved records and ends are such as are declared
-  pub safe : IsAlwaysSafe d
-  pub usable : StaysUsable d
+  -- each state is fit, and so it is safe
+  pub fit : FitByLaws d
   -- no letter has two visible markers then
   pub once : LettersAlwaysHaveOneMarker d
   pub keys : KeysByLaws d

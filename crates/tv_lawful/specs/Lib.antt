@@ -1,0 +1,2 @@
+-- what the laws say of every run of a sound description
+pub mod Laws
