@@ -25,6 +25,7 @@ use Rattle.tv_machine.specs.Run.{Session}
 use Rattle.tv_session.specs.Session.{StandsFor, handed_in}
 use Rattle.tv_toolkit.specs.Control.{control_leaf}
 use Rattle.tv_app.specs.Running.{Runs}
+use Rattle.tv_lawful.specs.Laws.{RunsByLaws}
 use Rattle.tv_app.specs.declared.app.App.{App}
 use Rattle.tv_app.specs.Setting.{FitsDialog, HasSafeValue, IsSetFrom, IsSafeFor, IsTakenOf, with_field_found, with_view}
 use Rattle.tv_app.specs.declared.setting.Taken.{Taken}
@@ -205,19 +206,27 @@ if_fits (Err error) dialog values count law = tt
 -- ---- runs
 
 pub sound_run : (app : App) (s : Session) → Runs app s → HasSoundDialogs s.desc
-sound_run app s r = r.1
+sound_run app s r = r.sound
 
--- a run that the application's session stands for is sound where another is
+-- an application runs what its session stands for, where one does that runs the same description
+pub runs_on : (app after : App) (s t : Session) → t.desc ≡ s.desc → Runs app s → StandsFor control_leaf after.session t → Runs after t
+runs_on app after s t same r stands = record {
+  stands = stands;
+  fit = stands.fit;
+  sound = subst HasSoundDialogs (sym same) r.sound;
+  laws = subst RunsByLaws (sym same) r.laws;
+}
+
+-- so does the same one
 pub also_runs : (app : App) (s t : Session) → Runs app s → StandsFor control_leaf app.session t → Runs app t
-also_runs app s t r stands = (stands, subst HasSoundDialogs (sym r.0.desc ∙ stands.desc) r.1)
+also_runs app s t r stands = runs_on app app s t (sym stands.desc ∙ r.stands.desc) r stands
 
 pub taken_runs : (s : Session) (app after : App) (name : List ℕ) (values : Entries) (taken : Taken) → IsTakenOf s.desc name values taken → Runs app s
     → StandsFor control_leaf after.session (handed_in taken.place taken.values s) → IsSetFrom s name values after
 taken_runs s app after name values taken t r stands = record {
   fits = t.fits;
-  runs = (
-    subst (λ (n : ℕ). StandsFor control_leaf after.session (handed_in n (in_field_order t.fits.dialog values) s)) (sym t.place)
-        (subst (λ es. StandsFor control_leaf after.session (handed_in taken.place es s)) t.order stands),
-    r.1,
-  );
+  runs =
+      runs_on app after s (handed_in t.fits.place (in_field_order t.fits.dialog values) s) refl r
+      (subst (λ (n : ℕ). StandsFor control_leaf after.session (handed_in n (in_field_order t.fits.dialog values) s)) (sym t.place)
+      (subst (λ es. StandsFor control_leaf after.session (handed_in taken.place es s)) t.order stands));
 }

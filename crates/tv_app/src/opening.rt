@@ -11,6 +11,7 @@ use crate::fault::OpenFault;
 use std::alloc::Global;
 use tv_check::{Checked, examine};
 use tv_lang::parse;
+use tv_lawful::runs_go_by_laws;
 use tv_session::{SessionFault, SessionOf};
 use tv_toolkit::views;
 
@@ -43,8 +44,9 @@ fn begin(alloc: Global, checked: Checked) -> Result<App, OpenFault>
     ensures memory { IfErr result (λ fault. fault ≡ NoMemory) }
 {
     let views = views(alloc, &checked)?;
-    // What its contract says of the dialogs is part of what `Runs` says.
-    let _desc = checked.desc();
+    // What these two say of the description is part of what `Runs` says.
+    let desc = checked.desc();
+    runs_go_by_laws(desc);
     match SessionOf::new(alloc, checked, views.windows, views.bodies) {
         Ok(session) => Ok(App { session }),
         Err(refused) => match refused.fault {

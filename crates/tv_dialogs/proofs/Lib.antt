@@ -7,6 +7,7 @@ pub mod GripLemmas
 pub mod HidingLemmas
 pub mod HoldLemmas
 pub mod KeptLemmas
+pub mod LineLemmas
 pub mod LogLemmas
 pub mod MovedLemmas
 pub mod OpenLemmas

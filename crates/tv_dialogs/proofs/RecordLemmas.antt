@@ -14,7 +14,8 @@ use Rattle.tv_machine.proofs.ListLemmas.{bool_cases}
 use Rattle.tv_dialog.specs.Standing.{Stands}
 use Rattle.tv_dialogs.specs.Dialogs.{AreDialogs, IsOpenAmong, at_work}
 use Rattle.tv_dialogs.specs.Kept.{IsKeptAs, first_values}
-use Rattle.tv_dialogs.specs.Records.{next_record, with_saved}
+use Rattle.tv_dialogs.specs.Records.{next_record}
+use Rattle.tv_laws.specs.Runs.{with_saved}
 use Rattle.tv_dialogs.specs.declared.kept.Kept.{Kept}
 use Rattle.tv_dialogs.specs.declared.dialogs.DialogsOf.{DialogsOf}
 use Rattle.tv_dialogs.proofs.KeptLemmas.{written-commands, written-count, written-found, written-kept}

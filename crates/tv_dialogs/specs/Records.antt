@@ -1,5 +1,5 @@
 -- The record with which each dialog of a run opens next.
-use Rattle.std.specs.Prelude.{ℕ, Option, Some, option_map, slice_get, slice_set}
+use Rattle.std.specs.Prelude.{ℕ, Option, option_map, slice_get}
 use Rattle.tv_model.specs.Log.Record.{Entries}
 use Rattle.tv_model.specs.declared.desc.Desc.{Desc}
 use Rattle.tv_machine.specs.Session.Commands.{saved_at}
@@ -10,7 +10,3 @@ use Rattle.tv_dialogs.specs.Kept.{first_values}
 abbrev pub next_record : Desc → State → ℕ → Option Entries
 next_record d s place =
     option_map (λ dialog. first_values dialog (saved_at s place)) (slice_get d.dialogs place)
-
--- the state in which the last end of the dialog at a place saved this record
-abbrev pub with_saved : ℕ → Entries → State → State
-with_saved place entries s = record s { saved = slice_set s.saved place (Some entries) }

@@ -1,6 +1,6 @@
 //! The dialogs of a run.
 
-ghost use Rattle.std.specs.Prelude.{◌≤◌, length, ◌≡◌, ◌<◌, ◌+◌, ◌++◌, ℕ, Some, false, is_some, option_copied, option_map, slice_index_or, vec_capacity};
+ghost use Rattle.std.specs.Prelude.{◌≤◌, length, ◌≡◌, ◌<◌, ◌+◌, ◌++◌, [], ℕ, Some, false, is_some, option_copied, option_map, slice_index_or, vec_capacity};
 ghost use Rattle.tv_machine.specs.Session.Enabled.{is_enabled_now};
 ghost use Rattle.tv_machine.specs.Session.Step.{dialog_with_hold};
 ghost use Rattle.tv_machine.specs.State.{State};
@@ -55,6 +55,7 @@ impl<V: View> DialogsOf<V> {
     pub fn move_log<const ROOM: usize>(&mut self, log: &mut LogLines<ROOM>)
         requires { length log.old.items + 66 ≤ ROOM }
         ensures lines { log.new.items ≡ log.old.items ++ log_of_last self.old }
+        ensures taken { log_of_last self.new ≡ [] }
         ensures dialogs { (d : Desc) (s : State) → AreDialogs V.meaning d s self.old → AreDialogs V.meaning d s self.new }
         ensures room { vec_capacity self.new.kept ≡ vec_capacity self.old.kept }
     {
@@ -67,6 +68,8 @@ impl<V: View> DialogsOf<V> {
     fn move_log_at<const ROOM: usize>(&mut self, place: usize, log: &mut LogLines<ROOM>)
         requires { length log.old.items + 66 ≤ ROOM }
         ensures lines { log.new.items ≡ log.old.items ++ lines_by (kept_at self.old (Some place)) }
+        ensures taken { lines_by (kept_at self.new (Some place)) ≡ [] }
+        ensures last { self.new.last ≡ self.old.last }
         ensures dialogs { (d : Desc) (s : State) → AreDialogs V.meaning d s self.old → AreDialogs V.meaning d s self.new }
         ensures room { vec_capacity self.new.kept ≡ vec_capacity self.old.kept }
     {

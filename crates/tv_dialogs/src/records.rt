@@ -1,10 +1,11 @@
 //! The record with which each dialog opens next.
 
-ghost use Rattle.std.specs.Prelude.{◌≡◌, option_copied};
+ghost use Rattle.std.specs.Prelude.{◌≡◌, option_copied, vec_capacity};
 ghost use Rattle.tv_machine.specs.State.{State};
 ghost use Rattle.tv_model.specs.declared.desc.Desc.{Desc};
-ghost use Rattle.tv_dialogs.specs.Dialogs.{AreDialogs};
-ghost use Rattle.tv_dialogs.specs.Records.{next_record, with_saved};
+ghost use Rattle.tv_dialogs.specs.Dialogs.{AreDialogs, log_of_last};
+ghost use Rattle.tv_dialogs.specs.Records.{next_record};
+ghost use Rattle.tv_laws.specs.Runs.{with_saved};
 
 use crate::dialogs::DialogsOf;
 use tv_model::Record;
@@ -25,7 +26,9 @@ impl<V: View> DialogsOf<V> {
     /// Gives the dialog at a place the record with which it opens next, as if its last end had saved that. Does nothing
     /// where no dialog is at the place. A dialog that is open keeps what it shows.
     pub fn keep_record(&mut self, place: usize, values: Record)
-        ensures { (d : Desc) (s : State) → AreDialogs V.meaning d s self.old → AreDialogs V.meaning d (with_saved place values s) self.new }
+        ensures dialogs { (d : Desc) (s : State) → AreDialogs V.meaning d s self.old → AreDialogs V.meaning d (with_saved place values s) self.new }
+        ensures log { log_of_last self.new ≡ log_of_last self.old }
+        ensures room { vec_capacity self.new.kept ≡ vec_capacity self.old.kept }
     {
         if let Some(kept) = self.kept.get_mut(place) {
             kept.values.set(values);

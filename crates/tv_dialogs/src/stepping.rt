@@ -1,6 +1,6 @@
 //! What the open dialog makes of an event.
 
-ghost use Rattle.std.specs.Prelude.{◌≡◌, ◌++◌, Some, vec_capacity};
+ghost use Rattle.std.specs.Prelude.{◌≡◌, ◌++◌, [], None, Some, vec_capacity};
 ghost use Rattle.tv_laws.specs.Steps.{RespectsHold};
 ghost use Rattle.tv_machine.specs.Session.Step.{to_dialog};
 ghost use Rattle.tv_machine.specs.State.{OpenDialog, State};
@@ -27,6 +27,8 @@ impl<V: View> DialogsOf<V> {
             → (to_dialog desc.now o event.now s).log ≡ s.log ++ log_of_last self.new }
         ensures damage { (s : State) (o : OpenDialog) → s.dialog ≡ Some o → RespectsHold o.held event.now → AreOfRun V.meaning desc.now s self.old
             → OpenAlike desc.now damage.new s (to_dialog desc.now o event.now s) }
+        ensures unopened { (s : State) → s.dialog ≡ None → AreOfRun V.meaning desc.now s self.old
+            → AreDialogs V.meaning desc.now s self.new × (log_of_last self.new ≡ []) × (damage.new ≡ damage.old) }
         ensures kept { Keeps damage.old damage.new }
         ensures room { vec_capacity self.new.kept ≡ vec_capacity self.old.kept }
     {

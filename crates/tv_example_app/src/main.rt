@@ -1,10 +1,11 @@
 //! Asks for an order by a dialog, and tells what was ordered.
 #![tactic(auto)]
 
+ghost use Rattle.std.specs.Prelude.{◌≡◌, None};
 ghost use Rattle.tv_app.specs.Running.{Runs, Session};
 
 use std::alloc::{AllocError, Global};
-use tv_app::{App, Command, Event, Key, LogLine, Record, Text, Unset, Value, open};
+use tv_app::{App, Command, Event, Key, LogLine, Point, Record, Text, Unset, Value, open};
 
 const DESCRIPTION: &str = r#"tvd 1
 screen 40 12
@@ -36,7 +37,17 @@ fn main(rt: HostRuntime) -> anyhow::Result<()> {
             println!(rt; "{line}")?;
         }
     }
+    leave(&mut app);
     Ok(())
+}
+
+// Leaves the dialog that is open, if one is.
+fn leave(app: &mut App)
+    requires { (s : Session) × Runs app.old s }
+    ensures { (s : Session) × Runs app.new s × (s.state.dialog ≡ None) }
+{
+    app.step(&Event::Up(Point { x: 0, y: 0 }));
+    app.step(&Event::Key(Key::Esc));
 }
 
 // Gives the dialog the record with which it opens, and opens it.

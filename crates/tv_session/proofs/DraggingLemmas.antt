@@ -122,7 +122,7 @@ placed-log (Some o) corner s = refl
 -- nothing is held any longer
 pub let_go_fit : (d : Desc) (s : State) → IsFitState d s → IsFitState d (let_go s)
 let_go_fit d s f = record {
-  kept = record { saved = f.kept.saved; places = f.kept.places; ordered = f.kept.ordered; ends = f.kept.ends };
+  kept = record { saved = f.kept.saved; records = f.kept.records; places = f.kept.places; ordered = f.kept.ordered; ends = f.kept.ends };
   «open» = λ o e. let x = f.«open» o e in record { dialog = x.dialog; there = x.there; fit = x.fit; menu = x.menu; over = x.over; top = x.top };
   frame = λ held e. absurd (none_some held e);
 }

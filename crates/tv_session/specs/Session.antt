@@ -1,9 +1,8 @@
 -- A session, and the run of the flat machine that it stands for.
 use Rattle.std.specs.Prelude.{◌≡◌, ℕ, Option, option_map, slice_get}
 use Rattle.std.specs.Option.{option_and_then}
-use Rattle.tv_dialogs.specs.Records.{with_saved}
-use Rattle.tv_laws.specs.Runs.{IsFitState}
-use Rattle.tv_machine.specs.Run.{Session}
+use Rattle.tv_laws.specs.Runs.{IsFitState, with_saved}
+use Rattle.tv_machine.specs.Run.{Session, quiet}
 use Rattle.tv_menu.specs.Line.{IsStatusLineOf}
 use Rattle.tv_model.specs.Log.Record.{Entries}
 use Rattle.tv_model.specs.declared.node.Id.{Id}
@@ -20,6 +19,12 @@ pub record StandsFor {V : Type 0} (look : V → Leaf) (session : SessionOf V) (s
   pub line : IsStatusLineOf s.desc session.line
   pub fit : IsFitState s.desc s.state
   pub screen : IsScreenOf s session.screen
+
+-- a session whose log was taken: it stands for each run for which it stood, with an empty log, and what was
+-- painted again last is the same
+pub record IsQuieted {V : Type 0} (look : V → Leaf) (old new : SessionOf V) : Type 0 where
+  pub runs : (s : Session) → StandsFor look old s → StandsFor look new (quiet s)
+  pub repainted : new.repainted ≡ old.repainted
 
 -- the id of the dialog that is open
 abbrev pub open_id_of : Session → Option Id

@@ -12,7 +12,7 @@ ghost use Rattle.tv_machine.specs.Session.Step.{takes_command};
 ghost use Rattle.tv_script.specs.Performed.{IsScreenOf};
 ghost use Rattle.tv_dialogs.specs.Handed.{HasPointGiven};
 ghost use Rattle.tv_dialogs.specs.Records.{next_record};
-ghost use Rattle.tv_session.specs.Session.{StandsFor, handed_in, open_id_of};
+ghost use Rattle.tv_session.specs.Session.{IsQuieted, StandsFor, handed_in, open_id_of};
 
 use crate::log::Log;
 use crate::paint::{replace_damage, whole_screen};
@@ -99,13 +99,29 @@ impl<V: View> SessionOf<V> {
         &self.screen
     }
 
-    /// Takes the lines of the last event, or of the start, that aren't yet taken, and leaves none.
+    /// Returns the lines of the last event, or of the start, that aren't yet taken.
+    pub fn log(&self) -> &[LogLine]
+        ensures { (s : Standing) → StandsFor V.meaning self.now s → result.now ≡ s.state.log }
+    {
+        self.run.log.as_slice()
+    }
+
+    /// Forgets the lines that aren't yet taken. The next event does so too.
+    pub fn forget_log(&mut self)
+        ensures quiet { (s : Standing) → StandsFor V.meaning self.old s → StandsFor V.meaning self.new (quiet s) }
+        ensures repainted { self.new.repainted ≡ self.old.repainted }
+    {
+        self.run.log.clear();
+    }
+
+    /// Takes the lines that `log` returns, and lends them once: when the loan ends, the session is as `forget_log` leaves
+    /// it. So a second call lends none.
     pub fn take_log(&mut self) -> &[LogLine]
         ensures lines { (s : Standing) → StandsFor V.meaning self.old s → result.now ≡ s.state.log }
-        ensures* none_left { sem 𝓛 (Rests (the_row V.row) self.entry (λ left. (s : Standing) → StandsFor V.meaning self.old s → StandsFor V.meaning left (quiet s))) }
+        ensures* none_left { sem 𝓛 (Rests (the_row V.row) self.entry (IsQuieted V.meaning self.old)) }
     {
+        self.taken.clear();
         swap(&mut self.taken, &mut self.run.log);
-        self.run.log.clear();
         self.taken.as_slice()
     }
 
@@ -143,7 +159,8 @@ impl<V: View> SessionOf<V> {
     /// what it shows.
     pub fn keep_record(&mut self, place: usize, values: Record)
         requires { (s : Standing) → StandsFor V.meaning self.old s → IsSafeSaved s.desc place values }
-        ensures { (s : Standing) → StandsFor V.meaning self.old s → StandsFor V.meaning self.new (handed_in place values s) }
+        ensures kept { (s : Standing) → StandsFor V.meaning self.old s → StandsFor V.meaning self.new (handed_in place values s) }
+        ensures repainted { self.new.repainted ≡ self.old.repainted }
     {
         self.run.dialogs.keep_record(place, values);
     }
@@ -167,11 +184,11 @@ impl<V: View> Stage for SessionOf<V> {
     }
 
     fn log(&self) -> &[LogLine] {
-        self.run.log.as_slice()
+        SessionOf::log(self)
     }
 
     fn forget_log(&mut self) {
-        self.run.log.clear();
+        SessionOf::forget_log(self);
     }
 
     fn step(&mut self, event: &Event) {

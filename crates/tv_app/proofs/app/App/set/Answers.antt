@@ -18,4 +18,4 @@ returns-in-Ok-clause-kept c = λ s runs.
     let taken = c.in-Ok.taken in
     taken_runs s c.args.self.now _ c.args.dialog.now c.args.values taken
     (subst (λ d. IsTakenOf d c.args.dialog.now c.args.values taken) (c.desc.ensures s runs) c.in-Ok.ensures.taken) runs
-    (c.keep_record.ensures s runs.0)
+    (c.keep_record.ensures.kept s runs.stands)

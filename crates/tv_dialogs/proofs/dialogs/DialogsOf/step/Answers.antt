@@ -1,4 +1,4 @@
-use Rattle.std.proofs.Common.{arith, ◌∙◌, ◌<◌, length, Some, None, refl, ap, sym, subst, slice_index_or, slice_set}
+use Rattle.std.proofs.Common.{arith, ◌∙◌, ◌<◌, length, Some, None, refl, ap, sym, subst, option_map, slice_index_or, slice_set}
 use Rattle.std.specs.Bool.{then_some}
 use Rattle.std.specs.Vec.{with_item}
 use Rattle.std.proofs.lemmas.Option.{slice_get_read}
@@ -7,7 +7,8 @@ use Rattle.tv_dialogs.specs.Kept.{values_after}
 use Rattle.tv_machine.specs.Session.Step.{to_dialog}
 use Rattle.tv_dialogs.specs.Damage.{KeptDamages}
 use Rattle.tv_dialogs.proofs.CornerLemmas.{same-bounds}
-use Rattle.tv_dialogs.proofs.PlaceLemmas.{same-some}
+use Rattle.tv_dialogs.proofs.LineLemmas.{still-dialogs}
+use Rattle.tv_dialogs.proofs.PlaceLemmas.{nothing-some, same-some}
 use Rattle.tv_dialogs.proofs.DamageLemmas.{stepped-alike}
 use Rattle.tv_dialogs.proofs.CurrentLemmas.{held-some}
 use Rattle.tv_dialogs.proofs.StepLemmas.{dropped-alike, dropped-dialogs, dropped-log, handed-dialogs, handed-log, held-stepped, read-corner, read-ready, read-stands}
@@ -26,6 +27,12 @@ returns-then-is_dropped-clause-log g c s o is run =
 pub returns-then-is_dropped-clause-damage : goal.returns-then-is_dropped-clause-damage
 returns-then-is_dropped-clause-damage g c s o is given run =
     dropped-alike g.V.View.meaning c.args.desc.now s c.args.self.now run o is c.args.event.now (sym c.is_dropped.ensures ∙ c.if-is_dropped.true) c.args.damage.now
+
+pub returns-then-is_dropped-clause-unopened : goal.returns-then-is_dropped-clause-unopened
+returns-then-is_dropped-clause-unopened g c s none run = (still-dialogs g.V.View.meaning c.args.desc.now s c.args.self.now None run.are, refl, refl)
+
+pub returns-in_default-clause-unopened : goal.returns-in_default-clause-unopened
+returns-in_default-clause-unopened g c s none run = (still-dialogs g.V.View.meaning c.args.desc.now s c.args.self.now None run.are, refl, refl)
 
 declared_less : (g : _) (c : goal.After-as_slice g) → c.in-Some.place < length c.args.desc.now.dialogs
 declared_less g c = place-declared g.V.View.meaning c.args.desc.now c.requires.run.0 c.args.self.now c.requires.run.1.are c.in-Some.place c.in-Some.is
@@ -123,3 +130,8 @@ returns-in-Some-clause-damage g c s o is given run =
     (c.then_some-self.ensures ∙ ap (λ b. then_some b c.in-Some.place) c.is_open.ensures ∙ ap (then_some c.step.new.self.dialog.is_open) at)
     (same-bounds among.kept.dialog c.step.new.self.dialog (same-some c.step.new.self.dialog.head among.kept.dialog.head (stands.head ∙ sym among.stands.head))
     (c.step.ensures.corner ∙ ap (λ k. k.dialog.corner) (read-kept look d s old run.are c.in-Some.place c.in-Some.is o is kept c.index_mut-kept.ensures.value))) told c.step.ensures.ended
+
+-- one is open
+pub returns-in-Some-clause-unopened : goal.returns-in-Some-clause-unopened
+returns-in-Some-clause-unopened g c s none run =
+    absurd (nothing-some c.in-Some.place (sym (ap (option_map (λ o. o.place)) none) ∙ sym run.are.place ∙ c.in-Some.is))

@@ -15,7 +15,7 @@ begin-requires g c =
     let d = c.args.checked in
     subst (λ x. IsAwake g.V.View.meaning x (closed x) (record { desk = c.new.result; dialogs = c.args.dialogs; bar = c.args.parts.bar; frame = None; is_over = _; log = c.args.parts.log; colours = c.new-2.result; damage = c.new-3.result }))
     (sym c.desc-desc.ensures.value)
-    (first_awake g.V.View.meaning d _ r.sound r.size (c.new.ensures d r.lawful r.windows_of) r.dialogs_of r.bar r.none_open refl refl r.log)
+    (first_awake g.V.View.meaning d _ r.sound r.size (c.new.ensures.desk d r.lawful r.windows_of) r.dialogs_of r.bar r.none_open refl refl r.log)
 
 pub paint-requires : goal.paint-requires
 paint-requires g c =

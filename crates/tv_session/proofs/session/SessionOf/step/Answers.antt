@@ -1,6 +1,6 @@
 use Rattle.std.proofs.Common.{subst, ◌∙◌}
 use Rattle.tv_cells.specs.Damage.{HasWithin, Holds}
-use Rattle.tv_laws.proofs.RunLemmas.{runs-fit}
+use Rattle.tv_laws.proofs.RunLemmas.{steps-fit}
 use Rattle.tv_machine.specs.Screen.Bodies.{whole_screen}
 use Rattle.tv_machine.specs.Screen.Layers.{layers_of}
 use Rattle.tv_machine.specs.Session.Step.{step}
@@ -35,7 +35,7 @@ returns-clause-stands g c = λ s r.
     let can = can-repaint look old s d (λ x t. step x t e) run lent r sound (screen-size look old s d lent r) ran.0 in
     let whole = subst (λ q. HasWithin q run.damage c.replace_damage.new.painted) c.whole_screen.ensures c.replace_damage.ensures.all in
     let alike = shown-alike d s.state (step d s.state e) run.damage c.replace_damage.new.painted old.screen can.size can.width can.height whole ran.1 in
-    let fit = runs-fit d sound s.state e (fit-before look old s d (λ x t. step x t e) run lent r) in
+    let fit = steps-fit d sound s.state e (fit-before look old s d (λ x t. step x t e) run lent r) in
     stands-again look old s d (λ x t. step x t e) run lent r c.repaint.new.screen c.replace_damage.new.painted fit ran.0 c.repaint.ensures.size
     (c.repaint.ensures.shows (step d s.state e) (layers_of d s.state) can (shown-before look old s d (λ x t. step x t e) run lent r) alike)
 
