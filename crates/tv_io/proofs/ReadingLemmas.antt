@@ -1,5 +1,5 @@
 -- A text that is read piece by piece.
-use Rattle.std.proofs.Common.{◌≡◌, ◌≤◌, ℕ, ◌+◌, List, [], length, take, Option, Some, None, IfSome, refl, sym, subst, ◌∙◌, append-nil, arith}
+use Rattle.std.proofs.Common.{◌≡◌, ◌<◌, ◌≤◌, ℕ, ◌+◌, true, false, List, [], length, take, Option, Some, None, IfSome, refl, sym, subst, ◌∙◌, append-nil, arith}
 use Rattle.std.proofs.lemmas.List.{take_all, take-append-le}
 use Rattle.std.specs.Io.KnownBytes.{Consumes, IsAtEnd}
 use Rattle.tv_io.specs.Reader.{Given, Gives, HasGiven}
@@ -23,16 +23,16 @@ module _ (most : ℕ) (old mid new : Given) (text : List ℕ) (gave : HasGiven o
   IsRead-end last =
       let all = subst (λ bytes. HasGiven old new bytes) (append-nil text) (HasGiven-then text [] gave last.has) in
       record {
-        gave = all;
+        gave = record { gave = all; whole = λ _. (last.ended refl).1 };
         few = omega (arith, few);
         first = all-taken old.left new.left text (most + 1) (omega (arith, few)) all.took (last.ended refl).1;
         ended = λ _. (last.ended refl).0;
       }
 
 -- as many bytes were read as may be
-pub IsRead-full : (most : ℕ) (old new : Given) (text : List ℕ) → HasGiven old new text → length text ≡ most + 1 → IsRead most old new text
-IsRead-full most old new text gave full = record {
-  gave = gave;
+pub IsRead-full : (most : ℕ) (old new : Given) (text : List ℕ) → HasGiven old new text → (0 < length text → new.is_ended ≡ false) → length text ≡ most + 1 → IsRead most old new text
+IsRead-full most old new text gave going full = record {
+  gave = record { gave = gave; whole = λ ended. let goes = going (omega (arith, full)) in absurd cc };
   few = omega (arith, full);
   first = front-taken old.left new.left text (most + 1) (sym full) gave.took;
   ended = λ short. absurd (omega (arith, full, short));

@@ -2,8 +2,8 @@
 use Rattle.std.proofs.Common.{◌≡◌, ℕ, ◌≤◌, ◌+◌, ◌-◌, List, [], ◌++◌, length, take, drop, length-drop, Option, Some, None, refl, sym, ap, ◌∙◌, append_assoc, arith, length-append}
 use Rattle.std.proofs.lemmas.List.{append-nil, take_all}
 use Rattle.std.proofs.Math.Seq.{take-add}
-use Rattle.std.specs.Io.KnownBytes.{Appends}
-use Rattle.tv_io.specs.Writer.{Seen, Takes, Cuts, HasRisen}
+use Rattle.std.specs.Io.KnownBytes.{Appends, Keeps}
+use Rattle.tv_io.specs.Writer.{Seen, Takes, Cuts, HasRisen, IsHeldBack, IsPassedOn}
 
 pub Appends-none : (a : Option (List ℕ)) → Appends a a []
 Appends-none None = tt
@@ -59,3 +59,18 @@ Takes-more {a} {b} {c} text at n inside few p q =
     let few' : n ≤ length (drop at text) = rw rest_is at few in
     let q' : Takes b c (take n (drop at text)) = rw rest_is at q in
     (omega (arith, length-drop at text), rw (take-add at n text) (Takes-then (take at text) (take n (drop at text)) p q'))
+
+-- ---- what is passed on
+
+Appends-kept : (a b : Option (List ℕ)) → Keeps a b → Appends a b []
+Appends-kept None b k = tt
+Appends-kept (Some x) None k = absurd k
+Appends-kept (Some x) (Some y) k = k ∙ sym (append-nil x)
+
+-- no byte more was taken
+pub Takes-passed : {a b : Seen} → IsPassedOn a b → Takes a b []
+Takes-passed {a} {b} p = record { bytes = Appends-kept a.taken b.taken p.bytes; count = p.count }
+
+-- what is held back hasn't come out
+pub Cuts-held : {a b : Seen} → IsHeldBack a b → Cuts a b []
+Cuts-held {a} {b} p = record { front = []; rest = []; parts = refl; proper = omega (arith, p.some); bytes = Appends-kept a.taken b.taken p.bytes; count = p.count }

@@ -6,8 +6,8 @@ use Rattle.tv_io.specs.Writer.{Seen}
 
 -- the device as a writer: what it keeps back counts as taken
 abbrev pub device_seen : {W : Type 0} → (W → Option (List ℕ)) → Device W → Seen
-device_seen contents d = record { taken = writer_contents contents d.writer; failures = d.failures }
-
--- the bytes that are not yet written
-abbrev pub kept_back : {W : Type 0} → Device W → List ℕ
-kept_back d = writer_buffer d.writer
+device_seen contents d = record {
+  taken = writer_contents contents d.writer;
+  kept = writer_buffer d.writer;
+  failures = d.failures;
+}

@@ -1,12 +1,12 @@
 -- What reading a text comes to that may have so many bytes.
 use Rattle.std.specs.Prelude.{◌≡◌, ◌≤◌, ℕ, ◌+◌, true, List, length, take, IfSome, Result, Ok, Err, Vec}
-use Rattle.tv_io.specs.Reader.{Given, GivesNot, HasGiven}
+use Rattle.tv_io.specs.Reader.{Given, GivesNot, HasGiven, IsReadSoFar}
 use Rattle.tv_io.specs.declared.read_fault.ReadFault.{ReadFault}
 use Rattle.tv_io.specs.declared.read_fault.ReadFault.TheVariants.{NoMemory, Read}
 
 -- the reader gave the text: all that it had left, but no more than one byte past the limit
 pub record IsRead (most : ℕ) (old new : Given) (text : List ℕ) : Type 0 where
-  pub gave : HasGiven old new text
+  pub gave : IsReadSoFar old new text
   pub few : length text ≤ most + 1
   pub first : IfSome old.left (λ left. text ≡ take (most + 1) left)
   pub ended : length text ≤ most → new.is_ended ≡ true

@@ -16,7 +16,7 @@ pub struct Device<W: Write + Drop> {
 }
 
 impl<W: Write + Drop> Device<W> {
-    ghost use Rattle.tv_io.specs.Device.{device_seen, kept_back};
+    ghost use Rattle.tv_io.specs.Device.{device_seen};
 
     /// Makes one over the writer, with room for what is kept back. Where there is no memory for it, the writer is dropped.
     pub fn new(alloc: Global, writer: W) -> Result<Device<W>, AllocError>
@@ -34,7 +34,7 @@ impl<W: Write + Drop> Device<W> {
 
     /// Writes what is kept back. An error counts as a failure.
     pub fn flush(&mut self) -> Result<(), WriteFailed>
-        ensures written { OnOk result (kept_back self.new ≡ []) }
+        ensures written { OnOk result ((device_seen W.contents self.new).kept ≡ []) }
         ensures taken { Keeps (device_seen W.contents self.old).taken (device_seen W.contents self.new).taken }
         ensures count { MatchResult result
             (λ _. (device_seen W.contents self.new).failures ≡ (device_seen W.contents self.old).failures)
@@ -63,5 +63,14 @@ impl<W: Write + Drop> Writer for Device<W> {
                 None
             }
         }
+    }
+
+    // An error of the system is none where nothing is kept back: all bytes are the system's then.
+    fn pass_on(&mut self) -> Result<(), WriteFailed> {
+        if self.writer.flush().is_ok() || self.writer.buffer().is_empty() {
+            return Ok(());
+        }
+        self.failures = self.failures.saturating_add(1);
+        Err(WriteFailed)
     }
 }

@@ -39,6 +39,7 @@ impl<R: Read + Drop> Reader for FileReader<R> {
                 Some(count)
             }
             Err(_) => {
+                self.is_ended = false;
                 self.failures = self.failures.saturating_add(1);
                 None
             }

@@ -1,6 +1,6 @@
 //! A pen writes texts one after another, and nothing more once its writer failed.
 
-ghost use Rattle.std.specs.Prelude.{◌≡◌, ◌∷◌, [], decimal, encode_utf8, flat_map};
+ghost use Rattle.std.specs.Prelude.{◌≡◌, ◌∷◌, [], false, decimal, encode_utf8, flat_map};
 ghost use Rattle.std.specs.Fmt.{signed_decimal};
 ghost use Rattle.tv_io.specs.Pen.{Puts, PutsPart};
 
@@ -30,13 +30,14 @@ impl<'a, W: Writer> Pen<'a, W> {
         }
     }
 
-    /// Passes on what the writer took and keeps back, unless it failed before.
+    /// Passes on what the writer took and keeps back, unless it failed before. Stops where that can't be passed on.
     pub fn pass_on(&mut self)
-        ensures { Puts W.seen self.old self.new [] }
+        ensures puts { Puts W.seen self.old self.new [] }
+        ensures none { self.new.stopped ≡ false → (W.seen self.new.out.now).kept ≡ [] }
     {
         if !self.stopped {
             let out = &mut *self.out;
-            out.pass_on();
+            self.stopped = out.pass_on().is_err();
         }
     }
 

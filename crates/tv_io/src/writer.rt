@@ -1,10 +1,10 @@
 //! Writers, and how a whole text is written to one.
 
 ghost use Rattle.std.specs.Prelude.{◌≡◌, ◌<◌, ◌≤◌, length, take, IfSome, unwrap_or, MatchResult};
-ghost use Rattle.tv_io.specs.Writer.{Seen, Takes, Fails, Cuts, IsSame};
+ghost use Rattle.tv_io.specs.Writer.{Seen, Takes, Fails, Cuts, PassesOn};
 
-/// What a text is written to. Contracts see the bytes that it took, where they are known, and how many of its calls
-/// failed or took nothing; that count stays at the greatest `u64`.
+/// What a text is written to. Contracts see the bytes that it took, where they are known, those of them that it keeps back, and
+/// how many of its calls failed or took nothing; that count stays at the greatest `u64`.
 pub trait Writer {
     ghost seen: { Self → Seen };
 
@@ -15,11 +15,10 @@ pub trait Writer {
         ensures took { 0 < unwrap_or result 0 → Takes (seen self.old) (seen self.new) (take (unwrap_or result 0) bytes.now) }
         ensures failed { unwrap_or result 0 ≡ 0 → Fails (seen self.old) (seen self.new) };
 
-    /// Passes on what was taken and is kept back, so that who waits for it at the other end gets it. A failure isn't told here,
-    /// but at the next byte, or at the end.
-    fn pass_on(&mut self)
-        ensures { IsSame (seen self.old) (seen self.new) }
-    {}
+    /// Passes on what was taken and is kept back, so that who waits for it at the other end gets it. It fails where some of it
+    /// can't be passed on.
+    fn pass_on(&mut self) -> Result<(), WriteFailed>
+        ensures { PassesOn (seen self.old) (seen self.new) result };
 }
 
 /// A writer failed, or took nothing.

@@ -12,4 +12,4 @@ returns-then-count-eq0 g c =
 
 pub returns : goal.returns
 returns g c =
-    IsRead-full c.args.most (g.R.Reader.seen c.args.reader.now) (g.R.Reader.seen c.loop-buffer.reader) c.loop-buffer.text.items c.loop-buffer.invariant.0 (grind arith)
+    IsRead-full c.args.most (g.R.Reader.seen c.args.reader.now) (g.R.Reader.seen c.loop-buffer.reader) c.loop-buffer.text.items c.loop-buffer.invariant.0 c.loop-buffer.invariant.2 (grind arith)

@@ -13,3 +13,6 @@ returns-in-Some g c =
     let h = c.in-Some.is in
     let i = c.in-Some.column-is in
     rw c.in-Some.is (Puts-along one (Puts-then (Puts-then c.flush.ensures.puts c.flush-in-Some.ensures.puts) c.put.ensures))
+
+pub returns-in-None : goal.returns-in-None
+returns-in-None g c = rw c.in-None.is (Puts-then c.flush.ensures.puts c.put-in-None.ensures)
