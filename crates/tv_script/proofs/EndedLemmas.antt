@@ -6,7 +6,7 @@ use Rattle.std.proofs.lemmas.Bool.Decides.{nat_tests}
 use Rattle.std.proofs.Math.Seq.{take-append-add}
 use Rattle.tv_script.specs.Lines.{ends_line}
 use Rattle.tv_script.specs.Reading.Streams.{IsUnended, with_line_ends}
-use Rattle.tv_script.specs.Streams.{before_end, judged, up_to_last_end}
+use Rattle.tv_script.specs.Judging.{before_end, is_short, judged_part, up_to_last_end}
 use Rattle.tv_words.specs.Lines.{lines_of}
 
 -- ---- lines without line ends
@@ -94,7 +94,7 @@ before_le true c n [] e h = rw e (omega arith)
 before_le false c n [] e h = rw e (omega arith)
 before_le b c n (d ∷ ds) e h = omega (arith, h)
 
-up_le : (l : List ℕ) → length (up_to_last_end l) ≤ length l
+pub up_le : (l : List ℕ) → length (up_to_last_end l) ≤ length l
 up_le [] = omega arith
 up_le (c ∷ l) = let r = before_le (c == 10) c (length l) (up_to_last_end l) refl (up_le l) in omega (arith, r)
 
@@ -105,10 +105,10 @@ pub lines_up : (lines : List (List ℕ)) (line : List ℕ) → AllByRecursion Is
 lines_up lines line are is =
     ap lines_of (up_ended lines line ∙ ap (λ x. with_line_ends lines ++ x) (up_open line is)) ∙ lines_of_ended lines [] are ∙ append-nil lines
 
-judged_short : (stream : List ℕ) → length stream ≤ 1048576 → judged stream ≡ stream
+judged_short : (stream : List ℕ) → length stream ≤ 1048576 → judged_part stream ≡ stream
 judged_short stream h = let yes : nat_le (length stream) 1048576 ≡ true = grind (arith, nat_tests) in rw yes refl
 
-judged_long : (stream : List ℕ) → 1048576 < length stream → judged stream ≡ up_to_last_end (take 1048576 stream)
+judged_long : (stream : List ℕ) → 1048576 < length stream → judged_part stream ≡ up_to_last_end (take 1048576 stream)
 judged_long stream h = let no : nat_le (length stream) 1048576 ≡ false = grind (arith, nat_tests) in rw no refl
 
 take_past : (n : ℕ) (xs ys : List ℕ) → length xs ≤ n → take n (xs ++ ys) ≡ xs ++ take (n - length xs) ys
@@ -117,11 +117,21 @@ take_past n xs ys h = let same : length xs + (n - length xs) ≡ n = omega (arit
 -- of a stream that begins with whole lines these are judged first, and no more than a script may have
 pub record BeginsJudged (lines : List (List ℕ)) (stream : List ℕ) : Type 0 where
   pub more : List (List ℕ)
-  pub lines_are : lines_of (judged stream) ≡ lines ++ more
-  pub short : length (judged stream) ≤ 1048576
+  pub lines_are : lines_of (judged_part stream) ≡ lines ++ more
+  pub short : length (judged_part stream) ≤ 1048576
 
 take_le : (n : ℕ) (xs : List ℕ) → length (take n xs) ≤ n
 take_le n xs = let is = length-take n xs in let low : min n (length xs) ≤ n = omega arith in subst (λ m. m ≤ n) (sym is) low
+
+-- what is judged is no more than a script may have
+judged_le_by : (text : List ℕ) (b : Bool) → is_short text ≡ b → length (judged_part text) ≤ 1048576
+judged_le_by text true e = let small : length text ≤ 1048576 = grind (arith, nat_tests) in rw (judged_short text small) small
+judged_le_by text false e =
+    let long : 1048576 < length text = grind (arith, nat_tests) in
+    rw (judged_long text long) (omega (arith, up_le (take 1048576 text), take_le 1048576 text))
+
+pub judged_le : (text : List ℕ) → length (judged_part text) ≤ 1048576
+judged_le text = judged_le_by text (is_short text) refl
 
 pub begins_judged : (lines : List (List ℕ)) (rest : List ℕ) (b : Bool) → nat_le (length (with_line_ends lines ++ rest)) 1048576 ≡ b → AllByRecursion IsUnended lines → length (with_line_ends lines) ≤ 1048576 → BeginsJudged lines (with_line_ends lines ++ rest)
 begins_judged lines rest true e are few =
@@ -132,16 +142,16 @@ begins_judged lines rest false e are few =
     let long : 1048576 < length (with_line_ends lines ++ rest) = grind (arith, nat_tests) in
     let part = take (1048576 - length (with_line_ends lines)) rest in
     let front = take_past 1048576 (with_line_ends lines) rest few in
-    let same : judged (with_line_ends lines ++ rest) ≡ with_line_ends lines ++ up_to_last_end part = judged_long (with_line_ends lines ++ rest) long ∙ ap up_to_last_end front ∙ up_ended lines part in
+    let same : judged_part (with_line_ends lines ++ rest) ≡ with_line_ends lines ++ up_to_last_end part = judged_long (with_line_ends lines ++ rest) long ∙ ap up_to_last_end front ∙ up_ended lines part in
     let size : length (with_line_ends lines ++ up_to_last_end part) ≤ 1048576 = omega (arith, length-append (with_line_ends lines) (up_to_last_end part), up_le part, take_le (1048576 - length (with_line_ends lines)) rest, few) in
     record { more = lines_of (up_to_last_end part); lines_are = ap lines_of same ∙ lines_of_ended lines (up_to_last_end part) are; short = rw same size }
 
 -- of a stream with more bytes than a script may have, the lines that end among these are judged
-pub judged_full : (given rest : List ℕ) → length given ≡ 1048576 → 0 < length rest → judged (given ++ rest) ≡ up_to_last_end given
+pub judged_full : (given rest : List ℕ) → length given ≡ 1048576 → 0 < length rest → judged_part (given ++ rest) ≡ up_to_last_end given
 judged_full given rest full more =
     let long : 1048576 < length (given ++ rest) = omega (arith, length-append given rest, full, more) in
     let front : take 1048576 (given ++ rest) ≡ given = take-append-le 1048576 given rest (omega (arith, full)) ∙ take_all 1048576 given (omega (arith, full)) in
     judged_long (given ++ rest) long ∙ ap up_to_last_end front
 
-pub judged_whole : (given : List ℕ) → length given ≤ 1048576 → judged (given ++ []) ≡ given
-judged_whole given few = ap judged (append-nil given) ∙ judged_short given few
+pub judged_whole : (given : List ℕ) → length given ≤ 1048576 → judged_part (given ++ []) ≡ given
+judged_whole given few = ap judged_part (append-nil given) ∙ judged_short given few

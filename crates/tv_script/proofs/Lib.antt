@@ -1,9 +1,9 @@
-pub mod CutLemmas
 pub mod EndedLemmas
 pub mod EventLemmas
 pub mod FeedLemmas
 pub mod FitLemmas
 pub mod GrammarLemmas
+pub mod JudgingLemmas
 pub mod LineLemmas
 pub mod MarkLemmas
 pub mod PerformLemmas

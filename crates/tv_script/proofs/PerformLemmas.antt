@@ -1,11 +1,12 @@
 -- One item more, and a writer that fails at one.
-use Rattle.std.proofs.Common.{◌≡◌, ℕ, ◌+◌, ◌<◌, List, [], ◌∷◌, ◌++◌, Result, IfErr, length, get_or, take, refl, sym, ap, subst, ◌∙◌, append_assoc, arith, length-append}
+use Rattle.std.proofs.Common.{◌≡◌, ℕ, ◌+◌, ◌<◌, List, [], ◌∷◌, ◌++◌, Result, IfErr, length, get_or, take, drop, refl, sym, ap, subst, ◌∙◌, append_assoc, arith, length-append}
+use Rattle.std.proofs.lemmas.List.{append-nil, take-append-drop, take_all}
 use Rattle.std.proofs.Math.Seq.{take-append-add, take-append_seam}
 use Rattle.tv_model.specs.declared.script.Item.{Item}
 use Rattle.tv_machine.specs.Run.{Session, quiet}
 use Rattle.tv_model.specs.Log.LogText.{log_text}
-use Rattle.tv_machine.specs.Output.{output, after, item_text, session_after, texts}
-use Rattle.tv_script.proofs.RunLemmas.{states-push, states-take_more, texts-push, texts-take_more}
+use Rattle.tv_machine.specs.Output.{output, after, item_text, session_after, states, texts}
+use Rattle.tv_script.proofs.RunLemmas.{states-push, states-take_more, texts-append, texts-push, texts-take_more}
 use Rattle.tv_io.specs.Writer.{Seen, Takes, Cuts}
 use Rattle.tv_script.specs.Performed.{Stops}
 use Rattle.tv_script.specs.Streams.{Performs}
@@ -57,6 +58,30 @@ module _ (s : Session) (items : List Item) (item : Item) where
         whole = λ k f. let same : length items ≡ k = omega arith in
             (cut.front, ap (λ x. x ++ cut.front) (ap (output s) (sym (ap (λ n. take n (items ++ item ∷ more)) (sym same) ∙ take-append_seam items (item ∷ more)))));
         state = subst Left (sym (ap (after s) front ∙ states-push session_after (quiet s) items item)) left;
+      }
+
+-- items that were performed, and a writer that can't pass on what it took of their output
+module _ (s : Session) (items : List Item) where
+  output-parts : (k : ℕ) → (more : List ℕ) × (output s items ≡ output s (take k items) ++ more)
+  output-parts k =
+      let more = texts session_after item_text (states session_after (quiet s) (take k items)) (drop k items) in (
+        more,
+        ap (output s) (sym (take-append-drop k items)) ∙ ap (λ x. log_text s.desc s.state.log ++ x) (texts-append session_after item_text (quiet s) (take k items) (drop k items))
+            ∙ sym (append_assoc (log_text s.desc s.state.log) (texts session_after item_text (quiet s) (take k items)) more),
+      )
+
+  pub performs_on : {a b c : Seen} (Left : Session → Type 0) → Performs s items a b Left → Takes b c [] → Performs s items a c Left
+  performs_on {a} {b} {c} Left p takes = record { written = subst (Takes a c) (append-nil (output s items)) (Takes-then (output s items) [] p.written takes); left = p.left }
+
+  pub stops_held : {a b c : Seen} (Left : Session → Type 0) (begun : ℕ) → begun ≡ length items → Performs s items a b Left → Cuts b c [] → Stops s items begun a c Left
+  stops_held Left begun count p cut =
+      let all : take begun items ≡ items = take_all begun items (omega (arith, count)) in
+      let held = Cuts-after (output s items) [] p.written cut in
+      record {
+        few = omega (arith, count);
+        cut = Cuts-along (append-nil (output s items) ∙ ap (output s) (sym all)) held;
+        whole = λ k e. let parts = output-parts k in (parts.0 ++ cut.front, ap (λ x. x ++ cut.front) parts.1 ∙ append_assoc (output s (take k items)) parts.0 cut.front);
+        state = subst (λ x. Left (after s x)) (sym all) p.left;
       }
 
 pub first_stops : (s : Session) (items : List Item) {a b : Seen} (Left : Session → Type 0) → Left (quiet s) → Cuts a b (log_text s.desc s.state.log) → Stops s items 0 a b Left

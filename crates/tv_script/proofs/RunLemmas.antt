@@ -16,3 +16,8 @@ states-take_more next s es i d lt = ap (states next s) (take_more es i d lt) ∙
 
 pub texts-take_more : {S E : Type 0} (next : S → E → S) (text : S → E → List ℕ) (s : S) (es : List E) (i : ℕ) (d : E) → i < length es → texts next text s (take (i + 1) es) ≡ texts next text s (take i es) ++ text (states next s (take i es)) (get_or es i d)
 texts-take_more next text s es i d lt = ap (texts next text s) (take_more es i d lt) ∙ texts-push next text s (take i es) (get_or es i d)
+
+-- some inputs, and then more
+pub texts-append : {S E : Type 0} (next : S → E → S) (text : S → E → List ℕ) (s : S) (es more : List E) → texts next text s (es ++ more) ≡ texts next text s es ++ texts next text (states next s es) more
+texts-append next text s [] more = refl
+texts-append next text s (x ∷ es) more = ap (λ (t : List ℕ). text s x ++ t) (texts-append next text (next s x) es more) ∙ sym (append_assoc (text s x) (texts next text (next s x) es) (texts next text (states next (next s x) es) more))

@@ -1,9 +1,10 @@
 -- A script is read just where a text spells it.
-use Rattle.std.proofs.Common.{◌≡◌, ℕ, ℤ, suc, ◌+◌, ◌<◌, ◌≤◌, inl, inr, nat_le, Bool, true, false, cond, ◌&&◌, List, [], ◌∷◌, ◌++◌, length, take, Option, Some, None, Ok, Err, refl, sym, ap, ◌∙◌, add-one, add-zero, subst, arith, length-append}
+use Rattle.std.proofs.Common.{◌≡◌, ℕ, ℤ, suc, ◌+◌, ◌<◌, ◌≤◌, inl, inr, nat_le, Bool, true, false, cond, ◌&&◌, List, [], ◌∷◌, ◌++◌, length, take, Option, Some, None, Result, Ok, Err, refl, sym, ap, ◌∙◌, add-one, add-zero, subst, arith, length-append}
 use Rattle.std.specs.Prelude.{option_and_then, IfOk, IfErr}
 use Rattle.std.proofs.lemmas.Bool.Decides.{nat_tests}
 use Rattle.std.proofs.Math.Seq.{take-append-add, take-append_seam}
 use Rattle.tv_model.specs.declared.script.Item.{Item}
+use Rattle.tv_script.proofs.EndedLemmas.{judged_le}
 use Rattle.tv_script.proofs.FitLemmas.{fits, from_fitting, from_script, from_shown, into_fitting, into_script, into_shown, items_push, shows, stands}
 use Rattle.tv_script.proofs.GrammarLemmas.{Test, added, begins_weaker, faulty_unspelled, lines_spelled, no_begin, spelled_lines, taken_begins, tested}
 use Rattle.tv_script.specs.declared.line.Line.{Line}
@@ -11,9 +12,10 @@ use Rattle.tv_script.specs.declared.script_text.ScriptFault.{ScriptFault}
 use Rattle.tv_script.specs.declared.script_text.ScriptFault.TheVariants.{NoMemory, Syntax, OffScreen, TooLong}
 use Rattle.tv_script.specs.Lines.{is_on_screen, items_of, items_of_line}
 use Rattle.tv_script.specs.Reading.Lines.{script_line_in}
-use Rattle.tv_script.specs.Reading.Scripts.{ScriptOutcome, IsAnswered, script_from, script_of, with_bytes, with_found, with_words}
+use Rattle.tv_script.specs.Judging.{Judgement, answer_by_length, is_short, judged_as, judged_from, judged_lines, judged_part, judged_whole, judgement}
+use Rattle.tv_script.specs.Reading.Scripts.{ScriptOutcome, IsAnswered, with_bytes, with_found, with_words}
 use Rattle.tv_script.specs.Scripts.{GivesScript, IsFirstFaulty, IsFitting, IsOnScreen, IsScript, RefusesScript, SpellsAScript, script_words}
-use Rattle.tv_script.specs.Streams.{HasItems, IsLeft}
+use Rattle.tv_script.specs.Spelled.{HasItems, IsLeft, SaysOf}
 use Rattle.tv_words.proofs.TextLemmas.{steps_append}
 use Rattle.tv_words.specs.declared.word.Word.{Word}
 use Rattle.tv_words.specs.Lines.{lines_of}
@@ -56,9 +58,9 @@ module _ (width height : ℤ) where
   abbrev along : Test → List Line → List (List ℕ) → Option (List Line)
   along can ls lines = steps (line_taken (added can)) ls lines
 
-  -- reading on, after the line n
-  abbrev went : ℕ → List (List ℕ) → ScriptOutcome → ScriptOutcome
-  went n rest r = elim r as (λ _. ScriptOutcome) [ Err fault ↦ Err fault | Ok longer ↦ script_from width height (n + 1) longer rest ]
+  -- the judgement of the line n and those after it, by what that line is read as
+  abbrev went : ℕ → List Item → List (List ℕ) → ScriptOutcome → Judgement
+  went n items rest r = elim r as (λ _. Judgement) [ Err fault ↦ judgement items (Err fault) | Ok longer ↦ judged_from width height (n + 1) longer rest ]
 
   -- the lines are taken, whichever test they are put to, and have these items
   record Takes (ls : List Line) (lines : List (List ℕ)) (all : List Item) : Type 0 where
@@ -68,10 +70,10 @@ module _ (width height : ℤ) where
     fitted : along (fits width height) ls lines ≡ Some further
     are : all ≡ items_of further
 
-  takes_line : (n : ℕ) (ls : List Line) (l : List ℕ) (rest : List (List ℕ)) (all : List Item) (r : ScriptOutcome) → Tells n (line_taken (added stands) ls l) (line_taken (added (shows width height)) ls l) (line_taken (added (fits width height)) ls l) r → ((m : ℕ) (further : List Line) → script_from width height m (items_of further) rest ≡ Ok all → Takes further rest all) → went n rest r ≡ Ok all → Takes ls (l ∷ rest) all
-  takes_line n ls l rest all (Err fault) tells later e = absurd cc
+  takes_line : (n : ℕ) (ls : List Line) (l : List ℕ) (rest : List (List ℕ)) (all : List Item) (r : ScriptOutcome) → Tells n (line_taken (added stands) ls l) (line_taken (added (shows width height)) ls l) (line_taken (added (fits width height)) ls l) r → ((m : ℕ) (further : List Line) → judged_from width height m (items_of further) rest ≡ judgement all (Ok tt) → Takes further rest all) → went n (items_of ls) rest r ≡ judgement all (Ok tt) → Takes ls (l ∷ rest) all
+  takes_line n ls l rest all (Err fault) tells later e = let clash = ap (λ j. j.answer) e in absurd cc
   takes_line n ls l rest all (Ok longer) tells later e =
-      let r = later (n + 1) tells.0 (ap (λ x. script_from width height (n + 1) x rest) (sym tells.4) ∙ e) in
+      let r = later (n + 1) tells.0 (ap (λ x. judged_from width height (n + 1) x rest) (sym tells.4) ∙ e) in
       record {
         further = r.further;
         stood = ap (option_and_then (λ t. along stands t rest)) tells.1 ∙ r.stood;
@@ -81,16 +83,17 @@ module _ (width height : ℤ) where
       }
 
   -- the items that are read are those of the lines that are taken
-  takes : (lines : List (List ℕ)) (n : ℕ) (ls : List Line) (all : List Item) → script_from width height n (items_of ls) lines ≡ Ok all → Takes ls lines all
-  takes [] n ls all e = record { further = ls; stood = refl; shown = refl; fitted = refl; are = (let same : items_of ls ≡ all = cc in sym same) }
+  takes : (lines : List (List ℕ)) (n : ℕ) (ls : List Line) (all : List Item) → judged_from width height n (items_of ls) lines ≡ judgement all (Ok tt) → Takes ls lines all
+  takes [] n ls all e = record { further = ls; stood = refl; shown = refl; fitted = refl; are = sym (ap (λ j. j.items) e) }
   takes (l ∷ rest) n ls all e =
       takes_line n ls l rest all (with_bytes width height n (items_of ls) l) (by_words n ls (line_words l)) (λ m further. takes rest m further all) e
 
-  -- reading stops at a line: those before it are taken, and with it the fault is told
-  record Halts (ls : List Line) (lines : List (List ℕ)) (n : ℕ) (fault : ScriptFault) : Type 0 where
+  -- reading stops at a line: those before it are taken, with these items, and with it the fault is told
+  record Halts (ls : List Line) (lines : List (List ℕ)) (n : ℕ) (items : List Item) (fault : ScriptFault) : Type 0 where
     before : ℕ
     within : before < length lines
     longer : List Line
+    are : items ≡ items_of longer
     goes : along (fits width height) ls (take before lines) ≡ Some longer
     tells : Tells (n + before) (along stands ls (take (before + 1) lines)) (along (shows width height) ls (take (before + 1) lines)) (along (fits width height) ls (take (before + 1) lines)) (Err fault)
 
@@ -101,39 +104,42 @@ module _ (width height : ℤ) where
   one_on : (can : Test) (ls further : List Line) (l : List ℕ) (rest : List (List ℕ)) (b : ℕ) → line_taken (added can) ls l ≡ Some further → along can further (take (b + 1) rest) ≡ along can ls (take (suc b + 1) (l ∷ rest))
   one_on can ls further l rest b e = rw (add-one b, add-one (suc b), e) refl
 
-  halts_at : (n : ℕ) (ls : List Line) (l : List ℕ) (rest : List (List ℕ)) (fault : ScriptFault) (r : ScriptOutcome) → Tells n (line_taken (added stands) ls l) (line_taken (added (shows width height)) ls l) (line_taken (added (fits width height)) ls l) r → ((m : ℕ) (further : List Line) → script_from width height m (items_of further) rest ≡ Err fault → Halts further rest m fault) → went n rest r ≡ Err fault → Halts ls (l ∷ rest) n fault
-  halts_at n ls l rest fault (Err found) tells later e =
+  halts_at : (n : ℕ) (ls : List Line) (l : List ℕ) (rest : List (List ℕ)) (items : List Item) (fault : ScriptFault) (r : ScriptOutcome) → Tells n (line_taken (added stands) ls l) (line_taken (added (shows width height)) ls l) (line_taken (added (fits width height)) ls l) r → ((m : ℕ) (further : List Line) → judged_from width height m (items_of further) rest ≡ judgement items (Err fault) → Halts further rest m items fault) → went n (items_of ls) rest r ≡ judgement items (Err fault) → Halts ls (l ∷ rest) n items fault
+  halts_at n ls l rest items fault (Err found) tells later e =
+      let told = ap (λ j. j.answer) e in
       let same : found ≡ fault = cc in
       record {
         before = 0;
         within = omega arith;
         longer = ls;
+        are = sym (ap (λ j. j.items) e);
         goes = refl;
         tells = subst (λ f. Tells (n + 0) (along stands ls (l ∷ [])) (along (shows width height) ls (l ∷ [])) (along (fits width height) ls (l ∷ [])) (Err f)) same
             (Tells-along n (n + 0) _ _ _ _ _ _ (Err found) (sym (add-zero n)) (alone (line_taken (added stands) ls l)) (alone (line_taken (added (shows width height)) ls l)) (alone (line_taken (added (fits width height)) ls l)) tells);
       }
-  halts_at n ls l rest fault (Ok longer) tells later e =
-      let r = later (n + 1) tells.0 (ap (λ x. script_from width height (n + 1) x rest) (sym tells.4) ∙ e) in
+  halts_at n ls l rest items fault (Ok longer) tells later e =
+      let r = later (n + 1) tells.0 (ap (λ x. judged_from width height (n + 1) x rest) (sym tells.4) ∙ e) in
       let number : n + 1 + r.before ≡ n + suc r.before = omega arith in
       record {
         before = suc r.before;
         within = omega (arith, r.within);
         longer = r.longer;
+        are = r.are;
         goes = rw tells.3 r.goes;
         tells = Tells-along (n + 1 + r.before) (n + suc r.before) _ _ _ _ _ _ (Err fault) number (one_on stands ls tells.0 l rest r.before tells.1) (one_on (shows width height) ls tells.0 l rest r.before tells.2) (one_on (fits width height) ls tells.0 l rest r.before tells.3) r.tells;
       }
 
-  halts : (lines : List (List ℕ)) (n : ℕ) (ls : List Line) (fault : ScriptFault) → script_from width height n (items_of ls) lines ≡ Err fault → Halts ls lines n fault
-  halts [] n ls fault e = absurd cc
-  halts (l ∷ rest) n ls fault e = halts_at n ls l rest fault (with_bytes width height n (items_of ls) l) (by_words n ls (line_words l)) (λ m further. halts rest m further fault) e
+  halts : (lines : List (List ℕ)) (n : ℕ) (ls : List Line) (items : List Item) (fault : ScriptFault) → judged_from width height n (items_of ls) lines ≡ judgement items (Err fault) → Halts ls lines n items fault
+  halts [] n ls items fault e = let clash = ap (λ j. j.answer) e in absurd cc
+  halts (l ∷ rest) n ls items fault e = halts_at n ls l rest items fault (with_bytes width height n (items_of ls) l) (by_words n ls (line_words l)) (λ m further. halts rest m further items fault) e
 
   -- ---- the first faulty line
 
   abbrev spells_fitting : (lines : List (List ℕ)) (ls : List Line) → along (fits width height) [] lines ≡ Some ls → SpellsBy script_words (IsFitting width height) lines ls
   spells_fitting = lines_spelled (fits width height) (IsFitting width height) (into_fitting width height) (from_fitting width height)
 
-  first : (lines : List (List ℕ)) (fault : ScriptFault) (h : Halts [] lines 1 fault) (line : ℕ) → line ≡ h.before + 1 → (BeginsBy script_words (IsFitting width height) (take line lines) → ⊥) → IsFirstFaultyLine script_words (IsFitting width height) lines line
-  first lines fault h line number unbegun = record {
+  first : (lines : List (List ℕ)) (items : List Item) (fault : ScriptFault) (h : Halts [] lines 1 items fault) (line : ℕ) → line ≡ h.before + 1 → (BeginsBy script_words (IsFitting width height) (take line lines) → ⊥) → IsFirstFaultyLine script_words (IsFitting width height) lines line
+  first lines items fault h line number unbegun = record {
     before = h.before;
     number = number;
     within = omega (arith, h.within);
@@ -157,107 +163,98 @@ module _ (width height : ℤ) where
   none_fitting : (lines : List (List ℕ)) → along (fits width height) [] lines ≡ None → BeginsBy script_words (IsFitting width height) lines → ⊥
   none_fitting = no_begin (fits width height) (IsFitting width height) (into_fitting width height) (from_fitting width height)
 
-  refused : (text : List ℕ) (fault : ScriptFault) → length text ≤ 1048576 → Halts [] (lines_of text) 1 fault → RefusesScript width height text fault
-  refused text NoMemory short h = tt
-  refused text (Syntax line) short h =
+  refused : (text : List ℕ) (items : List Item) (fault : ScriptFault) → length text ≤ 1048576 → Halts [] (lines_of text) 1 items fault → RefusesScript width height text fault
+  refused text items NoMemory short h = tt
+  refused text items (Syntax line) short h =
       let number : line ≡ h.before + 1 = omega (arith, h.tells.0) in
       let unbegun = no_script (take line (lines_of text)) (rw number h.tells.1) in
-      (short, first (lines_of text) (Syntax line) h line number (λ b. unbegun (begins_weaker (IsFitting width height) IsScript (λ ls is. is.0.0) (take line (lines_of text)) b)), unbegun)
-  refused text (OffScreen line) short h =
+      (short, first (lines_of text) items (Syntax line) h line number (λ b. unbegun (begins_weaker (IsFitting width height) IsScript (λ ls is. is.0.0) (take line (lines_of text)) b)), unbegun)
+  refused text items (OffScreen line) short h =
       let number : line ≡ h.before + 1 = omega (arith, h.tells.0) in
       let unbegun = none_shown (take line (lines_of text)) (rw number h.tells.2) in (
         short,
-        first (lines_of text) (OffScreen line) h line number (λ b. unbegun (begins_weaker (IsFitting width height) (IsOnScreen width height) (λ ls is. is.0) (take line (lines_of text)) b)),
+        first (lines_of text) items (OffScreen line) h line number (λ b. unbegun (begins_weaker (IsFitting width height) (IsOnScreen width height) (λ ls is. is.0) (take line (lines_of text)) b)),
         some_script (take line (lines_of text)) h.tells.1.0 (rw number h.tells.1.1),
         unbegun,
       )
-  refused text TooLong short h =
+  refused text items TooLong short h =
       let unbegun = none_fitting (take (h.before + 1) (lines_of text)) h.tells.1 in
-      inr (h.before + 1, first (lines_of text) TooLong h (h.before + 1) refl unbegun, some_shown (take (h.before + 1) (lines_of text)) h.tells.0.0 h.tells.0.1)
+      inr (h.before + 1, first (lines_of text) items TooLong h (h.before + 1) refl unbegun, some_shown (take (h.before + 1) (lines_of text)) h.tells.0.0 h.tells.0.1)
 
-  -- ---- lines that were read, and one that is refused after them
+  -- ---- what a judgement says
 
-  -- the lines that were read are those of a script with these items
-  pub read_items : (lines : List (List ℕ)) (items : List Item) → script_from width height 1 [] lines ≡ Ok items → HasItems width height lines items
-  read_items lines items e = let r = takes lines 1 [] items e in record { script = r.further; spelled = spells_fitting lines r.further r.fitted; are = r.are }
-
-  faulty_at : (text : List ℕ) (fault : ScriptFault) → length text ≤ 1048576 → (h : Halts [] (lines_of text) 1 fault) → IsFirstFaulty width height text (h.before + 1)
-  faulty_at text NoMemory short h = absurd h.tells
-  faulty_at text (Syntax line) short h =
+  faulty_at : (text : List ℕ) (items : List Item) (fault : ScriptFault) → length text ≤ 1048576 → (h : Halts [] (lines_of text) 1 items fault) → IsFirstFaulty width height text (h.before + 1)
+  faulty_at text items NoMemory short h = absurd h.tells
+  faulty_at text items (Syntax line) short h =
       let number : line ≡ h.before + 1 = omega (arith, h.tells.0) in
-      subst (IsFirstFaulty width height text) number (refused text (Syntax line) short h).1
-  faulty_at text (OffScreen line) short h =
+      subst (IsFirstFaulty width height text) number (refused text items (Syntax line) short h).1
+  faulty_at text items (OffScreen line) short h =
       let number : line ≡ h.before + 1 = omega (arith, h.tells.0) in
-      subst (IsFirstFaulty width height text) number (refused text (OffScreen line) short h).1
-  faulty_at text TooLong short h =
+      subst (IsFirstFaulty width height text) number (refused text items (OffScreen line) short h).1
+  faulty_at text items TooLong short h =
       let unbegun = none_fitting (take (h.before + 1) (lines_of text)) h.tells.1 in
-      first (lines_of text) TooLong h (h.before + 1) refl unbegun
+      first (lines_of text) items TooLong h (h.before + 1) refl unbegun
 
   -- a text that is read up to a line is left there
-  left_there : (text : List ℕ) (fault : ScriptFault) → length text ≤ 1048576 → (h : Halts [] (lines_of text) 1 fault) → IsLeft width height text (items_of h.longer) fault
-  left_there text fault short h = record {
-    refused = refused text fault short h;
+  left_there : (text : List ℕ) (items : List Item) (fault : ScriptFault) → length text ≤ 1048576 → (h : Halts [] (lines_of text) 1 items fault) → IsLeft width height text items fault
+  left_there text items fault short h = record {
+    refused = refused text items fault short h;
     before = h.before;
-    faulty = faulty_at text fault short h;
-    performed = record { script = h.longer; spelled = spells_fitting (take h.before (lines_of text)) h.longer h.goes; are = refl };
+    faulty = faulty_at text items fault short h;
+    performed = record { script = h.longer; spelled = spells_fitting (take h.before (lines_of text)) h.longer h.goes; are = h.are };
   }
 
-  -- one line more
-  along_push : (can : Test) (lines : List (List ℕ)) (l : List ℕ) (ls : List Line) → along can [] lines ≡ Some ls → along can [] (lines ++ l ∷ []) ≡ line_taken (added can) ls l
-  along_push can lines l ls e = steps_append (line_taken (added can)) lines (l ∷ []) [] ∙ ap (option_and_then (λ t. along can t (l ∷ []))) e ∙ sym (alone (line_taken (added can) ls l))
+  -- the lines that were read are those of a script with these items
+  read_items : (lines : List (List ℕ)) (items : List Item) → judged_lines width height lines ≡ judgement items (Ok tt) → HasItems width height lines items
+  read_items lines items e = let r = takes lines 1 [] items e in record { script = r.further; spelled = spells_fitting lines r.further r.fitted; are = r.are }
 
-  halts_after : (all lines : List (List ℕ)) (l : List ℕ) (more : List (List ℕ)) (fault : ScriptFault) (items : List Item) → all ≡ lines ++ l ∷ more → (taken : Takes [] lines items) → with_bytes width height (length lines + 1) (items_of taken.further) l ≡ Err fault → Halts [] all 1 fault
-  halts_after all lines l more fault items are taken refused =
-      let ls = taken.further in
-      let front : take (length lines) all ≡ lines = ap (take (length lines)) are ∙ take-append_seam lines (l ∷ more) in
-      let longer : take (length lines + 1) all ≡ lines ++ l ∷ [] = ap (take (length lines + 1)) are ∙ take-append-add lines (l ∷ more) 1 in
-      let number : length lines + 1 ≡ 1 + length lines = omega arith in
-      record {
-        before = length lines;
-        within = omega (arith, ap length are, length-append lines (l ∷ more));
-        longer = ls;
-        goes = ap (along (fits width height) []) front ∙ taken.fitted;
-        tells = Tells-along (length lines + 1) (1 + length lines) _ _ _ _ _ _ (Err fault) number
-            (sym (ap (along stands []) longer ∙ along_push stands lines l ls taken.stood))
-            (sym (ap (along (shows width height) []) longer ∙ along_push (shows width height) lines l ls taken.shown))
-            (sym (ap (along (fits width height) []) longer ∙ along_push (fits width height) lines l ls taken.fitted))
-            (subst (Tells (length lines + 1) (line_taken (added stands) ls l) (line_taken (added (shows width height)) ls l) (line_taken (added (fits width height)) ls l)) refused
-            (by_words (length lines + 1) ls (line_words l)));
-      }
+  read_spelled : (text : List ℕ) (items : List Item) → length text ≤ 1048576 → judged_lines width height (lines_of text) ≡ judgement items (Ok tt) → SpellsAScript width height text items
+  read_spelled text items short e = let has = read_items (lines_of text) items e in record { short = short; lines = has.script; spelled = has.spelled; are = has.are }
 
-  left_by : (text : List ℕ) (lines : List (List ℕ)) (l : List ℕ) (more : List (List ℕ)) (fault : ScriptFault) (items : List Item) → lines_of text ≡ lines ++ l ∷ more → length text ≤ 1048576 → (taken : Takes [] lines items) → with_bytes width height (length lines + 1) (items_of taken.further) l ≡ Err fault → IsLeft width height text items fault
-  unfolding halts_after
-  left_by text lines l more fault items are short taken refused =
-      subst (λ x. IsLeft width height text x fault) (sym taken.are) (left_there text fault short (halts_after (lines_of text) lines l more fault items are taken refused))
+  -- a fault of the part that is judged is one of the text
+  says_left : (text : List ℕ) (items : List Item) (fault : ScriptFault) → length (judged_part text) ≤ 1048576 → Halts [] (lines_of (judged_part text)) 1 items fault → SaysOf width height text items (Err fault)
+  says_left text items NoMemory short h = h.tells
+  says_left text items (Syntax line) short h = left_there (judged_part text) items (Syntax line) short h
+  says_left text items (OffScreen line) short h = left_there (judged_part text) items (OffScreen line) short h
+  says_left text items TooLong short h = inr (left_there (judged_part text) items TooLong short h)
 
-  -- where lines were read and the next one is refused, a text that has them is left there
-  pub read_left : (text : List ℕ) (lines : List (List ℕ)) (l : List ℕ) (more : List (List ℕ)) (fault : ScriptFault) (items : List Item) → lines_of text ≡ lines ++ l ∷ more → length text ≤ 1048576 → script_from width height 1 [] lines ≡ Ok items → with_bytes width height (length lines + 1) items l ≡ Err fault → IsLeft width height text items fault
-  read_left text lines l more fault items are short e refused =
-      let taken = takes lines 1 [] items e in
-      left_by text lines l more fault items are short taken (ap (λ x. with_bytes width height (length lines + 1) x l) (sym taken.are) ∙ refused)
+  says_by : (text : List ℕ) (items : List Item) (b : Bool) (answer : Result (Unit {0}) ScriptFault) → is_short text ≡ b → judged_lines width height (lines_of (judged_part text)) ≡ judgement items answer → SaysOf width height text items (answer_by_length b answer)
+  says_by text items true (Ok _) eb e =
+      let short : length text ≤ 1048576 = grind (arith, nat_tests) in
+      let part : judged_part text ≡ text = rw eb refl in
+      read_spelled text items short (subst (λ x. judged_lines width height (lines_of x) ≡ judgement items (Ok tt)) part e)
+  says_by text items false (Ok _) eb e = inl (record { long = grind (arith, nat_tests); performed = read_items (lines_of (judged_part text)) items e })
+  says_by text items true (Err fault) eb e = says_left text items fault (judged_le text) (halts (lines_of (judged_part text)) 1 [] items fault e)
+  says_by text items false (Err fault) eb e = says_left text items fault (judged_le text) (halts (lines_of (judged_part text)) 1 [] items fault e)
+
+  -- a text is judged as the language of scripts says
+  pub says : (text : List ℕ) → SaysOf width height text (judged_as width height text).items (judged_as width height text).answer
+  says text = let j = judged_lines width height (lines_of (judged_part text)) in says_by text j.items (is_short text) j.answer refl refl
+
+  pub judged_spelled : (text : List ℕ) (items : List Item) → judged_as width height text ≡ judgement items (Ok tt) → SpellsAScript width height text items
+  judged_spelled text items e = subst (λ j. SaysOf width height text j.items j.answer) e (says text)
 
   -- ---- the function and the relation
 
-  spelled_if : (text : List ℕ) (script : List Item) (b : Bool) → nat_le (length text) 1048576 ≡ b → cond b (script_from width height 1 [] (lines_of text)) (Err TooLong) ≡ Ok script → SpellsAScript width height text script
-  spelled_if text script true eb e =
-      let r = takes (lines_of text) 1 [] script e in
-      record { short = grind (arith, nat_tests); lines = r.further; spelled = spells_fitting (lines_of text) r.further r.fitted; are = r.are }
-  spelled_if text script false eb e = absurd cc
-
-  -- what is read is spelled
-  pub read_spelled : (text : List ℕ) (script : List Item) → script_of width height text ≡ Ok script → SpellsAScript width height text script
-  read_spelled text script e = spelled_if text script (nat_le (length text) 1048576) refl e
-
-  refused_if : (text : List ℕ) (fault : ScriptFault) (b : Bool) → nat_le (length text) 1048576 ≡ b → cond b (script_from width height 1 [] (lines_of text)) (Err TooLong) ≡ Err fault → RefusesScript width height text fault
-  refused_if text fault true eb e = refused text fault (grind (arith, nat_tests)) (halts (lines_of text) 1 [] fault e)
-  refused_if text fault false eb e =
+  -- why a judgement of a whole text refuses it
+  refused_if : (text : List ℕ) (fault : ScriptFault) (b : Bool) (j : Judgement) → is_short text ≡ b → j ≡ judged_lines width height (lines_of text) → (cond b j (judgement [] (Err TooLong))).answer ≡ Err fault → RefusesScript width height text fault
+  refused_if text fault true j eb ej e = refused text j.items fault (grind (arith, nat_tests)) (halts (lines_of text) 1 [] j.items fault (sym ej ∙ ap (λ x. judgement j.items x) e))
+  refused_if text fault false j eb ej e =
       let same : TooLong ≡ fault = cc in
       let long : 1048576 < length text = grind (arith, nat_tests) in
       subst (RefusesScript width height text) same (inl long)
 
   -- what is refused is faulty
-  pub read_refused : (text : List ℕ) (fault : ScriptFault) → script_of width height text ≡ Err fault → RefusesScript width height text fault
-  read_refused text fault e = refused_if text fault (nat_le (length text) 1048576) refl e
+  pub read_refused : (text : List ℕ) (fault : ScriptFault) → (judged_whole width height text).answer ≡ Err fault → RefusesScript width height text fault
+  read_refused text fault e = refused_if text fault (is_short text) (judged_lines width height (lines_of text)) refl refl e
+
+  spelled_if : (text : List ℕ) (items : List Item) (b : Bool) → is_short text ≡ b → cond b (judged_lines width height (lines_of text)) (judgement [] (Err TooLong)) ≡ judgement items (Ok tt) → SpellsAScript width height text items
+  spelled_if text items true eb e = read_spelled text items (grind (arith, nat_tests)) e
+  spelled_if text items false eb e = let clash = ap (λ j. j.answer) e in absurd cc
+
+  -- what is read is spelled
+  pub whole_spelled : (text : List ℕ) (items : List Item) → judged_whole width height text ≡ judgement items (Ok tt) → SpellsAScript width height text items
+  whole_spelled text items e = spelled_if text items (is_short text) refl e
 
   unspelled : (text : List ℕ) (script : List Item) → SpellsAScript width height text script → (line : ℕ) → IsFirstFaulty width height text line → ⊥
   unspelled text script spelled line faulty = faulty_unspelled (IsFitting width height) (lines_of text) line faulty spelled.lines spelled.spelled
@@ -270,36 +267,33 @@ module _ (width height : ℤ) where
       let same : a.lines ≡ b.lines = cc in
       a.are ∙ ap items_of same ∙ sym b.are
 
-  with_memory : (text : List ℕ) (b : Bool) → cond b (script_from width height 1 [] (lines_of text)) (Err TooLong) ≡ Err NoMemory → ⊥
-  with_memory text true e = (halts (lines_of text) 1 [] NoMemory e).tells
-  with_memory text false e = absurd cc
+  with_memory : (text : List ℕ) (b : Bool) (j : Judgement) → j ≡ judged_lines width height (lines_of text) → (cond b j (judgement [] (Err TooLong))).answer ≡ Err NoMemory → ⊥
+  with_memory text true j ej e = (halts (lines_of text) 1 [] j.items NoMemory (sym ej ∙ ap (λ x. judgement j.items x) e)).tells
+  with_memory text false j ej e = absurd cc
 
-  spelled_answer : (r : ScriptOutcome) (text : List ℕ) (script : List Item) → script_of width height text ≡ r → SpellsAScript width height text script → r ≡ Ok script
-  spelled_answer (Ok found) text script e spelled = ap (λ x. Ok x) (same_script text found script (read_spelled text found e) spelled)
-  spelled_answer (Err NoMemory) text script e spelled = absurd (with_memory text (nat_le (length text) 1048576) e)
-  spelled_answer (Err (Syntax line)) text script e spelled = absurd (unspelled text script spelled line (read_refused text (Syntax line) e).1)
-  spelled_answer (Err (OffScreen line)) text script e spelled = absurd (unspelled text script spelled line (read_refused text (OffScreen line) e).1)
-  spelled_answer (Err TooLong) text script e spelled =
-      absurd (elim (read_refused text TooLong e) [ inl long ↦ absurd (omega (arith, long, spelled.short)) | inr faulty ↦ unspelled text script spelled faulty.0 faulty.1 ])
+  -- a text that spells a script is refused for no reason
+  not_refused : (text : List ℕ) (script : List Item) (fault : ScriptFault) → SpellsAScript width height text script → (judged_whole width height text).answer ≡ Err fault → ⊥
+  not_refused text script NoMemory spelled e = with_memory text (is_short text) (judged_lines width height (lines_of text)) refl e
+  not_refused text script (Syntax line) spelled e = unspelled text script spelled line (read_refused text (Syntax line) e).1
+  not_refused text script (OffScreen line) spelled e = unspelled text script spelled line (read_refused text (OffScreen line) e).1
+  not_refused text script TooLong spelled e =
+      elim (read_refused text TooLong e) [ inl long ↦ absurd (omega (arith, long, spelled.short)) | inr faulty ↦ unspelled text script spelled faulty.0 faulty.1 ]
 
   -- ---- the answers of `parse_items`
 
-  answered : (text : List ℕ) (fault : ScriptFault) → IsAnswered fault (script_of width height text) → RefusesScript width height text fault
+  answered : (text : List ℕ) (fault : ScriptFault) → IsAnswered fault (judged_whole width height text).answer → RefusesScript width height text fault
   answered text NoMemory h = tt
   answered text (Syntax line) h = read_refused text (Syntax line) h
   answered text (OffScreen line) h = read_refused text (OffScreen line) h
   answered text TooLong h = read_refused text TooLong h
 
-  pub all_refused : (r : ScriptOutcome) (text : List ℕ) → IfErr r (λ fault. IsAnswered fault (script_of width height text)) → IfErr r (λ fault. RefusesScript width height text fault)
+  pub all_refused : (r : ScriptOutcome) (text : List ℕ) → IfErr r (λ fault. IsAnswered fault (judged_whole width height text).answer) → IfErr r (λ fault. RefusesScript width height text fault)
   all_refused (Ok script) text h = tt
   all_refused (Err fault) text h = answered text fault h
 
-  given : (text : List ℕ) (script : List Item) (r : ScriptOutcome) → script_of width height text ≡ r → SpellsAScript width height text script → GivesScript r script
-  given text script r e spelled = subst (λ x. GivesScript x script) (sym (spelled_answer r text script e spelled)) refl
-
-  pub gives : (r : ScriptOutcome) (text : List ℕ) (script : List Item) → IfOk r (λ found. script_of width height text ≡ Ok found) → IfErr r (λ fault. IsAnswered fault (script_of width height text)) → SpellsAScript width height text script → GivesScript r script
-  gives (Ok found) text script value fault spelled = given text script (Ok found) value spelled
+  pub gives : (r : ScriptOutcome) (text : List ℕ) (script : List Item) → IfOk r (λ found. judged_whole width height text ≡ judgement found (Ok tt)) → IfErr r (λ fault. IsAnswered fault (judged_whole width height text).answer) → SpellsAScript width height text script → GivesScript r script
+  gives (Ok found) text script value fault spelled = same_script text found script (whole_spelled text found value) spelled
   gives (Err NoMemory) text script value fault spelled = tt
-  gives (Err (Syntax line)) text script value fault spelled = given text script (Err (Syntax line)) fault spelled
-  gives (Err (OffScreen line)) text script value fault spelled = given text script (Err (OffScreen line)) fault spelled
-  gives (Err TooLong) text script value fault spelled = given text script (Err TooLong) fault spelled
+  gives (Err (Syntax line)) text script value fault spelled = not_refused text script (Syntax line) spelled fault
+  gives (Err (OffScreen line)) text script value fault spelled = not_refused text script (OffScreen line) spelled fault
+  gives (Err TooLong) text script value fault spelled = not_refused text script TooLong spelled fault

@@ -8,6 +8,10 @@ pub mod Scripts
 pub mod Reading
 -- What a script leaves, and what a failed writer leaves of one
 pub mod Performed
+-- What a text is judged as: its items, and why it is left
+pub mod Judging
+-- What a judgement says of a text, in the words of the language of scripts
+pub mod Spelled
 -- What performing a script that is read in pieces comes to
 pub mod Streams
 -- What is shown of a screen

@@ -20,4 +20,4 @@ pub use script::Script;
 pub use script_text::{ScriptFault, parse_items};
 pub use stage::Stage;
 pub use stream_fault::StreamFault;
-pub use streaming::{cuts_decide_nothing, perform_from};
+pub use streaming::{cuts_decide_nothing, judgements_are_right, perform_from};

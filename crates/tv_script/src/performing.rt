@@ -1,6 +1,6 @@
 //! A script, performed.
 
-ghost use Rattle.std.specs.Prelude.{◌≡◌, ◌≤◌, ◌+◌, ◌++◌, false, length, All, List, OnOk, IfErr, IfOk, MatchResult, ℕ};
+ghost use Rattle.std.specs.Prelude.{◌≡◌, ◌≤◌, ◌+◌, ◌++◌, true, false, length, All, List, OnOk, IfErr, IfOk, MatchResult, ℕ};
 ghost use Rattle.tv_machine.specs.Output.{event_text, event_after, item_text, session_after, shot_text, colors_text, output, after};
 ghost use Rattle.tv_machine.specs.Run.{Session, quiet};
 ghost use Rattle.tv_model.specs.Log.LogText.{log_text};
@@ -11,6 +11,7 @@ ghost use Rattle.tv_script.specs.declared.stream_fault.StreamFault.TheVariants.{
 ghost use Rattle.tv_script.specs.Lines.{IsEventOnScreen, IsItemOnScreen, items_of_line};
 ghost use Rattle.tv_script.specs.Performed.{Stops};
 ghost use Rattle.tv_script.specs.ScriptLines.{line_meant};
+ghost use Rattle.tv_script.specs.Reading.Streams.{is_write};
 ghost use Rattle.tv_script.specs.Streams.{Performs};
 
 use crate::lines::put_log;
@@ -84,13 +85,14 @@ pub(crate) fn perform_line<S: Stage, W: Writer>(
     requires there { (s : Session) × S.stands stage.old s }
     ensures same { pen.new.out.ghost_name ≡ pen.old.out.ghost_name }
     ensures going { OnOk result (pen.new.stopped ≡ false) }
+    ensures stopped { IfErr result (λ fault. (pen.new.stopped ≡ true) × (is_write fault ≡ true)) }
     ensures there { (s : Session) × S.stands stage.new s }
     ensures count { IfOk result (λ count. count ≡ before + length (items_of_line (line_meant line.now))) }
     ensures performed { (s : Session) (from : Seen) (items : List SeenItem) → before ≡ length items
         → Performs s items from (W.seen pen.old.out.now) (S.stands stage.old)
         → MatchResult result
         (λ _. Performs s (items ++ items_of_line (line_meant line.now)) from (W.seen pen.new.out.now) (S.stands stage.new))
-        (λ fault. (begun : ℕ) × (fault ≡ Write begun) × Stops s (items ++ items_of_line (line_meant line.now)) begun from (W.seen pen.new.out.now) (S.stands stage.new)) }
+        (λ fault. (begun : ℕ) × (fault ≡ Write begun) × (before ≤ begun) × Stops s (items ++ items_of_line (line_meant line.now)) begun from (W.seen pen.new.out.now) (S.stands stage.new)) }
 {
     let mut begun = before;
     for item in line.items() {

@@ -5,7 +5,8 @@ ghost use Rattle.std.specs.List.{list_any};
 ghost use Rattle.tv_model.specs.declared.script.Item.{Item as SeenItem};
 ghost use Rattle.tv_script.specs.Lines.{ends_line, items_of_line, item_typed};
 ghost use Rattle.tv_script.specs.Reading.Lines.{key_line_in, script_line_in, mouse_line_in, point_in, screen_line_in, typed_in};
-ghost use Rattle.tv_script.specs.Reading.Scripts.{IsAnswered, script_from, script_of, with_bytes, with_script_line};
+ghost use Rattle.tv_script.specs.Judging.{judged_lines, judged_whole, judgement};
+ghost use Rattle.tv_script.specs.Reading.Scripts.{IsAnswered, with_bytes, with_script_line};
 ghost use Rattle.tv_script.specs.Scripts.{GivesScript, RefusesScript, SpellsAScript};
 ghost use Rattle.tv_words.specs.Lines.{lines_of};
 
@@ -73,8 +74,8 @@ fn read_text(
     width: i32,
     height: i32,
 ) -> Result<Sequence<Item>, ScriptFault>
-    ensures value { IfOk result (λ items. script_of width height text.now ≡ Ok items) }
-    ensures fault { IfErr result (λ fault. IsAnswered fault (script_of width height text.now)) }
+    ensures value { IfOk result (λ items. judged_whole width height text.now ≡ judgement items (Ok tt)) }
+    ensures fault { IfErr result (λ fault. IsAnswered fault (judged_whole width height text.now).answer) }
 {
     if text.len() > MOST_BYTES {
         return Err(ScriptFault::TooLong);
@@ -88,8 +89,8 @@ fn read_lines(
     width: i32,
     height: i32,
 ) -> Result<Sequence<Item>, ScriptFault>
-    ensures value { IfOk result (λ items. script_from width height 1 [] (lines_of text.now) ≡ Ok items) }
-    ensures fault { IfErr result (λ fault. IsAnswered fault (script_from width height 1 [] (lines_of text.now))) }
+    ensures value { IfOk result (λ items. judged_lines width height (lines_of text.now) ≡ judgement items (Ok tt)) }
+    ensures fault { IfErr result (λ fault. IsAnswered fault (judged_lines width height (lines_of text.now)).answer) }
 {
     let mut items = Sequence::new(alloc);
     let mut number = 1;

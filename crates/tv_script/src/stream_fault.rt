@@ -2,7 +2,7 @@
 
 ghost use Rattle.std.specs.Prelude.{◌≡◌};
 ghost use Rattle.tv_script.specs.declared.stream_fault.StreamFault.TheVariants.{NoMemory};
-ghost use Rattle.tv_script.specs.Reading.Streams.{stream_fault};
+ghost use Rattle.tv_script.specs.Streams.{stream_fault};
 
 use crate::script_text::ScriptFault;
 use std::alloc::AllocError;

@@ -1,5 +1,5 @@
 -- Reading a script, line by line.
-use Rattle.std.specs.Prelude.{◌≡◌, ℕ, ℤ, ◌+◌, List, [], ◌∷◌, ◌++◌, length, nat_le, Option, Some, None}
+use Rattle.std.specs.Prelude.{◌≡◌, ℕ, ℤ, List, [], ◌∷◌, ◌++◌, length, nat_le, Option, Some, None}
 use Rattle.std.specs.Prelude.{Result, Ok, Err, if◌then◌else◌}
 use Rattle.tv_model.specs.declared.script.Item.{Item}
 use Rattle.tv_script.specs.declared.line.Line.{Line}
@@ -8,10 +8,9 @@ use Rattle.tv_script.specs.declared.script_text.ScriptFault.TheVariants.{NoMemor
 use Rattle.tv_script.specs.Lines.{is_on_screen, items_of_line}
 use Rattle.tv_script.specs.Reading.Lines.{script_line_in}
 use Rattle.tv_words.specs.declared.word.Word.{Word}
-use Rattle.tv_words.specs.Lines.{lines_of}
 use Rattle.tv_words.specs.Reading.LineWords.{line_words}
 
--- what reading comes to: the items of the script, or why there are none
+-- what reading a line comes to: the items with its own, or why it is faulty
 abbrev pub ScriptOutcome : Type 0
 ScriptOutcome = Result (List Item) ScriptFault
 
@@ -45,21 +44,7 @@ with_read width height n items None = Err (Syntax n)
 with_read width height n items (Some None) = Ok items
 with_read width height n items (Some (Some l)) = with_script_line width height n items l
 
--- reading on, from the line n
-abbrev pub script_from : (width height : ℤ) → ℕ → List Item → List (List ℕ) → ScriptOutcome
-script_from width height n items [] = Ok items
-script_from width height n items (l ∷ ls) =
-    elim (with_bytes width height n items l) as (λ _. ScriptOutcome) [
-      | Err fault ↦ Err fault
-      | Ok longer ↦ script_from width height (n + 1) longer ls
-    ]
-
--- the script of a text for a screen of so many columns and rows
-abbrev pub script_of : (width height : ℤ) → List ℕ → ScriptOutcome
-script_of width height text =
-    if nat_le (length text) 1048576 then script_from width height 1 [] (lines_of text) else Err TooLong
-
 -- the fault is the one that was answered; memory may run out at any time
-abbrev pub IsAnswered : ScriptFault → ScriptOutcome → Type 0
+abbrev pub IsAnswered : {T : Type 0} → ScriptFault → Result T ScriptFault → Type 0
 IsAnswered NoMemory answer = Unit {0}
 IsAnswered fault answer = answer ≡ Err fault

@@ -21,6 +21,7 @@ returns-then-pen-clause-performed g c = λ s from items count performed.
     let number : c.loop-item.begun + 1 ≡ length (items ++ done) + 1 = omega (arith, before.begun, count, length-append items done) in (
       c.loop-item.begun + 1,
       refl,
+      omega (arith, before.begun),
       subst (λ x. Stops s x (c.loop-item.begun + 1) from (g.W.Writer.seen c.put_item.new.pen.out.now) (g.S.Stage.stands c.put_item.new.stage)) (sym parts)
           (subst (λ n. Stops s ((items ++ done) ++ item ∷ left) n from (g.W.Writer.seen c.put_item.new.pen.out.now) (g.S.Stage.stands c.put_item.new.stage)) (sym number)
           (stops_push s (items ++ done) item (g.S.Stage.stands c.loop-item.stage) (g.S.Stage.stands c.put_item.new.stage) left so_far

@@ -1,4 +1,4 @@
-use Rattle.tv_script.proofs.CutLemmas.{cuts_decide_nothing}
+use Rattle.tv_script.proofs.StreamLemmas.{cuts_decide_nothing}
 use Rattle.tv_script.proofs.streaming.cuts_decide_nothing.Goals as goal
 
 pub returns : goal.returns

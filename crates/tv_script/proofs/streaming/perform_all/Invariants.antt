@@ -8,6 +8,7 @@ use Rattle.tv_script.proofs.streaming.perform_all.Given as goal
 abbrev pub invariant-loop-count : goal.invariant-loop-count
 invariant-loop-count g l = record {
   going : l.pen.stopped ≡ false;
+  passed : (g.W.Writer.seen l.pen.out.now).kept ≡ [];
   same : l.pen.out.ghost_name ≡ l.fn.pen.out.ghost_name;
   there : (s : Session) × g.S.Stage.stands l.stage s;
   given : List ℕ;

@@ -3,7 +3,8 @@ use Rattle.std.proofs.lemmas.List.{append-nil}
 use Rattle.tv_script.proofs.FeedLemmas.{judged_here, match_given, played_line, unplayed_cut, unplayed_refused}
 use Rattle.tv_script.specs.Lines.{items_of_line}
 use Rattle.tv_script.specs.ScriptLines.{line_meant}
-use Rattle.tv_script.specs.Reading.Streams.{items_found, stream_fault}
+use Rattle.tv_script.specs.Reading.Streams.{items_found}
+use Rattle.tv_script.specs.Streams.{stream_fault}
 use Rattle.tv_script.proofs.feed.Feed.end_line.Goals as goal
 use Rattle.tv_script.proofs.feed.Feed.end_line.Goals.{in-Some+in_ok-items-in-Some, in-None}
 
@@ -24,8 +25,8 @@ returns-in_err-items-in-Some-clause-played g c = λ s from lines screen number p
     let cut = c.in_err-items-in-Some.ensures.performed s from played.items played.count played.performs in
     let judged = c.in_ok-line.ensures.line played.items played.count ∙ ap (λ x. Ok (played.items ++ items_found x)) c.in-Some.is in
     match_given _ _ fault
-    (unplayed_cut s lines feed.line.items from _ _ fault cut.0 played.items (played.items ++ more) played.read
-    (judged_here s feed lines played.items (Ok (played.items ++ more)) screen number judged) cut.1 cut.2)
+    (unplayed_cut s lines feed.line.items from _ _ fault feed.items cut.0 played.items (played.items ++ more) played.read
+    (judged_here s feed lines played.items (Ok (played.items ++ more)) screen number judged) cut.1 cut.2 cut.3)
     c.from_residual-in_err-items-in-Some.result c.from_residual-in_err-items-in-Some.ensures.1
 
 pub returns-clause-there : goal.returns-clause-there

@@ -2,7 +2,7 @@ use Rattle.std.proofs.Common.{false, ◌≡◌, ◌+◌, ◌++◌, ◌∷◌, []
 use Rattle.std.proofs.lemmas.List.{take_more, take-append-drop}
 use Rattle.tv_script.proofs.FeedLemmas.{match_given}
 use Rattle.tv_script.proofs.StreamLemmas.{breaks_wider}
-use Rattle.tv_script.specs.Streams.{Breaks}
+use Rattle.tv_script.specs.Reading.Streams.{Breaks}
 use Rattle.tv_script.proofs.feed.Feed.take_piece.Goals as goal
 
 pub returns-in_err-take_byte-clause-fed : goal.returns-in_err-take_byte-clause-fed
@@ -19,5 +19,5 @@ returns-in_err-take_byte-clause-fed g c = λ s from given fed.
     ∙ append_assoc given (take (i + 1) piece) (drop (i + 1) piece) ∙ ap (λ x. given ++ x) (take-append-drop (i + 1) piece) in
     let broken = c.in_err-take_byte.ensures.fed s from here (c.loop-byte.invariant.fed s from given fed) in
     match_given _ _ fault
-    (subst (λ x. Breaks s x false from now Left fault) whole (breaks_wider s from now Left fault (here ++ byte ∷ []) (drop (i + 1) piece) false broken))
+    (subst (λ x. Breaks s x false c.take_byte.new.self.items from now Left fault) whole (breaks_wider s from now Left fault (here ++ byte ∷ []) (drop (i + 1) piece) false c.take_byte.new.self.items broken))
     c.from_residual.result c.from_residual.ensures.1
