@@ -3,10 +3,10 @@ use Rattle.std.proofs.Common.{◌≡◌, List, [], Result, Ok, Err, refl, pos, I
 use Rattle.tv_model.specs.declared.script.Item.{Item}
 use Rattle.tv_script.specs.Scripts.{GivesScript, SpellsAScript}
 use Rattle.tv_script.specs.declared.script_text.ScriptFault.{ScriptFault}
-use Rattle.tv_script.proofs.ScriptLemmas.{read_spelled}
+use Rattle.tv_script.proofs.ScriptLemmas.{whole_spelled}
 
 pub spells_nothing : SpellsAScript (pos 0) (pos 0) [] []
-spells_nothing = read_spelled (pos 0) (pos 0) [] [] refl
+spells_nothing = whole_spelled (pos 0) (pos 0) [] [] refl
 
 pub gives_nothing : (r : Result (List Item) ScriptFault) → GivesScript r [] → IfOk r (λ script. script ≡ [])
 gives_nothing (Ok found) g = g

@@ -1,7 +1,6 @@
 -- What a run comes to, with its begin and its end.
 use Rattle.std.proofs.Common.{◌≡◌, ℕ, ◌<◌, Bool, true, false, inl, inr, List, [], ◌∷◌, ◌++◌, length, take, Option, Some, None, Result, Ok, Err, refl, sym, ap, subst, ◌∙◌, arith, append_assoc, length-append}
 use Rattle.std.specs.List.{concat}
-use Rattle.std.specs.Io.KnownBytes.{Appends, Keeps}
 use Rattle.std.proofs.lemmas.List.{append-nil, length-map, length-take-le}
 use Rattle.std.proofs.lemmas.List.Elements.{All-nil}
 use Rattle.tv_ansi.specs.Sequences.{end_bytes}
@@ -10,13 +9,14 @@ use Rattle.tv_event.specs.declared.event.Event.{Event as Happening}
 use Rattle.std.specs.Prelude.{IfNone, MatchResult}
 use Rattle.tv_io.specs.Pen.{PutsBy}
 use Rattle.tv_io.specs.declared.writer.WriteFailed.{WriteFailed}
-use Rattle.tv_io.specs.Writer.{Cuts, IsSame, Seen, Takes}
+use Rattle.tv_io.proofs.WriterLemmas.{Cuts-after, Cuts-held, Takes-passed, Takes-then}
+use Rattle.tv_io.specs.Writer.{Cuts, IsHeldBack, IsPassedOn, PassesOn, Seen, Takes}
 use Rattle.tv_machine.specs.Output.{output}
 use Rattle.tv_machine.specs.Run.{Session, quiet}
 use Rattle.tv_model.specs.Log.LogText.{log_text}
 use Rattle.tv_play.specs.Ends.{is_finished, is_leaving, script_with}
 use Rattle.tv_play.specs.Pieces.{Comes, ComesNot, HasCome, Heard, FitsRoom, Loses, symbols_in}
-use Rattle.tv_play.specs.Playing.{ComesOf, IsWrittenOrCut, Plays, PlaysTo, Ports, told_with}
+use Rattle.tv_play.specs.Playing.{ComesOf, IsWrittenOrCut, PartsBy, Plays, PlaysTo, Ports, told_with}
 use Rattle.tv_play.specs.Steps.{CameTo, HasPlayedOut, HasRun, IsAtEnd, IsEndedBy, IsHeard, IsPlaying, HasBeenShown, Outside, TurnsTo, or_end, outcome_of, outside}
 use Rattle.tv_play.specs.declared.parting.Parting.{Parting}
 use Rattle.tv_play.specs.declared.parting.Parting.TheVariants as partings
@@ -76,32 +76,57 @@ first-turns s from now Left false is (Ok written) false same takes shown left = 
 
 -- ---- the loop
 
+shown-still : (s : Session) (events : List Happening) (from screen screen' : Seen) (stop stop' : Bool) (painter : Painter) → HasBeenShown s events from screen stop painter → PutsBy screen stop screen' stop' [] → HasBeenShown s events from screen' stop' painter
+shown-still s events from screen screen' stop stop' painter shown put = record { frames = shown.frames; shows = shown.shows; put = put-still from screen screen' stop stop' (concat shown.frames) shown.put put; taken = shown.taken }
+
 -- what was written is passed on
-appends-kept : (a b c : Option (List ℕ)) (x : List ℕ) → Appends a b x → Keeps b c → Appends a c x
-appends-kept None b c x p q = tt
-appends-kept (Some a) None c x p q = absurd p
-appends-kept (Some a) (Some b) None x p q = absurd q
-appends-kept (Some a) (Some b) (Some c) x p q = q ∙ p
+pub passed-on : {a b c : Seen} (text : List ℕ) → Takes a b text → IsPassedOn b c → Takes a c text
+passed-on {a} {b} {c} text p same = subst (Takes a c) (append-nil text) (Takes-then text [] p (Takes-passed same))
 
-pub passed-on : {a b c : Seen} {text : List ℕ} → Takes a b text → IsSame b c → Takes a c text
-passed-on {a} {b} {c} {text} p same = record { bytes = appends-kept a.taken b.taken c.taken text p.bytes same.bytes; count = same.count ∙ p.count }
+held-back : {a b c : Seen} (text : List ℕ) → Takes a b text → IsHeldBack b c → Cuts a c text
+held-back {a} {b} {c} text p held = subst (Cuts a c) (append-nil text) (Cuts-after text [] p (Cuts-held held))
 
-pub playing-passed : (s : Session) (symbols : List Symbol) (from : Outside) (log log' screen screen' : Seen) (stop stop' : Bool) (painter : Painter) (Left : Session → Type 0) → IsSame log log' → PutsBy screen stop screen' stop' [] → stop' ≡ false
-    → IsPlaying s symbols from (outside log screen stop painter) Left → IsPlaying s symbols from (outside log' screen' stop' painter) Left
-playing-passed s symbols from log log' screen screen' stop stop' painter Left same put going p = record {
+-- what was written was passed on, or the run is over
+pub turned-passed : (s : Session) (symbols : List Symbol) (from : Outside) (log log' screen screen' : Seen) (stop stop' : Bool) (painter : Painter) (Left : Session → Type 0) (passed : Result (Unit {0}) WriteFailed) → PassesOn log log' passed → PutsBy screen stop screen' stop' []
+    → IsPlaying s symbols from (outside log screen stop painter) Left → TurnsTo s symbols from (outside log' screen' stop' painter) Left (outcome_of false passed stop')
+turned-passed s symbols from log log' screen screen' stop stop' painter Left (Err failed) held put p = record {
+  events = p.events;
+  rest = [];
+  heard = p.heard;
+  shown = shown-still s p.events from.screen screen screen' stop stop' painter p.shown put;
+  left = p.performs.left;
+  ended = held-back (output s (script_with p.events)) p.performs.written held;
+}
+turned-passed s symbols from log log' screen screen' stop true painter Left (Ok done) passed put p = record {
+  events = p.events;
+  rest = [];
+  heard = p.heard;
+  shown = shown-still s p.events from.screen screen screen' stop true painter p.shown put;
+  left = p.performs.left;
+  ended = (passed-on (output s (script_with p.events)) p.performs.written passed, refl);
+}
+turned-passed s symbols from log log' screen screen' stop false painter Left (Ok done) passed put p = record {
   events = p.events;
   heard = p.heard;
   goes = p.goes;
-  shown = record { frames = p.shown.frames; shows = p.shown.shows; put = put-still from.screen screen screen' stop stop' (concat p.shown.frames) p.shown.put put; taken = p.shown.taken };
-  performs = record { written = passed-on p.performs.written same; left = p.performs.left };
-  going = going;
+  shown = shown-still s p.events from.screen screen screen' stop false painter p.shown put;
+  performs = record { written = passed-on (output s (script_with p.events)) p.performs.written passed; left = p.performs.left };
+  going = refl;
 }
 
--- a pen that passes on what was written goes on
-pub goes-passed : (a b : Seen) (t u : Bool) → t ≡ false → PutsBy a t b u [] → u ≡ false
-goes-passed a b true u e put = absurd cc
-goes-passed a b false false e put = refl
-goes-passed a b false true e put = absurd (omega (arith, put.proper, ap (λ (x : List ℕ). length x) put.parts, length-append put.front put.rest))
+-- it goes on only where both were passed on
+pub passes-on : (a b : Seen) (passed : Result (Unit {0}) WriteFailed) (stop : Bool) → None ≡ outcome_of false passed stop → PassesOn a b passed → b.kept ≡ []
+passes-on a b (Err failed) stop is held = absurd cc
+passes-on a b (Ok done) stop is passed = passed.none
+
+-- what turned to nothing goes on
+pub played-on : (s : Session) (symbols : List Symbol) (from now : Outside) (Left : Session → Type 0) (outcome : Option (Result Parting PlayFault)) → None ≡ outcome → TurnsTo s symbols from now Left outcome → IsPlaying s symbols from now Left
+played-on s symbols from now Left (Some outcome) is turned = absurd cc
+played-on s symbols from now Left None is turned = turned
+
+pub played-out : (s : Session) (symbols : List Symbol) (from now : Outside) (Left : Session → Type 0) (told : Result Parting PlayFault) (outcome : Option (Result Parting PlayFault)) → Some told ≡ outcome → TurnsTo s symbols from now Left outcome → HasPlayedOut s symbols from now Left told
+played-out s symbols from now Left told (Some outcome) is turned = let same : outcome ≡ told = cc in subst (HasPlayedOut s symbols from now Left) same turned
+played-out s symbols from now Left told None is turned = absurd cc
 
 -- each piece has a symbol
 pub some-symbols : (piece : Piece) (room : List ℕ) → FitsRoom piece room → 0 < length (symbols_in piece room)
@@ -152,7 +177,7 @@ goes-by : (s : Session) (symbols : List Symbol) (piece : Piece) (room : List ℕ
 goes-by s symbols piece room input mid later from now Left (Some outcome) come comes turned = run-by s (symbols ++ symbols_in piece room) input later from now Left outcome come turned
 goes-by s symbols (pieces.Bytes count) room input mid later from now Left None come comes turned = turned
 goes-by s symbols pieces.Pause room input mid later from now Left None come comes turned = turned
-goes-by s symbols pieces.End room input mid later from now Left None come comes turned = run-ended s (symbols ++ Pause ∷ []) input later from now Left come (inl (comes.ended refl).0) turned
+goes-by s symbols pieces.End room input mid later from now Left None come comes turned = run-ended s (symbols ++ Pause ∷ []) input later from now Left come (inl (comes.ended refl)) turned
 
 pub goes-to : (s : Session) (symbols : List Symbol) (piece : Piece) (room : List ℕ) (input mid later : Heard) (from now : Outside) (Left : Session → Type 0) (outcome told : Option (Result Parting PlayFault)) → told ≡ or_end outcome piece → HasCome input mid symbols → Comes mid later piece room
     → TurnsTo s (symbols ++ symbols_in piece room) from now Left outcome → GoesTo s (symbols ++ symbols_in piece room) input later from now Left told
@@ -169,54 +194,65 @@ pub plays-on : (s : Session) (symbols : List Symbol) (from now : Outside) (Left 
 plays-on s symbols from now Left (Some outcome) piece is turned = absurd cc
 plays-on s symbols from now Left None piece is turned = turned
 
--- its input failed
-pub run-unheard : (s : Session) (symbols : List Symbol) (input mid left : Heard) (from now : Outside) (Left : Session → Type 0) → HasCome input mid symbols → ComesNot mid left → IsPlaying s symbols from now Left → HasRun s input left from now Left (Err faults.Read)
-run-unheard s symbols input mid left from now Left come failed p = record {
+-- its input failed, before which all was passed on
+pub run-unheard : (s : Session) (symbols : List Symbol) (input mid left : Heard) (from now : Outside) (Left : Session → Type 0) → HasCome input mid symbols → ComesNot mid left → now.log.kept ≡ [] → IsPlaying s symbols from now Left → HasRun s input left from now Left (Err faults.Read)
+run-unheard s symbols input mid left from now Left come failed none p = record {
   symbols = symbols;
   events = p.events;
   rest = [];
   heard = p.heard;
   shown = p.shown;
   left = p.performs.left;
-  came = ((mid, come, failed), refl, p.performs.written, p.going);
+  came = ((mid, come, failed), refl, p.performs.written, p.going, none);
 }
 
 -- ---- the end
 
-written-by : (from last : Seen) (bytes : List ℕ) (stop : Bool) → PutsBy from false last stop bytes → IsWrittenOrCut from last bytes
-written-by from last bytes true put = inr put
-written-by from last bytes false put = inl put
+written-by : (from last : Seen) (bytes : List ℕ) (stop : Bool) → PutsBy from false last stop bytes → (stop ≡ false → last.kept ≡ []) → IsWrittenOrCut from last bytes
+written-by from last bytes true put none = inr put
+written-by from last bytes false put none = inl (record { takes = put; none = none refl })
 
-module _ (s : Session) (symbols : List Symbol) (events : List Happening) (rest : List Action) (input left : Heard) (from now : Outside) (last : Seen) (bytes : List ℕ) where
+module _ (s : Session) (symbols : List Symbol) (events : List Happening) (rest : List Action) (input left : Heard) (from now : Outside) (last : Seen) (bytes : List ℕ) (stop : Bool) (put : PutsBy from.screen false last stop bytes) (none : stop ≡ false → last.kept ≡ []) where
   abbrev old : Ports
   old = record { input = input; log = from.log; screen = from.screen }
 
-  abbrev new : Ports
-  new = record { input = left; log = now.log; screen = last }
+  abbrev new : Seen → Ports
+  new log = record { input = left; log = log; screen = last }
 
-  comes : (outcome : Result Parting PlayFault) (stop : Bool) → CameTo s symbols events rest input left from now outcome → PutsBy from.screen false last stop bytes → (now.stopped ≡ true → stop ≡ true) → ComesOf s symbols events rest bytes old new (told_with outcome stop)
-  comes (Ok partings.Over) true came put stays = (came.0, came.1.1, put)
-  comes (Ok partings.Over) false came put stays = record { came = came.0; log = came.1.1; screen = put; parts = came.1.0 }
-  comes (Ok partings.Left) true came put stays = (came.0, came.1.2, put)
-  comes (Ok partings.Left) false came put stays = record { came = came.0; log = came.1.2; screen = put; parts = (came.1.0, came.1.1) }
-  comes (Ok partings.Ended) true came put stays = (came.0, came.4, put)
-  comes (Ok partings.Ended) false came put stays = record { came = came.0; log = came.4; screen = put; parts = (came.1, came.2, came.3) }
-  comes (Err faults.NoMemory) stop came put stays = came.1
-  comes (Err faults.Read) stop came put stays = (came.0, came.1, came.2, written-by from.screen last bytes stop put)
-  comes (Err faults.Log) stop came put stays = (came.0, came.1, written-by from.screen last bytes stop put)
-  comes (Err faults.Screen) true came put stays = (came.0, came.1.0, put)
-  comes (Err faults.Screen) false came put stays = let clash : false ≡ true = stays came.1.1 in absurd cc
+  -- it ended by itself
+  parted : (log : Seen) (parting : Parting) (passed : Result (Unit {0}) WriteFailed) (b : Bool) → stop ≡ b → HasCome input left symbols → Takes from.log now.log (output s (script_with events)) → PartsBy s events left symbols rest parting → PassesOn now.log log passed → ComesOf s symbols events rest bytes old (new log) (told_with parting passed b)
+  parted log parting (Err failed) b e come takes parts held = (come, held-back (output s (script_with events)) takes held, written-by from.screen last bytes stop put none)
+  parted log parting (Ok done) true e come takes parts passed = (come, passed-on (output s (script_with events)) takes passed, subst (λ x. PutsBy from.screen false last x bytes) e put)
+  parted log parting (Ok done) false e come takes parts passed = record {
+    came = come;
+    log = record { takes = passed-on (output s (script_with events)) takes passed; none = passed.none };
+    screen = record { takes = subst (λ x. PutsBy from.screen false last x bytes) e put; none = none e };
+    parts = parts;
+  }
+
+  comes-parted : (log : Seen) (parting : Parting) (passed : Result (Unit {0}) WriteFailed) → CameTo s symbols events rest input left from now (Ok parting) → PassesOn now.log log passed → ComesOf s symbols events rest bytes old (new log) (told_with parting passed stop)
+  comes-parted log partings.Over passed came passes = parted log partings.Over passed stop refl came.0 came.1.1 came.1.0 passes
+  comes-parted log partings.Left passed came passes = parted log partings.Left passed stop refl came.0 came.1.2 (came.1.0, came.1.1) passes
+  comes-parted log partings.Ended passed came passes = parted log partings.Ended passed stop refl came.0 came.4 (came.1, came.2, came.3) passes
+
+  -- or was broken off
+  comes-broken : (fault : PlayFault) (b : Bool) → stop ≡ b → CameTo s symbols events rest input left from now (Err fault) → (now.stopped ≡ true → stop ≡ true) → ComesOf s symbols events rest bytes old (new now.log) (Err fault)
+  comes-broken faults.NoMemory b e came stays = came.1
+  comes-broken faults.Read b e came stays = (came.0, came.1, record { takes = came.2; none = came.4 }, written-by from.screen last bytes stop put none)
+  comes-broken faults.Log b e came stays = (came.0, came.1, written-by from.screen last bytes stop put none)
+  comes-broken faults.Screen true e came stays = (came.0, came.1.0, subst (λ x. PutsBy from.screen false last x bytes) e put)
+  comes-broken faults.Screen false e came stays = let yes = stays came.1.1 in absurd cc
 
 module _ (s : Session) (input left : Heard) (from now : Outside) (last : Seen) (stop : Bool) (Left : Session → Type 0)
-    (put : (frames : List (List ℕ)) → PutsBy from.screen false now.screen now.stopped (concat frames) → PutsBy from.screen false last stop (concat frames ++ end_bytes)) (stays : now.stopped ≡ true → stop ≡ true) where
+    (put : (frames : List (List ℕ)) → PutsBy from.screen false now.screen now.stopped (concat frames) → PutsBy from.screen false last stop (concat frames ++ end_bytes)) (stays : now.stopped ≡ true → stop ≡ true) (none : stop ≡ false → last.kept ≡ []) where
   abbrev pub begun : Ports
   begun = record { input = input; log = from.log; screen = from.screen }
 
-  abbrev pub ended : Ports
-  ended = record { input = left; log = now.log; screen = last }
+  abbrev pub ended : Seen → Ports
+  ended log = record { input = left; log = log; screen = last }
 
-  plays : (outcome : Result Parting PlayFault) → HasRun s input left from now Left outcome → Plays s begun ended Left (told_with outcome stop)
-  plays outcome run = record {
+  pub plays-parted : (log : Seen) (parting : Parting) (passed : Result (Unit {0}) WriteFailed) (result : Result Parting PlayFault) → result ≡ told_with parting passed stop → HasRun s input left from now Left (Ok parting) → PassesOn now.log log passed → Plays s begun (ended log) Left result
+  plays-parted log parting passed result is run passes = record {
     symbols = run.symbols;
     events = run.events;
     rest = run.rest;
@@ -225,11 +261,22 @@ module _ (s : Session) (input left : Heard) (from now : Outside) (last : Seen) (
     frames = run.shown.frames;
     shows = run.shown.shows;
     restores = restores s run.events run.shown.frames run.shown.shows;
-    comes = comes s run.symbols run.events run.rest input left from now last (concat run.shown.frames ++ end_bytes) outcome stop run.came (put run.shown.frames run.shown.put) stays;
+    comes = subst (ComesOf s run.symbols run.events run.rest (concat run.shown.frames ++ end_bytes) begun (ended log)) (sym is)
+        (comes-parted s run.symbols run.events run.rest input left from now last (concat run.shown.frames ++ end_bytes) stop (put run.shown.frames run.shown.put) none log parting passed run.came passes);
   }
 
-  pub plays-through : (outcome result : Result Parting PlayFault) → result ≡ told_with outcome stop → HasRun s input left from now Left outcome → Plays s begun ended Left result
-  plays-through outcome result is run = subst (Plays s begun ended Left) (sym is) (plays outcome run)
+  pub plays-broken : (fault : PlayFault) → HasRun s input left from now Left (Err fault) → Plays s begun (ended now.log) Left (Err fault)
+  plays-broken fault run = record {
+    symbols = run.symbols;
+    events = run.events;
+    rest = run.rest;
+    heard = run.heard;
+    left = run.left;
+    frames = run.shown.frames;
+    shows = run.shown.shows;
+    restores = restores s run.events run.shown.frames run.shown.shows;
+    comes = comes-broken s run.symbols run.events run.rest input left from now last (concat run.shown.frames ++ end_bytes) stop (put run.shown.frames run.shown.put) none fault stop refl run.came stays;
+  }
 
 -- what was played, as it stands once what was lent is back
 plays-told : (s : Session) (first last : Ports) (Left : Session → Type 0) (result : Result Parting PlayFault) → Plays s first last Left result → PlaysTo s first last Left result

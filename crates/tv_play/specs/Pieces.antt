@@ -1,5 +1,6 @@
 -- What comes from a terminal, in pieces.
-use Rattle.std.specs.Prelude.{◌≡◌, ◌<◌, ◌≤◌, ℕ, Bool, true, List, [], ◌∷◌, ◌++◌, map, take, length, Option}
+use Rattle.std.specs.Prelude.{◌≡◌, ◌≢◌, ◌<◌, ◌≤◌, ℕ, Bool, true, false, List, [], ◌∷◌, ◌++◌, map, take}
+use Rattle.std.specs.Prelude.{length, Option}
 use Rattle.std.specs.Prelude.{Some, None, IfSome}
 use Rattle.tv_io.specs.Writer.{HasRisen}
 use Rattle.tv_play.specs.declared.pieces.Piece.{Piece}
@@ -36,12 +37,19 @@ pub record HasCome (old new : Heard) (symbols : List Symbol) : Type 0 where
   pub took : Loses old.left new.left symbols
   pub count : new.failures ≡ old.failures
 
--- one call gave a piece. At the end nothing is left
+-- the last call was the end, and nothing is left
+pub record HasEnded (h : Heard) : Type 0 where
+  pub ended : h.is_ended ≡ true
+  pub none : IfSome h.left (λ left. left ≡ [])
+
+-- one call gave a piece, which is the end or isn't
 pub record Comes (old new : Heard) (piece : Piece) (room : List ℕ) : Type 0 where
   pub has : HasCome old new (symbols_in piece room)
-  pub ended : piece ≡ pieces.End → (new.is_ended ≡ true) × IfSome new.left (λ left. left ≡ [])
+  pub ended : piece ≡ pieces.End → HasEnded new
+  pub going : piece ≢ pieces.End → new.is_ended ≡ false
 
--- a call gave nothing, and failed
+-- a call gave nothing, and failed, which isn't the end
 pub record ComesNot (old new : Heard) : Type 0 where
   pub took : Loses old.left new.left []
   pub count : HasRisen old.failures new.failures
+  pub going : new.is_ended ≡ false

@@ -4,6 +4,7 @@ use Rattle.std.specs.List.{concat}
 use Rattle.tv_ansi.specs.Sequences.{end_bytes}
 use Rattle.tv_event.specs.declared.event.Event.{Event}
 use Rattle.tv_io.specs.Writer.{Cuts, Seen, Takes}
+use Rattle.tv_io.specs.declared.writer.WriteFailed.{WriteFailed}
 use Rattle.tv_machine.specs.Output.{after, output}
 use Rattle.tv_machine.specs.Run.{Session}
 use Rattle.tv_terminal.specs.Decoding.{Symbol}
@@ -17,9 +18,14 @@ use Rattle.tv_play.specs.declared.parting.Parting.TheVariants as partings
 use Rattle.tv_play.specs.declared.parting.PlayFault.{PlayFault}
 use Rattle.tv_play.specs.declared.parting.PlayFault.TheVariants as faults
 
--- the whole text was written, or the writer failed and a proper prefix was
+-- the whole text was written, and nothing is kept back
+pub record IsWrittenOut (old new : Seen) (text : List ℕ) : Type 0 where
+  pub takes : Takes old new text
+  pub none : new.kept ≡ []
+
+-- or the writer failed
 abbrev pub IsWrittenOrCut : (old new : Seen) → List ℕ → Type 0
-IsWrittenOrCut old new text = Takes old new text ⊎ Cuts old new text
+IsWrittenOrCut old new text = IsWrittenOut old new text ⊎ Cuts old new text
 
 -- a run's input and its two outputs
 pub record Ports : Type 0 where
@@ -40,8 +46,8 @@ pub record IsPlayed (s : Session) (symbols : List Symbol) (events : List Event) 
     (bytes : List ℕ)
     (old new : Ports) (parting : Parting) : Type 0 where
   pub came : HasCome old.input new.input symbols
-  pub log : Takes old.log new.log (output s (script_with events))
-  pub screen : Takes old.screen new.screen bytes
+  pub log : IsWrittenOut old.log new.log (output s (script_with events))
+  pub screen : IsWrittenOut old.screen new.screen bytes
   pub parts : PartsBy s events new.input symbols rest parting
 
 -- what came of one that was broken off
@@ -50,7 +56,7 @@ abbrev pub IsBroken : (s : Session) (symbols : List Symbol) (events : List Event
     (old new : Ports) → PlayFault → Type 0
 IsBroken s symbols events rest bytes old new faults.Read =
     ((mid : Heard) × HasCome old.input mid symbols × ComesNot mid new.input) × (rest ≡ [])
-    × Takes old.log new.log (output s (script_with events)) × IsWrittenOrCut old.screen new.screen bytes
+    × IsWrittenOut old.log new.log (output s (script_with events)) × IsWrittenOrCut old.screen new.screen bytes
 IsBroken s symbols events rest bytes old new faults.Log =
     HasCome old.input new.input symbols
     × Cuts old.log new.log (output s (script_with events)) × IsWrittenOrCut old.screen new.screen bytes
@@ -69,7 +75,7 @@ ComesOf s symbols events rest bytes old new (Err fault) = IsBroken s symbols eve
 -- A run from a session. The events are among what the symbols that came mean; the session that is left is the
 -- one to which they lead; the log is what their script writes. A terminal that is told what was written for
 -- the screen shows the session's screen at the beginning and after each event, and at the end what it showed
--- before
+-- before. Before each call of the input, and at the end, what was written is passed on
 pub record Plays (s : Session) (old new : Ports) (Left : Session → Type 0) (result : Result Parting PlayFault)
     : Type 0 where
   pub symbols : List Symbol
@@ -93,8 +99,8 @@ abbrev pub PlaysTo : (s : Session) (old new : Ports) (Left : Session → Type 0)
 PlaysTo s old new Left (Err faults.NoMemory) = IsUnbegun s old new Left
 PlaysTo s old new Left result = Plays s old new Left result
 
--- a run that ended by itself, but for a screen that couldn't be written
-abbrev pub told_with : Result Parting PlayFault → Bool → Result Parting PlayFault
-told_with (Ok parting) true = Err faults.Screen
-told_with (Ok parting) false = Ok parting
-told_with (Err fault) stopped = Err fault
+-- a run that ended by itself, but for a log that couldn't be passed on, or a screen that couldn't be written
+abbrev pub told_with : Parting → Result (Unit {0}) WriteFailed → Bool → Result Parting PlayFault
+told_with parting (Err failed) stopped = Err faults.Log
+told_with parting (Ok passed) true = Err faults.Screen
+told_with parting (Ok passed) false = Ok parting

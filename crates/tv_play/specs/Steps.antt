@@ -15,7 +15,7 @@ use Rattle.tv_terminal.specs.Decoding.{Symbol, decode}
 use Rattle.tv_terminal.specs.declared.action.Action.{Action}
 use Rattle.tv_terminal.specs.declared.action.Action.TheVariants.{Event}
 use Rattle.tv_play.specs.Ends.{is_finished, is_leaving, script_with, session_at}
-use Rattle.tv_play.specs.Pieces.{ComesNot, HasCome, Heard}
+use Rattle.tv_play.specs.Pieces.{ComesNot, HasCome, HasEnded, Heard}
 use Rattle.tv_play.specs.Shown.{HasSize, ShowsEach}
 use Rattle.tv_play.specs.declared.pieces.Piece.{Piece}
 use Rattle.tv_play.specs.declared.pieces.Piece.TheVariants as pieces
@@ -107,9 +107,9 @@ TurnsTo s symbols from now Left (Some outcome) = HasPlayedOut s symbols from now
 
 -- ---- with its input
 
--- the input ended. Of an endless one 2 ^ 64 - 1 pieces are heard
+-- the input ended, and nothing is left. Of an endless one 2 ^ 64 - 1 pieces are heard
 abbrev pub IsAtEnd : Heard → List Symbol → Type 0
-IsAtEnd input symbols = (input.is_ended ≡ true) ⊎ (2 ^ 64 ≤ length symbols + 1)
+IsAtEnd input symbols = HasEnded input ⊎ (2 ^ 64 ≤ length symbols + 1)
 
 -- why it ended, with what came
 abbrev pub CameTo : (s : Session) (symbols : List Symbol) (events : List Happening) (rest : List Action)
@@ -120,7 +120,7 @@ CameTo s symbols events rest input later from now (Ok partings.Ended) =
     × Takes from.log now.log (output s (script_with events)) × (now.stopped ≡ false)
 CameTo s symbols events rest input later from now (Err faults.Read) =
     ((mid : Heard) × HasCome input mid symbols × ComesNot mid later) × (rest ≡ [])
-    × Takes from.log now.log (output s (script_with events)) × (now.stopped ≡ false)
+    × Takes from.log now.log (output s (script_with events)) × (now.stopped ≡ false) × (now.log.kept ≡ [])
 CameTo s symbols events rest input later from now outcome =
     HasCome input later symbols × IsEndedBy s events rest from now outcome
 

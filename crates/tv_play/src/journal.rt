@@ -1,7 +1,7 @@
 //! Where the log is written.
 
 ghost use Rattle.std.specs.Prelude.{◌≡◌, [], IfOk, MatchResult, OnOk};
-ghost use Rattle.tv_io.specs.Writer.{Cuts, IsSame, Takes};
+ghost use Rattle.tv_io.specs.Writer.{Cuts, PassesOn, Takes};
 ghost use Rattle.tv_machine.specs.Run.{Session, quiet};
 ghost use Rattle.tv_model.specs.Log.LogText.{log_text};
 
@@ -42,11 +42,11 @@ impl<W: Writer> Journal<'_, '_, W> {
     }
 
     /// Passes on what was written.
-    pub(crate) fn pass_on(&mut self)
+    pub(crate) fn pass_on(&mut self) -> Result<(), WriteFailed>
         ensures same { self.new.out.ghost_name ≡ self.old.out.ghost_name }
-        ensures still { IsSame (W.seen self.old.out.now) (W.seen self.new.out.now) }
+        ensures passed { PassesOn (W.seen self.old.out.now) (W.seen self.new.out.now) result }
     {
         let out = &mut *self.out;
-        out.pass_on();
+        out.pass_on()
     }
 }

@@ -17,7 +17,7 @@ use crate::show::Show;
 use std::alloc::Global;
 use tv_ansi::Painter;
 use tv_cells::ScreenFault;
-use tv_io::{Pen, Writer};
+use tv_io::{Pen, WriteFailed, Writer};
 use tv_script::Script;
 use tv_terminal::Decoder;
 
@@ -25,7 +25,7 @@ use tv_terminal::Decoder;
 const PIECE: usize = 64;
 
 /// Plays a run in a terminal: takes what comes from the user in pieces, shows on `screen` what it leaves, and writes the log on
-/// `log`. What was written is passed on before each read. Tells why it ended.
+/// `log`. What was written is passed on before each read, and at the end. Tells why it ended.
 ///
 /// It takes memory before anything is read or written, and none after that. The terminal is turned to its alternate screen, and at
 /// the end back to its normal one, also where it is broken off.
@@ -34,7 +34,8 @@ const PIECE: usize = 64;
 ///
 /// - `NoMemory`: nothing was read or written.
 /// - `Read`: the reader failed. What came before was performed.
-/// - `Log`, `Screen`: that writer failed, and a proper prefix of its text was written. Nothing more is read.
+/// - `Log`, `Screen`: that writer failed, or couldn't pass on what it took; a proper prefix of its text came out. Nothing more
+///   is read.
 pub fn play<L: Live, P: Pieces, T: Writer, W: Writer>(
     alloc: Global,
     stage: &mut L,
@@ -108,17 +109,26 @@ fn play_through<L: Live, P: Pieces, T: Writer, W: Writer>(
     show.begin(stage);
     let outcome = play_begun(stage, pieces, show, journal);
     show.end();
-    told_with(outcome, show.pen.stopped)
+    match outcome {
+        Ok(parting) => {
+            let passed = journal.pass_on();
+            told_with(parting, passed, show.pen.stopped)
+        }
+        Err(fault) => Err(fault),
+    }
 }
 
-// How a run ended, where the screen may not have been written.
-fn told_with(outcome: Outcome, is_stopped: bool) -> Outcome
-    ensures { result ≡ told_with outcome is_stopped }
+// How a run ended by itself, where the log may not have been passed on, or the screen not written.
+fn told_with(parting: Parting, passed: Result<(), WriteFailed>, is_stopped: bool) -> Outcome
+    ensures { result ≡ told_with parting passed is_stopped }
 {
-    match outcome {
-        Ok(_) if is_stopped => Err(PlayFault::Screen),
-        _ => outcome,
+    if passed.is_err() {
+        return Err(PlayFault::Log);
     }
+    if is_stopped {
+        return Err(PlayFault::Screen);
+    }
+    Ok(parting)
 }
 
 // Plays it once the terminal shows its beginning.
@@ -164,7 +174,10 @@ fn play_all<L: Live, P: Pieces, T: Writer, W: Writer>(
     let mut room = [0u8; PIECE];
     for turn in 0..u64::MAX {
         show.pen.pass_on();
-        journal.pass_on();
+        let passed = journal.pass_on();
+        if let Some(outcome) = outcome_of(false, passed, show.pen.stopped) {
+            return outcome;
+        }
         let Some(piece) = pieces.next(&mut room) else {
             return Err(PlayFault::Read);
         };

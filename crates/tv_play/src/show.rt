@@ -58,6 +58,7 @@ impl<T: Writer> Show<'_, '_, T> {
     pub(crate) fn end(&mut self)
         ensures same { self.new.pen.out.ghost_name ≡ self.old.pen.out.ghost_name }
         ensures stopped { self.old.pen.stopped ≡ true → self.new.pen.stopped ≡ true }
+        ensures passed { self.new.pen.stopped ≡ false → (T.seen self.new.pen.out.now).kept ≡ [] }
         ensures put { (from : Seen) (frames : List (List ℕ))
             → PutsBy from false (T.seen self.old.pen.out.now) self.old.pen.stopped (concat frames)
             → PutsBy from false (T.seen self.new.pen.out.now) self.new.pen.stopped (concat frames ++ end_bytes) }

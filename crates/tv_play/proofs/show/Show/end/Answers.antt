@@ -6,8 +6,8 @@ use Rattle.tv_play.proofs.show.Show.end.Goals as goal
 
 pub returns-clause-stopped : goal.returns-clause-stopped
 returns-clause-stopped g c = λ before.
-    stays-stopped _ _ _ _ _ c.pass_on.ensures.how (stays-stopped _ _ _ _ _ c.end.ensures.puts.how before)
+    stays-stopped _ _ _ _ _ c.pass_on.ensures.puts.how (stays-stopped _ _ _ _ _ c.end.ensures.puts.how before)
 
 pub returns-clause-put : goal.returns-clause-put
 returns-clause-put g c = λ from frames put.
-    put-still from _ _ _ _ (concat frames ++ end_bytes) (put-end from _ _ _ _ frames put c.end.ensures.puts.how) c.pass_on.ensures.how
+    put-still from _ _ _ _ (concat frames ++ end_bytes) (put-end from _ _ _ _ frames put c.end.ensures.puts.how) c.pass_on.ensures.puts.how
