@@ -66,8 +66,8 @@ module _ (P Q : Desc → Type 0) (weaker : (text : List ℕ) (d : Desc) → IsSo
 
   -- what drawing a run comes to
   PicturesTo-weaker : (text : List ℕ) (reader left : Given) (old new : Seen) (r : Result (Unit {0}) PlayFault) → PicturesTo P text reader left old new r → PicturesTo Q text reader left old new r
-  PicturesTo-weaker text reader left old new r (unrun fault log later ran same told) =
-      unrun fault log later (RunsTo-weaker _ text reader left log later (Err fault) ran) same told
+  PicturesTo-weaker text reader left old new r (unrun fault log later other ran same told) =
+      unrun fault log later other (RunsTo-weaker _ text reader left log later (Err fault) ran) same told
   PicturesTo-weaker text reader left old new r (drawn d script read gives took told) = drawn d script read gives took told
   PicturesTo-weaker text reader left old new r (cut d script read gives took told) = cut d script read gives took told
 

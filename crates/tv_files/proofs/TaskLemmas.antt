@@ -10,7 +10,7 @@ use Rattle.tv_program.specs.declared.fault.RunFault.{RunFault}
 use Rattle.tv_program.specs.declared.play_fault.PlayFault.{PlayFault}
 use Rattle.tv_program.specs.Playing.{RunsTo}
 use Rattle.tv_program.specs.Playing.RunsTo.{refused, unbegun, stopped, done as done_run}
-use Rattle.tv_script.specs.Streams.{ComesFrom}
+use Rattle.tv_script.proofs.FeedLemmas.{comes_weaker}
 use Rattle.tv_files.specs.declared.done.Done.{Done}
 use Rattle.tv_files.specs.declared.failure.Failure.{Failure}
 use Rattle.tv_files.specs.Ends.{End, done_in, end_of, end_of_failure}
@@ -49,23 +49,13 @@ abbrev pub gone : {T E : Type 0} → Result T E → Result (Unit {0}) E
 gone (Ok x) = Ok tt
 gone (Err e) = Err e
 
-ComesFrom-gone : (s : Session) (reader left : Given) (old new : Seen) (Left : Session → Type 0) → ComesFrom s reader left old new Left (Ok tt) → ComesFrom s reader left old new (λ s. Unit {0}) (Ok tt)
-ComesFrom-gone s reader left old new Left p =
-    let decides = p.comes.1 in
-    record {
-      given = p.given;
-      few = p.few;
-      gave = p.gave;
-      comes = (p.comes.0, record { items = decides.items; comes = decides.comes; performs = record { written = decides.performs.written; left = tt } });
-    }
-
 -- what stands for the run after the script is of no matter
 pub RunsTo-gone : {T : Type 0} (Mismade : Desc → Type 0) (Stands : T → Session → Type 0) (text : List ℕ) (reader left : Given) (old new : Seen) (r : Result T PlayFault) → RunsTo Mismade Stands text reader left old new r → RunsTo Mismade (λ (done : Unit {0}) s. Unit {0}) text reader left old new (gone r)
 RunsTo-gone Mismade Stands text reader left old new r (refused fault is untouched told) = refused fault is untouched (ap gone told)
 RunsTo-gone Mismade Stands text reader left old new r (unbegun d fault read why untouched told) = unbegun d fault read why untouched (ap gone told)
 RunsTo-gone Mismade Stands text reader left old new r (stopped d fault read comes told) = stopped d fault read comes (ap gone told)
 RunsTo-gone Mismade Stands text reader left old new r (done_run d run read comes told) =
-    done_run d tt read (ComesFrom-gone (started d) reader left old new (Stands run) comes) (ap gone told)
+    done_run d tt read (comes_weaker (started d) reader left old new (Stands run) (λ s. Unit {0}) (λ s stands. tt) (Ok tt) comes) (ap gone told)
 
 -- ---- in a terminal
 

@@ -9,6 +9,6 @@ HasRisen-zero m n none (inl more) = omega (arith, none, more)
 HasRisen-zero m n none (inr top) = omega (arith, none, top)
 
 -- all of it was taken
-pub IsOffered-written : (old mid new : Seen) (kept text : List ℕ) → IsOffered old mid text → IsWritten mid new kept → Takes old mid text
-IsOffered-written old mid new kept text (inl taken) written = taken
-IsOffered-written old mid new kept text (inr cut) written = absurd (HasRisen-zero old.failures mid.failures (sym written.count ∙ written.none) cut.count)
+pub IsOffered-written : (old mid new : Seen) (text : List ℕ) → IsOffered old mid text → IsWritten mid new → Takes old mid text
+IsOffered-written old mid new text (inl taken) written = taken
+IsOffered-written old mid new text (inr cut) written = absurd (HasRisen-zero old.failures mid.failures (sym written.count ∙ written.none) cut.count)

@@ -19,9 +19,7 @@ pub record World : Type 0 where
   pub pictures : Option (List NamedPicture)
   pub heard : Heard
   pub out : Seen
-  pub out_kept : List ℕ
   pub err : Seen
-  pub err_kept : List ℕ
 
 -- what a task hears and writes
 abbrev pub ports_of : World → Ports
@@ -36,7 +34,7 @@ EndsWith Mismade (Ok task) old new status =
     (done : Done) × (end : End) × (mid : Ports)
     × PerformsTask Mismade task old.files new.files old.pictures new.pictures (ports_of old) mid done end
     × (new.heard ≡ mid.input)
-    × Tells done end mid.log new.out new.out_kept mid.screen new.err new.err_kept status
+    × Tells done end mid.log new.out mid.screen new.err status
 EndsWith Mismade (Err no_task) old new status =
     (new.files ≡ old.files) × (new.pictures ≡ old.pictures) × (new.heard ≡ old.heard) × (new.out ≡ old.out)
-    × TellsNoTask no_task old.err new.err new.err_kept status
+    × TellsNoTask no_task old.err new.err status

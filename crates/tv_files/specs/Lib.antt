@@ -16,5 +16,7 @@ pub mod Streams
 pub mod Tasks
 -- What is told of a task, and the status
 pub mod Telling
+-- Why a picture has no file
+pub mod Unmade
 -- What a read of a terminal that gave no byte is
 pub mod Waits

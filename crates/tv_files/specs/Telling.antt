@@ -43,29 +43,28 @@ status_told done (unwritten path) = 3
 
 -- standard output took all that was to be told, and the status is that of the end; or it failed, which is
 -- told too
-pub data Tells (done : Done) (end : End) (out out_after : Seen) (out_kept : List ℕ) (err err_after : Seen)
-    (err_kept : List ℕ) (status : ℕ) : Type 0 where
-  written : (mid : Seen) → Takes out mid (out_told end) → IsWritten mid out_after out_kept
-      → Offers err err_after err_kept (err_told end ∷ []) → status ≡ status_told done end
-      → Tells done end out out_after out_kept err err_after err_kept status
+pub data Tells (done : Done) (end : End) (out out_after err err_after : Seen) (status : ℕ) : Type 0 where
+  written : (mid : Seen) → Takes out mid (out_told end) → IsWritten mid out_after
+      → Offers err err_after (err_told end ∷ []) → status ≡ status_told done end
+      → Tells done end out out_after err err_after status
   failed : (mid : Seen) → IsOffered out mid (out_told end) → Fails mid out_after
-      → Offers err err_after err_kept (err_told end ∷ cannot_write ∷ []) → status ≡ 3
-      → Tells done end out out_after out_kept err err_after err_kept status
+      → Offers err err_after (err_told end ∷ cannot_write ∷ []) → status ≡ 3
+      → Tells done end out out_after err err_after status
 
 -- the text of a usage fault, or help, was told; or it couldn't be
-pub data TellsUsage (text : List ℕ) (err err_after : Seen) (err_kept : List ℕ) (status : ℕ) : Type 0 where
-  written : (mid : Seen) → Takes err mid text → IsWritten mid err_after err_kept → status ≡ 2
-      → TellsUsage text err err_after err_kept status
+pub data TellsUsage (text : List ℕ) (err err_after : Seen) (status : ℕ) : Type 0 where
+  written : (mid : Seen) → Takes err mid text → IsWritten mid err_after → status ≡ 2
+      → TellsUsage text err err_after status
   failed : (mid : Seen) → IsOffered err mid text → Fails mid err_after → status ≡ 3
-      → TellsUsage text err err_after err_kept status
+      → TellsUsage text err err_after status
 
 -- the message where memory ran out before a task
 abbrev pub no_memory : List ℕ
 no_memory = err_text [] NoMemory
 
 -- why there is no task is told on standard error, which is flushed
-abbrev pub TellsNoTask : NoTask → (err err_after : Seen) → (err_kept : List ℕ) → (status : ℕ) → Type 0
-TellsNoTask no_tasks.NoMemory err err_after err_kept status =
-    Offers err err_after err_kept (no_memory ∷ []) × (status ≡ 3)
-TellsNoTask (no_tasks.Usage text) err err_after err_kept status =
-    TellsUsage (string_bytes text) err err_after err_kept status
+abbrev pub TellsNoTask : NoTask → (err err_after : Seen) → (status : ℕ) → Type 0
+TellsNoTask no_tasks.NoMemory err err_after status =
+    Offers err err_after (no_memory ∷ []) × (status ≡ 3)
+TellsNoTask (no_tasks.Usage text) err err_after status =
+    TellsUsage (string_bytes text) err err_after status

@@ -15,6 +15,7 @@ mod task;
 mod tasks;
 mod telling;
 mod terminal_input;
+mod timed_read;
 
 pub use done::Done;
 pub use explaining::{explain_file, explain_files};
@@ -30,6 +31,7 @@ pub use task::Task;
 pub use tasks::{accept_file, check_file, perform, play_file, run_file, tell_version};
 pub use telling::{finish, tell_no_memory, tell_no_task};
 pub use terminal_input::TerminalInput;
+pub use timed_read::{Reading, TimedRead, TimedReader};
 pub use tv_io::ReadFault;
 pub use tv_pictures::{Album, AlbumFault};
 pub use tv_report::Manner;

@@ -1,8 +1,8 @@
 //! Streams: writers that may keep bytes back.
 
-ghost use Rattle.std.specs.Prelude.{◌≡◌, ℕ, false, List, [], IfOk};
+ghost use Rattle.std.specs.Prelude.{◌≡◌, [], IfOk};
 ghost use Rattle.std.specs.Io.KnownBytes.{Keeps};
-ghost use Rattle.tv_io.specs.Device.{device_seen, kept_back as device_kept_back};
+ghost use Rattle.tv_io.specs.Device.{device_seen};
 ghost use Rattle.tv_files.specs.Streams.{Flushes};
 
 use std::alloc::{AllocError, Global};
@@ -11,11 +11,9 @@ use tv_io::{Device, WriteFailed, Writer};
 
 /// A writer that may keep back what it took.
 pub trait Stream: Writer {
-    ghost kept_back: { Self → List ℕ };
-
     /// Writes what is kept back. It fails where that can't be written, and where a call failed before.
     fn flush(&mut self) -> Result<(), WriteFailed>
-        ensures { Flushes (Self.seen self.old) (Self.seen self.new) (kept_back self.new) result };
+        ensures { Flushes (Self.seen self.old) (Self.seen self.new) result };
 }
 
 /// A stream to which the bytes go in large pieces, or when they are passed on.
@@ -23,10 +21,8 @@ pub trait Stream: Writer {
 pub struct BufferedStream<W: Write + Drop> {
     device: Device<W>,
     failures: u64,
-    /// What it took couldn't be passed on. It takes no more, and its flush fails.
-    is_broken: bool,
     // no failure of the device goes untold
-    ghost told: { failures ≡ 0 → is_broken ≡ false → device.failures ≡ 0 },
+    ghost told: { failures ≡ 0 → device.failures ≡ 0 },
 }
 
 impl<W: Write + Drop> BufferedStream<W> {
@@ -39,17 +35,15 @@ impl<W: Write + Drop> BufferedStream<W> {
         Ok(BufferedStream {
             device,
             failures: 0,
-            is_broken: false,
         })
     }
 }
 
 impl<W: Write + Drop> Writer for BufferedStream<W> {
-    ghost seen = { λ s. record { taken = (device_seen W.contents s.device).taken; failures = s.failures } };
+    ghost seen = { λ s. record (device_seen W.contents s.device) { failures = s.failures } };
 
     fn write(&mut self, bytes: &[u8]) -> Option<usize> {
-        if !self.is_broken
-            && let Some(count) = self.device.write(bytes)
+        if let Some(count) = self.device.write(bytes)
             && count > 0
         {
             return Some(count);
@@ -58,18 +52,18 @@ impl<W: Write + Drop> Writer for BufferedStream<W> {
         None
     }
 
-    fn pass_on(&mut self) {
-        if !self.is_broken && self.device.flush().is_err() {
-            self.is_broken = true;
+    fn pass_on(&mut self) -> Result<(), WriteFailed> {
+        if self.device.pass_on().is_ok() {
+            return Ok(());
         }
+        self.failures = self.failures.saturating_add(1);
+        Err(WriteFailed)
     }
 }
 
 impl<W: Write + Drop> Stream for BufferedStream<W> {
-    ghost kept_back = { λ s. device_kept_back s.device };
-
     fn flush(&mut self) -> Result<(), WriteFailed> {
-        if !self.is_broken && self.failures == 0 && self.device.flush().is_ok() {
+        if self.failures == 0 && self.device.flush().is_ok() {
             return Ok(());
         }
         self.failures = self.failures.saturating_add(1);
@@ -82,7 +76,7 @@ impl<W: Write + Drop> Stream for BufferedStream<W> {
 pub struct DirectStream<W: Write + Drop> {
     writer: W,
     failures: u64,
-    /// What it took couldn't be passed on. It takes no more, and its flush fails.
+    /// The writer couldn't pass on what it took. It takes no more, and its flush fails.
     is_broken: bool,
 }
 
@@ -101,7 +95,7 @@ impl<W: Write + Drop> DirectStream<W> {
 }
 
 impl<W: Write + Drop> Writer for DirectStream<W> {
-    ghost seen = { λ s. record { taken = W.contents s.writer; failures = s.failures } };
+    ghost seen = { λ s. record { taken = W.contents s.writer; kept = []; failures = s.failures } };
 
     fn write(&mut self, bytes: &[u8]) -> Option<usize> {
         if !self.is_broken
@@ -114,16 +108,16 @@ impl<W: Write + Drop> Writer for DirectStream<W> {
         None
     }
 
-    fn pass_on(&mut self) {
+    // What it took is the system's. An error here shows at the next byte, and at the end.
+    fn pass_on(&mut self) -> Result<(), WriteFailed> {
         if !self.is_broken && self.writer.flush().is_err() {
             self.is_broken = true;
         }
+        Ok(())
     }
 }
 
 impl<W: Write + Drop> Stream for DirectStream<W> {
-    ghost kept_back = { λ _. [] };
-
     fn flush(&mut self) -> Result<(), WriteFailed> {
         if !self.is_broken && self.failures == 0 && self.writer.flush().is_ok() {
             return Ok(());

@@ -38,7 +38,7 @@ pub fn finish<O: Stream, E: Stream>(
     out: &mut O,
     err: &mut E,
 ) -> u8
-    ensures { Tells (done_in answer.now) (end_of answer.now) (O.seen out.old) (O.seen out.new) (O.kept_back out.new) (E.seen err.old) (E.seen err.new) (E.kept_back err.new) result }
+    ensures { Tells (done_in answer.now) (end_of answer.now) (O.seen out.old) (O.seen out.new) (E.seen err.old) (E.seen err.new) result }
 {
     let status = tell(answer, out, err);
     match out.flush() {
@@ -55,7 +55,7 @@ pub fn finish<O: Stream, E: Stream>(
 
 /// Tells why there is no task. Returns the status.
 pub fn tell_no_task<E: Stream>(no_task: NoTask, err: &mut E) -> u8
-    ensures { TellsNoTask no_task (E.seen err.old) (E.seen err.new) (E.kept_back err.new) result }
+    ensures { TellsNoTask no_task (E.seen err.old) (E.seen err.new) result }
 {
     match no_task {
         NoTask::NoMemory => tell_no_memory(err),
@@ -65,7 +65,7 @@ pub fn tell_no_task<E: Stream>(no_task: NoTask, err: &mut E) -> u8
 
 /// Tells that memory ran out before a task. Returns the status.
 pub fn tell_no_memory<E: Stream>(err: &mut E) -> u8
-    ensures told { Offers (E.seen err.old) (E.seen err.new) (E.kept_back err.new) (no_memory ∷ []) }
+    ensures told { Offers (E.seen err.old) (E.seen err.new) (no_memory ∷ []) }
     ensures status { result ≡ 3 }
 {
     tell_last(b"tvdlg: no memory\n", err);
@@ -74,7 +74,7 @@ pub fn tell_no_memory<E: Stream>(err: &mut E) -> u8
 
 // Tells what is wrong with a command line, or the help that it asks for.
 fn tell_usage<E: Stream>(text: &str, err: &mut E) -> u8
-    ensures { TellsUsage text.now (E.seen err.old) (E.seen err.new) (E.kept_back err.new) result }
+    ensures { TellsUsage text.now (E.seen err.old) (E.seen err.new) result }
 {
     offer(text.as_bytes(), err);
     match err.flush() {
@@ -138,7 +138,7 @@ fn put_unwritten<W: Writer>(pen: &mut Pen<W>, script: &[u8], number: usize)
 }
 
 fn tell_last<E: Stream>(text: &[u8], err: &mut E)
-    ensures { Offers (E.seen err.old) (E.seen err.new) (E.kept_back err.new) (text.now ∷ []) }
+    ensures { Offers (E.seen err.old) (E.seen err.new) (text.now ∷ []) }
 {
     offer(text, err);
     close(err);
@@ -153,7 +153,7 @@ fn offer<W: Writer>(text: &[u8], to: &mut W)
 
 // There is nobody left to tell of a failure.
 fn close<S: Stream>(stream: &mut S)
-    ensures { Offers (S.seen stream.old) (S.seen stream.new) (S.kept_back stream.new) [] }
+    ensures { Offers (S.seen stream.old) (S.seen stream.new) [] }
 {
     let _ = stream.flush();
 }

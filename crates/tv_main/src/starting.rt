@@ -10,7 +10,8 @@ use std::rt::{Clock, Env, Files};
 use std::{env, io};
 use tv_command_line::NoTask;
 use tv_files::{
-    BufferedStream, DirectStream, RuntimeAlbum, RuntimeFiles, TerminalInput, tell_no_memory,
+    BufferedStream, DirectStream, RuntimeAlbum, RuntimeFiles, TerminalInput, TimedReader,
+    tell_no_memory,
 };
 
 /// Carries out what the words of the command line ask for, over a runtime's files, its input and output, and `errors`, to which
@@ -31,7 +32,7 @@ pub fn start<R: Files + Env + Clock + Input + Print + AllocGlobal, E: Write + Dr
     };
     let mut files = RuntimeFiles::new(rt);
     let mut album = RuntimeAlbum::new(rt, alloc);
-    let mut pieces = TerminalInput::new(rt.reader(), rt);
+    let mut pieces = TerminalInput::new(TimedReader::new(rt.reader(), rt));
     run_main(
         &mut files,
         &mut album,

@@ -15,7 +15,7 @@ use Rattle.tv_io.specs.Writer.{Seen}
 use Rattle.tv_program.specs.declared.play_fault.PlayFault.{PlayFault}
 use Rattle.tv_program.specs.declared.play_fault.PlayFault.TheVariants.{NoMemory, Lang, Faults, View}
 use Rattle.tv_program.specs.Conversions.{stream_run}
-use Rattle.tv_program.specs.Laws.{RunsByLaws}
+use Rattle.tv_lawful.specs.Laws.{RunsByLaws}
 use Rattle.tv_program.specs.Reading.{IsNoDescription, IsSoundText}
 use Rattle.tv_script.specs.declared.stream_fault.StreamFault.{StreamFault}
 use Rattle.tv_script.specs.Streams.{ComesFrom}

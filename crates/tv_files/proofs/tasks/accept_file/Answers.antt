@@ -45,4 +45,4 @@ returns g c =
     )
 
 pub accept_text-requires : goal.accept_text-requires
-accept_text-requires g c = let first = c.in_ok-desc.ensures in (first.text, first.follows_text)
+accept_text-requires g c = let first = c.in_ok-desc.ensures in (first.text, first.follows_text.lines)

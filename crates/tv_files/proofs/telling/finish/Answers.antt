@@ -9,7 +9,7 @@ use Rattle.tv_files.proofs.telling.finish.Goals as goal
 pub returns-in-Ok : goal.returns-in-Ok
 returns-in-Ok g c =
     written (g.O.Writer.seen c.tell-status.new.out)
-    (IsOffered-written (g.O.Writer.seen c.args.out.now) (g.O.Writer.seen c.tell-status.new.out) (g.O.Writer.seen c.flush.new.self) (g.O.Stream.kept_back c.flush.new.self) (out_told (end_of c.args.answer.now)) c.tell-status.ensures.out c.in-Ok.ensures)
+    (IsOffered-written (g.O.Writer.seen c.args.out.now) (g.O.Writer.seen c.tell-status.new.out) (g.O.Writer.seen c.flush.new.self) (out_told (end_of c.args.answer.now)) c.tell-status.ensures.out c.in-Ok.ensures)
     c.in-Ok.ensures
     (g.E.Writer.seen c.tell-status.new.err, c.tell-status.ensures.err, c.close.ensures)
     c.tell-status.ensures.status

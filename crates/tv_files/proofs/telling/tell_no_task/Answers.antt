@@ -4,4 +4,4 @@ use Rattle.tv_files.proofs.telling.tell_no_task.Goals as goal
 
 pub returns-in-Usage : goal.returns-in-Usage
 returns-in-Usage g c =
-    rw c.in-Usage.is (subst (λ text. TellsUsage text (g.E.Writer.seen c.args.err.now) (g.E.Writer.seen c.tell_usage.new.err) (g.E.Stream.kept_back c.tell_usage.new.err) c.tell_usage.result) c.as_str.ensures.value c.tell_usage.ensures)
+    rw c.in-Usage.is (subst (λ text. TellsUsage text (g.E.Writer.seen c.args.err.now) (g.E.Writer.seen c.tell_usage.new.err) c.tell_usage.result) c.as_str.ensures.value c.tell_usage.ensures)
