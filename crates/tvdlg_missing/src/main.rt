@@ -1,4 +1,4 @@
-//! The program, run on the order form and a script longer than a description may be.
+//! The program, run with six words on a script that is not there: it ends with status 3.
 #![tactic(auto)]
 
 use std::process::ExitCode;

@@ -1,4 +1,4 @@
-//! The program, run on a description with faults: it ends with status 1.
+//! The program, run to print a picture.
 #![tactic(auto)]
 
 use std::process::ExitCode;
