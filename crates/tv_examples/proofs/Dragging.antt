@@ -3,7 +3,7 @@ use Prim.Native.String.{String}
 use Rattle.std.specs.Prelude.{◌≡◌, [], List, ◌∷◌, ◌++◌, Err, pos}
 use Rattle.std.proofs.Common.{refl}
 use Rattle.tv_script.specs.declared.script_text.ScriptFault.TheVariants.{OffScreen}
-use Rattle.tv_script.specs.Reading.Scripts.{script_of}
+use Rattle.tv_script.specs.Judging.{judged_as}
 use Rattle.tv_examples.specs.Descriptions.{cancel, windows}
 use Rattle.tv_examples.specs.Running.{written, text, Writes}
 
@@ -49,7 +49,7 @@ abbrev dragging : List String
 dragging = "down 15 2" ∷ "move 20 4" ∷ "shot" ∷ []
 
 -- the line is faulty
-up_beside_screen : script_of (pos 24) (pos 10) (text (dragging ++ "" ∷ "# off the screen" ∷ "up 24 4" ∷ "shot" ∷ [])) ≡ Err (OffScreen 6)
+up_beside_screen : (judged_as (pos 24) (pos 10) (text (dragging ++ "" ∷ "# off the screen" ∷ "up 24 4" ∷ "shot" ∷ []))).answer ≡ Err (OffScreen 6)
 unfolding written
 up_beside_screen = refl
 

@@ -15,7 +15,7 @@ use Rattle.tv_words.specs.Canonical.{ended_line}
 use Rattle.tv_lang.specs.Reading.Descriptions as readings
 use Rattle.tv_lang.specs.Reading.Descriptions.{DescriptionOutcome, description_outcome}
 use Rattle.tv_script.specs.declared.script_text.ScriptFault.{ScriptFault}
-use Rattle.tv_script.specs.Reading.Scripts.{script_of}
+use Rattle.tv_script.specs.Judging.{Judgement, judged_as}
 use Rattle.tv_model.specs.declared.script.Item.{Item}
 use Rattle.tv_model.specs.declared.desc.Desc.{Desc}
 use Rattle.tv_machine.specs.Run.{Session, commanded, started}
@@ -30,19 +30,25 @@ written = tt
 abbrev pub text : List String → List ℕ
 text lines = flat_map (λ line. bytes_of (codes line) ++ 10 ∷ []) lines
 
+-- the items of a text that is judged to be a script
+abbrev pub items_by : List Item → Result (Unit {0}) ScriptFault → Option (List Item)
+items_by items (Ok _) = Some items
+items_by items (Err fault) = None
+
+abbrev pub script_in : Judgement → Option (List Item)
+script_in judged = items_by judged.items judged.answer
+
+-- the script of a text for the screen of a description, if it is one
+abbrev pub read_script : Desc → List ℕ → Option (List Item)
+read_script d script = script_in (judged_as d.width d.height script)
+
 -- the session after a script that was read, if one was
-abbrev pub after_script : Desc → Result (List Item) ScriptFault → Option Session
-after_script d (Ok script) = Some (after (started d) script)
-after_script d (Err fault) = None
+abbrev pub after_script : Desc → Option (List Item) → Option Session
+after_script d script = option_map (after (started d)) script
 
 -- what a script writes that was read, if one was
-abbrev pub script_output : Desc → Result (List Item) ScriptFault → Option (List ℕ)
-script_output d (Ok script) = Some (output (started d) script)
-script_output d (Err fault) = None
-
--- the script of a text for the screen of a description
-abbrev pub read_script : Desc → List ℕ → Result (List Item) ScriptFault
-read_script d script = script_of d.width d.height script
+abbrev pub script_output : Desc → Option (List Item) → Option (List ℕ)
+script_output d script = option_map (output (started d)) script
 
 -- what a script writes for the description that was read, if one was
 abbrev pub run_read : DescriptionOutcome → List ℕ → Option (List ℕ)

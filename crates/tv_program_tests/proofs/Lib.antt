@@ -1,1 +1,2 @@
 pub mod GalleryLemmas
+pub mod StreamLemmas

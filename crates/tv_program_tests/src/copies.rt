@@ -71,5 +71,5 @@ fn copied_nodes(rt: HostRuntime) -> Result<(), Fail> {
 #[test]
 fn large_copies(rt: HostRuntime) -> Result<(), Fail> {
     let desc = large_description(rt.alloc())?;
-    expect_answer(&Copying, rt.alloc(), &desc, "1561 nodes\n")
+    expect_answer(&Copying, rt.alloc(), &desc, "1625 nodes\n")
 }

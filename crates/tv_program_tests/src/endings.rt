@@ -10,9 +10,6 @@ use tv_button_views::buttons;
 use tv_files::{BufferedStream, NoTask, Task, run_program};
 use tv_test_support::certificates::CANCEL_CERTIFICATE;
 use tv_test_support::descriptions::{CANCEL, ORDER, SHARED_LETTER, WITHOUT_CANCEL};
-use tv_test_support::large::{
-    large_buttons_description, large_buttons_log, large_certificate, large_description,
-};
 
 const FILE: &str = Shelf::DESCRIPTION;
 
@@ -266,7 +263,33 @@ const NO_SCRIPT: Task<'static> = Task::Run {
 };
 
 // What is asked for, the description, and what is told.
-const MISSING: [(Task<'static>, &str, &str); 7] = [
+const MISSING: [(Task<'static>, &str, &str); 11] = [
+    (
+        Task::Check { file: "FULL" },
+        CANCEL,
+        "tvdlg: no memory\nstatus 3\nopened 4\n",
+    ),
+    (
+        Task::Play { file: "FULL" },
+        CANCEL,
+        "tvdlg: no memory\nstatus 3\nopened 4\n",
+    ),
+    (
+        Task::Accept {
+            file: FILE,
+            certificate: "FULL",
+        },
+        CANCEL,
+        "tvdlg: no memory\nstatus 3\nopened 14\n",
+    ),
+    (
+        Task::Run {
+            file: FILE,
+            script: "FULL",
+        },
+        CANCEL,
+        "tvdlg: no memory\nstatus 3\nopened 14\n",
+    ),
     (
         NO_DESCRIPTION,
         CANCEL,
@@ -410,32 +433,6 @@ fn long_texts(rt: HostRuntime) -> Result<(), Fail> {
             let told = ending(alloc, Ok(task), texts, AMPLE, AMPLE)?;
             assert_eq!(rt; told.as_str() == message, is_too_long, "{task:?}: {told}");
         }
-    }
-    Ok(())
-}
-
-// Where there is memory, nothing is refused for the want of it.
-#[test]
-fn large_texts(rt: HostRuntime) -> Result<(), Fail> {
-    let alloc = rt.alloc();
-    let description = large_description(alloc)?;
-    let certificate = large_certificate(alloc)?;
-    let buttons = large_buttons_description(alloc)?;
-    let script = "key Tab\n".repeat(alloc, 2000)?;
-    let log = large_buttons_log(alloc, 2000)?;
-    let run = format!(in alloc; "{log}status 0\nopened 12\n")?;
-    let checked = format!(in alloc; "{certificate}status 0\nopened 1\n")?;
-    for &(task, texts, wanted) in &[
-        (CHECK, (description.as_str(), ""), checked.as_str()),
-        (
-            ACCEPT,
-            (description.as_str(), certificate.as_str()),
-            "accepted\nstatus 0\nopened 12\n",
-        ),
-        (RUN, (buttons.as_str(), script.as_str()), run.as_str()),
-    ] {
-        let told = ending(alloc, Ok(task), texts, AMPLE, AMPLE)?;
-        assert_eq!(rt; told.as_str(), wanted, "{task:?}");
     }
     Ok(())
 }

@@ -83,6 +83,40 @@ fn streams_that_fail(rt: HostRuntime) -> Result<(), Fail> {
     Ok(())
 }
 
+// The script of a run, the room of standard output, and what is told: the first that failed, alone. The log of the start has 15
+// bytes.
+const FAILING_RUNS: [(&str, Room, &str); 4] = [
+    (
+        "key Foo\n",
+        (0, true),
+        "tvdlg: cannot write\nstatus 3\nopened 12\n",
+    ),
+    (
+        "key Foo\n",
+        (7, true),
+        "open a\ntvdlg: cannot write\nstatus 3\nopened 12\n",
+    ),
+    (
+        "key Esc\nkey Foo\n",
+        (20, true),
+        "open a\nfocus c\nend atvdlg: cannot write\nstatus 3\nopened 12\n",
+    ),
+    (
+        "key Foo\n",
+        (15, true),
+        "open a\nfocus c\ntvdlg: BESIDE: syntax at line 1\nstatus 1\nopened 12\n",
+    ),
+];
+
+#[test]
+fn runs_whose_output_fails(rt: HostRuntime) -> Result<(), Fail> {
+    for &(script, room, wanted) in &FAILING_RUNS {
+        let told = ending(rt.alloc(), Ok(RUN), (CANCEL, script), room, AMPLE)?;
+        assert_eq!(rt; told.as_str(), wanted, "{script} {room:?}");
+    }
+    Ok(())
+}
+
 // More than is kept back, so that the stream fails while the script is performed.
 #[test]
 fn streams_that_fail_in_a_run(rt: HostRuntime) -> Result<(), Fail> {

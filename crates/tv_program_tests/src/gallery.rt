@@ -1,11 +1,11 @@
 //! Pictures in memory.
 
-ghost use Rattle.std.specs.Prelude.{Some};
+ghost use Rattle.std.specs.Prelude.{Some, []};
 
 use std::alloc::{AllocError, Global};
 use tv_cells::Screen;
 use tv_files::{Album, AlbumFault};
-use tv_io::Writer;
+use tv_io::{WriteFailed, Writer};
 use tv_svg::write_svg;
 
 /// A text that is written.
@@ -16,7 +16,7 @@ struct Page {
 }
 
 impl Writer for Page {
-    ghost seen = { λ page. record { taken = Some page.text.items; failures = page.failures } };
+    ghost seen = { λ page. record { taken = Some page.text.items; kept = []; failures = page.failures } };
 
     fn write(&mut self, bytes: &[u8]) -> Option<usize> {
         if self.text.extend_from_slice(bytes).is_err() {
@@ -24,6 +24,10 @@ impl Writer for Page {
             return None;
         }
         Some(bytes.len())
+    }
+
+    fn pass_on(&mut self) -> Result<(), WriteFailed> {
+        Ok(())
     }
 }
 

@@ -2,6 +2,9 @@
 #![tactic(auto)]
 
 #[cfg(test)]
+#[cfg(test)]
+mod at_limits;
+#[cfg(test)]
 mod building;
 #[cfg(test)]
 mod calls;
@@ -42,6 +45,8 @@ mod pictures;
 #[cfg(test)]
 mod plays;
 #[cfg(test)]
+mod reading;
+#[cfg(test)]
 mod refusals;
 #[cfg(test)]
 mod reports;
@@ -57,6 +62,8 @@ mod sharing;
 mod shelf;
 #[cfg(test)]
 mod sink;
+#[cfg(test)]
+mod system_files;
 #[cfg(test)]
 mod terminal;
 #[cfg(test)]

@@ -1,6 +1,6 @@
 //! Long paths, and texts as long as they may be.
 
-use crate::endings::{ACCEPT, CHECK, RUN, ample_ending};
+use crate::endings::{RUN, ample_ending};
 use crate::gallery::Gallery;
 use crate::sink::Sink;
 use crate::user::User;
@@ -90,6 +90,19 @@ fn long_paths(rt: HostRuntime) -> Result<(), Fail> {
     Ok(())
 }
 
+// Each path is taken as it stands, and there is memory for it.
+#[test]
+fn odd_paths(rt: HostRuntime) -> Result<(), Fail> {
+    const PATHS: [&str; 10] = ["", " ", " a", "a ", "a b", "-", ".", "NONE", "ä", "a\nb"];
+    let alloc = rt.alloc();
+    let wanted = format!(in alloc; "{CANCEL_CERTIFICATE}status 0\n")?;
+    for &path in &PATHS {
+        let told = lone_ending(alloc, path, Task::Check { file: path })?;
+        assert_eq!(rt; told.as_str(), wanted.as_str(), "{path:?}");
+    }
+    Ok(())
+}
+
 #[test]
 fn long_paths_of_missing_files(rt: HostRuntime) -> Result<(), Fail> {
     let alloc = rt.alloc();
@@ -119,38 +132,5 @@ fn long_scripts_are_run_whole(rt: HostRuntime) -> Result<(), Fail> {
         told.as_str(),
         "open a\nfocus c\nend a cancel\nstatus 0\nopened 12\n"
     );
-    Ok(())
-}
-
-// The description of one button with a comment, as long as a description may be.
-fn full_description(alloc: Global) -> Result<String, AllocError> {
-    let mut text = String::from_str(alloc, CANCEL)?;
-    for _ in text.len()..262_144 {
-        text.push('#')?;
-    }
-    Ok(text)
-}
-
-#[test]
-fn full_descriptions(rt: HostRuntime) -> Result<(), Fail> {
-    let alloc = rt.alloc();
-    let description = full_description(alloc)?;
-    let checked = format!(in alloc; "{CANCEL_CERTIFICATE}status 0\nopened 1\n")?;
-    for &(task, beside, wanted) in &[
-        (CHECK, "", checked.as_str()),
-        (
-            ACCEPT,
-            CANCEL_CERTIFICATE,
-            "accepted\nstatus 0\nopened 12\n",
-        ),
-        (
-            RUN,
-            "key Esc\n",
-            "open a\nfocus c\nend a cancel\nstatus 0\nopened 12\n",
-        ),
-    ] {
-        let told = ample_ending(alloc, task, (description.as_str(), beside))?;
-        assert_eq!(rt; told.as_str(), wanted, "{task:?}");
-    }
     Ok(())
 }

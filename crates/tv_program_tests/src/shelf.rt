@@ -28,7 +28,7 @@ impl Read for Page<'_> {
     }
 }
 
-/// A description and the file beside it. No other path has a file.
+/// A description and the file beside it. No other path has a file, and for that of `FULL` there is no memory.
 #[derive(Drop)]
 pub struct Shelf<'a> {
     description: &'a str,
@@ -64,7 +64,7 @@ impl<'a> Shelf<'a> {
         }
     }
 
-    /// Returns what was opened, a digit for each call: 1 for the description, 2 for the file beside it, 3 for any other.
+    /// Returns what was opened, a digit for each call: 1 for the description, 2 for the file beside it, 4 for `FULL`, 3 for any other.
     pub fn opened(&self) -> u32 {
         self.opened
     }
@@ -104,6 +104,9 @@ impl<'a> FileStore for Shelf<'a> {
         } else if path == "BESIDE" {
             self.note(2);
             Ok(self.page(path, self.beside))
+        } else if path == "FULL" {
+            self.note(4);
+            Err(ReadFault::NoMemory)
         } else {
             self.note(3);
             Err(ReadFault::Read)

@@ -37,6 +37,7 @@ impl Pieces for User<'_> {
     fn next(&mut self, room: &mut [u8]) -> Option<Piece> {
         let left = self.left;
         let count = left.len().min(room.len());
+        self.is_ended = false;
         if count > 0 {
             room[..count].copy_from_slice(&left[..count]);
             self.left = &left[count..];

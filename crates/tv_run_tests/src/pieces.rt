@@ -1,7 +1,7 @@
 //! Readers that give a script in pieces, and writers: one that shows what it was asked to pass on, and one that fails once.
 
 use std::cell::Cell;
-use tv_io::{Reader, Writer};
+use tv_io::{Reader, WriteFailed, Writer};
 
 /// A reader that gives a text in pieces of so many bytes, where there is room for them.
 #[derive(Drop)]
@@ -48,6 +48,7 @@ impl Reader for Pieces<'_> {
         self.asked = self.asked.saturating_add(room.len());
         if self.reads == self.failing {
             self.failures = self.failures.saturating_add(1);
+            self.is_ended = false;
             return None;
         }
         let count = room.len().min(self.piece).min(self.left.len());
@@ -161,17 +162,18 @@ impl<'a> Held<'a> {
 }
 
 impl Writer for Held<'_> {
-    ghost use Rattle.std.specs.Prelude.{None};
+    ghost use Rattle.std.specs.Prelude.{None, []};
 
-    ghost seen = { λ w. record { taken = None; failures = 0 } };
+    ghost seen = { λ w. record { taken = None; kept = []; failures = 0 } };
 
     fn write(&mut self, bytes: &[u8]) -> Option<usize> {
         self.taken = self.taken.saturating_add(bytes.len());
         Some(bytes.len())
     }
 
-    fn pass_on(&mut self) {
+    fn pass_on(&mut self) -> Result<(), WriteFailed> {
         self.passed_on.set(self.taken);
+        Ok(())
     }
 }
 
@@ -197,9 +199,9 @@ impl Relenting {
 }
 
 impl Writer for Relenting {
-    ghost use Rattle.std.specs.Prelude.{None};
+    ghost use Rattle.std.specs.Prelude.{None, []};
 
-    ghost seen = { λ w. record { taken = None; failures = w.failures } };
+    ghost seen = { λ w. record { taken = None; kept = []; failures = w.failures } };
 
     fn write(&mut self, bytes: &[u8]) -> Option<usize> {
         if self.failures > 0 {
@@ -213,5 +215,9 @@ impl Writer for Relenting {
         }
         self.room -= count;
         Some(count)
+    }
+
+    fn pass_on(&mut self) -> Result<(), WriteFailed> {
+        Ok(())
     }
 }

@@ -27,8 +27,8 @@ impl Pieces for Sent<'_> {
         let (piece, left) = self.left.split_at(count);
         room[..count].copy_from_slice(piece);
         self.left = left;
-        if count == 0 {
-            self.is_ended = true;
+        self.is_ended = count == 0;
+        if self.is_ended {
             return Some(Piece::End);
         }
         Some(Piece::Bytes(count))

@@ -1,7 +1,7 @@
 //! Writers in place of a device.
 
 use std::alloc::{AllocError, Global};
-use tv_io::Writer;
+use tv_io::{WriteFailed, Writer};
 
 /// A writer in memory. It takes the bytes for which it has room, at most so many a call, and then fails.
 #[derive(Drop)]
@@ -35,9 +35,9 @@ impl Memory {
 }
 
 impl Writer for Memory {
-    ghost use Rattle.std.specs.Prelude.{Some};
+    ghost use Rattle.std.specs.Prelude.{Some, []};
 
-    ghost seen = { λ s. record { taken = Some s.taken.items; failures = s.failures } };
+    ghost seen = { λ s. record { taken = Some s.taken.items; kept = []; failures = s.failures } };
 
     fn write(&mut self, bytes: &[u8]) -> Option<usize> {
         let count = bytes.len().min(self.room).min(self.most_a_call);
@@ -47,6 +47,10 @@ impl Writer for Memory {
         }
         self.room -= count;
         Some(count)
+    }
+
+    fn pass_on(&mut self) -> Result<(), WriteFailed> {
+        Ok(())
     }
 }
 
@@ -60,10 +64,14 @@ pub struct Idle {
 impl Writer for Idle {
     ghost use Rattle.std.specs.Prelude.{Some, []};
 
-    ghost seen = { λ s. record { taken = Some []; failures = s.calls } };
+    ghost seen = { λ s. record { taken = Some []; kept = []; failures = s.calls } };
 
     fn write(&mut self, _bytes: &[u8]) -> Option<usize> {
         self.calls = self.calls.saturating_add(1);
         Some(0)
+    }
+
+    fn pass_on(&mut self) -> Result<(), WriteFailed> {
+        Ok(())
     }
 }

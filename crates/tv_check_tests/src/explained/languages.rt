@@ -5,6 +5,7 @@ use std::alloc::Global;
 use std::test::Fail;
 use tv_lang::parse;
 use tv_report::{Beside, Manner, tell_beside};
+use tv_unread::{Language, explain_line};
 
 // The description beside which they stand: one with a screen of 20 columns and 10 rows.
 const DESCRIPTION: &str = "tvd 2
@@ -139,6 +140,39 @@ key N name when by
 =>   |                   ^ a number is wanted here
 =>   = form: key LETTER NAME [NUM] [when NAME NUM]
 tvcert 1
+dialog
+=> form:2:7: syntax: a dialog needs a NAME as its word 2
+=>   |
+=> 2 | dialog
+=>   |       ^ a name is wanted here
+=>   = form: dialog NAME
+tvcert 1
+dialog form
+tab name more
+=> form:3:10: syntax: a tab line has no word 3
+=>   |
+=> 3 | tab name more
+=>   |          ^^^^ the line ends before this word
+=>   = form: tab NAME
+tvcert 1
+dialog form
+tab name
+end now
+=> form:4:5: syntax: an end has no word 2
+=>   |
+=> 4 | end now
+=>   |     ^^^ the line ends before this word
+=>   = form: end
+tvcert 1
+dialog form
+tab name
+key N name
+dialog more
+=> form:5:1: syntax: an `end` is missing before this line
+=>   |
+=> 5 | dialog more
+=>   | ^^^^^^ not here
+tvcert 1
 dialog form
 tab name
 => form:4:1: syntax: the text ends too early: an `end` is missing
@@ -150,6 +184,17 @@ tab name
 #[test]
 fn certificates(rt: HostRuntime) -> Result<(), Fail> {
     expect_beside(rt, CERTIFICATES)
+}
+
+// A text without a line is no certificate to `tell_beside`, so it is asked about here.
+#[test]
+fn no_certificate(rt: HostRuntime) -> Result<(), Fail> {
+    let unread = explain_line(rt.alloc(), Language::Certificate, b"", 1)?;
+    assert_eq!(rt;
+        unread.message.as_str(),
+        "the text says nothing: its first line is `tvcert 1`"
+    );
+    Ok(())
 }
 
 const SCRIPTS: &str = r#"# Nothing but a comment.
@@ -197,6 +242,30 @@ type "a\nb"
 =>   |
 => 1 | type "a\nb"
 =>   | ^^^^ not here
+type hello
+=> form:1:6: syntax: a type line needs a STR as its word 2, not hello
+=>   |
+=> 1 | type hello
+=>   |      ^^^^^ a quoted text is wanted here
+=>   = form: type STR
+move 2 y
+=> form:1:8: syntax: a move line needs a NUM as its word 3, not y
+=>   |
+=> 1 | move 2 y
+=>   |        ^ a number is wanted here
+=>   = form: move X Y
+up 2 1 1
+=> form:1:8: syntax: an up line has no word 4
+=>   |
+=> 1 | up 2 1 1
+=>   |        ^ the line ends before this word
+=>   = form: up X Y
+colors 1
+=> form:1:8: syntax: a colors line has no word 2
+=>   |
+=> 1 | colors 1
+=>   |        ^ the line ends before this word
+=>   = form: colors
 click 2 1
 => form:1:1: syntax: no line begins with click
 =>   |

@@ -201,6 +201,26 @@ checks high 12 1 10 "A" "B" "C" "D" "E" "F" "G" "H"
 => 5 | checks high 12 1 10 "A" "B" "C" "D" "E" "F" "G" "H"
 =>   |                ^ rows 1 to 8, but those inside are 1 to 7
 =>   = mend: make the dialog 1 higher
+checks high 12 0 10 "A" "B" "C" "D" "E" "F" "G" "H"
+=> form.tvd:5:16: F2: this cluster lies outside its dialog
+=>   |
+=> 3 | dialog form 2 1 30 9 "Form" ends cancel
+=>   |                 ---- width and height with the frame
+=>   |
+=> 5 | checks high 12 0 10 "A" "B" "C" "D" "E" "F" "G" "H"
+=>   |                ^ rows 0 to 7, but those inside are 1 to 7
+=>   = mend: begin at row 1, and make the dialog 1 higher
+pane slim 12 1 3 2
+button far 0 0 4 "" 100
+end
+=> form.tvd:6:12: F2: this button lies outside its pane
+=>   |
+=> 5 | pane slim 12 1 3 2
+=>   |                --- width and height
+=>   |
+=> 6 | button far 0 0 4 "" 100
+=>   |            ^ columns 0 to 3, but those inside are 0 to 2
+=>   = mend: make the pane 1 wider
 pane low 12 1 10 0
 label 0 0 10 "" shut
 end

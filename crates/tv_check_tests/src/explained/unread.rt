@@ -348,6 +348,57 @@ fn lines_outside_of_dialogs(rt: HostRuntime) -> Result<(), Fail> {
     expect_reports(rt, HEAD, OUTSIDE, "")
 }
 
+// Forms of lines that stand outside of dialogs.
+const FORMS: &str = r#"start "form"
+=> form.tvd:3:7: syntax: the start needs a NAME as its word 2, not "form"
+=>   |
+=> 3 | start "form"
+=>   |       ^^^^^^ a name is wanted here
+=>   = form: start NAME
+menu
+=> form.tvd:3:5: syntax: a menu needs a MARKED as its word 2
+=>   |
+=> 3 | menu
+=>   |     ^ a quoted text is wanted here, with one letter between two ~ at most
+=>   = form: menu MARKED
+menu "More"
+item "More" stop
+=> form.tvd:4:13: syntax: an item needs a COMMAND as its word 3, not stop
+=>   |
+=> 4 | item "More" stop
+=>   |             ^^^^ a command or its number is wanted here
+=>   = form: item MARKED COMMAND
+status "More" F13 100
+=> form.tvd:3:15: syntax: a status item needs a KEY as its word 3, not F13
+=>   |
+=> 3 | status "More" F13 100
+=>   |               ^^^ a key is wanted here
+=>   = form: status STR KEY COMMAND
+window desk 2 2 20 5 "Desk"
+=> form.tvd:3:22: syntax: a window needs a NUM as its word 7, not "Desk"
+=>   |
+=> 3 | window desk 2 2 20 5 "Desk"
+=>   |                      ^^^^^^ a number is wanted here
+=>   = form: window NAME X Y W H N STR
+dialog form 2 1 30 9 "Form" cancel
+=> form.tvd:3:29: syntax: a dialog needs `ends` as its word 8, not cancel
+=>   |
+=> 3 | dialog form 2 1 30 9 "Form" cancel
+=>   |                             ^^^^^^ this keyword is wanted here
+=>   = form: dialog NAME X Y W H STR [opens NUM] ends [ok] [cancel] [yes] [no]
+menu "More"
+text 2 1 8 1 "Bread"
+=> form.tvd:4:1: syntax: only items stand in a menu
+=>   |
+=> 4 | text 2 1 8 1 "Bread"
+=>   | ^^^^ not here
+"#;
+
+#[test]
+fn forms_outside_of_dialogs(rt: HostRuntime) -> Result<(), Fail> {
+    expect_reports(rt, HEAD, FORMS, "")
+}
+
 const BEGINNINGS: &str = r#"# Nothing but a comment.
 => form.tvd:2:1: syntax: the text says nothing: its first line is `tvd 1`
 =>   |

@@ -42,6 +42,7 @@ impl Pieces for Sent<'_> {
 
     fn next(&mut self, room: &mut [u8]) -> Option<Piece> {
         self.reads = self.reads.saturating_add(1);
+        self.is_ended = false;
         if self.reads == self.failing {
             self.failures = self.failures.saturating_add(1);
             return None;
