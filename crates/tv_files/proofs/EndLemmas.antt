@@ -6,7 +6,7 @@ use Rattle.tv_machine.specs.Run.{Session}
 use Rattle.tv_model.specs.declared.desc.Desc.{Desc}
 use Rattle.tv_play.specs.Playing.{Ports}
 use Rattle.tv_play.specs.declared.parting.Parting.{Parting}
-use Rattle.tv_pictures.specs.Albums.{NamedPicture}
+use Rattle.tv_pictures.specs.Albums.{Hung}
 use Rattle.tv_pictures.specs.Drawing.{PicturesTo}
 use Rattle.tv_pictures.specs.Drawing.PicturesTo.{unrun, drawn, cut}
 use Rattle.tv_pictures.specs.Shots.{ShotsTo}
@@ -78,13 +78,13 @@ module _ (P Q : Desc → Type 0) (weaker : (text : List ℕ) (d : Desc) → IsSo
       (λ text reader left was. (was.0, PicturesTo-weaker text reader left old new was.0 was.1, was.2)) files after file script old new end came
 
   -- what drawing each shot comes to
-  ShotsTo-weaker : (text name : List ℕ) (reader left : Given) (old new : Option (List NamedPicture)) (r : Result (Unit {0}) DrawingFault) → ShotsTo P text name reader left old new r → ShotsTo Q text name reader left old new r
+  ShotsTo-weaker : (text name : List ℕ) (reader left : Given) (old new : Option Hung) (r : Result (Unit {0}) DrawingFault) → ShotsTo P text name reader left old new r → ShotsTo Q text name reader left old new r
   ShotsTo-weaker text name reader left old new r (refused_shots fault is untouched told) = refused_shots fault is untouched told
   ShotsTo-weaker text name reader left old new r (unbegun_shots d fault read why untouched told) =
       unbegun_shots d fault read (IsNoStart-weaker text d fault read why) untouched told
   ShotsTo-weaker text name reader left old new r (drawn_shots d read draws) = drawn_shots d read draws
 
-  PicturesAll-weaker : (files after : Known) (file script : List ℕ) (old new : Option (List NamedPicture)) (end : End) → PicturesAll P files after file script old new end → PicturesAll Q files after file script old new end
+  PicturesAll-weaker : (files after : Known) (file script : List ℕ) (old new : Option Hung) (end : End) → PicturesAll P files after file script old new end → PicturesAll Q files after file script old new end
   PicturesAll-weaker files after file script old new end came =
       OnStream-weaker (ShotsAs P file script old new end) (ShotsAs Q file script old new end)
       (λ text reader left was. (was.0, ShotsTo-weaker text script reader left old new was.0 was.1, was.2)) files after file script old new end came
@@ -103,23 +103,23 @@ module _ (P Q : Desc → Type 0) (weaker : (text : List ℕ) (d : Desc) → IsSo
       played_file text gives (came.0, PlaysText-weaker text old new came.0 came.1, came.2, came.3)
 
   -- what a task comes to
-  Performs-weaker : (task : Task) (files after : Known) (pictures later : Option (List NamedPicture)) (old new : Ports) (how : Done) (end : End) → PerformsTask P task files after pictures later old new how end → PerformsTask Q task files after pictures later old new how end
-  Performs-weaker (Check file) files after pictures later old new how end came = came
-  Performs-weaker (Accept file certificate) files after pictures later old new how end came = came
-  Performs-weaker (Run file script) files after pictures later old new how end came =
+  Performs-weaker : (task : Task) (files after : Known) (album later : Option Hung) (old new : Ports) (how : Done) (end : End) → PerformsTask P task files after album later old new how end → PerformsTask Q task files after album later old new how end
+  Performs-weaker (Check file) files after album later old new how end came = came
+  Performs-weaker (Accept file certificate) files after album later old new how end came = came
+  Performs-weaker (Run file script) files after album later old new how end came =
       (came.0, came.1, RunsFiles-weaker files after file.now script.now old.log new.log end came.2)
-  Performs-weaker (Play file) files after pictures later old new how end came =
+  Performs-weaker (Play file) files after album later old new how end came =
       (came.0, PlaysFile-weaker files after file.now old new how end came.1)
-  Performs-weaker (Picture file script) files after pictures later old new how end came =
+  Performs-weaker (Picture file script) files after album later old new how end came =
       (came.0, came.1, PicturesFiles-weaker files after file.now script.now old.log new.log end came.2)
-  Performs-weaker (PictureAll file script) files after pictures later old new how end came =
-      (came.0, came.1, PicturesAll-weaker files after file.now script.now pictures later end came.2)
-  Performs-weaker (Explain file manner) files after pictures later old new how end came = came
-  Performs-weaker (ExplainBoth file other manner) files after pictures later old new how end came = came
-  Performs-weaker Version files after pictures later old new how end came = came
+  Performs-weaker (PictureAll file script) files after album later old new how end came =
+      (came.0, came.1, PicturesAll-weaker files after file.now script.now album later end came.2)
+  Performs-weaker (Explain file manner) files after album later old new how end came = came
+  Performs-weaker (ExplainBoth file other manner) files after album later old new how end came = came
+  Performs-weaker Version files after album later old new how end came = came
 
   -- how the program ends
   pub EndsWith-weaker : (asked : Result Task NoTask) (old new : World) (status : ℕ) → EndsWith P asked old new status → EndsWith Q asked old new status
   EndsWith-weaker (Ok task) old new status ends =
-      (ends.0, ends.1, ends.2, Performs-weaker task old.files new.files old.pictures new.pictures (ports_of old) ends.2 ends.0 ends.1 ends.3, ends.4, ends.5)
+      (ends.0, ends.1, ends.2, Performs-weaker task old.files new.files old.album new.album (ports_of old) ends.2 ends.0 ends.1 ends.3, ends.4, ends.5)
   EndsWith-weaker (Err no_task) old new status ends = ends

@@ -1,8 +1,8 @@
 -- How the program ends.
-use Rattle.std.specs.Prelude.{◌≡◌, ℕ, List, Option, Result, Ok, Err}
+use Rattle.std.specs.Prelude.{◌≡◌, ℕ, Option, Result, Ok, Err}
 use Rattle.tv_model.specs.declared.desc.Desc.{Desc}
 use Rattle.tv_io.specs.Writer.{Seen}
-use Rattle.tv_pictures.specs.Albums.{NamedPicture}
+use Rattle.tv_pictures.specs.Albums.{Hung}
 use Rattle.tv_play.specs.Pieces.{Heard}
 use Rattle.tv_play.specs.Playing.{Ports}
 use Rattle.tv_files.specs.declared.done.Done.{Done}
@@ -13,10 +13,10 @@ use Rattle.tv_files.specs.Files.{Known}
 use Rattle.tv_files.specs.Performing.{PerformsTask}
 use Rattle.tv_files.specs.Telling.{Tells, TellsNoTask}
 
--- what is known of the program's files, pictures and streams at a moment
+-- what is known of the program's files, album and streams at a moment
 pub record World : Type 0 where
   pub files : Known
-  pub pictures : Option (List NamedPicture)
+  pub album : Option Hung
   pub heard : Heard
   pub out : Seen
   pub err : Seen
@@ -32,9 +32,9 @@ abbrev pub EndsWith : (Mismade : Desc → Type 0) → Result Task NoTask → (ol
     → Type 0
 EndsWith Mismade (Ok task) old new status =
     (done : Done) × (end : End) × (mid : Ports)
-    × PerformsTask Mismade task old.files new.files old.pictures new.pictures (ports_of old) mid done end
+    × PerformsTask Mismade task old.files new.files old.album new.album (ports_of old) mid done end
     × (new.heard ≡ mid.input)
     × Tells done end mid.log new.out mid.screen new.err status
 EndsWith Mismade (Err no_task) old new status =
-    (new.files ≡ old.files) × (new.pictures ≡ old.pictures) × (new.heard ≡ old.heard) × (new.out ≡ old.out)
+    (new.files ≡ old.files) × (new.album ≡ old.album) × (new.heard ≡ old.heard) × (new.out ≡ old.out)
     × TellsNoTask no_task old.err new.err status

@@ -3,7 +3,7 @@ use Rattle.std.specs.Prelude.{◌≡◌, ℕ, List, Option, Result}
 use Rattle.tv_model.specs.declared.desc.Desc.{Desc}
 use Rattle.tv_io.specs.Reader.{Given}
 use Rattle.tv_io.specs.Writer.{Seen}
-use Rattle.tv_pictures.specs.Albums.{NamedPicture}
+use Rattle.tv_pictures.specs.Albums.{Hung}
 use Rattle.tv_pictures.specs.Drawing.{PicturesTo}
 use Rattle.tv_pictures.specs.Shots.{ShotsTo}
 use Rattle.tv_pictures.specs.declared.fault.DrawingFault.{DrawingFault}
@@ -32,13 +32,13 @@ PicturesFiles Mismade files after file script old new end =
 -- what `picture_shots` answers, told as an end; the pictures have the script's path and a number as their
 -- names
 abbrev pub ShotsAs : (Mismade : Desc → Type 0) → (file script : List ℕ)
-    → (old new : Option (List NamedPicture)) → End → (text : List ℕ) (reader left : Given) → Type 0
+    → (old new : Option Hung) → End → (text : List ℕ) (reader left : Given) → Type 0
 ShotsAs Mismade file script old new end text reader left =
     (r : Result (Unit {0}) DrawingFault) × ShotsTo Mismade text script reader left old new r
     × (end ≡ end_of_shots file script r)
 
 -- the files are opened and read as they are for one picture
 abbrev pub PicturesAll : (Mismade : Desc → Type 0) → (files after : Known) → (file script : List ℕ)
-    → (old new : Option (List NamedPicture)) → End → Type 0
+    → (old new : Option Hung) → End → Type 0
 PicturesAll Mismade files after file script old new end =
     OnStream (ShotsAs Mismade file script old new end) files after file script old new end

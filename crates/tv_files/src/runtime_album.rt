@@ -35,7 +35,7 @@ impl<'a, R: Files> RuntimeAlbum<'a, R> {
 }
 
 impl<R: Files> Album for RuntimeAlbum<'_, R> {
-    ghost pictures = { λ _. None };
+    ghost hung = { λ _. None };
 
     fn add(&mut self, name: &str, screen: &Screen) -> Result<(), AlbumFault> {
         match create(self.rt, name) {

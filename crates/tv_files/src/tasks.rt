@@ -59,7 +59,7 @@ pub fn perform<
 ) -> Result<Done, Failure<'a>>
     requires { M.IsAlwaysCallable views.now }
     ensures { PerformsTask (IsMismade (Makes M.Fn views.now) V.meaning) task.entry (F.known files.old) (F.known files.new)
-        (A.pictures album.old) (A.pictures album.new)
+        (A.hung album.old) (A.hung album.new)
         (record { input = P.heard pieces.old; log = W.seen out.old; screen = T.seen screen.old })
         (record { input = P.heard pieces.new; log = W.seen out.new; screen = T.seen screen.new })
         (done_in result) (end_of result) }

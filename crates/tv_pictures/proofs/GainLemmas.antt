@@ -4,21 +4,19 @@ use Rattle.std.proofs.lemmas.List.{append-nil, length-append, take-append-drop, 
 use Rattle.tv_model.specs.declared.script.Item.{Item}
 use Rattle.tv_machine.specs.Output.{after, session_after, states}
 use Rattle.tv_machine.specs.Run.{Session, quiet}
-use Rattle.tv_pictures.specs.Albums.{NamedPicture, Gains, GainsAll, GainsBefore, drawn_as}
+use Rattle.tv_pictures.specs.Albums.{FailsFor, Gains, GainsAll, GainsBefore, Hung, NamedPicture, drawn_as}
 use Rattle.tv_pictures.specs.declared.fault.ShotFault.{ShotFault}
 use Rattle.tv_pictures.specs.Naming.{named_from, shot_name}
 use Rattle.tv_pictures.specs.Pictures.{item_svgs, named_shots, session_svg, shot_svgs, svgs_from}
 
 -- ---- what an album gains
 
-pub gains-then : (a b c : Option (List NamedPicture)) (x y : List NamedPicture) → Gains a b x → Gains b c y → Gains a c (x ++ y)
+pub gains-then : (a b c : Option Hung) (x y : List NamedPicture) → Gains a b x → Gains b c y → Gains a c (x ++ y)
 gains-then None b c x y p q = tt
 gains-then (Some a) None c x y p q = absurd p
 gains-then (Some a) (Some b) None x y p q = absurd q
-gains-then (Some a) (Some b) (Some c) x y p q = q ∙ ap (λ (t : List NamedPicture). t ++ y) p ∙ append_assoc a x y
-
-gains-still : (a b c : Option (List NamedPicture)) (x : List NamedPicture) → Gains a b x → Gains b c [] → Gains a c x
-gains-still a b c x p q = subst (λ (t : List NamedPicture). Gains a c t) (append-nil x) (gains-then a b c x [] p q)
+gains-then (Some a) (Some b) (Some c) x y p q =
+    (q.0 ∙ ap (λ (t : List NamedPicture). t ++ y) p.0 ∙ append_assoc a.pictures x y, q.1 ∙ p.1)
 
 -- ---- names
 
@@ -73,8 +71,8 @@ module _ (name : List ℕ) (s : Session) (items : List Item) (i number : ℕ) (d
       omega (arith, counted, all)
 
   -- it failed, and it is a `shot`
-  pub shot-failed : (a b c : Option (List NamedPicture)) → next ≡ session_svg (after s (take i items)) ∷ [] → Gains a b (named_shots name s (take i items)) → Gains b c [] → GainsBefore a c (named_shots name s items) number
-  shot-failed a b c shot before none =
+  pub shot-failed : (a b c : Option Hung) (failed : ShotFault) → failed.number ≡ number → next ≡ session_svg (after s (take i items)) ∷ [] → Gains a b (named_shots name s (take i items)) → FailsFor b c failed.fault → GainsBefore a c (named_shots name s items) failed
+  shot-failed a b c failed told shot before fails =
       let svg = session_svg (after s (take i items)) in
       let later = svgs_from (after s (take (i + 1) items)) (drop (i + 1) items) in
       let parts : shot_svgs s items ≡ front ++ svg ∷ later =
@@ -84,16 +82,18 @@ module _ (name : List ℕ) (s : Session) (items : List Item) (i number : ℕ) (d
       ∙ append_assoc front (svg ∷ []) later in
       record {
         front = named_from name 1 front;
-        failed = drawn_as (shot_name name (1 + length front)) svg;
+        next = drawn_as (shot_name name (1 + length front)) svg;
         rest = named_from name (1 + length front + 1) later;
         parts = ap (named_from name 1) parts ∙ named-append name 1 front (svg ∷ later);
         place =
             let same = length-named name 1 front in
-            omega (arith, counted, same);
-        gains = gains-still a b c (named_from name 1 front) before none;
+            omega (arith, told, counted, same);
+        mid = b;
+        gains = before;
+        fails = fails;
       }
 
 -- what is told of one that failed
-pub gains-failed : {old new : Option (List NamedPicture)} {all : List NamedPicture} (failed : ShotFault) (r : Result (Unit {0}) ShotFault) → IsErrAnd r (λ told. told ≡ failed) → GainsBefore old new all failed.number → GainsAll old new all r
+pub gains-failed : {old new : Option Hung} {all : List NamedPicture} (failed : ShotFault) (r : Result (Unit {0}) ShotFault) → IsErrAnd r (λ told. told ≡ failed) → GainsBefore old new all failed → GainsAll old new all r
 gains-failed failed (Ok x) told before = absurd told
 gains-failed failed (Err other) told before = rw told before

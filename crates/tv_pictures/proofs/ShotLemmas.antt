@@ -4,7 +4,7 @@ use Rattle.tv_io.specs.Reader.{Given}
 use Rattle.tv_io.specs.Reading.{IsRead}
 use Rattle.tv_machine.specs.Run.{Session}
 use Rattle.tv_model.specs.declared.desc.Desc.{Desc}
-use Rattle.tv_pictures.specs.Albums.{NamedPicture}
+use Rattle.tv_pictures.specs.Albums.{Hung}
 use Rattle.tv_pictures.specs.declared.fault.DrawingFault.{DrawingFault}
 use Rattle.tv_pictures.specs.declared.fault.DrawingFault.TheVariants.{Run}
 use Rattle.tv_pictures.specs.Scripts.{most_of_script}
@@ -25,11 +25,11 @@ module _ (s : Session) (name : List ℕ) (reader left : Given) (text : List ℕ)
   leaves scripts.TooLong refuses = (text, read, refuses)
 
   -- what was read is refused
-  pub refused-ShotsFrom : (pictures : Option (List NamedPicture)) (fault : ScriptFault) → RefusesScript s.desc.width s.desc.height text fault → (r : Result (Unit {0}) DrawingFault) → IsErrAnd r (λ told. told ≡ Run (script_told fault)) → ShotsFrom s name reader left pictures pictures r
+  pub refused-ShotsFrom : (pictures : Option Hung) (fault : ScriptFault) → RefusesScript s.desc.width s.desc.height text fault → (r : Result (Unit {0}) DrawingFault) → IsErrAnd r (λ told. told ≡ Run (script_told fault)) → ShotsFrom s name reader left pictures pictures r
   refused-ShotsFrom pictures fault refuses (Ok x) told = absurd told
   refused-ShotsFrom pictures fault refuses (Err other) told = rw told (leaves fault refuses, refl)
 
-module _ (Mismade : Desc → Type 0) (text name : List ℕ) (reader : Given) (pictures : Option (List NamedPicture)) where
+module _ (Mismade : Desc → Type 0) (text name : List ℕ) (reader : Given) (pictures : Option Hung) where
   err-is : (fault : DrawingFault) (r : Result (Unit {0}) DrawingFault) → IsErrAnd r (λ told. told ≡ fault) → r ≡ Err fault
   err-is fault (Ok x) told = absurd told
   err-is fault (Err other) told = ap Err told

@@ -9,7 +9,7 @@ use Rattle.tv_program.specs.declared.play_fault.PlayFault.{PlayFault}
 use Rattle.tv_program.specs.declared.play_fault.PlayFault.TheVariants.{NoMemory, Read, Script}
 use Rattle.tv_program.specs.Playing.{IsNoStart, RefusesDesc}
 use Rattle.tv_program.specs.Reading.{IsSoundText}
-use Rattle.tv_pictures.specs.Albums.{NamedPicture, Gains, GainsBefore}
+use Rattle.tv_pictures.specs.Albums.{Hung, Gains, GainsBefore}
 use Rattle.tv_pictures.specs.declared.fault.DrawingFault.{DrawingFault}
 use Rattle.tv_pictures.specs.declared.fault.DrawingFault.TheVariants.{Run, Shot}
 use Rattle.tv_pictures.specs.Drawing.{GivesScriptOf}
@@ -35,24 +35,24 @@ LeavesScript d reader left _ = ⊥
 -- A script is read to its end, and performed from a session on: the screen at each `shot` is drawn, or those
 -- before one that failed. Where it isn't performed, none is.
 abbrev pub ShotsFrom : Session → (name : List ℕ) → (reader left : Given)
-    → (old new : Option (List NamedPicture)) → Result (Unit {0}) DrawingFault → Type 0
+    → (old new : Option Hung) → Result (Unit {0}) DrawingFault → Type 0
 ShotsFrom s name reader left old new (Ok _) =
     (script : List Item) × GivesScriptOf s.desc reader left script × Gains old new (named_shots name s script)
 ShotsFrom s name reader left old new (Err (Shot failed)) =
     (script : List Item) × GivesScriptOf s.desc reader left script
-    × GainsBefore old new (named_shots name s script) failed.number
+    × GainsBefore old new (named_shots name s script) failed
 ShotsFrom s name reader left old new (Err (Run fault)) =
     LeavesScript s.desc reader left fault × (new ≡ old)
 
 -- nothing was read of the script, and nothing was drawn
-pub record IsUndrawn (reader left : Given) (old new : Option (List NamedPicture)) : Type 0 where
+pub record IsUndrawn (reader left : Given) (old new : Option Hung) : Type 0 where
   pub unread : left ≡ reader
   pub undrawn : new ≡ old
 
 -- Only a sound description is run, and the script is read only once its views were made. Then the screens of
 -- the flat machine are drawn.
 pub data ShotsTo (Mismade : Desc → Type 0) (text name : List ℕ) (reader left : Given)
-    (old new : Option (List NamedPicture)) (result : Result (Unit {0}) DrawingFault) : Type 0 where
+    (old new : Option Hung) (result : Result (Unit {0}) DrawingFault) : Type 0 where
   refused : (fault : PlayFault) → RefusesDesc text fault → IsUndrawn reader left old new
       → result ≡ Err (Run fault) → ShotsTo Mismade text name reader left old new result
   unbegun : (d : Desc) (fault : PlayFault) → IsSoundText text d → IsNoStart Mismade d fault

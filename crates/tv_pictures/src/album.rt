@@ -1,7 +1,7 @@
 //! Where pictures are put, one after the other.
 
-ghost use Rattle.std.specs.Prelude.{◌∷◌, [], List, MatchResult, Option};
-ghost use Rattle.tv_pictures.specs.Albums.{NamedPicture, Gains, drawn_as};
+ghost use Rattle.std.specs.Prelude.{◌∷◌, [], MatchResult, Option};
+ghost use Rattle.tv_pictures.specs.Albums.{FailsFor, Gains, Hung, drawn_as};
 ghost use Rattle.tv_svg.specs.Svg.{svg_of};
 
 use tv_cells::Screen;
@@ -14,13 +14,14 @@ pub enum AlbumFault {
     Write,
 }
 
-/// Where pictures are put, each under a name. Contracts see the names and texts of those that it has, in order, where they are known.
+/// Where pictures are put, each under a name. Contracts see the names and texts of those that it has, in order,
+/// and how many it could not write, where that is known.
 pub trait Album {
-    ghost pictures: { Self → Option (List NamedPicture) };
+    ghost hung: { Self → Option Hung };
 
     /// Draws a screen and puts it under a name. A picture that fails isn't counted.
     fn add(&mut self, name: &str, screen: &Screen) -> Result<(), AlbumFault>
         ensures { MatchResult result
-            (λ _. Gains (pictures self.old) (pictures self.new) (drawn_as name.now (svg_of screen.now) ∷ []))
-            (λ _. Gains (pictures self.old) (pictures self.new) []) };
+            (λ _. Gains (hung self.old) (hung self.new) (drawn_as name.now (svg_of screen.now) ∷ []))
+            (λ fault. FailsFor (hung self.old) (hung self.new) fault) };
 }

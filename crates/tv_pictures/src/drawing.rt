@@ -4,7 +4,7 @@ ghost use Rattle.std.specs.Prelude.{◌≡◌, ◌≤◌, ◌<◌, ◌+◌, ◌^
 ghost use Rattle.tv_io.specs.Writer.{Cuts, Takes};
 ghost use Rattle.tv_machine.specs.Output.{after, event_after, session_after};
 ghost use Rattle.tv_machine.specs.Run.{Session};
-ghost use Rattle.tv_pictures.specs.Albums.{Gains, GainsAll};
+ghost use Rattle.tv_pictures.specs.Albums.{FailsFor, Gains, GainsAll};
 ghost use Rattle.tv_pictures.specs.Naming.{named_from};
 ghost use Rattle.tv_pictures.specs.Pictures.{item_svgs, named_shots, session_svg};
 ghost use Rattle.tv_script.specs.Lines.{IsEventOnScreen, IsItemOnScreen};
@@ -54,7 +54,7 @@ pub fn draw_shots<S: Stage, A: Album>(
     album: &mut A,
 ) -> Result<(), ShotFault>
     requires there { (s : Session) × S.stands stage.old s }
-    ensures drawn { (s : Session) → S.stands stage.old s → GainsAll (A.pictures album.old) (A.pictures album.new) (named_shots name.now s script.now) result }
+    ensures drawn { (s : Session) → S.stands stage.old s → GainsAll (A.hung album.old) (A.hung album.new) (named_shots name.now s script.now) result }
     ensures state { OnOk result ((s : Session) → S.stands stage.old s → S.stands stage.new (after s script.now)) }
 {
     stage.forget_log();
@@ -80,8 +80,8 @@ fn draw_item<S: Stage, A: Album>(
     requires there { (s : Session) × S.stands stage.old s }
     ensures few { IfOk result (λ next. next ≤ number + 1) }
     ensures drawn { (s : Session) → S.stands stage.old s → MatchResult result
-        (λ next. Gains (A.pictures album.old) (A.pictures album.new) (named_from name.now number (item_svgs s item.now)) × (next ≡ number + length (item_svgs s item.now)))
-        (λ failed. Gains (A.pictures album.old) (A.pictures album.new) [] × (failed.number ≡ number) × (item_svgs s item.now ≡ session_svg s ∷ [])) }
+        (λ next. Gains (A.hung album.old) (A.hung album.new) (named_from name.now number (item_svgs s item.now)) × (next ≡ number + length (item_svgs s item.now)))
+        (λ failed. FailsFor (A.hung album.old) (A.hung album.new) failed.fault × (failed.number ≡ number) × (item_svgs s item.now ≡ session_svg s ∷ [])) }
     ensures state { (s : Session) → S.stands stage.old s → S.stands stage.new (session_after s item.now) }
 {
     match item {
@@ -106,8 +106,8 @@ fn draw_shot<A: Album>(
     album: &mut A,
 ) -> Result<(), ShotFault>
     ensures { MatchResult result
-        (λ _. Gains (A.pictures album.old) (A.pictures album.new) (named_from name.now number (svg_of screen.now ∷ [])))
-        (λ failed. Gains (A.pictures album.old) (A.pictures album.new) [] × (failed.number ≡ number)) }
+        (λ _. Gains (A.hung album.old) (A.hung album.new) (named_from name.now number (svg_of screen.now ∷ [])))
+        (λ failed. FailsFor (A.hung album.old) (A.hung album.new) failed.fault × (failed.number ≡ number)) }
 {
     let Ok(name) = shot_name(alloc, name, number) else {
         let fault = AlbumFault::NoMemory;

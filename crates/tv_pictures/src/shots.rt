@@ -44,7 +44,7 @@ pub fn picture_shots<
 ) -> Result<(), DrawingFault>
     requires { F.IsAlwaysCallable make.now }
     ensures { ShotsTo (IsMismade (Makes F.Fn make.now) V.meaning) desc.now name.now
-        (R.seen script.old) (R.seen script.new) (A.pictures album.old) (A.pictures album.new) result }
+        (R.seen script.old) (R.seen script.new) (A.hung album.old) (A.hung album.new) result }
 {
     let checked = read_checked(alloc, desc)?;
     parts_are_lawful(checked.desc());
@@ -79,7 +79,7 @@ fn draw_script<S: Stage, R: Reader, A: Album>(
 ) -> Result<(), DrawingFault>
     requires there { (s : Session) × S.stands stage.old s × FitsLargestScreen s.desc }
     ensures { (s : Session) → S.stands stage.old s
-        → ShotsFrom s name.now (R.seen script.old) (R.seen script.new) (A.pictures album.old) (A.pictures album.new) result }
+        → ShotsFrom s name.now (R.seen script.old) (R.seen script.new) (A.hung album.old) (A.hung album.new) result }
 {
     let text = read_script(alloc, script)?;
     let desc = stage.desc();

@@ -7,8 +7,8 @@ use Rattle.tv_files.proofs.picturing.picture_all.Goals as goal
 
 pub returns-in-Ok : goal.returns-in-Ok
 returns-in-Ok g c =
-    let old = g.A.Album.pictures c.args.album.now in
-    let new = g.A.Album.pictures c.picture_shots.new.album in
+    let old = g.A.Album.hung c.args.album.now in
+    let new = g.A.Album.hung c.picture_shots.new.album in
     let end = end_of {T = Unit {0}} (Ok tt) in
     let first = c.in_ok-description.ensures in
     let second = c.in_ok-events.ensures in
@@ -20,8 +20,8 @@ returns-in-Ok g c =
 
 pub returns-in-Err-Run : goal.returns-in-Err-Run
 returns-in-Err-Run g c =
-    let old = g.A.Album.pictures c.args.album.now in
-    let new = g.A.Album.pictures c.picture_shots.new.album in
+    let old = g.A.Album.hung c.args.album.now in
+    let new = g.A.Album.hung c.picture_shots.new.album in
     let end = end_of {T = Unit {0}} (Err c.of_run.result) in
     let first = c.in_ok-description.ensures in
     let second = c.in_ok-events.ensures in
@@ -33,8 +33,8 @@ returns-in-Err-Run g c =
 
 pub returns : goal.returns
 returns g c =
-    let old = g.A.Album.pictures c.args.album.now in
-    let new = g.A.Album.pictures c.picture_shots.new.album in
+    let old = g.A.Album.hung c.args.album.now in
+    let new = g.A.Album.hung c.picture_shots.new.album in
     let end = end_of {T = Unit {0}} (Err c.of_shot.result) in
     let first = c.in_ok-description.ensures in
     let second = c.in_ok-events.ensures in

@@ -8,8 +8,8 @@ use Rattle.tv_pictures.proofs.drawing.draw_item.Goals as goal
 
 pub returns-in_ok-draw_shot-in-Shot-clause-drawn : goal.returns-in_ok-draw_shot-in-Shot-clause-drawn
 returns-in_ok-draw_shot-in-Shot-clause-drawn g c = λ s stands.
-    let old = g.A.Album.pictures c.args.album.now in
-    let new = g.A.Album.pictures c.draw_shot.new.album in
+    let old = g.A.Album.hung c.args.album.now in
+    let new = g.A.Album.hung c.draw_shot.new.album in
     let name = c.args.name.now in
     let number = c.args.number in
     subst (λ (item : Item). Gains old new (named_from name number (item_svgs s item)) × (number + 1 ≡ number + length (item_svgs s item))) (sym c.in-Shot.is) (

@@ -18,14 +18,14 @@ returns-in_err-number-clause-drawn g c = λ s stands.
     let i = c.loop-item.item-index in
     let name = c.args.name.now in
     let number = c.loop-item.number in
-    let old = g.A.Album.pictures c.args.album.now in
-    let mid = g.A.Album.pictures c.loop-item.album in
-    let new = g.A.Album.pictures c.draw_item.new.album in
+    let old = g.A.Album.hung c.args.album.now in
+    let mid = g.A.Album.hung c.loop-item.album in
+    let new = g.A.Album.hung c.draw_item.new.album in
     let before = c.loop-item.invariant in
     let failed = c.in_err-number.ensures.drawn _ (before.state s stands) in
     gains-failed c.in_err-number.field-0.0 c.from_residual.result c.from_residual.ensures.1
-    (subst (λ (script : List Item). GainsBefore old new (named_shots name s script) c.in_err-number.field-0.0.number) c.items-item-items.ensures.items
-    (rw failed.1 (shot-failed name s items i number _ c.loop-item-test.true (before.counted s stands) old mid new failed.2 (before.gains s stands) failed.0)))
+    (subst (λ (script : List Item). GainsBefore old new (named_shots name s script) c.in_err-number.field-0.0) c.items-item-items.ensures.items
+    (shot-failed name s items i number _ c.loop-item-test.true (before.counted s stands) old mid new c.in_err-number.field-0.0 failed.1 failed.2 (before.gains s stands) failed.0))
 
 pub loop-item-preserved : goal.loop-item-preserved
 loop-item-preserved g c =
@@ -33,9 +33,9 @@ loop-item-preserved g c =
     let i = c.loop-item.item-index in
     let name = c.args.name.now in
     let number = c.loop-item.number in
-    let old = g.A.Album.pictures c.args.album.now in
-    let mid = g.A.Album.pictures c.loop-item.album in
-    let new = g.A.Album.pictures c.draw_item.new.album in
+    let old = g.A.Album.hung c.args.album.now in
+    let mid = g.A.Album.hung c.loop-item.album in
+    let new = g.A.Album.hung c.draw_item.new.album in
     let before = c.loop-item.invariant in
     record {
       few =
