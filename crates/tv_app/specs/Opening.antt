@@ -1,5 +1,5 @@
 -- How a description's text is opened, and why it isn't.
-use Rattle.std.specs.Prelude.{◌≢◌, ℕ, List}
+use Rattle.std.specs.Prelude.{◌≡◌, ◌≢◌, ℕ, List, []}
 use Rattle.tv_app.specs.Running.{Runs}
 use Rattle.tv_app.specs.declared.app.App.{App}
 use Rattle.tv_app.specs.declared.fault.OpenFault.{OpenFault}
@@ -18,9 +18,9 @@ use Rattle.tv_model.specs.declared.desc.Desc.{Desc}
 abbrev pub IsSpelledSound : List ℕ → Desc → Type 0
 IsSpelledSound text d = Spells text d × IsSound d
 
--- the application runs the description that the text spells, from its start
+-- the application runs the description that the text spells, from its start; nothing was painted again yet
 abbrev pub StartsText : List ℕ → App → Type 0
-StartsText text app = (d : Desc) × IsSpelledSound text d × Runs app (started d)
+StartsText text app = (d : Desc) × IsSpelledSound text d × Runs app (started d) × (app.session.repainted ≡ [])
 
 -- why a text isn't opened: memory ran out, it spells no description, or the description has these faults
 abbrev pub RefusesOpening : List ℕ → OpenFault → Type 0

@@ -15,7 +15,6 @@ use crate::names::dialog_named;
 use tv_cells::{Rect, Screen};
 use tv_event::{Command, Event};
 use tv_model::{Desc, Id, LogLine};
-use tv_script::Stage;
 use tv_session::SessionOf;
 use tv_toolkit::Control;
 
@@ -74,14 +73,15 @@ impl App {
     pub fn log(&self) -> &[LogLine]
         ensures { (s : Session) → Runs self.now s → result.now ≡ s.state.log }
     {
-        Stage::log(&self.session)
+        self.session.log()
     }
 
     /// Forgets the lines that aren't yet taken. The next event does so too.
     pub fn forget_log(&mut self)
-        ensures { (s : Session) → Runs self.old s → Runs self.new (quiet s) }
+        ensures quiet { (s : Session) → Runs self.old s → Runs self.new (quiet s) }
+        ensures repainted { self.new.session.repainted ≡ self.old.session.repainted }
     {
-        Stage::forget_log(&mut self.session);
+        self.session.forget_log();
     }
 
     /// Returns the control that has the focus, while a dialog is open.

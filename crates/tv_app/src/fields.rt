@@ -90,6 +90,7 @@ impl App {
         ensures refused { IfErr result (λ fault. (s : Session) → Runs self.old s → RefusesRecord s.desc dialog.now values fault.reason) }
         ensures back { IfErr result (λ fault. fault.values ≡ values) }
         ensures stays { IfErr result (λ _. self.new ≡ self.old) }
+        ensures repainted { self.new.session.repainted ≡ self.old.session.repainted }
     {
         match take_named(alloc, self.desc(), dialog, &values) {
             Ok(taken) => {

@@ -1,6 +1,6 @@
 //! How a description's text is opened.
 
-ghost use Rattle.std.specs.Prelude.{◌≡◌, IfErr, IfOk};
+ghost use Rattle.std.specs.Prelude.{◌≡◌, [], IfErr, IfOk};
 ghost use Rattle.tv_app.specs.Opening.{IsSpelledSound, RefusesOpening, StartsText};
 ghost use Rattle.tv_app.specs.Running.{Runs};
 ghost use Rattle.tv_app.specs.declared.fault.OpenFault.TheVariants.{NoMemory};
@@ -41,6 +41,7 @@ fn read_checked(alloc: Global, text: &[u8]) -> Result<Checked, OpenFault>
 // The run of a description at its start.
 fn begin(alloc: Global, checked: Checked) -> Result<App, OpenFault>
     ensures start { IfOk result (λ app. Runs app (started checked)) }
+    ensures none_repainted { IfOk result (λ app. app.session.repainted ≡ []) }
     ensures memory { IfErr result (λ fault. fault ≡ NoMemory) }
 {
     let views = views(alloc, &checked)?;
