@@ -29,6 +29,7 @@ impl<W: Write + Drop> BufferedStream<W> {
     /// Makes one over the writer, with room for what is kept back. Where there is no memory for it, the writer is dropped.
     pub fn new(alloc: Global, writer: W) -> Result<BufferedStream<W>, AllocError>
         ensures taken { IfOk result (λ stream. Keeps (W.contents writer) (device_seen W.contents stream.device).taken) }
+        ensures kept { IfOk result (λ stream. (device_seen W.contents stream.device).kept ≡ []) }
         ensures count { IfOk result (λ stream. stream.failures ≡ 0) }
     {
         let device = Device::new(alloc, writer)?;

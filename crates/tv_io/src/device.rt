@@ -21,6 +21,7 @@ impl<W: Write + Drop> Device<W> {
     /// Makes one over the writer, with room for what is kept back. Where there is no memory for it, the writer is dropped.
     pub fn new(alloc: Global, writer: W) -> Result<Device<W>, AllocError>
         ensures taken { IfOk result (λ device. Keeps (W.contents writer) (device_seen W.contents device).taken) }
+        ensures kept { IfOk result (λ device. (device_seen W.contents device).kept ≡ []) }
         ensures count { IfOk result (λ device. (device_seen W.contents device).failures ≡ 0) }
     {
         match BufWriter::new(alloc, writer) {
