@@ -1,6 +1,6 @@
 -- What playing a description in a terminal comes to.
 use Rattle.std.specs.Prelude.{◌≡◌, ℕ, List, Result, Ok, Err}
-use Rattle.tv_machine.specs.Run.{Session, started}
+use Rattle.tv_machine.specs.Run.{started}
 use Rattle.tv_model.specs.declared.desc.Desc.{Desc}
 use Rattle.tv_play.specs.Playing.{PlaysTo, Ports}
 use Rattle.tv_play.specs.declared.parting.Parting.{Parting}

@@ -1,8 +1,7 @@
 -- A script is read just where a text spells it.
-use Rattle.std.proofs.Common.{◌≡◌, ℕ, ℤ, suc, ◌+◌, ◌<◌, ◌≤◌, inl, inr, nat_le, Bool, true, false, cond, ◌&&◌, List, [], ◌∷◌, ◌++◌, length, take, Option, Some, None, Result, Ok, Err, refl, sym, ap, ◌∙◌, add-one, add-zero, subst, arith, length-append}
+use Rattle.std.proofs.Common.{◌≡◌, ℕ, ℤ, suc, ◌+◌, ◌<◌, ◌≤◌, inl, inr, nat_le, Bool, true, false, cond, ◌&&◌, List, [], ◌∷◌, ◌++◌, length, take, Option, Some, None, Result, Ok, Err, refl, sym, ap, ◌∙◌, add-one, add-zero, subst, arith}
 use Rattle.std.specs.Prelude.{option_and_then, IfOk, IfErr}
 use Rattle.std.proofs.lemmas.Bool.Decides.{nat_tests}
-use Rattle.std.proofs.Math.Seq.{take-append-add, take-append_seam}
 use Rattle.tv_model.specs.declared.script.Item.{Item}
 use Rattle.tv_script.proofs.EndedLemmas.{judged_le}
 use Rattle.tv_script.proofs.FitLemmas.{fits, from_fitting, from_script, from_shown, into_fitting, into_script, into_shown, items_push, shows, stands}
@@ -16,7 +15,6 @@ use Rattle.tv_script.specs.Judging.{Judgement, answer_by_length, is_short, judge
 use Rattle.tv_script.specs.Reading.Scripts.{ScriptOutcome, IsAnswered, with_bytes, with_found, with_words}
 use Rattle.tv_script.specs.Scripts.{GivesScript, IsFirstFaulty, IsFitting, IsOnScreen, IsScript, RefusesScript, SpellsAScript, script_words}
 use Rattle.tv_script.specs.Spelled.{HasItems, IsLeft, SaysOf}
-use Rattle.tv_words.proofs.TextLemmas.{steps_append}
 use Rattle.tv_words.specs.declared.word.Word.{Word}
 use Rattle.tv_words.specs.Lines.{lines_of}
 use Rattle.tv_words.specs.Reading.LineWords.{line_taken, line_words, words_taken}

@@ -1,5 +1,5 @@
 -- A script in pieces: what a line, a byte and the end say of the whole.
-use Rattle.std.proofs.Common.{◌≡◌, ◌≢◌, ℕ, ℤ, ◌+◌, ◌<◌, ◌≤◌, nat_le, Bool, true, false, List, [], ◌∷◌, ◌++◌, length, Result, Ok, Err, refl, sym, ap, ◌∙◌, append_assoc, subst, arith, length-append}
+use Rattle.std.proofs.Common.{◌≡◌, ℕ, ℤ, ◌+◌, ◌<◌, ◌≤◌, nat_le, Bool, true, false, List, [], ◌∷◌, ◌++◌, length, Ok, Err, refl, sym, ap, ◌∙◌, append_assoc, subst, arith, length-append}
 use Rattle.std.specs.List.{AllByRecursion}
 use Rattle.std.proofs.lemmas.Bool.Decides.{nat_tests}
 use Rattle.std.proofs.lemmas.List.{append-nil}
@@ -13,7 +13,7 @@ use Rattle.tv_script.specs.declared.script_text.ScriptFault.{ScriptFault}
 use Rattle.tv_script.specs.declared.script_text.ScriptFault.TheVariants as scripts
 use Rattle.tv_script.specs.declared.stream_fault.StreamFault.{StreamFault}
 use Rattle.tv_script.specs.declared.stream_fault.StreamFault.TheVariants as streams
-use Rattle.tv_script.specs.Judging.{Judgement, answer_by_length, is_short, judged_as, judged_lines, judged_part, judgement, up_to_last_end}
+use Rattle.tv_script.specs.Judging.{answer_by_length, is_short, judged_as, judged_lines, judged_part, judgement, up_to_last_end}
 use Rattle.tv_script.specs.Reading.Streams.{Breaks, Ends, HasPlayed, IsCutLine, IsCutOff, IsFed, IsRefusedLine, IsUnended, IsUnplayed, Leaves, OfEach, with_line_ends}
 use Rattle.tv_script.specs.Streams.{AreFirstOf, CutsDecideNothing}
 use Rattle.tv_words.specs.Lines.{lines_of}

@@ -1,4 +1,4 @@
-use Rattle.std.proofs.Common.{◌≡◌, ◌≤◌, ◌<◌, ◌+◌, ◌++◌, [], OnOk, length, take, refl, sym, subst, ◌∙◌, arith, rules, length-append}
+use Rattle.std.proofs.Common.{◌≡◌, ◌≤◌, ◌<◌, ◌+◌, ◌++◌, [], OnOk, length, take, refl, subst, ◌∙◌, arith, rules, length-append}
 use Rattle.std.proofs.lemmas.List.{length-take-le}
 use Rattle.tv_io.proofs.ReaderLemmas.{HasGiven-none, HasGiven-then}
 use Rattle.tv_script.specs.Streams.ComesFrom.{broken as comes_broken}
