@@ -1,6 +1,7 @@
 //! Pictures in memory.
 
 ghost use Rattle.std.specs.Prelude.{Some, []};
+ghost use Rattle.tv_program_tests.specs.Galleries.{GainsExhibit};
 
 use std::alloc::{AllocError, Global};
 use tv_cells::Screen;
@@ -33,7 +34,7 @@ impl Writer for Page {
 
 /// A picture and its name.
 #[derive(Drop)]
-struct Hung {
+struct Exhibit {
     name: String,
     text: Vec<u8>,
 }
@@ -42,20 +43,21 @@ struct Hung {
 #[derive(Drop)]
 pub struct Gallery {
     alloc: Global,
-    hung: Vec<Hung>,
+    hung: Vec<Exhibit>,
     /// For so many pictures in all.
     room: usize,
+    /// How many there was no room for.
+    failures: u64,
 }
 
 impl Gallery {
-    ghost use Rattle.tv_program_tests.specs.Galleries.{GainsHung};
-
     /// With room for so many pictures.
     pub fn new(alloc: Global, room: usize) -> Gallery {
         Gallery {
             alloc,
             hung: Vec::new(alloc),
             room,
+            failures: 0,
         }
     }
 
@@ -69,15 +71,15 @@ impl Gallery {
         }
         Ok(shown)
     }
+}
 
-    // Hangs a picture behind the others.
-    fn hang(&mut self, picture: Hung) -> Result<(), AlbumFault>
-        ensures { GainsHung self.old.hung.items self.new.hung.items picture result }
-    {
-        match self.hung.push(picture) {
-            Ok(()) => Ok(()),
-            Err(_) => Err(AlbumFault::NoMemory),
-        }
+// Hangs a picture behind the others.
+fn hang(hung: &mut Vec<Exhibit>, picture: Exhibit) -> Result<(), AlbumFault>
+    ensures { GainsExhibit hung.old.items hung.new.items picture result }
+{
+    match hung.push(picture) {
+        Ok(()) => Ok(()),
+        Err(_) => Err(AlbumFault::NoMemory),
     }
 }
 
@@ -85,10 +87,14 @@ impl Album for Gallery {
     ghost use Rattle.std.specs.Prelude.{map, string_bytes};
     ghost use Rattle.tv_pictures.specs.Albums.{drawn_as};
 
-    ghost pictures = { λ gallery. Some (map (λ picture. drawn_as (string_bytes picture.name) picture.text.items) gallery.hung.items) };
+    ghost hung = { λ gallery. Some (record {
+      pictures = map (λ picture. drawn_as (string_bytes picture.name) picture.text.items) gallery.hung.items;
+      failures = gallery.failures;
+    }) };
 
     fn add(&mut self, name: &str, screen: &Screen) -> Result<(), AlbumFault> {
         if self.hung.len() >= self.room {
+            self.failures = self.failures.saturating_add(1);
             return Err(AlbumFault::Write);
         }
         let mut page = Page {
@@ -102,6 +108,6 @@ impl Album for Gallery {
             return Err(AlbumFault::NoMemory);
         };
         let text = page.text;
-        self.hang(Hung { name, text })
+        hang(&mut self.hung, Exhibit { name, text })
     }
 }

@@ -2,6 +2,7 @@
 #![tactic(auto)]
 
 #[cfg(test)]
+mod applications;
 #[cfg(test)]
 mod at_limits;
 #[cfg(test)]

@@ -5,3 +5,4 @@ mod failures;
 mod runs;
 mod sent;
 mod sessions;
+mod waits;
