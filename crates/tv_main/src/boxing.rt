@@ -9,11 +9,11 @@ ghost use Rattle.tv_main.specs.Asking.{IsAskedBy};
 ghost use Rattle.tv_toolkit.specs.Control.{control_leaf};
 ghost use Rattle.tv_toolkit.specs.Views.{NoneMismatches};
 
+use crate::arguments::read_task;
 use std::alloc::{AllocError, Global};
 use tv_building::{BuildFault, Views};
 use tv_check::Checked;
-use tv_command_line::{NoTask, Task, read_task};
-use tv_files::{Album, FileStore, Stream, run_program};
+use tv_files::{Album, FileStore, NoTask, Stream, Task, run_program};
 use tv_play::Pieces;
 use tv_toolkit::{Control, views_by};
 use tv_view::View;

@@ -8,9 +8,8 @@ use std::alloc::Global;
 use std::io::Write;
 use std::rt::{Clock, Env, Files};
 use std::{env, io};
-use tv_command_line::NoTask;
 use tv_files::{
-    BufferedStream, DirectStream, RuntimeAlbum, RuntimeFiles, TerminalInput, TimedReader,
+    BufferedStream, DirectStream, NoTask, RuntimeAlbum, RuntimeFiles, TerminalInput, TimedReader,
     tell_no_memory,
 };
 

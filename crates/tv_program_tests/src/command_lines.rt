@@ -2,7 +2,7 @@
 
 use std::alloc::{AllocError, Global};
 use std::test::Fail;
-use tv_command_line::{NoTask, Task, parse, read_task};
+use tv_main::{NoTask, Task, parse, read_task};
 use tv_test_support::{Question, expect_answer, expect_answers};
 
 fn words(alloc: Global, line: &str) -> Result<Vec<String>, AllocError> {
