@@ -30,20 +30,13 @@ pub fn first_body(alloc: Global, checked: &Checked) -> Result<Group, Fail> {
     Ok(bodies.swap_remove(0))
 }
 
-/// The dialog at a place of a checked description.
-pub fn dialog_at(checked: &Checked, place: usize) -> Result<&Dialog, Fail>
-    ensures { IfOk result (λ dialog. IsLawfulDialog dialog.now) }
-{
-    let dialogs = checked.desc().dialogs.as_slice();
-    if place >= dialogs.len() {
-        return Err("no dialog".into());
-    }
-    Ok(&dialogs[place])
-}
-
 /// The first dialog of a checked description.
 pub fn first_dialog(checked: &Checked) -> Result<&Dialog, Fail>
     ensures { IfOk result (λ dialog. IsLawfulDialog dialog.now) }
 {
-    dialog_at(checked, 0)
+    let dialogs = checked.desc().dialogs.as_slice();
+    if dialogs.is_empty() {
+        return Err("no dialog".into());
+    }
+    Ok(&dialogs[0])
 }

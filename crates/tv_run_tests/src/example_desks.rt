@@ -10,8 +10,8 @@ use tv_case_texts::example_desks::{
 use tv_test_support::descriptions::{MENUS, WINDOWS};
 use tv_test_support::examples::{DESK, SETTINGS};
 
-/// Each script beside its description, and what is kept beside both.
-pub const RUNS: [Run; 4] = [
+// Each script beside its description, and what is kept beside both.
+const RUNS: [Run; 4] = [
     Run {
         desc: SETTINGS,
         script: SETTINGS_SCRIPT,

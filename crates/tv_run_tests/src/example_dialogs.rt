@@ -11,8 +11,8 @@ use tv_case_texts::example_dialogs::{
 use tv_test_support::descriptions::{CANCEL, COLOUR, ORDER};
 use tv_test_support::examples::{CONFIRM, PAY, SEARCH, WIZARD};
 
-/// Each script beside its description, and what is kept beside both.
-pub const RUNS: [Run; 8] = [
+// Each script beside its description, and what is kept beside both.
+const RUNS: [Run; 8] = [
     Run {
         desc: CANCEL,
         script: CANCEL_SCRIPT,

@@ -6,8 +6,8 @@ use tv_case_texts::Run;
 use tv_case_texts::example_drags::{PRICES_OUTPUT, PRICES_SCRIPT};
 use tv_test_support::examples::PRICES;
 
-/// The script beside its description, and what is kept beside both.
-pub const PRICES_RUN: Run = Run {
+// The script beside its description, and what is kept beside both.
+const PRICES_RUN: Run = Run {
     desc: PRICES,
     script: PRICES_SCRIPT,
     wanted: PRICES_OUTPUT,

@@ -39,8 +39,6 @@ mod fitting;
 #[cfg(test)]
 mod going_on;
 #[cfg(test)]
-mod kept_screen;
-#[cfg(test)]
 mod large;
 #[cfg(test)]
 mod lists;
@@ -58,8 +56,6 @@ mod opening;
 mod order;
 #[cfg(test)]
 mod panes;
-#[cfg(test)]
-mod parts;
 #[cfg(test)]
 mod pieces;
 #[cfg(test)]

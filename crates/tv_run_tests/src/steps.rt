@@ -43,8 +43,8 @@ fn event_from(corner: Point, event: &Event) -> Event {
     }
 }
 
-/// Hands the open dialog an event, whose point is in screen coordinates.
-pub fn hand_in(dialog: &mut Dialog, declared: &Declared, event: &Event) -> Result<(), Fail> {
+// Hands the open dialog an event, whose point is in screen coordinates.
+fn hand_in(dialog: &mut Dialog, declared: &Declared, event: &Event) -> Result<(), Fail> {
     if !dialog.is_open() {
         return Err("the dialog isn't open".into());
     }
