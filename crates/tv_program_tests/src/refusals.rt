@@ -1,8 +1,8 @@
 //! Calls whose memory is refused.
 //!
-//! Each call that takes an allocator has two tests. One passes whichever allocation is refused: the call is then to say so,
-//! and what it took comes back and serves a second call. Its twin, `whole_..`, passes only where nothing is refused. Where an
-//! allocation of a fixture is refused, the call isn't made.
+//! Each call that takes an allocator has a test, which passes where the call came to what it should. Where an allocation is
+//! refused, the call is to say so, and what it took comes back and serves a second call: then the test fails with `no memory`,
+//! and with something else where the call does otherwise. Where an allocation of a fixture is refused, the call isn't made.
 
 mod certificates;
 mod controls;

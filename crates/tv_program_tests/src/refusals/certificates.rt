@@ -3,7 +3,7 @@
 ghost use Rattle.std.specs.Prelude.{IfErr};
 ghost use Rattle.tv_lang.specs.CanonicalDescription.{CanBeSpelled};
 
-use super::ending::{Ending, expect, expect_named, expect_whole, refused};
+use super::ending::{Ending, expect, expect_whole, refused};
 use super::fixtures::{certificate_of, desc_of};
 use std::alloc::Global;
 use std::test::Fail;
@@ -21,11 +21,6 @@ fn reprinted(alloc: Global) -> Result<(), Ending> {
 
 #[test]
 fn reading(rt: HostRuntime) -> Result<(), Fail> {
-    expect_named(reprinted(rt.alloc()))
-}
-
-#[test]
-fn whole_reading(rt: HostRuntime) -> Result<(), Fail> {
     expect_whole(reprinted(rt.alloc()))
 }
 
@@ -40,11 +35,6 @@ fn certified(alloc: Global) -> Result<(), Ending> {
 
 #[test]
 fn certifying(rt: HostRuntime) -> Result<(), Fail> {
-    expect_named(certified(rt.alloc()))
-}
-
-#[test]
-fn whole_certifying(rt: HostRuntime) -> Result<(), Fail> {
     expect_whole(certified(rt.alloc()))
 }
 
@@ -63,11 +53,6 @@ fn uncertified(alloc: Global) -> Result<(), Ending> {
 
 #[test]
 fn faulty(rt: HostRuntime) -> Result<(), Fail> {
-    expect_named(uncertified(rt.alloc()))
-}
-
-#[test]
-fn whole_faulty(rt: HostRuntime) -> Result<(), Fail> {
     expect_whole(uncertified(rt.alloc()))
 }
 
@@ -110,11 +95,6 @@ fn accepted(alloc: Global) -> Result<(), Ending> {
 
 #[test]
 fn accepting(rt: HostRuntime) -> Result<(), Fail> {
-    expect_named(accepted(rt.alloc()))
-}
-
-#[test]
-fn whole_accepting(rt: HostRuntime) -> Result<(), Fail> {
     expect_whole(accepted(rt.alloc()))
 }
 
@@ -135,10 +115,5 @@ fn unaccepted(alloc: Global) -> Result<(), Ending> {
 
 #[test]
 fn refusing(rt: HostRuntime) -> Result<(), Fail> {
-    expect_named(unaccepted(rt.alloc()))
-}
-
-#[test]
-fn whole_refusing(rt: HostRuntime) -> Result<(), Fail> {
     expect_whole(unaccepted(rt.alloc()))
 }

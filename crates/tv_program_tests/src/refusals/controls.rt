@@ -4,7 +4,7 @@ ghost use Rattle.std.specs.Prelude.{All};
 ghost use Rattle.tv_check.specs.Plan.{IsLawfulStep};
 ghost use Rattle.tv_model.specs.Description.LawfulNodes.{IsLawfulNode};
 
-use super::ending::{Ending, expect, expect_named, expect_whole, refused};
+use super::ending::{Ending, expect, expect_whole, refused};
 use super::fixtures::checked_of;
 use std::alloc::Global;
 use std::test::Fail;
@@ -74,11 +74,6 @@ fn made(alloc: Global) -> Result<(), Ending> {
 
 #[test]
 fn controls(rt: HostRuntime) -> Result<(), Fail> {
-    expect_named(made(rt.alloc()))
-}
-
-#[test]
-fn whole_controls(rt: HostRuntime) -> Result<(), Fail> {
     expect_whole(made(rt.alloc()))
 }
 
@@ -95,10 +90,5 @@ fn copied(alloc: Global) -> Result<(), Ending> {
 
 #[test]
 fn copies(rt: HostRuntime) -> Result<(), Fail> {
-    expect_named(copied(rt.alloc()))
-}
-
-#[test]
-fn whole_copies(rt: HostRuntime) -> Result<(), Fail> {
     expect_whole(copied(rt.alloc()))
 }

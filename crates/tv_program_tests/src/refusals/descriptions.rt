@@ -1,6 +1,6 @@
 //! Descriptions that are read, printed, searched and planned.
 
-use super::ending::{Ending, expect, expect_named, expect_whole};
+use super::ending::{Ending, expect, expect_whole};
 use super::fixtures::{FOUR, checked_of, desc_of};
 use std::alloc::Global;
 use std::test::Fail;
@@ -35,11 +35,6 @@ fn read_texts(alloc: Global) -> Result<(), Ending> {
 
 #[test]
 fn texts(rt: HostRuntime) -> Result<(), Fail> {
-    expect_named(read_texts(rt.alloc()))
-}
-
-#[test]
-fn whole_texts(rt: HostRuntime) -> Result<(), Fail> {
     expect_whole(read_texts(rt.alloc()))
 }
 
@@ -51,11 +46,6 @@ fn printed(alloc: Global) -> Result<(), Ending> {
 
 #[test]
 fn printing(rt: HostRuntime) -> Result<(), Fail> {
-    expect_named(printed(rt.alloc()))
-}
-
-#[test]
-fn whole_printing(rt: HostRuntime) -> Result<(), Fail> {
     expect_whole(printed(rt.alloc()))
 }
 
@@ -71,11 +61,6 @@ fn searched(alloc: Global) -> Result<(), Ending> {
 
 #[test]
 fn searching(rt: HostRuntime) -> Result<(), Fail> {
-    expect_named(searched(rt.alloc()))
-}
-
-#[test]
-fn whole_searching(rt: HostRuntime) -> Result<(), Fail> {
     expect_whole(searched(rt.alloc()))
 }
 
@@ -90,11 +75,6 @@ fn examined(alloc: Global) -> Result<(), Ending> {
 
 #[test]
 fn examining(rt: HostRuntime) -> Result<(), Fail> {
-    expect_named(examined(rt.alloc()))
-}
-
-#[test]
-fn whole_examining(rt: HostRuntime) -> Result<(), Fail> {
     expect_whole(examined(rt.alloc()))
 }
 
@@ -106,10 +86,5 @@ fn planned(alloc: Global) -> Result<(), Ending> {
 
 #[test]
 fn planning(rt: HostRuntime) -> Result<(), Fail> {
-    expect_named(planned(rt.alloc()))
-}
-
-#[test]
-fn whole_planning(rt: HostRuntime) -> Result<(), Fail> {
     expect_whole(planned(rt.alloc()))
 }

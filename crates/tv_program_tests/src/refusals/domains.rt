@@ -1,8 +1,7 @@
 //! Screens, queues of events, pictures and domains.
 
-use super::ending::{Ending, expect, expect_named, expect_whole};
+use super::ending::{Ending, expect, expect_whole};
 use std::alloc::Global;
-use std::process::Abort;
 use std::test::Fail;
 use tv_cells::{Screen, ScreenFault};
 use tv_event::{Command, Event, Pending};
@@ -19,19 +18,7 @@ fn made_screen(alloc: Global) -> Result<(), Ending> {
 
 #[test]
 fn screen(rt: HostRuntime) -> Result<(), Fail> {
-    expect_named(made_screen(rt.alloc()))
-}
-
-#[test]
-fn whole_screen(rt: HostRuntime) -> Result<(), Fail> {
     expect_whole(made_screen(rt.alloc()))
-}
-
-// The size is looked at before memory is taken.
-#[test]
-fn bad_size(rt: HostRuntime) {
-    let fault = Screen::new(rt.alloc(), 19, 10).err();
-    assert_eq!(rt; fault, Some(ScreenFault::BadSize));
 }
 
 // A queue that was made has room for four events.
@@ -55,11 +42,6 @@ fn made_queue(alloc: Global) -> Result<(), Ending> {
 
 #[test]
 fn queue(rt: HostRuntime) -> Result<(), Fail> {
-    expect_named(made_queue(rt.alloc()))
-}
-
-#[test]
-fn whole_queue(rt: HostRuntime) -> Result<(), Fail> {
     expect_whole(made_queue(rt.alloc()))
 }
 
@@ -73,11 +55,6 @@ fn read_picture(alloc: Global) -> Result<(), Ending> {
 
 #[test]
 fn picture(rt: HostRuntime) -> Result<(), Fail> {
-    expect_named(read_picture(rt.alloc()))
-}
-
-#[test]
-fn whole_picture(rt: HostRuntime) -> Result<(), Fail> {
     expect_whole(read_picture(rt.alloc()))
 }
 
@@ -90,18 +67,13 @@ fn refused_picture(alloc: Global) -> Result<(), Ending> {
 
 #[test]
 fn faulty_picture(rt: HostRuntime) -> Result<(), Fail> {
-    expect_named(refused_picture(rt.alloc()))
-}
-
-#[test]
-fn whole_faulty_picture(rt: HostRuntime) -> Result<(), Fail> {
     expect_whole(refused_picture(rt.alloc()))
 }
 
-// The fault of a domain of texts of at most so many characters.
-fn fault_of(alloc: Global, max: i32, domain: DomainSpec) -> Result<Option<DomainFault>, Ending> {
+// The fault of a domain of texts of at most four characters.
+fn fault_of(alloc: Global, domain: DomainSpec) -> Result<Option<DomainFault>, Ending> {
     let spec = InputSpec {
-        max,
+        max: 4,
         domain,
         optional: false,
         fill: false,
@@ -113,7 +85,7 @@ fn fault_of(alloc: Global, max: i32, domain: DomainSpec) -> Result<Option<Domain
 }
 
 fn expect_domain(alloc: Global, domain: DomainSpec) -> Result<(), Ending> {
-    let fault = fault_of(alloc, 4, domain)?;
+    let fault = fault_of(alloc, domain)?;
     expect(fault.is_none(), "the domain is refused")
 }
 
@@ -131,23 +103,5 @@ fn made_domains(alloc: Global) -> Result<(), Ending> {
 
 #[test]
 fn domains(rt: HostRuntime) -> Result<(), Fail> {
-    expect_named(made_domains(rt.alloc()))
-}
-
-#[test]
-fn whole_domains(rt: HostRuntime) -> Result<(), Fail> {
     expect_whole(made_domains(rt.alloc()))
-}
-
-// No text of two characters is a number of 100 to 200.
-#[test]
-fn empty_domain(rt: HostRuntime) -> Result<(), Fail> {
-    let domain = DomainSpec::Range {
-        least: 100,
-        greatest: 200,
-    };
-    match fault_of(rt.alloc(), 2, domain) {
-        Ok(Some(DomainFault::Empty)) => Ok(()),
-        found => Err(Fail::new(format_args!("{found:?}"))),
-    }
 }

@@ -38,15 +38,7 @@ pub fn refused(again: bool) -> Result<(), Ending> {
     Err(Ending::NoMemory)
 }
 
-/// Passes where the call came to what it should, or memory was refused.
-pub fn expect_named(ending: Result<(), Ending>) -> Result<(), Fail> {
-    match ending {
-        Ok(()) | Err(Ending::NoMemory) => Ok(()),
-        Err(Ending::Other(what)) => Err(Fail::new(what)),
-    }
-}
-
-/// Passes where the call came to what it should.
+/// Passes where the call came to what it should. `tools/refusals` knows by `no memory` that a call named its refusal.
 pub fn expect_whole(ending: Result<(), Ending>) -> Result<(), Fail> {
     match ending {
         Ok(()) => Ok(()),

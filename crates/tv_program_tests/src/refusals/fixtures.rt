@@ -3,7 +3,7 @@
 ghost use Rattle.std.specs.Prelude.{IfOk};
 ghost use Rattle.tv_lang.specs.CanonicalDescription.{CanBeSpelled};
 
-use super::ending::{Ending, expect_named, expect_whole};
+use super::ending::{Ending, expect_whole};
 use std::alloc::Global;
 use std::test::Fail;
 use tv_building::{BuildFault, Views};
@@ -77,11 +77,6 @@ fn described(alloc: Global) -> Result<(), Ending> {
 
 #[test]
 fn description(rt: HostRuntime) -> Result<(), Fail> {
-    expect_named(described(rt.alloc()))
-}
-
-#[test]
-fn whole_description(rt: HostRuntime) -> Result<(), Fail> {
     expect_whole(described(rt.alloc()))
 }
 
@@ -92,11 +87,6 @@ fn found_sound(alloc: Global) -> Result<(), Ending> {
 
 #[test]
 fn sound_description(rt: HostRuntime) -> Result<(), Fail> {
-    expect_named(found_sound(rt.alloc()))
-}
-
-#[test]
-fn whole_sound_description(rt: HostRuntime) -> Result<(), Fail> {
     expect_whole(found_sound(rt.alloc()))
 }
 
@@ -107,11 +97,6 @@ fn certified(alloc: Global) -> Result<(), Ending> {
 
 #[test]
 fn certificate_alone(rt: HostRuntime) -> Result<(), Fail> {
-    expect_named(certified(rt.alloc()))
-}
-
-#[test]
-fn whole_certificate_alone(rt: HostRuntime) -> Result<(), Fail> {
     expect_whole(certified(rt.alloc()))
 }
 
@@ -123,10 +108,5 @@ fn built(alloc: Global) -> Result<(), Ending> {
 
 #[test]
 fn built_views(rt: HostRuntime) -> Result<(), Fail> {
-    expect_named(built(rt.alloc()))
-}
-
-#[test]
-fn whole_built_views(rt: HostRuntime) -> Result<(), Fail> {
     expect_whole(built(rt.alloc()))
 }

@@ -3,7 +3,7 @@
 ghost use Rattle.std.specs.Prelude.{IfOk};
 ghost use Rattle.tv_machine.specs.Dialog.Lawful.{IsLawfulDialog};
 
-use super::ending::{Ending, expect, expect_named, expect_whole, refused};
+use super::ending::{Ending, expect, expect_whole, refused};
 use super::fixtures::{checked_of, views_of};
 use std::alloc::Global;
 use std::test::Fail;
@@ -69,11 +69,6 @@ fn made_dialog(alloc: Global) -> Result<(), Ending> {
 
 #[test]
 fn dialog(rt: HostRuntime) -> Result<(), Fail> {
-    expect_named(made_dialog(rt.alloc()))
-}
-
-#[test]
-fn whole_dialog(rt: HostRuntime) -> Result<(), Fail> {
     expect_whole(made_dialog(rt.alloc()))
 }
 
@@ -88,10 +83,5 @@ fn made_bars(alloc: Global) -> Result<(), Ending> {
 
 #[test]
 fn bars(rt: HostRuntime) -> Result<(), Fail> {
-    expect_named(made_bars(rt.alloc()))
-}
-
-#[test]
-fn whole_bars(rt: HostRuntime) -> Result<(), Fail> {
     expect_whole(made_bars(rt.alloc()))
 }

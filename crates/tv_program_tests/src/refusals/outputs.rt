@@ -1,6 +1,6 @@
 //! What a run writes to: a terminal's painter, and streams that keep bytes back.
 
-use super::ending::{Ending, expect, expect_named, expect_whole};
+use super::ending::{Ending, expect, expect_whole};
 use std::alloc::Global;
 use std::io::sink;
 use std::test::Fail;
@@ -19,11 +19,6 @@ fn made_painter(alloc: Global) -> Result<(), Ending> {
 
 #[test]
 fn painter(rt: HostRuntime) -> Result<(), Fail> {
-    expect_named(made_painter(rt.alloc()))
-}
-
-#[test]
-fn whole_painter(rt: HostRuntime) -> Result<(), Fail> {
     expect_whole(made_painter(rt.alloc()))
 }
 
@@ -36,10 +31,5 @@ fn made_stream(alloc: Global) -> Result<(), Ending> {
 
 #[test]
 fn stream(rt: HostRuntime) -> Result<(), Fail> {
-    expect_named(made_stream(rt.alloc()))
-}
-
-#[test]
-fn whole_stream(rt: HostRuntime) -> Result<(), Fail> {
     expect_whole(made_stream(rt.alloc()))
 }

@@ -2,7 +2,7 @@
 
 ghost use Rattle.std.specs.Prelude.{None};
 
-use super::ending::{Ending, expect, expect_named, expect_whole, refused};
+use super::ending::{Ending, expect, expect_whole, refused};
 use std::alloc::Global;
 use std::test::Fail;
 use tv_button_views::buttons;
@@ -42,11 +42,6 @@ fn checked(alloc: Global) -> Result<(), Ending> {
 
 #[test]
 fn checking(rt: HostRuntime) -> Result<(), Fail> {
-    expect_named(checked(rt.alloc()))
-}
-
-#[test]
-fn whole_checking(rt: HostRuntime) -> Result<(), Fail> {
     expect_whole(checked(rt.alloc()))
 }
 
@@ -63,11 +58,6 @@ fn accepted(alloc: Global) -> Result<(), Ending> {
 
 #[test]
 fn accepting(rt: HostRuntime) -> Result<(), Fail> {
-    expect_named(accepted(rt.alloc()))
-}
-
-#[test]
-fn whole_accepting(rt: HostRuntime) -> Result<(), Fail> {
     expect_whole(accepted(rt.alloc()))
 }
 
@@ -85,11 +75,6 @@ fn ran(alloc: Global) -> Result<(), Ending> {
 
 #[test]
 fn running(rt: HostRuntime) -> Result<(), Fail> {
-    expect_named(ran(rt.alloc()))
-}
-
-#[test]
-fn whole_running(rt: HostRuntime) -> Result<(), Fail> {
     expect_whole(ran(rt.alloc()))
 }
 
@@ -148,11 +133,6 @@ fn played(alloc: Global) -> Result<(), Ending> {
 
 #[test]
 fn playing(rt: HostRuntime) -> Result<(), Fail> {
-    expect_named(played(rt.alloc()))
-}
-
-#[test]
-fn whole_playing(rt: HostRuntime) -> Result<(), Fail> {
     expect_whole(played(rt.alloc()))
 }
 
@@ -169,10 +149,5 @@ fn gathered(alloc: Global) -> Result<(), Ending> {
 
 #[test]
 fn gathering(rt: HostRuntime) -> Result<(), Fail> {
-    expect_named(gathered(rt.alloc()))
-}
-
-#[test]
-fn whole_gathering(rt: HostRuntime) -> Result<(), Fail> {
     expect_whole(gathered(rt.alloc()))
 }

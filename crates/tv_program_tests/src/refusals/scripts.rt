@@ -1,6 +1,6 @@
 //! Scripts that are read.
 
-use super::ending::{Ending, expect, expect_named, expect_whole};
+use super::ending::{Ending, expect, expect_whole};
 use std::alloc::Global;
 use std::test::Fail;
 use tv_script::{Script, ScriptFault};
@@ -16,11 +16,6 @@ fn read_script(alloc: Global) -> Result<(), Ending> {
 
 #[test]
 fn script(rt: HostRuntime) -> Result<(), Fail> {
-    expect_named(read_script(rt.alloc()))
-}
-
-#[test]
-fn whole_script(rt: HostRuntime) -> Result<(), Fail> {
     expect_whole(read_script(rt.alloc()))
 }
 
@@ -33,10 +28,5 @@ fn refused_script(alloc: Global) -> Result<(), Ending> {
 
 #[test]
 fn faulty_script(rt: HostRuntime) -> Result<(), Fail> {
-    expect_named(refused_script(rt.alloc()))
-}
-
-#[test]
-fn whole_faulty_script(rt: HostRuntime) -> Result<(), Fail> {
     expect_whole(refused_script(rt.alloc()))
 }

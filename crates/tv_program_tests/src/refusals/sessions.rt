@@ -5,7 +5,7 @@ ghost use Rattle.tv_machine.specs.Run.{Session as Standing};
 ghost use Rattle.tv_script.specs.Performed.{FitsLargestScreen};
 ghost use Rattle.tv_session.specs.Session.{StandsFor};
 
-use super::ending::{Ending, expect, expect_named, expect_whole, refused};
+use super::ending::{Ending, expect, expect_whole, refused};
 use super::fixtures::{FOUR, checked_of, views_of};
 use std::alloc::Global;
 use std::test::Fail;
@@ -41,11 +41,6 @@ fn begun(alloc: Global) -> Result<(), Ending> {
 
 #[test]
 fn beginning(rt: HostRuntime) -> Result<(), Fail> {
-    expect_named(begun(rt.alloc()))
-}
-
-#[test]
-fn whole_beginning(rt: HostRuntime) -> Result<(), Fail> {
     expect_whole(begun(rt.alloc()))
 }
 
@@ -114,10 +109,5 @@ fn performed(alloc: Global) -> Result<(), Ending> {
 
 #[test]
 fn performing(rt: HostRuntime) -> Result<(), Fail> {
-    expect_named(performed(rt.alloc()))
-}
-
-#[test]
-fn whole_performing(rt: HostRuntime) -> Result<(), Fail> {
     expect_whole(performed(rt.alloc()))
 }
