@@ -1,5 +1,0 @@
-use Rattle.tv_leaf.proofs.CoreLemmas.{limited_small}
-use Rattle.tv_bench.proofs.controls.faces.static_text.Goals as goal
-
-pub new-requires : goal.new-requires
-new-requires c = limited_small c.args.node.now c.requires.limited

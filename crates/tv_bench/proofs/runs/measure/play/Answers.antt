@@ -1,4 +1,0 @@
-use Rattle.tv_bench.proofs.runs.measure.play.Goals as goal
-
-pub loop-event-preserved : goal.loop-event-preserved
-loop-event-preserved g c = (_, c.step.ensures.stands c.loop-event.invariant.0 c.loop-event.invariant.1)
