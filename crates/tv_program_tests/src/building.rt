@@ -3,11 +3,11 @@
 ghost use Rattle.std.specs.Prelude.{All};
 ghost use Rattle.tv_check.specs.Plan.{IsLawfulStep};
 
+use crate::button_views::take_step;
 use crate::makers::checked;
 use std::alloc::Global;
 use std::test::Fail;
 use tv_building::{BuildFault, Building, Views};
-use tv_button_views::take_step;
 use tv_check::BuildStep;
 use tv_controls::Button;
 

@@ -1,9 +1,9 @@
 //! The program's calls, each made in one place, and what is told of them.
 
+use crate::button_views::buttons;
 use crate::makers::no_views;
 use std::alloc::Global;
 use std::test::Fail;
-use tv_button_views::buttons;
 use tv_io::{FileReader, Writer};
 use tv_lang::parse;
 use tv_program::{RunFault, accept_files, accept_text, check, report, run};

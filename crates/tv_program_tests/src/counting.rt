@@ -1,5 +1,6 @@
 //! How often the program asks for the views of a description.
 
+use crate::button_views::buttons;
 use crate::endings::{ACCEPT, CHECK, PICTURE_ALL, PLAY, RUN};
 use crate::gallery::Gallery;
 use crate::makers::no_views;
@@ -10,7 +11,6 @@ use std::alloc::Global;
 use std::cell::Cell;
 use std::test::Fail;
 use tv_building::{BuildFault, Views};
-use tv_button_views::buttons;
 use tv_check::Checked;
 use tv_controls::Button;
 use tv_files::{DirectStream, Task, run_program};

@@ -7,6 +7,7 @@ mod applications;
 mod at_limits;
 #[cfg(test)]
 mod building;
+mod button_views;
 #[cfg(test)]
 mod calls;
 #[cfg(test)]

@@ -1,9 +1,9 @@
 //! Scripts that are performed as far as a writer takes their output.
 
+use crate::button_views::buttons;
 use crate::makers::{checked, session};
 use std::alloc::Global;
 use std::test::Fail;
-use tv_button_views::buttons;
 use tv_model::Id;
 use tv_script::{Script, perform};
 use tv_test_support::Memory;

@@ -1,10 +1,10 @@
 //! Sessions that are refused, since their views aren't those that the description declares.
 
+use crate::button_views::buttons;
 use crate::makers::checked;
 use std::alloc::Global;
 use std::test::Fail;
 use tv_building::Views;
-use tv_button_views::buttons;
 use tv_check::Checked;
 use tv_controls::Button;
 use tv_session::{Refused, SessionFault, SessionOf};

@@ -4,10 +4,10 @@ ghost use Rattle.std.specs.Prelude.{IfOk};
 ghost use Rattle.tv_lang.specs.CanonicalDescription.{CanBeSpelled};
 
 use super::ending::{Ending, expect_whole};
+use crate::button_views::buttons;
 use std::alloc::Global;
 use std::test::Fail;
 use tv_building::{BuildFault, Views};
-use tv_button_views::buttons;
 use tv_check::{Certificate, CertificateFault, Checked};
 use tv_controls::Button;
 use tv_lang::{LangFault, parse};

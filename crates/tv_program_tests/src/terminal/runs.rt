@@ -1,10 +1,10 @@
 //! Runs into writers in memory.
 
 use super::sent::Sent;
+use crate::button_views::buttons;
 use std::alloc::Global;
 use std::test::Fail;
 use tv_building::Views;
-use tv_button_views::buttons;
 use tv_check::Checked;
 use tv_io::FileReader;
 use tv_play::{Parting, PlayFault, play};

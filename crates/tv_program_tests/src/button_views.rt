@@ -1,6 +1,4 @@
-//! Views for descriptions whose controls are all buttons. Tests and benches run such descriptions, since a run is then made of
-//! one type of view.
-#![tactic(auto)]
+//! Views for descriptions whose controls are all buttons: a run is then made of one type of view.
 
 ghost use Rattle.tv_check.specs.Plan.{IsLawfulStep};
 ghost use Rattle.tv_model.specs.Description.LawfulNodes.{IsLawfulNode};
