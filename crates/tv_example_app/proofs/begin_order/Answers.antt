@@ -5,4 +5,6 @@ pub command-requires : goal.command-requires
 command-requires c = (_, (c.in_default.ensures.kept c.requires.0 c.requires.1).runs)
 
 pub returns : goal.returns
-returns c = (_, c.command.ensures.goes_on _ (c.in_default.ensures.kept c.requires.0 c.requires.1).runs)
+returns c =
+    let kept = c.in_default.ensures.kept c.requires.0 c.requires.1 in
+    (_, c.command.ensures.goes_on _ kept.runs)
