@@ -16,7 +16,7 @@ use Rattle.tv_lang.specs.Reading.Descriptions as readings
 use Rattle.tv_lang.specs.Reading.Descriptions.{DescriptionOutcome, description_outcome}
 use Rattle.tv_script.specs.declared.script_text.ScriptFault.{ScriptFault}
 use Rattle.tv_script.specs.Judging.{Judgement, judged_as}
-use Rattle.tv_model.specs.declared.script.Item.{Item}
+use Rattle.tv_machine.specs.declared.script.Item.{Item}
 use Rattle.tv_model.specs.declared.desc.Desc.{Desc}
 use Rattle.tv_machine.specs.Run.{Session, commanded, started}
 use Rattle.tv_machine.specs.Output.{output, after, screen_cell, hex_byte}

@@ -10,8 +10,8 @@ use Rattle.tv_model.specs.declared.desc.Desc.{Desc}
 use Rattle.tv_model.specs.declared.desc.Dialog.{Dialog}
 use Rattle.tv_model.specs.declared.desc.Version.{Version}
 use Rattle.tv_model.specs.declared.desc.Version.TheVariants as versions
-use Rattle.tv_model.specs.declared.script.Item.{Item}
-use Rattle.tv_model.specs.declared.script.Item.TheVariants as items
+use Rattle.tv_machine.specs.declared.script.Item.{Item}
+use Rattle.tv_machine.specs.declared.script.Item.TheVariants as items
 use Rattle.tv_model.specs.Faults.Letters.{is_same_key}
 use Rattle.tv_machine.specs.State.{OpenDialog, State}
 use Rattle.tv_machine.specs.Dialog.Modal.{Modal}

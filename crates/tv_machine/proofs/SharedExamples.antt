@@ -14,8 +14,8 @@ use Rattle.tv_model.specs.declared.desc.Rule.{Rule}
 use Rattle.tv_model.specs.declared.kind.Kind.{Kind}
 use Rattle.tv_model.specs.declared.kind.Kind.TheVariants as kinds
 use Rattle.tv_model.specs.declared.node.Node.{Node}
-use Rattle.tv_model.specs.declared.script.Item.{Item}
-use Rattle.tv_model.specs.declared.script.Item.TheVariants as items
+use Rattle.tv_machine.specs.declared.script.Item.{Item}
+use Rattle.tv_machine.specs.declared.script.Item.TheVariants as items
 use Rattle.tv_model.specs.Log.LogText.{line_of}
 use Rattle.tv_model.specs.Description.Sharing.{is_shared}
 use Rattle.tv_machine.specs.Run.{started}

@@ -1,3 +1,7 @@
-//! What a run does, in definitions alone: the flat machine, which has neither views nor phases nor posted events. They
-//! stand in specs/.
+//! What a run does: the flat machine, in definitions alone, which has neither views nor phases nor posted events; they stand
+//! in specs/. And what a script asks of it.
 #![tactic(auto)]
+
+mod script;
+
+pub use script::Item;

@@ -12,7 +12,6 @@ mod log;
 mod node;
 mod on_heap;
 mod record;
-mod script;
 
 pub use command::{CommandSpec, Ends};
 pub use desc::{
@@ -28,5 +27,4 @@ pub use log::LogLine;
 pub use node::{Id, Node};
 pub use on_heap::{OnHeap, empty_record};
 pub use record::{Entry, Record, Value};
-pub use script::Item;
 pub use tv_valid::Sequence;

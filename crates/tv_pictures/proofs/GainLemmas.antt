@@ -1,7 +1,7 @@
 -- One picture after another.
 use Rattle.std.proofs.Common.{◌≡◌, ℕ, ◌+◌, ◌<◌, List, [], ◌∷◌, ◌++◌, Option, Some, None, Result, Ok, Err, IsErrAnd, length, get_or, take, drop, refl, sym, ap, subst, ◌∙◌, append_assoc, arith}
 use Rattle.std.proofs.lemmas.List.{append-nil, length-append, take-append-drop, take_more}
-use Rattle.tv_model.specs.declared.script.Item.{Item}
+use Rattle.tv_machine.specs.declared.script.Item.{Item}
 use Rattle.tv_machine.specs.Output.{after, session_after, states}
 use Rattle.tv_machine.specs.Run.{Session, quiet}
 use Rattle.tv_pictures.specs.Albums.{FailsFor, Gains, GainsAll, GainsBefore, Hung, NamedPicture, drawn_as}

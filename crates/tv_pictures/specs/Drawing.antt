@@ -5,7 +5,7 @@ use Rattle.tv_io.specs.Writer.{Cuts, Seen, Takes}
 use Rattle.tv_machine.specs.Output.{after}
 use Rattle.tv_machine.specs.Run.{started}
 use Rattle.tv_model.specs.declared.desc.Desc.{Desc}
-use Rattle.tv_model.specs.declared.script.Item.{Item}
+use Rattle.tv_machine.specs.declared.script.Item.{Item}
 use Rattle.tv_program.specs.declared.play_fault.PlayFault.{PlayFault}
 use Rattle.tv_program.specs.declared.play_fault.PlayFault.TheVariants.{Write}
 use Rattle.tv_program.specs.Playing.{RunsTo}

@@ -1,7 +1,7 @@
 -- What is drawn of a run.
 use Rattle.std.specs.Prelude.{ℕ, List, [], ◌∷◌, ◌++◌}
-use Rattle.tv_model.specs.declared.script.Item.{Item}
-use Rattle.tv_model.specs.declared.script.Item.TheVariants as items
+use Rattle.tv_machine.specs.declared.script.Item.{Item}
+use Rattle.tv_machine.specs.declared.script.Item.TheVariants as items
 use Rattle.tv_model.specs.Description.Numbers.{natural}
 use Rattle.tv_machine.specs.Output.{screen_cell, session_after}
 use Rattle.tv_machine.specs.Run.{Session, quiet}

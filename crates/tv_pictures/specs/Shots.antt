@@ -4,7 +4,7 @@ use Rattle.tv_io.specs.Reader.{Given}
 use Rattle.tv_io.specs.Reading.{BreaksOff, IsRead}
 use Rattle.tv_machine.specs.Run.{Session, started}
 use Rattle.tv_model.specs.declared.desc.Desc.{Desc}
-use Rattle.tv_model.specs.declared.script.Item.{Item}
+use Rattle.tv_machine.specs.declared.script.Item.{Item}
 use Rattle.tv_program.specs.declared.play_fault.PlayFault.{PlayFault}
 use Rattle.tv_program.specs.declared.play_fault.PlayFault.TheVariants.{NoMemory, Read, Script}
 use Rattle.tv_program.specs.Playing.{IsNoStart, RefusesDesc}

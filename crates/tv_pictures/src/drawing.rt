@@ -17,7 +17,7 @@ use std::alloc::Global;
 use tv_cells::Screen;
 use tv_event::Event;
 use tv_io::{WriteFailed, Writer};
-use tv_model::Item;
+use tv_machine::Item;
 use tv_script::{Script, Stage};
 use tv_svg::write_svg;
 

@@ -1,6 +1,6 @@
 -- What the script that has no lines writes.
 use Rattle.std.proofs.Common.{◌≡◌, List, [], Result, Ok, Err, refl, pos, IfOk}
-use Rattle.tv_model.specs.declared.script.Item.{Item}
+use Rattle.tv_machine.specs.declared.script.Item.{Item}
 use Rattle.tv_script.specs.Scripts.{GivesScript, SpellsAScript}
 use Rattle.tv_script.specs.declared.script_text.ScriptFault.{ScriptFault}
 use Rattle.tv_script.proofs.ScriptLemmas.{whole_spelled}

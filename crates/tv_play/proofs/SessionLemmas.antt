@@ -9,8 +9,8 @@ use Rattle.tv_io.proofs.WriterLemmas.{Cuts-after, Cuts-along, Takes-then}
 use Rattle.tv_machine.specs.Output.{after, event_text, item_text, output, session_after}
 use Rattle.tv_machine.specs.Run.{Session, quiet, stepped}
 use Rattle.tv_model.specs.Log.LogText.{log_text}
-use Rattle.tv_model.specs.declared.script.Item.{Item}
-use Rattle.tv_model.specs.declared.script.Item.TheVariants as items
+use Rattle.tv_machine.specs.declared.script.Item.{Item}
+use Rattle.tv_machine.specs.declared.script.Item.TheVariants as items
 use Rattle.tv_play.specs.Ends.{script_with, session_at}
 use Rattle.tv_script.proofs.RunLemmas.{states-push, texts-push}
 

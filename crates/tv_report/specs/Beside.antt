@@ -6,7 +6,7 @@ use Rattle.tv_certificate.specs.declared.reading.CertificateFault.TheVariants as
 use Rattle.tv_check.specs.Certificates.{IsSoundCertificate}
 use Rattle.tv_check.specs.Refusals.{RefusesToAccept}
 use Rattle.tv_model.specs.declared.desc.Desc.{Desc}
-use Rattle.tv_model.specs.declared.script.Item.{Item}
+use Rattle.tv_machine.specs.declared.script.Item.{Item}
 use Rattle.tv_script.specs.Scripts.{RefusesScript, SpellsAScript}
 use Rattle.tv_script.specs.declared.script_text.ScriptFault.TheVariants as scripts
 use Rattle.tv_report.specs.Beginnings.{is_certificate}

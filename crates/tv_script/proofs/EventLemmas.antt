@@ -6,8 +6,8 @@ use Rattle.std.proofs.lemmas.Int.{ints}
 use Rattle.std.proofs.lemmas.List.Elements.{All-append, All-cons, All-nil}
 use Rattle.tv_cells.specs.declared.rect.Point.{Point}
 use Rattle.tv_event.specs.declared.event.Event.TheVariants as events
-use Rattle.tv_model.specs.declared.script.Item.{Item}
-use Rattle.tv_model.specs.declared.script.Item.TheVariants as items
+use Rattle.tv_machine.specs.declared.script.Item.{Item}
+use Rattle.tv_machine.specs.declared.script.Item.TheVariants as items
 use Rattle.tv_script.specs.declared.line.Line.{Line}
 use Rattle.tv_script.specs.declared.line.Line.TheVariants as lines
 use Rattle.tv_script.specs.Lines.{IsItemOnScreen, IsPointOnScreen, is_on_screen, is_point_within, is_on_axis, items_of, items_of_line, item_typed}

@@ -10,7 +10,7 @@ use Rattle.tv_io.specs.Writer.{Cuts, Seen, Takes}
 use Rattle.tv_machine.specs.Output.{after}
 use Rattle.tv_machine.specs.Run.{Session, quiet}
 use Rattle.tv_model.specs.Log.LogText.{log_text}
-use Rattle.tv_model.specs.declared.script.Item.{Item}
+use Rattle.tv_machine.specs.declared.script.Item.{Item}
 use Rattle.tv_script.proofs.EndedLemmas.{all_push, ended_push}
 use Rattle.tv_script.proofs.JudgingLemmas.{judged_push}
 use Rattle.tv_script.proofs.PerformLemmas.{performs_on, stops_held}

@@ -2,7 +2,7 @@
 use Rattle.std.proofs.Common.{◌≡◌, ℕ, ◌+◌, ◌<◌, List, [], ◌∷◌, ◌++◌, Result, IfErr, length, get_or, take, drop, refl, sym, ap, subst, ◌∙◌, append_assoc, arith, length-append}
 use Rattle.std.proofs.lemmas.List.{append-nil, take-append-drop, take_all}
 use Rattle.std.proofs.Math.Seq.{take-append-add, take-append_seam}
-use Rattle.tv_model.specs.declared.script.Item.{Item}
+use Rattle.tv_machine.specs.declared.script.Item.{Item}
 use Rattle.tv_machine.specs.Run.{Session, quiet}
 use Rattle.tv_model.specs.Log.LogText.{log_text}
 use Rattle.tv_machine.specs.Output.{output, after, item_text, session_after, states, texts}

@@ -2,7 +2,7 @@
 use Rattle.std.proofs.Common.{◌≡◌, ℕ, ℤ, suc, ◌+◌, ◌<◌, ◌≤◌, inl, inr, nat_le, Bool, true, false, cond, ◌&&◌, List, [], ◌∷◌, ◌++◌, length, take, Option, Some, None, Result, Ok, Err, refl, sym, ap, ◌∙◌, add-one, add-zero, subst, arith}
 use Rattle.std.specs.Prelude.{option_and_then, IfOk, IfErr}
 use Rattle.std.proofs.lemmas.Bool.Decides.{nat_tests}
-use Rattle.tv_model.specs.declared.script.Item.{Item}
+use Rattle.tv_machine.specs.declared.script.Item.{Item}
 use Rattle.tv_script.proofs.EndedLemmas.{judged_le}
 use Rattle.tv_script.proofs.FitLemmas.{fits, from_fitting, from_script, from_shown, into_fitting, into_script, into_shown, items_push, shows, stands}
 use Rattle.tv_script.proofs.GrammarLemmas.{Test, added, begins_weaker, faulty_unspelled, lines_spelled, no_begin, spelled_lines, taken_begins, tested}

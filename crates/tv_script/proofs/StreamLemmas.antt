@@ -5,7 +5,7 @@ use Rattle.std.proofs.lemmas.Bool.Decides.{nat_tests}
 use Rattle.std.proofs.lemmas.List.{append-nil}
 use Rattle.tv_io.specs.Writer.{Seen}
 use Rattle.tv_machine.specs.Run.{Session}
-use Rattle.tv_model.specs.declared.script.Item.{Item}
+use Rattle.tv_machine.specs.declared.script.Item.{Item}
 use Rattle.tv_script.proofs.EndedLemmas.{all_push, begins_judged, ended_push, judged_full, judged_whole, last_line, lines_of_ended, lines_up, up_le}
 use Rattle.tv_script.proofs.JudgingLemmas.{judged_first, judged_refused}
 use Rattle.tv_script.specs.declared.feed.Feed.{Feed}

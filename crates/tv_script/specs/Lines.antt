@@ -7,8 +7,8 @@ use Rattle.tv_declarations.specs.Spelling.Keys.{IsKey, key_word}
 use Rattle.tv_event.specs.declared.event.Event.{Event}
 use Rattle.tv_event.specs.declared.event.Event.TheVariants as events
 use Rattle.tv_event.specs.declared.event.Key.TheVariants as keys
-use Rattle.tv_model.specs.declared.script.Item.{Item}
-use Rattle.tv_model.specs.declared.script.Item.TheVariants as items
+use Rattle.tv_machine.specs.declared.script.Item.{Item}
+use Rattle.tv_machine.specs.declared.script.Item.TheVariants as items
 use Rattle.tv_script.specs.declared.line.Line.{Line}
 use Rattle.tv_script.specs.declared.line.Line.TheVariants as lines
 use Rattle.tv_words.specs.declared.word.Word.{Word}

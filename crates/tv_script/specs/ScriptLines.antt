@@ -1,6 +1,6 @@
 -- The lines of a script that are judged in place.
 use Rattle.std.specs.Prelude.{List, map, option_to_list}
-use Rattle.tv_model.specs.declared.script.Item.{Item}
+use Rattle.tv_machine.specs.declared.script.Item.{Item}
 use Rattle.tv_script.specs.declared.line.Line.{Line}
 use Rattle.tv_script.specs.declared.line.Line.TheVariants as lines
 use Rattle.tv_script.specs.declared.script_line.ScriptItems.{ScriptItems}

@@ -1,7 +1,7 @@
 -- The scripts that texts spell, and why a text is refused.
 use Rattle.std.specs.Prelude.{◌≡◌, ◌≤◌, ◌<◌, ◌⊎◌, ℕ, ℤ, List, length, map, take, IsTrue, Result, Ok, Err}
 use Rattle.std.specs.List.{AllByRecursion}
-use Rattle.tv_model.specs.declared.script.Item.{Item}
+use Rattle.tv_machine.specs.declared.script.Item.{Item}
 use Rattle.tv_script.specs.declared.line.Line.{Line}
 use Rattle.tv_script.specs.declared.script_text.ScriptFault.{ScriptFault}
 use Rattle.tv_script.specs.declared.script_text.ScriptFault.TheVariants.{NoMemory, Syntax, OffScreen, TooLong}

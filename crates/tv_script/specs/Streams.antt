@@ -4,7 +4,7 @@ use Rattle.tv_io.specs.Reader.{Given, GivesNot, HasGiven, IsReadSoFar}
 use Rattle.tv_io.specs.Writer.{Seen, Takes}
 use Rattle.tv_machine.specs.Output.{output, after}
 use Rattle.tv_machine.specs.Run.{Session}
-use Rattle.tv_model.specs.declared.script.Item.{Item}
+use Rattle.tv_machine.specs.declared.script.Item.{Item}
 use Rattle.tv_script.specs.Judging.{Judgement, judged_as, judgement, up_to_last_end}
 use Rattle.tv_script.specs.Performed.{Stops}
 use Rattle.tv_script.specs.declared.script_text.ScriptFault.{ScriptFault}

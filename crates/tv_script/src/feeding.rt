@@ -3,7 +3,7 @@
 ghost use Rattle.std.specs.Prelude.{◌≡◌, ◌≢◌, ◌<◌, ◌≤◌, ◌+◌, ◌++◌, ◌∷◌, [], All, List, IfErr, IfOk, MatchResult, OnOk, false, true, length, ℕ, Ok, Err};
 ghost use Rattle.tv_io.specs.Writer.{Seen};
 ghost use Rattle.tv_machine.specs.Run.{Session};
-ghost use Rattle.tv_model.specs.declared.script.Item.{Item as SeenItem};
+ghost use Rattle.tv_machine.specs.declared.script.Item.{Item as SeenItem};
 ghost use Rattle.tv_script.specs.Lines.{IsItemOnScreen};
 ghost use Rattle.tv_script.specs.declared.script_text.ScriptFault.TheVariants.{NoMemory};
 ghost use Rattle.tv_script.specs.Reading.Scripts.{with_bytes};

@@ -6,7 +6,7 @@ ghost use Rattle.tv_machine.specs.Run.{Session, quiet};
 ghost use Rattle.tv_model.specs.Log.LogText.{log_text};
 ghost use Rattle.tv_io.specs.Writer.{Seen, Takes};
 ghost use Rattle.tv_io.specs.Pen.{Puts};
-ghost use Rattle.tv_model.specs.declared.script.Item.{Item as SeenItem};
+ghost use Rattle.tv_machine.specs.declared.script.Item.{Item as SeenItem};
 ghost use Rattle.tv_script.specs.declared.stream_fault.StreamFault.TheVariants.{Write};
 ghost use Rattle.tv_script.specs.Lines.{IsEventOnScreen, IsItemOnScreen, items_of_line};
 ghost use Rattle.tv_script.specs.Performed.{Stops};
@@ -22,7 +22,7 @@ use crate::stage::Stage;
 use crate::stream_fault::StreamFault;
 use tv_event::Event;
 use tv_io::{Pen, Writer};
-use tv_model::Item;
+use tv_machine::Item;
 
 /// Performs the script and writes its output: the log that isn't yet taken, and then what each item writes.
 ///

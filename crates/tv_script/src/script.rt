@@ -1,14 +1,15 @@
 //! A script that can be performed.
 
 ghost use Rattle.std.specs.Prelude.{◌≡◌, ◌≤ℤ◌, All, List, IfOk, IfErr, pos};
-ghost use Rattle.tv_model.specs.declared.script.Item.{Item as SeenItem};
+ghost use Rattle.tv_machine.specs.declared.script.Item.{Item as SeenItem};
 ghost use Rattle.tv_script.specs.Lines.{IsItemOnScreen};
 ghost use Rattle.tv_script.specs.Scripts.{GivesScript, RefusesScript, SpellsAScript};
 
 use crate::script_text::{ScriptFault, parse_items};
 use std::alloc::Global;
 use std::marker::Model;
-use tv_model::{Item, Sequence};
+use tv_machine::Item;
+use tv_model::Sequence;
 
 /// A script whose points are on the largest screen, one of 132 columns and 60 rows. Contracts see the list of its items.
 #[derive(Debug, Drop)]
@@ -18,7 +19,7 @@ pub struct Script {
 
 impl Model for Script {
     ghost use Rattle.std.specs.Prelude.{All, List};
-    ghost use Rattle.tv_model.specs.declared.script.Item.{Item};
+    ghost use Rattle.tv_machine.specs.declared.script.Item.{Item};
     ghost use Rattle.tv_script.specs.Lines.{IsItemOnScreen};
 
     ghost Value = { List Item };

@@ -3,7 +3,7 @@
 ghost use Rattle.std.specs.Prelude.{◌≡◌, [], ◌∷◌, length, Some};
 ghost use Rattle.std.specs.Option.{option_map};
 ghost use Rattle.std.specs.List.{list_any};
-ghost use Rattle.tv_model.specs.declared.script.Item.TheVariants as items;
+ghost use Rattle.tv_machine.specs.declared.script.Item.TheVariants as items;
 ghost use Rattle.tv_script.specs.Lines.{ends_line, is_on_screen, items_of_line, item_typed};
 ghost use Rattle.tv_script.specs.Reading.Lines.{key_line_in, line_read, mouse_line_in, point_in, screen_line_in, typed_in, words_read};
 ghost use Rattle.tv_script.specs.ScriptLines.{items_left, line_meant};
@@ -13,7 +13,7 @@ use crate::line::is_within;
 use tv_cells::Point;
 use tv_declarations::token_key;
 use tv_event::{Event, Key};
-use tv_model::Item;
+use tv_machine::Item;
 use tv_words::{QuotedChars, QuotedText, Token, Tokens, tokens_of};
 
 /// A line of a script, which lends its text. Contracts speak of the `Line` that it means.

@@ -2,7 +2,7 @@
 
 ghost use Rattle.std.specs.Prelude.{◌≡◌, ◌++◌, [], map, List, IfOk, IfErr, OnOk};
 ghost use Rattle.std.specs.List.{list_any};
-ghost use Rattle.tv_model.specs.declared.script.Item.{Item as SeenItem};
+ghost use Rattle.tv_machine.specs.declared.script.Item.{Item as SeenItem};
 ghost use Rattle.tv_script.specs.Lines.{ends_line, items_of_line, item_typed};
 ghost use Rattle.tv_script.specs.Reading.Lines.{key_line_in, script_line_in, mouse_line_in, point_in, screen_line_in, typed_in};
 ghost use Rattle.tv_script.specs.Judging.{judged_lines, judged_whole, judgement};
@@ -16,7 +16,8 @@ use thiserror::Error;
 use tv_cells::Point;
 use tv_declarations::key;
 use tv_event::{Event, Key};
-use tv_model::{Item, Sequence};
+use tv_machine::Item;
+use tv_model::Sequence;
 use tv_valid::Chars;
 use tv_words::{Lines, Word, words_of};
 

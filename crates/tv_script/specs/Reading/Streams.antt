@@ -4,7 +4,7 @@ use Rattle.std.specs.Prelude.{Option, Some, None, Result, Ok, Err}
 use Rattle.std.specs.List.{AllByRecursion, list_any}
 use Rattle.tv_io.specs.Writer.{Cuts, Seen, Takes}
 use Rattle.tv_machine.specs.Run.{Session}
-use Rattle.tv_model.specs.declared.script.Item.{Item}
+use Rattle.tv_machine.specs.declared.script.Item.{Item}
 use Rattle.tv_script.specs.declared.feed.Feed.{Feed}
 use Rattle.tv_script.specs.declared.script_line.ScriptLine.{ScriptLine}
 use Rattle.tv_script.specs.declared.script_text.ScriptFault.{ScriptFault}

@@ -1,5 +1,5 @@
 use Rattle.std.proofs.Common.{◌≡◌, ℕ, ◌+◌, List, [], ◌∷◌, length, subst, sym, arith}
-use Rattle.tv_model.specs.declared.script.Item.{Item}
+use Rattle.tv_machine.specs.declared.script.Item.{Item}
 use Rattle.tv_pictures.specs.Albums.{Gains}
 use Rattle.tv_pictures.specs.Naming.{named_from}
 use Rattle.tv_pictures.specs.Pictures.{item_svgs}

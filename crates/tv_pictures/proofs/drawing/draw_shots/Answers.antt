@@ -1,5 +1,5 @@
 use Rattle.std.proofs.Common.{List, subst, take, ◌∙◌, arith}
-use Rattle.tv_model.specs.declared.script.Item.{Item}
+use Rattle.tv_machine.specs.declared.script.Item.{Item}
 use Rattle.tv_machine.specs.Output.{after}
 use Rattle.tv_script.proofs.PerformLemmas.{after-more}
 use Rattle.tv_pictures.specs.Albums.{NamedPicture, Gains, GainsBefore}
