@@ -4,12 +4,13 @@ ghost use Rattle.std.specs.Prelude.{◌≡◌, IfOk, IfSome, Some};
 ghost use Rattle.tv_model.specs.Faults.{fault_number};
 ghost use Rattle.tv_advice.specs.Advised.{IsAdviceOn};
 
+use crate::note::Note;
 use crate::saying::{Part, Remark, Saying};
+use crate::spans::{Span, line_of, words};
 use crate::telling::saying_for;
 use std::alloc::{AllocError, Global};
 use tv_explain::Explained;
 use tv_model::Desc;
-use tv_unread::{Note, Span, line_of, words};
 
 /// What is told of a fault.
 #[derive(Debug, Drop)]

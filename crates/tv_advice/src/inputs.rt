@@ -2,10 +2,10 @@
 
 use crate::naming::one_of_items;
 use crate::saying::{Part, Remark, Saying};
+use crate::spans::Span;
 use std::alloc::{AllocError, Global};
 use tv_explain::Reason;
 use tv_model::{Input, Kind, Node, is_item};
-use tv_unread::Span;
 use tv_valid::{Domain, DomainFault, DomainSpec, InputSpec};
 use unicode_width::UnicodeWidthChar;
 

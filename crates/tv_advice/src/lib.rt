@@ -1,16 +1,40 @@
-//! What to tell of a fault: in which words, under which words of the user's own text, and how to mend it.
+//! What there is to say of a text: of each fault, in which words, under which words of the user's own text, and how to mend
+//! it; and of a line that can't be read. For a person or a program to read.
 #![tactic(auto)]
 
 mod advice;
+mod beginning;
+mod beside;
+mod colour;
 mod ends;
+mod fitting;
+mod forms;
+mod heads;
 mod inputs;
+mod json;
 mod letters;
 mod limits;
+mod manner;
 mod names;
 mod naming;
+mod note;
 mod places;
+mod quotes;
+mod report;
 mod saying;
+mod source;
+mod spans;
+mod stage;
 mod subject;
 mod telling;
+mod unread;
+mod whole;
 
 pub use advice::{Advice, advise};
+pub use beside::{Beside, tell_beside};
+pub use forms::Language;
+pub use manner::Manner;
+pub use note::Note;
+pub use spans::{Span, line_of, words};
+pub use unread::{Hint, Unread, explain_line, explain_point};
+pub use whole::{Told, tell};

@@ -1,7 +1,7 @@
 //! What is told of a fault, before it is known where its words stand.
 
+use crate::spans::Span;
 use std::alloc::{AllocError, Global};
-use tv_unread::Span;
 
 /// Which words of a line something is about. The keyword is word 0.
 #[derive(Clone, Copy, Debug, PartialEq, Eq)]

@@ -23,7 +23,7 @@ use Rattle.tv_dialog.specs.Fields.{entry_in, in_field_order}
 use Rattle.tv_laws.proofs.WorkLemmas.{get_all}
 use Rattle.tv_machine.specs.Run.{Session}
 use Rattle.tv_session.specs.Session.{StandsFor, handed_in}
-use Rattle.tv_toolkit.specs.Control.{control_leaf}
+use Rattle.tv_app.specs.Control.{control_leaf}
 use Rattle.tv_app.specs.Running.{Runs}
 use Rattle.tv_lawful.specs.Laws.{RunsByLaws}
 use Rattle.tv_app.specs.declared.app.App.{App}

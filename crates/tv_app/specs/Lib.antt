@@ -6,3 +6,11 @@ pub mod Opening
 pub mod Names
 -- when a record fits a dialog, and how it is handed in
 pub mod Setting
+-- what a control of any kind means
+pub mod Control
+-- when views are those that a description declares
+pub mod Views
+-- what views may be made of
+pub mod Buildable
+-- what makes the views
+pub mod Making

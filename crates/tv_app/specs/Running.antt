@@ -6,7 +6,7 @@ pub use Rattle.tv_machine.specs.Run.{Session, commanded, quiet, started, stepped
 pub use Rattle.tv_machine.specs.Session.Step.{takes_command}
 use Rattle.tv_app.specs.declared.app.App.{App}
 use Rattle.tv_session.specs.Session.{StandsFor}
-use Rattle.tv_toolkit.specs.Control.{control_leaf}
+use Rattle.tv_app.specs.Control.{control_leaf}
 
 -- The application's windows, dialogs, menus, log and screen are those of a run, which has come to a fit state.
 -- Its dialogs are sound, and the laws hold of every fit state of its description: so whatever events, commands

@@ -11,12 +11,12 @@ ghost use Rattle.tv_machine.specs.Screen.Bodies.{whole_screen};
 ghost use Rattle.tv_machine.specs.Session.Step.{takes_command};
 ghost use Rattle.tv_script.specs.Performed.{IsScreenOf};
 
+use crate::control::Control;
 use crate::names::dialog_named;
 use tv_cells::{Rect, Screen};
 use tv_event::{Command, Event};
 use tv_model::{Desc, Id, LogLine};
 use tv_session::SessionOf;
-use tv_toolkit::Control;
 
 /// A run of a description through the toolkit's own controls, and its screen. `open` makes it.
 ///

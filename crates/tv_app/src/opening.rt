@@ -8,12 +8,12 @@ ghost use Rattle.tv_machine.specs.Run.{started};
 
 use crate::app::App;
 use crate::fault::OpenFault;
+use crate::making::views;
 use std::alloc::Global;
 use tv_check::{Checked, examine};
 use tv_lang::parse;
 use tv_lawful::runs_go_by_laws;
 use tv_session::{SessionFault, SessionOf};
-use tv_toolkit::views;
 
 /// Opens a description's text: reads it, looks for its faults, makes its windows and dialogs of the toolkit's own controls,
 /// and starts its run. The start dialog is open, if the description names one.

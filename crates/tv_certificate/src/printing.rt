@@ -7,8 +7,8 @@ ghost use Rattle.tv_certificate.specs.CertificateTexts.{block_lines, certificate
 use crate::certificate::{Block, Certificate, KeyLine};
 use crate::version::version_number;
 use std::alloc::{AllocError, Global};
+use tv_lang::Line;
 use tv_model::{Version, When};
-use tv_printing::Line;
 use tv_valid::Chars;
 use tv_words::Word;
 

@@ -3,7 +3,7 @@ use Rattle.std.specs.Prelude.{ℕ, Bool, true, false, Some}
 use Rattle.tv_choices.specs.declared.cluster.ClusterKey.{ClusterKey as SeenKey}
 use Rattle.tv_choices.specs.declared.cluster.ClusterKey.TheVariants as seen
 use Rattle.tv_choices.specs.declared.chosen.Chosen.{Chosen as SeenChosen}
-use Rattle.tv_leaf.specs.Core.{Core, leaf_with}
+use Rattle.tv_view.specs.Core.{Core, leaf_with}
 use Rattle.tv_model.specs.Controls.Private.{Plain, Scrolled, Selecting}
 use Rattle.tv_model.specs.Kinds.Cluster.{ClusterKey, Passed, Presses, Selects}
 use Rattle.tv_model.specs.Kinds.ListBox.{Chosen}

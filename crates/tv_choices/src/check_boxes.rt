@@ -23,9 +23,8 @@ use std::alloc::Global;
 use tv_cells::{Canvas, Damage, Point, Rect, Screen, lay};
 use tv_event::{Event, Key, Options, Phase, State};
 use tv_faces::{ClusterFace, ClusterMarks, natural};
-use tv_leaf::{ControlFault, LeafCore, has_focus};
 use tv_model::{CheckBoxes as Declared, Id, Kind, Node, Record, Value};
-use tv_view::{Env, Reaction, Rules, View};
+use tv_view::{ControlFault, Env, LeafCore, Reaction, Rules, View, has_focus};
 
 /// Check boxes: any of their items are marked, and one is selected.
 #[derive(Drop)]

@@ -14,9 +14,8 @@ ghost use Rattle.tv_choices.specs.Choices.{key_item, cluster_key_of};
 
 use tv_cells::{Point, Rect};
 use tv_event::{Key, Phase};
-use tv_leaf::{contains, row_of};
 use tv_model::{Id, MarkedText};
-use tv_view::Reaction;
+use tv_view::{Reaction, contains, row_of};
 
 /// What a key does to a cluster. Items count from 1.
 #[derive(Clone, Copy)]

@@ -21,9 +21,8 @@ use std::alloc::Global;
 use tv_cells::{Canvas, Damage, Point, Rect, Screen, lay};
 use tv_event::{Event, Key, Options, Phase, State};
 use tv_faces::{ClusterFace, ClusterMarks, natural};
-use tv_leaf::{ControlFault, LeafCore, has_focus};
 use tv_model::{Id, Kind, Node, RadioButtons as Declared, Record, Value};
-use tv_view::{Env, Reaction, Rules, View};
+use tv_view::{ControlFault, Env, LeafCore, Reaction, Rules, View, has_focus};
 
 /// Radio buttons: one of their items is marked, and that is the selected one.
 #[derive(Drop)]

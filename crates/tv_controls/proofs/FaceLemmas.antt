@@ -23,7 +23,7 @@ use Rattle.tv_model.specs.Controls.Look.{Look}
 use Rattle.tv_view.specs.Colours.{colour, has_focus, lent_look}
 use Rattle.tv_view.specs.Drawing.{leaf_layers}
 use Rattle.tv_view.specs.declared.env.Env.{Env}
-use Rattle.tv_leaf.specs.Core.{Core}
+use Rattle.tv_view.specs.Core.{Core}
 use Rattle.tv_model.specs.Description.Rectangles.{place_of_node}
 use Rattle.tv_controls.specs.InputLine.{input_leaf, is_input}
 

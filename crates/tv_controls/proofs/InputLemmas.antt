@@ -24,7 +24,7 @@ use Rattle.tv_view.specs.Fields.{content_of, with_content}
 use Rattle.tv_view.specs.Reactions.{answer, calling_letter, focus_answer, letter_answer, may_mark_by}
 use Rattle.tv_view.specs.declared.env.Env.{Env}
 use Rattle.tv_view.specs.declared.reaction.Reaction.TheVariants.{Done, Pass}
-use Rattle.tv_leaf.specs.Core.{Core}
+use Rattle.tv_view.specs.Core.{Core}
 use Rattle.tv_controls.specs.InputLine.{asked_by, input_leaf, is_input, is_own_key, edit_opened}
 
 -- ---- keys

@@ -11,7 +11,7 @@ use Rattle.tv_model.specs.declared.record.Value.{Value}
 use Rattle.tv_model.specs.declared.record.Value.TheVariants as values
 use Rattle.tv_model.specs.Kinds.InputLine.{Edit, is_edit_key, edit_content}
 use Rattle.tv_view.specs.Meaning.{Leaf}
-use Rattle.tv_leaf.specs.Core.{Core, leaf_with}
+use Rattle.tv_view.specs.Core.{Core, leaf_with}
 
 -- the kind of an input line
 abbrev pub is_input : Kind → Bool

@@ -17,7 +17,7 @@ ghost use Rattle.tv_view.specs.Effects.{captured, lifted};
 ghost use Rattle.tv_view.specs.Reactions.{answer, broadcast_answer, captures, down_answer, lifted_answer, post_of};
 ghost use Rattle.tv_view.specs.declared.env.Env.{Env as Lent};
 ghost use Rattle.tv_event.specs.declared.event.Event.TheVariants as events;
-ghost use Rattle.tv_leaf.specs.Core.{plain_leaf};
+ghost use Rattle.tv_view.specs.Core.{plain_leaf};
 ghost use Rattle.tv_controls.specs.Button.{is_pressed_by};
 
 use bitflags::Flags;
@@ -25,9 +25,10 @@ use std::alloc::Global;
 use tv_cells::{Canvas, Damage, Point, Rect, Screen, lay};
 use tv_event::{Command, Event, Key, Options, Phase, State};
 use tv_faces::{ButtonFace, ButtonLook, natural};
-use tv_leaf::{ControlFault, LeafCore, contains, has_focus, is_default_now};
 use tv_model::{Button as Declared, Id, Kind, Node, Record};
-use tv_view::{Env, Reaction, Rules, View};
+use tv_view::{
+    ControlFault, Env, LeafCore, Reaction, Rules, View, contains, has_focus, is_default_now,
+};
 
 /// A button: it gives its command where it is pressed, by Space or Enter in the focus, by its letter, or by the mouse.
 #[derive(Drop)]

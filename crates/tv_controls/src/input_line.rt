@@ -28,10 +28,9 @@ use std::alloc::Global;
 use tv_cells::{Canvas, Damage, Point, Rect, Screen, lay};
 use tv_event::{Event, Key, Options, Phase, State};
 use tv_faces::{InputColours, InputFace, first_shown, natural};
-use tv_leaf::{ControlFault, LeafCore, column_of, has_focus};
 use tv_model::{Id, Input as Declared, Kind, Node, Record, Value};
 use tv_valid::{Domain, DomainFault, InputSpec, Text};
-use tv_view::{Env, Reaction, Rules, View};
+use tv_view::{ControlFault, Env, LeafCore, Reaction, Rules, View, column_of, has_focus};
 
 /// An input line: a text is typed in it, as far as its domain lets.
 #[derive(Drop)]

@@ -15,7 +15,7 @@ ghost use Rattle.tv_view.specs.Colours.{is_link_focus, link_of, linked_by};
 ghost use Rattle.tv_view.specs.Reactions.{answer, calling_letter, calls, focus_on};
 ghost use Rattle.tv_view.specs.declared.env.Env.{Env as Lent};
 ghost use Rattle.tv_event.specs.declared.event.Event.TheVariants as events;
-ghost use Rattle.tv_leaf.specs.Core.{plain_leaf};
+ghost use Rattle.tv_view.specs.Core.{plain_leaf};
 ghost use Rattle.tv_controls.specs.Label.{is_label, label_text_role};
 
 use bitflags::Flags;
@@ -23,11 +23,10 @@ use std::alloc::Global;
 use tv_cells::{Canvas, Damage, Rect, Screen, lay};
 use tv_event::{Event, Key, Options, Phase, State};
 use tv_faces::{LabelFace, natural};
-use tv_leaf::{ControlFault, LeafCore, has_focus};
 use tv_model::{Id, Kind, Label as Declared, Node, Record};
 use tv_palette::{LabelRole, Role};
 use tv_valid::Chars;
-use tv_view::{Env, Reaction, Rules, View};
+use tv_view::{ControlFault, Env, LeafCore, Reaction, Rules, View, has_focus};
 
 /// A label: its letter and the mouse ask for the focus of the control that it stands for.
 #[derive(Drop)]

@@ -11,4 +11,4 @@ pub use button::Button;
 pub use input_line::InputLine;
 pub use label::Label;
 pub use static_text::StaticText;
-pub use tv_leaf::ControlFault;
+pub use tv_view::ControlFault;

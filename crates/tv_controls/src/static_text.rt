@@ -11,11 +11,10 @@ use std::marker::Model;
 use tv_cells::{Canvas, Damage, Rect, Screen, lay};
 use tv_event::{Event, Options, Phase, State};
 use tv_faces::{PiecedFace, PiecedText, natural, rect_at};
-use tv_leaf::{ControlFault, has_same_colours};
 use tv_model::{Id, Kind, Node, Record};
 use tv_palette::Role;
 use tv_valid::Chars;
-use tv_view::{Env, Reaction, Rules, View};
+use tv_view::{ControlFault, Env, Reaction, Rules, View, has_same_colours};
 
 /// A text that stands in a window or a dialog, a piece between line ends in each row.
 #[derive(Drop)]

@@ -21,10 +21,10 @@ use Rattle.tv_machine.proofs.ListLemmas.{All-unmap, AreApart, any-found, bool_ca
 use Rattle.tv_view.specs.Calls as calls
 use Rattle.tv_view.specs.Meaning.{Placed}
 use Rattle.tv_group.specs.Calls.{FitsAll, all_set, in_place_unmarked}
-use Rattle.tv_tree.specs.Tree.{IsSteady, placed_as, tree_as}
+use Rattle.tv_group.specs.Tree.{IsSteady, placed_as, tree_as}
 use Rattle.tv_machine.proofs.EntryLemmas.{entry_with}
-use Rattle.tv_tree.proofs.OpeningLemmas.{among_filtered, steady_field}
-use Rattle.tv_tree.proofs.TreeLemmas.{steady-leaf}
+use Rattle.tv_group.proofs.Tree.OpeningLemmas.{among_filtered, steady_field}
+use Rattle.tv_group.proofs.Tree.TreeLemmas.{steady-leaf}
 use Rattle.tv_dialog.specs.Fields.{entry_in, in_field_order}
 use Rattle.tv_dialog.proofs.FreshLemmas.{set_place}
 

@@ -25,12 +25,12 @@ use Rattle.tv_group.specs.Outline.{IsFreshBody}
 use Rattle.tv_group.specs.declared.group.GroupOf.{GroupOf}
 use Rattle.tv_group.proofs.GatheredLemmas.{gathered-all}
 use Rattle.tv_group.proofs.TreeLemmas.{opened-fresh}
-use Rattle.tv_tree.specs.Tree.{tree_of}
-use Rattle.tv_tree.proofs.EndingLemmas.{fewer_leaves, gathered-tree}
+use Rattle.tv_group.specs.Tree.{tree_of}
+use Rattle.tv_group.proofs.Tree.EndingLemmas.{fewer_leaves, gathered-tree}
 use Rattle.tv_dialog.proofs.FreshLemmas.{fresh-alike, fresh_leaf, fresh_tree}
-use Rattle.tv_tree.proofs.GatheredLemmas.{value-fields}
+use Rattle.tv_group.proofs.Tree.GatheredLemmas.{value-fields}
 use Rattle.tv_machine.proofs.ListLemmas.{bool_cases}
-use Rattle.tv_tree.proofs.OpeningLemmas.{content_at-unfocused, leaves-unfocused}
+use Rattle.tv_group.proofs.Tree.OpeningLemmas.{content_at-unfocused, leaves-unfocused}
 use Rattle.tv_dialog.proofs.ReopenLemmas.{gathered-alike}
 use Rattle.tv_machine.proofs.LeafLemmas.{IsIn, leaf_at-all, leaves-are}
 

@@ -20,10 +20,10 @@ use Rattle.tv_view.specs.Calls as calls
 use Rattle.tv_group.specs.Calls.{FitsAll, all_applied, all_set, in_place, in_place_unmarked}
 use Rattle.tv_machine.specs.Dialog.Lawful.{IsLawfulDialog}
 use Rattle.tv_dialog.specs.Resting.{AreAlike, unflagged}
-use Rattle.tv_tree.specs.Tree.{IsSteady, IsSteadyContent, IsSteadyLeaf, around_of, placed_as, tree_as}
+use Rattle.tv_group.specs.Tree.{IsSteady, IsSteadyContent, IsSteadyLeaf, around_of, placed_as, tree_as}
 use Rattle.tv_machine.proofs.ListLemmas.{All-unmap, map-map, map-same}
-use Rattle.tv_tree.proofs.OpeningLemmas.{content_at-unfocused, leaves-unfocused, open_content}
-use Rattle.tv_tree.proofs.StandingLemmas.{standing}
+use Rattle.tv_group.proofs.Tree.OpeningLemmas.{content_at-unfocused, leaves-unfocused, open_content}
+use Rattle.tv_group.proofs.Tree.StandingLemmas.{standing}
 use Rattle.tv_machine.proofs.LeafLemmas.{IsIn, leaf_at-all, leaves-are, leaves-same, own-fails}
 
 -- ---- leaves that are alike but for their flags

@@ -17,12 +17,12 @@ use Rattle.tv_group.specs.Handling.{group_after, group_answer}
 use Rattle.tv_group.specs.Opened.{opened}
 use Rattle.tv_dialog.specs.Settling.{IsReadyForDown}
 use Rattle.tv_dialog.specs.Standing.{Stands}
-use Rattle.tv_tree.specs.Tree.{IsSteady, tree_of}
-use Rattle.tv_tree.specs.Turns.{IsLentBy, reacted}
+use Rattle.tv_group.specs.Tree.{IsSteady, tree_of}
+use Rattle.tv_group.specs.TreeTurns.{IsLentBy, reacted}
 use Rattle.tv_dialog.specs.declared.dialog.DialogOf.{DialogOf}
-use Rattle.tv_tree.proofs.Mouse.DownLemmas.{AsksFocus, IsOver, Turn, down-turn, turn-asks, turn-over}
+use Rattle.tv_group.proofs.Tree.Mouse.DownLemmas.{AsksFocus, IsOver, Turn, down-turn, turn-asks, turn-over}
 use Rattle.tv_machine.proofs.MarkLemmas.{hold-itself}
-use Rattle.tv_tree.proofs.RequestLemmas.{hold-request}
+use Rattle.tv_group.proofs.Tree.RequestLemmas.{hold-request}
 use Rattle.tv_dialog.proofs.TurnCodeLemmas.{stands-handled}
 
 -- what the views answer, and what their leaves become

@@ -30,15 +30,15 @@ use Rattle.tv_dialog.specs.Head.{declared_dialog_head}
 use Rattle.tv_dialog.specs.Plan.{is_enabled_in_plan, leaf_plan, plan_of, shown_by}
 use Rattle.tv_dialog.specs.Resting.{AreAlike, Rests, unflagged}
 use Rattle.tv_dialog.specs.Standing.{AreFields, Stands, end_number}
-use Rattle.tv_tree.specs.Tree.{placed_as, tree_as, tree_of}
-use Rattle.tv_tree.proofs.EndingLemmas.{fewer_leaves}
+use Rattle.tv_group.specs.Tree.{placed_as, tree_as, tree_of}
+use Rattle.tv_group.proofs.Tree.EndingLemmas.{fewer_leaves}
 use Rattle.tv_dialog.proofs.FieldOrderLemmas.{ordered-fields, ordered-fits, set-ordered}
 use Rattle.tv_dialog.proofs.FreshLemmas.{applied-alike, fits-alike, fresh-alike, fresh_tree, set-alike, steady-declared}
-use Rattle.tv_tree.proofs.GatheredLemmas.{fields-are, fields-ids, gathered-again, value-fields}
+use Rattle.tv_group.proofs.Tree.GatheredLemmas.{fields-are, fields-ids, gathered-again, value-fields}
 use Rattle.tv_machine.proofs.ListLemmas.{map-map}
-use Rattle.tv_tree.proofs.NextLemmas.{first-tree}
-use Rattle.tv_tree.proofs.OpeningLemmas.{content_at-unfocused, first-free, free-other, leaves-unfocused, set-tree, steady-unfocused}
-use Rattle.tv_tree.proofs.RuledLemmas.{AreRulesOf, applied-tree}
+use Rattle.tv_group.proofs.Tree.NextLemmas.{first-tree}
+use Rattle.tv_group.proofs.Tree.OpeningLemmas.{content_at-unfocused, first-free, free-other, leaves-unfocused, set-tree, steady-unfocused}
+use Rattle.tv_group.proofs.Tree.RuledLemmas.{AreRulesOf, applied-tree}
 use Rattle.tv_machine.proofs.LeafLemmas.{leaves-same}
 use Rattle.tv_dialog.proofs.WorkingLemmas.{enabled-plan, shown-plan}
 

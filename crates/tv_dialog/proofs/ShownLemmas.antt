@@ -36,11 +36,11 @@ use Rattle.tv_dialog.specs.Bounds.{dialog_bounds}
 use Rattle.tv_dialog.specs.Drawn as drawn
 use Rattle.tv_dialog.specs.Drawn.{lent}
 use Rattle.tv_dialog.specs.Head.{KeptDialogHead, declared_dialog_head}
-use Rattle.tv_tree.specs.Shown.{IsShown, desktop_canvas, dialog_canvas, open_bounds, shadow_layer}
+use Rattle.tv_group.specs.Shown.{IsShown, desktop_canvas, dialog_canvas, open_bounds, shadow_layer}
 use Rattle.tv_dialog.specs.Standing.{Stands}
-use Rattle.tv_tree.specs.Tree.{tree_of}
+use Rattle.tv_group.specs.Tree.{tree_of}
 use Rattle.tv_dialog.specs.declared.dialog.DialogOf.{DialogOf}
-use Rattle.tv_tree.proofs.Screen.OpenDialogLemmas.{dialog-same, dialog-tall, tree_layers}
+use Rattle.tv_group.proofs.Tree.Screen.OpenDialogLemmas.{dialog-same, dialog-tall, tree_layers}
 use Rattle.tv_dialog.proofs.CutLemmas.{dialog-within}
 use Rattle.tv_dialog.proofs.TurnCodeLemmas.{lent-by}
 

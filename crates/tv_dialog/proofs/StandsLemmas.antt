@@ -32,14 +32,14 @@ use Rattle.tv_dialog.specs.Plan.{has_rules}
 use Rattle.tv_dialog.specs.Standing.{AreFields, Stands, end_number, stop_in}
 use Rattle.tv_machine.specs.Dialog.Alike.{HoldSame}
 use Rattle.tv_dialog.specs.Stepping.{begun_anew}
-use Rattle.tv_tree.specs.Tree.{IsSteady, tree_as, tree_of}
-use Rattle.tv_tree.proofs.FocusTreeLemmas.{focused-tree}
+use Rattle.tv_group.specs.Tree.{IsSteady, tree_as, tree_of}
+use Rattle.tv_group.proofs.Tree.FocusTreeLemmas.{focused-tree}
 use Rattle.tv_machine.proofs.ListLemmas.{either-same, option_cases}
 use Rattle.tv_machine.proofs.MarkLemmas.{command-same}
-use Rattle.tv_tree.proofs.FlagLemmas.{flags-same}
-use Rattle.tv_tree.proofs.NextLemmas.{next-tree, previous-tree}
+use Rattle.tv_group.proofs.Tree.FlagLemmas.{flags-same}
+use Rattle.tv_group.proofs.Tree.NextLemmas.{next-tree, previous-tree}
 use Rattle.tv_machine.proofs.RefocusLemmas.{hold-moved, refocused-keeps}
-use Rattle.tv_tree.proofs.StandingLemmas.{steady-moved}
+use Rattle.tv_group.proofs.Tree.StandingLemmas.{steady-moved}
 
 -- ---- heads
 

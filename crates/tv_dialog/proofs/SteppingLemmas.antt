@@ -13,7 +13,7 @@ use Rattle.tv_machine.specs.Dialog.Modal.{Modal}
 use Rattle.tv_machine.specs.Dialog.Mouse.{down_at, is_close_mark, topmost_leaf}
 use Rattle.tv_machine.specs.Dialog.Shortcuts.{HaveOneMarker}
 use Rattle.tv_machine.specs.Dialog.Step.{dialog_step, free_step, held_step, step_by}
-use Rattle.tv_tree.specs.Ready.{HoldsLeaf}
+use Rattle.tv_group.specs.Ready.{HoldsLeaf}
 use Rattle.tv_dialog.specs.Settling.{IsFresh, IsReadyFor, turned}
 use Rattle.tv_dialog.specs.Stepping.{IsHandedIn, posted, posted_free, posted_held, posted_key, walked}
 use Rattle.tv_machine.proofs.ListLemmas.{bool_cases, option_cases}

@@ -19,18 +19,18 @@ use Rattle.tv_group.specs.Opened.{opened}
 use Rattle.tv_dialog.specs.Drawn.{default_now, lent}
 use Rattle.tv_dialog.specs.Plan.{is_button_plan, leaf_plan, plan_of}
 use Rattle.tv_machine.specs.Dialog.Alike.{HoldSame}
-use Rattle.tv_tree.specs.Ready.{IsLike, KeepsMarks}
+use Rattle.tv_group.specs.Ready.{IsLike, KeepsMarks}
 use Rattle.tv_dialog.specs.Settling.{SettlesTo, IsFresh, posted_by, reacted_first}
 use Rattle.tv_dialog.specs.Standing.{Stands}
-use Rattle.tv_tree.specs.Tree.{IsSteady, tree_as, tree_of}
-use Rattle.tv_tree.specs.Turns.{IsLentBy, pressed_at, reacted}
+use Rattle.tv_group.specs.Tree.{IsSteady, tree_as, tree_of}
+use Rattle.tv_group.specs.TreeTurns.{IsLentBy, pressed_at, reacted}
 use Rattle.tv_dialog.specs.declared.dialog.DialogOf.{DialogOf}
 use Rattle.tv_dialog.specs.declared.plan.Plan.{Plan}
-use Rattle.tv_tree.proofs.Keys.EnterLemmas.{enter_target-id, id_of_leaf, is_button_leaf}
-use Rattle.tv_tree.proofs.FocusTreeLemmas.{steady-line}
+use Rattle.tv_group.proofs.Tree.Keys.EnterLemmas.{enter_target-id, id_of_leaf, is_button_leaf}
+use Rattle.tv_group.proofs.Tree.FocusTreeLemmas.{steady-line}
 use Rattle.tv_machine.proofs.ListLemmas.{find-map}
-use Rattle.tv_tree.proofs.FlagLemmas.{flags-same}
-use Rattle.tv_tree.proofs.RuledLemmas.{focus-pressed, pressed-keeps, pressed-tree, steady-pressed}
+use Rattle.tv_group.proofs.Tree.FlagLemmas.{flags-same}
+use Rattle.tv_group.proofs.Tree.RuledLemmas.{focus-pressed, pressed-keeps, pressed-tree, steady-pressed}
 use Rattle.tv_dialog.proofs.StandsLemmas.{IsKept, ended-moved, restands, stands-on}
 
 -- ---- what views are lent

@@ -19,19 +19,19 @@ use Rattle.tv_view.specs.declared.reaction.Reaction.{Reaction}
 use Rattle.tv_group.specs.Handling.{group_after, group_answer}
 use Rattle.tv_group.specs.Opened.{opened}
 use Rattle.tv_machine.specs.Dialog.Alike.{HoldSame}
-use Rattle.tv_tree.specs.Ready.{KeepsMarks}
+use Rattle.tv_group.specs.Ready.{KeepsMarks}
 use Rattle.tv_dialog.specs.Settling.{SettlesTo, IsFresh, IsReadyForAll, IsReadyForHeld, IsReadyForKey, posted_by, reacted_first, turned}
 use Rattle.tv_dialog.specs.Standing.{Stands}
-use Rattle.tv_tree.specs.Tree.{tree_of}
-use Rattle.tv_tree.specs.Turns.{IsLentBy, phases_after, phases_answer, reacted}
+use Rattle.tv_group.specs.Tree.{tree_of}
+use Rattle.tv_group.specs.TreeTurns.{IsLentBy, phases_after, phases_answer, reacted}
 use Rattle.tv_dialog.specs.declared.dialog.DialogOf.{DialogOf}
-use Rattle.tv_tree.proofs.Keys.EnterLemmas.{enter_turn, group_after-broadcast}
-use Rattle.tv_tree.proofs.Mouse.HeldLemmas.{move-turn}
-use Rattle.tv_tree.proofs.Keys.KeyLemmas.{key_turn}
+use Rattle.tv_group.proofs.Tree.Keys.EnterLemmas.{enter_turn, group_after-broadcast}
+use Rattle.tv_group.proofs.Tree.Mouse.HeldLemmas.{move-turn}
+use Rattle.tv_group.proofs.Tree.Keys.KeyLemmas.{key_turn}
 use Rattle.tv_machine.proofs.ListLemmas.{option_cases}
-use Rattle.tv_tree.proofs.FlagLemmas.{flags-same}
+use Rattle.tv_group.proofs.Tree.FlagLemmas.{flags-same}
 use Rattle.tv_machine.proofs.MarkLemmas.{hold-itself}
-use Rattle.tv_tree.proofs.Mouse.ReleaseLemmas.{up-holds, up-turn}
+use Rattle.tv_group.proofs.Tree.Mouse.ReleaseLemmas.{up-holds, up-turn}
 use Rattle.tv_dialog.proofs.TurnCodeLemmas.{comes-handled}
 
 module _ {V : Type 0} (look : V → Leaf) (d : Dialog) (lawful : IsLawfulDialog d) (m : Modal) (env : Env) (lentby : IsLentBy d m env)

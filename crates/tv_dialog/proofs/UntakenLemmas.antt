@@ -10,7 +10,7 @@ use Rattle.tv_view.specs.Reactions.{calling_letter}
 use Rattle.tv_view.specs.declared.env.Env.{Env}
 use Rattle.tv_view.specs.declared.reaction.Reaction.TheVariants.{Pass}
 use Rattle.tv_group.specs.Handling.{group_after, group_answer}
-use Rattle.tv_tree.proofs.Keys.QuietLemmas.{after-key, after-none, before-key, before-none}
+use Rattle.tv_group.proofs.Tree.Keys.QuietLemmas.{after-key, after-none, before-key, before-none}
 use Rattle.tv_dialog.specs.Settling.{may_call, may_take}
 
 nothing-there : {A : Type 0} (o : Option A) → is_some o ≡ false → o ≡ None

@@ -8,7 +8,7 @@ use Rattle.tv_group.specs.Opened.{opened}
 use Rattle.tv_dialog.specs.Head.{declared_dialog_head}
 use Rattle.tv_dialog.specs.Plan.{plan_of}
 use Rattle.tv_dialog.specs.Standing.{AreFields}
-use Rattle.tv_tree.specs.Tree.{IsSteady, tree_of}
+use Rattle.tv_group.specs.Tree.{IsSteady, tree_of}
 use Rattle.tv_dialog.specs.declared.dialog.DialogOf.{DialogOf}
 
 -- a leaf as if it were shown and enabled

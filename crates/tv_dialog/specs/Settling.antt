@@ -24,9 +24,9 @@ use Rattle.tv_machine.specs.Dialog.Shortcuts.{HaveOneMarker}
 use Rattle.tv_machine.specs.Dialog.Step.{dialog_step}
 use Rattle.tv_view.specs.declared.reaction.Reaction.{Reaction}
 use Rattle.tv_view.specs.declared.reaction.Reaction.TheVariants as reactions
-use Rattle.tv_tree.specs.Ready.{HoldsLeaf, IsPointOf, is_own}
+use Rattle.tv_group.specs.Ready.{HoldsLeaf, IsPointOf, is_own}
 use Rattle.tv_dialog.specs.Standing.{Stands}
-use Rattle.tv_tree.specs.Turns.{reacted}
+use Rattle.tv_group.specs.TreeTurns.{reacted}
 use Rattle.tv_dialog.specs.declared.dialog.DialogOf.{DialogOf}
 
 -- ---- who may take an event

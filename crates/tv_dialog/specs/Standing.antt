@@ -16,7 +16,7 @@ use Rattle.tv_group.specs.declared.focus.Dir.TheVariants as dirs
 use Rattle.tv_group.specs.Opened.{opened}
 use Rattle.tv_dialog.specs.Head.{declared_dialog_head}
 use Rattle.tv_dialog.specs.Plan.{plan_of}
-use Rattle.tv_tree.specs.Tree.{IsSteady, tree_as}
+use Rattle.tv_group.specs.Tree.{IsSteady, tree_as}
 use Rattle.tv_dialog.specs.declared.dialog.DialogOf.{DialogOf}
 
 -- all commands are enabled once the dialog ended

@@ -11,7 +11,7 @@ use Rattle.tv_machine.specs.Dialog.Focus.{request}
 use Rattle.tv_machine.specs.Dialog.Modal.{Modal}
 use Rattle.tv_machine.specs.Dialog.Mouse.{is_close_mark}
 use Rattle.tv_group.specs.declared.focus.Dir.TheVariants as dirs
-use Rattle.tv_tree.specs.Ready.{IsPointOf}
+use Rattle.tv_group.specs.Ready.{IsPointOf}
 use Rattle.tv_dialog.specs.Standing.{stop_in}
 
 -- what a key is posted as while no view holds the mouse, if it is

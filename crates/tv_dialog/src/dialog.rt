@@ -15,7 +15,7 @@ ghost use Rattle.tv_machine.specs.Dialog.Lawful.{IsLawfulDialog};
 ghost use Rattle.tv_machine.specs.Dialog.Opening.{unfocused};
 ghost use Rattle.tv_model.specs.declared.desc.Dialog.{Dialog as Declared};
 ghost use Rattle.tv_dialog.specs.Resting.{Rests};
-ghost use Rattle.tv_tree.specs.Shown.{IsShown, desktop_canvas, shadow_layer};
+ghost use Rattle.tv_group.specs.Shown.{IsShown, desktop_canvas, shadow_layer};
 ghost use Rattle.tv_dialog.specs.Standing.{Stands};
 ghost use Rattle.tv_cells.specs.Picture.{Picture};
 ghost use Rattle.tv_model.specs.declared.desc.Desc.{Desc};

@@ -8,7 +8,7 @@ ghost use Rattle.tv_machine.specs.Dialog.Modal.{Modal};
 ghost use Rattle.tv_machine.specs.Dialog.Mouse.{is_close_mark};
 ghost use Rattle.tv_machine.specs.Dialog.Shortcuts.{HaveOneMarker};
 ghost use Rattle.tv_machine.specs.Dialog.Step.{dialog_step};
-ghost use Rattle.tv_tree.specs.Ready.{HoldsLeaf};
+ghost use Rattle.tv_group.specs.Ready.{HoldsLeaf};
 ghost use Rattle.tv_group.specs.Calls.{any_holds};
 ghost use Rattle.tv_group.specs.Opened.{group_bounds, opened};
 ghost use Rattle.tv_view.specs.Damage.{AllEnvDamages};
@@ -130,11 +130,11 @@ impl<V: View> DialogOf<V> {
         ensures corner { self.new.corner ≡ self.old.corner }
         ensures damage { DialogDamages V.meaning env.now self.old self.new damage.old damage.new }
     {
-        self.step_told(self.held(), event, env, damage);
+        self.step_with_hold(self.held(), event, env, damage);
     }
 
     /// Handles an event as `step` does, told whether one of its views holds the mouse. To ask that costs a call of each.
-    pub fn step_told(&mut self, is_held: bool, event: &Event, env: &Env, damage: &mut Damage)
+    pub fn step_with_hold(&mut self, is_held: bool, event: &Event, env: &Env, damage: &mut Damage)
         requires going { self.old.is_open ≡ true }
         requires held { is_held ≡ any_holds (opened V.meaning self.old.body) }
         ensures stands { (d : Dialog) (m : Modal) → IsLawfulDialog d → env.now.views.now ≡ d.views → IsHandedIn event.now → HoldsLeaf d m

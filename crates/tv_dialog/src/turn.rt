@@ -12,12 +12,12 @@ ghost use Rattle.tv_machine.specs.State.{LeafState};
 ghost use Rattle.tv_group.specs.Handling.{group_after, group_answer, is_pass};
 ghost use Rattle.tv_group.specs.Opened.{opened};
 ghost use Rattle.tv_machine.specs.Dialog.Alike.{HoldSame};
-ghost use Rattle.tv_tree.specs.Ready.{KeepsMarks};
+ghost use Rattle.tv_group.specs.Ready.{KeepsMarks};
 ghost use Rattle.tv_view.specs.Damage.{AllDrawn};
 ghost use Rattle.tv_dialog.specs.Settling.{SettlesTo, IsPosted, IsReadyFor, IsReadyForAll, IsReadyForDown, PostedAfter, may_call, may_take, posted_by, reacted_first, turned};
 ghost use Rattle.tv_dialog.specs.Damage.{BodyDrawn};
 ghost use Rattle.tv_dialog.specs.Standing.{Stands};
-ghost use Rattle.tv_tree.specs.Turns.{IsLentBy, phases_after, phases_answer};
+ghost use Rattle.tv_group.specs.TreeTurns.{IsLentBy, phases_after, phases_answer};
 
 use crate::dialog::DialogOf;
 use crate::log::note;

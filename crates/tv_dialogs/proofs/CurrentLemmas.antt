@@ -9,7 +9,7 @@ use Rattle.tv_machine.specs.Session.Step.{dialog_with_hold}
 use Rattle.tv_machine.proofs.ListLemmas.{option_cases}
 use Rattle.tv_group.specs.Calls.{any_holds}
 use Rattle.tv_group.specs.Opened.{opened}
-use Rattle.tv_tree.proofs.Mouse.TakenLemmas.{any-holds}
+use Rattle.tv_group.proofs.Tree.Mouse.TakenLemmas.{any-holds}
 use Rattle.tv_dialog.proofs.StandsLemmas.{some-kept}
 use Rattle.tv_dialogs.specs.Dialogs.{AreDialogs, AreOfRun, IsOpenAmong, at_work, kept_at}
 use Rattle.tv_dialogs.specs.declared.kept.Kept.{Kept}

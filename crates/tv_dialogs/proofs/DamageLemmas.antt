@@ -27,7 +27,7 @@ use Rattle.tv_laws.specs.Runs.{HasSoundDialogs}
 use Rattle.tv_laws.proofs.WorkLemmas.{sound-at}
 use Rattle.tv_palette.specs.Palettes.{application, dialog}
 use Rattle.tv_palette.specs.declared.role.Owner.TheVariants as owners
-use Rattle.tv_tree.specs.Shown.{IsAtWork, desktop_canvas}
+use Rattle.tv_group.specs.Shown.{IsAtWork, desktop_canvas}
 use Rattle.tv_view.specs.Damage.{IsDrawnAlike, has_seen}
 use Rattle.tv_view.specs.Meaning.{Leaf}
 use Rattle.tv_view.specs.declared.env.Env.{Env}

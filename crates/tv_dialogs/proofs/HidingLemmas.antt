@@ -27,7 +27,7 @@ use Rattle.tv_machine.specs.Leaves.{leaf_list}
 use Rattle.tv_machine.specs.Screen.Bodies.{canvas_at}
 use Rattle.tv_machine.specs.Screen.Layers.{dialog_layers, dialog_leaf, open_layers}
 use Rattle.tv_machine.specs.State.{OpenDialog, State}
-use Rattle.tv_tree.proofs.Screen.OpenDialogLemmas.{dialog-tall}
+use Rattle.tv_group.proofs.Tree.Screen.OpenDialogLemmas.{dialog-tall}
 use Rattle.tv_view.specs.Meaning.{Leaf}
 use Rattle.tv_view.proofs.LayingLemmas.{lays_none}
 use Rattle.tv_view.proofs.SameLayerLemmas.{lays_same, resized}

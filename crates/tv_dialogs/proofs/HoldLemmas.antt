@@ -30,8 +30,8 @@ use Rattle.tv_machine.specs.Dialog.Step.{dialog_step, free_step, step_by}
 use Rattle.tv_machine.specs.Session.Step.{event_from}
 use Rattle.tv_machine.proofs.ListLemmas.{bool_cases, option_cases}
 use Rattle.tv_laws.specs.Steps.{RespectsHold}
-use Rattle.tv_tree.proofs.Keys.ReactedLemmas.{held-command, held-enter}
-use Rattle.tv_tree.proofs.RequestLemmas.{held-request}
+use Rattle.tv_group.proofs.Tree.Keys.ReactedLemmas.{held-command, held-enter}
+use Rattle.tv_group.proofs.Tree.RequestLemmas.{held-request}
 use Rattle.tv_dialogs.specs.Kept.{may_hold}
 
 -- ---- a key lets no leaf take the mouse

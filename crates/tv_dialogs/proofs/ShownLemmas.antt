@@ -24,7 +24,7 @@ use Rattle.tv_machine.specs.Dialog.Modal.{Modal}
 use Rattle.tv_machine.specs.Screen.Layers.{dialog_layers, open_layers}
 use Rattle.tv_laws.specs.Runs.{HasSoundDialogs}
 use Rattle.tv_laws.proofs.WorkLemmas.{sound-at}
-use Rattle.tv_tree.specs.Shown.{IsAtWork, desktop_canvas, open_bounds, shadow_layer}
+use Rattle.tv_group.specs.Shown.{IsAtWork, desktop_canvas, open_bounds, shadow_layer}
 use Rattle.tv_view.proofs.LayingLemmas.{lays_as}
 use Rattle.tv_dialog.specs.Bounds.{dialog_bounds}
 use Rattle.tv_dialog.specs.Head.{KeptDialogHead, declared_dialog_head, kept_dialog_head}

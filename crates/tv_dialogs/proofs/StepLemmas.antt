@@ -24,7 +24,7 @@ use Rattle.tv_group.specs.Opened.{opened}
 use Rattle.tv_laws.specs.Ends.{NamesEndOf}
 use Rattle.tv_laws.specs.Steps.{RespectsHold}
 use Rattle.tv_laws.proofs.StepLemmas.{stays-fit}
-use Rattle.tv_tree.proofs.Mouse.TakenLemmas.{any-holds}
+use Rattle.tv_group.proofs.Tree.Mouse.TakenLemmas.{any-holds}
 use Rattle.tv_dialog.proofs.StandsLemmas.{some-kept}
 use Rattle.tv_dialog.specs.Standing.{Stands, end_number}
 use Rattle.tv_dialog.specs.Stepping.{begun_anew}

@@ -32,10 +32,10 @@ use Rattle.tv_group.specs.Opened.{opened}
 use Rattle.tv_group.specs.Outline.{IsFreshBody}
 use Rattle.tv_group.specs.declared.group.GroupOf.{GroupOf}
 use Rattle.tv_group.proofs.GatheredLemmas.{gathered-all}
-use Rattle.tv_tree.specs.Tree.{placed_as, tree_as, tree_of}
-use Rattle.tv_tree.proofs.EndingLemmas.{fewer_leaves, gathered-tree}
-use Rattle.tv_tree.proofs.GatheredLemmas.{value-fields}
-use Rattle.tv_tree.proofs.OpeningLemmas.{content_at-unfocused, leaves-unfocused, recorded-field}
+use Rattle.tv_group.specs.Tree.{placed_as, tree_as, tree_of}
+use Rattle.tv_group.proofs.Tree.EndingLemmas.{fewer_leaves, gathered-tree}
+use Rattle.tv_group.proofs.Tree.GatheredLemmas.{value-fields}
+use Rattle.tv_group.proofs.Tree.OpeningLemmas.{content_at-unfocused, leaves-unfocused, recorded-field}
 use Rattle.tv_laws.specs.Steps.{IsSafeSave}
 use Rattle.tv_laws.proofs.ComingLemmas.{declared-fit}
 use Rattle.tv_laws.proofs.OpenLemmas.{recorded_value}

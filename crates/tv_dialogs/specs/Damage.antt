@@ -12,7 +12,7 @@ use Rattle.tv_model.specs.declared.desc.Desc.{Desc}
 use Rattle.tv_model.specs.declared.desc.Dialog.{Dialog}
 use Rattle.tv_machine.specs.Screen.Layers.{open_layers}
 use Rattle.tv_machine.specs.State.{State}
-use Rattle.tv_tree.specs.Shown.{IsOfDialog}
+use Rattle.tv_group.specs.Shown.{IsOfDialog}
 use Rattle.tv_view.specs.Damage.{IsDrawnAlike}
 use Rattle.tv_view.specs.Meaning.{Leaf}
 use Rattle.tv_view.specs.declared.env.Env.{Env}

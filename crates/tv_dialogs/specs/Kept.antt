@@ -18,7 +18,7 @@ use Rattle.tv_machine.specs.Dialog.Opening.{opened_leaves}
 use Rattle.tv_machine.specs.Dialog.Shortcuts.{HaveOneMarker}
 use Rattle.tv_group.specs.Calls.{all_gathered, any_holds}
 use Rattle.tv_group.specs.Opened.{opened}
-use Rattle.tv_tree.specs.Ready.{HoldsLeaf}
+use Rattle.tv_group.specs.Ready.{HoldsLeaf}
 use Rattle.tv_dialog.specs.Resting.{Rests}
 use Rattle.tv_dialog.specs.Standing.{Stands}
 use Rattle.tv_dialog.specs.declared.dialog.DialogOf.{DialogOf}

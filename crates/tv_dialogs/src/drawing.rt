@@ -6,7 +6,7 @@ ghost use Rattle.tv_machine.specs.Screen.Layers.{open_layers};
 ghost use Rattle.tv_machine.specs.State.{State};
 ghost use Rattle.tv_model.specs.Description.Rectangles.{IsSmall, desktop};
 ghost use Rattle.tv_model.specs.declared.desc.Desc.{Desc as Declared};
-ghost use Rattle.tv_tree.specs.Shown.{desktop_canvas};
+ghost use Rattle.tv_group.specs.Shown.{desktop_canvas};
 ghost use Rattle.tv_cells.specs.Damage.{is_part};
 ghost use Rattle.tv_cells.specs.Layers.{Lays};
 ghost use Rattle.tv_cells.specs.Repainting.{clipped, within};

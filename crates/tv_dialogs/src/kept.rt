@@ -14,7 +14,7 @@ ghost use Rattle.tv_group.specs.Calls.{HasRoomForAll, all_gathered, any_holds};
 ghost use Rattle.tv_group.specs.Opened.{opened};
 ghost use Rattle.tv_group.specs.Outline.{IsFreshBody};
 ghost use Rattle.tv_machine.specs.Dialog.Lawful.{IsLawfulDialog};
-ghost use Rattle.tv_tree.specs.Shown.{IsAtWork, desktop_canvas};
+ghost use Rattle.tv_group.specs.Shown.{IsAtWork, desktop_canvas};
 ghost use Rattle.tv_cells.specs.Layers.{Lays, Shadow};
 ghost use Rattle.tv_cells.specs.Rectangle.{IsRectNear};
 ghost use Rattle.tv_cells.specs.Repainting.{clipped, within};
@@ -176,9 +176,9 @@ impl<V: View> Kept<V> {
             is_active: true,
         };
         self.dialog
-            .step_told(is_held, &event_from(corner, event), &env, damage);
+            .step_with_hold(is_held, &event_from(corner, event), &env, damage);
         self.save();
-        self.mark_ended(damage);
+        self.mark_if_ended(damage);
     }
 
     /// Adds the dialog's rectangle and its shadow.
@@ -189,8 +189,8 @@ impl<V: View> Kept<V> {
         damage.add_with_shadow(self.dialog.bounds());
     }
 
-    // The same where it has ended.
-    fn mark_ended(&self, damage: &mut Damage)
+    // Adds them where the dialog has ended.
+    fn mark_if_ended(&self, damage: &mut Damage)
         ensures ended { self.now.dialog.is_open ≡ false → HasShadowed (dialog_bounds self.now.dialog) damage.new }
         ensures kept { Keeps damage.old damage.new }
     {

@@ -6,12 +6,12 @@ use Rattle.tv_machine.specs.Run.{Session}
 use Rattle.tv_model.specs.declared.desc.Desc.{Desc}
 use Rattle.tv_play.specs.Playing.{Ports}
 use Rattle.tv_play.specs.declared.parting.Parting.{Parting}
-use Rattle.tv_pictures.specs.Albums.{Hung}
-use Rattle.tv_pictures.specs.Drawing.{PicturesTo}
-use Rattle.tv_pictures.specs.Drawing.PicturesTo.{unrun, drawn, cut}
-use Rattle.tv_pictures.specs.Shots.{ShotsTo}
-use Rattle.tv_pictures.specs.Shots.ShotsTo.{refused as refused_shots, unbegun as unbegun_shots, drawn as drawn_shots}
-use Rattle.tv_pictures.specs.declared.fault.DrawingFault.{DrawingFault}
+use Rattle.tv_program.specs.Albums.{Hung}
+use Rattle.tv_program.specs.Drawing.{PicturesTo}
+use Rattle.tv_program.specs.Drawing.PicturesTo.{unrun, drawn, cut}
+use Rattle.tv_program.specs.Shots.{ShotsTo}
+use Rattle.tv_program.specs.Shots.ShotsTo.{refused as refused_shots, unbegun as unbegun_shots, drawn as drawn_shots}
+use Rattle.tv_program.specs.declared.picture_fault.DrawingFault.{DrawingFault}
 use Rattle.tv_program.specs.declared.play_fault.PlayFault.{PlayFault}
 use Rattle.tv_program.specs.declared.play_fault.PlayFault.TheVariants as runs
 use Rattle.tv_program.specs.Playing.{IsNoStart, RunsTo}

@@ -2,10 +2,10 @@
 use Rattle.std.proofs.Common.{ℕ, List, string_bytes}
 use Rattle.std.specs.Prelude.{Bool, true, false}
 use Rattle.tv_model.specs.declared.desc.Desc.{Desc}
-use Rattle.tv_report.specs.Beside.{IsReportByKind, IsToldByKind}
-use Rattle.tv_report.specs.declared.beside.Beside.{Beside}
-use Rattle.tv_report.specs.declared.beside.Beside.TheVariants as besides
-use Rattle.tv_report.specs.declared.manner.Manner.{Manner}
+use Rattle.tv_advice.specs.Beside.{IsReportByKind, IsToldByKind}
+use Rattle.tv_advice.specs.declared.beside.Beside.{Beside}
+use Rattle.tv_advice.specs.declared.beside.Beside.TheVariants as besides
+use Rattle.tv_advice.specs.declared.manner.Manner.{Manner}
 
 -- the report, if it is one, tells of a line of the text
 abbrev pub IsReportIn : Bool → Manner → (name : List ℕ) → Desc → (text : List ℕ) → Beside → Type 0

@@ -1,11 +1,11 @@
 -- How a task ends.
 use Rattle.std.specs.Prelude.{ℕ, List, Result, Ok, Err}
-use Rattle.tv_pictures.specs.declared.album.AlbumFault.TheVariants as albums
-use Rattle.tv_pictures.specs.declared.album.AlbumFault.{AlbumFault}
-use Rattle.tv_pictures.specs.declared.fault.DrawingFault.{DrawingFault}
-use Rattle.tv_pictures.specs.declared.fault.DrawingFault.TheVariants as pictures
-use Rattle.tv_pictures.specs.declared.fault.ShotFault.{ShotFault}
-use Rattle.tv_pictures.specs.Naming.{shot_name}
+use Rattle.tv_program.specs.declared.album.AlbumFault.TheVariants as albums
+use Rattle.tv_program.specs.declared.album.AlbumFault.{AlbumFault}
+use Rattle.tv_program.specs.declared.picture_fault.DrawingFault.{DrawingFault}
+use Rattle.tv_program.specs.declared.picture_fault.DrawingFault.TheVariants as pictures
+use Rattle.tv_program.specs.declared.picture_fault.ShotFault.{ShotFault}
+use Rattle.tv_program.specs.Naming.{shot_name}
 use Rattle.tv_play.specs.declared.parting.Parting.{Parting}
 use Rattle.tv_play.specs.declared.parting.Parting.TheVariants as partings
 use Rattle.tv_program.specs.declared.fault.RunFault.{RunFault}

@@ -2,7 +2,7 @@
 use Rattle.std.specs.Prelude.{◌≡◌, ℕ, Option, Result, Ok, Err}
 use Rattle.tv_model.specs.declared.desc.Desc.{Desc}
 use Rattle.tv_io.specs.Writer.{Seen}
-use Rattle.tv_pictures.specs.Albums.{Hung}
+use Rattle.tv_program.specs.Albums.{Hung}
 use Rattle.tv_play.specs.Pieces.{Heard}
 use Rattle.tv_play.specs.Playing.{Ports}
 use Rattle.tv_files.specs.declared.done.Done.{Done}

@@ -11,10 +11,10 @@ use Rattle.tv_model.specs.declared.desc.Desc.{Desc}
 use Rattle.tv_program.specs.Reading.{IsNoDescription}
 use Rattle.tv_program.specs.declared.fault.RunFault.{RunFault}
 use Rattle.tv_program.specs.declared.fault.RunFault.TheVariants as faults
-use Rattle.tv_report.specs.Beside.{IsReportBeside, IsToldBeside}
-use Rattle.tv_report.specs.Told.{IsReportOf, SpellsSound}
-use Rattle.tv_report.specs.declared.beside.Beside.TheVariants as besides
-use Rattle.tv_report.specs.declared.manner.Manner.{Manner}
+use Rattle.tv_advice.specs.Beside.{IsReportBeside, IsToldBeside}
+use Rattle.tv_advice.specs.Told.{IsReportOf, SpellsSound}
+use Rattle.tv_advice.specs.declared.beside.Beside.TheVariants as besides
+use Rattle.tv_advice.specs.declared.manner.Manner.{Manner}
 use Rattle.tv_script.specs.declared.script_text.ScriptFault.TheVariants as scripts
 
 -- ---- a description

@@ -1,7 +1,7 @@
 -- What every task comes to.
 use Rattle.std.specs.Prelude.{◌≡◌, Option}
 use Rattle.tv_model.specs.declared.desc.Desc.{Desc}
-use Rattle.tv_pictures.specs.Albums.{Hung}
+use Rattle.tv_program.specs.Albums.{Hung}
 use Rattle.tv_play.specs.Playing.{Ports}
 use Rattle.tv_files.specs.declared.done.Done.{Done}
 use Rattle.tv_files.specs.declared.done.Done.TheVariants.{Whole}

@@ -3,10 +3,10 @@ use Rattle.std.specs.Prelude.{◌≡◌, ℕ, List, Option, Result}
 use Rattle.tv_model.specs.declared.desc.Desc.{Desc}
 use Rattle.tv_io.specs.Reader.{Given}
 use Rattle.tv_io.specs.Writer.{Seen}
-use Rattle.tv_pictures.specs.Albums.{Hung}
-use Rattle.tv_pictures.specs.Drawing.{PicturesTo}
-use Rattle.tv_pictures.specs.Shots.{ShotsTo}
-use Rattle.tv_pictures.specs.declared.fault.DrawingFault.{DrawingFault}
+use Rattle.tv_program.specs.Albums.{Hung}
+use Rattle.tv_program.specs.Drawing.{PicturesTo}
+use Rattle.tv_program.specs.Shots.{ShotsTo}
+use Rattle.tv_program.specs.declared.picture_fault.DrawingFault.{DrawingFault}
 use Rattle.tv_program.specs.declared.play_fault.PlayFault.{PlayFault}
 use Rattle.tv_files.specs.Ends.{End, end_of_run, end_of_shots}
 use Rattle.tv_files.specs.Files.{Known}

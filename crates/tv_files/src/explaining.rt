@@ -10,12 +10,12 @@ use crate::failure::Failure;
 use crate::file_store::FileStore;
 use crate::tasks::{LONGEST, read_file};
 use std::alloc::Global;
+use tv_advice::{Beside, Manner, Told, tell, tell_beside};
 use tv_check::CertificateFault;
 use tv_io::{Writer, write_all};
 use tv_lang::LangFault;
 use tv_model::Desc;
 use tv_program::RunFault;
-use tv_report::{Beside, Manner, Told, tell, tell_beside};
 use tv_script::ScriptFault;
 
 /// Writes what there is to tell of the faults of the description in a file, or of the line that can't be read.

@@ -6,8 +6,7 @@ ghost use Rattle.tv_files.specs.Ends.{end_of_failure, end_of_shot, file_told, pa
 ghost use Rattle.tv_files.specs.Ends.End.{faulted};
 
 use tv_io::ReadFault;
-use tv_pictures::{AlbumFault, ShotFault};
-use tv_program::{PlayFault, RunFault};
+use tv_program::{AlbumFault, PlayFault, RunFault, ShotFault};
 
 /// Why a task didn't come to its end.
 #[derive(Debug, Drop)]

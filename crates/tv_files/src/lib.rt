@@ -32,6 +32,6 @@ pub use tasks::{accept_file, check_file, perform, play_file, run_file, tell_vers
 pub use telling::{finish, tell_no_memory, tell_no_task};
 pub use terminal_input::TerminalInput;
 pub use timed_read::{Reading, TimedRead, TimedReader};
+pub use tv_advice::Manner;
 pub use tv_io::ReadFault;
-pub use tv_pictures::{Album, AlbumFault};
-pub use tv_report::Manner;
+pub use tv_program::{Album, AlbumFault};

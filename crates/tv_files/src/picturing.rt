@@ -8,10 +8,10 @@ use crate::failure::Failure;
 use crate::file_store::FileStore;
 use crate::tasks::{open, read};
 use std::alloc::Global;
-use tv_building::{BuildFault, Views};
 use tv_check::Checked;
 use tv_io::Writer;
-use tv_pictures::{Album, DrawingFault, picture, picture_shots};
+use tv_program::{Album, DrawingFault, picture, picture_shots};
+use tv_session::{BuildFault, Views};
 use tv_view::View;
 
 /// Runs a file's script on a file's description, through the views that `views` makes of it, and writes the screen that it

@@ -9,10 +9,10 @@ use crate::tasks::perform;
 use crate::telling::{finish, tell_no_task};
 use crate::{NoTask, Task};
 use std::alloc::Global;
-use tv_building::{BuildFault, Views};
 use tv_check::Checked;
-use tv_pictures::Album;
 use tv_play::Pieces;
+use tv_program::Album;
+use tv_session::{BuildFault, Views};
 use tv_view::View;
 
 /// Does what is asked for with these files, or tells why nothing is: results, faults and refusals go to `out`, messages

@@ -5,7 +5,7 @@ ghost use Rattle.std.specs.IoError.{error_kind};
 ghost use Rattle.std.specs.Prelude.{◌≡◌, [], IfOk, None};
 ghost use Rattle.tv_files.specs.Unmade.{unmade_for};
 ghost use Rattle.tv_io.specs.Device.{device_seen};
-ghost use Rattle.tv_svg.specs.Svg.{svg_of};
+ghost use Rattle.tv_terminal.specs.Svg.{svg_of};
 
 use std::alloc::Global;
 use std::fs::create;
@@ -14,8 +14,8 @@ use std::io::{ErrorKind, Write};
 use std::rt::Files;
 use tv_cells::Screen;
 use tv_io::Device;
-use tv_pictures::{Album, AlbumFault};
-use tv_svg::write_svg;
+use tv_program::{Album, AlbumFault};
+use tv_terminal::write_svg;
 
 /// Puts each picture into the file of a runtime whose path is its name, in place of what that held. Nothing is known of what the
 /// files hold then.

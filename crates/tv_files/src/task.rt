@@ -1,6 +1,6 @@
 //! What the program can be asked for.
 
-use tv_report::Manner;
+use tv_advice::Manner;
 
 /// What the command line asks for. Paths are taken as they stand.
 #[derive(Clone, Copy, Debug, PartialEq, Eq)]

@@ -15,14 +15,13 @@ use crate::file_store::FileStore;
 use crate::picturing::{picture_all, picture_file};
 use crate::{Done, Task};
 use std::alloc::Global;
-use tv_building::{BuildFault, Views};
 use tv_check::Checked;
 use tv_io::{Reader, Writer, read_text, write_all};
 use tv_lang::parse;
 use tv_model::Desc;
-use tv_pictures::Album;
 use tv_play::Pieces;
-use tv_program::{RunFault, accept_text, check, play, run};
+use tv_program::{Album, RunFault, accept_text, check, play, run};
+use tv_session::{BuildFault, Views};
 use tv_view::View;
 
 /// The most bytes of a description, a certificate, or a text that is explained beside a description.

@@ -2,7 +2,7 @@
 
 ghost use Rattle.std.specs.Prelude.{◌≡◌, [], ◌∷◌};
 ghost use Rattle.tv_io.specs.Pen.{Puts};
-ghost use Rattle.tv_pictures.specs.Naming.{shot_name};
+ghost use Rattle.tv_program.specs.Naming.{shot_name};
 ghost use Rattle.tv_program.specs.Report.{IsOffered};
 ghost use Rattle.tv_files.specs.Ends.{done_in, end_of, end_of_failure};
 ghost use Rattle.tv_files.specs.declared.done.Done.TheVariants.{Whole};

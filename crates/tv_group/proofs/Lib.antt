@@ -26,3 +26,4 @@ pub mod SearchLemmas
 pub mod TreeLemmas
 pub mod TurnLemmas
 pub mod StackLemmas
+pub mod Tree

@@ -1,4 +1,5 @@
-//! Groups of views: a group means its leaves, opened out.
+//! Groups of views: a group means its leaves, opened out; and what the views of a dialog must be for a state of the flat
+//! machine's dialog, in definitions and lemmas.
 #![tactic(auto)]
 
 mod ask;

@@ -7,3 +7,4 @@ pub mod LineStepLemmas
 pub mod DescriptionTextLemmas
 pub mod ReadingLemmas
 pub mod PrintLemmas
+pub mod PrintTextLemmas

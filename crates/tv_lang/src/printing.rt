@@ -4,9 +4,9 @@ ghost use Rattle.std.specs.Prelude.{◌≡◌, string_bytes, IfOk};
 ghost use Rattle.tv_declarations.specs.CanonicalDescription.{description_text};
 ghost use Rattle.tv_lang.specs.CanonicalDescription.{CanBeSpelled, SpellsOnly};
 
+use crate::printer::description_text;
 use std::alloc::{AllocError, Global};
 use tv_model::Desc;
-use tv_printing::description_text;
 
 /// Writes the canonical text of a description: each declaration on a line, one space between words, no comments. Where
 /// any text spells the description, this one does, and it spells no other.

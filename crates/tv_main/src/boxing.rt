@@ -1,21 +1,21 @@
 //! The views of a run: the toolkit's own controls, each in a box.
 
 ghost use Rattle.std.specs.Prelude.{◌≡◌, IfErr, IfOk, Result};
-ghost use Rattle.tv_building.specs.declared.fault.BuildFault.TheVariants.{NoMemory};
+ghost use Rattle.tv_session.specs.declared.build_fault.BuildFault.TheVariants.{NoMemory};
 ghost use Rattle.tv_files.specs.EndsWith.{EndsWith};
 ghost use Rattle.tv_files.specs.declared.no_task.NoTask.{NoTask as WhyNone};
 ghost use Rattle.tv_files.specs.declared.task.Task.{Task as Wanted};
 ghost use Rattle.tv_main.specs.Asking.{IsAskedBy};
-ghost use Rattle.tv_toolkit.specs.Control.{control_leaf};
-ghost use Rattle.tv_toolkit.specs.Views.{NoneMismatches};
+ghost use Rattle.tv_app.specs.Control.{control_leaf};
+ghost use Rattle.tv_app.specs.Views.{NoneMismatches};
 
 use crate::arguments::read_task;
 use std::alloc::{AllocError, Global};
-use tv_building::{BuildFault, Views};
+use tv_app::{Control, views_by};
 use tv_check::Checked;
 use tv_files::{Album, FileStore, NoTask, Stream, Task, run_program};
 use tv_play::Pieces;
-use tv_toolkit::{Control, views_by};
+use tv_session::{BuildFault, Views};
 use tv_view::View;
 
 /// Carries out what the words of a command line ask for, or tells why there are none. Returns the program's status.

@@ -15,8 +15,8 @@ use crate::menus::menu_at;
 use crate::titles::columns_before;
 use tv_cells::{Point, Rect};
 use tv_faces::rect_at;
-use tv_leaf::contains;
 use tv_model::{Menu, MenuItem};
+use tv_view::contains;
 
 fn text_columns(item: &MenuItem) -> usize
     requires { IsLawfulItem item.now }

@@ -20,8 +20,8 @@ use std::alloc::{AllocError, Global};
 use tv_cells::{Point, Rect};
 use tv_event::{CommandSet, Event, Key};
 use tv_faces::{natural, rect_at};
-use tv_leaf::contains;
 use tv_model::{Desc, StatusItem};
+use tv_view::contains;
 
 fn copy_item(item: &StatusItem, alloc: Global) -> Result<StatusItem, AllocError>
     ensures { IfOk result (λ copy. copy ≡ item.now) }

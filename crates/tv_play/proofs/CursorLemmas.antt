@@ -3,9 +3,9 @@ use Rattle.std.proofs.Common.{◌≡◌, ℕ, true, false, Option, Some, None, r
 use Rattle.std.proofs.lemmas.Int.{ints}
 use Rattle.std.specs.Int.{int_gap}
 use Rattle.std.specs.Prelude.{pos}
-use Rattle.tv_ansi.specs.Displays.{HasCursor}
-use Rattle.tv_ansi.specs.Sequences.{cursor_on}
-use Rattle.tv_ansi.specs.Terminal.{Display}
+use Rattle.tv_terminal.specs.Displays.{HasCursor}
+use Rattle.tv_terminal.specs.Written.{cursor_on}
+use Rattle.tv_terminal.specs.Terminal.{Display}
 use Rattle.tv_cells.specs.Layers.{is_in}
 use Rattle.tv_cells.specs.Picture.{IsOn, Picture, cell_at}
 use Rattle.tv_cells.specs.Rectangle.{sized}

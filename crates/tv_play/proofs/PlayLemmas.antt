@@ -3,8 +3,8 @@ use Rattle.std.proofs.Common.{◌≡◌, ℕ, ◌<◌, Bool, true, false, inl, i
 use Rattle.std.specs.List.{concat}
 use Rattle.std.proofs.lemmas.List.{append-nil, length-map, length-take-le}
 use Rattle.std.proofs.lemmas.List.Elements.{All-nil}
-use Rattle.tv_ansi.specs.Sequences.{end_bytes}
-use Rattle.tv_ansi.specs.declared.painter.Painter.{Painter}
+use Rattle.tv_terminal.specs.Written.{end_bytes}
+use Rattle.tv_terminal.specs.declared.painter.Painter.{Painter}
 use Rattle.tv_event.specs.declared.event.Event.{Event as Happening}
 use Rattle.std.specs.Prelude.{IfNone, MatchResult}
 use Rattle.tv_io.specs.Pen.{PutsBy}

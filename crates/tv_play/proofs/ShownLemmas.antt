@@ -4,13 +4,13 @@ use Rattle.std.specs.List.{concat}
 use Rattle.std.proofs.lemmas.Bool.{cases_lt, both_ways, cases_Bool}
 use Rattle.std.proofs.lemmas.List.{append-nil, take-append-le, take_all}
 use Rattle.std.proofs.lemmas.List.Folds.{concat-append}
-use Rattle.tv_ansi.specs.Displays.{Becomes, HasSpace, tile_of}
-use Rattle.tv_ansi.specs.Sequences.{cursor_on, end_bytes}
-use Rattle.tv_ansi.specs.Terminal.{Display}
-use Rattle.tv_ansi.specs.Writing.{Begun, IsRight, Painted, Paints, BeginsScreen, restored}
-use Rattle.tv_ansi.specs.declared.painter.Painter.{Painter}
-use Rattle.tv_ansi.proofs.DrawLemmas.{tells-as, tells-then}
-use Rattle.tv_ansi.proofs.PaintLemmas.{told-end}
+use Rattle.tv_terminal.specs.Displays.{Becomes, HasSpace, tile_of}
+use Rattle.tv_terminal.specs.Written.{cursor_on, end_bytes}
+use Rattle.tv_terminal.specs.Terminal.{Display}
+use Rattle.tv_terminal.specs.Writing.{Begun, IsRight, Painted, Paints, BeginsScreen, restored}
+use Rattle.tv_terminal.specs.declared.painter.Painter.{Painter}
+use Rattle.tv_terminal.proofs.DrawLemmas.{tells-as, tells-then}
+use Rattle.tv_terminal.proofs.PaintLemmas.{told-end}
 use Rattle.tv_cells.specs.Picture.{IsAlike, IsOn, Picture, cell_at}
 use Rattle.tv_cells.specs.Repainting.{has_cell}
 use Rattle.tv_cells.specs.declared.rect.Point.{Point}

@@ -1,6 +1,6 @@
 -- What comes of a thing that the user did.
 use Rattle.std.proofs.Common.{◌≡◌, Bool, true, false, List, [], ◌∷◌, ◌++◌, Option, Some, None, Result, Ok, Err, refl, sym, ap, subst, ◌∙◌}
-use Rattle.tv_ansi.specs.declared.painter.Painter.{Painter}
+use Rattle.tv_terminal.specs.declared.painter.Painter.{Painter}
 use Rattle.tv_cells.specs.declared.rect.Rect.{Rect}
 use Rattle.tv_event.specs.declared.event.Event.{Event as Happening}
 use Rattle.std.specs.Prelude.{MatchResult, IfNone}

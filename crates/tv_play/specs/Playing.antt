@@ -1,7 +1,7 @@
 -- What a run in a terminal comes to.
 use Rattle.std.specs.Prelude.{◌≡◌, ◌⊎◌, ℕ, Bool, true, false, List, [], ◌++◌, Result, Ok, Err}
 use Rattle.std.specs.List.{concat}
-use Rattle.tv_ansi.specs.Sequences.{end_bytes}
+use Rattle.tv_terminal.specs.Written.{end_bytes}
 use Rattle.tv_event.specs.declared.event.Event.{Event}
 use Rattle.tv_io.specs.Writer.{Cuts, Seen, Takes}
 use Rattle.tv_io.specs.declared.writer.WriteFailed.{WriteFailed}

@@ -1,9 +1,9 @@
 -- What a terminal shows of a run.
 use Rattle.std.specs.Prelude.{◌≡◌, ◌<◌, ◌≤◌, ◌+◌, ℕ, true, false, List, take, length, Some, None}
 use Rattle.std.specs.List.{concat}
-use Rattle.tv_ansi.specs.Displays.{Becomes, tile_of}
-use Rattle.tv_ansi.specs.Terminal.{Covered, Display, plain_back, plain_front}
-use Rattle.tv_ansi.specs.declared.painter.Painter.{Painter}
+use Rattle.tv_terminal.specs.Displays.{Becomes, tile_of}
+use Rattle.tv_terminal.specs.Terminal.{Covered, Display, plain_back, plain_front}
+use Rattle.tv_terminal.specs.declared.painter.Painter.{Painter}
 use Rattle.tv_cells.specs.Repainting.{has_cell}
 use Rattle.tv_cells.specs.declared.rect.Rect.{Rect}
 use Rattle.tv_event.specs.declared.event.Event.{Event}

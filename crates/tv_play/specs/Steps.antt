@@ -2,7 +2,7 @@
 use Rattle.std.specs.Prelude.{◌≡◌, ◌<◌, ◌≤◌, ◌+◌, ◌^◌, ◌⊎◌, ℕ, Bool, true, false, List, [], ◌∷◌, ◌++◌, All}
 use Rattle.std.specs.Prelude.{map, take, length, Option, Some, None, Result, Ok, Err}
 use Rattle.std.specs.List.{concat}
-use Rattle.tv_ansi.specs.declared.painter.Painter.{Painter}
+use Rattle.tv_terminal.specs.declared.painter.Painter.{Painter}
 use Rattle.tv_cells.specs.Picture.{IsOn, cell_at}
 use Rattle.tv_event.specs.declared.event.Event.{Event as Happening}
 use Rattle.tv_io.specs.Pen.{PutsBy}

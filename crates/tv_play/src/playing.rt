@@ -15,11 +15,10 @@ use crate::pieces::{Piece, Pieces};
 use crate::player::{Outcome, outcome_of, take_piece};
 use crate::show::Show;
 use std::alloc::Global;
-use tv_ansi::Painter;
 use tv_cells::ScreenFault;
 use tv_io::{Pen, WriteFailed, Writer};
 use tv_script::Script;
-use tv_terminal::Decoder;
+use tv_terminal::{Decoder, Painter};
 
 /// The bytes that are asked for at once.
 const PIECE: usize = 64;

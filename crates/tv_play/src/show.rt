@@ -2,7 +2,7 @@
 
 ghost use Rattle.std.specs.Prelude.{◌≡◌, [], ◌∷◌, ◌++◌, true, false, List, ℕ};
 ghost use Rattle.std.specs.List.{concat};
-ghost use Rattle.tv_ansi.specs.Sequences.{end_bytes};
+ghost use Rattle.tv_terminal.specs.Written.{end_bytes};
 ghost use Rattle.tv_event.specs.declared.event.Event.{Event as Happening};
 ghost use Rattle.tv_io.specs.Pen.{PutsBy};
 ghost use Rattle.tv_io.specs.Writer.{Seen};
@@ -13,8 +13,8 @@ ghost use Rattle.tv_play.specs.Steps.{HasBeenShown};
 
 use crate::cursor::find_cursor;
 use crate::live::Live;
-use tv_ansi::Painter;
 use tv_io::{Pen, Writer};
+use tv_terminal::Painter;
 
 /// A terminal, with what it is taken to show.
 #[derive(Drop)]

@@ -1,3 +1,7 @@
 pub mod CheckLemmas
 mod PlayLemmas
 pub mod RunLemmas
+pub mod GainLemmas
+pub mod DrawingLemmas
+pub mod PictureLemmas
+pub mod ShotLemmas

@@ -1,7 +1,7 @@
 -- Why nothing is run, and how a run that was begun is left.
 use Rattle.std.proofs.Common.{◌≡◌, ℕ, List, Result, Ok, Err, IfErr, IsErrAnd, inr, ap, pos, refl, subst}
-use Rattle.tv_building.specs.declared.building.Views.{Views}
-use Rattle.tv_building.specs.declared.fault.BuildFault.{BuildFault}
+use Rattle.tv_session.specs.declared.building.Views.{Views}
+use Rattle.tv_session.specs.declared.build_fault.BuildFault.{BuildFault}
 use Rattle.tv_faults.proofs.SoundDialogLemmas.{sound_dialogs}
 use Rattle.tv_io.specs.Reader.{Given}
 use Rattle.tv_io.specs.Writer.{Seen}

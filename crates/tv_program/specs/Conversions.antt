@@ -1,7 +1,7 @@
 -- Faults handed on: the fault of a part as that of the call which it ends, and that of each call as the one
 -- that is told.
-use Rattle.tv_building.specs.declared.fault.BuildFault.{BuildFault}
-use Rattle.tv_building.specs.declared.fault.BuildFault.TheVariants as unbuilt
+use Rattle.tv_session.specs.declared.build_fault.BuildFault.{BuildFault}
+use Rattle.tv_session.specs.declared.build_fault.BuildFault.TheVariants as unbuilt
 use Rattle.tv_check.specs.declared.acceptance.Refusal.{Refusal}
 use Rattle.tv_check.specs.declared.acceptance.Refusal.TheVariants as refusals
 use Rattle.tv_check.specs.declared.desc_fault.DescFault.{DescFault}

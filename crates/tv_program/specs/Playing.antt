@@ -2,9 +2,9 @@
 use Rattle.std.specs.Prelude.{◌≡◌, ◌⊎◌, ℕ, List, Result, Ok, Err}
 use Rattle.std.specs.Fn.{FnReturns, Shared}
 use Rattle.std.specs.Borrow.{Bor}
-use Rattle.tv_building.specs.declared.building.Views.{Views}
-use Rattle.tv_building.specs.declared.fault.BuildFault.{BuildFault}
-use Rattle.tv_building.specs.declared.fault.BuildFault.TheVariants as unbuilt
+use Rattle.tv_session.specs.declared.building.Views.{Views}
+use Rattle.tv_session.specs.declared.build_fault.BuildFault.{BuildFault}
+use Rattle.tv_session.specs.declared.build_fault.BuildFault.TheVariants as unbuilt
 use Rattle.tv_check.specs.Refusals.{HasFaults}
 use Rattle.tv_lang.specs.Faults.{Spells}
 use Rattle.tv_machine.specs.Run.{Session, started}

@@ -1,20 +1,33 @@
-//! What the program does, as calls over bytes, readers and writers.
+//! What the program does, as calls over bytes, readers and writers; and the pictures of the screens of a run.
 #![tactic(auto)]
 
 mod accept_fault;
+mod album;
 mod check_fault;
 mod checking;
+mod drawing;
 mod fault;
 mod message;
+mod naming;
+mod nowhere;
+mod picture_fault;
 mod play_fault;
 mod playing;
+mod reading;
+mod running;
+mod shots;
 mod terminal;
 
 pub use accept_fault::AcceptFault;
+pub use album::{Album, AlbumFault};
 pub use check_fault::CheckFault;
 pub use checking::{accept_files, accept_text, check};
+pub use drawing::{draw, draw_shots};
 pub use fault::RunFault;
 pub use message::report;
+pub use picture_fault::{DrawingFault, ShotFault};
 pub use play_fault::PlayFault;
 pub use playing::{read_checked, run, run_from};
+pub use running::picture;
+pub use shots::picture_shots;
 pub use terminal::{play, play_from};

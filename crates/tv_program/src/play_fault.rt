@@ -5,13 +5,12 @@ ghost use Rattle.tv_program.specs.declared.play_fault.PlayFault.TheVariants.{NoM
 ghost use Rattle.tv_program.specs.Conversions.{build_run, desc_run, lang_run, session_run, stream_run, terminal_run};
 
 use std::alloc::AllocError;
-use tv_building::BuildFault;
 use tv_check::DescFault;
 use tv_lang::LangFault;
 use tv_model::{Fault, Sequence};
 use tv_play::PlayFault as TerminalFault;
 use tv_script::{ScriptFault, StreamFault};
-use tv_session::SessionFault;
+use tv_session::{BuildFault, SessionFault};
 
 /// Why a script wasn't run to its end: a fault of the description or of the views, before anything of the script is read, or
 /// one that came while the script was performed. Also why a description wasn't played in a terminal, which has no `Script`.

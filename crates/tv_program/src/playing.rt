@@ -8,12 +8,11 @@ ghost use Rattle.tv_session.specs.Session.{StandsFor};
 
 use crate::play_fault::PlayFault;
 use std::alloc::Global;
-use tv_building::{BuildFault, Views, parts_are_lawful};
 use tv_check::{Checked, examine};
 use tv_io::{Reader, Writer};
 use tv_lang::parse;
 use tv_script::perform_from;
-use tv_session::SessionOf;
+use tv_session::{BuildFault, SessionOf, Views, parts_are_lawful};
 use tv_view::View;
 
 /// Runs a script on a description through views that are made for it, as the script's bytes come. Writes the log and the

@@ -8,10 +8,10 @@ ghost use Rattle.tv_program.specs.Terminal.{PlaysText};
 use crate::play_fault::PlayFault;
 use crate::playing::{begin, read_checked};
 use std::alloc::Global;
-use tv_building::{BuildFault, Views, parts_are_lawful};
 use tv_check::Checked;
 use tv_io::Writer;
 use tv_play::{Parting, Pieces};
+use tv_session::{BuildFault, Views, parts_are_lawful};
 use tv_view::View;
 
 /// Plays a description in a terminal, through views that are made for it: takes what comes from the user in pieces, shows on

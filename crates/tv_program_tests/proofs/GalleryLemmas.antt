@@ -1,7 +1,7 @@
 -- One picture more.
 use Rattle.std.proofs.Common.{◌≡◌, ℕ, List, [], ◌∷◌, ◌++◌, map, Some, Result, Ok, Err, MatchResult, refl, sym, ap, ◌∙◌, append-nil}
-use Rattle.tv_pictures.specs.Albums.{FailsFor, Gains, NamedPicture}
-use Rattle.tv_pictures.specs.declared.album.AlbumFault.{AlbumFault}
+use Rattle.tv_program.specs.Albums.{FailsFor, Gains, NamedPicture}
+use Rattle.tv_program.specs.declared.album.AlbumFault.{AlbumFault}
 use Rattle.tv_program_tests.specs.Galleries.{GainsExhibit}
 
 module _ {H : Type 0} (shown : H → NamedPicture) where

@@ -4,10 +4,10 @@ ghost use Rattle.tv_check.specs.Plan.{IsLawfulStep};
 ghost use Rattle.tv_model.specs.Description.LawfulNodes.{IsLawfulNode};
 
 use std::alloc::Global;
-use tv_building::{BuildFault, Building, Views};
 use tv_check::{BuildStep, Checked};
 use tv_controls::{Button, ControlFault};
 use tv_model::Node;
+use tv_session::{BuildFault, Building, Views};
 
 /// The windows and bodies that a checked description declares.
 ///

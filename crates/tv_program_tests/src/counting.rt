@@ -10,10 +10,10 @@ use crate::user::User;
 use std::alloc::Global;
 use std::cell::Cell;
 use std::test::Fail;
-use tv_building::{BuildFault, Views};
 use tv_check::Checked;
 use tv_controls::Button;
 use tv_files::{DirectStream, Task, run_program};
+use tv_session::{BuildFault, Views};
 use tv_test_support::certificates::CANCEL_CERTIFICATE;
 use tv_test_support::descriptions::{CANCEL, ORDER, WITHOUT_CANCEL};
 

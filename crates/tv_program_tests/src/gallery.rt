@@ -7,7 +7,7 @@ use std::alloc::{AllocError, Global};
 use tv_cells::Screen;
 use tv_files::{Album, AlbumFault};
 use tv_io::{WriteFailed, Writer};
-use tv_svg::write_svg;
+use tv_terminal::write_svg;
 
 /// A text that is written.
 #[derive(Drop)]
@@ -85,7 +85,7 @@ fn hang(hung: &mut Vec<Exhibit>, picture: Exhibit) -> Result<(), AlbumFault>
 
 impl Album for Gallery {
     ghost use Rattle.std.specs.Prelude.{map, string_bytes};
-    ghost use Rattle.tv_pictures.specs.Albums.{drawn_as};
+    ghost use Rattle.tv_program.specs.Albums.{drawn_as};
 
     ghost hung = { λ gallery. Some (record {
       pictures = map (λ picture. drawn_as (string_bytes picture.name) picture.text.items) gallery.hung.items;

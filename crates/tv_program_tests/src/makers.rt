@@ -6,11 +6,10 @@ ghost use Rattle.tv_session.specs.Session.{StandsFor};
 
 use std::alloc::Global;
 use std::test::Fail;
-use tv_building::{BuildFault, Views};
 use tv_check::Checked;
 use tv_controls::Button;
 use tv_program::read_checked;
-use tv_session::SessionOf;
+use tv_session::{BuildFault, SessionOf, Views};
 use tv_view::View;
 
 /// The checked description that a text spells.

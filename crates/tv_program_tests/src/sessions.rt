@@ -4,10 +4,9 @@ use crate::button_views::buttons;
 use crate::makers::checked;
 use std::alloc::Global;
 use std::test::Fail;
-use tv_building::Views;
 use tv_check::Checked;
 use tv_controls::Button;
-use tv_session::{Refused, SessionFault, SessionOf};
+use tv_session::{Refused, SessionFault, SessionOf, Views};
 
 // Two windows without views, and two dialogs.
 const FOUR_VIEWS: &str = r#"tvd 1

@@ -5,7 +5,7 @@ use std::test::Fail;
 use tv_cells::Screen;
 use tv_files::{Album, AlbumFault, FileStore, ReadFault, RuntimeAlbum, RuntimeFiles};
 use tv_io::read_text;
-use tv_svg::write_svg;
+use tv_terminal::write_svg;
 use tv_test_support::Memory;
 
 // More than these pictures have.

@@ -17,7 +17,7 @@ use Rattle.tv_group.specs.declared.group.GroupOf.{GroupOf}
 use Rattle.tv_group.proofs.TreeLemmas.{fresh_placed, opened-fresh}
 use Rattle.tv_dialog.specs.Head as heads
 use Rattle.tv_dialog.specs.Head.{declared_dialog_head}
-use Rattle.tv_tree.proofs.EndingLemmas.{fewer_leaves}
+use Rattle.tv_group.proofs.Tree.EndingLemmas.{fewer_leaves}
 use Rattle.tv_dialog.proofs.FirstRecordLemmas.{few-room}
 use Rattle.tv_machine.proofs.LeafLemmas.{leaves-all}
 use Rattle.tv_run_tests.specs.Fitting.{FitsView, FitsViews}

@@ -11,7 +11,6 @@ use crate::stepping::is_given;
 use crate::streams::expect_end;
 use std::alloc::Global;
 use std::test::Fail;
-use tv_building::Views;
 use tv_case_texts::Run;
 use tv_case_texts::drags::DRAGS;
 use tv_cells::Point;
@@ -19,7 +18,7 @@ use tv_check::Checked;
 use tv_event::{Command, Event, Key};
 use tv_model::LogLine;
 use tv_script::Stage;
-use tv_session::SessionOf;
+use tv_session::{SessionOf, Views};
 use tv_test_support::descriptions::{CANCEL, ORDER, WINDOWS};
 use tv_view::View;
 

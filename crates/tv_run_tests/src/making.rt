@@ -7,11 +7,11 @@ ghost use Rattle.tv_check.specs.Plan.{IsLawfulStep};
 use crate::probes::{Journal, Probe};
 use std::alloc::Global;
 use std::rc::Rc;
-use tv_building::{BuildFault, Building, Views};
 use tv_check::{BuildStep, Checked};
 use tv_choices::{CheckBoxes, ListBox, RadioButtons};
 use tv_controls::{Button, ControlFault, InputLine, Label, StaticText};
 use tv_model::{Kind, Node};
+use tv_session::{BuildFault, Building, Views};
 use tv_view::View;
 
 /// The boxed views of a description. Where there is a journal, the button `y` notes there what it is told.
@@ -63,7 +63,7 @@ fn is_named_y(node: &Node) -> bool {
     }
 }
 
-#[tactic(auto, using(tv_leaf::proofs::CoreLemmas::limited_small))]
+#[tactic(auto, using(tv_view::proofs::CoreLemmas::limited_small))]
 fn probe(alloc: Global, node: &Node, journal: &Rc<Journal>) -> Result<Box<dyn View>, BuildFault>
     requires { IsLawfulNode node.now }
 {
@@ -74,7 +74,7 @@ fn probe(alloc: Global, node: &Node, journal: &Rc<Journal>) -> Result<Box<dyn Vi
     Ok(in_box(alloc, made)?)
 }
 
-#[tactic(auto, using(tv_leaf::proofs::CoreLemmas::limited_small))]
+#[tactic(auto, using(tv_view::proofs::CoreLemmas::limited_small))]
 fn boxed(alloc: Global, node: &Node) -> Result<Box<dyn View>, BuildFault>
     requires { IsLawfulNode node.now }
 {

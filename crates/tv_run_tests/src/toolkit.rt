@@ -3,14 +3,14 @@
 use crate::running::ran;
 use std::alloc::Global;
 use std::test::Fail;
-use tv_building::{BuildFault, Views};
+use tv_app::{Control, views};
 use tv_case_texts::cases::CASES;
 use tv_case_texts::drags::DRAGS;
 use tv_check::Checked;
 use tv_io::FileReader;
 use tv_program::run;
+use tv_session::{BuildFault, Views};
 use tv_test_support::Memory;
-use tv_toolkit::{Control, views};
 
 // More than any of these runs writes.
 const ROOM: usize = 65_536;

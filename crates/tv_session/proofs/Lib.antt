@@ -11,3 +11,17 @@ pub mod MarkedLemmas
 pub mod PaintingLemmas
 pub mod ChangedLemmas
 pub mod RepaintLemmas
+-- that the areas of groups are small
+pub mod AreaLemmas
+-- what a node's end makes, by its kind
+pub mod EndLemmas
+-- what is begun after a refusal
+pub mod KeptLemmas
+-- the last of a list
+pub mod ListLemmas
+-- what follows from a fact on a result
+pub mod ResultLemmas
+pub mod LimitLemmas
+pub mod OwnerLemmas
+pub mod PartLemmas
+pub mod WindowLemmas

@@ -20,10 +20,9 @@ use crate::paint::desktop;
 use crate::run::RunOf;
 use tv_cells::Point;
 use tv_event::{Command, CommandSet, Event, Key};
-use tv_leaf::contains;
 use tv_menu::{Offered, StatusLine};
 use tv_model::Desc;
-use tv_view::View;
+use tv_view::{View, contains};
 use tv_window::Hit;
 
 fn is_on_desktop(desc: &Desc, point: Point) -> bool

@@ -10,7 +10,7 @@ use Rattle.tv_terminal.specs.declared.reading.Reading.TheVariants.{Unfinished, W
 use Rattle.tv_terminal.specs.declared.reading.Kind.{Kind}
 use Rattle.tv_terminal.specs.declared.reading.Kind.TheVariants.{Keys, Mouse}
 use Rattle.tv_terminal.specs.Table.{key_action, typed_code, ascii, alt, console, old_mouse}
-use Rattle.tv_terminal.specs.Sequences.{only, meaning, with_byte, numbers_from, old_row, old_column, old_report, console_from, bracketed, string_from, last_from, two_from, three_from, character, meaningless, is_heard, after_escape, reading_of}
+use Rattle.tv_terminal.specs.Sequences.{only, meaning, with_byte, numbers_from, old_row, old_column, old_report, console_from, bracketed, string_from, last_from, two_more, three_more, character, meaningless, is_heard, after_escape, reading_of}
 
 abbrev pub IsEnded : Reading → Type 0
 IsEnded Unfinished = ⊥
@@ -77,12 +77,12 @@ last_front c (b ∷ bs) y ys =
     front_if (is_in_range 128 191 b) (only_front (typed_code (64 * c + (b - 128))) bs y ys) broken_front
 
 two_front : (low high c : ℕ) (bs : List ℕ) (y : ℕ) (ys : List ℕ)
-    → Front (two_from low high c bs) (two_from low high c (bs ++ y ∷ ys))
+    → Front (two_more low high c bs) (two_more low high c (bs ++ y ∷ ys))
 two_front low high c [] y ys = unfinished_front _
 two_front low high c (b ∷ bs) y ys = front_if (is_in_range low high b) (last_front (64 * c + (b - 128)) bs y ys) broken_front
 
 three_front : (low high c : ℕ) (bs : List ℕ) (y : ℕ) (ys : List ℕ)
-    → Front (three_from low high c bs) (three_from low high c (bs ++ y ∷ ys))
+    → Front (three_more low high c bs) (three_more low high c (bs ++ y ∷ ys))
 three_front low high c [] y ys = unfinished_front _
 three_front low high c (b ∷ bs) y ys =
     front_if (is_in_range low high b) (two_front 128 191 (64 * c + (b - 128)) bs y ys) broken_front

@@ -12,7 +12,7 @@ use Rattle.tv_terminal.specs.declared.reading.Reading.TheVariants.{Broken}
 use Rattle.tv_terminal.specs.declared.reading.Kind.{Kind}
 use Rattle.tv_terminal.specs.declared.reading.Kind.TheVariants.{Keys, Mouse}
 use Rattle.tv_terminal.specs.Table.{key_action, old_mouse}
-use Rattle.tv_terminal.specs.Sequences.{only, meaning, with_byte, numbers_from, old_report, console_from, bracketed, string_from, last_from, two_from, three_from, character, meaningless, after_escape, reading_of}
+use Rattle.tv_terminal.specs.Sequences.{only, meaning, with_byte, numbers_from, old_report, console_from, bracketed, string_from, last_from, two_more, three_more, character, meaningless, after_escape, reading_of}
 use Rattle.tv_terminal.specs.Decoding.{given_as, given}
 
 -- the two bytes, Ctrl-\ where the test holds
@@ -75,15 +75,15 @@ last_broken c (b ∷ bs) q = if_broken _ (only_broken _ bs (heard q)) broken
 
 -- their bounds leave the two out
 two_broken : (low high c : ℕ) (bs : List ℕ) (q : Bool) → is_in_range low high 28 ≡ false → is_in_range low high 3 ≡ false
-    → IsBroken (two_from low high c (bs ++ heard q ∷ []))
+    → IsBroken (two_more low high c (bs ++ heard q ∷ []))
 two_broken low high c [] true e f = record { is = ap (λ test. if test then last_from (64 * c + (28 - 128)) [] else Broken) e }
 two_broken low high c [] false e f = record { is = ap (λ test. if test then last_from (64 * c + (3 - 128)) [] else Broken) f }
 two_broken low high c (b ∷ bs) q e f = if_broken _ (last_broken (64 * c + (b - 128)) bs q) broken
 
 three_broken : (low high c : ℕ) (bs : List ℕ) (q : Bool) → is_in_range low high 28 ≡ false → is_in_range low high 3 ≡ false
-    → IsBroken (three_from low high c (bs ++ heard q ∷ []))
-three_broken low high c [] true e f = record { is = ap (λ test. if test then two_from 128 191 (64 * c + (28 - 128)) [] else Broken) e }
-three_broken low high c [] false e f = record { is = ap (λ test. if test then two_from 128 191 (64 * c + (3 - 128)) [] else Broken) f }
+    → IsBroken (three_more low high c (bs ++ heard q ∷ []))
+three_broken low high c [] true e f = record { is = ap (λ test. if test then two_more 128 191 (64 * c + (28 - 128)) [] else Broken) e }
+three_broken low high c [] false e f = record { is = ap (λ test. if test then two_more 128 191 (64 * c + (3 - 128)) [] else Broken) f }
 three_broken low high c (b ∷ bs) q e f = if_broken _ (two_broken 128 191 (64 * c + (b - 128)) bs q refl refl) broken
 
 character_broken : (b : ℕ) (bs : List ℕ) (q : Bool) → IsBroken (character b (bs ++ heard q ∷ []))

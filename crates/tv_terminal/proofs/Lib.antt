@@ -5,3 +5,12 @@ pub mod PointLemmas
 pub mod HeardLemmas
 pub mod TypedLemmas
 mod RowExamples
+pub mod ToldLemmas
+pub mod SpotLemmas
+pub mod DrawLemmas
+pub mod RegionLemmas
+pub mod PaintLemmas
+mod Examples
+pub mod StripLemmas
+pub mod TextLemmas
+pub mod PutLemmas

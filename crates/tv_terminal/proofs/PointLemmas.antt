@@ -19,7 +19,7 @@ use Rattle.tv_terminal.specs.declared.reading.Kind.{Kind}
 use Rattle.tv_terminal.specs.declared.reading.Kind.TheVariants.{Keys, Mouse}
 use Rattle.tv_terminal.specs.Points.{IsMousePlace, HasPlaces, IsPlacedAction}
 use Rattle.tv_terminal.specs.Table.{key_action, typed_char, typed_code, ascii, alt, ctrl_coded, plain_code, coded, key_of_number, ctrl_key_of_number, console, by_tilde, by_code, by_letter, of_keys, near_place, point, is_left, held, mouse, of_mouse, old_mouse}
-use Rattle.tv_terminal.specs.Sequences.{only, meaning, with_byte, numbers_from, old_report, console_from, bracketed, string_from, last_from, two_from, three_from, character, meaningless, is_heard, after_escape, reading_of}
+use Rattle.tv_terminal.specs.Sequences.{only, meaning, with_byte, numbers_from, old_report, console_from, bracketed, string_from, last_from, two_more, three_more, character, meaningless, is_heard, after_escape, reading_of}
 use Rattle.tv_terminal.specs.Decoding.{most, at_pause, given_as, given, anew_given}
 
 -- no action, or one with such a point
@@ -176,11 +176,11 @@ last_placing c [] = unfinished
 last_placing c (b ∷ bs) =
     if_placing (is_in_range 128 191 b) (only_placing (typed_code (64 * c + (b - 128))) bs (code_placed (64 * c + (b - 128)))) broken
 
-two_placing : (low high c : ℕ) (bs : List ℕ) → Placing (two_from low high c bs)
+two_placing : (low high c : ℕ) (bs : List ℕ) → Placing (two_more low high c bs)
 two_placing low high c [] = unfinished
 two_placing low high c (b ∷ bs) = if_placing (is_in_range low high b) (last_placing (64 * c + (b - 128)) bs) broken
 
-three_placing : (low high c : ℕ) (bs : List ℕ) → Placing (three_from low high c bs)
+three_placing : (low high c : ℕ) (bs : List ℕ) → Placing (three_more low high c bs)
 three_placing low high c [] = unfinished
 three_placing low high c (b ∷ bs) = if_placing (is_in_range low high b) (two_placing 128 191 (64 * c + (b - 128)) bs) broken
 

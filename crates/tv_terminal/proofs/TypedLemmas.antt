@@ -14,7 +14,7 @@ use Rattle.tv_event.specs.declared.event.Key.TheVariants as keys
 use Rattle.tv_terminal.specs.declared.reading.Reading.{Reading}
 use Rattle.tv_terminal.specs.declared.reading.Reading.TheVariants.{Whole, Broken}
 use Rattle.tv_terminal.specs.Table.{key_action, typed_char, typed_code}
-use Rattle.tv_terminal.specs.Sequences.{last_from, two_from, three_from, reading_of}
+use Rattle.tv_terminal.specs.Sequences.{last_from, two_more, three_more, reading_of}
 use Rattle.tv_terminal.specs.Decoding.{Byte, before, decode}
 use Rattle.tv_terminal.specs.Streams.{IsLexeme}
 use Rattle.tv_terminal.proofs.StreamLemmas.{decode-lexeme}
@@ -35,14 +35,14 @@ last_read c r small =
     ∙ ap (λ n. Whole (typed_code (64 * c + n))) (omega arith)
 
 two_read : (low high c q r : ℕ) → low ≤ 128 + q → 128 + q ≤ high → r < 64
-    → two_from low high c ((128 + q) ∷ (128 + r) ∷ []) ≡ Whole (typed_code (64 * (64 * c + q) + r))
+    → two_more low high c ((128 + q) ∷ (128 + r) ∷ []) ≡ Whole (typed_code (64 * (64 * c + q) + r))
 two_read low high c q r above below small =
     chosen (is_in_range low high (128 + q)) _ _ (within low high (128 + q) above below)
     ∙ last_read (64 * c + ((128 + q) - 128)) r small
     ∙ ap (λ n. Whole (typed_code (64 * (64 * c + n) + r))) (omega arith)
 
 three_read : (low high c p q r : ℕ) → low ≤ 128 + p → 128 + p ≤ high → q < 64 → r < 64
-    → three_from low high c ((128 + p) ∷ (128 + q) ∷ (128 + r) ∷ []) ≡ Whole (typed_code (64 * (64 * (64 * c + p) + q) + r))
+    → three_more low high c ((128 + p) ∷ (128 + q) ∷ (128 + r) ∷ []) ≡ Whole (typed_code (64 * (64 * (64 * c + p) + q) + r))
 three_read low high c p q r above below small_q small =
     chosen (is_in_range low high (128 + p)) _ _ (within low high (128 + p) above below)
     ∙ two_read 128 191 (64 * c + ((128 + p) - 128)) q r (omega arith) (omega arith) small
@@ -51,12 +51,12 @@ three_read low high c p q r above below small_q small =
 -- behind the tests that are passed from 224 on
 abbrev above : ℕ → List ℕ → Reading
 above b bs =
-    if b == 224 then two_from 160 191 0 bs
-    else if b == 237 then two_from 128 159 13 bs
-    else if nat_lt b 240 then two_from 128 191 (b - 224) bs
-    else if b == 240 then three_from 144 191 0 bs
-    else if nat_lt b 244 then three_from 128 191 (b - 240) bs
-    else if b == 244 then three_from 128 143 4 bs
+    if b == 224 then two_more 160 191 0 bs
+    else if b == 237 then two_more 128 159 13 bs
+    else if nat_lt b 240 then two_more 128 191 (b - 224) bs
+    else if b == 240 then three_more 144 191 0 bs
+    else if nat_lt b 244 then three_more 128 191 (b - 240) bs
+    else if b == 244 then three_more 128 143 4 bs
     else Broken
 
 from_224 : (b : ℕ) (bs : List ℕ) → 224 ≤ b → reading_of (b ∷ bs) ≡ above b bs

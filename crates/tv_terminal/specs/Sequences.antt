@@ -80,14 +80,14 @@ abbrev pub last_from : ℕ → List ℕ → Reading
 last_from c [] = Unfinished
 last_from c (b ∷ bs) = if is_in_range 128 191 b then only (typed_code (64 * c + (b - 128))) bs else Broken
 
-abbrev pub two_from : (low high c : ℕ) → List ℕ → Reading
-two_from low high c [] = Unfinished
-two_from low high c (b ∷ bs) = if is_in_range low high b then last_from (64 * c + (b - 128)) bs else Broken
+abbrev pub two_more : (low high c : ℕ) → List ℕ → Reading
+two_more low high c [] = Unfinished
+two_more low high c (b ∷ bs) = if is_in_range low high b then last_from (64 * c + (b - 128)) bs else Broken
 
-abbrev pub three_from : (low high c : ℕ) → List ℕ → Reading
-three_from low high c [] = Unfinished
-three_from low high c (b ∷ bs) =
-    if is_in_range low high b then two_from 128 191 (64 * c + (b - 128)) bs else Broken
+abbrev pub three_more : (low high c : ℕ) → List ℕ → Reading
+three_more low high c [] = Unfinished
+three_more low high c (b ∷ bs) =
+    if is_in_range low high b then two_more 128 191 (64 * c + (b - 128)) bs else Broken
 
 -- behind the first byte of a character in UTF-8. Its second byte is bounded where a shorter form or no
 -- character would follow
@@ -96,12 +96,12 @@ character b bs =
     if nat_lt b 128 then only (ascii b) bs
     else if nat_lt b 194 then Broken
     else if nat_lt b 224 then last_from (b - 192) bs
-    else if b == 224 then two_from 160 191 0 bs
-    else if b == 237 then two_from 128 159 13 bs
-    else if nat_lt b 240 then two_from 128 191 (b - 224) bs
-    else if b == 240 then three_from 144 191 0 bs
-    else if nat_lt b 244 then three_from 128 191 (b - 240) bs
-    else if b == 244 then three_from 128 143 4 bs
+    else if b == 224 then two_more 160 191 0 bs
+    else if b == 237 then two_more 128 159 13 bs
+    else if nat_lt b 240 then two_more 128 191 (b - 224) bs
+    else if b == 240 then three_more 144 191 0 bs
+    else if nat_lt b 244 then three_more 128 191 (b - 240) bs
+    else if b == 244 then three_more 128 143 4 bs
     else Broken
 
 -- without a meaning

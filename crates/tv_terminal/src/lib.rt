@@ -1,12 +1,22 @@
-//! What a terminal sends, as keys, characters and the mouse.
+//! What a terminal sends, as keys, characters and the mouse; what it is sent, so that it shows a screen; and a screen drawn
+//! as SVG.
 #![tactic(auto)]
 
 mod action;
 mod character;
+mod colour;
 mod decoder;
+mod element;
+mod hand;
 mod numbers;
+mod painter;
 mod reading;
+mod span;
+mod strip;
+mod svg;
 mod table;
 
 pub use action::Action;
 pub use decoder::Decoder;
+pub use painter::Painter;
+pub use svg::{strips_are_rows, write_svg};

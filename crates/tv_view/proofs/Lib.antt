@@ -7,3 +7,6 @@ pub mod LayingLemmas
 pub mod OffLemmas
 pub mod PassLemmas
 pub mod SameLayerLemmas
+pub mod CoreLemmas
+pub mod PassedLemmas
+pub mod PointLemmas

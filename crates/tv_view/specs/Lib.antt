@@ -8,3 +8,4 @@ pub mod Meaning
 pub mod Points
 pub mod Reactions
 pub mod Damage
+pub mod Core

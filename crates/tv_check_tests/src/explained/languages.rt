@@ -3,9 +3,8 @@
 use super::reports::{is_wanted, rows};
 use std::alloc::Global;
 use std::test::Fail;
+use tv_advice::{Beside, Language, Manner, explain_line, tell_beside};
 use tv_lang::parse;
-use tv_report::{Beside, Manner, tell_beside};
-use tv_unread::{Language, explain_line};
 
 // The description beside which they stand: one with a screen of 20 columns and 10 rows.
 const DESCRIPTION: &str = "tvd 2

@@ -2,7 +2,7 @@
 
 use super::reports::expect_in;
 use std::test::Fail;
-use tv_report::Manner;
+use tv_advice::Manner;
 
 fn expect_objects(rt: HostRuntime, text: &str, wanted: &str) -> Result<(), Fail> {
     expect_in(rt, Manner::Json, text.as_bytes(), wanted)

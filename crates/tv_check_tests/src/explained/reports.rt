@@ -5,7 +5,7 @@
 
 use std::alloc::{AllocError, Global};
 use std::test::Fail;
-use tv_report::{Manner, Told, tell};
+use tv_advice::{Manner, Told, tell};
 use tv_words::Lines;
 
 /// A row of a table.

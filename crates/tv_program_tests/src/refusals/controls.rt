@@ -28,7 +28,7 @@ end
 "###;
 
 // The fault of making the view of a leaf's node, if it isn't made.
-#[tactic(auto, using(tv_leaf::proofs::CoreLemmas::limited_small))]
+#[tactic(auto, using(tv_view::proofs::CoreLemmas::limited_small))]
 fn fault_of(alloc: Global, node: &Node) -> Option<ControlFault>
     requires { IsLawfulNode node.now }
 {

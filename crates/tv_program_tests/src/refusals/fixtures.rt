@@ -7,12 +7,12 @@ use super::ending::{Ending, expect_whole};
 use crate::button_views::buttons;
 use std::alloc::Global;
 use std::test::Fail;
-use tv_building::{BuildFault, Views};
 use tv_check::{Certificate, CertificateFault, Checked};
 use tv_controls::Button;
 use tv_lang::{LangFault, parse};
 use tv_model::Desc;
 use tv_program::{PlayFault, read_checked};
+use tv_session::{BuildFault, Views};
 use tv_test_support::certificates::CANCEL_CERTIFICATE;
 use tv_test_support::descriptions::CANCEL;
 

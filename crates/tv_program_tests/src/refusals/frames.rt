@@ -7,13 +7,13 @@ use super::ending::{Ending, expect, expect_whole, refused};
 use super::fixtures::{checked_of, views_of};
 use std::alloc::Global;
 use std::test::Fail;
-use tv_building::parts_are_lawful;
 use tv_check::Checked;
 use tv_controls::Button;
 use tv_dialog::{DialogFault, DialogOf};
 use tv_group::GroupOf;
 use tv_menu::{MenuBar, StatusLine};
 use tv_model::Dialog as Declared;
+use tv_session::parts_are_lawful;
 use tv_test_support::descriptions::{CANCEL, MENUS};
 
 // The first dialog of a checked description.

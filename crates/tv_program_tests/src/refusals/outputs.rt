@@ -4,10 +4,10 @@ use super::ending::{Ending, expect, expect_whole};
 use std::alloc::Global;
 use std::io::sink;
 use std::test::Fail;
-use tv_ansi::Painter;
 use tv_cells::ScreenFault;
 use tv_files::{BufferedStream, Stream};
 use tv_io::Writer;
+use tv_terminal::Painter;
 
 fn made_painter(alloc: Global) -> Result<(), Ending> {
     match Painter::new(alloc, 132, 60) {

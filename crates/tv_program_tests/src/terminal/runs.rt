@@ -4,12 +4,11 @@ use super::sent::Sent;
 use crate::button_views::buttons;
 use std::alloc::Global;
 use std::test::Fail;
-use tv_building::Views;
 use tv_check::Checked;
 use tv_io::FileReader;
 use tv_play::{Parting, PlayFault, play};
 use tv_program::{read_checked, run};
-use tv_session::SessionOf;
+use tv_session::{SessionOf, Views};
 use tv_test_support::Memory;
 use tv_view::View;
 

@@ -11,10 +11,9 @@ use tv_check::{BuildStep, Certificate, CertifyFault, Checked, Refusal, accept, c
 use tv_choices::{CheckBoxes, ListBox, RadioButtons};
 use tv_controls::{Button, InputLine, Label, StaticText};
 use tv_lang::{LangFault, parse};
-use tv_leaf::ControlFault;
 use tv_model::{Desc, Kind, Node};
 use tv_test_support::{Question, expect_answer};
-use tv_view::View;
+use tv_view::{ControlFault, View};
 
 /// A dialog as large as one may be, with a button, up to the fourth line. The inside of its frame is 130 wide and 56 high.
 const HEAD: &str = r#"tvd 1

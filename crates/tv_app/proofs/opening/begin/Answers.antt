@@ -1,7 +1,7 @@
 use Rattle.std.proofs.Common.{subst}
 use Rattle.tv_app.proofs.opening.begin.Goals as goal
 use Rattle.tv_session.specs.Starting.{RefusesViews}
-use Rattle.tv_toolkit.specs.Control.{control_leaf}
+use Rattle.tv_app.specs.Control.{control_leaf}
 
 pub unreachable-requires : goal.unreachable-requires
 unreachable-requires c =

@@ -1,6 +1,6 @@
 use Rattle.std.proofs.Common.{sym}
 use Rattle.tv_choices.proofs.marking.mark_unless_passed.Goals as goal
-use Rattle.tv_leaf.specs.Core.{leaf_with}
+use Rattle.tv_view.specs.Core.{leaf_with}
 use Rattle.tv_view.proofs.DamageLemmas.{damages-own}
 
 pub returns-then-ne : goal.returns-then-ne

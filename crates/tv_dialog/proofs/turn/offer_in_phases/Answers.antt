@@ -2,7 +2,7 @@ use Rattle.std.proofs.Common.{◌≡◌, ◌∙◌, true, false, ap, sym}
 use Rattle.tv_event.specs.declared.event.Phase.TheVariants as phases
 use Rattle.tv_group.specs.Handling.{group_after, group_answer, is_pass}
 use Rattle.tv_group.specs.Opened.{opened}
-use Rattle.tv_tree.proofs.Keys.OfferLemmas.{phase-passed, phases-first, phases-second, phases-third}
+use Rattle.tv_group.proofs.Tree.Keys.OfferLemmas.{phase-passed, phases-first, phases-second, phases-third}
 use Rattle.tv_dialog.proofs.AlikeLemmas.{all-drawn-then}
 use Rattle.tv_dialog.proofs.turn.offer_in_phases.Goals as goal
 

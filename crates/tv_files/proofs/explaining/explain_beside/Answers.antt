@@ -1,6 +1,6 @@
 use Rattle.std.proofs.Common.{subst, string_bytes}
 use Rattle.tv_io.specs.Writer.{Cuts, Takes}
-use Rattle.tv_report.specs.Beginnings.{is_certificate}
+use Rattle.tv_advice.specs.Beginnings.{is_certificate}
 use Rattle.tv_files.proofs.ExplainLemmas.{IsReportIn, told_report}
 use Rattle.tv_files.proofs.explaining.explain_beside.Goals as goal
 

@@ -1,5 +1,5 @@
 use Rattle.std.proofs.Common.{Ok, Err, None, refl, subst}
-use Rattle.tv_report.specs.Told.{SpellsSound}
+use Rattle.tv_advice.specs.Told.{SpellsSound}
 use Rattle.tv_files.specs.Ends.{done_in, end_of}
 use Rattle.tv_files.specs.Explaining.{ExplainsSecond, ExplainsTo}
 use Rattle.tv_files.specs.Explaining.ExplainsFiles.{first, second}

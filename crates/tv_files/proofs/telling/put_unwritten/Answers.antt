@@ -1,7 +1,7 @@
 use Rattle.std.proofs.Common.{◌≡◌, [], ◌∷◌, ◌++◌, append_assoc, codes, decimal}
 use Rattle.tv_io.proofs.PenLemmas.{Puts-along, Puts-then}
 use Rattle.tv_model.specs.Log.LogText.{line_of}
-use Rattle.tv_pictures.specs.Naming.{shot_name}
+use Rattle.tv_program.specs.Naming.{shot_name}
 use Rattle.tv_files.proofs.telling.put_unwritten.Goals as goal
 
 pub returns : goal.returns

@@ -1,6 +1,6 @@
 use Rattle.std.proofs.Common.{ap, ◌∙◌}
 use Rattle.tv_cells.specs.Layers.{is_in}
-use Rattle.tv_leaf.proofs.PointLemmas.{is_in-test}
+use Rattle.tv_view.proofs.PointLemmas.{is_in-test}
 use Rattle.tv_window.proofs.MarkLemmas.{mark-seen}
 use Rattle.tv_window.proofs.places.is_on_close_mark.Goals as goal
 

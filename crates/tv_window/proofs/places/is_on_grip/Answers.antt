@@ -1,6 +1,6 @@
 use Rattle.std.proofs.Common.{false, refl, sym, ap, ◌∙◌, ◌-ℤ◌}
 use Rattle.tv_cells.specs.Layers.{is_in}
-use Rattle.tv_leaf.proofs.PointLemmas.{is_in-test}
+use Rattle.tv_view.proofs.PointLemmas.{is_in-test}
 use Rattle.tv_machine.specs.Dialog.Mouse.{is_close_mark}
 use Rattle.tv_machine.specs.Session.Desktop.{seen_from}
 use Rattle.tv_window.proofs.PointLemmas.{grip-seen}

@@ -1,7 +1,7 @@
 use Rattle.std.proofs.Common.{◌≡◌, ap}
 use Rattle.tv_choices.proofs.check_boxes.CheckBoxesView.press_item.Goals as goal
 use Rattle.tv_choices.specs.Choices.{boxes_leaf}
-use Rattle.tv_leaf.specs.Core.{Core}
+use Rattle.tv_view.specs.Core.{Core}
 use Rattle.tv_view.proofs.DamageLemmas.{damages-own}
 
 pub returns-then-is_item-clause-damage : goal.returns-then-is_item-clause-damage

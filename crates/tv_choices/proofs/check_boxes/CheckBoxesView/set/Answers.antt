@@ -1,7 +1,7 @@
 use Rattle.std.proofs.Common.{◌≡◌, ap}
 use Rattle.tv_choices.proofs.check_boxes.CheckBoxesView.set.Goals as goal
 use Rattle.tv_choices.specs.Choices.{boxes_leaf}
-use Rattle.tv_leaf.specs.Core.{Core}
+use Rattle.tv_view.specs.Core.{Core}
 use Rattle.tv_view.proofs.DamageLemmas.{damages-own}
 
 pub returns-in-Some-Marks-clause-damage : goal.returns-in-Some-Marks-clause-damage

@@ -1,7 +1,7 @@
 use Rattle.tv_choices.proofs.list_box.ListBox.react.Goals as goal
 use Rattle.tv_choices.specs.Choices.{list_leaf}
 use Rattle.tv_event.specs.declared.event.Event.TheVariants as events
-use Rattle.tv_leaf.proofs.PassedLemmas.{passed}
+use Rattle.tv_view.proofs.PassedLemmas.{passed}
 use Rattle.tv_view.specs.Effects.{handled}
 use Rattle.tv_view.specs.Reactions.{answer}
 

@@ -1,7 +1,7 @@
 use Rattle.std.proofs.Common.{◌≡◌, ap}
 use Rattle.tv_choices.proofs.list_box.ListBoxView.set.Goals as goal
 use Rattle.tv_choices.specs.Choices.{list_leaf}
-use Rattle.tv_leaf.specs.Core.{Core}
+use Rattle.tv_view.specs.Core.{Core}
 use Rattle.tv_view.proofs.DamageLemmas.{damages-own}
 
 pub returns-in-Some-Item-clause-damage : goal.returns-in-Some-Item-clause-damage

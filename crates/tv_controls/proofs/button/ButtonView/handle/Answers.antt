@@ -1,8 +1,8 @@
 use Rattle.tv_event.specs.declared.event.Event.TheVariants as events
 use Rattle.tv_view.specs.Effects.{handled}
 use Rattle.tv_view.specs.Reactions.{answer}
-use Rattle.tv_leaf.specs.Core.{plain_leaf}
-use Rattle.tv_leaf.proofs.PassedLemmas.{passed}
+use Rattle.tv_view.specs.Core.{plain_leaf}
+use Rattle.tv_view.proofs.PassedLemmas.{passed}
 use Rattle.tv_controls.proofs.button.ButtonView.handle.Goals as goal
 
 pub returns-in-Down-clause-passed : goal.returns-in-Down-clause-passed

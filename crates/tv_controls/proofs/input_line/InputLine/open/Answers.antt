@@ -1,6 +1,6 @@
 use Rattle.std.proofs.Common.{◌≡◌, ◌∙◌, None, false, sym, ap}
 use Rattle.tv_model.specs.Log.Record.{value_of}
-use Rattle.tv_leaf.specs.Core.{Core}
+use Rattle.tv_view.specs.Core.{Core}
 use Rattle.tv_controls.specs.InputLine.{input_leaf, edit_opened, text_of_value}
 use Rattle.tv_controls.proofs.InputLemmas.{fitting_text, input_opened}
 use Rattle.tv_controls.proofs.input_line.InputLine.open.Goals as goal

@@ -1,7 +1,7 @@
 use Rattle.tv_event.specs.declared.event.Event.TheVariants as events
 use Rattle.tv_view.specs.Effects.{handled}
 use Rattle.tv_view.specs.Reactions.{answer}
-use Rattle.tv_leaf.proofs.PassedLemmas.{passed}
+use Rattle.tv_view.proofs.PassedLemmas.{passed}
 use Rattle.tv_controls.specs.InputLine.{input_leaf}
 use Rattle.tv_controls.proofs.input_line.InputLine.react.Goals as goal
 

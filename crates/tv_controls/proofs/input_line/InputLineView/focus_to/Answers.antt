@@ -1,5 +1,5 @@
 use Rattle.std.proofs.Common.{ap, ◌∙◌}
-use Rattle.tv_leaf.specs.Core.{Core}
+use Rattle.tv_view.specs.Core.{Core}
 use Rattle.tv_controls.proofs.MarkedLemmas.{marked}
 use Rattle.tv_controls.specs.InputLine.{input_leaf}
 use Rattle.tv_controls.proofs.input_line.InputLineView.focus_to.Goals as goal

@@ -2,7 +2,7 @@ use Rattle.std.proofs.Common.{sym, ap, ◌∙◌, if◌then◌else◌}
 use Rattle.tv_view.specs.Colours.{linked_by}
 use Rattle.tv_view.specs.Reactions.{calls, focus_on}
 use Rattle.tv_view.specs.declared.reaction.Reaction.TheVariants.{Pass}
-use Rattle.tv_leaf.specs.Core.{plain_leaf}
+use Rattle.tv_view.specs.Core.{plain_leaf}
 use Rattle.tv_controls.proofs.LabelLemmas.{label_answer, label_of}
 use Rattle.tv_controls.proofs.label.Label.key_answer.Goals as goal
 

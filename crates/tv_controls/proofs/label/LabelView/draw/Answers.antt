@@ -1,4 +1,4 @@
-use Rattle.tv_leaf.specs.Core.{no_content}
+use Rattle.tv_view.specs.Core.{no_content}
 use Rattle.tv_controls.proofs.label.LabelView.draw.Goals as goal
 
 pub returns-in_default : goal.returns-in_default

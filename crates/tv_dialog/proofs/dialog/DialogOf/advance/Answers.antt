@@ -4,9 +4,9 @@ use Rattle.std.specs.Option.{option_or}
 use Rattle.tv_machine.specs.Dialog.Focus.{Same, is_free_at, request}
 use Rattle.tv_group.specs.Calls.{first_in, next_in}
 use Rattle.tv_dialog.specs.Standing.{Stands, stop_in}
-use Rattle.tv_tree.specs.Tree.{tree_of}
+use Rattle.tv_group.specs.Tree.{tree_of}
 use Rattle.tv_machine.proofs.ListLemmas.{id-itself}
-use Rattle.tv_tree.proofs.FocusTreeLemmas.{is_free-tree}
+use Rattle.tv_group.proofs.Tree.FocusTreeLemmas.{is_free-tree}
 use Rattle.tv_dialog.proofs.StandsLemmas.{requested-same, stands-requested, stop-tree}
 use Rattle.tv_dialog.proofs.StopLemmas.{stop-free}
 use Rattle.tv_dialog.proofs.dialog.DialogOf.advance.Goals as goal

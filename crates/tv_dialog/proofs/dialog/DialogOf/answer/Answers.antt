@@ -4,7 +4,7 @@ use Rattle.tv_dialog.specs.Standing.{Stands}
 use Rattle.tv_dialog.specs.Stepping.{posted, begun_anew}
 use Rattle.tv_dialog.proofs.StandsLemmas.{stands-started}
 use Rattle.tv_dialog.proofs.SteppingLemmas.{none-stays, none-walks, posted-comes}
-use Rattle.tv_tree.proofs.Mouse.TakenLemmas.{any-holds}
+use Rattle.tv_group.proofs.Tree.Mouse.TakenLemmas.{any-holds}
 use Rattle.tv_dialog.proofs.dialog.DialogOf.answer.Goals as goal
 
 pub returns-in-Some-clause-stands : goal.returns-in-Some-clause-stands

@@ -7,7 +7,7 @@ use Rattle.tv_group.specs.Calls.{gathered_within}
 use Rattle.tv_group.specs.Opened.{opened}
 use Rattle.tv_dialog.specs.Fields.{field_lines}
 use Rattle.tv_dialog.specs.Plan.{leaf_plan, plan_of}
-use Rattle.tv_tree.proofs.EndingLemmas.{fewer_leaves, gathered-tree, steady-ended}
+use Rattle.tv_group.proofs.Tree.EndingLemmas.{fewer_leaves, gathered-tree, steady-ended}
 use Rattle.tv_dialog.proofs.FieldLemmas.{lines-fields}
 use Rattle.tv_dialog.proofs.StandsLemmas.{head-parts, stands-ended}
 use Rattle.tv_dialog.proofs.dialog.DialogOf.end.Goals as goal

@@ -6,7 +6,7 @@ use Rattle.tv_group.specs.Handling.{group_after, group_answer}
 use Rattle.tv_group.specs.Opened.{opened}
 use Rattle.tv_dialog.specs.declared.dialog.DialogOf.{DialogOf}
 use Rattle.tv_dialog.specs.Settling.{SettlesTo, turned}
-use Rattle.tv_tree.proofs.FlagLemmas.{flags-same}
+use Rattle.tv_group.proofs.Tree.FlagLemmas.{flags-same}
 use Rattle.tv_dialog.proofs.DamageLemmas.{body-called, body-then}
 use Rattle.tv_dialog.proofs.PressCodeLemmas.{answer_down, leaves_down, over-comes, press-over, pressed, stands-again, stands-asking, stands-refused}
 use Rattle.tv_dialog.proofs.SettleLemmas.{posted-by}

@@ -5,8 +5,8 @@ use Rattle.tv_machine.specs.Dialog.Modal.{Modal, leaf_at}
 use Rattle.tv_dialog.specs.declared.dialog.DialogOf.{DialogOf}
 use Rattle.tv_dialog.specs.Settling.{reacted_first}
 use Rattle.tv_dialog.specs.Standing.{Stands}
-use Rattle.tv_tree.specs.Turns.{pressed_at}
-use Rattle.tv_tree.proofs.RuledLemmas.{pressed-keeps}
+use Rattle.tv_group.specs.TreeTurns.{pressed_at}
+use Rattle.tv_group.proofs.Tree.RuledLemmas.{pressed-keeps}
 use Rattle.tv_dialog.proofs.DamageLemmas.{body-called, body-then}
 use Rattle.tv_dialog.proofs.StandsLemmas.{restands}
 use Rattle.tv_dialog.proofs.TurnCodeLemmas.{ended-request, granted-then, keeps-as, refused-then, stands-item, stands-pressed}

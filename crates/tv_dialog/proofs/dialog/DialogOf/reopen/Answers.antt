@@ -5,7 +5,7 @@ use Rattle.tv_group.specs.Calls.{first_in}
 use Rattle.tv_group.specs.declared.focus.Dir.TheVariants.{Forward}
 use Rattle.tv_dialog.specs.Fields.{in_field_order}
 use Rattle.tv_dialog.specs.Standing.{Stands}
-use Rattle.tv_tree.specs.Tree.{tree_of}
+use Rattle.tv_group.specs.Tree.{tree_of}
 use Rattle.tv_dialog.proofs.ReopenLemmas.{found-free, found-opened, found-other, none-absurd, rests-set}
 use Rattle.tv_dialog.proofs.StandsLemmas.{head-parts}
 use Rattle.tv_dialog.proofs.dialog.DialogOf.reopen.Goals as goal

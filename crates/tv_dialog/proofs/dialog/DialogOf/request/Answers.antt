@@ -1,7 +1,7 @@
 use Rattle.std.proofs.Common.{rules, ◌≡◌, ◌==◌, ◌∙◌, true, false, ap, sym}
 use Rattle.tv_machine.specs.Dialog.Focus.{NotFree, is_free_at, is_granted}
 use Rattle.tv_group.specs.Calls.{is_free_id}
-use Rattle.tv_tree.proofs.FocusTreeLemmas.{is_free-tree}
+use Rattle.tv_group.proofs.Tree.FocusTreeLemmas.{is_free-tree}
 use Rattle.tv_dialog.proofs.StandsLemmas.{requested-busy, stands-requested}
 use Rattle.tv_dialog.proofs.dialog.DialogOf.request.Goals as goal
 

@@ -3,7 +3,7 @@ use Rattle.tv_model.specs.declared.log.LogLine.TheVariants as lines
 use Rattle.tv_machine.specs.Dialog.Focus.{Refused, Moved, is_granted, keeps_focus}
 use Rattle.tv_machine.specs.Dialog.Modal.{leaf_at, with_line}
 use Rattle.tv_group.specs.Calls.{refused_in}
-use Rattle.tv_tree.proofs.FocusTreeLemmas.{refused-tree, steady-line}
+use Rattle.tv_group.proofs.Tree.FocusTreeLemmas.{refused-tree, steady-line}
 use Rattle.tv_dialog.proofs.StandsLemmas.{requested-moved, requested-refused, some-kept, stands-on, stands-requested}
 use Rattle.tv_dialog.proofs.dialog.DialogOf.request_free.Goals as goal
 

@@ -4,7 +4,7 @@ use Rattle.tv_machine.specs.Dialog.Focus.{is_free_at}
 use Rattle.tv_machine.specs.Dialog.Modal.{with_line}
 use Rattle.tv_group.specs.Calls.{is_free_id}
 use Rattle.tv_dialog.specs.Standing.{Stands}
-use Rattle.tv_tree.proofs.FocusTreeLemmas.{is_free-tree, steady-line}
+use Rattle.tv_group.proofs.Tree.FocusTreeLemmas.{is_free-tree, steady-line}
 use Rattle.tv_dialog.proofs.StandsLemmas.{shown-busy, shown-moved, shown-same, stands-on}
 use Rattle.tv_dialog.proofs.dialog.DialogOf.show_invalid.Goals as goal
 use Rattle.tv_dialog.proofs.dialog.DialogOf.show_invalid.Goals.{else-ne-via-then-ne+else-is_free, else-ne-via-else-ne}

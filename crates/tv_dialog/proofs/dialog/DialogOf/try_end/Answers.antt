@@ -2,7 +2,7 @@ use Rattle.std.proofs.Common.{◌≡◌, ◌∙◌, Some, None, ap, subst}
 use Rattle.tv_machine.specs.Dialog.Ending.{end_by, first_invalid}
 use Rattle.tv_group.specs.Calls.{first_invalid_in}
 use Rattle.tv_dialog.specs.Standing.{Stands}
-use Rattle.tv_tree.proofs.EndingLemmas.{first_invalid-tree}
+use Rattle.tv_group.proofs.Tree.EndingLemmas.{first_invalid-tree}
 use Rattle.tv_dialog.proofs.dialog.DialogOf.try_end.Goals as goal
 
 pub returns-in-Some-clause-stands : goal.returns-in-Some-clause-stands

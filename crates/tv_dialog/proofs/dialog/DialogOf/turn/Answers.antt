@@ -3,8 +3,8 @@ use Rattle.tv_event.specs.declared.event.Event.TheVariants as events
 use Rattle.tv_group.specs.Opened.{opened}
 use Rattle.tv_dialog.specs.declared.dialog.DialogOf.{DialogOf}
 use Rattle.tv_dialog.specs.Settling.{SettlesTo, IsReadyFor, IsReadyForAll, turned}
-use Rattle.tv_tree.specs.Turns.{phases_after, phases_answer}
-use Rattle.tv_tree.proofs.Keys.QuietLemmas.{phases_after-command, phases_answer-command}
+use Rattle.tv_group.specs.TreeTurns.{phases_after, phases_answer}
+use Rattle.tv_group.proofs.Tree.Keys.QuietLemmas.{phases_after-command, phases_answer-command}
 use Rattle.tv_dialog.proofs.DamageLemmas.{body-then}
 use Rattle.tv_dialog.proofs.TurnCodeLemmas.{lent-by, stands-body}
 use Rattle.tv_dialog.proofs.TurnEventLemmas.{comes-key}

@@ -1,6 +1,6 @@
 use Rattle.std.proofs.Common.{◌++◌}
 use Rattle.std.specs.List.{concat}
-use Rattle.tv_ansi.specs.Sequences.{end_bytes}
+use Rattle.tv_terminal.specs.Written.{end_bytes}
 use Rattle.tv_play.proofs.ShownLemmas.{put-end, put-still, stays-stopped}
 use Rattle.tv_play.proofs.show.Show.end.Goals as goal
 

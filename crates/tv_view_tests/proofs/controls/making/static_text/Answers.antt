@@ -1,4 +1,4 @@
-use Rattle.tv_leaf.proofs.CoreLemmas.{limited_small}
+use Rattle.tv_view.proofs.CoreLemmas.{limited_small}
 use Rattle.tv_view_tests.proofs.controls.making.static_text.Goals as goal
 
 pub new-requires : goal.new-requires

@@ -1,0 +1,63 @@
+//! How the block of a report begins: where to look, and at which fault.
+
+ghost use Rattle.std.specs.Prelude.{◌≡◌, IfOk, string_bytes};
+ghost use Rattle.tv_advice.specs.Heads.{block_head, in_json, object_head, plain_head};
+
+use crate::colour::{Colour, shown_in};
+use crate::manner::Manner;
+use serde_json::Value;
+use std::alloc::{AllocError, Global};
+
+// A text as JSON has it.
+fn in_json(alloc: Global, text: &str) -> Result<String, AllocError>
+    ensures { IfOk result (λ written. string_bytes written ≡ in_json text.now) }
+{
+    Value::String(String::from_str(alloc, text)?).to_string(alloc)
+}
+
+// The first members of an object.
+fn object_head(
+    alloc: Global,
+    name: &str,
+    line: usize,
+    column: usize,
+    fault: &str,
+) -> Result<String, AllocError>
+    ensures { IfOk result (λ head. string_bytes head ≡ object_head name.now line column fault.now) }
+{
+    let file = in_json(alloc, name)?;
+    let fault = in_json(alloc, fault)?;
+    format!(in alloc; "{{\"file\":{file},\"line\":{line},\"column\":{column},\"fault\":{fault}")
+}
+
+// What editors take for a place, and the fault.
+fn plain_head(
+    alloc: Global,
+    manner: Manner,
+    name: &str,
+    line: usize,
+    column: usize,
+    fault: &str,
+) -> Result<String, AllocError>
+    ensures { IfOk result (λ head. string_bytes head ≡ plain_head manner name.now line column fault.now) }
+{
+    let fault = shown_in(alloc, manner, Colour::Fault, fault)?;
+    format!(in alloc; "{name}:{line}:{column}: {fault}")
+}
+
+/// Writes the head of a block: the file, the line and the column, and the fault.
+pub fn head(
+    alloc: Global,
+    manner: Manner,
+    name: &str,
+    line: usize,
+    column: usize,
+    fault: &str,
+) -> Result<String, AllocError>
+    ensures { IfOk result (λ head. string_bytes head ≡ block_head manner name.now line column fault.now) }
+{
+    match manner {
+        Manner::Json => object_head(alloc, name, line, column, fault),
+        Manner::Plain | Manner::Coloured => plain_head(alloc, manner, name, line, column, fault),
+    }
+}

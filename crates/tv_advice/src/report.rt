@@ -1,0 +1,185 @@
+//! The blocks of a report: what is told of a text, fault by fault.
+
+ghost use Rattle.std.specs.Prelude.{◌≡◌, IfOk, string_bytes};
+ghost use Rattle.tv_advice.specs.Blocks.{IsBlockAt, numbered_fault};
+
+use crate::advice::Advice;
+use crate::colour::{Colour, shown_in};
+use crate::heads::head;
+use crate::json::{advice_members, unread_members};
+use crate::manner::Manner;
+use crate::note::Note;
+use crate::source::Source;
+use crate::spans::line_of;
+use crate::unread::{Hint, Unread};
+use std::alloc::{AllocError, Global};
+
+// Puts a head before the rest of a block.
+fn block_of(
+    alloc: Global,
+    source: &Source,
+    own: &Note,
+    fault: &str,
+    rest: &str,
+) -> Result<String, AllocError>
+    ensures { IfOk result (λ block. IsBlockAt source.now.manner source.now.name.now own.now.line fault.now (string_bytes block)) }
+{
+    let column = own.column.saturating_add(1);
+    let mut block = head(alloc, source.manner, source.name, own.line, column, fault)?;
+    block.push_str(rest)?;
+    Ok(block)
+}
+
+/// Writes what is told of a fault.
+pub fn advice_block(alloc: Global, source: &Source, advice: &Advice) -> Result<String, AllocError>
+    ensures { IfOk result (λ block. IsBlockAt source.now.manner source.now.name.now advice.now.own.line (numbered_fault advice.now.number) (string_bytes block)) }
+{
+    let fault = format!(in alloc; "F{}", advice.number)?;
+    let rest = match source.manner {
+        Manner::Json => advice_members(alloc, advice)?,
+        Manner::Plain | Manner::Coloured => advice_lines(alloc, source, advice)?,
+    };
+    block_of(alloc, source, &advice.own, &fault, &rest)
+}
+
+/// Writes why a line can't be read, or why it can't stand, the fault being called so.
+pub fn unread_block(
+    alloc: Global,
+    source: &Source,
+    fault: &str,
+    unread: &Unread,
+) -> Result<String, AllocError>
+    ensures { IfOk result (λ block. IsBlockAt source.now.manner source.now.name.now unread.now.own.line fault.now (string_bytes block)) }
+{
+    let rest = match source.manner {
+        Manner::Json => unread_members(alloc, unread)?,
+        Manner::Plain | Manner::Coloured => unread_lines(alloc, source, unread)?,
+    };
+    block_of(alloc, source, &unread.own, fault, &rest)
+}
+
+// The message, the lines of the text that have to do with the fault, and how to mend it.
+fn advice_lines(alloc: Global, source: &Source, advice: &Advice) -> Result<String, AllocError> {
+    let mut told = format!(in alloc; ": {}\n", advice.message)?;
+    let mut width = digits(advice.own.line);
+    if let Some(other) = &advice.other {
+        width = width.max(digits(other.line));
+        push_note(alloc, &mut told, source, other, Mark::Other, width)?;
+    }
+    push_note(alloc, &mut told, source, &advice.own, Mark::Own, width)?;
+    push_help(alloc, &mut told, source, width, "mend", &advice.mend)?;
+    Ok(told)
+}
+
+// The message, the line, and what helps.
+fn unread_lines(alloc: Global, source: &Source, unread: &Unread) -> Result<String, AllocError> {
+    let mut told = format!(in alloc; ": {}\n", unread.message)?;
+    let width = digits(unread.own.line);
+    push_note(alloc, &mut told, source, &unread.own, Mark::Own, width)?;
+    match unread.hint {
+        Some(Hint::Form(form)) => push_help(alloc, &mut told, source, width, "form", form)?,
+        Some(Hint::Mend(mend)) => push_help(alloc, &mut told, source, width, "mend", mend)?,
+        None => {}
+    }
+    Ok(told)
+}
+
+/// How a part of a line is marked.
+#[derive(Clone, Copy)]
+enum Mark {
+    /// The words at fault.
+    Own,
+    /// Those of the other line.
+    Other,
+}
+
+impl Mark {
+    fn sign(self) -> char {
+        match self {
+            Mark::Own => '^',
+            Mark::Other => '-',
+        }
+    }
+
+    fn colour(self) -> Colour {
+        match self {
+            Mark::Own => Colour::Fault,
+            Mark::Other => Colour::Other,
+        }
+    }
+}
+
+// Adds a line of the text, and below it what is said of a part, which is marked.
+fn push_note(
+    alloc: Global,
+    told: &mut String,
+    source: &Source,
+    note: &Note,
+    mark: Mark,
+    width: usize,
+) -> Result<(), AllocError> {
+    push_margin(told, width)?;
+    told.push_str("\n")?;
+    push_times(told, ' ', width.saturating_sub(digits(note.line)))?;
+    let number = format!(in alloc; "{} | ", note.line)?;
+    told.push_str(&number)?;
+    push_shown(told, line_of(source.text, note.line))?;
+    told.push_str("\n")?;
+    push_margin(told, width)?;
+    push_times(told, ' ', note.column.saturating_add(1))?;
+    let mut said = String::new(alloc);
+    push_times(&mut said, mark.sign(), note.len.max(1))?;
+    said.push_str(" ")?;
+    said.push_str(&note.label)?;
+    let shown = shown_in(alloc, source.manner, mark.colour(), &said)?;
+    told.push_str(&shown)?;
+    told.push_str("\n")
+}
+
+// Adds the last line: what helps.
+fn push_help(
+    alloc: Global,
+    told: &mut String,
+    source: &Source,
+    width: usize,
+    word: &str,
+    help: &str,
+) -> Result<(), AllocError> {
+    push_times(told, ' ', width)?;
+    let word = shown_in(alloc, source.manner, Colour::Help, word)?;
+    let line = format!(in alloc; " = {word}: {help}\n")?;
+    told.push_str(&line)
+}
+
+// Adds the line without a number that stands before and below a line of the text.
+fn push_margin(told: &mut String, width: usize) -> Result<(), AllocError> {
+    push_times(told, ' ', width)?;
+    told.push_str(" |")
+}
+
+// Adds a character so many times.
+fn push_times(told: &mut String, ch: char, count: usize) -> Result<(), AllocError> {
+    for _ in 0..count {
+        told.push(ch)?;
+    }
+    Ok(())
+}
+
+// How many digits the number has.
+fn digits(number: usize) -> usize {
+    let further = number.checked_ilog10().unwrap_or(0);
+    further.saturating_add(1) as usize
+}
+
+// Adds a line, with signs in the place of control characters.
+fn push_shown(told: &mut String, line: &str) -> Result<(), AllocError> {
+    for ch in line.chars() {
+        told.push(match ch {
+            '\t' => '→',
+            '\r' => '␍',
+            _ if ch.is_control() => '�',
+            _ => ch,
+        })?;
+    }
+    Ok(())
+}

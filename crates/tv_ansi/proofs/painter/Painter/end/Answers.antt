@@ -1,5 +1,0 @@
-use Rattle.tv_ansi.proofs.PaintLemmas.{told-end}
-use Rattle.tv_ansi.proofs.painter.Painter.end.Goals as goal
-
-pub returns-clause-told : goal.returns-clause-told
-returns-clause-told g c = told-end

@@ -1,3 +1,0 @@
-pub mod CoreLemmas
-pub mod PassedLemmas
-pub mod PointLemmas

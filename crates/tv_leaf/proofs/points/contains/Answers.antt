@@ -1,5 +1,0 @@
-use Rattle.tv_leaf.proofs.PointLemmas.{is_in-test}
-use Rattle.tv_leaf.proofs.points.contains.Goals as goal
-
-pub returns : goal.returns
-returns c = is_in-test c.args.rect c.args.point.x c.args.point.y c.contains.result c.contains.ensures

@@ -1,4 +1,0 @@
-pub mod GainLemmas
-pub mod DrawingLemmas
-pub mod PictureLemmas
-pub mod ShotLemmas

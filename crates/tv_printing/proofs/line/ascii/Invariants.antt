@@ -1,6 +1,0 @@
--- The characters so far and the bytes that are left are the text.
-use Rattle.std.proofs.Common.{◌≡◌, ◌++◌, drop}
-use Rattle.tv_printing.proofs.line.ascii.Given as goal
-
-abbrev pub invariant-loop-byte : goal.invariant-loop-byte
-invariant-loop-byte l = l.chars ++ drop l.byte-index l.text ≡ l.text

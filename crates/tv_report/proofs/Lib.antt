@@ -1,2 +1,0 @@
-pub mod BeginningLemmas
-pub mod BlockLemmas

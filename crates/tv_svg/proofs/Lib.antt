@@ -1,3 +1,0 @@
-pub mod StripLemmas
-pub mod TextLemmas
-pub mod PutLemmas

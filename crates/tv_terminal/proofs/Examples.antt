@@ -1,0 +1,82 @@
+-- What a terminal is told, computed.
+use Rattle.std.proofs.Common.{◌≡◌, [], ◌∷◌, ◌++◌, Some, None, true, false, refl, codes}
+use lib.Utf8.{encode}
+use Rattle.unicode_width.specs.Width.{char_width}
+use Rattle.tv_cells.specs.Glyph.{glyph}
+use Rattle.tv_terminal.specs.Written.{begin_bytes, cell_bytes, end_bytes}
+use Rattle.tv_terminal.specs.Terminal.{Character, Display, Escape, ground, in_mode, told}
+
+-- a terminal of 80 by 24 with an x in each place
+abbrev plain : Display
+plain = record {
+  columns = 80;
+  rows = 24;
+  cells = λ _ _. record { ch = 120; front = 39; back = 49 };
+  column = 3;
+  row = 5;
+  front = 39;
+  back = 49;
+  has_cursor = true;
+  has_mouse = false;
+  has_long_reports = false;
+  covered = None;
+  is_lost = false;
+}
+
+-- two characters from row 12 and column 30 on, counted from 1, in black on white
+abbrev two : Display
+two = (told (ground plain) (27 ∷ codes "[12;30H" ++ 27 ∷ codes "[30;47mAB")).display
+
+first_shows : two.cells 29 11 ≡ record { ch = 65; front = 30; back = 47 }
+unfolding char_width
+first_shows = refl
+
+second_shows : two.cells 30 11 ≡ record { ch = 66; front = 30; back = 47 }
+unfolding char_width
+second_shows = refl
+
+next_stays : two.cells 31 11 ≡ record { ch = 120; front = 39; back = 49 }
+unfolding char_width
+next_stays = refl
+
+cursor_behind : two.column ≡ 31
+unfolding char_width
+cursor_behind = refl
+
+-- ESC alone, and the first byte of é, are unfinished
+escape_alone : told (ground plain) (27 ∷ []) ≡ in_mode Escape plain
+escape_alone = refl
+
+half_a_character : told (ground plain) (195 ∷ []) ≡ in_mode (Character 0 3) plain
+half_a_character = refl
+
+-- a sequence in two pieces
+in_pieces : told (told (ground plain) (27 ∷ codes "[1")) (codes "2;3H") ≡ told (ground plain) (27 ∷ codes "[12;3H")
+in_pieces = refl
+
+-- the last column takes a character, and what would come behind it isn't said
+last_column : (told (ground plain) (27 ∷ codes "[1;80Ha")).display.is_lost ≡ false
+unfolding char_width
+last_column = refl
+
+behind_it : (told (ground plain) (27 ∷ codes "[1;80Hab")).display.is_lost ≡ true
+unfolding char_width
+behind_it = refl
+
+-- red on blue, and bright yellow on grey
+red_on_blue : cell_bytes None None 0 0 (glyph 65 0x14) ≡ 27 ∷ codes "[1;1H" ++ 27 ∷ codes "[31;44m" ++ codes "A"
+unfolding encode
+red_on_blue = refl
+
+yellow_on_grey : cell_bytes None None 79 23 (glyph 0xE9 0x7E) ≡ 27 ∷ codes "[24;80H" ++ 27 ∷ codes "[93;47m" ++ 195 ∷ 169 ∷ []
+unfolding encode
+yellow_on_grey = refl
+
+-- the next cell in the same colours is its character alone
+next_cell : cell_bytes (Some (1, 0)) (Some 0x14) 1 0 (glyph 66 0x14) ≡ codes "B"
+unfolding encode
+next_cell = refl
+
+-- the begin and the end leave nothing behind
+as_before : (told (ground plain) (begin_bytes ++ end_bytes)) ≡ ground plain
+as_before = refl

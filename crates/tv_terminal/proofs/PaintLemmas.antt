@@ -1,0 +1,158 @@
+-- A screen that is painted, with its cursor, and the begin and the end.
+use Rattle.std.proofs.Common.{◌≡◌, ℕ, pos, ◌<◌, ◌≤◌, Bool, true, false, subst, List, [], ◌∷◌, ◌++◌, Option, Some, None, IfSome, refl, sym, ap, ◌∙◌, arith, append_assoc, codes}
+use Rattle.std.proofs.lemmas.Int.{ints}
+use Rattle.tv_cells.specs.Picture.{Picture, IsOn, IsAlike}
+use Rattle.tv_cells.specs.Rectangle.{sized}
+use Rattle.tv_cells.specs.Repainting.{has_cell}
+use Rattle.tv_cells.specs.declared.rect.Rect.{Rect}
+use Rattle.tv_cells.proofs.DamageLemmas.{is_in-true, or_left}
+use Rattle.tv_io.specs.Pen.{Puts, PutsPart}
+use Rattle.tv_io.specs.Writer.{Seen}
+use Rattle.tv_io.specs.declared.pen.Pen.{Pen}
+use Rattle.tv_io.proofs.PenLemmas.{Puts-then, Puts-along}
+use Rattle.tv_terminal.specs.Displays.{HasCursor, HasSpace, Knows, tile_of}
+use Rattle.tv_terminal.specs.Written.{begin_bytes, cursor_bytes, end_bytes, place_bytes}
+use Rattle.tv_terminal.specs.Terminal.{Covered, Display, Terminal, ground, plain_back, plain_front, told}
+use Rattle.tv_terminal.specs.Writing.{BeginsScreen, Drawn, Draws, Paints, restored}
+use Rattle.tv_terminal.specs.declared.hand.Hand.{Hand}
+use Rattle.tv_terminal.specs.declared.painter.Painter.{Painter}
+use Rattle.tv_terminal.proofs.ToldLemmas.{told-++, told-going-anew}
+use Rattle.tv_terminal.proofs.DrawLemmas.{on-alike, tells-then}
+
+true-not-false : {b : Bool} → b ≡ true → b ≡ false → ⊥
+true-not-false e f = let g : true ≡ false = sym e ∙ f in absurd cc
+
+-- ---- the cursor
+
+abbrev with_cursor : Option (ℕ × ℕ) → Display → Display
+with_cursor None d = record d { has_cursor = false }
+with_cursor (Some p) d = record d { column = p.0; row = p.1; has_cursor = true }
+
+told-cursor : (cursor : Option (ℕ × ℕ)) (d : Display) → IfSome cursor (λ p. (p.0 < d.columns) × (p.1 < d.rows)) → IfSome cursor (λ p. (p.0 < 999) × (p.1 < 999))
+    → told (ground d) (cursor_bytes cursor) ≡ ground (with_cursor cursor d)
+told-cursor None d on small = refl
+told-cursor (Some p) d on small =
+    told-++ (ground d) (place_bytes p.0 p.1) (27 ∷ codes "[?25h")
+    ∙ ap (λ (t : Terminal). told t (27 ∷ codes "[?25h")) (told-going-anew p.0 p.1 d on.0 on.1 small.0 small.1)
+
+has-cursor : (cursor : Option (ℕ × ℕ)) (d : Display) → HasCursor cursor (with_cursor cursor d)
+has-cursor None d = refl
+has-cursor (Some p) d = (refl, refl, refl)
+
+drawn-cursor : {Region : ℕ → ℕ → Type 0} {screen : Picture} {new : Painter} {d e : Display} (cursor : Option (ℕ × ℕ)) → Drawn Region screen new d e → Drawn Region screen new d (with_cursor cursor e)
+drawn-cursor None p = record {
+  shows = record { inside = p.shows.inside; outside = p.shows.outside };
+  right = λ k. record { room = record { across = (p.right k).room.across; down = (p.right k).room.down }; each = (p.right k).each };
+  stays = record { columns = p.stays.columns; rows = p.stays.rows; mouse = p.stays.mouse; reports = p.stays.reports; covered = p.stays.covered; lost = p.stays.lost };
+}
+drawn-cursor (Some q) p = record {
+  shows = record { inside = p.shows.inside; outside = p.shows.outside };
+  right = λ k. record { room = record { across = (p.right k).room.across; down = (p.right k).room.down }; each = (p.right k).each };
+  stays = record { columns = p.stays.columns; rows = p.stays.rows; mouse = p.stays.mouse; reports = p.stays.reports; covered = p.stays.covered; lost = p.stays.lost };
+}
+
+-- a place of the screen is one of the terminal, and its numbers are small
+on-terminal : (cursor : Option (ℕ × ℕ)) (width height columns rows : ℕ) → width ≤ columns → height ≤ rows → IfSome cursor (λ p. (p.0 < width) × (p.1 < height)) → IfSome cursor (λ p. (p.0 < columns) × (p.1 < rows))
+on-terminal None width height columns rows a b on = on
+on-terminal (Some p) width height columns rows a b on = (omega (arith, on.0), omega (arith, on.1))
+
+-- ---- a screen
+
+knows-none : (place : Option (ℕ × ℕ)) (attr : Option ℕ) (d : Display) → place ≡ None → attr ≡ None → Knows place attr d
+knows-none place attr d e f = rw (e, f) (record { stands = tt; writes = tt })
+
+puts-all : {W : Type 0} {seen : W → Seen} {x y z : Pen W} (waited waits text last : List ℕ) → waited ≡ [] → PutsPart seen x y waited text waits → Puts seen y z (waits ++ last) → Puts seen x z (text ++ last)
+puts-all waited waits text last empty p q =
+    let parts : p.0 ++ waits ≡ text = p.2 ∙ ap (λ (w : List ℕ). w ++ text) empty in
+    Puts-along (sym (append_assoc p.0 waits last) ∙ ap (λ (t : List ℕ). t ++ last) parts) (Puts-then p.1 q)
+
+module _ {W : Type 0} {seen : W → Seen} {Region : ℕ → ℕ → Type 0} {screen : Picture} {old new : Painter} {hand after : Hand} {x y z : Pen W} where
+  pub paints : (cursor : Option (ℕ × ℕ)) → hand.waiting.items ≡ [] → hand.place ≡ None → hand.attr ≡ None → IsAlike old.shown screen
+      → (screen.width < 999) × (screen.height < 999) → IfSome cursor (λ p. (p.0 < screen.width) × (p.1 < screen.height))
+      → Draws seen Region screen old new hand after x y → Puts seen y z (after.waiting.items ++ cursor_bytes cursor) → Paints seen Region screen cursor old new x z
+  paints cursor empty nowhere plain alike small on p q = record {
+    known = p.known;
+    changes = p.changes;
+    bytes = p.text ++ cursor_bytes cursor;
+    puts = puts-all hand.waiting.items after.waiting.items p.text (cursor_bytes cursor) empty p.puts q;
+    tells = λ d room right.
+        tells-then p.text (p.tells d (knows-none hand.place hand.attr d nowhere plain) room right)
+        (λ e law. record {
+          after = with_cursor cursor e;
+          is = told-cursor cursor e
+              (on-terminal cursor screen.width screen.height e.columns e.rows
+              (omega (arith, alike.width, room.across, law.1.stays.columns)) (omega (arith, alike.height, room.down, law.1.stays.rows)) on)
+              (on-terminal cursor screen.width screen.height 999 999 (omega (arith, small.0)) (omega (arith, small.1)) on);
+          law = record { drawn = drawn-cursor cursor law.1; points = has-cursor cursor e };
+        });
+  }
+
+-- the cursor by another word
+pub paints-for : {W : Type 0} {seen : W → Seen} {Region : ℕ → ℕ → Type 0} {screen : Picture} {cursor wanted : Option (ℕ × ℕ)} {old new : Painter} {x z : Pen W} → cursor ≡ wanted
+    → Paints seen Region screen cursor old new x z → Paints seen Region screen wanted old new x z
+paints-for {seen = seen} {Region = Region} {screen = screen} {old = old} {new = new} {x = x} {z = z} e p = subst (λ (q : Option (ℕ × ℕ)). Paints seen Region screen q old new x z) e p
+
+-- ---- the begin
+
+abbrev begun : Display → Display
+begun d = record d {
+  cells = λ _ _. record { ch = 32; front = plain_front; back = plain_back };
+  front = plain_front;
+  back = plain_back;
+  covered = Some (record { cells = d.cells; column = d.column; row = d.row });
+  has_mouse = true;
+  has_long_reports = true;
+}
+
+told-begin : (d : Display) → d.covered ≡ None → told (ground d) begin_bytes ≡ ground (begun d)
+told-begin d free = subst (λ (o : Option Covered). told (ground (record d { covered = o })) begin_bytes ≡ ground (begun (record d { covered = o }))) (sym free) refl
+
+whole-has : (screen : Picture) (column row : ℕ) → IsOn screen column row → has_cell (sized screen.width screen.height ∷ []) column row ≡ true
+whole-has screen column row on = or_left _ _ (is_in-true (sized screen.width screen.height) (pos column) (pos row) (record { after_left = omega (arith, ints); before_right = omega (arith, ints, on.across); after_top = omega (arith, ints); before_bottom = omega (arith, ints, on.down) }))
+
+pub whole-rect : (r : Rect) (screen : Picture) → r ≡ sized screen.width screen.height → (column row : ℕ) → IsOn screen column row → has_cell (r ∷ []) column row ≡ true
+whole-rect r screen e column row on = subst (λ (q : Rect). has_cell (q ∷ []) column row ≡ true) (sym e) (whole-has screen column row on)
+
+module _ {W : Type 0} {seen : W → Seen} {screen : Picture} {cursor : Option (ℕ × ℕ)} {old blind new last : Painter} {x y z : Pen W} where
+  pub begins : IsAlike old.shown screen → blind.shown ≡ old.shown → blind.is_known ≡ false → last.shown ≡ new.shown → last.is_known ≡ true → Puts seen x y begin_bytes
+      → (rects : List Rect) → ((column row : ℕ) → IsOn screen column row → has_cell rects column row ≡ true)
+      → Paints seen (λ column row. has_cell rects column row ≡ true) screen cursor blind new y z → BeginsScreen seen screen cursor old last x z
+  begins alike same unknown end known opened rects all p = record {
+    known = known;
+    size = record { width = ap (λ (q : Picture). q.width) end ∙ p.changes.size.width ∙ ap (λ (q : Picture). q.width) same; height = ap (λ (q : Picture). q.height) end ∙ p.changes.size.height ∙ ap (λ (q : Picture). q.height) same };
+    taken = λ column row on. rw end (p.changes.inside column row (rw same (on-alike alike on)) (all column row on));
+    bytes = begin_bytes ++ p.bytes;
+    puts = Puts-then opened p.puts;
+    tells = λ d room free.
+        let room' : HasSpace blind.shown (begun d) = rw same (record { across = omega (arith, alike.width, room.across); down = omega (arith, alike.height, room.down) }) in
+        let q = p.tells (begun d) room' (λ k. absurd (true-not-false k unknown)) in
+        record {
+          after = q.after;
+          is = told-++ (ground d) begin_bytes p.bytes ∙ ap (λ (t : Terminal). told t p.bytes) (told-begin d free) ∙ q.is;
+          law = record {
+            shows = record {
+              room = record { across = omega (arith, room.across, q.law.drawn.stays.columns); down = omega (arith, room.down, q.law.drawn.stays.rows) };
+              each = λ column row on. q.law.drawn.shows.inside column row on (all column row on);
+            };
+            right = λ k. rw end (record {
+              room = record { across = omega (arith, room.across, q.law.drawn.stays.columns, p.changes.size.width, ap (λ (o : Picture). o.width) same, alike.width); down = omega (arith, room.down, q.law.drawn.stays.rows, p.changes.size.height, ap (λ (o : Picture). o.height) same, alike.height) };
+              each = λ column row on.
+                  let there : IsOn screen column row = record { across = omega (arith, on.across, p.changes.size.width, ap (λ (o : Picture). o.width) same, alike.width); down = omega (arith, on.down, p.changes.size.height, ap (λ (o : Picture). o.height) same, alike.height) } in
+                  q.law.drawn.shows.inside column row there (all column row there)
+                  ∙ ap tile_of (sym (p.changes.inside column row (rw same (on-alike alike there)) (all column row there)));
+            });
+            points = q.law.points;
+            columns = q.law.drawn.stays.columns;
+            rows = q.law.drawn.stays.rows;
+            mouse = q.law.drawn.stays.mouse;
+            reports = q.law.drawn.stays.reports;
+            covered = q.law.drawn.stays.covered;
+            lost = q.law.drawn.stays.lost;
+          };
+        };
+  }
+
+-- ---- the end
+
+pub told-end : (d : Display) (c : Covered) → d.covered ≡ Some c → told (ground d) end_bytes ≡ ground (restored c d)
+told-end d c kept = subst (λ (o : Option Covered). told (ground (record d { covered = o })) end_bytes ≡ ground (restored c (record d { covered = o }))) (sym kept) refl

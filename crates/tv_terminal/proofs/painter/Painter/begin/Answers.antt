@@ -1,0 +1,10 @@
+use Rattle.std.proofs.Common.{ap, refl, ◌∷◌, []}
+use Rattle.tv_cells.specs.declared.canvas.Canvas.{Canvas}
+use Rattle.tv_terminal.proofs.PaintLemmas.{begins, whole-rect}
+use Rattle.tv_terminal.proofs.painter.Painter.begin.Goals as goal
+
+pub returns : goal.returns
+returns g c =
+    begins c.requires refl refl refl refl c.put.ensures (c.canvas.result.clip ∷ [])
+    (whole-rect c.canvas.result.clip c.args.screen.now (ap (λ (k : Canvas). k.clip) c.canvas.ensures))
+    c.paint.ensures

@@ -1,0 +1,89 @@
+-- What is written, and what a terminal makes of it.
+use Rattle.std.specs.Prelude.{◌≡◌, ℕ, true, false, List, Option, Some, None}
+use Rattle.tv_cells.specs.Picture.{Picture, IsAlike, IsOn, Changes, cell_at}
+use Rattle.tv_io.specs.Pen.{Puts, PutsPart}
+use Rattle.tv_io.specs.Writer.{Seen}
+use Rattle.tv_io.specs.declared.pen.Pen.{Pen}
+use Rattle.tv_terminal.specs.Displays.{Displays, HasCursor, HasSpace, Knows, ShowsIn, Stays, Becomes}
+use Rattle.tv_terminal.specs.Terminal.{Covered, Display, plain_back, plain_front}
+use Rattle.tv_terminal.specs.declared.hand.Hand.{Hand}
+use Rattle.tv_terminal.specs.declared.painter.Painter.{Painter}
+
+-- what a painter takes the terminal to show is what it shows
+abbrev pub IsRight : Painter → Display → Type 0
+IsRight painter d = painter.is_known ≡ true → Displays painter.shown d
+
+-- ---- the cells of a region
+
+-- what a terminal shows after the cells of a region of a screen were written
+pub record Drawn (Region : ℕ → ℕ → Type 0) (screen : Picture) (new : Painter) (d e : Display) : Type 0 where
+  pub shows : ShowsIn Region screen d e
+  pub right : IsRight new e
+  pub stays : Stays d e
+
+-- a painter took them over, and wrote what brings a terminal there
+pub record Draws {W : Type 0} (seen : W → Seen) (Region : ℕ → ℕ → Type 0) (screen : Picture)
+    (old new : Painter) (hand after : Hand) (before later : Pen W) : Type 0 where
+  pub known : new.is_known ≡ old.is_known
+  pub changes : Changes Region (λ column row _. cell_at screen column row) old.shown new.shown
+  pub text : List ℕ
+  pub puts : PutsPart seen before later hand.waiting.items text after.waiting.items
+  pub tells : (d : Display) → Knows hand.place hand.attr d → HasSpace old.shown d → IsRight old d
+      → Becomes text d (λ e. Knows after.place after.attr e × Drawn Region screen new d e)
+
+-- ---- a screen
+
+-- what a terminal shows after a region of a screen was painted
+pub record Painted (Region : ℕ → ℕ → Type 0) (screen : Picture) (cursor : Option (ℕ × ℕ)) (new : Painter)
+    (d e : Display) : Type 0 where
+  pub drawn : Drawn Region screen new d e
+  pub points : HasCursor cursor e
+
+-- a painter took its cells over, and wrote what brings a terminal there
+pub record Paints {W : Type 0} (seen : W → Seen) (Region : ℕ → ℕ → Type 0) (screen : Picture)
+    (cursor : Option (ℕ × ℕ)) (old new : Painter) (before after : Pen W) : Type 0 where
+  pub known : new.is_known ≡ old.is_known
+  pub changes : Changes Region (λ column row _. cell_at screen column row) old.shown new.shown
+  pub bytes : List ℕ
+  pub puts : Puts seen before after bytes
+  pub tells : (d : Display) → HasSpace old.shown d → IsRight old d
+      → Becomes bytes d (Painted Region screen cursor new d)
+
+-- ---- the begin and the end
+
+-- the alternate screen shows the whole screen, and the mouse is on; the normal screen is kept
+pub record Begun (screen : Picture) (cursor : Option (ℕ × ℕ)) (new : Painter) (d e : Display) : Type 0 where
+  pub shows : Displays screen e
+  pub right : IsRight new e
+  pub points : HasCursor cursor e
+  pub columns : e.columns ≡ d.columns
+  pub rows : e.rows ≡ d.rows
+  pub mouse : e.has_mouse ≡ true
+  pub reports : e.has_long_reports ≡ true
+  pub covered : e.covered ≡ Some (record { cells = d.cells; column = d.column; row = d.row })
+  pub lost : e.is_lost ≡ d.is_lost
+
+pub record BeginsScreen {W : Type 0} (seen : W → Seen) (screen : Picture) (cursor : Option (ℕ × ℕ))
+    (old new : Painter) (before after : Pen W) : Type 0 where
+  pub known : new.is_known ≡ true
+  pub size : IsAlike old.shown new.shown
+  pub taken : (column row : ℕ) → IsOn screen column row
+      → cell_at new.shown column row ≡ cell_at screen column row
+  pub bytes : List ℕ
+  pub puts : Puts seen before after bytes
+  pub tells : (d : Display) → HasSpace screen d → d.covered ≡ None
+      → Becomes bytes d (Begun screen cursor new d)
+
+-- the normal screen as it was kept, with the cursor where it stood, plain colours and no mouse
+abbrev pub restored : Covered → Display → Display
+restored c d = record d {
+  cells = c.cells;
+  column = c.column;
+  row = c.row;
+  covered = None;
+  front = plain_front;
+  back = plain_back;
+  has_cursor = true;
+  has_mouse = false;
+  has_long_reports = false;
+}

@@ -1,0 +1,176 @@
+//! What a terminal shows, and how it is brought to show a screen.
+
+ghost use Rattle.std.specs.Prelude.{◌≡◌, ◌≤◌, ◌<◌, ◌↔◌, true, false, pos, IfOk, IsErrOf};
+ghost use Rattle.tv_cells.specs.Layers.{is_in};
+ghost use Rattle.tv_cells.specs.Picture.{Changes, IsAlike, IsOn, IsPlace, IsScreenSize};
+ghost use Rattle.tv_cells.specs.Repainting.{has_cell};
+ghost use Rattle.tv_cells.specs.Row.{IsInRow};
+ghost use Rattle.tv_io.specs.Pen.{Puts};
+ghost use Rattle.tv_terminal.specs.Written.{cursor_on, end_bytes};
+ghost use Rattle.tv_terminal.specs.Terminal.{Covered, Display, ground, told};
+ghost use Rattle.tv_terminal.specs.Writing.{BeginsScreen, Draws, Paints, restored};
+
+use crate::hand::Hand;
+use crate::span::{on_screen, visible};
+use std::alloc::Global;
+use tv_cells::{Cell, Point, Rect, Screen, ScreenFault};
+use tv_io::{Pen, Writer};
+
+/// Brings a terminal to show a screen, and keeps what it shows, so that only what differs is written.
+#[derive(Drop)]
+pub struct Painter {
+    shown: Screen,
+    is_known: bool,
+}
+
+impl Painter {
+    /// Makes the painter of a terminal of which nothing is known, for screens of a size.
+    ///
+    /// # Errors
+    ///
+    /// `BadSize` unless there are 20 to 132 columns and 10 to 60 rows, else `NoMemory` where there is none for the cells.
+    pub fn new(alloc: Global, width: u32, height: u32) -> Result<Painter, ScreenFault>
+        ensures size { IfOk result (λ painter. (painter.shown.width ≡ width) × (painter.shown.height ≡ height)) }
+        ensures unknown { IfOk result (λ painter. painter.is_known ≡ false) }
+        ensures bad { IsErrOf result ScreenFault.BadSize ↔ (IsScreenSize width height → ⊥) }
+    {
+        match Screen::new(alloc, width, height) {
+            Ok(shown) => Ok(Painter {
+                shown,
+                is_known: false,
+            }),
+            Err(fault) => Err(fault),
+        }
+    }
+
+    /// Begins a session: turns the terminal to its alternate screen, has it tell of the mouse, and shows the whole screen, with
+    /// the cursor at a point of it, or without one. The normal screen is kept by the terminal.
+    ///
+    /// Where the writer fails, a prefix of the bytes was written, and the pen is stopped.
+    pub fn begin<W: Writer>(&mut self, screen: &Screen, cursor: Option<Point>, pen: &mut Pen<W>)
+        requires { IsAlike self.old.shown screen.now }
+        ensures { BeginsScreen W.seen screen.now (cursor_on screen.now.width screen.now.height cursor) self.old self.new pen.old pen.new }
+    {
+        self.is_known = false;
+        pen.put(b"\x1b[?1049h\x1b[?1002h\x1b[?1006h\x1b[0m\x1b[2J");
+        self.paint(screen, &[screen.canvas().clip], cursor, pen);
+        self.is_known = true;
+    }
+
+    /// Brings the terminal to show a screen in each cell of some rectangles, with the cursor at a point of it, or without
+    /// one. Only cells that don't show yet are written. Other cells of the terminal stay as they are.
+    ///
+    /// Where the writer fails, a prefix of the bytes was written, and the pen is stopped.
+    pub fn paint<W: Writer>(
+        &mut self,
+        screen: &Screen,
+        rects: &[Rect],
+        cursor: Option<Point>,
+        pen: &mut Pen<W>,
+    )
+        requires { IsAlike self.old.shown screen.now }
+        ensures { Paints W.seen (λ column row. has_cell rects.now column row ≡ true) screen.now (cursor_on screen.now.width screen.now.height cursor) self.old self.new pen.old pen.new }
+    {
+        let mut hand = Hand::new();
+        self.paint_rects(&mut hand, pen, screen, rects);
+        hand.finish(pen, on_screen(screen.width(), screen.height(), cursor));
+    }
+
+    /// Ends a session: turns the terminal back to its normal screen, as that was, with its cursor, plain colours and no mouse.
+    pub fn end<W: Writer>(&mut self, pen: &mut Pen<W>)
+        ensures puts { Puts W.seen pen.old pen.new end_bytes }
+        ensures told { (d : Display) (c : Covered) → d.covered ≡ Some c → told (ground d) end_bytes ≡ ground (restored c d) }
+        ensures shown { self.new.shown ≡ self.old.shown }
+        ensures unknown { self.new.is_known ≡ false }
+    {
+        self.is_known = false;
+        pen.put(b"\x1b[0m\x1b[2J\x1b[?25h\x1b[?1006l\x1b[?1002l\x1b[?1049l");
+    }
+
+    // Takes over a cell.
+    fn take(&mut self, column: u32, row: u32, cell: Cell)
+        requires place { IsOn self.old.shown column row }
+        requires small { (column < 999) × (row < 999) }
+        ensures shown { Changes (IsPlace column row) (λ _ _ _. cell) self.old.shown self.new.shown }
+        ensures known { self.new.is_known ≡ self.old.is_known }
+    {
+        let canvas = self.shown.canvas();
+        canvas.put(&mut self.shown, column as i32, row as i32, cell);
+    }
+
+    // Paints a cell.
+    fn paint_cell<W: Writer>(
+        &mut self,
+        hand: &mut Hand,
+        pen: &mut Pen<W>,
+        screen: &Screen,
+        column: u32,
+        row: u32,
+    )
+        requires size { IsAlike self.old.shown screen.now }
+        requires place { IsOn self.old.shown column row }
+        requires small { (column < 999) × (row < 999) }
+        ensures { Draws W.seen (IsPlace column row) screen.now self.old self.new hand.old hand.new pen.old pen.new }
+    {
+        let cell = screen.get(column, row);
+        if !self.is_known || self.shown.get(column, row) != cell {
+            self.take(column, row, cell);
+            hand.put(pen, column, row, cell);
+        }
+    }
+
+    // Paints the cells of a row from column `left` on and before `right`.
+    fn paint_row<W: Writer>(
+        &mut self,
+        hand: &mut Hand,
+        pen: &mut Pen<W>,
+        screen: &Screen,
+        row: u32,
+        left: u32,
+        right: u32,
+    )
+        requires size { IsAlike self.old.shown screen.now }
+        requires across { (left ≤ right) × (right ≤ self.old.shown.width) }
+        requires down { row < self.old.shown.height }
+        requires small { (right < 999) × (row < 999) }
+        ensures { Draws W.seen (IsInRow left right row) screen.now self.old self.new hand.old hand.new pen.old pen.new }
+    {
+        for column in left..right {
+            self.paint_cell(hand, pen, screen, column, row);
+        }
+    }
+
+    // Paints the cells of a rectangle.
+    fn paint_rect<W: Writer>(
+        &mut self,
+        hand: &mut Hand,
+        pen: &mut Pen<W>,
+        screen: &Screen,
+        rect: &Rect,
+    )
+        requires { IsAlike self.old.shown screen.now }
+        ensures { Draws W.seen (λ column row. is_in rect.now (pos column) (pos row) ≡ true) screen.now self.old self.new hand.old hand.new pen.old pen.new }
+    {
+        let (left, right) = visible(&rect.a.x, &rect.b.x, screen.width());
+        let (top, bottom) = visible(&rect.a.y, &rect.b.y, screen.height());
+        for row in top..bottom {
+            self.paint_row(hand, pen, screen, row, left, right);
+        }
+    }
+
+    // Paints the cells of some rectangles.
+    fn paint_rects<W: Writer>(
+        &mut self,
+        hand: &mut Hand,
+        pen: &mut Pen<W>,
+        screen: &Screen,
+        rects: &[Rect],
+    )
+        requires { IsAlike self.old.shown screen.now }
+        ensures { Draws W.seen (λ column row. has_cell rects.now column row ≡ true) screen.now self.old self.new hand.old hand.new pen.old pen.new }
+    {
+        for rect in rects {
+            self.paint_rect(hand, pen, screen, rect);
+        }
+    }
+}

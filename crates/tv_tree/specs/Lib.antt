@@ -1,8 +1,0 @@
--- how the views of a dialog stand
-pub mod Tree
--- what is said of a dialog and an event while the event is handled
-pub mod Ready
--- how an event is handed to the views, and what is done with their answers
-pub mod Turns
--- the open dialog on the screen
-pub mod Shown
