@@ -112,7 +112,8 @@ fn tell_unread_script(
     width: i32,
     height: i32,
 ) -> Result<Beside, AllocError>
-    ensures { RefusesScript width height source.now.text.now fault → IfOk result (IsToldOfScript source.now.manner source.now.name.now width height source.now.text.now) }
+    ensures { RefusesScript width height source.now.text.now fault
+        → IfOk result (IsToldOfScript source.now.manner source.now.name.now width height source.now.text.now) }
 {
     match fault {
         ScriptFault::Syntax(line) => Ok(Beside::Faulty(unread_report(

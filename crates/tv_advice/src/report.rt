@@ -32,7 +32,8 @@ fn block_of(
 
 /// Writes what is told of a fault.
 pub fn advice_block(alloc: Global, source: &Source, advice: &Advice) -> Result<String, AllocError>
-    ensures { IfOk result (λ block. IsBlockAt source.now.manner source.now.name.now advice.now.own.line (numbered_fault advice.now.number) (string_bytes block)) }
+    ensures { IfOk result (λ block. IsBlockAt source.now.manner source.now.name.now advice.now.own.line
+        (numbered_fault advice.now.number) (string_bytes block)) }
 {
     let fault = format!(in alloc; "F{}", advice.number)?;
     let rest = match source.manner {

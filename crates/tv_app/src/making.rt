@@ -181,7 +181,8 @@ fn add_members<'a, V: View, F: Fn(Global, Control) -> Result<V, AllocError>>(
     requires keep { KeepsLeaves (F.post keep.now alloc) V.meaning }
     requires views { AreBuildable panes views.now }
     requires level { members_level members.old.items + panes ≤ 4 }
-    ensures added { IfOk result (λ left. joined_outline V.meaning members.new.items (panes + 1) ++ map declared left.now ≡ joined_outline V.meaning members.old.items (panes + 1) ++ map declared views.now) }
+    ensures added { IfOk result (λ left. joined_outline V.meaning members.new.items (panes + 1)
+        ++ map declared left.now ≡ joined_outline V.meaning members.old.items (panes + 1) ++ map declared views.now) }
     ensures level { OnOk result (members_level members.new.items + panes ≤ 4) }
     ensures left { IfOk result (λ left. AreLeft panes left.now) }
     ensures fewer { IfOk result (λ left. length left.now ≤ length views.now) }

@@ -103,7 +103,8 @@ impl Canvas {
         ensures across { (result.left ≤ result.right) × (result.right ≤ screen.now.width) }
         ensures down { (result.top ≤ result.bottom) × (result.bottom ≤ screen.now.height) }
         ensures small { IsScreenSize screen.now.width screen.now.height }
-        ensures places { (column row : ℕ) → IsOn screen.now column row → IsInArea result column row ↔ Covers self (sized width height) column row }
+        ensures places { (column row : ℕ) → IsOn screen.now column row → IsInArea result column row
+            ↔ Covers self (sized width height) column row }
     {
         let start = (self.origin.x as i64, self.origin.y as i64);
         let end = (start.0 + width as i64, start.1 + height as i64);
@@ -115,7 +116,9 @@ impl Canvas {
         ensures across { (result.left ≤ result.right) × (result.right ≤ screen.now.width) }
         ensures down { (result.top ≤ result.bottom) × (result.bottom ≤ screen.now.height) }
         ensures small { IsScreenSize screen.now.width screen.now.height }
-        ensures places { (column row : ℕ) → IsOn screen.now column row → IsInArea result column row ↔ (IsIn self.clip (pos column) (pos row) × (start.0 ≤ℤ pos column) × (pos column <ℤ end.0) × (start.1 ≤ℤ pos row) × (pos row <ℤ end.1)) }
+        ensures places { (column row : ℕ) → IsOn screen.now column row → IsInArea result column row
+            ↔ (IsIn self.clip (pos column) (pos row) × (start.0 ≤ℤ pos column) × (pos column <ℤ end.0)
+            × (start.1 ≤ℤ pos row) × (pos row <ℤ end.1)) }
     {
         let clip = self.clip;
         let (left, right) = visible(&clip.a.x, &clip.b.x, screen.width(), &start.0, &end.0);

@@ -77,7 +77,8 @@ fn within(from: &i32, at: &i32, to: &i32) -> i32
 // What of a rectangle that is seen from the corner of a frame lies in the frame.
 fn cut_within(rect: &Rect, frame: Rect) -> Rect
     ensures corners { result ≡ seen_within rect.now frame }
-    ensures seen { (x y : ℤ) → IsIn rect.now x y → IsIn frame (x +ℤ frame.a.x) (y +ℤ frame.a.y) → IsIn result (x +ℤ frame.a.x) (y +ℤ frame.a.y) }
+    ensures seen { (x y : ℤ) → IsIn rect.now x y → IsIn frame (x +ℤ frame.a.x) (y +ℤ frame.a.y)
+        → IsIn result (x +ℤ frame.a.x) (y +ℤ frame.a.y) }
     ensures part { IsPart result frame }
 {
     Rect {

@@ -46,7 +46,8 @@ pub trait Face {
 
 /// Paints a face of this size, with its corner at the canvas's origin.
 pub fn paint<F: Face>(screen: &mut Screen, canvas: Canvas, width: u32, height: u32, face: &F)
-    ensures { Changes (Covers canvas (sized width height)) (λ column row _. face_at canvas (F.face face.now) column row) screen.old screen.new }
+    ensures { Changes (Covers canvas (sized width height))
+        (λ column row _. face_at canvas (F.face face.now) column row) screen.old screen.new }
 {
     let area = canvas.face_area(screen, width, height);
     let from = distance(&canvas.origin.x, area.left);

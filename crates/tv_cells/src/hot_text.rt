@@ -84,7 +84,8 @@ impl HotText {
     fn marked(before: &str, letter: char, after: &str) -> Result<HotText, HotTextFault>
         requires { IsHot (hot_of (chars before.now) letter (chars after.now)) }
         ensures ok { IfOk result (λ hot. (hot ≡ hot_of (chars before.now) letter (chars after.now)) × (length hot.text ≤ 120)) }
-        ensures fault { IfErr result (λ fault. (fault ≡ HotTextFault.TooLong) × (120 < length (chars before.now ++ letter ∷ chars after.now))) }
+        ensures fault { IfErr result (λ fault. (fault ≡ HotTextFault.TooLong)
+            × (120 < length (chars before.now ++ letter ∷ chars after.now))) }
     {
         let mut items = ArrayVec::new();
         push_all(&mut items, before)?;

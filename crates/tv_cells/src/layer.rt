@@ -13,7 +13,8 @@ use crate::screen::Screen;
 /// Draws a face over what the screen shows, with its corner at the canvas's origin.
 pub fn lay<F: Face>(screen: &mut Screen, canvas: Canvas, width: u32, height: u32, face: &F)
     ensures size { IsAlike screen.old screen.new }
-    ensures shows { (layers : List Layer) → Shows layers screen.old → Shows (Painted canvas width height (F.face face.now) ∷ layers) screen.new }
+    ensures shows { (layers : List Layer) → Shows layers screen.old
+        → Shows (Painted canvas width height (F.face face.now) ∷ layers) screen.new }
 {
     paint(screen, canvas, width, height, face);
 }

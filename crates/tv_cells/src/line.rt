@@ -62,7 +62,8 @@ pub(crate) fn place(from: &i32, to: &i32, length: u32, origin: &i32, distance: &
 // The range of the places of a line of this length that lie between `from` and `to` and between `start` and `end`.
 pub(crate) fn visible(from: &i32, to: &i32, length: u32, start: &i64, end: &i64) -> (u32, u32)
     ensures within { (result.0 ≤ result.1) × (result.1 ≤ length) }
-    ensures places { (p : ℕ) → p < length → ((result.0 ≤ p) × (p < result.1)) ↔ ((from.now ≤ℤ pos p) × (pos p <ℤ to.now) × (start.now ≤ℤ pos p) × (pos p <ℤ end.now)) }
+    ensures places { (p : ℕ) → p < length → ((result.0 ≤ p) × (p < result.1))
+        ↔ ((from.now ≤ℤ pos p) × (pos p <ℤ to.now) × (start.now ≤ℤ pos p) × (pos p <ℤ end.now)) }
 {
     let first = (*start).max(*from as i64).max(0);
     let last = (*end).min(*to as i64).min(length as i64);

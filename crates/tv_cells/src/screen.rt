@@ -111,7 +111,8 @@ impl Screen {
     /// Returns the cell at a point, or `None` where the point isn't on the screen.
     pub fn at(&self, point: Point) -> Option<Cell>
         ensures found { IsSome result ↔ IsIn (sized self.now.width self.now.height) point.x point.y }
-        ensures value { IfSome result (λ cell. (column row : ℕ) → point.x ≡ pos column → point.y ≡ pos row → cell ≡ cell_at self.now column row) }
+        ensures value { IfSome result (λ cell. (column row : ℕ) → point.x ≡ pos column → point.y ≡ pos row
+            → cell ≡ cell_at self.now column row) }
     {
         let column = u32::try_from(point.x)
             .ok()

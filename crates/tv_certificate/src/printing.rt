@@ -94,7 +94,8 @@ fn with_end(alloc: Global, text: String) -> Result<String, AllocError>
 }
 
 fn with_blocks(alloc: Global, mut text: String, blocks: &[Block]) -> Result<String, AllocError>
-    ensures { IfOk result (λ longer. string_bytes longer ≡ string_bytes text ++ flat_map (λ block. canonical_text (block_lines block)) blocks.now) }
+    ensures { IfOk result (λ longer. string_bytes longer
+        ≡ string_bytes text ++ flat_map (λ block. canonical_text (block_lines block)) blocks.now) }
 {
     for block in blocks {
         text = with_block(alloc, text, block)?;

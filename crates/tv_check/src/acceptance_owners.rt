@@ -60,7 +60,9 @@ fn first_letter(
     lines: &[&KeyLine],
     owners: &Owners,
 ) -> Result<Option<char>, AllocError>
-    ensures { IfOk result (λ letter. MatchOption letter (All (NamesOwner owners.now.version (map (λ line. line.now) lines.now) owners.now.dialog) letters) (IsFirstWithout (NamesOwner owners.now.version (map (λ line. line.now) lines.now) owners.now.dialog) letters)) }
+    ensures { IfOk result (λ letter. MatchOption letter
+        (All (NamesOwner owners.now.version (map (λ line. line.now) lines.now) owners.now.dialog) letters)
+        (IsFirstWithout (NamesOwner owners.now.version (map (λ line. line.now) lines.now) owners.now.dialog) letters)) }
 {
     for letter in letters() {
         let own = owners.owners(alloc, *letter)?;
@@ -74,7 +76,9 @@ fn first_letter(
 /// Finds the first dialog with a letter whose key lines aren't those of its owners. Returns the first such letter of that
 /// dialog.
 pub fn first_owner(alloc: Global, desc: &Desc, blocks: &[Block]) -> Result<Option<char>, AllocError>
-    ensures { IfOk result (λ letter. MatchOption letter (All (NamesOwners desc.now.version blocks.now) desc.now.dialogs) (IsFirstOwner desc.now blocks.now)) }
+    ensures { IfOk result (λ letter. MatchOption letter
+        (All (NamesOwners desc.now.version blocks.now) desc.now.dialogs)
+        (IsFirstOwner desc.now blocks.now)) }
 {
     for dialog in desc.dialogs.as_slice() {
         let lines = key_lines(alloc, blocks, dialog.head().name.as_slice())?;

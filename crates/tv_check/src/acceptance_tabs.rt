@@ -48,7 +48,8 @@ fn lines<'a>(alloc: Global, blocks: &'a [Block]) -> Result<Vec<Tab<'a>>, AllocEr
 }
 
 fn add_lines<'a>(tabs: &mut Vec<Tab<'a>>, block: &'a Block) -> Result<(), AllocError>
-    ensures { OnOk result (map lent_tab tabs.new.items ≡ map lent_tab tabs.old.items ++ map (λ name. (block.now.dialog, name)) block.now.tabs) }
+    ensures { OnOk result (map lent_tab tabs.new.items
+        ≡ map lent_tab tabs.old.items ++ map (λ name. (block.now.dialog, name)) block.now.tabs) }
 {
     for name in block.tabs.as_slice() {
         tabs.push(Tab {
@@ -71,7 +72,8 @@ fn order<'a>(alloc: Global, desc: &'a Desc) -> Result<Vec<Tab<'a>>, AllocError>
 }
 
 fn add_order<'a>(tabs: &mut Vec<Tab<'a>>, dialog: &'a Dialog) -> Result<(), AllocError>
-    ensures { OnOk result (map lent_tab tabs.new.items ≡ map lent_tab tabs.old.items ++ map (λ name. (dialog_name dialog.now, name)) (tabs_of dialog.now)) }
+    ensures { OnOk result (map lent_tab tabs.new.items
+        ≡ map lent_tab tabs.old.items ++ map (λ name. (dialog_name dialog.now, name)) (tabs_of dialog.now)) }
 {
     for node in dialog.views.as_slice() {
         if let Some(name) = control_name(&node.kind) {
@@ -92,7 +94,8 @@ fn at<'a>(tabs: &'a [Tab], place: usize) -> Option<&'a Tab<'a>>
 
 // The first place at which they differ, counted from 1.
 fn first_difference(given: &[Tab], order: &[Tab]) -> Option<usize>
-    ensures { MatchOption result (map lent_tab given.now ≡ map lent_tab order.now) (DifferFirst (map lent_tab given.now) (map lent_tab order.now)) }
+    ensures { MatchOption result (map lent_tab given.now ≡ map lent_tab order.now)
+        (DifferFirst (map lent_tab given.now) (map lent_tab order.now)) }
 {
     for before in 0..given.len().max(order.len()) {
         if !is_same(at(given, before), at(order, before)) {
@@ -104,7 +107,8 @@ fn first_difference(given: &[Tab], order: &[Tab]) -> Option<usize>
 
 /// Finds the first place, counted from 1, at which the tab lines differ from the order of Tab.
 pub fn first_tab(alloc: Global, desc: &Desc, blocks: &[Block]) -> Result<Option<usize>, AllocError>
-    ensures { IfOk result (λ place. MatchOption place (tab_lines blocks.now ≡ tab_order desc.now) (DifferFirst (tab_lines blocks.now) (tab_order desc.now))) }
+    ensures { IfOk result (λ place. MatchOption place (tab_lines blocks.now ≡ tab_order desc.now)
+        (DifferFirst (tab_lines blocks.now) (tab_order desc.now))) }
 {
     let given = lines(alloc, blocks)?;
     let order = order(alloc, desc)?;

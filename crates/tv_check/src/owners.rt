@@ -46,7 +46,9 @@ fn note<'a>(
     owner: Owner<'a>,
 ) -> Result<(), AllocError>
     ensures { IfOk result (λ _. (letter : ℕ) →
-        owner_for owners.new letter ≡ option_or (owner_for owners.old letter) (if marks letter text.now then Some (lent_owner owner.entry) else None)) }
+        owner_for owners.new letter
+        ≡ option_or (owner_for owners.old letter)
+        (if marks letter text.now then Some (lent_owner owner.entry) else None)) }
 {
     if let Some(letter) = text.letter() {
         if !owners.contains_key(&letter) {
@@ -63,7 +65,9 @@ fn note_items<'a>(
     items: &[MarkedText],
 ) -> Result<(), AllocError>
     ensures { IfOk result (λ _. (letter : ℕ) →
-        owner_for owners.new letter ≡ option_or (owner_for owners.old letter) (option_map (item_at name.now) (position (marks letter) items.now))) }
+        owner_for owners.new letter
+        ≡ option_or (owner_for owners.old letter)
+        (option_map (item_at name.now) (position (marks letter) items.now))) }
 {
     for (place, item) in items.iter().enumerate() {
         note(owners, item, Owner::item_at(name, place))?;
@@ -201,7 +205,8 @@ fn owners_by<'a>(
 
 // What a letter always acts on.
 fn one_owner<'a>(alloc: Global, owner: Option<Owner<'a>>) -> Result<Vec<KeyOwner<'a>>, AllocError>
-    ensures { IfOk result (λ owners. map lent_key_owner owners.items ≡ option_to_list (option_map always (option_map lent_owner owner.entry))) }
+    ensures { IfOk result (λ owners. map lent_key_owner owners.items
+        ≡ option_to_list (option_map always (option_map lent_owner owner.entry))) }
 {
     let mut owners = Vec::new(alloc);
     if let Some(owner) = owner {

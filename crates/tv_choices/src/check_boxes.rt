@@ -119,8 +119,11 @@ impl CheckBoxes {
 
     // A key in the focus.
     fn focused_key(&mut self, key: Key) -> Reaction
-        ensures reaction { (env : Lent) → result ≡ keyed_answer env (boxes_leaf self.old.core self.old.marks self.old.selected) key phases.Focused }
-        ensures after { boxes_leaf self.new.core self.new.marks self.new.selected ≡ leaf_keyed key phases.Focused (boxes_leaf self.old.core self.old.marks self.old.selected) }
+        ensures reaction { (env : Lent)
+            → result ≡ keyed_answer env
+            (boxes_leaf self.old.core self.old.marks self.old.selected) key phases.Focused }
+        ensures after { boxes_leaf self.new.core self.new.marks self.new.selected
+            ≡ leaf_keyed key phases.Focused (boxes_leaf self.old.core self.old.marks self.old.selected) }
     {
         match cluster_key(self.declared().items.as_slice(), self.selected, key) {
             ClusterKey::Passed => Reaction::Pass,
@@ -138,7 +141,8 @@ impl CheckBoxes {
     // A key in any phase.
     fn key_answer(&mut self, key: Key, phase: Phase) -> Reaction
         ensures reaction { (env : Lent) → result ≡ keyed_answer env (boxes_leaf self.old.core self.old.marks self.old.selected) key phase }
-        ensures after { boxes_leaf self.new.core self.new.marks self.new.selected ≡ leaf_keyed key phase (boxes_leaf self.old.core self.old.marks self.old.selected) }
+        ensures after { boxes_leaf self.new.core self.new.marks self.new.selected
+            ≡ leaf_keyed key phase (boxes_leaf self.old.core self.old.marks self.old.selected) }
     {
         match phase {
             Phase::Focused => self.focused_key(key),
@@ -151,7 +155,11 @@ impl CheckBoxes {
     // A mouse down where they are the topmost leaf.
     fn down_answer(&mut self, point: Point) -> Reaction
         ensures reaction { (env : Lent) → result ≡ down_answer env (boxes_leaf self.old.core self.old.marks self.old.selected) }
-        ensures after { (env : Lent) → boxes_leaf self.new.core self.new.marks self.new.selected ≡ (if captures (boxes_leaf self.old.core self.old.marks self.old.selected) self.old.core.node.kind then captured env point (boxes_leaf self.old.core self.old.marks self.old.selected) else boxes_leaf self.old.core self.old.marks self.old.selected) }
+        ensures after { (env : Lent)
+            → boxes_leaf self.new.core self.new.marks self.new.selected
+            ≡ (if captures (boxes_leaf self.old.core self.old.marks self.old.selected) self.old.core.node.kind
+            then captured env point (boxes_leaf self.old.core self.old.marks self.old.selected)
+            else boxes_leaf self.old.core self.old.marks self.old.selected) }
     {
         if !self.core.is_focused() {
             return Reaction::Focus(self.core.id());
@@ -163,7 +171,8 @@ impl CheckBoxes {
     // The mouse goes up.
     fn up_answer(&mut self, point: Point) -> Reaction
         ensures reaction { result ≡ lifted_answer (boxes_leaf self.old.core self.old.marks self.old.selected) point self.old.core.held }
-        ensures after { boxes_leaf self.new.core self.new.marks self.new.selected ≡ lifted point self.old.core.held (boxes_leaf self.old.core self.old.marks self.old.selected) }
+        ensures after { boxes_leaf self.new.core self.new.marks self.new.selected
+            ≡ lifted point self.old.core.held (boxes_leaf self.old.core self.old.marks self.old.selected) }
     {
         let Some(item) = self.core.held() else {
             return Reaction::Pass;
@@ -184,8 +193,10 @@ impl CheckBoxes {
     // What they answer to an event, and become.
     fn react(&mut self, event: &Event, phase: Phase, env: &Env) -> Reaction
         ensures reaction { result ≡ answer event.now phase env.now (boxes_leaf self.old.core self.old.marks self.old.selected) }
-        ensures after { boxes_leaf self.new.core self.new.marks self.new.selected ≡ handled event.now phase env.now (boxes_leaf self.old.core self.old.marks self.old.selected) }
-        ensures passed { StaysWherePassed result (boxes_leaf self.old.core self.old.marks self.old.selected) (boxes_leaf self.new.core self.new.marks self.new.selected) }
+        ensures after { boxes_leaf self.new.core self.new.marks self.new.selected
+            ≡ handled event.now phase env.now (boxes_leaf self.old.core self.old.marks self.old.selected) }
+        ensures passed { StaysWherePassed result (boxes_leaf self.old.core self.old.marks self.old.selected)
+            (boxes_leaf self.new.core self.new.marks self.new.selected) }
     {
         match event {
             Event::Key(key) => self.key_answer(*key, phase),

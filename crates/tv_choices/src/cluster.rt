@@ -133,7 +133,9 @@ pub(crate) fn row_item(bounds: Rect, point: Point) -> u32
 pub(crate) fn item_released(bounds: Rect, point: Point, item: u32) -> Option<u8>
     requires small { IsSmallRect bounds }
     requires rows { bounds.b.y ≤ℤ (bounds.a.y +ℤ pos 16) }
-    ensures is { result ≡ (if is_in bounds point.x point.y then (if int_gap bounds.a.y point.y + 1 == item then Some (int_gap bounds.a.y point.y + 1) else None) else None) }
+    ensures is { result ≡ (if is_in bounds point.x point.y
+        then (if int_gap bounds.a.y point.y + 1 == item then Some (int_gap bounds.a.y point.y + 1) else None)
+        else None) }
     ensures few { IfSome result (λ item. item ≤ 16) }
 {
     if contains(bounds, point) && row_item(bounds, point) == item {

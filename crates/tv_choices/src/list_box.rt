@@ -101,7 +101,12 @@ impl ListBox {
     // Chooses the item, or the nearest that there is.
     fn choose(&mut self, item: u32)
         ensures core { self.new.core ≡ self.old.core }
-        ensures chosen { (list : Declared) → self.old.core.node.kind ≡ kinds.List list → list_leaf self.new.core self.new.chosen ≡ with_content (with_chosen (chosen (natural list.h) (length list.items) item (chosen_of (content_of (list_leaf self.old.core self.old.chosen)))) (content_of (list_leaf self.old.core self.old.chosen))) (list_leaf self.old.core self.old.chosen) }
+        ensures chosen { (list : Declared) → self.old.core.node.kind ≡ kinds.List list
+            → list_leaf self.new.core self.new.chosen
+            ≡ with_content (with_chosen
+            (chosen (natural list.h) (length list.items) item
+            (chosen_of (content_of (list_leaf self.old.core self.old.chosen))))
+            (content_of (list_leaf self.old.core self.old.chosen))) (list_leaf self.old.core self.old.chosen) }
     {
         self.chosen = self.chosen.with(self.height(), self.count(), item);
     }
@@ -109,7 +114,10 @@ impl ListBox {
     // Chooses the item of a row, or the last one.
     fn choose_row(&mut self, row: u32)
         ensures core { self.new.core ≡ self.old.core }
-        ensures chosen { (list : Declared) → self.old.core.node.kind ≡ kinds.List list → list_leaf self.new.core self.new.chosen ≡ with_content (row_chosen (natural list.h) (length list.items) row (content_of (list_leaf self.old.core self.old.chosen))) (list_leaf self.old.core self.old.chosen) }
+        ensures chosen { (list : Declared) → self.old.core.node.kind ≡ kinds.List list
+            → list_leaf self.new.core self.new.chosen
+            ≡ with_content (row_chosen (natural list.h) (length list.items) row
+            (content_of (list_leaf self.old.core self.old.chosen))) (list_leaf self.old.core self.old.chosen) }
     {
         self.choose(self.chosen.item_at_row(self.count(), row));
     }
@@ -142,7 +150,11 @@ impl ListBox {
     // A mouse down where it is the topmost leaf.
     fn down_answer(&mut self, point: Point) -> Reaction
         ensures reaction { (env : Lent) → result ≡ down_answer env (list_leaf self.old.core self.old.chosen) }
-        ensures after { (env : Lent) → list_leaf self.new.core self.new.chosen ≡ (if captures (list_leaf self.old.core self.old.chosen) self.old.core.node.kind then captured env point (list_leaf self.old.core self.old.chosen) else list_leaf self.old.core self.old.chosen) }
+        ensures after { (env : Lent)
+            → list_leaf self.new.core self.new.chosen
+            ≡ (if captures (list_leaf self.old.core self.old.chosen) self.old.core.node.kind
+            then captured env point (list_leaf self.old.core self.old.chosen)
+            else list_leaf self.old.core self.old.chosen) }
     {
         if !self.core.is_focused() {
             return Reaction::Focus(self.core.id());
@@ -171,7 +183,9 @@ impl ListBox {
     // The mouse goes up.
     fn up_answer(&mut self) -> Reaction
         ensures reaction { (point : Point) → result ≡ lifted_answer (list_leaf self.old.core self.old.chosen) point self.old.core.held }
-        ensures after { (point : Point) → list_leaf self.new.core self.new.chosen ≡ lifted point self.old.core.held (list_leaf self.old.core self.old.chosen) }
+        ensures after { (point : Point)
+            → list_leaf self.new.core self.new.chosen
+            ≡ lifted point self.old.core.held (list_leaf self.old.core self.old.chosen) }
     {
         if !self.core.holds() {
             return Reaction::Pass;
@@ -186,7 +200,8 @@ impl ListBox {
     // What it answers to an event, and becomes.
     fn react(&mut self, event: &Event, phase: Phase, env: &Env) -> Reaction
         ensures reaction { result ≡ answer event.now phase env.now (list_leaf self.old.core self.old.chosen) }
-        ensures after { list_leaf self.new.core self.new.chosen ≡ handled event.now phase env.now (list_leaf self.old.core self.old.chosen) }
+        ensures after { list_leaf self.new.core self.new.chosen
+            ≡ handled event.now phase env.now (list_leaf self.old.core self.old.chosen) }
         ensures passed { StaysWherePassed result (list_leaf self.old.core self.old.chosen) (list_leaf self.new.core self.new.chosen) }
     {
         match event {

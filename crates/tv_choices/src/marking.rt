@@ -12,7 +12,9 @@ use tv_view::{LeafCore, Reaction};
 
 /// Adds the rectangle of a control to the damage, unless this is the reaction of one that passed an event on.
 pub(crate) fn mark_unless_passed(core: &LeafCore, reaction: Reaction, damage: &mut Damage)
-    ensures { (old : Leaf) (content : Content) → old.node ≡ core.now.node → StaysWherePassed reaction old (leaf_with core.now content) → Damages old (leaf_with core.now content) damage.old damage.new }
+    ensures { (old : Leaf) (content : Content) → old.node ≡ core.now.node
+        → StaysWherePassed reaction old (leaf_with core.now content)
+        → Damages old (leaf_with core.now content) damage.old damage.new }
 {
     if reaction != Reaction::Pass {
         core.mark(damage);

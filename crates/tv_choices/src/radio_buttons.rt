@@ -78,7 +78,8 @@ impl RadioButtons {
     // A key in the focus.
     fn focused_key(&mut self, key: Key) -> Reaction
         ensures reaction { (env : Lent) → result ≡ keyed_answer env (radios_leaf self.old.core self.old.marked) key phases.Focused }
-        ensures after { radios_leaf self.new.core self.new.marked ≡ leaf_keyed key phases.Focused (radios_leaf self.old.core self.old.marked) }
+        ensures after { radios_leaf self.new.core self.new.marked
+            ≡ leaf_keyed key phases.Focused (radios_leaf self.old.core self.old.marked) }
     {
         match cluster_key(self.declared().items.as_slice(), self.marked, key) {
             ClusterKey::Passed => Reaction::Pass,
@@ -105,7 +106,11 @@ impl RadioButtons {
     // A mouse down where they are the topmost leaf.
     fn down_answer(&mut self, point: Point) -> Reaction
         ensures reaction { (env : Lent) → result ≡ down_answer env (radios_leaf self.old.core self.old.marked) }
-        ensures after { (env : Lent) → radios_leaf self.new.core self.new.marked ≡ (if captures (radios_leaf self.old.core self.old.marked) self.old.core.node.kind then captured env point (radios_leaf self.old.core self.old.marked) else radios_leaf self.old.core self.old.marked) }
+        ensures after { (env : Lent)
+            → radios_leaf self.new.core self.new.marked
+            ≡ (if captures (radios_leaf self.old.core self.old.marked) self.old.core.node.kind
+            then captured env point (radios_leaf self.old.core self.old.marked)
+            else radios_leaf self.old.core self.old.marked) }
     {
         if !self.core.is_focused() {
             return Reaction::Focus(self.core.id());
@@ -117,7 +122,8 @@ impl RadioButtons {
     // The mouse goes up.
     fn up_answer(&mut self, point: Point) -> Reaction
         ensures reaction { result ≡ lifted_answer (radios_leaf self.old.core self.old.marked) point self.old.core.held }
-        ensures after { radios_leaf self.new.core self.new.marked ≡ lifted point self.old.core.held (radios_leaf self.old.core self.old.marked) }
+        ensures after { radios_leaf self.new.core self.new.marked
+            ≡ lifted point self.old.core.held (radios_leaf self.old.core self.old.marked) }
     {
         let Some(item) = self.core.held() else {
             return Reaction::Pass;
@@ -138,7 +144,8 @@ impl RadioButtons {
     // What they answer to an event, and become.
     fn react(&mut self, event: &Event, phase: Phase, env: &Env) -> Reaction
         ensures reaction { result ≡ answer event.now phase env.now (radios_leaf self.old.core self.old.marked) }
-        ensures after { radios_leaf self.new.core self.new.marked ≡ handled event.now phase env.now (radios_leaf self.old.core self.old.marked) }
+        ensures after { radios_leaf self.new.core self.new.marked
+            ≡ handled event.now phase env.now (radios_leaf self.old.core self.old.marked) }
         ensures passed { StaysWherePassed result (radios_leaf self.old.core self.old.marked) (radios_leaf self.new.core self.new.marked) }
     {
         match event {

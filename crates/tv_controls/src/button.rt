@@ -69,7 +69,8 @@ impl Button {
 
     // What is asked for where it is pressed.
     fn post(&self) -> Reaction
-        ensures { (button : Declared) → self.now.core.node.kind ≡ kinds.Button button → result ≡ post_of (plain_leaf self.now.core) button.command }
+        ensures { (button : Declared) → self.now.core.node.kind ≡ kinds.Button button
+            → result ≡ post_of (plain_leaf self.now.core) button.command }
     {
         Reaction::Post(self.core.id(), self.declared().command.command())
     }
@@ -111,7 +112,10 @@ impl Button {
     // A mouse down where it is the topmost leaf.
     fn down_answer(&mut self) -> Reaction
         ensures reaction { (env : Lent) → result ≡ down_answer env (plain_leaf self.old.core) }
-        ensures after { (env : Lent) (point : Point) → plain_leaf self.new.core ≡ (if captures (plain_leaf self.old.core) self.old.core.node.kind then captured env point (plain_leaf self.old.core) else plain_leaf self.old.core) }
+        ensures after { (env : Lent) (point : Point)
+            → plain_leaf self.new.core
+            ≡ (if captures (plain_leaf self.old.core) self.old.core.node.kind
+            then captured env point (plain_leaf self.old.core) else plain_leaf self.old.core) }
         ensures rest { self.new.core ≡ record self.old.core { held = self.new.core.held } }
     {
         if self.declared().grabs && !self.core.is_focused() {

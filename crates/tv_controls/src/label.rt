@@ -198,7 +198,9 @@ impl Label {
 
     // Whether its link has the focus in both environments or in neither.
     fn is_link_same(&self, old: &Env, new: &Env) -> bool
-        ensures { IsTrue result → is_link_focus new.now (linked_by new.now self.now.core.node.kind) ≡ is_link_focus old.now (linked_by old.now self.now.core.node.kind) }
+        ensures { IsTrue result
+            → is_link_focus new.now (linked_by new.now self.now.core.node.kind)
+            ≡ is_link_focus old.now (linked_by old.now self.now.core.node.kind) }
     {
         is_focus(old, self.link(old)) == is_focus(new, self.link(new))
     }

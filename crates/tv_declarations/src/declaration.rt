@@ -41,7 +41,8 @@ pub fn declared(
 ) -> Result<Option<Declaration>, AllocError>
     ensures read { IfOk result (λ found. found ≡ declaration_in at words.now) }
     ensures spelled { IfOk result (λ found. IfSome found (λ declaration. IsDeclarationLine at declaration words.now)) }
-    ensures only { IfOk result (λ found. (declaration : SeenDeclaration) → IsDeclarationLine at declaration words.now → found ≡ Some declaration) }
+    ensures only { IfOk result (λ found. (declaration : SeenDeclaration) → IsDeclarationLine at declaration words.now
+        → found ≡ Some declaration) }
 {
     read(alloc, at, words)
 }

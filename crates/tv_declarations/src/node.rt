@@ -180,7 +180,8 @@ fn window_at(
     number: &Word,
     title: &Word,
 ) -> Result<Option<Node>, AllocError>
-    ensures { IfOk result (λ found. found ≡ window_from at (name_in name.now) place (number_in h.now) (number_in number.now) (text_in title.now)) }
+    ensures { IfOk result (λ found. found
+        ≡ window_from at (name_in name.now) place (number_in h.now) (number_in number.now) (text_in title.now)) }
 {
     let (Some(name), Some(place), Some(h)) = (name.name(), place, h.number()) else {
         return Ok(None);

@@ -50,7 +50,8 @@ impl<V: View> DialogOf<V> {
     // Moves the focus to an input that refuses the end, without asking the control that has it.
     fn show_invalid(&mut self, id: Id)
         ensures stands { (d : Dialog) (m : Modal) → IsLawfulDialog d → length m.log ≤ 1 → Stands V.meaning d m.leaves m self.old
-            → Stands V.meaning d (shown_invalid d id (with_line (lines.Invalid id) m)).leaves (shown_invalid d id (with_line (lines.Invalid id) m)) self.new }
+            → Stands V.meaning d (shown_invalid d id (with_line (lines.Invalid id) m)).leaves
+            (shown_invalid d id (with_line (lines.Invalid id) m)) self.new }
         ensures pending { self.new.pending ≡ self.old.pending }
         ensures drawn { BodyDrawn V.meaning self.old self.new }
     {
@@ -76,7 +77,8 @@ impl<V: View> DialogOf<V> {
     // Handles a command that the views passed on.
     pub(crate) fn command(&mut self, command: Command)
         ensures stands { (d : Dialog) (m : Modal) → IsLawfulDialog d → length m.log ≤ 1
-            → Stands V.meaning d m.leaves m self.old → Stands V.meaning d (commanded d command.0 m).leaves (commanded d command.0 m) self.new }
+            → Stands V.meaning d m.leaves m self.old
+            → Stands V.meaning d (commanded d command.0 m).leaves (commanded d command.0 m) self.new }
         ensures pending { self.new.pending ≡ self.old.pending }
         ensures drawn { BodyDrawn V.meaning self.old self.new }
     {

@@ -131,7 +131,8 @@ impl<V: View> DialogOf<V> {
         ensures unended { IfOk result (λ dialog. dialog.ended ≡ None) }
         ensures commands { IfOk result (λ dialog. (number : ℕ) → number < 256 → slice_index_or dialog.ruled.commands number false ≡ true) }
         ensures empty { IfOk result (λ dialog. (dialog.marks ≡ []) × (dialog.pending ≡ []) × (dialog.log.items ≡ [])) }
-        ensures fresh { IfOk result (λ dialog. (d : Declared) → d.node ≡ node.now → d.views ≡ views.now → d.rules ≡ rules.now → IsLawfulDialog d
+        ensures fresh { IfOk result (λ dialog. (d : Declared) → d.node ≡ node.now → d.views ≡ views.now
+            → d.rules ≡ rules.now → IsLawfulDialog d
             → IsFreshBody V.meaning node.now views.now body → Rests V.meaning d (unfocused d None []) dialog) }
         ensures wrong { declared_dialog_head node.now ≡ None → IfErr result (λ e. e.0 ≡ WrongKind) }
         ensures right { IfErr result (λ e. e.0 ≡ WrongKind → declared_dialog_head node.now ≡ None) }
@@ -288,9 +289,12 @@ impl<V: View> DialogOf<V> {
     pub fn draw(&self, screen: &mut Screen, canvas: Canvas, env: &Env)
         requires { IsSmall canvas.origin.x × IsSmall canvas.origin.y }
         ensures layers { Lays (drawn_dialog V.meaning env.now canvas self.now) screen.old screen.new }
-        ensures machine { (desc : Desc) (r : Rectangle) (d : Declared) (o : OpenDialog) (overwriting : List Ident) (m : Modal) (before : Picture) → IsLawfulDialog d
+        ensures machine { (desc : Desc) (r : Rectangle) (d : Declared) (o : OpenDialog) (overwriting : List Ident)
+            (m : Modal) (before : Picture) → IsLawfulDialog d
             → Stands V.meaning d m.leaves m self.now → IsShown d o overwriting m env.now → self.now.corner ≡ o.origin
-            → canvas ≡ within r (desktop_canvas desc) → Lays (clipped r (shadow_layer desc o d) ∷ []) before screen.old → Lays (map (clipped r) (open_layers desc o overwriting d)) before screen.new }
+            → canvas ≡ within r (desktop_canvas desc)
+            → Lays (clipped r (shadow_layer desc o d) ∷ []) before screen.old
+            → Lays (map (clipped r) (open_layers desc o overwriting d)) before screen.new }
     {
         let inner = canvas.sub(self.bounds());
         let frame = self.head.frame(env);

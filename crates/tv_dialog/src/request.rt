@@ -20,7 +20,8 @@ use tv_view::View;
 impl<V: View> DialogOf<V> {
     // Moves the focus to another control, without asking the one that has it.
     pub(crate) fn move_focus(&mut self, id: Id)
-        ensures stands { (d : Dialog) (m : Modal) → IsLawfulDialog d → length m.log < 66 → (id.0 == m.focus.0) ≡ false → is_free_at d m.leaves id ≡ true
+        ensures stands { (d : Dialog) (m : Modal) → IsLawfulDialog d → length m.log < 66 → (id.0 == m.focus.0) ≡ false
+            → is_free_at d m.leaves id ≡ true
             → Stands V.meaning d m.leaves m self.old → Stands V.meaning d (focus_moved d id m).leaves (focus_moved d id m) self.new }
         ensures is_open { self.new.is_open ≡ self.old.is_open }
         ensures pending { self.new.pending ≡ self.old.pending }
@@ -35,7 +36,8 @@ impl<V: View> DialogOf<V> {
     pub(crate) fn request(&mut self, id: Id) -> bool
         ensures stands { (d : Dialog) (m : Modal) → IsLawfulDialog d → length m.log < 66
             → Stands V.meaning d m.leaves m self.old → Stands V.meaning d (asked d id m).leaves (asked d id m) self.new }
-        ensures granted { (d : Dialog) (m : Modal) → IsLawfulDialog d → Stands V.meaning d m.leaves m self.old → result ≡ is_granted (requested d m id) }
+        ensures granted { (d : Dialog) (m : Modal) → IsLawfulDialog d → Stands V.meaning d m.leaves m self.old
+            → result ≡ is_granted (requested d m id) }
         ensures pending { self.new.pending ≡ self.old.pending }
         ensures drawn { BodyDrawn V.meaning self.old self.new }
     {
@@ -50,7 +52,8 @@ impl<V: View> DialogOf<V> {
 
     // Asks for the focus for a free control, which doesn't have it. Returns whether that control has it then.
     fn request_free(&mut self, id: Id) -> bool
-        ensures stands { (d : Dialog) (m : Modal) → IsLawfulDialog d → length m.log < 66 → (id.0 == m.focus.0) ≡ false → is_free_at d m.leaves id ≡ true
+        ensures stands { (d : Dialog) (m : Modal) → IsLawfulDialog d → length m.log < 66 → (id.0 == m.focus.0) ≡ false
+            → is_free_at d m.leaves id ≡ true
             → Stands V.meaning d m.leaves m self.old → Stands V.meaning d (asked d id m).leaves (asked d id m) self.new }
         ensures granted { (d : Dialog) (m : Modal) → IsLawfulDialog d → (id.0 == m.focus.0) ≡ false → is_free_at d m.leaves id ≡ true
             → Stands V.meaning d m.leaves m self.old → result ≡ is_granted (requested d m id) }
@@ -78,7 +81,8 @@ impl<V: View> DialogOf<V> {
     // Asks for the focus for the next free control in a direction.
     pub(crate) fn advance(&mut self, dir: Dir)
         ensures stands { (d : Dialog) (m : Modal) → IsLawfulDialog d → length m.log < 66
-            → Stands V.meaning d m.leaves m self.old → Stands V.meaning d (asked d (stop_in d m dir) m).leaves (asked d (stop_in d m dir) m) self.new }
+            → Stands V.meaning d m.leaves m self.old
+            → Stands V.meaning d (asked d (stop_in d m dir) m).leaves (asked d (stop_in d m dir) m) self.new }
         ensures pending { self.new.pending ≡ self.old.pending }
         ensures drawn { BodyDrawn V.meaning self.old self.new }
     {

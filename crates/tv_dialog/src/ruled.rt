@@ -61,7 +61,8 @@ impl Ruled {
     /// Notes what the plan's rules show and enable with these items marked. Takes no memory.
     pub(crate) fn update(&mut self, plan: &Plan, marks: &Record)
         ensures shown { length plan.now.leaves ≤ 64 → self.new.shown.items ≡ shown_by plan.now marks.now }
-        ensures commands { (number : ℕ) → number < 256 → slice_index_or self.new.commands number false ≡ is_enabled_in_plan plan.now marks.now number }
+        ensures commands { (number : ℕ) → number < 256
+            → slice_index_or self.new.commands number false ≡ is_enabled_in_plan plan.now marks.now number }
     {
         self.shown.clear();
         fill_shown(&mut self.shown, plan.leaves.as_slice(), marks);

@@ -29,7 +29,8 @@ impl<V: View> DialogOf<V> {
         ensures stands { (d : Dialog) (ruled : List LeafState) (m : Modal) → IsLawfulDialog d → m.ended ≡ None
             → Stands V.meaning d ruled m self.old → Stands V.meaning d m.leaves m self.new }
         ensures anew { (d : Dialog) (m : Modal) → IsLawfulDialog d → m.ended ≡ None → Rests V.meaning d m self.old
-            → self.old.focus ≡ m.focus → self.old.log.items ≡ m.log → self.old.is_open ≡ true → self.old.ended ≡ None → Stands V.meaning d m.leaves m self.new }
+            → self.old.focus ≡ m.focus → self.old.log.items ≡ m.log → self.old.is_open ≡ true → self.old.ended ≡ None
+            → Stands V.meaning d m.leaves m self.new }
         ensures is_open { self.new.is_open ≡ self.old.is_open }
         ensures pending { self.new.pending ≡ self.old.pending }
         ensures drawn { BodyDrawn V.meaning self.old self.new }

@@ -93,7 +93,8 @@ fn refocus_damage<V: View>(
     env: &Env,
     damage: &mut Damage,
 )
-    ensures { AllEnvDamages (group_bounds body.now) (lent plan.now was env.now) (lent plan.now focus env.now) (opened V.meaning body.now) damage.old damage.new }
+    ensures { AllEnvDamages (group_bounds body.now) (lent plan.now was env.now) (lent plan.now focus env.now)
+        (opened V.meaning body.now) damage.old damage.new }
 {
     if was == focus {
         return;

@@ -58,7 +58,8 @@ impl<V: View> DialogsOf<V> {
             → AreDialogs V.meaning d (placed (Some o) corner s) self.new }
         ensures damage { (d : Declared) (s : State) (o : OpenDialog) → AreOfRun V.meaning d s self.old → s.dialog ≡ Some o
             → OpenAlike d damage.new s (placed (Some o) corner s) }
-        ensures unmoved { (d : Declared) (s : State) (o : OpenDialog) → AreDialogs V.meaning d s self.old → s.dialog ≡ Some o → o.origin ≡ corner
+        ensures unmoved { (d : Declared) (s : State) (o : OpenDialog) → AreDialogs V.meaning d s self.old
+            → s.dialog ≡ Some o → o.origin ≡ corner
             → damage.new ≡ damage.old }
         ensures unopened { (d : Declared) (s : State) → AreDialogs V.meaning d s self.old → s.dialog ≡ None
             → AreDialogs V.meaning d s self.new × (damage.new ≡ damage.old) }

@@ -25,7 +25,8 @@ impl<V: View> DialogsOf<V> {
     pub fn draw(&self, screen: &mut Screen, desc: &Desc, canvas: Canvas)
         requires small { IsSmall canvas.origin.x × IsSmall canvas.origin.y }
         requires dialogs { (s : State) × AreDialogs V.meaning desc.now s self.now }
-        ensures { (r : Rectangle) (s : State) → HasSoundDialogs desc.now → AreDialogs V.meaning desc.now s self.now → canvas ≡ within r (desktop_canvas desc.now)
+        ensures { (r : Rectangle) (s : State) → HasSoundDialogs desc.now → AreDialogs V.meaning desc.now s self.now
+            → canvas ≡ within r (desktop_canvas desc.now)
             → Lays (map (clipped r) (open_layers desc.now s.overwriting s.dialog)) screen.old screen.new }
     {
         if let Some(place) = self.open {

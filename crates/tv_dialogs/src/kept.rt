@@ -217,7 +217,8 @@ impl<V: View> Kept<V> {
         requires { IsSmall canvas.origin.x × IsSmall canvas.origin.y }
         ensures { (desc : Desc) (r : Rectangle) (o : OpenDialog) (overwriting : List Id) (m : Modal) → IsLawfulDialog declared.now
             → Stands V.meaning declared.now m.leaves m self.now.dialog → IsAtWork o overwriting m → self.now.dialog.corner ≡ o.origin
-            → canvas ≡ within r (desktop_canvas desc) → Lays (map (clipped r) (dialog_layers desc o overwriting declared.now)) screen.old screen.new }
+            → canvas ≡ within r (desktop_canvas desc)
+            → Lays (map (clipped r) (dialog_layers desc o overwriting declared.now)) screen.old screen.new }
     {
         let env = Env {
             owner: Owner::Dialog,

@@ -65,10 +65,13 @@ impl<V: View> DialogsOf<V> {
     /// damage.
     pub fn open(&mut self, desc: &Declared, place: usize, damage: &mut Damage)
         requires { MayOpen V.meaning desc.now place self.old }
-        ensures dialogs { (s : State) → AreOfRun V.meaning desc.now s self.old → AreDialogs V.meaning desc.now (open_dialog desc.now place s) self.new }
-        ensures log { (s : State) (dialog : Dialog) → AreOfRun V.meaning desc.now s self.old → slice_get desc.now.dialogs place ≡ Some dialog
+        ensures dialogs { (s : State) → AreOfRun V.meaning desc.now s self.old
+            → AreDialogs V.meaning desc.now (open_dialog desc.now place s) self.new }
+        ensures log { (s : State) (dialog : Dialog) → AreOfRun V.meaning desc.now s self.old
+            → slice_get desc.now.dialogs place ≡ Some dialog
             → (open_dialog desc.now place s).log ≡ s.log ++ lines.Open dialog.node.id ∷ log_of_last self.new }
-        ensures damage { (s : State) → s.dialog ≡ None → AreOfRun V.meaning desc.now s self.old → OpenAlike desc.now damage.new s (open_dialog desc.now place s) }
+        ensures damage { (s : State) → s.dialog ≡ None → AreOfRun V.meaning desc.now s self.old
+            → OpenAlike desc.now damage.new s (open_dialog desc.now place s) }
         ensures kept { Keeps damage.old damage.new }
         ensures room { vec_capacity self.new.kept ≡ vec_capacity self.old.kept }
     {

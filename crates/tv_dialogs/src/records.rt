@@ -26,7 +26,8 @@ impl<V: View> DialogsOf<V> {
     /// Gives the dialog at a place the record with which it opens next, as if its last end had saved that. Does nothing
     /// where no dialog is at the place. A dialog that is open keeps what it shows.
     pub fn keep_record(&mut self, place: usize, values: Record)
-        ensures dialogs { (d : Desc) (s : State) → AreDialogs V.meaning d s self.old → AreDialogs V.meaning d (with_saved place values s) self.new }
+        ensures dialogs { (d : Desc) (s : State) → AreDialogs V.meaning d s self.old
+            → AreDialogs V.meaning d (with_saved place values s) self.new }
         ensures log { log_of_last self.new ≡ log_of_last self.old }
         ensures room { vec_capacity self.new.kept ≡ vec_capacity self.old.kept }
     {

@@ -21,11 +21,13 @@ impl<V: View> DialogsOf<V> {
     pub fn step(&mut self, desc: &Desc, event: &Event, damage: &mut Damage)
         requires run { (s : State) × AreOfRun V.meaning desc.now s self.old }
         requires given { HasPointGiven event.now }
-        ensures dialogs { (s : State) (o : OpenDialog) → s.dialog ≡ Some o → RespectsHold o.held event.now → AreOfRun V.meaning desc.now s self.old
+        ensures dialogs { (s : State) (o : OpenDialog) → s.dialog ≡ Some o → RespectsHold o.held event.now
+            → AreOfRun V.meaning desc.now s self.old
             → AreDialogs V.meaning desc.now (to_dialog desc.now o event.now s) self.new }
         ensures log { (s : State) (o : OpenDialog) → s.dialog ≡ Some o → AreOfRun V.meaning desc.now s self.old
             → (to_dialog desc.now o event.now s).log ≡ s.log ++ log_of_last self.new }
-        ensures damage { (s : State) (o : OpenDialog) → s.dialog ≡ Some o → RespectsHold o.held event.now → AreOfRun V.meaning desc.now s self.old
+        ensures damage { (s : State) (o : OpenDialog) → s.dialog ≡ Some o → RespectsHold o.held event.now
+            → AreOfRun V.meaning desc.now s self.old
             → OpenAlike desc.now damage.new s (to_dialog desc.now o event.now s) }
         ensures unopened { (s : State) → s.dialog ≡ None → AreOfRun V.meaning desc.now s self.old
             → AreDialogs V.meaning desc.now s self.new × (log_of_last self.new ≡ []) × (damage.new ≡ damage.old) }

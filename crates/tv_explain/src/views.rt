@@ -65,7 +65,8 @@ pub fn view_why(
     before: &[Node],
     node: &Node,
 ) -> Result<Why, AllocError>
-    ensures { IfOk result (λ why. why ≡ view_why kind body.now.frame.now (option_copied body.now.sharing) body.now.views.now before.now node.now) }
+    ensures { IfOk result (λ why. why
+        ≡ view_why kind body.now.frame.now (option_copied body.now.sharing) body.now.views.now before.now node.now) }
 {
     let Body {
         frame,

@@ -105,8 +105,12 @@ impl ButtonFace<'_> {
     // The brackets in the first and the last column, neither of which ever shows the marked letter.
     #[tactic(auto, using(crate::proofs::LetterLemmas::letter_first, crate::proofs::LetterLemmas::letter_last))]
     fn ends(&self) -> (Cell, Cell)
-        ensures left { result.0 ≡ button_cells self.now.width self.now.text.now self.now.mark self.now.is_default_now self.now.letter self.now.rest 0 0 }
-        ensures right { 1 < self.now.width → result.1 ≡ button_cells self.now.width self.now.text.now self.now.mark self.now.is_default_now self.now.letter self.now.rest (self.now.width - 1) 0 }
+        ensures left { result.0
+            ≡ button_cells self.now.width self.now.text.now self.now.mark self.now.is_default_now self.now.letter
+            self.now.rest 0 0 }
+        ensures right { 1 < self.now.width
+            → result.1 ≡ button_cells self.now.width self.now.text.now self.now.mark self.now.is_default_now
+            self.now.letter self.now.rest (self.now.width - 1) 0 }
     {
         if self.is_default_now {
             (Cell::shown('<', self.rest), Cell::shown('>', self.rest))
@@ -120,7 +124,9 @@ impl ButtonFace<'_> {
         requires { from + length cells.old ≤ 2 ^ 32 }
         ensures count { length cells.new ≡ length cells.old }
         ensures cells { (i : ℕ) → i < length cells.new → 0 < from + i → from + i + 1 ≢ self.now.width
-            → slice_index_or cells.new i blank ≡ button_cells self.now.width self.now.text.now self.now.mark self.now.is_default_now self.now.letter self.now.rest (from + i) 0 }
+            → slice_index_or cells.new i blank
+            ≡ button_cells self.now.width self.now.text.now self.now.mark self.now.is_default_now self.now.letter
+            self.now.rest (from + i) 0 }
     {
         let width = self.width as usize;
         let shown = cut(width, self.text);

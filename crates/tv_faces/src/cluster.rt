@@ -162,7 +162,10 @@ impl ClusterFace<'_> {
 
     // The row of an item.
     fn item_row<'b>(&self, item: &'b MarkedText, y: u32) -> ItemRow<'b>
-        ensures { (x : ℕ) → item_cells result x ≡ cluster_row (colour_in self.now.chain.now) (cluster_of_marks self.now.marks) (self.now.is_focused && (self.now.selected == y + 1)) (is_marked (value_of_marks self.now.marks self.now.selected) (y + 1)) (Some item.now) x }
+        ensures { (x : ℕ) → item_cells result x
+            ≡ cluster_row (colour_in self.now.chain.now) (cluster_of_marks self.now.marks)
+            (self.now.is_focused && (self.now.selected == y + 1))
+            (is_marked (value_of_marks self.now.marks self.now.selected) (y + 1)) (Some item.now) x }
     {
         let rest = if self.is_selected(y) {
             ClusterRole::Selected

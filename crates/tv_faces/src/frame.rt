@@ -133,7 +133,8 @@ fn write_title(title: &[char], attr: u8, width: usize, from: usize, cells: &mut 
     requires column { from + length cells.old ≤ 2 ^ 32 }
     requires width { width < 2 ^ 32 }
     ensures count { length cells.new ≡ length cells.old }
-    ensures cells { (below : Row) → IsRow (λ x. shown (below x) attr) from cells.old → IsRow (λ x. shown (titled width title.now below x) attr) from cells.new }
+    ensures cells { (below : Row) → IsRow (λ x. shown (below x) attr) from cells.old
+        → IsRow (λ x. shown (titled width title.now below x) attr) from cells.new }
 {
     if title.is_empty() {
         return;
@@ -149,7 +150,8 @@ fn write_title(title: &[char], attr: u8, width: usize, from: usize, cells: &mut 
 fn write_number(number: u8, attr: u8, width: usize, from: usize, cells: &mut [Cell])
     requires { number ≤ 9 }
     ensures count { length cells.new ≡ length cells.old }
-    ensures cells { (below : Row) → IsRow (λ x. shown (below x) attr) from cells.old → IsRow (λ x. shown (with_number width number below x) attr) from cells.new }
+    ensures cells { (below : Row) → IsRow (λ x. shown (below x) attr) from cells.old
+        → IsRow (λ x. shown (with_number width number below x) attr) from cells.new }
 {
     if number != 0 && width >= 4 {
         let digit = (b'0' + number) as char;
@@ -193,7 +195,9 @@ impl Frame<'_> {
     fn write_inside(&self, from: u32, cells: &mut [Cell])
         requires { from + length cells.old ≤ 2 ^ 32 }
         ensures count { length cells.new ≡ length cells.old }
-        ensures cells { IsRow (λ x. if is_side self.now.width x then shown 124 self.now.look.edge else glyph 32 self.now.look.inside) from cells.new }
+        ensures cells { IsRow
+            (λ x. if is_side self.now.width x then shown 124 self.now.look.edge
+            else glyph 32 self.now.look.inside) from cells.new }
     {
         let look = self.look;
         let side = Cell::shown('|', look.edge);

@@ -111,7 +111,9 @@ impl InputFace<'_> {
         requires { from + length cells.old ≤ 2 ^ 32 }
         ensures count { length cells.new ≡ length cells.old }
         ensures cells { (i : ℕ) → i < length cells.new → 0 < from + i
-            → slice_index_or cells.new i blank ≡ place_cell self.now.colours self.now.is_focused (seen_edit self.now.text.now self.now.cursor self.now.is_whole) (first + (from + i) - 1) }
+            → slice_index_or cells.new i blank
+            ≡ place_cell self.now.colours self.now.is_focused
+            (seen_edit self.now.text.now self.now.cursor self.now.is_whole) (first + (from + i) - 1) }
     {
         let shown = &self.text[first.min(self.text.len())..];
         cells.fill(Cell::space(self.colours.normal));
@@ -123,7 +125,9 @@ impl InputFace<'_> {
         requires { from + length cells.old ≤ 2 ^ 32 }
         ensures count { length cells.new ≡ length cells.old }
         ensures cells { (i : ℕ) → i < length cells.new → 0 < from + i → from + i + 1 ≢ self.now.width
-            → slice_index_or cells.new i blank ≡ input_cells self.now.colours self.now.width self.now.is_focused (seen_edit self.now.text.now self.now.cursor self.now.is_whole) (from + i) 0 }
+            → slice_index_or cells.new i blank
+            ≡ input_cells self.now.colours self.now.width self.now.is_focused
+            (seen_edit self.now.text.now self.now.cursor self.now.is_whole) (from + i) 0 }
     {
         let first = first_shown(self.width, self.cursor) as usize;
         self.write_places(first, from, cells);

@@ -61,8 +61,10 @@ fn narrow_cell(ch: NarrowChar, attr: u8) -> Cell
 pub(crate) fn write_first(chars: &[NarrowChar], attr: u8, from: usize, cells: &mut [Cell])
     requires { from + length cells.old ≤ 2 ^ 32 }
     ensures count { length cells.new ≡ length cells.old }
-    ensures written { (i : ℕ) → i < length cells.new → from + i < length chars.now → slice_index_or cells.new i blank ≡ shown (slice_index_or chars.now (from + i) 32) attr }
-    ensures after { (i : ℕ) → i < length cells.new → length chars.now ≤ from + i → slice_index_or cells.new i blank ≡ slice_index_or cells.old i blank }
+    ensures written { (i : ℕ) → i < length cells.new → from + i < length chars.now
+        → slice_index_or cells.new i blank ≡ shown (slice_index_or chars.now (from + i) 32) attr }
+    ensures after { (i : ℕ) → i < length cells.new → length chars.now ≤ from + i
+        → slice_index_or cells.new i blank ≡ slice_index_or cells.old i blank }
 {
     let last = chars.len().saturating_sub(from).min(cells.len());
     for i in 0..last {
@@ -77,8 +79,10 @@ pub(crate) fn write_over(text: &[char], attr: u8, start: usize, from: usize, cel
     ensures count { length cells.new ≡ length cells.old }
     ensures written { (i : ℕ) → i < length cells.new → start ≤ from + i → from + i < start + length text.now
         → slice_index_or cells.new i blank ≡ shown (slice_index_or text.now (from + i - start) 32) attr }
-    ensures before { (i : ℕ) → i < length cells.new → from + i < start → slice_index_or cells.new i blank ≡ slice_index_or cells.old i blank }
-    ensures after { (i : ℕ) → i < length cells.new → start + length text.now ≤ from + i → slice_index_or cells.new i blank ≡ slice_index_or cells.old i blank }
+    ensures before { (i : ℕ) → i < length cells.new → from + i < start
+        → slice_index_or cells.new i blank ≡ slice_index_or cells.old i blank }
+    ensures after { (i : ℕ) → i < length cells.new → start + length text.now ≤ from + i
+        → slice_index_or cells.new i blank ≡ slice_index_or cells.old i blank }
 {
     let first = start.saturating_sub(from);
     let last = text

@@ -106,7 +106,8 @@ impl TextFace<'_> {
         requires origin { canvas.origin.y ≤ℤ pos (2 ^ 30) }
         requires height { height ≤ 2 ^ 30 }
         ensures size { IsAlike screen.old screen.new }
-        ensures shows { (layers : List Layer) → Shows layers screen.old → Shows (Painted canvas width height (text_face self.now.text.now self.now.attr) ∷ layers) screen.new }
+        ensures shows { (layers : List Layer) → Shows layers screen.old
+            → Shows (Painted canvas width height (text_face self.now.text.now self.now.attr) ∷ layers) screen.new }
     {
         self.paint(screen, canvas, width, height);
     }
@@ -115,7 +116,9 @@ impl TextFace<'_> {
     fn paint(&self, screen: &mut Screen, canvas: Canvas, width: u32, height: u32)
         requires origin { canvas.origin.y ≤ℤ pos (2 ^ 30) }
         requires height { height ≤ 2 ^ 30 }
-        ensures { Changes (Covers canvas (sized width height)) (λ column row _. face_at canvas (text_face self.now.text.now self.now.attr) column row) screen.old screen.new }
+        ensures { Changes (Covers canvas (sized width height))
+            (λ column row _. face_at canvas
+            (text_face self.now.text.now self.now.attr) column row) screen.old screen.new }
     {
         let mut left = Some(self.text);
         for row in 0..height {

@@ -85,7 +85,9 @@ pub fn faulty_dialogs(alloc: Global, kind: FaultKind, desc: &Desc) -> Result<Vec
 
 /// Returns for each view of a window or dialog whether its line has the fault.
 pub fn faulty_views(alloc: Global, kind: FaultKind, body: &Body) -> Result<Vec<bool>, AllocError>
-    ensures { IfOk result (λ faulty. faulty.items ≡ each_after (view_has kind body.now.frame.now body.now.ends (option_copied body.now.sharing) body.now.views.now) body.now.views.now) }
+    ensures { IfOk result (λ faulty. faulty.items
+        ≡ each_after (view_has kind body.now.frame.now body.now.ends
+        (option_copied body.now.sharing) body.now.views.now) body.now.views.now) }
 {
     let Body {
         frame,

@@ -68,7 +68,8 @@ fn add_items(
     kind: FaultKind,
     menu: &Menu,
 ) -> Result<(), AllocError>
-    ensures { OnOk result (found.new ≡ found.old ++ map (fault_at kind) (lines_where (λ item. item.id.0) (item_has kind) [] menu.now.items)) }
+    ensures { OnOk result (found.new
+        ≡ found.old ++ map (fault_at kind) (lines_where (λ item. item.id.0) (item_has kind) [] menu.now.items)) }
 {
     let items = menu.items.as_slice();
     let faulty = faulty_items(alloc, kind, items)?;
@@ -98,7 +99,9 @@ fn add_views(
     kind: FaultKind,
     body: &Body,
 ) -> Result<(), AllocError>
-    ensures { OnOk result (found.new ≡ found.old ++ map (fault_at kind) (view_lines kind body.now.frame.now body.now.ends (option_copied body.now.sharing) body.now.views.now)) }
+    ensures { OnOk result (found.new
+        ≡ found.old ++ map (fault_at kind) (view_lines kind body.now.frame.now body.now.ends
+        (option_copied body.now.sharing) body.now.views.now)) }
 {
     let faulty = faulty_views(alloc, kind, body)?;
     add_where(found, kind, body.views, faulty.as_slice())
@@ -127,7 +130,9 @@ fn add_menus(
     kind: FaultKind,
     menus: &[Menu],
 ) -> Result<(), AllocError>
-    ensures { OnOk result (found.new ≡ found.old ++ map (fault_at kind) (flat_map (λ pair. menu_lines kind pair.0 pair.1) (after_seen [] menus.now))) }
+    ensures { OnOk result (found.new
+        ≡ found.old ++ map (fault_at kind) (flat_map (λ pair. menu_lines kind pair.0 pair.1)
+        (after_seen [] menus.now))) }
 {
     let faulty = faulty_menus(alloc, kind, menus)?;
     let faulty = faulty.as_slice();
@@ -148,7 +153,9 @@ fn add_windows<'a>(
     starts: &'a [Sequence<StartFaults>],
 ) -> Result<(), AllocError>
     requires { starts.now ≡ map (λ window. starts_of window.views) windows.now }
-    ensures { OnOk result (found.new ≡ found.old ++ map (fault_at kind) (flat_map (λ pair. window_lines kind pair.0 pair.1) (after_seen [] windows.now))) }
+    ensures { OnOk result (found.new
+        ≡ found.old ++ map (fault_at kind) (flat_map (λ pair. window_lines kind pair.0 pair.1)
+        (after_seen [] windows.now))) }
 {
     let faulty = faulty_windows(alloc, kind, windows)?;
     let faulty = faulty.as_slice();
@@ -180,7 +187,9 @@ fn add_dialogs(
     starts: &[Sequence<StartFaults>],
 ) -> Result<(), AllocError>
     requires { starts.now ≡ map (λ dialog. starts_of dialog.views) desc.now.dialogs }
-    ensures { OnOk result (found.new ≡ found.old ++ map (fault_at kind) (flat_map (λ pair. dialog_lines kind desc.now pair.0 pair.1) (after_seen [] desc.now.dialogs))) }
+    ensures { OnOk result (found.new
+        ≡ found.old ++ map (fault_at kind) (flat_map (λ pair. dialog_lines kind desc.now pair.0 pair.1)
+        (after_seen [] desc.now.dialogs))) }
 {
     let dialogs = desc.dialogs.as_slice();
     let faulty = faulty_dialogs(alloc, kind, desc)?;

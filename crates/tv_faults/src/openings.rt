@@ -19,7 +19,9 @@ use tv_valid::Chars;
 // Adds the dialog's opening command. Returns whether it is outside 100 to 255, or was among the commands before.
 fn add_opening(commands: &mut HashSet<i32>, dialog: &Dialog) -> Result<bool, AllocError>
     ensures bad { IfOk result (λ bad. bad ≡ is_bad_opening (set.contains int_eq commands.old) (dialog_head dialog.now).opens) }
-    ensures added { OnOk result ((n : ℤ) → set.contains int_eq commands.new n ≡ (set.contains int_eq commands.old n || is_option_number n (dialog_head dialog.now).opens)) }
+    ensures added { OnOk result ((n : ℤ)
+        → set.contains int_eq commands.new n
+        ≡ (set.contains int_eq commands.old n || is_option_number n (dialog_head dialog.now).opens)) }
 {
     match dialog.head().opens {
         Some(number) => {

@@ -28,7 +28,8 @@ pub fn explain_file<'a, F: FileStore, W: Writer>(
     manner: Manner,
     out: &mut W,
 ) -> Result<Done, Failure<'a>>
-    ensures { ExplainsFile manner (F.known files.old) (F.known files.new) file.now (W.seen out.old) (W.seen out.new) (done_in result) (end_of result) }
+    ensures { ExplainsFile manner (F.known files.old) (F.known files.new) file.now (W.seen out.old) (W.seen out.new)
+        (done_in result) (end_of result) }
 {
     let text = read_file(files, alloc, file)?;
     match explain(alloc, manner, file, text.as_slice(), out) {
@@ -49,7 +50,8 @@ pub fn explain_files<'a, F: FileStore, W: Writer>(
     manner: Manner,
     out: &mut W,
 ) -> Result<Done, Failure<'a>>
-    ensures { ExplainsFiles manner (F.known files.old) (F.known files.new) file.now beside.now (W.seen out.old) (W.seen out.new) (done_in result) (end_of result) }
+    ensures { ExplainsFiles manner (F.known files.old) (F.known files.new) file.now beside.now (W.seen out.old)
+        (W.seen out.new) (done_in result) (end_of result) }
 {
     let text = read_file(files, alloc, file)?;
     match explain(alloc, manner, file, text.as_slice(), out) {
@@ -101,7 +103,8 @@ fn explain_second<'a, F: FileStore, W: Writer>(
     out: &mut W,
 ) -> Result<Done, Failure<'a>>
     requires { CanBeSpelled desc }
-    ensures { ExplainsSecond manner desc (F.known files.old) (F.known files.new) beside.now (W.seen out.old) (W.seen out.new) (done_in result) (end_of result) }
+    ensures { ExplainsSecond manner desc (F.known files.old) (F.known files.new) beside.now (W.seen out.old)
+        (W.seen out.new) (done_in result) (end_of result) }
 {
     let text = read_file(files, alloc, beside)?;
     match explain_beside(alloc, manner, beside, desc, text.as_slice(), out) {

@@ -33,7 +33,8 @@ pub fn picture_file<
     out: &mut W,
 ) -> Result<(), Failure<'a>>
     requires { M.IsAlwaysCallable views.now }
-    ensures { PicturesFiles (IsMismade (Makes M.Fn views.now) V.meaning) (F.known files.old) (F.known files.new) file.now script.now (W.seen out.old) (W.seen out.new) (end_of result) }
+    ensures { PicturesFiles (IsMismade (Makes M.Fn views.now) V.meaning) (F.known files.old)
+        (F.known files.new) file.now script.now (W.seen out.old) (W.seen out.new) (end_of result) }
 {
     let mut description = open(files, file)?;
     let mut events = open(files, script)?;
@@ -63,7 +64,8 @@ pub fn picture_all<
     album: &mut A,
 ) -> Result<(), Failure<'a>>
     requires { M.IsAlwaysCallable views.now }
-    ensures { PicturesAll (IsMismade (Makes M.Fn views.now) V.meaning) (F.known files.old) (F.known files.new) file.now script.now (A.hung album.old) (A.hung album.new) (end_of result) }
+    ensures { PicturesAll (IsMismade (Makes M.Fn views.now) V.meaning) (F.known files.old)
+        (F.known files.new) file.now script.now (A.hung album.old) (A.hung album.new) (end_of result) }
 {
     let mut description = open(files, file)?;
     let mut events = open(files, script)?;

@@ -38,8 +38,20 @@ pub fn run_program<
 ) -> u8
     requires { M.IsAlwaysCallable views.now }
     ensures { EndsWith (IsMismade (Makes M.Fn views.now) V.meaning) asked.entry
-        (record { files = F.known files.old; album = A.hung album.old; heard = P.heard pieces.old; out = O.seen out.old; err = E.seen err.old })
-        (record { files = F.known files.new; album = A.hung album.new; heard = P.heard pieces.new; out = O.seen out.new; err = E.seen err.new })
+        (record {
+          files = F.known files.old;
+          album = A.hung album.old;
+          heard = P.heard pieces.old;
+          out = O.seen out.old;
+          err = E.seen err.old;
+        })
+        (record {
+          files = F.known files.new;
+          album = A.hung album.new;
+          heard = P.heard pieces.new;
+          out = O.seen out.new;
+          err = E.seen err.new;
+        })
         result }
 {
     match asked {

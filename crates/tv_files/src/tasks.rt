@@ -125,7 +125,8 @@ pub fn accept_file<'a, F: FileStore, W: Writer>(
     certificate: &'a str,
     out: &mut W,
 ) -> Result<(), Failure<'a>>
-    ensures { AcceptsFiles (F.known files.old) (F.known files.new) file.now certificate.now (W.seen out.old) (W.seen out.new) (end_of result) }
+    ensures { AcceptsFiles (F.known files.old) (F.known files.new) file.now certificate.now (W.seen out.old)
+        (W.seen out.new) (end_of result) }
 {
     let desc = described(files, alloc, file)?;
     let text = read_file(files, alloc, certificate)?;
@@ -157,7 +158,8 @@ pub fn run_file<
     out: &mut W,
 ) -> Result<(), Failure<'a>>
     requires { M.IsAlwaysCallable views.now }
-    ensures { RunsFiles (IsMismade (Makes M.Fn views.now) V.meaning) (F.known files.old) (F.known files.new) file.now script.now (W.seen out.old) (W.seen out.new) (end_of result) }
+    ensures { RunsFiles (IsMismade (Makes M.Fn views.now) V.meaning) (F.known files.old)
+        (F.known files.new) file.now script.now (W.seen out.old) (W.seen out.new) (end_of result) }
 {
     let mut description = open(files, file)?;
     let mut events = open(files, script)?;

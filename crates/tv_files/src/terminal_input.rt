@@ -88,9 +88,12 @@ impl<T: TimedRead + Drop> Pieces for TerminalInput<T> {
     fn next(&mut self, room: &mut [u8]) -> Option<Piece>
         requires { 0 < length room.old }
         ensures within { IfSome result (λ piece. FitsRoom piece room.new) }
-        ensures came { IfSome result (λ piece. Comes (heard_by self.old.failures self.old.is_ended) (heard_by self.new.failures self.new.is_ended) piece room.new) }
-        ensures failed { result ≡ None → ComesNot (heard_by self.old.failures self.old.is_ended) (heard_by self.new.failures self.new.is_ended) }
-        ensures heard { HearsRead (T.coming self.old.reader) (T.coming self.new.reader) self.old.short_reads self.new.short_reads result room.new }
+        ensures came { IfSome result (λ piece. Comes (heard_by self.old.failures self.old.is_ended)
+            (heard_by self.new.failures self.new.is_ended) piece room.new) }
+        ensures failed { result ≡ None
+            → ComesNot (heard_by self.old.failures self.old.is_ended) (heard_by self.new.failures self.new.is_ended) }
+        ensures heard { HearsRead (T.coming self.old.reader)
+            (T.coming self.new.reader) self.old.short_reads self.new.short_reads result room.new }
     {
         self.is_ended = false;
         match self.reader.read(room) {

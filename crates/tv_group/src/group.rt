@@ -81,8 +81,10 @@ impl<V: View> GroupOf<V> {
         members: Vec<MemberOf<V>>,
     ) -> Result<GroupOf<V>, (TooDeep, Vec<MemberOf<V>>)>
         requires { IsSmallRect bounds }
-        ensures leaves { IfOk result (λ group. opened V.meaning group ≡ map (inside bounds) (joined None 0 (map (opened_member V.meaning) members.items))) }
-        ensures outline { IfOk result (λ group. (depth : ℕ) → members_outline V.meaning group depth ≡ joined_outline V.meaning members.items depth) }
+        ensures leaves { IfOk result (λ group. opened V.meaning group
+            ≡ map (inside bounds) (joined None 0 (map (opened_member V.meaning) members.items))) }
+        ensures outline { IfOk result (λ group. (depth : ℕ)
+            → members_outline V.meaning group depth ≡ joined_outline V.meaning members.items depth) }
         ensures level { IfOk result (λ group. (level_of group ≡ members_level members.items + 1) × (level_of group ≤ 8)) }
         ensures bounds { IfOk result (λ group. group_bounds group ≡ bounds) }
         ensures refused { IfErr result (λ e. (8 ≤ members_level members.items) × (e.1 ≡ members)) }

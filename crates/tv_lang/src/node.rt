@@ -51,13 +51,16 @@ pub fn node_line(alloc: Global, node: &Node) -> Result<Line, AllocError>
 }
 
 fn named(alloc: Global, keyword: &[u8], name: &Chars, node: &Node) -> Result<Line, AllocError>
-    ensures { IfOk result (λ line. line ≡ Word.Bare keyword.now ∷ Word.Bare name.now ∷ number_word node.now.x ∷ number_word node.now.y ∷ number_word node.now.w ∷ []) }
+    ensures { IfOk result (λ line. line
+        ≡ Word.Bare keyword.now ∷ Word.Bare name.now ∷ number_word node.now.x ∷ number_word node.now.y
+        ∷ number_word node.now.w ∷ []) }
 {
     Line::new(alloc).keyword(keyword)?.name(name)?.place(node)
 }
 
 fn unnamed(alloc: Global, keyword: &[u8], node: &Node) -> Result<Line, AllocError>
-    ensures { IfOk result (λ line. line ≡ Word.Bare keyword.now ∷ number_word node.now.x ∷ number_word node.now.y ∷ number_word node.now.w ∷ []) }
+    ensures { IfOk result (λ line. line
+        ≡ Word.Bare keyword.now ∷ number_word node.now.x ∷ number_word node.now.y ∷ number_word node.now.w ∷ []) }
 {
     Line::new(alloc).keyword(keyword)?.place(node)
 }
@@ -71,7 +74,9 @@ impl Line {
     }
 
     fn dialog(self, head: &DialogHead) -> Result<Line, AllocError>
-        ensures { IfOk result (λ line. line ≡ self ++ Word.Quoted head.now.title ∷ (opens_words head.now.opens ++ (Word.Bare (codes "ends") ∷ ends_words head.now.ends))) }
+        ensures { IfOk result (λ line. line
+            ≡ self ++ Word.Quoted head.now.title ∷ (opens_words head.now.opens ++ (Word.Bare (codes "ends")
+            ∷ ends_words head.now.ends))) }
     {
         self.text(&head.title)?
             .opens(head.opens)?
@@ -89,7 +94,9 @@ impl Line {
     }
 
     fn button(self, button: &Button) -> Result<Line, AllocError>
-        ensures { IfOk result (λ line. line ≡ self ++ marked_word button.now.text ∷ command_word button.now.command ∷ (word_if button.now.is_default (codes "default") ++ word_if button.now.grabs (codes "grab"))) }
+        ensures { IfOk result (λ line. line
+            ≡ self ++ marked_word button.now.text ∷ command_word button.now.command
+            ∷ (word_if button.now.is_default (codes "default") ++ word_if button.now.grabs (codes "grab"))) }
     {
         self.marked(&button.text)?
             .command(button.command)?
@@ -98,7 +105,10 @@ impl Line {
     }
 
     fn input(self, input: &Input) -> Result<Line, AllocError>
-        ensures { IfOk result (λ line. line ≡ self ++ (domain_words input.now.spec.domain ++ (Word.Quoted input.now.start ∷ (word_if input.now.validates (codes "validate") ++ (word_if input.now.spec.optional (codes "optional") ++ word_if input.now.spec.fill (codes "fill")))))) }
+        ensures { IfOk result (λ line. line
+            ≡ self ++ (domain_words input.now.spec.domain ++ (Word.Quoted input.now.start
+            ∷ (word_if input.now.validates (codes "validate") ++ (word_if input.now.spec.optional (codes "optional")
+            ++ word_if input.now.spec.fill (codes "fill")))))) }
     {
         self.domain(&input.spec.domain)?
             .text(&input.start)?
@@ -106,7 +116,9 @@ impl Line {
     }
 
     fn input_flags(self, validates: bool, optional: bool, fill: bool) -> Result<Line, AllocError>
-        ensures { IfOk result (λ line. line ≡ self ++ (word_if validates (codes "validate") ++ (word_if optional (codes "optional") ++ word_if fill (codes "fill")))) }
+        ensures { IfOk result (λ line. line
+            ≡ self ++ (word_if validates (codes "validate") ++ (word_if optional (codes "optional")
+            ++ word_if fill (codes "fill")))) }
     {
         self.keyword_if(validates, keywords::VALIDATE)?
             .keyword_if(optional, keywords::OPTIONAL)?
@@ -145,14 +157,17 @@ impl Line {
     }
 
     fn radio_buttons(self, radios: &RadioButtons) -> Result<Line, AllocError>
-        ensures { IfOk result (λ line. line ≡ self ++ (map marked_word radios.now.items ++ Word.Bare (codes "start") ∷ number_word radios.now.start ∷ [])) }
+        ensures { IfOk result (λ line. line
+            ≡ self ++ (map marked_word radios.now.items ++ Word.Bare (codes "start")
+            ∷ number_word radios.now.start ∷ [])) }
     {
         self.marked_items(radios.items.as_slice())?
             .start(radios.start)
     }
 
     fn list(self, list: &ListBox) -> Result<Line, AllocError>
-        ensures { IfOk result (λ line. line ≡ self ++ (map text_word list.now.items ++ Word.Bare (codes "start") ∷ number_word list.now.start ∷ [])) }
+        ensures { IfOk result (λ line. line
+            ≡ self ++ (map text_word list.now.items ++ Word.Bare (codes "start") ∷ number_word list.now.start ∷ [])) }
     {
         self.texts(list.items.as_slice())?.start(list.start)
     }

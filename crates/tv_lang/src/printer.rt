@@ -70,7 +70,9 @@ impl Printer {
 
     #[tactic(auto, using(crate::proofs::PrintTextLemmas::texts_joined))]
     fn heading(self, desc: &Desc) -> Result<Printer, AllocError>
-        ensures { IfOk result (λ printer. printer ≡ self ++ declarations_text (Declaration.Version desc.now.version ∷ Declaration.Screen desc.now.width desc.now.height ∷ start_declarations desc.now.start)) }
+        ensures { IfOk result (λ printer. printer
+            ≡ self ++ declarations_text (Declaration.Version desc.now.version
+            ∷ Declaration.Screen desc.now.width desc.now.height ∷ start_declarations desc.now.start)) }
     {
         self.version(desc.version)?.screen(desc)?.start(&desc.start)
     }

@@ -79,7 +79,8 @@ impl Progress {
     // Takes the declaration, which stands on the next line.
     fn go(self, alloc: Global, declaration: Declaration) -> Result<Option<Progress>, AllocError>
         requires { self.next + 1 < 2 ^ 32 }
-        ensures { IfOk result (λ further. further ≡ option_map (progress (self.next + 1)) (declaration_taken self.stage self.desc declaration)) }
+        ensures { IfOk result (λ further. further
+            ≡ option_map (progress (self.next + 1)) (declaration_taken self.stage self.desc declaration)) }
     {
         let Progress {
             next,

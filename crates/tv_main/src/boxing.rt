@@ -29,8 +29,20 @@ pub fn run_main<F: FileStore, A: Album, P: Pieces, O: Stream, E: Stream>(
     err: &mut E,
 ) -> u8
     ensures { (asked : Result Wanted WhyNone) × IsAskedBy words asked × EndsWith (λ _. ⊥) asked
-        (record { files = F.known files.old; album = A.hung album.old; heard = P.heard pieces.old; out = O.seen out.old; err = E.seen err.old })
-        (record { files = F.known files.new; album = A.hung album.new; heard = P.heard pieces.new; out = O.seen out.new; err = E.seen err.new })
+        (record {
+          files = F.known files.old;
+          album = A.hung album.old;
+          heard = P.heard pieces.old;
+          out = O.seen out.old;
+          err = E.seen err.old;
+        })
+        (record {
+          files = F.known files.new;
+          album = A.hung album.new;
+          heard = P.heard pieces.new;
+          out = O.seen out.new;
+          err = E.seen err.new;
+        })
         result }
 {
     match words {
@@ -54,8 +66,20 @@ fn run_with_boxes<F: FileStore, A: Album, P: Pieces, O: Stream, E: Stream>(
     err: &mut E,
 ) -> u8
     ensures { EndsWith (λ _. ⊥) asked.entry
-        (record { files = F.known files.old; album = A.hung album.old; heard = P.heard pieces.old; out = O.seen out.old; err = E.seen err.old })
-        (record { files = F.known files.new; album = A.hung album.new; heard = P.heard pieces.new; out = O.seen out.new; err = E.seen err.new })
+        (record {
+          files = F.known files.old;
+          album = A.hung album.old;
+          heard = P.heard pieces.old;
+          out = O.seen out.old;
+          err = E.seen err.old;
+        })
+        (record {
+          files = F.known files.new;
+          album = A.hung album.new;
+          heard = P.heard pieces.new;
+          out = O.seen out.new;
+          err = E.seen err.new;
+        })
         result }
 {
     // `refused` says nothing: the tactic proves `same` only where it stands beside another clause.
@@ -74,7 +98,8 @@ fn run_with_boxes<F: FileStore, A: Album, P: Pieces, O: Stream, E: Stream>(
         }
     };
     let views = |alloc: Global, checked: &Checked| -> Result<Views<Box<dyn View>>, BuildFault>
-        ensures made { IfOk result (λ views. NoneMismatches (λ view. (View-box view).meaning view.value) checked.now views.windows.items views.bodies.items) }
+        ensures made { IfOk result (λ views. NoneMismatches
+            (λ view. (View-box view).meaning view.value) checked.now views.windows.items views.bodies.items) }
         ensures refused { IfErr result (λ fault. fault ≡ NoMemory) }
     { Ok(views_by(alloc, checked, &boxed)?) };
     run_program(files, album, alloc, asked, &views, pieces, out, err)

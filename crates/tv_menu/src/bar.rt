@@ -71,7 +71,8 @@ impl MenuBar {
 
     /// Opens the first menu with its first item, if there is a menu.
     pub fn open_first(&mut self)
-        ensures opened { (d : Declared) (s : State) → IsBarOf d self.old → s.menu ≡ open_of self.old → (open_first d.menus s).menu ≡ open_of self.new }
+        ensures opened { (d : Declared) (s : State) → IsBarOf d self.old → s.menu ≡ open_of self.old
+            → (open_first d.menus s).menu ≡ open_of self.new }
         ensures stays { (d : Declared) → IsBarOf d self.old → IsBarOf d self.new }
     {
         if !self.menus.as_slice().is_empty() {

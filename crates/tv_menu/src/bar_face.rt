@@ -39,7 +39,8 @@ fn write_titles(
 )
     requires places { place + length menus.now < 2 ^ 64 }
     requires cells { from + length cells.old ≤ 2 ^ 32 }
-    ensures { ChangesRow (λ column. over_spot (title_over opened) (spot_in title_of place first menus.now column)) from cells.old cells.new }
+    ensures { ChangesRow (λ column. over_spot (title_over opened)
+        (spot_in title_of place first menus.now column)) from cells.old cells.new }
 {
     let Some((menu, behind)) = menus.split_first() else {
         return;

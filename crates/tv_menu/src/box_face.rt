@@ -77,7 +77,9 @@ fn write_item(
 )
     requires { from + length cells.old ≤ 2 ^ 32 }
     ensures count { length cells.new ≡ length cells.old }
-    ensures cells { IsRow (λ x. if is_side width x then bar_cell 124 bar.Normal else item_cell is_current (option_copied item.entry) (x - 1)) from cells.new }
+    ensures cells { IsRow
+        (λ x. if is_side width x then bar_cell 124 bar.Normal
+        else item_cell is_current (option_copied item.entry) (x - 1)) from cells.new }
 {
     write_inside(item, is_current, from, cells);
     write_sides(

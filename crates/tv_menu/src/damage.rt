@@ -96,7 +96,8 @@ impl MenuBar {
 impl StatusLine {
     /// Adds the row of the line, if an item is enabled in one set of commands and not in the other.
     pub fn damage_between(&self, old: &CommandSet, new: &CommandSet, damage: &mut Damage)
-        ensures line { (d : Declared) (s t : State) (p : Picture) → IsStatusLineOf d self.now → AreEnabled d s old.now → AreEnabled d t new.now
+        ensures line { (d : Declared) (s t : State) (p : Picture) → IsStatusLineOf d self.now → AreEnabled d s old.now
+            → AreEnabled d t new.now
             → AreAlike p damage.new (status_layer d s ∷ []) (status_layer d t ∷ []) }
         ensures grown { Grows (line_row self.now) damage.old damage.new }
         ensures same { All (λ item. is_item_in old.now item ≡ is_item_in new.now item) self.now.items → damage.new ≡ damage.old }

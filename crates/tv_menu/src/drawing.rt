@@ -59,7 +59,8 @@ fn sized(width: u32, height: u32) -> Rect
 // Draws the box of a menu with its current item, over its shadow, with its corner at the canvas's origin.
 fn lay_box(screen: &mut Screen, canvas: Canvas, menu: &Menu, current: usize)
     requires { IsLawfulMenu menu.now }
-    ensures { Lays (Painted canvas (box_width menu.now) (box_height menu.now) (box_face menu.now current) ∷ Shadow canvas (sized (box_width menu.now) (box_height menu.now)) ∷ []) screen.old screen.new }
+    ensures { Lays (Painted canvas (box_width menu.now) (box_height menu.now) (box_face menu.now current)
+        ∷ Shadow canvas (sized (box_width menu.now) (box_height menu.now)) ∷ []) screen.old screen.new }
 {
     let width = box_width(menu);
     let height = box_height(menu);

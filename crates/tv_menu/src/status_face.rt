@@ -32,7 +32,9 @@ fn write_items(
 )
     requires lawful { All IsLawfulStatusItem items.now }
     requires cells { from + length cells.old ≤ 2 ^ 32 }
-    ensures { (place : ℕ) → ChangesRow (λ column. over_spot (item_over enabled.now) (spot_in status_text place first items.now column)) from cells.old cells.new }
+    ensures { (place : ℕ)
+        → ChangesRow (λ column. over_spot (item_over enabled.now)
+        (spot_in status_text place first items.now column)) from cells.old cells.new }
 {
     let Some((item, behind)) = items.split_first() else {
         return;

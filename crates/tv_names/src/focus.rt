@@ -68,7 +68,8 @@ fn shown_views(alloc: Global, reaches: &[Reach]) -> Result<HashSet<Id>, AllocErr
 
 // The commands that rules enable.
 fn enabled_commands(alloc: Global, reaches: &[Reach]) -> Result<HashSet<CommandSpec>, AllocError>
-    ensures { IfOk result (λ enabled. (command : CommandSpec) → contains equals_command enabled command ≡ list_any (is_of_command command) reaches.now) }
+    ensures { IfOk result (λ enabled. (command : CommandSpec)
+        → contains equals_command enabled command ≡ list_any (is_of_command command) reaches.now) }
 {
     let mut enabled = HashSet::new(alloc);
     for reach in reaches {
@@ -119,7 +120,8 @@ fn is_enabled(enabled: &HashSet<CommandSpec>, kind: &Kind) -> bool
 
 // Whether it is a control that no rule shows or enables.
 fn is_free(enabled: &HashSet<CommandSpec>, is_shown: bool, view: &Node) -> bool
-    ensures { result ≡ (is_control view.now.kind && (not is_shown && not (is_button_where (contains equals_command enabled.now) view.now.kind))) }
+    ensures { result ≡ (is_control view.now.kind && (not is_shown
+        && not (is_button_where (contains equals_command enabled.now) view.now.kind))) }
 {
     view.kind.is_control() && !is_shown && !is_enabled(enabled, &view.kind)
 }

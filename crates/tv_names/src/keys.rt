@@ -31,7 +31,8 @@ fn is_status_key(key: Key) -> bool
 
 // Adds the letters that the texts mark.
 fn add_letters(letters: &mut HashSet<char>, texts: &[MarkedText]) -> Result<(), AllocError>
-    ensures { OnOk result ((ch : ℕ) → set.contains nat_eq letters.new ch ≡ (set.contains nat_eq letters.old ch || is_marked_in texts.now ch)) }
+    ensures { OnOk result ((ch : ℕ)
+        → set.contains nat_eq letters.new ch ≡ (set.contains nat_eq letters.old ch || is_marked_in texts.now ch)) }
 {
     for text in texts {
         add_letter(letters, text)?;
@@ -41,7 +42,8 @@ fn add_letters(letters: &mut HashSet<char>, texts: &[MarkedText]) -> Result<(), 
 
 // Adds the letters that the views mark.
 fn add_marked(letters: &mut HashSet<char>, views: &[Node]) -> Result<(), AllocError>
-    ensures { OnOk result ((ch : ℕ) → set.contains nat_eq letters.new ch ≡ (set.contains nat_eq letters.old ch || is_marked_by views.now ch)) }
+    ensures { OnOk result ((ch : ℕ)
+        → set.contains nat_eq letters.new ch ≡ (set.contains nat_eq letters.old ch || is_marked_by views.now ch)) }
 {
     for view in views {
         add_letters(letters, marked_of(&view.kind))?;
@@ -51,7 +53,9 @@ fn add_marked(letters: &mut HashSet<char>, views: &[Node]) -> Result<(), AllocEr
 
 // Adds the shortcuts of the dialogs.
 fn add_shortcuts(taken: &mut HashSet<char>, dialogs: &[Dialog]) -> Result<(), AllocError>
-    ensures { OnOk result ((ch : ℕ) → set.contains nat_eq taken.new ch ≡ (set.contains nat_eq taken.old ch || list_any (is_shortcut ch) dialogs.now)) }
+    ensures { OnOk result ((ch : ℕ)
+        → set.contains nat_eq taken.new ch
+        ≡ (set.contains nat_eq taken.old ch || list_any (is_shortcut ch) dialogs.now)) }
 {
     for dialog in dialogs {
         add_marked(taken, dialog.views.as_slice())?;
@@ -61,7 +65,9 @@ fn add_shortcuts(taken: &mut HashSet<char>, dialogs: &[Dialog]) -> Result<(), Al
 
 // Adds the letters of the menus' titles.
 fn add_titles(taken: &mut HashSet<char>, menus: &[Menu]) -> Result<(), AllocError>
-    ensures { OnOk result ((ch : ℕ) → set.contains nat_eq taken.new ch ≡ (set.contains nat_eq taken.old ch || list_any (λ menu. marks ch menu.title) menus.now)) }
+    ensures { OnOk result ((ch : ℕ)
+        → set.contains nat_eq taken.new ch
+        ≡ (set.contains nat_eq taken.old ch || list_any (λ menu. marks ch menu.title) menus.now)) }
 {
     for menu in menus {
         add_letter(taken, &menu.title)?;
@@ -81,7 +87,9 @@ fn digit_of(window: &Window) -> Option<char>
 
 // Adds the digits of the windows' numbers.
 fn add_digits(taken: &mut HashSet<char>, windows: &[Window]) -> Result<(), AllocError>
-    ensures { OnOk result ((ch : ℕ) → set.contains nat_eq taken.new ch ≡ (set.contains nat_eq taken.old ch || list_any (is_window_digit ch) windows.now)) }
+    ensures { OnOk result ((ch : ℕ)
+        → set.contains nat_eq taken.new ch
+        ≡ (set.contains nat_eq taken.old ch || list_any (is_window_digit ch) windows.now)) }
 {
     for window in windows {
         if let Some(digit) = digit_of(window) {

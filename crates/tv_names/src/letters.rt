@@ -54,7 +54,8 @@ pub fn marks_any(letters: &HashSet<char>, text: &MarkedText) -> bool
 /// Adds the letter that the text marks. Returns whether it was among the letters before.
 pub fn add_letter(letters: &mut HashSet<char>, text: &MarkedText) -> Result<bool, AllocError>
     ensures again { IfOk result (λ again. again ≡ marks_any (set.contains nat_eq letters.old) text.now) }
-    ensures added { OnOk result ((ch : ℕ) → set.contains nat_eq letters.new ch ≡ (set.contains nat_eq letters.old ch || marks ch text.now)) }
+    ensures added { OnOk result ((ch : ℕ)
+        → set.contains nat_eq letters.new ch ≡ (set.contains nat_eq letters.old ch || marks ch text.now)) }
 {
     match letter_of(text) {
         Some(letter) => Ok(!letters.insert(letter)?),

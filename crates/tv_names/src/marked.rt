@@ -21,7 +21,8 @@ fn add_letters(
     texts: &[MarkedText],
 ) -> Result<bool, AllocError>
     ensures again { IfOk result (λ again. again ≡ mark_again (set.contains nat_eq shared.now) (set.contains nat_eq letters.old) texts.now) }
-    ensures added { OnOk result ((ch : ℕ) → set.contains nat_eq letters.new ch ≡ (set.contains nat_eq letters.old ch || is_marked_in texts.now ch)) }
+    ensures added { OnOk result ((ch : ℕ)
+        → set.contains nat_eq letters.new ch ≡ (set.contains nat_eq letters.old ch || is_marked_in texts.now ch)) }
 {
     let mut again = false;
     for text in texts {
@@ -38,7 +39,8 @@ pub fn marks_again(
     views: &[Node],
     sharing: Option<&[Rule]>,
 ) -> Result<Vec<bool>, AllocError>
-    ensures { IfOk result (λ again. again.items ≡ each_after (marks_again (is_shared_by (option_copied sharing.entry) views.now)) views.now) }
+    ensures { IfOk result (λ again. again.items
+        ≡ each_after (marks_again (is_shared_by (option_copied sharing.entry) views.now)) views.now) }
 {
     let shared = shared_letters(alloc, views, sharing)?;
     let mut letters = HashSet::new(alloc);

@@ -182,7 +182,9 @@ fn mark_once(views: &[Node], letter: char, places: &[usize]) -> bool
 fn may_share(views: &[Node], letter: char, places: &[usize]) -> bool
     requires { AreWithin views.now places.now }
     ensures many { IsTrue result → 1 < length places.now }
-    ensures value { (view : SeenNode) → result ≡ (nat_lt 1 (length places.now) && list_all (λ place. marked_times letter (slice_index_or views.now place view) == 1) places.now) }
+    ensures value { (view : SeenNode)
+        → result ≡ (nat_lt 1 (length places.now)
+        && list_all (λ place. marked_times letter (slice_index_or views.now place view) == 1) places.now) }
 {
     places.len() > 1 && mark_once(views, letter, places)
 }
@@ -275,7 +277,8 @@ fn separates(
 // Adds the item. Returns whether there is one, and it wasn't among the items before.
 fn is_other(items: &mut HashSet<i32>, item: Option<i32>) -> Result<bool, AllocError>
     ensures other { IfOk result (λ is_so. is_so ≡ is_new (set.contains int_eq items.old) item) }
-    ensures added { OnOk result ((other : ℤ) → set.contains int_eq items.new other ≡ or_option_item (set.contains int_eq items.old) item other) }
+    ensures added { OnOk result ((other : ℤ)
+        → set.contains int_eq items.new other ≡ or_option_item (set.contains int_eq items.old) item other) }
 {
     match item {
         Some(item) => Ok(items.insert(item)?),
@@ -293,7 +296,8 @@ fn separating<'a>(
 ) -> Result<Option<&'a Node>, AllocError>
     requires owners { AreOwners owners.now views.now }
     requires within { AreWithin views.now places.now }
-    ensures { IfOk result (λ radios. (view : SeenNode) → option_copied radios ≡ first_separating views.now (map lent_group groups.now) view places.now) }
+    ensures { IfOk result (λ radios. (view : SeenNode)
+        → option_copied radios ≡ first_separating views.now (map lent_group groups.now) view places.now) }
 {
     for group in groups {
         if separates(alloc, owners, views, group, places)? {
@@ -327,7 +331,8 @@ impl<'a> Sharing<'a> {
     /// Finds the item of the radio buttons by which the view at this place is shown.
     pub fn item(&self, radios: &Node, place: usize) -> Option<i32>
         requires { place < length self.now.views }
-        ensures { (view : SeenNode) → result ≡ item_shown_by self.now.views self.now.rules radios.now (marker_at self.now.views view place) }
+        ensures { (view : SeenNode)
+            → result ≡ item_shown_by self.now.views self.now.rules radios.now (marker_at self.now.views view place) }
     {
         let owners = self.owners.as_slice();
         let shown = self.shown.as_slice();
@@ -393,7 +398,8 @@ fn note_all(
     texts: &[MarkedText],
 ) -> Result<(), AllocError>
     requires { AreSharedOf sharing.now.views sharing.now.rules (set.contains nat_eq seen.now) shared.now }
-    ensures seen { OnOk result ((ch : ℕ) → set.contains nat_eq seen.new ch ≡ (set.contains nat_eq seen.old ch || is_marked_in texts.now ch)) }
+    ensures seen { OnOk result ((ch : ℕ)
+        → set.contains nat_eq seen.new ch ≡ (set.contains nat_eq seen.old ch || is_marked_in texts.now ch)) }
     ensures shared { OnOk result (AreSharedOf sharing.now.views sharing.now.rules (set.contains nat_eq seen.new) shared.new) }
 {
     for text in texts {
@@ -427,7 +433,8 @@ pub fn shared_letters(
     views: &[Node],
     sharing: Option<&[Rule]>,
 ) -> Result<HashSet<char>, AllocError>
-    ensures { IfOk result (λ shared. (letter : ℕ) → set.contains nat_eq shared letter ≡ is_shared_by (option_copied sharing.entry) views.now letter) }
+    ensures { IfOk result (λ shared. (letter : ℕ)
+        → set.contains nat_eq shared letter ≡ is_shared_by (option_copied sharing.entry) views.now letter) }
 {
     match sharing {
         Some(rules) => letters(alloc, views, rules),

@@ -29,7 +29,8 @@ impl Heaviest {
     /// Returns the greatest weight of the passed views that go with the view at hand: those that fill, unless that one
     /// does, and that are wide, unless that one is.
     pub fn beside(&self, fills: bool, wide: bool) -> u8
-        ensures { result ≡ (if fills then (if wide then self.now.any else self.now.wide) else (if wide then self.now.filling else self.now.both)) }
+        ensures { result ≡ (if fills then (if wide then self.now.any else self.now.wide) else (if wide
+            then self.now.filling else self.now.both)) }
     {
         match (fills, wide) {
             (true, true) => self.any,

@@ -30,7 +30,8 @@ impl Model for Chain {
 
     ghost view = { λ c. entries_of c.palettes.items };
 
-    ghost invariant = { λ c. (length c.palettes.items ≤ 16) × IsLookUp (entries_of c.palettes.items) c.attrs × IsOwned c.owner (entries_of c.palettes.items) };
+    ghost invariant = { λ c. (length c.palettes.items ≤ 16) × IsLookUp (entries_of c.palettes.items) c.attrs
+        × IsOwned c.owner (entries_of c.palettes.items) };
 }
 
 impl Chain {

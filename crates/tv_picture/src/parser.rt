@@ -218,7 +218,8 @@ impl Parser {
 
     /// Returns the whole picture's code, or `None` where something is still waited for.
     pub fn into_code(mut self) -> Result<Option<Vec<Op>>, AllocError>
-        ensures { IfOk result (λ code. MatchOption code (is_closed (reading self) ≡ false) (λ v. (is_closed (reading self) ≡ true) × (built_by v.items ≡ merged self.choice (built_by self.code.items)))) }
+        ensures { IfOk result (λ code. MatchOption code (is_closed (reading self) ≡ false) (λ v.
+            (is_closed (reading self) ≡ true) × (built_by v.items ≡ merged self.choice (built_by self.code.items)))) }
     {
         if !self.brackets.is_empty() || self.repeat != Repeat::Once || self.quoted {
             return Ok(None);

@@ -61,7 +61,8 @@ impl Picture {
     pub fn parse(alloc: Global, text: &str) -> Result<Picture, PictureFault>
         ensures ok { IfOk result (λ p. IsPicture p × (spelled p ≡ chars text.now)) }
         ensures err { IfErr result (λ fault. RefusesPicture (chars text.now) fault) }
-        ensures only { (p : Pattern) → IsPicture p → spelled p ≡ chars text.now → MatchResult result (λ q. q ≡ p) (λ fault. fault ≡ PictureFault.NoMemory) }
+        ensures only { (p : Pattern) → IsPicture p → spelled p ≡ chars text.now
+            → MatchResult result (λ q. q ≡ p) (λ fault. fault ≡ PictureFault.NoMemory) }
         ensures computed { IfOk result (λ p. picture_of (chars text.now) ≡ Some p) }
     {
         let text = characters(alloc, text)?;
@@ -72,7 +73,8 @@ impl Picture {
     pub fn from_chars(alloc: Global, text: &[char]) -> Result<Picture, PictureFault>
         ensures ok { IfOk result (λ p. IsPicture p × (spelled p ≡ text.now)) }
         ensures err { IfErr result (λ fault. RefusesPicture text.now fault) }
-        ensures only { (p : Pattern) → IsPicture p → spelled p ≡ text.now → MatchResult result (λ q. q ≡ p) (λ fault. fault ≡ PictureFault.NoMemory) }
+        ensures only { (p : Pattern) → IsPicture p → spelled p ≡ text.now
+            → MatchResult result (λ q. q ≡ p) (λ fault. fault ≡ PictureFault.NoMemory) }
         ensures computed { IfOk result (λ p. picture_of text.now ≡ Some p) }
     {
         let mut parser = Parser::new(alloc)?;

@@ -108,7 +108,8 @@ impl Places {
     /// the edges of the set a character can lead to a new place.
     pub fn spread(self, mark: Mark, text: &[char]) -> Places
         requires { length text.now ≤ 120 }
-        ensures { (k : ℕ) → HasPlace result k ↔ ((p : ℕ) × HasPlace self p × (p ≤ k) × ((r : ℕ) → p ≤ r → r < k → StandsAt mark text.now r)) }
+        ensures { (k : ℕ) → HasPlace result k ↔ ((p : ℕ) × HasPlace self p × (p ≤ k) × ((r : ℕ) → p ≤ r → r < k
+            → StandsAt mark text.now r)) }
     {
         let mut places = self;
         let mut place = self.edges().first_from(0);

@@ -55,7 +55,9 @@ fn lowest_after(first: Row, tables: &[Table], height: usize, op: Op, text: &[cha
     requires fits { IsSome (height_after height op) }
     requires lowest { leaves_lowest height op ≡ false }
     requires within { height ≤ length tables.now }
-    ensures { (ps : List Pattern) (h : ℕ) → height_after height op ≡ Some h → StandsOn text.now first tables.now height ps → StandsOn text.now result tables.now h (patterns_after ps op) }
+    ensures { (ps : List Pattern) (h : ℕ) → height_after height op ≡ Some h
+        → StandsOn text.now first tables.now height ps
+        → StandsOn text.now result tables.now h (patterns_after ps op) }
 {
     let start = Row {
         ends: Places::only(0),
@@ -78,7 +80,9 @@ fn apply(tables: &mut [Table], height: usize, op: Op, text: &[char])
     requires room { IfSome (over_after height op) (λ h. h ≤ length tables.old) }
     requires within { height ≤ length tables.old }
     ensures count { length tables.new ≡ length tables.old }
-    ensures tables { (ps : List Pattern) (h : ℕ) → over_after height op ≡ Some h → StandsBelow (λ p t. HasEachRow p text.now t) tables.old height ps → StandsBelow (λ p t. HasEachRow p text.now t) tables.new h (patterns_after ps op) }
+    ensures tables { (ps : List Pattern) (h : ℕ) → over_after height op ≡ Some h
+        → StandsBelow (λ p t. HasEachRow p text.now t) tables.old height ps
+        → StandsBelow (λ p t. HasEachRow p text.now t) tables.new h (patterns_after ps op) }
 {
     let len = text.len();
     match op {
@@ -106,7 +110,9 @@ fn step(first: Row, tables: &mut [Table], height: usize, op: Op, text: &[char]) 
     requires room { IfSome (height_after height op) (λ h. h ≤ length tables.old) }
     requires within { height ≤ length tables.old }
     ensures count { length tables.new ≡ length tables.old }
-    ensures stack { (ps : List Pattern) (h : ℕ) → height_after height op ≡ Some h → StandsOn text.now first tables.old height ps → StandsOn text.now result tables.new h (patterns_after ps op) }
+    ensures stack { (ps : List Pattern) (h : ℕ) → height_after height op ≡ Some h
+        → StandsOn text.now first tables.old height ps
+        → StandsOn text.now result tables.new h (patterns_after ps op) }
 {
     if is_over(height, op) {
         apply(tables, height - 1, op, text);
@@ -144,7 +150,8 @@ fn joined_after(first: Row, tables: &[Table], height: usize, op: Op, text: &[cha
     requires few { length text.now ≤ 120 }
     requires within { height ≤ length tables.now }
     ensures heights { IfSome result (λ row. height_joined height op ≡ Some 1) }
-    ensures stack { IfSome result (λ row. (ps : List Pattern) → StandsOn text.now first tables.now height ps → StandsOn text.now row tables.now 1 (patterns_after (patterns_after ps op) Op.Sequence)) }
+    ensures stack { IfSome result (λ row. (ps : List Pattern) → StandsOn text.now first tables.now height ps
+        → StandsOn text.now row tables.now 1 (patterns_after (patterns_after ps op) Op.Sequence)) }
 {
     match op {
         Op::One(mark) if height == 1 => Some(first.append(mark, text)),

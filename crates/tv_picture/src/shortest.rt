@@ -25,7 +25,8 @@ impl Lengths {
         requires fits { IsSome (height_after self.now.height op) }
         ensures place { height_after self.now.height op ≡ Some (result.0 + 1) }
         ensures bound { result.0 < 20 }
-        ensures length { (ps : List Pattern) → StandsBelow IsShortest self.now.lengths self.now.height ps → Made IsShortest self.now.lengths result.0 result.1 (patterns_after ps op) }
+        ensures length { (ps : List Pattern) → StandsBelow IsShortest self.now.lengths self.now.height ps
+            → Made IsShortest self.now.lengths result.0 result.1 (patterns_after ps op) }
     {
         let height = self.height;
         match op {
@@ -48,7 +49,8 @@ impl Lengths {
     fn apply(&mut self, op: Op)
         requires { IsSome (height_after self.old.height op) }
         ensures height { height_after self.old.height op ≡ Some self.new.height }
-        ensures lengths { (ps : List Pattern) → StandsBelow IsShortest self.old.lengths self.old.height ps → StandsBelow IsShortest self.new.lengths self.new.height (patterns_after ps op) }
+        ensures lengths { (ps : List Pattern) → StandsBelow IsShortest self.old.lengths self.old.height ps
+            → StandsBelow IsShortest self.new.lengths self.new.height (patterns_after ps op) }
     {
         let (place, length) = self.made(op);
         self.lengths[place] = length;

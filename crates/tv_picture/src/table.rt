@@ -61,7 +61,8 @@ impl Table {
     /// are often those of the next row and a few more.
     pub fn then(&mut self, other: &Table, len: usize)
         requires { len ≤ 120 }
-        ensures { (a b : Pattern) (text : List ℕ) → length text ≡ len → HasEachRow a text self.old → HasEachRow b text other.now → HasEachRow (sequence a b) text self.new }
+        ensures { (a b : Pattern) (text : List ℕ) → length text ≡ len → HasEachRow a text self.old
+            → HasEachRow b text other.now → HasEachRow (sequence a b) text self.new }
     {
         let mut ends = Places::NONE;
         let mut gathered = Row::NONE;
@@ -78,7 +79,8 @@ impl Table {
     /// those of later places alone.
     fn square(&mut self, len: usize) -> bool
         requires { len ≤ 120 }
-        ensures joins { (a b : Pattern) (text : List ℕ) → length text ≡ len → HasEachRow a text self.old → HasEachRow b text self.old → HasEachRow (sequence a b) text self.new }
+        ensures joins { (a b : Pattern) (text : List ℕ) → length text ≡ len → HasEachRow a text self.old
+            → HasEachRow b text self.old → HasEachRow (sequence a b) text self.new }
         ensures same { IsTrue result → self.new ≡ self.old }
     {
         let mut same = true;
@@ -123,7 +125,8 @@ impl Table {
     /// among the places, only the others are looked at.
     fn gather_more(&self, places: Places, before: Places, gathered: Row, len: usize) -> Row
         requires { len ≤ 120 }
-        ensures { (b : Pattern) (text : List ℕ) → length text ≡ len → HasEachRow b text self.now → IsGathered b text before self.now gathered → IsGathered b text places self.now result }
+        ensures { (b : Pattern) (text : List ℕ) → length text ≡ len → HasEachRow b text self.now
+            → IsGathered b text before self.now gathered → IsGathered b text places self.now result }
     {
         if places.contains_all(before) {
             let more = self.gather_all(places.without(before), len + 1, Row::NONE);
@@ -137,7 +140,8 @@ impl Table {
     /// number of times. A member ends where it begins or later, so each place is looked at once.
     pub fn many_after(&self, first: Row, len: usize) -> Row
         requires { len ≤ 120 }
-        ensures { (a b : Pattern) (text : List ℕ) → length text ≡ len → IsTableRow a text 0 first → HasEachRow b text self.now → IsTableRow (sequence a (many b)) text 0 result }
+        ensures { (a b : Pattern) (text : List ℕ) → length text ≡ len → IsTableRow a text 0 first
+            → HasEachRow b text self.now → IsTableRow (sequence a (many b)) text 0 result }
     {
         let mut row = first;
         for place in 0..len + 1 {
@@ -152,7 +156,8 @@ impl Table {
     /// times.
     pub fn times_after(&self, first: Row, count: u8, len: usize) -> Row
         requires { len ≤ 120 }
-        ensures { (a b : Pattern) (text : List ℕ) → length text ≡ len → IsTableRow a text 0 first → HasEachRow b text self.now → IsTableRow (sequence a (times count b)) text 0 result }
+        ensures { (a b : Pattern) (text : List ℕ) → length text ≡ len → IsTableRow a text 0 first
+            → HasEachRow b text self.now → IsTableRow (sequence a (times count b)) text 0 result }
     {
         let mut row = first;
         for done in 0..count {
@@ -168,7 +173,8 @@ impl Table {
     /// Makes it the table of alternatives: itself, or the other.
     pub fn or(&mut self, other: &Table, len: usize)
         requires { len ≤ 120 }
-        ensures { (a b : Pattern) (text : List ℕ) → length text ≡ len → HasEachRow a text self.old → HasEachRow b text other.now → HasEachRow (either a b) text self.new }
+        ensures { (a b : Pattern) (text : List ℕ) → length text ≡ len → HasEachRow a text self.old
+            → HasEachRow b text other.now → HasEachRow (either a b) text self.new }
     {
         for place in 0..len + 1 {
             self.rows[place] = self.rows[place].join(other.rows[place]);
@@ -208,7 +214,8 @@ impl Table {
     /// Makes it the table of a repetition so many times, by squaring.
     pub fn repeat_times(&mut self, count: u8, len: usize)
         requires { len ≤ 120 }
-        ensures { (a : Pattern) (text : List ℕ) → length text ≡ len → HasEachRow a text self.old → HasEachRow (times count a) text self.new }
+        ensures { (a : Pattern) (text : List ℕ) → length text ≡ len → HasEachRow a text self.old
+            → HasEachRow (times count a) text self.new }
     {
         let mut power = *self;
         self.set_empty(len);

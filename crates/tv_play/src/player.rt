@@ -92,9 +92,13 @@ fn take_action<L: Live, T: Writer, W: Writer>(
     ensures there { (t : Session) × L.stands stage.new t × HasSize t show.new.painter.now }
     ensures going { IfNone result (show.new.pen.stopped ≡ false) }
     ensures acts { (s : Session) (symbols next : List Symbol) (from : Outside)
-        → IsPlaying s symbols from (outside (W.seen journal.old.out.now) (T.seen show.old.pen.out.now) show.old.pen.stopped show.old.painter.now) (L.stands stage.old)
+        → IsPlaying s symbols from
+        (outside (W.seen journal.old.out.now) (T.seen show.old.pen.out.now) show.old.pen.stopped show.old.painter.now)
+        (L.stands stage.old)
         → decode next ≡ decode symbols ++ action ∷ []
-        → TurnsTo s next from (outside (W.seen journal.new.out.now) (T.seen show.new.pen.out.now) show.new.pen.stopped show.new.painter.now) (L.stands stage.new) result }
+        → TurnsTo s next from
+        (outside (W.seen journal.new.out.now) (T.seen show.new.pen.out.now) show.new.pen.stopped show.new.painter.now)
+        (L.stands stage.new) result }
 {
     let Some(event) = event_of(stage.desc(), action) else {
         return Some(Ok(Parting::Left));
@@ -118,9 +122,13 @@ fn take_meant<L: Live, T: Writer, W: Writer>(
     ensures there { (t : Session) × L.stands stage.new t × HasSize t show.new.painter.now }
     ensures going { IfNone result (show.new.pen.stopped ≡ false) }
     ensures acts { (s : Session) (symbols next : List Symbol) (from : Outside)
-        → IsPlaying s symbols from (outside (W.seen journal.old.out.now) (T.seen show.old.pen.out.now) show.old.pen.stopped show.old.painter.now) (L.stands stage.old)
+        → IsPlaying s symbols from
+        (outside (W.seen journal.old.out.now) (T.seen show.old.pen.out.now) show.old.pen.stopped show.old.painter.now)
+        (L.stands stage.old)
         → decode next ≡ decode symbols ++ before action []
-        → TurnsTo s next from (outside (W.seen journal.new.out.now) (T.seen show.new.pen.out.now) show.new.pen.stopped show.new.painter.now) (L.stands stage.new) result }
+        → TurnsTo s next from
+        (outside (W.seen journal.new.out.now) (T.seen show.new.pen.out.now) show.new.pen.stopped show.new.painter.now)
+        (L.stands stage.new) result }
 {
     let Some(action) = action else {
         return None;
@@ -145,8 +153,12 @@ fn take_bytes<L: Live, T: Writer, W: Writer>(
     ensures kept { (symbols : List Symbol) → decoder.old ≡ left_after [] symbols
         → IfNone result (decoder.new ≡ left_after [] (symbols ++ map Byte bytes.now)) }
     ensures acts { (s : Session) (symbols : List Symbol) (from : Outside) → decoder.old ≡ left_after [] symbols
-        → IsPlaying s symbols from (outside (W.seen journal.old.out.now) (T.seen show.old.pen.out.now) show.old.pen.stopped show.old.painter.now) (L.stands stage.old)
-        → TurnsTo s (symbols ++ map Byte bytes.now) from (outside (W.seen journal.new.out.now) (T.seen show.new.pen.out.now) show.new.pen.stopped show.new.painter.now) (L.stands stage.new) result }
+        → IsPlaying s symbols from
+        (outside (W.seen journal.old.out.now) (T.seen show.old.pen.out.now) show.old.pen.stopped show.old.painter.now)
+        (L.stands stage.old)
+        → TurnsTo s (symbols ++ map Byte bytes.now) from
+        (outside (W.seen journal.new.out.now) (T.seen show.new.pen.out.now) show.new.pen.stopped show.new.painter.now)
+        (L.stands stage.new) result }
 {
     for byte in bytes {
         let action = decoder.take(*byte);
@@ -172,8 +184,12 @@ fn take_pause<L: Live, T: Writer, W: Writer>(
     ensures going { IfNone result (show.new.pen.stopped ≡ false) }
     ensures kept { decoder.new ≡ [] }
     ensures acts { (s : Session) (symbols : List Symbol) (from : Outside) → decoder.old ≡ left_after [] symbols
-        → IsPlaying s symbols from (outside (W.seen journal.old.out.now) (T.seen show.old.pen.out.now) show.old.pen.stopped show.old.painter.now) (L.stands stage.old)
-        → TurnsTo s (symbols ++ Pause ∷ []) from (outside (W.seen journal.new.out.now) (T.seen show.new.pen.out.now) show.new.pen.stopped show.new.painter.now) (L.stands stage.new) result }
+        → IsPlaying s symbols from
+        (outside (W.seen journal.old.out.now) (T.seen show.old.pen.out.now) show.old.pen.stopped show.old.painter.now)
+        (L.stands stage.old)
+        → TurnsTo s (symbols ++ Pause ∷ []) from
+        (outside (W.seen journal.new.out.now) (T.seen show.new.pen.out.now) show.new.pen.stopped show.new.painter.now)
+        (L.stands stage.new) result }
 {
     let action = decoder.pause();
     take_meant(stage, show, journal, action)
@@ -198,8 +214,12 @@ pub(crate) fn take_piece<L: Live, T: Writer, W: Writer>(
     ensures kept { (symbols : List Symbol) → decoder.old ≡ left_after [] symbols
         → IfNone result (decoder.new ≡ left_after [] (symbols ++ symbols_in piece room.now)) }
     ensures acts { (s : Session) (symbols : List Symbol) (from : Outside) → decoder.old ≡ left_after [] symbols
-        → IsPlaying s symbols from (outside (W.seen journal.old.out.now) (T.seen show.old.pen.out.now) show.old.pen.stopped show.old.painter.now) (L.stands stage.old)
-        → TurnsTo s (symbols ++ symbols_in piece room.now) from (outside (W.seen journal.new.out.now) (T.seen show.new.pen.out.now) show.new.pen.stopped show.new.painter.now) (L.stands stage.new) result }
+        → IsPlaying s symbols from
+        (outside (W.seen journal.old.out.now) (T.seen show.old.pen.out.now) show.old.pen.stopped show.old.painter.now)
+        (L.stands stage.old)
+        → TurnsTo s (symbols ++ symbols_in piece room.now) from
+        (outside (W.seen journal.new.out.now) (T.seen show.new.pen.out.now) show.new.pen.stopped show.new.painter.now)
+        (L.stands stage.new) result }
 {
     match bytes_in(piece, room) {
         Some(bytes) => take_bytes(stage, show, journal, decoder, bytes),

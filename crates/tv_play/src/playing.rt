@@ -103,7 +103,11 @@ fn play_through<L: Live, P: Pieces, T: Writer, W: Writer>(
     ensures screen { show.new.pen.out.ghost_name ≡ show.old.pen.out.ghost_name }
     ensures plays { (s : Session) → L.stands stage.old s
         → Plays s (record { input = P.heard pieces.old; log = W.seen journal.old.out.now; screen = T.seen show.old.pen.out.now })
-        (record { input = P.heard pieces.new; log = W.seen journal.new.out.now; screen = T.seen show.new.pen.out.now }) (L.stands stage.new) result }
+        (record {
+          input = P.heard pieces.new;
+          log = W.seen journal.new.out.now;
+          screen = T.seen show.new.pen.out.now;
+        }) (L.stands stage.new) result }
 {
     show.begin(stage);
     let outcome = play_begun(stage, pieces, show, journal);
@@ -142,8 +146,10 @@ fn play_begun<L: Live, P: Pieces, T: Writer, W: Writer>(
     ensures screen { show.new.pen.out.ghost_name ≡ show.old.pen.out.ghost_name }
     ensures runs { (s : Session) (from : Seen) → L.stands stage.old s
         → HasBeenShown s [] from (T.seen show.old.pen.out.now) show.old.pen.stopped show.old.painter.now
-        → HasRun s (P.heard pieces.old) (P.heard pieces.new) (outside (W.seen journal.old.out.now) from show.old.pen.stopped show.old.painter.now)
-        (outside (W.seen journal.new.out.now) (T.seen show.new.pen.out.now) show.new.pen.stopped show.new.painter.now) (L.stands stage.new) result }
+        → HasRun s (P.heard pieces.old) (P.heard pieces.new)
+        (outside (W.seen journal.old.out.now) from show.old.pen.stopped show.old.painter.now)
+        (outside (W.seen journal.new.out.now) (T.seen show.new.pen.out.now) show.new.pen.stopped show.new.painter.now)
+        (L.stands stage.new) result }
 {
     let is_finished = is_finished(stage);
     let written = journal.write(stage);
@@ -165,9 +171,12 @@ fn play_all<L: Live, P: Pieces, T: Writer, W: Writer>(
     ensures log { journal.new.out.ghost_name ≡ journal.old.out.ghost_name }
     ensures screen { show.new.pen.out.ghost_name ≡ show.old.pen.out.ghost_name }
     ensures runs { (s : Session) (from : Outside)
-        → IsPlaying s [] from (outside (W.seen journal.old.out.now) (T.seen show.old.pen.out.now) show.old.pen.stopped show.old.painter.now) (L.stands stage.old)
+        → IsPlaying s [] from
+        (outside (W.seen journal.old.out.now) (T.seen show.old.pen.out.now) show.old.pen.stopped show.old.painter.now)
+        (L.stands stage.old)
         → HasRun s (P.heard pieces.old) (P.heard pieces.new) from
-        (outside (W.seen journal.new.out.now) (T.seen show.new.pen.out.now) show.new.pen.stopped show.new.painter.now) (L.stands stage.new) result }
+        (outside (W.seen journal.new.out.now) (T.seen show.new.pen.out.now) show.new.pen.stopped show.new.painter.now)
+        (L.stands stage.new) result }
 {
     let mut decoder = Decoder::new();
     let mut room = [0u8; PIECE];

@@ -54,7 +54,8 @@ pub fn draw_shots<S: Stage, A: Album>(
     album: &mut A,
 ) -> Result<(), ShotFault>
     requires there { (s : Session) × S.stands stage.old s }
-    ensures drawn { (s : Session) → S.stands stage.old s → GainsAll (A.hung album.old) (A.hung album.new) (named_shots name.now s script.now) result }
+    ensures drawn { (s : Session) → S.stands stage.old s
+        → GainsAll (A.hung album.old) (A.hung album.new) (named_shots name.now s script.now) result }
     ensures state { OnOk result ((s : Session) → S.stands stage.old s → S.stands stage.new (after s script.now)) }
 {
     stage.forget_log();
@@ -80,8 +81,10 @@ fn draw_item<S: Stage, A: Album>(
     requires there { (s : Session) × S.stands stage.old s }
     ensures few { IfOk result (λ next. next ≤ number + 1) }
     ensures drawn { (s : Session) → S.stands stage.old s → MatchResult result
-        (λ next. Gains (A.hung album.old) (A.hung album.new) (named_from name.now number (item_svgs s item.now)) × (next ≡ number + length (item_svgs s item.now)))
-        (λ failed. FailsFor (A.hung album.old) (A.hung album.new) failed.fault × (failed.number ≡ number) × (item_svgs s item.now ≡ session_svg s ∷ [])) }
+        (λ next. Gains (A.hung album.old) (A.hung album.new) (named_from name.now number (item_svgs s item.now))
+        × (next ≡ number + length (item_svgs s item.now)))
+        (λ failed. FailsFor (A.hung album.old) (A.hung album.new) failed.fault × (failed.number ≡ number)
+        × (item_svgs s item.now ≡ session_svg s ∷ [])) }
     ensures state { (s : Session) → S.stands stage.old s → S.stands stage.new (session_after s item.now) }
 {
     match item {

@@ -37,7 +37,8 @@ pub fn perform<S: Stage, W: Writer>(
     requires there { (s : Session) × S.stands stage.old s }
     ensures text { OnOk result ((s : Session) → S.stands stage.old s → Takes (W.seen out.old) (W.seen out.new) (output s script.now)) }
     ensures state { OnOk result ((s : Session) → S.stands stage.old s → S.stands stage.new (after s script.now)) }
-    ensures stops { IfErr result (λ begun. (s : Session) → S.stands stage.old s → Stops s script.now begun (W.seen out.old) (W.seen out.new) (S.stands stage.new)) }
+    ensures stops { IfErr result (λ begun. (s : Session) → S.stands stage.old s
+        → Stops s script.now begun (W.seen out.old) (W.seen out.new) (S.stands stage.new)) }
 {
     let mut pen = Pen {
         out,
@@ -55,9 +56,11 @@ fn put_script<S: Stage, W: Writer>(
     requires shown { All IsItemOnScreen script.now }
     requires there { (s : Session) × S.stands stage.old s }
     ensures same { pen.new.out.ghost_name ≡ pen.old.out.ghost_name }
-    ensures text { OnOk result ((s : Session) → S.stands stage.old s → Takes (W.seen pen.old.out.now) (W.seen pen.new.out.now) (output s script.now)) }
+    ensures text { OnOk result ((s : Session) → S.stands stage.old s
+        → Takes (W.seen pen.old.out.now) (W.seen pen.new.out.now) (output s script.now)) }
     ensures state { OnOk result ((s : Session) → S.stands stage.old s → S.stands stage.new (after s script.now)) }
-    ensures stops { IfErr result (λ begun. (s : Session) → S.stands stage.old s → Stops s script.now begun (W.seen pen.old.out.now) (W.seen pen.new.out.now) (S.stands stage.new)) }
+    ensures stops { IfErr result (λ begun. (s : Session) → S.stands stage.old s
+        → Stops s script.now begun (W.seen pen.old.out.now) (W.seen pen.new.out.now) (S.stands stage.new)) }
 {
     put_waiting_log(pen, stage);
     if pen.stopped {
@@ -92,7 +95,9 @@ pub(crate) fn perform_line<S: Stage, W: Writer>(
         → Performs s items from (W.seen pen.old.out.now) (S.stands stage.old)
         → MatchResult result
         (λ _. Performs s (items ++ items_of_line (line_meant line.now)) from (W.seen pen.new.out.now) (S.stands stage.new))
-        (λ fault. (begun : ℕ) × (fault ≡ Write begun) × (before ≤ begun) × Stops s (items ++ items_of_line (line_meant line.now)) begun from (W.seen pen.new.out.now) (S.stands stage.new)) }
+        (λ fault. (begun : ℕ) × (fault ≡ Write begun) × (before ≤ begun)
+        × Stops s (items ++ items_of_line (line_meant line.now)) begun from (W.seen pen.new.out.now)
+        (S.stands stage.new)) }
 {
     let mut begun = before;
     for item in line.items() {

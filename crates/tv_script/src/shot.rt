@@ -24,7 +24,9 @@ pub(crate) enum Aspect {
 
 /// Writes a line with the size of the screen, and its rows.
 pub(crate) fn put_screen<W: Writer>(pen: &mut Pen<W>, aspect: Aspect, screen: &Screen)
-    ensures { Puts W.seen pen.old pen.new (screen_text (aspect_word aspect) (cell_text aspect) screen.now.width screen.now.height (cell_at screen.now)) }
+    ensures { Puts W.seen pen.old pen.new
+        (screen_text (aspect_word aspect) (cell_text aspect) screen.now.width screen.now.height
+        (cell_at screen.now)) }
 {
     put_size(pen, aspect, screen);
     for row in 0..screen.height() {

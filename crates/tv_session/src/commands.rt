@@ -59,7 +59,8 @@ impl<V: View> RunOf<V> {
 
     // Closes the front window, if there is one.
     fn close_window(&mut self)
-        ensures { (d : Declared) (since s : State) → IsAwakeSince V.meaning d since s self.old → IsRunSince V.meaning d since (close_front s.windows s) self.new }
+        ensures { (d : Declared) (since s : State) → IsAwakeSince V.meaning d since s self.old
+            → IsRunSince V.meaning d since (close_front s.windows s) self.new }
     {
         if let Some(id) = self.desk.close_front(&mut self.damage) {
             note(&mut self.log, LogLine::Close(id));
@@ -124,7 +125,8 @@ impl<V: View> RunOf<V> {
     pub(crate) fn hand_to_dialog(&mut self, desc: &Desc, event: &Event)
         requires near { HasPointGiven event.now }
         requires awake { (s : State) × IsAwake V.meaning desc.now s self.old }
-        ensures { (since s : State) (o : OpenDialog) → IsAwakeSince V.meaning desc.now since s self.old → s.dialog ≡ Some o → RespectsHold o.held event.now
+        ensures { (since s : State) (o : OpenDialog) → IsAwakeSince V.meaning desc.now since s self.old
+            → s.dialog ≡ Some o → RespectsHold o.held event.now
             → IsRunSince V.meaning desc.now since (to_dialog desc.now o event.now s) self.new }
     {
         self.dialogs.step(desc, event, &mut self.damage);

@@ -69,7 +69,8 @@ impl<V: View> RunOf<V> {
     // Puts the frame there that is dragged.
     fn place(&mut self, corner: Point)
         requires { IsCorner corner }
-        ensures { (d : Declared) (held : Option Held) (since s : State) → IsAwakeWith V.meaning d held s self.old → ShowAlikeOff d since s self.old.damage
+        ensures { (d : Declared) (held : Option Held) (since s : State) → IsAwakeWith V.meaning d held s self.old
+            → ShowAlikeOff d since s self.old.damage
             → IsRunSince V.meaning d since (placed s.dialog corner s) self.new }
     {
         if self.dialogs.is_open() {
@@ -105,7 +106,8 @@ impl<V: View> RunOf<V> {
     fn release(&mut self, desc: &Desc, frame: HeldFrame, corner: Point)
         requires { IsCorner corner }
         ensures { (since s : State) → IsDragged V.meaning desc.now frame s self.old → ShowAlikeOff desc.now since s self.old.damage
-            → IsRunSince V.meaning desc.now since (dropped desc.now (seen_frame frame) corner (placed s.dialog corner (let_go s))) self.new }
+            → IsRunSince V.meaning desc.now since
+            (dropped desc.now (seen_frame frame) corner (placed s.dialog corner (let_go s))) self.new }
     {
         self.frame = None;
         self.place(corner);

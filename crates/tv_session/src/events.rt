@@ -36,7 +36,8 @@ impl<V: View> RunOf<V> {
     // Offers the menu bar a key or a mouse down while no dialog is open. Returns whether the bar took it.
     fn offer_bar(&mut self, desc: &Desc, event: &Event) -> bool
         requires awake { (s : State) × IsAwake V.meaning desc.now s self.old × (s.dialog ≡ None) }
-        ensures takes { (since s after : State) → IsAwakeSince V.meaning desc.now since s self.old → s.dialog ≡ None → bar_offer desc.now event.now s ≡ Some after
+        ensures takes { (since s after : State) → IsAwakeSince V.meaning desc.now since s self.old → s.dialog ≡ None
+            → bar_offer desc.now event.now s ≡ Some after
             → (result ≡ true) × IsRunSince V.meaning desc.now since after self.new }
         ensures leaves { (s : State) → IsAwake V.meaning desc.now s self.old → s.dialog ≡ None → bar_offer desc.now event.now s ≡ None
             → (result ≡ false) × (self.new ≡ self.old) }
@@ -68,7 +69,8 @@ impl<V: View> RunOf<V> {
     // Handles a key that neither a menu nor the status line takes.
     fn key_below(&mut self, desc: &Desc, key: Key)
         requires awake { (s : State) × IsAwake V.meaning desc.now s self.old }
-        ensures { (since s : State) → IsAwakeSince V.meaning desc.now since s self.old → s.menu ≡ None → status_item_of desc.now s key ≡ None
+        ensures { (since s : State) → IsAwakeSince V.meaning desc.now since s self.old → s.menu ≡ None
+            → status_item_of desc.now s key ≡ None
             → IsRunSince V.meaning desc.now since (after_key desc.now key s) self.new }
     {
         if self.dialogs.is_open() {
@@ -81,7 +83,8 @@ impl<V: View> RunOf<V> {
     // Handles a key while no menu is open.
     fn key_at_status(&mut self, desc: &Desc, line: &StatusLine, key: Key)
         requires awake { (s : State) × IsAwake V.meaning desc.now s self.old × (dialog_with_hold s.dialog ≡ None) }
-        ensures { (since s : State) → IsAwakeSince V.meaning desc.now since s self.old → s.menu ≡ None → dialog_with_hold s.dialog ≡ None → IsStatusLineOf desc.now line.now
+        ensures { (since s : State) → IsAwakeSince V.meaning desc.now since s self.old → s.menu ≡ None
+            → dialog_with_hold s.dialog ≡ None → IsStatusLineOf desc.now line.now
             → IsRunSince V.meaning desc.now since (after_key desc.now key s) self.new }
     {
         match line.offer(&Event::Key(key), self.dialogs.commands()) {
@@ -93,7 +96,8 @@ impl<V: View> RunOf<V> {
     // Handles a key while nothing holds the mouse.
     fn key(&mut self, desc: &Desc, line: &StatusLine, key: Key)
         requires awake { (s : State) × IsAwake V.meaning desc.now s self.old × (dialog_with_hold s.dialog ≡ None) }
-        ensures { (since s : State) → IsAwakeSince V.meaning desc.now since s self.old → dialog_with_hold s.dialog ≡ None → IsStatusLineOf desc.now line.now
+        ensures { (since s : State) → IsAwakeSince V.meaning desc.now since s self.old
+            → dialog_with_hold s.dialog ≡ None → IsStatusLineOf desc.now line.now
             → IsRunSince V.meaning desc.now since (after_key desc.now key s) self.new }
     {
         if self.bar.is_open() {
@@ -149,7 +153,8 @@ impl<V: View> RunOf<V> {
     fn down_below(&mut self, desc: &Desc, point: Point)
         requires near { IsPointGiven point }
         requires awake { (s : State) × IsAwake V.meaning desc.now s self.old × (dialog_with_hold s.dialog ≡ None) }
-        ensures { (since s : State) → IsAwakeSince V.meaning desc.now since s self.old → s.menu ≡ None → line_down desc.now s point ≡ LeftOffer
+        ensures { (since s : State) → IsAwakeSince V.meaning desc.now since s self.old → s.menu ≡ None
+            → line_down desc.now s point ≡ LeftOffer
             → IsRunSince V.meaning desc.now since (after_down desc.now point s) self.new }
     {
         if self.dialogs.is_open() {
@@ -165,7 +170,8 @@ impl<V: View> RunOf<V> {
     fn down_at_status(&mut self, desc: &Desc, line: &StatusLine, point: Point)
         requires near { IsPointGiven point }
         requires awake { (s : State) × IsAwake V.meaning desc.now s self.old × (dialog_with_hold s.dialog ≡ None) }
-        ensures { (since s : State) → IsAwakeSince V.meaning desc.now since s self.old → s.menu ≡ None → dialog_with_hold s.dialog ≡ None → IsStatusLineOf desc.now line.now
+        ensures { (since s : State) → IsAwakeSince V.meaning desc.now since s self.old → s.menu ≡ None
+            → dialog_with_hold s.dialog ≡ None → IsStatusLineOf desc.now line.now
             → IsRunSince V.meaning desc.now since (after_down desc.now point s) self.new }
     {
         match line.offer(&Event::Down(point), self.dialogs.commands()) {
@@ -179,7 +185,8 @@ impl<V: View> RunOf<V> {
     fn down(&mut self, desc: &Desc, line: &StatusLine, point: Point)
         requires near { IsPointGiven point }
         requires awake { (s : State) × IsAwake V.meaning desc.now s self.old × (dialog_with_hold s.dialog ≡ None) }
-        ensures { (since s : State) → IsAwakeSince V.meaning desc.now since s self.old → dialog_with_hold s.dialog ≡ None → IsStatusLineOf desc.now line.now
+        ensures { (since s : State) → IsAwakeSince V.meaning desc.now since s self.old
+            → dialog_with_hold s.dialog ≡ None → IsStatusLineOf desc.now line.now
             → IsRunSince V.meaning desc.now since (after_down desc.now point s) self.new }
     {
         if self.bar.is_open() {
@@ -194,7 +201,8 @@ impl<V: View> RunOf<V> {
     fn free_event(&mut self, desc: &Desc, line: &StatusLine, event: &Event)
         requires near { HasPointGiven event.now }
         requires awake { (s : State) × IsAwake V.meaning desc.now s self.old × (dialog_with_hold s.dialog ≡ None) }
-        ensures { (since s : State) → IsAwakeSince V.meaning desc.now since s self.old → dialog_with_hold s.dialog ≡ None → IsStatusLineOf desc.now line.now
+        ensures { (since s : State) → IsAwakeSince V.meaning desc.now since s self.old
+            → dialog_with_hold s.dialog ≡ None → IsStatusLineOf desc.now line.now
             → IsRunSince V.meaning desc.now since (after_event desc.now event.now s) self.new }
     {
         match event {
@@ -247,7 +255,8 @@ impl<V: View> RunOf<V> {
         requires size { IsLawfulScreen desc.now.width desc.now.height }
         requires fit { (s : State) × IsRun V.meaning desc.now s self.old × IsFitState desc.now s }
         ensures { (s : State) → IsRun V.meaning desc.now s self.old → IsFitState desc.now s → IsStatusLineOf desc.now line.now
-            → IsRun V.meaning desc.now (step desc.now s event.now) self.new × AreShownAlike desc.now s (step desc.now s event.now) self.new.damage }
+            → IsRun V.meaning desc.now (step desc.now s event.now) self.new
+            × AreShownAlike desc.now s (step desc.now s event.now) self.new.damage }
     {
         let before = self.before();
         self.handle(desc, line, event);

@@ -33,7 +33,8 @@ impl<V: View> RunOf<V> {
         requires sound { HasSoundDialogs desc.now }
         requires size { IsLawfulScreen desc.now.width desc.now.height }
         requires fit { (s : State) × IsRun V.meaning desc.now s self.old × IsFitState desc.now s }
-        ensures taken { (s : State) → IsRun V.meaning desc.now s self.old → IsFitState desc.now s → result ≡ takes_command desc.now s command.0 }
+        ensures taken { (s : State) → IsRun V.meaning desc.now s self.old → IsFitState desc.now s
+            → result ≡ takes_command desc.now s command.0 }
         ensures stands { (s : State) → IsRun V.meaning desc.now s self.old → IsFitState desc.now s
             → IsRunSince V.meaning desc.now s (give_command desc.now s command.0) self.new }
     {
@@ -53,7 +54,8 @@ impl<V: View> RunOf<V> {
         requires sound { HasSoundDialogs desc.now }
         requires size { IsLawfulScreen desc.now.width desc.now.height }
         requires fit { (s : State) × IsRun V.meaning desc.now s self.old × IsFitState desc.now s }
-        ensures taken { (s : State) → IsRun V.meaning desc.now s self.old → IsFitState desc.now s → result ≡ takes_command desc.now s command.0 }
+        ensures taken { (s : State) → IsRun V.meaning desc.now s self.old → IsFitState desc.now s
+            → result ≡ takes_command desc.now s command.0 }
         ensures stands { (s : State) → IsRun V.meaning desc.now s self.old → IsFitState desc.now s → IsStatusLineOf desc.now line.now
             → IsRun V.meaning desc.now (give_command desc.now s command.0) self.new
             × AreShownAlike desc.now s (give_command desc.now s command.0) self.new.damage }

@@ -63,7 +63,8 @@ impl Parts {
         ensures closed { IfOk result (λ parts. open_of parts.bar ≡ None) }
         ensures line { IfOk result (λ parts. IsStatusLineOf desc.now parts.line) }
         ensures log { IfOk result (λ parts. parts.log.items ≡ []) }
-        ensures screen { IfOk result (λ parts. (parts.screen.width ≡ natural desc.now.width) × (parts.screen.height ≡ natural desc.now.height)) }
+        ensures screen { IfOk result (λ parts. (parts.screen.width ≡ natural desc.now.width)
+            × (parts.screen.height ≡ natural desc.now.height)) }
     {
         Ok(Parts {
             bar: MenuBar::new(alloc, desc)?,
@@ -139,7 +140,8 @@ impl<V: View> SessionOf<V> {
         ensures none_repainted { IfOk result (λ session. session.repainted ≡ []) }
         ensures fresh { IfOk result (λ _. IsFirstMismatch V.meaning checked windows.items bodies.items None) }
         ensures mismatch { IfErr result (λ refused. RefusesViews V.meaning checked windows.items bodies.items refused.fault) }
-        ensures back { IfErr result (λ refused. (refused.checked ≡ checked) × (refused.windows.items ≡ windows.items) × (refused.bodies.items ≡ bodies.items)) }
+        ensures back { IfErr result (λ refused. (refused.checked ≡ checked) × (refused.windows.items ≡ windows.items)
+            × (refused.bodies.items ≡ bodies.items)) }
     {
         match first_mismatch(checked.desc(), windows.as_slice(), bodies.as_slice()) {
             Some(place) => Err(Refused {
@@ -163,7 +165,8 @@ impl<V: View> SessionOf<V> {
         ensures made { IfOk result (λ session. StandsFor V.meaning session (started checked)) }
         ensures none_repainted { IfOk result (λ session. session.repainted ≡ []) }
         ensures memory { IfErr result (λ refused. refused.fault ≡ NoMemory) }
-        ensures back { IfErr result (λ refused. (refused.checked ≡ checked) × (refused.windows.items ≡ windows.items) × (refused.bodies.items ≡ bodies.items)) }
+        ensures back { IfErr result (λ refused. (refused.checked ≡ checked) × (refused.windows.items ≡ windows.items)
+            × (refused.bodies.items ≡ bodies.items)) }
     {
         let desc = checked.desc();
         parts_are_lawful(desc);

@@ -124,7 +124,8 @@ impl<V: View> RunOf<V> {
     // dialog is open.
     fn draw_windows(&self, screen: &mut Screen, canvas: Canvas)
         requires { (canvas.origin.x ≡ pos 0) × (canvas.origin.y ≡ pos 0) }
-        ensures { (d : Declared) (s : State) (r : Region) → IsRun V.meaning d s self.now → canvas ≡ within r (canvas_at (desktop d) (pos 0) (pos 0))
+        ensures { (d : Declared) (s : State) (r : Region) → IsRun V.meaning d s self.now
+            → canvas ≡ within r (canvas_at (desktop d) (pos 0) (pos 0))
             → Lays (map (clipped r) (stack_layers d (is_none s.dialog) s.windows)) screen.old screen.new }
     {
         let commands = CommandSet::all();
@@ -143,7 +144,8 @@ impl<V: View> RunOf<V> {
     // Whether the open dialog hides what is below it in a rectangle of the screen.
     fn hides_below(&self, desc: &Desc, rect: Rect) -> bool
         requires { IsLawfulScreen desc.now.width desc.now.height }
-        ensures { (s : State) → IsRun V.meaning desc.now s self.now → IsTrue result → HidesWithin rect (open_layers desc.now s.overwriting s.dialog) }
+        ensures { (s : State) → IsRun V.meaning desc.now s self.now → IsTrue result
+            → HidesWithin rect (open_layers desc.now s.overwriting s.dialog) }
     {
         if !desktop(desc).has_part(rect) {
             return false;
@@ -203,7 +205,8 @@ impl<V: View> RunOf<V> {
     )
         requires { (s : State) × CanPaint V.meaning desc.now s self.now line.now screen.old }
         ensures size { IsAlike screen.old screen.new }
-        ensures shows { (s : State) (before : List Layer) → CanPaint V.meaning desc.now s self.now line.now screen.old → Shows before screen.old
+        ensures shows { (s : State) (before : List Layer) → CanPaint V.meaning desc.now s self.now line.now screen.old
+            → Shows before screen.old
             → AreAlike screen.old damage.now before (layers_of desc.now s) → Shows (layers_of desc.now s) screen.new }
         ensures rest { KeepsRest damage.now screen.old screen.new }
     {

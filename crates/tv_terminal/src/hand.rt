@@ -56,7 +56,8 @@ impl Hand {
     /// Puts a cell into a column and a row of the terminal.
     pub(crate) fn put<W: Writer>(&mut self, pen: &mut Pen<W>, column: u32, row: u32, cell: Cell)
         requires { (column < 999) × (row < 999) }
-        ensures puts { PutsPart W.seen pen.old pen.new self.old.waiting.items (cell_bytes self.old.place self.old.attr column row cell) self.new.waiting.items }
+        ensures puts { PutsPart W.seen pen.old pen.new self.old.waiting.items
+            (cell_bytes self.old.place self.old.attr column row cell) self.new.waiting.items }
         ensures place { self.new.place ≡ Some (record { 0 = column + 1; 1 = row }) }
         ensures attr { self.new.attr ≡ Some cell.attr }
         ensures cell { IsPrintable cell }

@@ -69,7 +69,8 @@ impl Painter {
         pen: &mut Pen<W>,
     )
         requires { IsAlike self.old.shown screen.now }
-        ensures { Paints W.seen (λ column row. has_cell rects.now column row ≡ true) screen.now (cursor_on screen.now.width screen.now.height cursor) self.old self.new pen.old pen.new }
+        ensures { Paints W.seen (λ column row. has_cell rects.now column row ≡ true) screen.now
+            (cursor_on screen.now.width screen.now.height cursor) self.old self.new pen.old pen.new }
     {
         let mut hand = Hand::new();
         self.paint_rects(&mut hand, pen, screen, rects);
@@ -149,7 +150,9 @@ impl Painter {
         rect: &Rect,
     )
         requires { IsAlike self.old.shown screen.now }
-        ensures { Draws W.seen (λ column row. is_in rect.now (pos column) (pos row) ≡ true) screen.now self.old self.new hand.old hand.new pen.old pen.new }
+        ensures { Draws W.seen
+            (λ column row. is_in rect.now (pos column) (pos row)
+            ≡ true) screen.now self.old self.new hand.old hand.new pen.old pen.new }
     {
         let (left, right) = visible(&rect.a.x, &rect.b.x, screen.width());
         let (top, bottom) = visible(&rect.a.y, &rect.b.y, screen.height());
@@ -167,7 +170,9 @@ impl Painter {
         rects: &[Rect],
     )
         requires { IsAlike self.old.shown screen.now }
-        ensures { Draws W.seen (λ column row. has_cell rects.now column row ≡ true) screen.now self.old self.new hand.old hand.new pen.old pen.new }
+        ensures { Draws W.seen
+            (λ column row. has_cell rects.now column row
+            ≡ true) screen.now self.old self.new hand.old hand.new pen.old pen.new }
     {
         for rect in rects {
             self.paint_rect(hand, pen, screen, rect);

@@ -36,7 +36,8 @@ pub fn write_svg<W: Writer>(screen: &Screen, out: &mut W) -> Result<(), WriteFai
 
 /// A theorem, as a function without a body: the strips that are drawn of a row, put together, are the row's cells.
 pub fn strips_are_rows(_screen: &Screen)
-    ensures { (row : ℕ) → flat_map strip_cells (strips_of (cells_from (cell_at _screen.now) row 0 _screen.now.width)) ≡ cells_from (cell_at _screen.now) row 0 _screen.now.width }
+    ensures { (row : ℕ) → flat_map strip_cells (strips_of (cells_from (cell_at _screen.now) row 0 _screen.now.width))
+        ≡ cells_from (cell_at _screen.now) row 0 _screen.now.width }
 {}
 
 fn put_svg<W: Writer>(pen: &mut Pen<W>, screen: &Screen)

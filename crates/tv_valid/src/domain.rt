@@ -298,7 +298,8 @@ fn in_other_case(ch: char) -> char
 /// Adds the literals that must follow the text, as long as there is room.
 fn filled(picture: &Picture, max: &i32, text: Text) -> Text
     ensures filled { IsFilledTo max.now picture.now text result }
-    ensures viable { All IsNarrow (spelled picture.now) → FitsIn max.now text → Begins picture.now text → FitsIn max.now result × Begins picture.now result }
+    ensures viable { All IsNarrow (spelled picture.now) → FitsIn max.now text → Begins picture.now text
+        → FitsIn max.now result × Begins picture.now result }
 {
     let mut text = text;
     for _ in 0..Text::CAPACITY {

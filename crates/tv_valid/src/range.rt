@@ -65,7 +65,9 @@ fn digits_in_range(least: &i32, greatest: &i32, digits: &[char]) -> bool
 
 /// Whether the digits after a `-` write a number in the range.
 fn negative_in_range(least: &i32, greatest: &i32, digits: &[char]) -> bool
-    ensures { IsTrue result ↔ (IsDigits digits.now × (least.now <ℤ pos 0) × IsFromTo least.now (neg_ℤ (pos (number_of_digits digits.now))) greatest.now) }
+    ensures { IsTrue result
+        ↔ (IsDigits digits.now × (least.now <ℤ pos 0)
+        × IsFromTo least.now (neg_ℤ (pos (number_of_digits digits.now))) greatest.now) }
 {
     match magnitude(digits) {
         Some(sum) => *least < 0

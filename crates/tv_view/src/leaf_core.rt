@@ -51,7 +51,13 @@ impl Model for LeafCore {
 
     ghost Value = { Core };
 
-    ghost view = { λ c. record { node = c.node; is_focused = c.is_focused; held = c.held; is_shown = c.is_shown; is_enabled = c.is_enabled } };
+    ghost view = { λ c. record {
+      node = c.node;
+      is_focused = c.is_focused;
+      held = c.held;
+      is_shown = c.is_shown;
+      is_enabled = c.is_enabled;
+    } };
 
     ghost invariant = { λ c. IsLawfulNode c.node × (c.bounds ≡ place_of_node c.node) };
 }
@@ -271,7 +277,9 @@ impl LeafCore {
 
     // Whether the id is the focus, and the default button, of both environments or of neither.
     fn has_same_part(&self, old: &Env, new: &Env) -> bool
-        ensures { IsTrue result → (has_focus new.now self.now.node.id ≡ has_focus old.now self.now.node.id) × (is_lent_default new.now self.now.node.id ≡ is_lent_default old.now self.now.node.id) }
+        ensures { IsTrue result
+            → (has_focus new.now self.now.node.id ≡ has_focus old.now self.now.node.id)
+            × (is_lent_default new.now self.now.node.id ≡ is_lent_default old.now self.now.node.id) }
     {
         has_focus(old, self.node.id) == has_focus(new, self.node.id)
             && is_default_now(old, self.node.id) == is_default_now(new, self.node.id)
@@ -280,7 +288,9 @@ impl LeafCore {
     // Whether two environments say the same of it, but for what it links.
     fn is_told_same(&self, old: &Env, new: &Env) -> bool
         ensures colours { IsTrue result → (new.now.owner ≡ old.now.owner) × (new.now.chain.now ≡ old.now.chain.now) }
-        ensures part { IsTrue result → (has_focus new.now self.now.node.id ≡ has_focus old.now self.now.node.id) × (is_lent_default new.now self.now.node.id ≡ is_lent_default old.now self.now.node.id) }
+        ensures part { IsTrue result
+            → (has_focus new.now self.now.node.id ≡ has_focus old.now self.now.node.id)
+            × (is_lent_default new.now self.now.node.id ≡ is_lent_default old.now self.now.node.id) }
     {
         has_same_colours(old, new) && self.has_same_part(old, new)
     }
@@ -288,7 +298,9 @@ impl LeafCore {
     /// Adds its rectangle to the damage if it is shown and the environments differ in what it may show of them.
     /// `is_link_same` says that what it links has the focus in both or in neither.
     pub fn link_damage(&self, old: &Env, new: &Env, is_link_same: bool, damage: &mut Damage)
-        requires { IsTrue is_link_same → is_link_focus new.now (linked_by new.now self.now.node.kind) ≡ is_link_focus old.now (linked_by old.now self.now.node.kind) }
+        requires { IsTrue is_link_same
+            → is_link_focus new.now (linked_by new.now self.now.node.kind)
+            ≡ is_link_focus old.now (linked_by old.now self.now.node.kind) }
         ensures { (content : Content) → EnvDamages old.now new.now (leaf_with self.now content) damage.old damage.new }
     {
         if is_link_same && self.is_told_same(old, new) {

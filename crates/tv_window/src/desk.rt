@@ -176,7 +176,8 @@ impl<V: View> DeskOf<V> {
     /// front one is drawn as active, and only where the environment says so.
     pub fn draw(&self, screen: &mut Screen, canvas: Canvas, env: &Env)
         requires { IsSmall canvas.origin.x × IsSmall canvas.origin.y }
-        ensures { (d : Desc) (r : Rect) (stack : List OpenWindow) → IsDesk V.meaning d stack self.now → IsOfWindow env.now → canvas ≡ within r (window_canvas d)
+        ensures { (d : Desc) (r : Rect) (stack : List OpenWindow) → IsDesk V.meaning d stack self.now
+            → IsOfWindow env.now → canvas ≡ within r (window_canvas d)
             → Lays (map (clipped r) (stack_layers d env.now.is_active stack)) screen.old screen.new }
     {
         draw_stack(&self.windows.items, screen, canvas, env);

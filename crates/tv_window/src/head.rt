@@ -110,7 +110,8 @@ impl Head {
         ensures width { result.width ≡ natural self.now.w }
         ensures height { result.height ≡ natural self.now.h }
         ensures title { result.title.now ≡ self.now.title }
-        ensures look { frame_look_of result.look ≡ frame_look (colour_in env.now.chain.now) Window (natural self.now.number) env.now.is_active }
+        ensures look { frame_look_of result.look
+            ≡ frame_look (colour_in env.now.chain.now) Window (natural self.now.number) env.now.is_active }
     {
         Frame {
             width: natural(&self.w),

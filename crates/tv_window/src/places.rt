@@ -44,7 +44,8 @@ fn place_numbered<V>(windows: &[WindowOf<V>], number: &i32) -> Option<usize>
 
 /// Finds the window of a number that is a digit from 1 to 9.
 pub(crate) fn place_of_digit<V>(windows: &[WindowOf<V>], digit: char) -> Option<usize>
-    ensures { result ≡ (if nat_le 49 digit && nat_le digit 57 then position (λ window. int_eq (head_of window).number (pos (digit - 48))) windows.now else None) }
+    ensures { result ≡ (if nat_le 49 digit && nat_le digit 57
+        then position (λ window. int_eq (head_of window).number (pos (digit - 48))) windows.now else None) }
 {
     match digit {
         '1'..='9' => place_numbered(windows, &(digit as i32 - '0' as i32)),

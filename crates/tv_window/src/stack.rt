@@ -23,7 +23,8 @@ use tv_view::{Env, View};
 pub fn draw_stack<V: View>(windows: &[WindowOf<V>], screen: &mut Screen, canvas: Canvas, env: &Env)
     requires { IsSmall canvas.origin.x × IsSmall canvas.origin.y }
     ensures layers { Lays (drawn_stack V.meaning env.now canvas windows.now) screen.old screen.new }
-    ensures declared { (d : Desc) (r : Rect) (stack : List OpenWindow) → AreDeclared V.meaning d stack windows.now → IsOfWindow env.now → canvas ≡ within r (window_canvas d)
+    ensures declared { (d : Desc) (r : Rect) (stack : List OpenWindow) → AreDeclared V.meaning d stack windows.now
+        → IsOfWindow env.now → canvas ≡ within r (window_canvas d)
         → Lays (map (clipped r) (declared_layers d env.now.is_active stack)) screen.old screen.new }
 {
     if let Some((front, behind)) = windows.split_first() {

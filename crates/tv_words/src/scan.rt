@@ -103,7 +103,9 @@ fn with(mut text: Chars, ch: char) -> Result<Chars, AllocError>
 
 // What the character after a backslash means.
 fn unescaped(ch: char) -> Option<char>
-    ensures { (words : List SeenWord) (text : List ℕ) → take_char (at words (Mode.InEscape text)) ch ≡ option_map (λ meant. at words (Mode.InQuoted (text ++ meant ∷ []))) result }
+    ensures { (words : List SeenWord) (text : List ℕ)
+        → take_char (at words (Mode.InEscape text)) ch
+        ≡ option_map (λ meant. at words (Mode.InQuoted (text ++ meant ∷ []))) result }
 {
     match ch {
         '"' => Some('"'),
