@@ -1,2 +1,1 @@
-pub mod GalleryLemmas
 pub mod StreamLemmas

@@ -3,13 +3,13 @@
 ghost use Rattle.std.specs.Prelude.{All};
 ghost use Rattle.tv_check.specs.Plan.{IsLawfulStep};
 
-use crate::button_views::take_step;
 use crate::makers::checked;
 use std::alloc::Global;
 use std::test::Fail;
 use tv_check::BuildStep;
 use tv_controls::Button;
 use tv_session::{BuildFault, Building, Views};
+use tv_test_support::button_views::take_step;
 
 // A window, and a dialog with a pane: the steps are 0 and 1 for the window's beginning and end, 2 for the dialog's beginning, 3 for
 // the pane's, 4 for the button, and 5 and 6 for the ends.

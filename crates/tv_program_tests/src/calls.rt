@@ -1,12 +1,11 @@
 //! The program's calls, each made in one place, and what is told of them.
 
-use crate::button_views::buttons;
-use crate::makers::no_views;
 use std::alloc::Global;
 use std::test::Fail;
 use tv_io::{FileReader, Writer};
 use tv_lang::parse;
 use tv_program::{RunFault, accept_files, accept_text, check, report, run};
+use tv_test_support::button_views::{buttons, no_views};
 use tv_test_support::{Idle, Memory, Question, expect_row};
 
 /// A call of the program about a text.

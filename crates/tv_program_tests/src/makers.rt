@@ -7,9 +7,8 @@ ghost use Rattle.tv_session.specs.Session.{StandsFor};
 use std::alloc::Global;
 use std::test::Fail;
 use tv_check::Checked;
-use tv_controls::Button;
 use tv_program::read_checked;
-use tv_session::{BuildFault, SessionOf, Views};
+use tv_session::{SessionOf, Views};
 use tv_view::View;
 
 /// The checked description that a text spells.
@@ -18,14 +17,6 @@ pub fn checked(alloc: Global, text: &str) -> Result<Checked, Fail> {
         Ok(checked) => Ok(checked),
         Err(_) => Err(Fail::new("no sound description")),
     }
-}
-
-/// No views at all, whatever the description declares.
-pub fn no_views(alloc: Global, _checked: &Checked) -> Result<Views<Button>, BuildFault> {
-    Ok(Views {
-        windows: Vec::new(alloc),
-        bodies: Vec::new(alloc),
-    })
 }
 
 /// The start of a run of a checked description through its views.

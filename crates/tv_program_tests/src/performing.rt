@@ -1,12 +1,12 @@
 //! Scripts that are performed as far as a writer takes their output.
 
-use crate::button_views::buttons;
 use crate::makers::{checked, session};
 use std::alloc::Global;
 use std::test::Fail;
 use tv_model::Id;
 use tv_script::{Script, perform};
 use tv_test_support::Memory;
+use tv_test_support::button_views::buttons;
 
 const TWO_BUTTONS: &str = r#"tvd 1
 screen 20 10

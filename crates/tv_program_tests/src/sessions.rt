@@ -1,12 +1,12 @@
 //! Sessions that are refused, since their views aren't those that the description declares.
 
-use crate::button_views::buttons;
 use crate::makers::checked;
 use std::alloc::Global;
 use std::test::Fail;
 use tv_check::Checked;
 use tv_controls::Button;
 use tv_session::{Refused, SessionFault, SessionOf, Views};
+use tv_test_support::button_views::buttons;
 
 // Two windows without views, and two dialogs.
 const FOUR_VIEWS: &str = r#"tvd 1

@@ -5,4 +5,3 @@ mod failures;
 mod runs;
 mod sent;
 mod sessions;
-mod waits;

@@ -1,10 +1,11 @@
-//! What the crates of tests share: descriptions, tables of texts and what is answered about them, writers in memory.
+//! What the crates of tests share: descriptions, tables of texts and what is answered about them, writers in memory, and views.
 //!
 //! A call of a library stands here in one function that answers with a text. What its contract says is long, and what it hands
 //! out is large: a test that makes the call itself has both before it.
 #![tactic(auto)]
 
 mod accepting;
+pub mod button_views;
 pub mod certificates;
 mod certifying;
 pub mod descriptions;

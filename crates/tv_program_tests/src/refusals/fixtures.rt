@@ -4,7 +4,6 @@ ghost use Rattle.std.specs.Prelude.{IfOk};
 ghost use Rattle.tv_lang.specs.CanonicalDescription.{CanBeSpelled};
 
 use super::ending::{Ending, expect_whole};
-use crate::button_views::buttons;
 use std::alloc::Global;
 use std::test::Fail;
 use tv_check::{Certificate, CertificateFault, Checked};
@@ -13,6 +12,7 @@ use tv_lang::{LangFault, parse};
 use tv_model::Desc;
 use tv_program::{PlayFault, read_checked};
 use tv_session::{BuildFault, Views};
+use tv_test_support::button_views::buttons;
 use tv_test_support::certificates::CANCEL_CERTIFICATE;
 use tv_test_support::descriptions::CANCEL;
 

@@ -3,13 +3,13 @@
 ghost use Rattle.std.specs.Prelude.{None};
 
 use super::ending::{Ending, expect, expect_whole, refused};
-use crate::button_views::buttons;
 use std::alloc::Global;
 use std::test::Fail;
 use tv_io::{FileReader, ReadFault, read_text};
 use tv_play::{Parting, Piece, Pieces};
 use tv_program::{PlayFault, RunFault, accept_files, check, play, run};
 use tv_test_support::Memory;
+use tv_test_support::button_views::buttons;
 use tv_test_support::certificates::CANCEL_CERTIFICATE;
 use tv_test_support::descriptions::CANCEL;
 

@@ -1,7 +1,6 @@
 //! Runs into writers in memory.
 
 use super::sent::Sent;
-use crate::button_views::buttons;
 use std::alloc::Global;
 use std::test::Fail;
 use tv_check::Checked;
@@ -10,6 +9,7 @@ use tv_play::{Parting, PlayFault, play};
 use tv_program::{read_checked, run};
 use tv_session::{SessionOf, Views};
 use tv_test_support::Memory;
+use tv_test_support::button_views::buttons;
 use tv_view::View;
 
 /// How a run ends.

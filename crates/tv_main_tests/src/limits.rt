@@ -1,6 +1,5 @@
 //! Long paths, and texts as long as they may be.
 
-use crate::button_views::buttons;
 use crate::endings::{RUN, ample_ending};
 use crate::gallery::Gallery;
 use crate::sink::Sink;
@@ -9,6 +8,7 @@ use std::alloc::{AllocError, Global};
 use std::test::Fail;
 use tv_files::{DirectStream, FileStore, ReadFault, Task, run_program};
 use tv_io::FileReader;
+use tv_test_support::button_views::buttons;
 use tv_test_support::certificates::CANCEL_CERTIFICATE;
 use tv_test_support::descriptions::CANCEL;
 

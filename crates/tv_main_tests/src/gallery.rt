@@ -1,7 +1,7 @@
 //! Pictures in memory.
 
 ghost use Rattle.std.specs.Prelude.{Some, []};
-ghost use Rattle.tv_program_tests.specs.Galleries.{GainsExhibit};
+ghost use Rattle.tv_main_tests.specs.Galleries.{GainsExhibit};
 
 use std::alloc::{AllocError, Global};
 use tv_cells::Screen;

@@ -1,4 +1,4 @@
-use Rattle.tv_program_tests.proofs.applications.records_and_commands.Goals as goal
+use Rattle.tv_main_tests.proofs.applications.records_and_commands.Goals as goal
 
 -- the run goes on from its start
 pub reopen-reopened-requires : goal.reopen-reopened-requires

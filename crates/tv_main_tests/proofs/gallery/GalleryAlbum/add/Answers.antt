@@ -1,8 +1,8 @@
 use Rattle.std.proofs.Common.{◌≡◌, refl, rules, string_bytes}
 use Rattle.tv_program.specs.Albums.{drawn_as}
 use Rattle.tv_terminal.specs.Svg.{svg_of}
-use Rattle.tv_program_tests.proofs.GalleryLemmas.{gains-told}
-use Rattle.tv_program_tests.proofs.gallery.GalleryAlbum.add.Goals as goal
+use Rattle.tv_main_tests.proofs.GalleryLemmas.{gains-told}
+use Rattle.tv_main_tests.proofs.gallery.GalleryAlbum.add.Goals as goal
 
 pub returns : goal.returns
 returns c =

@@ -1,6 +1,5 @@
 //! How the program ends: what its two streams took, its status, and which files were opened.
 
-use crate::button_views::buttons;
 use crate::gallery::Gallery;
 use crate::shelf::Shelf;
 use crate::sink::Sink;
@@ -8,6 +7,7 @@ use crate::user::User;
 use std::alloc::{AllocError, Global};
 use std::test::Fail;
 use tv_files::{BufferedStream, NoTask, Task, run_program};
+use tv_test_support::button_views::buttons;
 use tv_test_support::certificates::CANCEL_CERTIFICATE;
 use tv_test_support::descriptions::{CANCEL, ORDER, SHARED_LETTER, WITHOUT_CANCEL};
 

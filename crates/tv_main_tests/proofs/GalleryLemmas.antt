@@ -2,7 +2,7 @@
 use Rattle.std.proofs.Common.{◌≡◌, ℕ, List, [], ◌∷◌, ◌++◌, map, Some, Result, Ok, Err, MatchResult, refl, sym, ap, ◌∙◌, append-nil}
 use Rattle.tv_program.specs.Albums.{FailsFor, Gains, NamedPicture}
 use Rattle.tv_program.specs.declared.album.AlbumFault.{AlbumFault}
-use Rattle.tv_program_tests.specs.Galleries.{GainsExhibit}
+use Rattle.tv_main_tests.specs.Galleries.{GainsExhibit}
 
 module _ {H : Type 0} (shown : H → NamedPicture) where
   shown-more : (old : List H) (picture : H) → map shown (old ++ picture ∷ []) ≡ map shown old ++ shown picture ∷ []

@@ -1,6 +1,5 @@
 //! Pictures: the screen that a script leaves, and those at its shots, drawn by the program over files in memory.
 
-use crate::button_views::buttons;
 use crate::endings::{PICTURE_ALL, ample_ending};
 use crate::gallery::Gallery;
 use crate::shelf::Shelf;
@@ -9,6 +8,7 @@ use crate::user::User;
 use std::alloc::Global;
 use std::test::Fail;
 use tv_files::{DirectStream, Task, run_program};
+use tv_test_support::button_views::buttons;
 use tv_test_support::descriptions::{CANCEL, ORDER, SHARED_LETTER};
 
 /// The screen of the description, after the script beside it.

@@ -23,6 +23,14 @@ pub fn buttons(alloc: Global, checked: &Checked) -> Result<Views<Button>, BuildF
     building.finish()
 }
 
+/// No views at all, whatever the description declares.
+pub fn no_views(alloc: Global, _checked: &Checked) -> Result<Views<Button>, BuildFault> {
+    Ok(Views {
+        windows: Vec::new(alloc),
+        bodies: Vec::new(alloc),
+    })
+}
+
 /// Takes a step of making them.
 ///
 /// # Errors

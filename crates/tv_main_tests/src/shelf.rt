@@ -91,7 +91,7 @@ impl<'a> Shelf<'a> {
 
 impl<'a> FileStore for Shelf<'a> {
     ghost use Rattle.std.specs.Prelude.{None};
-    ghost use Rattle.tv_program_tests.specs.Shelves.{text_at};
+    ghost use Rattle.tv_main_tests.specs.Shelves.{text_at};
 
     type File = FileReader<Page<'a>>;
 

@@ -1,9 +1,7 @@
 //! How often the program asks for the views of a description.
 
-use crate::button_views::buttons;
 use crate::endings::{ACCEPT, CHECK, PICTURE_ALL, PLAY, RUN};
 use crate::gallery::Gallery;
-use crate::makers::no_views;
 use crate::shelf::Shelf;
 use crate::sink::Sink;
 use crate::user::User;
@@ -13,7 +11,7 @@ use std::test::Fail;
 use tv_check::Checked;
 use tv_controls::Button;
 use tv_files::{DirectStream, Task, run_program};
-use tv_session::{BuildFault, Views};
+use tv_test_support::button_views::{buttons, no_views};
 use tv_test_support::certificates::CANCEL_CERTIFICATE;
 use tv_test_support::descriptions::{CANCEL, ORDER, WITHOUT_CANCEL};
 

@@ -1,0 +1,4 @@
+-- What hangs in a gallery
+pub mod Galleries
+-- What files in memory hold
+pub mod Shelves
