@@ -11,6 +11,7 @@ use std::test::Fail;
 use tv_check::Checked;
 use tv_controls::Button;
 use tv_files::{DirectStream, Task, run_program};
+use tv_session::{BuildFault, Views};
 use tv_test_support::button_views::{buttons, no_views};
 use tv_test_support::certificates::CANCEL_CERTIFICATE;
 use tv_test_support::descriptions::{CANCEL, ORDER, WITHOUT_CANCEL};
