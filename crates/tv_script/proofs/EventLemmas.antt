@@ -8,8 +8,8 @@ use Rattle.tv_cells.specs.declared.rect.Point.{Point}
 use Rattle.tv_event.specs.declared.event.Event.TheVariants as events
 use Rattle.tv_machine.specs.declared.script.Item.{Item}
 use Rattle.tv_machine.specs.declared.script.Item.TheVariants as items
-use Rattle.tv_script.specs.declared.line.Line.{Line}
-use Rattle.tv_script.specs.declared.line.Line.TheVariants as lines
+use Rattle.tv_script.specs.Line.{Line}
+use Rattle.tv_script.specs.Line as lines
 use Rattle.tv_script.specs.Lines.{IsItemOnScreen, IsPointOnScreen, is_on_screen, is_point_within, is_on_axis, items_of, items_of_line, item_typed}
 use Rattle.tv_script.specs.Scripts.{SpellsAScript}
 use Rattle.tv_valid.proofs.DecidingLemmas.{int_le_decides, int_lt_decides}
@@ -36,7 +36,7 @@ module _ (width height : ℤ) (columns : width ≤ℤ pos 132) (rows : height �
 
   pub shown_line : (l : Line) → IsTrue (is_on_screen width height l) → All IsItemOnScreen (items_of_line l)
   shown_line (lines.Key key) is = single (items.Event (events.Key key)) tt
-  shown_line (lines.Type text) is = all_typed text
+  shown_line (lines.Typed text) is = all_typed text
   shown_line (lines.Down p) is = single (items.Event (events.Down p)) (shown_point p is)
   shown_line (lines.Move p) is = single (items.Event (events.Move p)) (shown_point p is)
   shown_line (lines.Up p) is = single (items.Event (events.Up p)) (shown_point p is)

@@ -4,7 +4,7 @@ use Rattle.std.proofs.lemmas.Bool.Decides.{nat_tests}
 use Rattle.std.proofs.lemmas.List.{append-nil}
 use Rattle.std.proofs.lemmas.List.Concat.{flat_map-append}
 use Rattle.tv_script.proofs.GrammarLemmas.{Allowed, Test}
-use Rattle.tv_script.specs.declared.line.Line.{Line}
+use Rattle.tv_script.specs.Line.{Line}
 use Rattle.tv_script.specs.Lines.{is_on_screen, items_of, items_of_line}
 use Rattle.tv_script.specs.Scripts.{IsFitting, IsOnScreen, IsScript}
 

@@ -3,7 +3,7 @@ use Rattle.std.proofs.Common.{◌≡◌, ℕ, ◌<◌, ◌⊎◌, inl, inr, Bool
 use Rattle.std.specs.Prelude.{IsTrue, if◌then◌else◌, map, option_and_then}
 use Rattle.std.proofs.lemmas.List.{append-nil, take-append-drop}
 use Rattle.tv_script.proofs.LineLemmas.{line_read, read_line}
-use Rattle.tv_script.specs.declared.line.Line.{Line}
+use Rattle.tv_script.specs.Line.{Line}
 use Rattle.tv_script.specs.Lines.{IsLine, words_of_line}
 use Rattle.tv_script.specs.Reading.Lines.{script_line_in}
 use Rattle.tv_script.specs.Scripts.{script_words}

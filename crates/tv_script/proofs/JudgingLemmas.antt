@@ -1,7 +1,7 @@
 -- Lines are judged one after another.
 use Rattle.std.proofs.Common.{◌≡◌, ℕ, ℤ, ◌+◌, nat_le, Bool, true, false, cond, List, [], ◌∷◌, ◌++◌, length, Option, Some, None, Ok, Err, refl, sym, ap, ◌∙◌, append_assoc, append-nil, arith}
 use Rattle.tv_machine.specs.declared.script.Item.{Item}
-use Rattle.tv_script.specs.declared.line.Line.{Line}
+use Rattle.tv_script.specs.Line.{Line}
 use Rattle.tv_script.specs.declared.script_text.ScriptFault.{ScriptFault}
 use Rattle.tv_script.specs.declared.script_text.ScriptFault.TheVariants.{OffScreen, TooLong}
 use Rattle.tv_script.specs.Judging.{Judgement, judged_from, judged_lines, judgement}

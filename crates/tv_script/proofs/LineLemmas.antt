@@ -9,8 +9,8 @@ use Rattle.tv_declarations.proofs.OptionLemmas.{with2_some}
 use Rattle.tv_declarations.specs.Reading.Keys.{key_in}
 use Rattle.tv_declarations.specs.Spelling.Keys.{key_word}
 use Rattle.tv_event.specs.declared.event.Key.{Key}
-use Rattle.tv_script.specs.declared.line.Line.{Line}
-use Rattle.tv_script.specs.declared.line.Line.TheVariants as lines
+use Rattle.tv_script.specs.Line.{Line}
+use Rattle.tv_script.specs.Line as lines
 use Rattle.tv_script.specs.Lines.{IsLine, IsPoint, ends_line, point_words, words_of_line}
 use Rattle.tv_script.specs.Reading.Lines.{script_line_in, point_in, typed_line}
 use Rattle.tv_words.proofs.FieldLemmas.{number_word_read, read_number_word, text_read, word_is}
@@ -37,10 +37,10 @@ keyed k w l (Some key) ek eo e =
     let words : words_of_line (lines.Key key) ≡ k ∷ w ∷ [] = ap (λ x. x ∷ key_word key ∷ []) (sym ek) ∙ ap (λ x. k ∷ x ∷ []) (sym r.0) in
     subst (λ x. LineOf x (k ∷ w ∷ [])) same (words, r.1)
 
-typed_if : (k w : Word) (l : Line) (text : List ℕ) (b : Bool) → k ≡ Bare (codes "type") → w ≡ Quoted text → list_any ends_line text ≡ b → cond b None (Some (lines.Type text)) ≡ Some l → LineOf l (k ∷ w ∷ [])
+typed_if : (k w : Word) (l : Line) (text : List ℕ) (b : Bool) → k ≡ Bare (codes "type") → w ≡ Quoted text → list_any ends_line text ≡ b → cond b None (Some (lines.Typed text)) ≡ Some l → LineOf l (k ∷ w ∷ [])
 typed_if k w l text false ek ew eb e =
-    let same : lines.Type text ≡ l = cc in
-    let words : words_of_line (lines.Type text) ≡ k ∷ w ∷ [] = ap (λ x. x ∷ Quoted text ∷ []) (sym ek) ∙ ap (λ x. k ∷ x ∷ []) (sym ew) in
+    let same : lines.Typed text ≡ l = cc in
+    let words : words_of_line (lines.Typed text) ≡ k ∷ w ∷ [] = ap (λ x. x ∷ Quoted text ∷ []) (sym ek) ∙ ap (λ x. k ∷ x ∷ []) (sym ew) in
     subst (λ x. LineOf x (k ∷ w ∷ [])) same (words, eb)
 typed_if k w l text true ek ew eb e = absurd cc
 
@@ -92,7 +92,7 @@ read_point p is = rw (read_number_word p.x is.0, read_number_word p.y is.1) refl
 
 pub read_line : (l : Line) → IsLine l → script_line_in (words_of_line l) ≡ Some l
 read_line (lines.Key key) is = ap (option_map lines.Key) (read_key key is)
-read_line (lines.Type text) is = rw is refl
+read_line (lines.Typed text) is = rw is refl
 read_line (lines.Down p) is = ap (option_map lines.Down) (read_point p is)
 read_line (lines.Move p) is = ap (option_map lines.Move) (read_point p is)
 read_line (lines.Up p) is = ap (option_map lines.Up) (read_point p is)

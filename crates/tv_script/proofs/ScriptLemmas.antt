@@ -6,7 +6,7 @@ use Rattle.tv_machine.specs.declared.script.Item.{Item}
 use Rattle.tv_script.proofs.EndedLemmas.{judged_le}
 use Rattle.tv_script.proofs.FitLemmas.{fits, from_fitting, from_script, from_shown, into_fitting, into_script, into_shown, items_push, shows, stands}
 use Rattle.tv_script.proofs.GrammarLemmas.{Test, added, begins_weaker, faulty_unspelled, lines_spelled, no_begin, spelled_lines, taken_begins, tested}
-use Rattle.tv_script.specs.declared.line.Line.{Line}
+use Rattle.tv_script.specs.Line.{Line}
 use Rattle.tv_script.specs.declared.script_text.ScriptFault.{ScriptFault}
 use Rattle.tv_script.specs.declared.script_text.ScriptFault.TheVariants.{NoMemory, Syntax, OffScreen, TooLong}
 use Rattle.tv_script.specs.Lines.{is_on_screen, items_of, items_of_line}

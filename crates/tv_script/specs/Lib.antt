@@ -1,4 +1,6 @@
--- The lines of scripts
+-- What a line of a script says
+pub mod Line
+-- The words and the items of lines, and which of their points are on a screen
 pub mod Lines
 -- Lines that are judged in place: what they mean, and which of their items are left
 pub mod ScriptLines

@@ -9,8 +9,8 @@ use Rattle.tv_event.specs.declared.event.Event.TheVariants as events
 use Rattle.tv_event.specs.declared.event.Key.TheVariants as keys
 use Rattle.tv_machine.specs.declared.script.Item.{Item}
 use Rattle.tv_machine.specs.declared.script.Item.TheVariants as items
-use Rattle.tv_script.specs.declared.line.Line.{Line}
-use Rattle.tv_script.specs.declared.line.Line.TheVariants as lines
+use Rattle.tv_script.specs.Line.{Line}
+use Rattle.tv_script.specs.Line as lines
 use Rattle.tv_words.specs.declared.word.Word.{Word}
 use Rattle.tv_words.specs.declared.word.Word.TheVariants.{Bare, Quoted}
 use Rattle.tv_words.specs.Fields.{IsNumber, number_word}
@@ -24,7 +24,7 @@ point_words keyword p = Bare keyword ∷ number_word p.x ∷ number_word p.y ∷
 -- the words of a line
 abbrev pub words_of_line : Line → List Word
 words_of_line (lines.Key key) = Bare (codes "key") ∷ key_word key ∷ []
-words_of_line (lines.Type text) = Bare (codes "type") ∷ Quoted text ∷ []
+words_of_line (lines.Typed text) = Bare (codes "type") ∷ Quoted text ∷ []
 words_of_line (lines.Down p) = point_words (codes "down") p
 words_of_line (lines.Move p) = point_words (codes "move") p
 words_of_line (lines.Up p) = point_words (codes "up") p
@@ -42,7 +42,7 @@ ends_line c = c == 10
 -- a line that can be spelled: a key with a name, a text without a line end, or a point of two numbers
 abbrev pub IsLine : Line → Type 0
 IsLine (lines.Key key) = IsKey key
-IsLine (lines.Type text) = list_any ends_line text ≡ false
+IsLine (lines.Typed text) = list_any ends_line text ≡ false
 IsLine (lines.Down p) = IsPoint p
 IsLine (lines.Move p) = IsPoint p
 IsLine (lines.Up p) = IsPoint p
@@ -58,7 +58,7 @@ item_typed ch = items.Event (events.Key (keys.Char ch))
 -- the items of a line: a typed text has one for each character
 abbrev pub items_of_line : Line → List Item
 items_of_line (lines.Key key) = items.Event (events.Key key) ∷ []
-items_of_line (lines.Type text) = map item_typed text
+items_of_line (lines.Typed text) = map item_typed text
 items_of_line (lines.Down p) = items.Event (events.Down p) ∷ []
 items_of_line (lines.Move p) = items.Event (events.Move p) ∷ []
 items_of_line (lines.Up p) = items.Event (events.Up p) ∷ []

@@ -1,7 +1,7 @@
 -- What a judgement says of a text, in the words of the language of scripts.
 use Rattle.std.specs.Prelude.{◌≡◌, ◌<◌, ◌⊎◌, ℕ, ℤ, ◌+◌, List, length, take, Result, Ok, Err}
 use Rattle.tv_machine.specs.declared.script.Item.{Item}
-use Rattle.tv_script.specs.declared.line.Line.{Line}
+use Rattle.tv_script.specs.Line.{Line}
 use Rattle.tv_script.specs.declared.script_text.ScriptFault.{ScriptFault}
 use Rattle.tv_script.specs.declared.script_text.ScriptFault.TheVariants as scripts
 use Rattle.tv_script.specs.Judging.{judged_as, judged_part}

@@ -3,7 +3,6 @@
 
 mod feed;
 mod feeding;
-mod line;
 mod lines;
 mod performing;
 mod script;
@@ -14,7 +13,6 @@ mod stage;
 mod stream_fault;
 mod streaming;
 
-pub use line::Line;
 pub use performing::perform;
 pub use script::Script;
 pub use script_text::{ScriptFault, parse_items};

@@ -4,12 +4,11 @@ ghost use Rattle.std.specs.Prelude.{◌≡◌, [], ◌∷◌, length, Some};
 ghost use Rattle.std.specs.Option.{option_map};
 ghost use Rattle.std.specs.List.{list_any};
 ghost use Rattle.tv_machine.specs.declared.script.Item.TheVariants as items;
-ghost use Rattle.tv_script.specs.Lines.{ends_line, is_on_screen, items_of_line, item_typed};
+ghost use Rattle.tv_script.specs.Lines.{ends_line, is_on_axis, is_on_screen, items_of_line, item_typed};
 ghost use Rattle.tv_script.specs.Reading.Lines.{key_line_in, line_read, mouse_line_in, point_in, screen_line_in, typed_in, words_read};
 ghost use Rattle.tv_script.specs.ScriptLines.{items_left, line_meant};
 ghost use Rattle.tv_words.specs.Tokens.{text_quoted, token_word, words_in};
 
-use crate::line::is_within;
 use tv_cells::Point;
 use tv_declarations::token_key;
 use tv_event::{Event, Key};
@@ -182,6 +181,13 @@ fn point(x: &Token<'_>, y: &Token<'_>) -> Option<Point>
         x: x.number()?,
         y: y.number()?,
     })
+}
+
+// Whether a place is one of so many columns or rows.
+fn is_within(at: i32, size: i32) -> bool
+    ensures { result ≡ is_on_axis size at }
+{
+    0 <= at && at < size
 }
 
 fn one_event<'a>(event: Event) -> ScriptItems<'a>

@@ -5,8 +5,8 @@ use Rattle.std.specs.List.{list_any}
 use Rattle.tv_cells.specs.declared.rect.Point.{Point}
 use Rattle.tv_declarations.specs.Reading.Keys.{key_in}
 use Rattle.tv_declarations.specs.Reading.Options.{with2}
-use Rattle.tv_script.specs.declared.line.Line.{Line}
-use Rattle.tv_script.specs.declared.line.Line.TheVariants as lines
+use Rattle.tv_script.specs.Line.{Line}
+use Rattle.tv_script.specs.Line as lines
 use Rattle.tv_script.specs.Lines.{ends_line}
 use Rattle.tv_words.specs.declared.word.Word.{Word}
 use Rattle.tv_words.specs.Fields.{is_bare_word, text_in}
@@ -23,7 +23,7 @@ screen_line_in w =
 -- the line that types a text, one without a line end
 abbrev pub typed_line : Option (List ℕ) → Option Line
 typed_line None = None
-typed_line (Some text) = if list_any ends_line text then None else Some (lines.Type text)
+typed_line (Some text) = if list_any ends_line text then None else Some (lines.Typed text)
 
 -- the line that types the text of a word
 abbrev pub typed_in : Word → Option Line
