@@ -2,7 +2,7 @@
 
 ghost use Rattle.std.specs.Prelude.{◌≡◌, option_copied};
 ghost use Rattle.tv_declarations.specs.Spelling.Keys.{key_name};
-ghost use Rattle.tv_declarations.specs.Reading.Keys.{key_named, named_key, control_key, control_letter, is_control_prefix, alt_key, alt_letter, is_alt, function_in, function_key, key_by_name, key_in};
+ghost use Rattle.tv_declarations.specs.Reading.Keys.{key_named, named_key, control_key, control_letter, alt_key, alt_letter, function_in, function_key, key_by_name, key_in};
 ghost use Rattle.tv_words.specs.declared.word.Word.TheVariants.{Bare};
 ghost use Rattle.tv_words.specs.Tokens.{bare_of, token_word};
 
@@ -126,15 +126,9 @@ fn control_letter(text: &[char]) -> Option<char>
     ensures { result ≡ control_letter text.now }
 {
     match text {
-        [a, b, c, d, e, letter] if is_control(*a, *b, *c, *d, *e) => Some(*letter),
+        ['C', 't', 'r', 'l', '-', letter] => Some(*letter),
         _ => None,
     }
-}
-
-fn is_control(a: char, b: char, c: char, d: char, e: char) -> bool
-    ensures { result ≡ is_control_prefix a b c d e }
-{
-    a == 'C' && b == 't' && c == 'r' && d == 'l' && e == '-'
 }
 
 // What follows `Alt-`.
@@ -142,15 +136,9 @@ fn alt_letter(text: &[char]) -> Option<char>
     ensures { result ≡ alt_letter text.now }
 {
     match text {
-        [a, b, c, d, letter] if is_alt(*a, *b, *c, *d) => Some(*letter),
+        ['A', 'l', 't', '-', letter] => Some(*letter),
         _ => None,
     }
-}
-
-fn is_alt(a: char, b: char, c: char, d: char) -> bool
-    ensures { result ≡ is_alt a b c d }
-{
-    a == 'A' && b == 'l' && c == 't' && d == '-'
 }
 
 fn control_key(letter: char) -> Option<Key>
