@@ -12,8 +12,8 @@ use Rattle.tv_program.specs.Drawing.PicturesTo.{unrun, drawn, cut}
 use Rattle.tv_program.specs.Shots.{ShotsTo}
 use Rattle.tv_program.specs.Shots.ShotsTo.{refused as refused_shots, unbegun as unbegun_shots, drawn as drawn_shots}
 use Rattle.tv_program.specs.declared.picture_fault.DrawingFault.{DrawingFault}
-use Rattle.tv_program.specs.declared.play_fault.PlayFault.{PlayFault}
-use Rattle.tv_program.specs.declared.play_fault.PlayFault.TheVariants as runs
+use Rattle.tv_program.specs.declared.run_fault.RunFault.{RunFault}
+use Rattle.tv_program.specs.declared.run_fault.RunFault.TheVariants as runs
 use Rattle.tv_program.specs.Playing.{IsNoStart, RunsTo}
 use Rattle.tv_program.specs.Playing.RunsTo.{refused, unbegun, stopped, done as done_run}
 use Rattle.tv_program.specs.Reading.{IsSoundText}
@@ -41,7 +41,7 @@ OnStream-weaker Comes Weaker weaker files after file script old new end (done te
 
 module _ (P Q : Desc → Type 0) (weaker : (text : List ℕ) (d : Desc) → IsSoundText text d → P d → Q d) where
   -- why no run was begun
-  IsNoStart-weaker : (text : List ℕ) (d : Desc) (fault : PlayFault) → IsSoundText text d → IsNoStart P d fault → IsNoStart Q d fault
+  IsNoStart-weaker : (text : List ℕ) (d : Desc) (fault : RunFault) → IsSoundText text d → IsNoStart P d fault → IsNoStart Q d fault
   IsNoStart-weaker text d runs.NoMemory sound why = tt
   IsNoStart-weaker text d runs.View sound why = weaker text d sound why
   IsNoStart-weaker text d (runs.Lang fault) sound why = absurd why
@@ -51,7 +51,7 @@ module _ (P Q : Desc → Type 0) (weaker : (text : List ℕ) (d : Desc) → IsSo
   IsNoStart-weaker text d runs.Write sound why = absurd why
 
   -- what a run comes to
-  RunsTo-weaker : {T : Type 0} (Stands : T → Session → Type 0) (text : List ℕ) (reader left : Given) (old new : Seen) (r : Result T PlayFault) → RunsTo P Stands text reader left old new r → RunsTo Q Stands text reader left old new r
+  RunsTo-weaker : {T : Type 0} (Stands : T → Session → Type 0) (text : List ℕ) (reader left : Given) (old new : Seen) (r : Result T RunFault) → RunsTo P Stands text reader left old new r → RunsTo Q Stands text reader left old new r
   RunsTo-weaker Stands text reader left old new r (refused fault is untouched told) = refused fault is untouched told
   RunsTo-weaker Stands text reader left old new r (unbegun d fault read why untouched told) =
       unbegun d fault read (IsNoStart-weaker text d fault read why) untouched told
@@ -65,7 +65,7 @@ module _ (P Q : Desc → Type 0) (weaker : (text : List ℕ) (d : Desc) → IsSo
       (λ text reader left was. (was.0, RunsTo-weaker _ text reader left old new was.0 was.1, was.2)) files after file script old new end came
 
   -- what drawing a run comes to
-  PicturesTo-weaker : (text : List ℕ) (reader left : Given) (old new : Seen) (r : Result (Unit {0}) PlayFault) → PicturesTo P text reader left old new r → PicturesTo Q text reader left old new r
+  PicturesTo-weaker : (text : List ℕ) (reader left : Given) (old new : Seen) (r : Result (Unit {0}) RunFault) → PicturesTo P text reader left old new r → PicturesTo Q text reader left old new r
   PicturesTo-weaker text reader left old new r (unrun fault log later other ran same told) =
       unrun fault log later other (RunsTo-weaker _ text reader left log later (Err fault) ran) same told
   PicturesTo-weaker text reader left old new r (drawn d script read gives took told) = drawn d script read gives took told
@@ -90,7 +90,7 @@ module _ (P Q : Desc → Type 0) (weaker : (text : List ℕ) (d : Desc) → IsSo
       (λ text reader left was. (was.0, ShotsTo-weaker text script reader left old new was.0 was.1, was.2)) files after file script old new end came
 
   -- what playing a description comes to
-  PlaysText-weaker : (text : List ℕ) (old new : Ports) (r : Result Parting PlayFault) → PlaysText P text old new r → PlaysText Q text old new r
+  PlaysText-weaker : (text : List ℕ) (old new : Ports) (r : Result Parting RunFault) → PlaysText P text old new r → PlaysText Q text old new r
   PlaysText-weaker text old new r (refused_play fault is untouched told) = refused_play fault is untouched told
   PlaysText-weaker text old new r (unbegun_play d fault read why untouched told) =
       unbegun_play d fault read (IsNoStart-weaker text d fault read why) untouched told

@@ -6,8 +6,8 @@ use Rattle.tv_io.specs.Writer.{Seen}
 use Rattle.tv_machine.specs.Run.{Session, started}
 use Rattle.tv_model.specs.declared.desc.Desc.{Desc}
 use Rattle.tv_play.specs.Playing.{Ports}
-use Rattle.tv_program.specs.declared.fault.RunFault.{RunFault}
-use Rattle.tv_program.specs.declared.play_fault.PlayFault.{PlayFault}
+use Rattle.tv_program.specs.declared.trouble.Trouble.{Trouble}
+use Rattle.tv_program.specs.declared.run_fault.RunFault.{RunFault}
 use Rattle.tv_program.specs.Playing.{RunsTo}
 use Rattle.tv_program.specs.Playing.RunsTo.{refused, unbegun, stopped, done as done_run}
 use Rattle.tv_script.proofs.FeedLemmas.{comes_weaker}
@@ -21,7 +21,7 @@ use Rattle.tv_files.specs.Tasks.OnStream.{done as done_both}
 use Rattle.tv_files.specs.Tasks.PlaysFile.{unread as unread_file}
 use Rattle.tv_files.proofs.FileLemmas.{Gives-then, IsFileOf-then, IsRead-Gives, IsUnread-then, Opens-both}
 
-module _ (refuses : (text : List ℕ) → RunFault → Type 0) (passes : (text : List ℕ) → Type 0) (files after : Known) (file beside : List ℕ) (seen : Seen) (failure : Failure) where
+module _ (refuses : (text : List ℕ) → Trouble → Type 0) (passes : (text : List ℕ) → Type 0) (files after : Known) (file beside : List ℕ) (seen : Seen) (failure : Failure) where
   -- the description wasn't read, or was refused
   pub first-OnFiles : {T : Type 0} (comes : End → (text written : List ℕ) → Type 0) → EndsFirst refuses files after file (end_of_failure failure) → (r : Result T Failure) → IsErrAnd r (λ told. told ≡ failure) → OnFiles refuses passes (comes (end_of r)) files after file beside seen seen (end_of r)
   first-OnFiles comes ends (Ok x) told = absurd told
@@ -33,7 +33,7 @@ module _ (refuses : (text : List ℕ) → RunFault → Type 0) (passes : (text :
   unread-OnFiles comes mid text gives passed ends (Err other) told = rw told (unread text gives.text_of passed (IsUnread-then file beside gives.opens ends) refl)
 
 -- both were read
-pub done-OnFiles : (refuses : (text : List ℕ) → RunFault → Type 0) (passes : (text : List ℕ) → Type 0) (comes : (text written : List ℕ) → Type 0) (files mid after : Known) (file beside : List ℕ) (old new : Seen) (end : End) (text written : List ℕ) → GivesText files mid (file ∷ []) file text → passes text → GivesText mid after (beside ∷ []) beside written → comes text written → OnFiles refuses passes comes files after file beside old new end
+pub done-OnFiles : (refuses : (text : List ℕ) → Trouble → Type 0) (passes : (text : List ℕ) → Type 0) (comes : (text written : List ℕ) → Type 0) (files mid after : Known) (file beside : List ℕ) (old new : Seen) (end : End) (text written : List ℕ) → GivesText files mid (file ∷ []) file text → passes text → GivesText mid after (beside ∷ []) beside written → comes text written → OnFiles refuses passes comes files after file beside old new end
 done-OnFiles refuses passes comes files mid after file beside old new end text written gives passed gives_beside came =
     done text written gives.text_of passed (Gives-then file beside gives.opens gives_beside) came
 
@@ -50,7 +50,7 @@ gone (Ok x) = Ok tt
 gone (Err e) = Err e
 
 -- what stands for the run after the script is of no matter
-pub RunsTo-gone : {T : Type 0} (Mismade : Desc → Type 0) (Stands : T → Session → Type 0) (text : List ℕ) (reader left : Given) (old new : Seen) (r : Result T PlayFault) → RunsTo Mismade Stands text reader left old new r → RunsTo Mismade (λ (done : Unit {0}) s. Unit {0}) text reader left old new (gone r)
+pub RunsTo-gone : {T : Type 0} (Mismade : Desc → Type 0) (Stands : T → Session → Type 0) (text : List ℕ) (reader left : Given) (old new : Seen) (r : Result T RunFault) → RunsTo Mismade Stands text reader left old new r → RunsTo Mismade (λ (done : Unit {0}) s. Unit {0}) text reader left old new (gone r)
 RunsTo-gone Mismade Stands text reader left old new r (refused fault is untouched told) = refused fault is untouched (ap gone told)
 RunsTo-gone Mismade Stands text reader left old new r (unbegun d fault read why untouched told) = unbegun d fault read why untouched (ap gone told)
 RunsTo-gone Mismade Stands text reader left old new r (stopped d fault read comes told) = stopped d fault read comes (ap gone told)

@@ -8,11 +8,11 @@ use Rattle.tv_program.specs.declared.picture_fault.ShotFault.{ShotFault}
 use Rattle.tv_program.specs.Naming.{shot_name}
 use Rattle.tv_play.specs.declared.parting.Parting.{Parting}
 use Rattle.tv_play.specs.declared.parting.Parting.TheVariants as partings
-use Rattle.tv_program.specs.declared.fault.RunFault.{RunFault}
-use Rattle.tv_program.specs.declared.fault.RunFault.TheVariants.{NoMemory, Read, Cert}
-use Rattle.tv_program.specs.declared.play_fault.PlayFault.{PlayFault}
-use Rattle.tv_program.specs.declared.play_fault.PlayFault.TheVariants as runs
-use Rattle.tv_program.specs.Conversions.{play_told}
+use Rattle.tv_program.specs.declared.trouble.Trouble.{Trouble}
+use Rattle.tv_program.specs.declared.trouble.Trouble.TheVariants.{NoMemory, Read, Cert}
+use Rattle.tv_program.specs.declared.run_fault.RunFault.{RunFault}
+use Rattle.tv_program.specs.declared.run_fault.RunFault.TheVariants as runs
+use Rattle.tv_program.specs.Conversions.{run_told}
 use Rattle.tv_files.specs.declared.done.Done.{Done}
 use Rattle.tv_files.specs.declared.done.Done.TheVariants.{Whole, BrokenOff}
 use Rattle.tv_files.specs.declared.failure.Failure.{Failure}
@@ -24,7 +24,7 @@ use Rattle.tv_io.specs.declared.read_fault.ReadFault.TheVariants as unread
 -- written into the file of its path
 pub data End : Type 0 where
   ended : End
-  faulted : RunFault → (path : List ℕ) → End
+  faulted : Trouble → (path : List ℕ) → End
   unwritten : (path : List ℕ) → End
 
 -- the end that a failure tells
@@ -54,31 +54,31 @@ done_of_play (Ok parting) = done_by parting
 done_of_play (Err fault) = Whole
 
 -- the file that a fault is in: the description, or the certificate beside it
-abbrev pub path_of : RunFault → (file beside : List ℕ) → List ℕ
+abbrev pub path_of : Trouble → (file beside : List ℕ) → List ℕ
 path_of (Cert fault) file beside = beside
 path_of _ file beside = file
 
 -- the file that a fault of a run is in: the description, or the script where that is at fault or can't be
 -- read
-abbrev pub path_of_run : PlayFault → (file script : List ℕ) → List ℕ
+abbrev pub path_of_run : RunFault → (file script : List ℕ) → List ℕ
 path_of_run (runs.Script fault) file script = script
 path_of_run runs.Read file script = script
 path_of_run _ file script = file
 
 -- why the bytes of a file aren't there
-abbrev pub file_told : ReadFault → RunFault
+abbrev pub file_told : ReadFault → Trouble
 file_told unread.NoMemory = NoMemory
 file_told unread.Read = Read
 
 -- the end where a call of the program answered this
-abbrev pub end_as : {T F : Type 0} → (F → RunFault) → (file beside : List ℕ) → Result T F → End
+abbrev pub end_as : {T F : Type 0} → (F → Trouble) → (file beside : List ℕ) → Result T F → End
 end_as told file beside (Ok _) = ended
 end_as told file beside (Err fault) = faulted (told fault) (path_of (told fault) file beside)
 
 -- the end where a run answered this
-abbrev pub end_of_run : {T : Type 0} → (file script : List ℕ) → Result T PlayFault → End
+abbrev pub end_of_run : {T : Type 0} → (file script : List ℕ) → Result T RunFault → End
 end_of_run file script (Ok _) = ended
-end_of_run file script (Err fault) = faulted (play_told fault) (path_of_run fault file script)
+end_of_run file script (Err fault) = faulted (run_told fault) (path_of_run fault file script)
 
 -- the end where a picture of a script isn't there
 abbrev pub end_of_album : (script : List ℕ) → (number : ℕ) → AlbumFault → End
@@ -92,5 +92,5 @@ end_of_shot script shot = end_of_album script shot.number shot.fault
 abbrev pub end_of_shots : {T : Type 0} → (file script : List ℕ) → Result T DrawingFault → End
 end_of_shots file script (Ok _) = ended
 end_of_shots file script (Err (pictures.Run fault)) =
-    faulted (play_told fault) (path_of_run fault file script)
+    faulted (run_told fault) (path_of_run fault file script)
 end_of_shots file script (Err (pictures.Shot shot)) = end_of_shot script shot

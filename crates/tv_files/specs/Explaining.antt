@@ -9,8 +9,8 @@ use Rattle.tv_files.specs.declared.done.Done.TheVariants.{Whole, Faulty, BrokenO
 use Rattle.tv_io.specs.Writer.{Cuts, Seen, Takes}
 use Rattle.tv_model.specs.declared.desc.Desc.{Desc}
 use Rattle.tv_program.specs.Reading.{IsNoDescription}
-use Rattle.tv_program.specs.declared.fault.RunFault.{RunFault}
-use Rattle.tv_program.specs.declared.fault.RunFault.TheVariants as faults
+use Rattle.tv_program.specs.declared.trouble.Trouble.{Trouble}
+use Rattle.tv_program.specs.declared.trouble.Trouble.TheVariants as faults
 use Rattle.tv_advice.specs.Beside.{IsReportBeside, IsToldBeside}
 use Rattle.tv_advice.specs.Told.{IsReportOf, SpellsSound}
 use Rattle.tv_advice.specs.declared.beside.Beside.TheVariants as besides
@@ -26,7 +26,7 @@ WritesReport writes IsOn = (report : List ℕ) × IsOn report × writes report
 
 -- A report was written where there is something to tell, and nothing where there isn't. A text of another
 -- version and one that is too long are not told of.
-abbrev pub ExplainsTo : Manner → (name text : List ℕ) → (old new : Seen) → Result (Option Desc) RunFault
+abbrev pub ExplainsTo : Manner → (name text : List ℕ) → (old new : Seen) → Result (Option Desc) Trouble
     → Type 0
 ExplainsTo manner name text old new (Ok (Some desc)) = SpellsSound text desc × (new ≡ old)
 ExplainsTo manner name text old new (Ok None) = WritesReport (Takes old new) (IsReportOf manner name text)
@@ -42,14 +42,14 @@ how_found (Some desc) = Whole
 how_found None = Faulty
 
 -- the same of the answer
-abbrev pub how_explained : Result (Option Desc) RunFault → Done
+abbrev pub how_explained : Result (Option Desc) Trouble → Done
 how_explained (Ok found) = how_found found
 how_explained (Err fault) = Whole
 
 -- the same, told as an end
 abbrev pub ExplainsAs : Manner → (file : List ℕ) → (old new : Seen) → Done → End → (text : List ℕ) → Type 0
 ExplainsAs manner file old new how end text =
-    (r : Result (Option Desc) RunFault) × ExplainsTo manner file text old new r × (how ≡ how_explained r)
+    (r : Result (Option Desc) Trouble) × ExplainsTo manner file text old new r × (how ≡ how_explained r)
     × (end ≡ end_as (λ fault. fault) file file r)
 
 -- the file is read, and what there is to tell of it is written
@@ -63,7 +63,7 @@ ExplainsFile manner files after file old new how end =
 -- what is told of the text beside the description, as the same: a report, a refusal, or that it is too long.
 -- Of a file that is longer than `longest` no more is read
 abbrev pub ExplainsBesideTo : Manner → (name : List ℕ) → Desc → (text : List ℕ) → (old new : Seen)
-    → Result Done RunFault → Type 0
+    → Result Done Trouble → Type 0
 ExplainsBesideTo manner name desc text old new (Ok Whole) =
     IsToldBeside manner name desc text besides.Fine × (new ≡ old)
 ExplainsBesideTo manner name desc text old new (Ok Faulty) =
@@ -84,7 +84,7 @@ ExplainsBesideTo manner name desc text old new (Err _) = ⊥
 abbrev pub ExplainsBesideAs : Manner → (beside : List ℕ) → Desc → (old new : Seen) → Done → End
     → (text : List ℕ) → Type 0
 ExplainsBesideAs manner beside desc old new how end text =
-    (r : Result Done RunFault) × ExplainsBesideTo manner beside desc text old new r × (how ≡ done_in r)
+    (r : Result Done Trouble) × ExplainsBesideTo manner beside desc text old new r × (how ≡ done_in r)
     × (end ≡ end_as (λ fault. fault) beside beside r)
 
 -- the file beside a sound description is read, and what there is to tell of it is written
@@ -96,7 +96,7 @@ ExplainsSecond manner desc files after beside old new how end =
 -- ---- both
 
 -- there was something to tell, or it couldn't be told
-abbrev pub EndsThere : Result (Option Desc) RunFault → Type 0
+abbrev pub EndsThere : Result (Option Desc) Trouble → Type 0
 EndsThere (Ok (Some desc)) = ⊥
 EndsThere _ = Unit {0}
 
@@ -105,7 +105,7 @@ pub data ExplainsFiles (manner : Manner) (files after : Known) (file beside : Li
     (how : Done) (end : End) : Type 0 where
   unread : IsUnread files after (file ∷ []) file end → new ≡ old
       → ExplainsFiles manner files after file beside old new how end
-  first : (text : List ℕ) (r : Result (Option Desc) RunFault) → GivesText files after (file ∷ []) file text
+  first : (text : List ℕ) (r : Result (Option Desc) Trouble) → GivesText files after (file ∷ []) file text
       → ExplainsTo manner file text old new r → EndsThere r → how ≡ how_explained r
       → end ≡ end_as (λ fault. fault) file file r
       → ExplainsFiles manner files after file beside old new how end

@@ -7,7 +7,7 @@ use Rattle.tv_program.specs.Albums.{Hung}
 use Rattle.tv_program.specs.Drawing.{PicturesTo}
 use Rattle.tv_program.specs.Shots.{ShotsTo}
 use Rattle.tv_program.specs.declared.picture_fault.DrawingFault.{DrawingFault}
-use Rattle.tv_program.specs.declared.play_fault.PlayFault.{PlayFault}
+use Rattle.tv_program.specs.declared.run_fault.RunFault.{RunFault}
 use Rattle.tv_files.specs.Ends.{End, end_of_run, end_of_shots}
 use Rattle.tv_files.specs.Files.{Known}
 use Rattle.tv_files.specs.Tasks.{OnStream}
@@ -18,7 +18,7 @@ use Rattle.tv_files.specs.Tasks.{OnStream}
 abbrev pub PicturesAs : (Mismade : Desc → Type 0) → (file script : List ℕ) → (old new : Seen) → End
     → (text : List ℕ) (reader left : Given) → Type 0
 PicturesAs Mismade file script old new end text reader left =
-    (r : Result (Unit {0}) PlayFault) × PicturesTo Mismade text reader left old new r
+    (r : Result (Unit {0}) RunFault) × PicturesTo Mismade text reader left old new r
     × (end ≡ end_of_run file script r)
 
 -- the description is read once the script is opened, and the script once the description's views are made

@@ -10,9 +10,9 @@ use Rattle.tv_play.specs.Playing.{Ports}
 use Rattle.tv_play.specs.declared.parting.Parting.{Parting}
 use Rattle.tv_program.specs.declared.accept_fault.AcceptFault.{AcceptFault}
 use Rattle.tv_program.specs.declared.check_fault.CheckFault.{CheckFault}
-use Rattle.tv_program.specs.declared.fault.RunFault.{RunFault}
-use Rattle.tv_program.specs.declared.fault.RunFault.TheVariants.{NoMemory, Read, Write}
-use Rattle.tv_program.specs.declared.play_fault.PlayFault.{PlayFault}
+use Rattle.tv_program.specs.declared.trouble.Trouble.{Trouble}
+use Rattle.tv_program.specs.declared.trouble.Trouble.TheVariants.{NoMemory, Read, Write}
+use Rattle.tv_program.specs.declared.run_fault.RunFault.{RunFault}
 use Rattle.tv_program.specs.CheckRun.{AcceptsTo, ChecksTo}
 use Rattle.tv_program.specs.Conversions.{accept_told, check_told, lang_told}
 use Rattle.tv_program.specs.Playing.{RunsTo}
@@ -62,14 +62,14 @@ pub data OnFile (comes : (text : List ℕ) → Type 0) (files after : Known) (fi
 
 -- a task that ends before the file beside the description is looked for: the description can't be read, or it
 -- is refused
-pub data EndsFirst (refuses : (text : List ℕ) → RunFault → Type 0) (files after : Known) (file : List ℕ)
+pub data EndsFirst (refuses : (text : List ℕ) → Trouble → Type 0) (files after : Known) (file : List ℕ)
     (end : End) : Type 0 where
   unread : IsUnread files after (file ∷ []) file end → EndsFirst refuses files after file end
-  refused : (text : List ℕ) (fault : RunFault) → GivesText files after (file ∷ []) file text
+  refused : (text : List ℕ) (fault : Trouble) → GivesText files after (file ∷ []) file text
       → refuses text fault → end ≡ faulted fault file → EndsFirst refuses files after file end
 
 -- a task on a description and the file beside it, which is opened only once the description has passed
-pub data OnFiles (refuses : (text : List ℕ) → RunFault → Type 0) (passes : (text : List ℕ) → Type 0)
+pub data OnFiles (refuses : (text : List ℕ) → Trouble → Type 0) (passes : (text : List ℕ) → Type 0)
     (comes : (text written : List ℕ) → Type 0) (files after : Known) (file beside : List ℕ) (old new : Seen)
     (end : End) : Type 0 where
   first : EndsFirst refuses files after file end → new ≡ old
@@ -101,7 +101,7 @@ ChecksFile files after file old new end =
 -- ---- an acceptance
 
 -- the text spells no description
-abbrev pub IsUnspelled : (text : List ℕ) → RunFault → Type 0
+abbrev pub IsUnspelled : (text : List ℕ) → Trouble → Type 0
 IsUnspelled text fault =
     (unspelled : LangFault) × RefusesToParse text unspelled × (fault ≡ lang_told unspelled)
 
@@ -145,7 +145,7 @@ pub data OnStream {S : Type 0} (comes : (text : List ℕ) (reader left : Given) 
 abbrev pub RunsAs : (Mismade : Desc → Type 0) → (file script : List ℕ) → (old new : Seen) → End
     → (text : List ℕ) (reader left : Given) → Type 0
 RunsAs Mismade file script old new end text reader left =
-    (r : Result (Unit {0}) PlayFault) × RunsTo Mismade (λ done s. Unit {0}) text reader left old new r
+    (r : Result (Unit {0}) RunFault) × RunsTo Mismade (λ done s. Unit {0}) text reader left old new r
     × (end ≡ end_of_run file script r)
 
 -- the description is read once the script is opened, and the script once the description's views are made
@@ -164,7 +164,7 @@ terminal = codes "standard input"
 abbrev pub PlaysAs : (Mismade : Desc → Type 0) → (file : List ℕ) → (old new : Ports) → Done → End
     → (text : List ℕ) → Type 0
 PlaysAs Mismade file old new how end text =
-    (r : Result Parting PlayFault) × PlaysText Mismade text old new r
+    (r : Result Parting RunFault) × PlaysText Mismade text old new r
     × (how ≡ done_of_play r) × (end ≡ end_of_run file terminal r)
 
 -- The description is read before the terminal is touched

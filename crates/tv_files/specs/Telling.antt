@@ -2,7 +2,7 @@
 use Rattle.std.specs.Prelude.{◌≡◌, ℕ, List, [], ◌∷◌, ◌++◌, codes, string_bytes}
 use Rattle.tv_model.specs.Log.LogText.{line_of}
 use Rattle.tv_io.specs.Writer.{Fails, Seen, Takes}
-use Rattle.tv_program.specs.declared.fault.RunFault.TheVariants.{NoMemory, Write}
+use Rattle.tv_program.specs.declared.trouble.Trouble.TheVariants.{NoMemory, Write}
 use Rattle.tv_program.specs.Report.{IsOffered, err_text, out_text, status_of}
 use Rattle.tv_files.specs.declared.done.Done.{Done}
 use Rattle.tv_files.specs.declared.done.Done.TheVariants.{Whole, Faulty, BrokenOff}

@@ -15,7 +15,7 @@ use tv_check::CertificateFault;
 use tv_io::{Writer, write_all};
 use tv_lang::LangFault;
 use tv_model::Desc;
-use tv_program::RunFault;
+use tv_program::Trouble;
 use tv_script::ScriptFault;
 
 /// Writes what there is to tell of the faults of the description in a file, or of the line that can't be read.
@@ -79,17 +79,17 @@ fn explain<W: Writer>(
     name: &str,
     text: &[u8],
     out: &mut W,
-) -> Result<Option<Desc>, RunFault>
+) -> Result<Option<Desc>, Trouble>
     ensures { ExplainsTo manner name.now text.now (W.seen out.old) (W.seen out.new) result }
 {
     match tell(alloc, manner, name, text)? {
         Told::Sound(desc) => Ok(Some(desc)),
         Told::Faulty(report) => match write_all(out, report.as_bytes()) {
             Ok(()) => Ok(None),
-            Err(_) => Err(RunFault::Write),
+            Err(_) => Err(Trouble::Write),
         },
-        Told::OtherVersion => Err(RunFault::Lang(LangFault::Version)),
-        Told::TooLong => Err(RunFault::Lang(LangFault::TooLong)),
+        Told::OtherVersion => Err(Trouble::Lang(LangFault::Version)),
+        Told::TooLong => Err(Trouble::Lang(LangFault::TooLong)),
     }
 }
 
@@ -121,21 +121,21 @@ fn explain_beside<W: Writer>(
     desc: Desc,
     text: &[u8],
     out: &mut W,
-) -> Result<Done, RunFault>
+) -> Result<Done, Trouble>
     requires { CanBeSpelled desc }
     ensures { ExplainsBesideTo manner name.now desc text.now (W.seen out.old) (W.seen out.new) result }
 {
     if text.len() > LONGEST {
-        return Err(RunFault::Script(ScriptFault::TooLong));
+        return Err(Trouble::Script(ScriptFault::TooLong));
     }
     match tell_beside(alloc, manner, name, desc, text)? {
         Beside::Fine => Ok(Done::Whole),
         Beside::Faulty(report) => match write_all(out, report.as_bytes()) {
             Ok(()) => Ok(Done::Faulty),
-            Err(_) => Err(RunFault::Write),
+            Err(_) => Err(Trouble::Write),
         },
-        Beside::LongScript => Err(RunFault::Script(ScriptFault::TooLong)),
-        Beside::LongCertificate => Err(RunFault::Cert(CertificateFault::TooLong)),
-        Beside::Refused(refusal) => Err(RunFault::Refused(refusal)),
+        Beside::LongScript => Err(Trouble::Script(ScriptFault::TooLong)),
+        Beside::LongCertificate => Err(Trouble::Cert(CertificateFault::TooLong)),
+        Beside::Refused(refusal) => Err(Trouble::Refused(refusal)),
     }
 }

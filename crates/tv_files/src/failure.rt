@@ -1,29 +1,29 @@
 //! Failures, each told of the file that it is in.
 
 ghost use Rattle.std.specs.Prelude.{◌≡◌};
-ghost use Rattle.tv_program.specs.Conversions.{play_told};
+ghost use Rattle.tv_program.specs.Conversions.{run_told};
 ghost use Rattle.tv_files.specs.Ends.{end_of_failure, end_of_shot, file_told, path_of, path_of_run};
 ghost use Rattle.tv_files.specs.Ends.End.{faulted};
 
 use tv_io::ReadFault;
-use tv_program::{AlbumFault, PlayFault, RunFault, ShotFault};
+use tv_program::{AlbumFault, RunFault, ShotFault, Trouble};
 
 /// Why a task didn't come to its end.
 #[derive(Debug, Drop)]
 pub enum Failure<'a> {
     /// A fault, and the path of the file that it is told of.
-    Fault { fault: RunFault, path: &'a str },
+    Fault { fault: Trouble, path: &'a str },
     /// The picture with this number of a script can't be written.
     Picture { script: &'a str, number: usize },
 }
 
 impl<'a> Failure<'a> {
     // Tells a fault of the text that it is in: the description, or the certificate beside it.
-    pub(crate) fn new(file: &'a str, beside: &'a str, fault: RunFault) -> Failure<'a>
+    pub(crate) fn new(file: &'a str, beside: &'a str, fault: Trouble) -> Failure<'a>
         ensures { end_of_failure result ≡ faulted fault (path_of fault file.now beside.now) }
     {
         let path = match fault {
-            RunFault::Cert(_) => beside,
+            Trouble::Cert(_) => beside,
             _ => file,
         };
         Failure::Fault { fault, path }
@@ -31,15 +31,15 @@ impl<'a> Failure<'a> {
 
     // Tells a fault of a run of the text that it is in: the description, or the script where that is at fault or can't be
     // read.
-    pub(crate) fn of_run(file: &'a str, script: &'a str, fault: PlayFault) -> Failure<'a>
-        ensures { end_of_failure result ≡ faulted (play_told fault) (path_of_run fault file.now script.now) }
+    pub(crate) fn of_run(file: &'a str, script: &'a str, fault: RunFault) -> Failure<'a>
+        ensures { end_of_failure result ≡ faulted (run_told fault) (path_of_run fault file.now script.now) }
     {
         let path = match fault {
-            PlayFault::Script(_) | PlayFault::Read => script,
+            RunFault::Script(_) | RunFault::Read => script,
             _ => file,
         };
         Failure::Fault {
-            fault: RunFault::from(fault),
+            fault: Trouble::from(fault),
             path,
         }
     }
@@ -49,8 +49,8 @@ impl<'a> Failure<'a> {
         ensures { end_of_failure result ≡ faulted (file_told unread) path.now }
     {
         let fault = match unread {
-            ReadFault::NoMemory => RunFault::NoMemory,
-            ReadFault::Read => RunFault::Read,
+            ReadFault::NoMemory => Trouble::NoMemory,
+            ReadFault::Read => Trouble::Read,
         };
         Failure::Fault { fault, path }
     }
@@ -61,7 +61,7 @@ impl<'a> Failure<'a> {
     {
         match shot.fault {
             AlbumFault::NoMemory => Failure::Fault {
-                fault: RunFault::NoMemory,
+                fault: Trouble::NoMemory,
                 path: script,
             },
             AlbumFault::Write => Failure::Picture {

@@ -20,7 +20,7 @@ use tv_io::{Reader, Writer, read_text, write_all};
 use tv_lang::parse;
 use tv_model::Desc;
 use tv_play::Pieces;
-use tv_program::{Album, RunFault, accept_text, check, play, run};
+use tv_program::{Album, Trouble, accept_text, check, play, run};
 use tv_session::{BuildFault, Views};
 use tv_view::View;
 
@@ -93,7 +93,7 @@ pub fn tell_version<'a, W: Writer>(out: &mut W) -> Result<(), Failure<'a>>
     match write_all(out, VERSION.as_bytes()) {
         Ok(()) => Ok(()),
         Err(_) => Err(Failure::Fault {
-            fault: RunFault::Write,
+            fault: Trouble::Write,
             path: "",
         }),
     }
@@ -111,7 +111,7 @@ pub fn check_file<'a, F: FileStore, W: Writer>(
     let text = read_file(files, alloc, file)?;
     match check(alloc, text.as_slice(), out) {
         Ok(()) => Ok(()),
-        Err(fault) => Err(Failure::new(file, file, RunFault::from(fault))),
+        Err(fault) => Err(Failure::new(file, file, Trouble::from(fault))),
     }
 }
 
@@ -132,7 +132,7 @@ pub fn accept_file<'a, F: FileStore, W: Writer>(
     let text = read_file(files, alloc, certificate)?;
     match accept_text(alloc, desc, text.as_slice(), out) {
         Ok(()) => Ok(()),
-        Err(fault) => Err(Failure::new(file, certificate, RunFault::from(fault))),
+        Err(fault) => Err(Failure::new(file, certificate, Trouble::from(fault))),
     }
 }
 
@@ -227,7 +227,7 @@ fn described<'a, F: FileStore>(
     match parse(alloc, text.as_slice()) {
         Ok(desc) => Ok(desc),
         Err(fault) => Err(Failure::Fault {
-            fault: RunFault::from(fault),
+            fault: Trouble::from(fault),
             path: file,
         }),
     }

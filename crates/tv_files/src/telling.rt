@@ -13,7 +13,7 @@ use crate::failure::Failure;
 use crate::stream::Stream;
 use crate::{Done, NoTask};
 use tv_io::{Pen, Writer, write_all};
-use tv_program::{RunFault, report};
+use tv_program::{Trouble, report};
 
 /// The status after all was done.
 const DONE: u8 = 0;
@@ -105,7 +105,7 @@ fn tell_failure<O: Writer, E: Writer>(failure: &Failure<'_>, out: &mut O, err: &
 {
     match failure {
         Failure::Fault {
-            fault: RunFault::Write,
+            fault: Trouble::Write,
             path: _,
         } => OUTSIDE,
         Failure::Fault { fault, path } => report(fault, path, out, err),

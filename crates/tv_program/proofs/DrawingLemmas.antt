@@ -7,8 +7,8 @@ use Rattle.tv_machine.specs.Output.{after}
 use Rattle.tv_machine.specs.Run.{Session, started}
 use Rattle.tv_model.specs.declared.desc.Desc.{Desc}
 use Rattle.tv_machine.specs.declared.script.Item.{Item}
-use Rattle.tv_program.specs.declared.play_fault.PlayFault.{PlayFault}
-use Rattle.tv_program.specs.declared.play_fault.PlayFault.TheVariants.{Write}
+use Rattle.tv_program.specs.declared.run_fault.RunFault.{RunFault}
+use Rattle.tv_program.specs.declared.run_fault.RunFault.TheVariants.{Write}
 use Rattle.tv_program.specs.Conversions.{stream_run}
 use Rattle.tv_program.specs.Playing.{IsNoStart, RefusesDesc, RunsTo}
 use Rattle.tv_program.specs.Playing.RunsTo.{refused, unbegun, stopped, done}
@@ -51,24 +51,24 @@ not_cut s reader left old new fault never (comes_unbegun unread performs told) i
 
 module _ {T : Type 0} (Mismade : Desc → Type 0) (Stands : T → Session → Type 0) (text : List ℕ) (reader left : Given) (log later : Seen) where
   -- an answer without its value
-  abbrev gone : Result T PlayFault → Result (Unit {0}) PlayFault
+  abbrev gone : Result T RunFault → Result (Unit {0}) RunFault
   gone (Ok x) = Ok tt
   gone (Err fault) = Err fault
 
   -- what stands for a run that failed is of no matter
-  failed-gone : (fault : PlayFault) → RunsTo Mismade Stands text reader left log later (Err fault) → RunsTo Mismade (λ (run : Unit {0}) s. Unit {0}) text reader left log later (Err fault)
+  failed-gone : (fault : RunFault) → RunsTo Mismade Stands text reader left log later (Err fault) → RunsTo Mismade (λ (run : Unit {0}) s. Unit {0}) text reader left log later (Err fault)
   failed-gone fault (refused other is untouched told) = refused other is untouched (ap gone told)
   failed-gone fault (unbegun d other read why untouched told) = unbegun d other read why untouched (ap gone told)
   failed-gone fault (stopped d other read comes told) = stopped d other read comes (ap gone told)
   failed-gone fault (done d run read comes told) = absurd cc
 
-  not_written : (fault : PlayFault) → later.failures ≡ 0 → RunsTo Mismade Stands text reader left log later (Err fault) → fault ≢ Write
+  not_written : (fault : RunFault) → later.failures ≡ 0 → RunsTo Mismade Stands text reader left log later (Err fault) → fault ≢ Write
   not_written fault never (refused other refuses untouched told) = λ is. let same : other ≡ Write = cc in subst (RefusesDesc text) same refuses
   not_written fault never (unbegun d other read why untouched told) = λ is. let same : other ≡ Write = cc in subst (IsNoStart Mismade d) same why
   not_written fault never (stopped d other read comes told) = λ is. let same : stream_run other ≡ Write = cc in not_cut (started d) reader left log later other never comes same
   not_written fault never (done d run read comes told) = absurd cc
 
-  pub failed-PicturesTo : (seen : Seen) (fault : PlayFault) → later.failures ≡ 0 → RunsTo Mismade Stands text reader left log later (Err fault) → (r : Result (Unit {0}) PlayFault) → IsErrAnd r (λ told. told ≡ fault) → PicturesTo Mismade text reader left seen seen r
+  pub failed-PicturesTo : (seen : Seen) (fault : RunFault) → later.failures ≡ 0 → RunsTo Mismade Stands text reader left log later (Err fault) → (r : Result (Unit {0}) RunFault) → IsErrAnd r (λ told. told ≡ fault) → PicturesTo Mismade text reader left seen seen r
   failed-PicturesTo seen fault never runs (Ok x) told = absurd told
   failed-PicturesTo seen fault never runs (Err other) told = unrun fault log later (not_written fault never runs) (failed-gone fault runs) refl (ap Err told)
 

@@ -10,7 +10,7 @@ use Rattle.tv_program.specs.declared.picture_fault.DrawingFault.TheVariants.{Run
 use Rattle.tv_program.specs.Scripts.{most_of_script}
 use Rattle.tv_program.specs.Shots.{LeavesScript, ShotsFrom, ShotsTo, script_told}
 use Rattle.tv_program.specs.Shots.ShotsTo.{refused, unbegun}
-use Rattle.tv_program.specs.declared.play_fault.PlayFault.{PlayFault}
+use Rattle.tv_program.specs.declared.run_fault.RunFault.{RunFault}
 use Rattle.tv_program.specs.Playing.{IsNoStart, RefusesDesc}
 use Rattle.tv_program.specs.Reading.{IsSoundText}
 use Rattle.tv_script.specs.declared.script_text.ScriptFault.{ScriptFault}
@@ -35,9 +35,9 @@ module _ (Mismade : Desc → Type 0) (text name : List ℕ) (reader : Given) (pi
   err-is fault (Err other) told = ap Err told
 
   -- the description is refused
-  pub refused-ShotsTo : (fault : PlayFault) → RefusesDesc text fault → (r : Result (Unit {0}) DrawingFault) → IsErrAnd r (λ told. told ≡ Run fault) → ShotsTo Mismade text name reader reader pictures pictures r
+  pub refused-ShotsTo : (fault : RunFault) → RefusesDesc text fault → (r : Result (Unit {0}) DrawingFault) → IsErrAnd r (λ told. told ≡ Run fault) → ShotsTo Mismade text name reader reader pictures pictures r
   refused-ShotsTo fault refuses r told = refused fault refuses (record { unread = refl; undrawn = refl }) (err-is (Run fault) r told)
 
   -- no views were made, or they were refused
-  pub unbegun-ShotsTo : (d : Desc) → IsSoundText text d → (fault : PlayFault) → IsNoStart Mismade d fault → (r : Result (Unit {0}) DrawingFault) → IsErrAnd r (λ told. told ≡ Run fault) → ShotsTo Mismade text name reader reader pictures pictures r
+  pub unbegun-ShotsTo : (d : Desc) → IsSoundText text d → (fault : RunFault) → IsNoStart Mismade d fault → (r : Result (Unit {0}) DrawingFault) → IsErrAnd r (λ told. told ≡ Run fault) → ShotsTo Mismade text name reader reader pictures pictures r
   unbegun-ShotsTo d read fault unmade r told = unbegun d fault read unmade (record { unread = refl; undrawn = refl }) (err-is (Run fault) r told)

@@ -10,16 +10,16 @@ use Rattle.tv_certificate.specs.declared.reading.CertificateFault.{CertificateFa
 use Rattle.tv_certificate.specs.declared.reading.CertificateFault.TheVariants as certificates
 use Rattle.tv_lang.specs.declared.description.LangFault.{LangFault}
 use Rattle.tv_lang.specs.declared.description.LangFault.TheVariants as lang
-use Rattle.tv_play.specs.declared.parting.PlayFault.{PlayFault as TerminalFault}
+use Rattle.tv_play.specs.declared.parting.PlayFault.{PlayFault}
 use Rattle.tv_play.specs.declared.parting.PlayFault.TheVariants as terminals
 use Rattle.tv_program.specs.declared.accept_fault.AcceptFault.{AcceptFault}
 use Rattle.tv_program.specs.declared.accept_fault.AcceptFault.TheVariants as accepts
 use Rattle.tv_program.specs.declared.check_fault.CheckFault.{CheckFault}
 use Rattle.tv_program.specs.declared.check_fault.CheckFault.TheVariants as checks
-use Rattle.tv_program.specs.declared.fault.RunFault.{RunFault}
-use Rattle.tv_program.specs.declared.fault.RunFault.TheVariants as told
-use Rattle.tv_program.specs.declared.play_fault.PlayFault.{PlayFault}
-use Rattle.tv_program.specs.declared.play_fault.PlayFault.TheVariants as runs
+use Rattle.tv_program.specs.declared.trouble.Trouble.{Trouble}
+use Rattle.tv_program.specs.declared.trouble.Trouble.TheVariants as told
+use Rattle.tv_program.specs.declared.run_fault.RunFault.{RunFault}
+use Rattle.tv_program.specs.declared.run_fault.RunFault.TheVariants as runs
 use Rattle.tv_script.specs.declared.script_text.ScriptFault.TheVariants as scripts
 use Rattle.tv_script.specs.declared.stream_fault.StreamFault.{StreamFault}
 use Rattle.tv_script.specs.declared.stream_fault.StreamFault.TheVariants as streams
@@ -58,27 +58,27 @@ refusal_accepted refusal = accepts.Refused refusal
 -- ---- running
 
 -- the description is not spelled
-abbrev pub lang_run : LangFault → PlayFault
+abbrev pub lang_run : LangFault → RunFault
 lang_run lang.NoMemory = runs.NoMemory
 lang_run fault = runs.Lang fault
 
 -- the description has faults
-abbrev pub desc_run : DescFault → PlayFault
+abbrev pub desc_run : DescFault → RunFault
 desc_run descs.NoMemory = runs.NoMemory
 desc_run (descs.Faults list) = runs.Faults list
 
 -- no views were made
-abbrev pub build_run : BuildFault → PlayFault
+abbrev pub build_run : BuildFault → RunFault
 build_run unbuilt.NoMemory = runs.NoMemory
 build_run unbuilt.WrongPlan = runs.View
 
 -- the views were refused
-abbrev pub session_run : SessionFault → PlayFault
+abbrev pub session_run : SessionFault → RunFault
 session_run refused.NoMemory = runs.NoMemory
 session_run (refused.ViewMismatch place) = runs.View
 
 -- the script was left before its end
-abbrev pub stream_run : StreamFault → PlayFault
+abbrev pub stream_run : StreamFault → RunFault
 stream_run streams.NoMemory = runs.NoMemory
 stream_run (streams.Syntax line) = runs.Script (scripts.Syntax line)
 stream_run (streams.OffScreen line) = runs.Script (scripts.OffScreen line)
@@ -87,7 +87,7 @@ stream_run streams.Read = runs.Read
 stream_run (streams.Write begun) = runs.Write
 
 -- the run in a terminal was broken off
-abbrev pub terminal_run : TerminalFault → PlayFault
+abbrev pub terminal_run : PlayFault → RunFault
 terminal_run terminals.NoMemory = runs.NoMemory
 terminal_run terminals.Read = runs.Read
 terminal_run terminals.Log = runs.Write
@@ -96,19 +96,19 @@ terminal_run terminals.Screen = runs.Write
 -- ---- telling
 
 -- a fault of reading a description
-abbrev pub lang_told : LangFault → RunFault
+abbrev pub lang_told : LangFault → Trouble
 lang_told lang.NoMemory = told.NoMemory
 lang_told fault = told.Lang fault
 
 -- a fault of checking
-abbrev pub check_told : CheckFault → RunFault
+abbrev pub check_told : CheckFault → Trouble
 check_told checks.NoMemory = told.NoMemory
 check_told (checks.Lang fault) = told.Lang fault
 check_told (checks.Faults list) = told.Faults list
 check_told checks.Write = told.Write
 
 -- a fault of accepting
-abbrev pub accept_told : AcceptFault → RunFault
+abbrev pub accept_told : AcceptFault → Trouble
 accept_told accepts.NoMemory = told.NoMemory
 accept_told (accepts.Lang fault) = told.Lang fault
 accept_told (accepts.Cert fault) = told.Cert fault
@@ -116,11 +116,11 @@ accept_told (accepts.Refused refusal) = told.Refused refusal
 accept_told accepts.Write = told.Write
 
 -- a fault of a run
-abbrev pub play_told : PlayFault → RunFault
-play_told runs.NoMemory = told.NoMemory
-play_told (runs.Lang fault) = told.Lang fault
-play_told (runs.Faults list) = told.Faults list
-play_told (runs.Script fault) = told.Script fault
-play_told runs.View = told.View
-play_told runs.Read = told.Read
-play_told runs.Write = told.Write
+abbrev pub run_told : RunFault → Trouble
+run_told runs.NoMemory = told.NoMemory
+run_told (runs.Lang fault) = told.Lang fault
+run_told (runs.Faults list) = told.Faults list
+run_told (runs.Script fault) = told.Script fault
+run_told runs.View = told.View
+run_told runs.Read = told.Read
+run_told runs.Write = told.Write

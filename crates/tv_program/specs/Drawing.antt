@@ -6,8 +6,8 @@ use Rattle.tv_machine.specs.Output.{after}
 use Rattle.tv_machine.specs.Run.{started}
 use Rattle.tv_model.specs.declared.desc.Desc.{Desc}
 use Rattle.tv_machine.specs.declared.script.Item.{Item}
-use Rattle.tv_program.specs.declared.play_fault.PlayFault.{PlayFault}
-use Rattle.tv_program.specs.declared.play_fault.PlayFault.TheVariants.{Write}
+use Rattle.tv_program.specs.declared.run_fault.RunFault.{RunFault}
+use Rattle.tv_program.specs.declared.run_fault.RunFault.TheVariants.{Write}
 use Rattle.tv_program.specs.Playing.{RunsTo}
 use Rattle.tv_program.specs.Reading.{IsSoundText}
 use Rattle.tv_program.specs.Pictures.{session_svg}
@@ -23,8 +23,8 @@ pub record GivesScriptOf (d : Desc) (reader left : Given) (script : List Item) :
 -- A description is run on a script, its log and screens being dropped: where that fails, for another reason
 -- than a writer's, nothing is written. Else the screen of the flat machine after the script is drawn.
 pub data PicturesTo (Mismade : Desc → Type 0) (text : List ℕ) (reader left : Given) (old new : Seen)
-    (result : Result (Unit {0}) PlayFault) : Type 0 where
-  unrun : (fault : PlayFault) (log later : Seen) → fault ≢ Write
+    (result : Result (Unit {0}) RunFault) : Type 0 where
+  unrun : (fault : RunFault) (log later : Seen) → fault ≢ Write
       → RunsTo Mismade (λ (run : Unit {0}) s. Unit {0}) text reader left log later (Err fault)
       → new ≡ old → result ≡ Err fault → PicturesTo Mismade text reader left old new result
   drawn : (d : Desc) (script : List Item) → IsSoundText text d → GivesScriptOf d reader left script

@@ -12,8 +12,8 @@ use Rattle.tv_view.specs.Meaning.{Leaf}
 use Rattle.tv_model.specs.declared.desc.Desc.{Desc}
 use Rattle.tv_io.specs.Reader.{Given}
 use Rattle.tv_io.specs.Writer.{Seen}
-use Rattle.tv_program.specs.declared.play_fault.PlayFault.{PlayFault}
-use Rattle.tv_program.specs.declared.play_fault.PlayFault.TheVariants.{NoMemory, Lang, Faults, View}
+use Rattle.tv_program.specs.declared.run_fault.RunFault.{RunFault}
+use Rattle.tv_program.specs.declared.run_fault.RunFault.TheVariants.{NoMemory, Lang, Faults, View}
 use Rattle.tv_program.specs.Conversions.{stream_run}
 use Rattle.tv_lawful.specs.Laws.{RunsByLaws}
 use Rattle.tv_program.specs.Reading.{IsNoDescription, IsSoundText}
@@ -45,14 +45,14 @@ IsMismade {V} Answers look d =
 -- ---- runs
 
 -- why a description is not run: by its text, or by its faults
-abbrev pub RefusesDesc : List ℕ → PlayFault → Type 0
+abbrev pub RefusesDesc : List ℕ → RunFault → Type 0
 RefusesDesc text NoMemory = Unit {0}
 RefusesDesc text (Lang fault) = IsNoDescription text fault
 RefusesDesc text (Faults list) = (d : Desc) × Spells text d × HasFaults d list
 RefusesDesc text _ = ⊥
 
 -- why no run of a description was begun
-abbrev pub IsNoStart : (Desc → Type 0) → Desc → PlayFault → Type 0
+abbrev pub IsNoStart : (Desc → Type 0) → Desc → RunFault → Type 0
 IsNoStart Mismade d NoMemory = Unit {0}
 IsNoStart Mismade d View = Mismade d
 IsNoStart Mismade d _ = ⊥
@@ -68,10 +68,10 @@ pub record IsUntouched (reader left : Given) (old new : Seen) : Type 0 where
 -- start. What is
 -- handed back stands for the run after the script.
 pub data RunsTo {T : Type 0} (Mismade : Desc → Type 0) (Stands : T → Session → Type 0) (text : List ℕ)
-    (reader left : Given) (old new : Seen) (result : Result T PlayFault) : Type 0 where
-  refused : (fault : PlayFault) → RefusesDesc text fault → IsUntouched reader left old new
+    (reader left : Given) (old new : Seen) (result : Result T RunFault) : Type 0 where
+  refused : (fault : RunFault) → RefusesDesc text fault → IsUntouched reader left old new
       → result ≡ Err fault → RunsTo Mismade Stands text reader left old new result
-  unbegun : (d : Desc) (fault : PlayFault) → IsSoundText text d → IsNoStart Mismade d fault
+  unbegun : (d : Desc) (fault : RunFault) → IsSoundText text d → IsNoStart Mismade d fault
       → IsUntouched reader left old new → result ≡ Err fault
       → RunsTo Mismade Stands text reader left old new result
   stopped : (d : Desc) (fault : StreamFault) → IsSoundText text d

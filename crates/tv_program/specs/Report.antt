@@ -9,9 +9,9 @@ use Rattle.tv_lang.specs.declared.description.LangFault.TheVariants as lang
 use Rattle.tv_model.specs.declared.fault.Fault.{Fault}
 use Rattle.tv_model.specs.Faults.{fault_number}
 use Rattle.tv_model.specs.Log.LogText.{line_of}
-use Rattle.tv_program.specs.declared.fault.RunFault.{RunFault}
-use Rattle.tv_program.specs.declared.fault.RunFault.TheVariants.{NoMemory, Lang, Faults, Script, Write, Read}
-use Rattle.tv_program.specs.declared.fault.RunFault.TheVariants.{Cert, Refused, View}
+use Rattle.tv_program.specs.declared.trouble.Trouble.{Trouble}
+use Rattle.tv_program.specs.declared.trouble.Trouble.TheVariants.{NoMemory, Lang, Faults, Script, Write, Read}
+use Rattle.tv_program.specs.declared.trouble.Trouble.TheVariants.{Cert, Refused, View}
 use Rattle.tv_io.specs.Writer.{Seen, Takes, Cuts}
 use Rattle.tv_script.specs.declared.script_text.ScriptFault.{ScriptFault}
 use Rattle.tv_script.specs.declared.script_text.ScriptFault.TheVariants as scripts
@@ -34,7 +34,7 @@ refusal_text (refusals.TabOrder place) = line_of (codes "refused tab ") (decimal
 refusal_text (refusals.Owner letter) = line_of (codes "refused key ") (encode_utf8 letter)
 
 -- faults and refusals go to standard output
-abbrev pub out_text : RunFault → List ℕ
+abbrev pub out_text : Trouble → List ℕ
 out_text (Faults list) = flat_map fault_line list
 out_text (Refused refusal) = refusal_text refusal
 out_text _ = []
@@ -65,7 +65,7 @@ cert_message name (certificates.Syntax line) = syntax_message name line
 cert_message name certificates.TooLong = line_of (codes "tvdlg: ") (name ++ codes ": too long")
 
 -- the message on standard error, with the bytes of the file's name
-abbrev pub err_text : List ℕ → RunFault → List ℕ
+abbrev pub err_text : List ℕ → Trouble → List ℕ
 err_text name NoMemory = line_of (codes "tvdlg: ") (codes "no memory")
 err_text name (Lang fault) = lang_message name fault
 err_text name (Faults list) = []
@@ -94,7 +94,7 @@ abbrev pub refusal_status : Refusal → ℕ
 refusal_status refusals.NoMemory = 3
 refusal_status _ = 1
 
-abbrev pub status_of : RunFault → ℕ
+abbrev pub status_of : Trouble → ℕ
 status_of NoMemory = 3
 status_of (Lang fault) = lang_status fault
 status_of (Faults list) = 1

@@ -5,8 +5,8 @@ use Rattle.tv_io.specs.Reading.{BreaksOff, IsRead}
 use Rattle.tv_machine.specs.Run.{Session, started}
 use Rattle.tv_model.specs.declared.desc.Desc.{Desc}
 use Rattle.tv_machine.specs.declared.script.Item.{Item}
-use Rattle.tv_program.specs.declared.play_fault.PlayFault.{PlayFault}
-use Rattle.tv_program.specs.declared.play_fault.PlayFault.TheVariants.{NoMemory, Read, Script}
+use Rattle.tv_program.specs.declared.run_fault.RunFault.{RunFault}
+use Rattle.tv_program.specs.declared.run_fault.RunFault.TheVariants.{NoMemory, Read, Script}
 use Rattle.tv_program.specs.Playing.{IsNoStart, RefusesDesc}
 use Rattle.tv_program.specs.Reading.{IsSoundText}
 use Rattle.tv_program.specs.Albums.{Hung, Gains, GainsBefore}
@@ -20,12 +20,12 @@ use Rattle.tv_script.specs.declared.script_text.ScriptFault.TheVariants as scrip
 use Rattle.tv_script.specs.Scripts.{RefusesScript}
 
 -- why a script wasn't performed, by why it wasn't read
-abbrev pub script_told : ScriptFault → PlayFault
+abbrev pub script_told : ScriptFault → RunFault
 script_told scripts.NoMemory = NoMemory
 script_told fault = Script fault
 
 -- why the script of a description wasn't performed: it can't be read, or what was read is refused
-abbrev pub LeavesScript : Desc → (reader left : Given) → PlayFault → Type 0
+abbrev pub LeavesScript : Desc → (reader left : Given) → RunFault → Type 0
 LeavesScript d reader left NoMemory = Unit {0}
 LeavesScript d reader left Read = BreaksOff most_of_script reader left
 LeavesScript d reader left (Script fault) =
@@ -53,9 +53,9 @@ pub record IsUndrawn (reader left : Given) (old new : Option Hung) : Type 0 wher
 -- the flat machine are drawn.
 pub data ShotsTo (Mismade : Desc → Type 0) (text name : List ℕ) (reader left : Given)
     (old new : Option Hung) (result : Result (Unit {0}) DrawingFault) : Type 0 where
-  refused : (fault : PlayFault) → RefusesDesc text fault → IsUndrawn reader left old new
+  refused : (fault : RunFault) → RefusesDesc text fault → IsUndrawn reader left old new
       → result ≡ Err (Run fault) → ShotsTo Mismade text name reader left old new result
-  unbegun : (d : Desc) (fault : PlayFault) → IsSoundText text d → IsNoStart Mismade d fault
+  unbegun : (d : Desc) (fault : RunFault) → IsSoundText text d → IsNoStart Mismade d fault
       → IsUndrawn reader left old new → result ≡ Err (Run fault)
       → ShotsTo Mismade text name reader left old new result
   drawn : (d : Desc) → IsSoundText text d → ShotsFrom (started d) name reader left old new result

@@ -4,25 +4,25 @@ use Rattle.tv_machine.specs.Run.{started}
 use Rattle.tv_model.specs.declared.desc.Desc.{Desc}
 use Rattle.tv_play.specs.Playing.{PlaysTo, Ports}
 use Rattle.tv_play.specs.declared.parting.Parting.{Parting}
-use Rattle.tv_play.specs.declared.parting.PlayFault.{PlayFault as TerminalFault}
-use Rattle.tv_program.specs.declared.play_fault.PlayFault.{PlayFault}
+use Rattle.tv_play.specs.declared.parting.PlayFault.{PlayFault}
+use Rattle.tv_program.specs.declared.run_fault.RunFault.{RunFault}
 use Rattle.tv_program.specs.Conversions.{terminal_run}
 use Rattle.tv_program.specs.Playing.{IsNoStart, RefusesDesc}
 use Rattle.tv_program.specs.Reading.{IsSoundText}
 
 -- the answer, with the fault told as that of the call
-abbrev pub told_of : Result Parting TerminalFault → Result Parting PlayFault
+abbrev pub told_of : Result Parting PlayFault → Result Parting RunFault
 told_of (Ok parting) = Ok parting
 told_of (Err fault) = Err (terminal_run fault)
 
 -- A description, played in a terminal. Only a sound one is played, from its start. Where it is refused, or no
 -- run is begun, nothing was read or written. The session isn't handed back.
 pub data PlaysText (Mismade : Desc → Type 0) (text : List ℕ) (old new : Ports)
-    (result : Result Parting PlayFault) : Type 0 where
-  refused : (fault : PlayFault) → RefusesDesc text fault → new ≡ old → result ≡ Err fault
+    (result : Result Parting RunFault) : Type 0 where
+  refused : (fault : RunFault) → RefusesDesc text fault → new ≡ old → result ≡ Err fault
       → PlaysText Mismade text old new result
-  unbegun : (d : Desc) (fault : PlayFault) → IsSoundText text d → IsNoStart Mismade d fault → new ≡ old
+  unbegun : (d : Desc) (fault : RunFault) → IsSoundText text d → IsNoStart Mismade d fault → new ≡ old
       → result ≡ Err fault → PlaysText Mismade text old new result
-  played : (d : Desc) (outcome : Result Parting TerminalFault) → IsSoundText text d
+  played : (d : Desc) (outcome : Result Parting PlayFault) → IsSoundText text d
       → PlaysTo (started d) old new (λ s. Unit {0}) outcome → result ≡ told_of outcome
       → PlaysText Mismade text old new result

@@ -5,7 +5,7 @@ ghost use Rattle.tv_model.specs.Log.LogText.{line_of};
 ghost use Rattle.tv_io.specs.Pen.{Puts};
 ghost use Rattle.tv_program.specs.Report.{IsOffered, cert_message, fault_line, lang_message, lang_status, line_message, out_text, err_text, refusal_text, script_message, status_of};
 
-use crate::fault::RunFault;
+use crate::trouble::Trouble;
 use tv_check::{CertificateFault, Refusal};
 use tv_io::{Pen, Writer};
 use tv_lang::LangFault;
@@ -17,7 +17,7 @@ const SYNTAX: &[u8] = b": syntax at line ";
 /// Tells why a call didn't come to its end: faults and refusals on `out`, a message on `err`. Answers the program's status.
 ///
 /// `name` is that of the file that the fault is in. Where a writer fails, what it took is a prefix.
-pub fn report<W: Writer, E: Writer>(fault: &RunFault, name: &str, out: &mut W, err: &mut E) -> u8
+pub fn report<W: Writer, E: Writer>(fault: &Trouble, name: &str, out: &mut W, err: &mut E) -> u8
     ensures status { result ≡ status_of fault.now }
     ensures out { IsOffered (W.seen out.old) (W.seen out.new) (out_text fault.now) }
     ensures err { IsOffered (E.seen err.old) (E.seen err.new) (err_text name.now fault.now) }
@@ -35,32 +35,32 @@ pub fn report<W: Writer, E: Writer>(fault: &RunFault, name: &str, out: &mut W, e
     status(fault)
 }
 
-fn status(fault: &RunFault) -> u8
+fn status(fault: &Trouble) -> u8
     ensures { result ≡ status_of fault.now }
 {
     match fault {
-        RunFault::NoMemory
-        | RunFault::Lang(LangFault::NoMemory)
-        | RunFault::Script(ScriptFault::NoMemory)
-        | RunFault::Cert(CertificateFault::NoMemory)
-        | RunFault::Refused(Refusal::NoMemory)
-        | RunFault::Write
-        | RunFault::Read => 3,
-        RunFault::Lang(_)
-        | RunFault::Faults(_)
-        | RunFault::Script(_)
-        | RunFault::Cert(_)
-        | RunFault::Refused(_)
-        | RunFault::View => 1,
+        Trouble::NoMemory
+        | Trouble::Lang(LangFault::NoMemory)
+        | Trouble::Script(ScriptFault::NoMemory)
+        | Trouble::Cert(CertificateFault::NoMemory)
+        | Trouble::Refused(Refusal::NoMemory)
+        | Trouble::Write
+        | Trouble::Read => 3,
+        Trouble::Lang(_)
+        | Trouble::Faults(_)
+        | Trouble::Script(_)
+        | Trouble::Cert(_)
+        | Trouble::Refused(_)
+        | Trouble::View => 1,
     }
 }
 
-fn put_result<W: Writer>(pen: &mut Pen<W>, fault: &RunFault)
+fn put_result<W: Writer>(pen: &mut Pen<W>, fault: &Trouble)
     ensures { Puts W.seen pen.old pen.new (out_text fault.now) }
 {
     match fault {
-        RunFault::Faults(list) => put_list(pen, list.as_slice()),
-        RunFault::Refused(refusal) => put_refusal(pen, refusal),
+        Trouble::Faults(list) => put_list(pen, list.as_slice()),
+        Trouble::Refused(refusal) => put_refusal(pen, refusal),
         _ => {}
     }
 }
@@ -124,20 +124,20 @@ fn put_fault<W: Writer>(pen: &mut Pen<W>, fault: &Fault)
     pen.put(b"\n");
 }
 
-fn put_message<W: Writer>(pen: &mut Pen<W>, name: &[u8], fault: &RunFault)
+fn put_message<W: Writer>(pen: &mut Pen<W>, name: &[u8], fault: &Trouble)
     ensures { Puts W.seen pen.old pen.new (err_text name.now fault.now) }
 {
     match fault {
-        RunFault::NoMemory => put_plain(pen, b"no memory"),
-        RunFault::Lang(fault) => put_lang(pen, name, *fault),
-        RunFault::Faults(_) => {}
-        RunFault::Cert(fault) => put_cert(pen, name, *fault),
-        RunFault::Refused(Refusal::NoMemory) => put_plain(pen, b"no memory"),
-        RunFault::Refused(_) => {}
-        RunFault::Script(fault) => put_script(pen, name, *fault),
-        RunFault::View => put_plain(pen, b"view refused"),
-        RunFault::Read => put_named(pen, b"cannot read ", name),
-        RunFault::Write => put_plain(pen, b"cannot write"),
+        Trouble::NoMemory => put_plain(pen, b"no memory"),
+        Trouble::Lang(fault) => put_lang(pen, name, *fault),
+        Trouble::Faults(_) => {}
+        Trouble::Cert(fault) => put_cert(pen, name, *fault),
+        Trouble::Refused(Refusal::NoMemory) => put_plain(pen, b"no memory"),
+        Trouble::Refused(_) => {}
+        Trouble::Script(fault) => put_script(pen, name, *fault),
+        Trouble::View => put_plain(pen, b"view refused"),
+        Trouble::Read => put_named(pen, b"cannot read ", name),
+        Trouble::Write => put_plain(pen, b"cannot write"),
     }
 }
 

@@ -5,7 +5,7 @@ ghost use Rattle.tv_program.specs.declared.picture_fault.DrawingFault.TheVariant
 ghost use Rattle.tv_program.specs.Shots.{script_told};
 
 use crate::album::AlbumFault;
-use crate::play_fault::PlayFault;
+use crate::run_fault::RunFault;
 use tv_script::ScriptFault;
 
 /// The picture of a `shot` that isn't there, counted from 1, and why.
@@ -19,15 +19,15 @@ pub struct ShotFault {
 #[derive(Debug, Drop)]
 pub enum DrawingFault {
     /// The script wasn't run: no picture was drawn.
-    Run(PlayFault),
+    Run(RunFault),
     /// A picture failed. Those before it are there.
     Shot(ShotFault),
 }
 
-impl From<PlayFault> for DrawingFault {
+impl From<RunFault> for DrawingFault {
     ghost from_gives = { λ unrun fault. fault ≡ Run unrun };
 
-    fn from(unrun: PlayFault) -> DrawingFault {
+    fn from(unrun: RunFault) -> DrawingFault {
         DrawingFault::Run(unrun)
     }
 }
@@ -37,8 +37,8 @@ impl From<ScriptFault> for DrawingFault {
 
     fn from(unread: ScriptFault) -> DrawingFault {
         match unread {
-            ScriptFault::NoMemory => DrawingFault::Run(PlayFault::NoMemory),
-            _ => DrawingFault::Run(PlayFault::Script(unread)),
+            ScriptFault::NoMemory => DrawingFault::Run(RunFault::NoMemory),
+            _ => DrawingFault::Run(RunFault::Script(unread)),
         }
     }
 }

@@ -6,7 +6,7 @@ ghost use Rattle.tv_program.specs.Playing.{IsLawfulText, IsMismade, IsNoStart, M
 ghost use Rattle.tv_program.specs.Reading.{IsSoundText};
 ghost use Rattle.tv_session.specs.Session.{StandsFor};
 
-use crate::play_fault::PlayFault;
+use crate::run_fault::RunFault;
 use std::alloc::Global;
 use tv_check::{Checked, examine};
 use tv_io::{Reader, Writer};
@@ -40,7 +40,7 @@ pub fn run<V: View, F: Fn(Global, &Checked) -> Result<Views<V>, BuildFault>, R: 
     script: &mut R,
     make: &F,
     out: &mut W,
-) -> Result<SessionOf<V>, PlayFault>
+) -> Result<SessionOf<V>, RunFault>
     requires { F.IsAlwaysCallable make.now }
     ensures output { RunsTo (IsMismade (Makes F.Fn make.now) V.meaning) (λ session s. StandsFor V.meaning session s) desc.now
         (R.seen script.old) (R.seen script.new) (W.seen out.old) (W.seen out.new) result }
@@ -64,7 +64,7 @@ pub fn run_from<
     script: &mut R,
     make: &F,
     out: &mut W,
-) -> Result<SessionOf<V>, PlayFault>
+) -> Result<SessionOf<V>, RunFault>
     requires { F.IsAlwaysCallable make.now }
     ensures { (text : List ℕ) → IsSoundText text checked
         → RunsTo (IsMismade (Makes F.Fn make.now) V.meaning) (λ session s. StandsFor V.meaning session s) text
@@ -79,7 +79,7 @@ pub fn run_from<
 /// Reads the description that a text spells, where it has no faults.
 ///
 /// The errors are those of the text, then its faults.
-pub fn read_checked(alloc: Global, text: &[u8]) -> Result<Checked, PlayFault>
+pub fn read_checked(alloc: Global, text: &[u8]) -> Result<Checked, RunFault>
     ensures sound { IfOk result (λ checked. IsSoundText text.now checked) }
     ensures fault { IfErr result (λ fault. RefusesDesc text.now fault) }
 {
@@ -92,7 +92,7 @@ pub(crate) fn begin<V: View, F: Fn(Global, &Checked) -> Result<Views<V>, BuildFa
     alloc: Global,
     checked: Checked,
     make: &F,
-) -> Result<SessionOf<V>, PlayFault>
+) -> Result<SessionOf<V>, RunFault>
     requires { F.IsAlwaysCallable make.now }
     ensures start { IfOk result (λ session. StandsFor V.meaning session (started checked)) }
     ensures fault { IfErr result (λ fault. IsNoStart (IsMismade (Makes F.Fn make.now) V.meaning) checked fault) }
@@ -100,6 +100,6 @@ pub(crate) fn begin<V: View, F: Fn(Global, &Checked) -> Result<Views<V>, BuildFa
     let views = make(alloc, &checked)?;
     match SessionOf::new(alloc, checked, views.windows, views.bodies) {
         Ok(session) => Ok(session),
-        Err(refused) => Err(PlayFault::from(refused.fault)),
+        Err(refused) => Err(RunFault::from(refused.fault)),
     }
 }

@@ -4,8 +4,8 @@ ghost use Rattle.tv_program.specs.Drawing.{PicturesTo};
 ghost use Rattle.tv_program.specs.Playing.{IsMismade, Makes};
 
 use crate::nowhere::Nowhere;
-use crate::play_fault::PlayFault;
 use crate::playing::run;
+use crate::run_fault::RunFault;
 use std::alloc::Global;
 use tv_check::Checked;
 use tv_io::{Reader, Writer};
@@ -25,7 +25,7 @@ pub fn picture<
     F: Fn(Global, &Checked) -> Result<Views<V>, BuildFault>,
     R: Reader,
     W: Writer,
->(alloc: Global, desc: &[u8], script: &mut R, make: &F, out: &mut W) -> Result<(), PlayFault>
+>(alloc: Global, desc: &[u8], script: &mut R, make: &F, out: &mut W) -> Result<(), RunFault>
     requires { F.IsAlwaysCallable make.now }
     ensures { PicturesTo (IsMismade (Makes F.Fn make.now) V.meaning) desc.now
         (R.seen script.old) (R.seen script.new) (W.seen out.old) (W.seen out.new) result }
@@ -34,6 +34,6 @@ pub fn picture<
     let session = run(alloc, desc, script, make, &mut nowhere)?;
     match write_svg(session.screen(), out) {
         Ok(()) => Ok(()),
-        Err(_) => Err(PlayFault::Write),
+        Err(_) => Err(RunFault::Write),
     }
 }

@@ -10,9 +10,9 @@ ghost use Rattle.tv_session.specs.Session.{StandsFor};
 use crate::album::Album;
 use crate::drawing::draw_shots;
 use crate::picture_fault::DrawingFault;
-use crate::play_fault::PlayFault;
 use crate::playing::read_checked;
 use crate::reading::read_script;
+use crate::run_fault::RunFault;
 use std::alloc::Global;
 use tv_check::Checked;
 use tv_io::Reader;
@@ -57,7 +57,7 @@ fn begin<V: View, F: Fn(Global, &Checked) -> Result<Views<V>, BuildFault>>(
     alloc: Global,
     checked: Checked,
     make: &F,
-) -> Result<SessionOf<V>, PlayFault>
+) -> Result<SessionOf<V>, RunFault>
     requires { F.IsAlwaysCallable make.now }
     ensures start { IfOk result (λ session. StandsFor V.meaning session (started checked)) }
     ensures fault { IfErr result (λ fault. IsNoStart (IsMismade (Makes F.Fn make.now) V.meaning) checked fault) }
@@ -65,7 +65,7 @@ fn begin<V: View, F: Fn(Global, &Checked) -> Result<Views<V>, BuildFault>>(
     let views = make(alloc, &checked)?;
     match SessionOf::new(alloc, checked, views.windows, views.bodies) {
         Ok(session) => Ok(session),
-        Err(refused) => Err(PlayFault::from(refused.fault)),
+        Err(refused) => Err(RunFault::from(refused.fault)),
     }
 }
 

@@ -5,8 +5,8 @@ ghost use Rattle.tv_program.specs.Playing.{IsLawfulText, IsMismade, Makes};
 ghost use Rattle.tv_program.specs.Reading.{IsSoundText};
 ghost use Rattle.tv_program.specs.Terminal.{PlaysText};
 
-use crate::play_fault::PlayFault;
 use crate::playing::{begin, read_checked};
+use crate::run_fault::RunFault;
 use std::alloc::Global;
 use tv_check::Checked;
 use tv_io::Writer;
@@ -44,7 +44,7 @@ pub fn play<
     make: &F,
     screen: &mut T,
     log: &mut W,
-) -> Result<Parting, PlayFault>
+) -> Result<Parting, RunFault>
     requires { F.IsAlwaysCallable make.now }
     ensures output { PlaysText (IsMismade (Makes F.Fn make.now) V.meaning) desc.now
         (record { input = P.heard pieces.old; log = W.seen log.old; screen = T.seen screen.old })
@@ -71,7 +71,7 @@ pub fn play_from<
     make: &F,
     screen: &mut T,
     log: &mut W,
-) -> Result<Parting, PlayFault>
+) -> Result<Parting, RunFault>
     requires { F.IsAlwaysCallable make.now }
     ensures { (text : List ℕ) → IsSoundText text checked
         → PlaysText (IsMismade (Makes F.Fn make.now) V.meaning) text

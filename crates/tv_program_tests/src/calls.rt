@@ -4,7 +4,7 @@ use std::alloc::Global;
 use std::test::Fail;
 use tv_io::{FileReader, Writer};
 use tv_lang::parse;
-use tv_program::{RunFault, accept_files, accept_text, check, report, run};
+use tv_program::{Trouble, accept_files, accept_text, check, report, run};
 use tv_test_support::button_views::{buttons, no_views};
 use tv_test_support::{Idle, Memory, Question, expect_row};
 
@@ -27,7 +27,7 @@ pub enum Call<'a> {
 
 impl Call<'_> {
     /// Makes the call, with what it writes going to a writer.
-    pub fn make<W: Writer>(&self, alloc: Global, text: &[u8], out: &mut W) -> Result<(), RunFault> {
+    pub fn make<W: Writer>(&self, alloc: Global, text: &[u8], out: &mut W) -> Result<(), Trouble> {
         match self {
             Call::Check => check_into(alloc, text, out),
             Call::AcceptFiles { desc } => accept_files_into(alloc, desc.as_bytes(), text, out),
@@ -39,7 +39,7 @@ impl Call<'_> {
     }
 }
 
-fn check_into<W: Writer>(alloc: Global, text: &[u8], out: &mut W) -> Result<(), RunFault> {
+fn check_into<W: Writer>(alloc: Global, text: &[u8], out: &mut W) -> Result<(), Trouble> {
     Ok(check(alloc, text, out)?)
 }
 
@@ -48,7 +48,7 @@ fn accept_files_into<W: Writer>(
     desc: &[u8],
     certificate: &[u8],
     out: &mut W,
-) -> Result<(), RunFault> {
+) -> Result<(), Trouble> {
     Ok(accept_files(alloc, desc, certificate, out)?)
 }
 
@@ -57,7 +57,7 @@ fn accept_text_into<W: Writer>(
     desc: &[u8],
     certificate: &[u8],
     out: &mut W,
-) -> Result<(), RunFault> {
+) -> Result<(), Trouble> {
     let desc = parse(alloc, desc)?;
     Ok(accept_text(alloc, desc, certificate, out)?)
 }
@@ -68,7 +68,7 @@ pub fn run_into<W: Writer>(
     desc: &[u8],
     script: &[u8],
     out: &mut W,
-) -> Result<(), RunFault> {
+) -> Result<(), Trouble> {
     run(alloc, desc, &mut FileReader::new(script), &buttons, out)?;
     Ok(())
 }
@@ -78,13 +78,13 @@ fn run_bare_into<W: Writer>(
     desc: &[u8],
     script: &[u8],
     out: &mut W,
-) -> Result<(), RunFault> {
+) -> Result<(), Trouble> {
     run(alloc, desc, &mut FileReader::new(script), &no_views, out)?;
     Ok(())
 }
 
 /// Tells of a fault. Returns the status.
-pub fn report_into<W: Writer, E: Writer>(fault: &RunFault, out: &mut W, err: &mut E) -> u8 {
+pub fn report_into<W: Writer, E: Writer>(fault: &Trouble, out: &mut W, err: &mut E) -> u8 {
     report(fault, "NAME", out, err)
 }
 
@@ -101,7 +101,7 @@ impl Question for Call<'_> {
 
 // What is told of a fault, on what was written before: what stands on standard output, then what stands on standard error,
 // then the status.
-fn fault_told(alloc: Global, mut out: Memory, fault: &RunFault) -> Result<String, Fail> {
+fn fault_told(alloc: Global, mut out: Memory, fault: &Trouble) -> Result<String, Fail> {
     let mut err = Memory::ample(alloc)?;
     let status = report_into(fault, &mut out, &mut err);
     streams_told(alloc, out.taken(), err.taken(), status)

@@ -5,13 +5,13 @@ use std::alloc::Global;
 use std::test::Fail;
 use tv_check::CertificateFault;
 use tv_lang::LangFault;
-use tv_program::RunFault;
+use tv_program::Trouble;
 use tv_script::ScriptFault;
 use tv_test_support::descriptions::WITHOUT_CANCEL;
 use tv_test_support::{Idle, Memory};
 
 // Fails where a fault has another message or status than this, and where anything is told elsewhere.
-fn expect_report(alloc: Global, fault: &RunFault, message: &str, status: u8) -> Result<(), Fail> {
+fn expect_report(alloc: Global, fault: &Trouble, message: &str, status: u8) -> Result<(), Fail> {
     let mut out = Memory::ample(alloc)?;
     let mut err = Memory::ample(alloc)?;
     let answer = report_into(fault, &mut out, &mut err);
@@ -22,40 +22,37 @@ fn expect_report(alloc: Global, fault: &RunFault, message: &str, status: u8) -> 
     Err(Fail::new(format_args!("{fault:?}: status {answer}")))
 }
 
-const ON_TEXTS: [(RunFault, &str); 9] = [
+const ON_TEXTS: [(Trouble, &str); 9] = [
     (
-        RunFault::Lang(LangFault::Syntax(2)),
+        Trouble::Lang(LangFault::Syntax(2)),
         "tvdlg: NAME: syntax at line 2\n",
     ),
+    (Trouble::Lang(LangFault::TooLong), "tvdlg: NAME: too long\n"),
     (
-        RunFault::Lang(LangFault::TooLong),
-        "tvdlg: NAME: too long\n",
-    ),
-    (
-        RunFault::Lang(LangFault::Version),
+        Trouble::Lang(LangFault::Version),
         "tvdlg: NAME: unknown version\n",
     ),
     (
-        RunFault::Script(ScriptFault::Syntax(100)),
+        Trouble::Script(ScriptFault::Syntax(100)),
         "tvdlg: NAME: syntax at line 100\n",
     ),
     (
-        RunFault::Script(ScriptFault::OffScreen(12)),
+        Trouble::Script(ScriptFault::OffScreen(12)),
         "tvdlg: NAME: off screen at line 12\n",
     ),
     (
-        RunFault::Script(ScriptFault::TooLong),
+        Trouble::Script(ScriptFault::TooLong),
         "tvdlg: NAME: too long\n",
     ),
     (
-        RunFault::Cert(CertificateFault::Syntax(7)),
+        Trouble::Cert(CertificateFault::Syntax(7)),
         "tvdlg: NAME: syntax at line 7\n",
     ),
     (
-        RunFault::Cert(CertificateFault::TooLong),
+        Trouble::Cert(CertificateFault::TooLong),
         "tvdlg: NAME: too long\n",
     ),
-    (RunFault::View, "tvdlg: view refused\n"),
+    (Trouble::View, "tvdlg: view refused\n"),
 ];
 
 #[test]
@@ -66,15 +63,12 @@ fn reports_on_texts(rt: HostRuntime) -> Result<(), Fail> {
     Ok(())
 }
 
-const ON_MEMORY_AND_DEVICES: [(RunFault, &str); 5] = [
-    (RunFault::Lang(LangFault::NoMemory), "tvdlg: no memory\n"),
-    (
-        RunFault::Script(ScriptFault::NoMemory),
-        "tvdlg: no memory\n",
-    ),
-    (RunFault::NoMemory, "tvdlg: no memory\n"),
-    (RunFault::Read, "tvdlg: cannot read NAME\n"),
-    (RunFault::Write, "tvdlg: cannot write\n"),
+const ON_MEMORY_AND_DEVICES: [(Trouble, &str); 5] = [
+    (Trouble::Lang(LangFault::NoMemory), "tvdlg: no memory\n"),
+    (Trouble::Script(ScriptFault::NoMemory), "tvdlg: no memory\n"),
+    (Trouble::NoMemory, "tvdlg: no memory\n"),
+    (Trouble::Read, "tvdlg: cannot read NAME\n"),
+    (Trouble::Write, "tvdlg: cannot write\n"),
 ];
 
 #[test]
@@ -86,7 +80,7 @@ fn reports_on_memory_and_devices(rt: HostRuntime) -> Result<(), Fail> {
 }
 
 // Fails where a fault has another status, or leaves anything but this on a writer that fails after so many bytes.
-fn expect_begun(alloc: Global, fault: &RunFault, prefix: &str, status: u8) -> Result<(), Fail> {
+fn expect_begun(alloc: Global, fault: &Trouble, prefix: &str, status: u8) -> Result<(), Fail> {
     let mut err = Memory::new(alloc, prefix.len(), 5)?;
     let mut out = Idle { calls: 0 };
     let answer = report_into(fault, &mut out, &mut err);
@@ -96,11 +90,11 @@ fn expect_begun(alloc: Global, fault: &RunFault, prefix: &str, status: u8) -> Re
     Err(Fail::new(format_args!("{fault:?}: status {answer}")))
 }
 
-const BEGUN: [(RunFault, &str, u8); 4] = [
-    (RunFault::Lang(LangFault::Syntax(2)), "tvdlg: NAME", 1),
-    (RunFault::Script(ScriptFault::Syntax(100)), "tvdlg: NAME", 1),
-    (RunFault::Write, "tvdlg: canno", 3),
-    (RunFault::NoMemory, "tvdlg: no me", 3),
+const BEGUN: [(Trouble, &str, u8); 4] = [
+    (Trouble::Lang(LangFault::Syntax(2)), "tvdlg: NAME", 1),
+    (Trouble::Script(ScriptFault::Syntax(100)), "tvdlg: NAME", 1),
+    (Trouble::Write, "tvdlg: canno", 3),
+    (Trouble::NoMemory, "tvdlg: no me", 3),
 ];
 
 #[test]

@@ -3,7 +3,7 @@
 use crate::calls::{Call, run_into};
 use std::alloc::Global;
 use std::test::Fail;
-use tv_program::RunFault;
+use tv_program::Trouble;
 use tv_script::{Script, ScriptFault};
 use tv_test_support::descriptions::{CANCEL, WITHOUT_CANCEL};
 use tv_test_support::{Memory, Question, expect_answer, expect_answers};
@@ -22,7 +22,7 @@ impl Question for RunScripts {
             return Err(Fail::new("the start isn't written"));
         }
         match fault {
-            RunFault::Script(fault) => fault_told(alloc, fault),
+            Trouble::Script(fault) => fault_told(alloc, fault),
             _ => Err(Fail::new("no fault of the script")),
         }
     }

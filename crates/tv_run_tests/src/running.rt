@@ -8,7 +8,7 @@ use std::test::Fail;
 use tv_case_texts::Run;
 use tv_check::Checked;
 use tv_io::{FileReader, Reader, Writer};
-use tv_program::{PlayFault, run};
+use tv_program::{RunFault, run};
 use tv_session::Session;
 use tv_test_support::Memory;
 
@@ -20,7 +20,7 @@ pub fn run_into<W: Writer>(
     script: &str,
     journal: Option<&Rc<Journal>>,
     out: &mut W,
-) -> Result<(), PlayFault> {
+) -> Result<(), RunFault> {
     let mut script = FileReader::new(script.as_bytes());
     run_on(alloc, desc, &mut script, journal, out)
 }
@@ -32,7 +32,7 @@ pub fn run_on<R: Reader, W: Writer>(
     script: &mut R,
     journal: Option<&Rc<Journal>>,
     out: &mut W,
-) -> Result<(), PlayFault> {
+) -> Result<(), RunFault> {
     play_on(alloc, desc, script, journal, out)?;
     Ok(())
 }
@@ -44,7 +44,7 @@ fn play_on<R: Reader, W: Writer>(
     script: &mut R,
     journal: Option<&Rc<Journal>>,
     out: &mut W,
-) -> Result<Session, PlayFault> {
+) -> Result<Session, RunFault> {
     let make = move |alloc: Global, checked: &Checked| views(alloc, checked, journal);
     run(alloc, desc.as_bytes(), script, &make, out)
 }

@@ -4,7 +4,7 @@ use crate::pieces::Relenting;
 use crate::running::run_into;
 use std::alloc::Global;
 use std::test::Fail;
-use tv_program::PlayFault;
+use tv_program::RunFault;
 use tv_test_support::descriptions::{CANCEL, ORDER};
 use tv_test_support::{Idle, Memory};
 
@@ -47,7 +47,7 @@ fn expect_cut(
 ) -> Result<(), Fail> {
     let mut out = Memory::new(alloc, room, whole.len())?;
     let stop = run_into(alloc, desc, script, None, &mut out);
-    if !matches!(stop, Err(PlayFault::Write)) {
+    if !matches!(stop, Err(RunFault::Write)) {
         return Err(Fail::new(format_args!("{stop:?} after {room} bytes")));
     }
     if whole.get(..room) == Some(out.taken()) {
@@ -78,7 +78,7 @@ fn a_writer_that_takes_nothing(rt: HostRuntime) -> Result<(), Fail> {
     let mut out = Idle { calls: 0 };
     let stop = run_into(rt.alloc(), ORDER, GIFTS, None, &mut out);
     match (stop, out.calls) {
-        (Err(PlayFault::Write), 1) => Ok(()),
+        (Err(RunFault::Write), 1) => Ok(()),
         (stop, calls) => Err(Fail::new(format_args!("{stop:?} after {calls} calls"))),
     }
 }
@@ -88,7 +88,7 @@ fn expect_end(alloc: Global, room: usize) -> Result<(), Fail> {
     let mut out = Relenting::new(room);
     let stop = run_into(alloc, ORDER, GIFTS, None, &mut out);
     match (stop, out.room, out.offered) {
-        (Err(PlayFault::Write), 0, 0) => Ok(()),
+        (Err(RunFault::Write), 0, 0) => Ok(()),
         (stop, left, offered) => Err(Fail::new(format_args!(
             "{stop:?} of {room} bytes, with {left} left and {offered} offered later"
         ))),

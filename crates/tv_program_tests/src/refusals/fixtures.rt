@@ -10,7 +10,7 @@ use tv_check::{Certificate, CertificateFault, Checked};
 use tv_controls::Button;
 use tv_lang::{LangFault, parse};
 use tv_model::Desc;
-use tv_program::{PlayFault, read_checked};
+use tv_program::{RunFault, read_checked};
 use tv_session::{BuildFault, Views};
 use tv_test_support::button_views::buttons;
 use tv_test_support::certificates::CANCEL_CERTIFICATE;
@@ -47,7 +47,7 @@ pub fn desc_of(alloc: Global, text: &str) -> Result<Desc, Ending>
 pub fn checked_of(alloc: Global, text: &str) -> Result<Checked, Ending> {
     match read_checked(alloc, text.as_bytes()) {
         Ok(checked) => Ok(checked),
-        Err(PlayFault::NoMemory) => Err(Ending::NoMemory),
+        Err(RunFault::NoMemory) => Err(Ending::NoMemory),
         Err(_) => Err(Ending::Other("no sound description")),
     }
 }

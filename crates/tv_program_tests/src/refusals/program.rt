@@ -7,7 +7,7 @@ use std::alloc::Global;
 use std::test::Fail;
 use tv_io::{FileReader, ReadFault, read_text};
 use tv_play::{Parting, Piece, Pieces};
-use tv_program::{PlayFault, RunFault, accept_files, check, play, run};
+use tv_program::{RunFault, Trouble, accept_files, check, play, run};
 use tv_test_support::Memory;
 use tv_test_support::button_views::buttons;
 use tv_test_support::certificates::CANCEL_CERTIFICATE;
@@ -18,10 +18,10 @@ const START: &str = "open a\nfocus c\n";
 const ENDED: &str = "open a\nfocus c\npress c\nend a cancel\n";
 
 // What a call came to that is to write this. Where memory was refused it wrote nothing, or what comes before the script.
-fn written(end: Result<(), RunFault>, out: &Memory, wanted: &str) -> Result<(), Ending> {
+fn written(end: Result<(), Trouble>, out: &Memory, wanted: &str) -> Result<(), Ending> {
     match end {
         Ok(()) => expect(out.taken() == wanted.as_bytes(), "another text"),
-        Err(RunFault::NoMemory) => {
+        Err(Trouble::NoMemory) => {
             let is_unbegun = out.taken().is_empty() || out.taken() == START.as_bytes();
             expect(is_unbegun, "a part of the text")?;
             Err(Ending::NoMemory)
@@ -30,7 +30,7 @@ fn written(end: Result<(), RunFault>, out: &Memory, wanted: &str) -> Result<(), 
     }
 }
 
-fn check_into(alloc: Global, out: &mut Memory) -> Result<(), RunFault> {
+fn check_into(alloc: Global, out: &mut Memory) -> Result<(), Trouble> {
     Ok(check(alloc, CANCEL.as_bytes(), out)?)
 }
 
@@ -45,7 +45,7 @@ fn checking(rt: HostRuntime) -> Result<(), Fail> {
     expect_whole(checked(rt.alloc()))
 }
 
-fn accept_into(alloc: Global, out: &mut Memory) -> Result<(), RunFault> {
+fn accept_into(alloc: Global, out: &mut Memory) -> Result<(), Trouble> {
     let certificate = CANCEL_CERTIFICATE.as_bytes();
     Ok(accept_files(alloc, CANCEL.as_bytes(), certificate, out)?)
 }
@@ -61,7 +61,7 @@ fn accepting(rt: HostRuntime) -> Result<(), Fail> {
     expect_whole(accepted(rt.alloc()))
 }
 
-fn run_into(alloc: Global, out: &mut Memory) -> Result<(), RunFault> {
+fn run_into(alloc: Global, out: &mut Memory) -> Result<(), Trouble> {
     let mut script = FileReader::new(b"key Tab\ntype \"c\"\n".as_slice());
     run(alloc, CANCEL.as_bytes(), &mut script, &buttons, out)?;
     Ok(())
@@ -104,7 +104,7 @@ fn play_into(
     letter: &mut Letter,
     screen: &mut Memory,
     log: &mut Memory,
-) -> Result<Parting, PlayFault> {
+) -> Result<Parting, RunFault> {
     play(alloc, CANCEL.as_bytes(), letter, &buttons, screen, log)
 }
 
@@ -117,7 +117,7 @@ fn played(alloc: Global) -> Result<(), Ending> {
     let mut screen = Memory::ample(alloc)?;
     let mut log = Memory::ample(alloc)?;
     let mut end = play_into(alloc, &mut letter, &mut screen, &mut log);
-    let again = matches!(end, Err(PlayFault::NoMemory));
+    let again = matches!(end, Err(RunFault::NoMemory));
     if again {
         let is_untouched = letter.reads == 0 && screen.taken().is_empty() && log.taken().is_empty();
         expect(is_untouched, "it was begun")?;

@@ -1,21 +1,21 @@
 //! Why a script wasn't run on a description, or not to its end.
 
 ghost use Rattle.std.specs.Prelude.{◌≡◌};
-ghost use Rattle.tv_program.specs.declared.play_fault.PlayFault.TheVariants.{NoMemory};
+ghost use Rattle.tv_program.specs.declared.run_fault.RunFault.TheVariants.{NoMemory};
 ghost use Rattle.tv_program.specs.Conversions.{build_run, desc_run, lang_run, session_run, stream_run, terminal_run};
 
 use std::alloc::AllocError;
 use tv_check::DescFault;
 use tv_lang::LangFault;
 use tv_model::{Fault, Sequence};
-use tv_play::PlayFault as TerminalFault;
+use tv_play::PlayFault;
 use tv_script::{ScriptFault, StreamFault};
 use tv_session::{BuildFault, SessionFault};
 
 /// Why a script wasn't run to its end: a fault of the description or of the views, before anything of the script is read, or
 /// one that came while the script was performed. Also why a description wasn't played in a terminal, which has no `Script`.
 #[derive(Debug, Drop)]
-pub enum PlayFault {
+pub enum RunFault {
     NoMemory,
     /// The description is not spelled right.
     Lang(LangFault),
@@ -31,81 +31,81 @@ pub enum PlayFault {
     Write,
 }
 
-impl From<AllocError> for PlayFault {
+impl From<AllocError> for RunFault {
     ghost from_gives = { λ _ fault. fault ≡ NoMemory };
 
-    fn from(_error: AllocError) -> PlayFault {
-        PlayFault::NoMemory
+    fn from(_error: AllocError) -> RunFault {
+        RunFault::NoMemory
     }
 }
 
-impl From<LangFault> for PlayFault {
+impl From<LangFault> for RunFault {
     ghost from_gives = { λ unread fault. fault ≡ lang_run unread };
 
-    fn from(unread: LangFault) -> PlayFault {
+    fn from(unread: LangFault) -> RunFault {
         match unread {
-            LangFault::NoMemory => PlayFault::NoMemory,
-            _ => PlayFault::Lang(unread),
+            LangFault::NoMemory => RunFault::NoMemory,
+            _ => RunFault::Lang(unread),
         }
     }
 }
 
-impl From<DescFault> for PlayFault {
+impl From<DescFault> for RunFault {
     ghost from_gives = { λ faulty fault. fault ≡ desc_run faulty };
 
-    fn from(faulty: DescFault) -> PlayFault {
+    fn from(faulty: DescFault) -> RunFault {
         match faulty {
-            DescFault::NoMemory => PlayFault::NoMemory,
-            DescFault::Faults(list) => PlayFault::Faults(list),
+            DescFault::NoMemory => RunFault::NoMemory,
+            DescFault::Faults(list) => RunFault::Faults(list),
         }
     }
 }
 
-impl From<BuildFault> for PlayFault {
+impl From<BuildFault> for RunFault {
     ghost from_gives = { λ unbuilt fault. fault ≡ build_run unbuilt };
 
-    fn from(unbuilt: BuildFault) -> PlayFault {
+    fn from(unbuilt: BuildFault) -> RunFault {
         match unbuilt {
-            BuildFault::NoMemory => PlayFault::NoMemory,
-            BuildFault::WrongPlan => PlayFault::View,
+            BuildFault::NoMemory => RunFault::NoMemory,
+            BuildFault::WrongPlan => RunFault::View,
         }
     }
 }
 
-impl From<SessionFault> for PlayFault {
+impl From<SessionFault> for RunFault {
     ghost from_gives = { λ refused fault. fault ≡ session_run refused };
 
-    fn from(refused: SessionFault) -> PlayFault {
+    fn from(refused: SessionFault) -> RunFault {
         match refused {
-            SessionFault::NoMemory => PlayFault::NoMemory,
-            SessionFault::ViewMismatch(_) => PlayFault::View,
+            SessionFault::NoMemory => RunFault::NoMemory,
+            SessionFault::ViewMismatch(_) => RunFault::View,
         }
     }
 }
 
-impl From<StreamFault> for PlayFault {
+impl From<StreamFault> for RunFault {
     ghost from_gives = { λ left fault. fault ≡ stream_run left };
 
-    fn from(left: StreamFault) -> PlayFault {
+    fn from(left: StreamFault) -> RunFault {
         match left {
-            StreamFault::NoMemory => PlayFault::NoMemory,
-            StreamFault::Syntax(line) => PlayFault::Script(ScriptFault::Syntax(line)),
-            StreamFault::OffScreen(line) => PlayFault::Script(ScriptFault::OffScreen(line)),
-            StreamFault::TooLong => PlayFault::Script(ScriptFault::TooLong),
-            StreamFault::Read => PlayFault::Read,
-            StreamFault::Write(_) => PlayFault::Write,
+            StreamFault::NoMemory => RunFault::NoMemory,
+            StreamFault::Syntax(line) => RunFault::Script(ScriptFault::Syntax(line)),
+            StreamFault::OffScreen(line) => RunFault::Script(ScriptFault::OffScreen(line)),
+            StreamFault::TooLong => RunFault::Script(ScriptFault::TooLong),
+            StreamFault::Read => RunFault::Read,
+            StreamFault::Write(_) => RunFault::Write,
         }
     }
 }
 
-impl From<TerminalFault> for PlayFault {
+impl From<PlayFault> for RunFault {
     ghost from_gives = { λ broken fault. fault ≡ terminal_run broken };
 
-    fn from(broken: TerminalFault) -> PlayFault {
+    fn from(broken: PlayFault) -> RunFault {
         match broken {
-            TerminalFault::NoMemory => PlayFault::NoMemory,
-            TerminalFault::Read => PlayFault::Read,
-            TerminalFault::Log | TerminalFault::Screen => PlayFault::Write,
+            PlayFault::NoMemory => RunFault::NoMemory,
+            PlayFault::Read => RunFault::Read,
+            PlayFault::Log | PlayFault::Screen => RunFault::Write,
         }
     }
 }
