@@ -1,5 +1,6 @@
 -- Faults explained: the place of a line in the user's own text, and why a line has a fault.
 pub mod Places
+pub mod Groups
 pub mod Whys
 pub mod Lines
 pub mod Boxes

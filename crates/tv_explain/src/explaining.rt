@@ -6,6 +6,7 @@ ghost use Rattle.tv_model.specs.Description.Sharing.{sharing_rules};
 ghost use Rattle.tv_explain.specs.Places.{places_of};
 ghost use Rattle.tv_explain.specs.Explaining.{dialog_at, dialog_has_why, explained, head_at, in_dialog, in_window, item_at, item_has_why, menu_at, menu_has_why, outside_at, part_at, rule_at, rule_has_why, status_at, status_has_why, view_at, why_of, window_at, window_has_why};
 
+use crate::groups::{FaultGroup, RuleFault, group_of};
 use crate::heads::{dialog_named, opening_why, start_why, window_named};
 use crate::keys::{key_why, number_why};
 use crate::letters::{item_why, title_why};
@@ -36,41 +37,72 @@ pub struct Explained {
 fn menu_has_why(kind: FaultKind, before: &[Menu], menu: &Menu) -> Why
     ensures { result ≡ menu_has_why kind before.now menu.now }
 {
-    match kind {
-        FaultKind::OutsideLimits => Why::because(menu_limit(before), None),
-        FaultKind::MenuLetter => title_why(before, menu),
-        _ => Why::ITSELF,
+    match group_of(kind) {
+        FaultGroup::OutsideLimits => Why::because(menu_limit(before), None),
+        FaultGroup::MenuLetter => title_why(before, menu),
+        FaultGroup::NameTwice
+        | FaultGroup::OutsideOwner
+        | FaultGroup::StatusKey
+        | FaultGroup::NothingToFocus
+        | FaultGroup::MissingEnd
+        | FaultGroup::WideCharacter
+        | FaultGroup::BadOpening
+        | FaultGroup::OfView(_)
+        | FaultGroup::OfRule(_) => Why::ITSELF,
     }
 }
 
 fn item_has_why(kind: FaultKind, before: &[MenuItem], item: &MenuItem) -> Why
     ensures { result ≡ item_has_why kind before.now item.now }
 {
-    match kind {
-        FaultKind::OutsideLimits => Why::because(item_limit(before, item), None),
-        FaultKind::MenuLetter => item_why(before, item),
-        _ => Why::ITSELF,
+    match group_of(kind) {
+        FaultGroup::OutsideLimits => Why::because(item_limit(before, item), None),
+        FaultGroup::MenuLetter => item_why(before, item),
+        FaultGroup::NameTwice
+        | FaultGroup::OutsideOwner
+        | FaultGroup::StatusKey
+        | FaultGroup::NothingToFocus
+        | FaultGroup::MissingEnd
+        | FaultGroup::WideCharacter
+        | FaultGroup::BadOpening
+        | FaultGroup::OfView(_)
+        | FaultGroup::OfRule(_) => Why::ITSELF,
     }
 }
 
 fn status_has_why(kind: FaultKind, desc: &Desc, before: &[StatusItem], item: &StatusItem) -> Why
     ensures { result ≡ status_has_why kind desc.now before.now item.now }
 {
-    match kind {
-        FaultKind::StatusKey => key_why(desc, before, item),
-        FaultKind::OutsideLimits => Why::because(status_limit(before, item), None),
-        _ => Why::ITSELF,
+    match group_of(kind) {
+        FaultGroup::StatusKey => key_why(desc, before, item),
+        FaultGroup::OutsideLimits => Why::because(status_limit(before, item), None),
+        FaultGroup::NameTwice
+        | FaultGroup::OutsideOwner
+        | FaultGroup::NothingToFocus
+        | FaultGroup::MissingEnd
+        | FaultGroup::WideCharacter
+        | FaultGroup::BadOpening
+        | FaultGroup::MenuLetter
+        | FaultGroup::OfView(_)
+        | FaultGroup::OfRule(_) => Why::ITSELF,
     }
 }
 
 fn window_has_why(kind: FaultKind, before: &[Window], window: &Window) -> Why
     ensures { result ≡ window_has_why kind before.now window.now }
 {
-    match kind {
-        FaultKind::NameTwice => Why::from_line(window_named(before, &window.node)),
-        FaultKind::OutsideLimits => Why::because(window_limit(before, window), None),
-        FaultKind::MenuLetter => number_why(before, window),
-        _ => Why::ITSELF,
+    match group_of(kind) {
+        FaultGroup::NameTwice => Why::from_line(window_named(before, &window.node)),
+        FaultGroup::OutsideLimits => Why::because(window_limit(before, window), None),
+        FaultGroup::MenuLetter => number_why(before, window),
+        FaultGroup::OutsideOwner
+        | FaultGroup::StatusKey
+        | FaultGroup::NothingToFocus
+        | FaultGroup::MissingEnd
+        | FaultGroup::WideCharacter
+        | FaultGroup::BadOpening
+        | FaultGroup::OfView(_)
+        | FaultGroup::OfRule(_) => Why::ITSELF,
     }
 }
 
@@ -83,26 +115,37 @@ fn dialog_has_why(
 ) -> Result<Why, AllocError>
     ensures { IfOk result (λ why. why ≡ dialog_has_why kind desc.now before.now dialog.now) }
 {
-    match kind {
-        FaultKind::NameTwice => Ok(Why::from_line(dialog_named(desc, before, dialog))),
-        FaultKind::OutsideOwner => Ok(Why::from_line(Some(2))),
-        FaultKind::NothingToFocus => focus_why(alloc, dialog),
-        FaultKind::MissingEnd => Ok(Why::because(Reason::NoCancel, None)),
-        FaultKind::OutsideLimits => Ok(Why::because(dialog_limit(before, dialog), None)),
-        FaultKind::BadOpening => Ok(opening_why(before, dialog)),
-        _ => Ok(Why::ITSELF),
+    match group_of(kind) {
+        FaultGroup::NameTwice => Ok(Why::from_line(dialog_named(desc, before, dialog))),
+        FaultGroup::OutsideOwner => Ok(Why::from_line(Some(2))),
+        FaultGroup::NothingToFocus => focus_why(alloc, dialog),
+        FaultGroup::MissingEnd => Ok(Why::because(Reason::NoCancel, None)),
+        FaultGroup::OutsideLimits => Ok(Why::because(dialog_limit(before, dialog), None)),
+        FaultGroup::BadOpening => Ok(opening_why(before, dialog)),
+        FaultGroup::StatusKey
+        | FaultGroup::WideCharacter
+        | FaultGroup::MenuLetter
+        | FaultGroup::OfView(_)
+        | FaultGroup::OfRule(_) => Ok(Why::ITSELF),
     }
 }
 
 fn rule_has_why(kind: FaultKind, views: &[Node], before: &[Rule], rule: &Rule) -> Why
     ensures { result ≡ rule_has_why kind views.now before.now rule.now }
 {
-    match kind {
-        FaultKind::UnknownInRule => unknown_why(views, rule),
-        FaultKind::ShowsItself => shown_why(views, rule),
-        FaultKind::OutsideLimits => Why::because(rule_limit(before), None),
-        FaultKind::MenuLetter => Why::because(Reason::RulesCancel, None),
-        _ => Why::ITSELF,
+    match group_of(kind) {
+        FaultGroup::OfRule(RuleFault::UnknownInRule) => unknown_why(views, rule),
+        FaultGroup::OfRule(RuleFault::ShowsItself) => shown_why(views, rule),
+        FaultGroup::OutsideLimits => Why::because(rule_limit(before), None),
+        FaultGroup::MenuLetter => Why::because(Reason::RulesCancel, None),
+        FaultGroup::NameTwice
+        | FaultGroup::OutsideOwner
+        | FaultGroup::StatusKey
+        | FaultGroup::NothingToFocus
+        | FaultGroup::MissingEnd
+        | FaultGroup::WideCharacter
+        | FaultGroup::BadOpening
+        | FaultGroup::OfView(_) => Why::ITSELF,
     }
 }
 
@@ -110,13 +153,23 @@ fn rule_has_why(kind: FaultKind, views: &[Node], before: &[Rule], rule: &Rule) -
 fn head_at(kind: FaultKind, desc: &Desc, line: u32) -> Option<Why>
     ensures { result ≡ head_at kind desc.now line }
 {
-    match (kind, line) {
-        (FaultKind::OutsideLimits, 2) => Some(Why::because(Reason::Screen, None)),
-        (FaultKind::BadOpening, 3) => {
+    match group_of(kind) {
+        FaultGroup::OutsideLimits if line == 2 => Some(Why::because(Reason::Screen, None)),
+        FaultGroup::BadOpening if line == 3 => {
             let name = desc.start.as_ref()?;
             Some(start_why(name, desc.windows.as_slice()))
         }
-        _ => None,
+        FaultGroup::NameTwice
+        | FaultGroup::OutsideOwner
+        | FaultGroup::StatusKey
+        | FaultGroup::NothingToFocus
+        | FaultGroup::MissingEnd
+        | FaultGroup::WideCharacter
+        | FaultGroup::OutsideLimits
+        | FaultGroup::BadOpening
+        | FaultGroup::MenuLetter
+        | FaultGroup::OfView(_)
+        | FaultGroup::OfRule(_) => None,
     }
 }
 

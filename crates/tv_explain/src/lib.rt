@@ -4,6 +4,7 @@
 
 mod boxes;
 mod explaining;
+mod groups;
 mod heads;
 mod inputs;
 mod keys;
@@ -16,6 +17,7 @@ mod views;
 mod why;
 
 pub use explaining::{Explained, explain};
+pub use groups::{FaultGroup, RuleFault, ViewFault, group_of};
 pub use lines::{Line, around_line, at_line};
 pub use places::Places;
 pub use why::{Reason, Why};

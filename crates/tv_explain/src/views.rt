@@ -3,9 +3,11 @@
 ghost use Rattle.std.specs.Prelude.{◌≡◌, find, IfOk, option_copied};
 ghost use Rattle.tv_model.specs.Description.Names.{shares_name};
 ghost use Rattle.tv_model.specs.Description.Nodes.{is_default};
+ghost use Rattle.tv_explain.specs.Groups.{kind_of_view};
 ghost use Rattle.tv_explain.specs.Views.{linked_line, view_why};
 
 use crate::boxes::{overlapped, owner_line};
+use crate::groups::{FaultGroup, ViewFault, group_of};
 use crate::heads::shares_name;
 use crate::inputs::{domain_reason, start_reason};
 use crate::letters::letter_line;
@@ -57,6 +59,27 @@ fn default_of(before: &[Node]) -> Option<&Node>
     before.iter().find(|other| is_default(other))
 }
 
+// Why a view has a fault that views alone can have.
+fn own_why(
+    alloc: Global,
+    fault: ViewFault,
+    body: &Body,
+    before: &[Node],
+    node: &Node,
+) -> Result<Why, AllocError>
+    ensures { IfOk result (λ why. why ≡ view_why (kind_of_view fault) body.now.frame.now (option_copied body.now.sharing) body.now.views.now before.now node.now) }
+{
+    let Body { sharing, views, .. } = *body;
+    Ok(match fault {
+        ViewFault::Overlap => Why::from_line(line_of(overlapped(before, node))),
+        ViewFault::LetterTwice => Why::from_line(letter_line(alloc, views, sharing, before, node)?),
+        ViewFault::LabelLink => Why::from_line(linked_line(views, &node.kind)),
+        ViewFault::SecondDefault => Why::from_line(line_of(default_of(before))),
+        ViewFault::EmptyDomain => Why::because(domain_reason(alloc, &node.kind)?, None),
+        ViewFault::BadStart => Why::because(start_reason(&node.kind), None),
+    })
+}
+
 /// Tells why a view has the fault.
 pub fn view_why(
     alloc: Global,
@@ -68,22 +91,18 @@ pub fn view_why(
     ensures { IfOk result (λ why. why
         ≡ view_why kind body.now.frame.now (option_copied body.now.sharing) body.now.views.now before.now node.now) }
 {
-    let Body {
-        frame,
-        sharing,
-        views,
-    } = *body;
-    Ok(match kind {
-        FaultKind::NameTwice => Why::from_line(line_of(named(before, node))),
-        FaultKind::OutsideOwner => Why::from_line(Some(owner_line(frame, before, node))),
-        FaultKind::Overlap => Why::from_line(line_of(overlapped(before, node))),
-        FaultKind::LetterTwice => Why::from_line(letter_line(alloc, views, sharing, before, node)?),
-        FaultKind::LabelLink => Why::from_line(linked_line(views, &node.kind)),
-        FaultKind::MissingEnd => Why::because(Reason::UndeclaredEnd, Some(frame.id.0)),
-        FaultKind::SecondDefault => Why::from_line(line_of(default_of(before))),
-        FaultKind::EmptyDomain => Why::because(domain_reason(alloc, &node.kind)?, None),
-        FaultKind::BadStart => Why::because(start_reason(&node.kind), None),
-        FaultKind::OutsideLimits => Why::because(view_limit(before, node), None),
-        _ => Why::ITSELF,
-    })
+    let frame = body.frame;
+    match group_of(kind) {
+        FaultGroup::NameTwice => Ok(Why::from_line(line_of(named(before, node)))),
+        FaultGroup::OutsideOwner => Ok(Why::from_line(Some(owner_line(frame, before, node)))),
+        FaultGroup::MissingEnd => Ok(Why::because(Reason::UndeclaredEnd, Some(frame.id.0))),
+        FaultGroup::OutsideLimits => Ok(Why::because(view_limit(before, node), None)),
+        FaultGroup::OfView(fault) => own_why(alloc, fault, body, before, node),
+        FaultGroup::StatusKey
+        | FaultGroup::NothingToFocus
+        | FaultGroup::WideCharacter
+        | FaultGroup::BadOpening
+        | FaultGroup::MenuLetter
+        | FaultGroup::OfRule(_) => Ok(Why::ITSELF),
+    }
 }
