@@ -16,6 +16,21 @@ pub enum Subject<'a> {
     Other,
 }
 
+impl<'a> Subject<'a> {
+    /// Returns the window, the dialog or the view, if it is one.
+    pub fn node(self) -> Option<&'a Node> {
+        match self {
+            Subject::Window(window) => Some(&window.node),
+            Subject::Node(node) => Some(node),
+            Subject::Menu(_)
+            | Subject::Item(_)
+            | Subject::Status(_)
+            | Subject::Rule(_)
+            | Subject::Other => None,
+        }
+    }
+}
+
 // Finds the item of a menu that stands on the line.
 fn item_at(desc: &Desc, line: u32) -> Option<&MenuItem> {
     let menu = around_line(desc.menus.as_slice(), line)?;

@@ -14,106 +14,200 @@ use crate::places::{off_desktop, outside_owner, overlap};
 use crate::saying::Saying;
 use crate::subject::{Subject, dialog_around, subject_at};
 use std::alloc::{AllocError, Global};
-use tv_explain::{Explained, Why};
-use tv_model::{Desc, FaultKind, Id, Kind, Node, Rule};
+use tv_explain::{Explained, FaultGroup, RuleFault, ViewFault, Why, group_of};
+use tv_model::{Desc, Id, Kind, Node};
 
 // The node on the other line.
 fn other_node(desc: &Desc, why: Why) -> Option<&Node> {
     desc.node(Id(why.other?))
 }
 
-// What is told of a fault of two nodes.
-fn saying_for_pair(
+// What is told of a name that is given again.
+fn saying_for_name(
     alloc: Global,
-    kind: FaultKind,
     desc: &Desc,
-    node: &Node,
-    other: &Node,
-) -> Result<Option<Saying>, AllocError> {
-    Ok(Some(match kind {
-        FaultKind::NameTwice => name_again(alloc, node, other)?,
-        FaultKind::OutsideOwner => outside_owner(alloc, node, other)?,
-        FaultKind::Overlap => overlap(alloc, desc, node, other)?,
-        FaultKind::LetterTwice => match dialog_around(desc, node.id.0) {
-            Some(dialog) => letter_again(alloc, desc, dialog, node, other)?,
-            None => return Ok(None),
-        },
-        FaultKind::MissingEnd => lacks_end(alloc, node, other)?,
-        _ => return Ok(None),
-    }))
-}
-
-// What is told of a fault of a window, a dialog or a view.
-fn saying_for_node(
-    alloc: Global,
-    kind: FaultKind,
-    desc: &Desc,
-    node: &Node,
+    subject: Subject,
     why: Why,
 ) -> Result<Option<Saying>, AllocError> {
-    let other = other_node(desc, why);
-    match (kind, &node.kind) {
-        (FaultKind::OutsideOwner, Kind::Dialog(_)) => Ok(Some(off_desktop(alloc, desc, node)?)),
-        (FaultKind::MissingEnd, Kind::Dialog(_)) => Ok(Some(lacks_cancel(alloc, node)?)),
-        (FaultKind::BadOpening, _) => Ok(Some(bad_opening(alloc, node, why)?)),
-        (FaultKind::NothingToFocus, _) => Ok(Some(nothing_to_focus(alloc, why)?)),
-        (FaultKind::LabelLink, _) => Ok(Some(label_link(alloc, node, other)?)),
-        (FaultKind::SecondDefault, _) => Ok(Some(second_default(alloc)?)),
-        (FaultKind::EmptyDomain, Kind::Input(input)) => {
-            Ok(Some(empty_domain(alloc, input, why.reason)?))
-        }
-        (FaultKind::BadStart, _) => bad_start(alloc, node),
-        (FaultKind::OutsideLimits, _) => Ok(Some(node_outside(alloc, node, why.reason)?)),
-        _ => match other {
-            Some(other) => saying_for_pair(alloc, kind, desc, node, other),
-            None => Ok(None),
-        },
-    }
-}
-
-fn saying_for_rule(
-    alloc: Global,
-    kind: FaultKind,
-    desc: &Desc,
-    rule: &Rule,
-    why: Why,
-) -> Result<Option<Saying>, AllocError> {
-    let other = other_node(desc, why);
-    match (kind, other) {
-        (FaultKind::UnknownInRule, _) => Ok(Some(rule_unknown(alloc, rule, why.reason, other)?)),
-        (FaultKind::ShowsItself, Some(cluster)) => {
-            Ok(Some(rule_shows_itself(alloc, rule, cluster)?))
-        }
-        (FaultKind::OutsideLimits, _) => { Ok(Some(line_outside(alloc, Line::Rule, why.reason)?)) }
-        (FaultKind::MenuLetter, _) => Ok(Some(rules_cancel(alloc)?)),
+    match (subject.node(), other_node(desc, why)) {
+        (Some(node), Some(other)) => Ok(Some(name_again(alloc, node, other)?)),
         _ => Ok(None),
     }
 }
 
-// What is told of a fault of what isn't a node.
-fn saying_for_line(
+// What is told of a dialog or a view that lies outside its owner.
+fn saying_for_owner(
     alloc: Global,
-    kind: FaultKind,
+    desc: &Desc,
     subject: Subject,
     why: Why,
 ) -> Result<Option<Saying>, AllocError> {
-    Ok(Some(match (kind, subject) {
-        (FaultKind::OutsideLimits, Subject::Menu(_)) => {
-            line_outside(alloc, Line::Menu, why.reason)?
-        }
-        (FaultKind::OutsideLimits, Subject::Item(_)) => {
-            line_outside(alloc, Line::Item, why.reason)?
-        }
-        (FaultKind::OutsideLimits, Subject::Status(_)) => {
-            line_outside(alloc, Line::Status, why.reason)?
-        }
-        (FaultKind::OutsideLimits, Subject::Other) => screen_size(alloc)?,
-        (FaultKind::MenuLetter, Subject::Menu(menu)) => title_again(alloc, menu)?,
-        (FaultKind::MenuLetter, Subject::Item(item)) => item_again(alloc, item)?,
-        (FaultKind::MenuLetter, Subject::Window(window)) => number_again(alloc, window)?,
-        (FaultKind::StatusKey, Subject::Status(item)) => status_key(alloc, item, why.reason)?,
-        _ => return Ok(None),
-    }))
+    let Some(node) = subject.node() else {
+        return Ok(None);
+    };
+    if node.kind.is_dialog() {
+        return Ok(Some(off_desktop(alloc, desc, node)?));
+    }
+    match other_node(desc, why) {
+        Some(owner) => Ok(Some(outside_owner(alloc, node, owner)?)),
+        None => Ok(None),
+    }
+}
+
+// What is told of an end that a dialog lacks, or that the dialog of a button does.
+fn saying_for_end(
+    alloc: Global,
+    desc: &Desc,
+    subject: Subject,
+    why: Why,
+) -> Result<Option<Saying>, AllocError> {
+    let Some(node) = subject.node() else {
+        return Ok(None);
+    };
+    if node.kind.is_dialog() {
+        return Ok(Some(lacks_cancel(alloc, node)?));
+    }
+    match other_node(desc, why) {
+        Some(dialog) => Ok(Some(lacks_end(alloc, node, dialog)?)),
+        None => Ok(None),
+    }
+}
+
+// What is told of a dialog that may have nothing to focus.
+fn saying_for_focus(
+    alloc: Global,
+    subject: Subject,
+    why: Why,
+) -> Result<Option<Saying>, AllocError> {
+    match subject.node() {
+        Some(_) => Ok(Some(nothing_to_focus(alloc, why)?)),
+        None => Ok(None),
+    }
+}
+
+// What is told of a status item's key.
+fn saying_for_key(alloc: Global, subject: Subject, why: Why) -> Result<Option<Saying>, AllocError> {
+    match subject {
+        Subject::Status(item) => Ok(Some(status_key(alloc, item, why.reason)?)),
+        _ => Ok(None),
+    }
+}
+
+// What is told of a line that is outside the limits.
+fn saying_for_limits(alloc: Global, subject: Subject, why: Why) -> Result<Saying, AllocError> {
+    match subject {
+        Subject::Menu(_) => line_outside(alloc, Line::Menu, why.reason),
+        Subject::Item(_) => line_outside(alloc, Line::Item, why.reason),
+        Subject::Status(_) => line_outside(alloc, Line::Status, why.reason),
+        Subject::Rule(_) => line_outside(alloc, Line::Rule, why.reason),
+        Subject::Window(window) => node_outside(alloc, &window.node, why.reason),
+        Subject::Node(node) => node_outside(alloc, node, why.reason),
+        Subject::Other => screen_size(alloc),
+    }
+}
+
+// What is told of a dialog's command, or of the `start`.
+fn saying_for_opening(
+    alloc: Global,
+    desc: &Desc,
+    subject: Subject,
+    why: Why,
+) -> Result<Option<Saying>, AllocError> {
+    if let Subject::Other = subject {
+        return Ok(Some(unknown_start(alloc, desc, why)?));
+    }
+    match subject.node() {
+        Some(node) => Ok(Some(bad_opening(alloc, node, why)?)),
+        None => Ok(None),
+    }
+}
+
+// What is told of a letter, a number or a command that a menu, an item, a window or a rule can't have.
+fn saying_for_menu_letter(alloc: Global, subject: Subject) -> Result<Option<Saying>, AllocError> {
+    match subject {
+        Subject::Menu(menu) => Ok(Some(title_again(alloc, menu)?)),
+        Subject::Item(item) => Ok(Some(item_again(alloc, item)?)),
+        Subject::Window(window) => Ok(Some(number_again(alloc, window)?)),
+        Subject::Rule(_) => Ok(Some(rules_cancel(alloc)?)),
+        Subject::Node(_) | Subject::Status(_) | Subject::Other => Ok(None),
+    }
+}
+
+// What is told of a view that overlaps another one.
+fn saying_for_overlap(
+    alloc: Global,
+    desc: &Desc,
+    node: &Node,
+    other: Option<&Node>,
+) -> Result<Option<Saying>, AllocError> {
+    match other {
+        Some(other) => Ok(Some(overlap(alloc, desc, node, other)?)),
+        None => Ok(None),
+    }
+}
+
+// What is told of a letter that a view marks again.
+fn saying_for_letter(
+    alloc: Global,
+    desc: &Desc,
+    node: &Node,
+    other: Option<&Node>,
+) -> Result<Option<Saying>, AllocError> {
+    match (dialog_around(desc, node.id.0), other) {
+        (Some(dialog), Some(other)) => Ok(Some(letter_again(alloc, desc, dialog, node, other)?)),
+        _ => Ok(None),
+    }
+}
+
+// What is told of an input whose domain is empty.
+fn saying_for_domain(alloc: Global, node: &Node, why: Why) -> Result<Option<Saying>, AllocError> {
+    match &node.kind {
+        Kind::Input(input) => Ok(Some(empty_domain(alloc, input, why.reason)?)),
+        _ => Ok(None),
+    }
+}
+
+// What is told of a fault that views alone can have.
+fn saying_for_view(
+    alloc: Global,
+    fault: ViewFault,
+    desc: &Desc,
+    subject: Subject,
+    why: Why,
+) -> Result<Option<Saying>, AllocError> {
+    let Some(node) = subject.node() else {
+        return Ok(None);
+    };
+    let other = other_node(desc, why);
+    match fault {
+        ViewFault::Overlap => saying_for_overlap(alloc, desc, node, other),
+        ViewFault::LetterTwice => saying_for_letter(alloc, desc, node, other),
+        ViewFault::LabelLink => Ok(Some(label_link(alloc, node, other)?)),
+        ViewFault::SecondDefault => Ok(Some(second_default(alloc)?)),
+        ViewFault::EmptyDomain => saying_for_domain(alloc, node, why),
+        ViewFault::BadStart => bad_start(alloc, node),
+    }
+}
+
+// What is told of a fault that rules alone can have.
+fn saying_for_rule(
+    alloc: Global,
+    fault: RuleFault,
+    desc: &Desc,
+    subject: Subject,
+    why: Why,
+) -> Result<Option<Saying>, AllocError> {
+    let Subject::Rule(rule) = subject else {
+        return Ok(None);
+    };
+    let other = other_node(desc, why);
+    match fault {
+        RuleFault::UnknownInRule => Ok(Some(rule_unknown(alloc, rule, why.reason, other)?)),
+        RuleFault::ShowsItself => match other {
+            Some(cluster) => Ok(Some(rule_shows_itself(alloc, rule, cluster)?)),
+            None => Ok(None),
+        },
+    }
 }
 
 // The word for what stands on a line.
@@ -136,18 +230,19 @@ pub fn saying_for(
     fault: &Explained,
     line: &str,
 ) -> Result<Option<Saying>, AllocError> {
-    let kind = fault.fault.kind;
     let why = fault.why;
     let subject = subject_at(desc, fault.fault.line);
-    match (kind, subject) {
-        (FaultKind::WideCharacter, _) => {
-            Ok(Some(wide_character(alloc, word_for(subject), line)?))
-        }
-        (FaultKind::BadOpening, Subject::Other) => Ok(Some(unknown_start(alloc, desc, why)?)),
-        (_, Subject::Node(node)) => saying_for_node(alloc, kind, desc, node, why),
-        (FaultKind::MenuLetter, Subject::Window(_)) => saying_for_line(alloc, kind, subject, why),
-        (_, Subject::Window(window)) => saying_for_node(alloc, kind, desc, &window.node, why),
-        (_, Subject::Rule(rule)) => saying_for_rule(alloc, kind, desc, rule, why),
-        _ => saying_for_line(alloc, kind, subject, why),
+    match group_of(fault.fault.kind) {
+        FaultGroup::NameTwice => saying_for_name(alloc, desc, subject, why),
+        FaultGroup::OutsideOwner => saying_for_owner(alloc, desc, subject, why),
+        FaultGroup::StatusKey => saying_for_key(alloc, subject, why),
+        FaultGroup::NothingToFocus => saying_for_focus(alloc, subject, why),
+        FaultGroup::MissingEnd => saying_for_end(alloc, desc, subject, why),
+        FaultGroup::WideCharacter => { Ok(Some(wide_character(alloc, word_for(subject), line)?)) }
+        FaultGroup::OutsideLimits => Ok(Some(saying_for_limits(alloc, subject, why)?)),
+        FaultGroup::BadOpening => saying_for_opening(alloc, desc, subject, why),
+        FaultGroup::MenuLetter => saying_for_menu_letter(alloc, subject),
+        FaultGroup::OfView(fault) => saying_for_view(alloc, fault, desc, subject, why),
+        FaultGroup::OfRule(fault) => saying_for_rule(alloc, fault, desc, subject, why),
     }
 }

@@ -67,7 +67,9 @@ fn own_why(
     before: &[Node],
     node: &Node,
 ) -> Result<Why, AllocError>
-    ensures { IfOk result (λ why. why ≡ view_why (kind_of_view fault) body.now.frame.now (option_copied body.now.sharing) body.now.views.now before.now node.now) }
+    ensures { IfOk result (λ why. why
+        ≡ view_why (kind_of_view fault) body.now.frame.now
+        (option_copied body.now.sharing) body.now.views.now before.now node.now) }
 {
     let Body { sharing, views, .. } = *body;
     Ok(match fault {
