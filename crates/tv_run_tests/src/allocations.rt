@@ -10,7 +10,11 @@ use std::test::Fail;
 use tv_test_support::descriptions::CANCEL;
 
 fn expect_lines(alloc: Global, times: usize) -> Result<(), Fail> {
-    let mut script = Repeated::new("key Tab\n", times);
+    let mut script = Repeated {
+        line: "key Tab\n",
+        left: times,
+        is_ended: false,
+    };
     expect_end(alloc, CANCEL, &mut script, "Ok(())", "open a\nfocus c\n")
 }
 

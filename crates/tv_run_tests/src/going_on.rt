@@ -91,42 +91,103 @@ fn stopped<V: View>(
     }
 }
 
-// Performs a script whole. Fails where this isn't written then.
+// A run of the gifts that is stopped.
+#[derive(Clone, Copy)]
+struct Stop<'a> {
+    /// The bytes that its writer takes.
+    room: usize,
+    /// The read that fails, in pieces of seven bytes; none does at 0.
+    failing: usize,
+    fault: StreamFault,
+    reads: usize,
+    /// The script that the session goes on with.
+    rest: &'a str,
+    /// What both scripts write.
+    written: &'a str,
+}
+
+// Performs the rest of a script whole. Fails where both have written something else than is wanted then.
 fn expect_more<V: View>(
     alloc: Global,
     session: &mut SessionOf<V>,
-    script: &str,
-    out: &mut Memory,
-    wanted: &str,
+    stop: Stop<'_>,
+    first: &[u8],
 ) -> Result<(), Fail>
     requires { (s : Standing) × StandsFor V.meaning session.old s }
 {
-    let script = Script::parse(alloc, script.as_bytes(), 40, 14)?;
-    let end = perform(session, &script, out);
-    let written = str::from_utf8(out.taken())?;
-    if end.is_ok() && written == wanted {
+    let script = Script::parse(alloc, stop.rest.as_bytes(), 40, 14)?;
+    let mut out = Memory::ample(alloc)?;
+    let end = perform(session, &script, &mut out);
+    let first = str::from_utf8(first)?;
+    let later = str::from_utf8(out.taken())?;
+    if end.is_ok() && stop.written.strip_prefix(first) == Some(later) {
         return Ok(());
     }
-    Err(Fail::new(format_args!("{end:?} after:\n{written}wanted:\n{wanted}")))
+    Err(Fail::new(format_args!("{end:?} after:\n{first}{later}wanted:\n{}", stop.written)))
 }
 
-fn expect_left<V: View>(alloc: Global, session: &mut SessionOf<V>, room: usize) -> Result<(), Fail>
+fn expect_stopped<V: View>(
+    alloc: Global,
+    session: &mut SessionOf<V>,
+    stop: Stop<'_>,
+) -> Result<(), Fail>
     requires { (s : Standing) × StandsFor V.meaning session.old s × FitsLargestScreen s.desc }
 {
+    let mut script = Pieces::new(GIFTS, 7, stop.failing);
+    let mut out = Memory::new(alloc, stop.room, stop.room)?;
+    let fault = stopped(alloc, session, &mut script, &mut out)?;
+    if (fault, script.reads) != (stop.fault, stop.reads) {
+        return Err(Fail::new(format_args!("{fault:?} after {} reads", script.reads)));
+    }
+    expect_more(alloc, session, stop, out.taken())
+}
+
+fn expect_goes_on<V: View>(
+    alloc: Global,
+    checked: Checked,
+    views: Views<V>,
+    stop: Stop<'_>,
+) -> Result<(), Fail> {
+    parts_are_lawful(checked.desc());
+    let Views { windows, bodies } = views;
+    match SessionOf::new(alloc, checked, windows, bodies) {
+        Ok(mut session) => expect_stopped(alloc, &mut session, stop),
+        Err(refused) => Err(Fail::new(format_args!("{}", refused.fault))),
+    }
+}
+
+fn expect_stop(alloc: Global, stop: Stop<'_>) -> Result<(), Fail> {
+    let checked = checked(alloc, ORDER)?;
+    let views = views(alloc, &checked, None)?;
+    expect_goes_on(alloc, checked, views, stop)
+}
+
+fn expect_cut(alloc: Global, room: usize) -> Result<(), Fail> {
     let left = LEFT
         .iter()
         .rev()
         .find(|left| left.from <= room)
         .ok_or("no row")?;
-    let mut script = Pieces::new(GIFTS, 7);
-    let mut out = Memory::new(alloc, room, WHOLE)?;
-    let fault = stopped(alloc, session, &mut script, &mut out)?;
-    if (fault, script.reads) != (StreamFault::Write(left.begun), left.reads) {
-        return Err(Fail::new(format_args!("{fault:?} after {} reads", script.reads)));
+    let first = GIFTS_LOG.get(..room).ok_or("no such room")?;
+    let later = lines(alloc, left.later)?;
+    let written = format!(in alloc; "{first}{later}")?;
+    let stop = Stop {
+        room,
+        failing: 0,
+        fault: StreamFault::Write(left.begun),
+        reads: left.reads,
+        rest: "key Esc\nkey F3\n",
+        written: &written,
+    };
+    expect_stop(alloc, stop)
+}
+
+#[test]
+fn writers_that_fail_at_each_byte(rt: HostRuntime) -> Result<(), Fail> {
+    for room in 0..WHOLE {
+        expect_cut(rt.alloc(), room)?;
     }
-    let mut later = Memory::ample(alloc)?;
-    let wanted = lines(alloc, left.later)?;
-    expect_more(alloc, session, "key Esc\nkey F3\n", &mut later, &wanted)
+    Ok(())
 }
 
 // The lines of the gifts that don't end among so many bytes.
@@ -138,74 +199,19 @@ fn rest_after(bytes: usize) -> &'static str {
     }
 }
 
-fn expect_rest<V: View>(alloc: Global, session: &mut SessionOf<V>, read: usize) -> Result<(), Fail>
-    requires { (s : Standing) × StandsFor V.meaning session.old s × FitsLargestScreen s.desc }
-{
-    let mut script = Pieces::failing_at(GIFTS, 7, read);
-    let mut out = Memory::ample(alloc)?;
-    let fault = stopped(alloc, session, &mut script, &mut out)?;
-    if fault != StreamFault::Read {
-        return Err(Fail::new(format_args!("{fault:?}")));
-    }
-    let rest = rest_after(read.saturating_sub(1).saturating_mul(7));
-    expect_more(alloc, session, rest, &mut out, GIFTS_LOG)
-}
-
-// What stops a run of the gifts.
-#[derive(Clone, Copy, Debug)]
-enum Stop {
-    /// A writer that takes so many bytes.
-    Writer(usize),
-    /// The read of this number, in pieces of seven bytes.
-    Reader(usize),
-}
-
-fn expect_stopped<V: View>(
-    alloc: Global,
-    session: &mut SessionOf<V>,
-    stop: Stop,
-) -> Result<(), Fail>
-    requires { (s : Standing) × StandsFor V.meaning session.old s × FitsLargestScreen s.desc }
-{
-    match stop {
-        Stop::Writer(room) => expect_left(alloc, session, room),
-        Stop::Reader(read) => expect_rest(alloc, session, read),
-    }
-}
-
-fn expect_goes_on<V: View>(
-    alloc: Global,
-    checked: Checked,
-    views: Views<V>,
-    stop: Stop,
-) -> Result<(), Fail> {
-    parts_are_lawful(checked.desc());
-    let Views { windows, bodies } = views;
-    match SessionOf::new(alloc, checked, windows, bodies) {
-        Ok(mut session) => expect_stopped(alloc, &mut session, stop),
-        Err(refused) => Err(Fail::new(format_args!("{}", refused.fault))),
-    }
-}
-
-fn expect_stop(alloc: Global, stop: Stop) -> Result<(), Fail> {
-    let checked = checked(alloc, ORDER)?;
-    let views = views(alloc, &checked, None)?;
-    expect_goes_on(alloc, checked, views, stop)
-}
-
-#[test]
-fn writers_that_fail_at_each_byte(rt: HostRuntime) -> Result<(), Fail> {
-    for room in 0..WHOLE {
-        expect_stop(rt.alloc(), Stop::Writer(room))?;
-    }
-    Ok(())
-}
-
 // What the lines write that hadn't ended when the read failed comes by a second call, and nothing is written twice.
 #[test]
 fn readers_that_fail_at_each_read(rt: HostRuntime) -> Result<(), Fail> {
-    for read in 1..15 {
-        expect_stop(rt.alloc(), Stop::Reader(read))?;
+    for read in 1..15usize {
+        let stop = Stop {
+            room: WHOLE,
+            failing: read,
+            fault: StreamFault::Read,
+            reads: read,
+            rest: rest_after(read.saturating_sub(1).saturating_mul(7)),
+            written: GIFTS_LOG,
+        };
+        expect_stop(rt.alloc(), stop)?;
     }
     Ok(())
 }

@@ -7,33 +7,15 @@ mod allocations;
 #[cfg(test)]
 mod asked;
 #[cfg(test)]
-mod bars;
-#[cfg(test)]
 mod bodies;
-#[cfg(test)]
-mod cases;
 #[cfg(test)]
 mod colours;
 #[cfg(test)]
 mod constructors;
 #[cfg(test)]
-mod controls;
-#[cfg(test)]
-mod crowded;
-#[cfg(test)]
-mod desk;
-#[cfg(test)]
-mod dialogs;
-#[cfg(test)]
 mod dragging;
 #[cfg(test)]
-mod example_desks;
-#[cfg(test)]
-mod example_dialogs;
-#[cfg(test)]
-mod example_drags;
-#[cfg(test)]
-mod fields;
+mod examples;
 #[cfg(test)]
 mod fitting;
 #[cfg(test)]
@@ -41,7 +23,7 @@ mod going_on;
 #[cfg(test)]
 mod large;
 #[cfg(test)]
-mod lists;
+mod logs;
 #[cfg(test)]
 mod long_scripts;
 #[cfg(test)]
@@ -53,10 +35,6 @@ mod naming;
 #[cfg(test)]
 mod opening;
 #[cfg(test)]
-mod order;
-#[cfg(test)]
-mod panes;
-#[cfg(test)]
 mod pieces;
 #[cfg(test)]
 mod probes;
@@ -65,9 +43,7 @@ mod repainted;
 #[cfg(test)]
 mod running;
 #[cfg(test)]
-mod sharing;
-#[cfg(test)]
-mod stacked;
+mod runs;
 #[cfg(test)]
 mod stepping;
 #[cfg(test)]
@@ -82,7 +58,5 @@ mod terminals;
 mod toolkit;
 #[cfg(test)]
 mod walks;
-#[cfg(test)]
-mod wide;
 #[cfg(test)]
 mod writers;

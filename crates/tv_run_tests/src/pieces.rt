@@ -19,13 +19,8 @@ pub struct Pieces<'a> {
 }
 
 impl<'a> Pieces<'a> {
-    /// Begins before the text.
-    pub fn new(text: &'a str, piece: usize) -> Pieces<'a> {
-        Pieces::failing_at(text, piece, 0)
-    }
-
-    /// Begins before the text, with a read that fails, counted from 1.
-    pub fn failing_at(text: &'a str, piece: usize, failing: usize) -> Pieces<'a> {
+    /// Begins before the text, with a read that fails, counted from 1; none does at 0.
+    pub fn new(text: &'a str, piece: usize, failing: usize) -> Pieces<'a> {
         Pieces {
             left: text.as_bytes(),
             piece,
@@ -60,23 +55,13 @@ impl Reader for Pieces<'_> {
     }
 }
 
-/// A reader that gives a line again and again, at each read once.
+/// A reader that gives a line again and again, at each read once, or a part of it where there is no room for all.
 #[derive(Drop)]
 pub struct Repeated<'a> {
-    line: &'a str,
-    left: usize,
-    is_ended: bool,
-}
-
-impl<'a> Repeated<'a> {
-    /// Begins before the first of so many lines. A read has room for one, or gives a part of it.
-    pub fn new(line: &'a str, times: usize) -> Repeated<'a> {
-        Repeated {
-            line,
-            left: times,
-            is_ended: false,
-        }
-    }
+    pub line: &'a str,
+    /// How often it is still to come.
+    pub left: usize,
+    pub is_ended: bool,
 }
 
 impl Reader for Repeated<'_> {
@@ -101,32 +86,12 @@ impl Reader for Repeated<'_> {
 /// A reader that looks, at each read, how many bytes were passed on.
 #[derive(Drop)]
 pub struct Watching<'a> {
-    script: Pieces<'a>,
-    passed_on: &'a Cell<usize>,
-    wanted: &'a [usize],
+    pub script: Pieces<'a>,
+    pub passed_on: &'a Cell<usize>,
+    /// The bytes that are to have been passed on at each read.
+    pub wanted: &'a [usize],
     /// The first read, counted from 1, at which others were passed on than is wanted.
     pub odd: Option<usize>,
-}
-
-impl<'a> Watching<'a> {
-    /// Over a script in pieces. At each read so many bytes are to have been passed on.
-    pub fn new(
-        script: Pieces<'a>,
-        passed_on: &'a Cell<usize>,
-        wanted: &'a [usize],
-    ) -> Watching<'a> {
-        Watching {
-            script,
-            passed_on,
-            wanted,
-            odd: None,
-        }
-    }
-
-    /// Returns how often it was called.
-    pub fn reads(&self) -> usize {
-        self.script.reads
-    }
 }
 
 impl Reader for Watching<'_> {
@@ -147,18 +112,8 @@ impl Reader for Watching<'_> {
 /// A writer that takes everything. What it took can be seen only once it was passed on.
 #[derive(Drop)]
 pub struct Held<'a> {
-    taken: usize,
-    passed_on: &'a Cell<usize>,
-}
-
-impl<'a> Held<'a> {
-    /// Begins with nothing taken.
-    pub fn new(passed_on: &'a Cell<usize>) -> Held<'a> {
-        Held {
-            taken: 0,
-            passed_on,
-        }
-    }
+    pub taken: usize,
+    pub passed_on: &'a Cell<usize>,
 }
 
 impl Writer for Held<'_> {
@@ -182,20 +137,10 @@ impl Writer for Held<'_> {
 pub struct Relenting {
     /// The bytes that it takes before it fails.
     pub room: usize,
-    failures: u64,
+    /// How often it has failed.
+    pub failures: u64,
     /// The bytes that it was offered after it had failed.
     pub offered: usize,
-}
-
-impl Relenting {
-    /// Begins with room for so many bytes.
-    pub fn new(room: usize) -> Relenting {
-        Relenting {
-            room,
-            failures: 0,
-            offered: 0,
-        }
-    }
 }
 
 impl Writer for Relenting {

@@ -1,6 +1,6 @@
 //! What of the screen an event has painted again.
 
-use crate::dialogs::TWO_BUTTONS;
+use crate::logs::TWO_BUTTONS;
 use crate::running::{lines, played};
 use std::alloc::Global;
 use std::test::Fail;

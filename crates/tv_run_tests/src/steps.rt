@@ -2,27 +2,87 @@
 
 use crate::bodies::{checked, first_body, first_dialog};
 use crate::opening::open;
+use crate::running::lines;
 use crate::telling::push_lines;
 use std::alloc::Global;
-use std::process::Abort;
 use std::test::Fail;
 use tv_cells::{Damage, Point};
 use tv_check::Checked;
 use tv_dialog::Dialog;
 use tv_event::{Command, CommandSet, Event, Key};
+use tv_machine::Item;
 use tv_model::{Dialog as Declared, Record};
 use tv_palette::{Chain, Owner};
+use tv_script::Script;
 use tv_test_support::descriptions::{COLOUR, ORDER};
 use tv_view::Env;
 
-const OK_KEY: Event = Event::Key(Key::Function(2));
+// A part of a script, and what is logged of it, with how the dialog stands then as the last line. The log of the opening stands
+// before that of the first part.
+type Part = (&'static str, &'static str);
 
-// The key of the status line, of which only the order form makes use.
-fn status_command(event: &Event) -> Option<Command> {
-    match event {
-        Event::Key(Key::Function(2)) => Some(Command::OK),
-        _ => None,
+// What is done each time that the first dialog of a description opens: at first with the values that its views have, and then
+// with those that it was left with.
+type Case = (&'static str, &'static [&'static [Part]]);
+
+const CASES: [Case; 5] = [
+    (
+        ORDER,
+        &[&[(
+            "key Esc",
+            "focus amount; end b cancel; field amount \"1\"; field opts -; field qty \"\"; closed",
+        )]],
+    ),
+    // With the values that an end by `ok` leaves, both items are marked, and so the quantity is shown.
+    (
+        ORDER,
+        &[
+            &[(
+                "key F2; key Alt-G; key F2; key Alt-N; key F2; type \"0\"; key F2; key Backspace; type \"07\"; key F2",
+                "focus amount; focus opts; invalid qty; invalid qty; focus qty; invalid qty; end b ok; field amount \"1\"; field opts 1 2; field qty \"07\"; closed",
+            )],
+            &[(
+                "key Tab; key Tab; key Esc",
+                "focus amount; focus opts; focus qty; end b cancel; field amount \"1\"; field opts 1 2; field qty \"07\"; closed",
+            )],
+        ],
+    ),
+    (
+        ORDER,
+        &[&[(
+            "type \"9\"; key Tab; key Alt-G; down 16 9; up 16 9",
+            "focus amount; invalid amount; invalid amount; press no; end b cancel; field amount \"9\"; field opts -; field qty \"\"; closed",
+        )]],
+    ),
+    (
+        ORDER,
+        &[&[(
+            "key Enter; key Alt-G; key Enter; key Tab; key Shift-Tab; key Shift-Tab; key Shift-Tab; key Enter",
+            "focus amount; focus opts; press ok; invalid qty; focus ok; focus opts; focus amount; focus log; press log; command 120; open",
+        )]],
+    ),
+    // A dialog whose button is held ignores keys and another press, and a release elsewhere presses nothing.
+    (
+        COLOUR,
+        &[&[
+            ("down 4 5; key Esc", "focus r; held"),
+            ("move 25 9; down 5 3; up 25 9", "open"),
+            ("key Esc", "end d cancel; field r 2; closed"),
+        ]],
+    ),
+];
+
+// The events of a script, in one line.
+fn events(alloc: Global, script: &str) -> Result<Vec<Event>, Fail> {
+    let text = lines(alloc, script)?;
+    let script = Script::parse(alloc, text.as_bytes(), 132, 60)?;
+    let mut events = Vec::new(alloc);
+    for item in script.items() {
+        if let Item::Event(event) = item {
+            events.push(*event)?;
+        }
     }
+    Ok(events)
 }
 
 // A point of the screen, seen from a corner on it.
@@ -33,9 +93,14 @@ fn seen_from(corner: Point, point: &Point) -> Point {
     }
 }
 
-// What a dialog is handed of an event: its point is seen from the dialog's corner.
-fn event_from(corner: Point, event: &Event) -> Event {
+// What a dialog is handed of an event: its point is seen from the dialog's corner, and the key of the status line, of which only
+// the order form makes use, is `ok` where that is enabled.
+fn seen_by(dialog: &Dialog, event: &Event) -> Event {
+    let corner = dialog.bounds().a;
     match event {
+        Event::Key(Key::Function(2)) if dialog.commands().has(Command::OK) => {
+            Event::Command(Command::OK)
+        }
         Event::Down(point) => Event::Down(seen_from(corner, point)),
         Event::Up(point) => Event::Up(seen_from(corner, point)),
         Event::Move(point) => Event::Move(seen_from(corner, point)),
@@ -48,7 +113,7 @@ fn hand_in(dialog: &mut Dialog, declared: &Declared, event: &Event) -> Result<()
     if !dialog.is_open() {
         return Err("the dialog isn't open".into());
     }
-    let event = event_from(dialog.bounds().a, event);
+    let event = seen_by(dialog, event);
     let env = Env {
         owner: Owner::Dialog,
         chain: &Chain::of_dialog(),
@@ -62,109 +127,49 @@ fn hand_in(dialog: &mut Dialog, declared: &Declared, event: &Event) -> Result<()
     Ok(())
 }
 
-// The same, where F2 is `ok`, if that is enabled.
-fn step(dialog: &mut Dialog, declared: &Declared, event: &Event) -> Result<(), Fail> {
-    match status_command(event) {
-        Some(command) if dialog.commands().has(command) => {
-            hand_in(dialog, declared, &Event::Command(command))
-        }
-        _ => hand_in(dialog, declared, event),
+fn state_of(dialog: &Dialog) -> &'static str {
+    if !dialog.is_open() {
+        return "closed\n";
     }
+    if dialog.held() {
+        return "held\n";
+    }
+    "open\n"
 }
 
-// Hands in the events, and tells what is logged.
-fn logged(
+// Hands in the events of a script, and adds what is logged, and how the dialog stands then.
+fn push_part(
+    told: &mut String,
     alloc: Global,
     dialog: &mut Dialog,
     declared: &Declared,
-    events: &[Event],
-) -> Result<String, Fail> {
-    let mut told = String::new(alloc);
-    for event in events {
-        step(dialog, declared, event)?;
-        push_lines(&mut told, alloc, declared, dialog.log())?;
+    script: &str,
+) -> Result<(), Fail> {
+    for event in &events(alloc, script)? {
+        hand_in(dialog, declared, event)?;
+        push_lines(told, alloc, declared, dialog.log())?;
     }
-    Ok(told)
+    Ok(told.push_str(state_of(dialog))?)
 }
 
-fn opened(alloc: Global, checked: &Checked, values: Option<&Record>) -> Result<Dialog, Fail> {
-    let declared = first_dialog(checked)?;
-    open(alloc, declared, first_body(alloc, checked)?, values)
-}
-
-// What is logged from the opening on.
-fn run_of(
+// Fails where something else is logged, or the dialog stands otherwise after some part.
+fn expect_parts(
     alloc: Global,
-    checked: &Checked,
-    values: Option<&Record>,
-    events: &[Event],
-) -> Result<(Dialog, String), Fail> {
-    let declared = first_dialog(checked)?;
-    let mut dialog = opened(alloc, checked, values)?;
+    dialog: &mut Dialog,
+    declared: &Declared,
+    parts: &[Part],
+) -> Result<(), Fail> {
     let mut told = String::new(alloc);
     push_lines(&mut told, alloc, declared, dialog.log())?;
-    let later = logged(alloc, &mut dialog, declared, events)?;
-    told.push_str(&later)?;
-    Ok((dialog, told))
-}
-
-// Fails where something else was logged.
-fn expect_same(told: &str, wanted: &str) -> Result<(), Fail> {
-    if told == wanted {
-        return Ok(());
+    for (script, wanted) in parts {
+        push_part(&mut told, alloc, dialog, declared, script)?;
+        let wanted = lines(alloc, wanted)?;
+        if told != wanted {
+            return Err(Fail::new(format_args!("logged:\n{told}wanted:\n{wanted}in: {script}")));
+        }
+        told = String::new(alloc);
     }
-    Err(Fail::new(format_args!("logged:\n{told}wanted:\n{wanted}")))
-}
-
-fn expect_log(alloc: Global, text: &str, events: &[Event], wanted: &str) -> Result<(), Fail> {
-    let checked = checked(alloc, text)?;
-    let (_, told) = run_of(alloc, &checked, None, events)?;
-    expect_same(&told, wanted)
-}
-
-#[test]
-fn order_escape(rt: HostRuntime) -> Result<(), Fail> {
-    let wanted = "\
-focus amount
-end b cancel
-field amount \"1\"
-field opts -
-field qty \"\"
-";
-    expect_log(rt.alloc(), ORDER, &[Event::Key(Key::Esc)], wanted)
-}
-
-// What is done until the record has a gift, a note and a quantity.
-const GIFTS: [Event; 11] = [
-    OK_KEY,
-    Event::Key(Key::Alt('G')),
-    OK_KEY,
-    Event::Key(Key::Alt('N')),
-    OK_KEY,
-    Event::Key(Key::Char('0')),
-    OK_KEY,
-    Event::Key(Key::Backspace),
-    Event::Key(Key::Char('0')),
-    Event::Key(Key::Char('7')),
-    OK_KEY,
-];
-
-const GIFTS_LOG: &str = "\
-focus amount
-focus opts
-invalid qty
-invalid qty
-focus qty
-invalid qty
-end b ok
-field amount \"1\"
-field opts 1 2
-field qty \"07\"
-";
-
-#[test]
-fn order_hidden_quantity(rt: HostRuntime) -> Result<(), Fail> {
-    expect_log(rt.alloc(), ORDER, &GIFTS, GIFTS_LOG)
+    Ok(())
 }
 
 // The values of a dialog's fields when it is taken apart.
@@ -175,145 +180,33 @@ fn gathered(dialog: Dialog) -> Record {
     values
 }
 
-// The values of an order form after the gifts.
-fn gifts(alloc: Global, checked: &Checked) -> Result<Record, Fail> {
-    let (dialog, told) = run_of(alloc, checked, None, &GIFTS)?;
-    expect_same(&told, GIFTS_LOG)?;
+// The values that the first dialog is left with, after it was opened with these.
+fn left(
+    alloc: Global,
+    checked: &Checked,
+    values: Option<&Record>,
+    parts: &[Part],
+) -> Result<Record, Fail> {
+    let declared = first_dialog(checked)?;
+    let mut dialog = open(alloc, declared, first_body(alloc, checked)?, values)?;
+    expect_parts(alloc, &mut dialog, declared, parts)?;
     Ok(gathered(dialog))
 }
 
-// With the values that the gifts leave, both items are marked, and so the quantity is shown.
-fn expect_gifts(alloc: Global, checked: &Checked, values: &Record) -> Result<(), Fail> {
-    let tab = Event::Key(Key::Tab);
-    let events = [tab, tab, Event::Key(Key::Esc)];
-    let wanted = "\
-focus amount
-focus opts
-focus qty
-end b cancel
-field amount \"1\"
-field opts 1 2
-field qty \"07\"
-";
-    let (_, told) = run_of(alloc, checked, Some(values), &events)?;
-    expect_same(&told, wanted)
-}
-
-#[test]
-fn order_reopened(rt: HostRuntime) -> Result<(), Fail> {
-    let alloc = rt.alloc();
-    let checked = checked(alloc, ORDER)?;
-    let values = gifts(alloc, &checked)?;
-    expect_gifts(alloc, &checked, &values)
-}
-
-#[test]
-fn order_invalid_amount(rt: HostRuntime) -> Result<(), Fail> {
-    let events = [
-        Event::Key(Key::Char('9')),
-        Event::Key(Key::Tab),
-        Event::Key(Key::Alt('G')),
-        Event::Down(Point { x: 16, y: 9 }),
-        Event::Up(Point { x: 16, y: 9 }),
-    ];
-    let wanted = "\
-focus amount
-invalid amount
-invalid amount
-press no
-end b cancel
-field amount \"9\"
-field opts -
-field qty \"\"
-";
-    expect_log(rt.alloc(), ORDER, &events, wanted)
-}
-
-#[test]
-fn order_default_button(rt: HostRuntime) -> Result<(), Fail> {
-    let events = [
-        Event::Key(Key::Enter),
-        Event::Key(Key::Alt('G')),
-        Event::Key(Key::Enter),
-        Event::Key(Key::Tab),
-        Event::Key(Key::ShiftTab),
-        Event::Key(Key::ShiftTab),
-        Event::Key(Key::ShiftTab),
-        Event::Key(Key::Enter),
-    ];
-    let wanted = "\
-focus amount
-focus opts
-press ok
-invalid qty
-focus ok
-focus opts
-focus amount
-focus log
-press log
-command 120
-";
-    expect_log(rt.alloc(), ORDER, &events, wanted)
-}
-
-// Fails where something else is logged while the events come.
-fn expect_part(
-    alloc: Global,
-    dialog: &mut Dialog,
-    declared: &Declared,
-    events: &[Event],
-    wanted: &str,
-) -> Result<(), Fail> {
-    let told = logged(alloc, dialog, declared, events)?;
-    expect_same(&told, wanted)
-}
-
-// A dialog whose button is held, and which so ignores keys.
-fn pressed(alloc: Global, checked: &Checked) -> Result<Dialog, Fail> {
-    let events = [Event::Down(Point { x: 4, y: 5 }), Event::Key(Key::Esc)];
-    let (dialog, told) = run_of(alloc, checked, None, &events)?;
-    expect_same(&told, "focus r\n")?;
-    if !dialog.held() {
-        return Err("the button isn't held".into());
-    }
-    Ok(dialog)
-}
-
-// Another press is ignored, and a release elsewhere presses nothing.
-fn expect_released(alloc: Global, dialog: &mut Dialog, declared: &Declared) -> Result<(), Fail> {
-    let events = [
-        Event::Move(Point { x: 25, y: 9 }),
-        Event::Down(Point { x: 5, y: 3 }),
-        Event::Up(Point { x: 25, y: 9 }),
-    ];
-    expect_part(alloc, dialog, declared, &events, "")?;
-    if dialog.held() {
-        return Err("the button is still held".into());
-    }
-    Ok(())
-}
-
-fn expect_ended(alloc: Global, dialog: &mut Dialog, declared: &Declared) -> Result<(), Fail> {
-    let events = [Event::Key(Key::Esc)];
-    expect_part(
-        alloc,
-        dialog,
-        declared,
-        &events,
-        "end d cancel\nfield r 2\n",
-    )?;
-    if dialog.is_open() {
-        return Err("the dialog is still open".into());
+fn expect_case(alloc: Global, case: &Case) -> Result<(), Fail> {
+    let (desc, openings) = *case;
+    let checked = checked(alloc, desc)?;
+    let mut values = None;
+    for parts in openings {
+        values = Some(left(alloc, &checked, values.as_ref(), parts)?);
     }
     Ok(())
 }
 
 #[test]
-fn held_button(rt: HostRuntime) -> Result<(), Fail> {
-    let alloc = rt.alloc();
-    let checked = checked(alloc, COLOUR)?;
-    let declared = first_dialog(&checked)?;
-    let mut dialog = pressed(alloc, &checked)?;
-    expect_released(alloc, &mut dialog, declared)?;
-    expect_ended(alloc, &mut dialog, declared)
+fn steps(rt: HostRuntime) -> Result<(), Fail> {
+    for case in &CASES {
+        expect_case(rt.alloc(), case)?;
+    }
+    Ok(())
 }

@@ -29,53 +29,86 @@ pub fn expect_end<R: Reader>(
     Err(Fail::new(format_args!("{told} after:\n{written}wanted: {wanted} after:\n{text}")))
 }
 
-#[test]
-fn pieces_of_each_size(rt: HostRuntime) -> Result<(), Fail> {
-    for piece in [1, 7, 88, 4096] {
-        let mut script = Pieces::new(GIFTS, piece);
-        expect_end(rt.alloc(), ORDER, &mut script, "Ok(())", GIFTS_LOG)?;
-    }
-    Ok(())
-}
-
-// The lines before the faulty one are performed, though they do nothing, and no line after it is.
-#[test]
-fn a_faulty_line(rt: HostRuntime) -> Result<(), Fail> {
-    let script = "key Tab\nkey Foo\nkey Esc\n";
-    for piece in [1, 5, 100] {
-        let mut script = Pieces::new(script, piece);
-        expect_end(
-            rt.alloc(),
-            CANCEL,
-            &mut script,
-            "Err(Script(Syntax(2)))",
-            "open a\nfocus c\n",
-        )?;
-    }
-    Ok(())
+// A script in pieces of each of these sizes, how its run ends, and what it has written then.
+struct Ending {
+    desc: &'static str,
+    script: &'static str,
+    pieces: &'static [usize],
+    end: &'static str,
+    written: &'static str,
 }
 
 // What the order form writes before its script is read.
 const START: &str = "open b\nfocus amount\n";
 
-#[test]
-fn an_empty_script(rt: HostRuntime) -> Result<(), Fail> {
-    let mut script = Pieces::new("", 7);
-    expect_end(rt.alloc(), ORDER, &mut script, "Ok(())", START)
-}
-
-const FAULTY: [(&str, &str); 4] = [
-    ("type \"a\n", "Err(Script(Syntax(1)))"),
-    ("down 1\n", "Err(Script(Syntax(1)))"),
-    ("key Foo\ndown 40 0\n", "Err(Script(Syntax(1)))"),
-    ("down 40 0\nkey Foo\n", "Err(Script(OffScreen(1)))"),
+const ENDINGS: [Ending; 8] = [
+    Ending {
+        desc: ORDER,
+        script: GIFTS,
+        pieces: &[1, 7, 88, 4096],
+        end: "Ok(())",
+        written: GIFTS_LOG,
+    },
+    // The lines before the faulty one are performed, though they do nothing, and no line after it is.
+    Ending {
+        desc: CANCEL,
+        script: "key Tab\nkey Foo\nkey Esc\n",
+        pieces: &[1, 5, 100],
+        end: "Err(Script(Syntax(2)))",
+        written: "open a\nfocus c\n",
+    },
+    // An up that isn't on the screen is a faulty line: what came before it is written, and that the dialog moved isn't.
+    Ending {
+        desc: CANCEL,
+        script: "down 8 2\nmove 9 3\n\nup 20 3\n",
+        pieces: &[7],
+        end: "Err(Script(OffScreen(4)))",
+        written: "open a\nfocus c\n",
+    },
+    Ending {
+        desc: ORDER,
+        script: "",
+        pieces: &[7],
+        end: "Ok(())",
+        written: START,
+    },
+    Ending {
+        desc: ORDER,
+        script: "type \"a\n",
+        pieces: &[7],
+        end: "Err(Script(Syntax(1)))",
+        written: START,
+    },
+    Ending {
+        desc: ORDER,
+        script: "down 1\n",
+        pieces: &[7],
+        end: "Err(Script(Syntax(1)))",
+        written: START,
+    },
+    Ending {
+        desc: ORDER,
+        script: "key Foo\ndown 40 0\n",
+        pieces: &[7],
+        end: "Err(Script(Syntax(1)))",
+        written: START,
+    },
+    Ending {
+        desc: ORDER,
+        script: "down 40 0\nkey Foo\n",
+        pieces: &[7],
+        end: "Err(Script(OffScreen(1)))",
+        written: START,
+    },
 ];
 
 #[test]
-fn faulty_first_lines(rt: HostRuntime) -> Result<(), Fail> {
-    for &(text, wanted) in &FAULTY {
-        let mut script = Pieces::new(text, 7);
-        expect_end(rt.alloc(), ORDER, &mut script, wanted, START)?;
+fn endings(rt: HostRuntime) -> Result<(), Fail> {
+    for row in &ENDINGS {
+        for piece in row.pieces {
+            let mut script = Pieces::new(row.script, *piece, 0);
+            expect_end(rt.alloc(), row.desc, &mut script, row.end, row.written)?;
+        }
     }
     Ok(())
 }
@@ -87,7 +120,7 @@ const WRITTEN: [usize; 14] = [20, 20, 20, 31, 43, 43, 65, 65, 65, 77, 77, 77, 77
 #[test]
 fn readers_that_fail_at_each_read(rt: HostRuntime) -> Result<(), Fail> {
     for (index, written) in WRITTEN.iter().enumerate() {
-        let mut script = Pieces::failing_at(GIFTS, 7, index + 1);
+        let mut script = Pieces::new(GIFTS, 7, index + 1);
         let text = GIFTS_LOG.get(..*written).unwrap_or("");
         expect_end(rt.alloc(), ORDER, &mut script, "Err(Read)", text)?;
     }
@@ -98,11 +131,19 @@ fn readers_that_fail_at_each_read(rt: HostRuntime) -> Result<(), Fail> {
 #[test]
 fn gathers_whole_script(rt: HostRuntime) -> Result<(), Fail> {
     let passed_on = Cell::new(0);
-    let mut script = Watching::new(Pieces::new(GIFTS, 7), &passed_on, &WRITTEN);
-    let mut out = Held::new(&passed_on);
+    let mut script = Watching {
+        script: Pieces::new(GIFTS, 7, 0),
+        passed_on: &passed_on,
+        wanted: &WRITTEN,
+        odd: None,
+    };
+    let mut out = Held {
+        taken: 0,
+        passed_on: &passed_on,
+    };
     let is_run = run_on(rt.alloc(), ORDER, &mut script, None, &mut out).is_ok();
     assert!(rt; is_run);
     assert_eq!(rt; script.odd, None);
-    assert_eq!(rt; script.reads(), 14);
+    assert_eq!(rt; script.script.reads, 14);
     Ok(())
 }

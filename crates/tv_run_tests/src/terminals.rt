@@ -49,46 +49,45 @@ fn play_into(alloc: Global, sent: &[u8], screen: &mut Memory, log: &mut Memory) 
     matches!(ended, Ok(Parting::Ended))
 }
 
-// What a terminal sends, and the script of the same events.
-const SESSIONS: [(&[u8], &str); 2] = [
-    (
-        b"9\t\x7f2\t \x1b[B \t3\x1bl\x1bo\x1bOR\x1b",
-        "type \"9\"; key Tab; key Backspace; type \"2\"; key Tab; type \" \"; key Down; type \" \"; key Tab; type \"3\"; key Alt-L; key Alt-O; key F3; key Esc",
-    ),
-    (
-        b"\x1b[<0;6;6M\x1b[<0;6;6m\x1b[<0;6;7M\x1b[<0;6;7m\x1b[<0;6;8M\x1b[<0;6;8m3\x1b[<0;6;10M\x1b[<0;6;10m\x1bOR\x1b[<0;6;3M\x1b[<0;6;3m",
-        "down 5 5; up 5 5; down 5 6; up 5 6; down 5 7; up 5 7; type \"3\"; down 5 9; up 5 9; key F3; down 5 2; up 5 2",
-    ),
-];
-
-// Fails where the log isn't that of the script's run.
-fn expect_session(alloc: Global, sent: &[u8], script: &str) -> Result<(), Fail> {
-    let mut screen = Memory::new(alloc, ROOM, ROOM)?;
-    let mut log = Memory::new(alloc, ROOM, ROOM)?;
-    let has_ended = play_into(alloc, sent, &mut screen, &mut log);
-    let script = lines(alloc, script)?;
-    let wanted = ran(alloc, ORDER, &script)?;
-    if has_ended && log.taken() == wanted.taken() {
-        return Ok(());
-    }
-    let found = str::from_utf8(log.taken())?;
-    Err(Fail::new(format_args!("{found}in a terminal, by {script}")))
+// What a terminal sends, the script of the same events, and where the cursor is shown at the end, or that it is hidden.
+struct Session {
+    sent: &'static [u8],
+    script: &'static str,
+    cursor: &'static [u8],
 }
 
-#[test]
-fn order_by_keys_and_mouse(rt: HostRuntime) -> Result<(), Fail> {
-    for (sent, script) in &SESSIONS {
-        expect_session(rt.alloc(), sent, script)?;
-    }
-    Ok(())
-}
-
-// What a terminal sends, and where its cursor is shown, or that it is hidden.
-const CURSORS: [(&[u8], &[u8]); 4] = [
-    (b"", b"\x1b[4;17H\x1b[?25h"),
-    (b"\x1b[D", b"\x1b[4;16H\x1b[?25h"),
-    (b"\t", b"\x1b[?25l"),
-    (b"\t \x1b[B \t", b"\x1b[8;6H\x1b[?25h"),
+const SESSIONS: [Session; 6] = [
+    Session {
+        sent: b"9\t\x7f2\t \x1b[B \t3\x1bl\x1bo\x1bOR\x1b",
+        script: "type \"9\"; key Tab; key Backspace; type \"2\"; key Tab; type \" \"; key Down; type \" \"; key Tab; type \"3\"; key Alt-L; key Alt-O; key F3; key Esc",
+        cursor: b"\x1b[?25l",
+    },
+    Session {
+        sent: b"\x1b[<0;6;6M\x1b[<0;6;6m\x1b[<0;6;7M\x1b[<0;6;7m\x1b[<0;6;8M\x1b[<0;6;8m3\x1b[<0;6;10M\x1b[<0;6;10m\x1bOR\x1b[<0;6;3M\x1b[<0;6;3m",
+        script: "down 5 5; up 5 5; down 5 6; up 5 6; down 5 7; up 5 7; type \"3\"; down 5 9; up 5 9; key F3; down 5 2; up 5 2",
+        cursor: b"\x1b[?25l",
+    },
+    // The cursor of the input with the focus.
+    Session {
+        sent: b"",
+        script: "",
+        cursor: b"\x1b[4;17H\x1b[?25h",
+    },
+    Session {
+        sent: b"\x1b[D",
+        script: "key Left",
+        cursor: b"\x1b[4;16H\x1b[?25h",
+    },
+    Session {
+        sent: b"\t",
+        script: "key Tab",
+        cursor: b"\x1b[?25l",
+    },
+    Session {
+        sent: b"\t \x1b[B \t",
+        script: "key Tab; type \" \"; key Down; type \" \"; key Tab",
+        cursor: b"\x1b[8;6H\x1b[?25h",
+    },
 ];
 
 // What a terminal is told at the end.
@@ -102,16 +101,29 @@ fn has_cursor(screen: &[u8], cursor: &[u8]) -> bool {
     }
 }
 
+// Fails where the log isn't that of the script's run, or the cursor stands elsewhere.
+fn expect_session(alloc: Global, session: &Session) -> Result<(), Fail> {
+    let script = lines(alloc, session.script)?;
+    let mut screen = Memory::new(alloc, ROOM, ROOM)?;
+    let mut log = Memory::new(alloc, ROOM, ROOM)?;
+    if !play_into(alloc, session.sent, &mut screen, &mut log) {
+        return Err(Fail::new(format_args!("no end of {script}")));
+    }
+    if !has_cursor(screen.taken(), session.cursor) {
+        return Err(Fail::new(format_args!("another cursor after {script}")));
+    }
+    let wanted = ran(alloc, ORDER, &script)?;
+    if log.taken() == wanted.taken() {
+        return Ok(());
+    }
+    let found = str::from_utf8(log.taken())?;
+    Err(Fail::new(format_args!("{found}in a terminal, by {script}")))
+}
+
 #[test]
-fn cursor_of_the_focused_input(rt: HostRuntime) -> Result<(), Fail> {
-    for (sent, cursor) in &CURSORS {
-        let mut screen = Memory::new(rt.alloc(), ROOM, ROOM)?;
-        let mut log = Memory::new(rt.alloc(), ROOM, ROOM)?;
-        let has_ended = play_into(rt.alloc(), sent, &mut screen, &mut log);
-        assert!(rt;
-            has_ended && has_cursor(screen.taken(), cursor),
-            "after {sent:?}"
-        );
+fn order_by_keys_and_mouse(rt: HostRuntime) -> Result<(), Fail> {
+    for session in &SESSIONS {
+        expect_session(rt.alloc(), session)?;
     }
     Ok(())
 }

@@ -1,6 +1,7 @@
-//! Runs over the toolkit's own controls, for which no caller writes a loop. They write what runs over boxed controls do.
+//! Runs over the toolkit's own controls, for which no caller writes a loop. They write what runs over boxed controls do. So the
+//! cases whose outputs stand elsewhere are run here too as descriptions of version 2: they write the same.
 
-use crate::running::ran;
+use crate::running::{expect_run, in_version_two, ran};
 use std::alloc::Global;
 use std::test::Fail;
 use tv_app::{Control, views};
@@ -32,11 +33,18 @@ fn expect_written(alloc: Global, desc: &str, script: &str, wanted: &str) -> Resu
     Err(Fail::new(format_args!("written:\n{found}wanted:\n{wanted}")))
 }
 
+fn expect_alike(alloc: Global, desc: &str, script: &str) -> Result<(), Fail> {
+    let later = in_version_two(alloc, desc)?.ok_or("it isn't of version 1")?;
+    let out = ran(alloc, desc, script)?;
+    let wanted = str::from_utf8(out.taken())?;
+    expect_run(alloc, &later, script, wanted)?;
+    expect_written(alloc, desc, script, wanted)
+}
+
 #[test]
 fn runs_of_the_cases(rt: HostRuntime) -> Result<(), Fail> {
     for (desc, script) in CASES {
-        let out = ran(rt.alloc(), desc, script)?;
-        expect_written(rt.alloc(), desc, script, str::from_utf8(out.taken())?)?;
+        expect_alike(rt.alloc(), desc, script)?;
     }
     Ok(())
 }

@@ -1,12 +1,9 @@
 //! The way of the focus through nested groups.
 
-ghost use Rattle.tv_machine.specs.Dialog.Lawful.{IsLawfulDialog};
-
 use crate::bodies::{checked, first_body, first_dialog};
 use crate::naming::{id_of, put};
 use crate::opening::open;
 use std::alloc::Global;
-use std::process::Abort;
 use std::test::Fail;
 use tv_cells::Damage;
 use tv_check::Checked;
@@ -15,6 +12,37 @@ use tv_group::{Advanced, Dir, Group};
 use tv_model::{Dialog, Id, Record, Value};
 use tv_test_support::descriptions::ORDER;
 use tv_view::Rules;
+
+// Walks through the body of an order form.
+struct Walk {
+    /// Whether the form opens with the first two of its items marked.
+    is_marked: bool,
+    /// The view that is hidden then.
+    hidden: &'static str,
+    /// The command that is disabled then.
+    disabled: Option<Command>,
+    /// What a walk from the first control passes.
+    there: &'static [&'static str],
+    /// What a walk from the last control passes.
+    back: &'static [&'static str],
+}
+
+const WALKS: [Walk; 2] = [
+    Walk {
+        is_marked: true,
+        hidden: "more",
+        disabled: None,
+        there: &["opts", "qty", "ok", "no", "log"],
+        back: &["no", "ok", "qty", "opts", "amount"],
+    },
+    Walk {
+        is_marked: false,
+        hidden: "qty",
+        disabled: Some(Command::OK),
+        there: &["opts", "no", "log"],
+        back: &["no", "opts", "amount"],
+    },
+];
 
 // The ids of all views but that of a name.
 fn all_but(alloc: Global, dialog: &Dialog, name: &str) -> Result<Vec<Id>, Fail> {
@@ -26,6 +54,21 @@ fn all_but(alloc: Global, dialog: &Dialog, name: &str) -> Result<Vec<Id>, Fail> 
         }
     }
     Ok(shown)
+}
+
+// Hides a view, and disables a command.
+fn rule(alloc: Global, body: &mut Group, dialog: &Dialog, walk: &Walk) -> Result<(), Fail> {
+    let shown = all_but(alloc, dialog, walk.hidden)?;
+    let mut commands = CommandSet::all();
+    if let Some(command) = walk.disabled {
+        commands.disable(command);
+    }
+    let rules = Rules {
+        shown: &shown,
+        commands: &commands,
+    };
+    body.apply(&rules, &mut Damage::new());
+    Ok(())
 }
 
 // Fails unless a walk from a control passes these, and ends at the edge.
@@ -42,107 +85,51 @@ fn expect_walk(body: &mut Group, dialog: &Dialog, dir: Dir, names: &[&str]) -> R
     Err("there is more than these".into())
 }
 
-// Fails unless walks both ways pass these, and end at the first and the last of them.
-fn expect_walks(
-    body: &mut Group,
-    dialog: &Dialog,
-    names: &[&str],
-    back: &[&str],
-) -> Result<(), Fail> {
+// Fails unless walks both ways pass what they should, and end at the first and the last of it.
+fn expect_walks(body: &mut Group, dialog: &Dialog, walk: &Walk) -> Result<(), Fail> {
     if !body.focus_to(id_of(dialog, "amount")?, &mut Damage::new()) {
         return Err("there is no amount".into());
     }
-    expect_walk(body, dialog, Dir::Forward, names)?;
+    expect_walk(body, dialog, Dir::Forward, walk.there)?;
     if body.enter(Dir::Backward, &mut Damage::new()) != Some(id_of(dialog, "log")?) {
         return Err("entered elsewhere".into());
     }
-    expect_walk(body, dialog, Dir::Backward, back)
+    expect_walk(body, dialog, Dir::Backward, walk.back)
 }
 
-// Opens a body with values, or with its own, and gives it back.
-fn opened(
-    alloc: Global,
-    dialog: &Dialog,
-    body: Group,
-    values: Option<&Record>,
-) -> Result<Group, Fail>
-    requires { IsLawfulDialog dialog.now }
-{
-    let dialog = open(alloc, dialog, body, values)?;
-    Ok(dialog.into_body())
-}
-
-// The values of a body, with the first two of the items marked.
-fn marked(body: &Group, dialog: &Dialog) -> Result<Record, Fail> {
+// The values of a body with the first two of the items marked, or none where it is to keep its own.
+fn values_for(body: &Group, dialog: &Dialog, is_marked: bool) -> Result<Option<Record>, Fail> {
+    if !is_marked {
+        return Ok(None);
+    }
     let mut values = Record::new();
     body.gather(&mut values);
     let opts = id_of(dialog, "opts")?;
     put(&mut values, opts, Value::Marks(0b11))?;
-    Ok(values)
+    Ok(Some(values))
 }
 
-// The body of an order form with both items marked.
-fn marked_body(alloc: Global, checked: &Checked) -> Result<Group, Fail> {
+// The body of an order form that was opened, with both items marked or as it is declared.
+fn opened(alloc: Global, checked: &Checked, is_marked: bool) -> Result<Group, Fail> {
     let dialog = first_dialog(checked)?;
     let body = first_body(alloc, checked)?;
-    let values = marked(&body, dialog)?;
-    opened(alloc, dialog, body, Some(&values))
+    let values = values_for(&body, dialog, is_marked)?;
+    let dialog = open(alloc, dialog, body, values.as_ref())?;
+    Ok(dialog.into_body())
 }
 
-// The body of an order form as it is declared.
-fn plain_body(alloc: Global, checked: &Checked) -> Result<Group, Fail> {
+fn expect_way(alloc: Global, checked: &Checked, walk: &Walk) -> Result<(), Fail> {
     let dialog = first_dialog(checked)?;
-    let body = first_body(alloc, checked)?;
-    opened(alloc, dialog, body, None)
-}
-
-// Hides the view of a name, and enables these commands.
-fn rule(
-    alloc: Global,
-    body: &mut Group,
-    dialog: &Dialog,
-    hidden: &str,
-    commands: &CommandSet,
-) -> Result<(), Fail> {
-    let shown = all_but(alloc, dialog, hidden)?;
-    let rules = Rules {
-        shown: &shown,
-        commands,
-    };
-    body.apply(&rules, &mut Damage::new());
-    Ok(())
-}
-
-fn expect_marked_walks(body: &mut Group, dialog: &Dialog) -> Result<(), Fail> {
-    let there = ["opts", "qty", "ok", "no", "log"];
-    let back = ["no", "ok", "qty", "opts", "amount"];
-    expect_walks(body, dialog, &there, &back)
+    let mut body = opened(alloc, checked, walk.is_marked)?;
+    rule(alloc, &mut body, dialog, walk)?;
+    expect_walks(&mut body, dialog, walk)
 }
 
 #[test]
 fn nested_groups(rt: HostRuntime) -> Result<(), Fail> {
-    let alloc = rt.alloc();
-    let checked = checked(alloc, ORDER)?;
-    let dialog = first_dialog(&checked)?;
-    let mut body = marked_body(alloc, &checked)?;
-    rule(alloc, &mut body, dialog, "more", &CommandSet::all())?;
-    expect_marked_walks(&mut body, dialog)
-}
-
-fn expect_plain_walks(body: &mut Group, dialog: &Dialog) -> Result<(), Fail> {
-    let there = ["opts", "no", "log"];
-    let back = ["no", "opts", "amount"];
-    expect_walks(body, dialog, &there, &back)
-}
-
-#[test]
-fn nested_groups_without_marks(rt: HostRuntime) -> Result<(), Fail> {
-    let alloc = rt.alloc();
-    let checked = checked(alloc, ORDER)?;
-    let dialog = first_dialog(&checked)?;
-    let mut body = plain_body(alloc, &checked)?;
-    let mut commands = CommandSet::all();
-    commands.disable(Command::OK);
-    rule(alloc, &mut body, dialog, "qty", &commands)?;
-    expect_plain_walks(&mut body, dialog)
+    let checked = checked(rt.alloc(), ORDER)?;
+    for walk in &WALKS {
+        expect_way(rt.alloc(), &checked, walk)?;
+    }
+    Ok(())
 }

@@ -37,55 +37,56 @@ field opts 1 2
 field qty \"07\"
 ";
 
-// Fails unless a run into a writer that fails after so many bytes ends there, with those bytes written.
-fn expect_cut(
-    alloc: Global,
-    desc: &str,
-    script: &str,
-    whole: &[u8],
+// A run into a writer with room for so many bytes, which takes at most so many a call.
+#[derive(Clone, Copy)]
+struct Cut {
+    desc: &'static str,
+    script: &'static str,
     room: usize,
-) -> Result<(), Fail> {
-    let mut out = Memory::new(alloc, room, whole.len())?;
-    let stop = run_into(alloc, desc, script, None, &mut out);
-    if !matches!(stop, Err(RunFault::Write)) {
-        return Err(Fail::new(format_args!("{stop:?} after {room} bytes")));
-    }
-    if whole.get(..room) == Some(out.taken()) {
+    most_a_call: usize,
+    end: &'static str,
+    // The bytes of which as many are written as there is room for.
+    whole: &'static str,
+}
+
+const CUTS: [Cut; 2] = [
+    // In the first row of a screen.
+    Cut {
+        desc: CANCEL,
+        script: "shot\n",
+        room: 30,
+        most_a_call: 30,
+        end: "Err(Write)",
+        whole: "open a\nfocus c\nshot 20 10\n:   ",
+    },
+    Cut {
+        desc: ORDER,
+        script: GIFTS,
+        room: GIFTS_LOG.len(),
+        most_a_call: 1,
+        end: "Ok(())",
+        whole: GIFTS_LOG,
+    },
+];
+
+// Fails unless the run ends so, with those bytes written.
+fn expect_cut(alloc: Global, cut: &Cut) -> Result<(), Fail> {
+    let mut out = Memory::new(alloc, cut.room, cut.most_a_call)?;
+    let stop = run_into(alloc, cut.desc, cut.script, None, &mut out);
+    let told = format!(in alloc; "{stop:?}")?;
+    if told.as_str() == cut.end && cut.whole.as_bytes().get(..cut.room) == Some(out.taken()) {
         return Ok(());
     }
-    Err(Fail::new(format_args!("other bytes than the first {room}")))
-}
-
-#[test]
-fn writers_that_fail_at_each_byte(rt: HostRuntime) -> Result<(), Fail> {
-    let alloc = rt.alloc();
-    for room in 0..GIFTS_LOG.len() {
-        expect_cut(alloc, ORDER, GIFTS, GIFTS_LOG.as_bytes(), room)?;
-    }
-    // In the first row of a screen.
-    expect_cut(
-        alloc,
-        CANCEL,
-        "shot\n",
-        b"open a\nfocus c\nshot 20 10\n:   ",
-        30,
-    )
-}
-
-// It is called once, and never again.
-#[test]
-fn a_writer_that_takes_nothing(rt: HostRuntime) -> Result<(), Fail> {
-    let mut out = Idle { calls: 0 };
-    let stop = run_into(rt.alloc(), ORDER, GIFTS, None, &mut out);
-    match (stop, out.calls) {
-        (Err(RunFault::Write), 1) => Ok(()),
-        (stop, calls) => Err(Fail::new(format_args!("{stop:?} after {calls} calls"))),
-    }
+    Err(Fail::new(format_args!("{told} of {} bytes", cut.room)))
 }
 
 // Fails unless a run into a writer that fails once ends there: it is offered nothing more.
 fn expect_end(alloc: Global, room: usize) -> Result<(), Fail> {
-    let mut out = Relenting::new(room);
+    let mut out = Relenting {
+        room,
+        failures: 0,
+        offered: 0,
+    };
     let stop = run_into(alloc, ORDER, GIFTS, None, &mut out);
     match (stop, out.room, out.offered) {
         (Err(RunFault::Write), 0, 0) => Ok(()),
@@ -96,18 +97,32 @@ fn expect_end(alloc: Global, room: usize) -> Result<(), Fail> {
 }
 
 #[test]
-fn writers_that_fail_once(rt: HostRuntime) -> Result<(), Fail> {
+fn writers_that_fail_at_each_byte(rt: HostRuntime) -> Result<(), Fail> {
     for room in 0..GIFTS_LOG.len() {
+        let cut = Cut {
+            desc: ORDER,
+            script: GIFTS,
+            room,
+            most_a_call: GIFTS_LOG.len(),
+            end: "Err(Write)",
+            whole: GIFTS_LOG,
+        };
+        expect_cut(rt.alloc(), &cut)?;
         expect_end(rt.alloc(), room)?;
     }
     Ok(())
 }
 
 #[test]
-fn a_writer_of_one_byte_a_call(rt: HostRuntime) -> Result<(), Fail> {
-    let mut out = Memory::new(rt.alloc(), GIFTS_LOG.len(), 1)?;
-    match run_into(rt.alloc(), ORDER, GIFTS, None, &mut out) {
-        Ok(()) if out.taken() == GIFTS_LOG.as_bytes() => Ok(()),
-        stop => Err(Fail::new(format_args!("{stop:?}"))),
+fn other_writers(rt: HostRuntime) -> Result<(), Fail> {
+    for cut in &CUTS {
+        expect_cut(rt.alloc(), cut)?;
+    }
+    // One that takes nothing is called once, and never again.
+    let mut out = Idle { calls: 0 };
+    let stop = run_into(rt.alloc(), ORDER, GIFTS, None, &mut out);
+    match (stop, out.calls) {
+        (Err(RunFault::Write), 1) => Ok(()),
+        (stop, calls) => Err(Fail::new(format_args!("{stop:?} after {calls} calls"))),
     }
 }
