@@ -25,7 +25,22 @@ pub fn faulty_menus(alloc: Global, kind: FaultKind, menus: &[Menu]) -> Result<Ve
 {
     match kind {
         FaultKind::MenuLetter => titled_again(alloc, menus),
-        _ => judge_each(alloc, &OfMenus { kind }, menus),
+        FaultKind::NameTwice
+        | FaultKind::OutsideOwner
+        | FaultKind::Overlap
+        | FaultKind::LetterTwice
+        | FaultKind::StatusKey
+        | FaultKind::LabelLink
+        | FaultKind::UnknownInRule
+        | FaultKind::ShowsItself
+        | FaultKind::NothingToFocus
+        | FaultKind::MissingEnd
+        | FaultKind::SecondDefault
+        | FaultKind::EmptyDomain
+        | FaultKind::BadStart
+        | FaultKind::WideCharacter
+        | FaultKind::OutsideLimits
+        | FaultKind::BadOpening => judge_each(alloc, &OfMenus { kind }, menus),
     }
 }
 
@@ -39,7 +54,22 @@ pub fn faulty_items(
 {
     match kind {
         FaultKind::MenuLetter => items_again(alloc, items),
-        _ => judge_each(alloc, &OfItems { kind }, items),
+        FaultKind::NameTwice
+        | FaultKind::OutsideOwner
+        | FaultKind::Overlap
+        | FaultKind::LetterTwice
+        | FaultKind::StatusKey
+        | FaultKind::LabelLink
+        | FaultKind::UnknownInRule
+        | FaultKind::ShowsItself
+        | FaultKind::NothingToFocus
+        | FaultKind::MissingEnd
+        | FaultKind::SecondDefault
+        | FaultKind::EmptyDomain
+        | FaultKind::BadStart
+        | FaultKind::WideCharacter
+        | FaultKind::OutsideLimits
+        | FaultKind::BadOpening => judge_each(alloc, &OfItems { kind }, items),
     }
 }
 
@@ -53,7 +83,26 @@ pub fn faulty_status_items(
 {
     match kind {
         FaultKind::StatusKey => bad_keys(alloc, desc),
-        _ => judge_each(alloc, &OfStatusItems { kind, desc }, desc.status.as_slice()),
+        FaultKind::NameTwice
+        | FaultKind::OutsideOwner
+        | FaultKind::Overlap
+        | FaultKind::LetterTwice
+        | FaultKind::LabelLink
+        | FaultKind::UnknownInRule
+        | FaultKind::ShowsItself
+        | FaultKind::NothingToFocus
+        | FaultKind::MissingEnd
+        | FaultKind::SecondDefault
+        | FaultKind::EmptyDomain
+        | FaultKind::BadStart
+        | FaultKind::WideCharacter
+        | FaultKind::OutsideLimits
+        | FaultKind::BadOpening
+        | FaultKind::MenuLetter => judge_each(
+            alloc,
+            &OfStatusItems { kind, desc },
+            desc.status.as_slice(),
+        ),
     }
 }
 
@@ -68,7 +117,21 @@ pub fn faulty_windows(
     match kind {
         FaultKind::NameTwice => windows_named_again(alloc, windows),
         FaultKind::MenuLetter => numbered_again(alloc, windows),
-        _ => judge_each(alloc, &OfWindows { kind }, windows),
+        FaultKind::OutsideOwner
+        | FaultKind::Overlap
+        | FaultKind::LetterTwice
+        | FaultKind::StatusKey
+        | FaultKind::LabelLink
+        | FaultKind::UnknownInRule
+        | FaultKind::ShowsItself
+        | FaultKind::NothingToFocus
+        | FaultKind::MissingEnd
+        | FaultKind::SecondDefault
+        | FaultKind::EmptyDomain
+        | FaultKind::BadStart
+        | FaultKind::WideCharacter
+        | FaultKind::OutsideLimits
+        | FaultKind::BadOpening => judge_each(alloc, &OfWindows { kind }, windows),
     }
 }
 
@@ -79,7 +142,25 @@ pub fn faulty_dialogs(alloc: Global, kind: FaultKind, desc: &Desc) -> Result<Vec
     match kind {
         FaultKind::NameTwice => dialogs_named_again(alloc, desc),
         FaultKind::BadOpening => opened_badly(alloc, desc.dialogs.as_slice()),
-        _ => judge_each(alloc, &OfDialogs { kind, desc }, desc.dialogs.as_slice()),
+        FaultKind::OutsideOwner
+        | FaultKind::Overlap
+        | FaultKind::LetterTwice
+        | FaultKind::StatusKey
+        | FaultKind::LabelLink
+        | FaultKind::UnknownInRule
+        | FaultKind::ShowsItself
+        | FaultKind::NothingToFocus
+        | FaultKind::MissingEnd
+        | FaultKind::SecondDefault
+        | FaultKind::EmptyDomain
+        | FaultKind::BadStart
+        | FaultKind::WideCharacter
+        | FaultKind::OutsideLimits
+        | FaultKind::MenuLetter => judge_each(
+            alloc,
+            &OfDialogs { kind, desc },
+            desc.dialogs.as_slice(),
+        ),
     }
 }
 
@@ -105,7 +186,15 @@ pub fn faulty_views(alloc: Global, kind: FaultKind, body: &Body) -> Result<Vec<b
         FaultKind::SecondDefault => second_defaults(alloc, views),
         FaultKind::EmptyDomain => empty_domains(alloc, starts),
         FaultKind::BadStart => bad_starts(alloc, starts),
-        _ => judge_each(
+        FaultKind::StatusKey
+        | FaultKind::UnknownInRule
+        | FaultKind::ShowsItself
+        | FaultKind::NothingToFocus
+        | FaultKind::MissingEnd
+        | FaultKind::WideCharacter
+        | FaultKind::OutsideLimits
+        | FaultKind::BadOpening
+        | FaultKind::MenuLetter => judge_each(
             alloc,
             &OfViews {
                 kind,
@@ -130,6 +219,24 @@ pub fn faulty_rules(
     match kind {
         FaultKind::UnknownInRule => unknown_names(alloc, dialog),
         FaultKind::ShowsItself => show_themselves(alloc, dialog),
-        _ => judge_each(alloc, &OfRules { kind, dialog }, dialog.rules.as_slice()),
+        FaultKind::NameTwice
+        | FaultKind::OutsideOwner
+        | FaultKind::Overlap
+        | FaultKind::LetterTwice
+        | FaultKind::StatusKey
+        | FaultKind::LabelLink
+        | FaultKind::NothingToFocus
+        | FaultKind::MissingEnd
+        | FaultKind::SecondDefault
+        | FaultKind::EmptyDomain
+        | FaultKind::BadStart
+        | FaultKind::WideCharacter
+        | FaultKind::OutsideLimits
+        | FaultKind::BadOpening
+        | FaultKind::MenuLetter => judge_each(
+            alloc,
+            &OfRules { kind, dialog },
+            dialog.rules.as_slice(),
+        ),
     }
 }

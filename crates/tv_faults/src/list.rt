@@ -56,7 +56,21 @@ fn add_head(found: &mut Sequence<Fault>, kind: FaultKind, desc: &Desc) -> Result
     match kind {
         FaultKind::OutsideLimits => add_if(found, !is_lawful_screen(desc), kind, 2),
         FaultKind::BadOpening => add_if(found, starts_nowhere(desc), kind, 3),
-        _ => Ok(()),
+        FaultKind::NameTwice
+        | FaultKind::OutsideOwner
+        | FaultKind::Overlap
+        | FaultKind::LetterTwice
+        | FaultKind::StatusKey
+        | FaultKind::LabelLink
+        | FaultKind::UnknownInRule
+        | FaultKind::ShowsItself
+        | FaultKind::NothingToFocus
+        | FaultKind::MissingEnd
+        | FaultKind::SecondDefault
+        | FaultKind::EmptyDomain
+        | FaultKind::BadStart
+        | FaultKind::WideCharacter
+        | FaultKind::MenuLetter => Ok(()),
     }
 }
 

@@ -83,7 +83,21 @@ impl Judge for OfMenus {
         Ok(match self.kind {
             FaultKind::WideCharacter => is_wide_text(menu.title.text.as_slice()),
             FaultKind::OutsideLimits => menu_outside_limits(before, menu),
-            _ => false,
+            FaultKind::NameTwice
+            | FaultKind::OutsideOwner
+            | FaultKind::Overlap
+            | FaultKind::LetterTwice
+            | FaultKind::StatusKey
+            | FaultKind::LabelLink
+            | FaultKind::UnknownInRule
+            | FaultKind::ShowsItself
+            | FaultKind::NothingToFocus
+            | FaultKind::MissingEnd
+            | FaultKind::SecondDefault
+            | FaultKind::EmptyDomain
+            | FaultKind::BadStart
+            | FaultKind::BadOpening
+            | FaultKind::MenuLetter => false,
         })
     }
 }
@@ -102,7 +116,21 @@ impl Judge for OfItems {
         Ok(match self.kind {
             FaultKind::WideCharacter => is_wide_text(item.text.text.as_slice()),
             FaultKind::OutsideLimits => item_outside_limits(before, item),
-            _ => false,
+            FaultKind::NameTwice
+            | FaultKind::OutsideOwner
+            | FaultKind::Overlap
+            | FaultKind::LetterTwice
+            | FaultKind::StatusKey
+            | FaultKind::LabelLink
+            | FaultKind::UnknownInRule
+            | FaultKind::ShowsItself
+            | FaultKind::NothingToFocus
+            | FaultKind::MissingEnd
+            | FaultKind::SecondDefault
+            | FaultKind::EmptyDomain
+            | FaultKind::BadStart
+            | FaultKind::BadOpening
+            | FaultKind::MenuLetter => false,
         })
     }
 }
@@ -121,7 +149,21 @@ impl<'a> Judge for OfStatusItems<'a> {
         Ok(match self.kind {
             FaultKind::WideCharacter => is_wide_text(item.text.as_slice()),
             FaultKind::OutsideLimits => status_outside_limits(before, item),
-            _ => false,
+            FaultKind::NameTwice
+            | FaultKind::OutsideOwner
+            | FaultKind::Overlap
+            | FaultKind::LetterTwice
+            | FaultKind::StatusKey
+            | FaultKind::LabelLink
+            | FaultKind::UnknownInRule
+            | FaultKind::ShowsItself
+            | FaultKind::NothingToFocus
+            | FaultKind::MissingEnd
+            | FaultKind::SecondDefault
+            | FaultKind::EmptyDomain
+            | FaultKind::BadStart
+            | FaultKind::BadOpening
+            | FaultKind::MenuLetter => false,
         })
     }
 }
@@ -140,7 +182,21 @@ impl Judge for OfWindows {
         Ok(match self.kind {
             FaultKind::WideCharacter => has_wide(&window.node),
             FaultKind::OutsideLimits => window_outside_limits(before, window),
-            _ => false,
+            FaultKind::NameTwice
+            | FaultKind::OutsideOwner
+            | FaultKind::Overlap
+            | FaultKind::LetterTwice
+            | FaultKind::StatusKey
+            | FaultKind::LabelLink
+            | FaultKind::UnknownInRule
+            | FaultKind::ShowsItself
+            | FaultKind::NothingToFocus
+            | FaultKind::MissingEnd
+            | FaultKind::SecondDefault
+            | FaultKind::EmptyDomain
+            | FaultKind::BadStart
+            | FaultKind::BadOpening
+            | FaultKind::MenuLetter => false,
         })
     }
 }
@@ -157,7 +213,18 @@ impl<'a> Judge for OfDialogs<'a> {
             FaultKind::MissingEnd => lacks_cancel(dialog),
             FaultKind::WideCharacter => has_wide(&dialog.node),
             FaultKind::OutsideLimits => dialog_outside_limits(before, dialog),
-            _ => false,
+            FaultKind::NameTwice
+            | FaultKind::Overlap
+            | FaultKind::LetterTwice
+            | FaultKind::StatusKey
+            | FaultKind::LabelLink
+            | FaultKind::UnknownInRule
+            | FaultKind::ShowsItself
+            | FaultKind::SecondDefault
+            | FaultKind::EmptyDomain
+            | FaultKind::BadStart
+            | FaultKind::BadOpening
+            | FaultKind::MenuLetter => false,
         })
     }
 }
@@ -172,7 +239,20 @@ impl<'a> Judge for OfViews<'a> {
             FaultKind::MissingEnd => lacks_end(self.ends, node),
             FaultKind::WideCharacter => has_wide(node),
             FaultKind::OutsideLimits => view_outside_limits(before, node),
-            _ => false,
+            FaultKind::NameTwice
+            | FaultKind::OutsideOwner
+            | FaultKind::Overlap
+            | FaultKind::LetterTwice
+            | FaultKind::StatusKey
+            | FaultKind::LabelLink
+            | FaultKind::UnknownInRule
+            | FaultKind::ShowsItself
+            | FaultKind::NothingToFocus
+            | FaultKind::SecondDefault
+            | FaultKind::EmptyDomain
+            | FaultKind::BadStart
+            | FaultKind::BadOpening
+            | FaultKind::MenuLetter => false,
         })
     }
 }
@@ -186,7 +266,21 @@ impl<'a> Judge for OfRules<'a> {
         Ok(match self.kind {
             FaultKind::OutsideLimits => rule_outside_limits(before, rule),
             FaultKind::MenuLetter => rules_cancel(rule),
-            _ => false,
+            FaultKind::NameTwice
+            | FaultKind::OutsideOwner
+            | FaultKind::Overlap
+            | FaultKind::LetterTwice
+            | FaultKind::StatusKey
+            | FaultKind::LabelLink
+            | FaultKind::UnknownInRule
+            | FaultKind::ShowsItself
+            | FaultKind::NothingToFocus
+            | FaultKind::MissingEnd
+            | FaultKind::SecondDefault
+            | FaultKind::EmptyDomain
+            | FaultKind::BadStart
+            | FaultKind::WideCharacter
+            | FaultKind::BadOpening => false,
         })
     }
 }
