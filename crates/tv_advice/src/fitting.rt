@@ -1,8 +1,7 @@
 //! The first word of a line that doesn't fit its form.
 
 use crate::forms::{Form, Rest};
-use tv_declarations::{command_name, key};
-use tv_model::CommandSpec;
+use tv_declarations::{command, key};
 use tv_words::Word;
 
 /// What a word of a line has to be.
@@ -63,22 +62,6 @@ fn is_quoted_mark(word: &Word) -> bool {
     }
 }
 
-// The commands that have a word.
-const NAMED: [CommandSpec; 8] = [
-    CommandSpec::Quit,
-    CommandSpec::Menu,
-    CommandSpec::Close,
-    CommandSpec::Next,
-    CommandSpec::Ok,
-    CommandSpec::Cancel,
-    CommandSpec::Yes,
-    CommandSpec::No,
-];
-
-fn is_command(word: &Word) -> bool {
-    word.number().is_some() || NAMED.iter().any(|command| word.is(command_name(*command)))
-}
-
 // Whether it is one digit or one letter from A to Z.
 fn is_letter(word: &Word) -> bool {
     match word {
@@ -96,7 +79,7 @@ fn fits(word: &Word, want: Want) -> bool {
         Want::Name => word.name().is_some(),
         Want::Str => word.text().is_some(),
         Want::Marked => is_quoted_mark(word),
-        Want::Command => is_command(word),
+        Want::Command => command(word).is_some(),
         Want::Key => key(word).is_some(),
         Want::Letter => is_letter(word),
         Want::This(text) => word.is(text.as_bytes()),

@@ -25,13 +25,22 @@ pub enum Rest {
     Owner,
 }
 
-/// A line: its keyword, how it is called, its form, its first words after the keyword, and what follows them.
+/// A line: how it is called, its form, its first words after the keyword, and what follows them.
 pub struct Form {
-    pub keyword: &'static str,
     pub called: &'static str,
     pub text: &'static str,
     pub words: &'static [Want],
     pub rest: Rest,
+}
+
+impl Form {
+    /// Returns the keyword of the line: the first word of its form.
+    pub fn keyword(&self) -> &'static str {
+        match self.text.split_once(' ') {
+            Some((keyword, _)) => keyword,
+            None => self.text,
+        }
+    }
 }
 
 const NUM: Want = Want::Num;
@@ -39,133 +48,114 @@ const NUM: Want = Want::Num;
 // The lines of descriptions.
 const DESCRIPTION: [Form; 19] = [
     Form {
-        keyword: "tvd",
         called: "the first line",
         text: "tvd 1",
         words: &[NUM],
         rest: Rest::Nothing,
     },
     Form {
-        keyword: "screen",
         called: "the screen",
         text: "screen W H",
         words: &[NUM, NUM],
         rest: Rest::Nothing,
     },
     Form {
-        keyword: "start",
         called: "the start",
         text: "start NAME",
         words: &[Want::Name],
         rest: Rest::Nothing,
     },
     Form {
-        keyword: "menu",
         called: "a menu",
         text: "menu MARKED",
         words: &[Want::Marked],
         rest: Rest::Nothing,
     },
     Form {
-        keyword: "item",
         called: "an item",
         text: "item MARKED COMMAND",
         words: &[Want::Marked, Want::Command],
         rest: Rest::Nothing,
     },
     Form {
-        keyword: "status",
         called: "a status item",
         text: "status STR KEY COMMAND",
         words: &[Want::Str, Want::Key, Want::Command],
         rest: Rest::Nothing,
     },
     Form {
-        keyword: "window",
         called: "a window",
         text: "window NAME X Y W H N STR",
         words: &[Want::Name, NUM, NUM, NUM, NUM, NUM, Want::Str],
         rest: Rest::Nothing,
     },
     Form {
-        keyword: "dialog",
         called: "a dialog",
         text: "dialog NAME X Y W H STR [opens NUM] ends [ok] [cancel] [yes] [no]",
         words: &[Want::Name, NUM, NUM, NUM, NUM, Want::Str],
         rest: Rest::Ends,
     },
     Form {
-        keyword: "text",
         called: "a text",
         text: "text X Y W H STR",
         words: &[NUM, NUM, NUM, NUM, Want::Str],
         rest: Rest::Nothing,
     },
     Form {
-        keyword: "label",
         called: "a label",
         text: "label X Y W MARKED NAME",
         words: &[NUM, NUM, NUM, Want::Marked, Want::Name],
         rest: Rest::Nothing,
     },
     Form {
-        keyword: "button",
         called: "a button",
         text: "button NAME X Y W MARKED COMMAND [default] [grab]",
         words: &[Want::Name, NUM, NUM, NUM, Want::Marked, Want::Command],
         rest: Rest::Button,
     },
     Form {
-        keyword: "input",
         called: "an input",
         text: "input NAME X Y W MAX domain STR [validate] [optional] [fill]",
         words: &[Want::Name, NUM, NUM, NUM, NUM],
         rest: Rest::Domain,
     },
     Form {
-        keyword: "checks",
         called: "a checks line",
         text: "checks NAME X Y W MARKED+ [start NUM+], the numbers rising",
         words: &[Want::Name, NUM, NUM, NUM, Want::Marked],
         rest: Rest::Checks,
     },
     Form {
-        keyword: "radios",
         called: "a radios line",
         text: "radios NAME X Y W MARKED+ start NUM",
         words: &[Want::Name, NUM, NUM, NUM, Want::Marked],
         rest: Rest::Radios,
     },
     Form {
-        keyword: "list",
         called: "a list",
         text: "list NAME X Y W H STR+ start NUM",
         words: &[Want::Name, NUM, NUM, NUM, NUM, Want::Str],
         rest: Rest::List,
     },
     Form {
-        keyword: "pane",
         called: "a pane",
         text: "pane NAME X Y W H",
         words: &[Want::Name, NUM, NUM, NUM, NUM],
         rest: Rest::Nothing,
     },
     Form {
-        keyword: "show",
         called: "a show rule",
         text: "show NAME when NAME NUM",
         words: &[Want::Name],
         rest: Rest::Rule,
     },
     Form {
-        keyword: "enable",
         called: "an enable rule",
         text: "enable COMMAND when NAME NUM",
         words: &[Want::Command],
         rest: Rest::Rule,
     },
     Form {
-        keyword: "end",
         called: "an end",
         text: "end",
         words: &[],
@@ -176,35 +166,30 @@ const DESCRIPTION: [Form; 19] = [
 // The lines of certificates.
 const CERTIFICATE: [Form; 5] = [
     Form {
-        keyword: "tvcert",
         called: "the first line",
         text: "tvcert 1",
         words: &[NUM],
         rest: Rest::Nothing,
     },
     Form {
-        keyword: "dialog",
         called: "a dialog",
         text: "dialog NAME",
         words: &[Want::Name],
         rest: Rest::Nothing,
     },
     Form {
-        keyword: "tab",
         called: "a tab line",
         text: "tab NAME",
         words: &[Want::Name],
         rest: Rest::Nothing,
     },
     Form {
-        keyword: "key",
         called: "a key line",
         text: "key LETTER NAME [NUM] [when NAME NUM]",
         words: &[Want::Letter, Want::Name],
         rest: Rest::Owner,
     },
     Form {
-        keyword: "end",
         called: "an end",
         text: "end",
         words: &[],
@@ -215,49 +200,42 @@ const CERTIFICATE: [Form; 5] = [
 // The lines of scripts.
 const SCRIPT: [Form; 7] = [
     Form {
-        keyword: "key",
         called: "a key line",
         text: "key KEY",
         words: &[Want::Key],
         rest: Rest::Nothing,
     },
     Form {
-        keyword: "type",
         called: "a type line",
         text: "type STR",
         words: &[Want::Str],
         rest: Rest::Nothing,
     },
     Form {
-        keyword: "down",
         called: "a down line",
         text: "down X Y",
         words: &[NUM, NUM],
         rest: Rest::Nothing,
     },
     Form {
-        keyword: "move",
         called: "a move line",
         text: "move X Y",
         words: &[NUM, NUM],
         rest: Rest::Nothing,
     },
     Form {
-        keyword: "up",
         called: "an up line",
         text: "up X Y",
         words: &[NUM, NUM],
         rest: Rest::Nothing,
     },
     Form {
-        keyword: "shot",
         called: "a shot line",
         text: "shot",
         words: &[],
         rest: Rest::Nothing,
     },
     Form {
-        keyword: "colors",
         called: "a colors line",
         text: "colors",
         words: &[],
@@ -272,5 +250,5 @@ pub fn form_of(language: Language, word: &Word) -> Option<&'static Form> {
         Language::Certificate => &CERTIFICATE,
         Language::Script => &SCRIPT,
     };
-    forms.iter().find(|form| word.is(form.keyword.as_bytes()))
+    forms.iter().find(|form| word.is(form.keyword().as_bytes()))
 }

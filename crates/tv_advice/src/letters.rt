@@ -5,26 +5,11 @@ use crate::saying::{Part, Remark, Saying};
 use std::alloc::{AllocError, Global};
 use tv_event::Key;
 use tv_explain::Reason;
-use tv_model::{Desc, Dialog, Kind, MarkedText, Menu, MenuItem, Node, StatusItem, Version, Window};
-use tv_names::Sharing;
-
-// The texts of a declaration that may mark letters.
-fn marked_texts(kind: &Kind) -> &[MarkedText] {
-    match kind {
-        Kind::Label(label) => std::slice::from_ref(&label.text),
-        Kind::Button(button) => std::slice::from_ref(&button.text),
-        Kind::CheckBoxes(boxes) => boxes.items.as_slice(),
-        Kind::RadioButtons(radios) => radios.items.as_slice(),
-        _ => &[],
-    }
-}
+use tv_model::{Desc, Dialog, MarkedText, Menu, MenuItem, Node, StatusItem, Version, Window};
+use tv_names::{Sharing, marked_of};
 
 fn is_marked_in(views: &[Node], letter: char) -> bool {
-    views.iter().any(|view| {
-        marked_texts(&view.kind)
-            .iter()
-            .any(|text| text.marks(letter))
-    })
+    views.iter().any(|view| { marked_of(&view.kind).iter().any(|text| text.marks(letter)) })
 }
 
 // Whether the dialog's views share the letter lawfully: in version 1 there are none.
@@ -49,13 +34,13 @@ fn letter_marked_again(
     node: &Node,
     other: &Node,
 ) -> Result<Option<char>, AllocError> {
-    let texts = marked_texts(&node.kind);
+    let texts = marked_of(&node.kind);
     for (i, text) in texts.iter().enumerate() {
         if let Some(letter) = text.letter() {
             let others = if node.id == other.id {
                 &texts[..i]
             } else {
-                marked_texts(&other.kind)
+                marked_of(&other.kind)
             };
             let is_marked = others.iter().any(|text| text.marks(letter));
             if is_marked && !is_shared(alloc, desc, dialog, letter)? {
@@ -76,7 +61,7 @@ fn is_status_letter(desc: &Desc, letter: char) -> bool {
 
 // The text of the node that marks the letter, the last such.
 fn marking(node: &Node, letter: char) -> Option<&MarkedText> {
-    let texts = marked_texts(&node.kind);
+    let texts = marked_of(&node.kind);
     texts.iter().rev().find(|text| text.marks(letter))
 }
 

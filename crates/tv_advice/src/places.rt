@@ -4,6 +4,7 @@ use crate::naming::{called, word_of, x_word};
 use crate::saying::{Part, Remark, Saying};
 use crate::subject::dialog_around;
 use std::alloc::{AllocError, Global};
+use tv_faults::least_width;
 use tv_model::{Desc, Dialog, Kind, Node};
 
 /// Columns or rows, the first and the last.
@@ -138,17 +139,6 @@ fn outside_label(
     format!(in alloc; "{text}, but those inside are {first} to {last}")
 }
 
-// The least width that a node may have.
-fn least_width(kind: &Kind) -> i64 {
-    match kind {
-        Kind::Window(_) | Kind::Dialog(_) => 12,
-        Kind::Button(_) => 4,
-        Kind::Input(_) => 3,
-        Kind::CheckBoxes(_) | Kind::RadioButtons(_) => 5,
-        Kind::Text(_) | Kind::Label(_) | Kind::List(_) | Kind::Pane(_) => 1,
-    }
-}
-
 // Whether its line has its height.
 fn has_height(kind: &Kind) -> bool {
     matches!(
@@ -167,7 +157,7 @@ fn columns_mend(
     let own = columns(node);
     let missing = own.count().saturating_sub(room.count());
     let over = own.last.saturating_sub(room.last);
-    let may_shrink = least_width(&node.kind) <= own.count().saturating_sub(over);
+    let may_shrink = i64::from(least_width(&node.kind)) <= own.count().saturating_sub(over);
     let latest = own.first.saturating_sub(over);
     let first = room.first;
     match (missing > 0, own.first < first) {

@@ -247,7 +247,7 @@ fn misplaced(
     stage: Stage,
 ) -> Result<Trouble, AllocError> {
     let span = keyword_span(alloc, line)?;
-    match (stage, form.keyword) {
+    match (stage, form.keyword()) {
         (Stage::InViews(_), "checks") => not_rising(alloc, line, form, found),
         (_, keyword) => Trouble::new(alloc, stage.refuses(keyword), span, "not here", None),
     }

@@ -5,7 +5,7 @@ ghost use Rattle.tv_declarations.specs.declared.declaration.Declaration.{Declara
 ghost use Rattle.tv_declarations.specs.Spelling.Declarations.{IsDeclarationLine};
 ghost use Rattle.tv_declarations.specs.Reading.Declarations.{version_in, screen_in, start_in, menu_in, item_in, status_in, rule_in, show_in, enable_in, end_in, node_declared, line_in, declaration_in};
 
-use crate::command::command;
+use crate::commands::command;
 use crate::keys::key;
 use crate::keywords;
 use crate::node::{mark, node};

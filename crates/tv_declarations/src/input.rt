@@ -4,7 +4,7 @@ ghost use Rattle.std.specs.Prelude.{◌≡◌, IfOk};
 ghost use Rattle.std.specs.Option.{option_map};
 ghost use Rattle.tv_declarations.specs.Reading.Inputs.{filter_in, picture_in, range_in, domain_in, options_in, asked_after, asked_in, input_in};
 
-use crate::command::skip;
+use crate::commands::skip;
 use crate::keywords;
 use crate::place::{Place, Position};
 use std::alloc::{AllocError, Global};

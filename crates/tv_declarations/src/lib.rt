@@ -2,7 +2,7 @@
 #![tactic(auto)]
 
 mod cluster;
-mod command;
+mod commands;
 mod declaration;
 mod input;
 mod items;
@@ -12,7 +12,7 @@ mod marked;
 mod node;
 mod place;
 
-pub use command::command_name;
+pub use commands::{command, command_name};
 pub use declaration::{Declaration, declared};
 pub use keys::{key, key_name, key_of, token_key};
 pub use place::Position;

@@ -7,7 +7,7 @@ ghost use Rattle.tv_declarations.specs.Reading.Places.{mark_in};
 ghost use Rattle.tv_declarations.specs.Reading.Nodes.{text_in_fields, label_from, label_in, button_in, pane_in, window_from, window_in, opened_in, commands_in, dialog_in, control_in, node_in};
 
 use crate::cluster::{checks, list, radios};
-use crate::command::{button_options, command, ends};
+use crate::commands::{button_options, command, ends};
 use crate::input::input;
 use crate::keywords;
 use crate::marked::marked;

@@ -6,14 +6,14 @@ ghost use Rattle.std.specs.Ordering.{int_eq};
 ghost use Rattle.tv_model.specs.Description.Heads.{window_head};
 ghost use Rattle.tv_model.specs.Description.Letters.{marked_of};
 ghost use Rattle.tv_model.specs.Description.Marks.{marks};
-ghost use Rattle.tv_model.specs.Faults.Letters.{is_same_key, is_status_key, is_window_digit};
+ghost use Rattle.tv_model.specs.Faults.Letters.{is_same_key, is_window_digit};
 ghost use Rattle.tv_explain.specs.Keys.{digit_line, key_holder, key_why, marker_line, number_line, number_why, shortcut_line, taken_why, menu_marking};
 
-use crate::letters::marked_of;
 use crate::lines::line_of;
 use crate::why::{Reason, Why};
 use tv_event::Key;
 use tv_model::{Desc, Dialog, MarkedText, Menu, Node, StatusItem, Window};
+use tv_names::{is_status_key, marked_of};
 
 // Whether one of the texts marks the letter.
 fn is_marked(letter: char, texts: &[MarkedText]) -> bool
@@ -95,18 +95,6 @@ fn key_line(before: &[StatusItem], key: Key) -> Option<u32>
 {
     let item = before.iter().find(|item| is_same_key(item.key, key));
     item.map(|item| item.id.0)
-}
-
-// Whether a status item may have the key.
-fn is_status_key(key: Key) -> bool
-    ensures { result ≡ is_status_key key }
-{
-    match key {
-        Key::Function(number) => (1..=12).contains(&number),
-        Key::Ctrl(letter) => letter.is_ascii_uppercase() && letter != 'Y',
-        Key::Alt(letter) => letter.is_ascii_uppercase() || letter.is_ascii_digit(),
-        _ => false,
-    }
 }
 
 // What the key does elsewhere, before what remains.

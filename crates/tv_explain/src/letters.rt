@@ -10,22 +10,8 @@ ghost use Rattle.tv_explain.specs.Letters.{item_line, item_why, is_given, letter
 
 use crate::why::{Reason, Why};
 use std::alloc::{AllocError, Global};
-use std::slice;
-use tv_model::{Kind, MarkedText, Menu, MenuItem, Node, Rule};
-use tv_names::Sharing;
-
-/// Returns the texts of the declaration in which a letter may be marked.
-pub fn marked_of(kind: &Kind) -> &[MarkedText]
-    ensures { result.now ≡ marked_of kind.now }
-{
-    match kind {
-        Kind::Label(label) => slice::from_ref(&label.text),
-        Kind::Button(button) => slice::from_ref(&button.text),
-        Kind::CheckBoxes(boxes) => boxes.items.as_slice(),
-        Kind::RadioButtons(radios) => radios.items.as_slice(),
-        _ => &[],
-    }
-}
+use tv_model::{MarkedText, Menu, MenuItem, Node, Rule};
+use tv_names::{Sharing, marked_of};
 
 // Whether the first text marks a letter, and the second one marks it too.
 fn shares_letter(text: &MarkedText, other: &MarkedText) -> bool

@@ -18,6 +18,7 @@ mod why;
 
 pub use explaining::{Explained, explain};
 pub use groups::{FaultGroup, RuleFault, ViewFault, group_of};
-pub use lines::{Line, around_line, at_line};
+pub use lines::{around_line, at_line};
 pub use places::Places;
+pub use tv_faults::Line;
 pub use why::{Reason, Why};

@@ -1,104 +1,14 @@
 //! What is outside the limits: F15.
 
-ghost use Rattle.std.specs.Prelude.{◌≡◌, ◌&&◌, length, nat_le, pos, Some};
-ghost use Rattle.tv_model.specs.Description.Commands.{command_of};
-ghost use Rattle.tv_model.specs.Description.Nodes.{height_of};
-ghost use Rattle.tv_model.specs.Description.Numbers.{is_between};
-ghost use Rattle.tv_model.specs.Faults.Limits.{is_lawful_amount, is_lawful_corner, is_lawful_count, is_lawful_number, least_height, least_width};
+ghost use Rattle.std.specs.Prelude.{◌≡◌};
 ghost use Rattle.tv_explain.specs.Limits.{dialog_limit, item_limit, menu_limit, node_reason, number_or, rule_limit, status_limit, too_many_or, view_limit, window_limit};
 
 use crate::why::Reason;
-use tv_model::{CommandSpec, Dialog, Kind, Menu, MenuItem, Node, Rule, StatusItem, Window};
-use tv_overlaps::height;
-
-fn least_width(kind: &Kind) -> i32
-    ensures { result ≡ least_width kind.now }
-{
-    match kind {
-        Kind::Window(_) | Kind::Dialog(_) => 12,
-        Kind::Button(_) => 4,
-        Kind::Input(_) => 3,
-        Kind::CheckBoxes(_) | Kind::RadioButtons(_) => 5,
-        Kind::Text(_) | Kind::Label(_) | Kind::List(_) | Kind::Pane(_) => 1,
-    }
-}
-
-fn least_height(kind: &Kind) -> i128
-    ensures { result ≡ least_height kind.now }
-{
-    match kind {
-        Kind::Window(_) | Kind::Dialog(_) => 3,
-        _ => 1,
-    }
-}
-
-// Whether the command is a word, or a number that a description may give.
-fn is_lawful_command(command: CommandSpec) -> bool
-    ensures { result ≡ is_lawful_number (Some command) }
-{
-    match command {
-        CommandSpec::Number(number) => (100..=255).contains(&number),
-        _ => true,
-    }
-}
-
-// Whether the declaration's command may have its number.
-fn is_lawful_button(kind: &Kind) -> bool
-    ensures { result ≡ is_lawful_number (command_of kind.now) }
-{
-    match kind {
-        Kind::Button(button) => is_lawful_command(button.command),
-        _ => true,
-    }
-}
-
-// Whether there may be so many items.
-fn is_between(least: usize, most: usize, count: usize) -> bool
-    ensures { result ≡ (nat_le least count && nat_le count most) }
-{
-    least <= count && count <= most
-}
-
-// Whether the declaration has as many items as it may.
-fn is_lawful_count(kind: &Kind) -> bool
-    ensures { result ≡ is_lawful_count kind.now }
-{
-    match kind {
-        Kind::CheckBoxes(boxes) => is_between(1, 16, boxes.items.as_slice().len()),
-        Kind::RadioButtons(radios) => is_between(1, 16, radios.items.as_slice().len()),
-        Kind::List(list) => is_between(1, 100, list.items.as_slice().len()),
-        _ => true,
-    }
-}
-
-// Whether a window's number, or the most characters of an input, is within the limits.
-fn is_lawful_amount(kind: &Kind) -> bool
-    ensures { result ≡ is_lawful_amount kind.now }
-{
-    match kind {
-        Kind::Window(head) => (0..=9).contains(&head.number),
-        Kind::Input(input) => (1..=120).contains(&input.spec.max),
-        _ => true,
-    }
-}
-
-fn is_lawful_corner(node: &Node) -> bool
-    ensures { result ≡ is_lawful_corner node.now }
-{
-    (-132..=132).contains(&node.x) && (-132..=132).contains(&node.y)
-}
-
-fn is_lawful_width(node: &Node) -> bool
-    ensures { result ≡ is_between (least_width node.now.kind) (pos 132) node.now.w }
-{
-    (least_width(&node.kind)..=132).contains(&node.w)
-}
-
-fn is_lawful_height(kind: &Kind) -> bool
-    ensures { result ≡ is_between (least_height kind.now) (pos 60) (height_of kind.now) }
-{
-    (least_height(kind)..=60).contains(&height(kind))
-}
+use tv_faults::{
+    is_lawful_amount, is_lawful_button, is_lawful_command, is_lawful_corner, is_lawful_count,
+    is_lawful_height, is_lawful_width,
+};
+use tv_model::{CommandSpec, Dialog, Menu, MenuItem, Node, Rule, StatusItem, Window};
 
 // What is outside in the line of a window, a dialog or a view.
 fn node_reason(node: &Node) -> Reason

@@ -4,74 +4,8 @@ ghost use Rattle.std.specs.Prelude.{◌≡◌, ◌==◌, option_copied, position
 ghost use Rattle.std.specs.Option.{option_map};
 ghost use Rattle.tv_explain.specs.Lines.{around_line, at_line, node_line};
 
-use tv_model::{Dialog, Menu, MenuItem, Node, Rule, StatusItem, Window};
-
-/// A declaration with a line of its own.
-pub trait Line {
-    ghost use Rattle.std.specs.Prelude.{ℕ};
-
-    ghost number: { Self → ℕ };
-
-    /// Returns the number of its line in the canonical text.
-    fn number(&self) -> u32
-        ensures { result ≡ number self.now };
-}
-
-impl Line for Menu {
-    ghost number = { λ menu. menu.id.0 };
-
-    fn number(&self) -> u32 {
-        self.id.0
-    }
-}
-
-impl Line for MenuItem {
-    ghost number = { λ item. item.id.0 };
-
-    fn number(&self) -> u32 {
-        self.id.0
-    }
-}
-
-impl Line for StatusItem {
-    ghost number = { λ item. item.id.0 };
-
-    fn number(&self) -> u32 {
-        self.id.0
-    }
-}
-
-impl Line for Window {
-    ghost number = { λ window. window.node.id.0 };
-
-    fn number(&self) -> u32 {
-        self.node.id.0
-    }
-}
-
-impl Line for Dialog {
-    ghost number = { λ dialog. dialog.node.id.0 };
-
-    fn number(&self) -> u32 {
-        self.node.id.0
-    }
-}
-
-impl Line for Node {
-    ghost number = { λ node. node.id.0 };
-
-    fn number(&self) -> u32 {
-        self.id.0
-    }
-}
-
-impl Line for Rule {
-    ghost number = { λ rule. rule.id.0 };
-
-    fn number(&self) -> u32 {
-        self.id.0
-    }
-}
+use tv_faults::Line;
+use tv_model::Node;
 
 // The place of the declaration on this line.
 fn place_at<L: Line>(items: &[L], line: u32) -> Option<usize>

@@ -6,7 +6,9 @@ ghost use Rattle.tv_model.specs.Faults.{fault_at};
 ghost use Rattle.tv_model.specs.Faults.Each.{each_after};
 
 use std::alloc::AllocError;
-use tv_model::{Fault, FaultKind, MenuItem, Node, Rule, Sequence, StatusItem};
+use tv_model::{
+    Dialog, Fault, FaultKind, Menu, MenuItem, Node, Rule, Sequence, StatusItem, Window,
+};
 
 /// A declaration with a line of its own.
 pub trait Line {
@@ -14,9 +16,17 @@ pub trait Line {
 
     ghost number: { Self → ℕ };
 
-    /// Returns the number of its line.
+    /// Returns the number of its line in the canonical text.
     fn number(&self) -> u32
         ensures { result ≡ number self.now };
+}
+
+impl Line for Menu {
+    ghost number = { λ menu. menu.id.0 };
+
+    fn number(&self) -> u32 {
+        self.id.0
+    }
 }
 
 impl Line for MenuItem {
@@ -32,6 +42,22 @@ impl Line for StatusItem {
 
     fn number(&self) -> u32 {
         self.id.0
+    }
+}
+
+impl Line for Window {
+    ghost number = { λ window. window.node.id.0 };
+
+    fn number(&self) -> u32 {
+        self.node.id.0
+    }
+}
+
+impl Line for Dialog {
+    ghost number = { λ dialog. dialog.node.id.0 };
+
+    fn number(&self) -> u32 {
+        self.node.id.0
     }
 }
 

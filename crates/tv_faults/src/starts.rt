@@ -28,8 +28,8 @@ fn starts_among(start: &[i32], count: usize) -> bool
     start.iter().any(|item| !is_item(item, count))
 }
 
-// Whether the declaration starts with an item that it doesn't have.
-fn starts_outside(kind: &Kind) -> bool
+/// Whether the declaration starts with an item that it doesn't have.
+pub fn starts_outside(kind: &Kind) -> bool
     ensures { result ≡ starts_outside kind.now }
 {
     match kind {

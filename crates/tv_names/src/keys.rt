@@ -17,8 +17,8 @@ use std::collections::HashSet;
 use tv_event::Key;
 use tv_model::{Desc, Dialog, MarkedText, Menu, Node, Window};
 
-// Whether a status item may have the key.
-fn is_status_key(key: Key) -> bool
+/// Whether a status item may have the key.
+pub fn is_status_key(key: Key) -> bool
     ensures { result ≡ is_status_key key }
 {
     match key {
