@@ -24,13 +24,14 @@ use Rattle.tv_files.specs.declared.no_task.NoTask.{NoTask}
 use Rattle.tv_files.specs.declared.task.Task.{Task}
 use Rattle.tv_files.specs.declared.task.Task.TheVariants.{Check, Accept, Run, Play, Picture, PictureAll, Explain, ExplainBoth, Version}
 use Rattle.tv_files.specs.Ends.{End}
-use Rattle.tv_files.specs.EndsWith.{EndsWith, World, ports_of}
+use Rattle.tv_files.specs.EndsWith.{EndsWith}
 use Rattle.tv_files.specs.Files.{Known}
 use Rattle.tv_files.specs.Performing.{PerformsTask}
 use Rattle.tv_files.specs.Picturing.{PicturesAll, PicturesAs, PicturesFiles, ShotsAs}
 use Rattle.tv_files.specs.Tasks.{OnStream, PlaysFile, RunsAs, RunsFiles}
 use Rattle.tv_files.specs.Tasks.OnStream.{unopened, beside, unread, done}
 use Rattle.tv_files.specs.Tasks.PlaysFile.{unread as unread_file, played as played_file}
+use Rattle.tv_files.specs.World.{KnownWorld, ports_of}
 
 -- what two files come to, where less is said of what follows
 OnStream-weaker : {S : Type 0} (Comes Weaker : (text : List ℕ) (reader left : Given) → Type 0) → ((text : List ℕ) (reader left : Given) → Comes text reader left → Weaker text reader left) → (files after : Known) (file script : List ℕ) (old new : S) (end : End) → OnStream Comes files after file script old new end → OnStream Weaker files after file script old new end
@@ -103,23 +104,23 @@ module _ (P Q : Desc → Type 0) (weaker : (text : List ℕ) (d : Desc) → IsSo
       played_file text gives (came.0, PlaysText-weaker text old new came.0 came.1, came.2, came.3)
 
   -- what a task comes to
-  Performs-weaker : (task : Task) (files after : Known) (album later : Option Hung) (old new : Ports) (how : Done) (end : End) → PerformsTask P task files after album later old new how end → PerformsTask Q task files after album later old new how end
-  Performs-weaker (Check file) files after album later old new how end came = came
-  Performs-weaker (Accept file certificate) files after album later old new how end came = came
-  Performs-weaker (Run file script) files after album later old new how end came =
-      (came.0, came.1, RunsFiles-weaker files after file.now script.now old.log new.log end came.2)
-  Performs-weaker (Play file) files after album later old new how end came =
-      (came.0, PlaysFile-weaker files after file.now old new how end came.1)
-  Performs-weaker (Picture file script) files after album later old new how end came =
-      (came.0, came.1, PicturesFiles-weaker files after file.now script.now old.log new.log end came.2)
-  Performs-weaker (PictureAll file script) files after album later old new how end came =
-      (came.0, came.1, PicturesAll-weaker files after file.now script.now album later end came.2)
-  Performs-weaker (Explain file manner) files after album later old new how end came = came
-  Performs-weaker (ExplainBoth file other manner) files after album later old new how end came = came
-  Performs-weaker Version files after album later old new how end came = came
+  Performs-weaker : (task : Task) (old new : KnownWorld) (how : Done) (end : End) → PerformsTask P task old new how end → PerformsTask Q task old new how end
+  Performs-weaker (Check file) old new how end came = came
+  Performs-weaker (Accept file certificate) old new how end came = came
+  Performs-weaker (Run file script) old new how end came =
+      (came.0, came.1, RunsFiles-weaker old.files new.files file.now script.now old.out new.out end came.2)
+  Performs-weaker (Play file) old new how end came =
+      (came.0, PlaysFile-weaker old.files new.files file.now (ports_of old) (ports_of new) how end came.1)
+  Performs-weaker (Picture file script) old new how end came =
+      (came.0, came.1, PicturesFiles-weaker old.files new.files file.now script.now old.out new.out end came.2)
+  Performs-weaker (PictureAll file script) old new how end came =
+      (came.0, came.1, PicturesAll-weaker old.files new.files file.now script.now old.album new.album end came.2)
+  Performs-weaker (Explain file manner) old new how end came = came
+  Performs-weaker (ExplainBoth file other manner) old new how end came = came
+  Performs-weaker Version old new how end came = came
 
   -- how the program ends
-  pub EndsWith-weaker : (asked : Result Task NoTask) (old new : World) (status : ℕ) → EndsWith P asked old new status → EndsWith Q asked old new status
+  pub EndsWith-weaker : (asked : Result Task NoTask) (old new : KnownWorld) (status : ℕ) → EndsWith P asked old new status → EndsWith Q asked old new status
   EndsWith-weaker (Ok task) old new status ends =
-      (ends.0, ends.1, ends.2, Performs-weaker task old.files new.files old.album new.album (ports_of old) ends.2 ends.0 ends.1 ends.3, ends.4, ends.5)
+      (ends.0, ends.1, ends.2, Performs-weaker task old ends.2 ends.0 ends.1 ends.3, ends.4, ends.5)
   EndsWith-weaker (Err no_task) old new status ends = ends

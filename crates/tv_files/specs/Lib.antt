@@ -20,3 +20,5 @@ pub mod Telling
 pub mod Unmade
 -- What a read of a terminal that gave no byte is
 pub mod Waits
+-- What is known of the system outside the program
+pub mod World

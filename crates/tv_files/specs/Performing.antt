@@ -1,8 +1,6 @@
 -- What every task comes to.
-use Rattle.std.specs.Prelude.{◌≡◌, Option}
+use Rattle.std.specs.Prelude.{◌≡◌, ℕ, List}
 use Rattle.tv_model.specs.declared.desc.Desc.{Desc}
-use Rattle.tv_program.specs.Albums.{Hung}
-use Rattle.tv_play.specs.Playing.{Ports}
 use Rattle.tv_files.specs.declared.done.Done.{Done}
 use Rattle.tv_files.specs.declared.done.Done.TheVariants.{Whole}
 use Rattle.tv_files.specs.declared.task.Task.{Task}
@@ -10,38 +8,42 @@ use Rattle.tv_files.specs.declared.task.Task.TheVariants.{Check, Accept, Run, Pl
 use Rattle.tv_files.specs.declared.task.Task.TheVariants.{Explain, ExplainBoth, Version}
 use Rattle.tv_files.specs.Ends.{End}
 use Rattle.tv_files.specs.Explaining.{ExplainsFile, ExplainsFiles}
-use Rattle.tv_files.specs.Files.{Known}
 use Rattle.tv_files.specs.Picturing.{PicturesAll, PicturesFiles}
 use Rattle.tv_files.specs.Tasks.{AcceptsFiles, ChecksFile, PlaysFile, RunsFiles, TellsVersion}
+use Rattle.tv_files.specs.World.{KnownWorld, ports_of}
 
 -- nothing is heard, no screen is shown, and no picture is drawn
-pub record IsQuiet (album later : Option Hung) (old new : Ports) : Type 0 where
-  pub input : new.input ≡ old.input
-  pub screen : new.screen ≡ old.screen
-  pub undrawn : later ≡ album
+abbrev pub IsQuiet : (old new : KnownWorld) → Type 0
+IsQuiet old new = new ≡ record old { files = new.files; out = new.out }
+
+-- a description is played, and no picture is drawn
+abbrev pub PlaysIn : (Mismade : Desc → Type 0) → (file : List ℕ) → (old new : KnownWorld) → Done → End
+    → Type 0
+PlaysIn Mismade file old new how end =
+    (new.album ≡ old.album)
+    × PlaysFile Mismade old.files new.files file (ports_of old) (ports_of new) how end
 
 -- a task, by what is asked for
-abbrev pub PerformsTask : (Mismade : Desc → Type 0) → Task → (files after : Known)
-    → (album later : Option Hung) → (old new : Ports) → Done → End → Type 0
-PerformsTask Mismade (Check file) files after album later old new how end =
-    IsQuiet album later old new × (how ≡ Whole) × ChecksFile files after file.now old.log new.log end
-PerformsTask Mismade (Accept file certificate) files after album later old new how end =
-    IsQuiet album later old new × (how ≡ Whole)
-    × AcceptsFiles files after file.now certificate.now old.log new.log end
-PerformsTask Mismade (Run file script) files after album later old new how end =
-    IsQuiet album later old new × (how ≡ Whole)
-    × RunsFiles Mismade files after file.now script.now old.log new.log end
-PerformsTask Mismade (Play file) files after album later old new how end =
-    (later ≡ album) × PlaysFile Mismade files after file.now old new how end
-PerformsTask Mismade (Picture file script) files after album later old new how end =
-    IsQuiet album later old new × (how ≡ Whole)
-    × PicturesFiles Mismade files after file.now script.now old.log new.log end
-PerformsTask Mismade (PictureAll file script) files after album later old new how end =
-    (new ≡ old) × (how ≡ Whole) × PicturesAll Mismade files after file.now script.now album later end
-PerformsTask Mismade (Explain file manner) files after album later old new how end =
-    IsQuiet album later old new × ExplainsFile manner files after file.now old.log new.log how end
-PerformsTask Mismade (ExplainBoth file beside manner) files after album later old new how end =
-    IsQuiet album later old new
-    × ExplainsFiles manner files after file.now beside.now old.log new.log how end
-PerformsTask Mismade Version files after album later old new how end =
-    IsQuiet album later old new × (how ≡ Whole) × (after ≡ files) × TellsVersion old.log new.log end
+abbrev pub PerformsTask : (Mismade : Desc → Type 0) → Task → (old new : KnownWorld) → Done → End → Type 0
+PerformsTask Mismade (Check file) old new how end =
+    IsQuiet old new × (how ≡ Whole) × ChecksFile old.files new.files file.now old.out new.out end
+PerformsTask Mismade (Accept file certificate) old new how end =
+    IsQuiet old new × (how ≡ Whole)
+    × AcceptsFiles old.files new.files file.now certificate.now old.out new.out end
+PerformsTask Mismade (Run file script) old new how end =
+    IsQuiet old new × (how ≡ Whole)
+    × RunsFiles Mismade old.files new.files file.now script.now old.out new.out end
+PerformsTask Mismade (Play file) old new how end = PlaysIn Mismade file.now old new how end
+PerformsTask Mismade (Picture file script) old new how end =
+    IsQuiet old new × (how ≡ Whole)
+    × PicturesFiles Mismade old.files new.files file.now script.now old.out new.out end
+PerformsTask Mismade (PictureAll file script) old new how end =
+    (new ≡ record old { files = new.files; album = new.album }) × (how ≡ Whole)
+    × PicturesAll Mismade old.files new.files file.now script.now old.album new.album end
+PerformsTask Mismade (Explain file manner) old new how end =
+    IsQuiet old new × ExplainsFile manner old.files new.files file.now old.out new.out how end
+PerformsTask Mismade (ExplainBoth file beside manner) old new how end =
+    IsQuiet old new
+    × ExplainsFiles manner old.files new.files file.now beside.now old.out new.out how end
+PerformsTask Mismade Version old new how end =
+    (new ≡ record old { out = new.out }) × (how ≡ Whole) × TellsVersion old.out new.out end

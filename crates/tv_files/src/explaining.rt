@@ -2,15 +2,16 @@
 
 ghost use Rattle.std.specs.Prelude.{◌≡◌};
 ghost use Rattle.tv_files.specs.Ends.{done_in, end_of};
-ghost use Rattle.tv_files.specs.Explaining.{ExplainsBesideTo, ExplainsFile, ExplainsFiles, ExplainsSecond, ExplainsTo, how_found};
+ghost use Rattle.tv_files.specs.Explaining.{ExplainsBesideTo, ExplainsFile, ExplainsFiles, ExplainsSecond, ExplainsTo};
+ghost use Rattle.tv_files.specs.Explaining.{how_found};
 ghost use Rattle.tv_lang.specs.CanonicalDescription.{CanBeSpelled};
 
-use crate::Done;
 use crate::failure::Failure;
 use crate::file_store::FileStore;
 use crate::tasks::{LONGEST, read_file};
+use crate::{Done, Inquiry};
 use std::alloc::Global;
-use tv_advice::{Beside, Manner, Told, tell, tell_beside};
+use tv_advice::{Beside, Told, tell, tell_beside};
 use tv_check::CertificateFault;
 use tv_io::{Writer, write_all};
 use tv_lang::LangFault;
@@ -24,40 +25,45 @@ use tv_script::ScriptFault;
 pub fn explain_file<'a, F: FileStore, W: Writer>(
     files: &mut F,
     alloc: Global,
-    file: &'a str,
-    manner: Manner,
+    inquiry: Inquiry<'a>,
     out: &mut W,
 ) -> Result<Done, Failure<'a>>
-    ensures { ExplainsFile manner (F.known files.old) (F.known files.new) file.now (W.seen out.old) (W.seen out.new)
-        (done_in result) (end_of result) }
+    ensures { ExplainsFile inquiry.entry.manner (F.known files.old) (F.known files.new)
+        inquiry.entry.file.now (W.seen out.old) (W.seen out.new) (done_in result) (end_of result) }
 {
-    let text = read_file(files, alloc, file)?;
-    match explain(alloc, manner, file, text.as_slice(), out) {
+    let text = read_file(files, alloc, inquiry.file)?;
+    match explain(alloc, inquiry, text.as_slice(), out) {
         Ok(found) => Ok(how_found(&found)),
-        Err(fault) => Err(Failure::new(file, file, fault)),
+        Err(fault) => Err(Failure::new(inquiry.file, inquiry.file, fault)),
     }
 }
 
-/// Writes what there is to tell of the faults of a description, and where it has none, of those of the script or the certificate in the
-/// file beside it.
+/// Writes what there is to tell of the faults of a description, and where it has none, of those of the script or the certificate
+/// in the file beside it.
 ///
 /// The file beside it is looked for only once the description is found sound.
 pub fn explain_files<'a, F: FileStore, W: Writer>(
     files: &mut F,
     alloc: Global,
-    file: &'a str,
+    inquiry: Inquiry<'a>,
     beside: &'a str,
-    manner: Manner,
     out: &mut W,
 ) -> Result<Done, Failure<'a>>
-    ensures { ExplainsFiles manner (F.known files.old) (F.known files.new) file.now beside.now (W.seen out.old)
-        (W.seen out.new) (done_in result) (end_of result) }
+    ensures { ExplainsFiles inquiry.entry.manner (F.known files.old) (F.known files.new)
+        inquiry.entry.file.now beside.now (W.seen out.old) (W.seen out.new) (done_in result)
+        (end_of result) }
 {
-    let text = read_file(files, alloc, file)?;
-    match explain(alloc, manner, file, text.as_slice(), out) {
-        Ok(Some(desc)) => explain_second(files, alloc, desc, beside, manner, out),
+    let text = read_file(files, alloc, inquiry.file)?;
+    match explain(alloc, inquiry, text.as_slice(), out) {
+        Ok(Some(desc)) => {
+            let second = Inquiry {
+                file: beside,
+                manner: inquiry.manner,
+            };
+            explain_second(files, alloc, second, desc, out)
+        }
         Ok(None) => Ok(Done::Faulty),
-        Err(fault) => Err(Failure::new(file, file, fault)),
+        Err(fault) => Err(Failure::new(inquiry.file, inquiry.file, fault)),
     }
 }
 
@@ -71,18 +77,17 @@ fn how_found(found: &Option<Desc>) -> Done
     }
 }
 
-// Writes what there is to tell of a text, which stands in the file of this name. Returns the description that it spells where there is
-// nothing.
+// Writes what there is to tell of the text of a file. Returns the description that it spells where there is nothing.
 fn explain<W: Writer>(
     alloc: Global,
-    manner: Manner,
-    name: &str,
+    inquiry: Inquiry<'_>,
     text: &[u8],
     out: &mut W,
 ) -> Result<Option<Desc>, Trouble>
-    ensures { ExplainsTo manner name.now text.now (W.seen out.old) (W.seen out.new) result }
+    ensures { ExplainsTo inquiry.entry.manner inquiry.entry.file.now text.now (W.seen out.old)
+        (W.seen out.new) result }
 {
-    match tell(alloc, manner, name, text)? {
+    match tell(alloc, inquiry.manner, inquiry.file, text)? {
         Told::Sound(desc) => Ok(Some(desc)),
         Told::Faulty(report) => match write_all(out, report.as_bytes()) {
             Ok(()) => Ok(None),
@@ -97,38 +102,37 @@ fn explain<W: Writer>(
 fn explain_second<'a, F: FileStore, W: Writer>(
     files: &mut F,
     alloc: Global,
+    beside: Inquiry<'a>,
     desc: Desc,
-    beside: &'a str,
-    manner: Manner,
     out: &mut W,
 ) -> Result<Done, Failure<'a>>
     requires { CanBeSpelled desc }
-    ensures { ExplainsSecond manner desc (F.known files.old) (F.known files.new) beside.now (W.seen out.old)
-        (W.seen out.new) (done_in result) (end_of result) }
+    ensures { ExplainsSecond beside.entry.manner desc (F.known files.old) (F.known files.new)
+        beside.entry.file.now (W.seen out.old) (W.seen out.new) (done_in result) (end_of result) }
 {
-    let text = read_file(files, alloc, beside)?;
-    match explain_beside(alloc, manner, beside, desc, text.as_slice(), out) {
+    let text = read_file(files, alloc, beside.file)?;
+    match explain_beside(alloc, beside, desc, text.as_slice(), out) {
         Ok(done) => Ok(done),
-        Err(fault) => Err(Failure::new(beside, beside, fault)),
+        Err(fault) => Err(Failure::new(beside.file, beside.file, fault)),
     }
 }
 
-// Writes what there is to tell of the text beside a description, which stands in the file of this name.
+// Writes what there is to tell of the text of a file beside a description.
 fn explain_beside<W: Writer>(
     alloc: Global,
-    manner: Manner,
-    name: &str,
+    beside: Inquiry<'_>,
     desc: Desc,
     text: &[u8],
     out: &mut W,
 ) -> Result<Done, Trouble>
     requires { CanBeSpelled desc }
-    ensures { ExplainsBesideTo manner name.now desc text.now (W.seen out.old) (W.seen out.new) result }
+    ensures { ExplainsBesideTo beside.entry.manner beside.entry.file.now desc text.now (W.seen out.old)
+        (W.seen out.new) result }
 {
     if text.len() > LONGEST {
         return Err(Trouble::Script(ScriptFault::TooLong));
     }
-    match tell_beside(alloc, manner, name, desc, text)? {
+    match tell_beside(alloc, beside.manner, beside.file, desc, text)? {
         Beside::Fine => Ok(Done::Whole),
         Beside::Faulty(report) => match write_all(out, report.as_bytes()) {
             Ok(()) => Ok(Done::Faulty),

@@ -4,6 +4,7 @@ ghost use Rattle.tv_files.specs.Ends.{end_of};
 ghost use Rattle.tv_files.specs.Picturing.{PicturesAll, PicturesFiles};
 ghost use Rattle.tv_program.specs.Playing.{IsMismade, Makes};
 
+use crate::Scripted;
 use crate::failure::Failure;
 use crate::file_store::FileStore;
 use crate::tasks::{open, read};
@@ -27,21 +28,21 @@ pub fn picture_file<
 >(
     files: &mut F,
     alloc: Global,
-    file: &'a str,
-    script: &'a str,
+    paths: Scripted<'a>,
     views: &M,
     out: &mut W,
 ) -> Result<(), Failure<'a>>
     requires { M.IsAlwaysCallable views.now }
     ensures { PicturesFiles (IsMismade (Makes M.Fn views.now) V.meaning) (F.known files.old)
-        (F.known files.new) file.now script.now (W.seen out.old) (W.seen out.new) (end_of result) }
+        (F.known files.new) paths.entry.file.now paths.entry.script.now (W.seen out.old)
+        (W.seen out.new) (end_of result) }
 {
-    let mut description = open(files, file)?;
-    let mut events = open(files, script)?;
-    let text = read(alloc, &mut description, file)?;
+    let mut description = open(files, paths.file)?;
+    let mut events = open(files, paths.script)?;
+    let text = read(alloc, &mut description, paths.file)?;
     match picture(alloc, text.as_slice(), &mut events, views, out) {
         Ok(()) => Ok(()),
-        Err(fault) => Err(Failure::of_run(file, script, fault)),
+        Err(fault) => Err(Failure::of_run(paths.file, paths.script, fault)),
     }
 }
 
@@ -58,21 +59,28 @@ pub fn picture_all<
 >(
     files: &mut F,
     alloc: Global,
-    file: &'a str,
-    script: &'a str,
+    paths: Scripted<'a>,
     views: &M,
     album: &mut A,
 ) -> Result<(), Failure<'a>>
     requires { M.IsAlwaysCallable views.now }
     ensures { PicturesAll (IsMismade (Makes M.Fn views.now) V.meaning) (F.known files.old)
-        (F.known files.new) file.now script.now (A.hung album.old) (A.hung album.new) (end_of result) }
+        (F.known files.new) paths.entry.file.now paths.entry.script.now (A.hung album.old)
+        (A.hung album.new) (end_of result) }
 {
-    let mut description = open(files, file)?;
-    let mut events = open(files, script)?;
-    let text = read(alloc, &mut description, file)?;
-    match picture_shots(alloc, text.as_slice(), &mut events, views, script, album) {
+    let mut description = open(files, paths.file)?;
+    let mut events = open(files, paths.script)?;
+    let text = read(alloc, &mut description, paths.file)?;
+    match picture_shots(
+        alloc,
+        text.as_slice(),
+        &mut events,
+        views,
+        paths.script,
+        album,
+    ) {
         Ok(()) => Ok(()),
-        Err(DrawingFault::Run(fault)) => Err(Failure::of_run(file, script, fault)),
-        Err(DrawingFault::Shot(shot)) => Err(Failure::of_shot(script, shot)),
+        Err(DrawingFault::Run(fault)) => Err(Failure::of_run(paths.file, paths.script, fault)),
+        Err(DrawingFault::Shot(shot)) => Err(Failure::of_shot(paths.script, shot)),
     }
 }

@@ -47,3 +47,17 @@ pub enum Task<'a> {
     /// Which version of the program this is.
     Version,
 }
+
+/// A description and the script that is performed on it, by their paths.
+#[derive(Clone, Copy, Debug, PartialEq, Eq)]
+pub struct Scripted<'a> {
+    pub file: &'a str,
+    pub script: &'a str,
+}
+
+/// A file that is explained, by its path, and the form in which its faults are told.
+#[derive(Clone, Copy, Debug, PartialEq, Eq)]
+pub struct Inquiry<'a> {
+    pub file: &'a str,
+    pub manner: Manner,
+}

@@ -6,14 +6,16 @@ ghost use Rattle.tv_program.specs.Playing.{IsMismade, Makes};
 ghost use Rattle.tv_files.specs.declared.done.Done.TheVariants.{Whole};
 ghost use Rattle.tv_files.specs.Ends.{done_in, end_of, end_of_failure};
 ghost use Rattle.tv_files.specs.Files.{IsFileOf, Opens, longest};
-ghost use Rattle.tv_files.specs.Performing.{PerformsTask};
-ghost use Rattle.tv_files.specs.Tasks.{AcceptsFiles, ChecksFile, EndsFirst, GivesText, HasRead, IsSpelledAs, IsUngiven, IsUnopened, IsUnread, IsUnspelled, PlaysFile, RunsFiles, TellsVersion};
+ghost use Rattle.tv_files.specs.Performing.{PerformsTask, PlaysIn};
+ghost use Rattle.tv_files.specs.Tasks.{AcceptsFiles, ChecksFile, EndsFirst, GivesText, HasRead, IsSpelledAs, IsUngiven};
+ghost use Rattle.tv_files.specs.Tasks.{IsUnopened, IsUnread, IsUnspelled, RunsFiles, TellsVersion};
+ghost use Rattle.tv_files.specs.World.{known_world};
 
 use crate::explaining::{explain_file, explain_files};
 use crate::failure::Failure;
 use crate::file_store::FileStore;
 use crate::picturing::{picture_all, picture_file};
-use crate::{Done, Task};
+use crate::{Done, Inquiry, Scripted, Task, World};
 use std::alloc::Global;
 use tv_check::Checked;
 use tv_io::{Reader, Writer, read_text, write_all};
@@ -33,10 +35,11 @@ const TERMINAL: &str = "standard input";
 /// The program's name and version.
 const VERSION: &str = "tvdlg 1.0.0\n";
 
-/// Does what is asked for, and writes its result.
+/// Does what is asked for, and writes its result to the world's `out`.
 ///
-/// `views` makes the views of a description that is run, drawn or played; no other task calls it. `album` takes the pictures of a task
-/// that draws more than one. `pieces` and `screen` are those of a description that is played.
+/// `views` makes the views of a description that is run, drawn or played; no other task calls it. The world's `album` takes the
+/// pictures of a task that draws more than one. Its `pieces` and `err` are those of a description that is played: the keys and the
+/// screen.
 pub fn perform<
     'a,
     V: View,
@@ -47,42 +50,47 @@ pub fn perform<
     T: Writer,
     W: Writer,
 >(
-    files: &mut F,
-    album: &mut A,
     alloc: Global,
     task: Task<'a>,
     views: &M,
-    pieces: &mut P,
-    screen: &mut T,
-    out: &mut W,
+    world: &mut World<F, A, P, W, T>,
 ) -> Result<Done, Failure<'a>>
     requires { M.IsAlwaysCallable views.now }
-    ensures { PerformsTask (IsMismade (Makes M.Fn views.now) V.meaning) task.entry (F.known files.old) (F.known files.new)
-        (A.hung album.old) (A.hung album.new)
-        (record { input = P.heard pieces.old; log = W.seen out.old; screen = T.seen screen.old })
-        (record { input = P.heard pieces.new; log = W.seen out.new; screen = T.seen screen.new })
+    ensures { let known = known_world F.known A.hung P.heard W.seen T.seen in
+        PerformsTask (IsMismade (Makes M.Fn views.now) V.meaning) task.entry (known world.old) (known world.new)
         (done_in result) (end_of result) }
 {
     match task {
-        Task::Check { file } => whole(check_file(files, alloc, file, out)),
+        Task::Check { file } => whole(check_file(&mut world.files, alloc, file, &mut world.out)),
         Task::Accept { file, certificate } => {
-            whole(accept_file(files, alloc, file, certificate, out))
+            whole(accept_file(&mut world.files, alloc, file, certificate, &mut world.out))
         }
-        Task::Run { file, script } => whole(run_file(files, alloc, file, script, views, out)),
-        Task::Play { file } => play_file(files, alloc, file, views, pieces, screen, out),
+        Task::Run { file, script } => {
+            let paths = Scripted { file, script };
+            whole(run_file(&mut world.files, alloc, paths, views, &mut world.out))
+        }
+        Task::Play { file } => play_file(alloc, file, views, world),
         Task::Picture { file, script } => {
-            whole(picture_file(files, alloc, file, script, views, out))
+            let paths = Scripted { file, script };
+            whole(picture_file(&mut world.files, alloc, paths, views, &mut world.out))
         }
         Task::PictureAll { file, script } => {
-            whole(picture_all(files, alloc, file, script, views, album))
+            let paths = Scripted { file, script };
+            whole(picture_all(&mut world.files, alloc, paths, views, &mut world.album))
         }
-        Task::Explain { file, manner } => explain_file(files, alloc, file, manner, out),
+        Task::Explain { file, manner } => {
+            let inquiry = Inquiry { file, manner };
+            explain_file(&mut world.files, alloc, inquiry, &mut world.out)
+        }
         Task::ExplainBoth {
             file,
             beside,
             manner,
-        } => explain_files(files, alloc, file, beside, manner, out),
-        Task::Version => whole(tell_version(out)),
+        } => {
+            let inquiry = Inquiry { file, manner };
+            explain_files(&mut world.files, alloc, inquiry, beside, &mut world.out)
+        }
+        Task::Version => whole(tell_version(&mut world.out)),
     }
 }
 
@@ -152,53 +160,57 @@ pub fn run_file<
 >(
     files: &mut F,
     alloc: Global,
-    file: &'a str,
-    script: &'a str,
+    paths: Scripted<'a>,
     views: &M,
     out: &mut W,
 ) -> Result<(), Failure<'a>>
     requires { M.IsAlwaysCallable views.now }
     ensures { RunsFiles (IsMismade (Makes M.Fn views.now) V.meaning) (F.known files.old)
-        (F.known files.new) file.now script.now (W.seen out.old) (W.seen out.new) (end_of result) }
+        (F.known files.new) paths.entry.file.now paths.entry.script.now (W.seen out.old)
+        (W.seen out.new) (end_of result) }
 {
-    let mut description = open(files, file)?;
-    let mut events = open(files, script)?;
-    let text = read(alloc, &mut description, file)?;
+    let mut description = open(files, paths.file)?;
+    let mut events = open(files, paths.script)?;
+    let text = read(alloc, &mut description, paths.file)?;
     match run(alloc, text.as_slice(), &mut events, views, out) {
         Ok(_) => Ok(()),
-        Err(fault) => Err(Failure::of_run(file, script, fault)),
+        Err(fault) => Err(Failure::of_run(paths.file, paths.script, fault)),
     }
 }
 
-/// Plays a file's description in a terminal, through the views that `views` makes of it: hears `pieces`, shows what they leave on
-/// `screen`, and writes the log on `out`.
+/// Plays a file's description in a terminal, through the views that `views` makes of it: hears the world's `pieces`, shows what
+/// they leave on its `err`, and writes the log to its `out`. No picture is drawn.
 ///
 /// The terminal isn't touched before the description has passed and its views are made.
 pub fn play_file<
     'a,
     V: View,
     F: FileStore,
+    A: Album,
     M: Fn(Global, &Checked) -> Result<Views<V>, BuildFault>,
     P: Pieces,
     T: Writer,
     W: Writer,
 >(
-    files: &mut F,
     alloc: Global,
     file: &'a str,
     views: &M,
-    pieces: &mut P,
-    screen: &mut T,
-    out: &mut W,
+    world: &mut World<F, A, P, W, T>,
 ) -> Result<Done, Failure<'a>>
     requires { M.IsAlwaysCallable views.now }
-    ensures { PlaysFile (IsMismade (Makes M.Fn views.now) V.meaning) (F.known files.old) (F.known files.new) file.now
-        (record { input = P.heard pieces.old; log = W.seen out.old; screen = T.seen screen.old })
-        (record { input = P.heard pieces.new; log = W.seen out.new; screen = T.seen screen.new })
-        (done_in result) (end_of result) }
+    ensures { let known = known_world F.known A.hung P.heard W.seen T.seen in
+        PlaysIn (IsMismade (Makes M.Fn views.now) V.meaning) file.now (known world.old)
+        (known world.new) (done_in result) (end_of result) }
 {
-    let text = read_file(files, alloc, file)?;
-    match play(alloc, text.as_slice(), pieces, views, screen, out) {
+    let text = read_file(&mut world.files, alloc, file)?;
+    match play(
+        alloc,
+        text.as_slice(),
+        &mut world.pieces,
+        views,
+        &mut world.err,
+        &mut world.out,
+    ) {
         Ok(parting) => Ok(Done::from(parting)),
         Err(fault) => Err(Failure::of_run(file, TERMINAL, fault)),
     }
@@ -250,7 +262,8 @@ pub(crate) fn read_file<'a, F: FileStore>(
 // Opens a file.
 pub(crate) fn open<'a, F: FileStore>(files: &mut F, path: &'a str) -> Result<F::File, Failure<'a>>
     ensures { MatchResult result
-        (λ file. Opens (F.known files.old) (F.known files.new) (path.now ∷ []) × IsFileOf (F.known files.old) path.now (F.File.seen file))
+        (λ file. Opens (F.known files.old) (F.known files.new) (path.now ∷ [])
+        × IsFileOf (F.known files.old) path.now (F.File.seen file))
         (λ failure. IsUnopened (F.known files.old) (F.known files.new) (path.now ∷ []) path.now (end_of_failure failure)) }
 {
     match files.open(path) {

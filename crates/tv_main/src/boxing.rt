@@ -3,6 +3,7 @@
 ghost use Rattle.std.specs.Prelude.{◌≡◌, IfErr, IfOk, Result};
 ghost use Rattle.tv_session.specs.declared.build_fault.BuildFault.TheVariants.{NoMemory};
 ghost use Rattle.tv_files.specs.EndsWith.{EndsWith};
+ghost use Rattle.tv_files.specs.World.{known_world};
 ghost use Rattle.tv_files.specs.declared.no_task.NoTask.{NoTask as WhyNone};
 ghost use Rattle.tv_files.specs.declared.task.Task.{Task as Wanted};
 ghost use Rattle.tv_main.specs.Asking.{IsAskedBy};
@@ -13,74 +14,40 @@ use crate::arguments::read_task;
 use std::alloc::{AllocError, Global};
 use tv_app::{Control, views_by};
 use tv_check::Checked;
-use tv_files::{Album, FileStore, NoTask, Stream, Task, run_program};
+use tv_files::{Album, FileStore, NoTask, Stream, Task, World, run_program};
 use tv_play::Pieces;
 use tv_session::{BuildFault, Views};
 use tv_view::View;
 
-/// Carries out what the words of a command line ask for, or tells why there are none. Returns the program's status.
+/// Carries out what the words of a command line ask for in this world, or tells why there are none. Returns the program's
+/// status.
 pub fn run_main<F: FileStore, A: Album, P: Pieces, O: Stream, E: Stream>(
-    files: &mut F,
-    album: &mut A,
     alloc: Global,
     words: Result<Vec<String>, NoTask>,
-    pieces: &mut P,
-    out: &mut O,
-    err: &mut E,
+    world: &mut World<F, A, P, O, E>,
 ) -> u8
-    ensures { (asked : Result Wanted WhyNone) × IsAskedBy words asked × EndsWith (λ _. ⊥) asked
-        (record {
-          files = F.known files.old;
-          album = A.hung album.old;
-          heard = P.heard pieces.old;
-          out = O.seen out.old;
-          err = E.seen err.old;
-        })
-        (record {
-          files = F.known files.new;
-          album = A.hung album.new;
-          heard = P.heard pieces.new;
-          out = O.seen out.new;
-          err = E.seen err.new;
-        })
-        result }
+    ensures { let known = known_world F.known A.hung P.heard O.seen E.seen in
+        (asked : Result Wanted WhyNone) × IsAskedBy words asked
+        × EndsWith (λ _. ⊥) asked (known world.old) (known world.new) result }
 {
     match words {
         Ok(words) => {
             let asked = read_task(alloc, words.as_slice());
-            run_with_boxes(files, album, alloc, asked, pieces, out, err)
+            run_with_boxes(alloc, asked, world)
         }
-        Err(no_task) => run_with_boxes(files, album, alloc, Err(no_task), pieces, out, err),
+        Err(no_task) => run_with_boxes(alloc, Err(no_task), world),
     }
 }
 
 // Carries out what is asked for, as `run_program` says, with the toolkit's own controls, each in a box, where a description is
 // run, drawn or played. No session refuses them: they stand as they are declared.
 fn run_with_boxes<F: FileStore, A: Album, P: Pieces, O: Stream, E: Stream>(
-    files: &mut F,
-    album: &mut A,
     alloc: Global,
     asked: Result<Task<'_>, NoTask>,
-    pieces: &mut P,
-    out: &mut O,
-    err: &mut E,
+    world: &mut World<F, A, P, O, E>,
 ) -> u8
-    ensures { EndsWith (λ _. ⊥) asked.entry
-        (record {
-          files = F.known files.old;
-          album = A.hung album.old;
-          heard = P.heard pieces.old;
-          out = O.seen out.old;
-          err = E.seen err.old;
-        })
-        (record {
-          files = F.known files.new;
-          album = A.hung album.new;
-          heard = P.heard pieces.new;
-          out = O.seen out.new;
-          err = E.seen err.new;
-        })
-        result }
+    ensures { let known = known_world F.known A.hung P.heard O.seen E.seen in
+        EndsWith (λ _. ⊥) asked.entry (known world.old) (known world.new) result }
 {
     // `refused` says nothing: the tactic proves `same` only where it stands beside another clause.
     let boxed = |alloc: Global, control: Control| -> Result<Box<dyn View>, AllocError>
@@ -102,5 +69,5 @@ fn run_with_boxes<F: FileStore, A: Album, P: Pieces, O: Stream, E: Stream>(
             (λ view. (View-box view).meaning view.value) checked.now views.windows.items views.bodies.items) }
         ensures refused { IfErr result (λ fault. fault ≡ NoMemory) }
     { Ok(views_by(alloc, checked, &boxed)?) };
-    run_program(files, album, alloc, asked, &views, pieces, out, err)
+    run_program(alloc, asked, &views, world)
 }

@@ -10,7 +10,7 @@ use std::rt::{Clock, Env, Files};
 use std::{env, io};
 use tv_files::{
     BufferedStream, DirectStream, NoTask, RuntimeAlbum, RuntimeFiles, TerminalInput, TimedReader,
-    tell_no_memory,
+    World, tell_no_memory,
 };
 
 /// Carries out what the words of the command line ask for, over a runtime's files, its input and output, and `errors`, to which
@@ -23,24 +23,20 @@ pub fn start<R: Files + Env + Clock + Input + Print + AllocGlobal, E: Write + Dr
     last: E,
 ) -> u8 {
     let alloc = rt.alloc();
-    let (Ok(mut out), Ok(mut err)) = (
+    let (Ok(out), Ok(err)) = (
         BufferedStream::new(alloc, io::writer(rt)),
         BufferedStream::new(alloc, errors),
     ) else {
         return tell_no_memory(&mut DirectStream::new(last));
     };
-    let mut files = RuntimeFiles::new(rt);
-    let mut album = RuntimeAlbum::new(rt, alloc);
-    let mut pieces = TerminalInput::new(TimedReader::new(rt.reader(), rt));
-    run_main(
-        &mut files,
-        &mut album,
-        alloc,
-        words(rt),
-        &mut pieces,
-        &mut out,
-        &mut err,
-    )
+    let mut world = World {
+        files: RuntimeFiles::new(rt),
+        album: RuntimeAlbum::new(rt, alloc),
+        pieces: TerminalInput::new(TimedReader::new(rt.reader(), rt)),
+        out,
+        err,
+    };
+    run_main(alloc, words(rt), &mut world)
 }
 
 // The words of the command line, of which the first names the program.

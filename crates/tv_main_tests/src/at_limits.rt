@@ -6,7 +6,7 @@ use crate::sink::Sink;
 use crate::user::User;
 use std::alloc::{AllocError, Global};
 use std::test::Fail;
-use tv_files::BufferedStream;
+use tv_files::{BufferedStream, Stream, World};
 use tv_main::run_main;
 use tv_program::accept_files;
 use tv_script::Script;
@@ -52,28 +52,34 @@ fn words(alloc: Global, line: &str) -> Result<Vec<String>, AllocError> {
     Ok(words)
 }
 
-// The status of a command line, with a user who sends the keys of the script.
+// What hangs after a command line, with a user who sends the keys of the script, and its status.
 fn status(
     alloc: Global,
     line: &str,
-    files: &mut Shelf<'_>,
-    album: &mut Gallery,
+    files: Shelf<'_>,
     out: &mut Sink,
     err: &mut Sink,
-) -> Result<u8, Fail> {
-    let words = words(alloc, line)?;
-    let mut out = BufferedStream::new(alloc, out)?;
-    let mut err = BufferedStream::new(alloc, err)?;
-    let mut user = User::new(SENT, false);
-    Ok(run_main(
+) -> Result<(String, u8), Fail> {
+    let out = BufferedStream::new(alloc, out)?;
+    let err = BufferedStream::new(alloc, err)?;
+    let mut world = World {
         files,
-        album,
-        alloc,
-        Ok(words),
-        &mut user,
-        &mut out,
-        &mut err,
-    ))
+        album: Gallery::new(alloc, 12),
+        pieces: User::new(SENT, false),
+        out,
+        err,
+    };
+    status_in(alloc, line, &mut world)
+}
+
+// The same in a world.
+fn status_in<O: Stream, E: Stream>(
+    alloc: Global,
+    line: &str,
+    world: &mut World<Shelf<'_>, Gallery, User<'_>, O, E>,
+) -> Result<(String, u8), Fail> {
+    let status = run_main(alloc, Ok(words(alloc, line)?), world);
+    Ok((world.album.shown()?, status))
 }
 
 // The lines of a text that don't draw anything, and then how many rows of shots and how many pictures there are.
@@ -102,11 +108,10 @@ fn told(alloc: Global, line: &str, beside: &str) -> Result<String, Fail> {
     let description = full_description(alloc)?;
     let mut out = Sink::new(alloc, ROOM, true);
     let mut err = Sink::new(alloc, ROOM, true);
-    let mut album = Gallery::new(alloc, 12);
-    let mut files = Shelf::new(&description, beside);
-    let status = status(alloc, line, &mut files, &mut album, &mut out, &mut err)?;
+    let files = Shelf::new(&description, beside);
+    let (shown, status) = status(alloc, line, files, &mut out, &mut err)?;
     let mut printed = String::from_str(alloc, str::from_utf8(out.taken())?)?;
-    printed.push_str(&album.shown()?)?;
+    printed.push_str(&shown)?;
     let message = match str::from_utf8(err.taken())?.split_once("tvdlg: ") {
         Some((_, message)) => message,
         None => "",

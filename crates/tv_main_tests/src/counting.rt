@@ -10,7 +10,7 @@ use std::cell::Cell;
 use std::test::Fail;
 use tv_check::Checked;
 use tv_controls::Button;
-use tv_files::{DirectStream, Task, run_program};
+use tv_files::{DirectStream, Task, World, run_program};
 use tv_session::{BuildFault, Views};
 use tv_test_support::button_views::{buttons, no_views};
 use tv_test_support::certificates::CANCEL_CERTIFICATE;
@@ -30,19 +30,14 @@ fn status_and_calls<M: Fn(Global, &Checked) -> Result<Views<Button>, BuildFault>
         calls.set(calls.get().saturating_add(1));
         make(alloc, checked)
     };
-    let mut files = Shelf::new(texts.0, texts.1);
-    let mut out = DirectStream::new(Sink::new(alloc, 1000, true));
-    let mut err = DirectStream::new(Sink::new(alloc, 1000, true));
-    let status = run_program(
-        &mut files,
-        &mut Gallery::new(alloc, 9),
-        alloc,
-        Ok(task),
-        &counted,
-        &mut User::silent(),
-        &mut out,
-        &mut err,
-    );
+    let mut world = World {
+        files: Shelf::new(texts.0, texts.1),
+        album: Gallery::new(alloc, 9),
+        pieces: User::silent(),
+        out: DirectStream::new(Sink::new(alloc, 1000, true)),
+        err: DirectStream::new(Sink::new(alloc, 1000, true)),
+    };
+    let status = run_program(alloc, Ok(task), &counted, &mut world);
     (status, calls.get())
 }
 

@@ -6,7 +6,7 @@ use crate::sink::Sink;
 use crate::user::User;
 use std::alloc::{AllocError, Global};
 use std::test::Fail;
-use tv_files::{BufferedStream, NoTask, Task, run_program};
+use tv_files::{BufferedStream, NoTask, Stream, Task, World, run_program};
 use tv_test_support::button_views::buttons;
 use tv_test_support::certificates::CANCEL_CERTIFICATE;
 use tv_test_support::descriptions::{CANCEL, ORDER, SHARED_LETTER, WITHOUT_CANCEL};
@@ -59,31 +59,24 @@ pub fn ending(
     out_room: Room,
     err_room: Room,
 ) -> Result<String, Fail> {
-    let mut files = Shelf::new(texts.0, texts.1);
-    ending_of(
-        alloc,
-        asked,
-        &mut files,
-        &mut User::silent(),
-        (out_room, err_room),
-    )
+    let files = Shelf::new(texts.0, texts.1);
+    ending_of(alloc, asked, files, User::silent(), (out_room, err_room))
 }
 
 /// The same, with these files, and a user.
 pub fn ending_of(
     alloc: Global,
     asked: Result<Task<'_>, NoTask>,
-    files: &mut Shelf<'_>,
-    user: &mut User<'_>,
+    files: Shelf<'_>,
+    user: User<'_>,
     rooms: (Room, Room),
 ) -> Result<String, Fail> {
     let (out_room, err_room) = rooms;
     let mut out = Sink::new(alloc, out_room.0, out_room.1);
     let mut err = Sink::new(alloc, err_room.0, err_room.1);
-    let status = status(alloc, asked, files, user, &mut out, &mut err)?;
+    let (status, opened) = status(alloc, asked, files, user, &mut out, &mut err)?;
     let text = str::from_utf8(out.taken())?;
     let message = plain(alloc, str::from_utf8(err.taken())?)?;
-    let opened = files.opened();
     Ok(format!(in alloc; "{text}{message}status {status}\nopened {opened}\n")?)
 }
 
@@ -108,21 +101,35 @@ fn plain(alloc: Global, text: &str) -> Result<String, AllocError> {
     Ok(plain)
 }
 
-/// The status of what is asked for, with these files, a user and both streams.
+/// The status of what is asked for, with these files, a user and both streams, and then what was opened.
 pub fn status(
     alloc: Global,
     asked: Result<Task<'_>, NoTask>,
-    files: &mut Shelf<'_>,
-    user: &mut User<'_>,
+    files: Shelf<'_>,
+    user: User<'_>,
     out: &mut Sink,
     err: &mut Sink,
-) -> Result<u8, Fail> {
-    let mut out = BufferedStream::new(alloc, out)?;
-    let mut err = BufferedStream::new(alloc, err)?;
-    let mut album = Gallery::new(alloc, 0);
-    Ok(run_program(
-        files, &mut album, alloc, asked, &buttons, user, &mut out, &mut err,
-    ))
+) -> Result<(u8, u32), Fail> {
+    let out = BufferedStream::new(alloc, out)?;
+    let err = BufferedStream::new(alloc, err)?;
+    let mut world = World {
+        files,
+        album: Gallery::new(alloc, 0),
+        pieces: user,
+        out,
+        err,
+    };
+    Ok(status_in(alloc, asked, &mut world))
+}
+
+// The same in a world.
+fn status_in<O: Stream, E: Stream>(
+    alloc: Global,
+    asked: Result<Task<'_>, NoTask>,
+    world: &mut World<Shelf<'_>, Gallery, User<'_>, O, E>,
+) -> (u8, u32) {
+    let status = run_program(alloc, asked, &buttons, world);
+    (status, world.files.opened())
 }
 
 /// The order form's certificate with two lines exchanged.
@@ -393,14 +400,8 @@ const TORN: [(Task<'static>, &str, &str, &str, &str); 7] = [
 #[test]
 fn files_that_break_off(rt: HostRuntime) -> Result<(), Fail> {
     for &(task, description, beside, path, wanted) in &TORN {
-        let mut files = Shelf::torn(description, beside, path);
-        let told = ending_of(
-            rt.alloc(),
-            Ok(task),
-            &mut files,
-            &mut User::silent(),
-            (AMPLE, AMPLE),
-        )?;
+        let files = Shelf::torn(description, beside, path);
+        let told = ending_of(rt.alloc(), Ok(task), files, User::silent(), (AMPLE, AMPLE))?;
         assert_eq!(rt; told.as_str(), wanted, "{task:?}");
     }
     Ok(())

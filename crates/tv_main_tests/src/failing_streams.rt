@@ -122,20 +122,11 @@ fn runs_whose_output_fails(rt: HostRuntime) -> Result<(), Fail> {
 fn streams_that_fail_in_a_run(rt: HostRuntime) -> Result<(), Fail> {
     let alloc = rt.alloc();
     let script = "shot\n".repeat(alloc, 100)?;
-    let mut files = Shelf::new(CANCEL, script.as_str());
+    let files = Shelf::new(CANCEL, script.as_str());
     let mut out = Sink::new(alloc, 9000, true);
     let mut err = Sink::new(alloc, 1000, true);
-    assert_eq!(rt;
-        status(
-            alloc,
-            Ok(RUN),
-            &mut files,
-            &mut User::silent(),
-            &mut out,
-            &mut err
-        )?,
-        3
-    );
+    let ended = status(alloc, Ok(RUN), files, User::silent(), &mut out, &mut err)?;
+    assert_eq!(rt; ended, (3, 12));
     assert_eq!(rt; out.taken().len(), 9000);
     assert_eq!(rt; str::from_utf8(err.taken())?, "tvdlg: cannot write\n");
     Ok(())

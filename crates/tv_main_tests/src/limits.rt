@@ -6,7 +6,7 @@ use crate::sink::Sink;
 use crate::user::User;
 use std::alloc::{AllocError, Global};
 use std::test::Fail;
-use tv_files::{DirectStream, FileStore, ReadFault, Task, run_program};
+use tv_files::{DirectStream, FileStore, ReadFault, Task, World, run_program};
 use tv_io::FileReader;
 use tv_test_support::button_views::buttons;
 use tv_test_support::certificates::CANCEL_CERTIFICATE;
@@ -38,34 +38,24 @@ impl<'a> FileStore for Lone<'a> {
 // What stands on standard output, then what stands on standard error, then the status, where the description of one button is
 // the only file, under this path.
 fn lone_ending(alloc: Global, path: &str, task: Task<'_>) -> Result<String, Fail> {
-    let mut files = Lone { path, text: CANCEL };
+    let files = Lone { path, text: CANCEL };
     let mut out = Sink::new(alloc, 10_000, true);
     let mut err = Sink::new(alloc, 10_000, true);
-    let status = status(alloc, &mut files, task, &mut out, &mut err);
+    let status = status(alloc, files, task, &mut out, &mut err);
     let text = str::from_utf8(out.taken())?;
     let message = str::from_utf8(err.taken())?;
     Ok(format!(in alloc; "{text}{message}status {status}\n")?)
 }
 
-fn status(
-    alloc: Global,
-    files: &mut Lone<'_>,
-    task: Task<'_>,
-    out: &mut Sink,
-    err: &mut Sink,
-) -> u8 {
-    let mut out = DirectStream::new(out);
-    let mut err = DirectStream::new(err);
-    run_program(
+fn status(alloc: Global, files: Lone<'_>, task: Task<'_>, out: &mut Sink, err: &mut Sink) -> u8 {
+    let mut world = World {
         files,
-        &mut Gallery::new(alloc, 0),
-        alloc,
-        Ok(task),
-        &buttons,
-        &mut User::silent(),
-        &mut out,
-        &mut err,
-    )
+        album: Gallery::new(alloc, 0),
+        pieces: User::silent(),
+        out: DirectStream::new(out),
+        err: DirectStream::new(err),
+    };
+    run_program(alloc, Ok(task), &buttons, &mut world)
 }
 
 // A path of 4,000 bytes.

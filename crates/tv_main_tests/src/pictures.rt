@@ -7,7 +7,7 @@ use crate::sink::Sink;
 use crate::user::User;
 use std::alloc::Global;
 use std::test::Fail;
-use tv_files::{DirectStream, Task, run_program};
+use tv_files::{DirectStream, Stream, Task, World, run_program};
 use tv_test_support::button_views::buttons;
 use tv_test_support::descriptions::{CANCEL, ORDER, SHARED_LETTER};
 
@@ -133,38 +133,52 @@ const EMPTY: &str =
 </svg>
 "##;
 
-// What drawing each shot comes to, with files and pictures in memory: what hangs there, then what stands on standard output and on
-// standard error, then the status.
-fn all_drawn(
-    alloc: Global,
-    task: Task<'_>,
-    files: &mut Shelf<'_>,
-    gallery: &mut Gallery,
-) -> Result<String, Fail> {
+// What drawing each shot comes to, with files in memory and room for so many pictures: what hangs there, then what stands on
+// standard output and on standard error, then the status and what was opened.
+fn all_drawn(alloc: Global, task: Task<'_>, files: Shelf<'_>, room: usize) -> Result<String, Fail> {
     let mut out = Sink::new(alloc, 10_000, true);
     let mut err = Sink::new(alloc, 10_000, true);
-    let status = run_program(
-        files,
-        gallery,
-        alloc,
-        Ok(task),
-        &buttons,
-        &mut User::silent(),
-        &mut DirectStream::new(&mut out),
-        &mut DirectStream::new(&mut err),
-    );
-    let shown = gallery.shown()?;
+    let (shown, ended) = drawn_on(alloc, task, files, room, &mut out, &mut err)?;
     let text = str::from_utf8(out.taken())?;
     let message = str::from_utf8(err.taken())?;
-    let opened = files.opened();
-    Ok(format!(in alloc; "{shown}{text}{message}status {status}\nopened {opened}\n")?)
+    Ok(format!(in alloc; "{shown}{text}{message}{ended}")?)
+}
+
+// What hangs there with these for both streams, and then the status and what was opened.
+fn drawn_on(
+    alloc: Global,
+    task: Task<'_>,
+    files: Shelf<'_>,
+    room: usize,
+    out: &mut Sink,
+    err: &mut Sink,
+) -> Result<(String, String), Fail> {
+    let mut world = World {
+        files,
+        album: Gallery::new(alloc, room),
+        pieces: User::silent(),
+        out: DirectStream::new(out),
+        err: DirectStream::new(err),
+    };
+    drawn_in(alloc, task, &mut world)
+}
+
+// The same in a world.
+fn drawn_in<O: Stream, E: Stream>(
+    alloc: Global,
+    task: Task<'_>,
+    world: &mut World<Shelf<'_>, Gallery, User<'_>, O, E>,
+) -> Result<(String, String), Fail> {
+    let status = run_program(alloc, Ok(task), &buttons, world);
+    let opened = world.files.opened();
+    let ended = format!(in alloc; "status {status}\nopened {opened}\n")?;
+    Ok((world.album.shown()?, ended))
 }
 
 // The same of a script beside a description, with room for so many pictures.
 fn drawn(alloc: Global, texts: (&str, &str), room: usize) -> Result<String, Fail> {
-    let mut files = Shelf::new(texts.0, texts.1);
-    let mut gallery = Gallery::new(alloc, room);
-    all_drawn(alloc, PICTURE_ALL, &mut files, &mut gallery)
+    let files = Shelf::new(texts.0, texts.1);
+    all_drawn(alloc, PICTURE_ALL, files, room)
 }
 
 #[test]
@@ -233,14 +247,14 @@ fn unread_scripts(rt: HostRuntime) -> Result<(), Fail> {
         file: Shelf::DESCRIPTION,
         script: "NONE",
     };
-    let mut gallery = Gallery::new(alloc, 9);
-    let found = all_drawn(alloc, missing, &mut Shelf::new(CANCEL, ""), &mut gallery)?;
+    let files = Shelf::new(CANCEL, "");
+    let found = all_drawn(alloc, missing, files, 9)?;
     assert_eq!(rt;
         found.as_str(),
         "tvdlg: cannot read NONE\nstatus 3\nopened 13\n"
     );
-    let mut files = Shelf::torn(CANCEL, "shot\n", Shelf::BESIDE);
-    let found = all_drawn(alloc, PICTURE_ALL, &mut files, &mut gallery)?;
+    let files = Shelf::torn(CANCEL, "shot\n", Shelf::BESIDE);
+    let found = all_drawn(alloc, PICTURE_ALL, files, 9)?;
     assert_eq!(rt;
         found.as_str(),
         "tvdlg: cannot read BESIDE\nstatus 3\nopened 12\n"

@@ -8,9 +8,9 @@ use std::test::Fail;
 use tv_test_support::descriptions::CANCEL;
 
 // What a dialog of one button comes to, by what the user sends.
-fn played(alloc: Global, user: &mut User<'_>, rooms: (Room, Room)) -> Result<String, Fail> {
-    let mut files = Shelf::new(CANCEL, "");
-    ending_of(alloc, Ok(PLAY), &mut files, user, rooms)
+fn played(alloc: Global, user: User<'_>, rooms: (Room, Room)) -> Result<String, Fail> {
+    let files = Shelf::new(CANCEL, "");
+    ending_of(alloc, Ok(PLAY), files, user, rooms)
 }
 
 // The screen of the dialog, on the alternate screen.
@@ -73,7 +73,7 @@ const PLAYS: [(&[u8], bool, Room, &str, &str); 7] = [
 fn ends_of_a_play(rt: HostRuntime) -> Result<(), Fail> {
     let alloc = rt.alloc();
     for &(sent, is_torn, out_room, log, rest) in &PLAYS {
-        let told = played(alloc, &mut User::new(sent, is_torn), (out_room, AMPLE))?;
+        let told = played(alloc, User::new(sent, is_torn), (out_room, AMPLE))?;
         let wanted = format!(in alloc; "{log}{SHOWN}{rest}opened 1\n")?;
         assert_eq!(rt; told, wanted, "{sent:?}");
     }
@@ -84,8 +84,8 @@ fn ends_of_a_play(rt: HostRuntime) -> Result<(), Fail> {
 #[test]
 fn screen_that_fails(rt: HostRuntime) -> Result<(), Fail> {
     for &sent in &[b"\x1b", b"\x1c"] {
-        let mut user = User::new(sent, false);
-        let told = played(rt.alloc(), &mut user, (AMPLE, (8, true)))?;
+        let user = User::new(sent, false);
+        let told = played(rt.alloc(), user, (AMPLE, (8, true)))?;
         let wanted = String::from_str(rt.alloc(), "open a\nfocus c\n{status 3\nopened 1\n")?;
         assert_eq!(rt; told, wanted);
     }

@@ -7,7 +7,7 @@ pub returns-in-Ok : goal.returns-in-Ok
 returns-in-Ok g c =
     done c.in_ok-text.text.items c.in_ok-text.ensures (
       Ok c.in-Ok.done,
-      subst (λ text. ExplainsBesideTo c.args.manner c.args.beside.now c.args.desc text (g.W.Writer.seen c.args.out.now) (g.W.Writer.seen c.explain_beside.new.out) (Ok c.in-Ok.done)) c.as_slice.ensures.value c.in-Ok.ensures,
+      subst (λ text. ExplainsBesideTo c.args.beside.manner c.args.beside.file.now c.args.desc text (g.W.Writer.seen c.args.out.now) (g.W.Writer.seen c.explain_beside.new.out) (Ok c.in-Ok.done)) c.as_slice.ensures.value c.in-Ok.ensures,
       refl,
       refl,
     )
@@ -16,7 +16,7 @@ pub returns : goal.returns
 returns g c =
     done c.in_ok-text.text.items c.in_ok-text.ensures (
       Err c.in-Err.fault,
-      subst (λ text. ExplainsBesideTo c.args.manner c.args.beside.now c.args.desc text (g.W.Writer.seen c.args.out.now) (g.W.Writer.seen c.explain_beside.new.out) (Err c.in-Err.fault)) c.as_slice.ensures.value c.in-Err.ensures,
+      subst (λ text. ExplainsBesideTo c.args.beside.manner c.args.beside.file.now c.args.desc text (g.W.Writer.seen c.args.out.now) (g.W.Writer.seen c.explain_beside.new.out) (Err c.in-Err.fault)) c.as_slice.ensures.value c.in-Err.ensures,
       refl,
       c.new.ensures,
     )

@@ -12,8 +12,8 @@ returns-in-Ok g c =
     let end = end_of {T = Unit {0}} (Ok tt) in
     let first = c.in_ok-description.ensures in
     let second = c.in_ok-events.ensures in
-    done-OnStream (PicturesAs (IsMismade (Makes g.M.Fn c.args.views.now) g.V.View.meaning) c.args.file.now c.args.script.now old new end)
-    (g.F.FileStore.known c.args.files.now) (g.F.FileStore.known c.open.new.files) (g.F.FileStore.known c.open-2.new.files) c.args.file.now c.args.script.now old new end
+    done-OnStream (PicturesAs (IsMismade (Makes g.M.Fn c.args.views.now) g.V.View.meaning) c.args.paths.file.now c.args.paths.script.now old new end)
+    (g.F.FileStore.known c.args.files.now) (g.F.FileStore.known c.open.new.files) (g.F.FileStore.known c.open-2.new.files) c.args.paths.file.now c.args.paths.script.now old new end
     (g.F.File.Reader.seen c.in_ok-description.description) (g.F.File.Reader.seen c.read.new.file) (g.F.File.Reader.seen c.in_ok-events.events) (g.F.File.Reader.seen c.picture.new.script)
     c.in_ok-text.text.items first.0 first.1 second.0 second.1 c.in_ok-text.ensures
     (Ok tt, rw c.as_slice.ensures.value at c.in-Ok.ensures, refl)
@@ -25,8 +25,8 @@ returns g c =
     let end = end_of {T = Unit {0}} (Err c.of_run.result) in
     let first = c.in_ok-description.ensures in
     let second = c.in_ok-events.ensures in
-    done-OnStream (PicturesAs (IsMismade (Makes g.M.Fn c.args.views.now) g.V.View.meaning) c.args.file.now c.args.script.now old new end)
-    (g.F.FileStore.known c.args.files.now) (g.F.FileStore.known c.open.new.files) (g.F.FileStore.known c.open-2.new.files) c.args.file.now c.args.script.now old new end
+    done-OnStream (PicturesAs (IsMismade (Makes g.M.Fn c.args.views.now) g.V.View.meaning) c.args.paths.file.now c.args.paths.script.now old new end)
+    (g.F.FileStore.known c.args.files.now) (g.F.FileStore.known c.open.new.files) (g.F.FileStore.known c.open-2.new.files) c.args.paths.file.now c.args.paths.script.now old new end
     (g.F.File.Reader.seen c.in_ok-description.description) (g.F.File.Reader.seen c.read.new.file) (g.F.File.Reader.seen c.in_ok-events.events) (g.F.File.Reader.seen c.picture.new.script)
     c.in_ok-text.text.items first.0 first.1 second.0 second.1 c.in_ok-text.ensures (
       Err c.in-Err.fault,

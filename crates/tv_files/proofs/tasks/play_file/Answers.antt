@@ -1,23 +1,31 @@
 use Rattle.std.proofs.Common.{Ok, Err, refl}
 use Rattle.tv_program.specs.Playing.{IsMismade, Makes}
 use Rattle.tv_files.specs.Tasks.PlaysFile.{played}
+use Rattle.tv_files.specs.World.{known_world, ports_of}
 use Rattle.tv_files.proofs.TaskLemmas.{unread-PlaysFile}
 use Rattle.tv_files.proofs.tasks.play_file.Goals as goal
 
 pub returns-in_err-text : goal.returns-in_err-text
-returns-in_err-text g c =
-    unread-PlaysFile (IsMismade (Makes g.M.Fn c.args.views.now) g.V.View.meaning) (g.F.FileStore.known c.args.files.now) (g.F.FileStore.known c.read_file.new.files) c.args.file.now
-    (record { input = g.P.Pieces.heard c.args.pieces.now; log = g.W.Writer.seen c.args.out.now; screen = g.T.Writer.seen c.args.screen.now })
-    c.in_err-text.field-0.0 c.in_err-text.ensures c.from_residual.result c.from_residual.ensures.1
+returns-in_err-text g c = (
+  refl,
+  unread-PlaysFile (IsMismade (Makes g.M.Fn c.args.views.now) g.V.View.meaning) (g.F.FileStore.known c.args.world.now.files) (g.F.FileStore.known c.read_file.new.files) c.args.file.now
+      (ports_of (known_world g.F.FileStore.known g.A.Album.hung g.P.Pieces.heard g.W.Writer.seen g.T.Writer.seen c.args.world.now))
+      c.in_err-text.field-0.0 c.in_err-text.ensures c.from_residual.result c.from_residual.ensures.1,
+)
 
 pub returns-in-Ok : goal.returns-in-Ok
-returns-in-Ok g c = played c.in_ok-text.text.items c.in_ok-text.ensures (Ok c.in-Ok.parting, rw c.as_slice.ensures.value at c.in-Ok.ensures.output, c.from.ensures, refl)
+returns-in-Ok g c = (
+  refl,
+  played c.in_ok-text.text.items c.in_ok-text.ensures (Ok c.in-Ok.parting, rw c.as_slice.ensures.value at c.in-Ok.ensures.output, c.from.ensures, refl),
+)
 
 pub returns : goal.returns
-returns g c =
-    played c.in_ok-text.text.items c.in_ok-text.ensures (
-      Err c.in-Err.fault,
-      rw c.as_slice.ensures.value at c.in-Err.ensures.output,
-      refl,
-      c.of_run.ensures,
-    )
+returns g c = (
+  refl,
+  played c.in_ok-text.text.items c.in_ok-text.ensures (
+    Err c.in-Err.fault,
+    rw c.as_slice.ensures.value at c.in-Err.ensures.output,
+    refl,
+    c.of_run.ensures,
+  ),
+)
