@@ -2,7 +2,6 @@ pub mod SessionLemmas
 pub mod CursorLemmas
 pub mod ShownLemmas
 pub mod HeardLemmas
-pub mod JournalLemmas
 pub mod StepLemmas
 pub mod PlayLemmas
 pub mod LiveLemmas

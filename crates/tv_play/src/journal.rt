@@ -1,30 +1,20 @@
 //! Where the log is written.
 
-ghost use Rattle.std.specs.Prelude.{◌≡◌, [], IfOk, MatchResult, OnOk};
+ghost use Rattle.std.specs.Prelude.{◌≡◌, MatchResult};
 ghost use Rattle.tv_io.specs.Writer.{Cuts, PassesOn, Takes};
 ghost use Rattle.tv_machine.specs.Run.{Session, quiet};
 ghost use Rattle.tv_model.specs.Log.LogText.{log_text};
 
-use std::alloc::Global;
-use tv_io::{WriteFailed, Writer};
-use tv_script::{Script, ScriptFault, Stage, perform};
+use tv_io::{Pen, WriteFailed, Writer};
+use tv_script::{Stage, put_waiting_log};
 
-/// A writer of the log, with the script that has no lines: what it writes is the log that isn't yet taken.
+/// A writer of the log.
 #[derive(Drop)]
-pub(crate) struct Journal<'n, 'a, W: Writer> {
+pub(crate) struct Journal<'a, W: Writer> {
     pub(crate) out: &'a mut W,
-    pub(crate) nothing: &'n Script,
-    ghost empty: { nothing.now ≡ [] },
 }
 
-/// Returns the script that has no lines.
-pub(crate) fn nothing(alloc: Global) -> Result<Script, ScriptFault>
-    ensures { IfOk result (λ script. script ≡ []) }
-{
-    Script::parse(alloc, b"", 0, 0)
-}
-
-impl<W: Writer> Journal<'_, '_, W> {
+impl<W: Writer> Journal<'_, W> {
     /// Writes the log that isn't yet taken, and takes it.
     pub(crate) fn write<S: Stage>(&mut self, stage: &mut S) -> Result<(), WriteFailed>
         requires there { (t : Session) × S.stands stage.old t }
@@ -34,11 +24,15 @@ impl<W: Writer> Journal<'_, '_, W> {
             (λ _. Takes (W.seen self.old.out.now) (W.seen self.new.out.now) (log_text t.desc t.state.log))
             (λ _. Cuts (W.seen self.old.out.now) (W.seen self.new.out.now) (log_text t.desc t.state.log)) }
     {
-        let out = &mut *self.out;
-        match perform(stage, self.nothing, out) {
-            Ok(()) => Ok(()),
-            Err(_) => Err(WriteFailed),
+        let mut pen = Pen {
+            out: &mut *self.out,
+            stopped: false,
+        };
+        put_waiting_log(&mut pen, stage);
+        if pen.stopped {
+            return Err(WriteFailed);
         }
+        Ok(())
     }
 
     /// Passes on what was written.

@@ -31,7 +31,7 @@ pub(crate) type Outcome = Result<Parting, PlayFault>;
 fn act<L: Live, T: Writer, W: Writer>(
     stage: &mut L,
     show: &mut Show<'_, '_, T>,
-    journal: &mut Journal<'_, '_, W>,
+    journal: &mut Journal<'_, W>,
     event: &Event,
 ) -> (bool, Result<(), WriteFailed>)
     requires near { IsPlaced event.now }
@@ -81,7 +81,7 @@ pub(crate) fn outcome_of(
 fn take_action<L: Live, T: Writer, W: Writer>(
     stage: &mut L,
     show: &mut Show<'_, '_, T>,
-    journal: &mut Journal<'_, '_, W>,
+    journal: &mut Journal<'_, W>,
     action: Action,
 ) -> Option<Outcome>
     requires placed { IsPlacedAction action }
@@ -111,7 +111,7 @@ fn take_action<L: Live, T: Writer, W: Writer>(
 fn take_meant<L: Live, T: Writer, W: Writer>(
     stage: &mut L,
     show: &mut Show<'_, '_, T>,
-    journal: &mut Journal<'_, '_, W>,
+    journal: &mut Journal<'_, W>,
     action: Option<Action>,
 ) -> Option<Outcome>
     requires placed { IfSome action IsPlacedAction }
@@ -140,7 +140,7 @@ fn take_meant<L: Live, T: Writer, W: Writer>(
 fn take_bytes<L: Live, T: Writer, W: Writer>(
     stage: &mut L,
     show: &mut Show<'_, '_, T>,
-    journal: &mut Journal<'_, '_, W>,
+    journal: &mut Journal<'_, W>,
     decoder: &mut Decoder,
     bytes: &[u8],
 ) -> Option<Outcome>
@@ -173,7 +173,7 @@ fn take_bytes<L: Live, T: Writer, W: Writer>(
 fn take_pause<L: Live, T: Writer, W: Writer>(
     stage: &mut L,
     show: &mut Show<'_, '_, T>,
-    journal: &mut Journal<'_, '_, W>,
+    journal: &mut Journal<'_, W>,
     decoder: &mut Decoder,
 ) -> Option<Outcome>
     requires going { show.old.pen.stopped ≡ false }
@@ -199,7 +199,7 @@ fn take_pause<L: Live, T: Writer, W: Writer>(
 pub(crate) fn take_piece<L: Live, T: Writer, W: Writer>(
     stage: &mut L,
     show: &mut Show<'_, '_, T>,
-    journal: &mut Journal<'_, '_, W>,
+    journal: &mut Journal<'_, W>,
     decoder: &mut Decoder,
     piece: Piece,
     room: &[u8],

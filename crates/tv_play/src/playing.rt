@@ -8,7 +8,7 @@ ghost use Rattle.tv_play.specs.Shown.{HasSize};
 ghost use Rattle.tv_play.specs.Steps.{HasRun, IsPlaying, HasBeenShown, Outside, or_end, outside};
 
 use crate::ends::is_finished;
-use crate::journal::{Journal, nothing};
+use crate::journal::Journal;
 use crate::live::Live;
 use crate::parting::{Parting, PlayFault};
 use crate::pieces::{Piece, Pieces};
@@ -17,7 +17,6 @@ use crate::show::Show;
 use std::alloc::Global;
 use tv_cells::ScreenFault;
 use tv_io::{Pen, WriteFailed, Writer};
-use tv_script::Script;
 use tv_terminal::{Decoder, Painter};
 
 /// The bytes that are asked for at once.
@@ -47,13 +46,10 @@ pub fn play<L: Live, P: Pieces, T: Writer, W: Writer>(
         → PlaysTo s (record { input = P.heard pieces.old; log = W.seen log.old; screen = T.seen screen.old })
         (record { input = P.heard pieces.new; log = W.seen log.new; screen = T.seen screen.new }) (L.stands stage.new) result }
 {
-    let Ok(nothing) = nothing(alloc) else {
-        return Err(PlayFault::NoMemory);
-    };
     let Ok(mut painter) = painter_of(alloc, stage) else {
         return Err(PlayFault::NoMemory);
     };
-    play_with(stage, pieces, screen, log, &mut painter, &nothing)
+    play_with(stage, pieces, screen, log, &mut painter)
 }
 
 // A painter for its screen.
@@ -64,22 +60,20 @@ fn painter_of<L: Live>(alloc: Global, stage: &L) -> Result<Painter, ScreenFault>
     Painter::new(alloc, screen.width(), screen.height())
 }
 
-// Plays it with a painter for its screen, and the script that has no lines.
+// Plays it with a painter for its screen.
 fn play_with<L: Live, P: Pieces, T: Writer, W: Writer>(
     stage: &mut L,
     pieces: &mut P,
     screen: &mut T,
     log: &mut W,
     painter: &mut Painter,
-    nothing: &Script,
 ) -> Outcome
-    requires empty { nothing.now ≡ [] }
     requires there { (t : Session) × L.stands stage.old t × HasSize t painter.old }
     ensures { (s : Session) → L.stands stage.old s
         → PlaysTo s (record { input = P.heard pieces.old; log = W.seen log.old; screen = T.seen screen.old })
         (record { input = P.heard pieces.new; log = W.seen log.new; screen = T.seen screen.new }) (L.stands stage.new) result }
 {
-    let mut journal = Journal { out: log, nothing };
+    let mut journal = Journal { out: log };
     let mut show = Show {
         painter,
         pen: Pen {
@@ -95,7 +89,7 @@ fn play_through<L: Live, P: Pieces, T: Writer, W: Writer>(
     stage: &mut L,
     pieces: &mut P,
     show: &mut Show<'_, '_, T>,
-    journal: &mut Journal<'_, '_, W>,
+    journal: &mut Journal<'_, W>,
 ) -> Outcome
     requires going { show.old.pen.stopped ≡ false }
     requires there { (t : Session) × L.stands stage.old t × HasSize t show.old.painter.now }
@@ -139,7 +133,7 @@ fn play_begun<L: Live, P: Pieces, T: Writer, W: Writer>(
     stage: &mut L,
     pieces: &mut P,
     show: &mut Show<'_, '_, T>,
-    journal: &mut Journal<'_, '_, W>,
+    journal: &mut Journal<'_, W>,
 ) -> Outcome
     requires there { (t : Session) × L.stands stage.old t × HasSize t show.old.painter.now }
     ensures log { journal.new.out.ghost_name ≡ journal.old.out.ghost_name }
@@ -164,7 +158,7 @@ fn play_all<L: Live, P: Pieces, T: Writer, W: Writer>(
     stage: &mut L,
     pieces: &mut P,
     show: &mut Show<'_, '_, T>,
-    journal: &mut Journal<'_, '_, W>,
+    journal: &mut Journal<'_, W>,
 ) -> Outcome
     requires going { show.old.pen.stopped ≡ false }
     requires there { (t : Session) × L.stands stage.old t × HasSize t show.old.painter.now }

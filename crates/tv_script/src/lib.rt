@@ -13,7 +13,7 @@ mod stage;
 mod stream_fault;
 mod streaming;
 
-pub use performing::perform;
+pub use performing::{perform, put_waiting_log};
 pub use script::Script;
 pub use script_text::{ScriptFault, parse_items};
 pub use stage::Stage;

@@ -133,8 +133,8 @@ fn put_event<S: Stage, W: Writer>(pen: &mut Pen<W>, stage: &mut S, event: &Event
     put_waiting_log(pen, stage);
 }
 
-/// Writes the log that isn't yet taken, and takes it.
-pub(crate) fn put_waiting_log<S: Stage, W: Writer>(pen: &mut Pen<W>, stage: &mut S)
+/// Writes the log that isn't yet taken, and takes it. Where the writer fails, the pen is stopped, and the log is taken too.
+pub fn put_waiting_log<S: Stage, W: Writer>(pen: &mut Pen<W>, stage: &mut S)
     ensures text { (s : Session) → S.stands stage.old s → Puts W.seen pen.old pen.new (log_text s.desc s.state.log) }
     ensures state { (s : Session) → S.stands stage.old s → S.stands stage.new (quiet s) }
 {
