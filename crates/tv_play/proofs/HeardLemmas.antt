@@ -1,12 +1,12 @@
 -- What was heard of the user, one thing more, and how a run ends with it.
-use Rattle.std.proofs.Common.{◌≡◌, ℕ, ◌+◌, ◌<◌, ◌≤◌, false, ◌⊎◌, inl, inr, List, [], ◌∷◌, ◌++◌, length, map, take, drop, get_or, Option, Some, None, Result, Ok, Err, sym, ap, subst, ◌∙◌, arith, append_assoc, length-append}
+use Rattle.std.proofs.Common.{◌≡◌, ℕ, ◌+◌, ◌<◌, ◌≤◌, false, ◌⊎◌, inl, inr, List, [], ◌∷◌, ◌++◌, length, map, take, drop, get_or, Option, Some, None, Result, Ok, Err, sym, ap, ◌∙◌, arith, append_assoc, length-append}
 use Rattle.std.proofs.lemmas.Bool.{cases_lt}
 use Rattle.std.proofs.lemmas.List.{append-nil, map-append, take-append-drop, take-append-le, take_all, take_more}
 use Rattle.std.proofs.lemmas.List.Elements.{All-append, All-from_recursion}
 use Rattle.tv_event.specs.declared.event.Event.{Event as Happening}
 use Rattle.tv_machine.specs.Run.{Session}
 use Rattle.tv_play.specs.Ends.{is_finished, is_leaving, session_at}
-use Rattle.tv_play.specs.Steps.{HasPlayedOut, IsEndedBy, IsHeard, IsPlaying, LeavesWith, Outside, TurnsTo}
+use Rattle.tv_play.specs.Steps.{HasPlayedOut, IsEndedBy, IsHeard, IsPlaying, LeavesWith, Outside}
 use Rattle.tv_play.specs.declared.parting.Parting.{Parting}
 use Rattle.tv_play.specs.declared.parting.Parting.TheVariants as partings
 use Rattle.tv_play.specs.declared.parting.PlayFault.{PlayFault}
@@ -89,13 +89,6 @@ playing-still s symbols next from now Left means p = record {
   performs = p.performs;
   going = p.going;
 }
-
--- the same symbols by another name
-pub playing-along : (s : Session) (a b : List Symbol) (from now : Outside) (Left : Session → Type 0) → a ≡ b → IsPlaying s a from now Left → IsPlaying s b from now Left
-playing-along s a b from now Left same p = subst (λ (x : List Symbol). IsPlaying s x from now Left) same p
-
-pub turns-along : (s : Session) (a b : List Symbol) (from now : Outside) (Left : Session → Type 0) (outcome : Option (Result Parting PlayFault)) → a ≡ b → TurnsTo s a from now Left outcome → TurnsTo s b from now Left outcome
-turns-along s a b from now Left outcome same p = subst (λ (x : List Symbol). TurnsTo s x from now Left outcome) same p
 
 -- ---- what may be meant
 

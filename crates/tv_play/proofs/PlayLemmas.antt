@@ -6,7 +6,7 @@ use Rattle.std.proofs.lemmas.List.Elements.{All-nil}
 use Rattle.tv_terminal.specs.Written.{end_bytes}
 use Rattle.tv_terminal.specs.declared.painter.Painter.{Painter}
 use Rattle.tv_event.specs.declared.event.Event.{Event as Happening}
-use Rattle.std.specs.Prelude.{IfNone, MatchResult}
+use Rattle.std.specs.Prelude.{MatchResult}
 use Rattle.tv_io.specs.Pen.{PutsBy}
 use Rattle.tv_io.specs.declared.writer.WriteFailed.{WriteFailed}
 use Rattle.tv_io.proofs.WriterLemmas.{Cuts-after, Cuts-held, Takes-passed, Takes-then}
@@ -186,9 +186,9 @@ goes-to s symbols piece room input mid later from now Left outcome told is come 
     (goes-by s symbols piece room input mid later from now Left outcome (come-then symbols (symbols_in piece room) come comes.has) comes turned)
 
 -- it goes on only where it went on with the piece
-pub goes-on : {P : Type 0} (outcome : Option (Result Parting PlayFault)) (piece : Piece) → None ≡ or_end outcome piece → IfNone outcome P → P
-goes-on (Some outcome) piece is p = absurd cc
-goes-on None piece is p = p
+pub went-on : (outcome : Option (Result Parting PlayFault)) (piece : Piece) → None ≡ or_end outcome piece → outcome ≡ None
+went-on (Some outcome) piece is = absurd cc
+went-on None piece is = refl
 
 pub plays-on : (s : Session) (symbols : List Symbol) (from now : Outside) (Left : Session → Type 0) (outcome : Option (Result Parting PlayFault)) (piece : Piece) → None ≡ or_end outcome piece → TurnsTo s symbols from now Left outcome → IsPlaying s symbols from now Left
 plays-on s symbols from now Left (Some outcome) piece is turned = absurd cc
@@ -286,8 +286,10 @@ plays-told s first last Left (Err faults.Read) p = p
 plays-told s first last Left (Err faults.Log) p = p
 plays-told s first last Left (Err faults.Screen) p = p
 
-pub plays-lent : (s : Session) (old : Ports) (input : Heard) (log log' screen screen' : Seen) (Left : Session → Type 0) (result : Result Parting PlayFault) → log ≡ log' → screen ≡ screen' → Plays s old (record { input = input; log = log; screen = screen }) Left result → PlaysTo s old (record { input = input; log = log'; screen = screen' }) Left result
-plays-lent s old input log log' screen screen' Left result same alike p =
-    plays-told s old (record { input = input; log = log'; screen = screen' }) Left result
-    (subst (λ (x : Seen). Plays s old (record { input = input; log = log'; screen = x }) Left result) alike
-    (subst (λ (x : Seen). Plays s old (record { input = input; log = x; screen = screen }) Left result) same p))
+pub plays-lent : {L : Type 0} (stands : L → Session → Type 0) (stage stage' : L) (s : Session) (old : Ports) (input : Heard) (log log' screen screen' : Seen) (result : Result Parting PlayFault) → stage ≡ stage' → log ≡ log' → screen ≡ screen' → Plays s old (record { input = input; log = log; screen = screen }) (stands stage) result
+    → PlaysTo s old (record { input = input; log = log'; screen = screen' }) (stands stage') result
+plays-lent {L} stands stage stage' s old input log log' screen screen' result one same alike p =
+    plays-told s old (record { input = input; log = log'; screen = screen' }) (stands stage') result
+    (subst (λ (x : L). Plays s old (record { input = input; log = log'; screen = screen' }) (stands x) result) one
+    (subst (λ (x : Seen). Plays s old (record { input = input; log = log'; screen = x }) (stands stage) result) alike
+    (subst (λ (x : Seen). Plays s old (record { input = input; log = x; screen = screen }) (stands stage) result) same p)))

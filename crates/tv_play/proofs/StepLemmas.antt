@@ -1,9 +1,9 @@
 -- What comes of a thing that the user did.
-use Rattle.std.proofs.Common.{◌≡◌, Bool, true, false, List, [], ◌∷◌, ◌++◌, Option, Some, None, Result, Ok, Err, refl, sym, ap, subst, ◌∙◌}
+use Rattle.std.proofs.Common.{◌≡◌, Bool, true, false, List, [], ◌∷◌, ◌++◌, Option, None, Result, Ok, Err, refl, sym, ap, subst, ◌∙◌}
 use Rattle.tv_terminal.specs.declared.painter.Painter.{Painter}
 use Rattle.tv_cells.specs.declared.rect.Rect.{Rect}
 use Rattle.tv_event.specs.declared.event.Event.{Event as Happening}
-use Rattle.std.specs.Prelude.{MatchResult, IfNone}
+use Rattle.std.specs.Prelude.{MatchResult}
 use Rattle.tv_io.specs.Writer.{Cuts, Seen, Takes}
 use Rattle.tv_io.specs.declared.writer.WriteFailed.{WriteFailed}
 use Rattle.tv_machine.specs.Output.{after, output}
@@ -84,17 +84,11 @@ module _ (s : Session) (symbols next : List Symbol) (from old : Outside) (Old : 
     }
 
 -- a run goes on only where the screen could be written
-pub goes-shown : (answer : Bool) (written : Result (Unit {0}) WriteFailed) (stop : Bool) → IfNone (outcome_of answer written stop) (stop ≡ false)
-goes-shown answer (Err failed) stop = tt
-goes-shown answer (Ok written) true = tt
-goes-shown true (Ok written) false = tt
-goes-shown false (Ok written) false = refl
+pub going-shown : (answer : Bool) (written : Result (Unit {0}) WriteFailed) (stop : Bool) → outcome_of answer written stop ≡ None → stop ≡ false
+going-shown answer (Err failed) stop none = absurd cc
+going-shown answer (Ok written) true none = absurd cc
+going-shown answer (Ok written) false none = refl
 
 -- the same, where an answer is the one
 pub turns-told : (s : Session) (next : List Symbol) (from now : Outside) (New : Session → Type 0) {told result : Option (Result Parting PlayFault)} → result ≡ told → TurnsTo s next from now New told → TurnsTo s next from now New result
 turns-told s next from now New same turns = subst (TurnsTo s next from now New) (sym same) turns
-
--- what holds of any answer
-pub kept_pause : {P : Type 0} (result : Option (Result Parting PlayFault)) → P → IfNone result P
-kept_pause None p = p
-kept_pause (Some outcome) p = tt

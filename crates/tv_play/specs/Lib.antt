@@ -10,3 +10,5 @@ pub mod Shown
 pub mod Steps
 -- what a run in a terminal comes to
 pub mod Playing
+-- the player of a run in a terminal
+pub mod Player

@@ -1,19 +1,19 @@
 //! A run in a terminal, from its begin to its end.
 
-ghost use Rattle.std.specs.Prelude.{◌≡◌, false, [], IfOk};
-ghost use Rattle.tv_io.specs.Writer.{Seen};
+ghost use Rattle.std.specs.Prelude.{◌≡◌, [], IfOk};
 ghost use Rattle.tv_machine.specs.Run.{Session};
+ghost use Rattle.tv_play.specs.Player.{HasPlayed, HasSame, IsReady, outside_of, ports_of};
 ghost use Rattle.tv_play.specs.Playing.{Plays, PlaysTo, told_with};
 ghost use Rattle.tv_play.specs.Shown.{HasSize};
-ghost use Rattle.tv_play.specs.Steps.{HasRun, IsPlaying, HasBeenShown, Outside, or_end, outside};
+ghost use Rattle.tv_play.specs.Steps.{HasRun, Outside, or_end};
 
 use crate::ends::is_finished;
-use crate::journal::Journal;
+use crate::journal::write_log;
 use crate::live::Live;
 use crate::parting::{Parting, PlayFault};
 use crate::pieces::{Piece, Pieces};
-use crate::player::{Outcome, outcome_of, take_piece};
-use crate::show::Show;
+use crate::player::{Outcome, Player, outcome_of};
+use crate::show;
 use std::alloc::Global;
 use tv_cells::ScreenFault;
 use tv_io::{Pen, WriteFailed, Writer};
@@ -73,45 +73,82 @@ fn play_with<L: Live, P: Pieces, T: Writer, W: Writer>(
         → PlaysTo s (record { input = P.heard pieces.old; log = W.seen log.old; screen = T.seen screen.old })
         (record { input = P.heard pieces.new; log = W.seen log.new; screen = T.seen screen.new }) (L.stands stage.new) result }
 {
-    let mut journal = Journal { out: log };
-    let mut show = Show {
+    let mut player = Player {
+        stage,
         painter,
         pen: Pen {
             out: screen,
             stopped: false,
         },
+        log,
+        decoder: Decoder::new(),
     };
-    play_through(stage, pieces, &mut show, &mut journal)
+    player.play_through(pieces)
 }
 
-// Plays it between the begin of what is shown and the end.
-fn play_through<L: Live, P: Pieces, T: Writer, W: Writer>(
-    stage: &mut L,
-    pieces: &mut P,
-    show: &mut Show<'_, '_, T>,
-    journal: &mut Journal<'_, W>,
-) -> Outcome
-    requires going { show.old.pen.stopped ≡ false }
-    requires there { (t : Session) × L.stands stage.old t × HasSize t show.old.painter.now }
-    ensures log { journal.new.out.ghost_name ≡ journal.old.out.ghost_name }
-    ensures screen { show.new.pen.out.ghost_name ≡ show.old.pen.out.ghost_name }
-    ensures plays { (s : Session) → L.stands stage.old s
-        → Plays s (record { input = P.heard pieces.old; log = W.seen journal.old.out.now; screen = T.seen show.old.pen.out.now })
-        (record {
-          input = P.heard pieces.new;
-          log = W.seen journal.new.out.now;
-          screen = T.seen show.new.pen.out.now;
-        }) (L.stands stage.new) result }
-{
-    show.begin(stage);
-    let outcome = play_begun(stage, pieces, show, journal);
-    show.end();
-    match outcome {
-        Ok(parting) => {
-            let passed = journal.pass_on();
-            told_with(parting, passed, show.pen.stopped)
+impl<L: Live, T: Writer, W: Writer> Player<'_, '_, '_, '_, L, T, W> {
+    // Plays a run, and shows at the end what the terminal showed before.
+    fn play_through<P: Pieces>(&mut self, pieces: &mut P) -> Outcome
+        requires ready { IsReady L.stands self.old }
+        requires fresh { self.old.decoder ≡ [] }
+        ensures same { HasSame self.old self.new }
+        ensures plays { (s : Session) → L.stands self.old.stage.now s
+            → Plays s (ports_of T.seen W.seen (P.heard pieces.old) self.old)
+            (ports_of T.seen W.seen (P.heard pieces.new) self.new) (L.stands self.new.stage.now) result }
+    {
+        let outcome = self.play_begun(pieces);
+        show::end(self.painter, &mut self.pen);
+        match outcome {
+            Ok(parting) => {
+                let passed = self.log.pass_on();
+                told_with(parting, passed, self.pen.stopped)
+            }
+            Err(fault) => Err(fault),
         }
-        Err(fault) => Err(fault),
+    }
+
+    // Shows and logs the beginning, and plays what comes, but for the end.
+    fn play_begun<P: Pieces>(&mut self, pieces: &mut P) -> Outcome
+        requires ready { IsReady L.stands self.old }
+        requires fresh { self.old.decoder ≡ [] }
+        ensures same { HasSame self.old self.new }
+        ensures runs { (s : Session) → L.stands self.old.stage.now s
+            → HasRun s (P.heard pieces.old) (P.heard pieces.new) (outside_of T.seen W.seen self.old)
+            (outside_of T.seen W.seen self.new) (L.stands self.new.stage.now) result }
+    {
+        show::begin(self.painter, &mut self.pen, self.stage);
+        let is_finished = is_finished(self.stage);
+        let written = write_log(self.log, self.stage);
+        match outcome_of(is_finished, written, self.pen.stopped) {
+            Some(outcome) => outcome,
+            None => self.play_all(pieces),
+        }
+    }
+
+    // Takes what comes, piece by piece.
+    fn play_all<P: Pieces>(&mut self, pieces: &mut P) -> Outcome
+        requires ready { IsReady L.stands self.old }
+        ensures same { HasSame self.old self.new }
+        ensures runs { (s : Session) (from : Outside) → HasPlayed L.stands T.seen W.seen s [] from self.old
+            → HasRun s (P.heard pieces.old) (P.heard pieces.new) from (outside_of T.seen W.seen self.new)
+            (L.stands self.new.stage.now) result }
+    {
+        let mut room = [0u8; PIECE];
+        for turn in 0..u64::MAX {
+            self.pen.pass_on();
+            let passed = self.log.pass_on();
+            if let Some(outcome) = outcome_of(false, passed, self.pen.stopped) {
+                return outcome;
+            }
+            let Some(piece) = pieces.next(&mut room) else {
+                return Err(PlayFault::Read);
+            };
+            let outcome = self.take_piece(piece, &room);
+            if let Some(outcome) = or_end(outcome, piece) {
+                return outcome;
+            }
+        }
+        Ok(Parting::Ended)
     }
 }
 
@@ -126,69 +163,6 @@ fn told_with(parting: Parting, passed: Result<(), WriteFailed>, is_stopped: bool
         return Err(PlayFault::Screen);
     }
     Ok(parting)
-}
-
-// Plays it once the terminal shows its beginning.
-fn play_begun<L: Live, P: Pieces, T: Writer, W: Writer>(
-    stage: &mut L,
-    pieces: &mut P,
-    show: &mut Show<'_, '_, T>,
-    journal: &mut Journal<'_, W>,
-) -> Outcome
-    requires there { (t : Session) × L.stands stage.old t × HasSize t show.old.painter.now }
-    ensures log { journal.new.out.ghost_name ≡ journal.old.out.ghost_name }
-    ensures screen { show.new.pen.out.ghost_name ≡ show.old.pen.out.ghost_name }
-    ensures runs { (s : Session) (from : Seen) → L.stands stage.old s
-        → HasBeenShown s [] from (T.seen show.old.pen.out.now) show.old.pen.stopped show.old.painter.now
-        → HasRun s (P.heard pieces.old) (P.heard pieces.new)
-        (outside (W.seen journal.old.out.now) from show.old.pen.stopped show.old.painter.now)
-        (outside (W.seen journal.new.out.now) (T.seen show.new.pen.out.now) show.new.pen.stopped show.new.painter.now)
-        (L.stands stage.new) result }
-{
-    let is_finished = is_finished(stage);
-    let written = journal.write(stage);
-    match outcome_of(is_finished, written, show.pen.stopped) {
-        Some(outcome) => outcome,
-        None => play_all(stage, pieces, show, journal),
-    }
-}
-
-// Takes what comes, piece by piece.
-fn play_all<L: Live, P: Pieces, T: Writer, W: Writer>(
-    stage: &mut L,
-    pieces: &mut P,
-    show: &mut Show<'_, '_, T>,
-    journal: &mut Journal<'_, W>,
-) -> Outcome
-    requires going { show.old.pen.stopped ≡ false }
-    requires there { (t : Session) × L.stands stage.old t × HasSize t show.old.painter.now }
-    ensures log { journal.new.out.ghost_name ≡ journal.old.out.ghost_name }
-    ensures screen { show.new.pen.out.ghost_name ≡ show.old.pen.out.ghost_name }
-    ensures runs { (s : Session) (from : Outside)
-        → IsPlaying s [] from
-        (outside (W.seen journal.old.out.now) (T.seen show.old.pen.out.now) show.old.pen.stopped show.old.painter.now)
-        (L.stands stage.old)
-        → HasRun s (P.heard pieces.old) (P.heard pieces.new) from
-        (outside (W.seen journal.new.out.now) (T.seen show.new.pen.out.now) show.new.pen.stopped show.new.painter.now)
-        (L.stands stage.new) result }
-{
-    let mut decoder = Decoder::new();
-    let mut room = [0u8; PIECE];
-    for turn in 0..u64::MAX {
-        show.pen.pass_on();
-        let passed = journal.pass_on();
-        if let Some(outcome) = outcome_of(false, passed, show.pen.stopped) {
-            return outcome;
-        }
-        let Some(piece) = pieces.next(&mut room) else {
-            return Err(PlayFault::Read);
-        };
-        let outcome = take_piece(stage, show, journal, &mut decoder, piece, &room);
-        if let Some(outcome) = or_end(outcome, piece) {
-            return outcome;
-        }
-    }
-    Ok(Parting::Ended)
 }
 
 // How a run ends after a piece: as it did with it, or because nothing comes after it.

@@ -16,54 +16,45 @@ use crate::live::Live;
 use tv_io::{Pen, Writer};
 use tv_terminal::Painter;
 
-/// A terminal, with what it is taken to show.
-#[derive(Drop)]
-pub(crate) struct Show<'p, 'a, T: Writer> {
-    pub(crate) painter: &'p mut Painter,
-    pub(crate) pen: Pen<'a, T>,
+/// Shows the screen, whatever the terminal showed.
+pub(crate) fn begin<L: Live, T: Writer>(painter: &mut Painter, pen: &mut Pen<T>, stage: &L)
+    requires going { pen.old.stopped ≡ false }
+    requires there { (s : Session) × L.stands stage.now s × HasSize s painter.old }
+    ensures size { (t : Session) → HasSize t painter.old → HasSize t painter.new }
+    ensures same { pen.new.out.ghost_name ≡ pen.old.out.ghost_name }
+    ensures shown { (s : Session) → L.stands stage.now s
+        → HasBeenShown s [] (T.seen pen.old.out.now) (T.seen pen.new.out.now) pen.new.stopped painter.new }
+{
+    let screen = stage.screen();
+    let cursor = find_cursor(screen, &[]);
+    painter.begin(screen, cursor, pen);
 }
 
-impl<T: Writer> Show<'_, '_, T> {
-    /// Shows the screen, whatever the terminal showed.
-    pub(crate) fn begin<L: Live>(&mut self, stage: &L)
-        requires going { self.old.pen.stopped ≡ false }
-        requires there { (s : Session) × L.stands stage.now s × HasSize s self.old.painter.now }
-        ensures size { (t : Session) → HasSize t self.old.painter.now → HasSize t self.new.painter.now }
-        ensures same { self.new.pen.out.ghost_name ≡ self.old.pen.out.ghost_name }
-        ensures shown { (s : Session) → L.stands stage.now s
-            → HasBeenShown s [] (T.seen self.old.pen.out.now) (T.seen self.new.pen.out.now) self.new.pen.stopped self.new.painter.now }
-    {
-        let screen = stage.screen();
-        let cursor = find_cursor(screen, &[]);
-        self.painter.begin(screen, cursor, &mut self.pen);
-    }
+/// Shows what an event changed.
+pub(crate) fn repaint<L: Live, T: Writer>(painter: &mut Painter, pen: &mut Pen<T>, stage: &L)
+    requires there { (s : Session) × L.stands stage.now s × HasSize s painter.old }
+    ensures size { (t : Session) → HasSize t painter.old → HasSize t painter.new }
+    ensures same { pen.new.out.ghost_name ≡ pen.old.out.ghost_name }
+    ensures shown { (s : Session) (events : List Happening) (event : Happening) (from : Seen)
+        → L.stands stage.now (session_at s (events ++ event ∷ []))
+        → KeepsScreen (L.repaints stage.now) (session_at s events) (session_at s (events ++ event ∷ []))
+        → HasBeenShown s events from (T.seen pen.old.out.now) pen.old.stopped painter.old
+        → HasBeenShown s (events ++ event ∷ []) from (T.seen pen.new.out.now) pen.new.stopped painter.new }
+{
+    let (screen, rects) = (stage.screen(), stage.repainted());
+    let cursor = find_cursor(screen, rects);
+    painter.paint(screen, rects, cursor, pen);
+}
 
-    /// Shows what an event changed.
-    pub(crate) fn repaint<L: Live>(&mut self, stage: &L)
-        requires there { (s : Session) × L.stands stage.now s × HasSize s self.old.painter.now }
-        ensures size { (t : Session) → HasSize t self.old.painter.now → HasSize t self.new.painter.now }
-        ensures same { self.new.pen.out.ghost_name ≡ self.old.pen.out.ghost_name }
-        ensures shown { (s : Session) (events : List Happening) (event : Happening) (from : Seen)
-            → L.stands stage.now (session_at s (events ++ event ∷ []))
-            → KeepsScreen (L.repaints stage.now) (session_at s events) (session_at s (events ++ event ∷ []))
-            → HasBeenShown s events from (T.seen self.old.pen.out.now) self.old.pen.stopped self.old.painter.now
-            → HasBeenShown s (events ++ event ∷ []) from (T.seen self.new.pen.out.now) self.new.pen.stopped self.new.painter.now }
-    {
-        let (screen, rects) = (stage.screen(), stage.repainted());
-        let cursor = find_cursor(screen, rects);
-        self.painter.paint(screen, rects, cursor, &mut self.pen);
-    }
-
-    /// Shows what the terminal showed before.
-    pub(crate) fn end(&mut self)
-        ensures same { self.new.pen.out.ghost_name ≡ self.old.pen.out.ghost_name }
-        ensures stopped { self.old.pen.stopped ≡ true → self.new.pen.stopped ≡ true }
-        ensures passed { self.new.pen.stopped ≡ false → (T.seen self.new.pen.out.now).kept ≡ [] }
-        ensures put { (from : Seen) (frames : List (List ℕ))
-            → PutsBy from false (T.seen self.old.pen.out.now) self.old.pen.stopped (concat frames)
-            → PutsBy from false (T.seen self.new.pen.out.now) self.new.pen.stopped (concat frames ++ end_bytes) }
-    {
-        self.painter.end(&mut self.pen);
-        self.pen.pass_on();
-    }
+/// Shows what the terminal showed before.
+pub(crate) fn end<T: Writer>(painter: &mut Painter, pen: &mut Pen<T>)
+    ensures same { pen.new.out.ghost_name ≡ pen.old.out.ghost_name }
+    ensures stopped { pen.old.stopped ≡ true → pen.new.stopped ≡ true }
+    ensures passed { pen.new.stopped ≡ false → (T.seen pen.new.out.now).kept ≡ [] }
+    ensures put { (from : Seen) (frames : List (List ℕ))
+        → PutsBy from false (T.seen pen.old.out.now) pen.old.stopped (concat frames)
+        → PutsBy from false (T.seen pen.new.out.now) pen.new.stopped (concat frames ++ end_bytes) }
+{
+    painter.end(pen);
+    pen.pass_on();
 }

@@ -1,5 +1,5 @@
 use Rattle.tv_play.proofs.ShownLemmas.{alike-size, keeps-in, shown-more, size-alike}
-use Rattle.tv_play.proofs.show.Show.repaint.Goals as goal
+use Rattle.tv_play.proofs.show.repaint.Goals as goal
 
 pub paint-requires : goal.paint-requires
 paint-requires g c = alike-size (c.screen-screen.ensures c.requires.there.0 c.requires.there.1) c.requires.there.2

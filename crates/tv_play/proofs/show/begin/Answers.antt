@@ -1,5 +1,5 @@
 use Rattle.tv_play.proofs.ShownLemmas.{alike-size, shown-first, size-alike, size-same}
-use Rattle.tv_play.proofs.show.Show.begin.Goals as goal
+use Rattle.tv_play.proofs.show.begin.Goals as goal
 
 pub begin-requires : goal.begin-requires
 begin-requires g c = alike-size (c.screen-screen.ensures c.requires.there.0 c.requires.there.1) c.requires.there.2

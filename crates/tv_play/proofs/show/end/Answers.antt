@@ -2,7 +2,7 @@ use Rattle.std.proofs.Common.{◌++◌}
 use Rattle.std.specs.List.{concat}
 use Rattle.tv_terminal.specs.Written.{end_bytes}
 use Rattle.tv_play.proofs.ShownLemmas.{put-end, put-still, stays-stopped}
-use Rattle.tv_play.proofs.show.Show.end.Goals as goal
+use Rattle.tv_play.proofs.show.end.Goals as goal
 
 pub returns-clause-stopped : goal.returns-clause-stopped
 returns-clause-stopped g c = λ before.

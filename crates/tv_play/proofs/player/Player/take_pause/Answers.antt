@@ -1,0 +1,20 @@
+use Rattle.std.proofs.Common.{◌∷◌, [], ◌++◌, sym, ◌∙◌}
+use Rattle.tv_play.proofs.HeardLemmas.{meant-pause}
+use Rattle.tv_play.proofs.player.Player.take_pause.Goals as goal
+use Rattle.tv_terminal.proofs.DecodeLemmas.{left-pause}
+use Rattle.tv_terminal.specs.Decoding.{Pause}
+
+pub take_meant-requires-clause-ready : goal.take_meant-requires-clause-ready
+take_meant-requires-clause-ready g c =
+    let ready = c.requires.ready in
+    record { staged = record { session = ready.staged.session; here = ready.staged.here; size = ready.staged.size }; going = ready.going }
+
+pub returns-clause-kept : goal.returns-clause-kept
+returns-clause-kept g c =
+    let kept = c.take_meant.ensures.kept in
+    record { same = record { stage = kept.same.stage; screen = kept.same.screen; log = kept.same.log }; staged = kept.staged; going = kept.going }
+
+pub returns-clause-hears : goal.returns-clause-hears
+returns-clause-hears g c = λ s symbols from played.
+    c.take_meant.ensures.acts s symbols (symbols ++ Pause ∷ []) from played.run (c.pause-action.ensures.kept ∙ sym (left-pause symbols))
+    (meant-pause symbols c.args.self.now.decoder c.pause-action.result played.read c.pause-action.ensures.given)
