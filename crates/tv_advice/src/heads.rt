@@ -5,6 +5,7 @@ ghost use Rattle.tv_advice.specs.Heads.{block_head, in_json, object_head, plain_
 
 use crate::colour::{Colour, shown_in};
 use crate::manner::Manner;
+use crate::source::Source;
 use serde_json::Value;
 use std::alloc::{AllocError, Global};
 
@@ -33,31 +34,32 @@ fn object_head(
 // What editors take for a place, and the fault.
 fn plain_head(
     alloc: Global,
-    manner: Manner,
-    name: &str,
+    source: &Source,
     line: usize,
     column: usize,
     fault: &str,
 ) -> Result<String, AllocError>
-    ensures { IfOk result (λ head. string_bytes head ≡ plain_head manner name.now line column fault.now) }
+    ensures { IfOk result (λ head. string_bytes head
+        ≡ plain_head source.now.manner source.now.name.now line column fault.now) }
 {
-    let fault = shown_in(alloc, manner, Colour::Fault, fault)?;
+    let name = source.name;
+    let fault = shown_in(alloc, source.manner, Colour::Fault, fault)?;
     format!(in alloc; "{name}:{line}:{column}: {fault}")
 }
 
 /// Writes the head of a block: the file, the line and the column, and the fault.
 pub fn head(
     alloc: Global,
-    manner: Manner,
-    name: &str,
+    source: &Source,
     line: usize,
     column: usize,
     fault: &str,
 ) -> Result<String, AllocError>
-    ensures { IfOk result (λ head. string_bytes head ≡ block_head manner name.now line column fault.now) }
+    ensures { IfOk result (λ head. string_bytes head
+        ≡ block_head source.now.manner source.now.name.now line column fault.now) }
 {
-    match manner {
-        Manner::Json => object_head(alloc, name, line, column, fault),
-        Manner::Plain | Manner::Coloured => plain_head(alloc, manner, name, line, column, fault),
+    match source.manner {
+        Manner::Json => object_head(alloc, source.name, line, column, fault),
+        Manner::Plain | Manner::Coloured => plain_head(alloc, source, line, column, fault),
     }
 }

@@ -80,6 +80,13 @@ struct Room {
     rows: Extent,
 }
 
+/// What something may stand in.
+#[derive(Clone, Copy)]
+struct Owner<'a> {
+    word: &'a str,
+    room: Room,
+}
+
 // What is inside an owner: a pane has no frame.
 fn inside(owner: &Node) -> Room {
     let (w, h) = (i64::from(owner.w), height(&owner.kind));
@@ -202,15 +209,15 @@ fn rows_mend(alloc: Global, owner: &str, node: &Node, room: Extent) -> Result<St
     }
 }
 
-// What is told of a node that doesn't fit into this room.
+// What is told of a node that doesn't fit into its owner's room.
 fn outside_in(
     alloc: Global,
     node: &Node,
     message: String,
-    owner: &str,
-    room: Room,
+    owner: Owner,
     other: Remark,
 ) -> Result<Saying, AllocError> {
+    let Owner { word, room } = owner;
     let at = x_word(&node.kind);
     let own = columns(node);
     if !own.is_within(room.columns) {
@@ -222,7 +229,7 @@ fn outside_in(
                 label,
             },
             other: Some(other),
-            mend: columns_mend(alloc, owner, node, room.columns)?,
+            mend: columns_mend(alloc, word, node, room.columns)?,
         });
     }
     let own = rows(node);
@@ -233,7 +240,7 @@ fn outside_in(
             label: outside_label(alloc, ("row", "rows"), own, room.rows)?,
         },
         other: Some(other),
-        mend: rows_mend(alloc, owner, node, room.rows)?,
+        mend: rows_mend(alloc, word, node, room.rows)?,
     })
 }
 
@@ -250,7 +257,11 @@ pub fn outside_owner(alloc: Global, node: &Node, owner: &Node) -> Result<Saying,
     };
     let (word, around) = (word_of(&node.kind), word_of(&owner.kind));
     let message = format!(in alloc; "this {word} lies outside its {around}")?;
-    outside_in(alloc, node, message, around, inside(owner), other)
+    let owner = Owner {
+        word: around,
+        room: inside(owner),
+    };
+    outside_in(alloc, node, message, owner, other)
 }
 
 /// Tells how a dialog lies outside the desktop.
@@ -263,7 +274,11 @@ pub fn off_desktop(alloc: Global, desc: &Desc, node: &Node) -> Result<Saying, Al
         )?,
     };
     let message = String::from_str(alloc, "this dialog lies outside the desktop")?;
-    outside_in(alloc, node, message, "screen", desktop(desc), other)
+    let screen = Owner {
+        word: "screen",
+        room: desktop(desc),
+    };
+    outside_in(alloc, node, message, screen, other)
 }
 
 // Where a node stands.

@@ -25,7 +25,7 @@ fn block_of(
     ensures { IfOk result (λ block. IsBlockAt source.now.manner source.now.name.now own.now.line fault.now (string_bytes block)) }
 {
     let column = own.column.saturating_add(1);
-    let mut block = head(alloc, source.manner, source.name, own.line, column, fault)?;
+    let mut block = head(alloc, source, own.line, column, fault)?;
     block.push_str(rest)?;
     Ok(block)
 }
@@ -59,16 +59,28 @@ pub fn unread_block(
     block_of(alloc, source, &unread.own, fault, &rest)
 }
 
+/// Where the lines of a text are shown: their numbers stand below one another.
+#[derive(Clone, Copy)]
+struct Excerpt<'a> {
+    source: &'a Source<'a>,
+    /// The columns of the longest number.
+    width: usize,
+}
+
 // The message, the lines of the text that have to do with the fault, and how to mend it.
 fn advice_lines(alloc: Global, source: &Source, advice: &Advice) -> Result<String, AllocError> {
     let mut told = format!(in alloc; ": {}\n", advice.message)?;
-    let mut width = digits(advice.own.line);
+    let own_width = digits(advice.own.line);
+    let width = match &advice.other {
+        Some(other) => own_width.max(digits(other.line)),
+        None => own_width,
+    };
+    let excerpt = Excerpt { source, width };
     if let Some(other) = &advice.other {
-        width = width.max(digits(other.line));
-        push_note(alloc, &mut told, source, other, Mark::Other, width)?;
+        push_note(alloc, &mut told, excerpt, other, Mark::Other)?;
     }
-    push_note(alloc, &mut told, source, &advice.own, Mark::Own, width)?;
-    push_help(alloc, &mut told, source, width, "mend", &advice.mend)?;
+    push_note(alloc, &mut told, excerpt, &advice.own, Mark::Own)?;
+    push_help(alloc, &mut told, excerpt, "mend", &advice.mend)?;
     Ok(told)
 }
 
@@ -76,10 +88,11 @@ fn advice_lines(alloc: Global, source: &Source, advice: &Advice) -> Result<Strin
 fn unread_lines(alloc: Global, source: &Source, unread: &Unread) -> Result<String, AllocError> {
     let mut told = format!(in alloc; ": {}\n", unread.message)?;
     let width = digits(unread.own.line);
-    push_note(alloc, &mut told, source, &unread.own, Mark::Own, width)?;
+    let excerpt = Excerpt { source, width };
+    push_note(alloc, &mut told, excerpt, &unread.own, Mark::Own)?;
     match unread.hint {
-        Some(Hint::Form(form)) => push_help(alloc, &mut told, source, width, "form", form)?,
-        Some(Hint::Mend(mend)) => push_help(alloc, &mut told, source, width, "mend", mend)?,
+        Some(Hint::Form(form)) => push_help(alloc, &mut told, excerpt, "form", form)?,
+        Some(Hint::Mend(mend)) => push_help(alloc, &mut told, excerpt, "mend", mend)?,
         None => {}
     }
     Ok(told)
@@ -114,11 +127,11 @@ impl Mark {
 fn push_note(
     alloc: Global,
     told: &mut String,
-    source: &Source,
+    excerpt: Excerpt,
     note: &Note,
     mark: Mark,
-    width: usize,
 ) -> Result<(), AllocError> {
+    let Excerpt { source, width } = excerpt;
     push_margin(told, width)?;
     told.push_str("\n")?;
     push_times(told, ' ', width.saturating_sub(digits(note.line)))?;
@@ -141,13 +154,12 @@ fn push_note(
 fn push_help(
     alloc: Global,
     told: &mut String,
-    source: &Source,
-    width: usize,
+    excerpt: Excerpt,
     word: &str,
     help: &str,
 ) -> Result<(), AllocError> {
-    push_times(told, ' ', width)?;
-    let word = shown_in(alloc, source.manner, Colour::Help, word)?;
+    push_times(told, ' ', excerpt.width)?;
+    let word = shown_in(alloc, excerpt.source.manner, Colour::Help, word)?;
     let line = format!(in alloc; " = {word}: {help}\n")?;
     told.push_str(&line)
 }

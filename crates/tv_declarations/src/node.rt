@@ -157,33 +157,10 @@ fn pane(alloc: Global, at: Position, fields: &[Word]) -> Result<Option<Node>, Al
 fn window(alloc: Global, at: Position, fields: &[Word]) -> Result<Option<Node>, AllocError>
     ensures { IfOk result (λ found. found ≡ window_in at fields.now) }
 {
-    match fields {
-        [name, x, y, w, h, number, title] => window_at(
-            alloc,
-            at,
-            name,
-            Place::read(x, y, w),
-            h,
-            number,
-            title,
-        ),
-        _ => Ok(None),
-    }
-}
-
-fn window_at(
-    alloc: Global,
-    at: Position,
-    name: &Word,
-    place: Option<Place>,
-    h: &Word,
-    number: &Word,
-    title: &Word,
-) -> Result<Option<Node>, AllocError>
-    ensures { IfOk result (λ found. found
-        ≡ window_from at (name_in name.now) place (number_in h.now) (number_in number.now) (text_in title.now)) }
-{
-    let (Some(name), Some(place), Some(h)) = (name.name(), place, h.number()) else {
+    let [name, x, y, w, h, number, title] = fields else {
+        return Ok(None);
+    };
+    let (Some(name), Some(place), Some(h)) = (name.name(), Place::read(x, y, w), h.number()) else {
         return Ok(None);
     };
     let (Some(number), Some(title)) = (number.number(), title.text()) else {

@@ -1,11 +1,5 @@
-use Rattle.std.proofs.Common.{◌≡◌, List, [], ◌∷◌, length, get_or, Option, refl, ap, ◌∙◌, arith}
-use Rattle.std.proofs.lemmas.Result.{IfOk-weaker}
-use Rattle.tv_model.specs.declared.node.Node.{Node}
-use Rattle.tv_declarations.specs.declared.place.Place.{Place}
+use Rattle.std.proofs.Common.{◌≡◌, List, [], ◌∷◌, length, get_or, refl, sym, arith, rules}
 use Rattle.tv_words.specs.declared.word.Word.{Word}
-use Rattle.tv_words.specs.Fields.{name_in, text_in}
-use Rattle.tv_words.specs.Reading.Numbers.{number_in}
-use Rattle.tv_declarations.specs.Reading.Nodes.{window_from, window_in}
 use Rattle.tv_declarations.proofs.node.window.Goals as goal
 
 seven : (fs : List Word) (m x y w h k t : Word) → length fs ≡ 7 → m ≡ get_or fs 0 m → x ≡ get_or fs 1 x → y ≡ get_or fs 2 y → w ≡ get_or fs 3 w → h ≡ get_or fs 4 h → k ≡ get_or fs 5 k → t ≡ get_or fs 6 t → m ∷ x ∷ y ∷ w ∷ h ∷ k ∷ t ∷ [] ≡ fs
@@ -19,8 +13,7 @@ seven (a ∷ b ∷ c ∷ d ∷ e ∷ f ∷ []) m x y w h k t n em ex ey ew eh ek
 seven (a ∷ b ∷ c ∷ d ∷ e ∷ f ∷ g ∷ []) m x y w h k t n em ex ey ew eh ek et = rw (em, ex, ey, ew, eh, ek, et) refl
 seven (a ∷ b ∷ c ∷ d ∷ e ∷ f ∷ g ∷ i ∷ js) m x y w h k t n em ex ey ew eh ek et = absurd (omega (arith, n))
 
-pub returns-in-len7 : goal.returns-in-len7
-returns-in-len7 c =
+pub returns : goal.returns
+returns c =
     let fields : c.name-item.result ∷ c.x-item.result ∷ c.y-item.result ∷ c.w-item.result ∷ c.h-item.result ∷ c.number-item.result ∷ c.title-item.result ∷ [] ≡ c.args.fields.now = seven c.args.fields.now _ _ _ _ _ _ _ (omega (arith, c.in-len7.len_at_least, c.in-len7.len_below)) c.name-item.is c.x-item.is c.y-item.is c.w-item.is c.h-item.is c.number-item.is c.title-item.is in
-    let made : Option Place → Option Node = λ place. window_from c.args.at (name_in c.name-item.result) place (number_in c.h-item.result) (number_in c.number-item.result) (text_in c.title-item.result) in
-    IfOk-weaker c.window_at.result (λ found. found ≡ made c.read.result) (λ found. found ≡ window_in c.args.at c.args.fields.now) (λ found e. e ∙ ap made c.read.ensures ∙ ap (window_in c.args.at) fields) c.window_at.ensures
+    rw (sym fields) (search rules)
