@@ -27,21 +27,30 @@ fn is_place(opened: Option<usize>, place: usize) -> bool
     }
 }
 
-// Writes titles over a row whose first cell stands in the column `from`. The first title has the place, and begins in the
-// column `first`.
-fn write_titles(
-    menus: &[Menu],
+/// Titles of menus, side by side; the menu at a place may be open.
+#[derive(Clone, Copy)]
+struct Titles<'a> {
+    menus: &'a [Menu],
+    /// The place of the first among all menus.
     place: usize,
+    /// The column in which the first title begins.
     first: usize,
     opened: Option<usize>,
-    from: usize,
-    cells: &mut [Cell],
-)
-    requires places { place + length menus.now < 2 ^ 64 }
+}
+
+// Writes titles over a row whose first cell stands in the column `from`.
+fn write_titles(titles: Titles, from: usize, cells: &mut [Cell])
+    requires places { titles.place + length titles.menus.now < 2 ^ 64 }
     requires cells { from + length cells.old ≤ 2 ^ 32 }
-    ensures { ChangesRow (λ column. over_spot (title_over opened)
-        (spot_in title_of place first menus.now column)) from cells.old cells.new }
+    ensures { ChangesRow (λ column. over_spot (title_over titles.entry.opened)
+        (spot_in title_of titles.entry.place titles.entry.first titles.entry.menus.now column)) from cells.old cells.new }
 {
+    let Titles {
+        menus,
+        place,
+        first,
+        opened,
+    } = titles;
     let Some((menu, behind)) = menus.split_first() else {
         return;
     };
@@ -49,7 +58,13 @@ fn write_titles(
         let title = SpacedText::of_bar(&menu.title, is_place(opened, place));
         let columns = columns_of(title.text);
         title.write(first, columns, from, cells);
-        write_titles(behind, place + 1, first + columns, opened, from, cells);
+        let rest = Titles {
+            menus: behind,
+            place: place + 1,
+            first: first + columns,
+            opened,
+        };
+        write_titles(rest, from, cells);
     }
 }
 
@@ -66,6 +81,12 @@ impl Face for BarFace<'_> {
 
     fn row(&self, _y: u32, from: u32, cells: &mut [Cell]) {
         fill(cells, Cell::space(bar_colour(false, false)));
-        write_titles(self.menus, 0, 1, self.opened, from as usize, cells);
+        let titles = Titles {
+            menus: self.menus,
+            place: 0,
+            first: 1,
+            opened: self.opened,
+        };
+        write_titles(titles, from as usize, cells);
     }
 }

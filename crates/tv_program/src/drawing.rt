@@ -61,58 +61,67 @@ pub fn draw_shots<S: Stage, A: Album>(
     stage.forget_log();
     let mut number = 1;
     for item in script.items() {
-        number = draw_item(alloc, stage, item, name, number, album)?;
+        let shot = ShotName {
+            script: name,
+            number,
+        };
+        number = draw_item(alloc, stage, item, shot, album)?;
     }
     Ok(())
 }
 
-// Performs an item, and draws the screen if it asks for its characters, as the picture with this number. Returns the number of the
-// next picture.
+/// What a picture is called by: its script, and which picture of that it is, from 1 on.
+#[derive(Clone, Copy)]
+struct ShotName<'a> {
+    script: &'a str,
+    number: usize,
+}
+
+// Performs an item, and draws the screen if it asks for its characters, as this picture. Returns the number of the next one.
 fn draw_item<S: Stage, A: Album>(
     alloc: Global,
     stage: &mut S,
     item: &Item,
-    name: &str,
-    number: usize,
+    shot: ShotName,
     album: &mut A,
 ) -> Result<usize, ShotFault>
-    requires few { number + 1 < 2 ^ 64 }
+    requires few { shot.number + 1 < 2 ^ 64 }
     requires shown { IsItemOnScreen item.now }
     requires there { (s : Session) × S.stands stage.old s }
-    ensures few { IfOk result (λ next. next ≤ number + 1) }
+    ensures few { IfOk result (λ next. next ≤ shot.entry.number + 1) }
     ensures drawn { (s : Session) → S.stands stage.old s → MatchResult result
-        (λ next. Gains (A.hung album.old) (A.hung album.new) (named_from name.now number (item_svgs s item.now))
-        × (next ≡ number + length (item_svgs s item.now)))
-        (λ failed. FailsFor (A.hung album.old) (A.hung album.new) failed.fault × (failed.number ≡ number)
+        (λ next. Gains (A.hung album.old) (A.hung album.new) (named_from shot.entry.script.now shot.entry.number (item_svgs s item.now))
+        × (next ≡ shot.entry.number + length (item_svgs s item.now)))
+        (λ failed. FailsFor (A.hung album.old) (A.hung album.new) failed.fault × (failed.number ≡ shot.entry.number)
         × (item_svgs s item.now ≡ session_svg s ∷ [])) }
     ensures state { (s : Session) → S.stands stage.old s → S.stands stage.new (session_after s item.now) }
 {
     match item {
         Item::Event(event) => {
             advance_by(stage, event);
-            Ok(number)
+            Ok(shot.number)
         }
         Item::Shot => {
-            draw_shot(alloc, stage.screen(), name, number, album)?;
-            Ok(number + 1)
+            draw_shot(alloc, stage.screen(), shot, album)?;
+            Ok(shot.number + 1)
         }
-        Item::Colors => Ok(number),
+        Item::Colors => Ok(shot.number),
     }
 }
 
-// Draws a screen as the picture with this number.
+// Draws a screen as this picture.
 fn draw_shot<A: Album>(
     alloc: Global,
     screen: &Screen,
-    name: &str,
-    number: usize,
+    shot: ShotName,
     album: &mut A,
 ) -> Result<(), ShotFault>
     ensures { MatchResult result
-        (λ _. Gains (A.hung album.old) (A.hung album.new) (named_from name.now number (svg_of screen.now ∷ [])))
-        (λ failed. FailsFor (A.hung album.old) (A.hung album.new) failed.fault × (failed.number ≡ number)) }
+        (λ _. Gains (A.hung album.old) (A.hung album.new) (named_from shot.entry.script.now shot.entry.number (svg_of screen.now ∷ [])))
+        (λ failed. FailsFor (A.hung album.old) (A.hung album.new) failed.fault × (failed.number ≡ shot.entry.number)) }
 {
-    let Ok(name) = shot_name(alloc, name, number) else {
+    let ShotName { script, number } = shot;
+    let Ok(name) = shot_name(alloc, script, number) else {
         let fault = AlbumFault::NoMemory;
         return Err(ShotFault { number, fault });
     };
