@@ -1,4 +1,4 @@
-//! A description and a script for it, which ends before the dialog in which Ins was pressed opens again.
+//! A description and a script for it.
 
 /// The description, then the script.
 pub const CASE: (&str, &str) = (
@@ -86,5 +86,10 @@ key Ins
 type "("
 down 1 8
 up 1 8
+key F3
+key Home
+type "g"
+shot
+colors
 "#,
 );
