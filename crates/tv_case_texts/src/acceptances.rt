@@ -2,7 +2,7 @@
 
 use crate::Acceptance;
 
-// Nested panes, shown by two pairs of radio buttons.
+// Nested panes, shown by two pairs of radio buttons: cases/share-04.tvd.
 const NESTED: &str = r#"tvd 2
 screen 40 14
 start d
@@ -27,7 +27,7 @@ show e when in 2
 end
 "#;
 
-// A letter of check boxes, of radio buttons and of a button.
+// A letter of check boxes, of radio buttons and of a button: cases/share-03.tvd.
 const MIXED: &str = r#"tvd 2
 screen 40 14
 start d
@@ -49,7 +49,8 @@ show s when r 3
 end
 "#;
 
-// The first radio buttons in description order that separate the letter are named, whichever rule stands first.
+// The first radio buttons in description order that separate the letter are named, whichever rule stands first:
+// cases/share-04.cert.
 const FIRST_SEPARATING: Acceptance = Acceptance {
     desc: NESTED,
     certificate: r#"tvcert 2
@@ -98,7 +99,7 @@ status 1
 };
 
 // Of two rules of the radio buttons over a marker the first in the text decides its item, over itself or over a pane
-// around it. That it is never visible then doesn't matter.
+// around it. That it is never visible then doesn't matter: cases/first-rule.{tvd,cert}.
 const FIRST_RULE: Acceptance = Acceptance {
     desc: r#"tvd 2
 screen 40 13

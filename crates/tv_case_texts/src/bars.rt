@@ -2,7 +2,7 @@
 
 use crate::Run;
 
-/// A status line, and nothing else.
+/// A status line, and nothing else: cases/case-13.{tvd,tvs,out}.
 pub const STATUS_ALONE: Run = Run {
     desc: r#"tvd 1
 screen 20 10
@@ -91,7 +91,7 @@ colors 20 10
 "#,
 };
 
-/// A menu over a dialog of labels.
+/// A menu over a dialog of labels: cases/case-21.{tvd,tvs,out}.
 pub const MENU_OVER_LABELS: Run = Run {
     desc: r#"tvd 1
 screen 20 10

@@ -2,7 +2,7 @@
 
 use crate::Run;
 
-/// Buttons, one of which a rule shows, a list and an input.
+/// Buttons, one of which a rule shows, a list and an input: cases/case-47.{tvd,tvs,out}.
 pub const HIDDEN_DEFAULT: Run = Run {
     desc: r#"tvd 1
 screen 33 18

@@ -2,7 +2,7 @@
 
 use crate::Run;
 
-/// Nine windows and three dialogs.
+/// Nine windows and three dialogs: cases/case-31.{tvd,tvs,out}.
 pub const NINE_WINDOWS: Run = Run {
     desc: r#"tvd 1
 screen 20 10
@@ -162,7 +162,7 @@ colors 20 10
 "#,
 };
 
-/// Eight menus, and panes in panes.
+/// Eight menus, and panes in panes: cases/case-11.{tvd,tvs,out}.
 pub const EIGHT_MENUS: Run = Run {
     desc: r#"tvd 1
 screen 30 15

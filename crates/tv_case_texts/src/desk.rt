@@ -2,7 +2,7 @@
 
 use crate::Run;
 
-/// Three windows that reach over the edges, and menus without items of their own.
+/// Three windows that reach over the edges, and menus without items of their own: cases/case-22.{tvd,tvs,out}.
 pub const THREE_WINDOWS: Run = Run {
     desc: r#"tvd 1
 screen 34 19

@@ -2,7 +2,7 @@
 
 use crate::Run;
 
-/// An input of any text, and a button in a pane.
+/// An input of any text, and a button in a pane: cases/case-09.{tvd,tvs,out}.
 pub const FILLED_INPUT: Run = Run {
     desc: r#"tvd 1
 screen 20 10
@@ -146,7 +146,7 @@ colors 20 10
 "#,
 };
 
-/// Inputs of ranges, one of which a mark shows.
+/// Inputs of ranges, one of which a mark shows: cases/case-37.{tvd,tvs,out}.
 pub const RANGES: Run = Run {
     desc: r#"tvd 1
 screen 20 10

@@ -1,5 +1,7 @@
 //! The texts of the runs that tests make: descriptions, scripts, and what they write. There is nothing else here, so that no proof
 //! of a test has them among its own lines.
+//!
+//! A comment names the file that a text comes from. Change the file: `tools/examples --write` copies it here.
 #![tactic(auto)]
 
 pub mod acceptances;

@@ -2,7 +2,7 @@
 
 use crate::Run;
 
-/// Lists, buttons and an input, some of which a mark shows.
+/// Lists, buttons and an input, some of which a mark shows: cases/case-17.{tvd,tvs,out}.
 pub const LISTS_AMONG_CONTROLS: Run = Run {
     desc: r#"tvd 1
 screen 43 16
@@ -125,7 +125,7 @@ colors 43 16
 "#,
 };
 
-/// Lists over which the mouse goes, and a long list.
+/// Lists over which the mouse goes, and a long list: cases/case-20.{tvd,tvs,out}.
 pub const LONG_LISTS: Run = Run {
     desc: r#"tvd 1
 screen 20 10

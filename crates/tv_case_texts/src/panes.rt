@@ -2,7 +2,7 @@
 
 use crate::Run;
 
-/// A pane in a pane, which two rules show.
+/// A pane in a pane, which two rules show: cases/case-42.{tvd,tvs,out}.
 pub const NESTED_PANES: Run = Run {
     desc: r#"tvd 1
 screen 20 10
@@ -177,7 +177,7 @@ colors 20 10
 "#,
 };
 
-/// Three dialogs, two of them with panes.
+/// Three dialogs, two of them with panes: cases/case-10.{tvd,tvs,out}.
 pub const SHOWN_PANES: Run = Run {
     desc: r#"tvd 1
 screen 20 10

@@ -23,7 +23,7 @@ pub const SHARES: [Run; 8] = [
     share_08::SHARE,
 ];
 
-/// A radio button shows the one button or the other, and their letter presses the one that is shown.
+/// A radio button shows the one button or the other, and their letter presses the one that is shown: cases/in-turn.tvd.
 pub const IN_TURN: &str = r#"tvd 2
 screen 30 12
 start v

@@ -2,7 +2,7 @@
 
 use crate::Run;
 
-/// Five windows, some of them off the screen, and `quit`.
+/// Five windows, some of them off the screen, and `quit`: cases/case-33.{tvd,tvs,out}.
 pub const FIVE_WINDOWS: Run = Run {
     desc: r#"tvd 1
 screen 35 12
@@ -117,7 +117,7 @@ colors 35 12
 "#,
 };
 
-/// Three dialogs over three windows.
+/// Three dialogs over three windows: cases/case-43.{tvd,tvs,out}.
 pub const DIALOGS_OVER_WINDOWS: Run = Run {
     desc: r#"tvd 1
 screen 20 10

@@ -1,7 +1,7 @@
 //! Descriptions in which radio buttons show one control or another, and a letter isn't shared all the same.
 
 /// Three markers of which two have one item: no letter of theirs is shared, so all but the first are named, also the
-/// one that another item shows.
+/// one that another item shows: cases/same-item.tvd.
 pub const SAME_ITEM: &str = r#"tvd 2
 screen 34 13
 start d
@@ -24,7 +24,7 @@ end
 "#;
 
 /// A letter twice on one cluster is not shared, with others neither; a letter beside it that is shared isn't named.
-/// In version 1 line 12 would be named too.
+/// In version 1 line 12 would be named too: cases/twice-on-one.tvd.
 pub const TWICE_ON_ONE: &str = r#"tvd 2
 screen 40 13
 start d

@@ -2,7 +2,7 @@
 
 use crate::Run;
 
-/// A pane with check boxes and a list, beside other controls.
+/// A pane with check boxes and a list, beside other controls: cases/case-48.{tvd,tvs,out}.
 pub const PANE_OF_LISTS: Run = Run {
     desc: r#"tvd 1
 screen 52 12
@@ -118,7 +118,7 @@ colors 52 12
 "#,
 };
 
-/// Inputs that marks show, over windows that leave the screen.
+/// Inputs that marks show, over windows that leave the screen: cases/case-35.{tvd,tvs,out}.
 pub const SHOWN_INPUTS: Run = Run {
     desc: r#"tvd 1
 screen 55 14

@@ -3,7 +3,7 @@
 use std::test::Fail;
 use tv_test_support::expect_findings;
 
-// F1 to F9.
+// What is found, docs/FAULTS.md F1 to F9.
 const NAMES_TO_FOCUS: &str = r#"tvd 1
 screen 40 12
 dialog file 4 2 32 6 "Save" ends ok cancel
@@ -174,7 +174,7 @@ end
 => sound
 "#;
 
-// F10 to F17.
+// What is found, docs/FAULTS.md F10 to F17.
 const ENDS_TO_MENUS: &str = r###"tvd 1
 screen 40 12
 dialog ask 4 2 32 5 "Delete" ends cancel

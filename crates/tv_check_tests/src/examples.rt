@@ -26,7 +26,7 @@ fn expect_example(alloc: Global, example: &Example) -> Result<(), Fail> {
     expect_answer(&Accepting { desc }, alloc, certificate, "accepted\n")
 }
 
-// A question with three answers.
+// A question with three answers: examples/confirm.cert.
 const CONFIRM_EXAMPLE: Example = Example {
     desc: CONFIRM,
     certificate: "tvcert 1
@@ -41,7 +41,7 @@ end
 ",
 };
 
-// A search dialog: a second text appears with its check box.
+// A search dialog: a second text appears with its check box: examples/search.cert.
 const SEARCH_EXAMPLE: Example = Example {
     desc: SEARCH,
     certificate: "tvcert 1
@@ -65,7 +65,7 @@ end
 ",
 };
 
-// A page of a wizard: choices show what belongs to them.
+// A page of a wizard: choices show what belongs to them: examples/wizard.cert.
 const WIZARD_EXAMPLE: Example = Example {
     desc: WIZARD,
     certificate: "tvcert 1
@@ -90,7 +90,7 @@ end
 ",
 };
 
-// A settings dialog with each kind of control.
+// A settings dialog with each kind of control: examples/settings.cert.
 const SETTINGS_EXAMPLE: Example = Example {
     desc: SETTINGS,
     certificate: "tvcert 1
@@ -126,7 +126,7 @@ end
 ",
 };
 
-// Menus, a status line, two windows, and two dialogs that commands open.
+// Menus, a status line, two windows, and two dialogs that commands open: examples/desk.cert.
 const DESK_EXAMPLE: Example = Example {
     desc: DESK,
     certificate: "tvcert 1
@@ -147,7 +147,7 @@ end
 ",
 };
 
-// Two windows, and a dialog that covers both.
+// Two windows, and a dialog that covers both: examples/prices.cert.
 const PRICES_EXAMPLE: Example = Example {
     desc: PRICES,
     certificate: "tvcert 1
@@ -164,7 +164,7 @@ end
 ",
 };
 
-// A payment by card or by invoice, whose letters are shared.
+// A payment by card or by invoice, whose letters are shared: examples/pay.cert.
 const PAY_EXAMPLE: Example = Example {
     desc: PAY,
     certificate: "tvcert 2

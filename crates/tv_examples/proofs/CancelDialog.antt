@@ -4,6 +4,7 @@ use Rattle.std.proofs.Common.{refl}
 use Rattle.tv_examples.specs.Descriptions.{cancel, inserted, removed}
 use Rattle.tv_examples.specs.Running.{written, Writes}
 
+-- examples/cancel.{tvs,out}
 cancel_dialog : Writes cancel ("key Tab" ∷ "shot" ∷ "key Esc" ∷ []) (
     "open a" ∷ "focus c" ∷
     "shot 20 10" ∷

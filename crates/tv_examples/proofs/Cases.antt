@@ -1,3 +1,4 @@
+-- tools/examples writes these modules from cases/case-*: don't edit them
 mod Case01
 mod Case02
 mod Case03

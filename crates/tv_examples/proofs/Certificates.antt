@@ -20,6 +20,7 @@ certificate_read readings.Other = None
 abbrev pub HasCertificate : List String → List String → Type 0
 HasCertificate description lines = certificate_read (description_outcome (text description)) ≡ Some (text lines)
 
+-- examples/cancel.cert
 cancel_certificate : HasCertificate cancel ("tvcert 1" ∷ "dialog a" ∷ "tab c" ∷ "key C c" ∷ "end" ∷ [])
 unfolding written
 cancel_certificate = refl
@@ -29,7 +30,7 @@ two_certificate : HasCertificate (replaced 1 "tvd 2" cancel) ("tvcert 2" ∷ "di
 unfolding written
 two_certificate = refl
 
--- a label's letter names its link, an item's its cluster and its number
+-- a label's letter names its link, an item's its cluster and its number: examples/order.cert
 order_certificate : HasCertificate order (
     "tvcert 1" ∷ "dialog b" ∷ "tab amount" ∷ "tab opts" ∷ "tab qty" ∷ "tab ok" ∷ "tab no" ∷ "tab log" ∷
     "key A amount" ∷ "key C no" ∷ "key G opts 1" ∷ "key L log" ∷ "key N opts 2" ∷ "key O ok" ∷ "end" ∷ [])

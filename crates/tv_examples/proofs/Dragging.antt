@@ -34,6 +34,7 @@ window_dragged = refl
 
 -- ---- an up that isn't on the screen
 
+-- cases/drag-01.tvd
 abbrev question : List String
 question =
     "tvd 1"

@@ -1,3 +1,4 @@
+-- tools/examples writes these modules from cases/drag-*: don't edit them
 mod Drag01
 mod Drag02
 mod Drag03

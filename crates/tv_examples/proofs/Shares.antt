@@ -1,3 +1,4 @@
+-- tools/examples writes these modules from cases/share-*: don't edit them
 mod Share01
 mod Share02
 mod Share03

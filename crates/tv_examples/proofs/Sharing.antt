@@ -8,7 +8,7 @@ use Rattle.tv_examples.specs.Descriptions.{replaced}
 use Rattle.tv_examples.specs.Running.{written, HasJustFaults, Writes}
 use Rattle.tv_examples.proofs.Certificates.{HasCertificate}
 
--- two buttons, each in a pane that another item shows
+-- two buttons, each in a pane that another item shows: cases/in-turn.tvd
 abbrev in_turn : List String
 in_turn =
     "tvd 2"
@@ -73,7 +73,7 @@ in_turn_certificate : HasCertificate in_turn (
 unfolding written
 in_turn_certificate = refl
 
--- items of clusters keep their numbers before it
+-- items of clusters keep their numbers before it: cases/share-03.tvd
 abbrev mixed : List String
 mixed =
     "tvd 2"
@@ -105,6 +105,7 @@ unfolding written
 mixed_certificate = refl
 
 -- two radio buttons show nested panes: the first of them in the dialog are named, whichever rule comes first
+-- cases/share-04.tvd
 abbrev nested : List String
 nested =
     "tvd 2"
@@ -131,6 +132,7 @@ nested =
     ∷ "end"
     ∷ []
 
+-- cases/share-04.cert
 nested_certificate : HasCertificate nested (
     "tvcert 2" ∷ "dialog d" ∷ "tab in" ∷ "tab out" ∷ "tab one" ∷ "tab two" ∷ "tab k" ∷
     "key D in 2" ∷ "key K k" ∷ "key L out 1" ∷ "key R out 2" ∷ "key U in 1" ∷
@@ -139,6 +141,7 @@ unfolding written
 nested_certificate = refl
 
 -- the first rule in the text decides which item it is, over the control itself or over a pane around it
+-- cases/first-rule.tvd
 abbrev ruled : List String
 ruled =
     "tvd 2"
@@ -160,6 +163,7 @@ ruled =
     ∷ "end"
     ∷ []
 
+-- cases/first-rule.cert
 ruled_certificate : HasCertificate ruled (
     "tvcert 2" ∷ "dialog d" ∷ "tab r" ∷ "tab x" ∷ "tab y" ∷ "tab k" ∷
     "key A r 1" ∷ "key B r 2" ∷ "key C r 3" ∷ "key K k" ∷
@@ -170,6 +174,7 @@ ruled_certificate = refl
 -- ---- letters that aren't shared
 
 -- of three markers two have one item: all but the first are named, also the one that another item shows
+-- cases/same-item.tvd
 abbrev same_item : List String
 same_item =
     "tvd 2"
@@ -197,7 +202,7 @@ three_markers_of_two_items : HasJustFaults same_item (fault_at faults.LetterTwic
 unfolding judged
 three_markers_of_two_items = refl
 
--- a cluster marks its letter twice, so that it isn't shared with others either. `E` is shared
+-- a cluster marks its letter twice, so that it isn't shared with others either. `E` is shared: cases/twice-on-one.tvd
 abbrev twice_on_one : List String
 twice_on_one =
     "tvd 2"

@@ -14,7 +14,7 @@ inserted number line lines = take number lines ++ line ∷ drop number lines
 abbrev pub removed : ℕ → List String → List String
 removed number lines = take (number - 1) lines ++ drop number lines
 
--- a dialog with one button
+-- a dialog with one button: examples/cancel.tvd
 abbrev pub cancel : List String
 cancel =
     "tvd 1"
@@ -25,7 +25,7 @@ cancel =
     ∷ "end"
     ∷ []
 
--- a dialog whose check boxes show an input and enable its end
+-- a dialog whose check boxes show an input and enable its end: examples/order.tvd
 abbrev pub order : List String
 order =
     "tvd 1"
@@ -48,7 +48,7 @@ order =
     ∷ "end"
     ∷ []
 
--- radio buttons that enable a button
+-- radio buttons that enable a button: examples/colour.tvd
 abbrev pub colour_form : List String
 colour_form =
     "tvd 1"
@@ -62,7 +62,7 @@ colour_form =
     ∷ "end"
     ∷ []
 
--- two windows, one over the other
+-- two windows, one over the other: examples/windows.tvd
 abbrev pub windows : List String
 windows =
     "tvd 1"
@@ -75,7 +75,7 @@ windows =
     ∷ "end"
     ∷ []
 
--- two menus
+-- two menus: examples/menus.tvd
 abbrev pub menus : List String
 menus =
     "tvd 1"

@@ -1,6 +1,6 @@
 //! The certificates of descriptions that several tests use.
 
-/// The certificate of the description with one button.
+/// The certificate of the description with one button: examples/cancel.cert.
 pub const CANCEL_CERTIFICATE: &str = "tvcert 1
 dialog a
 tab c
@@ -8,7 +8,7 @@ key C c
 end
 ";
 
-/// The certificate of the order form.
+/// The certificate of the order form: examples/order.cert.
 pub const ORDER_CERTIFICATE: &str = "tvcert 1
 dialog b
 tab amount
@@ -26,7 +26,7 @@ key O ok
 end
 ";
 
-/// The certificate of the radio buttons.
+/// The certificate of the radio buttons: examples/colour.cert.
 pub const COLOUR_CERTIFICATE: &str = "tvcert 1
 dialog d
 tab r
@@ -39,5 +39,5 @@ key Y y
 end
 ";
 
-/// The certificate of a description without dialogs.
+/// The certificate of a description without dialogs: examples/windows.cert.
 pub const NO_BLOCKS: &str = "tvcert 1\n";

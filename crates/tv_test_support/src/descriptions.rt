@@ -1,6 +1,6 @@
 //! Descriptions that several tests use.
 
-/// One dialog with a button that cancels it, open at the start.
+/// One dialog with a button that cancels it, open at the start: examples/cancel.tvd.
 pub const CANCEL: &str = r#"tvd 1
 screen 20 10
 start a
@@ -26,7 +26,7 @@ button c 2 1 10 "~C~ancel" cancel
 end
 "#;
 
-/// An order form with a label, inputs, check boxes, a pane that a rule shows and a command that a rule enables.
+/// An order form with a label, inputs, check boxes, a pane that a rule shows and a command that a rule enables: examples/order.tvd.
 pub const ORDER: &str = r#"tvd 1
 screen 40 14
 start b
@@ -47,7 +47,7 @@ enable ok when opts 1
 end
 "#;
 
-/// Radio buttons, of which one enables the default button.
+/// Radio buttons, of which one enables the default button: examples/colour.tvd.
 pub const COLOUR: &str = r#"tvd 1
 screen 30 12
 start d
@@ -59,7 +59,7 @@ enable yes when r 2
 end
 "#;
 
-/// Two windows, one over the other.
+/// Two windows, one over the other: examples/windows.tvd.
 pub const WINDOWS: &str = r#"tvd 1
 screen 24 10
 window one 1 1 16 4 1 "One"
@@ -70,7 +70,7 @@ text 1 1 18 1 "second"
 end
 "#;
 
-/// Two menus and a status item.
+/// Two menus and a status item: examples/menus.tvd.
 pub const MENUS: &str = r#"tvd 1
 screen 30 12
 menu "~F~ile"

@@ -1,6 +1,6 @@
 //! The descriptions of examples/ that no other test has, word for word.
 
-/// A question with three answers.
+/// A question with three answers: examples/confirm.tvd.
 pub const CONFIRM: &str = r#"tvd 1
 screen 40 12
 start confirm
@@ -12,7 +12,7 @@ button stay 20 3 10 "~C~ancel" cancel
 end
 "#;
 
-/// A search dialog: a second text appears with its check box.
+/// A search dialog: a second text appears with its check box: examples/search.tvd.
 pub const SEARCH: &str = r#"tvd 1
 screen 60 18
 start search
@@ -35,7 +35,7 @@ enable 101 when how 3
 end
 "#;
 
-/// A page of a wizard.
+/// A page of a wizard: examples/wizard.tvd.
 pub const WIZARD: &str = r#"tvd 1
 screen 64 20
 start page
@@ -56,7 +56,7 @@ enable ok when licence 1
 end
 "#;
 
-/// A settings dialog with each kind of control.
+/// A settings dialog with each kind of control: examples/settings.tvd.
 pub const SETTINGS: &str = r#####"tvd 1
 screen 66 22
 start settings
@@ -86,7 +86,7 @@ show proxy when extras 3
 end
 "#####;
 
-/// A desktop with menus, a status line, windows and two dialogs.
+/// A desktop with menus, a status line, windows and two dialogs: examples/desk.tvd.
 pub const DESK: &str = r#"tvd 1
 screen 70 20
 menu "~F~ile"
@@ -126,7 +126,7 @@ button shut 11 4 10 "~C~lose" close default
 end
 "#;
 
-/// Two windows, one over the other, and a dialog that covers both.
+/// Two windows, one over the other, and a dialog that covers both: examples/prices.tvd.
 pub const PRICES: &str = r#"tvd 1
 screen 50 14
 status "F3 Buy" F3 100
@@ -147,7 +147,7 @@ button leave 18 5 12 "~C~ancel" cancel
 end
 "#;
 
-/// A payment by card or by invoice, on whose pages the same letters stand for what is shown.
+/// A payment by card or by invoice, on whose pages the same letters stand for what is shown: examples/pay.tvd.
 pub const PAY: &str = r###"tvd 2
 screen 64 18
 start pay

@@ -1,6 +1,6 @@
 //! A description and a script for it.
 
-/// The description, then the script.
+/// The description, then the script: cases/case-40.{tvd,tvs}.
 pub const CASE: (&str, &str) = (
     r#"tvd 1
 screen 45 15

@@ -1,6 +1,6 @@
 //! A description and a script for it.
 
-/// The description, then the script.
+/// The description, then the script: cases/case-44.{tvd,tvs}.
 pub const CASE: (&str, &str) = (
     r#"tvd 1
 screen 44 22

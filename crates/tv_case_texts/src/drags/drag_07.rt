@@ -2,7 +2,7 @@
 
 use crate::Run;
 
-/// A description, a script and what it writes.
+/// A description, a script and what it writes: cases/drag-07.{tvd,tvs,out}.
 pub const DRAG: Run = Run {
     desc: r#"tvd 1
 screen 30 12

@@ -3,7 +3,7 @@
 
 use crate::Run;
 
-/// A description, a script and what it writes.
+/// A description, a script and what it writes: cases/share-04.{tvd,tvs,out}.
 pub const SHARE: Run = Run {
     desc: r#"tvd 2
 screen 40 14

@@ -26,7 +26,7 @@ fn how_to_read(rt: HostRuntime) -> Result<(), Fail> {
     expect_reports(rt, "", HOW_TO_READ, "")
 }
 
-// F1 to F9.
+// What is told, docs/FAULTS.md F1 to F9.
 const NAMES_TO_FOCUS: &str = r###"tvd 1
 screen 40 12
 dialog file 4 2 32 6 "Save" ends ok cancel
@@ -162,7 +162,7 @@ end
 =>   = mend: give it a button, an input, a cluster or a list
 "###;
 
-// F10 to F17.
+// What is told, docs/FAULTS.md F10 to F17.
 const ENDS_TO_MENUS: &str = r###"tvd 1
 screen 40 12
 dialog ask 4 2 32 5 "Delete" ends cancel

@@ -1,4 +1,5 @@
--- The shadow of what is dragged is cut at the edges of the desktop, falls on a window below, and lies under a menu's box.
+-- The shadow of what is dragged is cut at the edges of the desktop, falls on a window below, and lies under a menu's
+-- box.
 use Prim.Native.String.{String}
 use Rattle.std.specs.Prelude.{List, [], ◌∷◌}
 use Rattle.std.proofs.Common.{refl}

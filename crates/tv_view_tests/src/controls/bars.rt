@@ -7,7 +7,7 @@ use tv_event::{CommandSet, Event};
 use tv_lang::parse;
 use tv_menu::{MenuBar, Offered, StatusLine};
 
-/// Two menus and a status item.
+/// Two menus and a status item: examples/menus.tvd.
 pub const MENUS: &str = r#"tvd 1
 screen 30 12
 menu "~F~ile"
