@@ -1,9 +1,10 @@
 //! How deep panes may stand in one another.
 
 use crate::forms::{LEAVES, members};
-use crate::probes::{Call, Journal};
+use crate::journal::{Call, Journal};
 use crate::samples::sized;
 use std::alloc::Global;
+use std::process::Abort;
 use std::rc::Rc;
 use std::test::Fail;
 use tv_group::{Group, Member, TooDeep};
@@ -26,31 +27,14 @@ fn with_pane(alloc: Global, journal: &Rc<Journal>, level: u8) -> Result<Vec<Memb
     Ok(members)
 }
 
-fn expect_level(group: &Group, level: u8) -> Result<(), Fail> {
-    if group.level() == level {
-        return Ok(());
-    }
-    Err("another level".into())
-}
-
-// All members come back where the pane is of level 8, and none of them is dropped.
-fn expect_back(
-    back: &[Member],
-    count: usize,
-    level: u8,
-    journal: &Rc<Journal>,
-) -> Result<(), Fail> {
-    if level == 8 && back.len() == count {
-        return journal.expect(&[]);
-    }
-    Err("other members come back".into())
-}
-
+// Fails unless the members make a group of the next level. Where the pane is of level 8 they all come back, and none of them is
+// dropped.
 fn expect_grouped(members: Vec<Member>, level: u8, journal: &Rc<Journal>) -> Result<(), Fail> {
     let count = members.len();
     match Group::new(sized(40, 12), members) {
-        Ok(group) => expect_level(&group, level.saturating_add(1)),
-        Err((TooDeep, back)) => expect_back(back.as_slice(), count, level, journal),
+        Ok(group) if group.level() == level.saturating_add(1) => Ok(()),
+        Err((TooDeep, back)) if level == 8 && back.len() == count => journal.expect(&[]),
+        _ => Err("another level, or other members come back".into()),
     }
 }
 
@@ -64,4 +48,25 @@ fn the_highest_pane_decides(rt: HostRuntime) -> Result<(), Fail> {
         journal.expect(&LEAVES.map(|id| (id, Call::Dropped)))?;
     }
     Ok(())
+}
+
+#[test]
+fn nine_levels_are_too_deep(rt: HostRuntime) -> Result<(), Fail> {
+    let alloc = rt.alloc();
+    let mut members: Vec<Member> = Vec::new(alloc);
+    for level in 1..=8u8 {
+        let Ok(group) = Group::new(sized(16, 6), members) else {
+            return Err("deep".into())
+        };
+        assert_eq!(rt; group.level(), level);
+        members = Vec::new(alloc);
+        members.push(Member::Pane(group))?;
+    }
+    match Group::new(sized(16, 6), members) {
+        Ok(_) => Err("not deep".into()),
+        Err((TooDeep, back)) => {
+            assert_eq!(rt; back.len(), 1);
+            Ok(())
+        }
+    }
 }

@@ -7,9 +7,10 @@ ghost use Rattle.tv_faces.specs.Corners.{IsCorner};
 ghost use Rattle.tv_model.specs.Description.Rectangles.{corner_of};
 
 use crate::forms::env;
+use crate::journal::{Journal, Told};
 use crate::nodes::button_node;
-use crate::probes::{Journal, Note, Probe};
 use crate::samples::sized;
+use crate::views::Probe;
 use std::alloc::Global;
 use std::rc::Rc;
 use std::test::Fail;
@@ -165,9 +166,23 @@ fn open(dialog: &mut DialogOf<Probed>)
     dialog.reopen(&Record::new(), &mut Damage::new());
 }
 
-/// The dialog, with what it is lent and what its buttons were told.
+/// An event that the dialog is handed, and what comes of it.
+#[derive(Clone, Copy)]
+pub struct Step {
+    pub event: Event,
+    /// The lines that it logs.
+    pub log: &'static str,
+    /// What its buttons are told.
+    pub told: &'static [Told],
+    /// Whether a button holds the mouse then.
+    pub is_held: bool,
+    /// The command by which the dialog has ended then, if it has.
+    pub ended: Option<Command>,
+}
+
+// The dialog, with what it is lent and what its buttons were told.
 #[derive(Drop)]
-pub struct Scene {
+struct Scene {
     alloc: Global,
     dialog: DialogOf<Probed>,
     views: Vec<Node>,
@@ -177,8 +192,8 @@ pub struct Scene {
 }
 
 impl Scene {
-    /// The dialog as it opens, with the focus on its first button. What the buttons were told of that isn't noted.
-    pub fn new(alloc: Global) -> Result<Scene, Fail> {
+    // The dialog as it opens, with the focus on its first button. What the buttons were told of that isn't noted.
+    fn new(alloc: Global) -> Result<Scene, Fail> {
         let journal = Journal::new(alloc)?;
         let views = views(alloc)?;
         let body = body(alloc, &journal)?;
@@ -197,7 +212,7 @@ impl Scene {
     }
 
     // Hands an event to the dialog, which is to be open. The lines that it logs.
-    fn step(&mut self, event: &Event) -> Result<String, Fail> {
+    fn handed(&mut self, event: &Event) -> Result<String, Fail> {
         if !self.dialog.is_open() {
             Err("it has ended")?;
         }
@@ -206,34 +221,39 @@ impl Scene {
         Ok(format!(in self.alloc; "{:?}", self.dialog.log())?)
     }
 
-    /// Fails unless the dialog logs these lines at an event.
-    pub fn expect_log(&mut self, event: &Event, log: &str) -> Result<(), Fail> {
-        let logged = self.step(event)?;
+    fn expect_log(&mut self, event: &Event, log: &str) -> Result<(), Fail> {
+        let logged = self.handed(event)?;
         if logged.as_str() == log {
             return Ok(());
         }
         Err(Fail::new(logged))
     }
 
-    /// The same, unless the buttons are told just this of it.
-    pub fn expect(&mut self, event: &Event, log: &str, notes: &[Note]) -> Result<(), Fail> {
-        self.expect_log(event, log)?;
-        self.journal.expect(notes)
-    }
-
-    /// Fails unless a button holds the mouse, or none does.
-    pub fn expect_held(&self, is_held: bool) -> Result<(), Fail> {
-        if self.dialog.held() == is_held {
-            return Ok(());
+    fn expect_standing(&self, is_held: bool, ended: Option<Command>) -> Result<(), Fail> {
+        if self.dialog.held() != is_held {
+            return Err("the mouse is held otherwise".into());
         }
-        Err("the mouse is held otherwise".into())
-    }
-
-    /// Fails unless the dialog was ended by a command.
-    pub fn expect_ended(&self, command: Command) -> Result<(), Fail> {
-        if !self.dialog.is_open() && self.dialog.ended() == Some(command) {
+        if self.dialog.is_open() == ended.is_none() && self.dialog.ended() == ended {
             return Ok(());
         }
         Err("it hasn't ended so".into())
     }
+
+    fn expect_each(&mut self, steps: &[Step]) -> Result<(), Fail> {
+        for step in steps {
+            self.expect_log(&step.event, step.log)?;
+            self.journal.expect_told(step.told)?;
+            self.expect_standing(step.is_held, step.ended)?;
+        }
+        Ok(())
+    }
+}
+
+// What is done to a dialog stands in functions of its own: where a test had it alive over calls that may fail, each would be one
+// more path on which all that it holds is dropped.
+
+/// Fails unless the dialog goes through these steps, from its opening on, as they want it.
+pub fn expect_steps(alloc: Global, steps: &[Step]) -> Result<(), Fail> {
+    let mut scene = Scene::new(alloc)?;
+    scene.expect_each(steps)
 }

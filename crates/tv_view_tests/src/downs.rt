@@ -1,7 +1,7 @@
 //! How often a mouse down reaches the view at its point.
 
-use crate::dialogs::{LOG, SAVE, Scene};
-use crate::probes::Call;
+use crate::dialogs::{BUTTONS, LOG, OWN, SAVE, Step, expect_steps};
+use crate::journal::{Call, Told};
 use std::test::Fail;
 use tv_cells::Point;
 use tv_event::{Event, Phase};
@@ -16,39 +16,80 @@ const INSIDE: Point = Point { x: 2, y: 0 };
 
 const DOWN: Call = Call::Handed(Event::Down(INSIDE), Phase::Focused);
 
-// What is done to a dialog stands in functions of its own: where a test had it alive over calls that may fail, each would be one
-// more path on which all that it holds is dropped.
-
-fn press_second(scene: &mut Scene) -> Result<(), Fail> {
-    let notes = [(SAVE, DOWN), (SAVE, Call::Focused), (SAVE, DOWN)];
-    scene.expect(&Event::Down(SECOND), "[Focus(Id(6))]", &notes)?;
-    scene.expect_held(true)
-}
+const UP: Call = Call::Handed(Event::Up(INSIDE), Phase::Focused);
 
 // A button without the focus asks for it, and the same down then takes hold of the mouse.
-#[test]
-fn a_down_that_focuses_comes_twice(rt: HostRuntime) -> Result<(), Fail> {
-    let mut scene = Scene::new(rt.alloc())?;
-    press_second(&mut scene)
-}
-
-fn press_first(scene: &mut Scene) -> Result<(), Fail> {
-    scene.expect(&Event::Down(FIRST), "[]", &[(LOG, DOWN)])?;
-    scene.expect_held(true)?;
-    scene.expect_log(&Event::Up(FIRST), "[Press(Id(3)), Command(120)]")?;
-    scene.expect_held(false)
-}
+const TWICE: [Step; 1] = [Step {
+    event: Event::Down(SECOND),
+    log: "[Focus(Id(6))]",
+    told: &[
+        Told {
+            call: DOWN,
+            views: &[SAVE],
+        },
+        Told {
+            call: Call::Focused,
+            views: &[SAVE],
+        },
+        Told {
+            call: DOWN,
+            views: &[SAVE],
+        },
+    ],
+    is_held: true,
+    ended: None,
+}];
 
 // One with the focus takes hold of it at once. The up goes from leaf to leaf, up to the one that holds the mouse.
-#[test]
-fn a_down_in_the_focus_comes_once(rt: HostRuntime) -> Result<(), Fail> {
-    let mut scene = Scene::new(rt.alloc())?;
-    press_first(&mut scene)
-}
+const ONCE: [Step; 2] = [
+    Step {
+        event: Event::Down(FIRST),
+        log: "[]",
+        told: &[Told {
+            call: DOWN,
+            views: &[LOG],
+        }],
+        is_held: true,
+        ended: None,
+    },
+    Step {
+        event: Event::Up(FIRST),
+        log: "[Press(Id(3)), Command(120)]",
+        told: &[
+            Told {
+                call: UP,
+                views: &[LOG],
+            },
+            Told {
+                call: Call::Handed(Event::Command(OWN), Phase::Pre),
+                views: &BUTTONS,
+            },
+            Told {
+                call: Call::Handed(Event::Command(OWN), Phase::Focused),
+                views: &[LOG],
+            },
+            Told {
+                call: Call::Handed(Event::Command(OWN), Phase::Post),
+                views: &BUTTONS,
+            },
+        ],
+        is_held: false,
+        ended: None,
+    },
+];
 
 // Where no view is, none is told.
+const BESIDE: [Step; 1] = [Step {
+    event: Event::Down(Point { x: 25, y: 8 }),
+    log: "[]",
+    told: &[],
+    is_held: false,
+    ended: None,
+}];
+
 #[test]
-fn a_down_beside_the_views_reaches_none(rt: HostRuntime) -> Result<(), Fail> {
-    let mut scene = Scene::new(rt.alloc())?;
-    scene.expect(&Event::Down(Point { x: 25, y: 8 }), "[]", &[])
+fn downs_reach_the_view_at_their_point(rt: HostRuntime) -> Result<(), Fail> {
+    expect_steps(rt.alloc(), &TWICE)?;
+    expect_steps(rt.alloc(), &ONCE)?;
+    expect_steps(rt.alloc(), &BESIDE)
 }

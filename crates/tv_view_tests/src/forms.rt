@@ -4,19 +4,20 @@ ghost use Rattle.std.specs.Prelude.{◌≤ℤ◌, pos};
 ghost use Rattle.tv_model.specs.Description.LawfulNodes.{IsLawfulNode};
 ghost use Rattle.tv_model.specs.Description.Rectangles.{place_of_node, IsSmallRect};
 
+use crate::journal::Journal;
 use crate::nodes::{button_node, input_node, label_node};
-use crate::probes::{Journal, Probe};
 use crate::samples::{sized, text_node};
+use crate::views::Probe;
 use std::alloc::Global;
 use std::rc::Rc;
 use std::test::Fail;
-use tv_cells::{Damage, Point, Rect};
+use tv_cells::{Point, Rect};
 use tv_controls::{Button, InputLine, Label, StaticText};
-use tv_event::{CommandSet, Event, Phase};
+use tv_event::CommandSet;
 use tv_group::{Group, Member};
 use tv_model::{CommandSpec, Id, Node};
 use tv_palette::{Chain, Owner};
-use tv_view::{Env, Reaction, Rules};
+use tv_view::Env;
 
 /// The leaves of the form, in order. Those of the label and the buttons mark letters, and the text is no control.
 pub const LEAVES: [u32; 6] = [LABEL, FIRST, INNER, TEXT, INPUT, LAST];
@@ -46,38 +47,6 @@ pub fn env<'a>(chain: &'a Chain, commands: &'a CommandSet, views: &'a [Node]) ->
     }
 }
 
-/// Hands an event to a group in which none is the default, and into whose dialog no view is lent.
-pub fn handle(group: &mut Group, event: &Event, phase: Phase, commands: &CommandSet) -> Reaction {
-    group.handle(
-        event,
-        phase,
-        &env(&Chain::of_dialog(), commands, &[]),
-        &mut Damage::new(),
-    )
-}
-
-/// Applies rules to a group: which views are shown, and which commands enabled.
-pub fn apply(group: &mut Group, shown: &[Id], commands: &CommandSet) {
-    group.apply(&Rules { shown, commands }, &mut Damage::new());
-}
-
-/// Fails unless the leaves of the numbers are handed the event in the phase, one after the other, and pass it on.
-pub fn expect_passed(
-    group: &mut Group,
-    journal: &Rc<Journal>,
-    event: Event,
-    phase: Phase,
-    ids: &[u32],
-    commands: &CommandSet,
-) -> Result<(), Fail> {
-    let reaction = handle(group, &event, phase, commands);
-    journal.expect_handed(event, phase, ids)?;
-    if reaction == Reaction::Pass {
-        return Ok(());
-    }
-    Err(Fail::new(format_args!("{reaction:?}")))
-}
-
 // The members of a node, by functions of their own: no node is then alive over a call that may fail, where each such call
 // would be one more path on which all that a node may hold is dropped.
 
@@ -102,11 +71,10 @@ fn input_of(alloc: Global, node: &Node, journal: &Rc<Journal>) -> Result<Member,
     Ok(Member::Leaf(Box::new(alloc, probe)?))
 }
 
-fn text_of(alloc: Global, node: &Node, journal: &Rc<Journal>) -> Result<Member, Fail>
+fn text_of(alloc: Global, node: &Node, journal: &Rc<Journal>) -> Result<Probe<StaticText>, Fail>
     requires { IsSmallRect (place_of_node node.now) }
 {
-    let probe = Probe::new(StaticText::new(alloc, node)?, journal)?;
-    Ok(Member::Leaf(Box::new(alloc, probe)?))
+    Ok(Probe::new(StaticText::new(alloc, node)?, journal)?)
 }
 
 // A button at the left edge, which gives a command of its own.
@@ -127,13 +95,24 @@ fn input(alloc: Global, journal: &Rc<Journal>) -> Result<Member, Fail> {
     input_of(alloc, &node, journal)
 }
 
-/// A text in 9 columns that notes what it is told.
-pub fn text(alloc: Global, id: u32, text: &str, journal: &Rc<Journal>) -> Result<Member, Fail> {
+/// A text in 9 columns that notes what it is told, by itself.
+pub fn text_probe(
+    alloc: Global,
+    id: u32,
+    text: &str,
+    journal: &Rc<Journal>,
+) -> Result<Probe<StaticText>, Fail> {
     let node = Node {
         id: Id(id),
-        ..text_node(alloc, 9, text)?
+        ..text_node(alloc, 9, 1, text)?
     };
     text_of(alloc, &node, journal)
+}
+
+/// The same as a member of a group.
+pub fn text(alloc: Global, id: u32, text: &str, journal: &Rc<Journal>) -> Result<Member, Fail> {
+    let probe = text_probe(alloc, id, text, journal)?;
+    Ok(Member::Leaf(Box::new(alloc, probe)?))
 }
 
 // A pane with a button and a text.

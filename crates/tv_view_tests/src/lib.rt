@@ -18,13 +18,13 @@ mod edges;
 #[cfg(test)]
 mod forms;
 #[cfg(test)]
+mod journal;
+#[cfg(test)]
 mod nodes;
 #[cfg(test)]
 mod own_control;
 #[cfg(test)]
 mod phases;
-#[cfg(test)]
-mod probes;
 #[cfg(test)]
 mod queue;
 #[cfg(test)]
@@ -32,6 +32,12 @@ mod samples;
 #[cfg(test)]
 mod stacks;
 #[cfg(test)]
+mod static_texts;
+#[cfg(test)]
+mod steps;
+#[cfg(test)]
 mod two_windows;
 #[cfg(test)]
 mod views;
+#[cfg(test)]
+mod windows;

@@ -1,17 +1,98 @@
-//! A view of these tests among the members of a group, from its making to its end.
+//! A view of these tests by itself and among the members of a group, from its making to its end.
 
-use crate::forms::{FIRST, INNER, LABEL, LAST, LEAVES, env, form};
-use crate::probes::{Call, Journal, Note};
-use crate::samples::reads;
-use bitflags::Flags;
+use crate::forms::{LEAVES, env, form, text, text_probe};
+use crate::journal::{Call, Journal};
+use crate::samples::{body, reads, sized};
+use crate::windows::window_env;
 use std::process::Abort;
-use std::rc::Rc;
 use std::test::Fail;
-use tv_cells::{Damage, Screen};
-use tv_event::{CommandSet, State};
-use tv_group::Group;
-use tv_model::Id;
+use tv_cells::{Damage, Point, Screen};
+use tv_event::{Command, CommandSet, Event, Key, Phase};
 use tv_palette::Chain;
+use tv_view::{Reaction, View};
+
+// The line of a text that stands alone.
+const ALONE: u32 = 2;
+
+const EVENTS: [Event; 3] = [
+    Event::Key(Key::Char('a')),
+    Event::Broadcast(Command::DEFAULT),
+    Event::Down(Point { x: 1, y: 1 }),
+];
+
+#[test]
+fn it_notes_each_event(rt: HostRuntime) -> Result<(), Fail> {
+    let journal = Journal::new(rt.alloc())?;
+    let mut probe = text_probe(rt.alloc(), ALONE, "ab", &journal)?;
+    let chain = Chain::of_window();
+    let commands = CommandSet::all();
+    for event in &EVENTS {
+        let env = window_env(&chain, &commands);
+        let reaction = probe.handle(event, Phase::Post, &env, &mut Damage::new());
+        assert_eq!(rt; reaction, Reaction::Pass);
+        journal.expect(&[(ALONE, Call::Handed(*event, Phase::Post))])?;
+    }
+    Ok(())
+}
+
+// A cell of the row in which a text stands alone.
+struct Shown {
+    x: i32,
+    ch: char,
+    attr: u8,
+}
+
+// Before the text, the text, what is left of its columns, and behind it.
+const CELLS: [Shown; 5] = [
+    Shown {
+        x: 0,
+        ch: ' ',
+        attr: 0,
+    },
+    Shown {
+        x: 1,
+        ch: 'a',
+        attr: 0x1e,
+    },
+    Shown {
+        x: 2,
+        ch: 'b',
+        attr: 0x1e,
+    },
+    Shown {
+        x: 3,
+        ch: ' ',
+        attr: 0x1e,
+    },
+    Shown {
+        x: 10,
+        ch: ' ',
+        attr: 0,
+    },
+];
+
+fn shows(screen: &Screen, shown: &Shown) -> bool {
+    match screen.at(Point { x: shown.x, y: 1 }) {
+        Some(cell) => cell.ch() == shown.ch && cell.attr() == shown.attr,
+        None => false,
+    }
+}
+
+#[test]
+fn it_is_drawn_alone(rt: HostRuntime) -> Result<(), Fail> {
+    let alloc = rt.alloc();
+    let journal = Journal::new(alloc)?;
+    let body = body(alloc, sized(16, 6), text(alloc, ALONE, "ab", &journal)?)?;
+    let chain = Chain::of_window();
+    let commands = CommandSet::all();
+    let mut screen = Screen::new(alloc, 20, 10)?;
+    let canvas = screen.canvas();
+    body.draw(&mut screen, canvas, &window_env(&chain, &commands));
+    for shown in &CELLS {
+        assert!(rt; shows(&screen, shown), "{}", shown.x);
+    }
+    Ok(())
+}
 
 // Each leaf is told to draw itself, and what the control behind it shows is on the screen.
 #[test]
@@ -28,37 +109,6 @@ fn it_is_drawn(rt: HostRuntime) -> Result<(), Fail> {
     assert!(rt; reads(&screen, 1, 1, "Amount"));
     assert!(rt; reads(&screen, 2, 3, "[ Save ]"));
     Ok(())
-}
-
-// Fails unless a view takes the focus, or none has it then, and these are told.
-fn expect_focus(
-    group: &mut Group,
-    journal: &Rc<Journal>,
-    id: u32,
-    notes: &[Note],
-    is_taken: bool,
-) -> Result<(), Fail> {
-    let is_own = group.focus_to(Id(id), &mut Damage::new());
-    journal.expect(notes)?;
-    if is_own == is_taken && group.state().contains(State::FOCUSED) == is_taken {
-        return Ok(());
-    }
-    Err(Fail::new(format_args!("{is_own} for {id}")))
-}
-
-fn expect_focuses(group: &mut Group, journal: &Rc<Journal>) -> Result<(), Fail> {
-    for id in &[INNER, LAST, FIRST] {
-        expect_focus(group, journal, *id, &[(*id, Call::Focused)], true)?;
-    }
-    expect_focus(group, journal, LABEL, &[], false)
-}
-
-// The focus is told to the control that has it, wherever that stands.
-#[test]
-fn it_is_focused(rt: HostRuntime) -> Result<(), Fail> {
-    let journal = Journal::new(rt.alloc())?;
-    let mut form = form(rt.alloc(), &journal)?;
-    expect_focuses(&mut form, &journal)
 }
 
 // Each is dropped with its group, and once; only then.

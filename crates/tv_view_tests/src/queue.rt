@@ -1,101 +1,133 @@
 //! What a dialog makes of an event is done when it returns: no posted event is left over.
 
-use crate::dialogs::{BUTTONS, LOG, OWN, Scene};
-use crate::probes::{Call, Note};
-use std::alloc::{AllocError, Global};
+use crate::dialogs::{BUTTONS, LOG, OWN, Step, expect_steps};
+use crate::journal::{Call, Told};
 use std::test::Fail;
 use tv_event::{Command, Event, Key, Phase};
 
 // What no button takes.
 const QUIET: Event = Event::Key(Key::Function(5));
 
-const SPACE: Key = Key::Char(' ');
+const SPACE: Event = Event::Key(Key::Char(' '));
 
-fn note_all(
-    notes: &mut Vec<Note>,
-    event: Event,
-    phase: Phase,
-    ids: &[u32],
-) -> Result<(), AllocError> {
-    for id in ids {
-        notes.push((*id, Call::Handed(event, phase)))?;
-    }
-    Ok(())
-}
+const ENTER: Event = Event::Broadcast(Command::DEFAULT);
 
-// The notes of a command, while the focus is on the first button.
-fn note_phases(notes: &mut Vec<Note>, event: Event) -> Result<(), AllocError> {
-    note_all(notes, event, Phase::Pre, &BUTTONS)?;
-    note_all(notes, event, Phase::Focused, &[LOG])?;
-    note_all(notes, event, Phase::Post, &BUTTONS)
-}
+const LETTER: Event = Event::Key(Key::Char('c'));
 
-// Fails unless the dialog hands a key that is no letter to the button with the focus, and nothing else.
-fn expect_nothing_left(scene: &mut Scene) -> Result<(), Fail> {
-    let handed = Call::Handed(QUIET, Phase::Focused);
-    scene.expect(&QUIET, "[]", &[(LOG, handed)])
-}
+const POSTED: Event = Event::Command(OWN);
 
-// The notes of a key, as the button with the focus is handed it, and of the command that this button then gives.
-fn own_notes(alloc: Global, handed: Event) -> Result<Vec<Note>, AllocError> {
-    let mut notes = Vec::new(alloc);
-    note_all(&mut notes, handed, Phase::Focused, &[LOG])?;
-    note_phases(&mut notes, Event::Command(OWN))?;
-    Ok(notes)
-}
+const CANCELLED: Event = Event::Command(Command::CANCEL);
 
-// The pressed button's command goes to the buttons, and from there to the dialog, before the key is done with.
-fn expect_own(alloc: Global, scene: &mut Scene, key: Key, handed: Event) -> Result<(), Fail> {
-    let notes = own_notes(alloc, handed)?;
-    scene.expect(
-        &Event::Key(key),
-        "[Press(Id(3)), Command(120)]",
-        notes.as_slice(),
-    )?;
-    expect_nothing_left(scene)
-}
-
-fn press_twice(alloc: Global, scene: &mut Scene) -> Result<(), Fail> {
-    expect_own(alloc, scene, SPACE, Event::Key(SPACE))?;
-    expect_own(alloc, scene, SPACE, Event::Key(SPACE))
-}
-
-#[test]
-fn space_posts_a_command(rt: HostRuntime) -> Result<(), Fail> {
-    let mut scene = Scene::new(rt.alloc())?;
-    press_twice(rt.alloc(), &mut scene)
-}
+// The button with the focus is handed a key. The command that it then gives goes to the buttons, and from there to the dialog,
+// before the key is done with.
+const SPACE_TOLD: [Told; 4] = [
+    Told {
+        call: Call::Handed(SPACE, Phase::Focused),
+        views: &[LOG],
+    },
+    Told {
+        call: Call::Handed(POSTED, Phase::Pre),
+        views: &BUTTONS,
+    },
+    Told {
+        call: Call::Handed(POSTED, Phase::Focused),
+        views: &[LOG],
+    },
+    Told {
+        call: Call::Handed(POSTED, Phase::Post),
+        views: &BUTTONS,
+    },
+];
 
 // Enter is a broadcast, which the button in the focus takes.
-#[test]
-fn enter_posts_a_command(rt: HostRuntime) -> Result<(), Fail> {
-    let mut scene = Scene::new(rt.alloc())?;
-    let enter = Event::Broadcast(Command::DEFAULT);
-    expect_own(rt.alloc(), &mut scene, Key::Enter, enter)
-}
+const ENTER_TOLD: [Told; 4] = [
+    Told {
+        call: Call::Handed(ENTER, Phase::Focused),
+        views: &[LOG],
+    },
+    Told {
+        call: Call::Handed(POSTED, Phase::Pre),
+        views: &BUTTONS,
+    },
+    Told {
+        call: Call::Handed(POSTED, Phase::Focused),
+        views: &[LOG],
+    },
+    Told {
+        call: Call::Handed(POSTED, Phase::Post),
+        views: &BUTTONS,
+    },
+];
 
-// The notes of a letter that the button with the focus doesn't mark, and of the command of the one that cancels.
-fn cancel_notes(alloc: Global, letter: Event) -> Result<Vec<Note>, AllocError> {
-    let mut notes = Vec::new(alloc);
-    note_all(&mut notes, letter, Phase::Focused, &[LOG])?;
-    note_all(&mut notes, letter, Phase::Post, &BUTTONS)?;
-    note_phases(&mut notes, Event::Command(Command::CANCEL))?;
-    Ok(notes)
-}
+// The button with the focus doesn't mark the letter, and the one that cancels gives its command.
+const LETTER_TOLD: [Told; 5] = [
+    Told {
+        call: Call::Handed(LETTER, Phase::Focused),
+        views: &[LOG],
+    },
+    Told {
+        call: Call::Handed(LETTER, Phase::Post),
+        views: &BUTTONS,
+    },
+    Told {
+        call: Call::Handed(CANCELLED, Phase::Pre),
+        views: &BUTTONS,
+    },
+    Told {
+        call: Call::Handed(CANCELLED, Phase::Focused),
+        views: &[LOG],
+    },
+    Told {
+        call: Call::Handed(CANCELLED, Phase::Post),
+        views: &BUTTONS,
+    },
+];
 
-fn expect_cancelled(alloc: Global, scene: &mut Scene, letter: Event) -> Result<(), Fail> {
-    let notes = cancel_notes(alloc, letter)?;
-    scene.expect(
-        &letter,
-        "[Press(Id(7)), End(Id(1), Command(11))]",
-        notes.as_slice(),
-    )?;
-    scene.expect_ended(Command::CANCEL)
-}
+// A key that is no letter goes to the button with the focus, and nothing else does.
+const NOTHING_LEFT: Step = Step {
+    event: QUIET,
+    log: "[]",
+    told: &[Told {
+        call: Call::Handed(QUIET, Phase::Focused),
+        views: &[LOG],
+    }],
+    is_held: false,
+    ended: None,
+};
+
+const SPACE_PRESSES: Step = Step {
+    event: SPACE,
+    log: "[Press(Id(3)), Command(120)]",
+    told: &SPACE_TOLD,
+    is_held: false,
+    ended: None,
+};
+
+const BY_SPACE: [Step; 4] = [SPACE_PRESSES, NOTHING_LEFT, SPACE_PRESSES, NOTHING_LEFT];
+
+const BY_ENTER: [Step; 2] = [
+    Step {
+        event: Event::Key(Key::Enter),
+        log: "[Press(Id(3)), Command(120)]",
+        told: &ENTER_TOLD,
+        is_held: false,
+        ended: None,
+    },
+    NOTHING_LEFT,
+];
 
 // The command of the button that cancels ends the dialog in the same step.
+const BY_LETTER: [Step; 1] = [Step {
+    event: LETTER,
+    log: "[Press(Id(7)), End(Id(1), Command(11))]",
+    told: &LETTER_TOLD,
+    is_held: false,
+    ended: Some(Command::CANCEL),
+}];
+
 #[test]
-fn a_letter_ends_the_dialog(rt: HostRuntime) -> Result<(), Fail> {
-    let mut scene = Scene::new(rt.alloc())?;
-    expect_cancelled(rt.alloc(), &mut scene, Event::Key(Key::Char('c')))
+fn no_posted_event_is_left(rt: HostRuntime) -> Result<(), Fail> {
+    expect_steps(rt.alloc(), &BY_SPACE)?;
+    expect_steps(rt.alloc(), &BY_ENTER)?;
+    expect_steps(rt.alloc(), &BY_LETTER)
 }

@@ -21,16 +21,8 @@ pub fn chars(alloc: Global, text: &str) -> Result<Chars, Fail>
     Ok(Chars::from_vec(chars))
 }
 
-/// The declaration of a text in the first row and column that a frame surrounds.
-pub fn text_node(alloc: Global, width: i32, text: &str) -> Result<Node, Fail>
-    requires { (pos 0 ≤ℤ width) × (width ≤ℤ pos 50) }
-    ensures { IfOk result (λ node. IsSmallRect (place_of_node node)) }
-{
-    rows_node(alloc, width, 1, text)
-}
-
-/// The same of a text of several rows.
-pub fn rows_node(alloc: Global, width: i32, h: i32, text: &str) -> Result<Node, Fail>
+/// The declaration of a text of some rows in the first row and column that a frame surrounds.
+pub fn text_node(alloc: Global, width: i32, h: i32, text: &str) -> Result<Node, Fail>
     requires across { (pos 0 ≤ℤ width) × (width ≤ℤ pos 50) }
     requires down { (pos 0 ≤ℤ h) × (h ≤ℤ pos 50) }
     ensures { IfOk result (λ node. IsSmallRect (place_of_node node)) }

@@ -1,11 +1,10 @@
 //! Two windows over groups of boxed texts, one over the other.
 
-ghost use Rattle.std.specs.Prelude.{◌≤◌, ◌≤ℤ◌, pos, length, IfSome};
-ghost use Rattle.tv_faces.specs.Corners.{IsCorner};
-ghost use Rattle.tv_model.specs.Description.Rectangles.{corner_of, place_of_node, IsSmallRect};
-ghost use Rattle.tv_window.specs.Head.{IsLimitedWindowHead, declared_window_head};
+ghost use Rattle.std.specs.Prelude.{◌≤ℤ◌, pos};
+ghost use Rattle.tv_model.specs.Description.Rectangles.{place_of_node, IsSmallRect};
 
 use crate::samples::{body, chars, sized, text_node};
+use crate::windows::{expect_rows, window_env, window_node, window_round};
 use std::alloc::Global;
 use std::process::Abort;
 use std::test::Fail;
@@ -14,10 +13,8 @@ use tv_controls::StaticText;
 use tv_event::CommandSet;
 use tv_faces::{Background, LabelFace};
 use tv_group::{Group, Member};
-use tv_model::{Id, Kind, Node, WindowHead};
-use tv_palette::{Chain, Owner};
-use tv_valid::Chars;
-use tv_view::Env;
+use tv_model::Node;
+use tv_palette::Chain;
 use tv_window::{Window, draw_stack};
 
 // The bar and the status line, with nothing in them.
@@ -48,89 +45,36 @@ const ROW_5: [(i32, u8); 4] = [(3, 0x71), (8, 0x08), (9, 0x1f), (24, 0x1e)];
 // Row 7: the background, and the shadow of the window in front.
 const ROW_7: [(i32, u8); 2] = [(10, 0x71), (24, 0x08)];
 
-// A boxed text in the first row that a frame surrounds.
-fn member(alloc: Global, node: &Node) -> Result<Member, Fail>
-    requires { IsSmallRect (place_of_node node.now) }
-{
-    let view = StaticText::new(alloc, node)?;
-    Ok(Member::Leaf(Box::new(alloc, view)?))
-}
-
-fn first_node(alloc: Global, title: Chars) -> Node
-    requires { length title ≤ 120 }
-    ensures head { IfSome (declared_window_head result) IsLimitedWindowHead }
-    ensures corner { IsCorner (corner_of result) }
-{
-    Node {
-        id: Id(1),
-        depth: 0,
-        x: 1,
-        y: 1,
-        w: 16,
-        kind: Kind::Window(WindowHead {
-            name: Chars::new(alloc),
-            h: 4,
-            number: 1,
-            title,
-        }),
-    }
-}
-
-fn second_node(alloc: Global, title: Chars) -> Node
-    requires { length title ≤ 120 }
-    ensures head { IfSome (declared_window_head result) IsLimitedWindowHead }
-    ensures corner { IsCorner (corner_of result) }
-{
-    Node {
-        id: Id(3),
-        depth: 0,
-        x: 8,
-        y: 3,
-        w: 20,
-        kind: Kind::Window(WindowHead {
-            name: Chars::new(alloc),
-            h: 4,
-            number: 2,
-            title,
-        }),
-    }
-}
-
-// What a window stands round: one text. No node is alive over a call that may fail, as in `forms`.
-fn body_of(alloc: Global, width: i32, text: &Node) -> Result<Group, Fail>
-    requires text { IsSmallRect (place_of_node text.now) }
+// What a window stands round: one boxed text.
+fn body_of(alloc: Global, width: i32, node: &Node) -> Result<Group, Fail>
+    requires text { IsSmallRect (place_of_node node.now) }
     requires across { (pos 0 ≤ℤ width) × (width ≤ℤ pos 50) }
 {
-    body(alloc, sized(width, 4), member(alloc, text)?)
+    let text = StaticText::new(alloc, node)?;
+    body(alloc, sized(width, 4), Member::Leaf(Box::new(alloc, text)?))
 }
 
-fn first_body(alloc: Global) -> Result<Group, Fail> {
-    let text = text_node(alloc, 9, "abcdefghij")?;
-    body_of(alloc, 16, &text)
-}
-
-fn second_body(alloc: Global) -> Result<Group, Fail> {
-    let text = text_node(alloc, 18, "second")?;
-    body_of(alloc, 20, &text)
-}
-
-fn window(node: &Node, body: Group) -> Result<Window, Fail>
-    requires node { IfSome (declared_window_head node.now) IsLimitedWindowHead }
-    requires corner { IsCorner (corner_of node.now) }
+// The same by the text's columns. Of two functions, so that no node is alive over a call that may fail, as in `forms`.
+fn text_body(alloc: Global, width: i32, columns: i32, text: &str) -> Result<Group, Fail>
+    requires across { (pos 0 ≤ℤ width) × (width ≤ℤ pos 50) }
+    requires columns { (pos 0 ≤ℤ columns) × (columns ≤ℤ pos 50) }
 {
-    Ok(Window::new(node, body).ok().ok_or("a window's node")?)
+    let node = text_node(alloc, columns, 1, text)?;
+    body_of(alloc, width, &node)
 }
 
 fn first(alloc: Global) -> Result<Window, Fail> {
     let title = chars(alloc, "One")?;
-    let body = first_body(alloc)?;
-    window(&first_node(alloc, title), body)
+    let body = text_body(alloc, 16, 9, "abcdefghij")?;
+    let corner = Point { x: 1, y: 1 };
+    window_round(&window_node(alloc, 1, 1, corner, 16, title), body)
 }
 
 fn second(alloc: Global) -> Result<Window, Fail> {
     let title = chars(alloc, "Two")?;
-    let body = second_body(alloc)?;
-    window(&second_node(alloc, title), body)
+    let body = text_body(alloc, 20, 18, "second")?;
+    let corner = Point { x: 8, y: 3 };
+    window_round(&window_node(alloc, 3, 2, corner, 20, title), body)
 }
 
 // The front window first.
@@ -160,15 +104,9 @@ fn paint(screen: &mut Screen, windows: &[Window]) {
         clip: rows(1, 9).clip,
         origin: Point { x: 0, y: 0 },
     };
-    let env = Env {
-        owner: Owner::Window,
-        chain: &Chain::of_window(),
-        views: &[],
-        commands: &CommandSet::all(),
-        focus: None,
-        default_now: None,
-        is_active: true,
-    };
+    let chain = Chain::of_window();
+    let commands = CommandSet::all();
+    let env = window_env(&chain, &commands);
     draw_stack(windows, screen, desktop, &env);
 }
 
@@ -183,24 +121,10 @@ fn painted(alloc: Global) -> Result<Screen, Fail> {
 #[test]
 fn two_windows(rt: HostRuntime) -> Result<(), Fail> {
     let screen = painted(rt.alloc())?;
-    for y in 0u8..10 {
-        let row = SHOT[usize::from(y)].as_bytes();
-        assert!(rt; row_reads(&screen, i32::from(y), row), "{y}");
-    }
+    expect_rows(&screen, &SHOT)?;
     assert!(rt; row_has(&screen, 5, &ROW_5));
     assert!(rt; row_has(&screen, 7, &ROW_7));
     Ok(())
-}
-
-fn row_reads(screen: &Screen, y: i32, row: &[u8]) -> bool {
-    for x in 0u8..24 {
-        let point = Point { x: i32::from(x), y };
-        match (screen.at(point), row.get(usize::from(x))) {
-            (Some(cell), Some(byte)) if cell.ch() == char::from(*byte) => {}
-            _ => return false,
-        }
-    }
-    true
 }
 
 // The attributes of a row: each up to a column.
