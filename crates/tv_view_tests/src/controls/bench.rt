@@ -37,21 +37,27 @@ pub const NEAR: Playing = Playing {
 };
 
 /// The points of a script, where 65536 is 0, so that those below it have numbers of more than 16 bits.
-const FAR: Playing = Playing {
+pub const FAR: Playing = Playing {
     corner: Point {
         x: -65_536,
         y: -65_536,
     },
 };
 
-/// Fails where some control of a table answers something else than its row says, after lines that all rows share.
-pub fn expect_played(alloc: Global, views: &str, table: &str) -> Result<(), Fail> {
-    expect_answers(&NEAR, alloc, views, table, "")
+/// Scripts, each with what a control answers to it, after lines that all of them share.
+#[derive(Clone, Copy)]
+pub struct Table {
+    pub playing: Playing,
+    pub before: &'static str,
+    pub rows: &'static str,
 }
 
-/// The same where the points of the scripts count from far above and left.
-pub fn expect_far(alloc: Global, views: &str, table: &str) -> Result<(), Fail> {
-    expect_answers(&FAR, alloc, views, table, "")
+/// Fails where some control of the tables answers something else than its row says.
+pub fn expect_played(alloc: Global, tables: &[Table]) -> Result<(), Fail> {
+    for table in tables {
+        expect_answers(&table.playing, alloc, table.before, table.rows, "")?;
+    }
+    Ok(())
 }
 
 impl Question for Playing {
@@ -150,7 +156,9 @@ impl Bench<'_> {
             b"state" => self.push_state(alloc, told)?,
             b"damage" => self.push_damage(told)?,
             [b'p', b'r', b'e', b's', b's', b' ', digit] => {
-                self.press(alloc, told, digit.saturating_sub(b'0'))?;
+                let item = digit.saturating_sub(b'0');
+                self.view.press_item(own, item, &mut self.damage);
+                self.push_state(alloc, told)?;
             }
             _ => self.other(alloc, told, command)?,
         }
@@ -219,11 +227,6 @@ impl Bench<'_> {
         self.apply(&[own]);
     }
 
-    fn press(&mut self, alloc: Global, told: &mut String, item: u8) -> Result<(), Fail> {
-        self.view.press_item(self.view.id(), item, &mut self.damage);
-        self.push_state(alloc, told)
-    }
-
     // The lines of a script.
     fn play(&mut self, alloc: Global, told: &mut String, line: &str) -> Result<(), Fail> {
         let items = script_of(alloc, line)?;
@@ -284,10 +287,11 @@ impl Bench<'_> {
         if self.view.first_invalid() == Some(self.view.id()) {
             push_word(told, "invalid")?;
         }
-        if self.is_fresh() {
-            push_word(told, "fresh")?;
+        // Whether it stands as the view after the button declares it.
+        match self.lent.views.get(1) {
+            Some(node) if self.view.is_fresh(node) => Ok(push_word(told, "fresh")?),
+            _ => Ok(()),
         }
-        Ok(())
     }
 
     // What it has damaged, of which nothing is left.
@@ -295,14 +299,6 @@ impl Bench<'_> {
         push_token(told, damage_told(&self.damage, self.view.bounds()))?;
         self.damage.clear();
         Ok(())
-    }
-
-    // Whether it stands as the view after the button declares it.
-    fn is_fresh(&self) -> bool {
-        match self.lent.views.get(1) {
-            Some(node) => self.view.is_fresh(node),
-            None => false,
-        }
     }
 
     // The characters or the attributes of its rectangle.

@@ -1,6 +1,6 @@
 //! Buttons, labels and static texts.
 
-use super::bench::{expect_far, expect_played};
+use super::bench::{FAR, NEAR, Table, expect_played};
 use std::test::Fail;
 
 const GO: &str = r#"button b 2 1 10 "~G~o" 120
@@ -20,11 +20,6 @@ press 1; hide; state; show; state
 => 1 fresh, 0, 1 fresh
 "#;
 
-#[test]
-fn button_keys(rt: HostRuntime) -> Result<(), Fail> {
-    expect_played(rt.alloc(), GO, KEYS)
-}
-
 // It is held from the down on, and pressed where the up is inside.
 const MOUSE: &str = r#"down 5 1; state; move 5 1; move 0 0; up 11 1; state; up 5 1; move 5 1
 => capture 5, 1 held, done, done, post 5 120, 1 fresh, pass, pass
@@ -32,22 +27,12 @@ down 2 1; up 2 1; down 2 1; up 12 1; down 2 1; up 1 1; down 2 1; up 5 0; down 2 
 => capture 5, post 5 120, capture 5, release, capture 5, release, capture 5, release, capture 5, release, 1 fresh
 "#;
 
-#[test]
-fn button_mouse(rt: HostRuntime) -> Result<(), Fail> {
-    expect_played(rt.alloc(), GO, MOUSE)
-}
-
-const FAR: &str =
+const FAR_POINTS: &str =
     r#"down 65538 65537; up 65538 1; down 65538 65537; up 2 65537; down 65538 65537; up 2 1
 => capture 5, release, capture 5, release, capture 5, release
 down 65538 65537; up 70000 70000; down 65538 65537; up 131074 65537; down 65538 65537; up 65538 65537
 => capture 5, release, capture 5, release, capture 5, post 5 120
 "#;
-
-#[test]
-fn button_far_points(rt: HostRuntime) -> Result<(), Fail> {
-    expect_far(rt.alloc(), GO, FAR)
-}
 
 // What a button shows, and what it gives.
 const FACES: &str = r#"button b 2 1 10 "~G~o" 120
@@ -83,11 +68,6 @@ shot; down 2 1; up 2 1; focus; down 2 1; up 10 1; down 10 1; up 11 1
 => focus 5, pass, own, capture 5, post 5 4, capture 5, release
 "#;
 
-#[test]
-fn button_faces(rt: HostRuntime) -> Result<(), Fail> {
-    expect_played(rt.alloc(), "", FACES)
-}
-
 // Labels for a control before them and for one after them, or in a pane; cut to one column.
 const LABELS: &str = r#"label 2 1 8 "~A~mount" amount
 input amount 12 1 8 4 any ""
@@ -121,11 +101,6 @@ shot; colors; pre; key Alt-A; post; type "a"
 => pass, pass
 "#;
 
-#[test]
-fn labels(rt: HostRuntime) -> Result<(), Fail> {
-    expect_played(rt.alloc(), "", LABELS)
-}
-
 // Static texts answer to nothing, and show a piece in each row.
 const TEXTS: &str = r#"text 2 1 6 2 "ab\ncdefghij\nx"
 facts; state; shot; colors; hide; shot; state; show; state
@@ -149,7 +124,40 @@ focus; state; press 1; disable; state; leave; shot
 => :    :
 "#;
 
+const TABLES: [Table; 6] = [
+    Table {
+        playing: NEAR,
+        before: GO,
+        rows: KEYS,
+    },
+    Table {
+        playing: NEAR,
+        before: GO,
+        rows: MOUSE,
+    },
+    Table {
+        playing: FAR,
+        before: GO,
+        rows: FAR_POINTS,
+    },
+    Table {
+        playing: NEAR,
+        before: "",
+        rows: FACES,
+    },
+    Table {
+        playing: NEAR,
+        before: "",
+        rows: LABELS,
+    },
+    Table {
+        playing: NEAR,
+        before: "",
+        rows: TEXTS,
+    },
+];
+
 #[test]
-fn static_texts(rt: HostRuntime) -> Result<(), Fail> {
-    expect_played(rt.alloc(), "", TEXTS)
+fn buttons_labels_and_texts(rt: HostRuntime) -> Result<(), Fail> {
+    expect_played(rt.alloc(), &TABLES)
 }

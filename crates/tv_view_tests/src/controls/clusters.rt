@@ -1,6 +1,6 @@
 //! Check boxes and radio buttons.
 
-use super::bench::{expect_far, expect_played};
+use super::bench::{FAR, NEAR, Table, expect_played};
 use std::test::Fail;
 
 const CHECKS: &str = r#"checks k 2 1 10 "~G~ift" "~N~ote" "Plain" start 1 3
@@ -22,11 +22,6 @@ press 2; press 3; press 4; press 0; focus; type " "; key Down; type " "
 => 1 111, 1 11, 1 11, 1 11, own, changed 5 111, done, changed 5 110
 "#;
 
-#[test]
-fn check_box_keys(rt: HostRuntime) -> Result<(), Fail> {
-    expect_played(rt.alloc(), CHECKS, CHECK_KEYS)
-}
-
 // An up on the row of the down presses its item, inside the rectangle alone.
 const CHECK_MOUSE: &str =
     r#"down 3 2; up 3 2; focus; down 3 2; state; move 3 3; move 0 0; up 11 2; state; up 3 2; move 3 2
@@ -39,11 +34,6 @@ focus; down 3 1; up 3 0; down 3 3; up 3 4; down 3 3; leave; state; hide; state
 => own, capture 5, release, capture 5, release, capture 5, other, 1 101 held, 0 101 held
 "#;
 
-#[test]
-fn check_box_mouse(rt: HostRuntime) -> Result<(), Fail> {
-    expect_played(rt.alloc(), CHECKS, CHECK_MOUSE)
-}
-
 // Points that are in the row of the down when they are taken in 16 bits.
 const CHECK_FAR: &str =
     r#"focus; down 65539 65538; up 3 65538; down 65539 65538; up 65539 2; down 65539 65538; up 131075 65538
@@ -51,11 +41,6 @@ const CHECK_FAR: &str =
 focus; down 65539 65538; move 0 0; up 70000 70000; down 65539 65538; up 65539 65538
 => own, capture 5, done, release, capture 5, changed 5 111
 "#;
-
-#[test]
-fn check_box_far_points(rt: HostRuntime) -> Result<(), Fail> {
-    expect_far(rt.alloc(), CHECKS, CHECK_FAR)
-}
 
 const SIXTEEN: &str =
     r#"checks k 2 1 5 "a" "a" "a" "a" "a" "a" "a" "a" "a" "a" "a" "a" "a" "a" "a" "ä" start 16
@@ -66,11 +51,6 @@ const SIXTEEN_BOXES: &str = r#"state; focus; key Up; type "  "
 focus; key Up; key Down; type " "; press 8; facts
 => own, done, done, changed 5 1000000000000001, 61 1000000010000001, line 5 2 1 7 17 35
 "#;
-
-#[test]
-fn sixteen_check_boxes(rt: HostRuntime) -> Result<(), Fail> {
-    expect_played(rt.alloc(), SIXTEEN, SIXTEEN_BOXES)
-}
 
 // Faces, the narrowest cluster, one item, and two items of which none is marked.
 const FACES: &str = r#"checks k 2 1 9 "~G~ift" "d~N~ote" start 2
@@ -120,11 +100,6 @@ shot; focus; key Up; key Down; disable; state
 => own, changed 5, changed 5, 61 1
 "#;
 
-#[test]
-fn cluster_faces(rt: HostRuntime) -> Result<(), Fail> {
-    expect_played(rt.alloc(), "", FACES)
-}
-
 const RADIOS: &str = r#"radios r 2 1 10 "~R~ed" "~B~lue" "Plain" start 2
 "#;
 
@@ -142,11 +117,6 @@ press 3; press 4; press 0; press 1; hide; press 2
 => 1 3, 1 3, 1 3, 1 1, 0 2
 "#;
 
-#[test]
-fn radio_keys(rt: HostRuntime) -> Result<(), Fail> {
-    expect_played(rt.alloc(), RADIOS, RADIO_KEYS)
-}
-
 const RADIO_MOUSE: &str =
     r#"down 3 1; up 3 1; focus; down 3 1; state; move 3 3; up 2 1; state; up 3 3; move 3 3
 => focus 5, pass, own, capture 5, 61 2 held, done, changed 5 1, 61 1, pass, pass
@@ -154,17 +124,63 @@ focus; down 11 3; up 11 3; down 3 1; up 3 2; down 3 1; up 1 1; down 3 1; up 12 1
 => own, capture 5, changed 5 3, capture 5, release, capture 5, release, capture 5, release, capture 5, release, capture 5, release
 "#;
 
-#[test]
-fn radio_mouse(rt: HostRuntime) -> Result<(), Fail> {
-    expect_played(rt.alloc(), RADIOS, RADIO_MOUSE)
-}
-
 const RADIO_FAR: &str =
     r#"focus; down 65538 65537; up 2 65537; down 65538 65537; up 65538 1; down 65538 65537; up 65538 65537
 => own, capture 5, release, capture 5, release, capture 5, changed 5 1
 "#;
 
+const CHECK_TABLES: [Table; 4] = [
+    Table {
+        playing: NEAR,
+        before: CHECKS,
+        rows: CHECK_KEYS,
+    },
+    Table {
+        playing: NEAR,
+        before: CHECKS,
+        rows: CHECK_MOUSE,
+    },
+    Table {
+        playing: FAR,
+        before: CHECKS,
+        rows: CHECK_FAR,
+    },
+    Table {
+        playing: NEAR,
+        before: SIXTEEN,
+        rows: SIXTEEN_BOXES,
+    },
+];
+
 #[test]
-fn radio_far_points(rt: HostRuntime) -> Result<(), Fail> {
-    expect_far(rt.alloc(), RADIOS, RADIO_FAR)
+fn check_boxes(rt: HostRuntime) -> Result<(), Fail> {
+    expect_played(rt.alloc(), &CHECK_TABLES)
+}
+
+const RADIO_TABLES: [Table; 4] = [
+    Table {
+        playing: NEAR,
+        before: RADIOS,
+        rows: RADIO_KEYS,
+    },
+    Table {
+        playing: NEAR,
+        before: RADIOS,
+        rows: RADIO_MOUSE,
+    },
+    Table {
+        playing: FAR,
+        before: RADIOS,
+        rows: RADIO_FAR,
+    },
+    Table {
+        playing: NEAR,
+        before: "",
+        rows: FACES,
+    },
+];
+
+#[test]
+fn radio_buttons_and_faces(rt: HostRuntime) -> Result<(), Fail> {
+    expect_played(rt.alloc(), &RADIO_TABLES)
 }

@@ -1,6 +1,6 @@
 //! What controls damage: their own rectangle, or nothing.
 
-use super::bench::expect_played;
+use super::bench::{NEAR, Table, expect_played};
 use std::test::Fail;
 
 // No event shows on a text, a label or a button, and no value is theirs. Their looks go by what they are lent.
@@ -32,11 +32,6 @@ hide; damage; lend 5; lend default; lend window; damage; show; focus; damage; le
 => damaged, intact, own, damaged, intact, damaged
 "#;
 
-#[test]
-fn buttons_and_texts(rt: HostRuntime) -> Result<(), Fail> {
-    expect_played(rt.alloc(), "", BUTTONS)
-}
-
 // Of an input the text and the cursor show, and while it has the focus what is selected.
 const INPUTS: &str = r#"input t 2 1 10 4 any "abc"
 focus; damage; focus; damage; key End; damage; key Tab; damage; leave; damage; leave; damage
@@ -51,11 +46,6 @@ input t 2 1 10 4 any "abc"
 set "xy"; damage; lend 5; damage; lend 4; damage; lend window; damage; lend idle; damage; enable; damage
 => damaged, damaged, intact, damaged, intact, intact
 "#;
-
-#[test]
-fn inputs(rt: HostRuntime) -> Result<(), Fail> {
-    expect_played(rt.alloc(), "", INPUTS)
-}
 
 // Where clusters and lists take an event, whether or not it changes them; a pressed item; a value that they open with.
 const CHOICES: &str = r#"checks k 2 1 10 "~G~ift" "~N~ote"
@@ -90,7 +80,25 @@ set 4; damage; lend 5; damage; lend 4; damage; lend window; damage; hide; damage
 => damaged, damaged, intact, damaged, damaged, intact, damaged
 "#;
 
+const TABLES: [Table; 3] = [
+    Table {
+        playing: NEAR,
+        before: "",
+        rows: BUTTONS,
+    },
+    Table {
+        playing: NEAR,
+        before: "",
+        rows: INPUTS,
+    },
+    Table {
+        playing: NEAR,
+        before: "",
+        rows: CHOICES,
+    },
+];
+
 #[test]
-fn choices(rt: HostRuntime) -> Result<(), Fail> {
-    expect_played(rt.alloc(), "", CHOICES)
+fn what_controls_damage(rt: HostRuntime) -> Result<(), Fail> {
+    expect_played(rt.alloc(), &TABLES)
 }

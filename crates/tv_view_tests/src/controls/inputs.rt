@@ -1,8 +1,7 @@
 //! Input lines.
 
-use super::bench::{NEAR, expect_far, expect_played};
+use super::bench::{FAR, NEAR, Table, expect_played};
 use std::test::Fail;
-use tv_test_support::expect_answer;
 
 // What is typed and taken out, at both ends of the text, with and without a selection, inserting and overwriting.
 const FOCUSED: &str = r#"input t 2 1 10 4 any "abc"
@@ -41,11 +40,6 @@ key Ctrl-A; key Ctrl-X; key Ctrl-Z; key F1; key F12; key Alt-Y; key Alt-0; press
 pre; type "x"; key Alt-Y; key Del; key Ctrl-Y; post; type "x"; key Left; key Ctrl-Y; main; type "x"
 => own, pass, pass, pass, pass, pass, pass, pass, done "x"
 "#;
-
-#[test]
-fn input_keys(rt: HostRuntime) -> Result<(), Fail> {
-    expect_played(rt.alloc(), FOCUSED, KEYS)
-}
 
 // What each domain takes while it is typed, what it says of the whole, and how far a picture is filled.
 const DOMAINS: &str = r###"input t 2 1 10 8 picture "*3#[-*2&]" ""
@@ -88,11 +82,6 @@ input t 2 1 10 3 picture "ab" "" optional
 state; focus; type "a"; state; type "b"; state; type "b"
 => 1 "" fresh, own, done "a", 61 "a" invalid, done "ab", 61 "ab", done
 "###;
-
-#[test]
-fn input_domains(rt: HostRuntime) -> Result<(), Fail> {
-    expect_played(rt.alloc(), "", DOMAINS)
-}
 
 // Where the text is scrolled to, and what is selected, with the arrows and the cursor.
 const FACES: &str = r###"input t 1 1 8 40 any "abcdefghij"
@@ -142,11 +131,6 @@ focus; key Home; key Right; key Right; key Del; shot; colors
 => :1f1f1f4f1a:
 "###;
 
-#[test]
-fn input_faces(rt: HostRuntime) -> Result<(), Fail> {
-    expect_played(rt.alloc(), "", FACES)
-}
-
 // A mouse down sets the cursor by what was shown before it: an input that gets the focus by it showed its start.
 const MOUSE: &str = r###"input t 2 1 10 9 any "abcdef"
 down 5 1; state; move 5 1; up 5 1; focus; down 5 1; state; move 9 1; up 70000 0; state; type "x"; up 5 1
@@ -168,30 +152,48 @@ focus; down 6 1; up 6 1; type "x"; down 2 1; leave; state
 => own, capture 5, release, done "x", capture 5, other, 1 "x" held
 "###;
 
-#[test]
-fn input_mouse(rt: HostRuntime) -> Result<(), Fail> {
-    expect_played(rt.alloc(), "", MOUSE)
-}
-
-const FAR: &str = r###"input t 2 1 10 9 any "abcdef"
+const FAR_POINTS: &str = r###"input t 2 1 10 9 any "abcdef"
 focus; down 65541 65537; move 0 0; up 0 0; type "x"; move 65538 65537; up 65538 65537
 => own, capture 5, done, release, done "abxcdef", pass, pass
 "###;
 
+const KEY_TABLES: [Table; 2] = [
+    Table {
+        playing: NEAR,
+        before: FOCUSED,
+        rows: KEYS,
+    },
+    Table {
+        playing: NEAR,
+        before: "",
+        rows: DOMAINS,
+    },
+];
+
 #[test]
-fn input_far_points(rt: HostRuntime) -> Result<(), Fail> {
-    expect_far(rt.alloc(), "", FAR)
+fn inputs_take_keys(rt: HostRuntime) -> Result<(), Fail> {
+    expect_played(rt.alloc(), &KEY_TABLES)
 }
 
-// The widest input, with as many characters as it may have.
+const SHOWN_TABLES: [Table; 3] = [
+    Table {
+        playing: NEAR,
+        before: "",
+        rows: FACES,
+    },
+    Table {
+        playing: NEAR,
+        before: "",
+        rows: MOUSE,
+    },
+    Table {
+        playing: FAR,
+        before: "",
+        rows: FAR_POINTS,
+    },
+];
+
 #[test]
-fn long_input(rt: HostRuntime) -> Result<(), Fail> {
-    let alloc = rt.alloc();
-    let start = "é".repeat(alloc, 119)?;
-    let keys = "facts; focus; key End; type \"ab\"; key Backspace; key Ctrl-Y";
-    let text = format!(in alloc; "input t 1 1 130 120 any \"{start}\"\n{keys}\n")?;
-    let wanted = format!(in alloc;
-        "line 5 1 1 131 2 5, own, done, done \"{start}a\", done, done \"{start}\", done \"\"\n"
-    )?;
-    expect_answer(&NEAR, alloc, &text, &wanted)
+fn inputs_are_shown(rt: HostRuntime) -> Result<(), Fail> {
+    expect_played(rt.alloc(), &SHOWN_TABLES)
 }

@@ -1,8 +1,7 @@
 //! Lists.
 
-use super::bench::{NEAR, expect_far, expect_played};
+use super::bench::{FAR, NEAR, Table, expect_played};
 use std::test::Fail;
-use tv_test_support::expect_answer;
 
 const FIVE: &str = r#"list l 2 1 8 3 "a" "b" "c" "d" "e" start 1
 "#;
@@ -28,11 +27,6 @@ focus; pre; key Down; type "b"; key Alt-B; post; key Down; type "b"; key Alt-B
 => own, pass, pass, pass, pass, pass, pass
 "#;
 
-#[test]
-fn list_keys(rt: HostRuntime) -> Result<(), Fail> {
-    expect_played(rt.alloc(), FIVE, KEYS)
-}
-
 // The mouse in each row, at each edge and just outside, while the list is held and while it isn't.
 const MOUSE: &str = r#"state; down 2 3; state; move 2 3; up 2 3
 => 1 1 fresh, focus 5, 1 1 fresh, pass, pass
@@ -50,21 +44,11 @@ focus; down 2 3; press 2; leave; state
 => own, capture 5 3, 61 3 held, other, 1 3 held
 "#;
 
-#[test]
-fn list_mouse(rt: HostRuntime) -> Result<(), Fail> {
-    expect_played(rt.alloc(), FIVE, MOUSE)
-}
-
 // A point that is in the list when its columns or rows are taken in 16 bits.
-const FAR: &str =
+const FAR_POINTS: &str =
     r#"focus; down 65538 65539; move 65538 3; move 2 65539; move 0 0; move 70000 70000; move 65538 65537; up 0 0
 => own, capture 5 3, done, done, done, done, done 1, release
 "#;
-
-#[test]
-fn list_far_points(rt: HostRuntime) -> Result<(), Fail> {
-    expect_far(rt.alloc(), FIVE, FAR)
-}
 
 // The top at opening; fewer items than rows; one row; one column; other characters than those of a byte.
 const FACES: &str = r#"list l 2 1 3 3 "a" "b" "c" "d" "e" start 1
@@ -129,18 +113,30 @@ facts; focus; leave; press 1
 => line 5 2 1 6 3 5, own, other, 1 1 fresh
 "#;
 
-#[test]
-fn list_faces(rt: HostRuntime) -> Result<(), Fail> {
-    expect_played(rt.alloc(), "", FACES)
-}
+const TABLES: [Table; 4] = [
+    Table {
+        playing: NEAR,
+        before: FIVE,
+        rows: KEYS,
+    },
+    Table {
+        playing: NEAR,
+        before: FIVE,
+        rows: MOUSE,
+    },
+    Table {
+        playing: FAR,
+        before: FIVE,
+        rows: FAR_POINTS,
+    },
+    Table {
+        playing: NEAR,
+        before: "",
+        rows: FACES,
+    },
+];
 
-// A hundred items, in the widest list and a single row.
 #[test]
-fn long_list(rt: HostRuntime) -> Result<(), Fail> {
-    let alloc = rt.alloc();
-    let items = "\"é\" ".repeat(alloc, 100)?;
-    let keys = "focus; key Home; key PgUp; key Ctrl-PgUp; key PgDn; key Ctrl-PgDn; facts";
-    let text = format!(in alloc; "list l 1 1 130 1 {items}start 100\n{keys}\n")?;
-    let wanted = "own, done, done 99, done 1, done 2, done 100, line 5 1 1 131 2 5\n";
-    expect_answer(&NEAR, alloc, &text, wanted)
+fn lists(rt: HostRuntime) -> Result<(), Fail> {
+    expect_played(rt.alloc(), &TABLES)
 }

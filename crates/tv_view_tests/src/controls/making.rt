@@ -182,9 +182,14 @@ radios r 0 2 9 "a" "b" start 2
 list l 0 4 9 5 "a" "b" start 2
 end
 end
+dialog e 1 1 30 18 "" ends cancel
+pane p 1 1 6 4
+button b 0 0 6 "b" 100
+end
+end
 "#;
 
-// The window, its text, the dialog, and its views, among them the pane.
+// The window, its text, the dialog, and its views, among them the pane. The other dialog, its pane and the button in that.
 const ANSWERS: &str = "-------
 Y------
 -------
@@ -195,6 +200,9 @@ Y------
 ----Y--
 -----Y-
 ------Y
+-------
+-------
+--Y----
 ";
 
 #[test]

@@ -1,6 +1,6 @@
 //! Controls that open with a value.
 
-use super::bench::expect_played;
+use super::bench::{NEAR, Table, expect_played};
 use std::test::Fail;
 
 // Any text that may stand in the input, also one outside its domain. What is typed in its place ends the selection.
@@ -40,11 +40,6 @@ set "1"; state; focus; key End; type "2"; shot
 => : 12/      :
 "###;
 
-#[test]
-fn inputs_with_texts(rt: HostRuntime) -> Result<(), Fail> {
-    expect_played(rt.alloc(), "", TEXTS)
-}
-
 const MARKS: &str = r#"checks k 2 1 9 "~G~ift" "d~N~ote" start 2
 set 1; state; shot; focus; type " "; state
 => 1 1
@@ -66,11 +61,6 @@ checks k 2 1 9 "~G~ift" "d~N~ote" start 2
 set 10; state
 => 1 10 fresh
 "#;
-
-#[test]
-fn check_boxes_with_marks(rt: HostRuntime) -> Result<(), Fail> {
-    expect_played(rt.alloc(), "", MARKS)
-}
 
 // A list opens with the item in its last row, where that isn't among the first ones.
 const ITEMS: &str = r#"radios r 2 1 9 "~R~ed" "Bl~u~e" start 2
@@ -113,11 +103,6 @@ set 1; state; shot
 => :c  :
 "#;
 
-#[test]
-fn items(rt: HostRuntime) -> Result<(), Fail> {
-    expect_played(rt.alloc(), "", ITEMS)
-}
-
 // What is no field has no value to open with, whatever a record has for its line.
 const OTHERS: &str = r#"text 2 1 4 1 "ab"
 set "x"; set 1; state; shot
@@ -134,7 +119,30 @@ set "x"; set 1; state; shot; focus; type " "
 => own, post 5 120
 "#;
 
+const TABLES: [Table; 4] = [
+    Table {
+        playing: NEAR,
+        before: "",
+        rows: TEXTS,
+    },
+    Table {
+        playing: NEAR,
+        before: "",
+        rows: MARKS,
+    },
+    Table {
+        playing: NEAR,
+        before: "",
+        rows: ITEMS,
+    },
+    Table {
+        playing: NEAR,
+        before: "",
+        rows: OTHERS,
+    },
+];
+
 #[test]
-fn others_stay(rt: HostRuntime) -> Result<(), Fail> {
-    expect_played(rt.alloc(), "", OTHERS)
+fn controls_open_with_values(rt: HostRuntime) -> Result<(), Fail> {
+    expect_played(rt.alloc(), &TABLES)
 }

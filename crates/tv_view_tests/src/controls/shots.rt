@@ -3,34 +3,129 @@
 ghost use Rattle.tv_cells.specs.Rectangle.{IsPointNear};
 
 use super::bars::{Bars, MENUS, NO_MENUS};
-use std::alloc::{AllocError, Global};
-use std::process::Abort;
+use super::telling::push_face;
+use std::alloc::Global;
 use std::test::Fail;
-use tv_cells::{Canvas, Cell, Point, Rect, Screen, lay};
+use tv_cells::{Canvas, Point, Rect, Screen, lay};
 use tv_event::{Command, CommandSet, Event, Key};
 use tv_faces::Background;
 
 const F10: Event = Event::Key(Key::Function(10));
 
-/// The characters of the first rows while the first menu is open.
-const OPEN: [&str; 5] = [
-    "  File  Edit                  ",
-    ".+------+.....................",
-    ".| New  |.....................",
-    ".| Quit |.....................",
-    ".+------+.....................",
-];
-
-// The attributes of the row of its first item: the current item, and the shadow of the box.
-const ITEM_COLOURS: &str = "717020242020202070080871717171717171717171717171717171717171";
-
-const NO_BOX: &str = "..............................";
-
 const LINE: &str = " F10 Menu                     ";
 
 const LINE_COLOURS: &str = "707070707070707070707070707070707070707070707070707070707070";
 
-const DISABLED_COLOURS: &str = "787878787878787878787070707070707070707070707070707070707070";
+// A row of the screen: its characters, or its attributes in two hexadecimal digits each.
+struct Row {
+    y: i32,
+    is_colours: bool,
+    told: &'static str,
+}
+
+// What the bars of a description show, perhaps with a disabled command and after F10.
+struct Shown {
+    description: &'static str,
+    disabled: Option<Command>,
+    is_opened: bool,
+    rows: &'static [Row],
+}
+
+// The first menu is open. The colours of the row of its first item: the current item, and the shadow of the box.
+const OPEN: Shown = Shown {
+    description: MENUS,
+    disabled: None,
+    is_opened: true,
+    rows: &[
+        Row {
+            y: 0,
+            is_colours: false,
+            told: "  File  Edit                  ",
+        },
+        Row {
+            y: 1,
+            is_colours: false,
+            told: ".+------+.....................",
+        },
+        Row {
+            y: 2,
+            is_colours: false,
+            told: ".| New  |.....................",
+        },
+        Row {
+            y: 3,
+            is_colours: false,
+            told: ".| Quit |.....................",
+        },
+        Row {
+            y: 4,
+            is_colours: false,
+            told: ".+------+.....................",
+        },
+        Row {
+            y: 2,
+            is_colours: true,
+            told: "717020242020202070080871717171717171717171717171717171717171",
+        },
+        Row {
+            y: 11,
+            is_colours: false,
+            told: LINE,
+        },
+        Row {
+            y: 11,
+            is_colours: true,
+            told: LINE_COLOURS,
+        },
+    ],
+};
+
+const NO_MENU: Shown = Shown {
+    description: NO_MENUS,
+    disabled: None,
+    is_opened: true,
+    rows: &[
+        Row {
+            y: 0,
+            is_colours: true,
+            told: LINE_COLOURS,
+        },
+        Row {
+            y: 1,
+            is_colours: false,
+            told: "..............................",
+        },
+        Row {
+            y: 11,
+            is_colours: false,
+            told: LINE,
+        },
+    ],
+};
+
+// The item of the status line is disabled.
+const DISABLED: Shown = Shown {
+    description: MENUS,
+    disabled: Some(Command::MENU),
+    is_opened: false,
+    rows: &[
+        Row {
+            y: 1,
+            is_colours: false,
+            told: "..............................",
+        },
+        Row {
+            y: 11,
+            is_colours: false,
+            told: LINE,
+        },
+        Row {
+            y: 11,
+            is_colours: true,
+            told: "787878787878787878787070707070707070707070707070707070707070",
+        },
+    ],
+};
 
 fn desktop() -> Canvas
     ensures { IsPointNear result.origin }
@@ -54,84 +149,46 @@ fn shot(alloc: Global, bars: &Bars, enabled: &CommandSet) -> Result<Screen, Fail
     Ok(screen)
 }
 
-fn push_colour(told: &mut String, alloc: Global, cell: Cell) -> Result<(), AllocError> {
-    let colour = format!(in alloc; "{:02x}", cell.attr())?;
-    told.push_str(&colour)
-}
-
-// The characters of a row, or its attributes in two hexadecimal digits each.
-fn row_told(alloc: Global, screen: &Screen, y: i32, is_colours: bool) -> Result<String, Fail> {
+fn expect_row(alloc: Global, screen: &Screen, row: &Row) -> Result<(), Fail> {
+    let place = Rect {
+        a: Point { x: 0, y: row.y },
+        b: Point {
+            x: 30,
+            y: row.y.saturating_add(1),
+        },
+    };
     let mut told = String::new(alloc);
-    for x in 0..30 {
-        let cell = screen.at(Point { x, y }).ok_or("off the screen")?;
-        if is_colours {
-            push_colour(&mut told, alloc, cell)?;
-        } else {
-            told.push(cell.ch())?;
-        }
+    push_face(&mut told, alloc, screen, place, row.is_colours)?;
+    let wanted = format!(in alloc; ":{}:\n", row.told)?;
+    if told == wanted {
+        return Ok(());
     }
-    Ok(told)
+    Err(Fail::new(format_args!("{told}in row {}", row.y)))
 }
 
-fn expect_row(
-    rt: &impl Abort,
-    alloc: Global,
-    screen: &Screen,
-    y: i32,
-    row: &str,
-) -> Result<(), Fail> {
-    let told = row_told(alloc, screen, y, false)?;
-    assert_eq!(rt; told.as_str(), row, "in row {y}");
-    Ok(())
-}
-
-fn expect_colours(
-    rt: &impl Abort,
-    alloc: Global,
-    screen: &Screen,
-    y: i32,
-    row: &str,
-) -> Result<(), Fail> {
-    let told = row_told(alloc, screen, y, true)?;
-    assert_eq!(rt; told.as_str(), row, "in row {y}");
-    Ok(())
-}
-
-#[test]
-fn first_menu(rt: HostRuntime) -> Result<(), Fail> {
-    let alloc = rt.alloc();
-    let enabled = CommandSet::all();
-    let mut bars = Bars::new(alloc, MENUS)?;
-    bars.offer(&F10, &enabled);
-    let screen = shot(alloc, &bars, &enabled)?;
-    for (y, row) in OPEN.iter().enumerate() {
-        expect_row(&rt, alloc, &screen, y as i32, row)?;
-    }
-    expect_colours(&rt, alloc, &screen, 2, ITEM_COLOURS)?;
-    expect_row(&rt, alloc, &screen, 11, LINE)?;
-    expect_colours(&rt, alloc, &screen, 11, LINE_COLOURS)
-}
-
-#[test]
-fn no_menu(rt: HostRuntime) -> Result<(), Fail> {
-    let alloc = rt.alloc();
-    let enabled = CommandSet::all();
-    let mut bars = Bars::new(alloc, NO_MENUS)?;
-    bars.offer(&F10, &enabled);
-    let screen = shot(alloc, &bars, &enabled)?;
-    expect_colours(&rt, alloc, &screen, 0, LINE_COLOURS)?;
-    expect_row(&rt, alloc, &screen, 1, NO_BOX)?;
-    expect_row(&rt, alloc, &screen, 11, LINE)
-}
-
-#[test]
-fn disabled_status_item(rt: HostRuntime) -> Result<(), Fail> {
-    let alloc = rt.alloc();
+fn shot_of(alloc: Global, shown: &Shown) -> Result<Screen, Fail> {
     let mut enabled = CommandSet::all();
-    enabled.disable(Command::MENU);
-    let bars = Bars::new(alloc, MENUS)?;
-    let screen = shot(alloc, &bars, &enabled)?;
-    expect_row(&rt, alloc, &screen, 1, NO_BOX)?;
-    expect_row(&rt, alloc, &screen, 11, LINE)?;
-    expect_colours(&rt, alloc, &screen, 11, DISABLED_COLOURS)
+    if let Some(command) = shown.disabled {
+        enabled.disable(command);
+    }
+    let mut bars = Bars::new(alloc, shown.description)?;
+    if shown.is_opened {
+        bars.offer(&F10, &enabled);
+    }
+    shot(alloc, &bars, &enabled)
+}
+
+fn expect_shown(alloc: Global, shown: &Shown) -> Result<(), Fail> {
+    let screen = shot_of(alloc, shown)?;
+    for row in shown.rows {
+        expect_row(alloc, &screen, row)?;
+    }
+    Ok(())
+}
+
+#[test]
+fn bars_are_shown(rt: HostRuntime) -> Result<(), Fail> {
+    expect_shown(rt.alloc(), &OPEN)?;
+    expect_shown(rt.alloc(), &NO_MENU)?;
+    expect_shown(rt.alloc(), &DISABLED)
 }

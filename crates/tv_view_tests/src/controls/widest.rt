@@ -1,81 +1,84 @@
-//! Controls as wide and as narrow as they may be.
+//! Controls as wide and as narrow as they may be, and with as much in them.
 
-use super::bench::{NEAR, expect_played};
+use super::bench::{NEAR, Table, expect_played};
 use std::alloc::Global;
 use std::test::Fail;
 use tv_test_support::expect_answer;
 
-/// A control of the greatest width: its line up to the text and behind it, and its face on both sides of the text.
-#[derive(Clone, Copy)]
-struct Widest {
-    before: &'static str,
-    behind: &'static str,
-    left: &'static str,
-    right: &'static str,
+// A control with as much in it as it may have: a part so many times, which stands where its texts have `%`.
+struct Filled {
+    part: &'static str,
+    times: usize,
+    played: &'static str,
+    wanted: &'static str,
 }
 
-const WIDEST: [Widest; 7] = [
-    Widest {
-        before: "text 1 1 130 1",
-        behind: "",
-        left: "",
-        right: "          ",
+// Those of the greatest width show the longest text that they may have, which leaves some of their columns free.
+const WIDEST: [Filled; 7] = [
+    Filled {
+        part: "é",
+        times: 120,
+        played: "text 1 1 130 1 \"%\" \nfacts; shot\n",
+        wanted: "line 5 1 1 131 2 0\n:%          :\n",
     },
-    Widest {
-        before: "label 1 1 130",
-        behind: "c",
-        left: "",
-        right: "          ",
+    Filled {
+        part: "é",
+        times: 120,
+        played: "label 1 1 130 \"%\" c\nfacts; shot\n",
+        wanted: "line 5 1 1 131 2 30\n:%          :\n",
     },
-    Widest {
-        before: "button b 1 1 130",
-        behind: "120",
-        left: "[    ",
-        right: "    ]",
+    Filled {
+        part: "é",
+        times: 120,
+        played: "button b 1 1 130 \"%\" 120\nfacts; shot\n",
+        wanted: "line 5 1 1 131 2 35\n:[    %    ]:\n",
     },
-    Widest {
-        before: "input t 1 1 130 120 any",
-        behind: "",
-        left: " ",
-        right: "         ",
+    Filled {
+        part: "é",
+        times: 120,
+        played: "input t 1 1 130 120 any \"%\" \nfacts; shot\n",
+        wanted: "line 5 1 1 131 2 5\n: %         :\n",
     },
-    Widest {
-        before: "checks k 1 1 130",
-        behind: "start 1",
-        left: "[X] ",
-        right: "      ",
+    Filled {
+        part: "é",
+        times: 120,
+        played: "checks k 1 1 130 \"%\" start 1\nfacts; shot\n",
+        wanted: "line 5 1 1 131 2 35\n:[X] %      :\n",
     },
-    Widest {
-        before: "radios r 1 1 130",
-        behind: "start 1",
-        left: "(*) ",
-        right: "      ",
+    Filled {
+        part: "é",
+        times: 120,
+        played: "radios r 1 1 130 \"%\" start 1\nfacts; shot\n",
+        wanted: "line 5 1 1 131 2 35\n:(*) %      :\n",
     },
-    Widest {
-        before: "list l 1 1 130 1",
-        behind: "start 1",
-        left: "",
-        right: "          ",
+    Filled {
+        part: "é",
+        times: 120,
+        played: "list l 1 1 130 1 \"%\" start 1\nfacts; shot\n",
+        wanted: "line 5 1 1 131 2 5\n:%          :\n",
     },
 ];
 
-// The control shows the longest text that it may have, which leaves some of its columns free.
-fn expect_shown(alloc: Global, widest: &Widest) -> Result<(), Fail> {
-    let text = "é".repeat(alloc, 120)?;
-    let Widest {
-        before,
-        behind,
-        left,
-        right,
-    } = *widest;
-    let played = format!(in alloc; "{before} \"{text}\" {behind}\nfacts; shot\n")?;
-    let options = match before.split_once(' ') {
-        Some(("text", _)) => "0",
-        Some(("label", _)) => "30",
-        Some(("input" | "list", _)) => "5",
-        _ => "35",
-    };
-    let wanted = format!(in alloc; "line 5 1 1 131 2 {options}\n:{left}{text}{right}:\n")?;
+// An input with all its characters but one, and a hundred items in a single row.
+const LONG: [Filled; 2] = [
+    Filled {
+        part: "é",
+        times: 119,
+        played: "input t 1 1 130 120 any \"%\"\nfacts; focus; key End; type \"ab\"; key Backspace; key Ctrl-Y\n",
+        wanted: "line 5 1 1 131 2 5, own, done, done \"%a\", done, done \"%\", done \"\"\n",
+    },
+    Filled {
+        part: "\"é\" ",
+        times: 100,
+        played: "list l 1 1 130 1 %start 100\nfocus; key Home; key PgUp; key Ctrl-PgUp; key PgDn; key Ctrl-PgDn; facts\n",
+        wanted: "own, done, done 99, done 1, done 2, done 100, line 5 1 1 131 2 5\n",
+    },
+];
+
+fn expect_filled(alloc: Global, filled: &Filled) -> Result<(), Fail> {
+    let part = filled.part.repeat(alloc, filled.times)?;
+    let played = filled.played.replace(alloc, "%", &part)?;
+    let wanted = filled.wanted.replace(alloc, "%", &part)?;
     expect_answer(&NEAR, alloc, &played, &wanted)
 }
 
@@ -126,11 +129,19 @@ facts; shot; focus; key Down; shot
 => :b:
 "#;
 
+const NARROWEST_TABLES: [Table; 1] = [Table {
+    playing: NEAR,
+    before: "",
+    rows: NARROWEST,
+}];
+
 #[test]
-fn widest_controls(rt: HostRuntime) -> Result<(), Fail> {
-    let alloc = rt.alloc();
-    for widest in &WIDEST {
-        expect_shown(alloc, widest)?;
+fn widest_and_narrowest(rt: HostRuntime) -> Result<(), Fail> {
+    for filled in &WIDEST {
+        expect_filled(rt.alloc(), filled)?;
     }
-    expect_played(alloc, "", NARROWEST)
+    for filled in &LONG {
+        expect_filled(rt.alloc(), filled)?;
+    }
+    expect_played(rt.alloc(), &NARROWEST_TABLES)
 }
