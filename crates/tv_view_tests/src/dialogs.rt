@@ -211,49 +211,38 @@ impl Scene {
         })
     }
 
-    // Hands an event to the dialog, which is to be open. The lines that it logs.
-    fn handed(&mut self, event: &Event) -> Result<String, Fail> {
+    // Fails unless the dialog, which is to be open, logs these lines at an event.
+    fn expect_log(&mut self, event: &Event, log: &str) -> Result<(), Fail> {
         if !self.dialog.is_open() {
             Err("it has ended")?;
         }
         let env = env(&self.chain, &self.commands, &self.views);
         self.dialog.step(event, &env, &mut Damage::new());
-        Ok(format!(in self.alloc; "{:?}", self.dialog.log())?)
-    }
-
-    fn expect_log(&mut self, event: &Event, log: &str) -> Result<(), Fail> {
-        let logged = self.handed(event)?;
+        let logged = format!(in self.alloc; "{:?}", self.dialog.log())?;
         if logged.as_str() == log {
             return Ok(());
         }
         Err(Fail::new(logged))
     }
 
-    fn expect_standing(&self, is_held: bool, ended: Option<Command>) -> Result<(), Fail> {
-        if self.dialog.held() != is_held {
+    fn expect(&mut self, step: &Step) -> Result<(), Fail> {
+        self.expect_log(&step.event, step.log)?;
+        self.journal.expect_told(step.told)?;
+        if self.dialog.held() != step.is_held {
             return Err("the mouse is held otherwise".into());
         }
-        if self.dialog.is_open() == ended.is_none() && self.dialog.ended() == ended {
+        if self.dialog.is_open() == step.ended.is_none() && self.dialog.ended() == step.ended {
             return Ok(());
         }
         Err("it hasn't ended so".into())
     }
-
-    fn expect_each(&mut self, steps: &[Step]) -> Result<(), Fail> {
-        for step in steps {
-            self.expect_log(&step.event, step.log)?;
-            self.journal.expect_told(step.told)?;
-            self.expect_standing(step.is_held, step.ended)?;
-        }
-        Ok(())
-    }
 }
-
-// What is done to a dialog stands in functions of its own: where a test had it alive over calls that may fail, each would be one
-// more path on which all that it holds is dropped.
 
 /// Fails unless the dialog goes through these steps, from its opening on, as they want it.
 pub fn expect_steps(alloc: Global, steps: &[Step]) -> Result<(), Fail> {
     let mut scene = Scene::new(alloc)?;
-    scene.expect_each(steps)
+    for step in steps {
+        scene.expect(step)?;
+    }
+    Ok(())
 }

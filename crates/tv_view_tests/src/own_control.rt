@@ -71,13 +71,6 @@ const CELLS: [Shown; 5] = [
     },
 ];
 
-fn shows(screen: &Screen, shown: &Shown) -> bool {
-    match screen.at(Point { x: shown.x, y: 1 }) {
-        Some(cell) => cell.ch() == shown.ch && cell.attr() == shown.attr,
-        None => false,
-    }
-}
-
 #[test]
 fn it_is_drawn_alone(rt: HostRuntime) -> Result<(), Fail> {
     let alloc = rt.alloc();
@@ -89,7 +82,11 @@ fn it_is_drawn_alone(rt: HostRuntime) -> Result<(), Fail> {
     let canvas = screen.canvas();
     body.draw(&mut screen, canvas, &window_env(&chain, &commands));
     for shown in &CELLS {
-        assert!(rt; shows(&screen, shown), "{}", shown.x);
+        let is_shown = match screen.at(Point { x: shown.x, y: 1 }) {
+            Some(cell) => cell.ch() == shown.ch && cell.attr() == shown.attr,
+            None => false,
+        };
+        assert!(rt; is_shown, "at {}", shown.x);
     }
     Ok(())
 }

@@ -160,14 +160,12 @@ fn take_drawn(alloc: Global, journal: &Journal, stack: &mut Stack<Window>) -> Re
     take_from(alloc, journal, stack, &front, &rear)
 }
 
-fn take_second(alloc: Global, journal: &Rc<Journal>) -> Result<(), Fail> {
-    let mut stack = Stack::new(windows(alloc, journal)?);
-    take_drawn(alloc, journal, &mut stack)
-}
-
 #[test]
 fn one_of_three_is_dropped(rt: HostRuntime) -> Result<(), Fail> {
     let journal = Journal::new(rt.alloc())?;
-    take_second(rt.alloc(), &journal)?;
+    {
+        let mut stack = Stack::new(windows(rt.alloc(), &journal)?);
+        take_drawn(rt.alloc(), &journal, &mut stack)?;
+    }
     journal.expect(&[(FIRST, Call::Dropped), (THIRD, Call::Dropped)])
 }

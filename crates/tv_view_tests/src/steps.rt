@@ -4,7 +4,6 @@ use crate::forms::{FIRST, INNER, LABEL, LAST, env, form};
 use crate::journal::{Call, Journal, Told};
 use bitflags::Flags;
 use std::alloc::Global;
-use std::rc::Rc;
 use std::test::Fail;
 use tv_cells::Damage;
 use tv_event::{Command, CommandSet, Event, Phase, State};
@@ -192,16 +191,12 @@ fn expect_step(group: &mut Group, journal: &Journal, step: &Step) -> Result<(), 
     }
 }
 
-fn expect_each(group: &mut Group, journal: &Journal, steps: &[Step]) -> Result<(), Fail> {
-    for step in steps {
-        expect_step(group, journal, step)?;
-    }
-    Ok(())
-}
-
 /// Fails unless a form of which no leaf is current yet goes through these steps as they want it.
 pub fn expect_steps(alloc: Global, steps: &[Step]) -> Result<(), Fail> {
     let journal = Journal::new(alloc)?;
     let mut form = form(alloc, &journal)?;
-    expect_each(&mut form, &journal, steps)
+    for step in steps {
+        expect_step(&mut form, &journal, step)?;
+    }
+    Ok(())
 }

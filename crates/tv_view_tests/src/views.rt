@@ -22,15 +22,11 @@ impl<V: View> Probe<V> {
             journal: Rc::clone(journal)?,
         })
     }
-
-    fn note(&self, call: Call) {
-        self.journal.note(self.view.id(), call);
-    }
 }
 
 impl<V: View> Drop for Probe<V> {
     fn drop(self) {
-        self.note(Call::Dropped);
+        self.journal.note(self.view.id(), Call::Dropped);
         let Probe {
             view: _,
             journal: _,
@@ -58,19 +54,20 @@ impl<V: View> View for Probe<V> {
     }
 
     fn handle(&mut self, event: &Event, phase: Phase, env: &Env, damage: &mut Damage) -> Reaction {
-        self.note(Call::Handed(*event, phase));
+        self.journal
+            .note(self.view.id(), Call::Handed(*event, phase));
         self.view.handle(event, phase, env, damage)
     }
 
     fn draw(&self, screen: &mut Screen, canvas: Canvas, env: &Env) {
-        self.note(Call::Drawn);
+        self.journal.note(self.view.id(), Call::Drawn);
         self.view.draw(screen, canvas, env)
     }
 
     fn focus_to(&mut self, id: Id, damage: &mut Damage) -> bool {
         let has_focus = self.view.focus_to(id, damage);
         if has_focus {
-            self.note(Call::Focused);
+            self.journal.note(self.view.id(), Call::Focused);
         }
         has_focus
     }
