@@ -32,8 +32,6 @@ mod samples;
 #[cfg(test)]
 mod stacks;
 #[cfg(test)]
-mod static_texts;
-#[cfg(test)]
 mod steps;
 #[cfg(test)]
 mod two_windows;

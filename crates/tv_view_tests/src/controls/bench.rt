@@ -145,9 +145,15 @@ impl Bench<'_> {
             b"post" => self.phase = Phase::Post,
             b"default" => self.lent.default_now = Some(own),
             b"enter" => self.handle(alloc, told, &Event::Broadcast(Command::DEFAULT))?,
-            b"focus" => self.focus(told, own)?,
+            b"focus" => {
+                self.lent.focus = Some(own);
+                self.grant(told, own)?;
+            }
             b"grant" => self.grant(told, own)?,
-            b"leave" => self.focus(told, Id(4))?,
+            b"leave" => {
+                self.lent.focus = Some(Id(4));
+                self.grant(told, Id(4))?;
+            }
             b"hide" => self.apply(&[]),
             b"show" => self.apply(&[own]),
             b"disable" => self.enable(false),
@@ -197,12 +203,7 @@ impl Bench<'_> {
         Ok(())
     }
 
-    // The focus moves to a control, and the control tells whether it is that one.
-    fn focus(&mut self, told: &mut String, id: Id) -> Result<(), Fail> {
-        self.lent.focus = Some(id);
-        self.grant(told, id)
-    }
-
+    // The focus goes to a control, and the control tells whether it is that one.
     fn grant(&mut self, told: &mut String, id: Id) -> Result<(), Fail> {
         let is_own = self.view.focus_to(id, &mut self.damage);
         Ok(push_token(told, if is_own { "own" } else { "other" })?)

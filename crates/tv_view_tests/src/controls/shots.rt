@@ -139,16 +139,6 @@ fn desktop() -> Canvas
     }
 }
 
-fn shot(alloc: Global, bars: &Bars, enabled: &CommandSet) -> Result<Screen, Fail> {
-    let mut screen = Screen::new(alloc, 30, 12)?;
-    let whole = screen.canvas();
-    lay(&mut screen, desktop(), 30, 12, &Background);
-    bars.bar.draw_box(&mut screen, desktop());
-    bars.line.draw(&mut screen, whole, enabled);
-    bars.bar.draw(&mut screen, whole);
-    Ok(screen)
-}
-
 fn expect_row(alloc: Global, screen: &Screen, row: &Row) -> Result<(), Fail> {
     let place = Rect {
         a: Point { x: 0, y: row.y },
@@ -166,20 +156,26 @@ fn expect_row(alloc: Global, screen: &Screen, row: &Row) -> Result<(), Fail> {
     Err(Fail::new(format_args!("{told}in row {}", row.y)))
 }
 
-fn shot_of(alloc: Global, shown: &Shown) -> Result<Screen, Fail> {
+fn shot(alloc: Global, shown: &Shown) -> Result<Screen, Fail> {
     let mut enabled = CommandSet::all();
     if let Some(command) = shown.disabled {
         enabled.disable(command);
     }
+    let mut screen = Screen::new(alloc, 30, 12)?;
+    let whole = screen.canvas();
     let mut bars = Bars::new(alloc, shown.description)?;
     if shown.is_opened {
         bars.offer(&F10, &enabled);
     }
-    shot(alloc, &bars, &enabled)
+    lay(&mut screen, desktop(), 30, 12, &Background);
+    bars.bar.draw_box(&mut screen, desktop());
+    bars.line.draw(&mut screen, whole, &enabled);
+    bars.bar.draw(&mut screen, whole);
+    Ok(screen)
 }
 
 fn expect_shown(alloc: Global, shown: &Shown) -> Result<(), Fail> {
-    let screen = shot_of(alloc, shown)?;
+    let screen = shot(alloc, shown)?;
     for row in shown.rows {
         expect_row(alloc, &screen, row)?;
     }

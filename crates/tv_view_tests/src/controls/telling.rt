@@ -2,7 +2,7 @@
 
 use std::alloc::{AllocError, Global};
 use std::test::Fail;
-use tv_cells::{Cell, Damage, Point, Rect, Screen};
+use tv_cells::{Damage, Point, Rect, Screen};
 use tv_model::{Id, Record, Value};
 use tv_view::Reaction;
 
@@ -93,22 +93,14 @@ pub fn push_face(
         told.push(':')?;
         for x in rect.a.x..rect.b.x {
             let cell = screen.at(Point { x, y }).ok_or("off the screen")?;
-            push_cell(told, alloc, cell, is_colors)?;
+            if is_colors {
+                let attr = format!(in alloc; "{:02x}", cell.attr())?;
+                told.push_str(&attr)?;
+            } else {
+                told.push(cell.ch())?;
+            }
         }
         told.push_str(":\n")?;
     }
     Ok(())
-}
-
-fn push_cell(
-    told: &mut String,
-    alloc: Global,
-    cell: Cell,
-    is_colors: bool,
-) -> Result<(), AllocError> {
-    if !is_colors {
-        return told.push(cell.ch());
-    }
-    let attr = format!(in alloc; "{:02x}", cell.attr())?;
-    told.push_str(&attr)
 }

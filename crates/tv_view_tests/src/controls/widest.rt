@@ -59,8 +59,26 @@ const WIDEST: [Filled; 7] = [
     },
 ];
 
-// An input with all its characters but one, and a hundred items in a single row.
-const LONG: [Filled; 2] = [
+// Texts of many rows, of one and of none but empty ones; an input with all its characters but one; a hundred items in a single row.
+const LONG: [Filled; 5] = [
+    Filled {
+        part: "row\\n",
+        times: 30,
+        played: "text 1 1 50 40 \"%\"\nfacts\n",
+        wanted: "line 5 1 1 51 41 0\n",
+    },
+    Filled {
+        part: "x",
+        times: 120,
+        played: "text 1 1 50 40 \"%\"\nfacts\n",
+        wanted: "line 5 1 1 51 41 0\n",
+    },
+    Filled {
+        part: "\\n",
+        times: 120,
+        played: "text 1 1 50 40 \"%\"\nfacts\n",
+        wanted: "line 5 1 1 51 41 0\n",
+    },
     Filled {
         part: "é",
         times: 119,
