@@ -1,7 +1,7 @@
 //! Damage by itself: which points it has.
 
 ghost use Rattle.std.specs.Prelude.{All, IsTrue};
-ghost use Rattle.tv_cells.specs.Rectangle.{IsNear, IsPointNear, IsRectNear};
+ghost use Rattle.tv_cells.specs.Rectangle.{IsPointNear, IsRectNear};
 
 use std::process::Abort;
 use std::test::Fail;
@@ -25,16 +25,10 @@ fn damage_of(rects: &[Rect]) -> Damage {
     damage
 }
 
-fn is_near(at: i32) -> bool
-    ensures { IsTrue result → IsNear at }
-{
-    -100_000 <= at && at <= 100_000
-}
-
 fn is_point_near(point: Point) -> bool
     ensures { IsTrue result → IsPointNear point }
 {
-    is_near(point.x) && is_near(point.y)
+    -100_000 <= point.x && point.x <= 100_000 && -100_000 <= point.y && point.y <= 100_000
 }
 
 fn is_rect_near(rect: &Rect) -> bool
