@@ -6,10 +6,9 @@ ghost use Rattle.tv_dialog.specs.Head.{IsLimitedDialogHead, declared_dialog_head
 ghost use Rattle.tv_faces.specs.Corners.{IsCorner};
 ghost use Rattle.tv_model.specs.Description.Rectangles.{corner_of};
 
-use crate::forms::env;
 use crate::journal::{Journal, Told};
 use crate::nodes::button_node;
-use crate::samples::sized;
+use crate::samples::{env, sized};
 use crate::views::Probe;
 use std::alloc::Global;
 use std::rc::Rc;
@@ -20,7 +19,7 @@ use tv_dialog::DialogOf;
 use tv_event::{Command, CommandSet, Event};
 use tv_group::{GroupOf, MemberOf};
 use tv_model::{CommandSpec, DialogHead, Ends, Id, Kind, Node, Pane, Record};
-use tv_palette::Chain;
+use tv_palette::{Chain, Owner};
 use tv_valid::Chars;
 
 /// The dialog's own line.
@@ -216,7 +215,7 @@ impl Scene {
         if !self.dialog.is_open() {
             Err("it has ended")?;
         }
-        let env = env(&self.chain, &self.commands, &self.views);
+        let env = env(Owner::Dialog, &self.chain, &self.commands, &self.views);
         self.dialog.step(event, &env, &mut Damage::new());
         let logged = format!(in self.alloc; "{:?}", self.dialog.log())?;
         if logged.as_str() == log {

@@ -13,11 +13,8 @@ use std::rc::Rc;
 use std::test::Fail;
 use tv_cells::{Point, Rect};
 use tv_controls::{Button, InputLine, Label, StaticText};
-use tv_event::CommandSet;
 use tv_group::{Group, Member};
 use tv_model::{CommandSpec, Id, Node};
-use tv_palette::{Chain, Owner};
-use tv_view::Env;
 
 /// The leaves of the form, in order. Those of the label and the buttons mark letters, and the text is no control.
 pub const LEAVES: [u32; 6] = [LABEL, FIRST, INNER, TEXT, INPUT, LAST];
@@ -33,19 +30,6 @@ pub const TEXT: u32 = 6;
 pub const INPUT: u32 = 7;
 
 pub const LAST: u32 = 8;
-
-/// What a view of a dialog is lent.
-pub fn env<'a>(chain: &'a Chain, commands: &'a CommandSet, views: &'a [Node]) -> Env<'a> {
-    Env {
-        owner: Owner::Dialog,
-        chain,
-        views,
-        commands,
-        focus: None,
-        default_now: None,
-        is_active: true,
-    }
-}
 
 // The members of a node, by functions of their own: no node is then alive over a call that may fail, where each such call
 // would be one more path on which all that a node may hold is dropped.
@@ -104,7 +88,7 @@ pub fn text_probe(
 ) -> Result<Probe<StaticText>, Fail> {
     let node = Node {
         id: Id(id),
-        ..text_node(alloc, 9, 1, text)?
+        ..text_node(alloc, 9, text)?
     };
     text_of(alloc, &node, journal)
 }

@@ -1,14 +1,13 @@
 //! A view of these tests by itself and among the members of a group, from its making to its end.
 
-use crate::forms::{LEAVES, env, form, text, text_probe};
+use crate::forms::{LEAVES, form, text, text_probe};
 use crate::journal::{Call, Journal};
-use crate::samples::{body, reads, sized};
-use crate::windows::window_env;
+use crate::samples::{body, env, reads, sized};
 use std::process::Abort;
 use std::test::Fail;
 use tv_cells::{Damage, Point, Screen};
 use tv_event::{Command, CommandSet, Event, Key, Phase};
-use tv_palette::Chain;
+use tv_palette::{Chain, Owner};
 use tv_view::{Reaction, View};
 
 // The line of a text that stands alone.
@@ -27,7 +26,7 @@ fn it_notes_each_event(rt: HostRuntime) -> Result<(), Fail> {
     let chain = Chain::of_window();
     let commands = CommandSet::all();
     for event in &EVENTS {
-        let env = window_env(&chain, &commands);
+        let env = env(Owner::Window, &chain, &commands, &[]);
         let reaction = probe.handle(event, Phase::Post, &env, &mut Damage::new());
         assert_eq!(rt; reaction, Reaction::Pass);
         journal.expect(&[(ALONE, Call::Handed(*event, Phase::Post))])?;
@@ -80,7 +79,11 @@ fn it_is_drawn_alone(rt: HostRuntime) -> Result<(), Fail> {
     let commands = CommandSet::all();
     let mut screen = Screen::new(alloc, 20, 10)?;
     let canvas = screen.canvas();
-    body.draw(&mut screen, canvas, &window_env(&chain, &commands));
+    body.draw(
+        &mut screen,
+        canvas,
+        &env(Owner::Window, &chain, &commands, &[]),
+    );
     for shown in &CELLS {
         let is_shown = match screen.at(Point { x: shown.x, y: 1 }) {
             Some(cell) => cell.ch() == shown.ch && cell.attr() == shown.attr,
@@ -91,30 +94,27 @@ fn it_is_drawn_alone(rt: HostRuntime) -> Result<(), Fail> {
     Ok(())
 }
 
-// Each leaf is told to draw itself, and what the control behind it shows is on the screen.
+// Each leaf is told to draw itself, and what the control behind it shows is on the screen. It is dropped with its group, and once;
+// only then.
 #[test]
-fn it_is_drawn(rt: HostRuntime) -> Result<(), Fail> {
+fn it_is_drawn_and_dropped(rt: HostRuntime) -> Result<(), Fail> {
     let alloc = rt.alloc();
     let journal = Journal::new(alloc)?;
-    let form = form(alloc, &journal)?;
-    let chain = Chain::of_dialog();
-    let commands = CommandSet::all();
-    let mut screen = Screen::new(alloc, 40, 12)?;
-    let canvas = screen.canvas();
-    form.draw(&mut screen, canvas, &env(&chain, &commands, &[]));
-    journal.expect(&LEAVES.map(|id| (id, Call::Drawn)))?;
-    assert!(rt; reads(&screen, 1, 1, "Amount"));
-    assert!(rt; reads(&screen, 2, 3, "[ Save ]"));
-    Ok(())
-}
-
-// Each is dropped with its group, and once; only then.
-#[test]
-fn it_is_dropped_once(rt: HostRuntime) -> Result<(), Fail> {
-    let journal = Journal::new(rt.alloc())?;
     {
-        let _form = form(rt.alloc(), &journal)?;
+        let form = form(alloc, &journal)?;
         journal.expect(&[])?;
+        let chain = Chain::of_dialog();
+        let commands = CommandSet::all();
+        let mut screen = Screen::new(alloc, 40, 12)?;
+        let canvas = screen.canvas();
+        form.draw(
+            &mut screen,
+            canvas,
+            &env(Owner::Dialog, &chain, &commands, &[]),
+        );
+        journal.expect(&LEAVES.map(|id| (id, Call::Drawn)))?;
+        assert!(rt; reads(&screen, 1, 1, "Amount"));
+        assert!(rt; reads(&screen, 2, 3, "[ Save ]"));
     }
     journal.expect(&LEAVES.map(|id| (id, Call::Dropped)))
 }

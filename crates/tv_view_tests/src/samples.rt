@@ -6,9 +6,12 @@ ghost use Rattle.tv_model.specs.Description.Rectangles.{place_of_node, IsSmallRe
 use std::alloc::Global;
 use std::test::Fail;
 use tv_cells::{Point, Rect, Screen};
+use tv_event::CommandSet;
 use tv_group::{Group, Member};
 use tv_model::{Id, Kind, Node, StaticText};
+use tv_palette::{Chain, Owner};
 use tv_valid::Chars;
+use tv_view::Env;
 
 /// The characters of a short text.
 pub fn chars(alloc: Global, text: &str) -> Result<Chars, Fail>
@@ -21,10 +24,9 @@ pub fn chars(alloc: Global, text: &str) -> Result<Chars, Fail>
     Ok(Chars::from_vec(chars))
 }
 
-/// The declaration of a text of some rows in the first row and column that a frame surrounds.
-pub fn text_node(alloc: Global, width: i32, h: i32, text: &str) -> Result<Node, Fail>
-    requires across { (pos 0 ≤ℤ width) × (width ≤ℤ pos 50) }
-    requires down { (pos 0 ≤ℤ h) × (h ≤ℤ pos 50) }
+/// The declaration of a text in the first row and column that a frame surrounds.
+pub fn text_node(alloc: Global, width: i32, text: &str) -> Result<Node, Fail>
+    requires { (pos 0 ≤ℤ width) × (width ≤ℤ pos 50) }
     ensures { IfOk result (λ node. IsSmallRect (place_of_node node)) }
 {
     let text = chars(alloc, text)?;
@@ -34,7 +36,7 @@ pub fn text_node(alloc: Global, width: i32, h: i32, text: &str) -> Result<Node, 
         x: 1,
         y: 1,
         w: width,
-        kind: Kind::Text(StaticText { h, text }),
+        kind: Kind::Text(StaticText { h: 1, text }),
     })
 }
 
@@ -50,6 +52,24 @@ pub fn sized(width: i32, height: i32) -> Rect
             x: width,
             y: height,
         },
+    }
+}
+
+/// What a view of an active window or dialog is lent.
+pub fn env<'a>(
+    owner: Owner,
+    chain: &'a Chain,
+    commands: &'a CommandSet,
+    views: &'a [Node],
+) -> Env<'a> {
+    Env {
+        owner,
+        chain,
+        views,
+        commands,
+        focus: None,
+        default_now: None,
+        is_active: true,
     }
 }
 

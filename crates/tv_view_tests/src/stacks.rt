@@ -4,15 +4,15 @@ ghost use Rattle.std.specs.Prelude.{◌≤◌};
 
 use crate::forms::text;
 use crate::journal::{Call, Journal};
-use crate::samples::{body, sized};
-use crate::windows::{expect_rows, window_env, window_node, window_round};
+use crate::samples::{body, env, sized};
+use crate::windows::{expect_rows, window_node, window_round};
 use std::alloc::Global;
 use std::rc::Rc;
 use std::test::Fail;
 use tv_cells::{Point, Screen};
 use tv_event::CommandSet;
 use tv_group::Stack;
-use tv_palette::Chain;
+use tv_palette::{Chain, Owner};
 use tv_valid::Chars;
 use tv_window::{Window, draw_stack};
 
@@ -82,7 +82,7 @@ fn drawn(alloc: Global, windows: &[Window]) -> Result<Screen, Fail> {
     let canvas = screen.canvas();
     let chain = Chain::of_window();
     let commands = CommandSet::all();
-    let env = window_env(&chain, &commands);
+    let env = env(Owner::Window, &chain, &commands, &[]);
     draw_stack(windows, &mut screen, canvas, &env);
     Ok(screen)
 }

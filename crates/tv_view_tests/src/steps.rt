@@ -1,7 +1,8 @@
 //! What is done to the form, step by step, and what comes of it.
 
-use crate::forms::{FIRST, INNER, LABEL, LAST, env, form};
+use crate::forms::{FIRST, INNER, LABEL, LAST, form};
 use crate::journal::{Call, Journal, Told};
+use crate::samples::env;
 use bitflags::Flags;
 use std::alloc::Global;
 use std::test::Fail;
@@ -9,7 +10,7 @@ use tv_cells::Damage;
 use tv_event::{Command, CommandSet, Event, Phase, State};
 use tv_group::{Advanced, Dir, Group};
 use tv_model::Id;
-use tv_palette::Chain;
+use tv_palette::{Chain, Owner};
 use tv_view::{Reaction, Rules};
 
 /// The leaves that mark letters.
@@ -65,17 +66,13 @@ fn commands_of(is_enabled: bool) -> CommandSet {
     commands
 }
 
-// What a group of a dialog, into which no view is lent, answers to an event.
-fn handled(group: &mut Group, handing: &Handing) -> Reaction {
+// Fails unless a group of a dialog, into which no view is lent, answers so to an event, and these leaves are handed it.
+fn expect_handed(group: &mut Group, journal: &Journal, handing: &Handing) -> Result<(), Fail> {
     let chain = Chain::of_dialog();
     let commands = commands_of(handing.is_enabled);
-    let mut env = env(&chain, &commands, &[]);
+    let mut env = env(Owner::Dialog, &chain, &commands, &[]);
     env.default_now = handing.default_now;
-    group.handle(&handing.event, handing.phase, &env, &mut Damage::new())
-}
-
-fn expect_handed(group: &mut Group, journal: &Journal, handing: &Handing) -> Result<(), Fail> {
-    let reaction = handled(group, handing);
+    let reaction = group.handle(&handing.event, handing.phase, &env, &mut Damage::new());
     let told = Told {
         call: Call::Handed(handing.event, handing.phase),
         views: handing.reached,

@@ -3,8 +3,8 @@
 ghost use Rattle.std.specs.Prelude.{◌≤ℤ◌, pos};
 ghost use Rattle.tv_model.specs.Description.Rectangles.{place_of_node, IsSmallRect};
 
-use crate::samples::{body, chars, sized, text_node};
-use crate::windows::{expect_rows, window_env, window_node, window_round};
+use crate::samples::{body, chars, env, sized, text_node};
+use crate::windows::{expect_rows, window_node, window_round};
 use std::alloc::Global;
 use std::process::Abort;
 use std::test::Fail;
@@ -14,7 +14,7 @@ use tv_event::CommandSet;
 use tv_faces::{Background, LabelFace};
 use tv_group::{Group, Member};
 use tv_model::Node;
-use tv_palette::Chain;
+use tv_palette::{Chain, Owner};
 use tv_window::{Window, draw_stack};
 
 // The bar and the status line, with nothing in them.
@@ -59,7 +59,7 @@ fn text_body(alloc: Global, width: i32, columns: i32, text: &str) -> Result<Grou
     requires across { (pos 0 ≤ℤ width) × (width ≤ℤ pos 50) }
     requires columns { (pos 0 ≤ℤ columns) × (columns ≤ℤ pos 50) }
 {
-    let node = text_node(alloc, columns, 1, text)?;
+    let node = text_node(alloc, columns, text)?;
     body_of(alloc, width, &node)
 }
 
@@ -106,7 +106,7 @@ fn paint(screen: &mut Screen, windows: &[Window]) {
     };
     let chain = Chain::of_window();
     let commands = CommandSet::all();
-    let env = window_env(&chain, &commands);
+    let env = env(Owner::Window, &chain, &commands, &[]);
     draw_stack(windows, screen, desktop, &env);
 }
 

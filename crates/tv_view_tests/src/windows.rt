@@ -9,26 +9,10 @@ use crate::samples::reads;
 use std::alloc::Global;
 use std::test::Fail;
 use tv_cells::{Point, Screen};
-use tv_event::CommandSet;
 use tv_group::Group;
 use tv_model::{Id, Kind, Node, WindowHead};
-use tv_palette::{Chain, Owner};
 use tv_valid::Chars;
-use tv_view::Env;
 use tv_window::Window;
-
-/// What a view of an active window is lent.
-pub fn window_env<'a>(chain: &'a Chain, commands: &'a CommandSet) -> Env<'a> {
-    Env {
-        owner: Owner::Window,
-        chain,
-        views: &[],
-        commands,
-        focus: None,
-        default_now: None,
-        is_active: true,
-    }
-}
 
 /// The declaration of a window of four rows, in a line of the description.
 pub fn window_node(
