@@ -30,8 +30,8 @@ fn with_pane(alloc: Global, journal: &Rc<Journal>, level: u8) -> Result<Vec<Memb
     Ok(members)
 }
 
-// Fails unless members whose highest pane is of a level make a group of the next one. Where it is of level 8 they all come back, in
-// order, and none of them is dropped.
+// Fails unless members whose highest pane is of a level make a group of the next one. Where it is of level 8 they all come back, and
+// none of them is dropped.
 fn expect_grouped(
     bounds: Rect,
     members: Vec<Member>,

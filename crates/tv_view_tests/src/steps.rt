@@ -13,7 +13,7 @@ use tv_model::Id;
 use tv_palette::{Chain, Owner};
 use tv_view::{Reaction, Rules};
 
-/// The leaves that mark letters.
+// The leaves that mark letters.
 const MARKING: &[u32] = &[LABEL, FIRST, INNER, LAST];
 
 /// An event that the form is handed, and what comes of it.
@@ -40,7 +40,7 @@ pub enum Step {
     },
     /// It is handed an event.
     Hand(Handing),
-    /// It is handed in each phase an event that no leaf takes. Those that mark letters get it before these and after them.
+    /// It is handed in each phase an event that no leaf takes. Those that mark letters get it before the current leaf and after it.
     Pass {
         event: Event,
         current: &'static [u32],
@@ -84,6 +84,7 @@ fn expect_handed(group: &mut Group, journal: &Journal, handing: &Handing) -> Res
     Err(Fail::new(format_args!("{reaction:?}")))
 }
 
+// Fails unless no leaf takes an event: those that mark letters are handed it before the current leaf, if there is one, and after it.
 fn expect_passed(
     group: &mut Group,
     journal: &Journal,
