@@ -4,13 +4,13 @@ ghost use Rattle.std.specs.Prelude.{◌≡◌, IfOk, IfSome, Some};
 ghost use Rattle.tv_model.specs.Faults.{fault_number};
 ghost use Rattle.tv_advice.specs.Advised.{IsAdviceOn};
 
+use crate::index::Index;
 use crate::note::Note;
 use crate::saying::{Part, Remark, Saying};
-use crate::spans::{Span, line_of, words};
+use crate::spans::{Span, words};
 use crate::telling::saying_for;
 use std::alloc::{AllocError, Global};
 use tv_explain::Explained;
-use tv_model::Desc;
 
 /// What is told of a fault.
 #[derive(Debug, Drop)]
@@ -74,11 +74,11 @@ fn span_of(alloc: Global, line: &str, part: Part) -> Result<Span, AllocError> {
 }
 
 // The remark, on this line of the text.
-fn noted(alloc: Global, text: &[u8], line: usize, remark: Remark) -> Result<Note, AllocError>
+fn noted(alloc: Global, index: &Index, line: usize, remark: Remark) -> Result<Note, AllocError>
     ensures { IfOk result (λ note. note.line ≡ line) }
 {
     let Remark { part, label } = remark;
-    let Span { column, len } = span_of(alloc, line_of(text, line), part)?;
+    let Span { column, len } = span_of(alloc, index.line(line), part)?;
     Ok(Note {
         line,
         column,
@@ -90,14 +90,14 @@ fn noted(alloc: Global, text: &[u8], line: usize, remark: Remark) -> Result<Note
 // The remark on the other line, where there are both.
 fn noted_other(
     alloc: Global,
-    text: &[u8],
+    index: &Index,
     line: Option<usize>,
     remark: Option<Remark>,
 ) -> Result<Option<Note>, AllocError>
     ensures { IfOk result (λ other. IfSome other (λ note. line ≡ Some note.line)) }
 {
     match (line, remark) {
-        (Some(line), Some(remark)) => Ok(Some(noted(alloc, text, line, remark)?)),
+        (Some(line), Some(remark)) => Ok(Some(noted(alloc, index, line, remark)?)),
         _ => Ok(None),
     }
 }
@@ -113,15 +113,10 @@ fn plain_saying(alloc: Global) -> Result<Saying, AllocError> {
 }
 
 /// Tells what a fault is, where it stands, what else has to do with it, and how to mend it.
-pub fn advise(
-    alloc: Global,
-    text: &[u8],
-    desc: &Desc,
-    fault: &Explained,
-) -> Result<Advice, AllocError>
+pub fn advise(alloc: Global, index: &Index, fault: &Explained) -> Result<Advice, AllocError>
     ensures { IfOk result (λ advice. IsAdviceOn fault.now advice) }
 {
-    let saying = match saying_for(alloc, desc, fault, line_of(text, fault.line))? {
+    let saying = match saying_for(alloc, index, fault, index.line(fault.line))? {
         Some(saying) => saying,
         None => plain_saying(alloc)?,
     };
@@ -134,8 +129,8 @@ pub fn advise(
     Ok(Advice {
         number: fault.fault.kind.number(),
         message,
-        own: noted(alloc, text, fault.line, own)?,
-        other: noted_other(alloc, text, fault.other, other)?,
+        own: noted(alloc, index, fault.line, own)?,
+        other: noted_other(alloc, index, fault.other, other)?,
         mend,
     })
 }

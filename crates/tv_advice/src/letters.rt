@@ -3,37 +3,50 @@
 use crate::naming::key_text;
 use crate::saying::{Part, Remark, Saying};
 use std::alloc::{AllocError, Global};
+use std::collections::HashSet;
 use tv_event::Key;
 use tv_explain::Reason;
-use tv_model::{Desc, Dialog, MarkedText, Menu, MenuItem, Node, StatusItem, Version, Window};
-use tv_names::{Sharing, marked_of};
+use tv_model::{Dialog, MarkedText, Menu, MenuItem, Node, StatusItem, Version, Window};
+use tv_names::{marked_of, shared_letters};
 
-fn is_marked_in(views: &[Node], letter: char) -> bool {
-    views.iter().any(|view| { marked_of(&view.kind).iter().any(|text| text.marks(letter)) })
+/// The letters that the views of a dialog mark.
+#[derive(Drop)]
+pub struct Letters {
+    marked: HashSet<char>,
+    /// Those that they share lawfully: in version 1 there are none.
+    shared: HashSet<char>,
 }
 
-// Whether the dialog's views share the letter lawfully: in version 1 there are none.
-fn is_shared(
-    alloc: Global,
-    desc: &Desc,
-    dialog: &Dialog,
-    letter: char,
-) -> Result<bool, AllocError> {
-    if desc.version == Version::One {
-        return Ok(false);
+impl Letters {
+    /// Collects the letters of a dialog.
+    pub fn new(alloc: Global, version: Version, dialog: &Dialog) -> Result<Letters, AllocError> {
+        let views = dialog.views.as_slice();
+        let rules = match version {
+            Version::One => None,
+            Version::Two => Some(dialog.rules.as_slice()),
+        };
+        Ok(Letters {
+            marked: marked_letters(alloc, views)?,
+            shared: shared_letters(alloc, views, rules)?,
+        })
     }
-    let sharing = Sharing::new(alloc, dialog.views.as_slice(), dialog.rules.as_slice())?;
-    Ok(sharing.sharer(alloc, letter)?.is_some())
+}
+
+// The letters that the views mark.
+fn marked_letters(alloc: Global, views: &[Node]) -> Result<HashSet<char>, AllocError> {
+    let mut marked = HashSet::new(alloc);
+    for view in views {
+        for text in marked_of(&view.kind) {
+            if let Some(letter) = text.letter() {
+                marked.insert(letter)?;
+            }
+        }
+    }
+    Ok(marked)
 }
 
 // The letter of the node that the other one marks too, and may not. Where it is one line, it is a letter that it marks twice.
-fn letter_marked_again(
-    alloc: Global,
-    desc: &Desc,
-    dialog: &Dialog,
-    node: &Node,
-    other: &Node,
-) -> Result<Option<char>, AllocError> {
+fn letter_marked_again(letters: &Letters, node: &Node, other: &Node) -> Option<char> {
     let texts = marked_of(&node.kind);
     for (i, text) in texts.iter().enumerate() {
         if let Some(letter) = text.letter() {
@@ -43,20 +56,12 @@ fn letter_marked_again(
                 marked_of(&other.kind)
             };
             let is_marked = others.iter().any(|text| text.marks(letter));
-            if is_marked && !is_shared(alloc, desc, dialog, letter)? {
-                return Ok(Some(letter));
+            if is_marked && !letters.shared.contains(&letter) {
+                return Some(letter);
             }
         }
     }
-    Ok(None)
-}
-
-// Whether a status item has Alt with the letter.
-fn is_status_letter(desc: &Desc, letter: char) -> bool {
-    desc.status
-        .as_slice()
-        .iter()
-        .any(|item| item.key == Key::Alt(letter))
+    None
 }
 
 // The text of the node that marks the letter, the last such.
@@ -68,14 +73,14 @@ fn marking(node: &Node, letter: char) -> Option<&MarkedText> {
 // The letters and digits of the text that neither a view marks nor a status item has, in upper case, with commas between.
 fn free_letters(
     alloc: Global,
-    desc: &Desc,
+    letters: &Letters,
+    status: &HashSet<char>,
     text: &[char],
-    views: &[Node],
 ) -> Result<String, AllocError> {
     let mut free = Vec::new(alloc);
     for ch in text {
         let letter = ch.to_ascii_uppercase();
-        let is_taken = is_marked_in(views, letter) || is_status_letter(desc, letter);
+        let is_taken = letters.marked.contains(&letter) || status.contains(&letter);
         if ch.is_ascii_alphanumeric() && !is_taken && !free.contains(&letter) {
             free.push(letter)?;
         }
@@ -93,11 +98,11 @@ fn free_letters(
 // How to mend a letter that is marked twice.
 fn letter_mend(
     alloc: Global,
-    desc: &Desc,
+    letters: &Letters,
+    status: &HashSet<char>,
     text: &MarkedText,
-    views: &[Node],
 ) -> Result<String, AllocError> {
-    let free = free_letters(alloc, desc, text.text.as_slice(), views)?;
+    let free = free_letters(alloc, letters, status, text.text.as_slice())?;
     if free.is_empty() {
         String::from_str(alloc, "mark none")
     } else {
@@ -108,14 +113,14 @@ fn letter_mend(
 /// Tells which letter a view marks again that the other one marks.
 pub fn letter_again(
     alloc: Global,
-    desc: &Desc,
-    dialog: &Dialog,
+    letters: &Letters,
+    status: &HashSet<char>,
     node: &Node,
     other: &Node,
 ) -> Result<Saying, AllocError> {
-    let letter = letter_marked_again(alloc, desc, dialog, node, other)?.unwrap_or('?');
+    let letter = letter_marked_again(letters, node, other).unwrap_or('?');
     let mend = match marking(node, letter) {
-        Some(text) => letter_mend(alloc, desc, text, dialog.views.as_slice())?,
+        Some(text) => letter_mend(alloc, letters, status, text)?,
         None => String::from_str(alloc, "mark another letter or none")?,
     };
     let told = format!(in alloc; "Alt-{letter} is this one's")?;

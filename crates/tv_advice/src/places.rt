@@ -2,10 +2,9 @@
 
 use crate::naming::{called, word_of, x_word};
 use crate::saying::{Part, Remark, Saying};
-use crate::subject::dialog_around;
 use std::alloc::{AllocError, Global};
 use tv_faults::least_width;
-use tv_model::{Desc, Dialog, Kind, Node};
+use tv_model::{Desc, Kind, Node};
 
 /// Columns or rows, the first and the last.
 #[derive(Clone, Copy)]
@@ -288,16 +287,6 @@ fn place_text(alloc: Global, node: &Node) -> Result<String, AllocError> {
     format!(in alloc; "{across}, {down}")
 }
 
-// Where the views of a dialog may stand that stand where this one does.
-fn room_around(dialog: &Dialog, node: &Node) -> Room {
-    let views = dialog.views.as_slice();
-    let pane = views
-        .iter()
-        .rev()
-        .find(|view| view.id.0 < node.id.0 && view.depth < node.depth);
-    inside(pane.unwrap_or(&dialog.node))
-}
-
 // Where the node could stand beside the other one, or below it.
 fn overlap_mend(
     alloc: Global,
@@ -316,17 +305,17 @@ fn overlap_mend(
     }
 }
 
-/// Tells how a view of a dialog overlaps another one.
+/// Tells how a view of a dialog overlaps another one in the same pane or dialog, its owner.
 pub fn overlap(
     alloc: Global,
-    desc: &Desc,
+    owner: Option<&Node>,
     node: &Node,
     other: &Node,
 ) -> Result<Saying, AllocError> {
     let word = word_of(&node.kind);
     let first = called(alloc, other)?;
-    let mend = match dialog_around(desc, node.id.0) {
-        Some(dialog) => overlap_mend(alloc, node, other, room_around(dialog, node))?,
+    let mend = match owner {
+        Some(owner) => overlap_mend(alloc, node, other, inside(owner))?,
         None => String::from_str(alloc, "move or shrink one of the two")?,
     };
     Ok(Saying {

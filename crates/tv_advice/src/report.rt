@@ -6,6 +6,7 @@ ghost use Rattle.tv_advice.specs.Blocks.{IsBlockAt, numbered_fault};
 use crate::advice::Advice;
 use crate::colour::{Colour, shown_in};
 use crate::heads::head;
+use crate::index::Index;
 use crate::json::{advice_members, unread_members};
 use crate::manner::Manner;
 use crate::note::Note;
@@ -31,14 +32,19 @@ fn block_of(
 }
 
 /// Writes what is told of a fault.
-pub fn advice_block(alloc: Global, source: &Source, advice: &Advice) -> Result<String, AllocError>
+pub fn advice_block(
+    alloc: Global,
+    source: &Source,
+    index: &Index,
+    advice: &Advice,
+) -> Result<String, AllocError>
     ensures { IfOk result (λ block. IsBlockAt source.now.manner source.now.name.now advice.now.own.line
         (numbered_fault advice.now.number) (string_bytes block)) }
 {
     let fault = format!(in alloc; "F{}", advice.number)?;
     let rest = match source.manner {
         Manner::Json => advice_members(alloc, advice)?,
-        Manner::Plain | Manner::Coloured => advice_lines(alloc, source, advice)?,
+        Manner::Plain | Manner::Coloured => advice_lines(alloc, source, index, advice)?,
     };
     block_of(alloc, source, &advice.own, &fault, &rest)
 }
@@ -59,27 +65,37 @@ pub fn unread_block(
     block_of(alloc, source, &unread.own, fault, &rest)
 }
 
-/// Where the lines of a text are shown: their numbers stand below one another.
+/// How the lines of a text are shown: their numbers stand below one another.
 #[derive(Clone, Copy)]
-struct Excerpt<'a> {
-    source: &'a Source<'a>,
+struct Excerpt {
+    manner: Manner,
     /// The columns of the longest number.
     width: usize,
 }
 
 // The message, the lines of the text that have to do with the fault, and how to mend it.
-fn advice_lines(alloc: Global, source: &Source, advice: &Advice) -> Result<String, AllocError> {
+fn advice_lines(
+    alloc: Global,
+    source: &Source,
+    index: &Index,
+    advice: &Advice,
+) -> Result<String, AllocError> {
     let mut told = format!(in alloc; ": {}\n", advice.message)?;
     let own_width = digits(advice.own.line);
     let width = match &advice.other {
         Some(other) => own_width.max(digits(other.line)),
         None => own_width,
     };
-    let excerpt = Excerpt { source, width };
+    let excerpt = Excerpt {
+        manner: source.manner,
+        width,
+    };
     if let Some(other) = &advice.other {
-        push_note(alloc, &mut told, excerpt, other, Mark::Other)?;
+        let shown = Shown::new(index.line(other.line), other, Mark::Other);
+        push_note(alloc, &mut told, excerpt, shown)?;
     }
-    push_note(alloc, &mut told, excerpt, &advice.own, Mark::Own)?;
+    let shown = Shown::new(index.line(advice.own.line), &advice.own, Mark::Own);
+    push_note(alloc, &mut told, excerpt, shown)?;
     push_help(alloc, &mut told, excerpt, "mend", &advice.mend)?;
     Ok(told)
 }
@@ -87,9 +103,13 @@ fn advice_lines(alloc: Global, source: &Source, advice: &Advice) -> Result<Strin
 // The message, the line, and what helps.
 fn unread_lines(alloc: Global, source: &Source, unread: &Unread) -> Result<String, AllocError> {
     let mut told = format!(in alloc; ": {}\n", unread.message)?;
-    let width = digits(unread.own.line);
-    let excerpt = Excerpt { source, width };
-    push_note(alloc, &mut told, excerpt, &unread.own, Mark::Own)?;
+    let excerpt = Excerpt {
+        manner: source.manner,
+        width: digits(unread.own.line),
+    };
+    let line = line_of(source.text, unread.own.line);
+    let shown = Shown::new(line, &unread.own, Mark::Own);
+    push_note(alloc, &mut told, excerpt, shown)?;
     match unread.hint {
         Some(Hint::Form(form)) => push_help(alloc, &mut told, excerpt, "form", form)?,
         Some(Hint::Mend(mend)) => push_help(alloc, &mut told, excerpt, "mend", mend)?,
@@ -123,21 +143,35 @@ impl Mark {
     }
 }
 
-// Adds a line of the text, and below it what is said of a part, which is marked.
+/// A line of the text, and what is said of a part of it, which is marked.
+#[derive(Clone, Copy)]
+struct Shown<'a> {
+    line: &'a str,
+    note: &'a Note,
+    mark: Mark,
+}
+
+impl<'a> Shown<'a> {
+    fn new(line: &'a str, note: &'a Note, mark: Mark) -> Shown<'a> {
+        Shown { line, note, mark }
+    }
+}
+
+// Adds a line of the text, and below it what is said of a part.
 fn push_note(
     alloc: Global,
     told: &mut String,
     excerpt: Excerpt,
-    note: &Note,
-    mark: Mark,
+    shown: Shown,
 ) -> Result<(), AllocError> {
-    let Excerpt { source, width } = excerpt;
+    let Excerpt { manner, width } = excerpt;
+    let Shown { line, note, mark } = shown;
     push_margin(told, width)?;
     told.push_str("\n")?;
     push_times(told, ' ', width.saturating_sub(digits(note.line)))?;
     let number = format!(in alloc; "{} | ", note.line)?;
     told.push_str(&number)?;
-    push_shown(told, line_of(source.text, note.line))?;
+    push_shown(told, line)?;
     told.push_str("\n")?;
     push_margin(told, width)?;
     push_times(told, ' ', note.column.saturating_add(1))?;
@@ -145,7 +179,7 @@ fn push_note(
     push_times(&mut said, mark.sign(), note.len.max(1))?;
     said.push_str(" ")?;
     said.push_str(&note.label)?;
-    let shown = shown_in(alloc, source.manner, mark.colour(), &said)?;
+    let shown = shown_in(alloc, manner, mark.colour(), &said)?;
     told.push_str(&shown)?;
     told.push_str("\n")
 }
@@ -159,7 +193,7 @@ fn push_help(
     help: &str,
 ) -> Result<(), AllocError> {
     push_times(told, ' ', excerpt.width)?;
-    let word = shown_in(alloc, excerpt.source.manner, Colour::Help, word)?;
+    let word = shown_in(alloc, excerpt.manner, Colour::Help, word)?;
     let line = format!(in alloc; " = {word}: {help}\n")?;
     told.push_str(&line)
 }

@@ -1,7 +1,6 @@
 //! What stands on a line of the canonical text.
 
-use tv_explain::{around_line, at_line};
-use tv_model::{Desc, Dialog, Id, Menu, MenuItem, Node, Rule, StatusItem, Window};
+use tv_model::{Menu, MenuItem, Node, Rule, StatusItem, Window};
 
 /// The declaration on a line.
 #[derive(Clone, Copy)]
@@ -31,44 +30,23 @@ impl<'a> Subject<'a> {
     }
 }
 
-// Finds the item of a menu that stands on the line.
-fn item_at(desc: &Desc, line: u32) -> Option<&MenuItem> {
-    let menu = around_line(desc.menus.as_slice(), line)?;
-    let (_, item) = at_line(menu.items.as_slice(), line)?;
-    Some(item)
+/// A declaration, and what it stands in.
+#[derive(Clone, Copy)]
+pub struct Declared<'a> {
+    pub subject: Subject<'a>,
+    /// The pane in which a view of a dialog stands, or the dialog.
+    pub owner: Option<&'a Node>,
+    /// The place of that dialog among the dialogs.
+    pub dialog: Option<usize>,
 }
 
-/// Finds the dialog that the line stands in.
-pub fn dialog_around(desc: &Desc, line: u32) -> Option<&Dialog> {
-    around_line(desc.dialogs.as_slice(), line)
-}
-
-// Finds the rule that stands on the line.
-fn rule_at(desc: &Desc, line: u32) -> Option<&Rule> {
-    let dialog = dialog_around(desc, line)?;
-    let (_, rule) = at_line(dialog.rules.as_slice(), line)?;
-    Some(rule)
-}
-
-/// Finds what stands on the line.
-pub fn subject_at(desc: &Desc, line: u32) -> Subject<'_> {
-    if let Some((_, window)) = at_line(desc.windows.as_slice(), line) {
-        return Subject::Window(window);
-    }
-    if let Some(node) = desc.node(Id(line)) {
-        return Subject::Node(node);
-    }
-    if let Some((_, menu)) = at_line(desc.menus.as_slice(), line) {
-        return Subject::Menu(menu);
-    }
-    if let Some(item) = item_at(desc, line) {
-        return Subject::Item(item);
-    }
-    if let Some((_, item)) = at_line(desc.status.as_slice(), line) {
-        return Subject::Status(item);
-    }
-    match rule_at(desc, line) {
-        Some(rule) => Subject::Rule(rule),
-        None => Subject::Other,
+impl<'a> Declared<'a> {
+    /// Returns what stands in no dialog.
+    pub fn alone(subject: Subject<'a>) -> Declared<'a> {
+        Declared {
+            subject,
+            owner: None,
+            dialog: None,
+        }
     }
 }

@@ -3,6 +3,7 @@
 use crate::ends::{
     bad_opening, lacks_cancel, lacks_end, nothing_to_focus, second_default, unknown_start,
 };
+use crate::index::Index;
 use crate::inputs::{bad_start, empty_domain, wide_character};
 use crate::letters::{
     item_again, letter_again, number_again, rules_cancel, status_key, title_again,
@@ -12,24 +13,24 @@ use crate::names::{label_link, name_again, rule_shows_itself, rule_unknown};
 use crate::naming::word_of;
 use crate::places::{off_desktop, outside_owner, overlap};
 use crate::saying::Saying;
-use crate::subject::{Subject, dialog_around, subject_at};
+use crate::subject::{Declared, Subject};
 use std::alloc::{AllocError, Global};
 use tv_explain::{Explained, FaultGroup, RuleFault, ViewFault, Why, group_of};
-use tv_model::{Desc, Id, Kind, Node};
+use tv_model::{Kind, Node};
 
 // The node on the other line.
-fn other_node(desc: &Desc, why: Why) -> Option<&Node> {
-    desc.node(Id(why.other?))
+fn other_node<'a>(index: &Index<'a>, why: Why) -> Option<&'a Node> {
+    index.node(why.other?)
 }
 
 // What is told of a name that is given again.
 fn saying_for_name(
     alloc: Global,
-    desc: &Desc,
+    index: &Index,
     subject: Subject,
     why: Why,
 ) -> Result<Option<Saying>, AllocError> {
-    match (subject.node(), other_node(desc, why)) {
+    match (subject.node(), other_node(index, why)) {
         (Some(node), Some(other)) => Ok(Some(name_again(alloc, node, other)?)),
         _ => Ok(None),
     }
@@ -38,7 +39,7 @@ fn saying_for_name(
 // What is told of a dialog or a view that lies outside its owner.
 fn saying_for_owner(
     alloc: Global,
-    desc: &Desc,
+    index: &Index,
     subject: Subject,
     why: Why,
 ) -> Result<Option<Saying>, AllocError> {
@@ -46,9 +47,9 @@ fn saying_for_owner(
         return Ok(None);
     };
     if node.kind.is_dialog() {
-        return Ok(Some(off_desktop(alloc, desc, node)?));
+        return Ok(Some(off_desktop(alloc, index.desc(), node)?));
     }
-    match other_node(desc, why) {
+    match other_node(index, why) {
         Some(owner) => Ok(Some(outside_owner(alloc, node, owner)?)),
         None => Ok(None),
     }
@@ -57,7 +58,7 @@ fn saying_for_owner(
 // What is told of an end that a dialog lacks, or that the dialog of a button does.
 fn saying_for_end(
     alloc: Global,
-    desc: &Desc,
+    index: &Index,
     subject: Subject,
     why: Why,
 ) -> Result<Option<Saying>, AllocError> {
@@ -67,7 +68,7 @@ fn saying_for_end(
     if node.kind.is_dialog() {
         return Ok(Some(lacks_cancel(alloc, node)?));
     }
-    match other_node(desc, why) {
+    match other_node(index, why) {
         Some(dialog) => Ok(Some(lacks_end(alloc, node, dialog)?)),
         None => Ok(None),
     }
@@ -109,12 +110,12 @@ fn saying_for_limits(alloc: Global, subject: Subject, why: Why) -> Result<Saying
 // What is told of a dialog's command, or of the `start`.
 fn saying_for_opening(
     alloc: Global,
-    desc: &Desc,
+    index: &Index,
     subject: Subject,
     why: Why,
 ) -> Result<Option<Saying>, AllocError> {
     if let Subject::Other = subject {
-        return Ok(Some(unknown_start(alloc, desc, why)?));
+        return Ok(Some(unknown_start(alloc, index.desc(), why)?));
     }
     match subject.node() {
         Some(node) => Ok(Some(bad_opening(alloc, node, why)?)),
@@ -136,12 +137,12 @@ fn saying_for_menu_letter(alloc: Global, subject: Subject) -> Result<Option<Sayi
 // What is told of a view that overlaps another one.
 fn saying_for_overlap(
     alloc: Global,
-    desc: &Desc,
+    owner: Option<&Node>,
     node: &Node,
     other: Option<&Node>,
 ) -> Result<Option<Saying>, AllocError> {
     match other {
-        Some(other) => Ok(Some(overlap(alloc, desc, node, other)?)),
+        Some(other) => Ok(Some(overlap(alloc, owner, node, other)?)),
         None => Ok(None),
     }
 }
@@ -149,12 +150,19 @@ fn saying_for_overlap(
 // What is told of a letter that a view marks again.
 fn saying_for_letter(
     alloc: Global,
-    desc: &Desc,
+    index: &Index,
+    declared: Declared,
     node: &Node,
     other: Option<&Node>,
 ) -> Result<Option<Saying>, AllocError> {
-    match (dialog_around(desc, node.id.0), other) {
-        (Some(dialog), Some(other)) => Ok(Some(letter_again(alloc, desc, dialog, node, other)?)),
+    match (index.letters(declared), other) {
+        (Some(letters), Some(other)) => Ok(Some(letter_again(
+            alloc,
+            letters,
+            index.status(),
+            node,
+            other,
+        )?)),
         _ => Ok(None),
     }
 }
@@ -171,17 +179,17 @@ fn saying_for_domain(alloc: Global, node: &Node, why: Why) -> Result<Option<Sayi
 fn saying_for_view(
     alloc: Global,
     fault: ViewFault,
-    desc: &Desc,
-    subject: Subject,
+    index: &Index,
+    declared: Declared,
     why: Why,
 ) -> Result<Option<Saying>, AllocError> {
-    let Some(node) = subject.node() else {
+    let Some(node) = declared.subject.node() else {
         return Ok(None);
     };
-    let other = other_node(desc, why);
+    let other = other_node(index, why);
     match fault {
-        ViewFault::Overlap => saying_for_overlap(alloc, desc, node, other),
-        ViewFault::LetterTwice => saying_for_letter(alloc, desc, node, other),
+        ViewFault::Overlap => saying_for_overlap(alloc, declared.owner, node, other),
+        ViewFault::LetterTwice => saying_for_letter(alloc, index, declared, node, other),
         ViewFault::LabelLink => Ok(Some(label_link(alloc, node, other)?)),
         ViewFault::SecondDefault => Ok(Some(second_default(alloc)?)),
         ViewFault::EmptyDomain => saying_for_domain(alloc, node, why),
@@ -193,14 +201,14 @@ fn saying_for_view(
 fn saying_for_rule(
     alloc: Global,
     fault: RuleFault,
-    desc: &Desc,
+    index: &Index,
     subject: Subject,
     why: Why,
 ) -> Result<Option<Saying>, AllocError> {
     let Subject::Rule(rule) = subject else {
         return Ok(None);
     };
-    let other = other_node(desc, why);
+    let other = other_node(index, why);
     match fault {
         RuleFault::UnknownInRule => Ok(Some(rule_unknown(alloc, rule, why.reason, other)?)),
         RuleFault::ShowsItself => match other {
@@ -226,23 +234,24 @@ fn word_for(subject: Subject) -> &'static str {
 /// Tells what there is to tell of a fault, the line of the text that it names being this.
 pub fn saying_for(
     alloc: Global,
-    desc: &Desc,
+    index: &Index,
     fault: &Explained,
     line: &str,
 ) -> Result<Option<Saying>, AllocError> {
     let why = fault.why;
-    let subject = subject_at(desc, fault.fault.line);
+    let declared = index.declared(fault.fault.line);
+    let subject = declared.subject;
     match group_of(fault.fault.kind) {
-        FaultGroup::NameTwice => saying_for_name(alloc, desc, subject, why),
-        FaultGroup::OutsideOwner => saying_for_owner(alloc, desc, subject, why),
+        FaultGroup::NameTwice => saying_for_name(alloc, index, subject, why),
+        FaultGroup::OutsideOwner => saying_for_owner(alloc, index, subject, why),
         FaultGroup::StatusKey => saying_for_key(alloc, subject, why),
         FaultGroup::NothingToFocus => saying_for_focus(alloc, subject, why),
-        FaultGroup::MissingEnd => saying_for_end(alloc, desc, subject, why),
+        FaultGroup::MissingEnd => saying_for_end(alloc, index, subject, why),
         FaultGroup::WideCharacter => { Ok(Some(wide_character(alloc, word_for(subject), line)?)) }
         FaultGroup::OutsideLimits => Ok(Some(saying_for_limits(alloc, subject, why)?)),
-        FaultGroup::BadOpening => saying_for_opening(alloc, desc, subject, why),
+        FaultGroup::BadOpening => saying_for_opening(alloc, index, subject, why),
         FaultGroup::MenuLetter => saying_for_menu_letter(alloc, subject),
-        FaultGroup::OfView(fault) => saying_for_view(alloc, fault, desc, subject, why),
-        FaultGroup::OfRule(fault) => saying_for_rule(alloc, fault, desc, subject, why),
+        FaultGroup::OfView(fault) => saying_for_view(alloc, fault, index, declared, why),
+        FaultGroup::OfRule(fault) => saying_for_rule(alloc, fault, index, subject, why),
     }
 }

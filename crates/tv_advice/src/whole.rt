@@ -8,6 +8,7 @@ ghost use Rattle.tv_advice.specs.Told.{IsToldOf};
 
 use crate::advice::advise;
 use crate::forms::Language;
+use crate::index::Index;
 use crate::manner::Manner;
 use crate::report::{advice_block, unread_block};
 use crate::source::Source;
@@ -42,10 +43,11 @@ fn report_on(
 ) -> Result<String, AllocError>
     ensures { IfOk result (λ report. IsReportOn source.now.manner source.now.name.now faults.now (string_bytes report)) }
 {
+    let index = Index::new(alloc, source.text, desc)?;
     let mut report = String::new(alloc);
     for fault in faults {
-        let advice = advise(alloc, source.text, desc, fault)?;
-        let block = advice_block(alloc, source, &advice)?;
+        let advice = advise(alloc, &index, fault)?;
+        let block = advice_block(alloc, source, &index, &advice)?;
         report.push_str(&block)?;
     }
     Ok(report)
