@@ -255,7 +255,7 @@ impl LeafCore {
     // Shows or hides it, and enables or disables it. Returns whether that changes neither.
     fn is_ruled_same(&mut self, rules: &Rules) -> bool
         ensures core { self.new ≡ with_rules rules.now self.old }
-        ensures same { IsTrue result → (self.new.is_shown ≡ self.old.is_shown) × (self.new.is_enabled ≡ self.old.is_enabled) }
+        ensures same { IsTrue result ↔ (self.new.is_shown ≡ self.old.is_shown) × (self.new.is_enabled ≡ self.old.is_enabled) }
     {
         let was_shown = self.is_shown;
         let was_enabled = self.is_enabled;
@@ -278,7 +278,7 @@ impl LeafCore {
     // Whether the id is the focus, and the default button, of both environments or of neither.
     fn has_same_part(&self, old: &Env, new: &Env) -> bool
         ensures { IsTrue result
-            → (has_focus new.now self.now.node.id ≡ has_focus old.now self.now.node.id)
+            ↔ (has_focus new.now self.now.node.id ≡ has_focus old.now self.now.node.id)
             × (is_lent_default new.now self.now.node.id ≡ is_lent_default old.now self.now.node.id) }
     {
         has_focus(old, self.node.id) == has_focus(new, self.node.id)
@@ -287,9 +287,10 @@ impl LeafCore {
 
     // Whether two environments say the same of it, but for what it links.
     fn is_told_same(&self, old: &Env, new: &Env) -> bool
-        ensures colours { IsTrue result → (new.now.owner ≡ old.now.owner) × (new.now.chain.now ≡ old.now.chain.now) }
-        ensures part { IsTrue result
-            → (has_focus new.now self.now.node.id ≡ has_focus old.now self.now.node.id)
+        ensures { IsTrue result
+            ↔ (new.now.owner ≡ old.now.owner)
+            × (new.now.chain.now ≡ old.now.chain.now)
+            × (has_focus new.now self.now.node.id ≡ has_focus old.now self.now.node.id)
             × (is_lent_default new.now self.now.node.id ≡ is_lent_default old.now self.now.node.id) }
     {
         has_same_colours(old, new) && self.has_same_part(old, new)

@@ -1,6 +1,6 @@
 //! What a control's environment says of it.
 
-ghost use Rattle.std.specs.Prelude.{◌≡◌, IsTrue};
+ghost use Rattle.std.specs.Prelude.{◌≡◌, ◌↔◌, IsTrue};
 ghost use Rattle.tv_view.specs.Colours.{has_focus, is_lent_default, is_id};
 
 use crate::env::Env;
@@ -31,7 +31,7 @@ pub fn is_default_now(env: &Env, id: Id) -> bool
 
 /// Whether owners of the same kind lend the same palettes in two environments.
 pub fn has_same_colours(old: &Env, new: &Env) -> bool
-    ensures { IsTrue result → (new.now.owner ≡ old.now.owner) × (new.now.chain.now ≡ old.now.chain.now) }
+    ensures { IsTrue result ↔ (new.now.owner ≡ old.now.owner) × (new.now.chain.now ≡ old.now.chain.now) }
 {
     old.owner == new.owner && old.chain.is(new.chain)
 }
