@@ -1,3 +1,4 @@
+pub mod LetterLemmas
 pub mod LineLemmas
 pub mod FocusLemmas
 pub mod DomainLemmas

@@ -13,12 +13,12 @@ use Rattle.tv_model.specs.declared.desc.Rule.{Rule}
 use Rattle.tv_model.specs.declared.fault.Fault.{Fault}
 use Rattle.tv_model.specs.declared.fault.FaultKind.{FaultKind}
 use Rattle.tv_model.specs.declared.fault.FaultKind.TheVariants as faults
-use Rattle.tv_model.specs.Description.Sharing.{sharing_rules}
 use Rattle.tv_explain.specs.declared.why.Why.{Why}
 use Rattle.tv_explain.specs.declared.why.Reason.TheVariants as reasons
 use Rattle.tv_explain.specs.declared.explaining.Explained.{Explained}
 use Rattle.tv_explain.specs.Places.{place}
 use Rattle.tv_explain.specs.Whys.{because, from_line, itself}
+use Rattle.tv_explain.specs.Inside.{Framed, Ruled, in_frame, ruled}
 use Rattle.tv_explain.specs.Lines.{around_line, at_line}
 use Rattle.tv_explain.specs.Letters.{item_why, title_why}
 use Rattle.tv_explain.specs.Keys.{key_why, number_why}
@@ -96,14 +96,13 @@ window_at kind d line =
     option_map
     (λ pair. window_has_why kind pair.0 pair.1) (at_line (λ window. window.node.id.0) line d.windows)
 
-abbrev pub view_at : FaultKind → Node → Option (List Rule) → List Node → ℕ → Option Why
-view_at kind frame sharing views line =
-    option_map
-    (λ pair. view_why kind frame sharing views pair.0 pair.1) (at_line (λ node. node.id.0) line views)
+abbrev pub view_at : FaultKind → Framed → ℕ → Option Why
+view_at kind inside line =
+    option_map (λ pair. view_why kind inside pair.0 pair.1) (at_line (λ node. node.id.0) line inside.views)
 
 abbrev pub in_window : FaultKind → Desc → ℕ → Option Why
 in_window kind d line =
-    option_and_then (λ window. view_at kind window.node None window.views line)
+    option_and_then (λ window. view_at kind (in_frame window) line)
     (around_line (λ window. window.node.id.0) line d.windows)
 
 abbrev pub dialog_at : FaultKind → Desc → ℕ → Option Why
@@ -111,20 +110,18 @@ dialog_at kind d line =
     option_map (λ pair. dialog_has_why kind d pair.0 pair.1)
     (at_line (λ dialog. dialog.node.id.0) line d.dialogs)
 
-abbrev pub rule_at : FaultKind → Dialog → ℕ → Option Why
+abbrev pub rule_at : FaultKind → Ruled → ℕ → Option Why
 rule_at kind dialog line =
-    option_map (λ pair. rule_has_why kind dialog.views pair.0 pair.1)
+    option_map (λ pair. rule_has_why kind dialog.inside.views pair.0 pair.1)
     (at_line (λ rule. rule.id.0) line dialog.rules)
 
 -- a view or a rule of this dialog
-abbrev pub part_at : FaultKind → Desc → Dialog → ℕ → Option Why
-part_at kind d dialog line =
-    option_or (view_at kind dialog.node (sharing_rules d.version dialog.rules) dialog.views line)
-    (rule_at kind dialog line)
+abbrev pub part_at : FaultKind → Ruled → ℕ → Option Why
+part_at kind dialog line = option_or (view_at kind dialog.inside line) (rule_at kind dialog line)
 
 abbrev pub in_dialog : FaultKind → Desc → ℕ → Option Why
 in_dialog kind d line =
-    option_and_then (λ dialog. part_at kind d dialog line)
+    option_and_then (λ dialog. part_at kind (ruled d.version dialog) line)
     (around_line (λ dialog. dialog.node.id.0) line d.dialogs)
 
 -- what stands in no window and in no dialog, and the lines of windows and dialogs themselves

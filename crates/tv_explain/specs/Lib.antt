@@ -3,6 +3,8 @@ pub mod Places
 pub mod Groups
 pub mod Whys
 pub mod Lines
+pub mod Inside
+pub mod Outline
 pub mod Boxes
 pub mod Views
 pub mod Letters

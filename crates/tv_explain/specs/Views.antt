@@ -3,7 +3,6 @@ use Rattle.std.specs.Prelude.{ℕ, List, find, Option, Some, None}
 use Rattle.tv_model.specs.declared.node.Node.{Node}
 use Rattle.tv_model.specs.declared.kind.Kind.{Kind}
 use Rattle.tv_model.specs.declared.kind.Kind.TheVariants as kinds
-use Rattle.tv_model.specs.declared.desc.Rule.{Rule}
 use Rattle.tv_model.specs.declared.fault.FaultKind.{FaultKind}
 use Rattle.tv_model.specs.declared.fault.FaultKind.TheVariants as faults
 use Rattle.tv_model.specs.Description.Names.{meant, shares_name}
@@ -12,6 +11,7 @@ use Rattle.tv_model.specs.Description.Sharing.{is_shared_by}
 use Rattle.tv_explain.specs.declared.why.Why.{Why}
 use Rattle.tv_explain.specs.declared.why.Reason.TheVariants as reasons
 use Rattle.tv_explain.specs.Whys.{because, from_line, itself}
+use Rattle.tv_explain.specs.Inside.{Framed}
 use Rattle.tv_explain.specs.Lines.{node_line}
 use Rattle.tv_explain.specs.Boxes.{overlapped, owner_line}
 use Rattle.tv_explain.specs.Letters.{letter_line}
@@ -23,19 +23,18 @@ abbrev pub linked_line : List Node → Kind → Option ℕ
 linked_line views (kinds.Label label) = node_line (meant views label.link)
 linked_line views _ = None
 
--- a view of a window or dialog, its frame, with rules by which letters may be shared, if any, among all its
--- views
-abbrev pub view_why : FaultKind → Node → Option (List Rule) → List Node → List Node → Node → Why
-view_why faults.NameTwice frame sharing views before node =
+-- a view of a window or dialog, those before it being these
+abbrev pub view_why : FaultKind → Framed → List Node → Node → Why
+view_why faults.NameTwice inside before node =
     from_line (node_line (find (shares_name node) before))
-view_why faults.OutsideOwner frame sharing views before node = from_line (Some (owner_line frame before node))
-view_why faults.Overlap frame sharing views before node = from_line (node_line (overlapped before node))
-view_why faults.LetterTwice frame sharing views before node =
-    from_line (letter_line (is_shared_by sharing views) before node)
-view_why faults.LabelLink frame sharing views before node = from_line (linked_line views node.kind)
-view_why faults.MissingEnd frame sharing views before node = because reasons.UndeclaredEnd (Some frame.id.0)
-view_why faults.SecondDefault frame sharing views before node = from_line (node_line (find is_default before))
-view_why faults.EmptyDomain frame sharing views before node = because (domain_reason node.kind) None
-view_why faults.BadStart frame sharing views before node = because (start_reason node.kind) None
-view_why faults.OutsideLimits frame sharing views before node = because (view_limit before node) None
-view_why _ frame sharing views before node = itself
+view_why faults.OutsideOwner inside before node = from_line (Some (owner_line inside.frame before node))
+view_why faults.Overlap inside before node = from_line (node_line (overlapped before node))
+view_why faults.LetterTwice inside before node =
+    from_line (letter_line (is_shared_by inside.sharing inside.views) before node)
+view_why faults.LabelLink inside before node = from_line (linked_line inside.views node.kind)
+view_why faults.MissingEnd inside before node = because reasons.UndeclaredEnd (Some inside.frame.id.0)
+view_why faults.SecondDefault inside before node = from_line (node_line (find is_default before))
+view_why faults.EmptyDomain inside before node = because (domain_reason node.kind) None
+view_why faults.BadStart inside before node = because (start_reason node.kind) None
+view_why faults.OutsideLimits inside before node = because (view_limit before node) None
+view_why _ inside before node = itself

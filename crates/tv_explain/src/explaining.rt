@@ -2,26 +2,27 @@
 
 ghost use Rattle.std.specs.Prelude.{◌≡◌, ◌≤◌, ℕ, List, length, map, IfOk, option_copied};
 ghost use Rattle.tv_model.specs.Faults.{faults_of};
-ghost use Rattle.tv_model.specs.Description.Sharing.{sharing_rules};
 ghost use Rattle.tv_explain.specs.Places.{places_of};
 ghost use Rattle.tv_explain.specs.Explaining.{dialog_at, dialog_has_why, explained, head_at, in_dialog, in_window, item_at, item_has_why, menu_at, menu_has_why, outside_at, part_at, rule_at, rule_has_why, status_at, status_has_why, view_at, why_of, window_at, window_has_why};
 
 use crate::groups::{FaultGroup, RuleFault, group_of};
 use crate::heads::{dialog_named, opening_why, start_why, window_named};
+use crate::inside::{Body, InDialog};
 use crate::keys::{key_why, number_why};
 use crate::letters::{item_why, title_why};
 use crate::limits::{dialog_limit, item_limit, menu_limit, rule_limit, status_limit, window_limit};
-use crate::lines::{around_line, at_line};
+use crate::lines::{Listed, around_line, at_line};
+use crate::outline::Outline;
 use crate::places::Places;
 use crate::rules::{focus_why, shown_why, unknown_why};
-use crate::views::{Body, view_why};
+use crate::views::view_why;
 use crate::why::{Reason, Why};
 use std::alloc::{AllocError, Global};
 use tv_faults::faults;
 use tv_model::{
-    Desc, Dialog, Fault, FaultKind, Menu, MenuItem, Node, Rule, Sequence, StatusItem, Version,
-    Window,
+    Desc, Dialog, Fault, FaultKind, Menu, MenuItem, Rule, Sequence, StatusItem, Window,
 };
+use tv_names::Names;
 
 /// A fault, explained.
 #[derive(Clone, Copy, Debug, PartialEq, Eq)]
@@ -130,7 +131,7 @@ fn dialog_has_why(
     }
 }
 
-fn rule_has_why(kind: FaultKind, views: &[Node], before: &[Rule], rule: &Rule) -> Why
+fn rule_has_why(kind: FaultKind, views: &Names, before: &[Rule], rule: &Rule) -> Why
     ensures { result ≡ rule_has_why kind views.now before.now rule.now }
 {
     match group_of(kind) {
@@ -173,45 +174,49 @@ fn head_at(kind: FaultKind, desc: &Desc, line: u32) -> Option<Why>
     }
 }
 
-fn menu_at(kind: FaultKind, desc: &Desc, line: u32) -> Option<Why>
+fn menu_at(kind: FaultKind, desc: &Outline, line: u32) -> Option<Why>
     ensures { result ≡ menu_at kind desc.now line }
 {
-    let (before, menu) = at_line(desc.menus.as_slice(), line)?;
+    let (before, menu) = at_line(&desc.menus(), line)?;
     Some(menu_has_why(kind, before, menu))
 }
 
-fn item_at(kind: FaultKind, desc: &Desc, line: u32) -> Option<Why>
+fn item_at(kind: FaultKind, desc: &Outline, line: u32) -> Option<Why>
     ensures { result ≡ item_at kind desc.now line }
 {
-    let menu = around_line(desc.menus.as_slice(), line)?;
-    let (before, item) = at_line(menu.items.as_slice(), line)?;
+    let menu = around_line(desc.desc().menus.as_slice(), line)?;
+    let items = Listed::new(menu.items.as_slice(), desc.is_in_order());
+    let (before, item) = at_line(&items, line)?;
     Some(item_has_why(kind, before, item))
 }
 
-fn status_at(kind: FaultKind, desc: &Desc, line: u32) -> Option<Why>
+fn status_at(kind: FaultKind, desc: &Outline, line: u32) -> Option<Why>
     ensures { result ≡ status_at kind desc.now line }
 {
-    let (before, item) = at_line(desc.status.as_slice(), line)?;
-    Some(status_has_why(kind, desc, before, item))
+    let (before, item) = at_line(&desc.status(), line)?;
+    Some(status_has_why(kind, desc.desc(), before, item))
 }
 
-fn window_at(kind: FaultKind, desc: &Desc, line: u32) -> Option<Why>
+fn window_at(kind: FaultKind, desc: &Outline, line: u32) -> Option<Why>
     ensures { result ≡ window_at kind desc.now line }
 {
-    let (before, window) = at_line(desc.windows.as_slice(), line)?;
+    let (before, window) = at_line(&desc.windows(), line)?;
     Some(window_has_why(kind, before, window))
 }
 
 fn dialog_at(
     alloc: Global,
     kind: FaultKind,
-    desc: &Desc,
+    desc: &Outline,
     line: u32,
 ) -> Result<Option<Why>, AllocError>
     ensures { IfOk result (λ why. why ≡ dialog_at kind desc.now line) }
 {
-    match at_line(desc.dialogs.as_slice(), line) {
-        Some((before, dialog)) => Ok(Some(dialog_has_why(alloc, kind, desc, before, dialog)?)),
+    match at_line(&desc.dialogs(), line) {
+        Some((before, dialog)) => {
+            let why = dialog_has_why(alloc, kind, desc.desc(), before, dialog)?;
+            Ok(Some(why))
+        }
         None => Ok(None),
     }
 }
@@ -223,47 +228,33 @@ fn view_at(
     body: &Body,
     line: u32,
 ) -> Result<Option<Why>, AllocError>
-    ensures { IfOk result (λ why. why ≡ view_at kind body.now.frame.now (option_copied body.now.sharing) body.now.views.now line) }
+    ensures { IfOk result (λ why. why ≡ view_at kind body.now line) }
 {
-    match at_line(body.views, line) {
+    match at_line(&body.views(), line) {
         Some((before, node)) => Ok(Some(view_why(alloc, kind, body, before, node)?)),
         None => Ok(None),
     }
 }
 
-fn rule_at(kind: FaultKind, dialog: &Dialog, line: u32) -> Option<Why>
+// A rule of this dialog.
+fn rule_at(kind: FaultKind, dialog: &InDialog, line: u32) -> Option<Why>
     ensures { result ≡ rule_at kind dialog.now line }
 {
-    let (before, rule) = at_line(dialog.rules.as_slice(), line)?;
-    Some(rule_has_why(kind, dialog.views.as_slice(), before, rule))
+    let (before, rule) = at_line(&dialog.rules(), line)?;
+    Some(rule_has_why(kind, dialog.body().names(), before, rule))
 }
 
 fn in_window(
     alloc: Global,
     kind: FaultKind,
-    desc: &Desc,
+    desc: &Outline,
     line: u32,
 ) -> Result<Option<Why>, AllocError>
     ensures { IfOk result (λ why. why ≡ in_window kind desc.now line) }
 {
-    let Some(window) = around_line(desc.windows.as_slice(), line) else {
-        return Ok(None);
-    };
-    let body = Body {
-        frame: &window.node,
-        sharing: None,
-        views: window.views.as_slice(),
-    };
-    view_at(alloc, kind, &body, line)
-}
-
-// The rules by which letters of the dialog may be shared: in version 1 there are none.
-fn sharing_rules(version: Version, dialog: &Dialog) -> Option<&[Rule]>
-    ensures { option_copied result ≡ sharing_rules version dialog.now.rules }
-{
-    match version {
-        Version::One => None,
-        Version::Two => Some(dialog.rules.as_slice()),
+    match around_line(desc.in_windows(), line) {
+        Some(body) => view_at(alloc, kind, body, line),
+        None => Ok(None),
     }
 }
 
@@ -271,18 +262,12 @@ fn sharing_rules(version: Version, dialog: &Dialog) -> Option<&[Rule]>
 fn part_at(
     alloc: Global,
     kind: FaultKind,
-    desc: &Desc,
-    dialog: &Dialog,
+    dialog: &InDialog,
     line: u32,
 ) -> Result<Option<Why>, AllocError>
-    ensures { IfOk result (λ why. why ≡ part_at kind desc.now dialog.now line) }
+    ensures { IfOk result (λ why. why ≡ part_at kind dialog.now line) }
 {
-    let body = Body {
-        frame: &dialog.node,
-        sharing: sharing_rules(desc.version, dialog),
-        views: dialog.views.as_slice(),
-    };
-    match view_at(alloc, kind, &body, line)? {
+    match view_at(alloc, kind, dialog.body(), line)? {
         Some(why) => Ok(Some(why)),
         None => Ok(rule_at(kind, dialog, line)),
     }
@@ -291,13 +276,13 @@ fn part_at(
 fn in_dialog(
     alloc: Global,
     kind: FaultKind,
-    desc: &Desc,
+    desc: &Outline,
     line: u32,
 ) -> Result<Option<Why>, AllocError>
     ensures { IfOk result (λ why. why ≡ in_dialog kind desc.now line) }
 {
-    match around_line(desc.dialogs.as_slice(), line) {
-        Some(dialog) => part_at(alloc, kind, desc, dialog, line),
+    match around_line(desc.in_dialogs(), line) {
+        Some(dialog) => part_at(alloc, kind, dialog, line),
         None => Ok(None),
     }
 }
@@ -306,12 +291,12 @@ fn in_dialog(
 fn outside_at(
     alloc: Global,
     kind: FaultKind,
-    desc: &Desc,
+    desc: &Outline,
     line: u32,
 ) -> Result<Option<Why>, AllocError>
     ensures { IfOk result (λ why. why ≡ outside_at kind desc.now line) }
 {
-    if let Some(why) = head_at(kind, desc, line) {
+    if let Some(why) = head_at(kind, desc.desc(), line) {
         return Ok(Some(why));
     }
     if let Some(why) = menu_at(kind, desc, line) {
@@ -331,7 +316,7 @@ fn outside_at(
 
 // Why the line has the fault.
 #[tactic(auto, unfolding(crate::specs::Explaining::why_of))]
-fn why_of(alloc: Global, desc: &Desc, fault: Fault) -> Result<Why, AllocError>
+fn why_of(alloc: Global, desc: &Outline, fault: Fault) -> Result<Why, AllocError>
     ensures { IfOk result (λ why. why ≡ why_of desc.now fault) }
 {
     let Fault { kind, line } = fault;
@@ -347,7 +332,12 @@ fn why_of(alloc: Global, desc: &Desc, fault: Fault) -> Result<Why, AllocError>
 
 // The fault, its places and why.
 #[tactic(auto, unfolding(crate::specs::Places::place))]
-fn told(alloc: Global, places: &Places, desc: &Desc, fault: Fault) -> Result<Explained, AllocError>
+fn told(
+    alloc: Global,
+    places: &Places,
+    desc: &Outline,
+    fault: Fault,
+) -> Result<Explained, AllocError>
     ensures { (text : List ℕ) → places.now ≡ places_of text → IfOk result (λ told. told ≡ explained text desc.now fault) }
 {
     let why = why_of(alloc, desc, fault)?;
@@ -365,9 +355,10 @@ pub fn explain(alloc: Global, text: &[u8], desc: &Desc) -> Result<Sequence<Expla
     ensures { IfOk result (λ list. list ≡ map (explained text.now desc.now) (faults_of desc.now)) }
 {
     let places = Places::new(alloc, text)?;
+    let outline = Outline::new(alloc, desc)?;
     let mut list = Sequence::new(alloc);
     for fault in faults(alloc, desc)?.as_slice() {
-        list.push(told(alloc, &places, desc, *fault)?)?;
+        list.push(told(alloc, &places, &outline, *fault)?)?;
     }
     Ok(list)
 }

@@ -1,17 +1,17 @@
 //! Marks of a letter that was marked before: F4, and F17 of menus.
 
-ghost use Rattle.std.specs.Prelude.{◌≡◌, ℕ, Bool, IfOk, option_copied};
+ghost use Rattle.std.specs.Prelude.{◌≡◌, nat_eq, option_copied};
+ghost use Rattle.std.specs.HashSet as set;
 ghost use Rattle.std.specs.Option.{option_map};
 ghost use Rattle.std.specs.List.{list_any};
 ghost use Rattle.tv_model.specs.Description.Letters.{marked_of};
 ghost use Rattle.tv_model.specs.Description.Marks.{marks_any, shares_letter};
-ghost use Rattle.tv_model.specs.Description.Sharing.{is_shared_by};
 ghost use Rattle.tv_explain.specs.Letters.{item_line, item_why, is_given, letter_line, first_marking, first_marker, title_line, title_why};
 
 use crate::why::{Reason, Why};
-use std::alloc::{AllocError, Global};
-use tv_model::{MarkedText, Menu, MenuItem, Node, Rule};
-use tv_names::{Sharing, marked_of};
+use std::collections::HashSet;
+use tv_model::{MarkedText, Menu, MenuItem, Node};
+use tv_names::marked_of;
 
 // Whether the first text marks a letter, and the second one marks it too.
 fn shares_letter(text: &MarkedText, other: &MarkedText) -> bool
@@ -65,40 +65,27 @@ fn is_given(before: &[Node], earlier: &[MarkedText], text: &MarkedText) -> bool
     is_marked_by(before, text) || is_marked_in(text, earlier)
 }
 
-// Whether views share the text's letter lawfully by these rules.
-fn is_shared(
-    alloc: Global,
-    views: &[Node],
-    sharing: Option<&[Rule]>,
-    text: &MarkedText,
-) -> Result<bool, AllocError>
-    ensures { IfOk result (λ shared. shared ≡ marks_any (is_shared_by (option_copied sharing.entry) views.now) text.now) }
+// Whether the text's letter is one of those that views share lawfully.
+fn is_shared(shared: &HashSet<char>, text: &MarkedText) -> bool
+    ensures { result ≡ marks_any (set.contains nat_eq shared.now) text.now }
 {
-    let (Some(rules), Some(letter)) = (sharing, text.letter()) else {
-        return Ok(false);
-    };
-    let sharing = Sharing::new(alloc, views, rules)?;
-    Ok(sharing.sharer(alloc, letter)?.is_some())
+    match text.letter() {
+        Some(letter) => shared.contains(&letter),
+        None => false,
+    }
 }
 
-/// Finds the line that first marked a letter which the view marks again, by these rules for shared letters.
-pub fn letter_line(
-    alloc: Global,
-    views: &[Node],
-    sharing: Option<&[Rule]>,
-    before: &[Node],
-    node: &Node,
-) -> Result<Option<u32>, AllocError>
-    ensures { IfOk result (λ line. line ≡ letter_line (is_shared_by (option_copied sharing.entry) views.now) before.now node.now) }
+/// Finds the line that first marked a letter which the view marks again, where these letters may be shared.
+pub fn letter_line(shared: &HashSet<char>, before: &[Node], node: &Node) -> Option<u32>
+    ensures { result ≡ letter_line (set.contains nat_eq shared.now) before.now node.now }
 {
     let texts = marked_of(&node.kind);
     for (i, text) in texts.iter().enumerate() {
-        let is_given = is_given(before, &texts[..i], text);
-        if is_given && !is_shared(alloc, views, sharing, text)? {
-            return Ok(Some(marked_first(before, node.id.0, text)));
+        if is_given(before, &texts[..i], text) && !is_shared(shared, text) {
+            return Some(marked_first(before, node.id.0, text));
         }
     }
-    Ok(None)
+    None
 }
 
 // The menu that marked the title's letter.

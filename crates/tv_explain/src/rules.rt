@@ -3,7 +3,6 @@
 ghost use Rattle.std.specs.Prelude.{◌≡◌, ◌<◌, ℕ, length, position, slice_index_or, take, IfOk, option_copied};
 ghost use Rattle.tv_model.specs.declared.node.Node.{Node as SeenNode};
 ghost use Rattle.tv_model.specs.Description.Commands.{is_button_of};
-ghost use Rattle.tv_model.specs.Description.Names.{meant};
 ghost use Rattle.tv_model.specs.Description.Nodes.{is_cluster, is_control};
 ghost use Rattle.tv_model.specs.Description.Rules.{has_target, reaches};
 ghost use Rattle.tv_overlaps.specs.Standing.{AreOwners};
@@ -13,16 +12,8 @@ use crate::lines::line_of;
 use crate::why::{Reason, Why};
 use std::alloc::{AllocError, Global};
 use tv_model::{CommandSpec, Dialog, Effect, Kind, Node, Rule};
-use tv_names::gives_name;
+use tv_names::Names;
 use tv_overlaps::{owners, stands_over};
-use tv_valid::Chars;
-
-/// Finds what a name means among the views.
-pub fn meant<'a>(views: &'a [Node], name: &Chars) -> Option<&'a Node>
-    ensures { option_copied result ≡ meant views.now name.now }
-{
-    views.iter().find(|node| gives_name(name, node))
-}
 
 fn is_cluster(kind: &Kind) -> bool
     ensures { result ≡ is_cluster kind.now }
@@ -31,11 +22,11 @@ fn is_cluster(kind: &Kind) -> bool
 }
 
 // Whether what is shown is a control or a pane.
-fn has_target(views: &[Node], effect: &Effect) -> bool
+fn has_target(views: &Names, effect: &Effect) -> bool
     ensures { result ≡ has_target views.now effect.now }
 {
     match effect {
-        Effect::Show(name) => match meant(views, name) {
+        Effect::Show(name) => match views.meant(name) {
             Some(node) => node.kind.is_control() || node.kind.is_pane(),
             None => false,
         },
@@ -56,21 +47,21 @@ fn cluster_why(found: Option<&Node>) -> Why
 }
 
 /// Tells what a rule names that isn't there.
-pub fn unknown_why(views: &[Node], rule: &Rule) -> Why
+pub fn unknown_why(views: &Names, rule: &Rule) -> Why
     ensures { result ≡ unknown_why views.now rule.now }
 {
     if has_target(views, &rule.effect) {
-        cluster_why(meant(views, &rule.cluster))
+        cluster_why(views.meant(&rule.cluster))
     } else {
         Why::because(Reason::UnknownTarget, None)
     }
 }
 
 /// Tells by which cluster a rule goes that shows this cluster.
-pub fn shown_why(views: &[Node], rule: &Rule) -> Why
+pub fn shown_why(views: &Names, rule: &Rule) -> Why
     ensures { result ≡ shown_why views.now rule.now }
 {
-    Why::because(Reason::Itself, line_of(meant(views, &rule.cluster)))
+    Why::because(Reason::Itself, line_of(views.meant(&rule.cluster)))
 }
 
 // Whether it is a button of the command.
@@ -84,17 +75,17 @@ fn is_button_of(command: CommandSpec, kind: &Kind) -> bool
 }
 
 // Whether the rule's effect reaches the view at this place.
-fn reaches(owners: &[Option<usize>], views: &[Node], place: usize, effect: &Effect) -> bool
+fn reaches(owners: &[Option<usize>], views: &Names, place: usize, effect: &Effect) -> bool
     requires owners { AreOwners owners.now views.now }
     requires within { place < length views.now }
     ensures { (view : SeenNode) → result ≡ reaches views.now (take place views.now) (slice_index_or views.now place view) effect.now }
 {
     match effect {
-        Effect::Show(name) => match meant(views, name) {
-            Some(target) => stands_over(owners, views, target.id, place),
+        Effect::Show(name) => match views.meant(name) {
+            Some(target) => stands_over(owners, views.views(), target.id, place),
             None => false,
         },
-        Effect::Enable(command) => is_button_of(*command, &views[place].kind),
+        Effect::Enable(command) => is_button_of(*command, &views.views()[place].kind),
     }
 }
 
@@ -102,7 +93,7 @@ fn reaches(owners: &[Option<usize>], views: &[Node], place: usize, effect: &Effe
 fn reaching_line(
     owners: &[Option<usize>],
     rules: &[Rule],
-    views: &[Node],
+    views: &Names,
     place: usize,
 ) -> Option<u32>
     requires owners { AreOwners owners.now views.now }
@@ -135,7 +126,8 @@ fn focus_of(alloc: Global, rules: &[Rule], views: &[Node]) -> Result<Why, AllocE
         }
         Some(place) => {
             let owners = owners(alloc, views)?;
-            let line = reaching_line(&owners, rules, views, place);
+            let names = Names::new(alloc, views)?;
+            let line = reaching_line(&owners, rules, &names, place);
             let reached = Why::because(Reason::AllReached, line);
             Ok(reached)
         }

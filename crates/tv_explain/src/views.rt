@@ -10,21 +10,14 @@ use crate::boxes::{overlapped, owner_line};
 use crate::groups::{FaultGroup, ViewFault, group_of};
 use crate::heads::shares_name;
 use crate::inputs::{domain_reason, start_reason};
+use crate::inside::Body;
 use crate::letters::letter_line;
 use crate::limits::view_limit;
 use crate::lines::line_of;
-use crate::rules::meant;
 use crate::why::{Reason, Why};
 use std::alloc::{AllocError, Global};
-use tv_model::{FaultKind, Kind, Node, Rule};
-
-/// The views of a window or dialog, its frame, with the rules by which letters may be shared, if any.
-#[derive(Clone, Copy)]
-pub struct Body<'a> {
-    pub frame: &'a Node,
-    pub sharing: Option<&'a [Rule]>,
-    pub views: &'a [Node],
-}
+use tv_model::{FaultKind, Kind, Node};
+use tv_names::Names;
 
 // The first view before that has the view's name.
 fn named<'a>(before: &'a [Node], node: &Node) -> Option<&'a Node>
@@ -34,11 +27,11 @@ fn named<'a>(before: &'a [Node], node: &Node) -> Option<&'a Node>
 }
 
 // What has the name that a label gives.
-fn linked_line(views: &[Node], kind: &Kind) -> Option<u32>
-    ensures { result ≡ linked_line views.now kind.now }
+fn linked_line(names: &Names, kind: &Kind) -> Option<u32>
+    ensures { result ≡ linked_line names.now kind.now }
 {
     match kind {
-        Kind::Label(label) => line_of(meant(views, &label.link)),
+        Kind::Label(label) => line_of(names.meant(&label.link)),
         _ => None,
     }
 }
@@ -67,15 +60,12 @@ fn own_why(
     before: &[Node],
     node: &Node,
 ) -> Result<Why, AllocError>
-    ensures { IfOk result (λ why. why
-        ≡ view_why (kind_of_view fault) body.now.frame.now
-        (option_copied body.now.sharing) body.now.views.now before.now node.now) }
+    ensures { IfOk result (λ why. why ≡ view_why (kind_of_view fault) body.now before.now node.now) }
 {
-    let Body { sharing, views, .. } = *body;
     Ok(match fault {
         ViewFault::Overlap => Why::from_line(line_of(overlapped(before, node))),
-        ViewFault::LetterTwice => Why::from_line(letter_line(alloc, views, sharing, before, node)?),
-        ViewFault::LabelLink => Why::from_line(linked_line(views, &node.kind)),
+        ViewFault::LetterTwice => Why::from_line(letter_line(body.shared(), before, node)),
+        ViewFault::LabelLink => Why::from_line(linked_line(body.names(), &node.kind)),
         ViewFault::SecondDefault => Why::from_line(line_of(default_of(before))),
         ViewFault::EmptyDomain => Why::because(domain_reason(alloc, &node.kind)?, None),
         ViewFault::BadStart => Why::because(start_reason(&node.kind), None),
@@ -90,10 +80,9 @@ pub fn view_why(
     before: &[Node],
     node: &Node,
 ) -> Result<Why, AllocError>
-    ensures { IfOk result (λ why. why
-        ≡ view_why kind body.now.frame.now (option_copied body.now.sharing) body.now.views.now before.now node.now) }
+    ensures { IfOk result (λ why. why ≡ view_why kind body.now before.now node.now) }
 {
-    let frame = body.frame;
+    let frame = body.frame();
     match group_of(kind) {
         FaultGroup::NameTwice => Ok(Why::from_line(line_of(named(before, node)))),
         FaultGroup::OutsideOwner => Ok(Why::from_line(Some(owner_line(frame, before, node)))),

@@ -5,4 +5,4 @@ use Rattle.tv_explain.proofs.explaining.explain.Given as goal
 
 abbrev pub invariant-loop-fault : goal.invariant-loop-fault
 invariant-loop-fault l =
-    l.list ++ map (explained l.text l.desc) (drop l.fault-index l.fault-items) ≡ map (explained l.text l.desc) (faults_of l.desc)
+    l.list ++ map (explained l.text l.outline) (drop l.fault-index l.fault-items) ≡ map (explained l.text l.outline) (faults_of l.desc)
