@@ -91,6 +91,8 @@ module _ (s : Session) (events : List Event) (e : Event) where
         rows = painted.drawn.stays.rows ∙ law.rows;
         mouse = painted.drawn.stays.mouse ∙ law.mouse;
         reports = painted.drawn.stays.reports ∙ law.reports;
+        meta = painted.drawn.stays.meta ∙ law.meta;
+        alt = painted.drawn.stays.alt ∙ law.alt;
         covered = painted.drawn.stays.covered ∙ law.covered;
         lost = painted.drawn.stays.lost ∙ law.lost;
       }
@@ -184,6 +186,8 @@ module _ {W : Type 0} {seen : W → Seen} (s : Session) {screen : Picture} (curs
     rows = b.rows;
     mouse = b.mouse;
     reports = b.reports;
+    meta = b.meta;
+    alt = b.alt;
     covered = b.covered;
     lost = b.lost;
   }

@@ -60,6 +60,8 @@ pub record ShowsSession (s : Session) (d e : Display) : Type 0 where
   pub rows : e.rows ≡ d.rows
   pub mouse : e.has_mouse ≡ true
   pub reports : e.has_long_reports ≡ true
+  pub meta : e.has_meta_escapes ≡ true
+  pub alt : e.has_alt_escapes ≡ true
   pub covered : e.covered ≡ Some (normal_of d)
   pub lost : e.is_lost ≡ d.is_lost
 
@@ -71,6 +73,8 @@ restored_from d = record d {
   has_cursor = true;
   has_mouse = false;
   has_long_reports = false;
+  has_meta_escapes = false;
+  has_alt_escapes = false;
 }
 
 -- ---- a run

@@ -91,7 +91,8 @@ const SESSIONS: [Session; 6] = [
 ];
 
 // What a terminal is told at the end.
-const END: &[u8] = b"\x1b[0m\x1b[2J\x1b[?25h\x1b[?1006l\x1b[?1002l\x1b[?1049l";
+const END: &[u8] =
+    b"\x1b[0m\x1b[2J\x1b[?25h\x1b[?1039l\x1b[?1036l\x1b[?1006l\x1b[?1002l\x1b[?1049l";
 
 // Whether the last frame ends with the cursor so.
 fn has_cursor(screen: &[u8], cursor: &[u8]) -> bool {

@@ -19,6 +19,8 @@ plain = record {
   has_cursor = true;
   has_mouse = false;
   has_long_reports = false;
+  has_meta_escapes = false;
+  has_alt_escapes = false;
   covered = None;
   is_lost = false;
 }

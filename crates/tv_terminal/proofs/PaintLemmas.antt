@@ -43,12 +43,12 @@ drawn-cursor : {Region : ℕ → ℕ → Type 0} {screen : Picture} {new : Paint
 drawn-cursor None p = record {
   shows = record { inside = p.shows.inside; outside = p.shows.outside };
   right = λ k. record { room = record { across = (p.right k).room.across; down = (p.right k).room.down }; each = (p.right k).each };
-  stays = record { columns = p.stays.columns; rows = p.stays.rows; mouse = p.stays.mouse; reports = p.stays.reports; covered = p.stays.covered; lost = p.stays.lost };
+  stays = record { columns = p.stays.columns; rows = p.stays.rows; mouse = p.stays.mouse; reports = p.stays.reports; meta = p.stays.meta; alt = p.stays.alt; covered = p.stays.covered; lost = p.stays.lost };
 }
 drawn-cursor (Some q) p = record {
   shows = record { inside = p.shows.inside; outside = p.shows.outside };
   right = λ k. record { room = record { across = (p.right k).room.across; down = (p.right k).room.down }; each = (p.right k).each };
-  stays = record { columns = p.stays.columns; rows = p.stays.rows; mouse = p.stays.mouse; reports = p.stays.reports; covered = p.stays.covered; lost = p.stays.lost };
+  stays = record { columns = p.stays.columns; rows = p.stays.rows; mouse = p.stays.mouse; reports = p.stays.reports; meta = p.stays.meta; alt = p.stays.alt; covered = p.stays.covered; lost = p.stays.lost };
 }
 
 -- a place of the screen is one of the terminal, and its numbers are small
@@ -102,6 +102,8 @@ begun d = record d {
   covered = Some (record { cells = d.cells; column = d.column; row = d.row });
   has_mouse = true;
   has_long_reports = true;
+  has_meta_escapes = true;
+  has_alt_escapes = true;
 }
 
 told-begin : (d : Display) → d.covered ≡ None → told (ground d) begin_bytes ≡ ground (begun d)
@@ -146,6 +148,8 @@ module _ {W : Type 0} {seen : W → Seen} {screen : Picture} {cursor : Option (�
             rows = q.law.drawn.stays.rows;
             mouse = q.law.drawn.stays.mouse;
             reports = q.law.drawn.stays.reports;
+            meta = q.law.drawn.stays.meta;
+            alt = q.law.drawn.stays.alt;
             covered = q.law.drawn.stays.covered;
             lost = q.law.drawn.stays.lost;
           };

@@ -25,6 +25,8 @@ pub record Stays (old new : Display) : Type 0 where
   pub rows : new.rows ≡ old.rows
   pub mouse : new.has_mouse ≡ old.has_mouse
   pub reports : new.has_long_reports ≡ old.has_long_reports
+  pub meta : new.has_meta_escapes ≡ old.has_meta_escapes
+  pub alt : new.has_alt_escapes ≡ old.has_alt_escapes
   pub covered : new.covered ≡ old.covered
   pub lost : new.is_lost ≡ old.is_lost
 

@@ -19,7 +19,8 @@ pub record Covered : Type 0 where
   pub row : ℕ
 
 -- a cell in each column and row; the cursor, whose column is the count of columns where it stands behind the
--- last; the colours to come; the mouse, and whether its reports are of the long form
+-- last; the colours to come; the mouse, and whether its reports are of the long form; whether a key with Meta,
+-- or Alt, is sent as ESC and the key
 pub record Display : Type 0 where
   pub columns : ℕ
   pub rows : ℕ
@@ -31,6 +32,8 @@ pub record Display : Type 0 where
   pub has_cursor : Bool
   pub has_mouse : Bool
   pub has_long_reports : Bool
+  pub has_meta_escapes : Bool
+  pub has_alt_escapes : Bool
   pub covered : Option Covered
   -- it was told what isn't said here: a character behind the last column, or another sequence
   pub is_lost : Bool
@@ -103,6 +106,8 @@ switched mode is_on d =
     if mode == 25 then record d { has_cursor = is_on }
     else if mode == 1002 then record d { has_mouse = is_on }
     else if mode == 1006 then record d { has_long_reports = is_on }
+    else if mode == 1036 then record d { has_meta_escapes = is_on }
+    else if mode == 1039 then record d { has_alt_escapes = is_on }
     else if mode == 1049 then (if is_on then covering d.covered d else uncovered d.covered d)
     else lost d
 

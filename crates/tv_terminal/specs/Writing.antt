@@ -51,7 +51,8 @@ pub record Paints {W : Type 0} (seen : W → Seen) (Region : ℕ → ℕ → Typ
 
 -- ---- the begin and the end
 
--- the alternate screen shows the whole screen, and the mouse is on; the normal screen is kept
+-- the alternate screen shows the whole screen, the mouse is on, and Meta and Alt are sent as ESC; the normal
+-- screen is kept
 pub record Begun (screen : Picture) (cursor : Option (ℕ × ℕ)) (new : Painter) (d e : Display) : Type 0 where
   pub shows : Displays screen e
   pub right : IsRight new e
@@ -60,6 +61,8 @@ pub record Begun (screen : Picture) (cursor : Option (ℕ × ℕ)) (new : Painte
   pub rows : e.rows ≡ d.rows
   pub mouse : e.has_mouse ≡ true
   pub reports : e.has_long_reports ≡ true
+  pub meta : e.has_meta_escapes ≡ true
+  pub alt : e.has_alt_escapes ≡ true
   pub covered : e.covered ≡ Some (record { cells = d.cells; column = d.column; row = d.row })
   pub lost : e.is_lost ≡ d.is_lost
 
@@ -74,7 +77,8 @@ pub record BeginsScreen {W : Type 0} (seen : W → Seen) (screen : Picture) (cur
   pub tells : (d : Display) → HasSpace screen d → d.covered ≡ None
       → Becomes bytes d (Begun screen cursor new d)
 
--- the normal screen as it was kept, with the cursor where it stood, plain colours and no mouse
+-- the normal screen as it was kept, with the cursor where it stood, plain colours, no mouse and no ESC for Meta
+-- or Alt
 abbrev pub restored : Covered → Display → Display
 restored c d = record d {
   cells = c.cells;
@@ -86,4 +90,6 @@ restored c d = record d {
   has_cursor = true;
   has_mouse = false;
   has_long_reports = false;
+  has_meta_escapes = false;
+  has_alt_escapes = false;
 }

@@ -43,8 +43,9 @@ impl Painter {
         }
     }
 
-    /// Begins a session: turns the terminal to its alternate screen, has it tell of the mouse, and shows the whole screen, with
-    /// the cursor at a point of it, or without one. The normal screen is kept by the terminal.
+    /// Begins a session: turns the terminal to its alternate screen, has it tell of the mouse and send ESC before a key with Alt,
+    /// as xterm does only when asked, and shows the whole screen, with the cursor at a point of it, or without one. The normal
+    /// screen is kept by the terminal.
     ///
     /// Where the writer fails, a prefix of the bytes was written, and the pen is stopped.
     pub fn begin<W: Writer>(&mut self, screen: &Screen, cursor: Option<Point>, pen: &mut Pen<W>)
@@ -52,7 +53,7 @@ impl Painter {
         ensures { BeginsScreen W.seen screen.now (cursor_on screen.now.width screen.now.height cursor) self.old self.new pen.old pen.new }
     {
         self.is_known = false;
-        pen.put(b"\x1b[?1049h\x1b[?1002h\x1b[?1006h\x1b[0m\x1b[2J");
+        pen.put(b"\x1b[?1049h\x1b[?1002h\x1b[?1006h\x1b[?1036h\x1b[?1039h\x1b[0m\x1b[2J");
         self.paint(screen, &[screen.canvas().clip], cursor, pen);
         self.is_known = true;
     }
@@ -77,7 +78,8 @@ impl Painter {
         hand.finish(pen, on_screen(screen.width(), screen.height(), cursor));
     }
 
-    /// Ends a session: turns the terminal back to its normal screen, as that was, with its cursor, plain colours and no mouse.
+    /// Ends a session: turns the terminal back to its normal screen, as that was, with its cursor, plain colours and no mouse. What
+    /// a session asked of the terminal is taken back.
     pub fn end<W: Writer>(&mut self, pen: &mut Pen<W>)
         ensures puts { Puts W.seen pen.old pen.new end_bytes }
         ensures told { (d : Display) (c : Covered) → d.covered ≡ Some c → told (ground d) end_bytes ≡ ground (restored c d) }
@@ -85,7 +87,7 @@ impl Painter {
         ensures unknown { self.new.is_known ≡ false }
     {
         self.is_known = false;
-        pen.put(b"\x1b[0m\x1b[2J\x1b[?25h\x1b[?1006l\x1b[?1002l\x1b[?1049l");
+        pen.put(b"\x1b[0m\x1b[2J\x1b[?25h\x1b[?1039l\x1b[?1036l\x1b[?1006l\x1b[?1002l\x1b[?1049l");
     }
 
     // Takes over a cell.
