@@ -77,7 +77,7 @@ first-turns s from now Left false is (Ok written) false same takes shown left = 
 -- ---- the loop
 
 shown-still : (s : Session) (events : List Happening) (from screen screen' : Seen) (stop stop' : Bool) (painter : Painter) → HasBeenShown s events from screen stop painter → PutsBy screen stop screen' stop' [] → HasBeenShown s events from screen' stop' painter
-shown-still s events from screen screen' stop stop' painter shown put = record { frames = shown.frames; shows = shown.shows; put = put-still from screen screen' stop stop' (concat shown.frames) shown.put put; taken = shown.taken }
+shown-still s events from screen screen' stop stop' painter shown put = record { frames = shown.frames; shows = shown.shows; put = put-still from screen screen' stop stop' (concat shown.frames) shown.put put; taken = shown.taken; right = shown.right }
 
 -- what was written is passed on
 pub passed-on : {a b c : Seen} (text : List ℕ) → Takes a b text → IsPassedOn b c → Takes a c text

@@ -9,7 +9,7 @@ use Rattle.tv_terminal.specs.Written.{cursor_on, end_bytes}
 use Rattle.tv_terminal.specs.Terminal.{Display}
 use Rattle.tv_terminal.specs.Writing.{Begun, IsRight, Painted, Paints, BeginsScreen, restored}
 use Rattle.tv_terminal.specs.declared.painter.Painter.{Painter}
-use Rattle.tv_terminal.proofs.DrawLemmas.{tells-as, tells-then}
+use Rattle.tv_terminal.proofs.DrawLemmas.{tells-as, tells-both, tells-then}
 use Rattle.tv_terminal.proofs.PaintLemmas.{told-end}
 use Rattle.tv_cells.specs.Picture.{IsAlike, IsOn, Picture, cell_at}
 use Rattle.tv_cells.specs.Repainting.{has_cell}
@@ -105,14 +105,6 @@ module _ (s : Session) (events : List Event) (e : Event) where
         down = omega (arith, ready.down, law.rows, taken.size.height, same-height s events);
       }
 
-      is-right : IsRight old f
-      is-right known = record {
-        room = has-space;
-        each = λ column row on.
-            law.each column row (record { across = omega (arith, on.across, taken.size.width); down = omega (arith, on.down, taken.size.height) })
-            ∙ ap tile_of (sym (taken.each column row on));
-      }
-
     module _ {W : Type 0} {seen : W → Seen} {old new : Painter} {x z : Pen W} (taken : HasTaken before old) (p : Paints seen (λ column row. has_cell rects column row ≡ true) screen (cursor_on screen.width screen.height cursor) old new x z) where
       taken-cell : (column row : ℕ) → IsOn new.shown column row → (has_cell rects column row ≡ true) ⊎ (has_cell rects column row ≡ false) → cell_at new.shown column row ≡ screen_cell now column row
       taken-cell column row on which =
@@ -133,7 +125,7 @@ module _ (s : Session) (events : List Event) (e : Event) where
         each = λ column row on. taken-cell column row on (cases_Bool (has_cell rects column row));
       }
 
-      module _ {frames : List (List ℕ)} (shows : ShowsEach s events frames) where
+      module _ {frames : List (List ℕ)} (shows : ShowsEach s events frames) (right : (d : Display) → IsReadyTerminal s d → Becomes (concat frames) d (IsRight old)) where
         -- the bytes so far bring a terminal to the last session
         shows-last : (d : Display) → IsReadyTerminal s d → Becomes (concat frames) d (ShowsSession before d)
         shows-last d ready =
@@ -144,8 +136,14 @@ module _ (s : Session) (events : List Event) (e : Event) where
         shows-new : (d : Display) → IsReadyTerminal s d → Becomes (concat (frames ++ p.bytes ∷ [])) d (ShowsSession now d)
         shows-new d ready =
             rw (concat-push frames p.bytes)
-            (tells-then (concat frames) (shows-last d ready)
-            (λ f law. tells-as (λ g painted. shows-now law painted) (p.tells f (has-space ready taken law) (is-right ready taken law))))
+            (tells-then (concat frames) (tells-both (shows-last d ready) (right d ready))
+            (λ f law. tells-as (λ g painted. shows-now law.0 painted) (p.tells f (has-space ready taken law.0) law.1)))
+
+        right-new : (d : Display) → IsReadyTerminal s d → Becomes (concat (frames ++ p.bytes ∷ [])) d (IsRight new)
+        right-new d ready =
+            rw (concat-push frames p.bytes)
+            (tells-then (concat frames) (tells-both (shows-last d ready) (right d ready))
+            (λ f law. tells-as (λ g painted. painted.right) (p.tells f (has-space ready taken law.0) law.1)))
 
         shows-at : (d : Display) → IsReadyTerminal s d → (k : ℕ) → k ≤ length (events ++ e ∷ []) → (k < length events + 1) ⊎ (length events + 1 ≤ k) → Becomes (concat (take (k + 1) (frames ++ p.bytes ∷ []))) d (ShowsSession (session_at s (take k (events ++ e ∷ []))) d)
         shows-at d ready k le (inl few) =
@@ -167,9 +165,10 @@ module _ (s : Session) (events : List Event) (e : Event) where
         → Paints seen (λ column row. has_cell rects column row ≡ true) screen (cursor_on screen.width screen.height cursor) old new x z → HasBeenShown s (events ++ e ∷ []) from (seen z.out.now) z.stopped new
     shown-more {seen = seen} {x = x} {z = z} from shown p = record {
       frames = shown.frames ++ p.bytes ∷ [];
-      shows = shows-more shown.taken p shown.shows;
+      shows = shows-more shown.taken p shown.shows shown.right;
       put = rw (concat-push shown.frames p.bytes) (put-then from (seen x.out.now) (seen z.out.now) x.stopped z.stopped (concat shown.frames) p.bytes shown.put p.puts.how);
       taken = taken-now shown.taken p;
+      right = right-new shown.taken p shown.shows shown.right;
     }
 
 -- ---- the beginning
@@ -213,6 +212,7 @@ module _ {W : Type 0} {seen : W → Seen} (s : Session) {screen : Picture} (curs
     shows = record { count = refl; each = first-each };
     put = rw (append-nil p.bytes) (subst (λ (b : Bool). PutsBy (seen x.out.now) b (seen z.out.now) z.stopped p.bytes) going p.puts.how);
     taken = first-taken;
+    right = λ d ready. rw (append-nil p.bytes) (tells-as (λ e b. b.right) (p.tells d (record { across = omega (arith, ready.across, is.width); down = omega (arith, ready.down, is.height) }) ready.normal));
   }
 
 -- ---- the end

@@ -2,6 +2,9 @@
 use Rattle.std.specs.Prelude.{◌≡◌, ◌<◌, ◌≤◌, ◌+◌, ◌^◌, ◌⊎◌, ℕ, Bool, true, false, List, [], ◌∷◌, ◌++◌, All}
 use Rattle.std.specs.Prelude.{map, take, length, Option, Some, None, Result, Ok, Err}
 use Rattle.std.specs.List.{concat}
+use Rattle.tv_terminal.specs.Displays.{Becomes}
+use Rattle.tv_terminal.specs.Terminal.{Display}
+use Rattle.tv_terminal.specs.Writing.{IsRight}
 use Rattle.tv_terminal.specs.declared.painter.Painter.{Painter}
 use Rattle.tv_cells.specs.Picture.{IsOn, cell_at}
 use Rattle.tv_event.specs.declared.event.Event.{Event as Happening}
@@ -16,7 +19,7 @@ use Rattle.tv_terminal.specs.declared.action.Action.{Action}
 use Rattle.tv_terminal.specs.declared.action.Action.TheVariants.{Event}
 use Rattle.tv_play.specs.Ends.{is_finished, is_leaving, script_with, session_at}
 use Rattle.tv_play.specs.Pieces.{ComesNot, HasCome, HasEnded, Heard}
-use Rattle.tv_play.specs.Shown.{HasSize, ShowsEach}
+use Rattle.tv_play.specs.Shown.{HasSize, IsReadyTerminal, ShowsEach}
 use Rattle.tv_play.specs.declared.pieces.Piece.{Piece}
 use Rattle.tv_play.specs.declared.pieces.Piece.TheVariants as pieces
 use Rattle.tv_play.specs.declared.parting.Parting.{Parting}
@@ -33,13 +36,14 @@ pub record HasTaken (s : Session) (painter : Painter) : Type 0 where
   pub each : (column row : ℕ) → IsOn painter.shown column row
       → cell_at painter.shown column row ≡ screen_cell s column row
 
--- what a terminal has to be told of the run so far was written to it
+-- what a terminal has to be told of the run so far was written to it, and the painter knows what that shows
 pub record HasBeenShown (s : Session) (events : List Happening) (from now : Seen) (stopped : Bool)
     (painter : Painter) : Type 0 where
   pub frames : List (List ℕ)
   pub shows : ShowsEach s events frames
   pub put : PutsBy from false now stopped (concat frames)
   pub taken : HasTaken (session_at s events) painter
+  pub right : (d : Display) → IsReadyTerminal s d → Becomes (concat frames) d (IsRight painter)
 
 -- ---- symbols and events
 

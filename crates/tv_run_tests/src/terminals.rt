@@ -49,44 +49,44 @@ fn play_into(alloc: Global, sent: &[u8], screen: &mut Memory, log: &mut Memory) 
     matches!(ended, Ok(Parting::Ended))
 }
 
-// What a terminal sends, the script of the same events, and where the cursor is shown at the end, or that it is hidden.
+// What a terminal sends, the script of the same events, and what brings the cursor to its place at the end, if it shows.
 struct Session {
     sent: &'static [u8],
     script: &'static str,
-    cursor: &'static [u8],
+    cursor: Option<&'static [u8]>,
 }
 
 const SESSIONS: [Session; 6] = [
     Session {
         sent: b"9\t\x7f2\t \x1b[B \t3\x1bl\x1bo\x1bOR\x1b",
         script: "type \"9\"; key Tab; key Backspace; type \"2\"; key Tab; type \" \"; key Down; type \" \"; key Tab; type \"3\"; key Alt-L; key Alt-O; key F3; key Esc",
-        cursor: b"\x1b[?25l",
+        cursor: None,
     },
     Session {
         sent: b"\x1b[<0;6;6M\x1b[<0;6;6m\x1b[<0;6;7M\x1b[<0;6;7m\x1b[<0;6;8M\x1b[<0;6;8m3\x1b[<0;6;10M\x1b[<0;6;10m\x1bOR\x1b[<0;6;3M\x1b[<0;6;3m",
         script: "down 5 5; up 5 5; down 5 6; up 5 6; down 5 7; up 5 7; type \"3\"; down 5 9; up 5 9; key F3; down 5 2; up 5 2",
-        cursor: b"\x1b[?25l",
+        cursor: None,
     },
     // The cursor of the input with the focus.
     Session {
         sent: b"",
         script: "",
-        cursor: b"\x1b[4;17H\x1b[?25h",
+        cursor: Some(b"\x1b[4;17H"),
     },
     Session {
         sent: b"\x1b[D",
         script: "key Left",
-        cursor: b"\x1b[4;16H\x1b[?25h",
+        cursor: Some(b"\x1b[4;16H"),
     },
     Session {
         sent: b"\t",
         script: "key Tab",
-        cursor: b"\x1b[?25l",
+        cursor: None,
     },
     Session {
         sent: b"\t \x1b[B \t",
         script: "key Tab; type \" \"; key Down; type \" \"; key Tab",
-        cursor: b"\x1b[8;6H\x1b[?25h",
+        cursor: Some(b"\x1b[8;6H"),
     },
 ];
 
@@ -94,11 +94,21 @@ const SESSIONS: [Session; 6] = [
 const END: &[u8] =
     b"\x1b[0m\x1b[2J\x1b[?25h\x1b[?1039l\x1b[?1036l\x1b[?1006l\x1b[?1002l\x1b[?1049l";
 
-// Whether the last frame ends with the cursor so.
-fn has_cursor(screen: &[u8], cursor: &[u8]) -> bool {
-    match screen.strip_suffix(END) {
-        Some(frames) => frames.ends_with(cursor),
-        None => false,
+// Whether the frames leave the cursor so: it shows or is hidden by the last word on that, and shows where the last frame ends.
+fn has_cursor(screen: &[u8], cursor: Option<&[u8]>) -> bool {
+    let Some(frames) = screen.strip_suffix(END) else {
+        return false;
+    };
+    let is_shown = match str::from_utf8(frames) {
+        Ok(text) => text
+            .rsplit_once("\x1b[?25")
+            .is_some_and(|(_, mode)| mode.starts_with('h')),
+        Err(_) => false,
+    };
+    let frames = frames.strip_suffix(b"\x1b[?25h").unwrap_or(frames);
+    match cursor {
+        Some(place) => is_shown && frames.ends_with(place),
+        None => !is_shown,
     }
 }
 

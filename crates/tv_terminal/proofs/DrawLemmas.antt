@@ -1,5 +1,5 @@
 -- How what is drawn is put together.
-use Rattle.std.proofs.Common.{◌≡◌, ℕ, ◌+◌, ◌<◌, Bool, true, false, ◌⊎◌, inl, inr, List, [], ◌++◌, Some, refl, sym, ap, ◌∙◌, arith, append_assoc, not, ◌==◌, ◌&&◌}
+use Rattle.std.proofs.Common.{◌≡◌, ℕ, ◌+◌, ◌<◌, Bool, true, false, ◌⊎◌, inl, inr, List, [], ◌++◌, Some, refl, sym, ap, subst, ◌∙◌, arith, append_assoc, not, ◌==◌, ◌&&◌}
 use Rattle.std.proofs.lemmas.List.{append-nil}
 use Rattle.tv_cells.specs.Glyph.{Glyph, glyph}
 use Rattle.tv_cells.specs.Picture.{Picture, IsOn, IsAlike, IsPlace, Changes, cell_at}
@@ -12,7 +12,7 @@ use Rattle.tv_io.proofs.PenLemmas.{Puts-none, Puts-then}
 use Rattle.tv_terminal.specs.Displays.{Displays, HasSpace, IsPrintable, ShowsIn, Stays, Becomes, drawn, tile_of}
 use Rattle.tv_terminal.specs.Written.{cell_bytes}
 use Rattle.tv_terminal.specs.Terminal.{Display, Terminal, ground, told}
-use Rattle.tv_terminal.specs.Writing.{Drawn, Draws, IsRight}
+use Rattle.tv_terminal.specs.Writing.{Drawn, Draws, IsShown}
 use Rattle.tv_terminal.specs.declared.hand.Hand.{Hand}
 use Rattle.tv_terminal.specs.declared.painter.Painter.{Painter}
 use Rattle.tv_terminal.proofs.ToldLemmas.{told-++, told-cell, from-eq, and-left, and-right}
@@ -22,6 +22,14 @@ use Rattle.tv_terminal.proofs.SpotLemmas.{place-test, spot-here, spot-other}
 
 pub tells-as : {P Q : Display → Type 0} {a : List ℕ} {d : Display} → ((e : Display) → P e → Q e) → Becomes a d P → Becomes a d Q
 tells-as to p = record { after = p.after; is = p.is; law = to p.after p.law }
+
+-- what meets two laws after the same bytes
+pub tells-both : {P Q : Display → Type 0} {a : List ℕ} {d : Display} → Becomes a d P → Becomes a d Q → Becomes a d (λ e. P e × Q e)
+tells-both {Q = Q} p q = record {
+  after = p.after;
+  is = p.is;
+  law = (p.law, subst Q (ap (λ (t : Terminal). t.display) (sym q.is ∙ p.is)) q.law);
+}
 
 pub tells-then : {P Q : Display → Type 0} {b : List ℕ} {d : Display} (a : List ℕ) → Becomes a d P → ((e : Display) → P e → Becomes b e Q) → Becomes (a ++ b) d Q
 tells-then {b = b} {d = d} a p next = record {
@@ -107,12 +115,13 @@ module _ {A B Whole : ℕ → ℕ → Type 0} (test : (column row : ℕ) → B c
         tells-then p.text (p.tells d knows room right)
         (λ e law. tells-as (λ f more. (
           more.0,
+          more.1 ∙ law.1,
           record {
-            shows = shows-over law.1.shows more.1.shows;
-            right = more.1.right;
-            stays = stays-then law.1.stays more.1.stays;
+            shows = shows-over law.2.shows more.2.shows;
+            right = more.2.right;
+            stays = stays-then law.2.stays more.2.stays;
           },
-        )) (q.tells e law.0 (room-still p.changes.size law.1.stays room) law.1.right));
+        )) (q.tells e law.0 (room-still p.changes.size law.2.stays room) law.2.right));
   }
 
 -- the same region of the screen by other words
@@ -126,13 +135,14 @@ draws-along alike to back p = record {
   puts = p.puts;
   tells = λ d knows room right. tells-as (λ e law. (
     law.0,
+    law.1,
     record {
       shows = record {
-        inside = λ column row on b. law.1.shows.inside column row on (back column row on b);
-        outside = λ column row other. law.1.shows.outside column row (λ a. other (to column row a));
+        inside = λ column row on b. law.2.shows.inside column row on (back column row on b);
+        outside = λ column row other. law.2.shows.outside column row (λ a. other (to column row a));
       };
-      right = law.1.right;
-      stays = law.1.stays;
+      right = law.2.right;
+      stays = law.2.stays;
     },
   )) (p.tells d knows room right);
 }
@@ -149,6 +159,7 @@ draws-none hand empty = record {
     is = refl;
     law = (
       knows,
+      refl,
       record {
         shows = record { inside = λ column row on here. absurd (empty column row here); outside = λ column row other. refl };
         right = right;
@@ -177,6 +188,7 @@ draws-same hand column row alike known same = record {
     is = refl;
     law = (
       knows,
+      refl,
       record {
         shows = record {
           inside = λ a b on here. (right known).each a b (on-alike alike on) ∙ ap tile_of (rw (here.0, here.1) same);
@@ -203,7 +215,7 @@ module _ (screen : Picture) (old new : Painter) (column row : ℕ) (cell : Glyph
         ∙ ap tile_of (sym (took.outside a b (on_old took there) other))
   ]
 
-  drawn-cell : (d : Display) → HasSpace old.shown d → IsRight old d → Drawn (IsPlace column row) screen new d (drawn column row cell d)
+  drawn-cell : (d : Display) → HasSpace old.shown d → IsShown old d → Drawn (IsPlace column row) screen new d (drawn column row cell d)
   drawn-cell d room right = record {
     shows = record {
       inside = λ a b there here. rw (here.0, here.1) (spot-here d.cells column row (tile_of cell) ∙ ap tile_of is);
@@ -236,7 +248,7 @@ module _ (screen : Picture) (old new : Painter) (column row : ℕ) (cell : Glyph
       is =
           told-cell hand.place hand.attr column row cell d knows printable.narrow printable.scalar printable.attr
           (omega (arith, on.across, room.across)) (omega (arith, on.down, room.down)) small.0 small.1;
-      law = (record { stands = rw place (refl, refl); writes = rw attr (refl, refl) }, drawn-cell d room right);
+      law = (record { stands = rw place (refl, refl); writes = rw attr (refl, refl) }, refl, drawn-cell d room right);
     };
   }
 

@@ -3,7 +3,7 @@ use Rattle.std.proofs.Common.{◌≡◌, [], ◌∷◌, ◌++◌, Some, None, tr
 use lib.Utf8.{encode}
 use Rattle.unicode_width.specs.Width.{char_width}
 use Rattle.tv_cells.specs.Glyph.{glyph}
-use Rattle.tv_terminal.specs.Written.{begin_bytes, cell_bytes, end_bytes}
+use Rattle.tv_terminal.specs.Written.{begin_bytes, cell_bytes, cursor_bytes, end_bytes}
 use Rattle.tv_terminal.specs.Terminal.{Character, Display, Escape, ground, in_mode, told}
 
 -- a terminal of 80 by 24 with an x in each place
@@ -78,6 +78,20 @@ yellow_on_grey = refl
 next_cell : cell_bytes (Some (1, 0)) (Some 0x14) 1 0 (glyph 66 0x14) ≡ codes "B"
 unfolding encode
 next_cell = refl
+
+-- a place to the right in the same row is so many columns away
+in_the_row : cell_bytes (Some (1, 0)) (Some 0x14) 5 0 (glyph 66 0x14) ≡ 27 ∷ codes "[4CB"
+unfolding encode
+in_the_row = refl
+
+-- of red on blue and red on green the ground alone differs
+other_ground : cell_bytes (Some (1, 0)) (Some 0x14) 1 0 (glyph 66 0x24) ≡ 27 ∷ codes "[42mB"
+unfolding encode
+other_ground = refl
+
+-- nothing is written for a cursor that shows where it has to
+cursor_still : cursor_bytes (Some (3, 4)) (Some true) (Some (3, 4)) ≡ []
+cursor_still = refl
 
 -- the begin and the end leave nothing behind
 as_before : (told (ground plain) (begin_bytes ++ end_bytes)) ≡ ground plain

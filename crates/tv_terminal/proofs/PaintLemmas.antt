@@ -1,5 +1,5 @@
 -- A screen that is painted, with its cursor, and the begin and the end.
-use Rattle.std.proofs.Common.{◌≡◌, ℕ, pos, ◌<◌, ◌≤◌, Bool, true, false, subst, List, [], ◌∷◌, ◌++◌, Option, Some, None, IfSome, refl, sym, ap, ◌∙◌, arith, append_assoc, codes}
+use Rattle.std.proofs.Common.{◌≡◌, ℕ, pos, ◌<◌, ◌≤◌, Bool, true, false, subst, List, [], ◌∷◌, ◌++◌, Option, Some, None, IfSome, is_some, refl, sym, ap, ◌∙◌, arith, append_assoc}
 use Rattle.std.proofs.lemmas.Int.{ints}
 use Rattle.tv_cells.specs.Picture.{Picture, IsOn, IsAlike}
 use Rattle.tv_cells.specs.Rectangle.{sized}
@@ -11,12 +11,12 @@ use Rattle.tv_io.specs.Writer.{Seen}
 use Rattle.tv_io.specs.declared.pen.Pen.{Pen}
 use Rattle.tv_io.proofs.PenLemmas.{Puts-then, Puts-along}
 use Rattle.tv_terminal.specs.Displays.{HasCursor, HasSpace, Knows, tile_of}
-use Rattle.tv_terminal.specs.Written.{begin_bytes, cursor_bytes, end_bytes, place_bytes}
+use Rattle.tv_terminal.specs.Written.{begin_bytes, cursor_bytes, end_bytes, going, place_after, showing}
 use Rattle.tv_terminal.specs.Terminal.{Covered, Display, Terminal, ground, plain_back, plain_front, told}
-use Rattle.tv_terminal.specs.Writing.{BeginsScreen, Drawn, Draws, Paints, restored}
+use Rattle.tv_terminal.specs.Writing.{BeginsScreen, Drawn, Draws, IsRight, IsShown, Paints, restored}
 use Rattle.tv_terminal.specs.declared.hand.Hand.{Hand}
 use Rattle.tv_terminal.specs.declared.painter.Painter.{Painter}
-use Rattle.tv_terminal.proofs.ToldLemmas.{told-++, told-going-anew}
+use Rattle.tv_terminal.proofs.ToldLemmas.{told-++, told-going}
 use Rattle.tv_terminal.proofs.DrawLemmas.{on-alike, tells-then}
 
 true-not-false : {b : Bool} → b ≡ true → b ≡ false → ⊥
@@ -28,28 +28,54 @@ abbrev with_cursor : Option (ℕ × ℕ) → Display → Display
 with_cursor None d = record d { has_cursor = false }
 with_cursor (Some p) d = record d { column = p.0; row = p.1; has_cursor = true }
 
-told-cursor : (cursor : Option (ℕ × ℕ)) (d : Display) → IfSome cursor (λ p. (p.0 < d.columns) × (p.1 < d.rows)) → IfSome cursor (λ p. (p.0 < 999) × (p.1 < 999))
-    → told (ground d) (cursor_bytes cursor) ≡ ground (with_cursor cursor d)
-told-cursor None d on small = refl
-told-cursor (Some p) d on small =
-    told-++ (ground d) (place_bytes p.0 p.1) (27 ∷ codes "[?25h")
-    ∙ ap (λ (t : Terminal). told t (27 ∷ codes "[?25h")) (told-going-anew p.0 p.1 d on.0 on.1 small.0 small.1)
+told-showing : (was : Option Bool) (is_on : Bool) (d : Display) → IfSome was (λ on. d.has_cursor ≡ on) → told (ground d) (showing was is_on) ≡ ground (record d { has_cursor = is_on })
+told-showing None true d is = refl
+told-showing None false d is = refl
+told-showing (Some true) true d is = ap (λ (on : Bool). ground (record d { has_cursor = on })) is
+told-showing (Some true) false d is = refl
+told-showing (Some false) true d is = refl
+told-showing (Some false) false d is = ap (λ (on : Bool). ground (record d { has_cursor = on })) is
+
+told-cursor : (place : Option (ℕ × ℕ)) (was : Option Bool) (cursor : Option (ℕ × ℕ)) (d : Display)
+    → IfSome place (λ p. (d.column ≡ p.0) × (d.row ≡ p.1)) → IfSome was (λ on. d.has_cursor ≡ on)
+    → IfSome cursor (λ p. (p.0 < d.columns) × (p.1 < d.rows)) → IfSome cursor (λ p. (p.0 < 999) × (p.1 < 999))
+    → told (ground d) (cursor_bytes place was cursor) ≡ ground (with_cursor cursor d)
+told-cursor place was None d stands is on small = told-showing was false d is
+told-cursor place was (Some p) d stands is on small =
+    told-++ (ground d) (going place p.0 p.1) (showing was true)
+    ∙ ap (λ (t : Terminal). told t (showing was true)) (told-going place p.0 p.1 d stands on.0 on.1 small.0 small.1)
+    ∙ told-showing was true (record d { column = p.0; row = p.1 }) is
 
 has-cursor : (cursor : Option (ℕ × ℕ)) (d : Display) → HasCursor cursor (with_cursor cursor d)
 has-cursor None d = refl
 has-cursor (Some p) d = (refl, refl, refl)
 
-drawn-cursor : {Region : ℕ → ℕ → Type 0} {screen : Picture} {new : Painter} {d e : Display} (cursor : Option (ℕ × ℕ)) → Drawn Region screen new d e → Drawn Region screen new d (with_cursor cursor e)
-drawn-cursor None p = record {
+-- another painter that took over the same
+still-shown : (mid new : Painter) (e : Display) → new.shown ≡ mid.shown → new.is_known ≡ mid.is_known → (cursor : Option (ℕ × ℕ)) → IsShown mid e → IsShown new (with_cursor cursor e)
+still-shown mid new e shown known None shows k = let there = shows (sym known ∙ k) in rw shown (record { room = record { across = there.room.across; down = there.room.down }; each = there.each })
+still-shown mid new e shown known (Some p) shows k = let there = shows (sym known ∙ k) in rw shown (record { room = record { across = there.room.across; down = there.room.down }; each = there.each })
+
+drawn-cursor : {Region : ℕ → ℕ → Type 0} {screen : Picture} {d : Display} (mid new : Painter) (e : Display) → new.shown ≡ mid.shown → new.is_known ≡ mid.is_known → (cursor : Option (ℕ × ℕ))
+    → Drawn Region screen mid d e → Drawn Region screen new d (with_cursor cursor e)
+drawn-cursor mid new e shown known None p = record {
   shows = record { inside = p.shows.inside; outside = p.shows.outside };
-  right = λ k. record { room = record { across = (p.right k).room.across; down = (p.right k).room.down }; each = (p.right k).each };
+  right = still-shown mid new e shown known None p.right;
   stays = record { columns = p.stays.columns; rows = p.stays.rows; mouse = p.stays.mouse; reports = p.stays.reports; meta = p.stays.meta; alt = p.stays.alt; covered = p.stays.covered; lost = p.stays.lost };
 }
-drawn-cursor (Some q) p = record {
+drawn-cursor mid new e shown known (Some q) p = record {
   shows = record { inside = p.shows.inside; outside = p.shows.outside };
-  right = λ k. record { room = record { across = (p.right k).room.across; down = (p.right k).room.down }; each = (p.right k).each };
+  right = still-shown mid new e shown known (Some q) p.right;
   stays = record { columns = p.stays.columns; rows = p.stays.rows; mouse = p.stays.mouse; reports = p.stays.reports; meta = p.stays.meta; alt = p.stays.alt; covered = p.stays.covered; lost = p.stays.lost };
 }
+
+-- what is known of the cursor and the colours then
+knows-after : (place : Option (ℕ × ℕ)) (attr' : Option ℕ) (cursor : Option (ℕ × ℕ)) (e : Display) → Knows place attr' e → Knows (place_after place cursor) attr' (with_cursor cursor e)
+knows-after place attr' None e k = record { stands = k.stands; writes = k.writes }
+knows-after place attr' (Some p) e k = record { stands = (refl, refl); writes = k.writes }
+
+cursor-on : (cursor : Option (ℕ × ℕ)) (e : Display) → (with_cursor cursor e).has_cursor ≡ is_some cursor
+cursor-on None e = refl
+cursor-on (Some p) e = refl
 
 -- a place of the screen is one of the terminal, and its numbers are small
 on-terminal : (cursor : Option (ℕ × ℕ)) (width height columns rows : ℕ) → width ≤ columns → height ≤ rows → IfSome cursor (λ p. (p.0 < width) × (p.1 < height)) → IfSome cursor (λ p. (p.0 < columns) × (p.1 < rows))
@@ -58,32 +84,49 @@ on-terminal (Some p) width height columns rows a b on = (omega (arith, on.0), om
 
 -- ---- a screen
 
-knows-none : (place : Option (ℕ × ℕ)) (attr : Option ℕ) (d : Display) → place ≡ None → attr ≡ None → Knows place attr d
-knows-none place attr d e f = rw (e, f) (record { stands = tt; writes = tt })
-
 puts-all : {W : Type 0} {seen : W → Seen} {x y z : Pen W} (waited waits text last : List ℕ) → waited ≡ [] → PutsPart seen x y waited text waits → Puts seen y z (waits ++ last) → Puts seen x z (text ++ last)
 puts-all waited waits text last empty p q =
     let parts : p.0 ++ waits ≡ text = p.2 ∙ ap (λ (w : List ℕ). w ++ text) empty in
     Puts-along (sym (append_assoc p.0 waits last) ∙ ap (λ (t : List ℕ). t ++ last) parts) (Puts-then p.1 q)
 
-module _ {W : Type 0} {seen : W → Seen} {Region : ℕ → ℕ → Type 0} {screen : Picture} {old new : Painter} {hand after : Hand} {x y z : Pen W} where
-  pub paints : (cursor : Option (ℕ × ℕ)) → hand.waiting.items ≡ [] → hand.place ≡ None → hand.attr ≡ None → IsAlike old.shown screen
+-- a painter that took the cells over, and what the hand knows
+pub record HasFinished (mid new : Painter) (after : Hand) (cursor : Option (ℕ × ℕ)) : Type 0 where
+  pub shown : new.shown ≡ mid.shown
+  pub known : new.is_known ≡ mid.is_known
+  pub place : new.place ≡ place_after after.place cursor
+  pub attr : new.attr ≡ after.attr
+  pub shows : new.has_cursor ≡ Some (is_some cursor)
+
+right-after : (mid new : Painter) (after : Hand) (cursor : Option (ℕ × ℕ)) (e : Display) → HasFinished mid new after cursor → Knows after.place after.attr e → IsShown mid e → IsRight new (with_cursor cursor e)
+right-after mid new after cursor e f knows shows = record {
+  shows = still-shown mid new e f.shown f.known cursor shows;
+  knows = rw (f.place, f.attr) (knows-after after.place after.attr cursor e knows);
+  cursor = rw f.shows (cursor-on cursor e);
+}
+
+module _ {W : Type 0} {seen : W → Seen} {Region : ℕ → ℕ → Type 0} {screen : Picture} {old mid new : Painter} {hand after : Hand} {x y z : Pen W} where
+  pub paints : (cursor : Option (ℕ × ℕ)) → hand.waiting.items ≡ [] → hand.place ≡ old.place → hand.attr ≡ old.attr → IsAlike old.shown screen
       → (screen.width < 999) × (screen.height < 999) → IfSome cursor (λ p. (p.0 < screen.width) × (p.1 < screen.height))
-      → Draws seen Region screen old new hand after x y → Puts seen y z (after.waiting.items ++ cursor_bytes cursor) → Paints seen Region screen cursor old new x z
-  paints cursor empty nowhere plain alike small on p q = record {
-    known = p.known;
-    changes = p.changes;
-    bytes = p.text ++ cursor_bytes cursor;
-    puts = puts-all hand.waiting.items after.waiting.items p.text (cursor_bytes cursor) empty p.puts q;
+      → Draws seen Region screen old mid hand after x y → Puts seen y z (after.waiting.items ++ cursor_bytes after.place old.has_cursor cursor)
+      → HasFinished mid new after cursor → Paints seen Region screen cursor old new x z
+  paints cursor empty place attr alike small on p q f = record {
+    known = f.known ∙ p.known;
+    changes = rw f.shown p.changes;
+    bytes = p.text ++ cursor_bytes after.place old.has_cursor cursor;
+    puts = puts-all hand.waiting.items after.waiting.items p.text (cursor_bytes after.place old.has_cursor cursor) empty p.puts q;
     tells = λ d room right.
-        tells-then p.text (p.tells d (knows-none hand.place hand.attr d nowhere plain) room right)
+        tells-then p.text (p.tells d (rw (place, attr) right.knows) room right.shows)
         (λ e law. record {
           after = with_cursor cursor e;
-          is = told-cursor cursor e
+          is = told-cursor after.place old.has_cursor cursor e law.0.stands (rw law.1 right.cursor)
               (on-terminal cursor screen.width screen.height e.columns e.rows
-              (omega (arith, alike.width, room.across, law.1.stays.columns)) (omega (arith, alike.height, room.down, law.1.stays.rows)) on)
+              (omega (arith, alike.width, room.across, law.2.stays.columns)) (omega (arith, alike.height, room.down, law.2.stays.rows)) on)
               (on-terminal cursor screen.width screen.height 999 999 (omega (arith, small.0)) (omega (arith, small.1)) on);
-          law = record { drawn = drawn-cursor cursor law.1; points = has-cursor cursor e };
+          law = record {
+            drawn = drawn-cursor mid new e f.shown f.known cursor law.2;
+            right = right-after mid new after cursor e f law.0 law.2.right;
+            points = has-cursor cursor e;
+          };
         });
   }
 
@@ -115,11 +158,20 @@ whole-has screen column row on = or_left _ _ (is_in-true (sized screen.width scr
 pub whole-rect : (r : Rect) (screen : Picture) → r ≡ sized screen.width screen.height → (column row : ℕ) → IsOn screen column row → has_cell (r ∷ []) column row ≡ true
 whole-rect r screen e column row on = subst (λ (q : Rect). has_cell (q ∷ []) column row ≡ true) (sym e) (whole-has screen column row on)
 
+-- a painter that knows nothing isn't wrong
+blind-right : {blind : Painter} (d : Display) → blind.is_known ≡ false → (blind.place ≡ None) × (blind.attr ≡ None) × (blind.has_cursor ≡ None) → IsRight blind d
+blind-right d unknown nothing = record {
+  shows = λ k. absurd (true-not-false k unknown);
+  knows = rw (nothing.0, nothing.1) (record { stands = tt; writes = tt });
+  cursor = rw nothing.2 tt;
+}
+
 module _ {W : Type 0} {seen : W → Seen} {screen : Picture} {cursor : Option (ℕ × ℕ)} {old blind new last : Painter} {x y z : Pen W} where
-  pub begins : IsAlike old.shown screen → blind.shown ≡ old.shown → blind.is_known ≡ false → last.shown ≡ new.shown → last.is_known ≡ true → Puts seen x y begin_bytes
+  pub begins : IsAlike old.shown screen → blind.shown ≡ old.shown → blind.is_known ≡ false → (blind.place ≡ None) × (blind.attr ≡ None) × (blind.has_cursor ≡ None)
+      → last.shown ≡ new.shown → last.is_known ≡ true → (last.place ≡ new.place) × (last.attr ≡ new.attr) × (last.has_cursor ≡ new.has_cursor) → Puts seen x y begin_bytes
       → (rects : List Rect) → ((column row : ℕ) → IsOn screen column row → has_cell rects column row ≡ true)
       → Paints seen (λ column row. has_cell rects column row ≡ true) screen cursor blind new y z → BeginsScreen seen screen cursor old last x z
-  begins alike same unknown end known opened rects all p = record {
+  begins alike same unknown nothing end known kept opened rects all p = record {
     known = known;
     size = record { width = ap (λ (q : Picture). q.width) end ∙ p.changes.size.width ∙ ap (λ (q : Picture). q.width) same; height = ap (λ (q : Picture). q.height) end ∙ p.changes.size.height ∙ ap (λ (q : Picture). q.height) same };
     taken = λ column row on. rw end (p.changes.inside column row (rw same (on-alike alike on)) (all column row on));
@@ -127,7 +179,7 @@ module _ {W : Type 0} {seen : W → Seen} {screen : Picture} {cursor : Option (�
     puts = Puts-then opened p.puts;
     tells = λ d room free.
         let room' : HasSpace blind.shown (begun d) = rw same (record { across = omega (arith, alike.width, room.across); down = omega (arith, alike.height, room.down) }) in
-        let q = p.tells (begun d) room' (λ k. absurd (true-not-false k unknown)) in
+        let q = p.tells (begun d) room' (blind-right (begun d) unknown nothing) in
         record {
           after = q.after;
           is = told-++ (ground d) begin_bytes p.bytes ∙ ap (λ (t : Terminal). told t p.bytes) (told-begin d free) ∙ q.is;
@@ -136,13 +188,17 @@ module _ {W : Type 0} {seen : W → Seen} {screen : Picture} {cursor : Option (�
               room = record { across = omega (arith, room.across, q.law.drawn.stays.columns); down = omega (arith, room.down, q.law.drawn.stays.rows) };
               each = λ column row on. q.law.drawn.shows.inside column row on (all column row on);
             };
-            right = λ k. rw end (record {
-              room = record { across = omega (arith, room.across, q.law.drawn.stays.columns, p.changes.size.width, ap (λ (o : Picture). o.width) same, alike.width); down = omega (arith, room.down, q.law.drawn.stays.rows, p.changes.size.height, ap (λ (o : Picture). o.height) same, alike.height) };
-              each = λ column row on.
-                  let there : IsOn screen column row = record { across = omega (arith, on.across, p.changes.size.width, ap (λ (o : Picture). o.width) same, alike.width); down = omega (arith, on.down, p.changes.size.height, ap (λ (o : Picture). o.height) same, alike.height) } in
-                  q.law.drawn.shows.inside column row there (all column row there)
-                  ∙ ap tile_of (sym (p.changes.inside column row (rw same (on-alike alike there)) (all column row there)));
-            });
+            right = record {
+              shows = λ k. rw end (record {
+                room = record { across = omega (arith, room.across, q.law.drawn.stays.columns, p.changes.size.width, ap (λ (o : Picture). o.width) same, alike.width); down = omega (arith, room.down, q.law.drawn.stays.rows, p.changes.size.height, ap (λ (o : Picture). o.height) same, alike.height) };
+                each = λ column row on.
+                    let there : IsOn screen column row = record { across = omega (arith, on.across, p.changes.size.width, ap (λ (o : Picture). o.width) same, alike.width); down = omega (arith, on.down, p.changes.size.height, ap (λ (o : Picture). o.height) same, alike.height) } in
+                    q.law.drawn.shows.inside column row there (all column row there)
+                    ∙ ap tile_of (sym (p.changes.inside column row (rw same (on-alike alike there)) (all column row there)));
+              });
+              knows = rw (kept.0, kept.1) q.law.right.knows;
+              cursor = rw kept.2 q.law.right.cursor;
+            };
             points = q.law.points;
             columns = q.law.drawn.stays.columns;
             rows = q.law.drawn.stays.rows;

@@ -1,13 +1,13 @@
 -- What a terminal makes of the sequences that are written.
-use Rattle.std.proofs.Common.{◌≡◌, ℕ, ◌+◌, ◌-◌, ◌*◌, ◌/◌, ◌%◌, ◌<◌, ◌≤◌, Bool, true, false, List, [], ◌∷◌, ◌++◌, Option, Some, None, refl, ap, ◌∙◌, arith, encode_utf8, nat_le, nat_lt, zero, suc, ◌&&◌, ◌||◌, not, ◌==◌, inl, inr, IfSome, unwrap_or, if◌then◌else◌}
+use Rattle.std.proofs.Common.{◌≡◌, ℕ, ◌+◌, ◌-◌, ◌*◌, ◌/◌, ◌%◌, ◌<◌, ◌≤◌, Bool, true, false, List, [], ◌∷◌, ◌++◌, Option, Some, None, refl, ap, ◌∙◌, arith, encode_utf8, nat_le, nat_lt, zero, suc, ◌&&◌, ◌||◌, not, ◌==◌, inl, inr, IfSome, unwrap_or, min, max, sym, if◌then◌else◌}
 use Rattle.std.proofs.lemmas.Bool.{cases_lt}
 use Rattle.std.proofs.lemmas.Bool.Decides.{nat_tests}
 use Rattle.std.proofs.lemmas.Str.{encode_ascii}
 use lib.Utf8.{encode}
 use Rattle.unicode_width.specs.Width.{char_width}
 use Rattle.tv_cells.specs.Glyph.{Glyph, IsNarrow, is_narrow}
-use Rattle.tv_terminal.specs.Written.{number_bytes, place_bytes, colour_bytes, front_number, back_number, going, colouring, cell_bytes}
-use Rattle.tv_terminal.specs.Terminal.{Display, Terminal, Numbers, Character, in_mode, ground, told, byte_told, cursor_placed, put, with_tile, is_decimal_digit, colour_set, first_told, cell_number}
+use Rattle.tv_terminal.specs.Written.{number_bytes, place_bytes, right_bytes, colour_bytes, one_colour_bytes, front_number, back_number, going, colouring, recolouring, cell_bytes}
+use Rattle.tv_terminal.specs.Terminal.{Display, Terminal, Numbers, Character, in_mode, ground, told, byte_told, cursor_placed, put, with_tile, is_decimal_digit, colour_set, first_told, cell_number, moved_right}
 use Rattle.tv_terminal.specs.Displays.{Knows, drawn}
 
 pub told-++ : (t : Terminal) (a b : List ℕ) → told t (a ++ b) ≡ told (told t a) b
@@ -298,31 +298,68 @@ pub told-going-anew : (column row : ℕ) (d : Display) → column < d.columns �
 told-going-anew column row d across down small few =
     told-place column row d small few ∙ rw (place-found d.columns column across, place-found d.rows row down) refl
 
-told-going-by : (test : Bool) (column row : ℕ) (d : Display) → (test ≡ true → (d.column ≡ column) × (d.row ≡ row)) → column < d.columns → row < d.rows → column < 999 → row < 999
-    → told (ground d) (if test then [] else place_bytes column row) ≡ ground (moved column row d)
-told-going-by true column row d there across down small few = rw (← (there refl).0, ← (there refl).1) refl
-told-going-by false column row d there across down small few = told-going-anew column row d across down small few
+-- so many columns to the right
+told-right : (n : ℕ) (d : Display) → n < 1000 → told (ground d) (right_bytes n) ≡ ground (moved_right n d)
+told-right n d few =
+    told-++ (ground d) (27 ∷ 91 ∷ number_bytes n) (67 ∷ []) ∙ ap (λ (t : Terminal). told t (67 ∷ [])) (told-number false [] d n few)
 
-told-going : (place : Option (ℕ × ℕ)) (column row : ℕ) (d : Display) → IfSome place (λ p. (d.column ≡ p.0) × (d.row ≡ p.1)) → column < d.columns → row < d.rows → column < 999 → row < 999
+told-going-right : (column row : ℕ) (d : Display) → d.column < column → d.row ≡ row → column < d.columns → column < 999 → told (ground d) (right_bytes (column - d.column)) ≡ ground (moved column row d)
+told-going-right column row d less same across small =
+    let there : min (d.column + max (column - d.column) 1) (d.columns - 1) ≡ column = grind (arith, less, across) in
+    told-right (column - d.column) d (omega (arith, small)) ∙ rw (there, ← same) refl
+
+told-going-by : (is_there is_left : Bool) (p : ℕ × ℕ) (column row : ℕ) (d : Display) → (d.column ≡ p.0) × (d.row ≡ p.1)
+    → (is_there ≡ true → (p.0 ≡ column) × (p.1 ≡ row)) → (is_left ≡ true → (p.0 < column) × (p.1 ≡ row))
+    → column < d.columns → row < d.rows → column < 999 → row < 999
+    → told (ground d) (if is_there then [] else if is_left then right_bytes (column - p.0) else place_bytes column row) ≡ ground (moved column row d)
+told-going-by true is_left p column row d is there left across down small few =
+    let at = there refl in
+    rw (← at.0, ← at.1, ← is.0, ← is.1) refl
+told-going-by false true p column row d is there left across down small few =
+    let at = left refl in
+    ap (λ (n : ℕ). told (ground d) (right_bytes (column - n))) (sym is.0)
+    ∙ told-going-right column row d (omega (arith, is.0, at.0)) (is.1 ∙ at.1) across small
+told-going-by false false p column row d is there left across down small few = told-going-anew column row d across down small few
+
+below-test : (m n : ℕ) → nat_lt m n ≡ true → m < n
+below-test m n e = grind (arith, nat_tests)
+
+pub told-going : (place : Option (ℕ × ℕ)) (column row : ℕ) (d : Display) → IfSome place (λ p. (d.column ≡ p.0) × (d.row ≡ p.1)) → column < d.columns → row < d.rows → column < 999 → row < 999
     → told (ground d) (going place column row) ≡ ground (moved column row d)
 told-going None column row d is across down small few = told-going-anew column row d across down small few
 told-going (Some p) column row d is across down small few =
-    told-going-by ((p.0 == column) && (p.1 == row)) column row d
-    (λ e. (is.0 ∙ from-eq p.0 column (and-left _ _ e), is.1 ∙ from-eq p.1 row (and-right (p.0 == column) _ e)))
+    told-going-by ((p.0 == column) && (p.1 == row)) (nat_lt p.0 column && (p.1 == row)) p column row d is
+    (λ e. (from-eq p.0 column (and-left _ _ e), from-eq p.1 row (and-right (p.0 == column) _ e)))
+    (λ e. (below-test p.0 column (and-left _ _ e), from-eq p.1 row (and-right (nat_lt p.0 column) _ e)))
     across down small few
 
-told-colouring-by : (test : Bool) (attr : ℕ) (d : Display) → (test ≡ true → (d.front ≡ front_number attr) × (d.back ≡ back_number attr)) → attr < 256
-    → told (ground d) (if test then [] else colour_bytes attr) ≡ ground (with_colours attr d)
-told-colouring-by true attr d set lt = rw (← (set refl).0, ← (set refl).1) refl
-told-colouring-by false attr d set lt = told-colours attr d lt
+-- one colour of an attribute
+told-one_colour : (number : ℕ) (d : Display) → number < 1000 → told (ground d) (one_colour_bytes number) ≡ ground (colour_set number d)
+told-one_colour number d few =
+    told-++ (ground d) (27 ∷ 91 ∷ number_bytes number) (109 ∷ []) ∙ ap (λ (t : Terminal). told t (109 ∷ [])) (told-number false [] d number few)
+
+front-small : (attr : ℕ) → attr < 256 → front_number attr < 1000
+front-small attr lt = below (front_number attr) 1000 (and-left (nat_lt (front_number attr) 1000) _ (all-at small 256 attr all_small lt))
+
+back-small : (attr : ℕ) → attr < 256 → back_number attr < 1000
+back-small attr lt = below (back_number attr) 1000 (and-right (nat_lt (front_number attr) 1000) _ (all-at small 256 attr all_small lt))
+
+told-recolouring : (is_front is_back : Bool) (set attr : ℕ) (d : Display) → (d.front ≡ front_number set) × (d.back ≡ back_number set)
+    → (is_front ≡ true → front_number set ≡ front_number attr) → (is_back ≡ true → back_number set ≡ back_number attr) → attr < 256
+    → told (ground d) (recolouring set attr is_front is_back) ≡ ground (with_colours attr d)
+told-recolouring true true set attr d is front back lt = rw (← front refl, ← back refl, ← is.0, ← is.1) refl
+told-recolouring true false set attr d is front back lt =
+    told-one_colour (back_number attr) d (back-small attr lt) ∙ ap ground (back-set attr d lt) ∙ rw (← front refl, ← is.0) refl
+told-recolouring false true set attr d is front back lt =
+    told-one_colour (front_number attr) d (front-small attr lt) ∙ ap ground (front-set attr d lt) ∙ rw (← back refl, ← is.1) refl
+told-recolouring false false set attr d is front back lt = told-colours attr d lt
 
 told-colouring : (set : Option ℕ) (attr : ℕ) (d : Display) → IfSome set (λ a. (d.front ≡ front_number a) × (d.back ≡ back_number a)) → attr < 256
     → told (ground d) (colouring set attr) ≡ ground (with_colours attr d)
 told-colouring None attr d is lt = told-colours attr d lt
 told-colouring (Some a) attr d is lt =
-    told-colouring-by (a == attr) attr d
-    (λ e. let same = from-eq a attr e in (is.0 ∙ ap front_number same, is.1 ∙ ap back_number same))
-    lt
+    told-recolouring (front_number a == front_number attr) (back_number a == back_number attr) a attr d is
+    (from-eq (front_number a) (front_number attr)) (from-eq (back_number a) (back_number attr)) lt
 
 put-within : (ch : ℕ) (d : Display) → IsNarrow ch → d.column < d.columns → put ch d ≡ record d {
   cells = with_tile d.cells d.column d.row (record { ch = ch; front = d.front; back = d.back });

@@ -1,7 +1,7 @@
 -- A terminal, as what it makes of bytes: the sequences of ECMA-48 and of xterm that are used here. Columns
 -- and rows count from 0, and a sequence counts them from 1.
 use Rattle.std.specs.Prelude.{ℕ, ◌+◌, ◌-◌, ◌*◌, List, [], ◌∷◌, Option, Some, None, Bool, true, false, ◌&&◌}
-use Rattle.std.specs.Prelude.{◌||◌, ◌==◌, nat_le, nat_lt, if◌then◌else◌}
+use Rattle.std.specs.Prelude.{◌||◌, ◌==◌, nat_le, nat_lt, min, max, if◌then◌else◌}
 use Rattle.tv_cells.specs.Glyph.{is_narrow}
 
 -- ---- what it shows
@@ -63,6 +63,10 @@ cell_number count number = if nat_le number count then number - 1 else count - 1
 
 abbrev pub cursor_placed : (row column : ℕ) → Display → Display
 cursor_placed row column d = record d { column = cell_number d.columns column; row = cell_number d.rows row }
+
+-- so many columns to the right, 0 meaning 1, and no farther than the last
+abbrev pub moved_right : ℕ → Display → Display
+moved_right n d = record d { column = min (d.column + max n 1) (d.columns - 1) }
 
 -- all cells are spaces
 abbrev pub cleared : Display → Display
@@ -131,13 +135,14 @@ in_mode m d = record { mode = m; display = d }
 abbrev pub ground : Display → Terminal
 ground d = in_mode Ground d
 
--- the last byte of a sequence: H (72) places the cursor, m (109) sets colours, J (74) clears, and with a `?`
--- before the number h (104) and l (108) switch a mode
+-- the last byte of a sequence: H (72) places the cursor, C (67) moves it right, m (109) sets colours, J (74)
+-- clears, and with a `?` before the number h (104) and l (108) switch a mode
 abbrev pub after_sequence : ℕ → Bool → ℕ → List ℕ → Display → Display
 after_sequence c true last before d =
     if c == 104 then switched last true d else if c == 108 then switched last false d else lost d
 after_sequence c false last [] d =
     if c == 109 then colour_set last d
+    else if c == 67 then moved_right last d
     else if (c == 74) && (last == 2) then cleared d
     else lost d
 after_sequence c false last (first ∷ before) d =

@@ -1,5 +1,5 @@
 -- What is written, and what a terminal makes of it.
-use Rattle.std.specs.Prelude.{◌≡◌, ℕ, true, false, List, Option, Some, None}
+use Rattle.std.specs.Prelude.{◌≡◌, ℕ, true, false, List, Option, Some, None, IfSome}
 use Rattle.tv_cells.specs.Picture.{Picture, IsAlike, IsOn, Changes, cell_at}
 use Rattle.tv_io.specs.Pen.{Puts, PutsPart}
 use Rattle.tv_io.specs.Writer.{Seen}
@@ -10,15 +10,21 @@ use Rattle.tv_terminal.specs.declared.hand.Hand.{Hand}
 use Rattle.tv_terminal.specs.declared.painter.Painter.{Painter}
 
 -- what a painter takes the terminal to show is what it shows
-abbrev pub IsRight : Painter → Display → Type 0
-IsRight painter d = painter.is_known ≡ true → Displays painter.shown d
+abbrev pub IsShown : Painter → Display → Type 0
+IsShown painter d = painter.is_known ≡ true → Displays painter.shown d
+
+-- and so is what it takes its cursor and its colours to be
+pub record IsRight (painter : Painter) (d : Display) : Type 0 where
+  pub shows : IsShown painter d
+  pub knows : Knows painter.place painter.attr d
+  pub cursor : IfSome painter.has_cursor (λ is_on. d.has_cursor ≡ is_on)
 
 -- ---- the cells of a region
 
 -- what a terminal shows after the cells of a region of a screen were written
 pub record Drawn (Region : ℕ → ℕ → Type 0) (screen : Picture) (new : Painter) (d e : Display) : Type 0 where
   pub shows : ShowsIn Region screen d e
-  pub right : IsRight new e
+  pub right : IsShown new e
   pub stays : Stays d e
 
 -- a painter took them over, and wrote what brings a terminal there
@@ -28,8 +34,8 @@ pub record Draws {W : Type 0} (seen : W → Seen) (Region : ℕ → ℕ → Type
   pub changes : Changes Region (λ column row _. cell_at screen column row) old.shown new.shown
   pub text : List ℕ
   pub puts : PutsPart seen before later hand.waiting.items text after.waiting.items
-  pub tells : (d : Display) → Knows hand.place hand.attr d → HasSpace old.shown d → IsRight old d
-      → Becomes text d (λ e. Knows after.place after.attr e × Drawn Region screen new d e)
+  pub tells : (d : Display) → Knows hand.place hand.attr d → HasSpace old.shown d → IsShown old d
+      → Becomes text d (λ e. Knows after.place after.attr e × (e.has_cursor ≡ d.has_cursor) × Drawn Region screen new d e)
 
 -- ---- a screen
 
@@ -37,6 +43,7 @@ pub record Draws {W : Type 0} (seen : W → Seen) (Region : ℕ → ℕ → Type
 pub record Painted (Region : ℕ → ℕ → Type 0) (screen : Picture) (cursor : Option (ℕ × ℕ)) (new : Painter)
     (d e : Display) : Type 0 where
   pub drawn : Drawn Region screen new d e
+  pub right : IsRight new e
   pub points : HasCursor cursor e
 
 -- a painter took its cells over, and wrote what brings a terminal there

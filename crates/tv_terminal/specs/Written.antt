@@ -1,6 +1,6 @@
 -- The sequences that are written.
-use Rattle.std.specs.Prelude.{ℕ, ◌+◌, ◌/◌, ◌%◌, ◌==◌, ◌&&◌, nat_lt, if◌then◌else◌, List, [], ◌∷◌, ◌++◌}
-use Rattle.std.specs.Prelude.{Option, Some, None, encode_utf8, slice_index, codes, pos}
+use Rattle.std.specs.Prelude.{ℕ, ◌+◌, ◌-◌, ◌/◌, ◌%◌, ◌==◌, ◌&&◌, Bool, true, false, nat_lt, if◌then◌else◌}
+use Rattle.std.specs.Prelude.{List, [], ◌∷◌, ◌++◌, Option, Some, None, encode_utf8, slice_index, codes, pos}
 use Rattle.std.specs.Int.{int_gap}
 use Rattle.tv_cells.specs.Glyph.{Glyph}
 use Rattle.tv_cells.specs.Layers.{is_in}
@@ -34,6 +34,14 @@ back_number attr = (if attr / 128 == 0 then 40 else 100) + slice_index colour_or
 abbrev pub place_bytes : (column row : ℕ) → List ℕ
 place_bytes column row = 27 ∷ 91 ∷ number_bytes (row + 1) ++ 59 ∷ number_bytes (column + 1) ++ 72 ∷ []
 
+-- the cursor goes so many columns to the right
+abbrev pub right_bytes : ℕ → List ℕ
+right_bytes n = 27 ∷ 91 ∷ number_bytes n ++ 67 ∷ []
+
+-- one of the colours becomes that of a number
+abbrev pub one_colour_bytes : ℕ → List ℕ
+one_colour_bytes number = 27 ∷ 91 ∷ number_bytes number ++ 109 ∷ []
+
 -- the colours become those of an attribute
 abbrev pub colour_bytes : ℕ → List ℕ
 colour_bytes attr =
@@ -41,14 +49,25 @@ colour_bytes attr =
 
 -- ---- cells
 
--- nothing is written to get where the cursor stands, and for the colours that are set
+-- nothing is written to get where the cursor stands, and less to get to the right of it
 abbrev pub going : Option (ℕ × ℕ) → (column row : ℕ) → List ℕ
 going None column row = place_bytes column row
-going (Some p) column row = if (p.0 == column) && (p.1 == row) then [] else place_bytes column row
+going (Some p) column row =
+    if (p.0 == column) && (p.1 == row) then []
+    else if nat_lt p.0 column && (p.1 == row) then right_bytes (column - p.0)
+    else place_bytes column row
+
+-- nor for colours that are set
+abbrev pub recolouring : (set attr : ℕ) (is_front_set is_back_set : Bool) → List ℕ
+recolouring set attr true true = []
+recolouring set attr true false = one_colour_bytes (back_number attr)
+recolouring set attr false true = one_colour_bytes (front_number attr)
+recolouring set attr false false = colour_bytes attr
 
 abbrev pub colouring : Option ℕ → ℕ → List ℕ
 colouring None attr = colour_bytes attr
-colouring (Some set) attr = if set == attr then [] else colour_bytes attr
+colouring (Some set) attr =
+    recolouring set attr (front_number set == front_number attr) (back_number set == back_number attr)
 
 abbrev pub cell_bytes : Option (ℕ × ℕ) → Option ℕ → (column row : ℕ) → Glyph → List ℕ
 cell_bytes place attr column row g = going place column row ++ colouring attr g.attr ++ encode_utf8 g.ch
@@ -61,10 +80,22 @@ cursor_on width height None = None
 cursor_on width height (Some p) =
     if is_in (sized width height) p.x p.y then Some (int_gap (pos 0) p.x, int_gap (pos 0) p.y) else None
 
--- it goes to a place and shows, or is hidden
-abbrev pub cursor_bytes : Option (ℕ × ℕ) → List ℕ
-cursor_bytes None = 27 ∷ codes "[?25l"
-cursor_bytes (Some p) = place_bytes p.0 p.1 ++ 27 ∷ codes "[?25h"
+-- it shows, or is hidden; nothing is written where it is known to be so
+abbrev pub showing : (was : Option Bool) (is_on : Bool) → List ℕ
+showing (Some true) true = []
+showing (Some false) false = []
+showing _ true = 27 ∷ codes "[?25h"
+showing _ false = 27 ∷ codes "[?25l"
+
+-- it goes to a place and shows, or is hidden, by where it is known to stand and whether it shows
+abbrev pub cursor_bytes : (place : Option (ℕ × ℕ)) (was : Option Bool) → Option (ℕ × ℕ) → List ℕ
+cursor_bytes place was None = showing was false
+cursor_bytes place was (Some p) = going place p.0 p.1 ++ showing was true
+
+-- where it is known to stand then
+abbrev pub place_after : (place cursor : Option (ℕ × ℕ)) → Option (ℕ × ℕ)
+place_after place None = place
+place_after place (Some p) = Some p
 
 -- ---- the begin and the end
 

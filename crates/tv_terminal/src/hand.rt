@@ -1,9 +1,9 @@
 //! Cells, as bytes that a terminal is told.
 
-ghost use Rattle.std.specs.Prelude.{◌≡◌, [], ◌∷◌, ◌++◌, ◌+◌, ◌<◌, ◌≤◌, IfSome};
+ghost use Rattle.std.specs.Prelude.{◌≡◌, [], ◌∷◌, ◌++◌, ◌+◌, ◌<◌, ◌≤◌, IfSome, Some};
 ghost use Rattle.arrayvec.specs.ArrayVec.{array_vec_len};
 ghost use Rattle.tv_io.specs.Pen.{Puts, PutsPart};
-ghost use Rattle.tv_terminal.specs.Written.{back_number, cell_bytes, colour_bytes, colouring, cursor_bytes, front_number, going, number_bytes, place_bytes};
+ghost use Rattle.tv_terminal.specs.Written.{back_number, cell_bytes, colour_bytes, colouring, cursor_bytes, front_number, going, number_bytes, one_colour_bytes, place_after, place_bytes, recolouring, right_bytes, showing};
 ghost use Rattle.tv_terminal.specs.Displays.{IsPrintable};
 
 use arrayvec::ArrayVec;
@@ -29,16 +29,16 @@ pub(crate) struct Hand {
 }
 
 impl Hand {
-    /// Makes the hand that knows nothing.
-    pub(crate) fn new() -> Hand
+    /// Makes the hand that knows so much, and has nothing to write.
+    pub(crate) fn new(place: Option<(u32, u32)>, attr: Option<u8>) -> Hand
         ensures bytes { result.waiting.items ≡ [] }
-        ensures place { result.place ≡ None }
-        ensures attr { result.attr ≡ None }
+        ensures place { result.place ≡ place }
+        ensures attr { result.attr ≡ attr }
     {
         Hand {
             waiting: ArrayVec::new(),
-            place: None,
-            attr: None,
+            place,
+            attr,
         }
     }
 
@@ -68,19 +68,27 @@ impl Hand {
         self.add(column, row, cell);
     }
 
-    /// Brings the cursor to a place, or hides it, and writes all that waits.
-    pub(crate) fn finish<W: Writer>(&mut self, pen: &mut Pen<W>, cursor: Option<(u32, u32)>)
+    /// Brings the cursor to a place, or hides it, by whether it is known to show, and writes all that waits.
+    pub(crate) fn finish<W: Writer>(
+        &mut self,
+        pen: &mut Pen<W>,
+        was_on: Option<bool>,
+        cursor: Option<(u32, u32)>,
+    )
         requires { IfSome cursor (λ p. (p.0 < 999) × (p.1 < 999)) }
-        ensures { Puts W.seen pen.old pen.new (self.old.waiting.items ++ cursor_bytes cursor) }
+        ensures puts { Puts W.seen pen.old pen.new (self.old.waiting.items ++ cursor_bytes self.old.place was_on cursor) }
+        ensures place { self.new.place ≡ place_after self.old.place cursor }
+        ensures attr { self.new.attr ≡ self.old.attr }
     {
         self.flush(pen);
         match cursor {
             Some((column, row)) => {
-                push_place(&mut self.waiting, column, row);
+                self.go(column, row);
+                self.place = Some((column, row));
                 self.flush(pen);
-                pen.put(b"\x1b[?25h");
+                show(pen, was_on, true);
             }
-            None => pen.put(b"\x1b[?25l"),
+            None => show(pen, was_on, false),
         }
     }
 
@@ -109,6 +117,7 @@ impl Hand {
     {
         match self.place {
             Some((x, y)) if x == column && y == row => {}
+            Some((x, y)) if x < column && y == row => push_right(&mut self.waiting, column - x),
             _ => push_place(&mut self.waiting, column, row),
         }
     }
@@ -122,9 +131,21 @@ impl Hand {
     {
         match self.attr {
             Some(set) if set == attr => {}
-            _ => push_colours(&mut self.waiting, attr),
+            Some(set) => push_changed(&mut self.waiting, set, attr),
+            None => push_colours(&mut self.waiting, attr),
         }
         self.attr = Some(attr);
+    }
+}
+
+// Has the cursor show or hides it, unless it is known to do so.
+fn show<W: Writer>(pen: &mut Pen<W>, was_on: Option<bool>, is_on: bool)
+    ensures { Puts W.seen pen.old pen.new (showing was_on is_on) }
+{
+    match was_on {
+        Some(was) if was == is_on => {}
+        _ if is_on => pen.put(b"\x1b[?25h"),
+        _ => pen.put(b"\x1b[?25l"),
     }
 }
 
@@ -141,6 +162,46 @@ fn push_place(bytes: &mut ArrayVec<u8, ROOM>, column: u32, row: u32)
     bytes.push(b';');
     push_number(bytes, column + 1);
     bytes.push(b'H');
+}
+
+// Adds the sequence that brings the cursor so many columns to the right.
+fn push_right(bytes: &mut ArrayVec<u8, ROOM>, columns: u32)
+    requires room { array_vec_len bytes.old + 10 ≤ 256 }
+    requires small { columns < 999 }
+    ensures bytes { bytes.new.items ≡ bytes.old.items ++ right_bytes columns }
+    ensures few { array_vec_len bytes.new ≤ array_vec_len bytes.old + 10 }
+{
+    bytes.push(b'\x1b');
+    bytes.push(b'[');
+    push_number(bytes, columns);
+    bytes.push(b'C');
+}
+
+// Adds what brings the colours of an attribute where those of another are set.
+fn push_changed(bytes: &mut ArrayVec<u8, ROOM>, set: u8, attr: u8)
+    requires room { array_vec_len bytes.old + 10 ≤ 256 }
+    ensures bytes { bytes.new.items ≡ bytes.old.items ++ colouring (Some set) attr }
+    ensures few { array_vec_len bytes.new ≤ array_vec_len bytes.old + 10 }
+{
+    let (front, back) = (front_number(attr), back_number(attr));
+    match (front_number(set) == front, back_number(set) == back) {
+        (true, true) => {}
+        (true, false) => push_colour(bytes, back),
+        (false, true) => push_colour(bytes, front),
+        (false, false) => push_colours(bytes, attr),
+    }
+}
+
+fn push_colour(bytes: &mut ArrayVec<u8, ROOM>, number: u32)
+    requires room { array_vec_len bytes.old + 10 ≤ 256 }
+    requires small { number < 1000 }
+    ensures bytes { bytes.new.items ≡ bytes.old.items ++ one_colour_bytes number }
+    ensures few { array_vec_len bytes.new ≤ array_vec_len bytes.old + 10 }
+{
+    bytes.push(b'\x1b');
+    bytes.push(b'[');
+    push_number(bytes, number);
+    bytes.push(b'm');
 }
 
 fn push_colours(bytes: &mut ArrayVec<u8, ROOM>, attr: u8)

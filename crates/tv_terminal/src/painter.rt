@@ -1,6 +1,6 @@
 //! What a terminal shows, and how it is brought to show a screen.
 
-ghost use Rattle.std.specs.Prelude.{◌≡◌, ◌≤◌, ◌<◌, ◌↔◌, true, false, pos, IfOk, IsErrOf};
+ghost use Rattle.std.specs.Prelude.{◌≡◌, ◌≤◌, ◌<◌, ◌↔◌, true, false, None, pos, IfOk, IsErrOf};
 ghost use Rattle.tv_cells.specs.Layers.{is_in};
 ghost use Rattle.tv_cells.specs.Picture.{Changes, IsAlike, IsOn, IsPlace, IsScreenSize};
 ghost use Rattle.tv_cells.specs.Repainting.{has_cell};
@@ -21,6 +21,10 @@ use tv_io::{Pen, Writer};
 pub struct Painter {
     shown: Screen,
     is_known: bool,
+    // Where the terminal's cursor stands, which attribute's colours it writes in, and whether its cursor shows, where these are known.
+    place: Option<(u32, u32)>,
+    attr: Option<u8>,
+    has_cursor: Option<bool>,
 }
 
 impl Painter {
@@ -38,6 +42,9 @@ impl Painter {
             Ok(shown) => Ok(Painter {
                 shown,
                 is_known: false,
+                place: None,
+                attr: None,
+                has_cursor: None,
             }),
             Err(fault) => Err(fault),
         }
@@ -52,14 +59,15 @@ impl Painter {
         requires { IsAlike self.old.shown screen.now }
         ensures { BeginsScreen W.seen screen.now (cursor_on screen.now.width screen.now.height cursor) self.old self.new pen.old pen.new }
     {
-        self.is_known = false;
+        self.forget();
         pen.put(b"\x1b[?1049h\x1b[?1002h\x1b[?1006h\x1b[?1036h\x1b[?1039h\x1b[0m\x1b[2J");
         self.paint(screen, &[screen.canvas().clip], cursor, pen);
         self.is_known = true;
     }
 
     /// Brings the terminal to show a screen in each cell of some rectangles, with the cursor at a point of it, or without
-    /// one. Only cells that don't show yet are written. Other cells of the terminal stay as they are.
+    /// one. Only cells that don't show yet are written, and nothing where neither a cell nor the cursor changes. Other cells of the
+    /// terminal stay as they are.
     ///
     /// Where the writer fails, a prefix of the bytes was written, and the pen is stopped.
     pub fn paint<W: Writer>(
@@ -73,9 +81,14 @@ impl Painter {
         ensures { Paints W.seen (λ column row. has_cell rects.now column row ≡ true) screen.now
             (cursor_on screen.now.width screen.now.height cursor) self.old self.new pen.old pen.new }
     {
-        let mut hand = Hand::new();
+        let mut hand = Hand::new(self.place, self.attr);
+        let was_on = self.has_cursor;
         self.paint_rects(&mut hand, pen, screen, rects);
-        hand.finish(pen, on_screen(screen.width(), screen.height(), cursor));
+        let cursor = on_screen(screen.width(), screen.height(), cursor);
+        hand.finish(pen, was_on, cursor);
+        self.place = hand.place;
+        self.attr = hand.attr;
+        self.has_cursor = Some(cursor.is_some());
     }
 
     /// Ends a session: turns the terminal back to its normal screen, as that was, with its cursor, plain colours and no mouse. What
@@ -86,8 +99,22 @@ impl Painter {
         ensures shown { self.new.shown ≡ self.old.shown }
         ensures unknown { self.new.is_known ≡ false }
     {
-        self.is_known = false;
+        self.forget();
         pen.put(b"\x1b[0m\x1b[2J\x1b[?25h\x1b[?1039l\x1b[?1036l\x1b[?1006l\x1b[?1002l\x1b[?1049l");
+    }
+
+    // Knows nothing of the terminal any more.
+    fn forget(&mut self)
+        ensures shown { self.new.shown ≡ self.old.shown }
+        ensures unknown { self.new.is_known ≡ false }
+        ensures nowhere { self.new.place ≡ None }
+        ensures plain { self.new.attr ≡ None }
+        ensures cursor { self.new.has_cursor ≡ None }
+    {
+        self.is_known = false;
+        self.place = None;
+        self.attr = None;
+        self.has_cursor = None;
     }
 
     // Takes over a cell.
