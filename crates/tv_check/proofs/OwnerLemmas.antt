@@ -108,12 +108,7 @@ kind_named letter (kinds.Label label) own = owner_if HasName (marks letter label
 kind_named letter (kinds.Button button) own = owner_if HasName (marks letter button.text) (control button.name) own.0
 kind_named letter (kinds.CheckBoxes boxes) own = item_if HasName boxes.name (position (marks letter) boxes.items) (λ place e. own.0)
 kind_named letter (kinds.RadioButtons radios) own = item_if HasName radios.name (position (marks letter) radios.items) (λ place e. own.0)
-kind_named letter (kinds.Input input) own = tt
-kind_named letter (kinds.List list) own = tt
-kind_named letter (kinds.Dialog head) own = tt
-kind_named letter (kinds.Window head) own = tt
-kind_named letter (kinds.Text shown) own = tt
-kind_named letter (kinds.Pane pane) own = tt
+kind_named letter _ own = tt
 
 abbrev pub IsNamed : KeyOwner → Type 0
 IsNamed owner = HasName owner.owner
@@ -143,12 +138,7 @@ kind_fits letter (kinds.Label label) lawful = owner_if FitsKeyLine (marks letter
 kind_fits letter (kinds.Button button) lawful = owner_if FitsKeyLine (marks letter button.text) (control button.name) tt
 kind_fits letter (kinds.CheckBoxes boxes) lawful = item_fits letter boxes.name boxes.items lawful
 kind_fits letter (kinds.RadioButtons radios) lawful = item_fits letter radios.name radios.items lawful
-kind_fits letter (kinds.Input input) lawful = tt
-kind_fits letter (kinds.List list) lawful = tt
-kind_fits letter (kinds.Dialog head) lawful = tt
-kind_fits letter (kinds.Window head) lawful = tt
-kind_fits letter (kinds.Text shown) lawful = tt
-kind_fits letter (kinds.Pane pane) lawful = tt
+kind_fits letter _ lawful = tt
 
 pub owners_fit : (version : Version) (dialog : Dialog) (letter : ℕ) → HasLawfulCounts dialog → AllByRecursion FitsOwner (owners_of version dialog letter)
 owners_fit version dialog letter lawful = owners_have IsLawfulCount FitsKeyLine letter (kind_fits letter) version dialog (recursion_from_All (λ view. is_lawful_count view.kind ≡ true) dialog.views lawful)
@@ -159,7 +149,6 @@ abbrev pub HasWhen : Version → KeyOwner → Type 0
 HasWhen version owner = IfSome owner.when (IsWhen version)
 
 kind_name : (kind : Kind) → IsSpelledKind kind → IfSome (name_of kind) IsName
-kind_name (kinds.Label label) own = tt
 kind_name (kinds.Button button) own = own.0
 kind_name (kinds.CheckBoxes boxes) own = own.0
 kind_name (kinds.RadioButtons radios) own = own.0
@@ -167,8 +156,8 @@ kind_name (kinds.Input input) own = own.0
 kind_name (kinds.List list) own = own.0
 kind_name (kinds.Dialog head) own = own.0
 kind_name (kinds.Window head) own = own.0
-kind_name (kinds.Text shown) own = tt
 kind_name (kinds.Pane pane) own = own.0
+kind_name _ own = tt
 
 ruled_in : (b : Bool) (rule : Rule) (found : Option Rule) → RuleItem rule → IfSome (option_map (λ rule. rule.item) found) IsNumber → IfSome (option_map (λ (one : Rule). one.item) (cond b (Some rule) found)) IsNumber
 ruled_in true rule found here later = here

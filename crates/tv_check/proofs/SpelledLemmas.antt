@@ -38,11 +38,7 @@ named_tabs (kinds.Input input) names own are = (own.0, are)
 named_tabs (kinds.CheckBoxes boxes) names own are = (own.0, are)
 named_tabs (kinds.RadioButtons radios) names own are = (own.0, are)
 named_tabs (kinds.List list) names own are = (own.0, are)
-named_tabs (kinds.Dialog head) names own are = are
-named_tabs (kinds.Window head) names own are = are
-named_tabs (kinds.Text shown) names own are = are
-named_tabs (kinds.Label label) names own are = are
-named_tabs (kinds.Pane pane) names own are = are
+named_tabs _ names own are = are
 
 abbrev tabs_in : List Node → List (List ℕ)
 tabs_in views = filter_map (λ node. control_name node.kind) views
@@ -58,11 +54,7 @@ no_tab (kinds.Input input) names e = cc
 no_tab (kinds.CheckBoxes boxes) names e = cc
 no_tab (kinds.RadioButtons radios) names e = cc
 no_tab (kinds.List list) names e = cc
-no_tab (kinds.Dialog head) names e = (refl, e)
-no_tab (kinds.Window head) names e = (refl, e)
-no_tab (kinds.Text shown) names e = (refl, e)
-no_tab (kinds.Label label) names e = (refl, e)
-no_tab (kinds.Pane pane) names e = (refl, e)
+no_tab _ names e = (refl, e)
 
 no_control : (views : List Node) → tabs_in views ≡ [] → list_any (λ node. is_control node.kind) views ≡ false
 no_control [] e = refl

@@ -81,12 +81,7 @@ value-fits (kinds.List list) (Some (values.Text text)) has = has
 value-fits (kinds.List list) (Some (values.Marks marks)) has = has
 value-fits (kinds.List list) (Some (values.Item item)) has = has
 value-fits (kinds.List list) None has = absurd (false≢true (sym has))
-value-fits (kinds.Window head) value has = tt
-value-fits (kinds.Dialog head) value has = tt
-value-fits (kinds.Text shown) value has = tt
-value-fits (kinds.Label label) value has = tt
-value-fits (kinds.Button button) value has = tt
-value-fits (kinds.Pane pane) value has = tt
+value-fits _ value has = tt
 
 -- ---- a fresh body
 

@@ -78,27 +78,11 @@ fresh_tree d = map (fresh_leaf d) (leaf_list d.views)
 
 declared_is : (node : Node) (k : Kind) → (declared_leaf (record node { kind = k })).value ≡ declared_value k
 declared_is node (kinds.Window head) = refl
-declared_is node (kinds.Dialog head) = refl
-declared_is node (kinds.Text shown) = refl
-declared_is node (kinds.Label label) = refl
-declared_is node (kinds.Button button) = refl
-declared_is node (kinds.Input input) = refl
-declared_is node (kinds.CheckBoxes boxes) = refl
-declared_is node (kinds.RadioButtons radios) = refl
-declared_is node (kinds.List list) = refl
-declared_is node (kinds.Pane pane) = refl
+declared_is node _ = refl
 
 private_is : (node : Node) (k : Kind) → (declared_leaf (record node { kind = k })).private ≡ opened_private k (declared_value k)
 private_is node (kinds.Window head) = refl
-private_is node (kinds.Dialog head) = refl
-private_is node (kinds.Text shown) = refl
-private_is node (kinds.Label label) = refl
-private_is node (kinds.Button button) = refl
-private_is node (kinds.Input input) = refl
-private_is node (kinds.CheckBoxes boxes) = refl
-private_is node (kinds.RadioButtons radios) = refl
-private_is node (kinds.List list) = refl
-private_is node (kinds.Pane pane) = refl
+private_is node _ = refl
 
 declared_steady : (is_focused : Bool) (k : Kind) (overwrites : Bool) → IsSteadyContent is_focused k (open_content k None overwrites)
 declared_steady is_focused (kinds.Input input) overwrites =
@@ -106,12 +90,7 @@ declared_steady is_focused (kinds.Input input) overwrites =
 declared_steady is_focused (kinds.CheckBoxes boxes) overwrites = refl
 declared_steady is_focused (kinds.RadioButtons radios) overwrites = refl
 declared_steady is_focused (kinds.List list) overwrites = refl
-declared_steady is_focused (kinds.Window head) overwrites = record { value = refl; private = refl }
-declared_steady is_focused (kinds.Dialog head) overwrites = record { value = refl; private = refl }
-declared_steady is_focused (kinds.Text shown) overwrites = record { value = refl; private = refl }
-declared_steady is_focused (kinds.Label label) overwrites = record { value = refl; private = refl }
-declared_steady is_focused (kinds.Button button) overwrites = record { value = refl; private = refl }
-declared_steady is_focused (kinds.Pane pane) overwrites = record { value = refl; private = refl }
+declared_steady is_focused _ overwrites = record { value = refl; private = refl }
 
 module _ (d : Dialog) (lawful : IsLawfulDialog d) where
   -- the dialog with its declared values

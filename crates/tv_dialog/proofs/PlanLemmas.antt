@@ -15,15 +15,7 @@ use Rattle.tv_dialog.specs.Plan.{default_of}
 -- no pane is a default button
 default_no_pane : (id : Id) (depth : ℕ) (x y w : ℤ) (kind : Kind) → is_pane kind ≡ true → is_default (record { id = id; depth = depth; x = x; y = y; w = w; kind = kind }) ≡ false
 default_no_pane id depth x y w (kinds.Button button) e = absurd (false≢true e)
-default_no_pane id depth x y w (kinds.Window head) e = refl
-default_no_pane id depth x y w (kinds.Dialog head) e = refl
-default_no_pane id depth x y w (kinds.Text shown) e = refl
-default_no_pane id depth x y w (kinds.Label label) e = refl
-default_no_pane id depth x y w (kinds.Input input) e = refl
-default_no_pane id depth x y w (kinds.CheckBoxes boxes) e = refl
-default_no_pane id depth x y w (kinds.RadioButtons radios) e = refl
-default_no_pane id depth x y w (kinds.List list) e = refl
-default_no_pane id depth x y w (kinds.Pane pane) e = refl
+default_no_pane id depth x y w _ e = refl
 
 abbrev first_leaf : List PlacedNode → Option Id
 first_leaf leaves = option_map (λ leaf. leaf.node.id) (find (λ leaf. is_default leaf.node) leaves)

@@ -63,15 +63,7 @@ kept_is : (node : Node) (kind : Kind) (is : IsTrue (is_dialog kind)) (head : Kep
       ends = (dialog_head_of kind is).ends;
     }
 kept_is node (kinds.Dialog own) is head e = cc
-kept_is node (kinds.Window own) is head e = absurd (false≢true is)
-kept_is node (kinds.Text shown) is head e = absurd (false≢true is)
-kept_is node (kinds.Label label) is head e = absurd (false≢true is)
-kept_is node (kinds.Button button) is head e = absurd (false≢true is)
-kept_is node (kinds.Input input) is head e = absurd (false≢true is)
-kept_is node (kinds.CheckBoxes boxes) is head e = absurd (false≢true is)
-kept_is node (kinds.RadioButtons radios) is head e = absurd (false≢true is)
-kept_is node (kinds.List list) is head e = absurd (false≢true is)
-kept_is node (kinds.Pane pane) is head e = absurd (false≢true is)
+kept_is node _ is head e = absurd (false≢true is)
 
 head-is : (d : Dialog) (head : KeptDialogHead) → Some head ≡ declared_dialog_head d.node → head ≡ own_head d
 head-is d head e = kept_is d.node d.node.kind d.own_kind head e

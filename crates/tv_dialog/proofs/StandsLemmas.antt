@@ -46,15 +46,7 @@ use Rattle.tv_group.proofs.Tree.StandingLemmas.{steady-moved}
 kept_parts : (node : Node) (kind : Kind) (is : IsTrue (is_dialog kind)) (head : KeptDialogHead) → Some head ≡ declared_dialog_head (record node { kind = kind })
     → ((dialog_head_of kind is).ends ≡ head.ends) × (head.id ≡ node.id)
 kept_parts node (kinds.Dialog own) is head e = (cc, cc)
-kept_parts node (kinds.Window own) is head e = absurd (false≢true is)
-kept_parts node (kinds.Text shown) is head e = absurd (false≢true is)
-kept_parts node (kinds.Label label) is head e = absurd (false≢true is)
-kept_parts node (kinds.Button button) is head e = absurd (false≢true is)
-kept_parts node (kinds.Input input) is head e = absurd (false≢true is)
-kept_parts node (kinds.CheckBoxes boxes) is head e = absurd (false≢true is)
-kept_parts node (kinds.RadioButtons radios) is head e = absurd (false≢true is)
-kept_parts node (kinds.List list) is head e = absurd (false≢true is)
-kept_parts node (kinds.Pane pane) is head e = absurd (false≢true is)
+kept_parts node _ is head e = absurd (false≢true is)
 
 -- a dialog's head has the ends that it declares, and its id
 pub head-parts : (d : Dialog) (head : KeptDialogHead) → Some head ≡ declared_dialog_head d.node → ((dialog_head d).ends ≡ head.ends) × (head.id ≡ d.node.id)

@@ -93,15 +93,7 @@ module _ (letter : ℕ) (small : is_small_letter letter ≡ true) where
 
     unanswered : (leaf : PlacedNode) (k : Kind) (c : Content) → answered d (keys.Alt letter) leaf (key_answer k (keys.Alt letter) c) m ≡ m
     unanswered leaf (kinds.Button button) c = refl
-    unanswered leaf (kinds.Window head) c = refl
-    unanswered leaf (kinds.Dialog head) c = refl
-    unanswered leaf (kinds.Text shown) c = refl
-    unanswered leaf (kinds.Label label) c = refl
-    unanswered leaf (kinds.Input input) c = refl
-    unanswered leaf (kinds.CheckBoxes boxes) c = refl
-    unanswered leaf (kinds.RadioButtons radios) c = refl
-    unanswered leaf (kinds.List list) c = refl
-    unanswered leaf (kinds.Pane pane) c = refl
+    unanswered leaf _ c = refl
 
     alt-still : dialog_step d (events.Key (keys.Alt letter)) m ≡ m
     alt-still =

@@ -24,16 +24,8 @@ opens_window d node window en ev none =
 
 -- a dialog's kind is no window's
 not_window : (kind : Kind) → IsTrue (is_dialog kind) → is_window kind ≡ false
-not_window (kinds.Dialog head) is = refl
 not_window (kinds.Window head) is = absurd cc
-not_window (kinds.Text shown) is = refl
-not_window (kinds.Label label) is = refl
-not_window (kinds.Button button) is = refl
-not_window (kinds.Input input) is = refl
-not_window (kinds.CheckBoxes boxes) is = refl
-not_window (kinds.RadioButtons radios) is = refl
-not_window (kinds.List list) is = refl
-not_window (kinds.Pane pane) is = refl
+not_window _ is = refl
 
 as_dialog : (d : Desc) (node : Node) (window dialog : Bool) (ew : is_window node.kind ≡ window) (ed : is_dialog node.kind ≡ dialog) (is : IsTrue (is_dialog node.kind)) → opened_as d node window dialog ew ed ≡ Some (stages.InViews (dialog_of node is) 0, d)
 as_dialog d node true dialog ew ed is = let clash : true ≡ false = sym ew ∙ not_window node.kind is in absurd cc

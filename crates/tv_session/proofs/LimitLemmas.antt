@@ -42,15 +42,7 @@ dialog_head_limited node limited = by node.kind refl
       size = frame_size node.w own.h (rw is at limited.w) (rw is at limited.h);
       title = All-head IsShort own.title [] (rw is at limited.texts);
     })
-    by (kinds.Window own) is = rw is tt
-    by (kinds.Text own) is = rw is tt
-    by (kinds.Label own) is = rw is tt
-    by (kinds.Button own) is = rw is tt
-    by (kinds.Input own) is = rw is tt
-    by (kinds.CheckBoxes own) is = rw is tt
-    by (kinds.RadioButtons own) is = rw is tt
-    by (kinds.List own) is = rw is tt
-    by (kinds.Pane own) is = rw is tt
+    by _ is = rw is tt
 
 -- and what a window keeps of one
 pub window_head_limited : (node : Node) → IsLimited node → IfSome (window.declared_window_head node) window.IsLimitedWindowHead
@@ -63,12 +55,4 @@ window_head_limited node limited = by node.kind refl
       to = number.1;
       title = All-head IsShort own.title [] (rw is at limited.texts);
     })
-    by (kinds.Dialog own) is = rw is tt
-    by (kinds.Text own) is = rw is tt
-    by (kinds.Label own) is = rw is tt
-    by (kinds.Button own) is = rw is tt
-    by (kinds.Input own) is = rw is tt
-    by (kinds.CheckBoxes own) is = rw is tt
-    by (kinds.RadioButtons own) is = rw is tt
-    by (kinds.List own) is = rw is tt
-    by (kinds.Pane own) is = rw is tt
+    by _ is = rw is tt

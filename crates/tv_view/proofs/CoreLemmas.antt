@@ -19,27 +19,11 @@ near_end z s least l h w = record { low = omega (arith, ints, l, h.0, h.1, w.0, 
 
 width_counts : (kind : Kind) → pos 1 ≤ℤ least_width kind
 width_counts (kinds.Window head) = omega (arith, ints)
-width_counts (kinds.Dialog head) = omega (arith, ints)
-width_counts (kinds.Text shown) = omega (arith, ints)
-width_counts (kinds.Label label) = omega (arith, ints)
-width_counts (kinds.Button button) = omega (arith, ints)
-width_counts (kinds.Input input) = omega (arith, ints)
-width_counts (kinds.CheckBoxes boxes) = omega (arith, ints)
-width_counts (kinds.RadioButtons radios) = omega (arith, ints)
-width_counts (kinds.List list) = omega (arith, ints)
-width_counts (kinds.Pane pane) = omega (arith, ints)
+width_counts _ = omega (arith, ints)
 
 height_counts : (kind : Kind) → pos 1 ≤ℤ least_height kind
 height_counts (kinds.Window head) = omega (arith, ints)
-height_counts (kinds.Dialog head) = omega (arith, ints)
-height_counts (kinds.Text shown) = omega (arith, ints)
-height_counts (kinds.Label label) = omega (arith, ints)
-height_counts (kinds.Button button) = omega (arith, ints)
-height_counts (kinds.Input input) = omega (arith, ints)
-height_counts (kinds.CheckBoxes boxes) = omega (arith, ints)
-height_counts (kinds.RadioButtons radios) = omega (arith, ints)
-height_counts (kinds.List list) = omega (arith, ints)
-height_counts (kinds.Pane pane) = omega (arith, ints)
+height_counts _ = omega (arith, ints)
 
 short_end : (least s : ℤ) → IsBetween least (pos 60) s → IsBetween least (pos 132) s
 short_end least s h = (h.0, omega (arith, ints, h.0, h.1))
