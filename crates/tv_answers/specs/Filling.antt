@@ -1,6 +1,6 @@
 -- A description whose fields begin with answers.
 use Rattle.std.specs.Prelude.{pos, List, [], ◌∷◌, map, filter, Option, Some, None}
-use Rattle.std.specs.List.{range_with_len}
+use Rattle.std.specs.List.{AllByRecursion, range_with_len}
 use Rattle.tv_model.specs.declared.desc.Desc.{Desc}
 use Rattle.tv_model.specs.declared.desc.Dialog.{Dialog}
 use Rattle.tv_model.specs.declared.kind.Kind.{Kind}
@@ -10,6 +10,7 @@ use Rattle.tv_model.specs.declared.record.Value.{Value}
 use Rattle.tv_model.specs.declared.record.Value.TheVariants as values
 use Rattle.tv_model.specs.Log.LogText.{has_bit}
 use Rattle.tv_model.specs.Log.Record.{Entries, value_of}
+use Rattle.tv_words.specs.Fields.{IsNumber}
 use Rattle.tv_answers.specs.declared.answers.Answers.{Answers}
 use Rattle.tv_answers.specs.declared.answers.Answer.{Answer}
 
@@ -46,3 +47,14 @@ filled_dialogs (dialog ∷ dialogs) (answer ∷ answers) =
 -- the description, whose answered fields begin so
 abbrev pub filled : Desc → Answers → Desc
 filled d a = record d { dialogs = filled_dialogs d.dialogs a.dialogs }
+
+-- ---- what can be spelled
+
+-- a value that a description can begin with: an item has a number of it
+abbrev pub HasNumber : Value → Type 0
+HasNumber (values.Item item) = IsNumber (pos item)
+HasNumber value = Unit {0}
+
+-- the items of all answers have such
+abbrev pub HaveNumbers : Answers → Type 0
+HaveNumbers a = AllByRecursion (λ answer. AllByRecursion (λ entry. HasNumber entry.value) answer.entries) a.dialogs

@@ -2,7 +2,8 @@
 
 ghost use Rattle.std.specs.Prelude.{◌≡◌, ◌≤◌, ◌++◌, ◌∷◌, [], map, filter, pos, IfOk, OnOk};
 ghost use Rattle.std.specs.List.{range_with_len};
-ghost use Rattle.tv_answers.specs.Filling.{filled, filled_dialogs, with_start, with_value_of, with_values_of};
+ghost use Rattle.tv_answers.specs.Filling.{HaveNumbers, filled, filled_dialogs, with_start, with_value_of, with_values_of};
+ghost use Rattle.tv_declarations.specs.Spelling.{IsDescription};
 ghost use Rattle.tv_model.specs.Log.LogText.{has_bit};
 
 use crate::answers::{Answer, Answers};
@@ -138,10 +139,9 @@ fn filled_dialogs(
     Ok(begun)
 }
 
-/// Returns the description with the answered fields beginning with their answers. The other fields begin as they are
-/// declared.
-pub fn filled(alloc: Global, desc: Desc, answers: &Answers) -> Result<Desc, AllocError>
-    ensures { IfOk result (λ begun. begun ≡ filled desc answers.now) }
+// The description, with the dialogs filled.
+fn begun(alloc: Global, desc: Desc, answers: &[Answer]) -> Result<Desc, AllocError>
+    ensures { IfOk result (λ begun. begun ≡ record desc { dialogs = filled_dialogs desc.dialogs answers.now }) }
 {
     let Desc {
         version,
@@ -153,7 +153,7 @@ pub fn filled(alloc: Global, desc: Desc, answers: &Answers) -> Result<Desc, Allo
         windows,
         dialogs,
     } = desc;
-    let begun = filled_dialogs(alloc, dialogs.into_vec(), answers.dialogs.as_slice())?;
+    let begun = filled_dialogs(alloc, dialogs.into_vec(), answers)?;
     let dialogs = Sequence::from_vec(begun);
     Ok(Desc {
         version,
@@ -165,4 +165,13 @@ pub fn filled(alloc: Global, desc: Desc, answers: &Answers) -> Result<Desc, Allo
         windows,
         dialogs,
     })
+}
+
+/// Returns the description with the answered fields beginning with their answers. The other fields begin as they are
+/// declared. With answers from `read_answers`, what some text spells stays spelled.
+pub fn filled(alloc: Global, desc: Desc, answers: &Answers) -> Result<Desc, AllocError>
+    ensures filled { IfOk result (λ begun. begun ≡ filled desc answers.now) }
+    ensures spelled { IfOk result (λ begun. HaveNumbers answers.now → IsDescription desc → IsDescription begun) }
+{
+    begun(alloc, desc, answers.dialogs.as_slice())
 }
