@@ -9,7 +9,7 @@ import sys
 
 import pyte
 
-END = b"\x1b[0m\x1b[2J\x1b[?25h\x1b[?1039l\x1b[?1036l\x1b[?1006l\x1b[?1002l\x1b[?1049l"
+END = b"\x1b[0m\x1b[2J\x1b[?25h\x1b[?2004l\x1b[?1039l\x1b[?1036l\x1b[?1006l\x1b[?1002l\x1b[?1049l"
 # as terminals count them, and what an attribute counts
 NAMES = "black red green brown blue magenta cyan white".split()
 ORDER = (0, 4, 2, 6, 1, 5, 3, 7)

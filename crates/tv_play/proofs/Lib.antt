@@ -1,4 +1,5 @@
 pub mod SessionLemmas
+pub mod ActionLemmas
 pub mod CursorLemmas
 pub mod ShownLemmas
 pub mod HeardLemmas

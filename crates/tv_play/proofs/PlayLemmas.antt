@@ -5,7 +5,6 @@ use Rattle.std.proofs.lemmas.List.{append-nil, length-map, length-take-le}
 use Rattle.std.proofs.lemmas.List.Elements.{All-nil}
 use Rattle.tv_terminal.specs.Written.{end_bytes}
 use Rattle.tv_terminal.specs.declared.painter.Painter.{Painter}
-use Rattle.tv_event.specs.declared.event.Event.{Event as Happening}
 use Rattle.std.specs.Prelude.{MatchResult}
 use Rattle.tv_io.specs.Pen.{PutsBy}
 use Rattle.tv_io.specs.declared.writer.WriteFailed.{WriteFailed}
@@ -14,7 +13,7 @@ use Rattle.tv_io.specs.Writer.{Cuts, IsHeldBack, IsPassedOn, PassesOn, Seen, Tak
 use Rattle.tv_machine.specs.Output.{output}
 use Rattle.tv_machine.specs.Run.{Session, quiet}
 use Rattle.tv_model.specs.Log.LogText.{log_text}
-use Rattle.tv_play.specs.Ends.{is_finished, is_leaving, script_with}
+use Rattle.tv_play.specs.Ends.{is_finished, is_leaving, script_of}
 use Rattle.tv_play.specs.Pieces.{Comes, ComesNot, HasCome, Heard, FitsRoom, Loses, symbols_in}
 use Rattle.tv_play.specs.Playing.{ComesOf, IsWrittenOrCut, PartsBy, Plays, PlaysTo, Ports, told_with}
 use Rattle.tv_play.specs.Steps.{CameTo, HasPlayedOut, HasRun, IsAtEnd, IsEndedBy, IsHeard, IsPlaying, HasBeenShown, Outside, TurnsTo, or_end, outcome_of, outside}
@@ -27,7 +26,6 @@ use Rattle.tv_play.specs.declared.pieces.Piece.{Piece}
 use Rattle.tv_play.specs.declared.pieces.Piece.TheVariants as pieces
 use Rattle.tv_terminal.specs.Decoding.{Symbol, Byte, Pause}
 use Rattle.tv_terminal.specs.declared.action.Action.{Action}
-use Rattle.tv_terminal.specs.declared.action.Action.TheVariants.{Event}
 
 -- ---- what comes
 
@@ -50,23 +48,23 @@ come-then {a} {b} {c} x y p q = record { took = loses-then a.left b.left c.left 
 -- ---- the beginning
 
 pub heard-none : (s : Session) → IsHeard s [] [] []
-heard-none s = record { parts = refl; stays = All-nil (λ event. is_leaving s.desc (Event event) ≡ false); goes = λ k lt. absurd (omega (arith, lt)) }
+heard-none s = record { parts = refl; stays = All-nil (λ action. is_leaving s.desc action ≡ false); goes = λ k lt. absurd (omega (arith, lt)) }
 
-pub log-first : {a b : Seen} (s : Session) → Takes a b (log_text s.desc s.state.log) → Takes a b (output s (script_with []))
+pub log-first : {a b : Seen} (s : Session) → Takes a b (log_text s.desc s.state.log) → Takes a b (output s (script_of s.desc []))
 log-first {a} {b} s p = subst (Takes a b) (sym (append-nil (log_text s.desc s.state.log))) p
 
-pub log-first-cut : {a b : Seen} (s : Session) → Cuts a b (log_text s.desc s.state.log) → Cuts a b (output s (script_with []))
+pub log-first-cut : {a b : Seen} (s : Session) → Cuts a b (log_text s.desc s.state.log) → Cuts a b (output s (script_of s.desc []))
 log-first-cut {a} {b} s p = subst (Cuts a b) (sym (append-nil (log_text s.desc s.state.log))) p
 
 -- a run that was begun: it ended before anything was read, or it goes on
 pub first-turns : (s : Session) (from now : Outside) (Left : Session → Type 0) (answer : Bool) → answer ≡ is_finished s → (written : Result (Unit {0}) WriteFailed) (stop : Bool) → now.stopped ≡ stop
     → MatchResult written (λ _. Takes from.log now.log (log_text s.desc s.state.log)) (λ _. Cuts from.log now.log (log_text s.desc s.state.log))
     → HasBeenShown s [] from.screen now.screen now.stopped now.painter → Left (quiet s) → TurnsTo s [] from now Left (outcome_of answer written stop)
-first-turns s from now Left answer is (Err failed) stop same cut shown left = record { events = []; rest = []; heard = heard-none s; shown = shown; left = left; ended = log-first-cut s cut }
-first-turns s from now Left answer is (Ok written) true same takes shown left = record { events = []; rest = []; heard = heard-none s; shown = shown; left = left; ended = (log-first s takes, same) }
-first-turns s from now Left true is (Ok written) false same takes shown left = record { events = []; rest = []; heard = heard-none s; shown = shown; left = left; ended = (sym is, log-first s takes, same) }
+first-turns s from now Left answer is (Err failed) stop same cut shown left = record { actions = []; rest = []; heard = heard-none s; shown = shown; left = left; ended = log-first-cut s cut }
+first-turns s from now Left answer is (Ok written) true same takes shown left = record { actions = []; rest = []; heard = heard-none s; shown = shown; left = left; ended = (log-first s takes, same) }
+first-turns s from now Left true is (Ok written) false same takes shown left = record { actions = []; rest = []; heard = heard-none s; shown = shown; left = left; ended = (sym is, log-first s takes, same) }
 first-turns s from now Left false is (Ok written) false same takes shown left = record {
-  events = [];
+  actions = [];
   heard = heard-none s;
   goes = sym is;
   shown = shown;
@@ -76,8 +74,8 @@ first-turns s from now Left false is (Ok written) false same takes shown left = 
 
 -- ---- the loop
 
-shown-still : (s : Session) (events : List Happening) (from screen screen' : Seen) (stop stop' : Bool) (painter : Painter) → HasBeenShown s events from screen stop painter → PutsBy screen stop screen' stop' [] → HasBeenShown s events from screen' stop' painter
-shown-still s events from screen screen' stop stop' painter shown put = record { frames = shown.frames; shows = shown.shows; put = put-still from screen screen' stop stop' (concat shown.frames) shown.put put; taken = shown.taken; right = shown.right }
+shown-still : (s : Session) (actions : List Action) (from screen screen' : Seen) (stop stop' : Bool) (painter : Painter) → HasBeenShown s actions from screen stop painter → PutsBy screen stop screen' stop' [] → HasBeenShown s actions from screen' stop' painter
+shown-still s actions from screen screen' stop stop' painter shown put = record { frames = shown.frames; shows = shown.shows; put = put-still from screen screen' stop stop' (concat shown.frames) shown.put put; taken = shown.taken; right = shown.right }
 
 -- what was written is passed on
 pub passed-on : {a b c : Seen} (text : List ℕ) → Takes a b text → IsPassedOn b c → Takes a c text
@@ -90,27 +88,27 @@ held-back {a} {b} {c} text p held = subst (Cuts a c) (append-nil text) (Cuts-aft
 pub turned-passed : (s : Session) (symbols : List Symbol) (from : Outside) (log log' screen screen' : Seen) (stop stop' : Bool) (painter : Painter) (Left : Session → Type 0) (passed : Result (Unit {0}) WriteFailed) → PassesOn log log' passed → PutsBy screen stop screen' stop' []
     → IsPlaying s symbols from (outside log screen stop painter) Left → TurnsTo s symbols from (outside log' screen' stop' painter) Left (outcome_of false passed stop')
 turned-passed s symbols from log log' screen screen' stop stop' painter Left (Err failed) held put p = record {
-  events = p.events;
+  actions = p.actions;
   rest = [];
   heard = p.heard;
-  shown = shown-still s p.events from.screen screen screen' stop stop' painter p.shown put;
+  shown = shown-still s p.actions from.screen screen screen' stop stop' painter p.shown put;
   left = p.performs.left;
-  ended = held-back (output s (script_with p.events)) p.performs.written held;
+  ended = held-back (output s (script_of s.desc p.actions)) p.performs.written held;
 }
 turned-passed s symbols from log log' screen screen' stop true painter Left (Ok done) passed put p = record {
-  events = p.events;
+  actions = p.actions;
   rest = [];
   heard = p.heard;
-  shown = shown-still s p.events from.screen screen screen' stop true painter p.shown put;
+  shown = shown-still s p.actions from.screen screen screen' stop true painter p.shown put;
   left = p.performs.left;
-  ended = (passed-on (output s (script_with p.events)) p.performs.written passed, refl);
+  ended = (passed-on (output s (script_of s.desc p.actions)) p.performs.written passed, refl);
 }
 turned-passed s symbols from log log' screen screen' stop false painter Left (Ok done) passed put p = record {
-  events = p.events;
+  actions = p.actions;
   heard = p.heard;
   goes = p.goes;
-  shown = shown-still s p.events from.screen screen screen' stop false painter p.shown put;
-  performs = record { written = passed-on (output s (script_with p.events)) p.performs.written passed; left = p.performs.left };
+  shown = shown-still s p.actions from.screen screen screen' stop false painter p.shown put;
+  performs = record { written = passed-on (output s (script_of s.desc p.actions)) p.performs.written passed; left = p.performs.left };
   going = refl;
 }
 
@@ -135,31 +133,31 @@ some-symbols pieces.Pause room within = omega arith
 some-symbols pieces.End room within = omega arith
 
 -- a piece ended it
-came-by : (s : Session) (symbols : List Symbol) (events : List Happening) (rest : List Action) (input left : Heard) (from now : Outside) (outcome : Result Parting PlayFault) → HasCome input left symbols → IsEndedBy s events rest from now outcome → CameTo s symbols events rest input left from now outcome
-came-by s symbols events rest input left from now (Ok partings.Over) come ended = (come, ended)
-came-by s symbols events rest input left from now (Ok partings.Left) come ended = (come, ended)
-came-by s symbols events rest input left from now (Ok partings.Ended) come ended = absurd ended
-came-by s symbols events rest input left from now (Err faults.NoMemory) come ended = (come, ended)
-came-by s symbols events rest input left from now (Err faults.Read) come ended = absurd ended
-came-by s symbols events rest input left from now (Err faults.Log) come ended = (come, ended)
-came-by s symbols events rest input left from now (Err faults.Screen) come ended = (come, ended)
+came-by : (s : Session) (symbols : List Symbol) (actions rest : List Action) (input left : Heard) (from now : Outside) (outcome : Result Parting PlayFault) → HasCome input left symbols → IsEndedBy s actions rest from now outcome → CameTo s symbols actions rest input left from now outcome
+came-by s symbols actions rest input left from now (Ok partings.Over) come ended = (come, ended)
+came-by s symbols actions rest input left from now (Ok partings.Left) come ended = (come, ended)
+came-by s symbols actions rest input left from now (Ok partings.Ended) come ended = absurd ended
+came-by s symbols actions rest input left from now (Err faults.NoMemory) come ended = (come, ended)
+came-by s symbols actions rest input left from now (Err faults.Read) come ended = absurd ended
+came-by s symbols actions rest input left from now (Err faults.Log) come ended = (come, ended)
+came-by s symbols actions rest input left from now (Err faults.Screen) come ended = (come, ended)
 
 pub run-by : (s : Session) (symbols : List Symbol) (input left : Heard) (from now : Outside) (Left : Session → Type 0) (outcome : Result Parting PlayFault) → HasCome input left symbols → HasPlayedOut s symbols from now Left outcome → HasRun s input left from now Left outcome
 run-by s symbols input left from now Left outcome come p = record {
   symbols = symbols;
-  events = p.events;
+  actions = p.actions;
   rest = p.rest;
   heard = p.heard;
   shown = p.shown;
   left = p.left;
-  came = came-by s symbols p.events p.rest input left from now outcome come p.ended;
+  came = came-by s symbols p.actions p.rest input left from now outcome come p.ended;
 }
 
 -- its input ended
 pub run-ended : (s : Session) (symbols : List Symbol) (input left : Heard) (from now : Outside) (Left : Session → Type 0) → HasCome input left symbols → IsAtEnd left symbols → IsPlaying s symbols from now Left → HasRun s input left from now Left (Ok partings.Ended)
 run-ended s symbols input left from now Left come at_end p = record {
   symbols = symbols;
-  events = p.events;
+  actions = p.actions;
   rest = [];
   heard = p.heard;
   shown = p.shown;
@@ -198,7 +196,7 @@ plays-on s symbols from now Left None piece is turned = turned
 pub run-unheard : (s : Session) (symbols : List Symbol) (input mid left : Heard) (from now : Outside) (Left : Session → Type 0) → HasCome input mid symbols → ComesNot mid left → now.log.kept ≡ [] → IsPlaying s symbols from now Left → HasRun s input left from now Left (Err faults.Read)
 run-unheard s symbols input mid left from now Left come failed none p = record {
   symbols = symbols;
-  events = p.events;
+  actions = p.actions;
   rest = [];
   heard = p.heard;
   shown = p.shown;
@@ -212,7 +210,7 @@ written-by : (from last : Seen) (bytes : List ℕ) (stop : Bool) → PutsBy from
 written-by from last bytes true put none = inr put
 written-by from last bytes false put none = inl (record { takes = put; none = none refl })
 
-module _ (s : Session) (symbols : List Symbol) (events : List Happening) (rest : List Action) (input left : Heard) (from now : Outside) (last : Seen) (bytes : List ℕ) (stop : Bool) (put : PutsBy from.screen false last stop bytes) (none : stop ≡ false → last.kept ≡ []) where
+module _ (s : Session) (symbols : List Symbol) (actions rest : List Action) (input left : Heard) (from now : Outside) (last : Seen) (bytes : List ℕ) (stop : Bool) (put : PutsBy from.screen false last stop bytes) (none : stop ≡ false → last.kept ≡ []) where
   abbrev old : Ports
   old = record { input = input; log = from.log; screen = from.screen }
 
@@ -220,23 +218,23 @@ module _ (s : Session) (symbols : List Symbol) (events : List Happening) (rest :
   new log = record { input = left; log = log; screen = last }
 
   -- it ended by itself
-  parted : (log : Seen) (parting : Parting) (passed : Result (Unit {0}) WriteFailed) (b : Bool) → stop ≡ b → HasCome input left symbols → Takes from.log now.log (output s (script_with events)) → PartsBy s events left symbols rest parting → PassesOn now.log log passed → ComesOf s symbols events rest bytes old (new log) (told_with parting passed b)
-  parted log parting (Err failed) b e come takes parts held = (come, held-back (output s (script_with events)) takes held, written-by from.screen last bytes stop put none)
-  parted log parting (Ok done) true e come takes parts passed = (come, passed-on (output s (script_with events)) takes passed, subst (λ x. PutsBy from.screen false last x bytes) e put)
+  parted : (log : Seen) (parting : Parting) (passed : Result (Unit {0}) WriteFailed) (b : Bool) → stop ≡ b → HasCome input left symbols → Takes from.log now.log (output s (script_of s.desc actions)) → PartsBy s actions left symbols rest parting → PassesOn now.log log passed → ComesOf s symbols actions rest bytes old (new log) (told_with parting passed b)
+  parted log parting (Err failed) b e come takes parts held = (come, held-back (output s (script_of s.desc actions)) takes held, written-by from.screen last bytes stop put none)
+  parted log parting (Ok done) true e come takes parts passed = (come, passed-on (output s (script_of s.desc actions)) takes passed, subst (λ x. PutsBy from.screen false last x bytes) e put)
   parted log parting (Ok done) false e come takes parts passed = record {
     came = come;
-    log = record { takes = passed-on (output s (script_with events)) takes passed; none = passed.none };
+    log = record { takes = passed-on (output s (script_of s.desc actions)) takes passed; none = passed.none };
     screen = record { takes = subst (λ x. PutsBy from.screen false last x bytes) e put; none = none e };
     parts = parts;
   }
 
-  comes-parted : (log : Seen) (parting : Parting) (passed : Result (Unit {0}) WriteFailed) → CameTo s symbols events rest input left from now (Ok parting) → PassesOn now.log log passed → ComesOf s symbols events rest bytes old (new log) (told_with parting passed stop)
+  comes-parted : (log : Seen) (parting : Parting) (passed : Result (Unit {0}) WriteFailed) → CameTo s symbols actions rest input left from now (Ok parting) → PassesOn now.log log passed → ComesOf s symbols actions rest bytes old (new log) (told_with parting passed stop)
   comes-parted log partings.Over passed came passes = parted log partings.Over passed stop refl came.0 came.1.1 came.1.0 passes
   comes-parted log partings.Left passed came passes = parted log partings.Left passed stop refl came.0 came.1.2 (came.1.0, came.1.1) passes
   comes-parted log partings.Ended passed came passes = parted log partings.Ended passed stop refl came.0 came.4 (came.1, came.2, came.3) passes
 
   -- or was broken off
-  comes-broken : (fault : PlayFault) (b : Bool) → stop ≡ b → CameTo s symbols events rest input left from now (Err fault) → (now.stopped ≡ true → stop ≡ true) → ComesOf s symbols events rest bytes old (new now.log) (Err fault)
+  comes-broken : (fault : PlayFault) (b : Bool) → stop ≡ b → CameTo s symbols actions rest input left from now (Err fault) → (now.stopped ≡ true → stop ≡ true) → ComesOf s symbols actions rest bytes old (new now.log) (Err fault)
   comes-broken faults.NoMemory b e came stays = came.1
   comes-broken faults.Read b e came stays = (came.0, came.1, record { takes = came.2; none = came.4 }, written-by from.screen last bytes stop put none)
   comes-broken faults.Log b e came stays = (came.0, came.1, written-by from.screen last bytes stop put none)
@@ -254,28 +252,28 @@ module _ (s : Session) (input left : Heard) (from now : Outside) (last : Seen) (
   pub plays-parted : (log : Seen) (parting : Parting) (passed : Result (Unit {0}) WriteFailed) (result : Result Parting PlayFault) → result ≡ told_with parting passed stop → HasRun s input left from now Left (Ok parting) → PassesOn now.log log passed → Plays s begun (ended log) Left result
   plays-parted log parting passed result is run passes = record {
     symbols = run.symbols;
-    events = run.events;
+    actions = run.actions;
     rest = run.rest;
     heard = run.heard;
     left = run.left;
     frames = run.shown.frames;
     shows = run.shown.shows;
-    restores = restores s run.events run.shown.frames run.shown.shows;
-    comes = subst (ComesOf s run.symbols run.events run.rest (concat run.shown.frames ++ end_bytes) begun (ended log)) (sym is)
-        (comes-parted s run.symbols run.events run.rest input left from now last (concat run.shown.frames ++ end_bytes) stop (put run.shown.frames run.shown.put) none log parting passed run.came passes);
+    restores = restores s run.actions run.shown.frames run.shown.shows;
+    comes = subst (ComesOf s run.symbols run.actions run.rest (concat run.shown.frames ++ end_bytes) begun (ended log)) (sym is)
+        (comes-parted s run.symbols run.actions run.rest input left from now last (concat run.shown.frames ++ end_bytes) stop (put run.shown.frames run.shown.put) none log parting passed run.came passes);
   }
 
   pub plays-broken : (fault : PlayFault) → HasRun s input left from now Left (Err fault) → Plays s begun (ended now.log) Left (Err fault)
   plays-broken fault run = record {
     symbols = run.symbols;
-    events = run.events;
+    actions = run.actions;
     rest = run.rest;
     heard = run.heard;
     left = run.left;
     frames = run.shown.frames;
     shows = run.shown.shows;
-    restores = restores s run.events run.shown.frames run.shown.shows;
-    comes = comes-broken s run.symbols run.events run.rest input left from now last (concat run.shown.frames ++ end_bytes) stop (put run.shown.frames run.shown.put) none fault stop refl run.came stays;
+    restores = restores s run.actions run.shown.frames run.shown.shows;
+    comes = comes-broken s run.symbols run.actions run.rest input left from now last (concat run.shown.frames ++ end_bytes) stop (put run.shown.frames run.shown.put) none fault stop refl run.came stays;
   }
 
 -- what was played, as it stands once what was lent is back

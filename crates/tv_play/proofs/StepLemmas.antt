@@ -9,14 +9,16 @@ use Rattle.tv_io.specs.declared.writer.WriteFailed.{WriteFailed}
 use Rattle.tv_machine.specs.Output.{after, output}
 use Rattle.tv_machine.specs.Run.{Session, quiet, stepped}
 use Rattle.tv_model.specs.declared.desc.Desc.{Desc}
-use Rattle.tv_play.specs.Ends.{is_finished, is_leaving, script_with, session_at}
+use Rattle.tv_play.specs.Ends.{IsTakenFor, events_in, is_finished, is_leaving, reached, script_of, script_with}
+use Rattle.tv_play.specs.declared.ends.Step.TheVariants as steps
 use Rattle.tv_play.specs.Shown.{HasSize, KeepsScreen}
-use Rattle.tv_play.specs.Steps.{HasPlayedOut, IsHeard, IsPlaying, HasBeenShown, Outside, TurnsTo, outcome_of}
+use Rattle.tv_play.specs.Steps.{HasPlayedOut, IsHeard, IsPlaying, HasBeenShown, Outside, TurnsTo, outcome_of, outside}
 use Rattle.tv_play.specs.declared.parting.Parting.TheVariants as partings
 use Rattle.tv_play.specs.declared.parting.Parting.{Parting}
 use Rattle.tv_play.specs.declared.parting.PlayFault.{PlayFault}
 use Rattle.tv_play.proofs.HeardLemmas.{heard-last, heard-more}
-use Rattle.tv_play.proofs.SessionLemmas.{after-at, desc-at, left-event, session-push}
+use Rattle.tv_play.proofs.ActionLemmas.{desc-reached, events-perform, events-refresh, reached-perform, reached-refresh}
+use Rattle.tv_play.proofs.SessionLemmas.{after-at, left-event}
 use Rattle.tv_terminal.specs.Decoding.{Symbol, decode}
 use Rattle.tv_terminal.specs.declared.action.Action.{Action}
 use Rattle.tv_terminal.specs.declared.action.Action.TheVariants.{Event}
@@ -29,59 +31,102 @@ pub size-quiet : (t : Session) (painter : Painter) → HasSize t painter → Has
 size-quiet t painter size = record { width = size.width; height = size.height }
 
 -- what an event changes of a screen, whose log was taken or not
-pub keeps-loud : {rects : List Rect} (s : Session) (events : List Happening) (e : Happening) → KeepsScreen rects (quiet (session_at s events)) (stepped (quiet (session_at s events)) e) → KeepsScreen rects (session_at s events) (session_at s (events ++ e ∷ []))
-keeps-loud {rects} s events e keeps =
-    subst (KeepsScreen rects (session_at s events)) (sym (session-push s events e))
-    (record { each = λ column row on apart. keeps.each column row (record { across = on.across; down = on.down }) apart })
+pub keeps-loud : {rects : List Rect} (t : Session) (e : Happening) → KeepsScreen rects (quiet t) (stepped (quiet t) e) → KeepsScreen rects t (stepped t e)
+keeps-loud {rects} t e keeps = record { each = λ column row on apart. keeps.each column row (record { across = on.across; down = on.down }) apart }
 
 module _ (s : Session) (symbols next : List Symbol) (from old : Outside) (Old : Session → Type 0) (p : IsPlaying s symbols from old Old) where
-  pub stands-before : Old (quiet (session_at s p.events))
-  stands-before = subst Old (after-at s p.events) p.performs.left
+  pub stands-before : Old (quiet (reached s p.actions))
+  stands-before = subst Old (after-at s (events_in s.desc p.actions)) p.performs.left
 
   pub desc-before : (d : Desc) → ((t : Session) → Old t → d ≡ t.desc) → d ≡ s.desc
-  desc-before d is = is (quiet (session_at s p.events)) stands-before ∙ desc-at s p.events
+  desc-before d is = is (quiet (reached s p.actions)) stands-before ∙ desc-reached s p.actions
 
   -- the user leaves
   pub leaves : (action : Action) → is_leaving s.desc action ≡ true → decode next ≡ decode symbols ++ action ∷ [] → HasPlayedOut s next from old Old (Ok partings.Left)
   leaves action is means = record {
-    events = p.events;
+    actions = p.actions;
     rest = action ∷ [];
-    heard = heard-last s symbols next p.events p.heard p.goes action means;
+    heard = heard-last s symbols next p.actions p.heard p.goes action means;
     shown = p.shown;
     left = p.performs.left;
     ended = (p.goes, is, p.performs.written, p.going);
   }
 
+  -- the screen was painted anew, and the writer failed or didn't
+  module _ (a : Action) (taken : IsTakenFor s.desc a steps.Refresh) (means : decode next ≡ decode symbols ++ a ∷ []) (screen : Seen) (painter : Painter) where
+    abbrev later : Bool → Outside
+    later stop = outside old.log screen stop painter
+
+    same-events : events_in s.desc (p.actions ++ a ∷ []) ≡ events_in s.desc p.actions
+    same-events = events-refresh s.desc p.actions a taken.1
+
+    written-still : Takes from.log old.log (output s (script_of s.desc (p.actions ++ a ∷ [])))
+    written-still = subst (λ x. Takes from.log old.log (output s (script_with x))) (sym same-events) p.performs.written
+
+    left-still : Old (after s (script_of s.desc (p.actions ++ a ∷ [])))
+    left-still = subst (λ x. Old (after s (script_with x))) (sym same-events) p.performs.left
+
+    pub refreshes : (stop : Bool) → HasBeenShown s (p.actions ++ a ∷ []) from.screen screen stop painter
+        → TurnsTo s next from (later stop) Old (outcome_of false (Ok tt) stop)
+    refreshes true shown = record {
+      actions = p.actions ++ a ∷ [];
+      rest = [];
+      heard = heard-more s symbols next p.actions p.heard p.goes a taken.0 means;
+      shown = shown;
+      left = left-still;
+      ended = (written-still, refl);
+    }
+    refreshes false shown = record {
+      actions = p.actions ++ a ∷ [];
+      heard = heard-more s symbols next p.actions p.heard p.goes a taken.0 means;
+      goes = ap is_finished (reached-refresh s p.actions a taken.1) ∙ p.goes;
+      shown = shown;
+      performs = record { written = written-still; left = left-still };
+      going = refl;
+    }
+
   -- an event was performed
-  module _ (now : Outside) (New : Session → Type 0) (e : Happening) (stays : is_leaving s.desc (Event e) ≡ false) (means : decode next ≡ decode symbols ++ Event e ∷ []) (stands : (t : Session) → Old t → New (quiet (stepped t e)))
-      (shown : (events : List Happening) (from : Seen) → Old (quiet (session_at s events)) → HasBeenShown s events from old.screen old.stopped old.painter → HasBeenShown s (events ++ e ∷ []) from now.screen now.stopped now.painter) where
-    heard : IsHeard s next (p.events ++ e ∷ []) []
-    heard = heard-more s symbols next p.events p.heard p.goes e stays means
+  module _ (now : Outside) (New : Session → Type 0) (e : Happening) (taken : IsTakenFor s.desc (Event e) (steps.Perform e)) (means : decode next ≡ decode symbols ++ Event e ∷ []) (stands : (t : Session) → Old t → New (quiet (stepped t e)))
+      (shown : (actions : List Action) (from : Seen) → Old (quiet (reached s actions)) → HasBeenShown s actions from old.screen old.stopped old.painter → HasBeenShown s (actions ++ Event e ∷ []) from now.screen now.stopped now.painter) where
+    abbrev more : List Action
+    more = p.actions ++ Event e ∷ []
 
-    left : New (after s (script_with (p.events ++ e ∷ [])))
-    left = left-event New s p.events e (stands (quiet (session_at s p.events)) stands-before)
+    pushed : events_in s.desc more ≡ events_in s.desc p.actions ++ e ∷ []
+    pushed = events-perform s.desc p.actions e taken.2
 
-    shows : HasBeenShown s (p.events ++ e ∷ []) from.screen now.screen now.stopped now.painter
-    shows = shown p.events from.screen stands-before p.shown
+    heard : IsHeard s next more []
+    heard = heard-more s symbols next p.actions p.heard p.goes (Event e) taken.1 means
 
-    finished-by : (answer b : Bool) → ((t : Session) → Old t → answer ≡ is_finished (stepped t e)) → answer ≡ b → is_finished (session_at s (p.events ++ e ∷ [])) ≡ b
-    finished-by answer b is told = ap is_finished (session-push s p.events e) ∙ sym (is (quiet (session_at s p.events)) stands-before) ∙ told
+    left : New (after s (script_of s.desc more))
+    left = subst (λ x. New (after s (script_with x))) (sym pushed) (left-event New s (events_in s.desc p.actions) e (stands (quiet (reached s p.actions)) stands-before))
 
-    -- what came of the run with it
-    pub turns : (answer : Bool) → ((t : Session) → Old t → answer ≡ is_finished (stepped t e)) → (written : Result (Unit {0}) WriteFailed) → (stop : Bool) → now.stopped ≡ stop
-        → MatchResult written (λ _. Takes from.log now.log (output s (script_with (p.events ++ e ∷ [])))) (λ _. Cuts from.log now.log (output s (script_with (p.events ++ e ∷ []))))
-        → TurnsTo s next from now New (outcome_of answer written stop)
-    turns answer is (Err failed) stop same cut = record { events = p.events ++ e ∷ []; rest = []; heard = heard; shown = shows; left = left; ended = cut }
-    turns answer is (Ok written) true same takes = record { events = p.events ++ e ∷ []; rest = []; heard = heard; shown = shows; left = left; ended = (takes, same) }
-    turns true is (Ok written) false same takes = record { events = p.events ++ e ∷ []; rest = []; heard = heard; shown = shows; left = left; ended = (finished-by true true is refl, takes, same) }
-    turns false is (Ok written) false same takes = record {
-      events = p.events ++ e ∷ [];
+    shows : HasBeenShown s more from.screen now.screen now.stopped now.painter
+    shows = shown p.actions from.screen stands-before p.shown
+
+    finished-by : (answer b : Bool) → ((t : Session) → Old t → answer ≡ is_finished (stepped t e)) → answer ≡ b → is_finished (reached s more) ≡ b
+    finished-by answer b is told = ap is_finished (reached-perform s p.actions e taken.2) ∙ sym (is (quiet (reached s p.actions)) stands-before) ∙ told
+
+    abbrev pub Logged : Result (Unit {0}) WriteFailed → List Happening → Type 0
+    Logged written events = MatchResult written (λ _. Takes from.log now.log (output s (script_with events))) (λ _. Cuts from.log now.log (output s (script_with events)))
+
+    turns-by : (answer : Bool) → ((t : Session) → Old t → answer ≡ is_finished (stepped t e)) → (written : Result (Unit {0}) WriteFailed) → (stop : Bool) → now.stopped ≡ stop
+        → Logged written (events_in s.desc more) → TurnsTo s next from now New (outcome_of answer written stop)
+    turns-by answer is (Err failed) stop same cut = record { actions = more; rest = []; heard = heard; shown = shows; left = left; ended = cut }
+    turns-by answer is (Ok written) true same takes = record { actions = more; rest = []; heard = heard; shown = shows; left = left; ended = (takes, same) }
+    turns-by true is (Ok written) false same takes = record { actions = more; rest = []; heard = heard; shown = shows; left = left; ended = (finished-by true true is refl, takes, same) }
+    turns-by false is (Ok written) false same takes = record {
+      actions = more;
       heard = heard;
       goes = finished-by false false is refl;
       shown = shows;
       performs = record { written = takes; left = left };
       going = same;
     }
+
+    -- what came of the run with it
+    pub turns : (answer : Bool) → ((t : Session) → Old t → answer ≡ is_finished (stepped t e)) → (written : Result (Unit {0}) WriteFailed) → (stop : Bool) → now.stopped ≡ stop
+        → Logged written (events_in s.desc p.actions ++ e ∷ []) → TurnsTo s next from now New (outcome_of answer written stop)
+    turns answer is written stop same logged = turns-by answer is written stop same (subst (Logged written) (sym pushed) logged)
 
 -- a run goes on only where the screen could be written
 pub going-shown : (answer : Bool) (written : Result (Unit {0}) WriteFailed) (stop : Bool) → outcome_of answer written stop ≡ None → stop ≡ false

@@ -1,5 +1,6 @@
--- What ends a run in a terminal.
-use Rattle.std.specs.Prelude.{Bool, true, false, not, ◌&&◌, ◌||◌, List, map, is_some, length, ◌==◌}
+-- What comes of an action in a terminal, and what ends a run there.
+use Rattle.std.specs.Prelude.{◌≡◌, ℕ, ◌+◌, Bool, true, false, not, ◌&&◌, ◌||◌, if◌then◌else◌, List, [], ◌∷◌, map}
+use Rattle.std.specs.Prelude.{flat_map, is_some, length, ◌==◌}
 use Rattle.std.specs.List.{list_any}
 use Rattle.tv_event.specs.declared.event.Event.{Event as Happening}
 use Rattle.tv_event.specs.declared.event.Event.TheVariants as events
@@ -13,8 +14,10 @@ use Rattle.tv_model.specs.declared.log.LogLine.TheVariants as lines
 use Rattle.tv_machine.specs.declared.script.Item.{Item}
 use Rattle.tv_machine.specs.declared.script.Item.TheVariants as items
 use Rattle.tv_model.specs.Faults.Letters.{is_same_key}
+use Rattle.tv_play.specs.declared.ends.Step.{Step}
+use Rattle.tv_play.specs.declared.ends.Step.TheVariants as steps
 use Rattle.tv_terminal.specs.declared.action.Action.{Action}
-use Rattle.tv_terminal.specs.declared.action.Action.TheVariants.{Event, Quit}
+use Rattle.tv_terminal.specs.declared.action.Action.TheVariants.{Event, Quit, Reported}
 
 -- ---- events
 
@@ -25,6 +28,54 @@ script_with events = map items.Event events
 -- the session to which events lead, with the log of the last one
 abbrev pub session_at : Session → List Happening → Session
 session_at s events = states stepped s events
+
+-- ---- the screen is painted anew
+
+-- Ctrl-L
+abbrev pub refresh : Key
+refresh = keys.Ctrl 76
+
+-- a status item has it
+abbrev pub has_refresh : Desc → Bool
+has_refresh d = list_any (λ item. is_same_key item.key refresh) d.status
+
+-- where the terminal reports, and by Ctrl-L where no status item has that key
+abbrev pub is_refreshing : Desc → Action → Bool
+is_refreshing d Quit = false
+is_refreshing d Reported = true
+is_refreshing d (Event (events.Key k)) = is_same_key k refresh && not (has_refresh d)
+is_refreshing d (Event event) = false
+
+-- the events that are performed among actions: all but those
+abbrev pub event_in : Action → List Happening
+event_in (Event event) = event ∷ []
+event_in _ = []
+
+abbrev pub events_in : Desc → List Action → List Happening
+events_in d actions = flat_map (λ action. if is_refreshing d action then [] else event_in action) actions
+
+-- the session to which actions lead
+abbrev pub reached : Session → List Action → Session
+reached s actions = session_at s (events_in s.desc actions)
+
+-- the script of their events
+abbrev pub script_of : Desc → List Action → List Item
+script_of d actions = script_with (events_in d actions)
+
+-- ---- the bell
+
+-- an input refused the event, and the log says so
+abbrev pub is_refusal : LogLine → Bool
+is_refusal (lines.Invalid name) = true
+is_refusal _ = false
+
+abbrev pub is_refused : Session → Bool
+is_refused s = list_any is_refusal s.state.log
+
+-- how many of some events are refused
+abbrev pub refusals : Session → List Happening → ℕ
+refusals s [] = 0
+refusals s (e ∷ events) = (if is_refused (stepped s e) then 1 else 0) + refusals (stepped s e) events
 
 -- ---- the user leaves
 
@@ -39,8 +90,16 @@ has_interrupt d = list_any (λ item. is_same_key item.key interrupt) d.status
 -- by Ctrl-\ always, and by Ctrl-C where no status item has that key
 abbrev pub is_leaving : Desc → Action → Bool
 is_leaving d Quit = true
+is_leaving d Reported = false
 is_leaving d (Event (events.Key k)) = is_same_key k interrupt && not (has_interrupt d)
 is_leaving d (Event event) = false
+
+-- what an action is taken for
+abbrev pub IsTakenFor : Desc → Action → Step → Type 0
+IsTakenFor d action steps.Leave = is_leaving d action ≡ true
+IsTakenFor d action steps.Refresh = (is_leaving d action ≡ false) × (is_refreshing d action ≡ true)
+IsTakenFor d action (steps.Perform event) =
+    (action ≡ Event event) × (is_leaving d action ≡ false) × (is_refreshing d action ≡ false)
 
 -- ---- the run ends by itself
 

@@ -2,7 +2,7 @@
 use Rattle.std.specs.Prelude.{◌≡◌, false, List, [], ◌++◌, Option, None, Result}
 use Rattle.tv_io.specs.Writer.{Seen}
 use Rattle.tv_machine.specs.Run.{Session}
-use Rattle.tv_terminal.specs.Decoding.{Symbol, decode, left_after}
+use Rattle.tv_terminal.specs.Decoding.{Symbol, decode, left}
 use Rattle.tv_terminal.specs.declared.action.Action.{Action}
 use Rattle.tv_play.specs.Pieces.{Heard}
 use Rattle.tv_play.specs.Playing.{Ports}
@@ -55,14 +55,14 @@ pub record KeepsPlayer {L T W : Type 0} (stands : L → Session → Type 0) (old
 pub record HasPlayed {L T W : Type 0} (stands : L → Session → Type 0) (screen : T → Seen) (log : W → Seen)
     (s : Session) (symbols : List Symbol) (from : Outside) (p : Player L T W) : Type 0 where
   pub run : IsPlaying s symbols from (outside_of screen log p) (stands p.stage.now)
-  pub read : p.decoder ≡ left_after [] symbols
+  pub read : p.decoder ≡ left symbols
 
 -- the same, or the run ended with them
 pub record HasTurned {L T W : Type 0} (stands : L → Session → Type 0) (screen : T → Seen) (log : W → Seen)
     (s : Session) (symbols : List Symbol) (from : Outside) (p : Player L T W)
     (result : Option (Result Parting PlayFault)) : Type 0 where
   pub turns : TurnsTo s symbols from (outside_of screen log p) (stands p.stage.now) result
-  pub read : result ≡ None → p.decoder ≡ left_after [] symbols
+  pub read : result ≡ None → p.decoder ≡ left symbols
 
 -- whatever was played, it plays these actions too, which its decoder has just given
 abbrev pub Acts : {L T W : Type 0} → (L → Session → Type 0) → (T → Seen) → (W → Seen)
@@ -70,7 +70,7 @@ abbrev pub Acts : {L T W : Type 0} → (L → Session → Type 0) → (T → See
 Acts stands screen log old new actions result =
     (s : Session) (symbols next : List Symbol) (from : Outside)
     → IsPlaying s symbols from (outside_of screen log old) (stands old.stage.now)
-    → old.decoder ≡ left_after [] next → decode next ≡ decode symbols ++ actions
+    → old.decoder ≡ left next → decode next ≡ decode symbols ++ actions
     → HasTurned stands screen log s next from new result
 
 -- whatever was played, it plays what these symbols mean too

@@ -2,14 +2,13 @@
 use Rattle.std.specs.Prelude.{◌≡◌, ◌⊎◌, ℕ, Bool, true, false, List, [], ◌++◌, Result, Ok, Err}
 use Rattle.std.specs.List.{concat}
 use Rattle.tv_terminal.specs.Written.{end_bytes}
-use Rattle.tv_event.specs.declared.event.Event.{Event}
 use Rattle.tv_io.specs.Writer.{Cuts, Seen, Takes}
 use Rattle.tv_io.specs.declared.writer.WriteFailed.{WriteFailed}
 use Rattle.tv_machine.specs.Output.{after, output}
 use Rattle.tv_machine.specs.Run.{Session}
 use Rattle.tv_terminal.specs.Decoding.{Symbol}
 use Rattle.tv_terminal.specs.declared.action.Action.{Action}
-use Rattle.tv_play.specs.Ends.{is_finished, script_with, session_at}
+use Rattle.tv_play.specs.Ends.{is_finished, reached, script_of}
 use Rattle.tv_play.specs.Pieces.{ComesNot, HasCome, Heard}
 use Rattle.tv_play.specs.Shown.{IsRestored, ShowsEach}
 use Rattle.tv_play.specs.Steps.{IsAtEnd, IsHeard, LeavesWith}
@@ -34,59 +33,60 @@ pub record Ports : Type 0 where
   pub screen : Seen
 
 -- why it ended by itself, by the user, or by its input
-abbrev pub PartsBy : (s : Session) → List Event → Heard → List Symbol → List Action → Parting → Type 0
-PartsBy s events input symbols rest partings.Over = is_finished (session_at s events) ≡ true
-PartsBy s events input symbols rest partings.Left =
-    (is_finished (session_at s events) ≡ false) × LeavesWith s rest
-PartsBy s events input symbols rest partings.Ended =
-    (is_finished (session_at s events) ≡ false) × (rest ≡ []) × IsAtEnd input symbols
+abbrev pub PartsBy : (s : Session) → List Action → Heard → List Symbol → List Action → Parting → Type 0
+PartsBy s actions input symbols rest partings.Over = is_finished (reached s actions) ≡ true
+PartsBy s actions input symbols rest partings.Left =
+    (is_finished (reached s actions) ≡ false) × LeavesWith s rest
+PartsBy s actions input symbols rest partings.Ended =
+    (is_finished (reached s actions) ≡ false) × (rest ≡ []) × IsAtEnd input symbols
 
 -- what came of it
-pub record IsPlayed (s : Session) (symbols : List Symbol) (events : List Event) (rest : List Action)
+pub record IsPlayed (s : Session) (symbols : List Symbol) (actions rest : List Action)
     (bytes : List ℕ)
     (old new : Ports) (parting : Parting) : Type 0 where
   pub came : HasCome old.input new.input symbols
-  pub log : IsWrittenOut old.log new.log (output s (script_with events))
+  pub log : IsWrittenOut old.log new.log (output s (script_of s.desc actions))
   pub screen : IsWrittenOut old.screen new.screen bytes
-  pub parts : PartsBy s events new.input symbols rest parting
+  pub parts : PartsBy s actions new.input symbols rest parting
 
 -- what came of one that was broken off
-abbrev pub IsBroken : (s : Session) (symbols : List Symbol) (events : List Event) (rest : List Action)
+abbrev pub IsBroken : (s : Session) (symbols : List Symbol) (actions rest : List Action)
     (bytes : List ℕ)
     (old new : Ports) → PlayFault → Type 0
-IsBroken s symbols events rest bytes old new faults.Read =
+IsBroken s symbols actions rest bytes old new faults.Read =
     ((mid : Heard) × HasCome old.input mid symbols × ComesNot mid new.input) × (rest ≡ [])
-    × IsWrittenOut old.log new.log (output s (script_with events)) × IsWrittenOrCut old.screen new.screen bytes
-IsBroken s symbols events rest bytes old new faults.Log =
+    × IsWrittenOut old.log new.log (output s (script_of s.desc actions)) × IsWrittenOrCut old.screen new.screen bytes
+IsBroken s symbols actions rest bytes old new faults.Log =
     HasCome old.input new.input symbols
-    × Cuts old.log new.log (output s (script_with events)) × IsWrittenOrCut old.screen new.screen bytes
-IsBroken s symbols events rest bytes old new faults.Screen =
+    × Cuts old.log new.log (output s (script_of s.desc actions)) × IsWrittenOrCut old.screen new.screen bytes
+IsBroken s symbols actions rest bytes old new faults.Screen =
     HasCome old.input new.input symbols
-    × Takes old.log new.log (output s (script_with events)) × Cuts old.screen new.screen bytes
-IsBroken s symbols events rest bytes old new faults.NoMemory = ⊥
+    × Takes old.log new.log (output s (script_of s.desc actions)) × Cuts old.screen new.screen bytes
+IsBroken s symbols actions rest bytes old new faults.NoMemory = ⊥
 
-abbrev pub ComesOf : (s : Session) (symbols : List Symbol) (events : List Event) (rest : List Action)
+abbrev pub ComesOf : (s : Session) (symbols : List Symbol) (actions rest : List Action)
     (bytes : List ℕ)
     (old new : Ports) → Result Parting PlayFault → Type 0
-ComesOf s symbols events rest bytes old new (Ok parting) =
-    IsPlayed s symbols events rest bytes old new parting
-ComesOf s symbols events rest bytes old new (Err fault) = IsBroken s symbols events rest bytes old new fault
+ComesOf s symbols actions rest bytes old new (Ok parting) =
+    IsPlayed s symbols actions rest bytes old new parting
+ComesOf s symbols actions rest bytes old new (Err fault) = IsBroken s symbols actions rest bytes old new fault
 
--- A run from a session. The events are among what the symbols that came mean; the session that is left is the
--- one to which they lead; the log is what their script writes. A terminal that is told what was written for
--- the screen shows the session's screen at the beginning and after each event, and at the end what it showed
+-- A run from a session. The actions are the first of what the symbols that came mean; the session that is left is
+-- the one to which their events lead; the log is what the script of these writes. A terminal that is told what
+-- was written for the screen shows the session's screen at the beginning and after each action, also where it
+-- showed something else before an action that has the screen painted anew, and at the end what it showed
 -- before. Before each call of the input, and at the end, what was written is passed on
 pub record Plays (s : Session) (old new : Ports) (Left : Session → Type 0) (result : Result Parting PlayFault)
     : Type 0 where
   pub symbols : List Symbol
-  pub events : List Event
+  pub actions : List Action
   pub rest : List Action
-  pub heard : IsHeard s symbols events rest
-  pub left : Left (after s (script_with events))
+  pub heard : IsHeard s symbols actions rest
+  pub left : Left (after s (script_of s.desc actions))
   pub frames : List (List ℕ)
-  pub shows : ShowsEach s events frames
-  pub restores : IsRestored s (concat frames ++ end_bytes)
-  pub comes : ComesOf s symbols events rest (concat frames ++ end_bytes) old new result
+  pub shows : ShowsEach s actions frames
+  pub restores : IsRestored s actions frames
+  pub comes : ComesOf s symbols actions rest (concat frames ++ end_bytes) old new result
 
 -- nothing was read or written, and the session is left as it was
 pub record IsUnbegun (s : Session) (old new : Ports) (Left : Session → Type 0) : Type 0 where

@@ -1,17 +1,20 @@
 -- What a terminal shows of a run.
-use Rattle.std.specs.Prelude.{◌≡◌, ◌<◌, ◌≤◌, ◌+◌, ℕ, true, false, List, take, length, Some, None}
-use Rattle.std.specs.List.{concat}
+use Rattle.std.specs.Prelude.{◌≡◌, ◌<◌, ◌≤◌, ◌+◌, ◌++◌, ℕ, zero, suc, Bool, true, false, List, take, drop, length, Some}
+use Rattle.std.specs.List.{concat, list_any}
 use Rattle.tv_terminal.specs.Displays.{Becomes, tile_of}
-use Rattle.tv_terminal.specs.Terminal.{Covered, Display, plain_back, plain_front}
+use Rattle.tv_terminal.specs.Terminal.{Covered, Display, kept_of}
+use Rattle.tv_terminal.specs.Writing.{restored}
+use Rattle.tv_terminal.specs.Written.{end_bytes}
+use Rattle.tv_terminal.specs.declared.action.Action.{Action}
 use Rattle.tv_terminal.specs.declared.painter.Painter.{Painter}
 use Rattle.tv_cells.specs.Repainting.{has_cell}
 use Rattle.tv_cells.specs.declared.rect.Rect.{Rect}
-use Rattle.tv_event.specs.declared.event.Event.{Event}
 use Rattle.tv_machine.specs.Output.{screen_cell}
 use Rattle.tv_machine.specs.Run.{Session}
 use Rattle.tv_model.specs.Description.Numbers.{natural}
+use Rattle.tv_model.specs.declared.desc.Desc.{Desc}
 use Rattle.tv_play.specs.Cursor.{is_cursor}
-use Rattle.tv_play.specs.Ends.{session_at}
+use Rattle.tv_play.specs.Ends.{events_in, is_refreshing, reached, refusals}
 
 -- ---- sessions
 
@@ -32,15 +35,14 @@ pub record HasSize (s : Session) (painter : Painter) : Type 0 where
 
 -- ---- terminals
 
--- a terminal that shows its normal screen, with room for that of the session
-pub record IsReadyTerminal (s : Session) (d : Display) : Type 0 where
+-- a terminal with room for the session's screen
+pub record HasRoom (s : Session) (d : Display) : Type 0 where
   pub across : natural s.desc.width ≤ d.columns
   pub down : natural s.desc.height ≤ d.rows
-  pub normal : d.covered ≡ None
 
--- the normal screen, and where its cursor stands
+-- its normal screen, and where its cursor stands
 abbrev pub normal_of : Display → Covered
-normal_of d = record { cells = d.cells; column = d.column; row = d.row }
+normal_of d = kept_of d.covered d
 
 -- its cursor stands at a cell of the session's screen that has the colours of an input's cursor, and is
 -- hidden where none has
@@ -62,30 +64,41 @@ pub record ShowsSession (s : Session) (d e : Display) : Type 0 where
   pub reports : e.has_long_reports ≡ true
   pub meta : e.has_meta_escapes ≡ true
   pub alt : e.has_alt_escapes ≡ true
+  pub pastes : e.has_paste_brackets ≡ true
   pub covered : e.covered ≡ Some (normal_of d)
   pub lost : e.is_lost ≡ d.is_lost
 
--- it is as it was, in plain colours, with its cursor and without the mouse
-abbrev pub restored_from : Display → Display
-restored_from d = record d {
-  front = plain_front;
-  back = plain_back;
-  has_cursor = true;
-  has_mouse = false;
-  has_long_reports = false;
-  has_meta_escapes = false;
-  has_alt_escapes = false;
-}
-
 -- ---- a run
 
--- The bytes of the beginning, and those of each event: told them up to an event, a terminal shows the screen
--- that the event left, with no sequence left open
-pub record ShowsEach (s : Session) (events : List Event) (frames : List (List ℕ)) : Type 0 where
-  pub count : length frames ≡ length events + 1
-  pub each : (d : Display) → IsReadyTerminal s d → (k : ℕ) → k ≤ length events
-      → Becomes (concat (take (k + 1) frames)) d (ShowsSession (session_at s (take k events)) d)
+-- a frame paints the whole screen: that of the beginning, and that of each action for which it is painted anew
+abbrev pub is_whole : Desc → List Action → (frame : ℕ) → Bool
+is_whole d actions zero = true
+is_whole d actions (suc k) = list_any (is_refreshing d) (take 1 (drop k actions))
 
--- told all of them and the bytes of the end, it is as it was
-pub record IsRestored (s : Session) (bytes : List ℕ) : Type 0 where
-  pub end : (d : Display) → IsReadyTerminal s d → Becomes bytes d (λ e. e ≡ restored_from d)
+-- how many of the first actions were refused
+abbrev pub refusals_to : Session → List Action → (k : ℕ) → ℕ
+refusals_to s actions k = refusals s (events_in s.desc (take k actions))
+
+-- told some frames, up to that of an action, it shows the screen that the action left, and its bell rang once
+-- for each refusal
+pub record ShowsFrames (s : Session) (actions : List Action) (j k : ℕ) (d e : Display) : Type 0 where
+  pub shows : ShowsSession (reached s (take k actions)) d e
+  pub bells : e.bells + refusals_to s actions j ≡ d.bells + refusals_to s actions k
+
+-- The bytes of the beginning, and those of each action: told them from a frame on that paints the whole screen,
+-- a terminal that showed anything shows what each action left, with no sequence left open
+pub record ShowsEach (s : Session) (actions : List Action) (frames : List (List ℕ)) : Type 0 where
+  pub count : length frames ≡ length actions + 1
+  pub each : (d : Display) → HasRoom s d → (j k : ℕ) → is_whole s.desc actions j ≡ true → j ≤ k
+      → k ≤ length actions → Becomes (concat (drop j (take (k + 1) frames))) d (ShowsFrames s actions j k d)
+
+-- it is as it was, in plain colours, with its cursor, without the mouse and what else a run asks for; but its bell
+-- rang once for each refusal
+pub record IsAsBefore (s : Session) (actions : List Action) (j : ℕ) (d e : Display) : Type 0 where
+  pub is : record e { bells = d.bells } ≡ restored (normal_of d) d
+  pub bells : e.bells + refusals_to s actions j ≡ d.bells + refusals_to s actions (length actions)
+
+-- told them all from such a frame on, and the bytes of the end
+pub record IsRestored (s : Session) (actions : List Action) (frames : List (List ℕ)) : Type 0 where
+  pub end : (d : Display) → HasRoom s d → (j : ℕ) → is_whole s.desc actions j ≡ true → j ≤ length actions
+      → Becomes (concat (drop j frames) ++ end_bytes) d (IsAsBefore s actions j d)

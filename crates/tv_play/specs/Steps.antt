@@ -1,13 +1,12 @@
 -- A run in a terminal, step by step.
 use Rattle.std.specs.Prelude.{◌≡◌, ◌<◌, ◌≤◌, ◌+◌, ◌^◌, ◌⊎◌, ℕ, Bool, true, false, List, [], ◌∷◌, ◌++◌, All}
-use Rattle.std.specs.Prelude.{map, take, length, Option, Some, None, Result, Ok, Err}
+use Rattle.std.specs.Prelude.{take, drop, length, Option, Some, None, Result, Ok, Err}
 use Rattle.std.specs.List.{concat}
 use Rattle.tv_terminal.specs.Displays.{Becomes}
 use Rattle.tv_terminal.specs.Terminal.{Display}
 use Rattle.tv_terminal.specs.Writing.{IsRight}
 use Rattle.tv_terminal.specs.declared.painter.Painter.{Painter}
 use Rattle.tv_cells.specs.Picture.{IsOn, cell_at}
-use Rattle.tv_event.specs.declared.event.Event.{Event as Happening}
 use Rattle.tv_io.specs.Pen.{PutsBy}
 use Rattle.tv_io.specs.Writer.{Cuts, Seen, Takes}
 use Rattle.tv_io.specs.declared.writer.WriteFailed.{WriteFailed}
@@ -16,10 +15,9 @@ use Rattle.tv_machine.specs.Run.{Session}
 use Rattle.tv_script.specs.Streams.{Performs}
 use Rattle.tv_terminal.specs.Decoding.{Symbol, decode}
 use Rattle.tv_terminal.specs.declared.action.Action.{Action}
-use Rattle.tv_terminal.specs.declared.action.Action.TheVariants.{Event}
-use Rattle.tv_play.specs.Ends.{is_finished, is_leaving, script_with, session_at}
+use Rattle.tv_play.specs.Ends.{is_finished, is_leaving, reached, script_of}
 use Rattle.tv_play.specs.Pieces.{ComesNot, HasCome, HasEnded, Heard}
-use Rattle.tv_play.specs.Shown.{HasSize, IsReadyTerminal, ShowsEach}
+use Rattle.tv_play.specs.Shown.{HasRoom, HasSize, ShowsEach, is_whole}
 use Rattle.tv_play.specs.declared.pieces.Piece.{Piece}
 use Rattle.tv_play.specs.declared.pieces.Piece.TheVariants as pieces
 use Rattle.tv_play.specs.declared.parting.Parting.{Parting}
@@ -37,23 +35,23 @@ pub record HasTaken (s : Session) (painter : Painter) : Type 0 where
       → cell_at painter.shown column row ≡ screen_cell s column row
 
 -- what a terminal has to be told of the run so far was written to it, and the painter knows what that shows
-pub record HasBeenShown (s : Session) (events : List Happening) (from now : Seen) (stopped : Bool)
+pub record HasBeenShown (s : Session) (actions : List Action) (from now : Seen) (stopped : Bool)
     (painter : Painter) : Type 0 where
   pub frames : List (List ℕ)
-  pub shows : ShowsEach s events frames
+  pub shows : ShowsEach s actions frames
   pub put : PutsBy from false now stopped (concat frames)
-  pub taken : HasTaken (session_at s events) painter
-  pub right : (d : Display) → IsReadyTerminal s d → Becomes (concat frames) d (IsRight painter)
+  pub taken : HasTaken (reached s actions) painter
+  pub right : (d : Display) → HasRoom s d → (j : ℕ) → is_whole s.desc actions j ≡ true → j ≤ length actions
+      → Becomes (concat (drop j frames)) d (IsRight painter)
 
--- ---- symbols and events
+-- ---- symbols and actions
 
--- The events of a run, among what the symbols mean: the user leaves with none of them, and before each of
+-- The actions of a run, among what the symbols mean: the user leaves with none of them, and before each of
 -- them something can still happen. What comes after them isn't heard
-pub record IsHeard (s : Session) (symbols : List Symbol) (events : List Happening) (rest : List Action)
-    : Type 0 where
-  pub parts : decode symbols ≡ map Event events ++ rest
-  pub stays : All (λ event. is_leaving s.desc (Event event) ≡ false) events
-  pub goes : (k : ℕ) → k < length events → is_finished (session_at s (take k events)) ≡ false
+pub record IsHeard (s : Session) (symbols : List Symbol) (actions rest : List Action) : Type 0 where
+  pub parts : decode symbols ≡ actions ++ rest
+  pub stays : All (λ action. is_leaving s.desc action ≡ false) actions
+  pub goes : (k : ℕ) → k < length actions → is_finished (reached s (take k actions)) ≡ false
 
 -- ---- the run
 
@@ -67,11 +65,11 @@ pub record Outside : Type 0 where
 -- it goes on: all that was meant was performed
 pub record IsPlaying (s : Session) (symbols : List Symbol) (from now : Outside) (Left : Session → Type 0)
     : Type 0 where
-  pub events : List Happening
-  pub heard : IsHeard s symbols events []
-  pub goes : is_finished (session_at s events) ≡ false
-  pub shown : HasBeenShown s events from.screen now.screen now.stopped now.painter
-  pub performs : Performs s (script_with events) from.log now.log Left
+  pub actions : List Action
+  pub heard : IsHeard s symbols actions []
+  pub goes : is_finished (reached s actions) ≡ false
+  pub shown : HasBeenShown s actions from.screen now.screen now.stopped now.painter
+  pub performs : Performs s (script_of s.desc actions) from.log now.log Left
   pub going : now.stopped ≡ false
 
 -- the user leaves with the first of these
@@ -80,28 +78,28 @@ LeavesWith s [] = ⊥
 LeavesWith s (action ∷ rest) = is_leaving s.desc action ≡ true
 
 -- why it ended among what was meant
-abbrev pub IsEndedBy : (s : Session) (events : List Happening) (rest : List Action) (from now : Outside)
+abbrev pub IsEndedBy : (s : Session) (actions rest : List Action) (from now : Outside)
     → Result Parting PlayFault → Type 0
-IsEndedBy s events rest from now (Ok partings.Over) =
-    (is_finished (session_at s events) ≡ true) × Takes from.log now.log (output s (script_with events))
+IsEndedBy s actions rest from now (Ok partings.Over) =
+    (is_finished (reached s actions) ≡ true) × Takes from.log now.log (output s (script_of s.desc actions))
     × (now.stopped ≡ false)
-IsEndedBy s events rest from now (Ok partings.Left) =
-    (is_finished (session_at s events) ≡ false) × LeavesWith s rest
-    × Takes from.log now.log (output s (script_with events)) × (now.stopped ≡ false)
-IsEndedBy s events rest from now (Err faults.Log) = Cuts from.log now.log (output s (script_with events))
-IsEndedBy s events rest from now (Err faults.Screen) =
-    Takes from.log now.log (output s (script_with events)) × (now.stopped ≡ true)
-IsEndedBy s events rest from now _ = ⊥
+IsEndedBy s actions rest from now (Ok partings.Left) =
+    (is_finished (reached s actions) ≡ false) × LeavesWith s rest
+    × Takes from.log now.log (output s (script_of s.desc actions)) × (now.stopped ≡ false)
+IsEndedBy s actions rest from now (Err faults.Log) = Cuts from.log now.log (output s (script_of s.desc actions))
+IsEndedBy s actions rest from now (Err faults.Screen) =
+    Takes from.log now.log (output s (script_of s.desc actions)) × (now.stopped ≡ true)
+IsEndedBy s actions rest from now _ = ⊥
 
 -- it ended
 pub record HasPlayedOut (s : Session) (symbols : List Symbol) (from now : Outside) (Left : Session → Type 0)
     (outcome : Result Parting PlayFault) : Type 0 where
-  pub events : List Happening
+  pub actions : List Action
   pub rest : List Action
-  pub heard : IsHeard s symbols events rest
-  pub shown : HasBeenShown s events from.screen now.screen now.stopped now.painter
-  pub left : Left (after s (script_with events))
-  pub ended : IsEndedBy s events rest from now outcome
+  pub heard : IsHeard s symbols actions rest
+  pub shown : HasBeenShown s actions from.screen now.screen now.stopped now.painter
+  pub left : Left (after s (script_of s.desc actions))
+  pub ended : IsEndedBy s actions rest from now outcome
 
 -- it goes on, or ended so
 abbrev pub TurnsTo : (s : Session) (symbols : List Symbol) (from now : Outside) (Left : Session → Type 0)
@@ -116,32 +114,32 @@ abbrev pub IsAtEnd : Heard → List Symbol → Type 0
 IsAtEnd input symbols = HasEnded input ⊎ (2 ^ 64 ≤ length symbols + 1)
 
 -- why it ended, with what came
-abbrev pub CameTo : (s : Session) (symbols : List Symbol) (events : List Happening) (rest : List Action)
+abbrev pub CameTo : (s : Session) (symbols : List Symbol) (actions rest : List Action)
     (input later : Heard) (from now : Outside) → Result Parting PlayFault → Type 0
-CameTo s symbols events rest input later from now (Ok partings.Ended) =
-    HasCome input later symbols × (is_finished (session_at s events) ≡ false) × (rest ≡ [])
+CameTo s symbols actions rest input later from now (Ok partings.Ended) =
+    HasCome input later symbols × (is_finished (reached s actions) ≡ false) × (rest ≡ [])
     × IsAtEnd later symbols
-    × Takes from.log now.log (output s (script_with events)) × (now.stopped ≡ false)
-CameTo s symbols events rest input later from now (Err faults.Read) =
+    × Takes from.log now.log (output s (script_of s.desc actions)) × (now.stopped ≡ false)
+CameTo s symbols actions rest input later from now (Err faults.Read) =
     ((mid : Heard) × HasCome input mid symbols × ComesNot mid later) × (rest ≡ [])
-    × Takes from.log now.log (output s (script_with events)) × (now.stopped ≡ false) × (now.log.kept ≡ [])
-CameTo s symbols events rest input later from now outcome =
-    HasCome input later symbols × IsEndedBy s events rest from now outcome
+    × Takes from.log now.log (output s (script_of s.desc actions)) × (now.stopped ≡ false) × (now.log.kept ≡ [])
+CameTo s symbols actions rest input later from now outcome =
+    HasCome input later symbols × IsEndedBy s actions rest from now outcome
 
 -- it ended, but for what is shown at the end
 pub record HasRun (s : Session) (input later : Heard) (from now : Outside) (Left : Session → Type 0)
     (outcome : Result Parting PlayFault) : Type 0 where
   pub symbols : List Symbol
-  pub events : List Happening
+  pub actions : List Action
   pub rest : List Action
-  pub heard : IsHeard s symbols events rest
-  pub shown : HasBeenShown s events from.screen now.screen now.stopped now.painter
-  pub left : Left (after s (script_with events))
-  pub came : CameTo s symbols events rest input later from now outcome
+  pub heard : IsHeard s symbols actions rest
+  pub shown : HasBeenShown s actions from.screen now.screen now.stopped now.painter
+  pub left : Left (after s (script_of s.desc actions))
+  pub came : CameTo s symbols actions rest input later from now outcome
 
--- ---- an event
+-- ---- an action
 
--- how a run ends with an event: by whether nothing can happen any more, whether its log was written, and
+-- how a run ends with an action: by whether nothing can happen any more, whether its log was written, and
 -- whether the writer of the screen failed
 abbrev pub outcome_of : Bool → Result (Unit {0}) WriteFailed → Bool → Option (Result Parting PlayFault)
 outcome_of finished (Err failed) stopped = Some (Err faults.Log)

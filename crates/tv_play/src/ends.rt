@@ -1,11 +1,10 @@
-//! What ends a run in a terminal.
+//! What comes of an action in a terminal, and what ends a run there.
 
-ghost use Rattle.std.specs.Prelude.{◌≡◌, ◌&&◌, true, false, not, is_some, IfNone, IfSome};
+ghost use Rattle.std.specs.Prelude.{◌≡◌, ◌&&◌, not, is_some};
 ghost use Rattle.std.specs.List.{list_any};
 ghost use Rattle.tv_machine.specs.Run.{Session};
 ghost use Rattle.tv_model.specs.Faults.Letters.{is_same_key};
-ghost use Rattle.tv_play.specs.Ends.{has_interrupt, has_no_bars, interrupt, is_finished, is_leaving, is_quit};
-ghost use Rattle.tv_terminal.specs.declared.action.Action.TheVariants as actions;
+ghost use Rattle.tv_play.specs.Ends.{IsTakenFor, has_interrupt, has_no_bars, has_refresh, interrupt, is_finished, is_leaving, is_quit, is_refreshing, is_refusal, is_refused, refresh};
 
 use crate::live::Live;
 use tv_event::{Event, Key};
@@ -71,20 +70,78 @@ fn is_leaving(desc: &Desc, action: Action) -> bool
     match action {
         Action::Quit => true,
         Action::Event(Event::Key(key)) => is_interrupt(key) && !has_interrupt(desc),
-        Action::Event(_) => false,
+        Action::Event(_) | Action::Reported => false,
     }
 }
 
-/// Returns the event that is to be performed; none where the user leaves.
-pub(crate) fn event_of(desc: &Desc, action: Action) -> Option<Event>
-    ensures goes { IfSome result (λ event. (action ≡ actions.Event event) × (is_leaving desc.now action ≡ false)) }
-    ensures leaves { IfNone result (is_leaving desc.now action ≡ true) }
+fn is_refresh(key: Key) -> bool
+    ensures { result ≡ is_same_key key refresh }
+{
+    matches!(key, Key::Ctrl('L'))
+}
+
+fn is_for_refresh(item: &StatusItem) -> bool
+    ensures { result ≡ is_same_key item.now.key refresh }
+{
+    is_refresh(item.key)
+}
+
+fn has_refresh(desc: &Desc) -> bool
+    ensures { result ≡ has_refresh desc.now }
+{
+    desc.status.as_slice().iter().any(is_for_refresh)
+}
+
+// Whether the screen is painted anew with it.
+fn is_refreshing(desc: &Desc, action: Action) -> bool
+    ensures { result ≡ is_refreshing desc.now action }
+{
+    match action {
+        Action::Reported => true,
+        Action::Event(Event::Key(key)) => is_refresh(key) && !has_refresh(desc),
+        Action::Event(_) | Action::Quit => false,
+    }
+}
+
+/// What an action is taken for.
+pub(crate) enum Step {
+    /// The user leaves.
+    Leave,
+    /// The whole screen is painted anew.
+    Refresh,
+    /// An event is performed.
+    Perform(Event),
+}
+
+/// Tells what an action is taken for.
+pub(crate) fn step_of(desc: &Desc, action: Action) -> Step
+    ensures { IsTakenFor desc.now action result }
 {
     if is_leaving(desc, action) {
-        return None;
+        return Step::Leave;
     }
     match action {
-        Action::Event(event) => Some(event),
-        Action::Quit => None,
+        Action::Event(event) if !is_refreshing(desc, action) => Step::Perform(event),
+        _ => Step::Refresh,
     }
+}
+
+// Whether the line says that an input refused the event.
+fn is_refusal(line: &LogLine) -> bool
+    ensures { result ≡ is_refusal line.now }
+{
+    matches!(line, LogLine::Invalid(_))
+}
+
+fn has_refusal(lines: &[LogLine]) -> bool
+    ensures { result ≡ list_any is_refusal lines.now }
+{
+    lines.iter().any(is_refusal)
+}
+
+/// Whether an input refused the last event, whose log isn't yet taken.
+pub(crate) fn is_refused<L: Live>(stage: &L) -> bool
+    ensures { (s : Session) → L.stands stage.now s → result ≡ is_refused s }
+{
+    has_refusal(stage.log())
 }

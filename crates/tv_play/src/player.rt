@@ -1,8 +1,9 @@
 //! What the user does, and what comes of it.
 
-ghost use Rattle.std.specs.Prelude.{◌≡◌, [], ◌∷◌, false, map, IfNone, IfSome};
+ghost use Rattle.std.specs.Prelude.{◌≡◌, [], ◌∷◌, map, IfNone, IfSome};
 ghost use Rattle.tv_machine.specs.Run.{Session};
-ghost use Rattle.tv_play.specs.Ends.{is_leaving};
+ghost use Rattle.tv_play.specs.Ends.{IsTakenFor};
+ghost use Rattle.tv_play.specs.declared.ends.Step.TheVariants as steps;
 ghost use Rattle.tv_play.specs.Pieces.{FitsRoom, symbols_in};
 ghost use Rattle.tv_play.specs.Player.{Acts, Hears, IsReady, KeepsPlayer};
 ghost use Rattle.tv_play.specs.Steps.{outcome_of};
@@ -10,7 +11,7 @@ ghost use Rattle.tv_terminal.specs.Decoding.{Byte, Pause, before};
 ghost use Rattle.tv_terminal.specs.Points.{IsPlaced, IsPlacedAction};
 ghost use Rattle.tv_terminal.specs.declared.action.Action.TheVariants as actions;
 
-use crate::ends::{event_of, is_finished};
+use crate::ends::{Step, is_finished, step_of};
 use crate::journal::write_log;
 use crate::live::Live;
 use crate::parting::{Parting, PlayFault};
@@ -39,7 +40,8 @@ impl<L: Live, T: Writer, W: Writer> Player<'_, '_, '_, '_, L, T, W> {
     // Performs an event: the terminal shows what it changes, and its log is written. Tells how the run ends with it, if it does.
     fn act(&mut self, event: &Event) -> Option<Outcome>
         requires near { IsPlaced event.now }
-        requires stays { (t : Session) → L.stands self.old.stage.now t → is_leaving t.desc (actions.Event event.now) ≡ false }
+        requires taken { (t : Session) → L.stands self.old.stage.now t
+            → IsTakenFor t.desc (actions.Event event.now) (steps.Perform event.now) }
         requires ready { IsReady L.stands self.old }
         ensures kept { KeepsPlayer L.stands self.old self.new result }
         ensures acts { Acts L.stands T.seen W.seen self.old self.new (actions.Event event.now ∷ []) result }
@@ -51,17 +53,29 @@ impl<L: Live, T: Writer, W: Writer> Player<'_, '_, '_, '_, L, T, W> {
         outcome_of(is_finished, written, self.pen.stopped)
     }
 
-    // Takes what the user did. Tells how the run ends with it, if it does.
+    // Paints the whole screen anew, for an action that asks for it.
+    fn refresh(&mut self, action: Action) -> Option<Outcome>
+        requires taken { (t : Session) → L.stands self.old.stage.now t → IsTakenFor t.desc action steps.Refresh }
+        requires ready { IsReady L.stands self.old }
+        ensures kept { KeepsPlayer L.stands self.old self.new result }
+        ensures acts { Acts L.stands T.seen W.seen self.old self.new (action ∷ []) result }
+    {
+        show::show_all(self.painter, &mut self.pen, self.stage);
+        outcome_of(false, Ok(()), self.pen.stopped)
+    }
+
+    // Takes what the user or the terminal did. Tells how the run ends with it, if it does.
     fn take_action(&mut self, action: Action) -> Option<Outcome>
         requires placed { IsPlacedAction action }
         requires ready { IsReady L.stands self.old }
         ensures kept { KeepsPlayer L.stands self.old self.new result }
         ensures acts { Acts L.stands T.seen W.seen self.old self.new (action ∷ []) result }
     {
-        let Some(event) = event_of(self.stage.desc(), action) else {
-            return Some(Ok(Parting::Left));
-        };
-        self.act(&event)
+        match step_of(self.stage.desc(), action) {
+            Step::Leave => Some(Ok(Parting::Left)),
+            Step::Refresh => self.refresh(action),
+            Step::Perform(event) => self.act(&event),
+        }
     }
 
     // The same, for what the user may have done.

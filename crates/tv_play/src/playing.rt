@@ -1,6 +1,7 @@
 //! A run in a terminal, from its begin to its end.
 
-ghost use Rattle.std.specs.Prelude.{◌≡◌, [], IfOk};
+ghost use Rattle.std.specs.Prelude.{◌≡◌, [], false, IfOk};
+ghost use Rattle.tv_terminal.specs.Decoding.{between};
 ghost use Rattle.tv_machine.specs.Run.{Session};
 ghost use Rattle.tv_play.specs.Player.{HasPlayed, HasSame, IsReady, outside_of, ports_of};
 ghost use Rattle.tv_play.specs.Playing.{Plays, PlaysTo, told_with};
@@ -90,7 +91,7 @@ impl<L: Live, T: Writer, W: Writer> Player<'_, '_, '_, '_, L, T, W> {
     // Plays a run, and shows at the end what the terminal showed before.
     fn play_through<P: Pieces>(&mut self, pieces: &mut P) -> Outcome
         requires ready { IsReady L.stands self.old }
-        requires fresh { self.old.decoder ≡ [] }
+        requires fresh { self.old.decoder ≡ between false }
         ensures same { HasSame self.old self.new }
         ensures plays { (s : Session) → L.stands self.old.stage.now s
             → Plays s (ports_of T.seen W.seen (P.heard pieces.old) self.old)
@@ -110,13 +111,13 @@ impl<L: Live, T: Writer, W: Writer> Player<'_, '_, '_, '_, L, T, W> {
     // Shows and logs the beginning, and plays what comes, but for the end.
     fn play_begun<P: Pieces>(&mut self, pieces: &mut P) -> Outcome
         requires ready { IsReady L.stands self.old }
-        requires fresh { self.old.decoder ≡ [] }
+        requires fresh { self.old.decoder ≡ between false }
         ensures same { HasSame self.old self.new }
         ensures runs { (s : Session) → L.stands self.old.stage.now s
             → HasRun s (P.heard pieces.old) (P.heard pieces.new) (outside_of T.seen W.seen self.old)
             (outside_of T.seen W.seen self.new) (L.stands self.new.stage.now) result }
     {
-        show::begin(self.painter, &mut self.pen, self.stage);
+        show::show_all(self.painter, &mut self.pen, self.stage);
         let is_finished = is_finished(self.stage);
         let written = write_log(self.log, self.stage);
         match outcome_of(is_finished, written, self.pen.stopped) {

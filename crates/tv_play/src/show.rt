@@ -4,46 +4,56 @@ ghost use Rattle.std.specs.Prelude.{◌≡◌, [], ◌∷◌, ◌++◌, true, fa
 ghost use Rattle.std.specs.List.{concat};
 ghost use Rattle.tv_terminal.specs.Written.{end_bytes};
 ghost use Rattle.tv_event.specs.declared.event.Event.{Event as Happening};
+ghost use Rattle.tv_terminal.specs.declared.action.Action.{Action};
+ghost use Rattle.tv_terminal.specs.declared.action.Action.TheVariants as variants;
 ghost use Rattle.tv_io.specs.Pen.{PutsBy};
 ghost use Rattle.tv_io.specs.Writer.{Seen};
-ghost use Rattle.tv_machine.specs.Run.{Session};
-ghost use Rattle.tv_play.specs.Ends.{session_at};
+ghost use Rattle.tv_machine.specs.Run.{Session, quiet, stepped};
+ghost use Rattle.tv_play.specs.Ends.{is_refreshing, reached};
 ghost use Rattle.tv_play.specs.Shown.{HasSize, KeepsScreen};
 ghost use Rattle.tv_play.specs.Steps.{HasBeenShown};
 
 use crate::cursor::find_cursor;
+use crate::ends::is_refused;
 use crate::live::Live;
 use tv_io::{Pen, Writer};
-use tv_terminal::Painter;
+use tv_terminal::{Painter, ring};
 
-/// Shows the screen, whatever the terminal showed.
-pub(crate) fn begin<L: Live, T: Writer>(painter: &mut Painter, pen: &mut Pen<T>, stage: &L)
-    requires going { pen.old.stopped ≡ false }
+/// Shows the whole screen, whatever the terminal shows: at the beginning, and for an action that asks for it.
+pub(crate) fn show_all<L: Live, T: Writer>(painter: &mut Painter, pen: &mut Pen<T>, stage: &L)
     requires there { (s : Session) × L.stands stage.now s × HasSize s painter.old }
     ensures size { (t : Session) → HasSize t painter.old → HasSize t painter.new }
     ensures same { pen.new.out.ghost_name ≡ pen.old.out.ghost_name }
-    ensures shown { (s : Session) → L.stands stage.now s
+    ensures first { (s : Session) → L.stands stage.now s → pen.old.stopped ≡ false
         → HasBeenShown s [] (T.seen pen.old.out.now) (T.seen pen.new.out.now) pen.new.stopped painter.new }
+    ensures again { (s : Session) (actions : List Action) (action : Action) (from : Seen)
+        → L.stands stage.now (quiet (reached s actions)) → is_refreshing s.desc action ≡ true
+        → HasBeenShown s actions from (T.seen pen.old.out.now) pen.old.stopped painter.old
+        → HasBeenShown s (actions ++ action ∷ []) from (T.seen pen.new.out.now) pen.new.stopped painter.new }
 {
     let screen = stage.screen();
     let cursor = find_cursor(screen, &[]);
     painter.begin(screen, cursor, pen);
 }
 
-/// Shows what an event changed.
+/// Shows what an event changed, and rings the bell where an input refused it.
 pub(crate) fn repaint<L: Live, T: Writer>(painter: &mut Painter, pen: &mut Pen<T>, stage: &L)
     requires there { (s : Session) × L.stands stage.now s × HasSize s painter.old }
     ensures size { (t : Session) → HasSize t painter.old → HasSize t painter.new }
     ensures same { pen.new.out.ghost_name ≡ pen.old.out.ghost_name }
-    ensures shown { (s : Session) (events : List Happening) (event : Happening) (from : Seen)
-        → L.stands stage.now (session_at s (events ++ event ∷ []))
-        → KeepsScreen (L.repaints stage.now) (session_at s events) (session_at s (events ++ event ∷ []))
-        → HasBeenShown s events from (T.seen pen.old.out.now) pen.old.stopped painter.old
-        → HasBeenShown s (events ++ event ∷ []) from (T.seen pen.new.out.now) pen.new.stopped painter.new }
+    ensures shown { (s : Session) (actions : List Action) (event : Happening) (from : Seen)
+        → is_refreshing s.desc (variants.Event event) ≡ false
+        → L.stands stage.now (stepped (reached s actions) event)
+        → KeepsScreen (L.repaints stage.now) (reached s actions) (stepped (reached s actions) event)
+        → HasBeenShown s actions from (T.seen pen.old.out.now) pen.old.stopped painter.old
+        → HasBeenShown s (actions ++ variants.Event event ∷ []) from (T.seen pen.new.out.now) pen.new.stopped painter.new }
 {
     let (screen, rects) = (stage.screen(), stage.repainted());
     let cursor = find_cursor(screen, rects);
     painter.paint(screen, rects, cursor, pen);
+    if is_refused(stage) {
+        ring(pen);
+    }
 }
 
 /// Shows what the terminal showed before.

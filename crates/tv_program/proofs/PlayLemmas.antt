@@ -19,7 +19,7 @@ module _ (s : Session) (old new : Ports) (Left : Session → Type 0) where
   Plays-gone : (outcome : Result Parting PlayFault) → Plays s old new Left outcome → Plays s old new (λ s. Unit {0}) outcome
   Plays-gone outcome p = record {
     symbols = p.symbols;
-    events = p.events;
+    actions = p.actions;
     rest = p.rest;
     heard = p.heard;
     left = tt;

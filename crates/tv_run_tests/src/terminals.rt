@@ -92,7 +92,7 @@ const SESSIONS: [Session; 6] = [
 
 // What a terminal is told at the end.
 const END: &[u8] =
-    b"\x1b[0m\x1b[2J\x1b[?25h\x1b[?1039l\x1b[?1036l\x1b[?1006l\x1b[?1002l\x1b[?1049l";
+    b"\x1b[0m\x1b[2J\x1b[?25h\x1b[?2004l\x1b[?1039l\x1b[?1036l\x1b[?1006l\x1b[?1002l\x1b[?1049l";
 
 // Whether the frames leave the cursor so: it shows or is hidden by the last word on that, and shows where the last frame ends.
 fn has_cursor(screen: &[u8], cursor: Option<&[u8]>) -> bool {

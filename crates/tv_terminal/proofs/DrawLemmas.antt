@@ -50,7 +50,7 @@ module _ {W : Type 0} {seen : W → Seen} where
   )
 
 pub stays-none : (d : Display) → Stays d d
-stays-none d = record { columns = refl; rows = refl; mouse = refl; reports = refl; meta = refl; alt = refl; covered = refl; lost = refl }
+stays-none d = record { columns = refl; rows = refl; mouse = refl; reports = refl; meta = refl; alt = refl; pastes = refl; bells = refl; covered = refl; lost = refl }
 
 pub stays-then : {a b c : Display} → Stays a b → Stays b c → Stays a c
 stays-then p q = record {
@@ -60,6 +60,8 @@ stays-then p q = record {
   reports = q.reports ∙ p.reports;
   meta = q.meta ∙ p.meta;
   alt = q.alt ∙ p.alt;
+  pastes = q.pastes ∙ p.pastes;
+  bells = q.bells ∙ p.bells;
   covered = q.covered ∙ p.covered;
   lost = q.lost ∙ p.lost;
 }
@@ -225,7 +227,7 @@ module _ (screen : Picture) (old new : Painter) (column row : ℕ) (cell : Glyph
       room = record { across = rw took.size.width room.across; down = rw took.size.height room.down };
       each = λ a b there. shown-cell d a b (right (sym known ∙ k)) there;
     };
-    stays = record { columns = refl; rows = refl; mouse = refl; reports = refl; meta = refl; alt = refl; covered = refl; lost = refl };
+    stays = record { columns = refl; rows = refl; mouse = refl; reports = refl; meta = refl; alt = refl; pastes = refl; bells = refl; covered = refl; lost = refl };
   }
 
   cell-changes : Changes (IsPlace column row) (λ a b _. cell_at screen a b) old.shown new.shown

@@ -3,7 +3,7 @@ use Rattle.std.proofs.Common.{◌≡◌, [], ◌∷◌, ◌++◌, Some, None, tr
 use lib.Utf8.{encode}
 use Rattle.unicode_width.specs.Width.{char_width}
 use Rattle.tv_cells.specs.Glyph.{glyph}
-use Rattle.tv_terminal.specs.Written.{begin_bytes, cell_bytes, cursor_bytes, end_bytes}
+use Rattle.tv_terminal.specs.Written.{begin_bytes, bell_bytes, cell_bytes, cursor_bytes, end_bytes}
 use Rattle.tv_terminal.specs.Terminal.{Character, Display, Escape, ground, in_mode, told}
 
 -- a terminal of 80 by 24 with an x in each place
@@ -21,6 +21,8 @@ plain = record {
   has_long_reports = false;
   has_meta_escapes = false;
   has_alt_escapes = false;
+  has_paste_brackets = false;
+  bells = 0;
   covered = None;
   is_lost = false;
 }
@@ -92,6 +94,15 @@ other_ground = refl
 -- nothing is written for a cursor that shows where it has to
 cursor_still : cursor_bytes (Some (3, 4)) (Some true) (Some (3, 4)) ≡ []
 cursor_still = refl
+
+-- BEL rings and shows nothing
+rings : told (ground plain) (65 ∷ bell_bytes) ≡ told (ground (record plain { bells = 1 })) (65 ∷ [])
+unfolding char_width
+rings = refl
+
+-- a begin after a begin finds the same normal screen
+twice_begun : told (ground plain) (begin_bytes ++ begin_bytes) ≡ told (ground plain) begin_bytes
+twice_begun = refl
 
 -- the begin and the end leave nothing behind
 as_before : (told (ground plain) (begin_bytes ++ end_bytes)) ≡ ground plain

@@ -3,6 +3,7 @@ pub mod FrontLemmas
 pub mod StreamLemmas
 pub mod PointLemmas
 pub mod HeardLemmas
+pub mod PasteLemmas
 pub mod TypedLemmas
 mod RowExamples
 pub mod ToldLemmas

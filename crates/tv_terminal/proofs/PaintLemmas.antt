@@ -12,7 +12,7 @@ use Rattle.tv_io.specs.declared.pen.Pen.{Pen}
 use Rattle.tv_io.proofs.PenLemmas.{Puts-then, Puts-along}
 use Rattle.tv_terminal.specs.Displays.{HasCursor, HasSpace, Knows, tile_of}
 use Rattle.tv_terminal.specs.Written.{begin_bytes, cursor_bytes, end_bytes, going, place_after, showing}
-use Rattle.tv_terminal.specs.Terminal.{Covered, Display, Terminal, ground, plain_back, plain_front, told}
+use Rattle.tv_terminal.specs.Terminal.{kept_of, Covered, Display, Terminal, ground, plain_back, plain_front, told}
 use Rattle.tv_terminal.specs.Writing.{BeginsScreen, Drawn, Draws, IsRight, IsShown, Paints, restored}
 use Rattle.tv_terminal.specs.declared.hand.Hand.{Hand}
 use Rattle.tv_terminal.specs.declared.painter.Painter.{Painter}
@@ -60,12 +60,12 @@ drawn-cursor : {Region : ℕ → ℕ → Type 0} {screen : Picture} {d : Display
 drawn-cursor mid new e shown known None p = record {
   shows = record { inside = p.shows.inside; outside = p.shows.outside };
   right = still-shown mid new e shown known None p.right;
-  stays = record { columns = p.stays.columns; rows = p.stays.rows; mouse = p.stays.mouse; reports = p.stays.reports; meta = p.stays.meta; alt = p.stays.alt; covered = p.stays.covered; lost = p.stays.lost };
+  stays = record { columns = p.stays.columns; rows = p.stays.rows; mouse = p.stays.mouse; reports = p.stays.reports; meta = p.stays.meta; alt = p.stays.alt; pastes = p.stays.pastes; bells = p.stays.bells; covered = p.stays.covered; lost = p.stays.lost };
 }
 drawn-cursor mid new e shown known (Some q) p = record {
   shows = record { inside = p.shows.inside; outside = p.shows.outside };
   right = still-shown mid new e shown known (Some q) p.right;
-  stays = record { columns = p.stays.columns; rows = p.stays.rows; mouse = p.stays.mouse; reports = p.stays.reports; meta = p.stays.meta; alt = p.stays.alt; covered = p.stays.covered; lost = p.stays.lost };
+  stays = record { columns = p.stays.columns; rows = p.stays.rows; mouse = p.stays.mouse; reports = p.stays.reports; meta = p.stays.meta; alt = p.stays.alt; pastes = p.stays.pastes; bells = p.stays.bells; covered = p.stays.covered; lost = p.stays.lost };
 }
 
 -- what is known of the cursor and the colours then
@@ -142,15 +142,16 @@ begun d = record d {
   cells = λ _ _. record { ch = 32; front = plain_front; back = plain_back };
   front = plain_front;
   back = plain_back;
-  covered = Some (record { cells = d.cells; column = d.column; row = d.row });
+  covered = Some (kept_of d.covered d);
   has_mouse = true;
   has_long_reports = true;
   has_meta_escapes = true;
   has_alt_escapes = true;
+  has_paste_brackets = true;
 }
 
-told-begin : (d : Display) → d.covered ≡ None → told (ground d) begin_bytes ≡ ground (begun d)
-told-begin d free = subst (λ (o : Option Covered). told (ground (record d { covered = o })) begin_bytes ≡ ground (begun (record d { covered = o }))) (sym free) refl
+told-begin : (d : Display) → told (ground d) begin_bytes ≡ ground (begun d)
+told-begin d = refl
 
 whole-has : (screen : Picture) (column row : ℕ) → IsOn screen column row → has_cell (sized screen.width screen.height ∷ []) column row ≡ true
 whole-has screen column row on = or_left _ _ (is_in-true (sized screen.width screen.height) (pos column) (pos row) (record { after_left = omega (arith, ints); before_right = omega (arith, ints, on.across); after_top = omega (arith, ints); before_bottom = omega (arith, ints, on.down) }))
@@ -177,12 +178,12 @@ module _ {W : Type 0} {seen : W → Seen} {screen : Picture} {cursor : Option (�
     taken = λ column row on. rw end (p.changes.inside column row (rw same (on-alike alike on)) (all column row on));
     bytes = begin_bytes ++ p.bytes;
     puts = Puts-then opened p.puts;
-    tells = λ d room free.
+    tells = λ d room.
         let room' : HasSpace blind.shown (begun d) = rw same (record { across = omega (arith, alike.width, room.across); down = omega (arith, alike.height, room.down) }) in
         let q = p.tells (begun d) room' (blind-right (begun d) unknown nothing) in
         record {
           after = q.after;
-          is = told-++ (ground d) begin_bytes p.bytes ∙ ap (λ (t : Terminal). told t p.bytes) (told-begin d free) ∙ q.is;
+          is = told-++ (ground d) begin_bytes p.bytes ∙ ap (λ (t : Terminal). told t p.bytes) (told-begin d) ∙ q.is;
           law = record {
             shows = record {
               room = record { across = omega (arith, room.across, q.law.drawn.stays.columns); down = omega (arith, room.down, q.law.drawn.stays.rows) };
@@ -206,6 +207,8 @@ module _ {W : Type 0} {seen : W → Seen} {screen : Picture} {cursor : Option (�
             reports = q.law.drawn.stays.reports;
             meta = q.law.drawn.stays.meta;
             alt = q.law.drawn.stays.alt;
+            pastes = q.law.drawn.stays.pastes;
+            bells = q.law.drawn.stays.bells;
             covered = q.law.drawn.stays.covered;
             lost = q.law.drawn.stays.lost;
           };

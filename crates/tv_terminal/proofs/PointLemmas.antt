@@ -10,7 +10,7 @@ use Rattle.tv_event.specs.declared.event.Event.TheVariants as events
 use Rattle.tv_event.specs.declared.event.Key.{Key}
 use Rattle.tv_event.specs.declared.event.Key.TheVariants as keys
 use Rattle.tv_terminal.specs.declared.action.Action.{Action}
-use Rattle.tv_terminal.specs.declared.action.Action.TheVariants.{Event, Quit}
+use Rattle.tv_terminal.specs.declared.action.Action.TheVariants.{Event, Quit, Reported}
 use Rattle.tv_terminal.specs.declared.numbers.Numbers.{Numbers}
 use Rattle.tv_terminal.specs.declared.numbers.Numbers.TheVariants.{One, Two, Three, Other}
 use Rattle.tv_terminal.specs.declared.reading.Reading.{Reading}
@@ -18,9 +18,9 @@ use Rattle.tv_terminal.specs.declared.reading.Reading.TheVariants.{Unfinished, W
 use Rattle.tv_terminal.specs.declared.reading.Kind.{Kind}
 use Rattle.tv_terminal.specs.declared.reading.Kind.TheVariants.{Keys, Mouse}
 use Rattle.tv_terminal.specs.Points.{IsMousePlace, HasPlaces, IsPlacedAction}
-use Rattle.tv_terminal.specs.Table.{key_action, typed_char, typed_code, ascii, alt, ctrl_coded, plain_code, coded, key_of_number, ctrl_key_of_number, console, by_tilde, by_code, by_letter, of_keys, near_place, point, is_left, held, mouse, of_mouse, old_mouse}
+use Rattle.tv_terminal.specs.Table.{key_action, typed_char, typed_code, ascii, alt, ctrl_coded, plain_code, coded, key_of_number, ctrl_key_of_number, console, by_tilde, by_code, by_letter, size_report, ready_report, of_keys, near_place, point, is_left, held, mouse, of_mouse, old_mouse}
 use Rattle.tv_terminal.specs.Sequences.{only, meaning, with_byte, numbers_from, old_report, console_from, bracketed, string_from, last_from, two_more, three_more, character, meaningless, is_heard, after_escape, reading_of}
-use Rattle.tv_terminal.specs.Decoding.{most, at_pause, given_as, given, anew_given}
+use Rattle.tv_terminal.specs.Decoding.{Listening, most, at_pause, given_as, given, anew_given, heard, heard_while, is_pasted}
 
 -- no action, or one with such a point
 pub record Placed (action : Option Action) : Type 0 where
@@ -88,10 +88,23 @@ by_code_placed (Two c held) = coded_placed c held
 by_code_placed (Three x y z) = none_placed
 by_code_placed Other = none_placed
 
+reported_placed : Placed (Some Reported)
+reported_placed = record { placed = tt }
+
+size_placed : (numbers : Numbers) → Placed (size_report numbers)
+size_placed (Three n rows columns) = if_placed (n == 8) reported_placed none_placed
+size_placed _ = none_placed
+
+ready_placed : (numbers : Numbers) → Placed (ready_report numbers)
+ready_placed (One n) = if_placed (n == 0) reported_placed none_placed
+ready_placed _ = none_placed
+
 of_keys_placed : (numbers : Numbers) (last : ℕ) → Placed (of_keys numbers last)
 of_keys_placed numbers last =
     if_placed (last == 126) (tilde_placed numbers)
-    (if_placed (last == 117) (by_code_placed numbers) (maybe_key_placed (by_letter numbers last)))
+    (if_placed (last == 117) (by_code_placed numbers)
+    (if_placed (last == 116) (size_placed numbers)
+    (if_placed (last == 110) (ready_placed numbers) (maybe_key_placed (by_letter numbers last)))))
 
 is_place : (n : ℕ) → IsMousePlace (pos (near_place n))
 is_place n = record { low = omega (arith, ints); high = omega (arith, ints) }
@@ -223,8 +236,15 @@ given_as_placed Broken placing bytes b = if_placed (b == 27) (at_pause_placed by
 pub given_placed : (bytes : List ℕ) (b : ℕ) → Placed (given bytes b)
 given_placed bytes b = given_as_placed (reading_of (bytes ++ b ∷ [])) (reading_placing (bytes ++ b ∷ [])) bytes b
 
-pub given_is_placed : (bytes : List ℕ) (b : ℕ) (result : Option Action) → result ≡ given bytes b → IfSome result IsPlacedAction
-given_is_placed bytes b result e = (subst Placed (sym e) (given_placed bytes b)).placed
+-- and so is what is heard of it
+heard_placed : (is_pasting : Bool) (meant : Option Action) → Placed meant → Placed (heard_while is_pasting meant)
+heard_placed is_pasting None placed = none_placed
+heard_placed is_pasting (Some action) placed = if_placed (is_pasted action || not is_pasting) placed none_placed
 
-pub at_pause_is_placed : (bytes : List ℕ) (result : Option Action) → result ≡ at_pause bytes → IfSome result IsPlacedAction
-at_pause_is_placed bytes result e = (subst Placed (sym e) (at_pause_placed bytes)).placed
+pub byte_is_placed : (l : Listening) (b : ℕ) (result : Option Action) → result ≡ heard l b → IfSome result IsPlacedAction
+byte_is_placed l b result e = (subst Placed (sym e) (heard_placed l.is_pasting (given l.bytes b) (given_placed l.bytes b))).placed
+
+pub pause_is_placed : (is_pasting : Bool) (bytes : List ℕ) (meant result : Option Action) → meant ≡ at_pause bytes
+    → result ≡ heard_while is_pasting meant → IfSome result IsPlacedAction
+pause_is_placed is_pasting bytes meant result e is =
+    (subst Placed (sym is) (heard_placed is_pasting meant (subst Placed (sym e) (at_pause_placed bytes)))).placed

@@ -1,14 +1,14 @@
 -- Each row of the table, and what is beside it.
-use Rattle.std.specs.Prelude.{ℕ, ◌≡◌, List, [], ◌∷◌, ◌++◌, map, codes, pos}
+use Rattle.std.specs.Prelude.{ℕ, ◌≡◌, false, List, [], ◌∷◌, ◌++◌, map, codes, pos}
 use Rattle.std.proofs.Common.{refl}
 use Rattle.unicode_width.specs.Width.{char_width}
 use Rattle.tv_cells.specs.declared.rect.Point.{Point}
 use Rattle.tv_event.specs.declared.event.Event.TheVariants as events
 use Rattle.tv_event.specs.declared.event.Key.TheVariants as keys
 use Rattle.tv_terminal.specs.declared.action.Action.{Action}
-use Rattle.tv_terminal.specs.declared.action.Action.TheVariants.{Event, Quit}
+use Rattle.tv_terminal.specs.declared.action.Action.TheVariants.{Event, Quit, Reported}
 use Rattle.tv_terminal.specs.Table.{key_action, typed_char}
-use Rattle.tv_terminal.specs.Decoding.{Symbol, Byte, Pause, before, decode, left_after}
+use Rattle.tv_terminal.specs.Decoding.{Symbol, Byte, Pause, before, decode, heard_while, left}
 use Rattle.tv_terminal.specs.Rows.{csi, ss3, key_rows}
 
 abbrev bytes : List ℕ → List Symbol
@@ -49,6 +49,20 @@ cut_by_pause = refl
 cut_by_key : actions (csi "1;" ++ csi "A") ≡ key_action keys.Up ∷ []
 cut_by_key = refl
 
+-- of a pasted text a Tab, a line end and a sequence are nothing, and behind it they are keys again
+pasted : actions (csi "200~" ++ codes "a" ++ 9 ∷ 13 ∷ 27 ∷ 98 ∷ csi "Z" ++ 3 ∷ codes "b" ++ csi "201~" ++ 13 ∷ [])
+    ≡ key_action (keys.Char 97) ∷ key_action (keys.Char 98) ∷ key_action keys.Enter ∷ []
+unfolding char_width
+pasted = refl
+
+-- Ctrl-\ leaves within a paste, too; a pause doesn't end it
+pasted_quit : decode (map Byte (csi "200~") ++ Byte 28 ∷ Pause ∷ Byte 13 ∷ []) ≡ Quit ∷ []
+pasted_quit = refl
+
+-- the size of a terminal, in cells alone, and that it is ready
+reports : actions (csi "8;24;80t" ++ csi "4;600;800t" ++ csi "t" ++ csi "0n" ++ csi "3n") ≡ Reported ∷ Reported ∷ []
+reports = refl
+
 cut_by_quit : actions (csi "1;" ++ 28 ∷ []) ≡ Quit ∷ []
 cut_by_quit = refl
 
@@ -74,8 +88,11 @@ long : actions (csi "00000000000000000000000000000A") ≡ key_action keys.Up ∷
 long = refl
 
 -- characters of one to four bytes. Whether one takes a column is left open here
+abbrev typed : ℕ → List Action → List Action
+typed c actions = before (heard_while false (typed_char c)) actions
+
 typed_characters : actions (195 ∷ 169 ∷ 226 ∷ 130 ∷ 172 ∷ 240 ∷ 157 ∷ 132 ∷ 158 ∷ 194 ∷ 133 ∷ 239 ∷ 191 ∷ 191 ∷ 244 ∷ 143 ∷ 191 ∷ 191 ∷ [])
-    ≡ before (typed_char 233) (before (typed_char 8364) (before (typed_char 119070) (before (typed_char 133) (before (typed_char 65535) (before (typed_char 1114111) [])))))
+    ≡ typed 233 (typed 8364 (typed 119070 (typed 133 (typed 65535 (typed 1114111 [])))))
 typed_characters = refl
 
 typed_text : actions (codes " a~") ≡ map (λ c. key_action (keys.Char c)) (codes " a~")
@@ -90,7 +107,7 @@ cut_character : actions (226 ∷ 130 ∷ 65 ∷ []) ≡ key_action (keys.Char 65
 unfolding char_width
 cut_character = refl
 
-unfinished_character : left_after [] (bytes (65 ∷ 226 ∷ 130 ∷ [])) ≡ 226 ∷ 130 ∷ []
+unfinished_character : left (bytes (65 ∷ 226 ∷ 130 ∷ [])) ≡ record { bytes = 226 ∷ 130 ∷ []; is_pasting = false }
 unfolding char_width
 unfinished_character = refl
 

@@ -1,6 +1,6 @@
 -- What a terminal makes of the sequences that are written.
 use Rattle.std.proofs.Common.{◌≡◌, ℕ, ◌+◌, ◌-◌, ◌*◌, ◌/◌, ◌%◌, ◌<◌, ◌≤◌, Bool, true, false, List, [], ◌∷◌, ◌++◌, Option, Some, None, refl, ap, ◌∙◌, arith, encode_utf8, nat_le, nat_lt, zero, suc, ◌&&◌, ◌||◌, not, ◌==◌, inl, inr, IfSome, unwrap_or, min, max, sym, if◌then◌else◌}
-use Rattle.std.proofs.lemmas.Bool.{cases_lt}
+use Rattle.std.proofs.lemmas.Bool.{cases_lt, ne_eqb}
 use Rattle.std.proofs.lemmas.Bool.Decides.{nat_tests}
 use Rattle.std.proofs.lemmas.Str.{encode_ascii}
 use lib.Utf8.{encode}
@@ -200,11 +200,17 @@ module _ (k part : ℕ) (d : Display) (lt : k < 64) where
       let less : more + 1 - 1 ≡ more = omega arith in
       rw (from, to, same, some, less) refl
 
-told-one : (c : ℕ) (d : Display) → c < 128 → (c ≡ 27 → ⊥) → told (ground d) (encode_utf8 c) ≡ ground (put c d)
-told-one c d lt other =
-    let a : (c == 27) ≡ false = grind (arith, nat_tests) in
+-- neither ESC nor BEL
+record IsPlain (c : ℕ) : Type 0 where
+  no_escape : c ≡ 27 → ⊥
+  no_bell : c ≡ 7 → ⊥
+
+told-one : (c : ℕ) (d : Display) → c < 128 → IsPlain c → told (ground d) (encode_utf8 c) ≡ ground (put c d)
+told-one c d lt plain =
+    let a : (c == 27) ≡ false = ne_eqb c 27 plain.no_escape in
     let b : nat_lt c 128 ≡ true = grind (arith, nat_tests) in
-    rw (encode_ascii c lt, a, b) refl
+    let e : (c == 7) ≡ false = ne_eqb c 7 plain.no_bell in
+    rw (encode_ascii c lt, a, b, e) refl
 
 encode-two : (c : ℕ) → 128 ≤ c → c < 2048 → encode_utf8 c ≡ (192 + c / 64) ∷ (128 + c % 64) ∷ []
 unfolding encode
@@ -256,9 +262,9 @@ told-four c d ge lt =
     ∙ told-last (c % 64) ((c / 262144 * 64 + c / 4096 % 64) * 64 + c / 64 % 64) d (omega arith)
     ∙ ap (λ (n : ℕ). ground (put n d)) e
 
-told-char : (c : ℕ) (d : Display) → c < 1114112 → (c ≡ 27 → ⊥) → told (ground d) (encode_utf8 c) ≡ ground (put c d)
-told-char c d few other = elim (cases_lt c 128) [
-  | inl lt ↦ told-one c d lt other
+told-char : (c : ℕ) (d : Display) → c < 1114112 → IsPlain c → told (ground d) (encode_utf8 c) ≡ ground (put c d)
+told-char c d few plain = elim (cases_lt c 128) [
+  | inl lt ↦ told-one c d lt plain
   | inr ge ↦ elim (cases_lt c 2048) [
     | inl lt ↦ told-two c d ge lt
     | inr more ↦ elim (cases_lt c 65536) [
@@ -277,9 +283,16 @@ pub from-eq : (m n : ℕ) → (m == n) ≡ true → m ≡ n
 from-eq m n e = grind (arith, nat_tests)
 
 -- a character of one column is none that a terminal takes for a sequence
-pub narrow-plain : (c : ℕ) → IsNarrow c → c ≡ 27 → ⊥
+no-escape : (c : ℕ) → IsNarrow c → c ≡ 27 → ⊥
 unfolding char_width
-narrow-plain c narrow e = let h : char_width false 27 ≡ Some 1 = rw e at narrow in absurd cc
+no-escape c narrow e = let h : char_width false 27 ≡ Some 1 = rw e at narrow in absurd cc
+
+no-bell : (c : ℕ) → IsNarrow c → c ≡ 7 → ⊥
+unfolding char_width
+no-bell c narrow e = let h : char_width false 7 ≡ Some 1 = rw e at narrow in absurd cc
+
+narrow-plain : (c : ℕ) → IsNarrow c → IsPlain c
+narrow-plain c narrow = record { no_escape = no-escape c narrow; no_bell = no-bell c narrow }
 
 narrow-test : (c : ℕ) → IsNarrow c → is_narrow c ≡ true
 narrow-test c narrow = ap (λ (w : Option ℕ). unwrap_or w 0 == 1) narrow

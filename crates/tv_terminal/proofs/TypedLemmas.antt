@@ -1,6 +1,6 @@
 -- Each character that takes a column, in UTF-8, is that character typed.
 use Rattle.std.proofs.Common.{ℕ, ◌≡◌, ◌<◌, ◌≤◌, ◌-◌, ◌+◌, ◌*◌, ◌/◌, ◌%◌, ◌⊎◌, inl, inr, refl, sym, ap, ◌∙◌, subst, arith, lit≤, Bool, true, false}
-use Rattle.std.proofs.Common.{List, [], ◌∷◌, map, length, None, nat_lt}
+use Rattle.std.proofs.Common.{List, [], ◌∷◌, map, length, Some, None, nat_lt}
 use Rattle.std.proofs.lemmas.List.{map-append}
 use Rattle.std.proofs.lemmas.Bool.{lt-ltb, le-ltb, le-leb, lt-leb, ne_eqb, and_from, and_right, cases_eq, cases_lt}
 use Rattle.std.specs.Prelude.{◌==◌, ◌||◌, if◌then◌else◌, nat_le}
@@ -15,9 +15,9 @@ use Rattle.tv_terminal.specs.declared.reading.Reading.{Reading}
 use Rattle.tv_terminal.specs.declared.reading.Reading.TheVariants.{Whole, Broken}
 use Rattle.tv_terminal.specs.Table.{key_action, typed_char, typed_code}
 use Rattle.tv_terminal.specs.Sequences.{last_from, two_more, three_more, reading_of}
-use Rattle.tv_terminal.specs.Decoding.{Byte, before, decode}
+use Rattle.tv_terminal.specs.Decoding.{Byte, before, between, decode_after, heard_while}
 use Rattle.tv_terminal.specs.Streams.{IsLexeme}
-use Rattle.tv_terminal.proofs.StreamLemmas.{decode-lexeme}
+use Rattle.tv_terminal.proofs.StreamLemmas.{decode-lexeme, pasting-still}
 
 passed : {A : Type 0} (test : Bool) (x y : A) → test ≡ false → (if test then x else y) ≡ y
 passed test x y e = ap (λ t. if t then x else y) e
@@ -201,14 +201,21 @@ typed_lexeme c t = elim (cases_lt c 128) [
   ]
 ]
 
--- A text of such characters is typed as its characters.
-pub decode-text : (cs : List ℕ) → AllByRecursion IsTypable cs
-    → decode (map Byte (encode_utf8_all cs)) ≡ map (λ c. key_action (keys.Char c)) cs
-decode-text [] all = refl
-decode-text (c ∷ cs) all =
+-- A text of such characters is typed as its characters, and pasted too.
+typed_as : (c : ℕ) → IsTypable c → typed_code c ≡ Some (key_action (keys.Char c))
+typed_as c t = chosen (scalar c) (typed_char c) None t.scalar ∙ chosen (is_narrow c) _ None t.narrow
+
+no_bracket : (c : ℕ) (reading : Reading) → typed_code c ≡ Some (key_action (keys.Char c)) → reading ≡ Whole (typed_code c) → reading ≡ Whole None → ⊥
+no_bracket c reading typed whole other = cc
+
+pub decode-text : (is_pasting : Bool) (cs : List ℕ) → AllByRecursion IsTypable cs
+    → decode_after (between is_pasting) (map Byte (encode_utf8_all cs)) ≡ map (λ c. key_action (keys.Char c)) cs
+decode-text is_pasting [] all = refl
+decode-text is_pasting (c ∷ cs) all =
     let lexeme : IsLexeme (record { bytes = encode_utf8 c; action = typed_code c }) = typed_lexeme c all.0 in
-    ap decode (map-append Byte (encode_utf8 c) (encode_utf8_all cs))
-    ∙ decode-lexeme (encode_utf8 c) (map Byte (encode_utf8_all cs)) (typed_code c) lexeme.whole lexeme.short
-    ∙ ap (λ action. before action (decode (map Byte (encode_utf8_all cs))))
-    (chosen (scalar c) (typed_char c) None all.0.scalar ∙ chosen (is_narrow c) _ None all.0.narrow)
-    ∙ ap (λ actions. key_action (keys.Char c) ∷ actions) (decode-text cs all.1)
+    ap (decode_after (between is_pasting)) (map-append Byte (encode_utf8 c) (encode_utf8_all cs))
+    ∙ decode-lexeme is_pasting (encode_utf8 c) (map Byte (encode_utf8_all cs)) (typed_code c) lexeme.whole lexeme.short
+    ∙ ap (λ now. before (heard_while is_pasting (typed_code c)) (decode_after (between now) (map Byte (encode_utf8_all cs))))
+    (pasting-still is_pasting (encode_utf8 c) (no_bracket c (reading_of (encode_utf8 c)) (typed_as c all.0) lexeme.whole))
+    ∙ ap (λ action. before (heard_while is_pasting action) (decode_after (between is_pasting) (map Byte (encode_utf8_all cs)))) (typed_as c all.0)
+    ∙ ap (λ actions. key_action (keys.Char c) ∷ actions) (decode-text is_pasting cs all.1)

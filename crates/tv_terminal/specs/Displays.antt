@@ -27,6 +27,8 @@ pub record Stays (old new : Display) : Type 0 where
   pub reports : new.has_long_reports ≡ old.has_long_reports
   pub meta : new.has_meta_escapes ≡ old.has_meta_escapes
   pub alt : new.has_alt_escapes ≡ old.has_alt_escapes
+  pub pastes : new.has_paste_brackets ≡ old.has_paste_brackets
+  pub bells : new.bells ≡ old.bells
   pub covered : new.covered ≡ old.covered
   pub lost : new.is_lost ≡ old.is_lost
 

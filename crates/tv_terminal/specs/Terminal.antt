@@ -20,7 +20,7 @@ pub record Covered : Type 0 where
 
 -- a cell in each column and row; the cursor, whose column is the count of columns where it stands behind the
 -- last; the colours to come; the mouse, and whether its reports are of the long form; whether a key with Meta,
--- or Alt, is sent as ESC and the key
+-- or Alt, is sent as ESC and the key; whether a pasted text is sent in brackets; how often the bell rang
 pub record Display : Type 0 where
   pub columns : ℕ
   pub rows : ℕ
@@ -34,6 +34,8 @@ pub record Display : Type 0 where
   pub has_long_reports : Bool
   pub has_meta_escapes : Bool
   pub has_alt_escapes : Bool
+  pub has_paste_brackets : Bool
+  pub bells : ℕ
   pub covered : Option Covered
   -- it was told what isn't said here: a character behind the last column, or another sequence
   pub is_lost : Bool
@@ -93,11 +95,14 @@ abbrev pub colours_set : List ℕ → Display → Display
 colours_set [] d = d
 colours_set (n ∷ before) d = colour_set n (colours_set before d)
 
--- the alternate screen comes up, empty
-abbrev pub covering : Option Covered → Display → Display
-covering None d =
-    cleared (record d { covered = Some (record { cells = d.cells; column = d.column; row = d.row }) })
-covering (Some c) d = lost d
+-- the normal screen: the one that shows, unless the alternate one does
+abbrev pub kept_of : Option Covered → Display → Covered
+kept_of None d = record { cells = d.cells; column = d.column; row = d.row }
+kept_of (Some c) d = c
+
+-- the alternate screen comes up empty, and is emptied where it is up
+abbrev pub covering : Display → Display
+covering d = cleared (record d { covered = Some (kept_of d.covered d) })
 
 -- the normal screen comes back as it was
 abbrev pub uncovered : Option Covered → Display → Display
@@ -112,8 +117,13 @@ switched mode is_on d =
     else if mode == 1006 then record d { has_long_reports = is_on }
     else if mode == 1036 then record d { has_meta_escapes = is_on }
     else if mode == 1039 then record d { has_alt_escapes = is_on }
-    else if mode == 1049 then (if is_on then covering d.covered d else uncovered d.covered d)
+    else if mode == 2004 then record d { has_paste_brackets = is_on }
+    else if mode == 1049 then (if is_on then covering d else uncovered d.covered d)
     else lost d
+
+-- the bell rings once more
+abbrev pub rung : Display → Display
+rung d = record d { bells = d.bells + 1 }
 
 -- ---- sequences
 
@@ -153,11 +163,11 @@ after_sequence c false last (first ∷ before) d =
 abbrev pub is_decimal_digit : ℕ → Bool
 is_decimal_digit c = nat_le 48 c && nat_le c 57
 
--- a byte between sequences: a character or its first byte in UTF-8, or ESC (27)
+-- a byte between sequences: a character or its first byte in UTF-8, ESC (27), or BEL (7)
 abbrev pub first_told : ℕ → Display → Terminal
 first_told c d =
     if c == 27 then in_mode Escape d
-    else if nat_lt c 128 then ground (put c d)
+    else if nat_lt c 128 then ground (if c == 7 then rung d else put c d)
     else if nat_lt c 192 then ground (lost d)
     else if nat_lt c 224 then in_mode (Character 0 (c - 192)) d
     else if nat_lt c 240 then in_mode (Character 1 (c - 224)) d

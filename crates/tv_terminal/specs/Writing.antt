@@ -5,7 +5,7 @@ use Rattle.tv_io.specs.Pen.{Puts, PutsPart}
 use Rattle.tv_io.specs.Writer.{Seen}
 use Rattle.tv_io.specs.declared.pen.Pen.{Pen}
 use Rattle.tv_terminal.specs.Displays.{Displays, HasCursor, HasSpace, Knows, ShowsIn, Stays, Becomes}
-use Rattle.tv_terminal.specs.Terminal.{Covered, Display, plain_back, plain_front}
+use Rattle.tv_terminal.specs.Terminal.{Covered, Display, kept_of, plain_back, plain_front}
 use Rattle.tv_terminal.specs.declared.hand.Hand.{Hand}
 use Rattle.tv_terminal.specs.declared.painter.Painter.{Painter}
 
@@ -58,8 +58,8 @@ pub record Paints {W : Type 0} (seen : W → Seen) (Region : ℕ → ℕ → Typ
 
 -- ---- the begin and the end
 
--- the alternate screen shows the whole screen, the mouse is on, and Meta and Alt are sent as ESC; the normal
--- screen is kept
+-- the alternate screen shows the whole screen, the mouse is on, Meta and Alt are sent as ESC, and what is pasted
+-- in brackets; the normal screen is kept
 pub record Begun (screen : Picture) (cursor : Option (ℕ × ℕ)) (new : Painter) (d e : Display) : Type 0 where
   pub shows : Displays screen e
   pub right : IsRight new e
@@ -70,7 +70,9 @@ pub record Begun (screen : Picture) (cursor : Option (ℕ × ℕ)) (new : Painte
   pub reports : e.has_long_reports ≡ true
   pub meta : e.has_meta_escapes ≡ true
   pub alt : e.has_alt_escapes ≡ true
-  pub covered : e.covered ≡ Some (record { cells = d.cells; column = d.column; row = d.row })
+  pub pastes : e.has_paste_brackets ≡ true
+  pub bells : e.bells ≡ d.bells
+  pub covered : e.covered ≡ Some (kept_of d.covered d)
   pub lost : e.is_lost ≡ d.is_lost
 
 pub record BeginsScreen {W : Type 0} (seen : W → Seen) (screen : Picture) (cursor : Option (ℕ × ℕ))
@@ -81,11 +83,10 @@ pub record BeginsScreen {W : Type 0} (seen : W → Seen) (screen : Picture) (cur
       → cell_at new.shown column row ≡ cell_at screen column row
   pub bytes : List ℕ
   pub puts : Puts seen before after bytes
-  pub tells : (d : Display) → HasSpace screen d → d.covered ≡ None
-      → Becomes bytes d (Begun screen cursor new d)
+  pub tells : (d : Display) → HasSpace screen d → Becomes bytes d (Begun screen cursor new d)
 
--- the normal screen as it was kept, with the cursor where it stood, plain colours, no mouse and no ESC for Meta
--- or Alt
+-- the normal screen as it was kept, with the cursor where it stood, plain colours, no mouse, no ESC for Meta or
+-- Alt, and no brackets
 abbrev pub restored : Covered → Display → Display
 restored c d = record d {
   cells = c.cells;
@@ -99,4 +100,5 @@ restored c d = record d {
   has_long_reports = false;
   has_meta_escapes = false;
   has_alt_escapes = false;
+  has_paste_brackets = false;
 }

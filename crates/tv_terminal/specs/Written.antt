@@ -99,14 +99,20 @@ place_after place (Some p) = Some p
 
 -- ---- the begin and the end
 
--- the alternate screen, the mouse with reports of the long form, ESC for Meta and Alt, and all cells plain
+-- the alternate screen, the mouse with reports of the long form, ESC for Meta and Alt, brackets around what is
+-- pasted, and all cells plain
 abbrev pub begin_bytes : List ℕ
 begin_bytes =
     27 ∷ codes "[?1049h" ++ 27 ∷ codes "[?1002h" ++ 27 ∷ codes "[?1006h" ++ 27 ∷ codes "[?1036h"
-    ++ 27 ∷ codes "[?1039h" ++ 27 ∷ codes "[0m" ++ 27 ∷ codes "[2J"
+    ++ 27 ∷ codes "[?1039h" ++ 27 ∷ codes "[?2004h" ++ 27 ∷ codes "[0m" ++ 27 ∷ codes "[2J"
 
 -- all of it taken back, and the cursor shows
 abbrev pub end_bytes : List ℕ
 end_bytes =
-    27 ∷ codes "[0m" ++ 27 ∷ codes "[2J" ++ 27 ∷ codes "[?25h" ++ 27 ∷ codes "[?1039l" ++ 27 ∷ codes "[?1036l"
-    ++ 27 ∷ codes "[?1006l" ++ 27 ∷ codes "[?1002l" ++ 27 ∷ codes "[?1049l"
+    27 ∷ codes "[0m" ++ 27 ∷ codes "[2J" ++ 27 ∷ codes "[?25h" ++ 27 ∷ codes "[?2004l" ++ 27 ∷ codes "[?1039l"
+    ++ 27 ∷ codes "[?1036l" ++ 27 ∷ codes "[?1006l" ++ 27 ∷ codes "[?1002l" ++ 27 ∷ codes "[?1049l"
+
+-- ---- the bell
+
+abbrev pub bell_bytes : List ℕ
+bell_bytes = 7 ∷ []

@@ -10,4 +10,6 @@ pub enum Action {
     Event(Event),
     /// Ctrl-\, which is no key of the language: the user wants to leave.
     Quit,
+    /// The terminal reports that it is ready, or its size, as it does when it is asked. What it shows may be lost.
+    Reported,
 }

@@ -3,6 +3,7 @@
 #![tactic(auto)]
 
 mod action;
+mod bell;
 mod character;
 mod colour;
 mod decoder;
@@ -17,6 +18,7 @@ mod svg;
 mod table;
 
 pub use action::Action;
+pub use bell::ring;
 pub use decoder::Decoder;
 pub use painter::Painter;
 pub use svg::{strips_are_rows, write_svg};

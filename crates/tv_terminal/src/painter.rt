@@ -60,7 +60,9 @@ impl Painter {
         ensures { BeginsScreen W.seen screen.now (cursor_on screen.now.width screen.now.height cursor) self.old self.new pen.old pen.new }
     {
         self.forget();
-        pen.put(b"\x1b[?1049h\x1b[?1002h\x1b[?1006h\x1b[?1036h\x1b[?1039h\x1b[0m\x1b[2J");
+        pen.put(
+            b"\x1b[?1049h\x1b[?1002h\x1b[?1006h\x1b[?1036h\x1b[?1039h\x1b[?2004h\x1b[0m\x1b[2J",
+        );
         self.paint(screen, &[screen.canvas().clip], cursor, pen);
         self.is_known = true;
     }
@@ -100,7 +102,9 @@ impl Painter {
         ensures unknown { self.new.is_known ≡ false }
     {
         self.forget();
-        pen.put(b"\x1b[0m\x1b[2J\x1b[?25h\x1b[?1039l\x1b[?1036l\x1b[?1006l\x1b[?1002l\x1b[?1049l");
+        pen.put(
+            b"\x1b[0m\x1b[2J\x1b[?25h\x1b[?2004l\x1b[?1039l\x1b[?1036l\x1b[?1006l\x1b[?1002l\x1b[?1049l",
+        );
     }
 
     // Knows nothing of the terminal any more.

@@ -1,7 +1,7 @@
 //! The table: what whole sequences mean.
 
 ghost use Rattle.std.specs.Prelude.{◌≡◌, ◌<◌, option_map, pos};
-ghost use Rattle.tv_terminal.specs.Table.{key_action, typed_char, typed_code, ascii, alt, ctrl_coded, plain_code, coded, key_of_number, ctrl_key_of_number, lettered, bare, console, by_tilde, by_code, by_letter, of_keys, near_place, point, is_left, held, mouse, of_mouse, old_mouse};
+ghost use Rattle.tv_terminal.specs.Table.{key_action, typed_char, typed_code, ascii, alt, ctrl_coded, plain_code, coded, key_of_number, ctrl_key_of_number, lettered, bare, console, by_tilde, by_code, by_letter, size_report, ready_report, of_keys, near_place, point, is_left, held, mouse, of_mouse, old_mouse};
 
 use crate::action::Action;
 use crate::numbers::Numbers;
@@ -211,13 +211,35 @@ fn by_letter(numbers: Numbers, last: u8) -> Option<Key>
     }
 }
 
-// The numbers and the last byte of a key's sequence.
+// The report of a terminal's size in cells.
+fn size_report(numbers: Numbers) -> Option<Action>
+    ensures { result ≡ size_report numbers }
+{
+    match numbers {
+        Numbers::Three(8, _rows, _columns) => Some(Action::Reported),
+        _ => None,
+    }
+}
+
+// The report that a terminal is ready.
+fn ready_report(numbers: Numbers) -> Option<Action>
+    ensures { result ≡ ready_report numbers }
+{
+    match numbers {
+        Numbers::One(0) => Some(Action::Reported),
+        _ => None,
+    }
+}
+
+// The numbers and the last byte of a sequence behind ESC [.
 pub(crate) fn of_keys(numbers: Numbers, last: u8) -> Option<Action>
     ensures { result ≡ of_keys numbers last }
 {
     match last {
         b'~' => by_tilde(numbers),
         b'u' => by_code(numbers),
+        b't' => size_report(numbers),
+        b'n' => ready_report(numbers),
         _ => key_action_of(by_letter(numbers, last)),
     }
 }

@@ -27,7 +27,34 @@ window two 8 3 20 4 2 "Two"
 end
 "#;
 
-const KEYS: [Row; 4] = [
+// A status item that has the key by which the screen is painted anew.
+const LISTING: &str = r#"tvd 1
+screen 24 10
+status "Ctrl-L List" Ctrl-L 101
+"#;
+
+const KEYS: [Row; 7] = [
+    Row {
+        desc: CANCEL,
+        sent: b"\x1b[200~\t\r\x1bc\x1b[201~\tc",
+        script: "key Tab\ntype \"c\"\n",
+        log: "open a\nfocus c\npress c\nend a cancel\n",
+        parting: Parting::Over,
+    },
+    Row {
+        desc: CANCEL,
+        sent: b"\x0c\x1b[8;24;80t\x1b[0n\tc",
+        script: "key Tab\ntype \"c\"\n",
+        log: "open a\nfocus c\npress c\nend a cancel\n",
+        parting: Parting::Over,
+    },
+    Row {
+        desc: LISTING,
+        sent: b"\x0c",
+        script: "key Ctrl-L\n",
+        log: "command 101\n",
+        parting: Parting::Ended,
+    },
     Row {
         desc: CANCEL,
         sent: b"\tc",

@@ -44,6 +44,28 @@ fn escapes(rt: HostRuntime) {
     assert!(rt; gives(b"\x1b[92;5u", &[Action::Quit]));
 }
 
+#[test]
+fn pastes(rt: HostRuntime) {
+    let typed = [key(Key::Char('a')), key(Key::Char('b')), key(Key::Enter)];
+    assert!(rt;
+        gives(
+            b"\x1b[200~a\t\r\n\x1bx\x03\x1b[Z\x1b[<0;1;1Mb\x1b[201~\r",
+            &typed
+        )
+    );
+    assert!(rt; gives(b"\x1b[201~\x1b[200~\r\x1c\r", &[Action::Quit]));
+}
+
+#[test]
+fn reports(rt: HostRuntime) {
+    assert!(rt;
+        gives(
+            b"\x1b[8;24;80t\x1b[4;600;800t\x1b[8;24t\x1b[3n\x1b[0n",
+            &[Action::Reported, Action::Reported]
+        )
+    );
+}
+
 const UNHEARD: [&str; 13] = [
     "\x1b[24;80R",
     "\x1b[1;2A",

@@ -2,9 +2,11 @@ use Rattle.std.proofs.Common.{◌≡◌, false, refl, subst, sym, ◌∙◌}
 use Rattle.tv_machine.specs.Output.{after}
 use Rattle.tv_machine.specs.Run.{quiet, stepped}
 use Rattle.tv_model.specs.declared.desc.Desc.{Desc}
-use Rattle.tv_play.specs.Ends.{is_leaving, script_with, session_at}
+use Rattle.tv_play.specs.Ends.{IsTakenFor, events_in, reached, script_of}
+use Rattle.tv_play.specs.declared.ends.Step.TheVariants as steps
 use Rattle.tv_play.specs.Steps.{outside}
-use Rattle.tv_play.proofs.SessionLemmas.{desc-at, logged-event, session-push}
+use Rattle.tv_play.proofs.ActionLemmas.{desc-reached}
+use Rattle.tv_play.proofs.SessionLemmas.{logged-event}
 use Rattle.tv_play.proofs.StepLemmas.{going-shown, keeps-loud, size-quiet, size-stepped, stands-before, turns, turns-told}
 use Rattle.tv_play.proofs.player.Player.act.Goals as goal
 use Rattle.tv_terminal.specs.declared.action.Action.TheVariants.{Event}
@@ -38,19 +40,19 @@ returns-clause-acts g c = λ s symbols next from playing read means.
     let e = c.args.event.now in
     let now = outside (g.W.Writer.seen c.write_log-written.new.log) (g.T.Writer.seen c.repaint.new.pen.out.now) c.repaint.new.pen.stopped c.repaint.new.painter in
     let New = g.L.Stage.stands c.write_log-written.new.stage in
-    let here = quiet (session_at s playing.events) in
-    let so_far = after s (script_with playing.events) in
-    let stays : is_leaving s.desc (Event e) ≡ false = subst (λ (d : Desc). is_leaving d (Event e) ≡ false) (desc-at s playing.events) (c.requires.stays here (stands-before s symbols next from _ _ playing)) in
+    let here = quiet (reached s playing.actions) in
+    let so_far = after s (script_of s.desc playing.actions) in
+    let taken : IsTakenFor s.desc (Event e) (steps.Perform e) = subst (λ (d : Desc). IsTakenFor d (Event e) (steps.Perform e)) (desc-reached s playing.actions) (c.requires.taken here (stands-before s symbols next from _ _ playing)) in
     record {
       turns = turns-told s next from now New c.outcome_of.ensures
-          (turns s symbols next from _ _ playing now New e stays means
+          (turns s symbols next from _ _ playing now New e taken means
           (λ t stands. c.write_log-written.ensures.taken (stepped t e) (c.react.ensures.stands t stands))
-          (λ events first stands shown.
-          c.repaint.ensures.shown s events e first
-          (subst (g.L.Stage.stands c.react.new.self) (sym (session-push s events e)) (c.react.ensures.stands (quiet (session_at s events)) stands))
-          (keeps-loud s events e (c.react.ensures.rest (quiet (session_at s events)) stands)) shown)
+          (λ actions first stands shown.
+          c.repaint.ensures.shown s actions e first taken.2
+          (c.react.ensures.stands (quiet (reached s actions)) stands)
+          (keeps-loud (reached s actions) e (c.react.ensures.rest (quiet (reached s actions)) stands)) shown)
           c.is_finished-is_finished.result (λ t stands. c.is_finished-is_finished.ensures (stepped t e) (c.react.ensures.stands t stands)) c.write_log-written.result c.repaint.new.pen.stopped refl
-          (logged-event from.log _ _ s playing.events e c.write_log-written.result playing.performs.written
+          (logged-event from.log _ _ s (events_in s.desc playing.actions) e c.write_log-written.result playing.performs.written
           (c.write_log-written.ensures.text (stepped so_far e) (c.react.ensures.stands so_far playing.performs.left))));
       read = λ none. read;
     }

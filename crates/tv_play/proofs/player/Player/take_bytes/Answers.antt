@@ -39,7 +39,7 @@ returns-in-Some-clause-hears g c = λ s symbols from played.
     let New = g.L.Stage.stands new.stage.now in
     let turned = c.in-Some.ensures.acts s here (here ++ Byte byte ∷ []) from before.run
     (kept-byte here byte c.loop-byte.self.decoder c.take-action.new.self before.read c.take-action.ensures.kept)
-    (meant-byte here byte c.loop-byte.self.decoder c.take-action.result before.read c.take-action.ensures.given) in
+    (meant-byte here byte c.loop-byte.self.decoder c.take-action.result before.read c.take-action.ensures.heard) in
     record {
       turns = subst (λ x. HasPlayedOut s x from now New c.in-Some.outcome)
           (ap (λ x. x ++ map Byte (drop (i + 1) bytes)) (bytes-more symbols bytes i c.loop-byte-test.true) ∙ bytes-all symbols bytes (i + 1))
@@ -62,7 +62,7 @@ loop-byte-preserved g c =
           let so_far = before.plays s symbols from played in
           let turned = c.in_default.ensures.acts s here (here ++ Byte byte ∷ []) from so_far.run
           (kept-byte here byte c.loop-byte.self.decoder c.take-action.new.self so_far.read c.take-action.ensures.kept)
-          (meant-byte here byte c.loop-byte.self.decoder c.take-action.result so_far.read c.take-action.ensures.given) in
+          (meant-byte here byte c.loop-byte.self.decoder c.take-action.result so_far.read c.take-action.ensures.heard) in
           played-along s (here ++ Byte byte ∷ []) (symbols ++ map Byte (take (i + 1) bytes)) from (bytes-more symbols bytes i c.loop-byte-test.true) (record { run = turned.turns; read = turned.read refl });
     }
 

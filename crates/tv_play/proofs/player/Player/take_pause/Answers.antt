@@ -1,7 +1,6 @@
-use Rattle.std.proofs.Common.{◌∷◌, [], ◌++◌, sym, ◌∙◌}
-use Rattle.tv_play.proofs.HeardLemmas.{meant-pause}
+use Rattle.std.proofs.Common.{◌∷◌, [], ◌++◌}
+use Rattle.tv_play.proofs.HeardLemmas.{kept-pause, meant-pause}
 use Rattle.tv_play.proofs.player.Player.take_pause.Goals as goal
-use Rattle.tv_terminal.proofs.DecodeLemmas.{left-pause}
 use Rattle.tv_terminal.specs.Decoding.{Pause}
 
 pub take_meant-requires-clause-ready : goal.take_meant-requires-clause-ready
@@ -16,5 +15,5 @@ returns-clause-kept g c =
 
 pub returns-clause-hears : goal.returns-clause-hears
 returns-clause-hears g c = λ s symbols from played.
-    c.take_meant.ensures.acts s symbols (symbols ++ Pause ∷ []) from played.run (c.pause-action.ensures.kept ∙ sym (left-pause symbols))
-    (meant-pause symbols c.args.self.now.decoder c.pause-action.result played.read c.pause-action.ensures.given)
+    c.take_meant.ensures.acts s symbols (symbols ++ Pause ∷ []) from played.run (kept-pause symbols c.args.self.now.decoder _ played.read c.pause-action.ensures.kept)
+    (meant-pause symbols c.args.self.now.decoder c.pause-action.result played.read c.pause-action.ensures.heard)

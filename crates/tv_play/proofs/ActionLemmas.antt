@@ -1,0 +1,85 @@
+-- Actions, one more: the events among them, the session to which they lead, and how many were refused.
+use Rattle.std.proofs.Common.{ℕ, zero, suc, ◌≡◌, ◌+◌, ◌≤◌, arith, Bool, true, false, List, [], ◌∷◌, ◌++◌, length, take, drop, refl, sym, ap, subst, ◌∙◌}
+use Rattle.std.specs.Prelude.{if◌then◌else◌, flat_map}
+use Rattle.std.specs.List.{list_any}
+use Rattle.std.proofs.lemmas.Grind.{flat_map-append}
+use Rattle.std.proofs.lemmas.List.{append-nil, drop-append-le, drop_all, length-drop, take-append-le}
+use Rattle.tv_event.specs.declared.event.Event.{Event as Happening}
+use Rattle.tv_machine.specs.Run.{Session, stepped}
+use Rattle.tv_model.specs.declared.desc.Desc.{Desc}
+use Rattle.tv_play.specs.Ends.{event_in, events_in, is_refreshing, is_refused, reached, refusals, session_at}
+use Rattle.tv_play.specs.Shown.{is_whole}
+use Rattle.tv_play.proofs.SessionLemmas.{desc-at, session-push}
+use Rattle.tv_terminal.specs.declared.action.Action.{Action}
+use Rattle.tv_terminal.specs.declared.action.Action.TheVariants.{Event}
+
+-- ---- events
+
+events-more : (d : Desc) (actions : List Action) (a : Action)
+    → events_in d (actions ++ a ∷ []) ≡ events_in d actions ++ ((if is_refreshing d a then [] else event_in a) ++ [])
+events-more d actions a = flat_map-append (λ action. if is_refreshing d action then [] else event_in action) actions (a ∷ [])
+
+pub events-perform : (d : Desc) (actions : List Action) (e : Happening) → is_refreshing d (Event e) ≡ false
+    → events_in d (actions ++ Event e ∷ []) ≡ events_in d actions ++ e ∷ []
+events-perform d actions e calm =
+    events-more d actions (Event e) ∙ ap (λ test. events_in d actions ++ ((if test then [] else e ∷ []) ++ [])) calm
+
+pub events-refresh : (d : Desc) (actions : List Action) (a : Action) → is_refreshing d a ≡ true
+    → events_in d (actions ++ a ∷ []) ≡ events_in d actions
+events-refresh d actions a asked =
+    events-more d actions a ∙ ap (λ test. events_in d actions ++ ((if test then [] else event_in a) ++ [])) asked
+    ∙ append-nil (events_in d actions)
+
+-- ---- sessions
+
+pub reached-perform : (s : Session) (actions : List Action) (e : Happening) → is_refreshing s.desc (Event e) ≡ false
+    → reached s (actions ++ Event e ∷ []) ≡ stepped (reached s actions) e
+reached-perform s actions e calm =
+    ap (session_at s) (events-perform s.desc actions e calm) ∙ session-push s (events_in s.desc actions) e
+
+pub reached-refresh : (s : Session) (actions : List Action) (a : Action) → is_refreshing s.desc a ≡ true
+    → reached s (actions ++ a ∷ []) ≡ reached s actions
+reached-refresh s actions a asked = ap (session_at s) (events-refresh s.desc actions a asked)
+
+pub desc-reached : (s : Session) (actions : List Action) → (reached s actions).desc ≡ s.desc
+desc-reached s actions = desc-at s (events_in s.desc actions)
+
+-- ---- refusals
+
+pub refusals-push : (s : Session) (events : List Happening) (e : Happening)
+    → refusals s (events ++ e ∷ []) ≡ refusals s events + (if is_refused (stepped (session_at s events) e) then 1 else 0)
+refusals-push s [] e = omega arith
+refusals-push s (first ∷ events) e = omega (arith, refusals-push (stepped s first) events e)
+
+pub refusals-perform : (s : Session) (actions : List Action) (e : Happening) → is_refreshing s.desc (Event e) ≡ false
+    → refusals s (events_in s.desc (actions ++ Event e ∷ []))
+    ≡ refusals s (events_in s.desc actions) + (if is_refused (stepped (reached s actions) e) then 1 else 0)
+refusals-perform s actions e calm =
+    ap (refusals s) (events-perform s.desc actions e calm) ∙ refusals-push s (events_in s.desc actions) e
+
+pub refusals-refresh : (s : Session) (actions : List Action) (a : Action) → is_refreshing s.desc a ≡ true
+    → refusals s (events_in s.desc (actions ++ a ∷ [])) ≡ refusals s (events_in s.desc actions)
+refusals-refresh s actions a asked = ap (refusals s) (events-refresh s.desc actions a asked)
+
+-- ---- frames that paint the whole screen
+
+pub whole-before : (d : Desc) (actions : List Action) (a : Action) (j : ℕ) → j ≤ length actions
+    → is_whole d (actions ++ a ∷ []) j ≡ is_whole d actions j
+whole-before d actions a zero le = refl
+whole-before d actions a (suc i) le =
+    ap (λ x. list_any (is_refreshing d) (take 1 x)) (drop-append-le i actions (a ∷ []) (omega arith))
+    ∙ ap (list_any (is_refreshing d)) (take-append-le 1 (drop i actions) (a ∷ []) (omega (arith, length-drop i actions)))
+
+or-false : (test : Bool) → list_any (λ (x : Bool). x) (test ∷ []) ≡ test
+or-false true = refl
+or-false false = refl
+
+suc-is : (n : ℕ) → suc n ≡ n + 1
+suc-is n = omega arith
+
+pub whole-last : (d : Desc) (actions : List Action) (a : Action) → is_whole d (actions ++ a ∷ []) (length actions + 1) ≡ is_refreshing d a
+whole-last d actions a =
+    subst (λ j. is_whole d (actions ++ a ∷ []) j ≡ is_refreshing d a) (suc-is (length actions))
+    (ap (λ x. list_any (is_refreshing d) (take 1 x))
+    (drop-append-le (length actions) actions (a ∷ []) (omega arith) ∙ ap (λ x. x ++ a ∷ []) (drop_all (length actions) actions (omega arith)))
+    ∙ or-false (is_refreshing d a))
