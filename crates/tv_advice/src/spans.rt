@@ -106,3 +106,20 @@ pub fn line_of(text: &[u8], number: usize) -> &str {
     }
     ""
 }
+
+/// Returns what can be read of each line of a text.
+pub fn lines_of(alloc: Global, text: &[u8]) -> Result<Vec<&str>, AllocError> {
+    let mut lines = Vec::new(alloc);
+    for line in Lines::new(text) {
+        lines.push(readable(line))?;
+    }
+    Ok(lines)
+}
+
+/// Returns the line of this number among these, counted from 1, or an empty one where there is none.
+pub fn line_in<'a>(lines: &[&'a str], number: usize) -> &'a str {
+    match number.checked_sub(1) {
+        Some(at) => lines.get(at).copied().unwrap_or(""),
+        None => "",
+    }
+}
