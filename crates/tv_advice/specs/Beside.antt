@@ -10,7 +10,7 @@ use Rattle.tv_machine.specs.declared.script.Item.{Item}
 use Rattle.tv_script.specs.Scripts.{RefusesScript, SpellsAScript}
 use Rattle.tv_script.specs.declared.script_text.ScriptFault.TheVariants as scripts
 use Rattle.tv_advice.specs.Beginnings.{is_certificate}
-use Rattle.tv_advice.specs.Blocks.{IsBlockAt, IsUnreadBlock, off_screen}
+use Rattle.tv_advice.specs.Blocks.{IsBlockAt, IsUnreadReport, off_screen}
 use Rattle.tv_advice.specs.declared.beside.Beside.{Beside}
 use Rattle.tv_advice.specs.declared.beside.Beside.TheVariants as besides
 use Rattle.tv_advice.specs.declared.manner.Manner.{Manner}
@@ -25,17 +25,18 @@ IsCompared desc certificate _ = ⊥
 abbrev pub SpellsAndIs : (told : Certificate → Type 0) → (text : List ℕ) → Type 0
 SpellsAndIs told text = (certificate : Certificate) × SpellsACertificate text certificate × told certificate
 
--- a line of the certificate can't be read, and the report is a block on that line
+-- a line of the certificate can't be read: the report begins with a block on the first such line
 abbrev pub HasUnreadCertificateLine : Manner → (name text report : List ℕ) → Type 0
 HasUnreadCertificateLine manner name text report =
-    (line : ℕ) × RefusesText text (certificates.Syntax line) × IsUnreadBlock manner name line report
+    (line : ℕ) × RefusesText text (certificates.Syntax line) × IsUnreadReport manner name line report
 
--- a line of the script can't be read, or its point is off the screen, and the report is a block on that line
+-- a line of the script can't be read, and the report begins with a block on the first such line; or its point is
+-- off the screen, and the report is a block on that line
 abbrev pub HasFaultyScriptLine : Manner → (name : List ℕ) → (width height : ℤ) → (text report : List ℕ)
     → Type 0
 HasFaultyScriptLine manner name width height text report =
     ((line : ℕ) × RefusesScript width height text (scripts.Syntax line)
-    × IsUnreadBlock manner name line report)
+    × IsUnreadReport manner name line report)
     ⊎ ((line : ℕ) × RefusesScript width height text (scripts.OffScreen line)
     × IsBlockAt manner name line off_screen report)
 

@@ -1,8 +1,8 @@
 //! What a text is, by its first word.
 
-ghost use Rattle.std.specs.Prelude.{◌≡◌, IfOk};
+ghost use Rattle.std.specs.Prelude.{◌≡◌, ◌≤◌, length, IfOk};
 ghost use Rattle.tv_words.specs.Lines.{lines_of};
-ghost use Rattle.tv_advice.specs.Beginnings.{answer_of, begins_certificate, is_certificate};
+ghost use Rattle.tv_advice.specs.Beginnings.{answer_of, begins_certificate, first_declared, is_certificate};
 
 use std::alloc::{AllocError, Global};
 use tv_words::{Lines, Word, words_of};
@@ -38,4 +38,19 @@ pub fn is_certificate(alloc: Global, text: &[u8]) -> Result<bool, AllocError>
         }
     }
     Ok(false)
+}
+
+/// Returns the number of the first line of a text that declares something.
+pub fn first_declared(alloc: Global, text: &[u8]) -> Result<usize, AllocError>
+    requires few { length text.now ≤ 262144 }
+    ensures { IfOk result (λ number. number ≡ first_declared 1 (lines_of text.now)) }
+{
+    let mut number = 1;
+    for line in Lines::new(text) {
+        if let Some(_) = answer_of(alloc, line)? {
+            return Ok(number);
+        }
+        number += 1;
+    }
+    Ok(number)
 }

@@ -11,6 +11,7 @@ use crate::forms::Language;
 use crate::manner::Manner;
 use crate::report::unread_block;
 use crate::source::Source;
+use crate::spans::lines_of;
 use crate::unread::explain_point;
 use crate::whole::unread_report;
 use std::alloc::{AllocError, Global};
@@ -140,6 +141,7 @@ fn point_report(
 ) -> Result<String, AllocError>
     ensures { IfOk result (λ report. IsBlockAt source.now.manner source.now.name.now line off_screen (string_bytes report)) }
 {
+    let lines = lines_of(alloc, source.text)?;
     let unread = explain_point(alloc, source.text, line, width, height)?;
-    unread_block(alloc, source, "off screen", &unread)
+    unread_block(alloc, source, &lines, "off screen", &unread)
 }

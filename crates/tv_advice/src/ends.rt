@@ -1,6 +1,7 @@
 //! What is told of the focus, ends, default buttons and openings: F9 to F11 and F16.
 
-use crate::naming::{command_text, text_of};
+use crate::naming::{command_text, name_of, text_of};
+use crate::nearest::{Nearest, Unknown};
 use crate::saying::{Part, Remark, Saying};
 use std::alloc::{AllocError, Global};
 use tv_explain::{Reason, Why};
@@ -111,13 +112,34 @@ pub fn bad_opening(alloc: Global, node: &Node, why: Why) -> Result<Saying, Alloc
     })
 }
 
+// How to mend a start that names no dialog: by the name of one that is near to it, or so.
+fn start_mend(alloc: Global, desc: &Desc, name: &str) -> Result<String, AllocError> {
+    let mut names = Vec::new(alloc);
+    for dialog in desc.dialogs.as_slice() {
+        names.push(name_of(alloc, &dialog.node)?)?;
+    }
+    let unknown = Unknown::new(alloc, name)?;
+    let mut nearest = Nearest::none();
+    for (place, name) in names.iter().enumerate() {
+        nearest = unknown.compare(alloc, nearest, place, name)?;
+    }
+    let found = match nearest.place {
+        Some(place) => names.get(place),
+        None => None,
+    };
+    match found {
+        Some(name) => format!(in alloc; "did you mean `{name}`?"),
+        None => String::from_str(alloc, "name a dialog, or drop the line"),
+    }
+}
+
 /// Tells why no dialog can be open at the start.
 pub fn unknown_start(alloc: Global, desc: &Desc, why: Why) -> Result<Saying, AllocError> {
     let name = match &desc.start {
         Some(name) => text_of(alloc, name.as_slice())?,
         None => String::new(alloc),
     };
-    let mend = String::from_str(alloc, "name a dialog, or drop the line")?;
+    let mend = start_mend(alloc, desc, &name)?;
     if why.reason == Reason::StartWindow {
         return Ok(Saying {
             message: format!(in alloc; "`{name}` is a window: it can't be open as a dialog")?,

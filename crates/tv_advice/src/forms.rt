@@ -1,6 +1,8 @@
 //! The forms of lines.
 
 use crate::fitting::Want;
+use crate::nearest::{Nearest, Unknown};
+use std::alloc::{AllocError, Global};
 use tv_words::Word;
 
 /// What a text is.
@@ -243,12 +245,42 @@ const SCRIPT: [Form; 7] = [
     },
 ];
 
-/// Finds the form of the line of this language that begins with this word.
-pub fn form_of(language: Language, word: &Word) -> Option<&'static Form> {
-    let forms: &'static [Form] = match language {
+fn forms_of(language: Language) -> &'static [Form] {
+    match language {
         Language::Description => &DESCRIPTION,
         Language::Certificate => &CERTIFICATE,
         Language::Script => &SCRIPT,
-    };
+    }
+}
+
+/// Finds the form of the line of this language that begins with this word.
+pub fn form_of(language: Language, word: &Word) -> Option<&'static Form> {
+    let forms = forms_of(language);
     forms.iter().find(|form| word.is(form.keyword().as_bytes()))
+}
+
+/// Finds the form of the line of this language that has this keyword.
+pub fn form_named(language: Language, keyword: &str) -> Option<&'static Form> {
+    forms_of(language)
+        .iter()
+        .find(|form| form.keyword() == keyword)
+}
+
+/// Finds the keyword of this language that is nearest to the first word of a line.
+pub fn nearest_keyword(
+    alloc: Global,
+    language: Language,
+    line: &str,
+) -> Result<Option<&'static str>, AllocError> {
+    let word = line.split_whitespace().next().unwrap_or("");
+    let unknown = Unknown::new(alloc, word.trim_matches('"'))?;
+    let forms = forms_of(language);
+    let mut nearest = Nearest::none();
+    for (place, form) in forms.iter().enumerate() {
+        nearest = unknown.compare(alloc, nearest, place, form.keyword())?;
+    }
+    Ok(match nearest.place {
+        Some(place) => forms.get(place).map(Form::keyword),
+        None => None,
+    })
 }

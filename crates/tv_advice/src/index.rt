@@ -1,14 +1,15 @@
 //! The lines of a text and of the description that it spells, each found by its number.
 
+use crate::kin::Kin;
+use crate::known::Known;
 use crate::letters::Letters;
-use crate::spans::readable;
+use crate::spans::{line_in, lines_of};
 use crate::subject::{Declared, Subject};
 use std::alloc::{AllocError, Global};
 use std::collections::{HashMap, HashSet};
 use tv_event::Key;
 use tv_model::{Desc, Dialog, Menu, Node, Rule, StatusItem, Window};
 use tv_overlaps::owners;
-use tv_words::Lines;
 
 /// A text and the description that it spells, by their lines: each is gone through once, however many faults there are.
 #[derive(Drop)]
@@ -20,17 +21,12 @@ pub struct Index<'a> {
     declared: HashMap<u32, Declared<'a>>,
     /// The letters of each dialog.
     letters: Vec<Letters>,
+    /// The names of each dialog.
+    known: Vec<Known<'a>>,
+    /// The views of each dialog, by what they stand in.
+    kin: Vec<Kin<'a>>,
     /// The letters that status items have with Alt.
     status: HashSet<char>,
-}
-
-// What can be read of each line.
-fn lines_of(alloc: Global, text: &[u8]) -> Result<Vec<&str>, AllocError> {
-    let mut lines = Vec::new(alloc);
-    for line in Lines::new(text) {
-        lines.push(readable(line))?;
-    }
-    Ok(lines)
 }
 
 impl<'a> Index<'a> {
@@ -41,6 +37,8 @@ impl<'a> Index<'a> {
             lines: lines_of(alloc, text)?,
             declared: HashMap::new(alloc),
             letters: Vec::new(alloc),
+            known: Vec::new(alloc),
+            kin: Vec::new(alloc),
             status: HashSet::new(alloc),
         };
         index.add_menus(desc.menus.as_slice())?;
@@ -89,9 +87,10 @@ impl<'a> Index<'a> {
         for (place, dialog) in dialogs.iter().enumerate() {
             self.add(dialog.node.id.0, Subject::Node(&dialog.node))?;
             self.add_views(alloc, place, dialog)?;
-            self.add_rules(dialog.rules.as_slice())?;
-            let letters = Letters::new(alloc, self.desc.version, dialog)?;
-            self.letters.push(letters)?;
+            self.add_rules(place, dialog.rules.as_slice())?;
+            self.letters
+                .push(Letters::new(alloc, self.desc.version, dialog)?)?;
+            self.known.push(Known::new(alloc, place, dialog)?)?;
         }
         Ok(())
     }
@@ -105,24 +104,33 @@ impl<'a> Index<'a> {
     ) -> Result<(), AllocError> {
         let views = dialog.views.as_slice();
         let owners = owners(alloc, views)?;
+        let mut kin = Kin::new(alloc, place, views.len());
         for (view, owner) in views.iter().zip(owners.iter()) {
             let pane = match owner {
                 Some(at) => views.get(*at),
                 None => None,
             };
+            let owner = pane.unwrap_or(&dialog.node);
+            kin.add(owner, view)?;
             let declared = Declared {
                 subject: Subject::Node(view),
-                owner: Some(pane.unwrap_or(&dialog.node)),
+                owner: Some(owner),
                 dialog: Some(place),
             };
             self.declared.insert(view.id.0, declared)?;
         }
+        self.kin.push(kin)?;
         Ok(())
     }
 
-    fn add_rules(&mut self, rules: &'a [Rule]) -> Result<(), AllocError> {
+    // Adds the rules of the dialog at this place.
+    fn add_rules(&mut self, place: usize, rules: &'a [Rule]) -> Result<(), AllocError> {
         for rule in rules {
-            self.add(rule.id.0, Subject::Rule(rule))?;
+            let declared = Declared {
+                dialog: Some(place),
+                ..Declared::alone(Subject::Rule(rule))
+            };
+            self.declared.insert(rule.id.0, declared)?;
         }
         Ok(())
     }
@@ -134,10 +142,7 @@ impl<'a> Index<'a> {
 
     /// Returns what can be read of the line of the text of this number, counted from 1, or an empty one where there is none.
     pub fn line(&self, number: usize) -> &'a str {
-        match number.checked_sub(1) {
-            Some(at) => self.lines.get(at).copied().unwrap_or(""),
-            None => "",
-        }
+        line_in(&self.lines, number)
     }
 
     /// Finds what stands on the line of the canonical text.
@@ -156,6 +161,16 @@ impl<'a> Index<'a> {
     /// Finds the letters of the dialog that it stands in.
     pub fn letters(&self, declared: Declared) -> Option<&Letters> {
         self.letters.get(declared.dialog?)
+    }
+
+    /// Finds the names of the dialog that it stands in.
+    pub fn known(&self, declared: Declared) -> Option<&Known<'a>> {
+        self.known.get(declared.dialog?)
+    }
+
+    /// Finds the views of the dialog that it stands in.
+    pub fn kin(&self, declared: Declared) -> Option<&Kin<'a>> {
+        self.kin.get(declared.dialog?)
     }
 
     /// Returns the letters that status items have with Alt.

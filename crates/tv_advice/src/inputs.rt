@@ -1,8 +1,9 @@
 //! What is told of inputs, starts and characters: F12 to F14.
 
 use crate::naming::one_of_items;
+use crate::pictures::{Flaw, find_flaw};
 use crate::saying::{Part, Remark, Saying};
-use crate::spans::Span;
+use crate::spans::{Span, words};
 use std::alloc::{AllocError, Global};
 use tv_explain::Reason;
 use tv_model::{Input, Kind, Node, is_item};
@@ -27,21 +28,41 @@ fn wrong_after(alloc: Global, spec: &InputSpec) -> Result<usize, AllocError> {
     }
 }
 
-fn bad_picture(alloc: Global, input: &Input) -> Result<Saying, AllocError> {
-    let place = wrong_after(alloc, &input.spec)?;
-    let characters = if place == 1 {
-        "character"
-    } else {
-        "characters"
+// Where the character at this place of the quoted word stands that is the eighth of the line.
+fn picture_span(alloc: Global, line: &str, place: usize) -> Result<Span, AllocError> {
+    let spans = words(alloc, line)?;
+    let Some(word) = spans.get(7) else {
+        return Ok(Span::at(0));
     };
+    let mut left = place;
+    let mut escape = None;
+    for (column, ch) in line.chars().enumerate().skip(word.column.saturating_add(1)) {
+        let from = escape.unwrap_or(column);
+        if escape.is_none() && ch == '\\' {
+            escape = Some(column);
+        } else if left == 0 {
+            return Ok(Span::between(from, column.saturating_add(1)));
+        } else {
+            left = left.saturating_sub(1);
+            escape = None;
+        }
+    }
+    Ok(*word)
+}
+
+fn bad_picture(alloc: Global, input: &Input, line: &str) -> Result<Saying, AllocError> {
+    let count = wrong_after(alloc, &input.spec)?;
+    let picture = match &input.spec.domain {
+        DomainSpec::Picture(text) => text.as_slice(),
+        _ => &[],
+    };
+    let Flaw { place, label, mend } = find_flaw(alloc, picture, count)?;
+    let span = picture_span(alloc, line, place)?;
     Ok(Saying {
         message: String::from_str(alloc, "the picture of this input is spelled wrong")?,
-        own: Remark {
-            part: Part::word(7),
-            label: format!(in alloc; "wrong after {place} {characters}")?,
-        },
+        own: Remark::new(alloc, Part::At(span), label)?,
         other: None,
-        mend: String::from_str(alloc, "write `;` before a character that stands for itself")?,
+        mend: String::from_str(alloc, mend)?,
     })
 }
 
@@ -73,9 +94,14 @@ fn no_number(alloc: Global, least: i32, greatest: i32) -> Result<Saying, AllocEr
 }
 
 /// Tells why nothing can fill an input.
-pub fn empty_domain(alloc: Global, input: &Input, reason: Reason) -> Result<Saying, AllocError> {
+pub fn empty_domain(
+    alloc: Global,
+    input: &Input,
+    reason: Reason,
+    line: &str,
+) -> Result<Saying, AllocError> {
     match (reason, &input.spec.domain) {
-        (Reason::BadPicture, _) => bad_picture(alloc, input),
+        (Reason::BadPicture, _) => bad_picture(alloc, input, line),
         (_, DomainSpec::Range { least, greatest }) if greatest < least => {
             no_number(alloc, *least, *greatest)
         }

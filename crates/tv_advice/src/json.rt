@@ -2,7 +2,7 @@
 
 use crate::advice::Advice;
 use crate::note::Note;
-use crate::unread::{Hint, Unread};
+use crate::unread::Unread;
 use serde::Serialize;
 use serde_json::Error;
 use std::alloc::{AllocError, Global};
@@ -63,18 +63,13 @@ pub fn advice_members(alloc: Global, advice: &Advice) -> Result<String, AllocErr
 
 /// Writes the members that tell why a line can't be read, with a line end.
 pub fn unread_members(alloc: Global, unread: &Unread) -> Result<String, AllocError> {
-    let (mend, form) = match unread.hint {
-        Some(Hint::Form(form)) => (None, Some(form)),
-        Some(Hint::Mend(mend)) => (Some(mend), None),
-        None => (None, None),
-    };
     let members = Members {
         length: unread.own.len,
         label: unread.own.label.as_str(),
         message: unread.message.as_str(),
-        other: None,
-        mend,
-        form,
+        other: unread.other.as_ref().map(other_of),
+        mend: unread.mend.as_ref().map(String::as_str),
+        form: unread.form,
     };
     members_text(alloc, &members)
 }

@@ -1,5 +1,6 @@
 //! What is told of names, and of what rules name: F1 and F6 to F8.
 
+use crate::known::{Known, Wanted};
 use crate::naming::{called, name_of, one_of_items, text_of, with_article, word_of};
 use crate::saying::{Part, Remark, Saying};
 use std::alloc::{AllocError, Global};
@@ -26,8 +27,31 @@ pub fn name_again(alloc: Global, node: &Node, other: &Node) -> Result<Saying, Al
     })
 }
 
+// How to mend a name that isn't there: by one that is near to it, or so.
+fn name_mend(
+    alloc: Global,
+    known: Option<&Known>,
+    name: &str,
+    wanted: Wanted,
+    mend: &str,
+) -> Result<String, AllocError> {
+    let nearest = match known {
+        Some(known) => known.nearest(alloc, name, wanted)?,
+        None => None,
+    };
+    match nearest {
+        Some(nearest) => format!(in alloc; "did you mean `{nearest}`?"),
+        None => String::from_str(alloc, mend),
+    }
+}
+
 /// Tells where a label leads, which is to no control.
-pub fn label_link(alloc: Global, node: &Node, other: Option<&Node>) -> Result<Saying, AllocError> {
+pub fn label_link(
+    alloc: Global,
+    known: Option<&Known>,
+    node: &Node,
+    other: Option<&Node>,
+) -> Result<Saying, AllocError> {
     let name = match &node.kind {
         Kind::Label(label) => text_of(alloc, label.link.as_slice())?,
         _ => String::new(alloc),
@@ -51,7 +75,13 @@ pub fn label_link(alloc: Global, node: &Node, other: Option<&Node>) -> Result<Sa
             message: format!(in alloc; "this label leads nowhere: no control is called `{name}`")?,
             own,
             other: None,
-            mend: String::from_str(alloc, "name a control of this dialog")?,
+            mend: name_mend(
+                alloc,
+                known,
+                &name,
+                Wanted::Control,
+                "name a control of this dialog",
+            )?,
         }),
     }
 }
@@ -73,13 +103,14 @@ fn target_name(alloc: Global, rule: &Rule) -> Result<String, AllocError> {
     }
 }
 
-fn unknown_target(alloc: Global, rule: &Rule) -> Result<Saying, AllocError> {
+fn unknown_target(alloc: Global, known: Option<&Known>, rule: &Rule) -> Result<Saying, AllocError> {
     let name = target_name(alloc, rule)?;
+    let mend = "name a control or a pane of this dialog";
     Ok(Saying {
         message: format!(in alloc; "this rule shows `{name}`, which isn't there")?,
         own: Remark::on_word(alloc, 1, "no control and no pane of this dialog")?,
         other: None,
-        mend: String::from_str(alloc, "name a control or a pane of this dialog")?,
+        mend: name_mend(alloc, known, &name, Wanted::ControlOrPane, mend)?,
     })
 }
 
@@ -106,20 +137,26 @@ fn no_cluster(alloc: Global, rule: &Rule, found: &Node) -> Result<Saying, AllocE
     })
 }
 
-fn unknown_cluster(alloc: Global, rule: &Rule) -> Result<Saying, AllocError> {
+fn unknown_cluster(
+    alloc: Global,
+    known: Option<&Known>,
+    rule: &Rule,
+) -> Result<Saying, AllocError> {
     let name = text_of(alloc, rule.cluster.as_slice())?;
     let label = "no check boxes and no radio buttons of this dialog";
+    let mend = "name check boxes or radio buttons of this dialog";
     Ok(Saying {
         message: format!(in alloc; "this rule goes by `{name}`, which isn't there")?,
         own: Remark::on_word(alloc, 3, label)?,
         other: None,
-        mend: String::from_str(alloc, "name check boxes or radio buttons of this dialog")?,
+        mend: name_mend(alloc, known, &name, Wanted::Cluster, mend)?,
     })
 }
 
 /// Tells what a rule names that isn't there.
 pub fn rule_unknown(
     alloc: Global,
+    known: Option<&Known>,
     rule: &Rule,
     reason: Reason,
     other: Option<&Node>,
@@ -127,8 +164,8 @@ pub fn rule_unknown(
     match (reason, other) {
         (Reason::UnknownItem, Some(cluster)) => unknown_item(alloc, rule, cluster),
         (Reason::NoCluster, Some(found)) => no_cluster(alloc, rule, found),
-        (Reason::UnknownCluster, _) => unknown_cluster(alloc, rule),
-        _ => unknown_target(alloc, rule),
+        (Reason::UnknownCluster, _) => unknown_cluster(alloc, known, rule),
+        _ => unknown_target(alloc, known, rule),
     }
 }
 

@@ -11,8 +11,8 @@ use crate::json::{advice_members, unread_members};
 use crate::manner::Manner;
 use crate::note::Note;
 use crate::source::Source;
-use crate::spans::line_of;
-use crate::unread::{Hint, Unread};
+use crate::spans::line_in;
+use crate::unread::Unread;
 use std::alloc::{AllocError, Global};
 
 // Puts a head before the rest of a block.
@@ -49,10 +49,11 @@ pub fn advice_block(
     block_of(alloc, source, &advice.own, &fault, &rest)
 }
 
-/// Writes why a line can't be read, or why it can't stand, the fault being called so.
+/// Writes why one of these lines can't be read, or why it can't stand, the fault being called so.
 pub fn unread_block(
     alloc: Global,
     source: &Source,
+    lines: &[&str],
     fault: &str,
     unread: &Unread,
 ) -> Result<String, AllocError>
@@ -60,7 +61,7 @@ pub fn unread_block(
 {
     let rest = match source.manner {
         Manner::Json => unread_members(alloc, unread)?,
-        Manner::Plain | Manner::Coloured => unread_lines(alloc, source, unread)?,
+        Manner::Plain | Manner::Coloured => unread_lines(alloc, source, lines, unread)?,
     };
     block_of(alloc, source, &unread.own, fault, &rest)
 }
@@ -81,14 +82,9 @@ fn advice_lines(
     advice: &Advice,
 ) -> Result<String, AllocError> {
     let mut told = format!(in alloc; ": {}\n", advice.message)?;
-    let own_width = digits(advice.own.line);
-    let width = match &advice.other {
-        Some(other) => own_width.max(digits(other.line)),
-        None => own_width,
-    };
     let excerpt = Excerpt {
         manner: source.manner,
-        width,
+        width: width_of(&advice.own, advice.other.as_ref()),
     };
     if let Some(other) = &advice.other {
         let shown = Shown::new(index.line(other.line), other, Mark::Other);
@@ -100,20 +96,38 @@ fn advice_lines(
     Ok(told)
 }
 
-// The message, the line, and what helps.
-fn unread_lines(alloc: Global, source: &Source, unread: &Unread) -> Result<String, AllocError> {
+// The columns of the longest number of the lines of these two notes.
+fn width_of(own: &Note, other: Option<&Note>) -> usize {
+    let width = digits(own.line);
+    match other {
+        Some(other) => width.max(digits(other.line)),
+        None => width,
+    }
+}
+
+// The message, the lines that have to do with it, and what helps.
+fn unread_lines(
+    alloc: Global,
+    source: &Source,
+    lines: &[&str],
+    unread: &Unread,
+) -> Result<String, AllocError> {
     let mut told = format!(in alloc; ": {}\n", unread.message)?;
     let excerpt = Excerpt {
         manner: source.manner,
-        width: digits(unread.own.line),
+        width: width_of(&unread.own, unread.other.as_ref()),
     };
-    let line = line_of(source.text, unread.own.line);
-    let shown = Shown::new(line, &unread.own, Mark::Own);
+    if let Some(other) = &unread.other {
+        let shown = Shown::new(line_in(lines, other.line), other, Mark::Other);
+        push_note(alloc, &mut told, excerpt, shown)?;
+    }
+    let shown = Shown::new(line_in(lines, unread.own.line), &unread.own, Mark::Own);
     push_note(alloc, &mut told, excerpt, shown)?;
-    match unread.hint {
-        Some(Hint::Form(form)) => push_help(alloc, &mut told, excerpt, "form", form)?,
-        Some(Hint::Mend(mend)) => push_help(alloc, &mut told, excerpt, "mend", mend)?,
-        None => {}
+    if let Some(form) = unread.form {
+        push_help(alloc, &mut told, excerpt, "form", form)?;
+    }
+    if let Some(mend) = &unread.mend {
+        push_help(alloc, &mut told, excerpt, "mend", mend)?;
     }
     Ok(told)
 }

@@ -1,19 +1,33 @@
 //! What may come next in a text, and why a line can't.
 
 use crate::forms::Language;
-use tv_words::Word;
+
+/// The parts of a description, in their order.
+#[derive(Clone, Copy, Debug, PartialEq, Eq, PartialOrd, Ord)]
+pub enum Part {
+    Screen,
+    Start,
+    Menus,
+    Status,
+    Windows,
+    Dialogs,
+}
 
 /// What is open after some lines.
 #[derive(Clone, Copy, Debug, PartialEq, Eq)]
 pub enum Stage {
     Version,
     Screen,
-    Between,
-    InMenu,
+    /// Nothing is open, this part being the last.
+    Between(Part),
+    /// A menu, with or without an item.
+    InMenu { has_items: bool },
     InWindow,
     /// The views of a dialog, so many panes being open.
     InViews(usize),
     InRules,
+    /// Views or rules that no line before them begins: nothing is said of what follows up to the next window or dialog.
+    Lost,
     /// The version of a certificate.
     Heading,
     /// The dialogs of a certificate.
@@ -28,6 +42,84 @@ pub enum Stage {
     Script,
 }
 
+// The most panes around one another that can be read.
+const MOST_PANES: usize = 16;
+
+// The part that a line with this keyword stands in, if nothing is open there.
+fn part_of(keyword: &str) -> Option<Part> {
+    Some(match keyword {
+        "start" => Part::Start,
+        "menu" => Part::Menus,
+        "status" => Part::Status,
+        "window" => Part::Windows,
+        "dialog" => Part::Dialogs,
+        _ => return None,
+    })
+}
+
+fn is_view(keyword: &str) -> bool {
+    matches!(
+        keyword,
+        "text" | "label" | "button" | "input" | "checks" | "radios" | "list"
+    )
+}
+
+// Whether a line with this keyword can follow this part.
+fn may_follow(part: Part, keyword: &str) -> bool {
+    match part_of(keyword) {
+        Some(Part::Start) => part == Part::Screen,
+        Some(next) => part <= next,
+        None => false,
+    }
+}
+
+// The stage after a line with this keyword, where nothing is open and this part was the last.
+fn outside(part: Part, keyword: &str) -> Stage {
+    match keyword {
+        "tvd" | "screen" | "end" => Stage::Between(part),
+        "start" => Stage::Between(part.max(Part::Start)),
+        "menu" => Stage::InMenu { has_items: false },
+        "status" => Stage::Between(Part::Status),
+        "window" => Stage::InWindow,
+        "dialog" => Stage::InViews(0),
+        _ => Stage::Lost,
+    }
+}
+
+// The stage after a line with this keyword among views, so many panes being open.
+fn among_views(panes: usize, keyword: &str) -> Stage {
+    match keyword {
+        "end" if panes == 0 => Stage::Between(Part::Dialogs),
+        "end" => Stage::InViews(panes.saturating_sub(1)),
+        "pane" => Stage::InViews(panes.saturating_add(1)),
+        "show" | "enable" => Stage::InRules,
+        "menu" | "status" | "window" | "dialog" => outside(Part::Dialogs, keyword),
+        _ => Stage::InViews(panes),
+    }
+}
+
+// The stage after a line with this keyword among rules.
+fn among_rules(keyword: &str) -> Stage {
+    match keyword {
+        "end" => Stage::Between(Part::Dialogs),
+        "menu" | "status" | "window" | "dialog" => outside(Part::Dialogs, keyword),
+        _ if keyword == "pane" || is_view(keyword) => among_views(0, keyword),
+        _ => Stage::InRules,
+    }
+}
+
+// The stage after a line of a certificate with this keyword.
+fn in_certificate(stage: Stage, keyword: &str) -> Stage {
+    match keyword {
+        "tvcert" => Stage::Blocks,
+        "dialog" => Stage::NoTabs,
+        "tab" => Stage::Tabs,
+        "key" => Stage::Keys,
+        "end" => Stage::Blocks,
+        _ => stage,
+    }
+}
+
 impl Stage {
     /// Returns the stage at the beginning of a text.
     pub fn first(language: Language) -> Stage {
@@ -38,25 +130,94 @@ impl Stage {
         }
     }
 
-    /// Returns the stage after a line with this first word, which can come there.
-    pub fn after(self, first: &Word) -> Stage {
+    /// Whether a line with this keyword can come here.
+    pub fn takes(self, keyword: &str) -> bool {
         match self {
-            Stage::Version => Stage::Screen,
-            Stage::Screen => Stage::Between,
-            Stage::Between if first.is(b"menu") => Stage::InMenu,
-            Stage::Between if first.is(b"window") => Stage::InWindow,
-            Stage::Between if first.is(b"dialog") => Stage::InViews(0),
-            Stage::InMenu | Stage::InWindow | Stage::InRules if first.is(b"end") => Stage::Between,
-            Stage::InViews(0) if first.is(b"end") => Stage::Between,
-            Stage::InViews(panes) if first.is(b"end") => Stage::InViews(panes.saturating_sub(1)),
-            Stage::InViews(panes) if first.is(b"pane") => Stage::InViews(panes.saturating_add(1)),
-            Stage::InViews(_) if first.is(b"show") || first.is(b"enable") => Stage::InRules,
-            Stage::Heading => Stage::Blocks,
-            Stage::Blocks => Stage::NoTabs,
-            Stage::NoTabs => Stage::Tabs,
-            Stage::Tabs if first.is(b"key") => Stage::Keys,
-            Stage::Tabs | Stage::Keys if first.is(b"end") => Stage::Blocks,
-            stage => stage,
+            Stage::Version => keyword == "tvd",
+            Stage::Screen => keyword == "screen",
+            Stage::Between(part) => may_follow(part, keyword),
+            Stage::InMenu { has_items } => keyword == "item" || (has_items && keyword == "end"),
+            Stage::InWindow => keyword == "text" || keyword == "end",
+            Stage::InViews(panes) => match keyword {
+                "pane" => panes < MOST_PANES,
+                "show" | "enable" => panes == 0,
+                _ => keyword == "end" || is_view(keyword),
+            },
+            Stage::InRules => keyword == "end" || is_rule(keyword),
+            Stage::Heading => keyword == "tvcert",
+            Stage::Blocks => keyword == "dialog",
+            Stage::NoTabs => keyword == "tab",
+            Stage::Tabs => keyword == "tab" || keyword == "key" || keyword == "end",
+            Stage::Keys => keyword == "key" || keyword == "end",
+            Stage::Lost | Stage::Script => true,
+        }
+    }
+
+    /// Returns the stage after a line with this keyword. After one that can't come here it is what the line says that it is.
+    pub fn after(self, keyword: &str) -> Stage {
+        match self {
+            Stage::Version if keyword == "tvd" => Stage::Screen,
+            Stage::Version | Stage::Screen => outside(Part::Screen, keyword),
+            Stage::Between(part) => outside(part, keyword),
+            Stage::InMenu { .. } => match keyword {
+                "item" => Stage::InMenu { has_items: true },
+                "end" => Stage::Between(Part::Menus),
+                "menu" | "status" | "window" | "dialog" => outside(Part::Menus, keyword),
+                _ => self,
+            },
+            Stage::InWindow => match keyword {
+                "end" => Stage::Between(Part::Windows),
+                "menu" | "status" | "window" | "dialog" => outside(Part::Windows, keyword),
+                _ => self,
+            },
+            Stage::InViews(panes) => among_views(panes, keyword),
+            Stage::InRules => among_rules(keyword),
+            Stage::Lost => match keyword {
+                "window" | "dialog" => outside(Part::Dialogs, keyword),
+                _ => self,
+            },
+            Stage::Script => self,
+            Stage::Heading | Stage::Blocks | Stage::NoTabs | Stage::Tabs | Stage::Keys => {
+                in_certificate(self, keyword)
+            }
+        }
+    }
+
+    /// Whether the text may end here.
+    pub fn may_end(self) -> bool {
+        matches!(
+            self,
+            Stage::Between(_) | Stage::Lost | Stage::Blocks | Stage::Script
+        )
+    }
+
+    /// Whether a line with this keyword can't come here since an `end` is missing before it.
+    pub fn lacks_end(self, keyword: &str) -> bool {
+        match self {
+            Stage::InMenu { .. } => { matches!(keyword, "menu" | "status" | "window" | "dialog") }
+            Stage::InWindow => keyword == "window" || keyword == "dialog",
+            Stage::InViews(panes) => keyword == "dialog" || (panes > 0 && is_rule(keyword)),
+            Stage::InRules | Stage::Tabs | Stage::Keys => keyword == "dialog",
+            _ => false,
+        }
+    }
+
+    /// Says how a line can begin here.
+    pub fn beginnings(self) -> &'static str {
+        match self {
+            Stage::Version => "tvd",
+            Stage::Screen => "screen",
+            Stage::Between(_) => "menu, status, window or dialog",
+            Stage::InMenu { .. } => "item or end",
+            Stage::InWindow => "text or end",
+            Stage::InViews(_) | Stage::Lost => {
+                "text, label, button, input, checks, radios, list, pane, show, enable or end"
+            }
+            Stage::InRules => "show, enable or end",
+            Stage::Heading => "tvcert",
+            Stage::Blocks => "dialog",
+            Stage::NoTabs | Stage::Tabs | Stage::Keys => "tab, key or end",
+            Stage::Script => "key, type, down, move, up, shot or colors",
         }
     }
 
@@ -75,9 +236,9 @@ impl Stage {
         match self {
             Stage::Version => "the first line is `tvd 1`, or `tvd 2`",
             Stage::Screen => "the second line is `screen` with its columns and rows",
-            Stage::Between => between(keyword),
-            Stage::InMenu if keyword == "end" => "a menu has an item at least",
-            Stage::InMenu => in_menu(keyword),
+            Stage::Between(_) | Stage::Lost => between(keyword),
+            Stage::InMenu { .. } if keyword == "end" => "a menu has an item at least",
+            Stage::InMenu { .. } => in_menu(keyword),
             Stage::InWindow => in_window(keyword),
             Stage::InViews(panes) => in_views(keyword, panes),
             Stage::InRules => in_rules(keyword),

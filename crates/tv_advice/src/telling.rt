@@ -47,10 +47,10 @@ fn saying_for_owner(
         return Ok(None);
     };
     if node.kind.is_dialog() {
-        return Ok(Some(off_desktop(alloc, index.desc(), node)?));
+        return Ok(Some(off_desktop(alloc, index, node)?));
     }
     match other_node(index, why) {
-        Some(owner) => Ok(Some(outside_owner(alloc, node, owner)?)),
+        Some(owner) => Ok(Some(outside_owner(alloc, index, node, owner)?)),
         None => Ok(None),
     }
 }
@@ -137,12 +137,13 @@ fn saying_for_menu_letter(alloc: Global, subject: Subject) -> Result<Option<Sayi
 // What is told of a view that overlaps another one.
 fn saying_for_overlap(
     alloc: Global,
+    index: &Index,
     owner: Option<&Node>,
     node: &Node,
     other: Option<&Node>,
 ) -> Result<Option<Saying>, AllocError> {
     match other {
-        Some(other) => Ok(Some(overlap(alloc, owner, node, other)?)),
+        Some(other) => Ok(Some(overlap(alloc, index, owner, node, other)?)),
         None => Ok(None),
     }
 }
@@ -168,9 +169,14 @@ fn saying_for_letter(
 }
 
 // What is told of an input whose domain is empty.
-fn saying_for_domain(alloc: Global, node: &Node, why: Why) -> Result<Option<Saying>, AllocError> {
+fn saying_for_domain(
+    alloc: Global,
+    node: &Node,
+    why: Why,
+    line: &str,
+) -> Result<Option<Saying>, AllocError> {
     match &node.kind {
-        Kind::Input(input) => Ok(Some(empty_domain(alloc, input, why.reason)?)),
+        Kind::Input(input) => Ok(Some(empty_domain(alloc, input, why.reason, line)?)),
         _ => Ok(None),
     }
 }
@@ -182,17 +188,18 @@ fn saying_for_view(
     index: &Index,
     declared: Declared,
     why: Why,
+    line: &str,
 ) -> Result<Option<Saying>, AllocError> {
     let Some(node) = declared.subject.node() else {
         return Ok(None);
     };
     let other = other_node(index, why);
     match fault {
-        ViewFault::Overlap => saying_for_overlap(alloc, declared.owner, node, other),
+        ViewFault::Overlap => saying_for_overlap(alloc, index, declared.owner, node, other),
         ViewFault::LetterTwice => saying_for_letter(alloc, index, declared, node, other),
-        ViewFault::LabelLink => Ok(Some(label_link(alloc, node, other)?)),
+        ViewFault::LabelLink => Ok(Some(label_link(alloc, index.known(declared), node, other)?)),
         ViewFault::SecondDefault => Ok(Some(second_default(alloc)?)),
-        ViewFault::EmptyDomain => saying_for_domain(alloc, node, why),
+        ViewFault::EmptyDomain => saying_for_domain(alloc, node, why, line),
         ViewFault::BadStart => bad_start(alloc, node),
     }
 }
@@ -202,15 +209,18 @@ fn saying_for_rule(
     alloc: Global,
     fault: RuleFault,
     index: &Index,
-    subject: Subject,
+    declared: Declared,
     why: Why,
 ) -> Result<Option<Saying>, AllocError> {
-    let Subject::Rule(rule) = subject else {
+    let Subject::Rule(rule) = declared.subject else {
         return Ok(None);
     };
     let other = other_node(index, why);
     match fault {
-        RuleFault::UnknownInRule => Ok(Some(rule_unknown(alloc, rule, why.reason, other)?)),
+        RuleFault::UnknownInRule => {
+            let known = index.known(declared);
+            Ok(Some(rule_unknown(alloc, known, rule, why.reason, other)?))
+        }
         RuleFault::ShowsItself => match other {
             Some(cluster) => Ok(Some(rule_shows_itself(alloc, rule, cluster)?)),
             None => Ok(None),
@@ -251,7 +261,7 @@ pub fn saying_for(
         FaultGroup::OutsideLimits => Ok(Some(saying_for_limits(alloc, subject, why)?)),
         FaultGroup::BadOpening => saying_for_opening(alloc, index, subject, why),
         FaultGroup::MenuLetter => saying_for_menu_letter(alloc, subject),
-        FaultGroup::OfView(fault) => saying_for_view(alloc, fault, index, declared, why),
-        FaultGroup::OfRule(fault) => saying_for_rule(alloc, fault, index, subject, why),
+        FaultGroup::OfView(fault) => saying_for_view(alloc, fault, index, declared, why, line),
+        FaultGroup::OfRule(fault) => saying_for_rule(alloc, fault, index, declared, why),
     }
 }

@@ -1,332 +1,104 @@
-//! Why a text can't be read.
+//! Why lines of a text can't be read.
 
 ghost use Rattle.std.specs.Prelude.{◌≡◌, IfOk};
 
-use crate::fitting::{Want, Wrong, wrong_word};
-use crate::forms::{Form, Language, form_of};
+use crate::forms::{Language, nearest_keyword};
+use crate::judging::{
+    Judged, Trouble, end_of, judge, keyword_in, missing_line, text_at, trouble_with,
+};
 use crate::note::Note;
-use crate::quotes::find_slip;
-use crate::spans::{Span, line_of, readable, words};
-use crate::stage::Stage;
+use crate::reading::{Block, Reading};
+use crate::spans::{Span, line_in, line_of, lines_of, readable, words};
 use std::alloc::{AllocError, Global};
-use tv_words::{Lines, Word, words_of};
-
-/// What helps with a line that can't be read.
-#[derive(Clone, Copy, Debug, PartialEq, Eq)]
-pub enum Hint {
-    /// The form that the line has to have.
-    Form(&'static str),
-    /// How to mend it.
-    Mend(&'static str),
-}
+use tv_words::Lines;
 
 /// Why a line can't be read.
 #[derive(Debug, Drop)]
 pub struct Unread {
     pub message: String,
     pub own: Note,
-    pub hint: Option<Hint>,
+    /// The line that opened what has to end before it.
+    pub other: Option<Note>,
+    /// The form that the line has to have.
+    pub form: Option<&'static str>,
+    /// How to mend it.
+    pub mend: Option<String>,
 }
 
-// What is wrong with a line, before its number is known.
-#[derive(Debug, Drop)]
-struct Trouble {
-    message: String,
-    span: Span,
-    label: String,
-    hint: Option<Hint>,
-}
+// The most lines that are told of behind the first.
+const MOST: usize = 99;
 
-impl Trouble {
-    fn new(
-        alloc: Global,
-        message: &str,
-        span: Span,
-        label: &str,
-        hint: Option<Hint>,
-    ) -> Result<Trouble, AllocError> {
-        Ok(Trouble {
-            message: String::from_str(alloc, message)?,
-            span,
-            label: String::from_str(alloc, label)?,
-            hint,
-        })
-    }
-
-    // The trouble, on the line of this number.
-    fn on_line(self, number: usize) -> Unread
-        ensures { result.own.line ≡ number }
-    {
-        let Trouble {
-            message,
-            span,
-            label,
-            hint,
-        } = self;
-        Unread {
-            message,
-            own: Note {
-                line: number,
-                column: span.column,
-                len: span.len,
-                label,
-            },
-            hint,
-        }
-    }
-}
-
-const BYTE_ORDER_MARK: char = '\u{feff}';
-
-// The first control character of a line, or a byte order mark at its beginning.
-fn stray_in(line: &str) -> Option<(usize, char)> {
-    line.chars().enumerate().find(|(column, ch)| ch.is_control()
-        || (*column == 0 && *ch == BYTE_ORDER_MARK))
-}
-
-fn stray_character(alloc: Global, column: usize, ch: char) -> Result<Trouble, AllocError> {
-    let (name, mend) = match ch {
-        '\t' => ("a tab", "indent with spaces"),
-        '\r' => ("a carriage return", "save the file with Unix line ends"),
-        BYTE_ORDER_MARK => (
-            "a byte order mark",
-            "save the file as UTF-8 without a byte order mark",
-        ),
-        _ => ("a control character", "remove it"),
+// Where a block was opened.
+fn opening(alloc: Global, lines: &[&str], block: Block) -> Result<Note, AllocError> {
+    let Block { line, keyword } = block;
+    let spans = words(alloc, line_in(lines, line))?;
+    let span = match (spans.first(), spans.get(1)) {
+        (Some(first), Some(second)) => Span::between(first.column, second.end()),
+        (Some(first), None) => *first,
+        _ => Span::at(0),
     };
-    let code = u32::from(ch);
-    let message = format!(in alloc; "{name} (U+{code:04X}) can't stand in a line")?;
-    Trouble::new(
-        alloc,
-        &message,
-        Span::at(column),
-        "here",
-        Some(Hint::Mend(mend)),
-    )
+    Ok(Note {
+        line,
+        column: span.column,
+        len: span.len,
+        label: format!(in alloc; "this {keyword} is open")?,
+    })
 }
 
-// A line that is no UTF-8 behind these characters.
-fn bad_encoding(alloc: Global, readable: &str) -> Result<Trouble, AllocError> {
-    Trouble::new(
-        alloc,
-        "this line isn't UTF-8",
-        Span::at(readable.chars().count()),
-        "no character begins so",
-        Some(Hint::Mend("save the file as UTF-8")),
-    )
-}
-
-// A line whose words can't be told apart.
-fn bad_quotes(alloc: Global, line: &str) -> Result<Trouble, AllocError> {
-    let (column, what) = match find_slip(line) {
-        Some(slip) => (slip.column, slip.what),
-        None => (0, "here"),
-    };
-    let message = "the words of this line can't be told apart";
-    Trouble::new(alloc, message, Span::at(column), what, None)
-}
-
-// What a word has to be, and what is said of one that isn't.
-fn wanted(want: Want) -> (&'static str, &'static str) {
-    match want {
-        Want::Num => ("a NUM", "a number is wanted here"),
-        Want::Name => ("a NAME", "a name is wanted here"),
-        Want::Str => ("a STR", "a quoted text is wanted here"),
-        Want::Marked => (
-            "a MARKED",
-            "a quoted text is wanted here, with one letter between two ~ at most",
-        ),
-        Want::Command => ("a COMMAND", "a command or its number is wanted here"),
-        Want::Key => ("a KEY", "a key is wanted here"),
-        Want::Letter => ("a LETTER", "a digit or a letter from A to Z is wanted here"),
-        Want::This(word) => (word, "this keyword is wanted here"),
-        Want::Domain => (
-            "a domain",
-            "`any`, `filter`, `range` or `picture` is wanted here",
-        ),
-        Want::Nothing => ("nothing", "the line ends before this word"),
-    }
-}
-
-// The characters of a line at this place.
-fn text_at(alloc: Global, line: &str, span: Span) -> Result<String, AllocError> {
-    let mut text = String::new(alloc);
-    for ch in line.chars().skip(span.column).take(span.len) {
-        text.push(ch)?;
-    }
-    Ok(text)
-}
-
-// Where the line ends.
-fn end_of(line: &str) -> Span {
-    Span::at(line.chars().count())
-}
-
-// A word that doesn't fit the line's form.
-fn misfit(alloc: Global, line: &str, form: &Form, wrong: Wrong) -> Result<Trouble, AllocError> {
-    let spans = words(alloc, line)?;
-    let span = spans.get(wrong.at).copied();
-    let place = wrong.at.saturating_add(1);
-    let (what, label) = wanted(wrong.want);
-    let what = match wrong.want {
-        Want::This(word) => format!(in alloc; "`{word}`")?,
-        _ => String::from_str(alloc, what)?,
-    };
-    let called = form.called;
-    let message = match (wrong.want, span) {
-        (Want::Nothing, _) => format!(in alloc; "{called} has no word {place}")?,
-        (_, Some(span)) => {
-            let found = text_at(alloc, line, span)?;
-            format!(in alloc; "{called} needs {what} as its word {place}, not {found}")?
-        }
-        (_, None) => format!(in alloc; "{called} needs {what} as its word {place}")?,
-    };
-    let span = span.unwrap_or(end_of(line));
-    Trouble::new(alloc, &message, span, label, Some(Hint::Form(form.text)))
-}
-
-// Where the first word of a line stands.
-fn keyword_span(alloc: Global, line: &str) -> Result<Span, AllocError> {
-    let spans = words(alloc, line)?;
-    Ok(spans.first().copied().unwrap_or(end_of(line)))
-}
-
-// A line that begins with no keyword.
-fn unknown_keyword(alloc: Global, line: &str) -> Result<Trouble, AllocError> {
-    let span = keyword_span(alloc, line)?;
-    let found = text_at(alloc, line, span)?;
-    let message = format!(in alloc; "no line begins with {found}")?;
-    Trouble::new(alloc, &message, span, "a keyword is wanted here", None)
-}
-
-// The place of the first number behind `start` that isn't above the one before.
-fn falling(found: &[Word]) -> Option<usize> {
-    let mut before = None;
-    let mut place = None;
-    for (at, word) in found.iter().enumerate() {
-        let number = word.number();
-        if word.is(b"start") {
-            place = None;
-        } else if let (Some(last), Some(this)) = (before, number)
-            && this <= last
-            && place.is_none()
-        {
-            place = Some(at);
-        }
-        before = number;
-    }
-    place
-}
-
-fn not_rising(
+// The trouble, on the line of this number.
+fn unread_on(
     alloc: Global,
-    line: &str,
-    form: &Form,
-    found: &[Word],
-) -> Result<Trouble, AllocError> {
-    let spans = words(alloc, line)?;
-    let span = match falling(found) {
-        Some(at) => spans.get(at).copied(),
+    lines: &[&str],
+    trouble: Trouble,
+    number: usize,
+) -> Result<Unread, AllocError>
+    ensures { IfOk result (λ unread. unread.own.line ≡ number) }
+{
+    let Trouble {
+        message,
+        span,
+        label,
+        form,
+        mend,
+        block,
+    } = trouble;
+    let other = match block {
+        Some(block) => Some(opening(alloc, lines, block)?),
         None => None,
     };
-    Trouble::new(
-        alloc,
-        "the numbers behind `start` rise",
-        span.unwrap_or(end_of(line)),
-        "not above the one before",
-        Some(Hint::Form(form.text)),
-    )
-}
-
-// A line that is spelled right and can't stand here.
-fn misplaced(
-    alloc: Global,
-    line: &str,
-    form: &Form,
-    found: &[Word],
-    stage: Stage,
-) -> Result<Trouble, AllocError> {
-    let span = keyword_span(alloc, line)?;
-    match (stage, form.keyword()) {
-        (Stage::InViews(_), "checks") => not_rising(alloc, line, form, found),
-        (_, keyword) => Trouble::new(alloc, stage.refuses(keyword), span, "not here", None),
-    }
-}
-
-// What is wrong with a line of these words.
-fn judge_words(
-    alloc: Global,
-    language: Language,
-    line: &str,
-    found: &[Word],
-    stage: Stage,
-) -> Result<Trouble, AllocError> {
-    let Some(first) = found.first() else {
-        return bad_quotes(alloc, line);
-    };
-    let Some(form) = form_of(language, first) else {
-        return unknown_keyword(alloc, line);
-    };
-    match wrong_word(form, found) {
-        Some(wrong) => misfit(alloc, line, form, wrong),
-        None => misplaced(alloc, line, form, found, stage),
-    }
-}
-
-// What is wrong with a line that stands here.
-fn judge_line(
-    alloc: Global,
-    language: Language,
-    line: &[u8],
-    stage: Stage,
-) -> Result<Trouble, AllocError> {
-    let text = readable(line);
-    if let Some((column, ch)) = stray_in(text) {
-        return stray_character(alloc, column, ch);
-    }
-    if text.len() < line.len() {
-        return bad_encoding(alloc, text);
-    }
-    match words_of(alloc, line)? {
-        Some(found) => judge_words(alloc, language, text, found.as_slice(), stage),
-        None => bad_quotes(alloc, text),
-    }
-}
-
-// The stage after a line that can be read.
-fn stage_after(alloc: Global, stage: Stage, line: &[u8]) -> Result<Stage, AllocError> {
-    let Some(found) = words_of(alloc, line)? else {
-        return Ok(stage);
-    };
-    Ok(match found.as_slice().first() {
-        Some(first) => stage.after(first),
-        None => stage,
+    Ok(Unread {
+        message,
+        own: Note {
+            line: number,
+            column: span.column,
+            len: span.len,
+            label,
+        },
+        other,
+        form,
+        mend,
     })
 }
 
 // What is wrong with the line of this number.
-fn judge_text(
+fn trouble_at(
     alloc: Global,
     language: Language,
     text: &[u8],
     number: usize,
 ) -> Result<Trouble, AllocError> {
-    let mut stage = Stage::first(language);
+    let mut reading = Reading::new(alloc, language);
     let mut at = 0_usize;
     for line in Lines::new(text) {
         at = at.saturating_add(1);
         if at == number {
-            return judge_line(alloc, language, line, stage);
+            return trouble_with(alloc, language, line, &reading);
         }
-        stage = stage_after(alloc, stage, line)?;
+        if let Some(keyword) = keyword_in(language, readable(line)) {
+            reading.pass(at, keyword)?;
+        }
     }
-    Trouble::new(
-        alloc,
-        stage.missing(),
-        Span::at(0),
-        "the text ends here",
-        None,
-    )
+    missing_line(alloc, &reading)
 }
 
 /// Explains why the line of this number of a text can't be read, where those before it can.
@@ -338,8 +110,89 @@ pub fn explain_line(
 ) -> Result<Unread, AllocError>
     ensures { IfOk result (λ unread. unread.own.line ≡ number) }
 {
-    let trouble = judge_text(alloc, language, text, number)?;
-    Ok(trouble.on_line(number))
+    let lines = lines_of(alloc, text)?;
+    let trouble = trouble_at(alloc, language, text, number)?;
+    unread_on(alloc, &lines, trouble, number)
+}
+
+// The keyword of a line up to the first that can't be read, or of that one what it is nearest to.
+fn keyword_before(
+    alloc: Global,
+    language: Language,
+    line: &[u8],
+    is_unread: bool,
+) -> Result<Option<&'static str>, AllocError> {
+    let text = readable(line);
+    match keyword_in(language, text) {
+        None if is_unread => nearest_keyword(alloc, language, text),
+        keyword => Ok(keyword),
+    }
+}
+
+// What is to be said of the line at this place, where the one of this number is the first that can't be read.
+fn judge_behind(
+    alloc: Global,
+    language: Language,
+    line: &[u8],
+    reading: &Reading,
+    at: usize,
+    number: usize,
+) -> Result<Judged, AllocError> {
+    if number < at {
+        return judge(alloc, language, line, reading);
+    }
+    Ok(Judged {
+        keyword: keyword_before(alloc, language, line, at == number)?,
+        trouble: None,
+    })
+}
+
+/// Explains why lines behind the one of this number, the first that can't be read, can't be read either: as many as are told
+/// of at most.
+pub fn explain_behind(
+    alloc: Global,
+    language: Language,
+    text: &[u8],
+    number: usize,
+) -> Result<Vec<Unread>, AllocError> {
+    let lines = lines_of(alloc, text)?;
+    let mut reading = Reading::new(alloc, language);
+    let mut found = Vec::new(alloc);
+    let mut at = 0_usize;
+    for line in Lines::new(text) {
+        at = at.saturating_add(1);
+        if found.len() >= MOST {
+            return Ok(found);
+        }
+        let Judged { keyword, trouble } = judge_behind(
+            alloc, language, line, &reading, at, number,
+        )?;
+        if let Some(trouble) = trouble {
+            found.push(unread_on(alloc, &lines, trouble, at)?)?;
+        }
+        if let Some(keyword) = keyword {
+            reading.pass(at, keyword)?;
+        }
+    }
+    if number <= at && !reading.stage.may_end() && reading.innermost().is_some() {
+        let trouble = missing_line(alloc, &reading)?;
+        found.push(unread_on(alloc, &lines, trouble, at.saturating_add(1))?)?;
+    }
+    Ok(found)
+}
+
+/// Explains that the language has no such version as the one of these lines says that has this number.
+pub fn explain_version(alloc: Global, lines: &[&str], number: usize) -> Result<Unread, AllocError>
+    ensures { IfOk result (λ unread. unread.own.line ≡ number) }
+{
+    let line = line_in(lines, number);
+    let spans = words(alloc, line)?;
+    let span = spans.get(1).copied().unwrap_or(end_of(line));
+    let version = text_at(alloc, line, span)?;
+    let message = format!(in alloc; "the language has no version {version}")?;
+    let trouble = Trouble::new(alloc, &message, span, "the versions are 1 and 2")?;
+    let trouble = trouble.mended_by(alloc, "write `tvd 1` or `tvd 2`")?;
+    unread_on(alloc, lines, trouble, number)
 }
 
 // Where the point of a mouse line stands: its second and third words.
@@ -369,7 +222,7 @@ pub fn explain_point(
     let right = width.saturating_sub(1);
     let bottom = height.saturating_sub(1);
     let label = format!(in alloc; "columns are 0 to {right}, rows 0 to {bottom}")?;
-    let mend = Hint::Mend("take a point of the description's screen");
-    let trouble = Trouble::new(alloc, &message, span, &label, Some(mend))?;
-    Ok(trouble.on_line(number))
+    let trouble = Trouble::new(alloc, &message, span, &label)?;
+    let trouble = trouble.mended_by(alloc, "take a point of the description's screen")?;
+    unread_on(alloc, &[], trouble, number)
 }

@@ -1,18 +1,22 @@
 //! All that there is to tell of a description.
 
-ghost use Rattle.std.specs.Prelude.{◌≡◌, ◌<◌, ◌≤◌, length, IfOk, Ok, string_bytes};
+ghost use Rattle.std.specs.Prelude.{◌≡◌, ℕ, ◌<◌, ◌≤◌, length, IfOk, Ok, string_bytes};
 ghost use Rattle.tv_lang.specs.CanonicalDescription.{CanBeSpelled};
 ghost use Rattle.tv_lang.specs.Faults.{Spells};
-ghost use Rattle.tv_advice.specs.Blocks.{IsReportOn, IsUnreadBlock};
+ghost use Rattle.tv_advice.specs.Blocks.{AreUnreadBlocks, IsReportOn, IsUnreadReport, IsVersionBlock};
+ghost use Rattle.tv_words.specs.Lines.{lines_of};
+ghost use Rattle.tv_advice.specs.Beginnings.{first_declared};
 ghost use Rattle.tv_advice.specs.Told.{IsToldOf};
 
 use crate::advice::advise;
+use crate::beginning::first_declared;
 use crate::forms::Language;
 use crate::index::Index;
 use crate::manner::Manner;
 use crate::report::{advice_block, unread_block};
 use crate::source::Source;
-use crate::unread::explain_line;
+use crate::spans::lines_of;
+use crate::unread::{Unread, explain_behind, explain_line, explain_version};
 use std::alloc::{AllocError, Global};
 use tv_explain::{Explained, explain};
 use tv_lang::{LangFault, parse};
@@ -25,8 +29,6 @@ pub enum Told {
     Sound(Desc),
     /// Its faults, or why it can't be read.
     Faulty(String),
-    /// It is of another version of the language.
-    OtherVersion,
     /// It has too many bytes.
     TooLong,
 }
@@ -67,17 +69,57 @@ fn tell_faults(alloc: Global, source: &Source, desc: Desc) -> Result<Told, Alloc
     Ok(Told::Faulty(report_on(alloc, source, &desc, faults)?))
 }
 
-/// Writes why the line of this number can't be read.
+// Adds a block on a line that can't be read, if it is behind the last one of which is told. Returns the last one then.
+fn add_unread(
+    alloc: Global,
+    source: &Source,
+    lines: &[&str],
+    report: &mut String,
+    last: usize,
+    unread: &Unread,
+) -> Result<usize, AllocError>
+    ensures { IfOk result (λ further. (first : ℕ)
+        → AreUnreadBlocks source.now.manner source.now.name.now first last (string_bytes report.old)
+        → AreUnreadBlocks source.now.manner source.now.name.now first further (string_bytes report.new)) }
+{
+    if unread.own.line <= last {
+        return Ok(last);
+    }
+    let block = unread_block(alloc, source, lines, "syntax", unread)?;
+    report.push_str(&block)?;
+    Ok(unread.own.line)
+}
+
+/// Writes why the line of this number can't be read, and why lines behind it can't.
 pub fn unread_report(
     alloc: Global,
     source: &Source,
     language: Language,
     line: usize,
 ) -> Result<String, AllocError>
-    ensures { IfOk result (λ report. IsUnreadBlock source.now.manner source.now.name.now line (string_bytes report)) }
+    ensures { IfOk result (λ report. IsUnreadReport source.now.manner source.now.name.now line (string_bytes report)) }
 {
-    let unread = explain_line(alloc, language, source.text, line)?;
-    unread_block(alloc, source, "syntax", &unread)
+    let lines = lines_of(alloc, source.text)?;
+    let first = explain_line(alloc, language, source.text, line)?;
+    let mut report = unread_block(alloc, source, &lines, "syntax", &first)?;
+    let further = explain_behind(alloc, language, source.text, line)?;
+    let mut last = line;
+    for unread in &further {
+        last = add_unread(alloc, source, &lines, &mut report, last, unread)?;
+    }
+    Ok(report)
+}
+
+// Writes that the language has no such version.
+fn version_report(alloc: Global, source: &Source) -> Result<String, AllocError>
+    requires few { length source.now.text.now ≤ 262144 }
+    ensures { IfOk result (λ report. IsVersionBlock source.now.manner source.now.name.now
+        (first_declared 1 (lines_of source.now.text.now)) (string_bytes report)) }
+{
+    let number = first_declared(alloc, source.text)?;
+    let lines = lines_of(alloc, source.text)?;
+    let unread = explain_version(alloc, &lines, number)?;
+    unread_block(alloc, source, &lines, "version", &unread)
 }
 
 /// Tells what a description in the file of this name, whose text is this, has of faults, or why it can't be read.
@@ -97,7 +139,7 @@ pub fn tell(alloc: Global, manner: Manner, name: &str, text: &[u8]) -> Result<To
             Language::Description,
             line,
         )?)),
-        Err(LangFault::Version) => Ok(Told::OtherVersion),
+        Err(LangFault::Version) => Ok(Told::Faulty(version_report(alloc, &source)?)),
         Err(LangFault::TooLong) => Ok(Told::TooLong),
         Err(LangFault::NoMemory) => Err(AllocError),
     }
