@@ -10,11 +10,11 @@ button shut 2 7 9 "Close" cancel
 "###;
 
 const DOMAINS: &str = r###"input code 2 1 10 8 picture "##[-##" ""
-=> form.tvd:5:29: F12: the picture of this input is spelled wrong
+=> form.tvd:5:32: F12: the picture of this input is spelled wrong
 =>   |
 => 5 | input code 2 1 10 8 picture "##[-##" ""
-=>   |                             ^^^^^^^^ wrong after 6 characters
-=>   = mend: write `;` before a character that stands for itself
+=>   |                                ^ this `[` isn't closed
+=>   = mend: write `]` where the part ends, or `;[` for the character
 input code 2 1 10 4 picture "*5#" "1"
 => form.tvd:5:19: F12: nothing that can be typed into this input is right
 =>   |
@@ -45,11 +45,11 @@ const OTHER_DOMAINS: &str = r###"input code 2 1 10 4 range 9 1 ""
 =>   |                     ^^^^^^^^^ there is no number from 9 to 1
 =>   = mend: write the lesser number first
 input code 2 1 10 8 picture "*0#" "x"
-=> form.tvd:5:29: F12: the picture of this input is spelled wrong
+=> form.tvd:5:31: F12: the picture of this input is spelled wrong
 =>   |
 => 5 | input code 2 1 10 8 picture "*0#" "x"
-=>   |                             ^^^^^ wrong after 1 character
-=>   = mend: write `;` before a character that stands for itself
+=>   |                               ^ how often a part is repeated is 1 to 120
+=>   = mend: write a number from 1 to 120, or `;` before the digit
 "###;
 
 #[test]
@@ -228,4 +228,90 @@ end
 #[test]
 fn characters_of_heads(rt: HostRuntime) -> Result<(), Fail> {
     expect_reports(rt, "tvd 1\nscreen 40 12\n", HEADS, "")
+}
+
+// Each reason of a picture, with the character at fault.
+const PICTURES: &str = r###"input code 2 1 10 8 picture "##]" ""
+=> form.tvd:5:32: F12: the picture of this input is spelled wrong
+=>   |
+=> 5 | input code 2 1 10 8 picture "##]" ""
+=>   |                                ^ no `[` stands before it that this could close
+=>   = mend: write `[` where the part begins, or `;]` for the character
+input code 2 1 10 8 picture "#}#" ""
+=> form.tvd:5:31: F12: the picture of this input is spelled wrong
+=>   |
+=> 5 | input code 2 1 10 8 picture "#}#" ""
+=>   |                               ^ no `{` stands before it that this could close
+=>   = mend: write `{` where the part begins, or `;}` for the character
+input code 2 1 10 8 picture "[#}" ""
+=> form.tvd:5:32: F12: the picture of this input is spelled wrong
+=>   |
+=> 5 | input code 2 1 10 8 picture "[#}" ""
+=>   |                                ^ the part that is open begins with `[`
+=>   = mend: write `]` here
+input code 2 1 10 8 picture "{#]" ""
+=> form.tvd:5:32: F12: the picture of this input is spelled wrong
+=>   |
+=> 5 | input code 2 1 10 8 picture "{#]" ""
+=>   |                                ^ the part that is open begins with `{`
+=>   = mend: write `}` here
+input code 2 1 10 8 picture "{#,@" ""
+=> form.tvd:5:30: F12: the picture of this input is spelled wrong
+=>   |
+=> 5 | input code 2 1 10 8 picture "{#,@" ""
+=>   |                              ^ this `{` isn't closed
+=>   = mend: write `}` where the part ends, or `;{` for the character
+input code 2 1 10 8 picture "#*" ""
+=> form.tvd:5:31: F12: the picture of this input is spelled wrong
+=>   |
+=> 5 | input code 2 1 10 8 picture "#*" ""
+=>   |                               ^ nothing stands behind this that it could repeat
+=>   = mend: write what is repeated behind it, or `;*` for the character
+input code 2 1 10 8 picture "**#" ""
+=> form.tvd:5:31: F12: the picture of this input is spelled wrong
+=>   |
+=> 5 | input code 2 1 10 8 picture "**#" ""
+=>   |                               ^ this repeats a `*`
+=>   = mend: write what is repeated, or `;*` for the character
+input code 2 1 10 8 picture "{*,#}" ""
+=> form.tvd:5:32: F12: the picture of this input is spelled wrong
+=>   |
+=> 5 | input code 2 1 10 8 picture "{*,#}" ""
+=>   |                                ^ what `*` repeats is missing before this
+=>   = mend: write what is repeated, or `;*` for the character
+input code 2 1 10 8 picture "*121#" ""
+=> form.tvd:5:33: F12: the picture of this input is spelled wrong
+=>   |
+=> 5 | input code 2 1 10 8 picture "*121#" ""
+=>   |                                 ^ how often a part is repeated is 1 to 120
+=>   = mend: write a number from 1 to 120, or `;` before the digit
+input code 2 1 10 8 picture "*4#-[##-##" ""
+=> form.tvd:5:34: F12: the picture of this input is spelled wrong
+=>   |
+=> 5 | input code 2 1 10 8 picture "*4#-[##-##" ""
+=>   |                                  ^ this `[` isn't closed
+=>   = mend: write `]` where the part ends, or `;[` for the character
+input code 2 1 10 8 picture "#;" ""
+=> form.tvd:5:31: F12: the picture of this input is spelled wrong
+=>   |
+=> 5 | input code 2 1 10 8 picture "#;" ""
+=>   |                               ^ no character stands behind this `;`
+=>   = mend: write the character that stands for itself behind it
+input code 2 1 10 8 picture "[[[[[[[[[#" ""
+=> form.tvd:5:38: F12: the picture of this input is spelled wrong
+=>   |
+=> 5 | input code 2 1 10 8 picture "[[[[[[[[[#" ""
+=>   |                                      ^ 8 brackets are open already
+=>   = mend: close one before, or write `;` before the character
+input code 2 1 10 8 picture "\"\\;*[#" ""
+=> form.tvd:5:36: F12: the picture of this input is spelled wrong
+=>   |
+=> 5 | input code 2 1 10 8 picture "\"\\;*[#" ""
+=>   |                                    ^ this `[` isn't closed
+=>   = mend: write `]` where the part ends, or `;[` for the character
+"###;
+
+#[test]
+fn pictures(rt: HostRuntime) -> Result<(), Fail> {
+    expect_reports(rt, DIALOG, PICTURES, "end\n")
 }

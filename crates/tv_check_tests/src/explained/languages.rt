@@ -83,6 +83,14 @@ dialog form
 =>   |
 => 2 | tvcert 3
 =>   | ^^^^^^ not here
+=> form:4:1: syntax: the text ends too early: the `end` of the dialog in line 3 is missing
+=>   |
+=> 3 | dialog form
+=>   | ----------- this dialog is open
+=>   |
+=> 4 | 
+=>   | ^ the text ends here
+=>   = mend: write `end` where the dialog ends
 tvcert
 => form:1:7: syntax: the first line needs a NUM as its word 2
 =>   |
@@ -111,6 +119,14 @@ key NA name
 => 4 | key NA name
 =>   |     ^^ a digit or a letter from A to Z is wanted here
 =>   = form: key LETTER NAME [NUM] [when NAME NUM]
+=> form:5:1: syntax: the text ends too early: the `end` of the dialog in line 2 is missing
+=>   |
+=> 2 | dialog form
+=>   | ----------- this dialog is open
+=>   |
+=> 5 | 
+=>   | ^ the text ends here
+=>   = mend: write `end` where the dialog ends
 tvcert 1
 dialog form
 tab name
@@ -120,6 +136,14 @@ key A name
 =>   |
 => 5 | key A name
 =>   | ^^^ not here
+=> form:6:1: syntax: the text ends too early: the `end` of the dialog in line 2 is missing
+=>   |
+=> 2 | dialog form
+=>   | ----------- this dialog is open
+=>   |
+=> 6 | 
+=>   | ^ the text ends here
+=>   = mend: write `end` where the dialog ends
 tvcert 1
 dialog form
 tab name
@@ -129,6 +153,14 @@ tab more
 =>   |
 => 5 | tab more
 =>   | ^^^ not here
+=> form:6:1: syntax: the text ends too early: the `end` of the dialog in line 2 is missing
+=>   |
+=> 2 | dialog form
+=>   | ----------- this dialog is open
+=>   |
+=> 6 | 
+=>   | ^ the text ends here
+=>   = mend: write `end` where the dialog ends
 tvcert 2
 dialog form
 tab name
@@ -138,13 +170,29 @@ key N name when by
 => 4 | key N name when by
 =>   |                   ^ a number is wanted here
 =>   = form: key LETTER NAME [NUM] [when NAME NUM]
+=> form:5:1: syntax: the text ends too early: the `end` of the dialog in line 2 is missing
+=>   |
+=> 2 | dialog form
+=>   | ----------- this dialog is open
+=>   |
+=> 5 | 
+=>   | ^ the text ends here
+=>   = mend: write `end` where the dialog ends
 tvcert 1
 dialog
 => form:2:7: syntax: a dialog needs a NAME as its word 2
 =>   |
 => 2 | dialog
-=>   |       ^ a name is wanted here
+=>   |       ^ a name is wanted here: a lower-case letter, then up to 19 of a-z, 0-9 and -
 =>   = form: dialog NAME
+=> form:3:1: syntax: the text ends too early: the `end` of the dialog in line 2 is missing
+=>   |
+=> 2 | dialog
+=>   | ------ this dialog is open
+=>   |
+=> 3 | 
+=>   | ^ the text ends here
+=>   = mend: write `end` where the dialog ends
 tvcert 1
 dialog form
 tab name more
@@ -153,6 +201,14 @@ tab name more
 => 3 | tab name more
 =>   |          ^^^^ the line ends before this word
 =>   = form: tab NAME
+=> form:4:1: syntax: the text ends too early: the `end` of the dialog in line 2 is missing
+=>   |
+=> 2 | dialog form
+=>   | ----------- this dialog is open
+=>   |
+=> 4 | 
+=>   | ^ the text ends here
+=>   = mend: write `end` where the dialog ends
 tvcert 1
 dialog form
 tab name
@@ -169,15 +225,55 @@ key N name
 dialog more
 => form:5:1: syntax: an `end` is missing before this line
 =>   |
+=> 2 | dialog form
+=>   | ----------- this dialog is open
+=>   |
 => 5 | dialog more
 =>   | ^^^^^^ not here
+=> form:6:1: syntax: the text ends too early: the `end` of the dialog in line 5 is missing
+=>   |
+=> 5 | dialog more
+=>   | ----------- this dialog is open
+=>   |
+=> 6 | 
+=>   | ^ the text ends here
+=>   = mend: write `end` where the dialog ends
+tvcert 1
+dialog form
+tab Name
+key n name
+end
+dialgo more
+tab name
+end
+=> form:3:5: syntax: a tab line needs a NAME as its word 2, not Name
+=>   |
+=> 3 | tab Name
+=>   |     ^^^^ a name is wanted here: a lower-case letter, then up to 19 of a-z, 0-9 and -
+=>   = form: tab NAME
+=>   = mend: did you mean `name`?
+=> form:4:5: syntax: a key line needs a LETTER as its word 2, not n
+=>   |
+=> 4 | key n name
+=>   |     ^ a digit or a letter from A to Z is wanted here
+=>   = form: key LETTER NAME [NUM] [when NAME NUM]
+=>   = mend: did you mean `N`?
+=> form:6:1: syntax: no line begins with dialgo
+=>   |
+=> 6 | dialgo more
+=>   | ^^^^^^ a keyword is wanted here
+=>   = mend: did you mean `dialog`?
 tvcert 1
 dialog form
 tab name
-=> form:4:1: syntax: the text ends too early: an `end` is missing
+=> form:4:1: syntax: the text ends too early: the `end` of the dialog in line 2 is missing
+=>   |
+=> 2 | dialog form
+=>   | ----------- this dialog is open
 =>   |
 => 4 | 
 =>   | ^ the text ends here
+=>   = mend: write `end` where the dialog ends
 "#;
 
 #[test]
@@ -223,12 +319,14 @@ dialog form
 =>   |
 => 1 | dialog form
 =>   | ^^^^^^ a keyword is wanted here
+=>   = mend: begin the line with key, type, down, move, up, shot or colors
 key F13
 => form:1:5: syntax: a key line needs a KEY as its word 2, not F13
 =>   |
 => 1 | key F13
 =>   |     ^^^ a key is wanted here
 =>   = form: key KEY
+=>   = mend: write it as Enter, F10, Alt-X or Ctrl-C are written
 # A click.
 down 2
 => form:2:7: syntax: a down line needs a NUM as its word 3
@@ -247,6 +345,7 @@ type hello
 => 1 | type hello
 =>   |      ^^^^^ a quoted text is wanted here
 =>   = form: type STR
+=>   = mend: did you mean `"hello"`?
 move 2 y
 => form:1:8: syntax: a move line needs a NUM as its word 3, not y
 =>   |
@@ -270,6 +369,28 @@ click 2 1
 =>   |
 => 1 | click 2 1
 =>   | ^^^^^ a keyword is wanted here
+=>   = mend: begin the line with key, type, down, move, up, shot or colors
+key tab
+shto
+down 2 2
+=> form:1:5: syntax: a key line needs a KEY as its word 2, not tab
+=>   |
+=> 1 | key tab
+=>   |     ^^^ a key is wanted here
+=>   = form: key KEY
+=>   = mend: did you mean `Tab`?
+=> form:2:1: syntax: no line begins with shto
+=>   |
+=> 2 | shto
+=>   | ^^^^ a keyword is wanted here
+=>   = mend: did you mean `shot`?
+key page-down
+=> form:1:5: syntax: a key line needs a KEY as its word 2, not page-down
+=>   |
+=> 1 | key page-down
+=>   |     ^^^^^^^^^ a key is wanted here
+=>   = form: key KEY
+=>   = mend: did you mean `PgDn`?
 shot 1
 => form:1:6: syntax: a shot line has no word 2
 =>   |

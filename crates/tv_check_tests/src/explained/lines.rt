@@ -89,7 +89,7 @@ end
 =>   |
 => 9 |   label 2 1 8 "~N~ame" nam
 =>   |                        ^^^ a label stands for a button, input, cluster or list
-=>   = mend: name a control of this dialog
+=>   = mend: did you mean `name`?
 => form.tvd:13:27: F10: this dialog doesn't end by `no`
 =>    |
 =>  7 | dialog ask 0 2 40 10 "Ask"   ends ok cancel
@@ -106,7 +106,19 @@ end
 => sound
 tvd 3
 what follows isn't read
-=> another version
+=> form.tvd:1:5: version: the language has no version 3
+=>   |
+=> 1 | tvd 3
+=>   |     ^ the versions are 1 and 2
+=>   = mend: write `tvd 1` or `tvd 2`
+# Of no version.
+
+  tvd   0
+=> form.tvd:3:9: version: the language has no version 0
+=>   |
+=> 3 |   tvd   0
+=>   |         ^ the versions are 1 and 2
+=>   = mend: write `tvd 1` or `tvd 2`
 "#;
 
 #[test]

@@ -233,3 +233,60 @@ end
 fn names_of_windows_and_dialogs(rt: HostRuntime) -> Result<(), Fail> {
     expect_reports(rt, "tvd 1\nscreen 40 12\n", HEADS, "")
 }
+
+// Names that are near to one that is there, and names that are not.
+const NEAR: &str = r#"label 2 1 10 "~M~ore" shot
+=> form.tvd:5:23: F6: this label leads nowhere: no control is called `shot`
+=>   |
+=> 5 | label 2 1 10 "~M~ore" shot
+=>   |                       ^^^^ a label stands for a button, input, cluster or list
+=>   = mend: did you mean `shut`?
+label 2 1 10 "~M~ore" sht
+=> form.tvd:5:23: F6: this label leads nowhere: no control is called `sht`
+=>   |
+=> 5 | label 2 1 10 "~M~ore" sht
+=>   |                       ^^^ a label stands for a button, input, cluster or list
+=>   = mend: did you mean `shut`?
+label 2 1 10 "~M~ore" closed
+=> form.tvd:5:23: F6: this label leads nowhere: no control is called `closed`
+=>   |
+=> 5 | label 2 1 10 "~M~ore" closed
+=>   |                       ^^^^^^ a label stands for a button, input, cluster or list
+=>   = mend: name a control of this dialog
+checks which 2 1 10 "A" "B"
+enable 100 when wich 1
+=> form.tvd:6:17: F7: this rule goes by `wich`, which isn't there
+=>   |
+=> 6 | enable 100 when wich 1
+=>   |                 ^^^^ no check boxes and no radio buttons of this dialog
+=>   = mend: did you mean `which`?
+checks which 2 1 10 "A" "B"
+pane details 2 3 10 2
+end
+show detials when which 1
+=> form.tvd:8:6: F7: this rule shows `detials`, which isn't there
+=>   |
+=> 8 | show detials when which 1
+=>   |      ^^^^^^^ no control and no pane of this dialog
+=>   = mend: did you mean `details`?
+checks which 2 1 10 "A" "B"
+enable 100 when shutt 1
+=> form.tvd:6:17: F7: this rule goes by `shutt`, which isn't there
+=>   |
+=> 6 | enable 100 when shutt 1
+=>   |                 ^^^^^ no check boxes and no radio buttons of this dialog
+=>   = mend: name check boxes or radio buttons of this dialog
+pane details 2 3 10 2
+end
+label 2 1 10 "~M~ore" detail
+=> form.tvd:7:23: F6: this label leads nowhere: no control is called `detail`
+=>   |
+=> 7 | label 2 1 10 "~M~ore" detail
+=>   |                       ^^^^^^ a label stands for a button, input, cluster or list
+=>   = mend: name a control of this dialog
+"#;
+
+#[test]
+fn near_names(rt: HostRuntime) -> Result<(), Fail> {
+    expect_reports(rt, DIALOG, NEAR, "end\n")
+}

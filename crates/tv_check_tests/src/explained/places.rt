@@ -85,7 +85,7 @@ end
 =>   |
 => 7 | text 0 1 4 2 "A\nB"
 =>   |        ^ rows 1 to 2, but those inside are 0 to 1
-=>   = mend: move it up to row 0, or make the pane 1 higher
+=>   = mend: make the pane 1 higher
 => form.tvd:8:9: F2: this pane lies outside its pane
 =>   |
 => 5 | pane far 10 2 10 2
@@ -95,22 +95,22 @@ end
 =>   |         ^^ columns -1 to 2, but those inside are 0 to 9
 =>   = mend: begin at column 0 at the earliest
 text 1 1 29 1 ""
-=> form.tvd:5:6: F2: this text lies outside its dialog
+=> form.tvd:5:10: F2: this text lies outside its dialog
 =>   |
 => 3 | dialog form 2 1 30 9 "Form" ends cancel
 =>   |                 ---- width and height with the frame
 =>   |
 => 5 | text 1 1 29 1 ""
-=>   |      ^ columns 1 to 29, but those inside are 1 to 28
+=>   |          ^^ columns 1 to 29, but those inside are 1 to 28
 =>   = mend: make it 1 narrower, or the dialog 1 wider
 text 1 1 20 8 ""
-=> form.tvd:5:8: F2: this text lies outside its dialog
+=> form.tvd:5:13: F2: this text lies outside its dialog
 =>   |
 => 3 | dialog form 2 1 30 9 "Form" ends cancel
 =>   |                 ---- width and height with the frame
 =>   |
 => 5 | text 1 1 20 8 ""
-=>   |        ^ rows 1 to 8, but those inside are 1 to 7
+=>   |             ^ rows 1 to 8, but those inside are 1 to 7
 =>   = mend: make it 1 lower, or the dialog 1 higher
 text -5 -5 20 4 ""
 => form.tvd:5:6: F2: this text lies outside its dialog
@@ -157,14 +157,14 @@ text 29 1 1 1 "!"
 =>   |      ^^ column 29, but the columns inside are 1 to 28
 =>   = mend: begin at column 28 at the latest
 text 5 1 40 1 ""
-=> form.tvd:5:6: F2: this text lies outside its dialog
+=> form.tvd:5:10: F2: this text lies outside its dialog
 =>   |
 => 3 | dialog form 2 1 30 9 "Form" ends cancel
 =>   |                 ---- width and height with the frame
 =>   |
 => 5 | text 5 1 40 1 ""
-=>   |      ^ columns 5 to 44, but those inside are 1 to 28
-=>   = mend: make it 16 narrower, or the dialog 16 wider
+=>   |          ^^ columns 5 to 44, but those inside are 1 to 28
+=>   = mend: make it 16 narrower
 text 0 1 40 1 ""
 => form.tvd:5:6: F2: this text lies outside its dialog
 =>   |
@@ -173,16 +173,16 @@ text 0 1 40 1 ""
 =>   |
 => 5 | text 0 1 40 1 ""
 =>   |      ^ columns 0 to 39, but those inside are 1 to 28
-=>   = mend: begin at column 1, and make it 12 narrower or the dialog 12 wider
+=>   = mend: begin at column 1, and make it 12 narrower
 text 1 3 20 9 ""
-=> form.tvd:5:8: F2: this text lies outside its dialog
+=> form.tvd:5:13: F2: this text lies outside its dialog
 =>   |
 => 3 | dialog form 2 1 30 9 "Form" ends cancel
 =>   |                 ---- width and height with the frame
 =>   |
 => 5 | text 1 3 20 9 ""
-=>   |        ^ rows 3 to 11, but those inside are 1 to 7
-=>   = mend: make it 4 lower, or the dialog 4 higher
+=>   |             ^ rows 3 to 11, but those inside are 1 to 7
+=>   = mend: make it 4 lower
 text 1 0 20 9 ""
 => form.tvd:5:8: F2: this text lies outside its dialog
 =>   |
@@ -191,7 +191,7 @@ text 1 0 20 9 ""
 =>   |
 => 5 | text 1 0 20 9 ""
 =>   |        ^ rows 0 to 8, but those inside are 1 to 7
-=>   = mend: begin at row 1, and make it 2 lower or the dialog 2 higher
+=>   = mend: begin at row 1, and make it 2 lower
 checks high 12 1 10 "A" "B" "C" "D" "E" "F" "G" "H"
 => form.tvd:5:16: F2: this cluster lies outside its dialog
 =>   |
@@ -213,13 +213,13 @@ checks high 12 0 10 "A" "B" "C" "D" "E" "F" "G" "H"
 pane slim 12 1 3 2
 button far 0 0 4 "" 100
 end
-=> form.tvd:6:12: F2: this button lies outside its pane
+=> form.tvd:6:16: F2: this button lies outside its pane
 =>   |
 => 5 | pane slim 12 1 3 2
 =>   |                --- width and height
 =>   |
 => 6 | button far 0 0 4 "" 100
-=>   |            ^ columns 0 to 3, but those inside are 0 to 2
+=>   |                ^ columns 0 to 3, but those inside are 0 to 2
 =>   = mend: make the pane 1 wider
 pane low 12 1 10 0
 label 0 0 10 "" shut
@@ -281,22 +281,22 @@ dialog form 2 3 30 9 "Form" ends cancel
 =>   |               ^ rows 3 to 11, but those inside are 1 to 10
 =>   = mend: move it up to row 2, or make the screen 1 higher
 dialog form 0 1 50 9 "Form" ends cancel
-=> form.tvd:3:13: F2: this dialog lies outside the desktop
+=> form.tvd:3:17: F2: this dialog lies outside the desktop
 =>   |
 => 2 | screen 40 12
 =>   |        ----- columns and rows, the bar and the status line among them
 =>   |
 => 3 | dialog form 0 1 50 9 "Form" ends cancel
-=>   |             ^ columns 0 to 49, but those inside are 0 to 39
+=>   |                 ^^ columns 0 to 49, but those inside are 0 to 39
 =>   = mend: make it 10 narrower, or the screen 10 wider
 dialog form 0 1 30 11 "Form" ends cancel
-=> form.tvd:3:15: F2: this dialog lies outside the desktop
+=> form.tvd:3:20: F2: this dialog lies outside the desktop
 =>   |
 => 2 | screen 40 12
 =>   |        ----- columns and rows, the bar and the status line among them
 =>   |
 => 3 | dialog form 0 1 30 11 "Form" ends cancel
-=>   |               ^ rows 1 to 11, but those inside are 1 to 10
+=>   |                    ^^ rows 1 to 11, but those inside are 1 to 10
 =>   = mend: make it 1 lower, or the screen 1 higher
 "#;
 
@@ -304,13 +304,13 @@ const IN_A_WINDOW: &str = r#"window help 30 8 30 9 0 "Help"
 text 1 1 29 1 ""
 end
 dialog form 2 1 30 9 "Form" ends cancel
-=> form.tvd:4:6: F2: this text lies outside its window
+=> form.tvd:4:10: F2: this text lies outside its window
 =>   |
 => 3 | window help 30 8 30 9 0 "Help"
 =>   |                  ---- width and height with the frame
 =>   |
 => 4 | text 1 1 29 1 ""
-=>   |      ^ columns 1 to 29, but those inside are 1 to 28
+=>   |          ^^ columns 1 to 29, but those inside are 1 to 28
 =>   = mend: make it 1 narrower, or the window 1 wider
 "#;
 
@@ -394,7 +394,7 @@ radios how 4 2 10 "D" "E" start 1
 =>   |
 => 6 | list where 4 3 10 2 "A" start 1
 =>   |            ^^^^^^ columns 4 to 13, rows 3 to 4
-=>   = mend: begin at column 12, or at row 4
+=>   = mend: begin at row 4
 => form.tvd:7:12: F3: this cluster overlaps the list `where`
 =>   |
 => 6 | list where 4 3 10 2 "A" start 1
@@ -419,7 +419,7 @@ const NO_ROOM: &str = r#"input name 8 7 10 40 any ""
 =>   |
 => 5 | input name 8 7 10 40 any ""
 =>   |            ^^^^^^ columns 8 to 17, row 7
-=>   = mend: begin at column 11
+=>   = mend: begin at column 11, or at row 6
 pane more 2 6 26 2
 end
 => form.tvd:5:11: F3: this pane overlaps the button `shut`
@@ -429,7 +429,7 @@ end
 =>   |
 => 5 | pane more 2 6 26 2
 =>   |           ^^^^^^ columns 2 to 27, rows 6 to 7
-=>   = mend: move or shrink one of the two
+=>   = mend: begin at row 5
 text 2 1 26 2 ""
 pane more 4 2 10 3
 end
@@ -446,4 +446,150 @@ end
 #[test]
 fn overlaps_without_room(rt: HostRuntime) -> Result<(), Fail> {
     expect_reports(rt, DIALOG, NO_ROOM, "end\n")
+}
+
+// Where other views stand, and where neither the screen nor a dialog can grow.
+const NEIGHBOURS: &str = r#"dialog form 0 1 400 9 "Form" ends cancel
+button shut 2 6 9 "Close" cancel
+end
+=> form.tvd:3:17: F2: this dialog lies outside the desktop
+=>   |
+=> 2 | screen 40 12
+=>   |        ----- columns and rows, the bar and the status line among them
+=>   |
+=> 3 | dialog form 0 1 400 9 "Form" ends cancel
+=>   |                 ^^^ columns 0 to 399, but those inside are 0 to 39
+=>   = mend: make it 360 narrower
+=> form.tvd:3:17: F15: this dialog can't be 400 wide
+=>   |
+=> 3 | dialog form 0 1 400 9 "Form" ends cancel
+=>   |                 ^^^ a dialog is 12 to 132 columns wide
+=>   = mend: take a width within these
+dialog form 0 1 30 70 "Form" ends cancel
+button shut 2 6 9 "Close" cancel
+end
+=> form.tvd:3:20: F2: this dialog lies outside the desktop
+=>   |
+=> 2 | screen 40 12
+=>   |        ----- columns and rows, the bar and the status line among them
+=>   |
+=> 3 | dialog form 0 1 30 70 "Form" ends cancel
+=>   |                    ^^ rows 1 to 70, but those inside are 1 to 10
+=>   = mend: make it 60 lower
+=> form.tvd:3:20: F15: this dialog can't be so high
+=>   |
+=> 3 | dialog form 0 1 30 70 "Form" ends cancel
+=>   |                    ^^ a dialog is 3 to 60 rows high
+=>   = mend: take a height within these
+dialog form 2 1 30 9 "Form" ends cancel
+button shut 18 6 9 "Close" cancel
+button more 29 6 8 "More" 100
+end
+=> form.tvd:5:13: F2: this button lies outside its dialog
+=>   |
+=> 3 | dialog form 2 1 30 9 "Form" ends cancel
+=>   |                 ---- width and height with the frame
+=>   |
+=> 5 | button more 29 6 8 "More" 100
+=>   |             ^^ columns 29 to 36, but those inside are 1 to 28
+=>   = mend: begin at column 18 in row 7
+dialog form 2 1 30 9 "Form" ends cancel
+button shut 18 6 11 "Close" cancel
+input name 24 6 12 40 any ""
+end
+=> form.tvd:5:12: F2: this input lies outside its dialog
+=>   |
+=> 3 | dialog form 2 1 30 9 "Form" ends cancel
+=>   |                 ---- width and height with the frame
+=>   |
+=> 5 | input name 24 6 12 40 any ""
+=>   |            ^^ columns 24 to 35, but those inside are 1 to 28
+=>   = mend: make it 7 narrower
+=> form.tvd:5:12: F3: this input overlaps the button `shut`
+=>   |
+=> 4 | button shut 18 6 11 "Close" cancel
+=>   |             ------- columns 18 to 28, row 6
+=>   |
+=> 5 | input name 24 6 12 40 any ""
+=>   |            ^^^^^^^ columns 24 to 35, row 6
+=>   = mend: begin at column 6
+dialog form 2 1 30 9 "Form" ends cancel
+button shut 1 7 28 "Close" cancel
+button more 1 8 28 "More" 100
+end
+=> form.tvd:5:15: F2: this button lies outside its dialog
+=>   |
+=> 3 | dialog form 2 1 30 9 "Form" ends cancel
+=>   |                 ---- width and height with the frame
+=>   |
+=> 5 | button more 1 8 28 "More" 100
+=>   |               ^ row 8, but the rows inside are 1 to 7
+=>   = mend: make the dialog 1 higher
+dialog form 2 1 30 3 "Form" ends cancel
+button shut 1 1 28 "Close" cancel
+button more 1 2 28 "More" 100
+end
+=> form.tvd:5:15: F2: this button lies outside its dialog
+=>   |
+=> 3 | dialog form 2 1 30 3 "Form" ends cancel
+=>   |                 ---- width and height with the frame
+=>   |
+=> 5 | button more 1 2 28 "More" 100
+=>   |               ^ row 2, but the only row inside is 1
+=>   = mend: make the dialog 1 higher
+dialog form 2 1 30 4 "Form" ends cancel
+button shut 1 1 12 "Close" cancel
+button less 17 1 12 "Less" 100
+button more 9 1 12 "More" 101
+button most 1 2 28 "Most" 102
+end
+=> form.tvd:6:13: F3: this button overlaps the button `less`
+=>   |
+=> 5 | button less 17 1 12 "Less" 100
+=>   |             ------- columns 17 to 28, row 1
+=>   |
+=> 6 | button more 9 1 12 "More" 101
+=>   |             ^^^^^^ columns 9 to 20, row 1
+=>   = mend: make the dialog 1 higher, and begin at row 3
+dialog form 2 1 14 3 "Form" ends cancel
+button shut 1 1 12 "Close" cancel
+button more 5 1 8 "More" 100
+end
+=> form.tvd:5:13: F3: this button overlaps the button `shut`
+=>   |
+=> 4 | button shut 1 1 12 "Close" cancel
+=>   |             ------ columns 1 to 12, row 1
+=>   |
+=> 5 | button more 5 1 8 "More" 100
+=>   |             ^^^^^ columns 5 to 12, row 1
+=>   = mend: make the dialog 1 higher, and begin at row 2
+dialog form 2 1 30 4 "Form" ends cancel
+button shut 1 1 28 "Close" cancel
+pane part 1 2 12 1
+button less 0 0 10 "Less" 100
+button more 8 0 9 "More" 101
+end
+button most 13 2 8 "Most" 102
+end
+=> form.tvd:7:13: F2: this button lies outside its pane
+=>   |
+=> 5 | pane part 1 2 12 1
+=>   |               ---- width and height
+=>   |
+=> 7 | button more 8 0 9 "More" 101
+=>   |             ^ columns 8 to 16, but those inside are 0 to 11
+=>   = mend: make it 5 narrower
+=> form.tvd:7:13: F3: this button overlaps the button `less`
+=>   |
+=> 6 | button less 0 0 10 "Less" 100
+=>   |             ------ columns 0 to 9, row 0
+=>   |
+=> 7 | button more 8 0 9 "More" 101
+=>   |             ^^^^^ columns 8 to 16, row 0
+=>   = mend: move or shrink one of the two
+"#;
+
+#[test]
+fn neighbours(rt: HostRuntime) -> Result<(), Fail> {
+    expect_reports(rt, "tvd 1\nscreen 40 12\n", NEIGHBOURS, "")
 }

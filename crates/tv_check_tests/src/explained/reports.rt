@@ -66,7 +66,6 @@ fn told_of(alloc: Global, manner: Manner, text: &[u8]) -> Result<String, AllocEr
     match tell(alloc, manner, "form.tvd", text)? {
         Told::Sound(_) => String::from_str(alloc, "sound\n"),
         Told::Faulty(report) => Ok(report),
-        Told::OtherVersion => String::from_str(alloc, "another version\n"),
         Told::TooLong => String::from_str(alloc, "too long\n"),
     }
 }
