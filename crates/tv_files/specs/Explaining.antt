@@ -8,6 +8,7 @@ use Rattle.tv_files.specs.declared.done.Done.{Done}
 use Rattle.tv_files.specs.declared.done.Done.TheVariants.{Whole, Faulty, BrokenOff}
 use Rattle.tv_io.specs.Writer.{Cuts, Seen, Takes}
 use Rattle.tv_model.specs.declared.desc.Desc.{Desc}
+use Rattle.tv_lang.specs.declared.description.LangFault.TheVariants as langs
 use Rattle.tv_program.specs.Reading.{IsNoDescription}
 use Rattle.tv_program.specs.declared.trouble.Trouble.{Trouble}
 use Rattle.tv_program.specs.declared.trouble.Trouble.TheVariants as faults
@@ -24,14 +25,15 @@ abbrev pub WritesReport : (writes : (report : List ℕ) → Type 0) → (IsOn : 
     → Type 0
 WritesReport writes IsOn = (report : List ℕ) × IsOn report × writes report
 
--- A report was written where there is something to tell, and nothing where there isn't. A text of another
--- version and one that is too long are not told of.
+-- A report was written where there is something to tell, and nothing where there isn't. A text that is too long
+-- is not told of.
 abbrev pub ExplainsTo : Manner → (name text : List ℕ) → (old new : Seen) → Result (Option Desc) Trouble
     → Type 0
 ExplainsTo manner name text old new (Ok (Some desc)) = SpellsSound text desc × (new ≡ old)
 ExplainsTo manner name text old new (Ok None) = WritesReport (Takes old new) (IsReportOf manner name text)
 ExplainsTo manner name text old new (Err faults.NoMemory) = new ≡ old
-ExplainsTo manner name text old new (Err (faults.Lang fault)) = IsNoDescription text fault × (new ≡ old)
+ExplainsTo manner name text old new (Err (faults.Lang langs.TooLong)) =
+    IsNoDescription text langs.TooLong × (new ≡ old)
 ExplainsTo manner name text old new (Err faults.Write) =
     WritesReport (Cuts old new) (IsReportOf manner name text)
 ExplainsTo manner name text old new (Err _) = ⊥

@@ -19,9 +19,9 @@ use tv_model::Desc;
 use tv_program::Trouble;
 use tv_script::ScriptFault;
 
-/// Writes what there is to tell of the faults of the description in a file, or of the line that can't be read.
+/// Writes what there is to tell of the faults of the description in a file, of lines that can't be read, or of its version.
 ///
-/// A text of another version, and one that is too long, is a failure, as it is for `check_file`.
+/// A text that is too long is a failure, as it is for `check_file`.
 pub fn explain_file<'a, F: FileStore, W: Writer>(
     files: &mut F,
     alloc: Global,
@@ -93,7 +93,6 @@ fn explain<W: Writer>(
             Ok(()) => Ok(None),
             Err(_) => Err(Trouble::Write),
         },
-        Told::OtherVersion => Err(Trouble::Lang(LangFault::Version)),
         Told::TooLong => Err(Trouble::Lang(LangFault::TooLong)),
     }
 }

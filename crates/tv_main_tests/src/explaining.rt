@@ -34,19 +34,9 @@ const TASKS: [(Task<'static>, &str, &str, &str); 15] = [
     (EXPLAIN, CANCEL, "", "status 0\nopened 1\n"),
     (EXPLAIN, SHARED_LETTER, "", SHARED_LETTER_EXPLAINED),
     (EXPLAIN, "# none\ntvd 1\n", "", NO_SCREEN_EXPLAINED),
-    (
-        EXPLAIN,
-        "tvd 3\n",
-        "",
-        "tvdlg: FILE: unknown version\nstatus 1\nopened 1\n",
-    ),
+    (EXPLAIN, "tvd 3\n", "", VERSION_EXPLAINED),
     (EXPLAIN_BOTH, SHARED_LETTER, "", SHARED_LETTER_EXPLAINED),
-    (
-        EXPLAIN_BOTH,
-        "tvd 3\n",
-        "",
-        "tvdlg: FILE: unknown version\nstatus 1\nopened 1\n",
-    ),
+    (EXPLAIN_BOTH, "tvd 3\n", "", VERSION_EXPLAINED),
     (
         EXPLAIN_BOTH,
         CANCEL,
@@ -80,12 +70,7 @@ const TASKS: [(Task<'static>, &str, &str, &str); 15] = [
         "",
         "tvdlg: cannot read NONE\nstatus 3\nopened 13\n",
     ),
-    (
-        EXPLAIN_MISSING,
-        "tvd 3\n",
-        "",
-        "tvdlg: FILE: unknown version\nstatus 1\nopened 1\n",
-    ),
+    (EXPLAIN_MISSING, "tvd 3\n", "", VERSION_EXPLAINED),
 ];
 
 const SHARED_LETTER_EXPLAINED: &str = "FILE:8:18: F4: the letter C is marked twice in this dialog
@@ -100,11 +85,21 @@ status 1
 opened 1
 ";
 
+const VERSION_EXPLAINED: &str = "FILE:1:5: version: the language has no version 3
+  |
+1 | tvd 3
+  |     ^ the versions are 1 and 2
+  = mend: write `tvd 1` or `tvd 2`
+status 1
+opened 1
+";
+
 const SCRIPT_EXPLAINED: &str = "BESIDE:1:5: syntax: a key line needs a KEY as its word 2, not Foo
   |
 1 | key Foo
   |     ^^^ a key is wanted here
   = form: key KEY
+  = mend: write it as Enter, F10, Alt-X or Ctrl-C are written
 status 1
 opened 12
 ";
